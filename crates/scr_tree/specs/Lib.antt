@@ -1,0 +1,10 @@
+pub mod Tok
+pub mod Tree
+pub mod View
+pub mod Protocol
+pub mod Steps
+pub mod CallNames
+pub mod Traces
+pub mod Meaning
+pub mod Valid
+pub mod Local

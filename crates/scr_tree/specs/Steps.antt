@@ -1,0 +1,77 @@
+-- What a role may do, step by step. A position is the text that is left: no state has a number here.
+use Rattle.std.specs.Prelude.{ℕ, List, [], ◌∷◌, true, false}
+use Rattle.std.specs.Str.{bytes_eq}
+use Rattle.mg_text.specs.Call.{Name}
+use Rattle.scr_tree.specs.Protocol.{Message, peer_of, label_of, Protocol, Done, Does, ChoiceHere, ChoiceThere, Rec, Continue, Branches, Branch}
+
+-- what is seen of a step: a message, or a look at which branch of a numbered choice a peer has taken
+pub data Act : Type 0 where
+  Moves : Message → Act
+  Looks : (number : ℕ) → (peer label : Name) → Act
+
+-- what the statements of a frame are
+pub data Part : Type 0 where
+  -- the whole protocol, or a branch of a choice
+  Plain : Part
+  -- the body of a rec of this name, which is the whole body where it begins again
+  BodyOf : (name : Name) → (whole : Protocol) → Part
+
+-- the statements that are left of a part
+pub data Frame : Type 0 where
+  Left : (left : Protocol) → (part : Part) → Frame
+
+-- the frames, innermost first: what is left of the innermost part, then of the one around it, and so on
+abbrev pub Position : Type 0
+Position = List Frame
+
+-- where a protocol begins
+abbrev pub whole : Protocol → Position
+whole protocol = Left protocol Plain ∷ []
+
+-- the frames from that of the innermost rec of this name on, which has its whole body again
+abbrev pub again : Name → Position → Position
+again name [] = []
+again name (Left left Plain ∷ around) = again name around
+again name (Left left (BodyOf other body) ∷ around) =
+    elim (bytes_eq name other) [ true ↦ Left body (BodyOf other body) ∷ around | false ↦ again name around ]
+
+-- a move that nobody sees
+pub data Silent : Position → Position → Type 0 where
+  -- an empty first frame is dropped
+  ends : {part : Part} {around : List Frame} → Silent (Left Done part ∷ around) around
+  -- a rec in front is removed, and a frame of its body is put first
+  begins : {name : Name} {body rest : Protocol} {part : Part} {around : List Frame} →
+      Silent (Left (Rec name body rest) part ∷ around) (Left body (BodyOf name body) ∷ Left rest part ∷ around)
+  -- a continue drops the frames before that of its rec, which gets its whole body again
+  continues : {name : Name} {rest : Protocol} {part : Part} {around : List Frame} →
+      Silent (Left (Continue name rest) part ∷ around) (again name (Left rest part ∷ around))
+
+-- one of the branches is this message and then these statements
+pub data HasBranch : Branches → Message → Protocol → Type 0 where
+  this : {message : Message} {rest : Protocol} {more : Branches} → HasBranch (Branch (Does message rest) more) message rest
+  later : {message : Message} {rest other : Protocol} {more : Branches} → HasBranch more message rest → HasBranch (Branch other more) message rest
+
+-- a step that is seen, behind any silent moves
+pub data Step : Position → Act → Position → Type 0 where
+  silently : {from to end : Position} {act : Act} → Silent from to → Step to act end → Step from act end
+  -- a message in front
+  moves : {message : Message} {rest : Protocol} {part : Part} {around : List Frame} →
+      Step (Left (Does message rest) part ∷ around) (Moves message) (Left rest part ∷ around)
+  -- the role chooses by the first message of a branch, and the rest of the branch is the first frame
+  chooses : {branches : Branches} {message : Message} {branch rest : Protocol} {part : Part} {around : List Frame} →
+      HasBranch branches message branch →
+      Step (Left (ChoiceHere branches rest) part ∷ around) (Moves message) (Left branch Plain ∷ Left rest part ∷ around)
+  -- the role looks at which branch was chosen, and the whole branch is the first frame
+  looks : {number : ℕ} {branches : Branches} {message : Message} {branch rest : Protocol} {part : Part} {around : List Frame} →
+      HasBranch branches message branch →
+      Step (Left (ChoiceThere number branches rest) part ∷ around) (Looks number (peer_of message) (label_of message)) (Left (Does message branch) Plain ∷ Left rest part ∷ around)
+
+-- these steps, one after another
+pub data Run : Position → List Act → Position → Type 0 where
+  stays : {at : Position} → Run at [] at
+  goes : {from to end : Position} {act : Act} {acts : List Act} → Step from act to → Run to acts end → Run from (act ∷ acts) end
+
+-- silent moves leave no frames
+pub data Finished : Position → Type 0 where
+  nothing_left : Finished []
+  after_silent : {from to : Position} → Silent from to → Finished to → Finished from

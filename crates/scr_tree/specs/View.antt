@@ -1,0 +1,38 @@
+-- The tree that the program's statements are.
+use Rattle.std.specs.Prelude.{ℕ, List, [], ◌∷◌, map}
+use Rattle.mg_text.specs.Call.{Name}
+use Rattle.scr_tree.specs.declared.syntax.Statement.{Statement}
+use Rattle.scr_tree.specs.declared.syntax.Statement.TheOpen.{Statement-F}
+use Rattle.scr_tree.specs.declared.syntax.Statement.TheOpen as layers
+use Rattle.scr_tree.specs.declared.syntax.Statement.TheFolds.{fold-Statement}
+use Rattle.scr_tree.specs.Tree.{LocalTree, Statements, Nothing, Says, Choice, Rec, Continue, Branches, NoBranch, Branch}
+
+-- one statement, in front of those that stand behind it
+abbrev pub Front : Type 0
+Front = Statements → Statements
+
+abbrev pub in_front : List Front → Statements
+in_front [] = Nothing
+in_front (front ∷ fronts) = front (in_front fronts)
+
+abbrev pub branches_of : List Statements → Branches
+branches_of [] = NoBranch
+branches_of (statements ∷ more) = Branch statements (branches_of more)
+
+-- one statement, with what each inner one says in its place
+abbrev pub layer : Statement-F Front → Front
+layer (layers.Message message) = Says message
+layer (layers.Choice place at branches) = Choice place at (branches_of (map (λ b. in_front b.items) branches.items))
+layer (layers.Rec place name body) = Rec place name (in_front body.items)
+layer (layers.Continue place name) = Continue place name
+
+unfoldable pub front : Statement → Front
+front = fold-Statement Front layer
+
+-- the tree of statements
+abbrev pub statements : List Statement → Statements
+statements ss = in_front (map front ss)
+
+-- the tree of a local protocol's parts
+abbrev pub written : ℕ → Name → Name → List Name → List Statement → LocalTree
+written file name me roles body = record { file = file; name = name; me = me; roles = roles; body = statements body }

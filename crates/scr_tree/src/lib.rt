@@ -1,0 +1,15 @@
+//! Local protocols: their tokens, their trees, and the names of the calls that stand for them.
+//! The definitions say what a protocol is, what it may do step by step, and which calls are its traces.
+#![tactic(auto)]
+
+mod local;
+mod names;
+mod syntax;
+#[cfg(test)]
+mod tests;
+mod token;
+
+pub use local::Local;
+pub use names::call_name;
+pub use syntax::{Direction, Message, Payload, Statement};
+pub use token::{Mark, Token, TokenKind};

@@ -1,0 +1,70 @@
+ghost use Rattle.scr_tree.specs.View.{written, statements};
+ghost use Rattle.scr_tree.specs.Valid.{IsValid};
+
+use crate::Statement;
+use mg_text::{List, Text};
+
+/// A valid local protocol: what one role does, and the roles that it does it with.
+#[derive(Debug, Drop)]
+pub struct Local {
+    file: u32,
+    name: Text,
+    me: Text,
+    roles: List<Text>,
+    body: List<Statement>,
+    ghost valid: { ∥ IsValid (written file name me roles.items body.items) ∥₁ },
+}
+
+impl Local {
+    ghost use Rattle.std.specs.Prelude.{◌≡◌};
+    ghost use Rattle.scr_tree.specs.Local.{tree_of};
+
+    /// The protocol of these parts, which are valid.
+    pub fn new(file: u32, name: Text, me: Text, roles: List<Text>, body: List<Statement>) -> Local
+        requires { ∥ IsValid (written file name me roles.items body.items) ∥₁ }
+        ensures { tree_of result ≡ written file name me roles.items body.items }
+    {
+        Local {
+            file,
+            name,
+            me,
+            roles,
+            body,
+        }
+    }
+
+    /// The number of the file that it was read from.
+    pub fn file(&self) -> u32
+        ensures { result ≡ (tree_of self.now).file }
+    {
+        self.file
+    }
+
+    /// The protocol's name.
+    pub fn name(&self) -> &Text
+        ensures { result.now ≡ (tree_of self.now).name }
+    {
+        &self.name
+    }
+
+    /// The role that it is of.
+    pub fn me(&self) -> &Text
+        ensures { result.now ≡ (tree_of self.now).me }
+    {
+        &self.me
+    }
+
+    /// All roles, in the order of the text.
+    pub fn roles(&self) -> &List<Text>
+        ensures { result.now.items ≡ (tree_of self.now).roles }
+    {
+        &self.roles
+    }
+
+    /// What the role does.
+    pub fn body(&self) -> &List<Statement>
+        ensures { statements result.now.items ≡ (tree_of self.now).body }
+    {
+        &self.body
+    }
+}

@@ -1,0 +1,54 @@
+use mg_text::{Place, Text};
+
+/// A reserved word or a sign of Scribble.
+#[derive(Clone, Copy, Debug, PartialEq, Eq)]
+pub enum Mark {
+    Module,
+    Type,
+    As,
+    From,
+    To,
+    At,
+    Local,
+    Protocol,
+    Role,
+    Myself,
+    Choice,
+    Or,
+    Rec,
+    Continue,
+    /// Reserved, and not supported, as the five after it.
+    Par,
+    Interruptible,
+    Do,
+    Global,
+    Import,
+    Sig,
+    OpenParen,
+    CloseParen,
+    OpenBrace,
+    CloseBrace,
+    Less,
+    Greater,
+    Comma,
+    Semicolon,
+    Dot,
+}
+
+/// What a token is.
+#[derive(Debug, Drop)]
+pub enum TokenKind {
+    /// A name, which is no reserved word.
+    Name(Text),
+    /// What stands between two quotes.
+    Quoted(Text),
+    /// A reserved word or a sign.
+    Mark(Mark),
+}
+
+/// A token, and the place of its first byte.
+#[derive(Debug, Drop)]
+pub struct Token {
+    pub place: Place,
+    pub kind: TokenKind,
+}
