@@ -1,0 +1,15 @@
+use Rattle.std.proofs.Common.{◌≤◌, ◌+◌, length}
+use Rattle.scr_tree.specs.Tok.{toks}
+use Rattle.scr_lex.proofs.Cuts.{SoFar}
+use Rattle.scr_lex.proofs.scan.scan_tokens.Given as goal
+
+abbrev pub invariant-pieces : goal.invariant-pieces
+invariant-pieces l =
+    record {
+      so_far : SoFar l.file l.bytes (toks l.found.items) l.place l.offset l.rest;
+      lines : l.place.line ≤ l.offset + 1;
+      columns : l.place.column ≤ l.offset + l.offset + 1;
+    }
+
+abbrev pub decreases-pieces : goal.decreases-pieces
+decreases-pieces l = length l.rest
