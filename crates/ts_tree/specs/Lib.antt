@@ -1,0 +1,4 @@
+pub mod Typestate
+pub mod View
+pub mod Proper
+pub mod Calls

@@ -1,0 +1,12 @@
+//! Typestates: finite automata whose states offer methods, and what a call leads to.
+//! Contracts see a typestate as its name and its states, with no trace of how it is kept.
+#![tactic(auto)]
+
+mod led;
+mod parts;
+#[cfg(test)]
+mod tests;
+mod typestate;
+
+pub use parts::{Branch, Method, State, Target, To, TypeName};
+pub use typestate::Typestate;

@@ -1,0 +1,52 @@
+use mg_text::{List, Text};
+
+/// A type that a method's signature names.
+#[derive(Debug, Drop)]
+pub enum TypeName {
+    Void,
+    Int,
+    Boolean,
+    /// Java's String.
+    Text,
+    /// An enum or a class.
+    Named(Text),
+}
+
+/// Where a call leads: to the state of this number, counted from 0, or to the end.
+#[derive(Clone, Copy, Debug, PartialEq, Eq)]
+pub enum To {
+    State(u32),
+    End,
+}
+
+/// Where a call leads that answers with this label.
+#[derive(Debug, Drop)]
+pub struct Branch {
+    pub label: Text,
+    pub to: To,
+}
+
+/// Where the calls of a method lead.
+#[derive(Debug, Drop)]
+pub enum Target {
+    /// Each leads there, whatever it answers.
+    One(To),
+    /// It depends on the label that the call answers with.
+    ByAnswer(List<Branch>),
+}
+
+/// A method that a state offers.
+#[derive(Debug, Drop)]
+pub struct Method {
+    pub result: TypeName,
+    pub name: Text,
+    pub params: List<TypeName>,
+    pub target: Target,
+}
+
+/// A state, and the methods that it offers.
+#[derive(Debug, Drop)]
+pub struct State {
+    pub name: Text,
+    pub methods: List<Method>,
+}

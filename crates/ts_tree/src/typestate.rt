@@ -1,0 +1,62 @@
+use crate::led::led_by;
+use crate::{State, To};
+use mg_text::{List, Text};
+use std::marker::Model;
+
+/// A typestate. The first state, if there is one, is the initial one.
+///
+/// Each target is one of its states or the end, no two states and no two methods of a state share
+/// a name, methods of one name have one signature, no label stands twice in one list of answers,
+/// and no state is named `end`.
+#[derive(Debug, Drop)]
+pub struct Typestate {
+    pub name: Text,
+    pub states: List<State>,
+}
+
+impl Model for Typestate {
+    ghost use Rattle.ts_tree.specs.Typestate.{Typestate};
+
+    ghost Value = { Typestate };
+
+    ghost use Rattle.ts_tree.specs.View.{state_of};
+    ghost use Rattle.ts_tree.specs.Proper.{IsProper};
+    ghost use Rattle.std.specs.Prelude.{map};
+
+    ghost view = { λ t. record { name = t.name; states = map state_of t.states.items } };
+
+    ghost invariant = { λ t. IsProper (map state_of t.states.items) };
+}
+
+impl Typestate {
+    ghost use Rattle.std.specs.Prelude.{◌≡◌, ◌<◌, length, option_map};
+    ghost use Rattle.ts_tree.specs.Calls.{initial, next};
+
+    /// The initial state, or the end where there are no states.
+    pub fn initial(&self) -> To
+        ensures { result ≡ initial self.now }
+    {
+        if self.states.as_slice().is_empty() {
+            To::End
+        } else {
+            To::State(0)
+        }
+    }
+
+    /// Where a call of the method leads from state `q` if it answers so. None comes exactly where
+    /// the state doesn't offer the method, or offers it with a list of labels that lacks the
+    /// answer. An answer to a method without such a list is ignored.
+    #[tactic(auto, using(crate::proofs::Searches::searches))]
+    pub fn next(&self, q: u32, method: &str, answer: Option<&str>) -> Option<To>
+        requires { q < length self.now.states }
+        ensures { result ≡ next self.now q method.now (option_map (λ a. a.now) answer.entry) }
+    {
+        let state = &self.states.as_slice()[q as usize];
+        for offered in state.methods.as_slice() {
+            if offered.name.as_str() == method {
+                return led_by(&offered.target, answer);
+            }
+        }
+        None
+    }
+}
