@@ -1,0 +1,43 @@
+//! From a local protocol to the typestate of its role's object.
+//! The typestate allows exactly the traces of the protocol, and ends exactly where it does.
+#![tactic(auto)]
+
+mod states;
+#[cfg(test)]
+mod tests;
+
+ghost use Rattle.std.specs.Prelude.{◌≡◌, ◌++◌, IfOk, codes};
+ghost use Rattle.scr_tree.specs.Local.{tree_of};
+ghost use Rattle.scr_tree.specs.Meaning.{protocol_of};
+ghost use Rattle.stm_gen.specs.Laid.{laid_of};
+ghost use Rattle.stm_gen.specs.Agreement.{Agrees};
+
+use mg_text::{Memory, Text};
+use scr_tree::Local;
+use states::states_of;
+use std::alloc::Global;
+use ts_tree::Typestate;
+
+/// The typestate of a local protocol: `State0`, `State1`, .. in the order of the text, each with
+/// the method of its message, which leads to the next state, the last one to the end.
+/// The only error is `Memory`, where there is too little of it.
+pub fn generate(alloc: Global, local: &Local) -> Result<Typestate, Memory>
+    ensures laid { IfOk result (λ t. t ≡ laid_of (tree_of local.now)) }
+    // Its calls are those of the protocol.
+    ensures agrees { IfOk result
+        (λ t. Agrees (tree_of local.now).me (protocol_of (tree_of local.now)) t) }
+{
+    let states = states_of(alloc, local.body())?;
+    let name = object_name(alloc, local.me())?;
+    Ok(Typestate { name, states })
+}
+
+// The name of the object of a role.
+fn object_name(alloc: Global, me: &Text) -> Result<Text, Memory>
+    ensures { IfOk result (λ t. t ≡ me.now ++ codes "Protocol") }
+{
+    let mut name = String::new(alloc);
+    name.push_str(me.as_str())?;
+    name.push_str("Protocol")?;
+    Ok(Text::from_string(name))
+}
