@@ -1,0 +1,4 @@
+pub mod WordsLemmas
+pub mod WayLemmas
+pub mod TranslateLemmas
+mod Examples

@@ -1,0 +1,9 @@
+pub mod Words
+pub mod Lines
+pub mod Translation
+pub mod Outside
+pub mod Way
+pub mod Answers
+pub mod Judging
+pub mod Reporting
+pub mod Made

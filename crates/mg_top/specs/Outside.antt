@@ -1,0 +1,29 @@
+-- What stands outside the program at a moment.
+use Rattle.std.specs.Prelude.{◌≡◌, ℕ, List, take, Option, Some, IfSome}
+use Rattle.std.specs.FinMap as map
+use Rattle.mg_io.specs.Outside.{Files}
+use Rattle.mg_top.specs.Words.{Word}
+
+-- a sink: its bytes, where it tells them, and how many calls failed
+pub record Stream : Type 0 where
+  pub bytes : Option (List ℕ)
+  pub faults : ℕ
+
+-- the folder's files, where it tells them, and the names of its failed reads and writes; standard output and standard error
+pub record Outside : Type 0 where
+  pub files : Option Files
+  pub failed_reads : List Word
+  pub failed_writes : List Word
+  pub out : Stream
+  pub err : Stream
+
+abbrev pub stream : Option (List ℕ) → ℕ → Stream
+stream bytes faults = record { bytes = bytes; faults = faults }
+
+abbrev pub outside : Option Files → List Word → List Word → Stream → Stream → Outside
+outside files failed_reads failed_writes out err =
+    record { files = files; failed_reads = failed_reads; failed_writes = failed_writes; out = out; err = err }
+
+-- These bytes were read of a file: where the files are told, the file is there, and they are its first 1,048,577 bytes, or all of it.
+abbrev pub IsRead : Option Files → Word → List ℕ → Type 0
+IsRead files file bytes = IfSome files (λ m. (content : List ℕ) × (map.get m file ≡ Some content) × (bytes ≡ take 1048577 content))
