@@ -1,0 +1,6 @@
+mod Spans
+mod Cuts
+mod Steps
+mod Prints
+mod Whole
+mod Answer
