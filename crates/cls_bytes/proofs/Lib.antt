@@ -1,0 +1,9 @@
+pub mod Written
+pub mod Counted
+pub mod Plain
+pub mod Steps
+pub mod Numbers
+pub mod Consts
+pub mod Instrs
+pub mod Parts
+pub mod Whole
