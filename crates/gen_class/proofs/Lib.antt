@@ -1,0 +1,5 @@
+pub mod Fitting
+pub mod Mains
+pub mod Numbered
+pub mod Prints
+pub mod Sizes
