@@ -1,0 +1,4 @@
+pub mod Program
+pub mod View
+pub mod Links
+pub mod Machine

@@ -1,0 +1,3 @@
+pub mod Came
+pub mod Loops
+pub mod Exact
