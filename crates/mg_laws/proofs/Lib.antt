@@ -1,0 +1,6 @@
+pub mod Pool
+pub mod Linking
+pub mod Running
+pub mod Meant
+pub mod Whole
+pub mod Examples

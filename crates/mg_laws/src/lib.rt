@@ -1,0 +1,12 @@
+//! Laws over the definitions of the source, the class file and the machine.
+//! None of its calls is run by the program.
+#![tactic(auto)]
+
+ghost use Rattle.std.specs.Prelude.{ℕ, List};
+ghost use Rattle.mg_text.specs.Call.{Name};
+ghost use Rattle.mg_laws.specs.Simulates.{Simulates};
+
+/// The class file of each class that prints texts links and does what its source means.
+pub fn simulation()
+    ensures { (name : Name) (texts : List (List ℕ)) → Simulates name texts }
+{}

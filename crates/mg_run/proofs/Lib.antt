@@ -1,0 +1,3 @@
+pub mod Plain
+pub mod Ran
+pub mod Whole

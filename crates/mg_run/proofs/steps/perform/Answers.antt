@@ -1,0 +1,48 @@
+use Rattle.std.proofs.Common.{◌≡◌, ◌∙◌, sym, ap, Option, Result, Ok}
+use Rattle.mg_text.specs.declared.memory.Memory.{Memory}
+use Rattle.vm_step.specs.declared.running.Ran.{Ran}
+use Rattle.cls_tree.specs.Emitted.{class_for}
+use Rattle.vm_step.specs.declared.loading.LoadFault.{LoadFault}
+use Rattle.vm_step.specs.declared.loading.LoadFault.TheVariants as faults
+use Rattle.vm_step.specs.Ran.{printed}
+use Rattle.mg_run.proofs.Ran.{links_read, main_of, same_run, performed}
+use Rattle.mg_run.proofs.steps.perform.Goals as goal
+
+abbrev answered : Option Ran → Result (Option Ran) Memory
+answered r = Ok r
+
+pub unreachable-requires-in-Err-Unlinked : goal.unreachable-requires-in-Err-Unlinked
+unreachable-requires-in-Err-Unlinked c =
+    let made = c.requires in
+    let sim = c.simulation.ensures c.args.class.now made.texts in
+    let file_is = c.in-Ok.ensures.only (class_for c.args.class.now made.texts) made.fits made.layout in
+    let memory = c.in-Err-Unlinked.ensures.only sim.class (links_read _ _ made sim _ file_is) in
+    let h : ◌≡◌ {A = LoadFault} faults.Unlinked faults.Memory = sym c.in-Err-Unlinked.field-0-is ∙ memory in
+    cc
+
+pub unreachable-requires-in_default : goal.unreachable-requires-in_default
+unreachable-requires-in_default c =
+    let made = c.requires in
+    let sim = c.simulation.ensures c.args.class.now made.texts in
+    let file_is = c.in-Ok.ensures.only (class_for c.args.class.now made.texts) made.fits made.layout in
+    let linked_is = c.in-Ok-load.ensures.only sim.class (links_read _ _ made sim _ file_is) in
+    c.in_ok-ran.ensures.none (ap answered c.in_default.is) sim.main (main_of _ _ made sim c.as_str.result.now c.as_str.ensures _ linked_is)
+
+pub unreachable-requires-in_default-ending : goal.unreachable-requires-in_default-ending
+unreachable-requires-in_default-ending c =
+    let made = c.requires in
+    let sim = c.simulation.ensures c.args.class.now made.texts in
+    let file_is = c.in-Ok.ensures.only (class_for c.args.class.now made.texts) made.fits made.layout in
+    let linked_is = c.in-Ok-load.ensures.only sim.class (links_read _ _ made sim _ file_is) in
+    let ran = c.in_ok-ran.ensures.ran c.in-Some.ran (ap answered c.in-Some.is) in
+    c.in_default-ending.not-Done (same_run _ _ made sim c.as_str.result.now c.as_str.ensures _ linked_is ran.0 ran.1 _ ran.2.0 _ ran.2.1).ending
+
+pub returns : goal.returns
+returns c = λ made.
+    let sim = c.simulation.ensures c.args.class.now made.texts in
+    let file_is = c.in-Ok.ensures.only (class_for c.args.class.now made.texts) made.fits made.layout in
+    let linked_is = c.in-Ok-load.ensures.only sim.class (links_read _ _ made sim _ file_is) in
+    let ran = c.in_ok-ran.ensures.ran c.in-Some.ran (ap answered c.in-Some.is) in
+    let found = c.in-Ok.ensures.found in
+    let done = performed _ _ made sim c.as_str.result.now c.as_str.ensures _ found.0 found.1 file_is _ linked_is ran.0 ran.1 _ ran.2.0 _ ran.2.1 in
+    (done.0, ran.2.2 ∙ ap printed done.1)

@@ -1,0 +1,71 @@
+-- What the bytes of a source do when a class of it is run: what is shown, or why they are refused.
+use Rattle.std.specs.Prelude.{◌≡◌, ◌≢◌, ℕ, ◌<◌, ◌≤◌, List, length, Some, Result, Ok, Err}
+use Rattle.mg_text.specs.Call.{Name}
+use Rattle.mg_text.specs.Places.{start_of}
+use Rattle.mg_text.specs.declared.event.Event.{Event}
+use Rattle.mg_text.specs.declared.event.Ending.TheVariants as endings
+use Rattle.jv_tree.specs.Values.{Done}
+use Rattle.jv_tree.specs.Meaning.{mean}
+use Rattle.jv_plain.specs.Spelling.{Printer, Spells}
+use Rattle.cls_tree.specs.Tree.{Class as File}
+use Rattle.cls_tree.specs.Layout.{class_bytes}
+use Rattle.cls_tree.specs.Fits.{Fits}
+use Rattle.cls_tree.specs.Emitted.{class_for}
+use Rattle.gen_class.specs.Sizes.{IsCodeTooLong, IsTextTooLong}
+use Rattle.vm_model.specs.Program.{Method, Class}
+use Rattle.vm_model.specs.Links.{Links}
+use Rattle.vm_model.specs.Machine.{Runs, main_in, start}
+use Rattle.vm_step.specs.Ran.{printed as printed_by}
+use Rattle.mg_laws.specs.Simulates.{source_of}
+use Rattle.mg_run.specs.declared.Shown.{Shown}
+use Rattle.mg_run.specs.declared.RunFault.{RunFault}
+use Rattle.mg_run.specs.declared.RunFault.TheVariants as faults
+
+-- the bytes of a source spell this class, and no other
+pub record IsSource (bytes : List ℕ) (printer : Printer) : Type 0 where
+  pub spelled : Spells 0 bytes printer
+  pub only : (other : Printer) → Spells 0 bytes other → other ≡ printer
+
+-- A class file of these bytes is read back, linked and run: its `main` returns after so many instructions, with these events.
+pub record Performs (class : Name) (bytes : List ℕ) (instructions : ℕ) (events : List Event) : Type 0 where
+  pub file : File
+  pub fits : Fits file
+  pub read : bytes ≡ class_bytes file
+  pub linked : Class
+  pub links : Links file linked
+  pub named : linked.name ≡ class
+  pub main : Method
+  pub has_main : main_in linked.methods ≡ Some main
+  pub runs : Runs (start main) instructions events endings.Done
+
+-- The bytes of a source spell the class of this name, which isn't too large. What is printed is what the source means with every budget, and the bytes of its class do the same in so many instructions.
+pub record Shows (class : Name) (bytes printed : List ℕ) (instructions : ℕ) : Type 0 where
+  pub printer : Printer
+  pub source : IsSource bytes printer
+  pub named : printer.name ≡ class
+  pub short_code : IsCodeTooLong class printer.texts → ⊥
+  pub short_texts : IsTextTooLong printer.texts → ⊥
+  pub events : List Event
+  pub means : (budget : ℕ) → mean (source_of class printer.texts) class budget ≡ record { events = events; finish = Done }
+  pub shown : printed ≡ printed_by events
+  pub performs : Performs class (class_bytes (class_for class printer.texts)) instructions events
+
+-- The bytes of a source are refused, by the first of these that holds.
+pub data Refused (class : Name) (bytes : List ℕ) : RunFault → Type 0 where
+  too_large : 1048576 < length bytes → Refused class bytes (faults.TooLarge (start_of 0))
+  unsupported : length bytes ≤ 1048576 → ((printer : Printer) → Spells 0 bytes printer → ⊥) → Refused class bytes (faults.Unsupported (start_of 0))
+  no_main : (printer : Printer) → IsSource bytes printer → printer.name ≢ class → Refused class bytes faults.NoMain
+  code_too_long : (printer : Printer) → IsSource bytes printer → printer.name ≡ class → IsCodeTooLong class printer.texts →
+      Refused class bytes (faults.CodeTooLong printer.main_place)
+  text_too_long : (printer : Printer) → IsSource bytes printer → printer.name ≡ class → (IsCodeTooLong class printer.texts → ⊥) → IsTextTooLong printer.texts →
+      Refused class bytes (faults.TextTooLong printer.main_place)
+
+-- what running a class of a source may answer; memory may run out
+abbrev pub IsRun : Name → List ℕ → Result Shown RunFault → Type 0
+IsRun class bytes (Ok s) = Shows class bytes s.printed s.instructions
+IsRun class bytes (Err (faults.TooLarge place)) = Refused class bytes (faults.TooLarge place)
+IsRun class bytes (Err (faults.Unsupported place)) = Refused class bytes (faults.Unsupported place)
+IsRun class bytes (Err faults.NoMain) = Refused class bytes faults.NoMain
+IsRun class bytes (Err (faults.CodeTooLong place)) = Refused class bytes (faults.CodeTooLong place)
+IsRun class bytes (Err (faults.TextTooLong place)) = Refused class bytes (faults.TextTooLong place)
+IsRun class bytes (Err faults.Memory) = Unit {0}

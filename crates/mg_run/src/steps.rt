@@ -1,0 +1,78 @@
+//! The steps from a source to its run.
+
+ghost use Rattle.std.specs.Prelude.{◌≤◌, ℕ, length, List as Seq};
+ghost use Rattle.jv_plain.specs.Spelling.{Spells, printer_of};
+ghost use Rattle.mg_run.specs.Steps.{IsFound, IsCompiled, IsClassFile, IsPerformed};
+
+use crate::{RunFault, Shown};
+use cls_bytes::{ClassFault, read_class, write_class};
+use gen_class::{GenFault, gen_class};
+use jv_plain::{JavaFault, PrintClass, read_printer};
+use mg_laws::simulation;
+use mg_text::{Bytes, Ending, Text};
+use std::alloc::Global;
+use vm_step::{LoadFault, load, run};
+
+/// The class of this name in a source.
+pub fn find(alloc: Global, class: &Text, bytes: &[u8]) -> Result<PrintClass, RunFault>
+    ensures { IsFound class.now bytes.now result }
+{
+    match read_printer(alloc, 0, bytes) {
+        Ok(source) => {
+            if source.name.as_str() == class.as_str() {
+                Ok(source)
+            } else {
+                Err(RunFault::NoMain)
+            }
+        }
+        Err(JavaFault::TooLarge { place }) => Err(RunFault::TooLarge { place }),
+        Err(JavaFault::Unsupported { place }) => Err(RunFault::Unsupported { place }),
+        Err(JavaFault::Memory) => Err(RunFault::Memory),
+    }
+}
+
+/// The bytes of the class file of a source.
+pub fn compile(alloc: Global, source: &PrintClass) -> Result<Bytes, RunFault>
+    requires short { length source.now.name ≤ 255 }
+    requires spelled { (bytes : Seq ℕ) × Spells 0 bytes (printer_of source.now) }
+    ensures { IsCompiled source.now.name source.now.main_place source.now.texts.items result }
+{
+    let place = source.main_place;
+    match gen_class(alloc, &source.name, source.texts.as_slice()) {
+        Ok(class) => {
+            let bytes = write_class(alloc, &class)?;
+            Ok(bytes)
+        }
+        Err(GenFault::CodeTooLong) => Err(RunFault::CodeTooLong { place }),
+        Err(GenFault::TextTooLong) => Err(RunFault::TextTooLong { place }),
+        Err(GenFault::Memory) => Err(RunFault::Memory),
+    }
+}
+
+/// Reads the bytes of a class file, links the class and runs its `main`.
+pub fn perform(alloc: Global, class: &Text, bytes: &[u8]) -> Result<Shown, RunFault>
+    requires { IsClassFile class.now bytes.now }
+    ensures { IsPerformed class.now bytes.now result }
+{
+    simulation();
+    let file = match read_class(alloc, bytes) {
+        Ok(file) => file,
+        Err(ClassFault::Unreadable) => unreachable!(),
+        Err(ClassFault::Memory) => return Err(RunFault::Memory),
+    };
+    let linked = match load(alloc, &file) {
+        Ok(linked) => linked,
+        Err(LoadFault::Unlinked) => unreachable!(),
+        Err(LoadFault::Memory) => return Err(RunFault::Memory),
+    };
+    let Some(ran) = run(alloc, &linked, class.as_str())? else {
+        unreachable!()
+    };
+    match ran.ending {
+        Ending::Done => Ok(Shown {
+            printed: ran.printed,
+            instructions: ran.instructions,
+        }),
+        _ => unreachable!(),
+    }
+}
