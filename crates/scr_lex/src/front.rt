@@ -70,9 +70,9 @@ fn sign_of(byte: u8) -> Option<Mark>
     }
 }
 
-// The mark that a word is, if it is reserved.
+/// The mark that a word is, if it is reserved.
 #[tactic(auto, unfolding(crate::specs::Pieces::reserved))]
-pub(crate) fn reserved(text: &[u8]) -> Option<Mark>
+pub fn reserved(text: &[u8]) -> Option<Mark>
     ensures { result ≡ reserved text.now }
 {
     if text == b"module".as_slice() {

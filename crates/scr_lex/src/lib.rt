@@ -12,6 +12,7 @@ mod scan;
 #[cfg(test)]
 mod tests;
 
+pub use front::reserved;
 use mg_text::Memory;
 use scr_tree::Token;
 use std::alloc::Global;
