@@ -1,4 +1,5 @@
 pub mod WordsLemmas
 pub mod WayLemmas
 pub mod TranslateLemmas
+pub mod RunLemmas
 mod Examples

@@ -14,7 +14,7 @@ use Rattle.scr_read.specs.declared.ScrFault.TheVariants as faults
 use Rattle.mg_top.specs.declared.status.Status.{Status}
 use Rattle.mg_top.specs.declared.status.Status.TheVariants.{Done, Refused, ReadFault, WriteFault, Memory}
 use Rattle.mg_top.specs.declared.translate.Output.{Output}
-use Rattle.mg_top.specs.Words.{Word, IsScribbleFile}
+use Rattle.mg_top.specs.Words.{Word, Translate, IsFileOf}
 use Rattle.mg_top.specs.Lines.{read_line, write_line, fault_line, memory_line}
 use Rattle.mg_top.specs.Translation.{Translates, Refuses, too_large, unsupported}
 use Rattle.mg_top.specs.Made.{IsMade}
@@ -47,7 +47,7 @@ is_read (Some m) name file bytes given same as_given h =
 abbrev words_of : Word → List Word
 words_of file = codes "translate" ∷ file ∷ []
 
-module _ (file : Word) (scribble : IsScribbleFile file) (o e : Stream) (files : Option Files) (reads writes : List Word) where
+module _ (file : Word) (scribble : IsFileOf (codes ".scr") file) (o e : Stream) (files : Option Files) (reads writes : List Word) where
   abbrev Ends : Status → Option Files → List Word → List Word → Stream → Type 0
   Ends status files' reads' writes' e' = Way (words_of file) (outside files reads writes o e) status (outside files' reads' writes' o e')
 
@@ -55,7 +55,7 @@ module _ (file : Word) (scribble : IsScribbleFile file) (o e : Stream) (files : 
       → ToldIf ReadFault line e status e' → IfOk line (λ t. t ≡ read_line file) → Ends status files' reads' writes' e'
   unread_way status files' reads' writes' e' name line same f r w saying is =
       let grown : reads' ≡ reads ++ file ∷ [] = r ∙ ap (λ (n : Word). reads ++ n ∷ []) same in
-      unread file (refl, scribble) (reported line (read_line file) saying is) (λ i. outside (f i) (grown i) (w i) o e')
+      unread (Translate file) (refl, scribble) (reported line (read_line file) saying is) (λ i. outside (f i) (grown i) (w i) o e')
 
   pub starved_way : (status : Status) (files' : Option Files) (reads' writes' : List Word) (e' : Stream) → files' ≡ files → reads' ≡ reads ++ [] → writes' ≡ writes ++ []
       → Says Memory memory_line e status e' → Ends status files' reads' writes' e'

@@ -4,6 +4,7 @@
 
 mod lines;
 mod report;
+mod run;
 mod status;
 #[cfg(test)]
 mod tests;
@@ -13,3 +14,6 @@ mod words;
 
 pub use status::Status;
 pub use top::mungo;
+
+/// How much of a file is read: one byte more than a file may hold.
+const READ_LIMIT: usize = 1_048_577;

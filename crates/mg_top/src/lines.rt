@@ -1,8 +1,9 @@
-//! The lines that are said of faults.
+//! The lines that are said of faults and of runs.
 
 ghost use Rattle.std.specs.Prelude.{◌≡◌, IfOk, option_map};
-ghost use Rattle.mg_top.specs.Lines.{words_line, read_line, write_line, fault_line};
+ghost use Rattle.mg_top.specs.Lines.{words_line, read_line, write_line, fault_line, no_main_line, run_line, ran_line};
 
+use mg_run::RunFault;
 use mg_text::{Memory, Place, Text};
 use std::alloc::Global;
 
@@ -53,4 +54,39 @@ pub fn fault(alloc: Global, file: &Text, place: Place, fault: &str) -> Result<Te
     text.push_str(fault)?;
     text.push_str("\n")?;
     Ok(Text::from_string(text))
+}
+
+/// A class of the words can't be run, or its source is refused.
+pub fn not_run(alloc: Global, class: &Text, file: &Text, reason: RunFault) -> Result<Text, Memory>
+    ensures { IfOk result (λ t. t ≡ run_line class.now file.now reason) }
+{
+    match reason {
+        RunFault::TooLarge { place } => fault(alloc, file, place, "TooLarge"),
+        RunFault::Unsupported { place } => fault(alloc, file, place, "Unsupported"),
+        RunFault::NoMain => no_main(alloc, class),
+        RunFault::CodeTooLong { place } => fault(alloc, file, place, "CodeTooLong main"),
+        RunFault::TextTooLong { place } => fault(alloc, file, place, "TextTooLong main"),
+        RunFault::Memory => Text::of(alloc, MEMORY),
+    }
+}
+
+// The source has no class of this name with a `main`.
+fn no_main(alloc: Global, class: &Text) -> Result<Text, Memory>
+    ensures { IfOk result (λ t. t ≡ no_main_line class.now) }
+{
+    let mut line = String::from_str(alloc, "mungo: NoMain ")?;
+    line.push_str(class.as_str())?;
+    line.push_str("\n")?;
+    Ok(Text::from_string(line))
+}
+
+/// How a run went: `main` took so many instructions, and returned.
+pub fn ran(alloc: Global, instructions: u64) -> Result<Text, Memory>
+    ensures { IfOk result (λ t. t ≡ ran_line instructions) }
+{
+    let mut line = String::from_str(alloc, "main: ")?;
+    write!(line, "{instructions}")?;
+    line.push_str(" instructions, done")?;
+    line.push_str("\n")?;
+    Ok(Text::from_string(line))
 }

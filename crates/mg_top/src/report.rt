@@ -33,7 +33,15 @@ fn say<E: Sink>(err: &mut E, status: Status, line: &str) -> Status
     ensures { Says status line.now (stream (E.bytes err.old) (E.faults err.old)) result
         (stream (E.bytes err.new) (E.faults err.new)) }
 {
-    match err.put(line.as_bytes()) {
+    put(err, status, line.as_bytes())
+}
+
+/// Puts a piece on a sink, and answers the status, or that the sink failed or memory lacked.
+pub fn put<S: Sink>(sink: &mut S, status: Status, piece: &[u8]) -> Status
+    ensures { Says status piece.now (stream (S.bytes sink.old) (S.faults sink.old)) result
+        (stream (S.bytes sink.new) (S.faults sink.new)) }
+{
+    match sink.put(piece) {
         Ok(()) => status,
         Err(IoFault::Failed) => Status::WriteFault,
         Err(IoFault::Memory) => Status::Memory,

@@ -2,6 +2,7 @@ ghost use Rattle.mg_top.specs.Outside.{outside, stream};
 ghost use Rattle.mg_top.specs.Answers.{Answers};
 
 use crate::report::report;
+use crate::run::run;
 use crate::translate::translate;
 use crate::words::{Judged, judge};
 use crate::{Status, lines};
@@ -13,6 +14,7 @@ use std::alloc::Global;
 /// the line of a fault to `err`; the status says how it ended.
 ///
 /// `translate F` reads the local protocol in F and writes the typestate of its role.
+/// `run --main C F` compiles the class C of F and runs its `main`; what it prints goes to `out`.
 pub fn mungo<F: Folder, O: Sink, E: Sink>(
     alloc: Global,
     words: &[Text],
@@ -29,6 +31,7 @@ pub fn mungo<F: Folder, O: Sink, E: Sink>(
 {
     match judge(words) {
         Judged::Translate(file) => translate(alloc, file, folder, err),
+        Judged::Run(class, file) => run(alloc, class, file, folder, out, err),
         Judged::Wrong(word) => report(err, Status::Words, lines::wrong_words(alloc, word)),
     }
 }

@@ -1,22 +1,19 @@
 //! The command `translate`: a Scribble file becomes the typestate of its role.
 
 ghost use Rattle.std.specs.Prelude.{◌≡◌, ◌++◌, codes, IfOk, [], ◌∷◌};
-ghost use Rattle.mg_top.specs.Words.{IsScribbleFile, Translate};
+ghost use Rattle.mg_top.specs.Words.{IsFileOf};
 ghost use Rattle.mg_top.specs.Outside.{Stream, outside, stream};
 ghost use Rattle.mg_top.specs.Made.{IsMade};
 ghost use Rattle.mg_top.specs.Way.{Way};
 
 use crate::report::{report, starve};
-use crate::{Status, lines};
+use crate::{READ_LIMIT, Status, lines};
 use mg_io::{Folder, IoFault, Sink};
 use mg_text::{Memory, Text};
 use scr_read::{ScrFault, read_local};
 use std::alloc::Global;
 use stm_gen::generate;
 use ts_read::print_typestate;
-
-/// How much of a file is read: one byte more than a file may hold.
-const READ_LIMIT: usize = 1_048_577;
 
 /// A file to be written.
 #[derive(Debug, Drop)]
@@ -32,7 +29,7 @@ pub fn translate<F: Folder, E: Sink>(
     folder: &mut F,
     err: &mut E,
 ) -> Status
-    requires { IsScribbleFile file.now }
+    requires { IsFileOf (codes ".scr") file.now }
     ensures { (o : Stream) → Way (codes "translate" ∷ file.now ∷ [])
         (outside (F.files folder.old) (F.failed_reads folder.old) (F.failed_writes folder.old)
         o (stream (E.bytes err.old) (E.faults err.old)))
