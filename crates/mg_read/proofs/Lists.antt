@@ -1,12 +1,8 @@
 -- What a loop reads is a list of what its body reads, and the other way round.
 use Rattle.std.proofs.Common.{◌≡◌, ℕ, zero, suc, ◌<◌, List, [], ◌∷◌, ◌++◌, length, Bool, true, false, Some, refl, sym, ap, ◌∙◌, subst, append_assoc, length-append, arith, inl, inr}
 use Rattle.mg_read.specs.Reader.{Reader, ◌>>=◌, many, all_of}
+pub use Rattle.mg_read.specs.Each.{Each}
 use Rattle.mg_read.proofs.Steps.{bind_some, some_is, none_is_not, chosen, Takes}
-
--- xs are spelled one after another
-abbrev pub Each : {T A : Type 0} → (A → List T → Type 0) → List A → List T → Type 0
-Each {T = T} G [] ts = ts ≡ []
-Each {T = T} G (x ∷ xs) ts = (us vs : List T) × (ts ≡ us ++ vs) × G x us × Each G xs vs
 
 -- f reads what G spells, where ok holds of what follows, and nothing else
 pub record IsExact {T A : Type 0} (f : Reader T A) (G : A → List T → Type 0) (ok : List T → Type 0) : Type 0 where

@@ -1,7 +1,15 @@
-//! Words for readers that are exact: what a function that reads from the front of a list of
-//! tokens says of a grammar, and what follows for loops and for whole lists.
+//! What the readers of files share: cutting bytes into pieces, reading tokens exactly, and the first fault.
+//! The definitions say what a reader that is exact promises; the lemmas serve each of them.
 #![tactic(auto)]
 
+mod fault;
+mod front;
+
+pub use fault::{LexFault, ParseFault};
+pub use front::{
+    FrontPiece, PieceKind, ascii_text, comment_of, first_of, ill_formed_at, line_len, name_len,
+    piece_of,
+};
 use mg_text::Memory;
 use std::alloc::{AllocError, AllocFailed};
 
