@@ -1,3 +1,5 @@
+//! Why the outside refused a call.
+
 use mg_text::Memory;
 use std::alloc::{AllocError, AllocFailed};
 use thiserror::Error;

@@ -1,3 +1,5 @@
+//! A folder of files, by their names: what reading and writing promise.
+
 ghost use Rattle.std.specs.Prelude.{◌≡◌, ◌≤◌, ℕ, List, ◌++◌, length, take, Option, Some, option_map, IfOk, IfSome};
 ghost use Rattle.std.specs.FinMap as map;
 ghost use Rattle.mg_io.specs.Outside.{Files, name_if_failed, Writes};

@@ -1,3 +1,6 @@
+//! The real files.
+//! The adapter tells no content; the names that failed are kept.
+
 ghost use Rattle.std.specs.Prelude.{◌≡◌, ◌≤◌, [], length, IfOk};
 
 use crate::front::read_front;

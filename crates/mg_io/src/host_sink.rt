@@ -1,3 +1,6 @@
+//! The real output streams, or any other writer.
+//! The adapter tells no bytes; the calls that failed are counted.
+
 ghost use Rattle.std.specs.Prelude.{◌≡◌, ℕ, [], None, IsOk, take};
 ghost use Rattle.std.specs.Io.KnownBytes.{Appends};
 ghost use Rattle.mg_io.specs.Outside.{Puts, Counts};

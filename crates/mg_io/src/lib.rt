@@ -3,21 +3,25 @@
 #![tactic(auto)]
 
 mod fault;
+mod file_list;
 mod folder;
 mod front;
 mod host_folder;
 mod host_sink;
 mod mem_folder;
 mod mem_sink;
+mod number_list;
 mod sink;
 #[cfg(test)]
 mod tests;
 mod whole;
 
 pub use fault::IoFault;
+pub use file_list::FileList;
 pub use folder::Folder;
 pub use host_folder::HostFolder;
 pub use host_sink::HostSink;
-pub use mem_folder::{FileList, MemFolder, NumberList};
+pub use mem_folder::MemFolder;
 pub use mem_sink::MemSink;
+pub use number_list::NumberList;
 pub use sink::Sink;

@@ -1,105 +1,14 @@
-ghost use Rattle.std.specs.Prelude.{◌≡◌, ◌≤◌, ◌++◌, ◌⊎◌, ◌↔◌, [], length, take, Contains, IsTrue, Some, option_map, IfOk, OnOk, OnErr, IsErrOf};
+//! A folder in memory, which tells its files and fails at the calls that are listed.
+
+ghost use Rattle.std.specs.Prelude.{◌≡◌, ◌≤◌, ◌++◌, ◌⊎◌, ◌↔◌, [], length, take, IsTrue, Some, option_map, IfOk, OnErr, IsErrOf};
 ghost use Rattle.std.specs.FinMap as map;
 ghost use Rattle.mg_io.specs.Outside.{name_if_failed, Writes};
 ghost use Rattle.mg_io.specs.Fakes.{counted, IsListed, RefusesRead};
 
-use crate::{Folder, IoFault};
+use crate::{FileList, Folder, IoFault, NumberList};
 use mg_text::{Bytes, List, Memory, Text};
 use std::alloc::Global;
-use std::collections::BTreeMap;
 use std::marker::Model;
-
-/// Files in memory: bytes by their names, each name once.
-#[derive(Drop)]
-pub struct FileList {
-    files: BTreeMap<String, Bytes>,
-}
-
-impl Model for FileList {
-    ghost use Rattle.mg_io.specs.Outside.{Files};
-    ghost use Rattle.mg_io.specs.Fakes.{files_code, files_of};
-
-    ghost Value = { Files };
-
-    ghost coded = { files_code };
-
-    ghost view = { λ l. files_of l.files.entries };
-}
-
-impl FileList {
-    /// No files. Nothing is allocated before the first is added.
-    pub fn new(alloc: Global) -> FileList
-        ensures { result ≡ map.empty }
-    {
-        FileList {
-            files: BTreeMap::new(alloc),
-        }
-    }
-
-    /// Makes the named file hold this content, whether or not it was there. After an error the
-    /// files are as before.
-    pub fn add(&mut self, alloc: Global, name: &str, content: &[u8]) -> Result<(), Memory>
-        ensures ok { OnOk result (self.new ≡ map.insert self.old name.now content.now) }
-        ensures err { OnErr result (self.new ≡ self.old) }
-    {
-        let name = String::from_str(alloc, name)?;
-        let content = Bytes::of(alloc, content)?;
-        self.files.insert(name, content)?;
-        Ok(())
-    }
-
-    /// What the named file holds, where there is one.
-    pub fn content(&self, name: &str) -> Option<&[u8]>
-        ensures { option_map (λ bytes. bytes.now) result ≡ map.get self.now name.now }
-    {
-        match self.files.get(name) {
-            Some(bytes) => Some(bytes.as_slice()),
-            None => None,
-        }
-    }
-}
-
-/// Numbers of calls, which count from 0.
-#[derive(Drop)]
-pub struct NumberList {
-    numbers: Vec<u32>,
-}
-
-impl Model for NumberList {
-    ghost use Rattle.std.specs.Prelude.{List, ℕ};
-
-    ghost Value = { List ℕ };
-
-    ghost view = { λ l. l.numbers.items };
-}
-
-impl NumberList {
-    /// No numbers. Nothing is allocated.
-    pub fn new(alloc: Global) -> NumberList
-        ensures { result ≡ [] }
-    {
-        NumberList {
-            numbers: Vec::new(alloc),
-        }
-    }
-
-    /// These numbers.
-    pub fn of(alloc: Global, numbers: &[u32]) -> Result<NumberList, Memory>
-        ensures { IfOk result (λ l. l ≡ numbers.now) }
-    {
-        let numbers = Vec::from_slice(alloc, numbers)?;
-        Ok(NumberList { numbers })
-    }
-
-    /// Whether the number is listed.
-    pub fn has(&self, number: u64) -> bool
-        ensures { IsTrue result ↔ Contains self.now number }
-    {
-        self.numbers
-            .iter()
-            .any(|listed| u64::from(*listed) == number)
-    }
-}
 
 /// A folder in memory, which tells its files. Its calls of `read` and `write` are counted
 /// together from 0, and those whose number is listed fail.
@@ -123,17 +32,22 @@ impl Model for MemFolder {
 }
 
 impl MemFolder {
-    /// A folder of these files, at which the listed calls fail.
-    pub fn new(alloc: Global, files: FileList, failing: NumberList) -> MemFolder
-        ensures { result ≡ record { files = files; calls = 0; failing = failing; failed_reads = []; failed_writes = [] } }
+    /// A folder of these files, at which the listed calls fail. Room for the name of the first
+    /// read and of the first write that fail is taken at once.
+    pub fn new(alloc: Global, files: FileList, failing: NumberList) -> Result<MemFolder, Memory>
+        ensures { IfOk result (λ f. f ≡ record { files = files; calls = 0; failing = failing; failed_reads = []; failed_writes = [] }) }
     {
-        MemFolder {
+        let mut failed_reads = List::new(alloc);
+        failed_reads.reserve(1)?;
+        let mut failed_writes = List::new(alloc);
+        failed_writes.reserve(1)?;
+        Ok(MemFolder {
             files,
             calls: 0,
             failing,
-            failed_reads: List::new(alloc),
-            failed_writes: List::new(alloc),
-        }
+            failed_reads,
+            failed_writes,
+        })
     }
 
     /// What the named file holds, where there is one. It is no call of `read`.

@@ -1,3 +1,5 @@
+//! A sink in memory, which tells its bytes and fails at the calls that are listed.
+
 ghost use Rattle.std.specs.Prelude.{◌≡◌, ◌≢◌, [], Contains, Some, IsOk, IsErrOf};
 ghost use Rattle.mg_io.specs.Outside.{Puts, Counts};
 ghost use Rattle.mg_io.specs.Fakes.{counted, counted_if_failed};

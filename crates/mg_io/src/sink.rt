@@ -1,3 +1,5 @@
+//! What takes bytes, piece by piece.
+
 ghost use Rattle.std.specs.Prelude.{◌≡◌, ℕ, List, [], Option, IsOk};
 ghost use Rattle.mg_io.specs.Outside.{Puts, Counts};
 

@@ -1,3 +1,5 @@
+//! Tests of the fakes in memory and of the adapters.
+
 use super::*;
 use std::test::Fail;
 use std::{fs, io};
@@ -7,7 +9,7 @@ fn a_folder_in_memory_reads_writes_and_fails_as_listed(rt: HostRuntime) -> Resul
     let mut files = FileList::new(rt.alloc());
     files.add(rt.alloc(), "a", b"hello")?;
     let failing = NumberList::of(rt.alloc(), &[2])?;
-    let mut folder = MemFolder::new(rt.alloc(), files, failing);
+    let mut folder = MemFolder::new(rt.alloc(), files, failing)?;
     let front = folder.read(rt.alloc(), "a", 4)?;
     assert_eq!(rt; front.as_slice(), b"hell".as_slice());
     let absent = folder.read(rt.alloc(), "b", 4);

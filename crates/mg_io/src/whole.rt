@@ -1,3 +1,5 @@
+//! Writes all bytes of a piece.
+
 ghost use Rattle.std.specs.Prelude.{ℕ, IsTrue, take};
 ghost use Rattle.std.specs.Io.KnownBytes.{Appends};
 

@@ -1,7 +1,7 @@
 use Rattle.std.proofs.Common.{◌∙◌, sym, ap, Some}
 use Rattle.std.specs.FinMap as map
 use Rattle.mg_io.proofs.Files.{get-files_of}
-use Rattle.mg_io.proofs.mem_folder.FileList.content.Goals as goal
+use Rattle.mg_io.proofs.file_list.FileList.content.Goals as goal
 
 pub returns-in-Some : goal.returns-in-Some
 returns-in-Some c =

@@ -3,7 +3,7 @@ use Rattle.std.specs.Prelude.{string_bytes}
 use Rattle.std.specs.FinMap as map
 use Rattle.std.proofs.lemmas.Map.Text.{btree_map_updates_text}
 use Rattle.mg_io.proofs.Files.{one_written}
-use Rattle.mg_io.proofs.mem_folder.FileList.add.Goals as goal
+use Rattle.mg_io.proofs.file_list.FileList.add.Goals as goal
 
 pub returns-clause-ok : goal.returns-clause-ok
 returns-clause-ok c =
