@@ -1,0 +1,4 @@
+pub mod Spans
+pub mod LineLemmas
+pub mod FileLemmas
+pub mod Laws

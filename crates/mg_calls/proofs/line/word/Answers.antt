@@ -1,0 +1,13 @@
+use Rattle.std.proofs.Common.{refl}
+use Rattle.std.specs.Prelude.{Result, Ok, Err, MatchResult, IsOk}
+use Rattle.std.proofs.lemmas.Str.{IsUtf8-from_ascii}
+use Rattle.mg_calls.proofs.LineLemmas.{word_ascii}
+use Rattle.mg_calls.proofs.line.word.Goals as goal
+
+-- what can't have failed is Ok
+ok_where : {T E : Type 0} (r : Result T E) (P : T → Type 0) (Q : E → Type 0) → MatchResult r P Q → ((e : E) → Q e → ⊥) → IsOk r
+ok_where (Ok x) P Q h never = refl
+ok_where (Err e) P Q h never = absurd (never e h)
+
+pub unwrap-requires : goal.unwrap-requires
+unwrap-requires c = ok_where c.from_utf8.result _ _ c.from_utf8.ensures.cases (λ e q. q.0 (IsUtf8-from_ascii c.args.bytes.now (word_ascii c.args.bytes.now c.requires)))
