@@ -6,5 +6,14 @@ pub mod Steps
 pub mod CallNames
 pub mod Traces
 pub mod Meaning
+pub mod Words
+pub mod Written
+pub mod Spots
+pub mod Control
+pub mod Conditions
+pub mod Actions
+pub mod States
+pub mod Listing
+pub mod Faults
 pub mod Valid
 pub mod Local

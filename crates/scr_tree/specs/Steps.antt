@@ -1,5 +1,5 @@
 -- What a role may do, step by step. A position is the text that is left: no state has a number here.
-use Rattle.std.specs.Prelude.{ℕ, List, [], ◌∷◌, true, false}
+use Rattle.std.specs.Prelude.{◌≡◌, ℕ, List, [], ◌∷◌, true, false, Option, Some, None}
 use Rattle.std.specs.Str.{bytes_eq}
 use Rattle.mg_text.specs.Call.{Name}
 use Rattle.scr_tree.specs.Protocol.{Message, peer_of, label_of, Protocol, Done, Does, ChoiceHere, ChoiceThere, Rec, Continue, Branches, Branch}
@@ -28,12 +28,12 @@ Position = List Frame
 abbrev pub whole : Protocol → Position
 whole protocol = Left protocol Plain ∷ []
 
--- the frames from that of the innermost rec of this name on, which has its whole body again
-abbrev pub again : Name → Position → Position
-again name [] = []
+-- the frames from that of the innermost rec of this name on, which has its whole body again; there are none where there is no such rec
+abbrev pub again : Name → Position → Option Position
+again name [] = None
 again name (Left left Plain ∷ around) = again name around
 again name (Left left (BodyOf other body) ∷ around) =
-    elim (bytes_eq name other) [ true ↦ Left body (BodyOf other body) ∷ around | false ↦ again name around ]
+    elim (bytes_eq name other) [ true ↦ Some (Left body (BodyOf other body) ∷ around) | false ↦ again name around ]
 
 -- a move that nobody sees
 pub data Silent : Position → Position → Type 0 where
@@ -43,8 +43,8 @@ pub data Silent : Position → Position → Type 0 where
   begins : {name : Name} {body rest : Protocol} {part : Part} {around : List Frame} →
       Silent (Left (Rec name body rest) part ∷ around) (Left body (BodyOf name body) ∷ Left rest part ∷ around)
   -- a continue drops the frames before that of its rec, which gets its whole body again
-  continues : {name : Name} {rest : Protocol} {part : Part} {around : List Frame} →
-      Silent (Left (Continue name rest) part ∷ around) (again name (Left rest part ∷ around))
+  continues : {name : Name} {rest : Protocol} {part : Part} {around : List Frame} {to : Position} →
+      again name (Left rest part ∷ around) ≡ Some to → Silent (Left (Continue name rest) part ∷ around) to
 
 -- one of the branches is this message and then these statements
 pub data HasBranch : Branches → Message → Protocol → Type 0 where

@@ -1,42 +1,71 @@
--- What a local protocol of messages alone must meet, beside being spelled.
-use Rattle.std.specs.Prelude.{◌≡◌, ◌≢◌, ◌≤◌, List, [], ◌∷◌, length, All, Contains}
+-- What a local protocol meets: it can be written, and none of the conditions is at fault.
+use Rattle.std.specs.Prelude.{◌≤◌, ℕ, suc, max, List, [], ◌∷◌, Contains}
+use Rattle.std.specs.List.{AllByRecursion}
 use Rattle.mg_text.specs.Call.{Name}
-use Rattle.scr_tree.specs.declared.syntax.Message.{Message}
-use Rattle.scr_tree.specs.declared.syntax.Payload.TheVariants as payloads
-use Rattle.scr_tree.specs.Tree.{LocalTree, says}
-use Rattle.scr_tree.specs.CallNames.{message_call}
-use Rattle.scr_tree.specs.Meaning.{message_of}
+use Rattle.mg_read.specs.First.{Clean, with_earlier}
+use Rattle.scr_tree.specs.Tree.{LocalTree, Statements, Nothing, Says, Choice, Rec, Continue, Branches, NoBranch, Branch}
+use Rattle.scr_tree.specs.Words.{IsName}
+use Rattle.scr_tree.specs.Spots.{spots}
+use Rattle.scr_tree.specs.Conditions.{UnknownRole, PeerIsSelf, UnknownRec, DuplicateRec, Unguarded, Unreachable, BranchStart, MixedChoice, SameLabel, ReservedLabel}
+use Rattle.scr_tree.specs.Actions.{NameClash, actions}
+use Rattle.scr_tree.specs.States.{TooManyStates}
 
 -- no name stands twice
 abbrev pub AreDistinct : List Name → Type 0
 AreDistinct [] = Unit {0}
 AreDistinct (name ∷ names) = (Contains names name → ⊥) × AreDistinct names
 
--- Messages with one call name are one action: there is no call of which it is open what it does.
-abbrev pub HaveOneAction : List Message → Type 0
-HaveOneAction messages =
-    (m n : Message) → Contains messages m → Contains messages n → message_call (message_of m) ≡ message_call (message_of n) → message_of m ≡ message_of n
+abbrev mutual
+  -- how many statements stand one inside another
+  pub depth : Statements → ℕ
+  depth Nothing = 0
+  depth (Says m rest) = max 1 (depth rest)
+  depth (Choice place at branches rest) = max (suc (depth_in branches)) (depth rest)
+  depth (Rec place name body rest) = max (suc (depth body)) (depth rest)
+  depth (Continue place name rest) = max 1 (depth rest)
 
--- a protocol of these messages, none of which carries anything, and of nothing else
-pub record IsPlain (local : LocalTree) (messages : List Message) : Type 0 where
-  pub body : local.body ≡ says messages
-  pub carries_nothing : All (λ m. m.payload ≡ payloads.Nothing) messages
+  pub depth_in : Branches → ℕ
+  depth_in NoBranch = 0
+  depth_in (Branch b more) = max (depth b) (depth_in more)
 
--- the conditions on a role, on all roles that are listed, and on the messages of that role
-pub record IsSound (me : Name) (roles : List Name) (messages : List Message) : Type 0 where
-  -- no role is listed twice
-  pub distinct : AreDistinct roles
-  -- the role itself is listed, and each peer is
-  pub listed : Contains roles me
-  pub peers : All (λ m. Contains roles m.peer) messages
-  -- no message goes from the role to itself
-  pub apart : All (λ m. m.peer ≢ me) messages
-  pub one_action : HaveOneAction messages
-  -- each message is a state
-  pub states : length messages ≤ 1000
+abbrev mutual
+  -- all names in the statements are names of Scribble, and each choice has a branch
+  pub AreWritten : Statements → Type 0
+  AreWritten Nothing = Unit {0}
+  AreWritten (Says m rest) = IsName m.label × IsName m.peer × AreWritten rest
+  AreWritten (Choice place at branches rest) = IsName at × HasBranches branches × AreWrittenIn branches × AreWritten rest
+  AreWritten (Rec place name body rest) = IsName name × AreWritten body × AreWritten rest
+  AreWritten (Continue place name rest) = IsName name × AreWritten rest
 
--- a valid local protocol of messages alone
+  pub AreWrittenIn : Branches → Type 0
+  AreWrittenIn NoBranch = Unit {0}
+  AreWrittenIn (Branch b more) = AreWritten b × AreWrittenIn more
+
+  pub HasBranches : Branches → Type 0
+  HasBranches NoBranch = ⊥
+  HasBranches (Branch b more) = Unit {0}
+
+-- some file can spell it
+pub record IsWritten (local : LocalTree) : Type 0 where
+  pub name : IsName local.name
+  pub roles : AllByRecursion IsName local.roles
+  pub body : AreWritten local.body
+  pub depth : depth local.body ≤ 200
+
+-- a valid local protocol
 pub record IsValid (local : LocalTree) : Type 0 where
-  pub messages : List Message
-  pub plain : IsPlain local messages
-  pub sound : IsSound local.me local.roles messages
+  pub written : IsWritten local
+  pub roles_differ : AreDistinct local.roles
+  pub me_listed : Contains local.roles local.me
+  pub roles_listed : Clean (UnknownRole local.roles) (spots [] local.body)
+  pub peers_apart : Clean (PeerIsSelf local.me) (spots [] local.body)
+  pub recs_known : Clean UnknownRec (spots [] local.body)
+  pub recs_differ : Clean DuplicateRec (spots [] local.body)
+  pub guarded : Clean Unguarded (spots [] local.body)
+  pub reachable : Clean Unreachable (spots [] local.body)
+  pub starts : Clean BranchStart (spots [] local.body)
+  pub uniform : Clean (MixedChoice local.me) (spots [] local.body)
+  pub labels_differ : Clean (SameLabel local.me) (spots [] local.body)
+  pub labels_free : Clean (ReservedLabel local.me) (spots [] local.body)
+  pub one_action : Clean NameClash (with_earlier (actions local.me 1 local.body))
+  pub few_states : Clean (TooManyStates local.file local.me) (local.body ∷ [])

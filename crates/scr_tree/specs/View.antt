@@ -1,6 +1,7 @@
 -- The tree that the program's statements are.
 use Rattle.std.specs.Prelude.{ℕ, List, [], ◌∷◌, map}
 use Rattle.mg_text.specs.Call.{Name}
+use Rattle.mg_text.specs.Row.{Row}
 use Rattle.scr_tree.specs.declared.syntax.Statement.{Statement}
 use Rattle.scr_tree.specs.declared.syntax.Statement.TheOpen.{Statement-F}
 use Rattle.scr_tree.specs.declared.syntax.Statement.TheOpen as layers
@@ -32,6 +33,10 @@ front = fold-Statement Front layer
 -- the tree of statements
 abbrev pub statements : List Statement → Statements
 statements ss = in_front (map front ss)
+
+-- the trees of branches
+abbrev pub bodies : List (Row Statement) → Branches
+bodies branches = branches_of (map (λ b. statements b.items) branches)
 
 -- the tree of a local protocol's parts
 abbrev pub written : ℕ → Name → Name → List Name → List Statement → LocalTree

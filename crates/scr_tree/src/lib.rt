@@ -2,14 +2,16 @@
 //! The definitions say what a protocol is, what it may do step by step, and which calls are its traces.
 #![tactic(auto)]
 
+mod condition;
 mod local;
 mod names;
 mod syntax;
-#[cfg(test)]
-mod tests;
 mod token;
+mod written;
 
+pub use condition::Condition;
 pub use local::Local;
 pub use names::call_name;
 pub use syntax::{Direction, Message, Payload, Statement};
 pub use token::{Mark, Token, TokenKind};
+pub use written::{Carries, Declaration, Role, Written};

@@ -1,3 +1,5 @@
+//! A valid local protocol, which keeps that fact by its type.
+
 ghost use Rattle.scr_tree.specs.View.{written, statements};
 ghost use Rattle.scr_tree.specs.Valid.{IsValid};
 

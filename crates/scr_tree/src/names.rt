@@ -1,3 +1,5 @@
+//! The names of the calls that stand for messages.
+
 ghost use Rattle.std.specs.Prelude.{◌≡◌, IfOk};
 ghost use Rattle.scr_tree.specs.CallNames.{message_call, payload_part, start_of, way_of};
 ghost use Rattle.scr_tree.specs.Meaning.{message_of};

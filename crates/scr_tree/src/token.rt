@@ -1,3 +1,5 @@
+//! The tokens of a Scribble file.
+
 use mg_text::{Place, Text};
 
 /// A reserved word or a sign of Scribble.

@@ -1,0 +1,87 @@
+-- A file as it is written, beside the protocol that it means: types, roles and payloads by their names.
+use Rattle.std.specs.Prelude.{ℕ, List, [], ◌∷◌, map, Option, Some, None, codes, if◌then◌else◌}
+use Rattle.std.specs.Str.{bytes_eq}
+use Rattle.std.specs.Option.{option_or}
+use Rattle.mg_text.specs.Call.{Name}
+use Rattle.mg_text.specs.declared.place.Place.{Place}
+use Rattle.scr_tree.specs.declared.written.Declaration.{Declaration}
+use Rattle.scr_tree.specs.declared.written.Role.{Role}
+use Rattle.scr_tree.specs.declared.written.Carries.{Carries as Kept}
+use Rattle.scr_tree.specs.declared.written.Written.{Written}
+use Rattle.scr_tree.specs.declared.syntax.Payload.{Payload}
+use Rattle.scr_tree.specs.declared.syntax.Payload.TheVariants as payloads
+use Rattle.scr_tree.specs.Tree.{LocalTree, Statements}
+use Rattle.scr_tree.specs.View.{statements}
+
+-- the types between the parentheses of a message, as they are written, with the message's place
+pub record Carries : Type 0 where
+  pub place : Place
+  pub types : List Name
+
+-- The parts of a file. Of each message, in the order of the text, `carries` has what stands between its parentheses.
+pub record WrittenTree : Type 0 where
+  pub file : ℕ
+  pub types : List Declaration
+  pub name : Name
+  -- the role that the protocol is of, where it is named behind `at` or by `self`
+  pub me : Role
+  pub roles : List Role
+  pub carries : List Carries
+  pub body : Statements
+
+abbrev pub carries_of : Kept → Carries
+carries_of kept = record { place = kept.place; types = kept.types.items }
+
+abbrev pub written_of : ℕ → Written → WrittenTree
+written_of file w = record {
+  file = file;
+  types = w.types.items;
+  name = w.name;
+  me = w.me;
+  roles = w.roles.items;
+  carries = map carries_of w.carries.items;
+  body = statements w.body.items;
+}
+
+abbrev pub role_name : Role → Name
+role_name role = role.name
+
+-- the protocol that is meant
+abbrev pub local_of : WrittenTree → LocalTree
+local_of w = record { file = w.file; name = w.name; me = w.me.name; roles = map role_name w.roles; body = w.body }
+
+-- ---- what the types mean
+
+-- the kind of a value of a Java class
+abbrev pub kind_of_class : Name → Option Payload
+kind_of_class class =
+    if bytes_eq class (codes "java.lang.Integer") then Some payloads.Int
+    else (if bytes_eq class (codes "java.lang.Boolean") then Some payloads.Boolean
+    else (if bytes_eq class (codes "java.lang.String") then Some payloads.Text
+    else None))
+
+-- the class of a name that is declared beforehand
+abbrev pub class_beforehand : Name → Option Name
+class_beforehand alias =
+    if bytes_eq alias (codes "int") then Some (codes "java.lang.Integer")
+    else (if bytes_eq alias (codes "boolean") then Some (codes "java.lang.Boolean")
+    else (if bytes_eq alias (codes "String") then Some (codes "java.lang.String")
+    else None))
+
+-- the class that the first declaration of a name gives it
+abbrev pub class_among : List Declaration → Name → Option Name
+class_among [] alias = None
+class_among (d ∷ ds) alias = if bytes_eq alias d.alias then Some d.class else class_among ds alias
+
+abbrev pub class_of_alias : List Declaration → Name → Option Name
+class_of_alias types alias = option_or (class_beforehand alias) (class_among types alias)
+
+abbrev pub kind_if_class : Option Name → Payload
+kind_if_class None = payloads.Nothing
+kind_if_class (Some class) = elim (kind_of_class class) [ None ↦ payloads.Nothing | Some kind ↦ kind ]
+
+-- What a message carries whose types are these: nothing, or a value of the one type. What means nothing, since it is refused, is nothing.
+abbrev pub kind_of : List Declaration → List Name → Payload
+kind_of types [] = payloads.Nothing
+kind_of types (alias ∷ []) = kind_if_class (class_of_alias types alias)
+kind_of types (alias ∷ other ∷ more) = payloads.Nothing

@@ -1,0 +1,44 @@
+//! A file as it is written: types, roles and payloads by their names, beside what they mean.
+
+use crate::Statement;
+use mg_text::{List, Place, Text};
+
+/// A declaration `type <language> "class" from ".." as alias;`, with the place of its alias.
+#[derive(Debug, Drop)]
+pub struct Declaration {
+    pub place: Place,
+    pub language: Text,
+    pub class: Text,
+    pub alias: Text,
+}
+
+/// A role that is named, and where.
+#[derive(Debug, Drop)]
+pub struct Role {
+    pub place: Place,
+    pub name: Text,
+}
+
+/// The types that stand between the parentheses of a message, with the message's place.
+#[derive(Debug, Drop)]
+pub struct Carries {
+    pub place: Place,
+    pub types: List<Text>,
+}
+
+/// The parts of a file.
+#[derive(Debug, Drop)]
+pub struct Written {
+    /// The types that are declared, in the order of the text.
+    pub types: List<Declaration>,
+    /// The protocol's name.
+    pub name: Text,
+    /// The role that the protocol is of, where it is named behind `at` or by `self`.
+    pub me: Role,
+    /// The roles that are listed, in the order of the text.
+    pub roles: List<Role>,
+    /// What each message carries, in the order of the text.
+    pub carries: List<Carries>,
+    /// What the role does. A message whose types mean nothing carries nothing.
+    pub body: List<Statement>,
+}
