@@ -1,25 +1,21 @@
+//! The scan from left to right: one piece after another, each token with its place.
+//! A piece that can't stand ends it.
+
 ghost use Rattle.std.specs.Prelude.{◌≡◌, ◌≤◌, ◌++◌, length, IfOk, OnOk};
 ghost use Rattle.std.specs.Str.{IsAscii};
 ghost use Rattle.mg_text.specs.declared.place.Place.{Place};
+ghost use Rattle.mg_read.specs.Lexed.{MatchLexed};
+ghost use Rattle.mg_read.specs.Pieces.{tokens_of};
+ghost use Rattle.mg_read.specs.inner.Fronts.{content_shown, IsReadable};
 ghost use Rattle.scr_tree.specs.Tok.{tok_at, toks};
-ghost use Rattle.scr_lex.specs.Pieces.{reserved, word_tok, AreTokens, IsBadAt};
-ghost use Rattle.scr_lex.specs.Cutting.{shown_tokens, IsReadable};
-ghost use Rattle.scr_lex.specs.Lexed.{MatchLexed};
+ghost use Rattle.scr_tree.specs.Words.{reserved};
+ghost use Rattle.scr_lex.specs.Pieces.{word_tok, tok_said, AreTokens, IsBadAt};
 
-use crate::LexFault;
-use crate::front::{PieceKind, piece_of, reserved};
-use mg_text::{List, Memory, Place, Text};
+use crate::words::{reserved, sign_of, signs};
+use mg_read::{LexFault, PieceKind, ascii_text, first_of, ill_formed_at, piece_of};
+use mg_text::{List, Memory, Place};
 use scr_tree::{Token, TokenKind};
 use std::alloc::Global;
-
-// The text of these bytes.
-fn text_of(alloc: Global, bytes: &[u8]) -> Result<Text, Memory>
-    requires { IsAscii bytes.now }
-    ensures { IfOk result (λ t. t ≡ bytes.now) }
-{
-    let text = std::str::from_utf8(bytes).unwrap();
-    Text::of(alloc, text)
-}
 
 fn word_kind(alloc: Global, text: &[u8]) -> Result<TokenKind, Memory>
     requires { IsAscii text.now }
@@ -27,7 +23,7 @@ fn word_kind(alloc: Global, text: &[u8]) -> Result<TokenKind, Memory>
 {
     match reserved(text) {
         Some(mark) => Ok(TokenKind::Mark(mark)),
-        None => Ok(TokenKind::Name(text_of(alloc, text)?)),
+        None => Ok(TokenKind::Name(ascii_text(alloc, text)?)),
     }
 }
 
@@ -40,7 +36,7 @@ fn put(
     text: &[u8],
 ) -> Result<(), Memory>
     requires { IsReadable kind text.now }
-    ensures { OnOk result (toks found.new.items ≡ toks found.old.items ++ shown_tokens place kind text.now) }
+    ensures { OnOk result (toks found.new.items ≡ toks found.old.items ++ tokens_of tok_said place (content_shown kind text.now)) }
 {
     match kind {
         PieceKind::Gap => Ok(()),
@@ -51,15 +47,18 @@ fn put(
         }
         PieceKind::Quote => {
             let body = &text[1..text.len() - 1];
-            let kind = TokenKind::Quoted(text_of(alloc, body)?);
+            let kind = TokenKind::Quoted(ascii_text(alloc, body)?);
             found.push(Token { place, kind })?;
             Ok(())
         }
-        PieceKind::Sign(mark) => {
-            let kind = TokenKind::Mark(mark);
-            found.push(Token { place, kind })?;
-            Ok(())
-        }
+        PieceKind::Sign(sign) => match sign_of(sign) {
+            Some(mark) => {
+                let kind = TokenKind::Mark(mark);
+                found.push(Token { place, kind })?;
+                Ok(())
+            }
+            None => Ok(()),
+        },
     }
 }
 
@@ -68,13 +67,14 @@ pub(crate) fn scan_tokens(alloc: Global, file: u32, bytes: &[u8]) -> Result<List
     requires { length bytes.now ≤ 1048576 }
     ensures { MatchLexed result (λ v. AreTokens file (toks v.items) bytes.now) (λ k. IsBadAt k bytes.now) }
 {
+    let ill_formed = ill_formed_at(bytes);
     let mut found = List::new(alloc);
     let mut place = Place::start(file);
     let mut offset = 0;
     let mut rest = bytes;
     'pieces: while !rest.is_empty() {
-        let Some(piece) = piece_of(rest) else {
-            return Err(LexFault::BadByte(offset));
+        let Some(piece) = piece_of(signs(), true, rest) else {
+            return Err(LexFault::BadByte(first_of(offset, ill_formed)));
         };
         let (text, after) = rest.split_at(piece.len);
         put(alloc, &mut found, place, piece.kind, text)?;
@@ -82,5 +82,8 @@ pub(crate) fn scan_tokens(alloc: Global, file: u32, bytes: &[u8]) -> Result<List
         offset += piece.len;
         rest = after;
     }
-    Ok(found)
+    match ill_formed {
+        None => Ok(found),
+        Some(at) => Err(LexFault::BadByte(at)),
+    }
 }
