@@ -1,0 +1,10 @@
+pub mod Steps
+pub mod Turns
+pub mod Names
+pub mod Heads
+pub mod Tables
+pub mod Views
+pub mod Nested
+pub mod Carried
+pub mod Whole
+pub mod Answered
