@@ -1,0 +1,86 @@
+//! A call's name says which action it is.
+
+ghost use Rattle.std.specs.Prelude.{◌≡◌, ◌↔◌, [], IfOk, IsTrue, map, option_map};
+ghost use Rattle.mg_read.specs.First.{Judged, with_earlier};
+ghost use Rattle.scr_tree.specs.Meaning.{message_of};
+ghost use Rattle.scr_tree.specs.View.{statements};
+ghost use Rattle.mg_read.specs.Culprit.{culprit};
+ghost use Rattle.scr_tree.specs.Actions.{NameClash, actions};
+ghost use Rattle.scr_judge.specs.inner.Listed.{Clash};
+ghost use Rattle.scr_judge.specs.inner.View.{deed_of, named_of, clash_of, call_of, does, clashing};
+
+use crate::actions::{Action, Deed, collect_all};
+use crate::culprit::Named;
+use mg_text::{Memory, Text};
+use scr_tree::{Message, Statement};
+use std::alloc::Global;
+use std::collections::HashMap;
+
+/// The first action whose call name an earlier action has that is another one.
+pub fn find_name_clash(
+    alloc: Global,
+    me: &Text,
+    body: &[Statement],
+) -> Result<Option<Named>, Memory>
+    ensures { IfOk result (λ r. Judged NameClash (with_earlier (actions me.now 1 (statements body.now))) (named_of r)) }
+{
+    let mut actions = Vec::new(alloc);
+    collect_all(alloc, me, &mut actions, 1, body)?;
+    match first_clash(alloc, actions.as_slice())? {
+        None => Ok(None),
+        Some(action) => {
+            let name = action.call.copy()?;
+            Ok(Some(Named {
+                place: action.place,
+                name,
+            }))
+        }
+    }
+}
+
+fn first_clash<'b, 'a>(
+    alloc: Global,
+    actions: &'b [Action<'a>],
+) -> Result<Option<&'b Action<'a>>, Memory>
+    ensures { IfOk result (λ r. Judged (Clash call_of does clashing) (with_earlier actions.now) (clash_of r)) }
+{
+    // Of each call name the index of the first action that has it.
+    let mut firsts: HashMap<String, usize> = HashMap::new(alloc);
+    for (i, action) in actions.iter().enumerate() {
+        match firsts.get(action.call.as_str()) {
+            Some(first) => {
+                if !is_same_deed(&actions[*first], action) {
+                    return Ok(Some(action));
+                }
+            }
+            None => {
+                let key = String::from_str(alloc, action.call.as_str())?;
+                firsts.insert(key, i)?;
+            }
+        }
+    }
+    Ok(None)
+}
+
+// Whether two calls do the same.
+fn is_same_deed(a: &Action<'_>, b: &Action<'_>) -> bool
+    ensures { IsTrue result ↔ (deed_of a.now.deed ≡ deed_of b.now.deed) }
+{
+    match a.deed {
+        Deed::Moves(one) => match b.deed {
+            Deed::Moves(other) => is_same_message(one, other),
+            Deed::Looks(_) => false,
+        },
+        Deed::Looks(one) => match b.deed {
+            Deed::Moves(_) => false,
+            Deed::Looks(other) => one == other,
+        },
+    }
+}
+
+// Whether two messages differ in their places at most.
+fn is_same_message(a: &Message, b: &Message) -> bool
+    ensures { IsTrue result ↔ (message_of a.now ≡ message_of b.now) }
+{
+    a.direction == b.direction && a.payload == b.payload && a.label == b.label && a.peer == b.peer
+}

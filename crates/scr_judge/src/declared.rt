@@ -1,0 +1,88 @@
+//! What a file declares and lists, each name once.
+
+ghost use Rattle.std.specs.Prelude.{◌≡◌, ◌↔◌, ◌++◌, IfOk, IsTrue, map, option_map};
+ghost use Rattle.mg_read.specs.First.{Judged, with_earlier};
+ghost use Rattle.mg_read.specs.Culprit.{culprit};
+ghost use Rattle.scr_tree.specs.Listing.{DuplicateName, declares, lists};
+ghost use Rattle.scr_tree.specs.Written.{class_beforehand};
+ghost use Rattle.scr_judge.specs.inner.Listed.{DeclaredTwice, IsOtherwise};
+ghost use Rattle.scr_judge.specs.inner.View.{culprit_of, told};
+
+use crate::culprit::Culprit;
+use crate::roles::find_listed_twice;
+use mg_text::Memory;
+use scr_tree::{Declaration, Written};
+use std::alloc::Global;
+use std::collections::HashMap;
+
+/// The first type name that is declared with a second class, or else the first role that is listed
+/// twice.
+pub fn find_duplicate_name(alloc: Global, written: &Written) -> Result<Option<Culprit<'_>>, Memory>
+    ensures { IfOk result (λ r. Judged DuplicateName (with_earlier (map declares written.now.types.items ++ map lists written.now.roles.items)) (culprit_of r)) }
+{
+    match find_declared_twice(alloc, written.types.as_slice())? {
+        Some(culprit) => Ok(Some(culprit)),
+        None => find_listed_twice(alloc, written.roles.as_slice()),
+    }
+}
+
+// The first declaration that gives a name another class than one before it.
+fn find_declared_twice(alloc: Global, types: &[Declaration]) -> Result<Option<Culprit<'_>>, Memory>
+    ensures { IfOk result (λ r. Judged DeclaredTwice (with_earlier types.now) (culprit_of r)) }
+{
+    // Of each name the index of the first declaration that has it.
+    let mut firsts: HashMap<String, usize> = HashMap::new(alloc);
+    for (i, declaration) in types.iter().enumerate() {
+        if is_otherwise(declaration) {
+            return Ok(Some(culprit_at(declaration)));
+        }
+        match firsts.get(declaration.alias.as_str()) {
+            Some(first) => {
+                if types[*first].class != declaration.class {
+                    return Ok(Some(culprit_at(declaration)));
+                }
+            }
+            None => {
+                let key = String::from_str(alloc, declaration.alias.as_str())?;
+                firsts.insert(key, i)?;
+            }
+        }
+    }
+    Ok(None)
+}
+
+/// A declaration that is at fault.
+pub fn culprit_at(declaration: &Declaration) -> Culprit<'_>
+    ensures { told result ≡ culprit declaration.now.place declaration.now.alias }
+{
+    Culprit {
+        place: declaration.place,
+        name: declaration.alias.as_str(),
+    }
+}
+
+// Whether a name is declared beforehand, with another class.
+fn is_otherwise(declaration: &Declaration) -> bool
+    ensures { IsTrue result ↔ IsOtherwise declaration.now }
+{
+    match class_beforehand(declaration.alias.as_str()) {
+        None => false,
+        Some(class) => declaration.class.as_str() != class,
+    }
+}
+
+/// The class of a name that is declared beforehand.
+pub fn class_beforehand(alias: &str) -> Option<&'static str>
+    ensures { option_map (λ c. c.now) result ≡ class_beforehand alias.now }
+{
+    if alias == "int" {
+        return Some("java.lang.Integer");
+    }
+    if alias == "boolean" {
+        return Some("java.lang.Boolean");
+    }
+    if alias == "String" {
+        return Some("java.lang.String");
+    }
+    None
+}

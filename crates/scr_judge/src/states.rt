@@ -1,0 +1,90 @@
+//! How many states there are.
+
+ghost use Rattle.std.specs.Prelude.{◌≡◌, ◌↔◌, ◌<◌, [], ◌∷◌, false, IsTrue, length};
+ghost use Rattle.mg_read.specs.First.{Judged};
+ghost use Rattle.scr_tree.specs.View.{front, statements};
+ghost use Rattle.scr_tree.specs.Tree.{Nothing};
+ghost use Rattle.scr_tree.specs.States.{TooManyStates, states};
+ghost use Rattle.scr_judge.specs.inner.Counting.{counted, counted_in, up};
+ghost use Rattle.scr_judge.specs.inner.View.{culprit_of};
+ghost use Rattle.scr_tree.specs.View.{bodies};
+
+use crate::culprit::Culprit;
+use mg_text::{List, Place, Text};
+use scr_tree::Statement;
+
+const MAX_STATES: u32 = 1000;
+
+/// The file, where it has too many states.
+pub fn find_too_many_states<'a>(file: u32, me: &Text, body: &'a [Statement]) -> Option<Culprit<'a>>
+    ensures { Judged (TooManyStates file me.now) (statements body.now ∷ []) (culprit_of result) }
+{
+    if has_too_many_states(me, body) {
+        return Some(Culprit {
+            place: Place::start(file),
+            name: "",
+        });
+    }
+    None
+}
+
+// Whether there are more states than are allowed.
+#[tactic(auto, using(crate::proofs::Counting::too_many))]
+fn has_too_many_states(me: &Text, body: &[Statement]) -> bool
+    ensures { IsTrue result ↔ (1000 < length (states me.now (statements body.now))) }
+{
+    count_all(me, false, 0, body) > MAX_STATES
+}
+
+// Counts up to one state too many.
+#[tactic(auto, using(crate::proofs::CountSteps::all_steps))]
+#[cycle(states)]
+fn count_all(me: &Text, first: bool, count: u32, body: &[Statement]) -> u32
+    ensures { result ≡ counted me.now first count (statements body.now) }
+{
+    let mut count = count;
+    let mut first = first;
+    for statement in body {
+        count = count_at(me, first, count, statement);
+        first = false;
+    }
+    count
+}
+
+#[tactic(auto, using(crate::proofs::CountSteps::alone))]
+#[cycle(states)]
+fn count_at(me: &Text, first: bool, count: u32, statement: &Statement) -> u32
+    ensures { result ≡ counted me.now first count (front statement.now Nothing) }
+{
+    match statement {
+        Statement::Message(_) => { if first { count } else { one_more(count) } }
+        Statement::Choice { at, branches, .. } => {
+            let at_self = *at == *me;
+            count_in(me, at_self, one_more(count), branches.as_slice())
+        }
+        Statement::Rec { body, .. } => count_all(me, false, count, body.as_slice()),
+        Statement::Continue { .. } => count,
+    }
+}
+
+#[tactic(auto, using(crate::proofs::CountSteps::in_steps))]
+#[cycle(states)]
+fn count_in(me: &Text, at_self: bool, count: u32, branches: &[List<Statement>]) -> u32
+    ensures { result ≡ counted_in me.now at_self count (bodies branches.now) }
+{
+    let mut count = count;
+    for branch in branches {
+        count = count_all(me, at_self, count, branch.as_slice());
+    }
+    count
+}
+
+fn one_more(count: u32) -> u32
+    ensures { result ≡ up count }
+{
+    if count < MAX_STATES + 1 {
+        count + 1
+    } else {
+        count
+    }
+}

@@ -1,0 +1,139 @@
+//! The types of what messages carry.
+
+ghost use Rattle.std.specs.Prelude.{◌≡◌, ◌↔◌, ◌++◌, ℕ, List, IfOk, IsTrue, Contains, map};
+ghost use Rattle.std.specs.List.{flat_map};
+ghost use Rattle.std.specs.Option.{is_some};
+ghost use Rattle.std.specs.HashSet.{contains_text};
+ghost use Rattle.mg_read.specs.First.{Judged};
+ghost use Rattle.scr_tree.specs.Listing.{UnknownType, PayloadCount, declared, carried_by};
+ghost use Rattle.scr_tree.specs.Written.{carries_of, kind_of_class};
+ghost use Rattle.scr_judge.specs.inner.Listed.{alias_of, first_among, is_supported, unsupported, is_declared, undeclared, undeclared_in, many};
+ghost use Rattle.scr_judge.specs.inner.View.{culprit_of};
+
+use crate::culprit::Culprit;
+use crate::declared::{class_beforehand, culprit_at};
+use crate::seen::{add_name, no_names};
+use crate::truth::{both, either};
+use mg_text::{Memory, Place, Text};
+use scr_tree::{Carries, Declaration, Written};
+use std::alloc::Global;
+use std::collections::HashSet;
+
+/// The first declaration that isn't supported, or else the first type that a message carries and
+/// that isn't declared.
+pub fn find_unknown_type(alloc: Global, written: &Written) -> Result<Option<Culprit<'_>>, Memory>
+    ensures { IfOk result (λ r. Judged (UnknownType written.now.types.items) (map declared written.now.types.items ++ flat_map carried_by (map carries_of written.now.carries.items)) (culprit_of r)) }
+{
+    let types = written.types.as_slice();
+    match find_unsupported(types) {
+        Some(culprit) => Ok(Some(culprit)),
+        None => {
+            let aliases = declared_names(alloc, types)?;
+            Ok(find_undeclared(&aliases, written.carries.as_slice()))
+        }
+    }
+}
+
+/// The first message with two or more payloads.
+pub fn find_payload_count(written: &Written) -> Option<Culprit<'_>>
+    ensures { Judged PayloadCount (map carries_of written.now.carries.items) (culprit_of result) }
+{
+    find_many(written.carries.as_slice())
+}
+
+// The first declaration that isn't of Java or of one of the three classes.
+#[tactic(auto, using(crate::proofs::Tables::steps))]
+fn find_unsupported(types: &[Declaration]) -> Option<Culprit<'_>>
+    ensures { culprit_of result ≡ first_among unsupported types.now }
+{
+    for declaration in types {
+        if !is_supported(declaration) {
+            return Some(culprit_at(declaration));
+        }
+    }
+    None
+}
+
+fn is_supported(declaration: &Declaration) -> bool
+    ensures { result ≡ is_supported declaration.now }
+{
+    let class = is_supported_class(declaration.class.as_str());
+    both(declaration.language.as_str() == "java", class)
+}
+
+fn is_supported_class(class: &str) -> bool
+    ensures { result ≡ is_some (kind_of_class class.now) }
+{
+    if class == "java.lang.Integer" {
+        return true;
+    }
+    if class == "java.lang.Boolean" {
+        return true;
+    }
+    class == "java.lang.String"
+}
+
+// The names that are declared.
+fn declared_names(alloc: Global, types: &[Declaration]) -> Result<HashSet<String>, Memory>
+    ensures { IfOk result (λ s. (q : List ℕ) → IsTrue (contains_text s q) ↔ Contains (map alias_of types.now) q) }
+{
+    let mut names = no_names(alloc);
+    for declaration in types {
+        let name = String::from_str(alloc, declaration.alias.as_str())?;
+        add_name(&mut names, name)?;
+    }
+    Ok(names)
+}
+
+// The first type that isn't declared.
+#[tactic(auto, using(crate::proofs::Tables::steps))]
+fn find_undeclared<'a>(aliases: &HashSet<String>, carries: &'a [Carries]) -> Option<Culprit<'a>>
+    ensures { culprit_of result ≡ first_among (undeclared_in (contains_text aliases.now)) carries.now }
+{
+    for message in carries {
+        let types = message.types.as_slice();
+        if let Some(culprit) = find_undeclared_in(aliases, message.place, types) {
+            return Some(culprit);
+        }
+    }
+    None
+}
+
+#[tactic(auto, using(crate::proofs::Tables::steps))]
+fn find_undeclared_in<'a>(
+    aliases: &HashSet<String>,
+    place: Place,
+    types: &'a [Text],
+) -> Option<Culprit<'a>>
+    ensures { culprit_of result ≡ first_among (undeclared (contains_text aliases.now) place) types.now }
+{
+    for name in types {
+        let name = name.as_str();
+        if !is_declared(aliases, name) {
+            return Some(Culprit { place, name });
+        }
+    }
+    None
+}
+
+fn is_declared(aliases: &HashSet<String>, name: &str) -> bool
+    ensures { result ≡ is_declared (contains_text aliases.now) name.now }
+{
+    either(class_beforehand(name).is_some(), aliases.contains(name))
+}
+
+// The first message with two or more types.
+#[tactic(auto, using(crate::proofs::Tables::steps))]
+fn find_many(carries: &[Carries]) -> Option<Culprit<'_>>
+    ensures { culprit_of result ≡ first_among many carries.now }
+{
+    for message in carries {
+        if message.types.len() >= 2 {
+            return Some(Culprit {
+                place: message.place,
+                name: "",
+            });
+        }
+    }
+    None
+}
