@@ -1,9 +1,4 @@
-pub mod Steps
-pub mod Messages
-pub mod Roles
-pub mod Whole
-pub mod Answer
-mod Distinct
-mod FirstCalls
-mod Sound
-mod Composed
+pub mod Sought
+pub mod Unique
+pub mod Named
+pub mod Staged

@@ -1,6 +1,4 @@
-pub mod Grammar
-pub mod Reading
-pub mod Listed
+pub mod Unsupported
 pub mod Spelling
-pub mod Answer
-pub mod Whole
+pub mod Outcome
+pub mod inner

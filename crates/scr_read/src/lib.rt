@@ -1,77 +1,67 @@
 //! Reads the text of a Scribble local protocol.
-//! So far a protocol is a list of messages that carry nothing; all else is refused as unsupported.
+//! The answer is the protocol that the bytes spell, or the fault of the lowest number at its first place.
 #![tactic(auto)]
 
-ghost use Rattle.std.specs.Prelude.{◌≡◌, ◌<◌, ◌≤◌, ℕ, List, length, IfOk, IsErrOf};
-ghost use Rattle.mg_text.specs.Places.{start_of};
-ghost use Rattle.mg_text.specs.declared.place.Place.{Place};
-ghost use Rattle.scr_tree.specs.Tree.{LocalTree};
-ghost use Rattle.scr_tree.specs.Local.{tree_of};
-ghost use Rattle.scr_read.specs.Spelling.{Spells, IsLocalOf};
-ghost use Rattle.scr_read.specs.Answer.{IsOrMemory};
+ghost use Rattle.std.specs.Prelude.{◌≡◌, ◌≤◌, ℕ, List, length, Some};
+ghost use Rattle.scr_tree.specs.Written.{WrittenTree};
+ghost use Rattle.scr_read.specs.Spelling.{Spells};
+ghost use Rattle.scr_read.specs.Outcome.{Answer, Outcome, answer_of, IsAnswered};
+ghost use Rattle.scr_read.specs.inner.Stages.{Stage, IsProtocol};
 
-mod conditions;
 mod fault;
-mod reading;
-mod spelled;
-#[cfg(test)]
-mod tests;
+mod text;
+mod verdict;
+mod words;
 
-use crate::conditions::is_sound;
-use crate::reading::Parts;
-use crate::spelled::{parts_of, statements_of};
+use crate::text::written_of;
+use crate::verdict::{protocol_of, refusal};
 pub use fault::ScrFault;
 use mg_text::Place;
+use scr_judge::first_fault;
 pub use scr_tree::{Direction, Local, Message, Payload, Statement};
 use std::alloc::Global;
 
 /// Bytes that a file may hold.
 pub const MAX_BYTES: usize = 1_048_576;
 
-/// Reads the local protocol that the bytes of a file spell, with the place of each statement.
-pub fn read_local(alloc: Global, file: u32, bytes: &[u8]) -> Result<Local, ScrFault>
-    // What is read is spelled so, and valid.
-    ensures found { IfOk result (λ local. IsLocalOf file bytes.now (tree_of local)) }
-    // What is spelled so and valid is read, unless memory runs out.
-    ensures only { (local : LocalTree) → IsLocalOf file bytes.now local → IsOrMemory result local }
-    // Too large is exactly what holds too many bytes.
-    ensures large { 1048576 < length bytes.now → result ≡ Err (ScrFault.TooLarge (start_of file)) }
-    ensures too_large { (place : Place) → IsErrOf result (ScrFault.TooLarge place)
-        → (1048576 < length bytes.now) × (place ≡ start_of file) }
-    // Unsupported is exactly what else is no valid protocol.
-    ensures unsupported { (place : Place) → IsErrOf result (ScrFault.Unsupported place)
-        → (length bytes.now ≤ 1048576) × (place ≡ start_of file)
-        × ((local : LocalTree) → IsLocalOf file bytes.now local → ⊥) }
+// The protocol of a file that isn't too large.
+fn judged_of(alloc: Global, file: u32, bytes: &[u8]) -> Result<Local, ScrFault>
+    requires { length bytes.now ≤ 1048576 }
+    ensures { Stage file bytes.now (IsProtocol file bytes.now) result }
 {
-    let place = Place::start(file);
-    if bytes.len() > MAX_BYTES {
-        return Err(ScrFault::TooLarge { place });
+    let written = written_of(alloc, file, bytes)?;
+    match first_fault(alloc, file, &written)? {
+        Some(fault) => Err(refusal(fault)),
+        None => Ok(protocol_of(alloc, file, written)?),
     }
-    let parts = parts_of(alloc, file, bytes)?;
-    let sound = is_sound(
-        alloc,
-        parts.me.as_str(),
-        parts.roles.as_slice(),
-        parts.messages.as_slice(),
-    )?;
-    if !sound {
-        return Err(ScrFault::Unsupported { place });
-    }
-    let Parts {
-        name,
-        me,
-        roles,
-        messages,
-    } = parts;
-    let body = statements_of(alloc, messages)?;
-    Ok(Local::new(file, name, me, roles, body))
 }
 
-/// Bytes spell one protocol of a file at most.
-pub fn one_protocol()
-    ensures { (p q : LocalTree) (bytes : List ℕ) → Spells p bytes → Spells q bytes
-        → p.file ≡ q.file → p ≡ q }
+// The protocol of a file.
+fn read_of(alloc: Global, file: u32, bytes: &[u8]) -> Result<Local, ScrFault>
+    ensures { Stage file bytes.now (IsProtocol file bytes.now) result }
 {
-    scr_lex::one_cut();
-    reading::one_reading();
+    if bytes.len() > MAX_BYTES {
+        let place = Place::start(file);
+        return Err(ScrFault::TooLarge { place });
+    }
+    judged_of(alloc, file, bytes)
 }
+
+/// Reads the local protocol that the bytes of a file spell, with the place of each statement.
+///
+/// # Errors
+/// The fault of the lowest number that the file has, at its first place in the text, or `Memory`.
+pub fn read_local(alloc: Global, file: u32, bytes: &[u8]) -> Result<Local, ScrFault>
+    // What is answered is what reading the bytes gives.
+    ensures answered { (a : Answer) → answer_of result ≡ Some a → Outcome file bytes.now a }
+    // What reading the bytes gives is answered, unless memory runs out.
+    ensures only { (a : Answer) → Outcome file bytes.now a → IsAnswered a result }
+{
+    read_of(alloc, file, bytes)
+}
+
+/// Reading the bytes of a file gives one answer at most, and they spell one file at most.
+pub fn one_reading()
+    ensures one_outcome { (file : ℕ) (bytes : List ℕ) (a b : Answer) → Outcome file bytes a → Outcome file bytes b → a ≡ b }
+    ensures one_file { (file : ℕ) (bytes : List ℕ) (w v : WrittenTree) → Spells file bytes w → Spells file bytes v → w ≡ v }
+{}

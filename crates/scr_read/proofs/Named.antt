@@ -1,0 +1,209 @@
+-- The names among the tokens of a file are names, so what they spell can be written.
+use Rattle.std.proofs.Common.{◌≡◌, ◌⊎◌, ℕ, ◌≤◌, List, [], ◌∷◌, ◌++◌, map, length, Option, Some, None, refl, sym, subst, inl, inr}
+use Rattle.std.specs.List.{AllByRecursion}
+use Rattle.mg_text.specs.Call.{Name}
+use Rattle.mg_text.specs.Places.{start_of, place_after}
+use Rattle.mg_text.specs.declared.place.Place.{Place}
+use Rattle.mg_read.specs.Each.{Each}
+use Rattle.mg_read.specs.Passes.{AllPasses, StartsWith}
+use Rattle.mg_read.specs.Pieces.{Piece, blank, line, block, word, quote, sign, spell, Cut, tokens_from}
+use Rattle.scr_tree.specs.declared.token.Mark.{Mark}
+use Rattle.scr_tree.specs.declared.token.Mark.TheVariants as marks
+use Rattle.scr_tree.specs.declared.written.Declaration.{Declaration}
+use Rattle.scr_tree.specs.declared.written.Role.{Role}
+use Rattle.scr_tree.specs.Tok.{Tok, named, quoted, marked}
+use Rattle.scr_tree.specs.Tree.{Statements, Nothing, Says, Choice, Rec, Continue, Branches, NoBranch, Branch}
+use Rattle.scr_tree.specs.Words.{IsName, is_name_start, is_name_byte, reserved, sign_of}
+use Rattle.scr_tree.specs.Valid.{IsWritten, AreWritten, AreWrittenIn, HasBranches}
+use Rattle.scr_tree.specs.Written.{Carries, WrittenTree, role_name, local_of}
+use Rattle.scr_lex.specs.Pieces.{scribble, word_tok, sign_toks, tok_said, AreTokens}
+use Rattle.scr_parse.specs.Grammar.{Behind, Before, Listed, IsRole, IsMyself, IsAtHeader, IsSelfHeader, direction_mark, IsBraced, AreStatements, AreBranches, AreOthers, IsFile}
+use Rattle.scr_read.specs.Spelling.{Spells}
+
+-- each name among tokens is one
+abbrev IsNamed : Tok → Type 0
+IsNamed (named place name) = IsName name
+IsNamed (quoted place name) = Unit {0}
+IsNamed (marked place mark) = Unit {0}
+
+abbrev AreNamed : List Tok → Type 0
+AreNamed [] = Unit {0}
+AreNamed (t ∷ ts) = IsNamed t × AreNamed ts
+
+named-append : (ts us : List Tok) → AreNamed ts → AreNamed us → AreNamed (ts ++ us)
+named-append [] us h g = g
+named-append (t ∷ ts) us h g = (h.0, named-append ts us h.1 g)
+
+in_front : (ts us : List Tok) → AreNamed (ts ++ us) → AreNamed ts
+in_front [] us h = tt
+in_front (t ∷ ts) us h = (h.0, in_front ts us h.1)
+
+in_back : (ts us : List Tok) → AreNamed (ts ++ us) → AreNamed us
+in_back [] us h = h
+in_back (t ∷ ts) us h = in_back ts us h.1
+
+-- ---- tokens
+
+word_named : (place : Place) (text : Name) (mark : Option Mark) → reserved text ≡ mark → StartsWith is_name_start text
+    → AllPasses is_name_byte text → length text ≤ 255
+    → AreNamed (word_tok place text mark ∷ [])
+word_named place text None e starts passes short = (record { starts = starts; bytes = passes; short = short; free = e }, tt)
+word_named place text (Some mark) e starts passes short = (tt, tt)
+
+sign_named : (place : Place) (mark : Option Mark) → AreNamed (sign_toks place mark)
+sign_named place None = tt
+sign_named place (Some mark) = (tt, tt)
+
+pieces_named : (place : Place) (ps : List Piece) (bytes rest : List ℕ) → Cut scribble ps bytes rest
+    → AreNamed (tokens_from tok_said place ps)
+pieces_named place [] bytes rest cut = tt
+pieces_named place (blank c ∷ ps) bytes rest (after, e, may, cut) = pieces_named (place_after place (spell (blank c))) ps after rest cut
+pieces_named place (line body ∷ ps) bytes rest (after, e, may, cut) = pieces_named (place_after place (spell (line body))) ps after rest cut
+pieces_named place (block body ∷ ps) bytes rest (after, e, may, cut) = pieces_named
+    (place_after place (spell (block body))) ps after rest cut
+pieces_named place (quote body ∷ ps) bytes rest (after, e, may, cut) =
+    (tt, pieces_named (place_after place (spell (quote body))) ps after rest cut)
+pieces_named place (word text ∷ ps) bytes rest (after, e, (starts, passes, stops, short), cut) =
+    named-append (word_tok place text (reserved text) ∷ []) (tokens_from tok_said (place_after place text) ps)
+    (word_named place text (reserved text) refl starts passes short) (pieces_named (place_after place
+    (spell (word text))) ps after rest cut)
+pieces_named place (sign c ∷ ps) bytes rest (after, e, may, cut) =
+    named-append (sign_toks place (sign_of c)) (tokens_from tok_said (place_after place (spell (sign c))) ps)
+    (sign_named place (sign_of c)) (pieces_named (place_after place (spell (sign c))) ps after rest cut)
+
+tokens_named : (file : ℕ) (ts : List Tok) (bytes : List ℕ) → AreTokens file ts bytes → AreNamed ts
+tokens_named file ts bytes h = subst AreNamed (sym h.tokens) (pieces_named (start_of file) h.pieces bytes [] h.cut)
+
+-- ---- roles
+
+role_written : (r : Role) (ts : List Tok) → IsRole r ts → AreNamed ts → IsName r.name
+role_written r ts (a, e) h = let g = subst AreNamed e h in g.1.0
+
+behind_written : (rs : List Role) (ts : List Tok) → Each (Behind marks.Comma IsRole) rs ts → AreNamed ts
+    → AllByRecursion IsName (map role_name rs)
+behind_written [] ts e h = tt
+behind_written (r ∷ rs) ts (us, vs, parts, (a, xs, e, one), more) h =
+    let g = subst AreNamed parts h in
+    let first = subst AreNamed e (in_front us vs g) in
+    (role_written r xs one first.1, behind_written rs vs more (in_back us vs g))
+
+before_written : (rs : List Role) (ts : List Tok) → Each (Before marks.Comma IsRole) rs ts → AreNamed ts
+    → AllByRecursion IsName (map role_name rs)
+before_written [] ts e h = tt
+before_written (r ∷ rs) ts (us, vs, parts, (a, xs, e, one), more) h =
+    let g = subst AreNamed parts h in
+    let first = subst AreNamed e (in_front us vs g) in
+    (role_written r xs one (in_front xs (marked a marks.Comma ∷ []) first), before_written rs vs more (in_back us vs g))
+
+myself_written : (r : Role) (ts : List Tok) → IsMyself r ts → AreNamed ts → IsName r.name
+myself_written r ts (inl (a, e)) h = let g = subst AreNamed e h in g.1.0
+myself_written r ts (inr (a, b, e)) h = let g = subst AreNamed e h in g.1.1.0
+
+all-append : (xs ys : List Role) → AllByRecursion IsName (map role_name xs) → AllByRecursion IsName (map role_name ys)
+    → AllByRecursion IsName (map role_name (xs ++ ys))
+all-append [] ys h g = g
+all-append (x ∷ xs) ys h g = (h.0, all-append xs ys h.1 g)
+
+listed_written : (rs : List Role) (ts : List Tok) → Listed marks.Comma IsRole rs ts → AreNamed ts → AllByRecursion IsName (map role_name rs)
+listed_written [] ts e h = absurd e
+listed_written (r ∷ rs) ts (us, vs, parts, one, more) h =
+    let g = subst AreNamed parts h in
+    (role_written r us one (in_front us vs g), behind_written rs vs more (in_back us vs g))
+
+at_written : (me : Role) (rs : List Role) (ts : List Tok) → IsAtHeader me rs ts → AreNamed ts → AllByRecursion IsName (map role_name rs)
+at_written me rs ts (a, b, c, us, e, h) named_all =
+    let g = subst AreNamed e named_all in
+    listed_written rs us h (in_front us (marked c marks.CloseParen ∷ []) g.1.1.1)
+
+self_written : (me : Role) (rs : List Role) (ts : List Tok) → IsSelfHeader me rs ts → AreNamed ts → AllByRecursion IsName (map role_name rs)
+self_written me rs ts (a, b, earlier, later, us, vs, ws, e, listed, before, self, behind) named_all =
+    let g = subst AreNamed e named_all in
+    let end : List Tok = marked b marks.CloseParen ∷ [] in
+    let one = in_back us (vs ++ (ws ++ end)) g.1 in
+    let two = in_back vs (ws ++ end) one in
+    subst (λ (l : List Role). AllByRecursion IsName (map role_name l)) (sym listed)
+    (all-append earlier (me ∷ later) (before_written earlier us before (in_front us (vs ++ (ws ++ end)) g.1))
+    (myself_written me vs self (in_front vs (ws ++ end) one), behind_written later ws behind (in_front ws end two)))
+
+-- ---- statements
+
+module _ (declared : List Declaration) where
+  between : (P : List Tok → Type 0) (ts : List Tok) → IsBraced P ts → AreNamed ts → (us : List Tok) × P us × AreNamed us
+  between P ts (a, b, us, e, h) named_all = let g = subst AreNamed e named_all in (us, h, in_front us (marked b marks.CloseBrace ∷ []) g.1)
+
+  has : (bs : Branches) (cs : List Carries) (ts : List Tok) → AreBranches declared bs cs ts → HasBranches bs
+  has NoBranch cs ts h = h
+  has (Branch b more) cs ts h = tt
+
+  mutual
+    statements_written : (b : Statements) (cs : List Carries) (ts : List Tok) → AreStatements declared b cs ts → AreNamed ts → AreWritten b
+    statements_written Nothing cs ts e h = tt
+    statements_written (Says m rest) cs ts (types, ds, us, vs, carry, parts, (a, b, c, d, e, xs, whole, list, kind), more) h =
+        let g = subst AreNamed parts h in
+        let said = subst AreNamed whole (in_front us vs g) in
+        let behind = in_back xs (marked b marks.CloseParen ∷ marked c
+        (direction_mark m.direction) ∷ named d m.peer ∷ marked e marks.Semicolon ∷ []) said.1.1 in
+        (said.0, behind.1.1.0, statements_written rest ds vs more (in_back us vs g))
+    statements_written (Choice place at branches rest) cs ts (a, b, ds, es, us, vs, carry, parts, inner, more) h =
+        let g = subst AreNamed parts h in (
+          g.1.1.0,
+          has branches ds us inner,
+          branches_written branches ds us inner
+              (in_front us vs g.1.1.1),
+          statements_written rest es vs more (in_back us vs g.1.1.1),
+        )
+    statements_written (Rec place name body rest) cs ts (a, ds, es, us, vs, carry, parts, (p, q, xs, e, inner), more) h =
+        let g = subst AreNamed parts h in
+        let block = subst AreNamed e (in_front us vs g.1.1) in (
+          g.1.0,
+          statements_written body ds xs inner
+              (in_front xs (marked q marks.CloseBrace ∷ []) block.1),
+          statements_written rest es vs more (in_back us vs g.1.1),
+        )
+    statements_written (Continue place name rest) cs ts (a, b, us, parts, more) h =
+        let g = subst AreNamed parts h in
+        (g.1.0, statements_written rest cs us more g.1.1.1)
+
+    branches_written : (bs : Branches) (cs : List Carries) (ts : List Tok) → AreBranches declared bs cs ts → AreNamed ts → AreWrittenIn bs
+    branches_written NoBranch cs ts e h = tt
+    branches_written (Branch b more) cs ts (ds, es, us, vs, carry, parts, (p, q, xs, e, inner), others) h =
+        let g = subst AreNamed parts h in
+        let block = subst AreNamed e (in_front us vs g) in (
+          statements_written b ds xs inner (in_front xs (marked q marks.CloseBrace ∷ []) block.1),
+          others_written more es vs others
+              (in_back us vs g),
+        )
+
+    others_written : (bs : Branches) (cs : List Carries) (ts : List Tok) → AreOthers declared bs cs ts → AreNamed ts → AreWrittenIn bs
+    others_written NoBranch cs ts e h = tt
+    others_written (Branch b more) cs ts (a, ds, es, us, vs, carry, parts, (p, q, xs, e, inner), others) h =
+        let g = subst AreNamed parts h in
+        let block = subst AreNamed e (in_front us vs g.1) in (
+          statements_written b ds xs inner (in_front xs (marked q marks.CloseBrace ∷ []) block.1),
+          others_written more es vs others
+              (in_back us vs g.1),
+        )
+
+-- ---- the file
+
+file_written : (w : WrittenTree) (ts : List Tok) → IsFile w ts → AreNamed ts
+    → IsName w.name × AllByRecursion IsName (map role_name w.roles) × AreWritten w.body
+file_written w ts f h =
+    let g = subst AreNamed f.tokens h in
+    let head : List Tok = marked f.local_at marks.Local ∷ marked f.protocol_at marks.Protocol ∷ named f.name_at w.name ∷
+    (f.header ++ f.block) in
+    let title = in_back f.types head (in_back f.start (f.types ++ head) g) in
+    let rest = title.1.1.1 in
+    let body = between w.types (AreStatements w.types w.body w.carries) f.block f.body (in_back f.header f.block rest) in
+    (title.1.1.0, roles f.heads (in_front f.header f.block rest), statements_written w.types w.body w.carries body.0 body.1 body.2)
+  where
+    roles : IsAtHeader w.me w.roles f.header ⊎ IsSelfHeader w.me w.roles f.header → AreNamed f.header
+        → AllByRecursion IsName (map role_name w.roles)
+    roles (inl a) k = at_written w.me w.roles f.header a k
+    roles (inr b) k = self_written w.me w.roles f.header b k
+
+-- what a file spells can be written
+pub can_be_written : (file : ℕ) (bytes : List ℕ) (w : WrittenTree) → Spells file bytes w → IsWritten (local_of w)
+can_be_written file bytes w s =
+    let r = file_written w s.tokens s.spelled.spelled (tokens_named file s.tokens bytes s.separates.cut) in
+    record { name = r.0; roles = r.1; body = r.2; depth = s.spelled.shallow }

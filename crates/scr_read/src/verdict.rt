@@ -1,0 +1,69 @@
+//! From what is written in a file to its protocol, or to the condition that it doesn't meet.
+
+ghost use Rattle.std.specs.Prelude.{◌≡◌, Some, IfOk, map};
+ghost use Rattle.scr_tree.specs.Local.{tree_of};
+ghost use Rattle.scr_tree.specs.Valid.{IsValid};
+ghost use Rattle.scr_tree.specs.Written.{written_of, local_of, role_name};
+ghost use Rattle.scr_read.specs.Outcome.{Refused, told, fault_answer};
+
+use crate::fault::ScrFault;
+use mg_text::{List, Memory, Text};
+use scr_judge::Fault;
+use scr_tree::{Condition, Local, Role, Written};
+use std::alloc::Global;
+
+// The fault of a file that doesn't meet a condition.
+pub(crate) fn refusal(fault: Fault) -> ScrFault
+    ensures { fault_answer result ≡ Some (Refused fault.condition fault.place (told fault.condition fault.name)) }
+{
+    let Fault {
+        condition,
+        place,
+        name,
+    } = fault;
+    match condition {
+        Condition::DuplicateName => ScrFault::DuplicateName { place, name },
+        Condition::UnknownRole => ScrFault::UnknownRole { place, name },
+        Condition::PeerIsSelf => ScrFault::PeerIsSelf { place },
+        Condition::UnknownType => ScrFault::UnknownType { place, name },
+        Condition::PayloadCount => ScrFault::PayloadCount { place },
+        Condition::UnknownRec => ScrFault::UnknownRec { place, name },
+        Condition::DuplicateRec => ScrFault::DuplicateRec { place, name },
+        Condition::Unguarded => ScrFault::Unguarded { place, name },
+        Condition::Unreachable => ScrFault::Unreachable { place },
+        Condition::BranchStart => ScrFault::BranchStart { place },
+        Condition::MixedChoice => ScrFault::MixedChoice { place },
+        Condition::SameLabel => ScrFault::SameLabel { place, name },
+        Condition::ReservedLabel => ScrFault::ReservedLabel { place, name },
+        Condition::NameClash => ScrFault::NameClash { place, name },
+        Condition::TooManyStates => ScrFault::TooManyStates { place },
+    }
+}
+
+// The names of roles.
+fn names_of(alloc: Global, roles: &[Role]) -> Result<List<Text>, Memory>
+    ensures { IfOk result (λ l. l.items ≡ map role_name roles.now) }
+{
+    let mut names = List::new(alloc);
+    for role in roles {
+        names.push(role.name.copy()?)?;
+    }
+    Ok(names)
+}
+
+// The protocol that is meant.
+pub(crate) fn protocol_of(alloc: Global, file: u32, written: Written) -> Result<Local, Memory>
+    requires { ∥ IsValid (local_of (written_of file written)) ∥₁ }
+    ensures { IfOk result (λ l. tree_of l ≡ local_of (written_of file written)) }
+{
+    let Written {
+        types: _,
+        name,
+        me,
+        roles,
+        carries: _,
+        body,
+    } = written;
+    let roles = names_of(alloc, roles.as_slice())?;
+    Ok(Local::new(file, name, me.name, roles, body))
+}
