@@ -1,0 +1,9 @@
+pub mod Told
+pub mod Marks
+pub mod Said
+pub mod Header
+pub mod WholeFile
+pub mod Spots
+pub mod Kept
+pub mod Actions
+pub mod Answered

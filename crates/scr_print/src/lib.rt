@@ -1,0 +1,6 @@
+//! The text of a local protocol.
+#![tactic(auto)]
+
+mod print;
+
+pub use print::print_local;
