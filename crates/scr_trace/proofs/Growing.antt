@@ -1,0 +1,96 @@
+-- Laying out keeps the numbers of the recs that are there.
+use Rattle.std.proofs.Common.{◌≡◌, ℕ, suc, ◌+◌, ◌<◌, ◌≤◌, length, get_or, Bool, true, false, List, [], ◌∷◌, ◌++◌, refl, sym, ap, subst, ◌∙◌, arith, get_or-set_other, set}
+use Rattle.std.specs.Prelude.{slice_set}
+use Rattle.std.specs.Str.{bytes_eq}
+use Rattle.std.proofs.lemmas.List.{length-append, get_or_append_left}
+use Rattle.std.proofs.Math.ListN.{length-set}
+use Rattle.mg_text.specs.Call.{Name}
+use Rattle.scr_tree.specs.declared.syntax.Message.{Message as Said}
+use Rattle.scr_tree.specs.Tree.{Statements, Nothing, Says, Choice, Rec, Continue, Branches, NoBranch, Branch}
+use Rattle.scr_trace.specs.inner.Laying.{Draft, Cell, Work, Known, Gathered, lay, lay_in, branch_laid, turned, said, opened, closed, chosen, gathering, hop_named, joined}
+
+-- a list is kept: the other has its elements, and perhaps more
+pub record Keeps (xs ys : List ℕ) : Type 0 where
+  pub longer : length xs ≤ length ys
+  pub same : (j : ℕ) → j < length xs → get_or ys j 0 ≡ get_or xs j 0
+
+pub keeps_all : (xs : List ℕ) → Keeps xs xs
+keeps_all xs = record { longer = omega arith; same = λ j h. refl }
+
+pub keeps_more : (xs ys zs : List ℕ) → Keeps xs ys → Keeps ys zs → Keeps xs zs
+keeps_more xs ys zs a b = record {
+  longer = let l = a.longer in let m = b.longer in omega arith;
+  same = λ j h. b.same j (let l = a.longer in omega arith) ∙ a.same j h;
+}
+
+keeps_front : (xs ys : List ℕ) → Keeps xs (xs ++ ys)
+keeps_front xs ys = record { longer = omega (arith, length-append xs ys); same = λ j h. get_or_append_left xs ys 0 j h }
+
+keeps_set : (xs ys : List ℕ) (x : ℕ) → Keeps (xs ++ 0 ∷ []) ys → Keeps xs (slice_set ys (length xs) x)
+keeps_set xs ys x k =
+    let l = k.longer in
+    let n = length-append xs (0 ∷ []) in
+    let m = length-set ys (length xs) x in
+    record {
+      longer = omega arith;
+      same = λ j h.
+          get_or-set_other ys (length xs) j x 0 (λ e. let z : ⊥ = omega arith in z)
+          ∙ k.same j (omega arith) ∙ get_or_append_left xs (0 ∷ []) 0 j h;
+    }
+
+pub keeps_said : (m : Said) (w : Work) → Keeps w.loops (said m w).loops
+unfolding said
+keeps_said m w = keeps_all w.loops
+
+pub keeps_chosen : (self : Bool) (g : Gathered) → Keeps g.work.loops (chosen self g).loops
+unfolding chosen
+keeps_chosen self g = keeps_all g.work.loops
+
+pub keeps_joined : (self : Bool) (m : Said) (g : Gathered) → Keeps g.work.loops (joined self m g).work.loops
+unfolding joined
+keeps_joined true m g = keeps_all g.work.loops
+keeps_joined false m g = keeps_said m g.work
+
+pub keeps_rec : (w u : Work) → Keeps (opened w).loops u.loops → Keeps w.loops (closed (length w.loops) u).loops
+unfolding opened closed
+keeps_rec w u k = keeps_set w.loops u.loops (length u.cells) k
+
+mutual
+  pub keeps : (me : Name) (around : List Known) (w : Work) (t : Statements) → Keeps w.loops (lay me around w t).loops
+  keeps me around w Nothing = keeps_all w.loops
+  keeps me around w (Says m rest) = keeps_more _ _ _ (keeps me around w rest) (keeps_said m _)
+  keeps me around w (Choice place at branches rest) =
+      let v = lay me around w rest in
+      keeps_more _ _ _ (keeps me around w rest)
+      (keeps_more _ _ _ (keeps_in me around (bytes_eq at me) v.next (gathering v) branches) (keeps_chosen _ _))
+  keeps me around w (Rec place name body rest) =
+      let v = lay me around w rest in
+      keeps_more _ _ _ (keeps me around w rest) (keeps_rec v _ (keeps me _ (opened v) body))
+  keeps me around w (Continue place name rest) = keeps me around w rest
+
+  pub keeps_in : (me : Name) (around : List Known) (self : Bool) (behind : _) (g : Gathered) (bs : Branches) → Keeps g.work.loops (lay_in me around self behind g bs).work.loops
+  keeps_in me around self behind g NoBranch = keeps_all g.work.loops
+  keeps_in me around self behind g (Branch b more) =
+      keeps_more _ _ _ (keeps_in me around self behind g more) (keeps_branch me around self b (turned behind (lay_in me around self behind g more)))
+
+  pub keeps_branch : (me : Name) (around : List Known) (self : Bool) (b : Statements) (g : Gathered) → Keeps g.work.loops (branch_laid self me around b g).work.loops
+  keeps_branch me around self (Says m rest) g =
+      keeps_more _ _ _ (keeps me around g.work rest) (keeps_joined self m _)
+  keeps_branch me around self Nothing g = keeps_all g.work.loops
+  keeps_branch me around self (Choice place at branches rest) g = keeps_all g.work.loops
+  keeps_branch me around self (Rec place name body rest) g = keeps_all g.work.loops
+  keeps_branch me around self (Continue place name rest) g = keeps_all g.work.loops
+
+-- the number of a rec whose body is laid out stands for one
+pub number_within : (me : Name) (around : List Known) (w : Work) (t : Statements) → length w.loops < length (lay me around (opened w) t).loops
+unfolding opened
+number_within me around w t =
+    let l = (keeps me around (opened w) t).longer in
+    let n = length-append w.loops (0 ∷ []) in
+    omega arith
+
+pub closes : (me : Name) (around : List Known) (w o u : Work) (t : Statements) (number : ℕ) → number ≡ length w.loops → o ≡ opened w → u ≡ lay me around o t → number < length u.loops
+closes me around w o u t number is opens laid =
+    let e : length u.loops ≡ length (lay me around (opened w) t).loops = ap (λ (x : Work). length x.loops) laid ∙ ap (λ (x : Work). length (lay me around x t).loops) opens in
+    let h = number_within me around w t in
+    omega arith

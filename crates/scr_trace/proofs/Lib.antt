@@ -1,0 +1,16 @@
+pub mod Steps
+pub mod Growing
+pub mod Following
+pub mod Rules
+pub mod Parts
+pub mod Counting
+pub mod Begins
+pub mod Leading
+pub mod Matching
+pub mod Valid
+pub mod Automaton
+pub mod Pieces
+pub mod Telling
+pub mod Searching
+pub mod Walks
+pub mod Offering

@@ -1,0 +1,6 @@
+pub mod Joined
+pub mod Laying
+pub mod View
+pub mod Search
+pub mod Goes
+pub mod Offering

@@ -1,0 +1,30 @@
+-- The search for the arrow of a call.
+use Rattle.std.specs.Prelude.{ℕ, List, [], ◌∷◌, Bool, true, false, ◌&&◌, Option, Some, None, if◌then◌else◌, ◌-◌}
+use Rattle.std.specs.Str.{bytes_eq}
+use Rattle.mg_text.specs.Call.{Name, Call}
+use Rattle.scr_tree.specs.CallNames.{message_call, label_call}
+use Rattle.scr_tree.specs.Meaning.{message_of}
+use Rattle.scr_trace.specs.declared.arrow.Arrow.{Arrow}
+use Rattle.scr_trace.specs.declared.arrow.Exits.{Exits}
+use Rattle.scr_trace.specs.declared.arrow.Hop.{Hop}
+use Rattle.scr_trace.specs.inner.Laying.{Work}
+
+-- where the first arrow leads that passes a test
+abbrev pub first_led : (Arrow → Bool) → List Arrow → Option Hop
+first_led test [] = None
+first_led test (a ∷ more) = if test a then Some a.to else first_led test more
+
+-- whether an arrow is of the message of this method
+abbrev pub is_said : Name → Arrow → Bool
+is_said method a = bytes_eq method (message_call (message_of a.message.now))
+
+-- whether it is of the look of this method that answers so
+abbrev pub is_looked : Name → ℕ → Name → Name → Arrow → Bool
+is_looked me number method label a = bytes_eq a.message.now.label label && bytes_eq method (label_call me number a.message.now.peer)
+
+-- where a call of this method leads that answers so, from a state with this number
+abbrev pub led_if : Name → Work → Option ℕ → List Arrow → Name → Option Name → Option Hop
+led_if me w None arrows method None = first_led (is_said method) arrows
+led_if me w None arrows method (Some label) = None
+led_if me w (Some c) arrows method None = None
+led_if me w (Some c) arrows method (Some label) = first_led (is_looked me (w.choices - c) method label) arrows

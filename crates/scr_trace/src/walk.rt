@@ -1,0 +1,132 @@
+//! Walks along a local protocol, call by call.
+
+ghost use Rattle.std.specs.Prelude.{◌≡◌, ◌≢◌, ◌↔◌, [], ◌∷◌, ◌++◌, IfOk, OnOk, OnErr, IsTrue, Err};
+ghost use Rattle.scr_tree.specs.Tree.{LocalTree};
+ghost use Rattle.scr_tree.specs.Local.{tree_of};
+ghost use Rattle.scr_tree.specs.Meaning.{protocol_of};
+ghost use Rattle.scr_tree.specs.Steps.{Act, Position, whole, Step, Finished};
+ghost use Rattle.scr_tree.specs.CallNames.{call_of};
+ghost use Rattle.scr_tree.specs.Traces.{Trace, Complete};
+
+use crate::call::{Call, Offer};
+use crate::laying::Laying;
+use crate::offers::offers_of;
+use crate::standing::Standing;
+use mg_text::{List, Memory};
+use scr_tree::Local;
+use std::alloc::Global;
+
+/// A walk along a local protocol, which stands somewhere in it.
+#[derive(Drop)]
+pub struct Walk<'a> {
+    alloc: Global,
+    local: &'a Local,
+    laid: Laying<'a>,
+    standing: Standing,
+}
+
+/// Why a walk can't take a call. In both cases it stands where it stood.
+#[derive(Clone, Copy, Debug, PartialEq, Eq)]
+pub enum StepFault {
+    /// No step of the protocol has the call.
+    NotOffered,
+    /// There is too little memory.
+    Memory,
+}
+
+impl From<Memory> for StepFault {
+    ghost use Rattle.scr_trace.specs.declared.walk.StepFault.TheVariants as faults;
+
+    ghost from_gives = { λ _ e. e ≡ faults.Memory };
+
+    fn from(_memory: Memory) -> StepFault {
+        StepFault::Memory
+    }
+}
+
+impl<'a> Walk<'a> {
+    ghost use Rattle.scr_trace.specs.declared.walk.StepFault.TheVariants as faults;
+    ghost use Rattle.scr_trace.specs.Walking.{Stands, StepsOn, HasTaken, Offered, Calls, call_said, calls_offered};
+    ghost use Rattle.scr_trace.specs.inner.Goes.{Goes};
+
+    /// A walk that stands at the start of a protocol, and has taken no calls.
+    /// The only error is `Memory`, where there is too little of it.
+    pub fn new(alloc: Global, local: &'a Local) -> Result<Walk<'a>, Memory>
+        ensures stands { IfOk result (λ w. Stands (tree_of local.now) w (whole (protocol_of (tree_of local.now)))) }
+        ensures taken { IfOk result (λ w. HasTaken (tree_of local.now) w []) }
+    {
+        let laid = Laying::of(alloc, local)?;
+        let standing = laid.standing(laid.start());
+        Ok(Walk {
+            alloc,
+            local,
+            laid,
+            standing,
+        })
+    }
+
+    /// Takes a step that has the call. The walk stands where the step leads.
+    ///
+    /// # Errors
+    /// `NotOffered` exactly where no step of the protocol from where the walk stands has the call,
+    /// and `Memory` where there is too little of it. The walk is then unchanged.
+    pub fn step(&mut self, call: &Call) -> Result<(), StepFault>
+        ensures steps { OnOk result ((tree : LocalTree) (position : Position) → Stands tree self.old position → StepsOn tree position (call_said call.now) self.new) }
+        ensures not_offered { result ≡ Err faults.NotOffered → (tree : LocalTree) (position : Position) → Stands tree self.old position → (act : Act) (to : Position) → Step position act to → call_of tree.me act ≢ call_said call.now }
+        ensures unchanged { OnErr result (self.new ≡ self.old) }
+        // the calls that were taken are a trace, and one that isn't offered ends every trace
+        ensures taken { OnOk result ((tree : LocalTree) (calls : Calls) → HasTaken tree self.old calls → HasTaken tree self.new (calls ++ call_said call.now ∷ [])) }
+        ensures no_trace { result ≡ Err faults.NotOffered → (tree : LocalTree) (calls more : Calls) → HasTaken tree self.old calls → Trace tree.me (protocol_of tree) (calls ++ call_said call.now ∷ more) → ⊥ }
+    {
+        match self.led(call)? {
+            Some(standing) => {
+                self.standing = standing;
+                Ok(())
+            }
+            None => Err(StepFault::NotOffered),
+        }
+    }
+
+    /// The calls of all steps from where the walk stands, in the order of the text.
+    /// The only error is `Memory`, where there is too little of it.
+    pub fn offers(&self) -> Result<List<Offer>, Memory>
+        ensures { IfOk result (λ offers. (tree : LocalTree) (position : Position) → Stands tree self.now position → Offered tree position (calls_offered offers.items)) }
+    {
+        let Standing::State(number) = self.standing else {
+            return Ok(List::new(self.alloc));
+        };
+        let Some(exits) = self.laid.exits_of(number) else {
+            return Ok(List::new(self.alloc));
+        };
+        let offers = offers_of(self.alloc, self.local, &self.laid, exits)?;
+        Ok(offers)
+    }
+
+    /// Whether nothing is left to do.
+    pub fn done(&self) -> bool
+        ensures finished { (tree : LocalTree) (position : Position) → Stands tree self.now position → IsTrue result ↔ Finished position }
+        ensures complete { (tree : LocalTree) (calls : Calls) → HasTaken tree self.now calls → IsTrue result ↔ Complete tree.me (protocol_of tree) calls }
+    {
+        match self.standing {
+            Standing::End => true,
+            Standing::State(_) => false,
+        }
+    }
+
+    // Where a call leads, if it is offered.
+    fn led(&self, call: &Call) -> Result<Option<Standing>, Memory>
+        ensures { IfOk result (λ to. Goes self.now (call_said call.now) to) }
+    {
+        let Standing::State(number) = self.standing else {
+            return Ok(None);
+        };
+        let Some(exits) = self.laid.exits_of(number) else {
+            return Ok(None);
+        };
+        let me = self.local.me().as_str();
+        match self.laid.led(self.alloc, me, exits, call)? {
+            Some(hop) => Ok(Some(self.laid.standing(hop))),
+            None => Ok(None),
+        }
+    }
+}
