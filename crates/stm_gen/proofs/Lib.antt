@@ -1,5 +1,5 @@
-pub mod Moves
-pub mod Law
-pub mod Laying
-pub mod Soundness
-pub mod Hello
+pub mod Making
+pub mod Paths
+pub mod Proper
+pub mod Acting
+pub mod Agree

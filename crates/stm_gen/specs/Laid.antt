@@ -1,20 +1,25 @@
--- The typestate of a local protocol of messages alone: a state for each message, in the order of the text.
-use Rattle.std.specs.Prelude.{ℕ, suc, List, [], ◌∷◌, ◌++◌, codes, map}
+-- The typestate of a local protocol: a state for each of its states, with a method for each step there, which leads to the state that is reached.
+use Rattle.std.specs.Prelude.{◌≡◌, ℕ, suc, List, [], ◌∷◌, ◌++◌, codes}
 use Rattle.std.specs.Fmt.{decimal}
 use Rattle.mg_text.specs.Call.{Name}
 use Rattle.scr_tree.specs.declared.syntax.Payload.{Payload}
 use Rattle.scr_tree.specs.declared.syntax.Payload.TheVariants as payloads
-use Rattle.scr_tree.specs.declared.syntax.Message.{Message as Said}
-use Rattle.scr_tree.specs.Tree.{LocalTree, Statements}
-use Rattle.scr_tree.specs.Tree as tree
+use Rattle.scr_tree.specs.Tree.{LocalTree}
 use Rattle.scr_tree.specs.Protocol.{Message, Send, Take}
-use Rattle.scr_tree.specs.CallNames.{message_call}
-use Rattle.scr_tree.specs.Meaning.{message_of}
+use Rattle.scr_tree.specs.Steps.{Act, Moves, Looks, Position}
+use Rattle.scr_tree.specs.CallNames.{message_call, label_call}
+use Rattle.scr_tree.specs.Meaning.{protocol_of}
+use Rattle.scr_trace.specs.declared.standing.Standing.{Standing}
+use Rattle.scr_trace.specs.declared.standing.Standing.TheVariants as standings
+use Rattle.scr_trace.specs.Positions.{state_positions}
+use Rattle.scr_trace.specs.Onward.{steps_at}
+use Rattle.scr_trace.specs.Graph.{Edge, AreSteps}
 use Rattle.ts_tree.specs.declared.parts.TypeName.{TypeName}
 use Rattle.ts_tree.specs.declared.parts.TypeName.TheVariants as types
+use Rattle.ts_tree.specs.declared.parts.Branch.{Branch}
 use Rattle.ts_tree.specs.declared.parts.To.{To}
 use Rattle.ts_tree.specs.declared.parts.To.TheVariants as tos
-use Rattle.ts_tree.specs.Typestate.{One, Method, State, Typestate}
+use Rattle.ts_tree.specs.Typestate.{One, ByAnswer, Method, State, Typestate}
 
 -- the type of what a message carries, as the result of a method
 abbrev pub carried_type : Payload → TypeName
@@ -39,35 +44,65 @@ abbrev pub params_of : Message → List TypeName
 params_of (Send peer label kind) = carried_params kind
 params_of (Take peer label kind) = []
 
+-- the state of this number, or the end
+abbrev pub to_of : Standing → To
+to_of (standings.State k) = tos.State k
+to_of standings.End = tos.End
+
 -- the method of a message, which leads there
-abbrev pub method_of : Message → To → Method
-method_of m to = record { result = result_of m; name = message_call m; params = params_of m; target = One to }
+abbrev pub method_of : Message → Standing → Method
+method_of m to = record { result = result_of m; name = message_call m; params = params_of m; target = One (to_of to) }
+
+-- the enum whose constants are the labels of a choice that another role makes
+abbrev pub choice_enum : Name → ℕ → Name
+choice_enum me number = me ++ codes "Choice" ++ decimal number
+
+-- the label of a look, and where it leads, before others
+abbrev pub branch_before : Act → Standing → List Branch → List Branch
+branch_before (Looks number peer label) to more = record { label = label; to = to_of to } ∷ more
+branch_before (Moves message) to more = more
+
+-- the labels of looks, and where each leads
+abbrev pub branches_of : List Edge → List Branch
+branches_of [] = []
+branches_of (edge ∷ edges) = branch_before edge.act edge.to (branches_of edges)
+
+-- the method of the looks at a choice
+abbrev pub label_method : Name → ℕ → Name → List Branch → Method
+label_method me number peer branches = record {
+  result = types.Named (choice_enum me number);
+  name = label_call me number peer;
+  params = [];
+  target = ByAnswer branches;
+}
+
+-- the method of a message before those of other steps, or the one method of all looks
+abbrev pub methods_by : Name → Act → Standing → List Method → List Branch → List Method
+methods_by me (Moves message) to more branches = method_of message to ∷ more
+methods_by me (Looks number peer label) to more branches = label_method me number peer branches ∷ []
+
+-- the methods of the steps of a state
+abbrev pub methods_of : Name → List Edge → List Method
+methods_of me [] = []
+methods_of me (edge ∷ edges) = methods_by me edge.act edge.to (methods_of me edges) (branches_of (edge ∷ edges))
 
 abbrev pub state_name : ℕ → Name
 state_name k = codes "State" ++ decimal k
 
--- where these messages begin, if the first is state k: they are followed by the end
-abbrev pub begin_at : ℕ → List Message → To
-begin_at k [] = tos.End
-begin_at k (m ∷ ms) = tos.State k
+-- the state at a position: its methods are those of the steps there, in the order of the text
+pub record IsLaidState (me : Name) (all : List Position) (position : Position) (k : ℕ) (s : State) : Type 0 where
+  pub name : s.name ≡ state_name k
+  pub edges : List Edge
+  pub steps : AreSteps all (steps_at position) edges
+  pub methods : s.methods ≡ methods_of me edges
 
--- the states of these messages, of which the first is state k
-abbrev pub states_from : ℕ → List Message → List State
-states_from k [] = []
-states_from k (m ∷ ms) = record { name = state_name k; methods = method_of m (begin_at (suc k) ms) ∷ [] } ∷ states_from (suc k) ms
-
--- the typestate of a role that exchanges these messages
-abbrev pub laid : Name → List Message → Typestate
-laid me messages = record { name = me ++ codes "Protocol"; states = states_from 0 messages }
-
--- the messages in front, up to the first other statement
-abbrev pub said_in : Statements → List Said
-said_in tree.Nothing = []
-said_in (tree.Says m rest) = m ∷ said_in rest
-said_in (tree.Choice place at branches rest) = []
-said_in (tree.Rec place name body rest) = []
-said_in (tree.Continue place name rest) = []
+-- the states at positions, of which the first has this number
+abbrev pub AreLaid : Name → List Position → List Position → ℕ → List State → Type 0
+AreLaid me all [] k [] = Unit {0}
+AreLaid me all (position ∷ positions) k (s ∷ ss) = IsLaidState me all position k s × AreLaid me all positions (suc k) ss
+AreLaid me all _ k _ = ⊥
 
 -- the typestate of a local protocol
-abbrev pub laid_of : LocalTree → Typestate
-laid_of local = laid local.me (map message_of (said_in local.body))
+pub record IsLaid (local : LocalTree) (t : Typestate) : Type 0 where
+  pub name : t.name ≡ local.me ++ codes "Protocol"
+  pub states : AreLaid local.me (state_positions (protocol_of local)) (state_positions (protocol_of local)) 0 t.states

@@ -1,3 +1,3 @@
 pub mod Laid
 pub mod Agreement
-pub mod Plain
+pub mod inner

@@ -2,32 +2,33 @@
 //! The typestate allows exactly the traces of the protocol, and ends exactly where it does.
 #![tactic(auto)]
 
+mod methods;
 mod states;
-#[cfg(test)]
-mod tests;
+mod types;
 
 ghost use Rattle.std.specs.Prelude.{◌≡◌, ◌++◌, IfOk, codes};
 ghost use Rattle.scr_tree.specs.Local.{tree_of};
 ghost use Rattle.scr_tree.specs.Meaning.{protocol_of};
-ghost use Rattle.stm_gen.specs.Laid.{laid_of};
+ghost use Rattle.stm_gen.specs.Laid.{IsLaid};
 ghost use Rattle.stm_gen.specs.Agreement.{Agrees};
 
 use mg_text::{Memory, Text};
+use scr_trace::Laying;
 use scr_tree::Local;
 use states::states_of;
 use std::alloc::Global;
 use ts_tree::Typestate;
 
 /// The typestate of a local protocol: `State0`, `State1`, .. in the order of the text, each with
-/// the method of its message, which leads to the next state, the last one to the end.
+/// the methods of the steps there, which lead to the states that these reach.
 /// The only error is `Memory`, where there is too little of it.
 pub fn generate(alloc: Global, local: &Local) -> Result<Typestate, Memory>
-    ensures laid { IfOk result (λ t. t ≡ laid_of (tree_of local.now)) }
+    ensures laid { IfOk result (λ t. IsLaid (tree_of local.now) t) }
     // Its calls are those of the protocol.
-    ensures agrees { IfOk result
-        (λ t. Agrees (tree_of local.now).me (protocol_of (tree_of local.now)) t) }
+    ensures agrees { IfOk result (λ t. Agrees (tree_of local.now).me (protocol_of (tree_of local.now)) t) }
 {
-    let states = states_of(alloc, local.body())?;
+    let laid = Laying::of(alloc, local)?;
+    let states = states_of(alloc, local, &laid)?;
     let name = object_name(alloc, local.me())?;
     Ok(Typestate { name, states })
 }

@@ -1,28 +1,51 @@
-use Rattle.std.proofs.Common.{◌≡◌, ◌++◌, sym, subst, ap, ◌∙◌, map}
+use Rattle.std.proofs.Common.{◌++◌, ◌∙◌, ◌<◌, ◌^◌, List, map, length, sym, ap, subst, arith}
 use Rattle.std.specs.Prelude.{codes}
+use Rattle.std.proofs.lemmas.List.{length-map}
+use Rattle.mg_text.specs.Call.{Name}
+use Rattle.scr_tree.specs.Tree.{LocalTree}
+use Rattle.scr_tree.specs.Local.{tree_of}
+use Rattle.scr_tree.specs.Meaning.{protocol_of}
+use Rattle.scr_tree.specs.Steps.{Position}
+use Rattle.scr_trace.specs.Positions.{state_positions}
+use Rattle.scr_trace.specs.Graph.{Graph}
+use Rattle.scr_trace.specs.inner.View.{edges_of, graph_of_work, work_of}
+use Rattle.scr_trace.proofs.Automaton.{first_state}
+use Rattle.scr_trace.proofs.Telling.{valid_told}
+use Rattle.ts_tree.specs.Typestate.{State, Typestate}
 use Rattle.ts_tree.specs.View.{state_of}
 use Rattle.ts_tree.specs.Proper.{IsProper}
-use Rattle.scr_tree.specs.Local.{tree_of}
-use Rattle.scr_tree.specs.Meaning.{message_of, protocol_of}
-use Rattle.stm_gen.specs.Laid.{said_in, states_from}
-use Rattle.stm_gen.specs.Plain.{is_plain}
-use Rattle.stm_gen.specs.Agreement.{Agrees}
-use Rattle.stm_gen.proofs.Soundness.{valid_plain, valid_proper, valid_agrees}
+use Rattle.stm_gen.specs.Laid.{AreLaid}
+use Rattle.stm_gen.proofs.Proper.{HaveOneSignature, proper}
+use Rattle.stm_gen.proofs.Acting.{one_signature}
+use Rattle.stm_gen.proofs.Agree.{agrees, laid}
 use Rattle.stm_gen.proofs.generate.Goals as goal
-
-pub states_of-requires : goal.states_of-requires
-states_of-requires c = ap is_plain c.body.ensures ∙ valid_plain (tree_of c.args.local.now) c.args.local.now.valid
 
 pub invariant_of-result : goal.invariant_of-result
 invariant_of-result c =
-    subst IsProper
-    (sym (c.in_ok-states.ensures ∙ ap (λ t. states_from 0 (map message_of (said_in t))) c.body.ensures))
-    (valid_proper (tree_of c.args.local.now) c.args.local.now.valid)
+    let tree : LocalTree = tree_of c.args.local.now in
+    let all : List Position = state_positions (protocol_of tree) in
+    let g : Graph = graph_of_work (work_of c.in_ok-laid.laid) in
+    let told = valid_told tree c.args.local.now.valid in
+    let along = c.in_ok-laid.ensures.automaton in
+    let few : length g.states < 2 ^ 64 = omega (arith, c.in_ok-states.ensures.few, length-map (work_of c.in_ok-laid.laid).cells (edges_of (work_of c.in_ok-laid.laid))) in
+    subst IsProper (sym c.in_ok-states.ensures.made) (proper tree.me all g.states few along.states told (one_signature tree c.args.local.now.valid told g.states along.states))
+
+pub returns-clause-laid : goal.returns-clause-laid
+returns-clause-laid c =
+    let tree : LocalTree = tree_of c.args.local.now in
+    let all : List Position = state_positions (protocol_of tree) in
+    record {
+      name = c.in_ok-name.ensures ∙ ap (λ (me : Name). me ++ codes "Protocol") c.me.ensures;
+      states = subst (λ (ss : List State). AreLaid tree.me all all 0 ss) (sym c.in_ok-states.ensures.made) (laid tree.me all 0 all (graph_of_work (work_of c.in_ok-laid.laid)).states c.in_ok-laid.ensures.automaton.states);
+    }
 
 pub returns-clause-agrees : goal.returns-clause-agrees
 returns-clause-agrees c =
-    let tree = tree_of c.args.local.now in
-    let named : c.in_ok-name.name ≡ tree.me ++ codes "Protocol" = c.in_ok-name.ensures ∙ ap (λ me. me ++ codes "Protocol") c.me.ensures in
-    let made : map state_of c.in_ok-states.states.items ≡ states_from 0 (map message_of (said_in tree.body)) =
-    c.in_ok-states.ensures ∙ ap (λ t. states_from 0 (map message_of (said_in t))) c.body.ensures in
-    subst (Agrees tree.me (protocol_of tree)) (λ i. record { name = sym named i; states = sym made i }) (valid_agrees tree c.args.local.now.valid)
+    let tree : LocalTree = tree_of c.args.local.now in
+    let g : Graph = graph_of_work (work_of c.in_ok-laid.laid) in
+    let along = c.in_ok-laid.ensures.automaton in
+    let told = valid_told tree c.args.local.now.valid in
+    let t : Typestate = record { name = c.in_ok-name.name; states = map state_of c.in_ok-states.states.items } in
+    agrees tree g along told t c.in_ok-states.ensures.made
+    (subst (λ (ss : List State). HaveOneSignature tree.me ss) (sym c.in_ok-states.ensures.made) (one_signature tree c.args.local.now.valid told g.states along.states))
+    (first_state tree c.args.local.now.valid (work_of c.in_ok-laid.laid) c.in_ok-laid.ensures.laid)
