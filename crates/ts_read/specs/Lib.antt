@@ -1,1 +1,4 @@
 pub mod Layout
+pub mod Conditions
+pub mod Meaning
+pub mod Outcome

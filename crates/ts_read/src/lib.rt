@@ -2,6 +2,8 @@
 //! A typestate is printed in one layout, which contracts see as a function to bytes.
 #![tactic(auto)]
 
+mod condition;
+mod fault;
 mod printer;
 #[cfg(test)]
 mod tests;
@@ -10,6 +12,8 @@ ghost use Rattle.std.specs.Prelude.{◌≡◌, IfOk};
 ghost use Rattle.ts_read.specs.Layout.{layout};
 
 use crate::printer::print;
+pub use condition::Condition;
+pub use fault::TsFault;
 use mg_text::{Memory, Text};
 use std::alloc::Global;
 use ts_tree::Typestate;

@@ -1,0 +1,13 @@
+use Rattle.std.proofs.Common.{length}
+use Rattle.mg_read.proofs.Loop.{Left, with_front}
+use Rattle.mg_read.specs.Reader.{all_of}
+use Rattle.ts_parse.specs.declared.token.Mark.TheVariants as marks
+use Rattle.ts_parse.specs.Tok.{toks}
+use Rattle.ts_parse.specs.inner.Reading.{is_at, behind_at, param_at}
+use Rattle.ts_parse.proofs.methods.more_params_of.Given as goal
+
+abbrev pub invariant-others : goal.invariant-others
+invariant-others l = Left (is_at marks.Comma) (behind_at marks.Comma param_at) l.params.items (toks l.rest) (with_front l.fn.params.items (all_of (is_at marks.Comma) (behind_at marks.Comma param_at) (toks l.fn.tokens)))
+
+abbrev pub decreases-others : goal.decreases-others
+decreases-others l = length l.rest

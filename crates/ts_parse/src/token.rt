@@ -1,0 +1,38 @@
+//! The tokens of a typestate file.
+//! A name keeps its text; a reserved word or a sign is a mark.
+
+use mg_text::{Place, Text};
+
+/// A reserved word, or a sign.
+#[derive(Clone, Copy, Debug, PartialEq, Eq)]
+pub enum Mark {
+    Typestate,
+    Package,
+    Import,
+    OpenBrace,
+    CloseBrace,
+    OpenParen,
+    CloseParen,
+    Less,
+    Greater,
+    Equals,
+    Comma,
+    Colon,
+    Semicolon,
+    Dot,
+    Star,
+}
+
+/// What a token is.
+#[derive(Debug, Drop)]
+pub enum TokenKind {
+    Name(Text),
+    Mark(Mark),
+}
+
+/// A token, and the place of its first byte.
+#[derive(Debug, Drop)]
+pub struct Token {
+    pub place: Place,
+    pub kind: TokenKind,
+}

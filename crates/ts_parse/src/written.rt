@@ -1,0 +1,49 @@
+//! A typestate file as it is written: every name with its place, and targets by name.
+//! Whether the names mean something is judged later.
+
+use mg_text::{List, Place, Text};
+use ts_tree::TypeName;
+
+/// A name where it stands.
+#[derive(Debug, Drop)]
+pub struct Naming {
+    pub place: Place,
+    pub text: Text,
+}
+
+/// A label, and the name of the state that it leads to.
+#[derive(Debug, Drop)]
+pub struct WrittenBranch {
+    pub label: Naming,
+    pub to: Naming,
+}
+
+/// Where the calls of a method lead, by the names of states.
+#[derive(Debug, Drop)]
+pub enum WrittenTarget {
+    One(Naming),
+    ByAnswer(List<WrittenBranch>),
+}
+
+/// A method of a state.
+#[derive(Debug, Drop)]
+pub struct WrittenMethod {
+    pub result: TypeName,
+    pub name: Naming,
+    pub params: List<TypeName>,
+    pub target: WrittenTarget,
+}
+
+/// A state, and its methods in the order of the text.
+#[derive(Debug, Drop)]
+pub struct WrittenState {
+    pub name: Naming,
+    pub methods: List<WrittenMethod>,
+}
+
+/// A typestate, and its states in the order of the text.
+#[derive(Debug, Drop)]
+pub struct WrittenTypestate {
+    pub name: Text,
+    pub states: List<WrittenState>,
+}
