@@ -1,7 +1,11 @@
-//! Java sources as trees, and what they mean.
-//! So far a class has a `main` that prints texts; each further construct is one more case.
+//! Java sources as trees and as tokens, and what the trees mean.
+//! Definitions of the grammar stand in `specs/`, so that reader and printer speak of one thing.
 #![tactic(auto)]
 
+mod token;
 mod tree;
 
-pub use tree::{Class, Decl, Expr, ExprKind, File, MethodDecl, Stmt, StmtKind};
+pub use token::{Sign, Token, TokenKind};
+pub use tree::{
+    Class, Decl, Enum, Expr, ExprKind, Field, File, Group, MethodDecl, Op, Param, Stmt, StmtKind,
+};

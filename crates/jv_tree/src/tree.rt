@@ -1,4 +1,8 @@
+//! The trees of Java files.
+//! Packages, imports, visibility and `final` are not kept; parentheses show in the trees alone.
+
 use mg_text::{List, Place, Text};
+use ts_tree::TypeName;
 
 /// A file: its declarations, in the order of the text.
 #[derive(Debug, Drop)]
@@ -10,44 +14,104 @@ pub struct File {
 #[derive(Debug, Drop)]
 pub enum Decl {
     Class(Class),
+    Enum(Enum),
 }
 
-/// A class, with the place of its name.
+/// An enum with its constants, and the place of its name.
+#[derive(Debug, Drop)]
+pub struct Enum {
+    pub place: Place,
+    pub name: Text,
+    pub constants: List<Text>,
+}
+
+/// A class, and the place of its name. `typestate` is the text of its annotation.
 #[derive(Debug, Drop)]
 pub struct Class {
     pub place: Place,
     pub name: Text,
+    pub typestate: Option<Text>,
+    pub fields: List<Field>,
     pub methods: List<MethodDecl>,
 }
 
+/// A field, and the place of its name.
+#[derive(Debug, Drop)]
+pub struct Field {
+    pub place: Place,
+    pub ty: TypeName,
+    pub name: Text,
+    pub value: Option<Expr>,
+}
+
 /// A method, with the place of its name and that of its closing brace. `takes_args` says that
-/// its one parameter is the `String[]` of `main`.
+/// its one parameter is the `String[]` of `main`, which is not among `params`.
 #[derive(Debug, Drop)]
 pub struct MethodDecl {
     pub place: Place,
     pub end: Place,
     pub is_static: bool,
+    pub result: TypeName,
     pub name: Text,
+    pub params: List<Param>,
     pub takes_args: bool,
     pub body: List<Stmt>,
 }
 
-/// A statement, with the place of its first token.
+/// A parameter, and the place of its name.
 #[derive(Debug, Drop)]
+pub struct Param {
+    pub place: Place,
+    pub ty: TypeName,
+    pub name: Text,
+}
+
+/// A statement. A declaration has the place of its name, another one that of its first token.
+#[derive(Debug, Drop)]
+#[cycle(stmt)]
 pub struct Stmt {
     pub place: Place,
     pub kind: StmtKind,
 }
 
-/// What a statement is.
+/// What a statement is. The place of a block and of a `switch` is that of the closing brace.
 #[derive(Debug, Drop)]
+#[cycle(stmt)]
 pub enum StmtKind {
+    Block(List<Stmt>, Place),
+    Empty,
+    /// The declaration of a local.
+    Local(TypeName, Text, Expr),
+    /// The target, and its new value.
+    Assign(Expr, Expr),
+    If(Expr, Box<Stmt>, Option<Box<Stmt>>),
+    /// The label first.
+    While(Option<Text>, Expr, Box<Stmt>),
+    /// The label first.
+    Do(Option<Text>, Box<Stmt>, Expr),
+    Switch(Expr, List<Group>, Place),
+    Break(Option<Text>),
+    Continue(Option<Text>),
+    Return(Option<Expr>),
     /// `System.out.println(..);`
     Print(Expr),
+    /// A call or `new`.
+    Eval(Expr),
 }
 
-/// An expression, with the place of its first token.
+/// A group of a `switch`: its labels, where none stands for `default`, its statements, and the
+/// place of the token after it.
 #[derive(Debug, Drop)]
+#[cycle(stmt)]
+pub struct Group {
+    pub labels: List<Option<Text>>,
+    pub body: List<Stmt>,
+    pub end: Place,
+}
+
+/// An expression, with the place of its first token that is no `(`.
+#[derive(Debug, Drop)]
+#[cycle(expr)]
 pub struct Expr {
     pub place: Place,
     pub kind: ExprKind,
@@ -55,7 +119,40 @@ pub struct Expr {
 
 /// What an expression is.
 #[derive(Debug, Drop)]
+#[cycle(expr)]
 pub enum ExprKind {
-    /// A text, without its quotes.
+    Int(i32),
+    Truth(bool),
     Text(Text),
+    Null,
+    This,
+    Name(Text),
+    /// `e.name`
+    Member(Box<Expr>, Text),
+    Neg(Box<Expr>),
+    Not(Box<Expr>),
+    Binary(Op, Box<Expr>, Box<Expr>),
+    /// `name(..)`
+    Call(Text, List<Expr>),
+    /// `e.name(..)`
+    MethodCall(Box<Expr>, Text, List<Expr>),
+    New(Text),
+}
+
+/// A binary operator.
+#[derive(Clone, Copy, Debug, PartialEq, Eq)]
+pub enum Op {
+    Or,
+    And,
+    Eq,
+    Ne,
+    Lt,
+    Le,
+    Gt,
+    Ge,
+    Add,
+    Sub,
+    Mul,
+    Div,
+    Rem,
 }

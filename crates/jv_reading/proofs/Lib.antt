@@ -1,0 +1,15 @@
+pub mod Steps
+pub mod Args
+pub mod Primaries
+pub mod Grows
+pub mod Posts
+pub mod Beginnings
+pub mod Unaries
+pub mod Chains
+pub mod Exprs
+pub mod StmtParts
+pub mod Assigns
+pub mod Leads
+pub mod Nested
+pub mod Members
+pub mod Decls
