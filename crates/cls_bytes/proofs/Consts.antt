@@ -1,17 +1,24 @@
 -- Constants of the pool: what is read is spelled so, and what is spelled so is read.
-use Rattle.std.proofs.Common.{◌≡◌, ℕ, ◌≤◌, List, [], ◌∷◌, ◌++◌, length, take, drop, false, cond, eqb, ltb, Option, Some, refl, sym, ap, subst, ◌∙◌, append_assoc, length-append, length-take, arith, inl, inr}
+use Rattle.std.specs.Int.{cast_signed, cast_unsigned}
+use mir.Syntax.{w32}
+use Rattle.std.proofs.Common.{◌≡◌, ℕ, ℤ, ◌≤◌, List, [], ◌∷◌, ◌++◌, length, take, drop, false, cond, eqb, ltb, Option, Some, refl, sym, ap, subst, ◌∙◌, append_assoc, length-append, length-take, arith, inl, inr}
 use Rattle.std.proofs.lemmas.Bool.{ltb-false, le-ltb, eqb-true}
 use Rattle.std.proofs.lemmas.List.{take_at, drop_at, take-append-drop}
 use Rattle.mg_read.specs.Reader.{◌>>=◌}
 use Rattle.mg_read.proofs.Steps.{some_is, chosen}
 use Rattle.cls_tree.specs.declared.class.Const.{Const}
 use Rattle.cls_tree.specs.declared.class.Const.TheVariants as consts
-use Rattle.cls_tree.specs.Layout.{u2, const_bytes}
-use Rattle.cls_tree.specs.Fits.{IsU2, IsPlainText, FitsConst}
-use Rattle.cls_bytes.specs.Reading.{number_at, plain, text_at, one_at, pair_at, two_at, tagged_at, const_at}
+use Rattle.cls_tree.specs.Layout.{u2, u4, s4, const_bytes}
+use Rattle.std.specs.Int.RustNames.{FitsSigned}
+use Rattle.cls_tree.specs.Fits.{IsU2}
+use Rattle.cls_tree.specs.ClassFile.{IsPlainText, FileConst}
+use Rattle.cls_tree.specs.Modified.{modified}
+use Rattle.cls_tree.proofs.Plain.{modified_plain}
+use Rattle.cls_code.proofs.Spelled.{ints_back, ints_told, ints_fit}
+use Rattle.cls_bytes.specs.Reading.{number_at, plain, text_at, one_at, pair_at, two_at, int_at, tagged_at, const_at}
 use Rattle.cls_bytes.proofs.Plain.{plain_each, each_plain}
 use Rattle.cls_bytes.proofs.Steps.{IsBytes, IsBytes-drop, IsBytes-rest, Takes, Takes-then, IsSound, IsComplete, read, held, passed}
-use Rattle.cls_bytes.proofs.Numbers.{u2_sound, u2_complete}
+use Rattle.cls_bytes.proofs.Numbers.{IsU4, u2_sound, u2_complete, u4_sound, u4_complete}
 
 -- a text behind its count
 abbrev counted_text : List ℕ → List ℕ
@@ -49,13 +56,13 @@ one_complete : (make : ℕ → Const) (n : ℕ) (rest : List ℕ) → IsU2 n →
 unfolding one_at
 one_complete make n rest lt = rw (u2_complete n rest lt) refl
 
-abbrev pair_bytes : ℕ × ℕ → List ℕ
+abbrev pub pair_bytes : ℕ × ℕ → List ℕ
 pair_bytes p = u2 p.0 ++ u2 p.1
 
-abbrev FitPair : ℕ × ℕ → Type 0
+abbrev pub FitPair : ℕ × ℕ → Type 0
 FitPair p = IsU2 p.0 × IsU2 p.1
 
-pair_sound : IsSound pair_at pair_bytes FitPair
+pub pair_sound : IsSound pair_at pair_bytes FitPair
 unfolding pair_at
 pair_sound bytes x fits e =
     let a = read (number_at 2) u2 IsU2 _ bytes x u2_sound fits e in
@@ -63,7 +70,7 @@ pair_sound bytes x fits e =
     let all = Takes-then bytes (u2 a.value) a.rest (u2 b.value) b.rest a.takes b.takes in
     subst (λ (y : (ℕ × ℕ) × List ℕ). Takes bytes (pair_bytes y.0) y.1 × FitPair y.0) (some_is ((a.value, b.value), b.rest) x b.goes_on) (all, (a.fits, b.fits))
 
-pair_complete : IsComplete pair_at pair_bytes FitPair
+pub pair_complete : IsComplete pair_at pair_bytes FitPair
 unfolding pair_at
 pair_complete p rest fit = ap pair_at (append_assoc (u2 p.0) (u2 p.1) rest) ∙ rw (u2_complete p.0 (u2 p.1 ++ rest) fit.0, u2_complete p.1 rest fit.1) refl
 
@@ -84,24 +91,38 @@ tagged tag bytes text rest t = record { parts = ap (λ (w : List ℕ). tag ∷ w
 
 -- the constant that a tag and what follows it spell
 abbrev IsSpelled : ℕ → List ℕ → Const × List ℕ → Type 0
-IsSpelled tag bytes x = Takes (tag ∷ bytes) (const_bytes x.0) x.1 × FitsConst x.0
+IsSpelled tag bytes x = Takes (tag ∷ bytes) (const_bytes x.0) x.1 × FileConst x.0
 
 spelled_text : (bytes : List ℕ) (x : Const × List ℕ) → IsBytes bytes → (text_at bytes >>= λ t. Some (consts.Utf8 t.0, t.1)) ≡ Some x → IsSpelled 1 bytes x
 spelled_text bytes x fits e =
     let t = read text_at counted_text IsPlainText (λ t. Some (consts.Utf8 t.0, t.1)) bytes x text_sound fits e in
-    subst (IsSpelled 1 bytes) (some_is (consts.Utf8 t.value, t.rest) x t.goes_on) (tagged 1 bytes (counted_text t.value) t.rest t.takes, t.fits)
+    subst (IsSpelled 1 bytes) (some_is (consts.Utf8 t.value, t.rest) x t.goes_on)
+    (subst (λ (w : List ℕ). Takes (1 ∷ bytes) (1 ∷ (u2 (length w) ++ w)) t.rest) (sym (modified_plain t.value t.fits.0)) (tagged 1 bytes (counted_text t.value) t.rest t.takes), t.fits)
 
-spelled_one : (tag : ℕ) (make : ℕ → Const) → ((n : ℕ) → const_bytes (make n) ≡ tag ∷ u2 n) → ((n : ℕ) → IsU2 n → FitsConst (make n)) → (bytes : List ℕ) (x : Const × List ℕ) → IsBytes bytes → one_at make bytes ≡ Some x → IsSpelled tag bytes x
+-- what a tag with a signed number spells
+spelled_int : (bytes : List ℕ) (x : Const × List ℕ) → IsBytes bytes → int_at bytes ≡ Some x → IsSpelled 3 bytes x
+unfolding int_at
+spelled_int bytes x fits e =
+    let n = read (number_at 4) u4 IsU4 _ bytes x u4_sound fits e in
+    let k = ints_told n.value n.fits in
+    subst (IsSpelled 3 bytes) (some_is (consts.Integer (cast_signed w32 n.value), n.rest) x n.goes_on)
+    (subst (λ (w : List ℕ). Takes (3 ∷ bytes) (3 ∷ w) n.rest) (sym k) (tagged 3 bytes (u4 n.value) n.rest n.takes), ints_fit n.value n.fits)
+
+int_complete : (z : ℤ) (rest : List ℕ) → FitsSigned w32 z → int_at (s4 z ++ rest) ≡ Some (consts.Integer z, rest)
+unfolding int_at
+int_complete z rest f = rw (u4_complete (cast_unsigned w32 z) rest (ints_back z f).0, (ints_back z f).1) refl
+
+spelled_one : (tag : ℕ) (make : ℕ → Const) → ((n : ℕ) → const_bytes (make n) ≡ tag ∷ u2 n) → ((n : ℕ) → IsU2 n → FileConst (make n)) → (bytes : List ℕ) (x : Const × List ℕ) → IsBytes bytes → one_at make bytes ≡ Some x → IsSpelled tag bytes x
 spelled_one tag make spell ok bytes x fits e =
     let s = one_sound make bytes x fits e in
     let t : Takes (tag ∷ bytes) (const_bytes (make s.0)) x.1 = subst (λ (w : List ℕ). Takes (tag ∷ bytes) w x.1) (sym (spell s.0)) (tagged tag bytes (u2 s.0) x.1 s.3) in
-    subst (λ (k : Const). Takes (tag ∷ bytes) (const_bytes k) x.1 × FitsConst k) s.1 (t, ok s.0 s.2)
+    subst (λ (k : Const). Takes (tag ∷ bytes) (const_bytes k) x.1 × FileConst k) s.1 (t, ok s.0 s.2)
 
-spelled_two : (tag : ℕ) (make : ℕ → ℕ → Const) → ((a b : ℕ) → const_bytes (make a b) ≡ tag ∷ (u2 a ++ u2 b)) → ((a b : ℕ) → IsU2 a × IsU2 b → FitsConst (make a b)) → (bytes : List ℕ) (x : Const × List ℕ) → IsBytes bytes → two_at make bytes ≡ Some x → IsSpelled tag bytes x
+spelled_two : (tag : ℕ) (make : ℕ → ℕ → Const) → ((a b : ℕ) → const_bytes (make a b) ≡ tag ∷ (u2 a ++ u2 b)) → ((a b : ℕ) → IsU2 a × IsU2 b → FileConst (make a b)) → (bytes : List ℕ) (x : Const × List ℕ) → IsBytes bytes → two_at make bytes ≡ Some x → IsSpelled tag bytes x
 spelled_two tag make spell ok bytes x fits e =
     let s = two_sound make bytes x fits e in
     let t : Takes (tag ∷ bytes) (const_bytes (make s.0.0 s.0.1)) x.1 = subst (λ (w : List ℕ). Takes (tag ∷ bytes) w x.1) (sym (spell s.0.0 s.0.1)) (tagged tag bytes (pair_bytes s.0) x.1 s.3) in
-    subst (λ (k : Const). Takes (tag ∷ bytes) (const_bytes k) x.1 × FitsConst k) s.1 (t, ok s.0.0 s.0.1 s.2)
+    subst (λ (k : Const). Takes (tag ∷ bytes) (const_bytes k) x.1 × FileConst k) s.1 (t, ok s.0.0 s.0.1 s.2)
 
 -- a test for a tag, either way
 by_tag : (tag n : ℕ) (a b : Option (Const × List ℕ)) (x : Const × List ℕ) (bytes : List ℕ) → cond (eqb tag n) a b ≡ Some x → (a ≡ Some x → IsSpelled n bytes x) → (b ≡ Some x → IsSpelled tag bytes x) → IsSpelled tag bytes x
@@ -115,20 +136,23 @@ tagged_sound : (tag : ℕ) (bytes : List ℕ) (x : Const × List ℕ) → IsByte
 unfolding tagged_at
 tagged_sound tag bytes x fits e =
     by_tag tag 1 _ _ x bytes e (λ h. spelled_text bytes x fits h) (λ e7.
-    by_tag tag 7 _ _ x bytes e7 (λ h. spelled_one 7 consts.Class (λ n. refl) (λ n ok. ok) bytes x fits h) (λ e8.
+    by_tag tag 3 _ _ x bytes e7 (λ h. spelled_int bytes x fits h) (λ e3.
+    by_tag tag 7 _ _ x bytes e3 (λ h. spelled_one 7 consts.Class (λ n. refl) (λ n ok. ok) bytes x fits h) (λ e8.
     by_tag tag 8 _ _ x bytes e8 (λ h. spelled_one 8 consts.Text (λ n. refl) (λ n ok. ok) bytes x fits h) (λ e9.
     by_tag tag 9 _ _ x bytes e9 (λ h. spelled_two 9 consts.Field (λ a b. refl) (λ a b ok. ok) bytes x fits h) (λ e10.
     by_tag tag 10 _ _ x bytes e10 (λ h. spelled_two 10 consts.Method (λ a b. refl) (λ a b ok. ok) bytes x fits h) (λ e12.
-    by_tag tag 12 _ _ x bytes e12 (λ h. spelled_two 12 consts.NameAndType (λ a b. refl) (λ a b ok. ok) bytes x fits h) (λ none. absurd cc))))))
+    by_tag tag 12 _ _ x bytes e12 (λ h. spelled_two 12 consts.NameAndType (λ a b. refl) (λ a b ok. ok) bytes x fits h) (λ none. absurd cc)))))))
 
-pub const_sound : IsSound const_at const_bytes FitsConst
+pub const_sound : IsSound const_at const_bytes FileConst
 unfolding const_at
 const_sound [] x fits e = absurd cc
 const_sound (tag ∷ bytes) x fits e = tagged_sound tag bytes x (IsBytes-rest tag bytes fits) e
 
-pub const_complete : IsComplete const_at const_bytes FitsConst
+pub const_complete : IsComplete const_at const_bytes FileConst
 unfolding const_at tagged_at
-const_complete (consts.Utf8 text) rest ok = rw (text_complete text rest ok) refl
+const_complete (consts.Utf8 text) rest ok =
+    ap (λ (w : List ℕ). text_at ((u2 (length w) ++ w) ++ rest) >>= λ t. Some (consts.Utf8 t.0, t.1)) (modified_plain text ok.0) ∙ rw (text_complete text rest ok) refl
+const_complete (consts.Integer z) rest ok = int_complete z rest ok
 const_complete (consts.Class n) rest ok = one_complete consts.Class n rest ok
 const_complete (consts.Text n) rest ok = one_complete consts.Text n rest ok
 const_complete (consts.Field a b) rest ok = two_complete consts.Field a b rest ok

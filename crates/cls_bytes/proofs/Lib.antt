@@ -4,6 +4,8 @@ pub mod Plain
 pub mod Steps
 pub mod Numbers
 pub mod Consts
-pub mod Instrs
+pub mod Lists
+pub mod Codes
 pub mod Parts
 pub mod Whole
+pub mod Refusals

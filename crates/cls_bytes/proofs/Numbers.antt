@@ -8,7 +8,7 @@ use Rattle.byteorder.specs.Numbers.{big_number-reads_back, big_from-lt, length-b
 use Rattle.mg_read.proofs.Steps.{bind_some, some_is}
 use Rattle.cls_tree.specs.Layout.{u2, u4}
 use Rattle.cls_tree.specs.Fits.{IsU2}
-use Rattle.cls_bytes.specs.Reading.{number_at, behind, behind_zeros}
+use Rattle.cls_bytes.specs.Reading.{number_at, behind}
 use Rattle.cls_bytes.proofs.Steps.{IsBytes, IsBytes-drop, IsBytes-take, IsBytes-rest, Takes, Takes-then, IsSound, IsComplete, read, held, passed}
 
 abbrev pub IsU4 : ℕ → Type 0
@@ -58,24 +58,6 @@ u4_sound = number_sound 4 spelled4
 pub u4_complete : IsComplete (number_at 4) u4 IsU4
 u4_complete = number_complete 4
 
-abbrev pub u1 : ℕ → List ℕ
-u1 n = n ∷ []
-
-pub u1_sound : IsSound (number_at 1) u1 (λ n. n < 256)
-unfolding number_at
-u1_sound [] x fits e = absurd cc
-u1_sound (b ∷ bytes) x fits e =
-    let p = passed (ltb (length (b ∷ bytes)) 1) (Some (big_number 1 (b ∷ bytes), bytes)) x e in
-    let one : big_number 1 (b ∷ bytes) ≡ b = omega arith in
-    let t : Takes (b ∷ bytes) (u1 b) bytes = record { parts = refl; rest_fits = IsBytes-rest b bytes fits } in
-    subst (λ (y : ℕ × List ℕ). Takes (b ∷ bytes) (u1 y.0) y.1 × (y.0 < 256)) (ap (λ (n : ℕ). (n, bytes)) (sym one) ∙ some_is (big_number 1 (b ∷ bytes), bytes) x p.1) (t, fits 0)
-
-pub u1_complete : IsComplete (number_at 1) u1 (λ n. n < 256)
-unfolding number_at
-u1_complete n rest lt =
-    let one : n * 1 + 0 ≡ n = omega arith in
-    rw (le-ltb (length (n ∷ rest)) 1 (omega arith), one) refl
-
 -- a number that must be this one
 pub behind_sound : (n wanted : ℕ) (ok : ℕ → Type 0) → IsSound (number_at n) (big_bytes n) ok → (bytes rest : List ℕ) → IsBytes bytes → behind n wanted bytes ≡ Some rest → Takes bytes (big_bytes n wanted) rest
 unfolding behind
@@ -87,18 +69,3 @@ behind_sound n wanted ok sound bytes rest fits e =
 pub behind_complete : (n wanted : ℕ) (ok : ℕ → Type 0) → IsComplete (number_at n) (big_bytes n) ok → ok wanted → (rest : List ℕ) → behind n wanted (big_bytes n wanted ++ rest) ≡ Some rest
 unfolding behind
 behind_complete n wanted ok complete lt rest = rw (complete wanted rest lt, eq-eqb wanted wanted refl) refl
-
-abbrev pub zeros : List ℕ
-zeros = u2 0 ++ u2 0
-
-pub zeros_sound : (bytes rest : List ℕ) → IsBytes bytes → behind_zeros bytes ≡ Some rest → Takes bytes zeros rest
-unfolding behind_zeros
-zeros_sound bytes rest fits e =
-    let a = bind_some (behind 2 0 bytes) (behind 2 0) rest e in
-    let s = behind_sound 2 0 IsU2 u2_sound bytes a.0 fits a.1 in
-    let t = behind_sound 2 0 IsU2 u2_sound a.0 rest s.rest_fits a.2 in
-    Takes-then bytes (u2 0) a.0 (u2 0) rest s t
-
-pub zeros_complete : (rest : List ℕ) → behind_zeros (zeros ++ rest) ≡ Some rest
-unfolding behind_zeros
-zeros_complete rest = rw (behind_complete 2 0 IsU2 u2_complete (omega arith) (u2 0 ++ rest)) (behind_complete 2 0 IsU2 u2_complete (omega arith) rest)

@@ -31,17 +31,6 @@ all_mapped g view xs i out total le so_far =
     let none : drop i xs ≡ [] = drop_all i xs le in
     sym (append-nil out) ∙ ap (λ ys. out ++ flat_map g (map view ys)) (sym none) ∙ so_far
 
--- five writes are one
-pub five : (o o₁ o₂ o₃ o₄ o₅ a b c d e : List ℕ) → o₁ ≡ o ++ a → o₂ ≡ o₁ ++ b → o₃ ≡ o₂ ++ c → o₄ ≡ o₃ ++ d → o₅ ≡ o₄ ++ e
-    → o₅ ≡ o ++ (a ++ (b ++ (c ++ (d ++ e))))
-five o o₁ o₂ o₃ o₄ o₅ a b c d e h₁ h₂ h₃ h₄ h₅ = rw (h₅, h₄, h₃, h₂, h₁) (simp append_assoc)
-
--- four writes are one, the first of them of five parts
-pub four : (o o₁ o₂ o₃ o₄ a b c d e f g h : List ℕ) → o₁ ≡ o ++ (a ++ (b ++ (c ++ (d ++ e)))) → o₂ ≡ o₁ ++ f → o₃ ≡ o₂ ++ g → o₄ ≡ o₃ ++ h
-    → o₄ ≡ o ++ (a ++ (b ++ (c ++ (d ++ (e ++ (f ++ (g ++ h)))))))
-four o o₁ o₂ o₃ o₄ a b c d e f g h h₁ h₂ h₃ h₄ = rw (h₄, h₃, h₂, h₁) (simp append_assoc)
-
--- what thirteen writes make of nothing
-pub thirteen : (o₀ o₁ o₂ o₃ o₄ o₅ o₆ o₇ o₈ o₉ o₁₀ o₁₁ o₁₂ o₁₃ a b c d e f g h i j k l m : List ℕ) → o₀ ≡ [] → o₁ ≡ o₀ ++ a → o₂ ≡ o₁ ++ b → o₃ ≡ o₂ ++ c → o₄ ≡ o₃ ++ d → o₅ ≡ o₄ ++ e → o₆ ≡ o₅ ++ f → o₇ ≡ o₆ ++ g → o₈ ≡ o₇ ++ h → o₉ ≡ o₈ ++ i → o₁₀ ≡ o₉ ++ j → o₁₁ ≡ o₁₀ ++ k → o₁₂ ≡ o₁₁ ++ l → o₁₃ ≡ o₁₂ ++ m
-    → o₁₃ ≡ a ++ (b ++ (c ++ (d ++ (e ++ (f ++ (g ++ (h ++ (i ++ (j ++ (k ++ (l ++ m)))))))))))
-thirteen o₀ o₁ o₂ o₃ o₄ o₅ o₆ o₇ o₈ o₉ o₁₀ o₁₁ o₁₂ o₁₃ a b c d e f g h i j k l m h₀ h₁ h₂ h₃ h₄ h₅ h₆ h₇ h₈ h₉ h₁₀ h₁₁ h₁₂ h₁₃ = rw (h₁₃, h₁₂, h₁₁, h₁₀, h₉, h₈, h₇, h₆, h₅, h₄, h₃, h₂, h₁, h₀) (simp append_assoc)
+-- three writes are one
+pub three : (o o₁ o₂ o₃ a b c : List ℕ) → o₁ ≡ o ++ a → o₂ ≡ o₁ ++ b → o₃ ≡ o₂ ++ c → o₃ ≡ o ++ (a ++ (b ++ c))
+three o o₁ o₂ o₃ a b c h₁ h₂ h₃ = rw (h₃, h₂, h₁) (simp append_assoc)

@@ -7,17 +7,17 @@ ghost use Rattle.cls_tree.specs.Tree.{Class as Tree};
 ghost use Rattle.cls_tree.specs.View.{class_of};
 ghost use Rattle.cls_tree.specs.Layout.{class_bytes};
 ghost use Rattle.cls_tree.specs.Fits.{Fits};
-ghost use Rattle.cls_bytes.specs.Answer.{IsClassOrMemory};
+ghost use Rattle.std.specs.List.{AllByRecursion};
+ghost use Rattle.cls_tree.specs.ClassFile.{IsClassFile, FileConst};
+ghost use Rattle.cls_bytes.specs.Answer.{IsClassOrMemory, IsFileOrMemory, IsWritten, writing};
 
 mod format;
 mod reading;
-#[cfg(test)]
-mod tests;
 mod writing;
 
-use crate::format::{MAGIC, VERSION};
 use crate::reading::whole_class;
-use crate::writing::{put_consts, put_members, put_u2, put_u4};
+use crate::writing::class_written;
+use cls_code::CodeFault;
 use cls_tree::Class;
 use mg_read::ReadError;
 use mg_text::{Bytes, Memory};
@@ -32,34 +32,48 @@ pub enum ClassFault {
     Memory,
 }
 
+/// Why a class isn't written.
+#[derive(Clone, Copy, Debug, PartialEq, Eq)]
+pub enum WriteFault {
+    /// The first code that can't be encoded is refused so.
+    Code(CodeFault),
+    /// Want of memory.
+    Memory,
+}
+
+impl From<Memory> for WriteFault {
+    ghost use Rattle.std.specs.Prelude.{◌≡◌};
+    ghost use Rattle.cls_bytes.specs.declared.WriteFault.TheVariants as E;
+
+    ghost from_gives = { λ _ e. e ≡ E.Memory };
+
+    fn from(_memory: Memory) -> WriteFault {
+        WriteFault::Memory
+    }
+}
+
 /// The bytes of a class file.
-pub fn write_class(alloc: Global, class: &Class) -> Result<Bytes, Memory>
-    requires { Fits (class_of class.now) }
-    ensures { IfOk result (λ b. b ≡ class_bytes (class_of class.now)) }
+///
+/// # Errors
+///
+/// `Code` exactly where a code of the methods can't be encoded, with what the first of them is refused by.
+pub fn write_class(alloc: Global, class: &Class) -> Result<Bytes, WriteFault>
+    requires fits { Fits (class_of class.now) }
+    requires plain { AllByRecursion FileConst (class_of class.now).pool }
+    // The bytes, or what the first code that can't be encoded is refused by.
+    ensures exact { IsWritten (writing (class_of class.now)) result }
+    // A class file is written.
+    ensures file { IsClassFile (class_of class.now) → IsFileOrMemory (class_bytes (class_of class.now)) result }
 {
-    let mut out = Bytes::new(alloc);
-    put_u4(&mut out, MAGIC)?;
-    put_u2(&mut out, 0)?;
-    put_u2(&mut out, VERSION)?;
-    put_u2(&mut out, class.pool.len() as u16 + 1)?;
-    put_consts(&mut out, class.pool.as_slice())?;
-    put_u2(&mut out, class.access)?;
-    put_u2(&mut out, class.this_class)?;
-    put_u2(&mut out, class.super_class)?;
-    put_u2(&mut out, 0)?;
-    put_u2(&mut out, 0)?;
-    put_u2(&mut out, class.methods.len() as u16)?;
-    put_members(alloc, &mut out, class.methods.as_slice())?;
-    put_u2(&mut out, 0)?;
-    Ok(out)
+    class_written(alloc, class)
 }
 
 /// The class that the bytes spell. `Unreadable` comes exactly where they spell none.
 pub fn read_class(alloc: Global, bytes: &[u8]) -> Result<Class, ClassFault>
     // What is read is spelled so.
-    ensures found { IfOk result (λ c. Fits (class_of c) × (bytes.now ≡ class_bytes (class_of c))) }
+    ensures found { IfOk result (λ c. IsClassFile (class_of c) × (bytes.now ≡ class_bytes (class_of c))) }
     // What is spelled so is read, unless memory runs out.
-    ensures only { (class : Tree) → Fits class → bytes.now ≡ class_bytes class → IsClassOrMemory result class }
+    ensures only { (class : Tree) → IsClassFile class → bytes.now ≡ class_bytes class → IsClassOrMemory result class }
 {
     match whole_class(alloc, bytes) {
         Ok(class) => Ok(class),
@@ -70,5 +84,5 @@ pub fn read_class(alloc: Global, bytes: &[u8]) -> Result<Class, ClassFault>
 
 /// Bytes spell one class at most.
 pub fn one_class()
-    ensures { (a b : Tree) → Fits a → Fits b → class_bytes a ≡ class_bytes b → a ≡ b }
+    ensures { (a b : Tree) → IsClassFile a → IsClassFile b → class_bytes a ≡ class_bytes b → a ≡ b }
 {}

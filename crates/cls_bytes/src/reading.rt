@@ -1,27 +1,21 @@
-ghost use Rattle.std.specs.Prelude.{◌≡◌, ℕ, List, length, map, IfOk};
+//! The bytes of a class from left to right.
+//! Each function gives a value and the bytes after it.
+
+ghost use Rattle.std.specs.Prelude.{◌≡◌, ℕ, List, ◌+◌, ◌==◌, nat_lt, count_by, length, map, IfOk};
 ghost use Rattle.std.specs.Str.{IsAscii};
 ghost use Rattle.mg_read.specs.Reader.{Gives};
-ghost use Rattle.cls_tree.specs.View.{attr_of, member_of, class_of};
-ghost use Rattle.cls_bytes.specs.Reading.{number_at, behind, behind_zeros, plain, text_at, tagged_at, const_at, counted, argued_at, instr_at, instrs_of, body_at, attr_at, listed_at, pair_at, three_at, member_at, behind_head, pool_at, class_at};
+ghost use Rattle.cls_tree.specs.View.{instrs_of as instrs_seen, inner_of, attr_of, member_of, class_of};
+ghost use Rattle.cls_tree.specs.ClassFile.{names_code};
+ghost use Rattle.cls_tree.specs.WellFormed.{is_code};
+ghost use Rattle.cls_bytes.specs.Reading.{number_at, behind, plain, text_at, tagged_at, const_at, counted, instrs_of, run_at, inner_at, body_at, inners_at, content_at, code_at, other_at, attr_at, listed_at, pair_at, three_at, member_at, members_at, behind_head, pool_at, class_at};
 
-use crate::format::{
-    AROUND_CODE, GETSTATIC, INVOKEVIRTUAL, LDC, LDC_W, MAGIC, MAX_CODE, RETURN, VERSION,
-};
+use crate::format::{MAGIC, VERSION};
 use byteorder::{BigEndian, ByteOrder};
-use cls_tree::{Args, Attr, Class, Code, Const, Instr, Member};
+use cls_code::{CodeFault, decode};
+use cls_tree::{Attr, Class, Code, Const, Instr, Member};
 use mg_read::ReadError;
-use mg_text::{List, Memory, Text};
+use mg_text::{Bytes, List, Memory, Text};
 use std::alloc::Global;
-
-#[tactic(auto, unfolding(crate::specs::Reading::number_at))]
-fn u1_of(bytes: &[u8]) -> Result<(u8, &[u8]), ReadError>
-    ensures { Gives (λ x. (x.0, x.1.now)) result (number_at 1 bytes.now) }
-{
-    match bytes {
-        [] => Err(ReadError::Syntax),
-        [number, rest @ ..] => Ok((*number, rest)),
-    }
-}
 
 #[tactic(auto, unfolding(crate::specs::Reading::number_at))]
 fn u2_of(bytes: &[u8]) -> Result<(u16, &[u8]), ReadError>
@@ -63,14 +57,6 @@ fn behind_u4(bytes: &[u8], wanted: u32) -> Result<&[u8], ReadError>
         return Err(ReadError::Syntax);
     }
     Ok(rest)
-}
-
-#[tactic(auto, unfolding(crate::specs::Reading::behind_zeros))]
-fn after_zeros(bytes: &[u8]) -> Result<&[u8], ReadError>
-    ensures { Gives (λ x. x.now) result (behind_zeros bytes.now) }
-{
-    let rest = behind_u2(bytes, 0)?;
-    behind_u2(rest, 0)
 }
 
 #[tactic(auto, unfolding(crate::specs::Reading::behind_head))]
@@ -140,7 +126,7 @@ fn text_of(alloc: Global, bytes: &[u8]) -> Result<(Text, &[u8]), ReadError>
 }
 
 // What a constant with this tag holds.
-#[tactic(auto, unfolding(crate::specs::Reading::tagged_at, crate::specs::Reading::one_at, crate::specs::Reading::two_at))]
+#[tactic(auto, unfolding(crate::specs::Reading::tagged_at, crate::specs::Reading::int_at, crate::specs::Reading::one_at, crate::specs::Reading::two_at))]
 fn tagged_of(alloc: Global, tag: u8, bytes: &[u8]) -> Result<(Const, &[u8]), ReadError>
     ensures { Gives (λ x. (x.0, x.1.now)) result (tagged_at tag bytes.now) }
 {
@@ -148,6 +134,10 @@ fn tagged_of(alloc: Global, tag: u8, bytes: &[u8]) -> Result<(Const, &[u8]), Rea
         1 => {
             let (text, rest) = text_of(alloc, bytes)?;
             Ok((Const::Utf8(text), rest))
+        }
+        3 => {
+            let (number, rest) = u4_of(bytes)?;
+            Ok((Const::Integer(number.cast_signed()), rest))
         }
         7 => {
             let (name, rest) = u2_of(bytes)?;
@@ -207,105 +197,229 @@ fn pool_of(alloc: Global, bytes: &[u8]) -> Result<(List<Const>, &[u8]), ReadErro
     consts_of(alloc, count - 1, rest)
 }
 
-// What stands behind an opcode.
-#[tactic(auto, unfolding(crate::specs::Reading::argued_at))]
-fn argued_of(op: u8, bytes: &[u8]) -> Result<(Instr, &[u8]), ReadError>
-    ensures { Gives (λ x. (x.0, x.1.now)) result (argued_at op bytes.now) }
+/// The instructions that all of the bytes spell.
+#[tactic(auto, using(crate::proofs::Codes::decoded_none, crate::proofs::Codes::decoded_some))]
+fn instrs_in(alloc: Global, bytes: &[u8]) -> Result<List<Instr>, ReadError>
+    ensures { Gives (λ x. instrs_seen x.items) result (instrs_of bytes.now) }
 {
-    if op == RETURN {
-        let args = Args::None;
-        return Ok((Instr { op, args }, bytes));
-    }
-    if op == LDC {
-        let (number, rest) = u1_of(bytes)?;
-        let args = Args::Pool(number as u16);
-        return Ok((Instr { op, args }, rest));
-    }
-    if op == LDC_W || op == GETSTATIC || op == INVOKEVIRTUAL {
-        let (number, rest) = u2_of(bytes)?;
-        let args = Args::Pool(number);
-        return Ok((Instr { op, args }, rest));
-    }
-    Err(ReadError::Syntax)
-}
-
-#[tactic(auto, unfolding(crate::specs::Reading::instr_at))]
-fn instr_of(bytes: &[u8]) -> Result<(Instr, &[u8]), ReadError>
-    ensures { Gives (λ x. (x.0, x.1.now)) result (instr_at bytes.now) }
-{
-    match bytes {
-        [] => Err(ReadError::Syntax),
-        [op, rest @ ..] => argued_of(*op, rest),
+    match decode(alloc, bytes) {
+        Ok(instrs) => Ok(instrs),
+        Err(CodeFault::Memory) => Err(ReadError::Memory),
+        Err(_) => Err(ReadError::Syntax),
     }
 }
 
-// The instructions that all of the bytes spell.
-fn code_of(alloc: Global, bytes: &[u8]) -> Result<List<Instr>, ReadError>
-    ensures { Gives (λ x. x.items) result (instrs_of bytes.now) }
+/// A length, and as many bytes.
+#[tactic(auto, unfolding(crate::specs::Reading::run_at))]
+fn run_of(bytes: &[u8]) -> Result<(&[u8], &[u8]), ReadError>
+    ensures { Gives (λ x. (x.0.now, x.1.now)) result (run_at bytes.now) }
 {
-    let mut instrs = List::new(alloc);
-    let mut rest = bytes;
-    'instrs: while !rest.is_empty() {
-        let (instr, after) = instr_of(rest)?;
-        instrs.push(instr)?;
-        rest = after;
-    }
-    Ok(instrs)
-}
-
-// The instructions of an attribute of this length, from the size of the code to the end.
-#[tactic(auto, unfolding(crate::specs::Reading::body_at))]
-fn body_of(alloc: Global, len: u32, bytes: &[u8]) -> Result<(List<Instr>, &[u8]), ReadError>
-    ensures { Gives (λ x. (x.0.items, x.1.now)) result (body_at len bytes.now) }
-{
-    let (size, rest) = u4_of(bytes)?;
-    if size == 0 || size > MAX_CODE || len != size + AROUND_CODE || rest.len() < size as usize {
+    let (len, rest) = u4_of(bytes)?;
+    let len = len as usize;
+    if rest.len() < len {
         return Err(ReadError::Syntax);
     }
-    let (code, rest) = rest.split_at(size as usize);
-    let instrs = code_of(alloc, code)?;
-    let rest = after_zeros(rest)?;
+    Ok(rest.split_at(len))
+}
+
+/// Another attribute behind its name.
+#[tactic(auto, using(cls_tree::proofs::Views::views), unfolding(crate::specs::Reading::other_at))]
+fn other_of(alloc: Global, name: u16, bytes: &[u8]) -> Result<(Attr, &[u8]), ReadError>
+    ensures { Gives (λ x. (attr_of x.0, x.1.now)) result (other_at name bytes.now) }
+{
+    let (run, rest) = run_of(bytes)?;
+    let bytes = Bytes::of(alloc, run)?;
+    Ok((Attr::Other { name, bytes }, rest))
+}
+
+/// An attribute of a code.
+#[tactic(auto, using(cls_tree::proofs::Views::views), unfolding(crate::specs::Reading::inner_at))]
+fn inner_from(alloc: Global, bytes: &[u8]) -> Result<(Attr, &[u8]), ReadError>
+    ensures { Gives (λ x. (inner_of x.0, x.1.now)) result (inner_at bytes.now) }
+{
+    let (name, rest) = u2_of(bytes)?;
+    let (run, rest) = run_of(rest)?;
+    let bytes = Bytes::of(alloc, run)?;
+    Ok((Attr::Other { name, bytes }, rest))
+}
+
+/// So many attributes of a code.
+fn inners_of(alloc: Global, count: u16, bytes: &[u8]) -> Result<(List<Attr>, &[u8]), ReadError>
+    ensures { Gives (λ x. (map inner_of x.0.items, x.1.now)) result (counted inner_at count bytes.now) }
+{
+    let mut inners = List::new(alloc);
+    let mut rest = bytes;
+    for _ in 0..count {
+        let (inner, after) = inner_from(alloc, rest)?;
+        inners.push(inner)?;
+        rest = after;
+    }
+    Ok((inners, rest))
+}
+
+/// No handlers, and the attributes of a code.
+#[tactic(auto, unfolding(crate::specs::Reading::inners_at, crate::specs::Reading::listed_at))]
+fn inners_behind(alloc: Global, bytes: &[u8]) -> Result<(List<Attr>, &[u8]), ReadError>
+    ensures { Gives (λ x. (map inner_of x.0.items, x.1.now)) result (inners_at bytes.now) }
+{
+    let rest = behind_u2(bytes, 0)?;
+    let (count, rest) = u2_of(rest)?;
+    inners_of(alloc, count, rest)
+}
+
+/// The instructions of a code, behind their length.
+#[tactic(auto, unfolding(crate::specs::Reading::body_at))]
+fn body_of(alloc: Global, bytes: &[u8]) -> Result<(List<Instr>, &[u8]), ReadError>
+    ensures { Gives (λ x. (instrs_seen x.0.items, x.1.now)) result (body_at bytes.now) }
+{
+    let (code, rest) = run_of(bytes)?;
+    let instrs = instrs_in(alloc, code)?;
     Ok((instrs, rest))
 }
 
-#[tactic(auto, unfolding(crate::specs::Reading::attr_at))]
-fn attribute_of(alloc: Global, bytes: &[u8]) -> Result<(Attr, &[u8]), ReadError>
-    ensures { Gives (λ x. (attr_of x.0, x.1.now)) result (attr_at bytes.now) }
+/// What a code attribute holds.
+#[tactic(auto, unfolding(crate::specs::Reading::content_at))]
+fn content_of(alloc: Global, name: u16, bytes: &[u8]) -> Result<(Attr, &[u8]), ReadError>
+    ensures { Gives (λ x. (attr_of x.0, x.1.now)) result (content_at name bytes.now) }
 {
-    let (name, rest) = u2_of(bytes)?;
-    let (len, rest) = u4_of(rest)?;
-    let (max_stack, rest) = u2_of(rest)?;
-    let (max_locals, rest) = u2_of(rest)?;
-    let (instrs, rest) = body_of(alloc, len, rest)?;
+    let (sizes, rest) = pair_of(bytes)?;
+    let (instrs, rest) = body_of(alloc, rest)?;
+    let (attributes, rest) = inners_behind(alloc, rest)?;
     let code = Code {
         name,
-        max_stack,
-        max_locals,
+        max_stack: sizes.0,
+        max_locals: sizes.1,
         instrs,
+        attributes,
     };
     Ok((Attr::Code(code), rest))
 }
 
-fn attrs_of(alloc: Global, count: u16, bytes: &[u8]) -> Result<(List<Attr>, &[u8]), ReadError>
-    ensures { Gives (λ x. (map attr_of x.0.items, x.1.now)) result (counted attr_at count bytes.now) }
+/// A code behind its name.
+#[tactic(auto, unfolding(crate::specs::Reading::code_at))]
+fn code_of(alloc: Global, name: u16, bytes: &[u8]) -> Result<(Attr, &[u8]), ReadError>
+    ensures { Gives (λ x. (attr_of x.0, x.1.now)) result (code_at name bytes.now) }
+{
+    let (len, front) = u4_of(bytes)?;
+    let (content, rest) = content_of(alloc, name, front)?;
+    if !is_sum(front.len(), len, rest.len()) {
+        return Err(ReadError::Syntax);
+    }
+    Ok((content, rest))
+}
+
+/// Whether the whole is the sum of its parts.
+fn is_sum(all: usize, first: u32, second: usize) -> bool
+    ensures { result ≡ (all == first + second) }
+{
+    all >= second && all - second == first as usize
+}
+
+/// Whether a number is that of the name of code.
+#[tactic(auto, unfolding(cls_tree::specs::ClassFile::names_code))]
+fn is_code_name(pool: &[Const], number: u16) -> bool
+    ensures { result ≡ names_code pool.now number }
+{
+    if number == 0 || number as usize > pool.len() {
+        return false;
+    }
+    match &pool[number as usize - 1] {
+        Const::Utf8(text) => text.as_str() == "Code",
+        _ => false,
+    }
+}
+
+/// An attribute, of a method or not.
+#[tactic(auto, unfolding(crate::specs::Reading::attr_at))]
+fn attribute_of<'a>(
+    alloc: Global,
+    pool: &[Const],
+    of_method: bool,
+    bytes: &'a [u8],
+) -> Result<(Attr, &'a [u8]), ReadError>
+    ensures { Gives (λ x. (attr_of x.0, x.1.now)) result (attr_at pool.now of_method bytes.now) }
+{
+    let (name, rest) = u2_of(bytes)?;
+    if of_method && is_code_name(pool, name) {
+        code_of(alloc, name, rest)
+    } else {
+        other_of(alloc, name, rest)
+    }
+}
+
+/// So many attributes.
+fn attrs_of<'a>(
+    alloc: Global,
+    pool: &[Const],
+    of_method: bool,
+    count: u16,
+    bytes: &'a [u8],
+) -> Result<(List<Attr>, &'a [u8]), ReadError>
+    ensures { Gives (λ x. (map attr_of x.0.items, x.1.now)) result (counted (attr_at pool.now of_method) count bytes.now) }
 {
     let mut attributes = List::new(alloc);
     let mut rest = bytes;
     for _ in 0..count {
-        let (attribute, after) = attribute_of(alloc, rest)?;
+        let (attribute, after) = attribute_of(alloc, pool, of_method, rest)?;
         attributes.push(attribute)?;
         rest = after;
     }
     Ok((attributes, rest))
 }
 
-#[tactic(auto, unfolding(crate::specs::Reading::member_at, crate::specs::Reading::listed_at))]
-fn method_of(alloc: Global, bytes: &[u8]) -> Result<(Member, &[u8]), ReadError>
-    ensures { Gives (λ x. (member_of x.0, x.1.now)) result (member_at bytes.now) }
+/// Attributes behind their count.
+#[tactic(auto, unfolding(crate::specs::Reading::listed_at))]
+fn attrs_behind<'a>(
+    alloc: Global,
+    pool: &[Const],
+    of_method: bool,
+    bytes: &'a [u8],
+) -> Result<(List<Attr>, &'a [u8]), ReadError>
+    ensures { Gives (λ x. (map attr_of x.0.items, x.1.now)) result (listed_at (attr_at pool.now of_method) bytes.now) }
+{
+    let (count, rest) = u2_of(bytes)?;
+    attrs_of(alloc, pool, of_method, count, rest)
+}
+
+/// Whether there are two codes or more among these attributes.
+fn has_two_codes(attributes: &[Attr]) -> bool
+    ensures { result ≡ nat_lt 1 (count_by is_code (map attr_of attributes.now)) }
+{
+    let mut codes = 0usize;
+    for attribute in attributes {
+        if is_coded(attribute) {
+            codes += 1;
+        }
+    }
+    codes > 1
+}
+
+/// Whether an attribute is code.
+#[tactic(auto, using(cls_tree::proofs::Views::views))]
+fn is_coded(attribute: &Attr) -> bool
+    ensures { result ≡ is_code (attr_of attribute.now) }
+{
+    match attribute {
+        Attr::Code(_) => true,
+        Attr::Other { .. } => false,
+    }
+}
+
+/// A field or a method.
+#[tactic(auto, unfolding(crate::specs::Reading::member_at))]
+fn member_from<'a>(
+    alloc: Global,
+    pool: &[Const],
+    is_method: bool,
+    bytes: &'a [u8],
+) -> Result<(Member, &'a [u8]), ReadError>
+    ensures { Gives (λ x. (member_of x.0, x.1.now)) result (member_at pool.now is_method bytes.now) }
 {
     let ((access, name, descriptor), rest) = three_of(bytes)?;
-    let (count, rest) = u2_of(rest)?;
-    let (attributes, rest) = attrs_of(alloc, count, rest)?;
+    let (attributes, rest) = attrs_behind(alloc, pool, is_method, rest)?;
+    if has_two_codes(attributes.as_slice()) {
+        return Err(ReadError::Syntax);
+    }
     let member = Member {
         access,
         name,
@@ -315,28 +429,56 @@ fn method_of(alloc: Global, bytes: &[u8]) -> Result<(Member, &[u8]), ReadError>
     Ok((member, rest))
 }
 
-fn members_of(alloc: Global, count: u16, bytes: &[u8]) -> Result<(List<Member>, &[u8]), ReadError>
-    ensures { Gives (λ x. (map member_of x.0.items, x.1.now)) result (counted member_at count bytes.now) }
+/// So many fields or methods.
+fn members_of<'a>(
+    alloc: Global,
+    pool: &[Const],
+    are_methods: bool,
+    count: u16,
+    bytes: &'a [u8],
+) -> Result<(List<Member>, &'a [u8]), ReadError>
+    ensures { Gives (λ x. (map member_of x.0.items, x.1.now)) result (counted (member_at pool.now are_methods) count bytes.now) }
 {
     let mut members = List::new(alloc);
     let mut rest = bytes;
     for _ in 0..count {
-        let (member, after) = method_of(alloc, rest)?;
+        let (member, after) = member_from(alloc, pool, are_methods, rest)?;
         members.push(member)?;
         rest = after;
     }
     Ok((members, rest))
 }
 
+/// Fields or methods behind their count.
 #[tactic(auto, unfolding(crate::specs::Reading::listed_at))]
-fn methods_of(alloc: Global, bytes: &[u8]) -> Result<(List<Member>, &[u8]), ReadError>
-    ensures { Gives (λ x. (map member_of x.0.items, x.1.now)) result (listed_at member_at bytes.now) }
+fn members_behind<'a>(
+    alloc: Global,
+    pool: &[Const],
+    are_methods: bool,
+    bytes: &'a [u8],
+) -> Result<(List<Member>, &'a [u8]), ReadError>
+    ensures { Gives (λ x. (map member_of x.0.items, x.1.now)) result (listed_at (member_at pool.now are_methods) bytes.now) }
 {
     let (count, rest) = u2_of(bytes)?;
-    members_of(alloc, count, rest)
+    members_of(alloc, pool, are_methods, count, rest)
 }
 
-// The class that all of the bytes spell.
+/// The fields, methods and attributes of a class.
+#[tactic(auto, unfolding(crate::specs::Reading::members_at))]
+fn all_members_of<'a>(
+    alloc: Global,
+    pool: &[Const],
+    bytes: &'a [u8],
+) -> Result<((List<Member>, List<Member>, List<Attr>), &'a [u8]), ReadError>
+    ensures { Gives (λ x. ((map member_of x.0.0.items, map member_of x.0.1.items, map attr_of x.0.2.items), x.1.now)) result (members_at pool.now bytes.now) }
+{
+    let (fields, rest) = members_behind(alloc, pool, false, bytes)?;
+    let (methods, rest) = members_behind(alloc, pool, true, rest)?;
+    let (attributes, rest) = attrs_behind(alloc, pool, false, rest)?;
+    Ok(((fields, methods, attributes), rest))
+}
+
+/// The class that all of the bytes spell.
 #[tactic(auto, unfolding(crate::specs::Reading::class_at))]
 pub(crate) fn whole_class(alloc: Global, bytes: &[u8]) -> Result<Class, ReadError>
     ensures { Gives class_of result (class_at bytes.now) }
@@ -344,9 +486,8 @@ pub(crate) fn whole_class(alloc: Global, bytes: &[u8]) -> Result<Class, ReadErro
     let rest = after_head(bytes)?;
     let (pool, rest) = pool_of(alloc, rest)?;
     let ((access, this_class, super_class), rest) = three_of(rest)?;
-    let rest = after_zeros(rest)?;
-    let (methods, rest) = methods_of(alloc, rest)?;
     let rest = behind_u2(rest, 0)?;
+    let ((fields, methods, attributes), rest) = all_members_of(alloc, pool.as_slice(), rest)?;
     if !rest.is_empty() {
         return Err(ReadError::Syntax);
     }
@@ -355,6 +496,8 @@ pub(crate) fn whole_class(alloc: Global, bytes: &[u8]) -> Result<Class, ReadErro
         access,
         this_class,
         super_class,
+        fields,
         methods,
+        attributes,
     })
 }

@@ -2,6 +2,9 @@
 use Rattle.std.specs.Prelude.{◌≡◌, ℕ, List, [], ◌∷◌, codes}
 use Rattle.std.proofs.Common.{refl}
 use Rattle.cls_tree.specs.Layout.{class_bytes}
+use Rattle.std.specs.Str.{chars}
+use Rattle.cls_tree.specs.Opcodes.{form_of}
+use Rattle.cls_tree.specs.Modified.{modified}
 use Rattle.cls_tree.specs.Emitted.{class_for, number_of}
 
 -- its 273 bytes
@@ -26,5 +29,5 @@ hello_bytes =
     0 ∷ 9 ∷ 0 ∷ 5 ∷ 0 ∷ 6 ∷ 0 ∷ 1 ∷ 0 ∷ 7 ∷ 0 ∷ 0 ∷ 0 ∷ 21 ∷ 0 ∷ 2 ∷ 0 ∷ 1 ∷ 0 ∷ 0 ∷ 0 ∷ 9 ∷ 178 ∷ 0 ∷ 13 ∷ 18 ∷ 15 ∷ 182 ∷ 0 ∷ 21 ∷ 177 ∷ 0 ∷ 0 ∷ 0 ∷ 0 ∷ 0 ∷ 0 ∷ []
 
 pub hello : class_bytes (class_for (codes "Hello") (codes "hello" ∷ [])) ≡ hello_bytes
-unfolding class_for number_of
+unfolding class_for number_of modified chars form_of
 hello = refl

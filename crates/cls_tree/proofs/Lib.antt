@@ -1,1 +1,5 @@
-mod Hello
+pub mod Table
+pub mod Views
+pub mod Hello
+pub mod Plain
+pub mod Files

@@ -1,16 +1,17 @@
 -- The class file of a class whose `main` prints texts. A constant is found in the pool by equality or appended, its parts before it.
-use Rattle.std.specs.Prelude.{ℕ, suc, List, [], ◌∷◌, ◌++◌, length, Bool, true, false, ◌&&◌, ◌==◌, Option, Some, None, position, nat_lt, if◌then◌else◌, codes}
+use Rattle.std.specs.Prelude.{ℕ, suc, List, [], ◌∷◌, ◌++◌, length, Bool, false, ◌&&◌, ◌==◌, Option, Some, None, position, nat_lt, if◌then◌else◌, codes}
 use Rattle.std.specs.Str.{bytes_eq}
+use Rattle.std.specs.Ordering.{int_eq}
 use Rattle.mg_text.specs.Call.{Name}
 use Rattle.cls_tree.specs.declared.class.Const.{Const}
-use Rattle.cls_tree.specs.declared.class.Const.TheVariants.{Utf8, Class as ClassConst, Text, Field, Method, NameAndType}
-use Rattle.cls_tree.specs.declared.class.Instr.{Instr}
-use Rattle.cls_tree.specs.declared.class.Args.TheVariants as args
-use Rattle.cls_tree.specs.Tree.{Code, Coded, Member, Class}
+use Rattle.cls_tree.specs.declared.class.Const.TheVariants.{Utf8, Integer, Class as ClassConst, Text, Field, Method, NameAndType}
+use Rattle.cls_tree.specs.Tree.{Instr, Code, Coded, Other, Member, Class}
+use Rattle.cls_tree.specs.Tree as args
 
 -- both constants are the same
 abbrev pub same_const : Const → Const → Bool
 same_const (Utf8 a) (Utf8 b) = bytes_eq a b
+same_const (Integer a) (Integer b) = int_eq a b
 same_const (ClassConst a) (ClassConst b) = a == b
 same_const (Text a) (Text b) = a == b
 same_const (Field a b) (Field c d) = a == c && b == d
@@ -111,7 +112,7 @@ main_member texts = do
   d ← utf8 (codes "([Ljava/lang/String;)V")
   c ← utf8 (codes "Code")
   is ← prints texts
-  give (record { access = 9; name = n; descriptor = d; attributes = Coded (record { name = c; max_stack = depth texts; max_locals = 1; instrs = is }) ∷ [] })
+  give (record { access = 9; name = n; descriptor = d; attributes = Coded (record { name = c; max_stack = depth texts; max_locals = 1; instrs = is; attributes = [] }) ∷ [] })
 
 -- the numbers and the method of a class, in the order in which their constants are needed
 pub record Parts : Type 0 where
@@ -130,12 +131,12 @@ parts name texts = do
 unfoldable pub class_for : Name → List (List ℕ) → Class
 class_for name texts =
     let made = parts name texts [] in
-    record { pool = made.1; access = 33; this_class = made.0.this_class; super_class = made.0.super_class; methods = made.0.main ∷ [] }
+    record { pool = made.1; access = 33; this_class = made.0.this_class; super_class = made.0.super_class; fields = []; methods = made.0.main ∷ []; attributes = [] }
 
 -- the code of that `main`
 abbrev pub code_of : List Member → List Instr
 code_of [] = []
-code_of (m ∷ ms) = elim m.attributes [ [] ↦ [] | a ∷ more ↦ elim a [ Coded c ↦ c.instrs ] ]
+code_of (m ∷ ms) = elim m.attributes [ [] ↦ [] | a ∷ more ↦ elim a [ Coded c ↦ c.instrs | Other name bytes ↦ [] ] ]
 
 abbrev pub main_code : Name → List (List ℕ) → List Instr
 main_code name texts = code_of (class_for name texts).methods

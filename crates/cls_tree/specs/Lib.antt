@@ -1,5 +1,11 @@
+pub mod Opcodes
 pub mod Tree
 pub mod View
+pub mod Pool
+pub mod Modified
 pub mod Layout
 pub mod Fits
+pub mod WellFormed
+pub mod Jumps
 pub mod Emitted
+pub mod ClassFile

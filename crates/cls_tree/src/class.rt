@@ -1,9 +1,15 @@
-use mg_text::{List, Text};
+//! The parts of a class file of version 49.0 (JVMS chapter 4).
+//! Numbers of constants count from 1.
 
-/// A constant of the pool. Numbers are those of other constants, which count from 1.
+use crate::Instr;
+use mg_text::{Bytes, List, Text};
+
+/// A constant of the pool (JVMS 4.4). Numbers are those of other constants, which count from 1.
 #[derive(Debug, Drop)]
 pub enum Const {
     Utf8(Text),
+    /// A number that code may push.
+    Integer(i32),
     /// A class, by its name.
     Class(u16),
     /// A text that code may push.
@@ -16,37 +22,31 @@ pub enum Const {
     NameAndType(u16, u16),
 }
 
-/// The arguments of an instruction.
-#[derive(Clone, Copy, Debug, PartialEq, Eq)]
-pub enum Args {
-    None,
-    /// The number of a constant in the pool.
-    Pool(u16),
-}
-
-/// An instruction: its opcode and its arguments.
-#[derive(Clone, Copy, Debug, PartialEq, Eq)]
-pub struct Instr {
-    pub op: u8,
-    pub args: Args,
-}
-
-/// The code of a method, with the number of its attribute's name.
+/// The code of a method, with the number of its attribute's name (JVMS 4.7.3). It has no handlers.
 #[derive(Debug, Drop)]
+#[cycle(attribute)]
 pub struct Code {
     pub name: u16,
+    /// The most operands that stand at one time.
     pub max_stack: u16,
+    /// How many locals there are.
     pub max_locals: u16,
     pub instrs: List<Instr>,
+    /// None of these is itself code.
+    pub attributes: List<Attr>,
 }
 
-/// An attribute of a method.
+/// An attribute (JVMS 4.7).
 #[derive(Debug, Drop)]
+#[cycle(attribute)]
 pub enum Attr {
+    /// The code of a method.
     Code(Code),
+    /// Another attribute, by the number of its name. Its bytes are kept unread.
+    Other { name: u16, bytes: Bytes },
 }
 
-/// A method: its access flags, the numbers of its name and its descriptor, and its attributes.
+/// A field or a method (JVMS 4.5, 4.6): its access flags, the numbers of its name and its descriptor, and its attributes.
 #[derive(Debug, Drop)]
 pub struct Member {
     pub access: u16,
@@ -55,12 +55,14 @@ pub struct Member {
     pub attributes: List<Attr>,
 }
 
-/// A class file of version 49.0, without fields and attributes of its own.
+/// A class file of version 49.0 (JVMS 4.1), with no interfaces.
 #[derive(Debug, Drop)]
 pub struct Class {
     pub pool: List<Const>,
     pub access: u16,
     pub this_class: u16,
     pub super_class: u16,
+    pub fields: List<Member>,
     pub methods: List<Member>,
+    pub attributes: List<Attr>,
 }

@@ -1,7 +1,9 @@
-//! Class files as trees, and how each is laid out as bytes.
-//! So far a class has constants of six kinds, and methods with code; the layout is a function to bytes.
+//! Class files as trees, the opcodes of their code, and how each is laid out as bytes.
+//! What a class must meet to be well formed is a definition here.
 #![tactic(auto)]
 
 mod class;
+mod instr;
 
-pub use class::{Args, Attr, Class, Code, Const, Instr, Member};
+pub use class::{Attr, Class, Code, Const, Member};
+pub use instr::{Args, Form, Instr, form_of};

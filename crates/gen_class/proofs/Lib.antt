@@ -3,3 +3,4 @@ pub mod Mains
 pub mod Numbered
 pub mod Prints
 pub mod Sizes
+pub mod Named

@@ -1,7 +1,10 @@
 -- The loop over the texts.
 use Rattle.std.proofs.Common.{◌≡◌, ℕ, ◌+◌, ◌<◌, List, [], ◌∷◌, ◌++◌, length, drop, get_or, sym, ap, ◌∙◌, append_assoc, add-one, drop-cons, codes}
 use Rattle.cls_tree.specs.declared.class.Const.{Const}
-use Rattle.cls_tree.specs.declared.class.Instr.{Instr}
+use Rattle.std.proofs.lemmas.List.{map-append}
+use Rattle.cls_tree.specs.declared.instr.Instr.{Instr as KeptInstr}
+use Rattle.cls_tree.specs.Tree.{Instr}
+use Rattle.cls_tree.specs.View.{instr_of, instrs_of}
 use Rattle.cls_tree.specs.Emitted.{field_const, text_const, method_const, getstatic, push_const, invokevirtual, print, prints, return}
 use Rattle.gen_class.specs.Made.{IsMade, IsEmitted}
 
@@ -24,6 +27,10 @@ step text rest old new pool left all emitted l =
       pool_left = l.pool_left ∙ ap (λ p. (prints rest p).1) (sym emitted.left);
     }
 
+-- one more instruction, as the view sees it
+pub pushed_as : (old new : List KeptInstr) (x : KeptInstr) (i : Instr) → new ≡ old ++ x ∷ [] → instr_of x ≡ i → instrs_of new ≡ instrs_of old ++ i ∷ []
+pushed_as old new x i e is = ap instrs_of e ∙ map-append instr_of old (x ∷ []) ∙ ap (λ k. instrs_of old ++ k ∷ []) is
+
 -- the text at the index is printed
 pub step_at : (texts : List (List ℕ)) (i : ℕ) (old new : List Instr) (pool left : List Const) (all : List Instr × List Const) → i < length texts
     → IsEmitted old new left (print (get_or texts i []) pool) → IsLeft (drop i texts) old pool all → IsLeft (drop (i + 1) texts) new left all
@@ -35,7 +42,7 @@ step_at texts i old new pool left all below emitted l =
 pub at_end : (instrs : List Instr) (pool : List Const) (all : List Instr × List Const) → IsLeft [] instrs pool all → IsMade (instrs ++ return ∷ []) pool all
 at_end instrs pool all l = record { value = sym l.code; left = sym l.pool_left }
 
-three : (a b c : Instr) (is is1 is2 is3 : List Instr) → is1 ≡ is ++ a ∷ [] → is2 ≡ is1 ++ b ∷ [] → is3 ≡ is2 ++ c ∷ [] → is3 ≡ is ++ a ∷ b ∷ c ∷ []
+pub three : (a b c : Instr) (is is1 is2 is3 : List Instr) → is1 ≡ is ++ a ∷ [] → is2 ≡ is1 ++ b ∷ [] → is3 ≡ is2 ++ c ∷ [] → is3 ≡ is ++ a ∷ b ∷ c ∷ []
 three a b c is is1 is2 is3 e1 e2 e3 =
     e3 ∙ ap (λ x. x ++ c ∷ []) (e2 ∙ ap (λ x. x ++ b ∷ []) e1) ∙ simp append_assoc
 

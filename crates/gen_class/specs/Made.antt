@@ -1,7 +1,7 @@
 -- What a step made, and the pool that it left.
 use Rattle.std.specs.Prelude.{◌≡◌, ◌++◌, List}
 use Rattle.cls_tree.specs.declared.class.Const.{Const}
-use Rattle.cls_tree.specs.declared.class.Instr.{Instr}
+use Rattle.cls_tree.specs.Tree.{Instr}
 
 -- a value and a pool are those of a pair
 pub record IsMade {A : Type 0} (a : A) (pool : List Const) (made : A × List Const) : Type 0 where

@@ -1,5 +1,5 @@
 -- When a class is too large to be generated.
-use Rattle.std.specs.Prelude.{ℕ, ◌<◌, List, length, Any}
+use Rattle.std.specs.Prelude.{ℕ, ◌<◌, List, length, Any, nat_lt, if◌then◌else◌}
 use Rattle.std.specs.List.{AllByRecursion}
 use Rattle.mg_text.specs.Call.{Name}
 use Rattle.cls_tree.specs.Layout.{code_bytes}
@@ -16,3 +16,7 @@ IsTextTooLong texts = Any (λ t. 65535 < length t) texts
 -- bytes that stand in a class file as they are
 abbrev pub IsAscii : List ℕ → Type 0
 IsAscii text = AllByRecursion (λ b. (0 < b) × (b < 128)) text
+
+-- how many bytes the instructions take that print the text of this number
+abbrev pub size_of_print : ℕ → ℕ
+size_of_print n = if nat_lt n 256 then 8 else 9

@@ -1,8 +1,10 @@
 ghost use Rattle.std.specs.Prelude.{◌≡◌, [], ◌∷◌, ◌+◌, ◌*◌, ◌<◌, ◌≤◌, ◌^◌, IfOk, OnOk, length};
 ghost use Rattle.cls_tree.specs.Emitted.{class_const as class_made, text_const as text_made, name_and_type as member_made, field_const as field_made, method_const as method_made, push_const as push_made, print as print_made, prints as prints_made, depth as depth_of, main_member as main_made, code_of};
-ghost use Rattle.cls_tree.specs.Layout.{code_bytes, instr_bytes};
-ghost use Rattle.cls_tree.specs.View.{member_of};
+ghost use Rattle.cls_tree.specs.Layout.{code_bytes};
+ghost use Rattle.cls_tree.specs.Tree.{Pool as PoolArgs};
+ghost use Rattle.cls_tree.specs.View.{instr_of, instrs_of, member_of};
 ghost use Rattle.gen_class.specs.Made.{IsMade, IsEmitted};
+ghost use Rattle.gen_class.specs.Sizes.{size_of_print};
 
 use crate::pool::{Key, Pool};
 use cls_tree::{Args, Attr, Code, Instr, Member};
@@ -76,7 +78,7 @@ fn method_const(pool: &mut Pool, class: &str, name: &str, descriptor: &str) -> R
 
 /// An instruction on a constant.
 fn on_const(op: u8, number: u16) -> Instr
-    ensures { result ≡ record { op = op; args = Args.Pool number } }
+    ensures { instr_of result ≡ record { op = op; args = PoolArgs number } }
 {
     Instr {
         op,
@@ -86,16 +88,25 @@ fn on_const(op: u8, number: u16) -> Instr
 
 /// The instruction that pushes the text of this number: `ldc`, or `ldc_w` for numbers over 255.
 fn push_const(number: u16) -> Instr
-    ensures { result ≡ push_made number }
+    ensures { instr_of result ≡ push_made number }
 {
     let op = if number < 256 { LDC } else { LDC_W };
     on_const(op, number)
 }
 
-/// Appends the instructions that print a text.
-fn print(instrs: &mut List<Instr>, pool: &mut Pool, text: &str) -> Result<(), Memory>
+/// How many bytes the instructions take that print the text of this number.
+fn print_size(number: u16) -> usize
+    ensures { result ≡ size_of_print number }
+{
+    if number < 256 { 8 } else { 9 }
+}
+
+/// Appends the instructions that print a text, and tells how many bytes they take.
+fn print(instrs: &mut List<Instr>, pool: &mut Pool, text: &str) -> Result<usize, Memory>
     requires { length pool.old + 14 < 2 ^ 16 }
-    ensures made { OnOk result (IsEmitted instrs.old.items instrs.new.items pool.new (print_made text.now pool.old)) }
+    ensures made { IfOk result (λ size. IsEmitted (instrs_of instrs.old.items) (instrs_of instrs.new.items) pool.new (print_made text.now pool.old)) }
+    ensures size { IfOk result (λ size. length (code_bytes (instrs_of instrs.new.items)) ≡ length (code_bytes (instrs_of instrs.old.items)) + size) }
+    ensures bound { IfOk result (λ size. size ≤ 9) }
     ensures few { OnOk result (length pool.new ≤ length pool.old + 14) }
 {
     let out = field_const(pool, "java/lang/System", "out", "Ljava/io/PrintStream;")?;
@@ -109,47 +120,26 @@ fn print(instrs: &mut List<Instr>, pool: &mut Pool, text: &str) -> Result<(), Me
     instrs.push(on_const(GETSTATIC, out))?;
     instrs.push(push_const(text))?;
     instrs.push(on_const(INVOKEVIRTUAL, println))?;
-    Ok(())
+    Ok(print_size(text))
 }
 
-/// The instructions that print texts, one after another, and return.
+/// The instructions that print texts, one after another, and return; and how many bytes they take.
 #[tactic(auto, using(crate::proofs::Prints::step_at, crate::proofs::Prints::at_end))]
-fn prints(alloc: Global, pool: &mut Pool, texts: &[Text]) -> Result<List<Instr>, Memory>
+fn prints(alloc: Global, pool: &mut Pool, texts: &[Text]) -> Result<(List<Instr>, usize), Memory>
     requires { length pool.old + 14 * length texts.now < 2 ^ 16 }
-    ensures { IfOk result (λ instrs. IsMade instrs.items pool.new (prints_made texts.now pool.old)) }
+    ensures made { IfOk result (λ r. IsMade (instrs_of r.0.items) pool.new (prints_made texts.now pool.old)) }
+    ensures size { IfOk result (λ r. r.1 ≡ length (code_bytes (instrs_of r.0.items))) }
 {
     let mut instrs = List::new(alloc);
+    let mut size = 1;
     for text in texts {
-        print(&mut instrs, pool, text.as_str())?;
+        size += print(&mut instrs, pool, text.as_str())?;
     }
     instrs.push(Instr {
         op: RETURN,
         args: Args::None,
     })?;
-    Ok(instrs)
-}
-
-/// How many bytes an instruction takes.
-fn instr_size(instr: Instr) -> usize
-    ensures value { result ≡ length (instr_bytes instr) }
-    ensures bound { result ≤ 3 }
-{
-    match instr.args {
-        Args::None => 1,
-        Args::Pool(_) => { if instr.op == LDC { 2 } else { 3 } }
-    }
-}
-
-/// How many bytes code takes.
-fn code_size(instrs: &[Instr]) -> usize
-    requires { length instrs.now < 2 ^ 32 }
-    ensures { result ≡ length (code_bytes instrs.now) }
-{
-    let mut size = 0;
-    for instr in instrs {
-        size += instr_size(*instr);
-    }
-    size
+    Ok((instrs, size))
 }
 
 /// A list of one item.
@@ -181,13 +171,13 @@ pub fn main_member(
     let name = pool.utf8("main")?;
     let descriptor = pool.utf8("([Ljava/lang/String;)V")?;
     let code = pool.utf8("Code")?;
-    let instrs = prints(alloc, pool, texts)?;
-    let size = code_size(instrs.as_slice());
+    let (instrs, size) = prints(alloc, pool, texts)?;
     let code = Attr::Code(Code {
         name: code,
         max_stack: depth(texts),
         max_locals: 1,
         instrs,
+        attributes: List::new(alloc),
     });
     let attributes = list_of_one(alloc, code)?;
     let main = Member {

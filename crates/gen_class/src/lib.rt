@@ -8,17 +8,17 @@ ghost use Rattle.cls_tree.specs.View.{class_of};
 ghost use Rattle.cls_tree.specs.Emitted.{class_for, main_code};
 ghost use Rattle.cls_tree.specs.Layout.{code_bytes};
 ghost use Rattle.cls_tree.specs.Fits.{Fits};
+ghost use Rattle.cls_tree.specs.ClassFile.{IsClassFile};
+ghost use Rattle.cls_tree.specs.Jumps.{HasSoundCode};
 ghost use Rattle.gen_class.specs.Sizes.{IsCodeTooLong, IsTextTooLong, IsAscii};
 
 mod emit;
 mod pool;
-#[cfg(test)]
-mod tests;
 
 use crate::emit::{class_const, list_of_one, main_member};
 use crate::pool::Pool;
 use cls_tree::Class;
-use mg_text::{Memory, Text};
+use mg_text::{List, Memory, Text};
 use std::alloc::Global;
 
 /// Why a class can't be generated.
@@ -59,7 +59,7 @@ pub fn gen_class(alloc: Global, name: &Text, texts: &[Text]) -> Result<Class, Ge
     requires name { IsAscii name.now }
     requires short { length name.now < 2 ^ 16 }
     requires texts { AllByRecursion IsAscii texts.now }
-    ensures made { IfOk result (λ c. (class_of c ≡ class_for name.now texts.now) × Fits (class_of c)) }
+    ensures made { IfOk result (λ c. (class_of c ≡ class_for name.now texts.now) × Fits (class_of c) × HasSoundCode (class_of c) × IsClassFile (class_of c)) }
     ensures long { IsErrOf result GenFault.CodeTooLong → IsCodeTooLong name.now texts.now }
     ensures long_where { IsCodeTooLong name.now texts.now
         → IsErrOf result GenFault.CodeTooLong ⊎ IsErrOf result GenFault.Memory }
@@ -104,7 +104,9 @@ fn sized_class(alloc: Global, name: &Text, texts: &[Text]) -> Result<(Class, usi
         access: PUBLIC_SUPER,
         this_class,
         super_class,
+        fields: List::new(alloc),
         methods,
+        attributes: List::new(alloc),
     };
     Ok((class, code_size))
 }

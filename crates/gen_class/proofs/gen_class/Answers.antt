@@ -2,8 +2,10 @@ use Rattle.std.proofs.Common.{◌≡◌, ◌≤◌, false, true, length, sym, su
 use Rattle.cls_tree.specs.Emitted.{main_code}
 use Rattle.cls_tree.specs.Layout.{code_bytes}
 use Rattle.cls_tree.specs.Fits.{Fits}
+use Rattle.cls_tree.specs.ClassFile.{IsClassFile}
+use Rattle.cls_tree.specs.Jumps.{HasSoundCode}
 use Rattle.gen_class.specs.Sizes.{IsTextTooLong}
-use Rattle.gen_class.proofs.Fitting.{Fits-class_for}
+use Rattle.gen_class.proofs.Fitting.{Fits-class_for, sound-class_for}
 use Rattle.gen_class.proofs.Sizes.{many_too_long}
 use Rattle.gen_class.proofs.gen_class.Goals as goal
 
@@ -15,7 +17,8 @@ returns-clause-made c =
     let few = c.if-texts-gt-MOST_TEXTS.false in
     let none : IsTextTooLong c.args.texts.now → ⊥ = λ h. let e : false ≡ true = c.if-has_long_text.ensures.1 h in cc in
     let code : length (code_bytes (main_code c.args.name.now c.args.texts.now)) ≤ 32767 = rw size at short in
-    (made, subst Fits (sym made) (Fits-class_for c.args.name.now c.args.texts.now c.requires.name c.requires.short c.requires.texts none few code))
+    let fit = Fits-class_for c.args.name.now c.args.texts.now c.requires.name c.requires.short c.requires.texts none few code in
+    (made, subst Fits (sym made) fit.0, subst HasSoundCode (sym made) (sound-class_for c.args.name.now c.args.texts.now code), subst IsClassFile (sym made) fit.1)
 
 pub returns-then-texts-gt-MOST_TEXTS-clause-long :
     goal.returns-then-texts-gt-MOST_TEXTS-clause-long

@@ -1,0 +1,9 @@
+pub mod Forms
+pub mod Spelled
+pub mod Words
+pub mod Tables
+pub mod Stands
+pub mod Once
+pub mod Marks
+pub mod Going
+pub mod Layouts
