@@ -3,12 +3,12 @@ use Rattle.std.proofs.Common.{ℕ, Bool, true, false, List, [], ◌∷◌, ◌++
 use Rattle.std.specs.Prelude.{IsTrue, ◌==◌, ◌||◌, nat_lt, if◌then◌else◌}
 use Rattle.cls_tree.specs.declared.class.Const.{Const}
 use Rattle.cls_tree.specs.declared.class.Const.TheVariants as consts
-use Rattle.cls_tree.specs.declared.class.Instr.{Instr}
+use Rattle.cls_tree.specs.Tree.{Instr}
 use Rattle.cls_tree.specs.Emitted.{print, prints, getstatic, push_const, invokevirtual, return}
-use Rattle.vm_model.specs.declared.linked.Built.TheVariants as built
-use Rattle.vm_model.specs.declared.linked.LinkedArgs.TheVariants as linked
-use Rattle.vm_model.specs.declared.linked.LinkedInstr.{LinkedInstr}
-use Rattle.vm_model.specs.Links.{LinksInstr, out, text, println, returns, LinksCode}
+use Rattle.vm_model.specs.declared.printing.Built.TheVariants as built
+use Rattle.vm_model.specs.declared.printing.LinkedArgs.TheVariants as linked
+use Rattle.vm_model.specs.declared.printing.LinkedInstr.{LinkedInstr}
+use Rattle.vm_model.specs.PrintingLinks.{LinksInstr, out, text, println, returns, LinksCode}
 use Rattle.mg_laws.proofs.Pool.{Grows, grows_twice, Gives, gives_then, gives_now, is-grown, field-grown, method-grown, field_const-gives, text_const-gives, method_const-gives}
 
 abbrev pub linked_out : LinkedInstr

@@ -6,10 +6,11 @@ use Rattle.std.proofs.lemmas.Slice.Eq.{bytes_eq-Decides}
 use Rattle.std.proofs.lemmas.List.Quantifiers.{position-Some}
 use Rattle.std.proofs.lemmas.Option.{slice_get-get_or}
 use Rattle.mg_text.specs.Call.{Name}
+use Rattle.std.proofs.lemmas.Bool.Decides.{Decides-int_eq}
 use Rattle.cls_tree.specs.declared.class.Const.{Const}
-use Rattle.cls_tree.specs.declared.class.Const.TheVariants.{Utf8, Class as ClassConst, Text, Field, Method, NameAndType}
+use Rattle.cls_tree.specs.declared.class.Const.TheVariants.{Utf8, Integer, Class as ClassConst, Text, Field, Method, NameAndType}
 use Rattle.cls_tree.specs.Emitted.{same_const, Pooled, ◌>>=◌, give, found_or_added, number_of, utf8, class_const, text_const, name_and_type, field_const, method_const}
-use Rattle.vm_model.specs.Links.{Is, IsText, IsClassNamed, IsNameAndType, IsField, IsMethod}
+use Rattle.vm_model.specs.PrintingLinks.{Is, IsText, IsClassNamed, IsNameAndType, IsField, IsMethod}
 
 -- an element of the front of a list
 pub slice_get-front : {X : Type 0} (xs ys : List X) (k : ℕ) (x : X) → slice_get xs k ≡ Some x → slice_get (xs ++ ys) k ≡ Some x
@@ -85,6 +86,7 @@ same-numbers make a b c d h =
 -- the test of constants tells that they are the same
 pub same-is : (a b : Const) → same_const a b ≡ true → a ≡ b
 same-is (Utf8 a) (Utf8 b) h = ap Utf8 ((bytes_eq-Decides a b).0 h)
+same-is (Integer a) (Integer b) h = ap Integer ((Decides-int_eq a b).0 h)
 same-is (ClassConst a) (ClassConst b) h = ap ClassConst (eqb-true a b h)
 same-is (Text a) (Text b) h = ap Text (eqb-true a b h)
 same-is (Field a b) (Field c d) h = same-numbers Field a b c d h

@@ -8,9 +8,9 @@ use Rattle.mg_text.specs.declared.event.Event.TheVariants as seen
 use Rattle.mg_text.specs.declared.event.Ending.TheVariants as endings
 use Rattle.mg_text.specs.declared.event.BadKind.TheVariants as bad
 use Rattle.cls_tree.specs.Emitted.{depth}
-use Rattle.vm_model.specs.declared.linked.LinkedInstr.{LinkedInstr}
-use Rattle.vm_model.specs.Program.{Method}
-use Rattle.vm_model.specs.Machine.{Value, Text, Out, Frame, Next, Over, broken, next, act, act_at, step, Runs, ends, goes}
+use Rattle.vm_model.specs.declared.printing.LinkedInstr.{LinkedInstr}
+use Rattle.vm_model.specs.PrintingProgram.{Method}
+use Rattle.vm_model.specs.PrintingMachine.{Value, Text, Out, Frame, Next, Over, broken, next, act, act_at, step, Runs, ends, goes}
 use Rattle.mg_laws.proofs.Pool.{slice_get-behind}
 use Rattle.mg_laws.proofs.Linking.{Prints, ended, printed}
 

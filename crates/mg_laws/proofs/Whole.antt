@@ -5,9 +5,9 @@ use Rattle.cls_tree.specs.declared.class.Const.{Const}
 use Rattle.cls_tree.specs.declared.class.Const.TheVariants.{Utf8}
 use Rattle.cls_tree.specs.Tree.{Coded, Member}
 use Rattle.cls_tree.specs.Emitted.{Parts, depth, main_member, parts, class_for}
-use Rattle.vm_model.specs.declared.linked.LinkedInstr.{LinkedInstr}
-use Rattle.vm_model.specs.Program.{Method}
-use Rattle.vm_model.specs.Links.{IsClassNamed, LinksMethod}
+use Rattle.vm_model.specs.declared.printing.LinkedInstr.{LinkedInstr}
+use Rattle.vm_model.specs.PrintingProgram.{Method}
+use Rattle.vm_model.specs.PrintingLinks.{IsClassNamed, LinksMethod}
 use Rattle.mg_laws.specs.Simulates.{Simulates}
 use Rattle.mg_laws.proofs.Pool.{Gives, gives_then, gives_now, grows_twice, is-grown, class-grown, utf8-gives, class_const-gives}
 use Rattle.mg_laws.proofs.Linking.{Prints, prints-gives}
@@ -33,10 +33,10 @@ main_member-gives texts pool = gives_then (utf8-gives (codes "main") pool)
     (λ n p _ is_name. gives_then (utf8-gives (codes "([Ljava/lang/String;)V") p)
     (λ d q f is_type. gives_then (utf8-gives (codes "Code") q)
     (λ c r g is_code. gives_then (prints-gives texts r)
-    (λ is s h all. gives_now (record { access = 9; name = n; descriptor = d; attributes = Coded (record { name = c; max_stack = depth texts; max_locals = 1; instrs = is }) ∷ [] }) (
+    (λ is s h all. gives_now (record { access = 9; name = n; descriptor = d; attributes = Coded (record { name = c; max_stack = depth texts; max_locals = 1; instrs = is; attributes = [] }) ∷ [] }) (
       all.0,
       record {
-        code = record { name = c; max_stack = depth texts; max_locals = 1; instrs = is };
+        code = record { name = c; max_stack = depth texts; max_locals = 1; instrs = is; attributes = [] };
         attributes = refl;
         attribute = is-grown h c (Utf8 (codes "Code")) is_code;
         name = is-grown (grows_twice f (grows_twice g h)) n (Utf8 (codes "main")) is_name;

@@ -7,9 +7,9 @@ use Rattle.jv_tree.specs.Tree.{Text, Print, Stmts, NoStmt, Then, Program as Sour
 use Rattle.jv_tree.specs.Values.{Done}
 use Rattle.jv_tree.specs.Meaning.{mean}
 use Rattle.cls_tree.specs.Emitted.{class_for}
-use Rattle.vm_model.specs.Program.{Method, Class}
-use Rattle.vm_model.specs.Links.{Links}
-use Rattle.vm_model.specs.Machine.{Runs, main_in, start}
+use Rattle.vm_model.specs.PrintingProgram.{Method, Class}
+use Rattle.vm_model.specs.PrintingLinks.{Links}
+use Rattle.vm_model.specs.PrintingMachine.{Runs, main_in, start}
 
 -- the statements that print these texts
 abbrev pub printing : List (List ℕ) → Stmts

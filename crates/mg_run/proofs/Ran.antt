@@ -9,11 +9,11 @@ use Rattle.mg_text.specs.declared.event.Ending.{Ending}
 use Rattle.mg_text.specs.declared.event.Ending.TheVariants as endings
 use Rattle.cls_tree.specs.Tree.{Class as File}
 use Rattle.cls_tree.specs.Layout.{class_bytes}
-use Rattle.cls_tree.specs.Fits.{Fits}
+use Rattle.cls_tree.specs.ClassFile.{IsClassFile as IsFile}
 use Rattle.cls_tree.specs.Emitted.{class_for}
-use Rattle.vm_model.specs.Program.{Method, Class, Program}
-use Rattle.vm_model.specs.Links.{Links}
-use Rattle.vm_model.specs.Machine.{Frame, Step, Next, Over, Runs, ends, goes, noted, start, main_in, class_named}
+use Rattle.vm_model.specs.PrintingProgram.{Method, Class, Program}
+use Rattle.vm_model.specs.PrintingLinks.{Links}
+use Rattle.vm_model.specs.PrintingMachine.{Frame, Step, Next, Over, Runs, ends, goes, noted, start, main_in, class_named}
 use Rattle.vm_step.specs.Ran.{IsMainOf}
 use Rattle.mg_laws.specs.Simulates.{Simulates}
 use Rattle.mg_run.specs.Running.{Performs}
@@ -69,7 +69,7 @@ module _ (name : Name) (bytes : List ℕ) (made : IsClassFile name bytes) (sim :
       one_run (start sim.main) n _ es _ e endings.Done (subst (λ (z : Method). Runs (start z) n es e) m_is runs) sim.runs
 
   -- what ran is what was read back, linked and run
-  pub performed : (word : Name) → word ≡ name → (file : File) → Fits file → bytes ≡ class_bytes file → file ≡ class_for name made.texts → (program : Program) → program ≡ sim.class ∷ [] → (m : Method) → IsMainOf program word m → (n : ℕ) (es : List Event) (e : Ending) → Runs (start m) n es e
+  pub performed : (word : Name) → word ≡ name → (file : File) → IsFile file → bytes ≡ class_bytes file → file ≡ class_for name made.texts → (program : Program) → program ≡ sim.class ∷ [] → (m : Method) → IsMainOf program word m → (n : ℕ) (es : List Event) (e : Ending) → Runs (start m) n es e
       → Performs name bytes n (map seen.Print made.texts) × (es ≡ map seen.Print made.texts)
   performed word same file fits layout is program is' m main n es e runs =
       let one = same_run word same program is' m main n es e runs in (

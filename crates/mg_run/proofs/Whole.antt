@@ -6,7 +6,7 @@ use Rattle.mg_text.specs.declared.place.Place.{Place}
 use Rattle.mg_text.specs.declared.event.Event.TheVariants as seen
 use Rattle.cls_tree.specs.Tree.{Class as File}
 use Rattle.cls_tree.specs.Layout.{class_bytes}
-use Rattle.cls_tree.specs.Fits.{Fits}
+use Rattle.cls_tree.specs.ClassFile.{IsClassFile as IsFile}
 use Rattle.cls_tree.specs.Emitted.{class_for}
 use Rattle.gen_class.specs.Sizes.{IsCodeTooLong, IsTextTooLong}
 use Rattle.jv_plain.specs.Spelling.{Printer, Spells, printer_of, IsPrinterOrMemory}
@@ -85,7 +85,7 @@ not_refused t e d (inl h) = absurd cc
 not_refused t e d (inr h) = absurd cc
 
 -- what was generated and written was compiled
-pub compiled_of : (name : Name) (place : Place) (all given : List (List ℕ)) (class : File) (bytes : List ℕ) → given ≡ all → class ≡ class_for name given → Fits class → bytes ≡ class_bytes class
+pub compiled_of : (name : Name) (place : Place) (all given : List (List ℕ)) (class : File) (bytes : List ℕ) → given ≡ all → class ≡ class_for name given → IsFile class → bytes ≡ class_bytes class
     → (IsCodeTooLong name given → ⊥) → (IsTextTooLong given → ⊥) → IsCompiled name place all (Ok bytes)
 compiled_of name place all given class bytes same is fits layout code text =
-    subst (λ (z : List (List ℕ)). IsCompiled name place z (Ok bytes)) same (subst Fits is fits, layout ∙ ap class_bytes is, code, text)
+    subst (λ (z : List (List ℕ)). IsCompiled name place z (Ok bytes)) same (subst IsFile is fits, layout ∙ ap class_bytes is, code, text)

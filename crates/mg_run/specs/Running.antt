@@ -9,12 +9,12 @@ use Rattle.jv_tree.specs.Meaning.{mean}
 use Rattle.jv_plain.specs.Spelling.{Printer, Spells}
 use Rattle.cls_tree.specs.Tree.{Class as File}
 use Rattle.cls_tree.specs.Layout.{class_bytes}
-use Rattle.cls_tree.specs.Fits.{Fits}
+use Rattle.cls_tree.specs.ClassFile.{IsClassFile as IsFile}
 use Rattle.cls_tree.specs.Emitted.{class_for}
 use Rattle.gen_class.specs.Sizes.{IsCodeTooLong, IsTextTooLong}
-use Rattle.vm_model.specs.Program.{Method, Class}
-use Rattle.vm_model.specs.Links.{Links}
-use Rattle.vm_model.specs.Machine.{Runs, main_in, start}
+use Rattle.vm_model.specs.PrintingProgram.{Method, Class}
+use Rattle.vm_model.specs.PrintingLinks.{Links}
+use Rattle.vm_model.specs.PrintingMachine.{Runs, main_in, start}
 use Rattle.vm_step.specs.Ran.{printed as printed_by}
 use Rattle.mg_laws.specs.Simulates.{source_of}
 use Rattle.mg_run.specs.declared.Shown.{Shown}
@@ -29,7 +29,7 @@ pub record IsSource (bytes : List ℕ) (printer : Printer) : Type 0 where
 -- A class file of these bytes is read back, linked and run: its `main` returns after so many instructions, with these events.
 pub record Performs (class : Name) (bytes : List ℕ) (instructions : ℕ) (events : List Event) : Type 0 where
   pub file : File
-  pub fits : Fits file
+  pub fits : IsFile file
   pub read : bytes ≡ class_bytes file
   pub linked : Class
   pub links : Links file linked

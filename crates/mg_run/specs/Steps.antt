@@ -5,7 +5,7 @@ use Rattle.mg_text.specs.declared.place.Place.{Place}
 use Rattle.jv_plain.specs.Spelling.{printer_of}
 use Rattle.jv_plain.specs.declared.PrintClass.{PrintClass}
 use Rattle.cls_tree.specs.Layout.{class_bytes}
-use Rattle.cls_tree.specs.Fits.{Fits}
+use Rattle.cls_tree.specs.ClassFile.{IsClassFile as IsFile}
 use Rattle.cls_tree.specs.Emitted.{class_for}
 use Rattle.gen_class.specs.Sizes.{IsCodeTooLong, IsTextTooLong}
 use Rattle.mg_run.specs.declared.Shown.{Shown}
@@ -24,7 +24,7 @@ IsFound class bytes (Err fault) = Refused class bytes fault
 -- the bytes of the class that prints these texts, or why they are refused, at this place
 abbrev pub IsCompiled : Name → Place → List (List ℕ) → Result (List ℕ) RunFault → Type 0
 IsCompiled name place texts (Ok bytes) =
-    Fits (class_for name texts) × (bytes ≡ class_bytes (class_for name texts)) × (IsCodeTooLong name texts → ⊥) × (IsTextTooLong texts → ⊥)
+    IsFile (class_for name texts) × (bytes ≡ class_bytes (class_for name texts)) × (IsCodeTooLong name texts → ⊥) × (IsTextTooLong texts → ⊥)
 IsCompiled name place texts (Err (faults.CodeTooLong at)) = (at ≡ place) × IsCodeTooLong name texts
 IsCompiled name place texts (Err (faults.TextTooLong at)) = (at ≡ place) × (IsCodeTooLong name texts → ⊥) × IsTextTooLong texts
 IsCompiled name place texts (Err faults.Memory) = Unit {0}
@@ -33,7 +33,7 @@ IsCompiled name place texts (Err _) = ⊥
 -- these are the bytes of the class that prints these texts
 pub record IsClassFile (name : Name) (bytes : List ℕ) : Type 0 where
   pub texts : List (List ℕ)
-  pub fits : Fits (class_for name texts)
+  pub fits : IsFile (class_for name texts)
   pub layout : bytes ≡ class_bytes (class_for name texts)
 
 -- what running the class of this name may answer

@@ -1,15 +1,19 @@
 //! The steps from a source to its run.
 
-ghost use Rattle.std.specs.Prelude.{◌≤◌, ℕ, length, List as Seq};
+ghost use Rattle.std.specs.Prelude.{◌≡◌, ◌≤◌, ℕ, length, IfOk, List as Seq};
+ghost use Rattle.cls_tree.specs.View.{class_of};
+ghost use Rattle.cls_tree.specs.Layout.{class_bytes};
+ghost use Rattle.cls_tree.specs.ClassFile.{IsClassFile as IsFile};
 ghost use Rattle.jv_plain.specs.Spelling.{Spells, printer_of};
 ghost use Rattle.mg_run.specs.Steps.{IsFound, IsCompiled, IsClassFile, IsPerformed};
 
 use crate::{RunFault, Shown};
-use cls_bytes::{ClassFault, read_class, write_class};
+use cls_bytes::{ClassFault, WriteFault, read_class, write_class};
+use cls_tree::Class;
 use gen_class::{GenFault, gen_class};
 use jv_plain::{JavaFault, PrintClass, read_printer};
 use mg_laws::simulation;
-use mg_text::{Bytes, Ending, Text};
+use mg_text::{Bytes, Ending, Memory, Text};
 use std::alloc::Global;
 use vm_step::{LoadFault, load, run};
 
@@ -31,6 +35,18 @@ pub fn find(alloc: Global, class: &Text, bytes: &[u8]) -> Result<PrintClass, Run
     }
 }
 
+/// The bytes of a class file.
+fn bytes_of(alloc: Global, class: &Class) -> Result<Bytes, Memory>
+    requires { IsFile (class_of class.now) }
+    ensures { IfOk result (λ b. b ≡ class_bytes (class_of class.now)) }
+{
+    match write_class(alloc, class) {
+        Ok(bytes) => Ok(bytes),
+        Err(WriteFault::Memory) => Err(Memory),
+        Err(WriteFault::Code(_)) => unreachable!(),
+    }
+}
+
 /// The bytes of the class file of a source.
 pub fn compile(alloc: Global, source: &PrintClass) -> Result<Bytes, RunFault>
     requires short { length source.now.name ≤ 255 }
@@ -40,7 +56,7 @@ pub fn compile(alloc: Global, source: &PrintClass) -> Result<Bytes, RunFault>
     let place = source.main_place;
     match gen_class(alloc, &source.name, source.texts.as_slice()) {
         Ok(class) => {
-            let bytes = write_class(alloc, &class)?;
+            let bytes = bytes_of(alloc, &class)?;
             Ok(bytes)
         }
         Err(GenFault::CodeTooLong) => Err(RunFault::CodeTooLong { place }),

@@ -1,7 +1,16 @@
-//! The machine: linked programs, values, and what each instruction does.
-//! A step is data, and a run repeats it; so far it prints texts.
+//! The machine: linked programs, values, the messages on their way, and what each instruction does.
+//! The definitions of a step stand in `specs/`; the crates above link and run.
 #![tactic(auto)]
 
 mod linked;
+mod ports;
+pub mod printing;
+mod program;
+mod types;
+mod value;
 
-pub use linked::{Built, Linked, LinkedArgs, LinkedClass, LinkedInstr, LinkedMethod};
+pub use linked::{Built, LinkedArgs, LinkedClass, LinkedField, LinkedInstr, LinkedMethod};
+pub use ports::Ports;
+pub use program::Linked;
+pub use types::{FieldType, Signature, read_signature, read_type};
+pub use value::Value;

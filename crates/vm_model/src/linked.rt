@@ -1,23 +1,78 @@
+//! The parts of a linked program: each reference is a number of what it names.
+//! Classes are numbered in their order in the program, fields and methods in their order in the class.
+
 use mg_text::{List, Text};
 
 /// A member of the built-in classes.
 #[derive(Clone, Copy, Debug, PartialEq, Eq)]
 pub enum Built {
+    /// The constructor of `java/lang/Object`.
+    Init,
+    /// `String.concat(String)`.
+    Concat,
+    /// `String.equals(Object)`.
+    Equals,
+    /// `String.valueOf(int)`.
+    ValueOfInt,
+    /// `String.valueOf(boolean)`.
+    ValueOfTruth,
     /// The field `System.out`.
     Out,
-    /// The method `println(String)` of the print stream.
+    /// `PrintStream.println(String)`.
     Println,
+    /// `Session.send(String, String)`.
+    Send,
+    /// `Session.sendInt(String, String, int)`.
+    SendInt,
+    /// `Session.sendBoolean(String, String, boolean)`.
+    SendTruth,
+    /// `Session.sendString(String, String, String)`.
+    SendText,
+    /// `Session.look(String)`.
+    Look,
+    /// `Session.take(String, String)`.
+    Take,
+    /// `Session.takeInt(String, String)`.
+    TakeInt,
+    /// `Session.takeBoolean(String, String)`.
+    TakeTruth,
+    /// `Session.takeString(String, String)`.
+    TakeText,
+    /// `Session.refuse(String, String)`.
+    Refuse,
 }
 
 /// What an instruction works with, its constants looked up.
 #[derive(Debug, Drop)]
 pub enum LinkedArgs {
     None,
+    Int(i32),
     Text(Text),
+    /// A local of the frame.
+    Local(u8),
+    /// A local, and what is added to it.
+    Add(u8, i8),
+    /// The number of an instruction in the code.
+    Jump(u32),
+    /// Numbers of instructions: that for `low`, for `low + 1` and so on, and that for every other int.
+    Table {
+        default: u32,
+        low: i32,
+        targets: List<u32>,
+    },
+    Class(u32),
+    Field {
+        class: u32,
+        field: u32,
+    },
+    Method {
+        class: u32,
+        method: u32,
+    },
     Built(Built),
 }
 
-/// An instruction: its opcode, and what it works with.
+/// An instruction: its opcode (JVMS chapter 6), and what it works with.
 #[derive(Debug, Drop)]
 pub struct LinkedInstr {
     pub op: u8,
@@ -35,15 +90,17 @@ pub struct LinkedMethod {
     pub code: List<LinkedInstr>,
 }
 
-/// A class, by its name.
+/// A field that each object of a class has.
+#[derive(Debug, Drop)]
+pub struct LinkedField {
+    pub name: Text,
+    pub descriptor: Text,
+}
+
+/// A class: its name, its fields that aren't static, and its methods.
 #[derive(Debug, Drop)]
 pub struct LinkedClass {
     pub name: Text,
+    pub fields: List<LinkedField>,
     pub methods: List<LinkedMethod>,
-}
-
-/// A program whose references are looked up.
-#[derive(Debug, Drop)]
-pub struct Linked {
-    pub classes: List<LinkedClass>,
 }

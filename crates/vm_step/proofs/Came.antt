@@ -2,8 +2,8 @@
 use Rattle.std.proofs.Common.{◌≡◌, ℕ, suc, ◌+◌, List, [], ◌∷◌, ◌++◌, Option, refl, sym, ap, ◌∙◌, subst, append_assoc, append-nil, arith}
 use Rattle.mg_text.specs.declared.event.Event.{Event}
 use Rattle.mg_text.specs.declared.event.Ending.{Ending}
-use Rattle.vm_model.specs.Program.{Method}
-use Rattle.vm_model.specs.Machine.{Frame, Next, Over, step, noted, Runs, ends, goes, start}
+use Rattle.vm_model.specs.PrintingProgram.{Method}
+use Rattle.vm_model.specs.PrintingMachine.{Frame, Next, Over, step, noted, Runs, ends, goes, start}
 use Rattle.vm_step.specs.Ran.{printed, event_text}
 
 -- what runs from a frame on runs from the start, behind these events

@@ -6,17 +6,15 @@ use Rattle.std.proofs.lemmas.Slice.Eq.{bytes_eq-Decides}
 use Rattle.mg_text.specs.Call.{Name}
 use Rattle.cls_tree.specs.declared.class.Const.{Const}
 use Rattle.cls_tree.specs.declared.class.Const.TheVariants as consts
-use Rattle.cls_tree.specs.declared.class.Instr.{Instr}
-use Rattle.cls_tree.specs.declared.class.Args.{Args}
-use Rattle.cls_tree.specs.declared.class.Args.TheVariants as args
-use Rattle.cls_tree.specs.Tree.{Code, Attr, Coded, Member, Class as File}
-use Rattle.vm_model.specs.declared.linked.Built.TheVariants as built
-use Rattle.vm_model.specs.declared.linked.LinkedArgs.{LinkedArgs}
-use Rattle.vm_model.specs.declared.linked.LinkedArgs.TheVariants as linked
-use Rattle.vm_model.specs.declared.linked.LinkedInstr.{LinkedInstr}
-use Rattle.vm_model.specs.Program.{Method, Class}
-use Rattle.vm_model.specs.Links.{Is, IsText, IsClassNamed, IsNameAndType, IsField, IsMethod, LinksInstr, LinksCode, LinksMethod, LinksMethods, Links}
-use Rattle.vm_model.specs.Links.{out as links_out, text as links_text, println as links_println, returns as links_returns}
+use Rattle.cls_tree.specs.Tree.{Args, Instr, Code, Attr, Coded, Member, Class as File}
+use Rattle.cls_tree.specs.Tree as args
+use Rattle.vm_model.specs.declared.printing.Built.TheVariants as built
+use Rattle.vm_model.specs.declared.printing.LinkedArgs.{LinkedArgs}
+use Rattle.vm_model.specs.declared.printing.LinkedArgs.TheVariants as linked
+use Rattle.vm_model.specs.declared.printing.LinkedInstr.{LinkedInstr}
+use Rattle.vm_model.specs.PrintingProgram.{Method, Class}
+use Rattle.vm_model.specs.PrintingLinks.{Is, IsText, IsClassNamed, IsNameAndType, IsField, IsMethod, LinksInstr, LinksCode, LinksMethod, LinksMethods, Links}
+use Rattle.vm_model.specs.PrintingLinks.{out as links_out, text as links_text, println as links_println, returns as links_returns}
 use Rattle.vm_step.specs.declared.loading.LoadFault.{LoadFault}
 use Rattle.vm_step.specs.declared.loading.LoadFault.TheVariants as faults
 use Rattle.vm_step.specs.Linking.{Fails, const_at, text_in, text_at, is_name, is_text, class_in, class_at, is_class, is_named_in, is_named, is_field_in, is_field, is_method_in, is_method, pushed_in, pushed_at, is_out, is_println, link_args, link_instr, both, link_code, made, link_attributes, link_method, link_methods, joined, link_class}
@@ -60,6 +58,7 @@ text_in-sound : (o : Option Const) (t : Name) → text_in o ≡ Some t → o ≡
 text_in-sound None t e = absurd cc
 text_in-sound (Some (consts.Utf8 s)) t e = ap (λ (x : Name). Some (consts.Utf8 x)) (same_some s t e)
 text_in-sound (Some (consts.Class k)) t e = absurd cc
+text_in-sound (Some (consts.Integer k)) t e = absurd cc
 text_in-sound (Some (consts.Text k)) t e = absurd cc
 text_in-sound (Some (consts.Field a b)) t e = absurd cc
 text_in-sound (Some (consts.Method a b)) t e = absurd cc
@@ -88,6 +87,7 @@ class_in-sound : (pool : List Const) (o : Option Const) (t : Name) → class_in 
 class_in-sound pool None t e = absurd cc
 class_in-sound pool (Some (consts.Utf8 s)) t e = absurd cc
 class_in-sound pool (Some (consts.Class k)) t e = (k, refl, e)
+class_in-sound pool (Some (consts.Integer k)) t e = absurd cc
 class_in-sound pool (Some (consts.Text k)) t e = absurd cc
 class_in-sound pool (Some (consts.Field a b)) t e = absurd cc
 class_in-sound pool (Some (consts.Method a b)) t e = absurd cc
@@ -112,6 +112,7 @@ is_named_in-sound : (pool : List Const) (o : Option Const) (name descriptor : Na
 is_named_in-sound pool None name descriptor e = absurd cc
 is_named_in-sound pool (Some (consts.Utf8 s)) name descriptor e = absurd cc
 is_named_in-sound pool (Some (consts.Class k)) name descriptor e = absurd cc
+is_named_in-sound pool (Some (consts.Integer k)) name descriptor e = absurd cc
 is_named_in-sound pool (Some (consts.Text k)) name descriptor e = absurd cc
 is_named_in-sound pool (Some (consts.Field a b)) name descriptor e = absurd cc
 is_named_in-sound pool (Some (consts.Method a b)) name descriptor e = absurd cc
@@ -133,6 +134,7 @@ is_field_in-sound : (pool : List Const) (o : Option Const) (class name descripto
 is_field_in-sound pool None class name descriptor e = absurd cc
 is_field_in-sound pool (Some (consts.Utf8 s)) class name descriptor e = absurd cc
 is_field_in-sound pool (Some (consts.Class k)) class name descriptor e = absurd cc
+is_field_in-sound pool (Some (consts.Integer k)) class name descriptor e = absurd cc
 is_field_in-sound pool (Some (consts.Text k)) class name descriptor e = absurd cc
 is_field_in-sound pool (Some (consts.Field a b)) class name descriptor e = (a, b, refl, e)
 is_field_in-sound pool (Some (consts.Method a b)) class name descriptor e = absurd cc
@@ -154,6 +156,7 @@ is_method_in-sound : (pool : List Const) (o : Option Const) (class name descript
 is_method_in-sound pool None class name descriptor e = absurd cc
 is_method_in-sound pool (Some (consts.Utf8 s)) class name descriptor e = absurd cc
 is_method_in-sound pool (Some (consts.Class k)) class name descriptor e = absurd cc
+is_method_in-sound pool (Some (consts.Integer k)) class name descriptor e = absurd cc
 is_method_in-sound pool (Some (consts.Text k)) class name descriptor e = absurd cc
 is_method_in-sound pool (Some (consts.Field a b)) class name descriptor e = absurd cc
 is_method_in-sound pool (Some (consts.Method a b)) class name descriptor e = (a, b, refl, e)
@@ -174,6 +177,7 @@ pushed_in-sound : (pool : List Const) (o : Option Const) (t : Name) → pushed_i
 pushed_in-sound pool None t e = absurd cc
 pushed_in-sound pool (Some (consts.Utf8 s)) t e = absurd cc
 pushed_in-sound pool (Some (consts.Class k)) t e = absurd cc
+pushed_in-sound pool (Some (consts.Integer k)) t e = absurd cc
 pushed_in-sound pool (Some (consts.Text k)) t e = (k, refl, e)
 pushed_in-sound pool (Some (consts.Field a b)) t e = absurd cc
 pushed_in-sound pool (Some (consts.Method a b)) t e = absurd cc
@@ -229,6 +233,7 @@ args-sound pool op (args.Pool n) la e =
       | inl t ↦ text-sound-args pool op n la t.0 t.1
       | inr f ↦ more-sound pool op n la f.1
     ]
+args-sound pool op _ la e = cc
 
 instr-sound : (pool : List Const) (i : Instr) (l : LinkedInstr) → link_instr pool i ≡ Some l → LinksInstr pool i l
 instr-sound pool i l e =
@@ -314,6 +319,8 @@ attributes-sound pool m (Coded c ∷ []) l e =
       | inr f ↦ absurd (none_is_not l f.1)
     ]
 attributes-sound pool m (Coded c ∷ a ∷ attributes) l e = absurd cc
+attributes-sound pool m (args.Other name bytes ∷ []) l e = absurd cc
+attributes-sound pool m (args.Other name bytes ∷ a ∷ attributes) l e = absurd cc
 
 method-sound : (pool : List Const) (m : Member) (l : Method) → link_method pool m ≡ Some l → LinksMethod pool m l
 method-sound pool m l e =

@@ -1,3 +1,4 @@
 pub mod Came
 pub mod Loops
 pub mod Exact
+pub mod Attributes

@@ -4,15 +4,13 @@ use Rattle.std.specs.Str.{bytes_eq}
 use Rattle.mg_text.specs.Call.{Name}
 use Rattle.cls_tree.specs.declared.class.Const.{Const}
 use Rattle.cls_tree.specs.declared.class.Const.TheVariants as consts
-use Rattle.cls_tree.specs.declared.class.Instr.{Instr}
-use Rattle.cls_tree.specs.declared.class.Args.{Args}
-use Rattle.cls_tree.specs.declared.class.Args.TheVariants as args
-use Rattle.cls_tree.specs.Tree.{Code, Attr, Coded, Member, Class as File}
-use Rattle.vm_model.specs.declared.linked.Built.TheVariants as built
-use Rattle.vm_model.specs.declared.linked.LinkedArgs.{LinkedArgs}
-use Rattle.vm_model.specs.declared.linked.LinkedArgs.TheVariants as linked
-use Rattle.vm_model.specs.declared.linked.LinkedInstr.{LinkedInstr}
-use Rattle.vm_model.specs.Program.{Method, Class}
+use Rattle.cls_tree.specs.Tree.{Args, Instr, Code, Attr, Coded, Member, Class as File}
+use Rattle.cls_tree.specs.Tree as args
+use Rattle.vm_model.specs.declared.printing.Built.TheVariants as built
+use Rattle.vm_model.specs.declared.printing.LinkedArgs.{LinkedArgs}
+use Rattle.vm_model.specs.declared.printing.LinkedArgs.TheVariants as linked
+use Rattle.vm_model.specs.declared.printing.LinkedInstr.{LinkedInstr}
+use Rattle.vm_model.specs.PrintingProgram.{Method, Class}
 use Rattle.vm_step.specs.declared.loading.LoadFault.{LoadFault}
 use Rattle.vm_step.specs.declared.loading.LoadFault.TheVariants as faults
 
@@ -98,6 +96,7 @@ link_args pool op (args.Pool n) =
     else if op == 178 then (if is_out pool n then Some (linked.Built built.Out) else None)
     else if op == 182 then (if is_println pool n then Some (linked.Built built.Println) else None)
     else None
+link_args pool op _ = None
 
 abbrev pub link_instr : List Const → Instr → Option LinkedInstr
 link_instr pool i = option_map (λ a. record { op = i.op; args = a }) (link_args pool i.op i.args)
@@ -119,10 +118,21 @@ made c (Some name) (Some descriptor) (Some code) =
     Some (record { name = name; descriptor = descriptor; is_static = true; max_stack = c.max_stack; max_locals = c.max_locals; code = code })
 made c _ _ _ = None
 
-abbrev pub link_attributes : List Const → Member → List Attr → Option Method
-link_attributes pool m (Coded c ∷ []) =
+abbrev pub code_in : Attr → Option Code
+code_in (Coded c) = Some c
+code_in _ = None
+
+abbrev pub only_code : List Attr → Option Code
+only_code (a ∷ []) = code_in a
+only_code _ = None
+
+abbrev pub link_coded : List Const → Member → Option Code → Option Method
+link_coded pool m (Some c) =
     if is_text pool c.name (codes "Code") then made c (text_at pool m.name) (text_at pool m.descriptor) (link_code pool c.instrs) else None
-link_attributes pool m _ = None
+link_coded pool m None = None
+
+abbrev pub link_attributes : List Const → Member → List Attr → Option Method
+link_attributes pool m attributes = link_coded pool m (only_code attributes)
 
 abbrev pub link_method : List Const → Member → Option Method
 link_method pool m = if m.access == 9 then link_attributes pool m m.attributes else None

@@ -3,10 +3,10 @@ use Rattle.std.specs.Prelude.{◌≡◌, ℕ, List, [], ◌∷◌, ◌++◌, Som
 use Rattle.mg_text.specs.Call.{Name}
 use Rattle.mg_text.specs.declared.event.Event.{Event}
 use Rattle.mg_text.specs.declared.event.Event.TheVariants as seen
-use Rattle.vm_model.specs.Program.{Method, Class, Program}
-use Rattle.vm_model.specs.View.{program_of}
-use Rattle.vm_model.specs.Machine.{main_in, class_named}
-use Rattle.vm_model.specs.declared.linked.Linked.{Linked}
+use Rattle.vm_model.specs.PrintingProgram.{Method, Class, Program}
+use Rattle.vm_model.specs.PrintingView.{program_of}
+use Rattle.vm_model.specs.PrintingMachine.{main_in, class_named}
+use Rattle.vm_model.specs.declared.printing.Linked.{Linked}
 use Rattle.vm_step.specs.declared.loading.LoadFault.{LoadFault}
 use Rattle.vm_step.specs.declared.loading.LoadFault.TheVariants as faults
 

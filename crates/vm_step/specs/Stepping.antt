@@ -3,9 +3,9 @@ use Rattle.std.specs.Prelude.{◌≡◌, ℕ, ◌+◌, ◌<◌, ◌^◌, List, m
 use Rattle.std.specs.Borrow.{Bor}
 use Rattle.mg_text.specs.declared.event.Event.{Event}
 use Rattle.mg_text.specs.declared.event.Event.TheVariants as seen
-use Rattle.vm_model.specs.declared.linked.LinkedMethod.{LinkedMethod}
-use Rattle.vm_model.specs.View.{method_of}
-use Rattle.vm_model.specs.Machine as machine
+use Rattle.vm_model.specs.declared.printing.LinkedMethod.{LinkedMethod}
+use Rattle.vm_model.specs.PrintingView.{method_of}
+use Rattle.vm_model.specs.PrintingMachine as machine
 use Rattle.vm_step.specs.declared.frame.Operand.{Operand}
 use Rattle.vm_step.specs.declared.frame.Operand.TheVariants as operands
 use Rattle.vm_step.specs.declared.frame.Step.{Step}

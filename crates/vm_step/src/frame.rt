@@ -1,10 +1,10 @@
 ghost use Rattle.std.specs.Prelude.{◌≡◌, ◌+◌, ◌<◌, ◌^◌, [], ◌∷◌, length, IfOk};
-ghost use Rattle.vm_model.specs.Machine.{step, act, print, next};
+ghost use Rattle.vm_model.specs.PrintingMachine.{step, act, print, next};
 ghost use Rattle.vm_step.specs.Stepping.{value_of, values_of, frame_of, event_of, steps_to, Moves, IsWithin};
 
 use mg_text::{BadKind, Ending, Memory, Text};
 use std::alloc::Global;
-use vm_model::{Built, LinkedArgs, LinkedMethod};
+use vm_model::printing::{Built, LinkedArgs, LinkedMethod};
 
 /// An operand: a text of the code, or the print stream.
 #[derive(Clone, Copy)]

@@ -6,8 +6,6 @@ mod frame;
 mod loading;
 mod pool;
 mod running;
-#[cfg(test)]
-mod tests;
 
 pub use loading::{LoadFault, load};
 pub use running::{Ran, run};

@@ -1,16 +1,17 @@
 ghost use Rattle.std.specs.Prelude.{◌≡◌, [], ◌∷◌, map, option_map, IfOk};
-ghost use Rattle.cls_tree.specs.View.{class_of, member_of};
-ghost use Rattle.vm_model.specs.Program.{Class as LinkedTo};
-ghost use Rattle.vm_model.specs.View.{program_of, method_of, class_of as linked_class_of};
-ghost use Rattle.vm_model.specs.Links.{Links};
+ghost use Rattle.cls_tree.specs.Tree.{Pool};
+ghost use Rattle.cls_tree.specs.View.{class_of, code_of, member_of, attr_of, instr_of, instrs_of};
+ghost use Rattle.vm_model.specs.PrintingProgram.{Class as LinkedTo};
+ghost use Rattle.vm_model.specs.PrintingView.{program_of, method_of, class_of as linked_class_of};
+ghost use Rattle.vm_model.specs.PrintingLinks.{Links};
 ghost use Rattle.vm_step.specs.Ran.{IsLinkedOrMemory};
-ghost use Rattle.vm_step.specs.Linking.{Gives, link_args, link_instr, link_code, link_method, link_methods, link_class};
+ghost use Rattle.vm_step.specs.Linking.{Gives, code_in, only_code, link_args, link_instr, link_code, link_method, link_methods, link_class};
 
 use crate::pool;
-use cls_tree::{Args, Attr, Class, Const, Instr, Member};
+use cls_tree::{Args, Attr, Class, Code, Const, Instr, Member};
 use mg_text::{List, Memory, Text};
 use std::alloc::Global;
-use vm_model::{Built, Linked, LinkedArgs, LinkedClass, LinkedInstr, LinkedMethod};
+use vm_model::printing::{Built, Linked, LinkedArgs, LinkedClass, LinkedInstr, LinkedMethod};
 
 /// Why a class doesn't link.
 #[derive(Clone, Copy, Debug, PartialEq, Eq)]
@@ -63,7 +64,7 @@ fn copy(text: Option<&Text>) -> Result<Text, LoadFault>
 
 /// What an instruction that names a constant works with.
 fn link_pool(pool: &[Const], op: u8, number: u16) -> Result<LinkedArgs, LoadFault>
-    ensures { Gives (λ a. a) result (link_args pool.now op (Args.Pool number)) }
+    ensures { Gives (λ a. a) result (link_args pool.now op (Pool number)) }
 {
     match op {
         LDC | LDC_W => {
@@ -77,16 +78,17 @@ fn link_pool(pool: &[Const], op: u8, number: u16) -> Result<LinkedArgs, LoadFaul
 }
 
 fn link_instr(pool: &[Const], instr: &Instr) -> Result<LinkedInstr, LoadFault>
-    ensures { Gives (λ i. i) result (link_instr pool.now instr.now) }
+    ensures { Gives (λ i. i) result (link_instr pool.now (instr_of instr.now)) }
 {
-    let args = match instr.args {
+    let args = match &instr.args {
         Args::None => {
             if instr.op != RETURN {
                 return Err(LoadFault::Unlinked);
             }
             LinkedArgs::None
         }
-        Args::Pool(number) => link_pool(pool, instr.op, number)?,
+        Args::Pool(number) => link_pool(pool, instr.op, *number)?,
+        _ => return Err(LoadFault::Unlinked),
     };
     Ok(LinkedInstr { op: instr.op, args })
 }
@@ -96,7 +98,7 @@ fn link_code(
     pool: &[Const],
     instrs: &[Instr],
 ) -> Result<List<LinkedInstr>, LoadFault>
-    ensures { Gives (λ l. l.items) result (link_code pool.now instrs.now) }
+    ensures { Gives (λ l. l.items) result (link_code pool.now (instrs_of instrs.now)) }
 {
     let mut code = List::new(alloc);
     for instr in instrs {
@@ -106,6 +108,27 @@ fn link_code(
     Ok(code)
 }
 
+/// The code that an attribute is.
+#[tactic(auto, using(crate::proofs::Attributes::views))]
+fn code_in(attribute: &Attr) -> Option<&Code>
+    ensures { option_map (λ c. code_of c.now) result ≡ code_in (attr_of attribute.now) }
+{
+    match attribute {
+        Attr::Code(code) => Some(code),
+        Attr::Other { .. } => None,
+    }
+}
+
+/// The code that is the only attribute of a method.
+fn only_code(attributes: &[Attr]) -> Option<&Code>
+    ensures { option_map (λ c. code_of c.now) result ≡ only_code (map attr_of attributes.now) }
+{
+    if attributes.len() != 1 {
+        return None;
+    }
+    code_in(&attributes[0])
+}
+
 /// A method has one attribute, its code, and is public and static.
 fn link_method(alloc: Global, pool: &[Const], member: &Member) -> Result<LinkedMethod, LoadFault>
     ensures { Gives method_of result (link_method pool.now (member_of member.now)) }
@@ -113,7 +136,7 @@ fn link_method(alloc: Global, pool: &[Const], member: &Member) -> Result<LinkedM
     if member.access != PUBLIC_STATIC {
         return Err(LoadFault::Unlinked);
     }
-    let [Attr::Code(code)] = member.attributes.as_slice() else {
+    let Some(code) = only_code(member.attributes.as_slice()) else {
         return Err(LoadFault::Unlinked);
     };
     if !pool::is_text(pool, code.name, "Code") {

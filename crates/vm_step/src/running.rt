@@ -1,15 +1,15 @@
 ghost use Rattle.std.specs.Prelude.{◌≡◌, ◌++◌, ◌∷◌, [], map, option_map, IfOk, List as Seq};
 ghost use Rattle.mg_text.specs.declared.event.Event.{Event as Seen};
-ghost use Rattle.vm_model.specs.Program.{Method};
-ghost use Rattle.vm_model.specs.View.{program_of, class_of, method_of};
-ghost use Rattle.vm_model.specs.Machine.{Runs, start, class_named, main_in, is_main, noted};
+ghost use Rattle.vm_model.specs.PrintingProgram.{Method};
+ghost use Rattle.vm_model.specs.PrintingView.{program_of, class_of, method_of};
+ghost use Rattle.vm_model.specs.PrintingMachine.{Runs, start, class_named, main_in, is_main, noted};
 ghost use Rattle.vm_step.specs.Ran.{printed, IsMainOf};
 ghost use Rattle.vm_step.specs.Stepping.{event_of};
 
 use crate::frame::{Step, begin, take_step};
 use mg_text::{Bytes, Ending, Memory, Text};
 use std::alloc::Global;
-use vm_model::{Linked, LinkedClass, LinkedMethod};
+use vm_model::printing::{Linked, LinkedClass, LinkedMethod};
 
 /// What a run showed: the bytes that it printed, its instructions, the one that ended it counted,
 /// and how it ended.

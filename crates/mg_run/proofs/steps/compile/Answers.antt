@@ -19,4 +19,4 @@ returns-in_ok-bytes-in-Ok c =
     let made = c.in-Ok.ensures.made in
     let code : IsCodeTooLong c.args.source.now.name c.as_slice.result.now → ⊥ = λ h. not_refused _ gen_faults.CodeTooLong gen_faults.Memory (c.in-Ok.ensures.long_where h) in
     let text : IsTextTooLong c.as_slice.result.now → ⊥ = λ h. not_refused _ gen_faults.TextTooLong gen_faults.Memory (c.in-Ok.ensures.text_where code h) in
-    compiled_of c.args.source.now.name c.args.source.now.main_place c.args.source.now.texts.items c.as_slice.result.now _ _ c.as_slice.ensures.items made.0 made.1 c.in_ok-bytes-in-Ok.ensures code text
+    compiled_of c.args.source.now.name c.args.source.now.main_place c.args.source.now.texts.items c.as_slice.result.now _ _ c.as_slice.ensures.items made.0 made.3 c.in_ok-bytes-in-Ok.ensures code text

@@ -1,6 +1,6 @@
 use Rattle.std.proofs.Common.{drop, map}
 use Rattle.cls_tree.specs.View.{member_of}
-use Rattle.vm_model.specs.View.{method_of}
+use Rattle.vm_model.specs.PrintingView.{method_of}
 use Rattle.vm_step.specs.Linking.{link_method, link_methods}
 use Rattle.vm_step.proofs.Loops.{Left}
 use Rattle.vm_step.proofs.loading.link_methods.Given as goal

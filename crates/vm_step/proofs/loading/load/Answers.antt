@@ -1,9 +1,9 @@
 use Rattle.std.proofs.Common.{◌≡◌, [], ◌∷◌, ◌++◌, map, ap, ◌∙◌, List as Seq}
 use Rattle.std.proofs.lemmas.Result.{err_from_is_err_and}
 use Rattle.cls_tree.specs.View.{class_of}
-use Rattle.vm_model.specs.Program.{Class as LinkedTo}
-use Rattle.vm_model.specs.View.{class_of as linked_class_of}
-use Rattle.vm_model.specs.declared.linked.LinkedClass.{LinkedClass}
+use Rattle.vm_model.specs.PrintingProgram.{Class as LinkedTo}
+use Rattle.vm_model.specs.PrintingView.{class_of as linked_class_of}
+use Rattle.vm_model.specs.declared.printing.LinkedClass.{LinkedClass}
 use Rattle.vm_step.proofs.Exact.{class_links, refused, one_class}
 use Rattle.vm_step.proofs.loading.load.Goals as goal
 

@@ -1,6 +1,6 @@
 use Rattle.std.proofs.Common.{◌≡◌, map, drop}
-use Rattle.vm_model.specs.View.{class_of}
-use Rattle.vm_model.specs.Machine.{class_named}
+use Rattle.vm_model.specs.PrintingView.{class_of}
+use Rattle.vm_model.specs.PrintingMachine.{class_named}
 use Rattle.vm_step.proofs.running.class_named.Given as goal
 
 abbrev pub invariant-loop-class : goal.invariant-loop-class

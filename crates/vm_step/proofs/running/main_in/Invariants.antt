@@ -1,6 +1,6 @@
 use Rattle.std.proofs.Common.{◌≡◌, map, drop}
-use Rattle.vm_model.specs.View.{method_of}
-use Rattle.vm_model.specs.Machine.{main_in}
+use Rattle.vm_model.specs.PrintingView.{method_of}
+use Rattle.vm_model.specs.PrintingMachine.{main_in}
 use Rattle.vm_step.proofs.running.main_in.Given as goal
 
 abbrev pub invariant-loop-method : goal.invariant-loop-method

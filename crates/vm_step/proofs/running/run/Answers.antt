@@ -1,10 +1,10 @@
 use Rattle.std.proofs.Common.{◌≡◌, ◌∙◌, ap, sym, subst, map, List as Seq}
 use Rattle.mg_text.specs.declared.event.Event.{Event as Seen}
-use Rattle.vm_model.specs.Program.{Method}
-use Rattle.vm_model.specs.View.{program_of, class_of, method_of}
-use Rattle.vm_model.specs.Machine.{Runs, start, class_named, main_in}
-use Rattle.vm_model.specs.declared.linked.LinkedClass.{LinkedClass}
-use Rattle.vm_model.specs.declared.linked.LinkedMethod.{LinkedMethod}
+use Rattle.vm_model.specs.PrintingProgram.{Method}
+use Rattle.vm_model.specs.PrintingView.{program_of, class_of, method_of}
+use Rattle.vm_model.specs.PrintingMachine.{Runs, start, class_named, main_in}
+use Rattle.vm_model.specs.declared.printing.LinkedClass.{LinkedClass}
+use Rattle.vm_model.specs.declared.printing.LinkedMethod.{LinkedMethod}
 use Rattle.vm_step.specs.Ran.{printed, IsMainOf}
 use Rattle.vm_step.specs.declared.running.Ran.{Ran}
 use Rattle.vm_step.proofs.running.run.Goals as goal

@@ -1,5 +1,5 @@
 use Rattle.std.proofs.Common.{arith}
-use Rattle.vm_model.specs.View.{method_of}
+use Rattle.vm_model.specs.PrintingView.{method_of}
 use Rattle.vm_step.specs.Stepping.{frame_of, event_of}
 use Rattle.vm_step.proofs.Came.{Came-more, Came-ends}
 use Rattle.vm_step.proofs.running.run_method.Goals as goal

@@ -1,5 +1,5 @@
 use Rattle.std.proofs.Common.{◌≡◌, ◌^◌, ◌-◌, ◌≤◌, length}
-use Rattle.vm_model.specs.View.{method_of}
+use Rattle.vm_model.specs.PrintingView.{method_of}
 use Rattle.vm_step.specs.Stepping.{frame_of}
 use Rattle.vm_step.proofs.Came.{Came}
 use Rattle.vm_step.proofs.running.run_method.Given as goal

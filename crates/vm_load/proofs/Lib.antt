@@ -1,0 +1,10 @@
+pub mod Maps
+pub mod Told
+pub mod Found
+pub mod Judged
+pub mod Widths
+pub mod Lower
+pub mod Codes
+pub mod Attributes
+pub mod ClassLaws
+pub mod Loads

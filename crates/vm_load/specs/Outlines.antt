@@ -1,0 +1,51 @@
+-- What the program's tables of classes and members say.
+use Rattle.std.specs.Prelude.{List, map, Option, Some, None, Bool, ◌||◌}
+use Rattle.std.specs.List.{list_any}
+use Rattle.std.specs.Str.{bytes_eq}
+use Rattle.vm_model.specs.Linked.{is_built_in}
+use Rattle.vm_model.specs.declared.types.FieldType.{FieldType}
+use Rattle.vm_model.specs.declared.types.FieldType.TheVariants as types
+use Rattle.mg_text.specs.Call.{Name}
+use Rattle.cls_tree.specs.Pool.{Signature, Reference}
+use Rattle.cls_tree.specs.Tree.{Code, Attr, Coded}
+use Rattle.vm_model.specs.Links.{Declared, Outline, Member_of}
+use Rattle.vm_load.specs.declared.member.BuiltMember.{BuiltMember}
+use Rattle.vm_load.specs.declared.pool.NamedType.{NamedType}
+use Rattle.vm_load.specs.declared.pool.Named.{Named}
+use Rattle.vm_load.specs.declared.outline.Declared.{Declared as KeptDeclared}
+use Rattle.vm_load.specs.declared.outline.Outline.{Outline as KeptOutline}
+
+abbrev pub named_of : NamedType → Signature
+named_of n = record { name = n.name.now; descriptor = n.descriptor.now }
+
+abbrev pub member_of : Named → Reference
+member_of n = record { class = n.class.now; member = record { name = n.name.now; descriptor = n.descriptor.now } }
+
+abbrev pub declared_of : KeptDeclared → Declared
+declared_of d = record { name = d.name.now; descriptor = d.descriptor.now; is_static = d.is_static }
+
+abbrev pub outline_of : KeptOutline → Outline
+outline_of o = record { name = o.name.now; fields = map declared_of o.fields.items; own = map declared_of o.own.items; methods = map declared_of o.methods.items }
+
+abbrev pub outlines_of : List KeptOutline → List Outline
+outlines_of os = map outline_of os
+
+abbrev pub names_of : List Outline → List Name
+names_of os = map (λ o. o.name) os
+
+-- the class that a type of the program names
+abbrev pub class_named : FieldType → Option Name
+class_named (types.Named name) = Some name.now
+class_named _ = None
+
+abbrev pub built_view : BuiltMember → Member_of
+built_view b = record { class = b.class.now; name = b.name.now; descriptor = b.descriptor.now; op = b.op; member = b.member }
+
+-- the code that an attribute is
+abbrev pub code_in : Attr → Option Code
+code_in (Coded c) = Some c
+code_in _ = None
+
+-- a name of a class before, or of a built-in class
+abbrev pub is_taken : List Name → Name → Bool
+is_taken before name = is_built_in name || list_any (bytes_eq name) before

@@ -1,0 +1,351 @@
+//! What a reference to a field or a method names: a member of a built-in class or of a loaded one.
+
+ghost use Rattle.std.specs.Prelude.{◌≡◌, ◌<◌, Some, map, option_map, slice_get, IfOk};
+ghost use Rattle.std.specs.List.{position};
+ghost use Rattle.vm_model.specs.View.{args_of};
+ghost use Rattle.vm_model.specs.Links.{is_member, is_named, built_in, built_members, loaded_member, member_args, field_of_class, method_of_class, args_by};
+ghost use Rattle.vm_model.specs.Program.{Field, Method};
+ghost use Rattle.vm_load.specs.Outlines.{declared_of, named_of, member_of, outlines_of, outline_of, names_of, built_view};
+
+use crate::descriptor::class_number;
+use crate::outline::{Declared, Outline};
+use crate::pool::{Named, NamedType};
+use mg_text::{Memory, Names};
+use vm_model::{Built, LinkedArgs};
+
+/// Reads a static field.
+pub(crate) const GETSTATIC: u8 = 0xb2;
+
+/// Reads a field of an object.
+pub(crate) const GETFIELD: u8 = 0xb4;
+
+/// Writes a field of an object.
+pub(crate) const PUTFIELD: u8 = 0xb5;
+
+/// Calls a method on an object.
+pub(crate) const INVOKEVIRTUAL: u8 = 0xb6;
+
+/// Calls a constructor or a method that no protocol names.
+pub(crate) const INVOKESPECIAL: u8 = 0xb7;
+
+/// Calls a static method.
+pub(crate) const INVOKESTATIC: u8 = 0xb8;
+
+/// A member of a built-in class, and the opcode that names it.
+#[derive(Clone, Copy)]
+pub(crate) struct BuiltMember {
+    class: &'static str,
+    name: &'static str,
+    descriptor: &'static str,
+    op: u8,
+    member: Built,
+}
+
+/// How many members the built-in classes have.
+const BUILT_COUNT: u8 = 17;
+
+/// A member of a built-in class.
+fn member(
+    class: &'static str,
+    name: &'static str,
+    descriptor: &'static str,
+    op: u8,
+    member: Built,
+) -> BuiltMember
+    ensures { built_view result ≡ record { class = class.now; name = name.now; descriptor = descriptor.now; op = op; member = member } }
+{
+    BuiltMember {
+        class,
+        name,
+        descriptor,
+        op,
+        member,
+    }
+}
+
+/// The members of the built-in classes, by number.
+fn built_member(index: u8) -> BuiltMember
+    requires { index < 17 }
+    ensures { slice_get built_members index ≡ Some (built_view result) }
+{
+    match index {
+        0 => member(
+            "java/lang/System",
+            "out",
+            "Ljava/io/PrintStream;",
+            GETSTATIC,
+            Built::Out,
+        ),
+        1 => member(
+            "java/lang/Object",
+            "<init>",
+            "()V",
+            INVOKESPECIAL,
+            Built::Init,
+        ),
+        2 => member(
+            "java/lang/String",
+            "concat",
+            "(Ljava/lang/String;)Ljava/lang/String;",
+            INVOKEVIRTUAL,
+            Built::Concat,
+        ),
+        3 => member(
+            "java/lang/String",
+            "equals",
+            "(Ljava/lang/Object;)Z",
+            INVOKEVIRTUAL,
+            Built::Equals,
+        ),
+        4 => member(
+            "java/lang/String",
+            "valueOf",
+            "(I)Ljava/lang/String;",
+            INVOKESTATIC,
+            Built::ValueOfInt,
+        ),
+        5 => member(
+            "java/lang/String",
+            "valueOf",
+            "(Z)Ljava/lang/String;",
+            INVOKESTATIC,
+            Built::ValueOfTruth,
+        ),
+        6 => member(
+            "java/io/PrintStream",
+            "println",
+            "(Ljava/lang/String;)V",
+            INVOKEVIRTUAL,
+            Built::Println,
+        ),
+        7 => member(
+            "mungo/lib/Session",
+            "send",
+            "(Ljava/lang/String;Ljava/lang/String;)V",
+            INVOKESTATIC,
+            Built::Send,
+        ),
+        8 => member(
+            "mungo/lib/Session",
+            "sendInt",
+            "(Ljava/lang/String;Ljava/lang/String;I)V",
+            INVOKESTATIC,
+            Built::SendInt,
+        ),
+        9 => member(
+            "mungo/lib/Session",
+            "sendBoolean",
+            "(Ljava/lang/String;Ljava/lang/String;Z)V",
+            INVOKESTATIC,
+            Built::SendTruth,
+        ),
+        10 => member(
+            "mungo/lib/Session",
+            "sendString",
+            "(Ljava/lang/String;Ljava/lang/String;Ljava/lang/String;)V",
+            INVOKESTATIC,
+            Built::SendText,
+        ),
+        11 => member(
+            "mungo/lib/Session",
+            "look",
+            "(Ljava/lang/String;)Ljava/lang/String;",
+            INVOKESTATIC,
+            Built::Look,
+        ),
+        12 => member(
+            "mungo/lib/Session",
+            "take",
+            "(Ljava/lang/String;Ljava/lang/String;)V",
+            INVOKESTATIC,
+            Built::Take,
+        ),
+        13 => member(
+            "mungo/lib/Session",
+            "takeInt",
+            "(Ljava/lang/String;Ljava/lang/String;)I",
+            INVOKESTATIC,
+            Built::TakeInt,
+        ),
+        14 => member(
+            "mungo/lib/Session",
+            "takeBoolean",
+            "(Ljava/lang/String;Ljava/lang/String;)Z",
+            INVOKESTATIC,
+            Built::TakeTruth,
+        ),
+        15 => member(
+            "mungo/lib/Session",
+            "takeString",
+            "(Ljava/lang/String;Ljava/lang/String;)Ljava/lang/String;",
+            INVOKESTATIC,
+            Built::TakeText,
+        ),
+        _ => member(
+            "mungo/lib/Session",
+            "refuse",
+            "(Ljava/lang/String;Ljava/lang/String;)V",
+            INVOKESTATIC,
+            Built::Refuse,
+        ),
+    }
+}
+
+/// Whether an opcode and a reference name this member.
+fn is_named(op: u8, reference: Named<'_>, built: BuiltMember) -> bool
+    ensures { result ≡ is_named op (member_of reference.entry) (built_view built) }
+{
+    op == built.op
+        && reference.class == built.class
+        && reference.name == built.name
+        && reference.descriptor == built.descriptor
+}
+
+/// The member of a built-in class that an opcode and a reference name.
+fn built_in(op: u8, reference: Named<'_>) -> Option<Built>
+    ensures { result ≡ built_in op (member_of reference.entry) built_members }
+{
+    for index in 0..BUILT_COUNT {
+        let built = built_member(index);
+        if is_named(op, reference, built) {
+            return Some(built.member);
+        }
+    }
+    None
+}
+
+/// Whether this is the declared member of a name, a descriptor and a kind.
+fn is_member(declared: Declared<'_>, wanted: NamedType<'_>, is_static: bool) -> bool
+    ensures { result ≡ is_member (named_of wanted.entry) is_static (declared_of declared.entry) }
+{
+    let same_kind = if is_static {
+        declared.is_static
+    } else {
+        !declared.is_static
+    };
+    declared.name == wanted.name && declared.descriptor == wanted.descriptor && same_kind
+}
+
+/// The first declared member of a name, a descriptor and a kind.
+#[tactic(auto, using(crate::proofs::Found::found))]
+fn find_member(members: &[Declared<'_>], wanted: NamedType<'_>, is_static: bool) -> Option<usize>
+    ensures { result ≡ position (is_member (named_of wanted.entry) is_static) (map declared_of members.now) }
+{
+    for (index, declared) in members.iter().enumerate() {
+        if is_member(*declared, wanted, is_static) {
+            return Some(index);
+        }
+    }
+    None
+}
+
+/// The field of a class, by its number.
+fn field_args(class: u32, found: Option<usize>) -> Result<Option<LinkedArgs>, Memory>
+    ensures { IfOk result (λ a. option_map args_of a ≡ args_by (Field class) found) }
+{
+    match found {
+        Some(field) => {
+            if field > 0xffff_ffff {
+                return Err(Memory);
+            }
+            Ok(Some(LinkedArgs::Field {
+                class,
+                field: field as u32,
+            }))
+        }
+        None => Ok(None),
+    }
+}
+
+/// The method of a class, by its number.
+fn method_args(class: u32, found: Option<usize>) -> Result<Option<LinkedArgs>, Memory>
+    ensures { IfOk result (λ a. option_map args_of a ≡ args_by (Method class) found) }
+{
+    match found {
+        Some(method) => {
+            if method > 0xffff_ffff {
+                return Err(Memory);
+            }
+            Ok(Some(LinkedArgs::Method {
+                class,
+                method: method as u32,
+            }))
+        }
+        None => Ok(None),
+    }
+}
+
+/// The field that a class's objects have.
+fn field_of_class(outline: Option<&Outline<'_>>, wanted: NamedType<'_>) -> Option<usize>
+    ensures { result ≡ field_of_class (named_of wanted.entry) (option_map (λ o. outline_of o.now) outline.entry) }
+{
+    match outline {
+        Some(outline) => find_member(outline.own.as_slice(), wanted, false),
+        None => None,
+    }
+}
+
+/// The method of a class, static or not.
+fn method_of_class(
+    outline: Option<&Outline<'_>>,
+    wanted: NamedType<'_>,
+    is_static: bool,
+) -> Option<usize>
+    ensures { result ≡ method_of_class (named_of wanted.entry) is_static (option_map (λ o. outline_of o.now) outline.entry) }
+{
+    match outline {
+        Some(outline) => find_member(outline.methods.as_slice(), wanted, is_static),
+        None => None,
+    }
+}
+
+/// The class of this number.
+#[tactic(auto, using(crate::proofs::Found::found))]
+fn outline_at<'a, 'b>(outlines: &'b [Outline<'a>], class: u32) -> Option<&'b Outline<'a>>
+    ensures { option_map (λ o. outline_of o.now) result ≡ slice_get (outlines_of outlines.now) class }
+{
+    outlines.get(class as usize)
+}
+
+/// The member of a loaded class that an opcode names.
+fn loaded_member(
+    outlines: &[Outline<'_>],
+    op: u8,
+    wanted: NamedType<'_>,
+    class: u32,
+) -> Result<Option<LinkedArgs>, Memory>
+    ensures { IfOk result (λ a. option_map args_of a ≡ loaded_member (outlines_of outlines.now) op (named_of wanted.entry) (Some class)) }
+{
+    let outline = outline_at(outlines, class);
+    match op {
+        GETFIELD => field_args(class, field_of_class(outline, wanted)),
+        PUTFIELD => field_args(class, field_of_class(outline, wanted)),
+        INVOKEVIRTUAL => method_args(class, method_of_class(outline, wanted, false)),
+        INVOKESPECIAL => method_args(class, method_of_class(outline, wanted, false)),
+        INVOKESTATIC => method_args(class, method_of_class(outline, wanted, true)),
+        _ => Ok(None),
+    }
+}
+
+/// The member that an opcode and a reference name, where there is one.
+pub(crate) fn member_args(
+    outlines: &[Outline<'_>],
+    names: &Names,
+    op: u8,
+    reference: Named<'_>,
+) -> Result<Option<LinkedArgs>, Memory>
+    requires { names.now ≡ names_of (outlines_of outlines.now) }
+    ensures { IfOk result (λ a. option_map args_of a ≡ member_args (outlines_of outlines.now) op (member_of reference.entry)) }
+{
+    if let Some(built) = built_in(op, reference) {
+        return Ok(Some(LinkedArgs::Built(built)));
+    }
+    let Some(class) = class_number(outlines, names, reference.class) else {
+        return Ok(None);
+    };
+    let wanted = NamedType {
+        name: reference.name,
+        descriptor: reference.descriptor,
+    };
+    loaded_member(outlines, op, wanted, class)
+}

@@ -1,0 +1,10 @@
+use Rattle.std.proofs.Common.{◌≡◌, None, position, take, get_or, ◌++◌, ◌∷◌, [], ap, sym, ◌∙◌}
+use Rattle.std.specs.Str.{bytes_eq}
+use Rattle.mg_text.specs.Interned.{with_text}
+use Rattle.vm_model.proofs.Queues.{one_more}
+use Rattle.vm_model.proofs.ports.table_of.Goals as goal
+
+pub loop-role-preserved : goal.loop-role-preserved
+loop-role-preserved c =
+    one_more c.args.roles.now c.loop-role.role-index c.role-item.result c.loop-role.names c.add.new.self c.requires c.loop-role-test.true c.role-item.is
+    c.loop-role.invariant (c.in_ok-add.ensures.ok ∙ ap (λ t. with_text c.loop-role.names t) c.as_str.ensures)
