@@ -1,5 +1,10 @@
 pub mod WordsLemmas
-pub mod WayLemmas
-pub mod TranslateLemmas
-pub mod RunLemmas
-mod Examples
+pub mod DeliveryLaws
+pub mod SourceLemmas
+pub mod RolesLemmas
+pub mod ReaderLemmas
+pub mod ReadingLemmas
+pub mod CommandLemmas
+pub mod ConformLemmas
+pub mod Exact
+pub mod Promised

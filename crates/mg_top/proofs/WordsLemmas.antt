@@ -1,13 +1,22 @@
 -- Which words are a command, and which can't follow.
-use Rattle.std.proofs.Common.{◌≡◌, ℕ, ◌<◌, ◌≤◌, ◌⊎◌, inl, inr, List, [], ◌∷◌, ◌++◌, length, get_or, take, drop, take-append-drop, ◌-◌, Option, Some, None, Bool, true, false, ◌&&◌, eqb, codes, refl, sym, ap, ◌∙◌, subst, arith, append_assoc, length-append}
+use Rattle.std.proofs.Common.{◌≡◌, ℕ, ◌<◌, ◌≤◌, ◌⊎◌, inl, inr, List, [], ◌∷◌, ◌++◌, All, length, get_or, take, drop, take-append-drop, drop-cons, ◌-◌, ◌+◌, zero, suc, Option, Some, None, Bool, true, false, ◌&&◌, eqb, codes, refl, sym, ap, ◌∙◌, subst, arith, append_assoc, length-append, Bor}
+use Rattle.std.specs.Prelude.{IfSome, option_map}
 use Rattle.std.proofs.lemmas.Slice.Eq.{bytes_eq-Decides}
 use Rattle.std.proofs.lemmas.List.{drop_at}
 use Rattle.std.specs.List.{ends_with, list_all}
-use Rattle.scr_lex.specs.Pieces.{AllPasses, reserved}
-use Rattle.mg_top.specs.Words.{Word, Command, Translate, Run, EndsWith, IsFileOf, IsClassName, IsCommand, CanBegin, AreWrong, file_of}
+use Rattle.mg_read.specs.Passes.{AllPasses}
+use Rattle.scr_tree.specs.Words.{reserved}
+use Rattle.mg_top.specs.Words.{Word, Command, Translate, Conform, Run, AreProtocolAndCalls, EndsWith, IsFileName, IsFileOf, AreFilesOf, IsClassName, out_words, IsCommand, AreCommand, CanBegin, AreOutside, AreWrong}
+use Rattle.mg_top.specs.inner.Judging.{IsFirstOther}
 
 abbrev translate : Word
 translate = codes "translate"
+
+abbrev out : Word
+out = codes "--out"
+
+abbrev conform : Word
+conform = codes "conform"
 
 abbrev run : Word
 run = codes "run"
@@ -24,6 +33,53 @@ some_java = codes "P.java"
 abbrev some_class : Word
 some_class = codes "C"
 
+-- ---- lists of words
+
+head_is : {x y : Word} {xs ys : List Word} → ◌≡◌ {A = List Word} (x ∷ xs) (y ∷ ys) → x ≡ y
+head_is e = cc
+
+tail_is : {x y : Word} {xs ys : List Word} → ◌≡◌ {A = List Word} (x ∷ xs) (y ∷ ys) → xs ≡ ys
+tail_is e = cc
+
+filled : {P : Type 0} {x : Word} {xs : List Word} → ◌≡◌ {A = List Word} [] (x ∷ xs) → P
+filled e = absurd cc
+
+pub empty_is : (xs : List Word) → length xs ≡ 0 → xs ≡ []
+empty_is [] e = refl
+empty_is (x ∷ xs) e = absurd (omega (arith, e))
+
+apart : {P : Type 0} → translate ≡ run → P
+apart e = absurd cc
+
+apart_first : {P : Type 0} → translate ≡ conform → P
+apart_first e = absurd cc
+
+apart_last : {P : Type 0} → conform ≡ run → P
+apart_last e = absurd cc
+
+-- all of one word, and of some words and one more
+All-one : (P : Word → Type 0) (x : Word) → P x → All P (x ∷ [])
+All-one P x h zero d lt = h
+All-one P x h (suc k) d lt = absurd (omega arith)
+
+All-first : (P : Word → Type 0) (x : Word) (xs : List Word) → All P (x ∷ xs) → P x
+All-first P x xs h = h zero x (omega arith)
+
+All-rest : (P : Word → Type 0) (x : Word) (xs : List Word) → All P (x ∷ xs) → All P xs
+All-rest P x xs h k d lt = h (suc k) d (omega arith)
+
+All-cons : (P : Word → Type 0) (x : Word) (xs : List Word) → P x → All P xs → All P (x ∷ xs)
+All-cons P x xs h hs zero d lt = h
+All-cons P x xs h hs (suc k) d lt = hs k d (omega arith)
+
+pub All-push : (P : Word → Type 0) (xs : List Word) (x : Word) → All P xs → P x → All P (xs ++ x ∷ [])
+All-push P [] x hs h = All-one P x h
+All-push P (y ∷ ys) x hs h = All-cons P y (ys ++ x ∷ []) (All-first P y ys hs) (All-push P ys x (All-rest P y ys hs) h)
+
+All-mid : (P : Word → Type 0) (xs : List Word) (x : Word) (more : List Word) → All P (xs ++ x ∷ more) → P x
+All-mid P [] x more h = All-first P x more h
+All-mid P (y ∷ ys) x more h = All-mid P ys x more (All-rest P y (ys ++ x ∷ more) h)
+
 -- ---- what can begin a command
 
 named : IsFileOf (codes ".scr") some_source
@@ -39,161 +95,295 @@ free = refl
 classed : IsClassName some_class
 classed = (refl, (refl, tt), omega arith, free)
 
-begins_empty : CanBegin []
-begins_empty = record { command = Translate some_source; more = translate ∷ some_source ∷ []; is = (refl, named) }
+is_name : IsFileName some_class
+is_name = λ e. cc
 
-begins_translate : CanBegin (translate ∷ [])
-begins_translate = record { command = Translate some_source; more = some_source ∷ []; is = (refl, named) }
+pushed_filled : (xs : List Word) (x : Word) → xs ++ x ∷ [] ≡ [] → ⊥
+pushed_filled [] x e = cc
+pushed_filled (y ∷ ys) x e = cc
 
-begins_source : (file : Word) → IsFileOf (codes ".scr") file → CanBegin (translate ∷ file ∷ [])
-begins_source file h = record { command = Translate file; more = []; is = (refl, h) }
+-- options and files can be followed by a file
+begins_files : (folder : Option Word) (before : List Word) → IfSome folder IsFileName → All (IsFileOf (codes ".scr")) before
+    → CanBegin AreCommand (translate ∷ (out_words folder ++ before))
+begins_files folder before name each = (
+  some_source ∷ [],
+  (
+    Translate folder (before ++ some_source ∷ []),
+    (
+      ap (λ (z : List Word). translate ∷ z) (append_assoc (out_words folder) before (some_source ∷ [])),
+      name,
+      (pushed_filled before some_source, All-push (IsFileOf (codes ".scr")) before some_source each named),
+    ),
+  ),
+)
 
-begins_run : CanBegin (run ∷ [])
-begins_run = record { command = Run some_class some_java; more = main ∷ some_class ∷ some_java ∷ []; is = (refl, classed, named_java) }
+none_yet : (P : Word → Type 0) → All P []
+none_yet P k d lt = absurd (omega arith)
 
-begins_main : CanBegin (run ∷ main ∷ [])
-begins_main = record { command = Run some_class some_java; more = some_class ∷ some_java ∷ []; is = (refl, classed, named_java) }
+begins_empty : CanBegin AreCommand []
+begins_empty = let b = begins_files None [] tt (none_yet _) in (translate ∷ b.0, b.1)
 
-begins_class : (class : Word) → IsClassName class → CanBegin (run ∷ main ∷ class ∷ [])
-begins_class class h = record { command = Run class some_java; more = some_java ∷ []; is = (refl, h, named_java) }
+begins_translate : CanBegin AreCommand (translate ∷ [])
+begins_translate = begins_files None [] tt (none_yet _)
 
-begins_java : (class file : Word) → IsClassName class → IsFileOf (codes ".java") file → CanBegin (run ∷ main ∷ class ∷ file ∷ [])
-begins_java class file h h' = record { command = Run class file; more = []; is = (refl, h, h') }
+begins_out : CanBegin AreCommand (translate ∷ out ∷ [])
+begins_out = let b = begins_files (Some some_class) [] is_name (none_yet _) in (some_class ∷ b.0, b.1)
+
+begins_calls : (protocol calls : Word) → IsFileOf (codes ".scr") protocol → IsFileName calls → CanBegin AreCommand (conform ∷ protocol ∷ calls ∷ [])
+begins_calls protocol calls h h' = ([], (Conform (protocol ∷ calls ∷ []), (refl, record { protocol = protocol; calls = calls; two = refl; scribble = h; named = h' })))
+
+begins_protocol : (protocol : Word) → IsFileOf (codes ".scr") protocol → CanBegin AreCommand (conform ∷ protocol ∷ [])
+begins_protocol protocol h = let b = begins_calls protocol some_class h is_name in (some_class ∷ b.0, b.1)
+
+begins_conform : CanBegin AreCommand (conform ∷ [])
+begins_conform = let b = begins_protocol some_source named in (some_source ∷ b.0, b.1)
+
+begins_java : (class file : Word) → IsClassName class → IsFileOf (codes ".java") file → CanBegin AreCommand (run ∷ main ∷ class ∷ file ∷ [])
+begins_java class file h h' = ([], (Run class (file ∷ []), (refl, h, (file, refl, h'))))
+
+begins_class : (class : Word) → IsClassName class → CanBegin AreCommand (run ∷ main ∷ class ∷ [])
+begins_class class h = (some_java ∷ [], (Run class (some_java ∷ []), (refl, h, (some_java, refl, named_java))))
+
+begins_main : CanBegin AreCommand (run ∷ main ∷ [])
+begins_main = let b = begins_class some_class classed in (some_class ∷ b.0, b.1)
+
+begins_run : CanBegin AreCommand (run ∷ [])
+begins_run = let b = begins_main in (main ∷ b.0, b.1)
 
 -- ---- what words of a command are
 
-head_is : {x y : Word} {xs ys : List Word} → ◌≡◌ {A = List Word} (x ∷ xs) (y ∷ ys) → x ≡ y
-head_is e = cc
+first_word : (command : Command) (w : Word) (more : List Word) → IsCommand command (w ∷ more) → (w ≡ translate) ⊎ (w ≡ conform) ⊎ (w ≡ run)
+first_word (Translate folder files) w more (e, h, k) = inl (head_is e)
+first_word (Conform files) w more (e, h) = inr (inl (head_is e))
+first_word (Run class files) w more (e, h, k) = inr (inr (head_is e))
 
-tail_is : {x y : Word} {xs ys : List Word} → ◌≡◌ {A = List Word} (x ∷ xs) (y ∷ ys) → xs ≡ ys
-tail_is e = cc
+-- the option isn't a file
+no_file : {P : Type 0} (files rest : List Word) → out ∷ rest ≡ files → AreFilesOf (codes ".scr") files → P
+no_file files rest e (_, each) =
+    let first : IsFileOf (codes ".scr") out = All-first (IsFileOf (codes ".scr")) out rest (subst (All (IsFileOf (codes ".scr"))) (sym e) each) in absurd (first.0 refl)
 
-apart : {P : Type 0} → translate ≡ run → P
-apart e = absurd cc
+-- what stands behind the options are files
+translate_files : (command : Command) (folder : Option Word) (rest : List Word) → (folder ≡ None → (r : List Word) → rest ≡ out ∷ r → ⊥)
+    → IsCommand command (translate ∷ (out_words folder ++ rest)) → AreFilesOf (codes ".scr") rest
+translate_files (Translate None files) None rest plain (e, h, each) = subst (AreFilesOf (codes ".scr")) (sym (tail_is e)) each
+translate_files (Translate (Some d) files) None rest plain (e, h, each) = absurd (plain refl (d ∷ files) (tail_is e))
+translate_files (Translate None files) (Some f) rest plain (e, h, each) = no_file files (f ∷ rest) (tail_is e) each
+translate_files (Translate (Some d) files) (Some f) rest plain (e, h, each) = subst (AreFilesOf (codes ".scr")) (sym (tail_is (tail_is (tail_is e)))) each
+translate_files (Conform files) folder rest plain (e, h) = apart_first (head_is e)
+translate_files (Run class files) folder rest plain (e, h, k) = apart (head_is e)
 
-first_word : (command : Command) (w : Word) (more : List Word) → IsCommand command (w ∷ more) → (w ≡ translate) ⊎ (w ≡ run)
-first_word (Translate file) w more (e, h) = inl (head_is e)
-first_word (Run class file) w more (e, h, j) = inr (head_is e)
+-- what stands behind "--out" is a folder
+folder_word : (command : Command) (f : Word) (rest : List Word) → IsCommand command (translate ∷ out ∷ f ∷ rest) → IsFileName f
+folder_word (Translate None files) f rest (e, h, each) = no_file files (f ∷ rest) (tail_is e) each
+folder_word (Translate (Some d) files) f rest (e, h, each) = subst IsFileName (sym (head_is (tail_is (tail_is e)))) h
+folder_word (Conform files) f rest (e, h) = apart_first (head_is e)
+folder_word (Run class files) f rest (e, h, k) = apart (head_is e)
 
--- a command of these words is translate of the second
-source_word : (command : Command) (f : Word) (more : List Word) → IsCommand command (translate ∷ f ∷ more) → IsFileOf (codes ".scr") f × (more ≡ [])
-source_word (Translate file) f more (e, h) = (subst (IsFileOf (codes ".scr")) (sym (head_is (tail_is e))) h, tail_is (tail_is e))
-source_word (Run class file) f more (e, h, j) = apart (head_is e)
+out_is_none : (command : Command) → IsCommand command (translate ∷ out ∷ []) → ⊥
+out_is_none (Translate None files) (e, h, each) = no_file files [] (tail_is e) each
+out_is_none (Translate (Some d) files) (e, h, each) = filled (tail_is (tail_is e))
+out_is_none (Conform files) (e, h) = apart_first (head_is e)
+out_is_none (Run class files) (e, h, k) = apart (head_is e)
 
 main_word : (command : Command) (o : Word) (more : List Word) → IsCommand command (run ∷ o ∷ more) → o ≡ main
-main_word (Translate file) o more (e, h) = apart (sym (head_is e))
-main_word (Run class file) o more (e, h, j) = head_is (tail_is e)
+main_word (Translate folder files) o more (e, h, k) = apart (sym (head_is e))
+main_word (Conform files) o more (e, h) = apart_last (sym (head_is e))
+main_word (Run class files) o more (e, h, k) = head_is (tail_is e)
 
 class_word : (command : Command) (o c : Word) (more : List Word) → IsCommand command (run ∷ o ∷ c ∷ more) → IsClassName c
-class_word (Translate file) o c more (e, h) = apart (sym (head_is e))
-class_word (Run class file) o c more (e, h, f) = subst IsClassName (sym (head_is (tail_is (tail_is e)))) h
+class_word (Translate folder files) o c more (e, h, k) = apart (sym (head_is e))
+class_word (Conform files) o c more (e, h) = apart_last (sym (head_is e))
+class_word (Run class files) o c more (e, h, f) = subst IsClassName (sym (head_is (tail_is (tail_is e)))) h
 
 java_word : (command : Command) (o c f : Word) (more : List Word) → IsCommand command (run ∷ o ∷ c ∷ f ∷ more) → IsFileOf (codes ".java") f × (more ≡ [])
-java_word (Translate file) o c f more (e, h) = apart (sym (head_is e))
-java_word (Run class file) o c f more (e, h, f') =
-    let rest = tail_is (tail_is (tail_is e)) in
-    (subst (IsFileOf (codes ".java")) (sym (head_is rest)) f', tail_is rest)
-
--- ---- words that are too few
-
-filled : {P : Type 0} {x : Word} {xs : List Word} → ◌≡◌ {A = List Word} [] (x ∷ xs) → P
-filled e = absurd cc
+java_word (Translate folder files) o c f more (e, h, k) = apart (sym (head_is e))
+java_word (Conform files) o c f more (e, h) = apart_last (sym (head_is e))
+java_word (Run class files) o c f more (e, h, (file, one, java)) =
+    let rest : ◌≡◌ {A = List Word} (f ∷ more) (file ∷ []) = tail_is (tail_is (tail_is e)) ∙ one in
+    (subst (IsFileOf (codes ".java")) (sym (head_is rest)) java, tail_is rest)
 
 none_is_none : (command : Command) → IsCommand command [] → ⊥
-none_is_none (Translate file) (e, h) = filled e
-none_is_none (Run class file) (e, h, j) = filled e
-
-translate_is_none : (command : Command) → IsCommand command (translate ∷ []) → ⊥
-translate_is_none (Translate file) (e, h) = filled (tail_is e)
-translate_is_none (Run class file) (e, h, j) = apart (head_is e)
+none_is_none (Translate folder files) (e, h, k) = filled e
+none_is_none (Conform files) (e, h) = filled e
+none_is_none (Run class files) (e, h, k) = filled e
 
 run_is_none : (command : Command) → IsCommand command (run ∷ []) → ⊥
-run_is_none (Translate file) (e, h) = apart (sym (head_is e))
-run_is_none (Run class file) (e, h, j) = filled (tail_is e)
+run_is_none (Translate folder files) (e, h, k) = apart (sym (head_is e))
+run_is_none (Conform files) (e, h) = apart_last (sym (head_is e))
+run_is_none (Run class files) (e, h, k) = filled (tail_is e)
 
 main_is_none : (command : Command) → IsCommand command (run ∷ main ∷ []) → ⊥
-main_is_none (Translate file) (e, h) = apart (sym (head_is e))
-main_is_none (Run class file) (e, h, j) = filled (tail_is (tail_is e))
+main_is_none (Translate folder files) (e, h, k) = apart (sym (head_is e))
+main_is_none (Conform files) (e, h) = apart_last (sym (head_is e))
+main_is_none (Run class files) (e, h, k) = filled (tail_is (tail_is e))
 
 class_is_none : (class : Word) (command : Command) → IsCommand command (run ∷ main ∷ class ∷ []) → ⊥
-class_is_none class (Translate file) (e, h) = apart (sym (head_is e))
-class_is_none class (Run class' file) (e, h, j) = filled (tail_is (tail_is (tail_is e)))
+class_is_none class (Translate folder files) (e, h, k) = apart (sym (head_is e))
+class_is_none class (Conform files) (e, h) = apart_last (sym (head_is e))
+class_is_none class (Run other files) (e, h, (file, one, java)) = filled (tail_is (tail_is (tail_is e)) ∙ one)
+
+protocol_word : (command : Command) (p : Word) (more : List Word) → IsCommand command (conform ∷ p ∷ more) → IsFileOf (codes ".scr") p
+protocol_word (Translate folder files) p more (e, h, k) = apart_first (sym (head_is e))
+protocol_word (Conform files) p more (e, h) = subst (IsFileOf (codes ".scr")) (sym (head_is (tail_is e ∙ h.two))) h.scribble
+protocol_word (Run class files) p more (e, h, k) = apart_last (head_is e)
+
+calls_word : (command : Command) (p c : Word) (more : List Word) → IsCommand command (conform ∷ p ∷ c ∷ more) → IsFileName c × (more ≡ [])
+calls_word (Translate folder files) p c more (e, h, k) = apart_first (sym (head_is e))
+calls_word (Conform files) p c more (e, h) = let two = tail_is e ∙ h.two in (subst IsFileName (sym (head_is (tail_is two))) h.named, tail_is (tail_is two))
+calls_word (Run class files) p c more (e, h, k) = apart_last (head_is e)
+
+conform_is_none : (command : Command) → IsCommand command (conform ∷ []) → ⊥
+conform_is_none (Translate folder files) (e, h, k) = apart_first (sym (head_is e))
+conform_is_none (Conform files) (e, h) = filled (tail_is e ∙ h.two)
+conform_is_none (Run class files) (e, h, k) = apart_last (head_is e)
+
+protocol_is_none : (protocol : Word) (command : Command) → IsCommand command (conform ∷ protocol ∷ []) → ⊥
+protocol_is_none protocol (Translate folder files) (e, h, k) = apart_first (sym (head_is e))
+protocol_is_none protocol (Conform files) (e, h) = filled (tail_is (tail_is e ∙ h.two))
+protocol_is_none protocol (Run class files) (e, h, k) = apart_last (head_is e)
 
 -- ---- what is judged: where words are lacking, and where one can't follow
 
-few : (words rest : List Word) → length rest ≡ 0 → AreWrong words None → AreWrong (words ++ rest) None
-few words [] e h = subst (λ (ws : List Word). AreWrong ws None) (sym (nothing words)) h where
-  nothing : (xs : List Word) → xs ++ [] ≡ xs
-  nothing [] = refl
-  nothing (x ∷ xs) = ap (λ (z : List Word). x ∷ z) (nothing xs)
-few words (w ∷ ws) e h = absurd (omega (arith, e))
+few : (words rest : List Word) → length rest ≡ 0 → CanBegin AreCommand words → ((command : Command) → IsCommand command words → ⊥) → AreWrong (words ++ rest) None
+few words rest e can isnt =
+    subst (λ (ws : List Word). AreWrong ws None) (sym (ap (λ (z : List Word). words ++ z) (empty_is rest e) ∙ nothing words)) (can, λ k. isnt k.0 k.1) where
+      nothing : (xs : List Word) → xs ++ [] ≡ xs
+      nothing [] = refl
+      nothing (x ∷ xs) = ap (λ (z : List Word). x ∷ z) (nothing xs)
 
 pub few_none : (rest : List Word) → length rest ≡ 0 → AreWrong rest None
-few_none rest e = few [] rest e (begins_empty, none_is_none)
+few_none rest e = few [] rest e begins_empty none_is_none
+
+no_files : (command : Command) (folder : Option Word) → IsCommand command (translate ∷ (out_words folder ++ [])) → ⊥
+no_files command folder is = (translate_files command folder [] (λ n r. filled) is).0 refl
 
 pub few_translate : (rest : List Word) → length rest ≡ 0 → AreWrong (translate ∷ rest) None
-few_translate rest e = few (translate ∷ []) rest e (begins_translate, translate_is_none)
+few_translate rest e = few (translate ∷ []) rest e begins_translate (λ command. no_files command None)
+
+pub few_out : (rest : List Word) → length rest ≡ 0 → AreWrong (translate ∷ out ∷ rest) None
+few_out rest e = few (translate ∷ out ∷ []) rest e begins_out out_is_none
+
+pub few_files : (folder : Option Word) (files : List Word) → IfSome folder IsFileName → length files ≡ 0 → AreWrong (translate ∷ (out_words folder ++ files)) None
+few_files folder files name e =
+    subst (λ (z : List Word). AreWrong (translate ∷ (out_words folder ++ z)) None) (sym (empty_is files e)) (
+      begins_files folder [] name (none_yet _),
+      λ k. no_files k.0 folder k.1,
+    )
+
+pub few_conform : (rest : List Word) → length rest ≡ 0 → AreWrong (conform ∷ rest) None
+few_conform rest e = few (conform ∷ []) rest e begins_conform conform_is_none
+
+pub few_protocol : (rest : List Word) (protocol : Word) (more : List Word) → rest ≡ protocol ∷ more → IsFileOf (codes ".scr") protocol → length more ≡ 0 → AreWrong (conform ∷ rest) None
+few_protocol rest protocol more is h e =
+    subst (λ (z : List Word). AreWrong (conform ∷ z) None) (sym is) (few (conform ∷ protocol ∷ []) more e (begins_protocol protocol h) (protocol_is_none protocol))
 
 pub few_run : (rest : List Word) → length rest ≡ 0 → AreWrong (run ∷ rest) None
-few_run rest e = few (run ∷ []) rest e (begins_run, run_is_none)
+few_run rest e = few (run ∷ []) rest e begins_run run_is_none
 
 pub few_main : (rest : List Word) → length rest ≡ 0 → AreWrong (run ∷ main ∷ rest) None
-few_main rest e = few (run ∷ main ∷ []) rest e (begins_main, main_is_none)
+few_main rest e = few (run ∷ main ∷ []) rest e begins_main main_is_none
 
 pub few_class : (class : Word) (rest : List Word) → IsClassName class → length rest ≡ 0 → AreWrong (run ∷ main ∷ class ∷ rest) None
-few_class class rest h e = few (run ∷ main ∷ class ∷ []) rest e (begins_class class h, class_is_none class)
+few_class class rest h e = few (run ∷ main ∷ class ∷ []) rest e (begins_class class h) (class_is_none class)
 
 -- the word behind words that can begin a command is the first wrong one, where the words can't begin one with it
-first_wrong : (before : List Word) (word : Word) (more : List Word) → CanBegin before → (CanBegin (before ++ word ∷ []) → ⊥) → AreWrong (before ++ word ∷ more) (Some word)
+first_wrong : (before : List Word) (word : Word) (more : List Word) → CanBegin AreCommand before → (CanBegin AreCommand (before ++ word ∷ []) → ⊥) → AreWrong (before ++ word ∷ more) (Some word)
 first_wrong before word more can cannot = record { before = before; after = more; stands = refl; begins = can; wrong = cannot }
 
 -- the same of words that are told by their first and the rest
-wrong_at : (before rest : List Word) (word : Word) (more : List Word) → rest ≡ word ∷ more → CanBegin before → (CanBegin (before ++ word ∷ []) → ⊥) → AreWrong (before ++ rest) (Some word)
+wrong_at : (before rest : List Word) (word : Word) (more : List Word) → rest ≡ word ∷ more → CanBegin AreCommand before → (CanBegin AreCommand (before ++ word ∷ []) → ⊥) → AreWrong (before ++ rest) (Some word)
 wrong_at before rest word more e can cannot = subst (λ (ws : List Word). AreWrong (before ++ ws) (Some word)) (sym e) (first_wrong before word more can cannot)
 
-pub wrong_command : (rest : List Word) (word : Word) (more : List Word) → rest ≡ word ∷ more → (word ≡ translate → ⊥) → (word ≡ run → ⊥) → AreWrong rest (Some word)
-wrong_command rest word more e isnt isnt' = wrong_at [] rest word more e begins_empty (λ b. neither (first_word b.command word b.more b.is)) where
-  neither : (word ≡ translate) ⊎ (word ≡ run) → ⊥
+pub wrong_command : (rest : List Word) (word : Word) (more : List Word) → rest ≡ word ∷ more → (word ≡ translate → ⊥) → (word ≡ conform → ⊥) → (word ≡ run → ⊥) → AreWrong rest (Some word)
+wrong_command rest word more e isnt isnt' isnt'' = wrong_at [] rest word more e begins_empty (λ b. neither (first_word b.1.0 word b.0 b.1.1)) where
+  neither : (word ≡ translate) ⊎ (word ≡ conform) ⊎ (word ≡ run) → ⊥
   neither (inl h) = isnt h
-  neither (inr h) = isnt' h
+  neither (inr (inl h)) = isnt' h
+  neither (inr (inr h)) = isnt'' h
 
-pub wrong_source : (rest : List Word) (word : Word) (more : List Word) → rest ≡ word ∷ more → (IsFileOf (codes ".scr") word → ⊥) → AreWrong (translate ∷ rest) (Some word)
-wrong_source rest word more e isnt = wrong_at (translate ∷ []) rest word more e begins_translate (λ b. isnt (source_word b.command word b.more b.is).0)
+pub wrong_protocol : (rest : List Word) (word : Word) (more : List Word) → rest ≡ word ∷ more → (IsFileOf (codes ".scr") word → ⊥) → AreWrong (conform ∷ rest) (Some word)
+wrong_protocol rest word more e isnt = wrong_at (conform ∷ []) rest word more e begins_conform (λ b. isnt (protocol_word b.1.0 word b.0 b.1.1))
 
-pub wrong_more : (rest : List Word) (file word : Word) (more more' : List Word) → rest ≡ file ∷ more → more ≡ word ∷ more' → IsFileOf (codes ".scr") file → AreWrong (translate ∷ rest) (Some word)
-wrong_more rest file word more more' e e' h =
-    subst (λ (ws : List Word). AreWrong (translate ∷ ws) (Some word)) (sym e)
-    (wrong_at (translate ∷ file ∷ []) more word more' e' (begins_source file h) (λ b. filled (sym (source_word b.command file (word ∷ b.more) b.is).1)))
+pub wrong_calls : (rest : List Word) (protocol word : Word) (more more' : List Word) → rest ≡ protocol ∷ more → more ≡ word ∷ more' → IsFileOf (codes ".scr") protocol → (IsFileName word → ⊥) → AreWrong (conform ∷ rest) (Some word)
+wrong_calls rest protocol word more more' e e' h isnt =
+    subst (λ (ws : List Word). AreWrong (conform ∷ ws) (Some word)) (sym e)
+    (wrong_at (conform ∷ protocol ∷ []) more word more' e' (begins_protocol protocol h) (λ b. isnt (calls_word b.1.0 protocol word b.0 b.1.1).0))
+
+pub wrong_third : (rest : List Word) (protocol calls word : Word) (more more' more'' : List Word) → rest ≡ protocol ∷ more → more ≡ calls ∷ more' → more' ≡ word ∷ more'' → IsFileOf (codes ".scr") protocol → IsFileName calls → AreWrong (conform ∷ rest) (Some word)
+wrong_third rest protocol calls word more more' more'' e e' e'' h h' =
+    subst (λ (ws : List Word). AreWrong (conform ∷ ws) (Some word)) (sym (e ∙ ap (λ (z : List Word). protocol ∷ z) e'))
+    (wrong_at (conform ∷ protocol ∷ calls ∷ []) more' word more'' e'' (begins_calls protocol calls h h') (λ b. filled (sym (calls_word b.1.0 protocol calls (word ∷ b.0) b.1.1).1)))
+
+pub both_files : (rest : List Word) (protocol calls : Word) (more more' : List Word) → rest ≡ protocol ∷ more → more ≡ calls ∷ more' → length more' ≡ 0 → IsFileOf (codes ".scr") protocol → IsFileName calls → AreProtocolAndCalls rest
+both_files rest protocol calls more more' e e' n h h' =
+    record { protocol = protocol; calls = calls; two = e ∙ ap (λ (z : List Word). protocol ∷ z) (e' ∙ ap (λ (z : List Word). calls ∷ z) (empty_is more' n)); scribble = h; named = h' }
+
+pub wrong_folder : (rest : List Word) (word : Word) (more : List Word) → rest ≡ word ∷ more → (IsFileName word → ⊥) → AreWrong (translate ∷ out ∷ rest) (Some word)
+wrong_folder rest word more e isnt = wrong_at (translate ∷ out ∷ []) rest word more e begins_out (λ b. isnt (folder_word b.1.0 word b.0 b.1.1))
+
+-- words that don't begin with the option don't with other words at their end
+still_plain : (before : List Word) (word : Word) (after more : List Word) → ((r : List Word) → before ++ word ∷ after ≡ out ∷ r → ⊥) → (r : List Word) → before ++ word ∷ more ≡ out ∷ r → ⊥
+still_plain [] word after more plain r e = plain after (ap (λ (w : Word). w ∷ after) (head_is e))
+still_plain (b ∷ bs) word after more plain r e = plain (bs ++ word ∷ after) (ap (λ (w : Word). w ∷ (bs ++ word ∷ after)) (head_is e))
+
+pub wrong_file : (folder : Option Word) (files : List Word) (word : Word) → IfSome folder IsFileName → (folder ≡ None → (r : List Word) → files ≡ out ∷ r → ⊥)
+    → IsFirstOther (IsFileOf (codes ".scr")) files (Some word) → AreWrong (translate ∷ (out_words folder ++ files)) (Some word)
+wrong_file folder files word name plain (before, after, is, each, isnt) = record {
+  before = translate ∷ (out_words folder ++ before);
+  after = after;
+  stands = ap (λ (z : List Word). translate ∷ z) (ap (λ (z : List Word). out_words folder ++ z) is ∙ sym (append_assoc (out_words folder) before (word ∷ after)));
+  begins = begins_files folder before name each;
+  wrong = λ b. isnt (found b);
+} where
+  found : CanBegin AreCommand ((translate ∷ (out_words folder ++ before)) ++ word ∷ []) → IsFileOf (codes ".scr") word
+  found (more, (command, k)) =
+      let split : ((translate ∷ (out_words folder ++ before)) ++ word ∷ []) ++ more ≡ translate ∷ (out_words folder ++ (before ++ word ∷ more)) =
+      append_assoc (translate ∷ (out_words folder ++ before)) (word ∷ []) more ∙ ap (λ (z : List Word). translate ∷ z) (append_assoc (out_words folder) before (word ∷ more)) in
+      let there : IsCommand command (translate ∷ (out_words folder ++ (before ++ word ∷ more))) = subst (IsCommand command) split k in
+      let still = λ (n : folder ≡ None). still_plain before word after more (λ r e. plain n r (is ∙ e)) in
+      All-mid (IsFileOf (codes ".scr")) before word more (translate_files command folder (before ++ word ∷ more) still there).1
 
 pub wrong_main : (rest : List Word) (word : Word) (more : List Word) → rest ≡ word ∷ more → (word ≡ main → ⊥) → AreWrong (run ∷ rest) (Some word)
-wrong_main rest word more e isnt = wrong_at (run ∷ []) rest word more e begins_run (λ b. isnt (main_word b.command word b.more b.is))
+wrong_main rest word more e isnt = wrong_at (run ∷ []) rest word more e begins_run (λ b. isnt (main_word b.1.0 word b.0 b.1.1))
 
 pub wrong_class : (rest : List Word) (word : Word) (more : List Word) → rest ≡ word ∷ more → (IsClassName word → ⊥) → AreWrong (run ∷ main ∷ rest) (Some word)
-wrong_class rest word more e isnt = wrong_at (run ∷ main ∷ []) rest word more e begins_main (λ b. isnt (class_word b.command main word b.more b.is))
+wrong_class rest word more e isnt = wrong_at (run ∷ main ∷ []) rest word more e begins_main (λ b. isnt (class_word b.1.0 main word b.0 b.1.1))
 
 pub wrong_java : (class : Word) (rest : List Word) (word : Word) (more : List Word) → IsClassName class → rest ≡ word ∷ more → (IsFileOf (codes ".java") word → ⊥) → AreWrong (run ∷ main ∷ class ∷ rest) (Some word)
 wrong_java class rest word more h e isnt =
-    wrong_at (run ∷ main ∷ class ∷ []) rest word more e (begins_class class h) (λ b. isnt (java_word b.command main class word b.more b.is).0)
+    wrong_at (run ∷ main ∷ class ∷ []) rest word more e (begins_class class h) (λ b. isnt (java_word b.1.0 main class word b.0 b.1.1).0)
 
 pub wrong_surplus : (class : Word) (rest : List Word) (file word : Word) (more more' : List Word) → IsClassName class → rest ≡ file ∷ more → more ≡ word ∷ more' → IsFileOf (codes ".java") file → AreWrong (run ∷ main ∷ class ∷ rest) (Some word)
 wrong_surplus class rest file word more more' h e e' h' =
     subst (λ (ws : List Word). AreWrong (run ∷ main ∷ class ∷ ws) (Some word)) (sym e)
-    (wrong_at (run ∷ main ∷ class ∷ file ∷ []) more word more' e' (begins_java class file h h') (λ b. filled (sym (java_word b.command main class file (word ∷ b.more) b.is).1)))
+    (wrong_at (run ∷ main ∷ class ∷ file ∷ []) more word more' e' (begins_java class file h h') (λ b. filled (sym (java_word b.1.0 main class file (word ∷ b.0) b.1.1).1)))
+
+-- ---- a command is one thing
 
 -- words that are a command aren't wrong
 pub wrong_is_none : (words : List Word) (word : Option Word) (command : Command) → AreWrong words word → IsCommand command words → ⊥
-wrong_is_none words None command h is = h.1 command is
+wrong_is_none words None command h is = h.1 (command, is)
 wrong_is_none words (Some word) command h is =
-    h.wrong (record { command = command; more = h.after; is = rw (append_assoc h.before (word ∷ []) h.after, ← h.stands) is })
+    h.wrong (h.after, (command, subst (IsCommand command) (h.stands ∙ sym (append_assoc h.before (word ∷ []) h.after)) is))
 
 -- words are one command at most
 pub same_command : (words : List Word) (a b : Command) → IsCommand a words → IsCommand b words → a ≡ b
-same_command words (Translate f) (Translate g) (e, h) (e', h') = ap Translate (head_is (tail_is (sym e ∙ e')))
-same_command words (Translate f) (Run c g) (e, h) (e', h', j') = apart (head_is (sym e ∙ e'))
-same_command words (Run c f) (Translate g) (e, h, j) (e', h') = apart (sym (head_is (sym e ∙ e')))
-same_command words (Run c f) (Run d g) (e, h, j) (e', h', j') =
+same_command words (Translate None f) (Translate None g) (e, h, k) (e', h', k') = ap (Translate None) (tail_is (sym e ∙ e'))
+same_command words (Translate None f) (Translate (Some d) g) (e, h, each) (e', h', each') = no_file f (d ∷ g) (tail_is (sym e' ∙ e)) each
+same_command words (Translate (Some c) f) (Translate None g) (e, h, each) (e', h', each') = no_file g (c ∷ f) (tail_is (sym e ∙ e')) each'
+same_command words (Translate (Some c) f) (Translate (Some d) g) (e, h, k) (e', h', k') =
     let rest = tail_is (tail_is (sym e ∙ e')) in
-    (λ i. Run (head_is rest i) (head_is (tail_is rest) i))
+    (λ i. Translate (Some (head_is rest i)) (tail_is rest i))
+same_command words (Translate c f) (Conform g) (e, h, k) (e', h') = apart_first (head_is (sym e ∙ e'))
+same_command words (Conform f) (Translate d g) (e, h) (e', h', k') = apart_first (sym (head_is (sym e ∙ e')))
+same_command words (Conform f) (Conform g) (e, h) (e', h') = ap Conform (tail_is (sym e ∙ e'))
+same_command words (Conform f) (Run d g) (e, h) (e', h', k') = apart_last (head_is (sym e ∙ e'))
+same_command words (Run c f) (Conform g) (e, h, k) (e', h') = apart_last (sym (head_is (sym e ∙ e')))
+same_command words (Translate c f) (Run d g) (e, h, k) (e', h', k') = apart (head_is (sym e ∙ e'))
+same_command words (Run c f) (Translate d g) (e, h, k) (e', h', k') = apart (sym (head_is (sym e ∙ e')))
+same_command words (Run c f) (Run d g) (e, h, k) (e', h', k') =
+    let rest = tail_is (tail_is (sym e ∙ e')) in
+    (λ i. Run (head_is rest i) (tail_is rest i))
 
 -- ---- the end of a file's name
 
@@ -238,3 +428,19 @@ pass_all p (c ∷ cs) (first, rest) = rw first (pass_all p cs rest)
 -- whether all bytes pass tells whether they all pass
 pub passes_is : (r : Bool) (p : ℕ → Bool) (bytes : List ℕ) → r ≡ list_all p bytes → (r ≡ true → AllPasses p bytes) × (AllPasses p bytes → r ≡ true)
 passes_is r p bytes e = (λ t. all_pass p bytes (sym e ∙ t), λ h. e ∙ pass_all p bytes h)
+
+-- ---- words in the code
+
+-- words, cut at one of them
+pub at_index : (words : List Word) (i : ℕ) (word : Word) → i < length words → word ≡ get_or words i word → words ≡ take i words ++ word ∷ drop (suc i) words
+at_index words i word within is =
+    sym (take-append-drop i words) ∙ ap (λ (z : List Word). take i words ++ z) (drop-cons words i word within ∙ ap (λ (z : Word). z ∷ drop (suc i) words) (sym is))
+
+-- an option of a folder, seen through a reference
+pub named_folder : (folder : Option (Bor Word)) → IfSome folder (λ f. IsFileName f.now) → IfSome (option_map (λ f. f.now) folder) IsFileName
+named_folder None h = tt
+named_folder (Some f) h = h
+
+pub no_folder : (folder : Option (Bor Word)) → option_map (λ f. f.now) folder ≡ None → folder ≡ None
+no_folder None e = refl
+no_folder (Some f) e = let no : ⊥ = cc in absurd no

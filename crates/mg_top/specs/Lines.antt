@@ -1,4 +1,4 @@
--- The lines that are said of faults.
+-- The lines that are said of faults and of runs.
 use Rattle.std.specs.Prelude.{ℕ, List, [], ◌∷◌, ◌++◌, Option, Some, None, codes}
 use Rattle.std.specs.Fmt.{decimal}
 use Rattle.mg_text.specs.declared.place.Place.{Place}
@@ -26,9 +26,24 @@ write_line file = ended (codes "mungo: write " ++ file)
 abbrev pub memory_line : List ℕ
 memory_line = ended (codes "mungo: memory")
 
--- a fault of a file, at its place
-abbrev pub fault_line : Word → Place → List ℕ → List ℕ
-fault_line file place fault = ended (file ++ codes ":" ++ decimal place.line ++ codes ":" ++ decimal place.column ++ codes ": " ++ fault)
+-- what is at fault in a file: its kind, its place, and what is named, which is empty where nothing is
+pub record Fault : Type 0 where
+  pub kind : List ℕ
+  pub place : Place
+  pub name : List ℕ
+
+abbrev pub fault_at : List ℕ → Place → List ℕ → Fault
+fault_at kind place name = record { kind = kind; place = place; name = name }
+
+-- behind a fault stand a blank and the name, if there is one
+abbrev pub fault_name : List ℕ → List ℕ
+fault_name [] = []
+fault_name (c ∷ cs) = codes " " ++ c ∷ cs
+
+-- a fault of a file
+abbrev pub fault_line : Word → Fault → List ℕ
+fault_line file fault =
+    ended (file ++ codes ":" ++ decimal fault.place.line ++ codes ":" ++ decimal fault.place.column ++ codes ": " ++ fault.kind ++ fault_name fault.name)
 
 -- a class of the words can't be run
 abbrev pub no_main_line : Word → List ℕ
@@ -36,12 +51,16 @@ no_main_line class = ended (codes "mungo: NoMain " ++ class)
 
 -- why a class of a source isn't run
 abbrev pub run_line : (class file : Word) → RunFault → List ℕ
-run_line class file (run_faults.TooLarge place) = fault_line file place (codes "TooLarge")
-run_line class file (run_faults.Unsupported place) = fault_line file place (codes "Unsupported")
+run_line class file (run_faults.TooLarge place) = fault_line file (fault_at (codes "TooLarge") place [])
+run_line class file (run_faults.Unsupported place) = fault_line file (fault_at (codes "Unsupported") place [])
 run_line class file run_faults.NoMain = no_main_line class
-run_line class file (run_faults.CodeTooLong place) = fault_line file place (codes "CodeTooLong main")
-run_line class file (run_faults.TextTooLong place) = fault_line file place (codes "TextTooLong main")
+run_line class file (run_faults.CodeTooLong place) = fault_line file (fault_at (codes "CodeTooLong") place (codes "main"))
+run_line class file (run_faults.TextTooLong place) = fault_line file (fault_at (codes "TextTooLong") place (codes "main"))
 run_line class file run_faults.Memory = memory_line
+
+-- the first call that a protocol doesn't offer, by its line
+abbrev pub not_offered_line : ℕ → List ℕ
+not_offered_line line = ended (codes "line " ++ decimal line ++ codes ": not offered")
 
 -- how a run went
 abbrev pub ran_line : ℕ → List ℕ

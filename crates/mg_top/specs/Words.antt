@@ -1,15 +1,28 @@
 -- The words of the command line: the lists of words that are commands, and the first word that can't follow.
-use Rattle.std.specs.Prelude.{◌≡◌, ◌≢◌, ◌≤◌, ℕ, List, [], ◌∷◌, ◌++◌, length, Option, Some, None, codes}
-use Rattle.scr_lex.specs.Pieces.{StartsName, AllPasses, is_name_byte, reserved}
+use Rattle.std.specs.Prelude.{◌≡◌, ◌≢◌, ◌≤◌, ℕ, List, [], ◌∷◌, ◌++◌, All, length, Option, Some, None, IfSome, codes}
+use Rattle.mg_read.specs.Letters.{is_name_byte}
+use Rattle.mg_read.specs.Passes.{AllPasses}
+use Rattle.scr_tree.specs.Words.{reserved}
+use Rattle.scr_lex.specs.Pieces.{StartsName}
 
 abbrev pub Word : Type 0
 Word = List ℕ
 
 pub data Command : Type 0 where
-  Translate : (file : Word) → Command
-  Run : (class file : Word) → Command
+  -- write the typestates of these files' protocols, into a folder where one is named
+  Translate : (folder : Option Word) → (files : List Word) → Command
+  -- tell whether the calls of the second file follow the protocol of the first
+  Conform : (files : List Word) → Command
+  -- run the `main` of a class of the file
+  Run : (class : Word) → (files : List Word) → Command
 
--- no name of a file is empty or begins with "-"
+-- the files that a command reads, in their order
+abbrev pub files_of : Command → List Word
+files_of (Translate folder files) = files
+files_of (Conform files) = files
+files_of (Run class files) = files
+
+-- no name of a file or folder is empty or begins with "-"
 abbrev pub IsFileName : Word → Type 0
 IsFileName [] = ⊥
 IsFileName (c ∷ cs) = c ≢ 45
@@ -21,35 +34,56 @@ EndsWith suffix word = (front : List ℕ) × (word ≡ front ++ suffix)
 abbrev pub IsFileOf : List ℕ → Word → Type 0
 IsFileOf suffix word = IsFileName word × EndsWith suffix word
 
+-- one or more names of files with this ending
+abbrev pub AreFilesOf : List ℕ → List Word → Type 0
+AreFilesOf suffix files = (files ≢ []) × All (IsFileOf suffix) files
+
+-- the name of a file of a protocol, and that of a file of calls
+pub record AreProtocolAndCalls (files : List Word) : Type 0 where
+  pub protocol : Word
+  pub calls : Word
+  pub two : files ≡ protocol ∷ calls ∷ []
+  pub scribble : IsFileOf (codes ".scr") protocol
+  pub named : IsFileName calls
+
 -- a name as Scribble has them, which is no reserved word
 abbrev pub IsClassName : Word → Type 0
 IsClassName word = StartsName word × AllPasses is_name_byte word × (length word ≤ 255) × (reserved word ≡ None)
 
+-- the option that names a folder
+abbrev pub out_words : Option Word → List Word
+out_words None = []
+out_words (Some folder) = codes "--out" ∷ folder ∷ []
+
 -- these words are this command
 abbrev pub IsCommand : Command → List Word → Type 0
-IsCommand (Translate file) words = (words ≡ codes "translate" ∷ file ∷ []) × IsFileOf (codes ".scr") file
-IsCommand (Run class file) words = (words ≡ codes "run" ∷ codes "--main" ∷ class ∷ file ∷ []) × IsClassName class × IsFileOf (codes ".java") file
+IsCommand (Translate folder files) words =
+    (words ≡ codes "translate" ∷ (out_words folder ++ files)) × IfSome folder IsFileName × AreFilesOf (codes ".scr") files
+IsCommand (Conform files) words = (words ≡ codes "conform" ∷ files) × AreProtocolAndCalls files
+IsCommand (Run class files) words =
+    (words ≡ codes "run" ∷ codes "--main" ∷ class ∷ files) × IsClassName class × ((file : Word) × (files ≡ file ∷ []) × IsFileOf (codes ".java") file)
 
--- the file that a command reads
-abbrev pub file_of : Command → Word
-file_of (Translate file) = file
-file_of (Run class file) = file
+-- these words are a command
+abbrev pub AreCommand : List Word → Type 0
+AreCommand words = (command : Command) × IsCommand command words
 
--- some command begins with these words
-pub record CanBegin (words : List Word) : Type 0 where
-  pub command : Command
-  pub more : List Word
-  pub is : IsCommand command (words ++ more)
+-- some list of words that is in the grammar begins with these words
+abbrev pub CanBegin : (List Word → Type 0) → List Word → Type 0
+CanBegin grammar words = (more : List Word) × grammar (words ++ more)
 
 -- the first word that can't follow those before it
-pub record IsFirstWrong (words : List Word) (word : Word) : Type 0 where
+pub record IsFirstWrong (grammar : List Word → Type 0) (words : List Word) (word : Word) : Type 0 where
   pub before : List Word
   pub after : List Word
   pub stands : words ≡ before ++ word ∷ after
-  pub begins : CanBegin before
-  pub wrong : CanBegin (before ++ word ∷ []) → ⊥
+  pub begins : CanBegin grammar before
+  pub wrong : CanBegin grammar (before ++ word ∷ []) → ⊥
 
--- The words are no command: because of this word, or because words are lacking at the end.
+-- The words aren't in a grammar: because of this word, or because words are lacking at the end.
+abbrev pub AreOutside : (List Word → Type 0) → List Word → Option Word → Type 0
+AreOutside grammar words (Some word) = IsFirstWrong grammar words word
+AreOutside grammar words None = CanBegin grammar words × (grammar words → ⊥)
+
+-- the words are no command
 abbrev pub AreWrong : List Word → Option Word → Type 0
-AreWrong words (Some word) = IsFirstWrong words word
-AreWrong words None = CanBegin words × ((command : Command) → IsCommand command words → ⊥)
+AreWrong = AreOutside AreCommand

@@ -2,9 +2,12 @@
 //! Its contract carries what the whole program promises.
 #![tactic(auto)]
 
+mod conform;
+mod delivery;
 mod lines;
-mod report;
+mod reading;
 mod run;
+mod sources;
 mod status;
 #[cfg(test)]
 mod tests;
@@ -14,6 +17,3 @@ mod words;
 
 pub use status::Status;
 pub use top::mungo;
-
-/// How much of a file is read: one byte more than a file may hold.
-const READ_LIMIT: usize = 1_048_577;

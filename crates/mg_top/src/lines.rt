@@ -1,7 +1,7 @@
 //! The lines that are said of faults and of runs.
 
-ghost use Rattle.std.specs.Prelude.{◌≡◌, IfOk, option_map};
-ghost use Rattle.mg_top.specs.Lines.{words_line, read_line, write_line, fault_line, no_main_line, run_line, ran_line};
+ghost use Rattle.std.specs.Prelude.{◌≡◌, ◌++◌, IfOk, OnOk, option_map, string_bytes};
+ghost use Rattle.mg_top.specs.Lines.{words_line, read_line, write_line, fault_line, fault_name, no_main_line, not_offered_line, run_line, ran_line};
 
 use mg_run::RunFault;
 use mg_text::{Memory, Place, Text};
@@ -43,17 +43,36 @@ pub fn unwritten(alloc: Global, file: &Text) -> Result<Text, Memory>
     Ok(Text::from_string(line))
 }
 
-/// A file is refused, at a place of it.
-pub fn fault(alloc: Global, file: &Text, place: Place, fault: &str) -> Result<Text, Memory>
-    ensures { IfOk result (λ t. t ≡ fault_line file.now place fault.now) }
+/// A file is refused, at a place of it; the name is empty where the fault names nothing.
+pub fn fault(
+    alloc: Global,
+    file: &Text,
+    place: Place,
+    kind: &str,
+    name: &str,
+) -> Result<Text, Memory>
+    ensures { IfOk result
+        (λ t. t ≡ fault_line file.now (record { kind = kind.now; place = place; name = name.now })) }
 {
     let line = place.line;
     let column = place.column;
     let mut text = String::from_str(alloc, file.as_str())?;
     write!(text, ":{line}:{column}: ")?;
-    text.push_str(fault)?;
+    text.push_str(kind)?;
+    push_name(&mut text, name)?;
     text.push_str("\n")?;
     Ok(Text::from_string(text))
+}
+
+// Appends a blank and a name, if there is one.
+fn push_name(text: &mut String, name: &str) -> Result<(), Memory>
+    ensures { OnOk result (string_bytes text.new ≡ string_bytes text.old ++ fault_name name.now) }
+{
+    if !name.is_empty() {
+        text.push_str(" ")?;
+        text.push_str(name)?;
+    }
+    Ok(())
 }
 
 /// A class of the words can't be run, or its source is refused.
@@ -61,11 +80,11 @@ pub fn not_run(alloc: Global, class: &Text, file: &Text, reason: RunFault) -> Re
     ensures { IfOk result (λ t. t ≡ run_line class.now file.now reason) }
 {
     match reason {
-        RunFault::TooLarge { place } => fault(alloc, file, place, "TooLarge"),
-        RunFault::Unsupported { place } => fault(alloc, file, place, "Unsupported"),
+        RunFault::TooLarge { place } => fault(alloc, file, place, "TooLarge", ""),
+        RunFault::Unsupported { place } => fault(alloc, file, place, "Unsupported", ""),
         RunFault::NoMain => no_main(alloc, class),
-        RunFault::CodeTooLong { place } => fault(alloc, file, place, "CodeTooLong main"),
-        RunFault::TextTooLong { place } => fault(alloc, file, place, "TextTooLong main"),
+        RunFault::CodeTooLong { place } => fault(alloc, file, place, "CodeTooLong", "main"),
+        RunFault::TextTooLong { place } => fault(alloc, file, place, "TextTooLong", "main"),
         RunFault::Memory => Text::of(alloc, MEMORY),
     }
 }
@@ -76,6 +95,17 @@ fn no_main(alloc: Global, class: &Text) -> Result<Text, Memory>
 {
     let mut line = String::from_str(alloc, "mungo: NoMain ")?;
     line.push_str(class.as_str())?;
+    line.push_str("\n")?;
+    Ok(Text::from_string(line))
+}
+
+/// A call of this line isn't offered.
+pub fn not_offered(alloc: Global, number: u32) -> Result<Text, Memory>
+    ensures { IfOk result (λ t. t ≡ not_offered_line number) }
+{
+    let mut line = String::from_str(alloc, "line ")?;
+    write!(line, "{number}")?;
+    line.push_str(": not offered")?;
     line.push_str("\n")?;
     Ok(Text::from_string(line))
 }

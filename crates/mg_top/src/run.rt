@@ -1,85 +1,59 @@
 //! The command `run`: the `main` of a class is compiled, and the bytes of its class file are run.
 
-ghost use Rattle.std.specs.Prelude.{◌∷◌, codes, []};
-ghost use Rattle.mg_top.specs.Words.{IsClassName, IsFileOf};
-ghost use Rattle.mg_top.specs.Outside.{outside, stream};
-ghost use Rattle.mg_top.specs.Reporting.{Presents, Declines};
-ghost use Rattle.mg_top.specs.Way.{Way, Says};
+ghost use Rattle.std.specs.Prelude.{◌≡◌, ◌∷◌, ◌++◌, ◌≤◌, [], length, IfOk};
+ghost use Rattle.mg_top.specs.Words.{Run};
+ghost use Rattle.mg_top.specs.Commands.{Yields, prints};
+ghost use Rattle.mg_top.specs.Lines.{ran_line};
+ghost use Rattle.mg_top.specs.inner.Preparing.{IsRunRefusal};
 
-use crate::report::{put, report, starve};
-use crate::{READ_LIMIT, Status, lines};
-use mg_io::{Folder, IoFault, Sink};
+use crate::delivery::{Action, Delivery};
+use crate::{Status, lines};
 use mg_run::{RunFault, Shown, run_source};
-use mg_text::Text;
+use mg_text::{List, Memory, Text};
 use std::alloc::Global;
 
-/// Reads the file, runs `main` of the class and says what it printed, and how the run went.
-pub fn run<F: Folder, O: Sink, E: Sink>(
-    alloc: Global,
-    class: &Text,
-    file: &Text,
-    folder: &mut F,
-    out: &mut O,
-    err: &mut E,
-) -> Status
-    requires class { IsClassName class.now }
-    requires file { IsFileOf (codes ".java") file.now }
-    ensures { Way (codes "run" ∷ codes "--main" ∷ class.now ∷ file.now ∷ [])
-        (outside (F.files folder.old) (F.failed_reads folder.old) (F.failed_writes folder.old)
-        (stream (O.bytes out.old) (O.faults out.old)) (stream (E.bytes err.old) (E.faults err.old)))
-        result
-        (outside (F.files folder.new) (F.failed_reads folder.new) (F.failed_writes folder.new)
-        (stream (O.bytes out.new) (O.faults out.new)) (stream (E.bytes err.new) (E.faults err.new))) }
+/// What the run of the class shows, or why it isn't run.
+pub fn run(alloc: Global, class: &Text, file: &Text, bytes: &[u8]) -> Result<Delivery, Memory>
+    requires { length class.now ≤ 255 }
+    ensures { IfOk result (λ d. Yields (Run class.now (file.now ∷ [])) (bytes.now ∷ []) d.actions.items d.status) }
 {
-    let bytes = match folder.read(alloc, file.as_str(), READ_LIMIT) {
-        Ok(bytes) => bytes,
-        Err(IoFault::Failed) => {
-            return report(err, Status::ReadFault, lines::unread(alloc, file));
-        }
-        Err(IoFault::Memory) => return starve(err),
-    };
-    match run_source(alloc, class, bytes.as_slice()) {
-        Ok(shown) => show(alloc, &shown, out, err),
-        Err(fault) => refuse(alloc, class, file, fault, err),
+    match run_source(alloc, class, bytes) {
+        Ok(shown) => show(alloc, shown),
+        Err(fault) => refuse(alloc, class, file, fault),
     }
 }
 
-// Says on `err` why the class isn't run.
-fn refuse<E: Sink>(alloc: Global, class: &Text, file: &Text, fault: RunFault, err: &mut E) -> Status
-    ensures { Declines class.now file.now fault (stream (E.bytes err.old) (E.faults err.old))
-        result (stream (E.bytes err.new) (E.faults err.new)) }
+// The line that says why the class isn't run.
+fn refuse(alloc: Global, class: &Text, file: &Text, fault: RunFault) -> Result<Delivery, Memory>
+    ensures { IfOk result (λ d. IsRunRefusal class.now file.now fault d.actions.items d.status) }
 {
     match fault {
-        RunFault::Memory => starve(err),
-        refusal => report(
-            err,
-            Status::Refused,
-            lines::not_run(alloc, class, file, refusal),
-        ),
+        RunFault::Memory => Err(Memory),
+        refusal => {
+            let line = lines::not_run(alloc, class, file, refusal)?;
+            Delivery::said(alloc, line, Status::Refused)
+        }
     }
 }
 
-// Puts what was printed on `out`, and says on `err` how the run went; where `out` didn't take it,
-// nothing is said.
-fn show<O: Sink, E: Sink>(alloc: Global, shown: &Shown, out: &mut O, err: &mut E) -> Status
-    ensures { Presents shown.now.printed shown.now.instructions
-        (stream (O.bytes out.old) (O.faults out.old)) (stream (E.bytes err.old) (E.faults err.old))
-        result
-        (stream (O.bytes out.new) (O.faults out.new)) (stream (E.bytes err.new) (E.faults err.new)) }
+// What was printed, in one piece, and how the run went; an empty text isn't put.
+fn show(alloc: Global, shown: Shown) -> Result<Delivery, Memory>
+    ensures actions { IfOk result
+        (λ d. d.actions.items ≡ prints shown.printed ++ Action.Say (ran_line shown.instructions) ∷ []) }
+    ensures status { IfOk result (λ d. d.status ≡ Status.Done) }
 {
-    match print(out, shown.printed.as_slice()) {
-        Status::Done => report(err, Status::Done, lines::ran(alloc, shown.instructions)),
-        stopped => stopped,
+    let Shown {
+        printed,
+        instructions,
+    } = shown;
+    let line = lines::ran(alloc, instructions)?;
+    let mut actions = List::new(alloc);
+    if !printed.is_empty() {
+        actions.push(Action::Print(printed))?;
     }
-}
-
-// Puts what was printed, in one piece; an empty text isn't put.
-fn print<O: Sink>(out: &mut O, printed: &[u8]) -> Status
-    ensures { Says Status.Done printed.now (stream (O.bytes out.old) (O.faults out.old)) result
-        (stream (O.bytes out.new) (O.faults out.new)) }
-{
-    if printed.is_empty() {
-        return Status::Done;
-    }
-    put(out, Status::Done, printed)
+    actions.push(Action::Say(line))?;
+    Ok(Delivery {
+        actions,
+        status: Status::Done,
+    })
 }

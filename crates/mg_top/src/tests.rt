@@ -1,13 +1,38 @@
+//! Worked rows of the top call, over a folder and sinks in memory.
+
 use super::*;
 use mg_io::{FileList, MemFolder, MemSink, NumberList};
 use mg_text::{Memory, Text};
 use std::alloc::Global;
 use std::test::Fail;
 
+/// A protocol of the role C.
 const HELLO: &str = "local protocol P at C(role C, role S) { hi() to S; ho() from S; }";
+
+/// A protocol of the role S.
+const SERVER: &str = "local protocol P at S(role C, role S) { hi() from C; ho() to C; }";
 
 const JAVA: &str =
     "class Hello { public static void main(String[] args) { System.out.println(\"hello\"); } }";
+
+/// The typestate of HELLO.
+const TYPESTATE: &str =
+    "typestate CProtocol {\n    State0 = {\n        void send_hiToS(): State1\n    }\n    \
+    State1 = {\n        void receive_hoFromS(): end\n    }\n}\n";
+
+/// The calls that fail: of the folder, of standard output and of standard error.
+#[derive(Clone, Copy)]
+struct Failing {
+    folder: &'static [u32],
+    out: &'static [u32],
+    err: &'static [u32],
+}
+
+const CALM: Failing = Failing {
+    folder: &[],
+    out: &[],
+    err: &[],
+};
 
 /// How a run ended, and what stands outside after it.
 #[derive(Drop)]
@@ -18,45 +43,24 @@ struct Ended {
     err: MemSink,
 }
 
-// A run on these words with the one file P.scr, whose content this is. The listed calls of the
-// folder fail, and those of standard error.
+// A run on these words with these files.
 fn run_on(
     alloc: Global,
     words: &[&str],
-    content: &[u8],
-    folder_fails: &[u32],
-    err_fails: &[u32],
-) -> Result<Ended, Memory> {
-    run_with(
-        alloc,
-        words,
-        "P.scr",
-        content,
-        folder_fails,
-        [].as_slice(),
-        err_fails,
-    )
-}
-
-// The same with a file of this name, where listed calls of standard output fail too.
-fn run_with(
-    alloc: Global,
-    words: &[&str],
-    file: &str,
-    content: &[u8],
-    folder_fails: &[u32],
-    out_fails: &[u32],
-    err_fails: &[u32],
+    files: &[(&str, &str)],
+    failing: Failing,
 ) -> Result<Ended, Memory> {
     let mut texts = Vec::new(alloc);
     for word in words {
         texts.push(Text::of(alloc, *word)?)?;
     }
-    let mut files = FileList::new(alloc);
-    files.add(alloc, file, content)?;
-    let mut folder = MemFolder::new(alloc, files, NumberList::of(alloc, folder_fails)?);
-    let mut out = MemSink::new(alloc, NumberList::of(alloc, out_fails)?);
-    let mut err = MemSink::new(alloc, NumberList::of(alloc, err_fails)?);
+    let mut list = FileList::new(alloc);
+    for (name, content) in files {
+        list.add(alloc, *name, content.as_bytes())?;
+    }
+    let mut folder = MemFolder::new(alloc, list, NumberList::of(alloc, failing.folder)?)?;
+    let mut out = MemSink::new(alloc, NumberList::of(alloc, failing.out)?);
+    let mut err = MemSink::new(alloc, NumberList::of(alloc, failing.err)?);
     let status = mungo(alloc, texts.as_slice(), &mut folder, &mut out, &mut err);
     Ok(Ended {
         status,
@@ -66,115 +70,90 @@ fn run_with(
     })
 }
 
+// A run with no failing call, which puts this on standard output and this line on standard error.
+fn is_run(
+    alloc: Global,
+    words: &[&str],
+    files: &[(&str, &str)],
+    status: Status,
+    out: &str,
+    err: &str,
+) -> Result<bool, Memory> {
+    let ended = run_on(alloc, words, files, CALM)?;
+    Ok(
+        ended.status == status
+            && ended.out.bytes() == out.as_bytes()
+            && ended.err.bytes() == err.as_bytes(),
+    )
+}
+
 #[test]
-fn a_protocol_becomes_its_typestate(rt: HostRuntime) -> Result<(), Fail> {
-    let words = ["translate", "P.scr"];
-    let ended = run_on(
-        rt.alloc(),
-        words.as_slice(),
-        HELLO.as_bytes(),
-        [].as_slice(),
-        [].as_slice(),
-    )?;
+fn protocols_become_their_typestates(rt: HostRuntime) -> Result<(), Fail> {
+    let files = [("C.scr", HELLO), ("S.scr", SERVER)];
+    let words = ["translate", "--out", "made", "C.scr", "S.scr"];
+    let ended = run_on(rt.alloc(), words.as_slice(), files.as_slice(), CALM)?;
     assert_eq!(rt; ended.status, Status::Done);
-    let wanted =
-        "typestate CProtocol {\n    State0 = {\n        void send_hiToS(): State1\n    }\n    \
-        State1 = {\n        void receive_hoFromS(): end\n    }\n}\n";
-    assert!(rt; ended.folder.content("CProtocol.protocol") == Some(wanted.as_bytes()));
-    assert!(rt; ended.folder.content("P.scr") == Some(HELLO.as_bytes()));
-    assert_eq!(rt; ended.folder.calls(), 2);
+    assert!(rt; ended.folder.content("made/CProtocol.protocol") == Some(TYPESTATE.as_bytes()));
+    assert!(rt; ended.folder.content("made/SProtocol.protocol").is_some());
+    assert_eq!(rt; ended.folder.calls(), 4);
     assert_eq!(rt; ended.out.bytes(), b"".as_slice());
     assert_eq!(rt; ended.err.bytes(), b"".as_slice());
     Ok(())
 }
 
 #[test]
-fn what_is_no_protocol_is_refused(rt: HostRuntime) -> Result<(), Fail> {
-    let words = ["translate", "P.scr"];
-    let alloc = rt.alloc();
-    let large = vec![in alloc; b' '; 1_048_577]?;
-    for (content, line) in [
-        (
-            b"local protocol P at C(role C, role S) { rec X { } }".as_slice(),
-            "P.scr:1:1: Unsupported\n",
-        ),
-        (b"".as_slice(), "P.scr:1:1: Unsupported\n"),
-        (large.as_slice(), "P.scr:1:1: TooLarge\n"),
-    ] {
-        let ended = run_on(
-            alloc,
-            words.as_slice(),
-            content,
-            [].as_slice(),
-            [].as_slice(),
-        )?;
-        assert_eq!(rt; ended.status, Status::Refused, "{line}");
-        assert_eq!(rt; ended.err.bytes(), line.as_bytes(), "{line}");
-        assert_eq!(rt; ended.out.bytes(), b"".as_slice(), "{line}");
-        assert!(rt;
-            ended.folder.content("CProtocol.protocol").is_none(),
-            "{line}"
-        );
-    }
-    Ok(())
-}
-
-#[test]
-fn wrong_words_are_named(rt: HostRuntime) -> Result<(), Fail> {
+fn refusals_and_faulty_words_are_told(rt: HostRuntime) -> Result<(), Fail> {
+    let files = [
+        ("C.scr", HELLO),
+        ("C2.scr", HELLO),
+        ("E.scr", ""),
+        ("Hello.java", JAVA),
+    ];
     for (words, status, line) in [
         (
-            ["translate", "Missing.scr"].as_slice(),
+            ["translate", "E.scr"].as_slice(),
+            Status::Refused,
+            "E.scr:1:1: Syntax\n",
+        ),
+        (
+            ["translate", "C.scr", "C2.scr"].as_slice(),
+            Status::Refused,
+            "C2.scr:1:1: SameRole C\n",
+        ),
+        (
+            ["translate", "C.scr", "C2.scr", "E.scr"].as_slice(),
+            Status::Refused,
+            "E.scr:1:1: Syntax\n",
+        ),
+        (
+            ["translate", "C.scr", "Missing.scr"].as_slice(),
             Status::ReadFault,
             "mungo: read Missing.scr\n",
         ),
-        ([].as_slice(), Status::Words, "mungo: words\n"),
         (
-            ["frobnicate"].as_slice(),
-            Status::Words,
-            "mungo: words frobnicate\n",
+            ["translate", "Missing.scr", "Lost.scr"].as_slice(),
+            Status::ReadFault,
+            "mungo: read Missing.scr\n",
         ),
         (
-            ["frobnicate", "P.scr"].as_slice(),
+            ["translate", "--out", "-x", "C.scr"].as_slice(),
             Status::Words,
-            "mungo: words frobnicate\n",
-        ),
-        (["translate"].as_slice(), Status::Words, "mungo: words\n"),
-        (
-            ["translate", "P.txt"].as_slice(),
-            Status::Words,
-            "mungo: words P.txt\n",
+            "mungo: words -x\n",
         ),
         (
-            ["translate", "-P.scr"].as_slice(),
+            ["translate", "--out", "d", "--out"].as_slice(),
             Status::Words,
-            "mungo: words -P.scr\n",
+            "mungo: words --out\n",
         ),
         (
-            ["translate", "P.scr", "Q.scr"].as_slice(),
-            Status::Words,
-            "mungo: words Q.scr\n",
-        ),
-        (
-            ["translate", ""].as_slice(),
-            Status::Words,
-            "mungo: words \n",
-        ),
-        (["run"].as_slice(), Status::Words, "mungo: words\n"),
-        (["run", "X"].as_slice(), Status::Words, "mungo: words X\n"),
-        (
-            ["run", "--main"].as_slice(),
+            ["translate", "--out", "d"].as_slice(),
             Status::Words,
             "mungo: words\n",
         ),
         (
-            ["run", "--main", "9x"].as_slice(),
+            ["translate", "C.scr", "a.jar"].as_slice(),
             Status::Words,
-            "mungo: words 9x\n",
-        ),
-        (
-            ["run", "--main", "module"].as_slice(),
-            Status::Words,
-            "mungo: words module\n",
+            "mungo: words a.jar\n",
         ),
         (
             ["run", "--main", "Hello"].as_slice(),
@@ -182,69 +161,18 @@ fn wrong_words_are_named(rt: HostRuntime) -> Result<(), Fail> {
             "mungo: words\n",
         ),
         (
-            ["run", "--main", "Hello", "P.scr"].as_slice(),
+            ["check", "a.jar"].as_slice(),
             Status::Words,
-            "mungo: words P.scr\n",
+            "mungo: words check\n",
         ),
         (
-            ["run", "--main", "Hello", "Hello.java", "more"].as_slice(),
-            Status::Words,
-            "mungo: words more\n",
+            ["run", "--main", "Nope", "Hello.java"].as_slice(),
+            Status::Refused,
+            "mungo: NoMain Nope\n",
         ),
     ] {
-        let ended = run_on(
-            rt.alloc(),
-            words,
-            HELLO.as_bytes(),
-            [].as_slice(),
-            [].as_slice(),
-        )?;
-        assert_eq!(rt; ended.status, status, "{line}");
-        assert_eq!(rt; ended.err.bytes(), line.as_bytes(), "{line}");
-        assert_eq!(rt; ended.out.bytes(), b"".as_slice(), "{line}");
-    }
-    Ok(())
-}
-
-#[test]
-fn a_call_that_fails_is_told(rt: HostRuntime) -> Result<(), Fail> {
-    let words = ["translate", "P.scr"];
-    for (content, folder_fails, err_fails, status, line) in [
-        (
-            HELLO,
-            [0].as_slice(),
-            [].as_slice(),
-            Status::ReadFault,
-            "mungo: read P.scr\n",
-        ),
-        (
-            HELLO,
-            [1].as_slice(),
-            [].as_slice(),
-            Status::WriteFault,
-            "mungo: write CProtocol.protocol\n",
-        ),
-        (
-            HELLO,
-            [0].as_slice(),
-            [0].as_slice(),
-            Status::WriteFault,
-            "",
-        ),
-        ("", [].as_slice(), [0].as_slice(), Status::WriteFault, ""),
-    ] {
-        let ended = run_on(
-            rt.alloc(),
-            words.as_slice(),
-            content.as_bytes(),
-            folder_fails,
-            err_fails,
-        )?;
-        assert_eq!(rt; ended.status, status, "{line}");
-        assert_eq!(rt; ended.err.bytes(), line.as_bytes(), "{line}");
-        assert_eq!(rt; ended.out.bytes(), b"".as_slice(), "{line}");
         assert!(rt;
-            ended.folder.content("CProtocol.protocol").is_none(),
+            is_run(rt.alloc(), words, files.as_slice(), status, "", line)?,
             "{line}"
         );
     }
@@ -254,78 +182,126 @@ fn a_call_that_fails_is_told(rt: HostRuntime) -> Result<(), Fail> {
 #[test]
 fn a_class_is_run(rt: HostRuntime) -> Result<(), Fail> {
     let words = ["run", "--main", "Hello", "Hello.java"];
-    for (out_fails, err_fails, status, out, err) in [
-        (
-            [].as_slice(),
-            [].as_slice(),
-            Status::Done,
-            "hello\n",
-            "main: 4 instructions, done\n",
-        ),
-        ([0].as_slice(), [].as_slice(), Status::WriteFault, "", ""),
-        (
-            [].as_slice(),
-            [0].as_slice(),
-            Status::WriteFault,
-            "hello\n",
-            "",
-        ),
-    ] {
-        let ended = run_with(
+    let files = [("Hello.java", JAVA)];
+    let err = "main: 4 instructions, done\n";
+    assert!(rt;
+        is_run(
             rt.alloc(),
             words.as_slice(),
-            "Hello.java",
-            JAVA.as_bytes(),
-            [].as_slice(),
-            out_fails,
-            err_fails,
-        )?;
-        assert_eq!(rt; ended.status, status, "{out}");
-        assert_eq!(rt; ended.out.bytes(), out.as_bytes());
-        assert_eq!(rt; ended.err.bytes(), err.as_bytes());
-        assert_eq!(rt; ended.folder.calls(), 1);
-    }
+            files.as_slice(),
+            Status::Done,
+            "hello\n",
+            err
+        )?
+    );
     Ok(())
 }
 
 #[test]
-fn why_a_class_is_not_run_is_told(rt: HostRuntime) -> Result<(), Fail> {
-    for (class, file, content, status, line) in [
+fn a_call_that_fails_ends_the_delivery(rt: HostRuntime) -> Result<(), Fail> {
+    let files = [("C.scr", HELLO), ("S.scr", SERVER)];
+    let words = ["translate", "C.scr", "S.scr"];
+    // The second write fails: the first file stays, whole.
+    let failing = Failing {
+        folder: &[3],
+        out: &[],
+        err: &[],
+    };
+    let ended = run_on(rt.alloc(), words.as_slice(), files.as_slice(), failing)?;
+    assert_eq!(rt; ended.status, Status::WriteFault);
+    assert!(rt; ended.folder.content("CProtocol.protocol") == Some(TYPESTATE.as_bytes()));
+    assert!(rt; ended.folder.content("SProtocol.protocol").is_none());
+    assert_eq!(rt;
+        ended.err.bytes(),
+        b"mungo: write SProtocol.protocol\n".as_slice()
+    );
+    // Standard output fails: nothing is said.
+    let failing = Failing {
+        folder: &[],
+        out: &[0],
+        err: &[],
+    };
+    let words = ["run", "--main", "Hello", "Hello.java"];
+    let files = [("Hello.java", JAVA)];
+    let ended = run_on(rt.alloc(), words.as_slice(), files.as_slice(), failing)?;
+    assert_eq!(rt; ended.status, Status::WriteFault);
+    assert_eq!(rt; ended.out.bytes(), b"".as_slice());
+    assert_eq!(rt; ended.err.bytes(), b"".as_slice());
+    Ok(())
+}
+
+/// A loop with a choice at the role C itself.
+const ADDER: &str = "module demo.Adder;\n\
+    type <java> \"java.lang.Integer\" from \"rt.jar\" as Int;\n\
+    local protocol Adder at C(role C, role S) {\n  rec X {\n    \
+    choice at C { add(Int) to S; total(Int) from S; continue X; }\n    or { bye() to S; }\n  }\n}\n";
+
+/// The same of the role S, where C chooses.
+const SERVED: &str = "module demo.Adder;\n\
+    type <java> \"java.lang.Integer\" from \"rt.jar\" as Int;\n\
+    local protocol Adder at S(role C, role S) {\n  rec X {\n    \
+    choice at C { add(Int) from C; total(Int) to C; continue X; }\n    or { bye() from C; }\n  }\n}\n";
+
+#[test]
+fn calls_follow_a_protocol(rt: HostRuntime) -> Result<(), Fail> {
+    for (file, calls, status, out, err) in [
         (
-            "Nope",
-            "Hello.java",
-            JAVA,
-            Status::Refused,
-            "mungo: NoMain Nope\n",
+            "C.scr",
+            "send_addIntToS\nreceive_totalIntFromS\nsend_byeToS\n",
+            Status::Done,
+            "complete\n",
+            "",
         ),
         (
-            "Hello",
-            "Hello.java",
-            "class Hello { }",
-            Status::Refused,
-            "Hello.java:1:1: Unsupported\n",
+            "C.scr",
+            "send_addIntToS\nreceive_totalIntFromS\n",
+            Status::Done,
+            "open\n",
+            "",
         ),
         (
-            "Hello",
-            "Missing.java",
-            JAVA,
-            Status::ReadFault,
-            "mungo: read Missing.java\n",
+            "C.scr",
+            "send_byeToS\nsend_byeToS",
+            Status::Refused,
+            "line 2: not offered\n",
+            "",
+        ),
+        (
+            "S.scr",
+            "receive_SChoice1LabelFromC add\n",
+            Status::Done,
+            "open\n",
+            "",
+        ),
+        (
+            "S.scr",
+            "# a look\n\nreceive_SChoice1LabelFromC more\n",
+            Status::Refused,
+            "line 3: not offered\n",
+            "",
+        ),
+        ("C.scr", "a b c\n", Status::Refused, "", "T:1:1: BadLine\n"),
+        (
+            "C.scr",
+            "send_byeToS\nsend_byeToS\nsend_byeToS\r\n",
+            Status::Refused,
+            "",
+            "T:3:1: BadLine\n",
         ),
     ] {
-        let words = ["run", "--main", class, file];
-        let ended = run_with(
-            rt.alloc(),
-            words.as_slice(),
-            "Hello.java",
-            content.as_bytes(),
-            [].as_slice(),
-            [].as_slice(),
-            [].as_slice(),
-        )?;
-        assert_eq!(rt; ended.status, status, "{line}");
-        assert_eq!(rt; ended.out.bytes(), b"".as_slice(), "{line}");
-        assert_eq!(rt; ended.err.bytes(), line.as_bytes(), "{line}");
+        let files = [("C.scr", ADDER), ("S.scr", SERVED), ("T", calls)];
+        let words = ["conform", file, "T"];
+        assert!(rt;
+            is_run(
+                rt.alloc(),
+                words.as_slice(),
+                files.as_slice(),
+                status,
+                out,
+                err
+            )?,
+            "{calls}"
+        );
     }
     Ok(())
 }

@@ -1,19 +1,30 @@
-ghost use Rattle.mg_top.specs.Outside.{outside, stream};
-ghost use Rattle.mg_top.specs.Answers.{Answers};
+//! The top call: the words are judged, the files read, all output is made, and then delivered.
 
-use crate::report::report;
+ghost use Rattle.std.specs.Prelude.{◌≡◌, ◌<◌, ◌^◌, length, IfOk};
+ghost use Rattle.mg_top.specs.Words.{files_of};
+ghost use Rattle.mg_top.specs.Outside.{Stream, outside, stream};
+ghost use Rattle.mg_top.specs.Commands.{Yields};
+ghost use Rattle.mg_top.specs.Promises.{Promises};
+ghost use Rattle.mg_top.specs.inner.Judging.{command_of, IsKnown};
+ghost use Rattle.mg_top.specs.inner.Preparing.{IsPrepared};
+
+use crate::conform::conform;
+use crate::delivery::{Delivery, deliver, starve};
+use crate::reading::{Unread, read_all};
 use crate::run::run;
 use crate::translate::translate;
-use crate::words::{Judged, judge};
+use crate::words::{Command, Judged, judge};
 use crate::{Status, lines};
 use mg_io::{Folder, Sink};
-use mg_text::Text;
+use mg_text::{Bytes, Memory, Text};
 use std::alloc::Global;
 
 /// Runs the command that the words are, with the folder's files. What it says goes to `out`, and
 /// the line of a fault to `err`; the status says how it ended.
 ///
-/// `translate F` reads the local protocol in F and writes the typestate of its role.
+/// `translate [--out D] F..` reads the local protocols in the files and writes the typestates of
+/// their roles, into the folder D where one is named.
+/// `conform F CALLS` tells whether the calls of the second file follow the protocol of the first.
 /// `run --main C F` compiles the class C of F and runs its `main`; what it prints goes to `out`.
 pub fn mungo<F: Folder, O: Sink, E: Sink>(
     alloc: Global,
@@ -22,16 +33,59 @@ pub fn mungo<F: Folder, O: Sink, E: Sink>(
     out: &mut O,
     err: &mut E,
 ) -> Status
-    ensures { Answers words.now
+    ensures { Promises words.now
         (outside (F.files folder.old) (F.failed_reads folder.old) (F.failed_writes folder.old)
         (stream (O.bytes out.old) (O.faults out.old)) (stream (E.bytes err.old) (E.faults err.old)))
         result
         (outside (F.files folder.new) (F.failed_reads folder.new) (F.failed_writes folder.new)
         (stream (O.bytes out.new) (O.faults out.new)) (stream (E.bytes err.new) (E.faults err.new))) }
 {
-    match judge(words) {
-        Judged::Translate(file) => translate(alloc, file, folder, err),
-        Judged::Run(class, file) => run(alloc, class, file, folder, out, err),
-        Judged::Wrong(word) => report(err, Status::Words, lines::wrong_words(alloc, word)),
+    match prepare(alloc, words, folder) {
+        Ok(delivery) => deliver(alloc, &delivery, folder, out, err),
+        Err(Memory) => starve(err),
+    }
+}
+
+// What is to be done about these words: the files are read, and nothing else is done.
+fn prepare<F: Folder>(alloc: Global, words: &[Text], folder: &mut F) -> Result<Delivery, Memory>
+    ensures { (o e : Stream) → IsPrepared words.now
+        (outside (F.files folder.old) (F.failed_reads folder.old) (F.failed_writes folder.old) o e)
+        result
+        (outside (F.files folder.new) (F.failed_reads folder.new) (F.failed_writes folder.new) o e) }
+{
+    let command = match judge(words) {
+        Judged::Known(command) => command,
+        Judged::Wrong(word) => {
+            let line = lines::wrong_words(alloc, word)?;
+            return Delivery::said(alloc, line, Status::Words);
+        }
+    };
+    match read_all(alloc, command.files(), folder) {
+        Ok(contents) => carry_out(alloc, &command, contents.as_slice()),
+        Err(Unread::Failed(name)) => {
+            let line = lines::unread(alloc, name)?;
+            Delivery::said(alloc, line, Status::ReadFault)
+        }
+        Err(Unread::Memory) => Err(Memory),
+    }
+}
+
+// What a command does about the contents of its files.
+fn carry_out(alloc: Global, command: &Command<'_>, contents: &[Bytes]) -> Result<Delivery, Memory>
+    requires known { IsKnown (command_of command.now) }
+    requires same { length (files_of (command_of command.now)) ≡ length contents.now }
+    requires count { length contents.now < 2 ^ 32 }
+    ensures { IfOk result (λ d. Yields (command_of command.now) contents.now d.actions.items d.status) }
+{
+    match *command {
+        Command::Translate { folder, files } => translate(alloc, folder, files, contents),
+        Command::Conform { files } => conform(
+            alloc,
+            &files[0],
+            &files[1],
+            contents[0].as_slice(),
+            contents[1].as_slice(),
+        ),
+        Command::Run { class, files } => run(alloc, class, &files[0], contents[0].as_slice()),
     }
 }

@@ -1,20 +1,51 @@
 //! The words of the command line.
+//! They are judged from left to right, so that the first that can't follow is known.
 
-ghost use Rattle.std.specs.Prelude.{◌≡◌, ◌↔◌, ◌∷◌, codes, IsTrue};
+ghost use Rattle.std.specs.Prelude.{◌≡◌, ◌↔◌, ◌∷◌, ◌++◌, List, codes, IsTrue, IfSome, Option, None, option_map};
 ghost use Rattle.std.specs.List.{list_all};
 ghost use Rattle.scr_lex.specs.Pieces.{StartsName, AllPasses, is_name_start, is_name_byte};
-ghost use Rattle.mg_top.specs.Words.{IsFileOf, IsClassName};
-ghost use Rattle.mg_top.specs.Judging.{IsJudged};
+ghost use Rattle.mg_top.specs.Words.{Word, IsFileName, IsFileOf, IsClassName, out_words, files_of};
+ghost use Rattle.mg_top.specs.inner.Judging.{IsJudged, IsFirstOther, command_of};
 
 use mg_text::Text;
 use scr_lex::reserved;
 
+/// A command, with the words that it is about.
+#[derive(Clone, Copy)]
+pub enum Command<'a> {
+    /// `translate`, a folder where `--out` names one, and the files.
+    Translate {
+        folder: Option<&'a Text>,
+        files: &'a [Text],
+    },
+    /// `conform`, the file of a protocol and that of the calls.
+    Conform {
+        files: &'a [Text],
+    },
+    /// `run --main`, the class and its file.
+    Run {
+        class: &'a Text,
+        files: &'a [Text],
+    },
+}
+
+impl<'a> Command<'a> {
+    /// The files that it reads.
+    pub fn files(&self) -> &'a [Text]
+        ensures { result.now ≡ files_of (command_of self.now) }
+    {
+        match *self {
+            Command::Translate { files, .. } => files,
+            Command::Conform { files } => files,
+            Command::Run { files, .. } => files,
+        }
+    }
+}
+
 /// What the words are.
 pub enum Judged<'a> {
-    /// `translate` and this file.
-    Translate(&'a Text),
-    /// `run --main`, this class and this file.
-    Run(&'a Text, &'a Text),
+    /// This command.
+    Known(Command<'a>),
     /// No command: because of this word, or because words are lacking at the end.
     Wrong(Option<&'a Text>),
 }
@@ -30,6 +61,8 @@ pub fn judge(words: &[Text]) -> Judged<'_>
         Some((command, rest)) => {
             if is_word(command, "translate") {
                 judge_translate(rest)
+            } else if is_word(command, "conform") {
+                judge_conform(rest)
             } else if is_word(command, "run") {
                 judge_run(rest)
             } else {
@@ -45,13 +78,69 @@ fn judge_translate(words: &[Text]) -> Judged<'_>
 {
     match words.split_first() {
         None => Judged::Wrong(None),
-        Some((file, rest)) => {
-            if !is_file(file, b".scr") {
-                return Judged::Wrong(Some(file));
+        Some((option, rest)) => {
+            if is_word(option, "--out") {
+                judge_folder(rest)
+            } else {
+                judge_files(None, words)
+            }
+        }
+    }
+}
+
+// The same of the words behind `translate --out`.
+fn judge_folder(words: &[Text]) -> Judged<'_>
+    ensures { IsJudged (codes "translate" ∷ codes "--out" ∷ words.now) result }
+{
+    match words.split_first() {
+        None => Judged::Wrong(None),
+        Some((folder, rest)) => {
+            if is_file_name(folder) {
+                judge_files(Some(folder), rest)
+            } else {
+                Judged::Wrong(Some(folder))
+            }
+        }
+    }
+}
+
+// The same of the words behind the options of `translate`, which are its files.
+fn judge_files<'a>(folder: Option<&'a Text>, files: &'a [Text]) -> Judged<'a>
+    requires name { IfSome folder (λ f. IsFileName f.now) }
+    requires option { folder ≡ None → (rest : List Word) → files.now ≡ codes "--out" ∷ rest → ⊥ }
+    ensures { IsJudged (codes "translate"
+        ∷ (out_words (option_map (λ f. f.now) folder.entry) ++ files.now)) result }
+{
+    if let Some(word) = other_file(files, b".scr") {
+        return Judged::Wrong(Some(word));
+    }
+    if files.is_empty() {
+        return Judged::Wrong(None);
+    }
+    Judged::Known(Command::Translate { folder, files })
+}
+
+// The same of the words behind `conform`.
+fn judge_conform(words: &[Text]) -> Judged<'_>
+    ensures { IsJudged (codes "conform" ∷ words.now) result }
+{
+    match words.split_first() {
+        None => Judged::Wrong(None),
+        Some((protocol, rest)) => {
+            if !is_file(protocol, b".scr") {
+                return Judged::Wrong(Some(protocol));
             }
             match rest.split_first() {
-                None => Judged::Translate(file),
-                Some((more, _)) => Judged::Wrong(Some(more)),
+                None => Judged::Wrong(None),
+                Some((calls, surplus)) => {
+                    if !is_file_name(calls) {
+                        return Judged::Wrong(Some(calls));
+                    }
+                    match surplus.split_first() {
+                        None => Judged::Known(Command::Conform { files: words }),
+                        Some((word, _)) => Judged::Wrong(Some(word)),
+                    }
+                }
             }
         }
     }
@@ -101,17 +190,42 @@ fn judge_source<'a>(class: &'a Text, words: &'a [Text]) -> Judged<'a>
                 return Judged::Wrong(Some(file));
             }
             match rest.split_first() {
-                None => Judged::Run(class, file),
+                None => Judged::Known(Command::Run {
+                    class,
+                    files: words,
+                }),
                 Some((surplus, _)) => Judged::Wrong(Some(surplus)),
             }
         }
     }
 }
 
+// The first word that is no name of a file with this ending.
+fn other_file<'a>(words: &'a [Text], suffix: &[u8]) -> Option<&'a Text>
+    ensures { IsFirstOther (IsFileOf suffix.now) words.now (option_map (λ w. w.now) result) }
+{
+    for word in words {
+        if !is_file(word, suffix) {
+            return Some(word);
+        }
+    }
+    None
+}
+
 fn is_word(word: &Text, text: &str) -> bool
     ensures { IsTrue result ↔ (word.now ≡ text.now) }
 {
     word.as_str() == text
+}
+
+// Whether the word may name a file or a folder.
+fn is_file_name(word: &Text) -> bool
+    ensures { IsTrue result ↔ IsFileName word.now }
+{
+    match word.as_str().as_bytes() {
+        [] => false,
+        [first, ..] => *first != b'-',
+    }
 }
 
 // Whether the word is the name of a file with this ending.

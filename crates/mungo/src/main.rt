@@ -2,7 +2,14 @@
 //! go to the top call, and the number of its status is the exit status.
 #![tactic(auto)]
 
-use mg_io::{HostFolder, HostSink};
+ghost use Rattle.std.specs.Prelude.{◌≡◌};
+ghost use Rattle.std.specs.Process.{exit_status};
+ghost use Rattle.mg_top.specs.Numbers.{number_of};
+ghost use Rattle.mg_top.specs.Outside.{outside, stream};
+ghost use Rattle.mg_top.specs.Promises.{Promises};
+ghost use Rattle.mg_top.specs.declared.status.Status.{Status as Kept};
+
+use mg_io::{Folder, HostFolder, HostSink, Sink};
 use mg_text::{List, Memory, Text};
 use mg_top::{Status, mungo};
 use std::alloc::Global;
@@ -21,13 +28,31 @@ fn main(rt: HostRuntime) -> ExitCode {
     let mut folder = HostFolder::new(rt.alloc(), &rt);
     let mut out = HostSink::new(rt.stdout());
     let mut err = HostSink::new(rt.stderr());
-    let status = mungo(
+    ended(
         rt.alloc(),
         words.as_slice(),
         &mut folder,
         &mut out,
         &mut err,
-    );
+    )
+}
+
+// Runs the command that the words are, and ends with the number of its status.
+fn ended<F: Folder, O: Sink, E: Sink>(
+    alloc: Global,
+    words: &[Text],
+    folder: &mut F,
+    out: &mut O,
+    err: &mut E,
+) -> ExitCode
+    ensures { (status : Kept) × (exit_status result ≡ number_of status) × Promises words.now
+        (outside (F.files folder.old) (F.failed_reads folder.old) (F.failed_writes folder.old)
+        (stream (O.bytes out.old) (O.faults out.old)) (stream (E.bytes err.old) (E.faults err.old)))
+        status
+        (outside (F.files folder.new) (F.failed_reads folder.new) (F.failed_writes folder.new)
+        (stream (O.bytes out.new) (O.faults out.new)) (stream (E.bytes err.new) (E.faults err.new))) }
+{
+    let status = mungo(alloc, words, folder, out, err);
     exit_code(status)
 }
 
@@ -49,6 +74,35 @@ fn refused(error: &io::Error) -> Status {
     }
 }
 
-fn exit_code(status: Status) -> ExitCode {
-    ExitCode::from(status as u8)
+// The exit status is the number of the status.
+fn exit_code(status: Status) -> ExitCode
+    ensures { exit_status result ≡ number_of status }
+{
+    ExitCode::from(status.number())
+}
+
+#[cfg(test)]
+mod tests {
+    use super::*;
+    use std::test::Fail;
+
+    #[test]
+    fn each_status_ends_with_its_number(rt: HostRuntime) -> Result<(), Fail> {
+        for (status, number) in [
+            (Status::Done, 0),
+            (Status::Refused, 1),
+            (Status::Words, 2),
+            (Status::ReadFault, 3),
+            (Status::WriteFault, 4),
+            (Status::Memory, 5),
+            (Status::Zero, 6),
+            (Status::Mismatch, 7),
+            (Status::Waits, 8),
+            (Status::Bound, 9),
+            (Status::Broken, 10),
+        ] {
+            assert_eq!(rt; exit_code(status), ExitCode::from(number), "{number}");
+        }
+        Ok(())
+    }
 }

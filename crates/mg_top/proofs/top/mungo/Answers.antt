@@ -1,13 +1,25 @@
 use Rattle.std.proofs.Common.{refl}
-use Rattle.mg_top.specs.Way.{wrong}
-use Rattle.mg_top.proofs.WayLemmas.{answers, from_words, reported}
+use Rattle.mg_top.specs.Outside.{stream}
+use Rattle.mg_top.proofs.CommandLemmas.{starved_due}
+use Rattle.mg_top.proofs.Promised.{promised}
 use Rattle.mg_top.proofs.top.mungo.Goals as goal
 
-pub returns-in-Translate : goal.returns-in-Translate
-returns-in-Translate g c = answers _ _ _ _ (from_words _ _ _ _ _ c.in-Translate.ensures.0 (c.translate.ensures _))
+pub returns-in-Ok : goal.returns-in-Ok
+returns-in-Ok g c =
+    promised c.args.words.now _ c.deliver.result _ (record {
+      actions = c.in-Ok.delivery.actions.items;
+      meant = c.in-Ok.delivery.status;
+      at = _;
+      due = c.in-Ok.ensures (stream (g.O.Sink.bytes c.args.out.now) (g.O.Sink.faults c.args.out.now)) (stream (g.E.Sink.bytes c.args.err.now) (g.E.Sink.faults c.args.err.now));
+      delivered = c.deliver.ensures;
+    })
 
-pub returns-in-Run : goal.returns-in-Run
-returns-in-Run g c = answers _ _ _ _ (from_words _ _ _ _ _ c.in-Run.ensures.0 c.run.ensures)
-
-pub returns-in-Wrong : goal.returns-in-Wrong
-returns-in-Wrong g c = answers _ _ _ _ (wrong _ c.in-Wrong.ensures (reported c.wrong_words.result _ c.report.ensures c.wrong_words.ensures) refl)
+pub returns-in-Err : goal.returns-in-Err
+returns-in-Err g c =
+    promised c.args.words.now _ c.starve.result _ (record {
+      actions = _;
+      meant = _;
+      at = _;
+      due = starved_due c.args.words.now _ _ (c.in-Err.ensures (stream (g.O.Sink.bytes c.args.out.now) (g.O.Sink.faults c.args.out.now)) (stream (g.E.Sink.bytes c.args.err.now) (g.E.Sink.faults c.args.err.now)));
+      delivered = c.starve.ensures _ refl;
+    })

@@ -1,13 +1,5 @@
-use Rattle.std.proofs.Common.{refl}
-use Rattle.mg_top.proofs.WordsLemmas.{few_translate, wrong_source, wrong_more, refuted}
+use Rattle.mg_top.proofs.WordsLemmas.{few_translate}
 use Rattle.mg_top.proofs.words.judge_translate.Goals as goal
 
 pub returns-in-None : goal.returns-in-None
 returns-in-None c = few_translate _ c.in-None.ensures.cases
-
-pub returns-then-not-is_file : goal.returns-then-not-is_file
-returns-then-not-is_file c = wrong_source _ _ _ c.in-Some.ensures.cases.0 (refuted c.if-not-is_file.ensures.1)
-
-pub returns-in-Some-split_first : goal.returns-in-Some-split_first
-returns-in-Some-split_first c =
-    wrong_more _ _ _ _ _ c.in-Some.ensures.cases.0 c.in-Some-split_first.ensures.cases.0 (c.if-not-is_file.ensures.0 refl)

@@ -1,0 +1,106 @@
+-- What the functions of the commands answer.
+use Rattle.std.proofs.Common.{◌≡◌, ◌≢◌, ℕ, List, [], ◌∷◌, ◌++◌, ◌⊎◌, inl, inr, Contains, Option, Some, None, refl, sym, ap, ◌∙◌, subst}
+use Rattle.std.specs.Prelude.{IfOk, Result, Ok, Err}
+use Rattle.mg_text.specs.declared.memory.Memory.{Memory}
+use Rattle.mg_run.specs.declared.RunFault.{RunFault}
+use Rattle.mg_run.specs.declared.RunFault.TheVariants as run_faults
+use Rattle.mg_run.specs.Running.{Shows, Refused as RunRefused, IsRun}
+use Rattle.mg_top.specs.declared.status.Status.{Status}
+use Rattle.mg_top.specs.declared.status.Status.TheVariants as statuses
+use Rattle.mg_top.specs.declared.delivery.Action.{Action}
+use Rattle.mg_top.specs.declared.delivery.Action.TheVariants.{Say}
+use Rattle.mg_top.specs.declared.delivery.Delivery.{Delivery}
+use Rattle.mg_top.specs.Words.{Word, Command, Run, files_of, IsCommand}
+use Rattle.mg_top.specs.Lines.{run_line, ran_line, read_line, memory_line}
+use Rattle.mg_top.specs.Commands.{Yields, prints, ran, not_run}
+use Rattle.mg_read.specs.First.{Judged, with_earlier}
+use Rattle.mg_text.specs.Row.{Row}
+use Rattle.scr_tree.specs.Tree.{LocalTree}
+use Rattle.mg_top.specs.declared.sources.Stop.{Stop}
+use Rattle.mg_top.specs.declared.sources.Stop.TheVariants as stops
+use Rattle.mg_top.specs.Files.{Source}
+use Rattle.mg_top.specs.Sources.{SharesRole, refused, same_role}
+use Rattle.mg_top.specs.Translation.{AreTranslated}
+use Rattle.mg_top.specs.Outside.{Outside}
+use Rattle.mg_top.specs.Ending.{AreRead, after_read, IsUnread, IsDue, wrong, unread, yielded, starved, mute}
+use Rattle.mg_top.specs.inner.Preparing.{IsRunRefusal, IsPrepared, IsLeft, AreSources, AreApart, AreWritten, EachIsOnly, EachIsWritten}
+use Rattle.mg_top.proofs.SourceLemmas.{none_refused, translated}
+
+-- a delivery of these actions with this status
+pub gives : (command : Command) (contents : List (List ℕ)) (actions : List Action) (status : Status) (r : Result Delivery Memory) → IfOk r (λ d. d.actions.items ≡ actions) → IfOk r (λ d. d.status ≡ status) → Yields command contents actions status
+    → IfOk r (λ d. Yields command contents d.actions.items d.status)
+gives command contents actions status (Ok d) a s y =
+    subst (λ (z : List Action). Yields command contents z d.status) (sym a) (subst (λ (z : Status). Yields command contents actions z) (sym s) y)
+gives command contents actions status (Err e) a s y = tt
+
+-- a fault that isn't want of memory is a refusal
+refused_by : (class : Word) (bytes : List ℕ) (fault : RunFault) → IsRun class bytes (Err fault) → fault ≢ run_faults.Memory → RunRefused class bytes fault
+refused_by class bytes (run_faults.TooLarge place) h isnt = h
+refused_by class bytes (run_faults.Unsupported place) h isnt = h
+refused_by class bytes run_faults.NoMain h isnt = h
+refused_by class bytes (run_faults.CodeTooLong place) h isnt = h
+refused_by class bytes (run_faults.TextTooLong place) h isnt = h
+refused_by class bytes run_faults.Memory h isnt = absurd (isnt refl)
+
+pub refusal_given : (class file : Word) (bytes : List ℕ) (fault : RunFault) (r : Result Delivery Memory) → IsRun class bytes (Err fault) → IfOk r (λ d. IsRunRefusal class file fault d.actions.items d.status)
+    → IfOk r (λ d. Yields (Run class (file ∷ [])) (bytes ∷ []) d.actions.items d.status)
+refusal_given class file bytes fault (Ok d) h k =
+    subst (λ (z : List Action). Yields (Run class (file ∷ [])) (bytes ∷ []) z d.status) (sym k.says)
+    (subst (λ (z : Status). Yields (Run class (file ∷ [])) (bytes ∷ []) (Say (run_line class file fault) ∷ []) z) (sym k.refuses) (not_run (refused_by class bytes fault h k.proper)))
+refusal_given class file bytes fault (Err e) h k = tt
+
+-- ---- what is due
+
+-- a line that was made is due
+pub said_due : (words : List Word) (before at : Outside) (status : Status) (line wanted : List ℕ) (r : Result Delivery Memory) → IfOk r (λ d. d.actions.items ≡ Say line ∷ []) → IfOk r (λ d. d.status ≡ status) → line ≡ wanted
+    → IsDue words before (Say wanted ∷ []) status at → IsLeft words before at → IsPrepared words before r at
+said_due words before at status line wanted (Ok d) a s e due left =
+    let actions_are : d.actions.items ≡ Say wanted ∷ [] = a ∙ ap (λ (z : List ℕ). Say z ∷ []) e in
+    subst (λ (z : List Action). IsDue words before z d.status at) (sym actions_are) (subst (λ (z : Status). IsDue words before (Say wanted ∷ []) z at) (sym s) due)
+said_due words before at status line wanted (Err e) a s is due left = left
+
+-- what a command gives is due
+pub given_due : (words : List Word) (before at : Outside) (command : Command) (names : List Word) (contents given : List (List ℕ)) (r : Result Delivery Memory) → IsCommand command words → names ≡ files_of command → AreRead before.files names contents → given ≡ contents → at ≡ before
+    → IfOk r (λ d. Yields command given d.actions.items d.status) → IsPrepared words before r at
+given_due words before at command names contents given (Ok d) is named read e same y =
+    subst (λ (z : Outside). IsDue words before d.actions.items d.status z) (sym same)
+    (yielded command contents is (subst (λ (z : List Word). AreRead before.files z contents) named read) (subst (λ (z : List (List ℕ)). Yields command z d.actions.items d.status) e y))
+given_due words before at command names contents given (Err x) is named read e same y = inl same
+
+-- a file that couldn't be read is due
+pub unread_due : (words : List Word) (before at : Outside) (name : Word) → IsUnread words before name → at ≡ after_read before name → IsDue words before (Say (read_line name) ∷ []) statuses.ReadFault at
+unread_due words before at name may e = subst (λ (z : Outside). IsDue words before (Say (read_line name) ∷ []) statuses.ReadFault z) (sym e) (unread name may)
+
+-- memory lacks
+pub starved_due : (words : List Word) (before at : Outside) → IsLeft words before at → IsDue words before (Say memory_line ∷ []) statuses.Memory at
+starved_due words before at (inl e) = subst (λ (z : Outside). IsDue words before (Say memory_line ∷ []) statuses.Memory z) (sym e) starved
+starved_due words before at (inr (name, may, e)) = subst (λ (z : Outside). IsDue words before (Say memory_line ∷ []) statuses.Memory z) (sym e) (mute name may)
+
+-- the file that a command couldn't read
+pub unread_of : (words : List Word) (before : Outside) (command : Command) (names : List Word) (name : Word) (front rest : List Word) (contents : List (List ℕ))
+    → IsCommand command words → names ≡ files_of command → names ≡ front ++ name ∷ rest → AreRead before.files front contents → IsUnread words before name
+unread_of words before command names name front rest contents is named stands read =
+    record { command = command; is = is; front = front; rest = rest; stands = sym named ∙ stands; contents = contents; read = read }
+
+-- ---- the writes of translations
+
+pub sources_failed : (folder : Option Word) (files : List Source) (fault : Stop) (answer : Result (Row Action) Stop) → AreSources files (Err fault) → answer ≡ Err fault → AreWritten folder files answer
+sources_failed folder files (stops.Refused line) answer h e = subst (AreWritten folder files) (sym e) (refused h)
+sources_failed folder files stops.Memory answer h e = subst (AreWritten folder files) (sym e) tt
+
+pub roles_failed : (folder : Option Word) (files : List Source) (locals : List LocalTree) (fault : Stop) (answer : Result (Row Action) Stop) → EachIsOnly files locals → AreApart files (Err fault) → answer ≡ Err fault → AreWritten folder files answer
+roles_failed folder files locals (stops.Refused line) answer each h e = subst (AreWritten folder files) (sym e) (same_role (none_refused files locals each) h)
+roles_failed folder files locals stops.Memory answer each h e = subst (AreWritten folder files) (sym e) tt
+
+pub memory_failed : (folder : Option Word) (files : List Source) (answer : Result (Row Action) Stop) → answer ≡ Err stops.Memory → AreWritten folder files answer
+memory_failed folder files answer e = subst (AreWritten folder files) (sym e) tt
+
+pub all_written : (folder : Option Word) (files : List Source) (locals given : List LocalTree) (writes : List Action) → EachIsOnly files locals → given ≡ locals → Judged SharesRole (with_earlier files) None → EachIsWritten folder given writes → AreTranslated folder files writes
+all_written folder files locals given writes each e apart written = record {
+  each = translated folder files locals writes each (subst (λ (z : List LocalTree). EachIsWritten folder z writes) e written);
+  apart = apart;
+}
+
+-- memory lacked to say what is due
+pub left_due : (words : List Word) (before at : Outside) (r : Result Delivery Memory) (e : Memory) → r ≡ Err e → IsLeft words before at → IsPrepared words before r at
+left_due words before at r e is left = subst (λ (z : Result Delivery Memory). IsPrepared words before z at) (sym is) left

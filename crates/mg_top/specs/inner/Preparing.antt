@@ -1,0 +1,128 @@
+-- What the functions that prepare a delivery may answer.
+use Rattle.std.specs.Prelude.{◌≡◌, ◌≢◌, ℕ, ◌⊎◌, List, [], ◌∷◌, ◌++◌, Contains, codes, map, Option, Some, None, Result, Ok, Err}
+use Rattle.mg_text.specs.Row.{Row}
+use Rattle.mg_text.specs.declared.memory.Memory.{Memory}
+use Rattle.mg_read.specs.First.{Judged, with_earlier}
+use Rattle.scr_tree.specs.Tree.{LocalTree}
+use Rattle.scr_tree.specs.Local.{tree_of}
+use Rattle.scr_tree.specs.declared.local.Local.{Local}
+use Rattle.mg_io.specs.Outside.{Files}
+use Rattle.mg_top.specs.declared.delivery.Action.{Action}
+use Rattle.mg_top.specs.declared.delivery.Delivery.{Delivery}
+use Rattle.mg_text.specs.Places.{start_of}
+use Rattle.mg_calls.specs.Calls.{CallAt}
+use Rattle.mg_calls.specs.declared.CallsFault.{CallsFault}
+use Rattle.mg_calls.specs.declared.CallsFault.TheVariants as calls_faults
+use Rattle.mg_top.specs.Conformance.{Conforms}
+use Rattle.mg_run.specs.declared.RunFault.{RunFault}
+use Rattle.mg_run.specs.declared.RunFault.TheVariants as run_faults
+use Rattle.mg_top.specs.declared.status.Status.{Status}
+use Rattle.mg_top.specs.declared.status.Status.TheVariants as statuses
+use Rattle.mg_top.specs.declared.reading.Unread.{Unread}
+use Rattle.mg_top.specs.declared.reading.Unread.TheVariants as unread
+use Rattle.mg_top.specs.declared.sources.Stop.{Stop}
+use Rattle.mg_top.specs.declared.sources.Stop.TheVariants as stops
+use Rattle.mg_top.specs.Words.{Word}
+use Rattle.scr_tree.specs.Meaning.{protocol_of}
+use Rattle.ts_tree.specs.Typestate.{Typestate}
+use Rattle.ts_read.specs.Layout.{layout}
+use Rattle.stm_gen.specs.Laid.{IsLaid}
+use Rattle.stm_gen.specs.Agreement.{Agrees}
+use Rattle.scr_read.specs.declared.ScrFault.{ScrFault}
+use Rattle.mg_top.specs.declared.delivery.Action.TheVariants as acts
+use Rattle.mg_top.specs.Lines.{Fault, fault_line, run_line}
+use Rattle.mg_top.specs.Files.{Source, Output}
+use Rattle.mg_top.specs.Sources.{IsRefused, IsOnly, SharesRole, Refusal}
+use Rattle.mg_top.specs.Translation.{in_folder, AreTranslated}
+use Rattle.mg_top.specs.Outside.{Outside}
+use Rattle.mg_top.specs.inner.Saying.{said_of}
+use Rattle.mg_top.specs.Ending.{AreRead, after_read, IsUnread, IsDue}
+
+-- each of the files spells one of these protocols alone, in their order
+abbrev pub EachIsOnly : List Source → List LocalTree → Type 0
+EachIsOnly [] [] = Unit {0}
+EachIsOnly [] (local ∷ more) = ⊥
+EachIsOnly (source ∷ sources) [] = ⊥
+EachIsOnly (source ∷ sources) (local ∷ more) = IsOnly source local × EachIsOnly sources more
+
+-- the protocol of a file, or the line of its fault
+abbrev pub IsSource : Source → Result Local Stop → Type 0
+IsSource source (Ok local) = IsOnly source (tree_of local)
+IsSource source (Err (stops.Refused line)) = IsRefused source line
+IsSource source (Err stops.Memory) = Unit {0}
+
+-- the line of a fault of the reader, or want of memory
+abbrev pub IsRefusal : Word → ScrFault → Stop → Type 0
+IsRefusal name fault (stops.Refused line) = (told : Fault) × (said_of fault ≡ Some told) × (line ≡ fault_line name told)
+IsRefusal name fault stops.Memory = Unit {0}
+
+-- the protocols of files, or the line of the first fault
+abbrev pub AreSources : List Source → Result (Row Local) Stop → Type 0
+AreSources sources (Ok locals) = EachIsOnly sources (map tree_of locals.items)
+AreSources sources (Err (stops.Refused line)) = Judged IsRefused sources (Some line)
+AreSources sources (Err stops.Memory) = Unit {0}
+
+-- no two of the files are of one role, or the line of the first that is of the role of an earlier one
+abbrev pub AreApart : List Source → Result Unit Stop → Type 0
+AreApart sources (Ok _) = Judged SharesRole (with_earlier sources) None
+AreApart sources (Err (stops.Refused line)) = Judged SharesRole (with_earlier sources) (Some line)
+AreApart sources (Err stops.Memory) = Unit {0}
+
+-- what is written for a protocol
+pub record IsTranslated (folder : Option Word) (local : LocalTree) (output : Output) : Type 0 where
+  pub typestate : Typestate
+  pub laid : IsLaid local typestate
+  pub agrees : Agrees local.me (protocol_of local) typestate
+  pub named : output.name ≡ in_folder folder (local.me ++ codes "Protocol.protocol")
+  pub layout : output.text ≡ layout typestate
+
+-- what is written for each protocol
+pub data EachIsWritten (folder : Option Word) : List LocalTree → List Action → Type 0 where
+  none : EachIsWritten folder [] []
+  one : {local : LocalTree} {output : Output} {locals : List LocalTree} {actions : List Action} →
+      IsTranslated folder local output → EachIsWritten folder locals actions → EachIsWritten folder (local ∷ locals) (acts.Write output ∷ actions)
+
+-- the writes of the files' translations, or the line of the first refusal
+abbrev pub AreWritten : Option Word → List Source → Result (Row Action) Stop → Type 0
+AreWritten folder sources (Ok writes) = AreTranslated folder sources writes.items
+AreWritten folder sources (Err (stops.Refused line)) = Refusal sources line
+AreWritten folder sources (Err stops.Memory) = Unit {0}
+
+-- a line says why a class isn't run
+pub record IsRunRefusal (class file : Word) (fault : RunFault) (actions : List Action) (status : Status) : Type 0 where
+  pub proper : fault ≢ run_faults.Memory
+  pub says : actions ≡ acts.Say (run_line class file fault) ∷ []
+  pub refuses : status ≡ statuses.Refused
+
+-- a line says why a file of calls is refused
+abbrev pub list_fault : CallsFault → Fault
+list_fault (calls_faults.TooLarge place) = record { kind = codes "TooLarge"; place = place; name = [] }
+list_fault (calls_faults.BadLine place) = record { kind = codes "BadLine"; place = place; name = [] }
+list_fault calls_faults.Memory = record { kind = []; place = start_of 0; name = [] }
+
+pub record IsListRefusal (name : Word) (fault : CallsFault) (actions : List Action) (status : Status) : Type 0 where
+  pub proper : fault ≢ calls_faults.Memory
+  pub says : actions ≡ acts.Say (fault_line name (list_fault fault)) ∷ []
+  pub refuses : status ≡ statuses.Refused
+
+-- a text on standard output answers whether calls follow a protocol
+pub record IsAnswered (local : LocalTree) (calls : List CallAt) (actions : List Action) (status : Status) : Type 0 where
+  pub text : List ℕ
+  pub says : actions ≡ acts.Print text ∷ []
+  pub conforms : Conforms local calls text status
+
+-- what was read of the files, or which of them is the first that can't be read
+abbrev pub AreContents : List Word → Outside → Result (Row (List ℕ)) Unread → Outside → Type 0
+AreContents names before (Ok contents) after = AreRead before.files names contents.items × (after ≡ before)
+AreContents names before (Err (unread.Failed name)) after =
+    (front rest : List Word) × (contents : List (List ℕ)) × (names ≡ front ++ name.now ∷ rest) × AreRead before.files front contents × (after ≡ after_read before name.now)
+AreContents names before (Err unread.Memory) after = after ≡ before
+
+-- nothing was done, but a read may have failed
+abbrev pub IsLeft : List Word → Outside → Outside → Type 0
+IsLeft words before after = (after ≡ before) ⊎ ((name : Word) × IsUnread words before name × (after ≡ after_read before name))
+
+-- what is due about the words, or memory lacks and nothing was done
+abbrev pub IsPrepared : List Word → Outside → Result Delivery Memory → Outside → Type 0
+IsPrepared words before (Ok delivery) after = IsDue words before delivery.actions.items delivery.status after
+IsPrepared words before (Err _) after = IsLeft words before after

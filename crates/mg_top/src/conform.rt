@@ -1,0 +1,87 @@
+//! The command `conform`: whether the calls of a file follow a local protocol.
+
+ghost use Rattle.std.specs.Prelude.{◌≡◌, ◌∷◌, [], IfOk, map};
+ghost use Rattle.scr_tree.specs.Local.{tree_of};
+ghost use Rattle.mg_calls.specs.Answer.{call_of as call_at};
+ghost use Rattle.scr_trace.specs.Walking.{call_said};
+ghost use Rattle.mg_top.specs.Words.{Conform};
+ghost use Rattle.mg_top.specs.Commands.{Yields};
+ghost use Rattle.mg_top.specs.inner.Preparing.{IsAnswered, IsListRefusal};
+
+use crate::delivery::Delivery;
+use crate::sources::{Stop, read_source};
+use crate::{Status, lines};
+use mg_calls::{CallLine, CallsFault, read_calls};
+use mg_text::{Memory, Text};
+use scr_trace::{Call, StepFault, Walk};
+use scr_tree::Local;
+use std::alloc::Global;
+
+/// Whether the listed calls follow the protocol, or the first refusal.
+pub fn conform(
+    alloc: Global,
+    protocol: &Text,
+    calls: &Text,
+    bytes: &[u8],
+    listed: &[u8],
+) -> Result<Delivery, Memory>
+    ensures { IfOk result (λ d. Yields (Conform (protocol.now ∷ calls.now ∷ []))
+        (bytes.now ∷ listed.now ∷ []) d.actions.items d.status) }
+{
+    let local = match read_source(alloc, 0, protocol, bytes) {
+        Ok(local) => local,
+        Err(Stop::Refused(line)) => return Delivery::said(alloc, line, Status::Refused),
+        Err(Stop::Memory) => return Err(Memory),
+    };
+    match read_calls(alloc, 1, listed) {
+        Ok(list) => follow(alloc, &local, list.as_slice()),
+        Err(fault) => refuse(alloc, calls, fault),
+    }
+}
+
+// The line of a fault of the file of calls.
+fn refuse(alloc: Global, name: &Text, fault: CallsFault) -> Result<Delivery, Memory>
+    ensures { IfOk result (λ d. IsListRefusal name.now fault d.actions.items d.status) }
+{
+    let line = match fault {
+        CallsFault::TooLarge { place } => lines::fault(alloc, name, place, "TooLarge", "")?,
+        CallsFault::BadLine { place } => lines::fault(alloc, name, place, "BadLine", "")?,
+        CallsFault::Memory => return Err(Memory),
+    };
+    Delivery::said(alloc, line, Status::Refused)
+}
+
+// Walks along the protocol, call by call, up to the first that isn't offered.
+fn follow(alloc: Global, local: &Local, calls: &[CallLine<'_>]) -> Result<Delivery, Memory>
+    ensures { IfOk result (λ d. IsAnswered (tree_of local.now) (map call_at calls.now) d.actions.items d.status) }
+{
+    let mut walk = Walk::new(alloc, local)?;
+    for line in calls {
+        let call = call_of(alloc, line)?;
+        match walk.step(&call) {
+            Ok(()) => {}
+            Err(StepFault::NotOffered) => {
+                let text = lines::not_offered(alloc, line.line)?;
+                return Delivery::printed(alloc, text.as_str(), Status::Refused);
+            }
+            Err(StepFault::Memory) => return Err(Memory),
+        }
+    }
+    if walk.done() {
+        Delivery::printed(alloc, "complete\n", Status::Done)
+    } else {
+        Delivery::printed(alloc, "open\n", Status::Done)
+    }
+}
+
+// The call of a line.
+fn call_of(alloc: Global, line: &CallLine<'_>) -> Result<Call, Memory>
+    ensures { IfOk result (λ c. call_said c ≡ (call_at line.now).call) }
+{
+    let method = Text::of(alloc, line.method)?;
+    let answer = match line.answer {
+        None => None,
+        Some(label) => Some(Text::of(alloc, label)?),
+    };
+    Ok(Call { method, answer })
+}
