@@ -3,6 +3,8 @@
 #![tactic(auto)]
 
 #[cfg(test)]
+mod printed;
+#[cfg(test)]
 mod states;
 #[cfg(test)]
 mod walks;
