@@ -45,7 +45,7 @@ abbrev mutual
   HasBranches NoBranch = ⊥
   HasBranches (Branch b more) = Unit {0}
 
--- some file can spell it
+-- the names are names of Scribble, each choice has a branch, and statements nest 200 deep at most
 pub record IsWritten (local : LocalTree) : Type 0 where
   pub name : IsName local.name
   pub roles : AllByRecursion IsName local.roles

@@ -1,3 +1,5 @@
+//! Where a target leads on an answer.
+
 ghost use Rattle.std.specs.Prelude.{◌≡◌, option_map};
 ghost use Rattle.ts_tree.specs.Calls.{led_by};
 ghost use Rattle.ts_tree.specs.View.{target_of};

@@ -4,8 +4,6 @@
 
 mod led;
 mod parts;
-#[cfg(test)]
-mod tests;
 mod typestate;
 
 pub use parts::{Branch, Method, State, Target, To, TypeName};

@@ -1,3 +1,5 @@
+//! The parts of a typestate: states, their methods, and where each method leads.
+
 use mg_text::{List, Text};
 
 /// A type that a method's signature names.

@@ -1,3 +1,5 @@
+//! Whole typestates: a name and its states, the first of which is where an object begins.
+
 use crate::led::led_by;
 use crate::{State, To};
 use mg_text::{List, Text};

@@ -1,3 +1,5 @@
+//! Members and instructions of classes that print texts and nothing else.
+
 use mg_text::{List, Text};
 
 /// A member of the built-in classes.

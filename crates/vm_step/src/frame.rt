@@ -1,3 +1,5 @@
+//! The frame of a method that prints: its place and its operands, and one step of it.
+
 ghost use Rattle.std.specs.Prelude.{◌≡◌, ◌+◌, ◌<◌, ◌^◌, [], ◌∷◌, length, IfOk};
 ghost use Rattle.vm_model.specs.PrintingMachine.{step, act, print, next};
 ghost use Rattle.vm_step.specs.Stepping.{value_of, values_of, frame_of, event_of, steps_to, Moves, IsWithin};

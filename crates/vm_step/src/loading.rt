@@ -1,3 +1,5 @@
+//! A printing method with the names that its code means in place of numbers of the pool.
+
 ghost use Rattle.std.specs.Prelude.{◌≡◌, [], ◌∷◌, map, option_map, IfOk};
 ghost use Rattle.cls_tree.specs.Tree.{Pool};
 ghost use Rattle.cls_tree.specs.View.{class_of, code_of, member_of, attr_of, instr_of, instrs_of};

@@ -1,3 +1,5 @@
+//! What the numbers of a pool name: texts, classes, fields and methods.
+
 ghost use Rattle.std.specs.Prelude.{◌≡◌, option_map};
 ghost use Rattle.vm_step.specs.Linking.{const_at, text_at, class_at, is_text, is_class, is_named, is_field, is_method, pushed_at, is_out, is_println};
 

@@ -1,3 +1,5 @@
+//! Steps in a row, up to the ending or the bound, with what was printed.
+
 ghost use Rattle.std.specs.Prelude.{◌≡◌, ◌++◌, ◌∷◌, [], map, option_map, IfOk, List as Seq};
 ghost use Rattle.mg_text.specs.declared.event.Event.{Event as Seen};
 ghost use Rattle.vm_model.specs.PrintingProgram.{Method};
