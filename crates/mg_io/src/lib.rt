@@ -12,8 +12,6 @@ mod mem_folder;
 mod mem_sink;
 mod number_list;
 mod sink;
-#[cfg(test)]
-mod tests;
 mod whole;
 
 pub use fault::IoFault;

@@ -1,6 +1,6 @@
 //! Tests of the fakes in memory and of the adapters.
 
-use super::*;
+use mg_io::*;
 use std::test::Fail;
 use std::{fs, io};
 
