@@ -3,7 +3,7 @@ use Rattle.std.specs.Prelude.{◌≡◌, ◌⊎◌, List, [], ◌∷◌, ◌++�
 use Rattle.std.specs.Str.{bytes_eq}
 use Rattle.mg_text.specs.Call.{Name}
 use Rattle.mg_text.specs.declared.place.Place.{Place}
-use Rattle.mg_read.proofs.Lists.{Each}
+use Rattle.mg_read.specs.Each.{Each}
 use Rattle.ts_tree.specs.declared.parts.TypeName.{TypeName}
 use Rattle.ts_tree.specs.declared.parts.TypeName.TheVariants as types
 use Rattle.ts_parse.specs.declared.token.Mark.{Mark}
@@ -41,6 +41,7 @@ abbrev pub IsStar : List Tok → Type 0
 IsStar ts = (ts ≡ []) ⊎ ((a b : Place) × (ts ≡ marked a marks.Dot ∷ marked b marks.Star ∷ []))
 
 -- "import" name { "." name } [ "." "*" ] ";", which begins at a place
+-- an import is kept by its place alone
 abbrev pub IsImport : Place → List Tok → Type 0
 IsImport a ts =
     (b : Place) × (names : List Naming) × (us vs : List Tok)

@@ -1,5 +1,5 @@
 -- What reading the bytes of a typestate file gives: the fault of the lowest number, at its first place in the text, or the typestate.
-use Rattle.std.specs.Prelude.{◌≡◌, ◌<◌, ◌≤◌, ℕ, List, length, take, Option, Some, None, Result, Ok, Err}
+use Rattle.std.specs.Prelude.{◌≡◌, ◌<◌, ◌≤◌, ◌⊎◌, ℕ, List, length, take, Option, Some, None, Result, Ok, Err}
 use Rattle.mg_text.specs.Call.{Name}
 use Rattle.mg_text.specs.Places.{start_of, place_after}
 use Rattle.mg_text.specs.declared.place.Place.{Place}
@@ -39,7 +39,8 @@ pub data Outcome (file : ℕ) (bytes : List ℕ) : Answer → Type 0 where
   -- no token and no separator begins at this offset, or the bytes stop to be UTF-8
   bad_byte : (k : ℕ) → length bytes ≤ 1048576 → IsBadAt k bytes → Outcome file bytes (BadByte (place_after (start_of file) (take k bytes)))
   -- no tree spells the tokens
-  syntax : {tokens : List Tok} → length bytes ≤ 1048576 → AreTokens file tokens bytes → ((w : WFile) → IsSpelled w tokens → ⊥) → Outcome file bytes Syntax
+  syntax : {tokens : List Tok} → length bytes ≤ 1048576 → AreTokens file tokens bytes → ((w : WFile) → IsSpelled w tokens → ⊥)
+      → Outcome file bytes Syntax
   -- a condition doesn't hold
   refused : {w : WFile} {condition : Condition} {place : Place} {name : Name} → Spells file bytes w → length w.states ≤ 1000
       → IsFault w (Some (condition, culprit place name)) → Outcome file bytes (Refused condition place name)
@@ -59,3 +60,7 @@ answer_of (Err (faults.SignatureDiffers place name)) = Some (Refused conditions.
 answer_of (Err (faults.DuplicateLabel place name)) = Some (Refused conditions.DuplicateLabel place name)
 answer_of (Err (faults.ReservedEnd place name)) = Some (Refused conditions.ReservedEnd place name)
 answer_of (Err faults.Memory) = None
+
+-- this was answered, or memory ran out
+abbrev pub IsAnswered : Answer → Result Typestate TsFault → Type 0
+IsAnswered answer result = (answer_of result ≡ Some answer) ⊎ (answer_of result ≡ None)

@@ -4,24 +4,26 @@
 use mg_text::{Memory, Place, Text};
 
 /// Why a typestate file is refused, in the order in which it is judged.
-#[derive(Debug, Drop)]
+#[derive(Debug, PartialEq, Eq, Drop)]
 pub enum TsFault {
-    /// It has over 1,048,576 bytes, or spells over 1,000 states.
+    /// The file holds over 1,048,576 bytes, or spells over 1,000 states. The place is the file's
+    /// start.
     TooLarge { place: Place },
-    /// The first byte at which no token and nothing between tokens begins, or the bytes stop to
-    /// be UTF-8.
+    /// A byte starts no token or separator, a comment isn't closed, a name is over 255 bytes
+    /// long, or the bytes aren't UTF-8.
     BadByte { place: Place },
-    /// No tree spells the tokens.
+    /// No file is spelled by the tokens. The place is the first token that can't stand there, or
+    /// just behind the last byte.
     Syntax { place: Place },
-    /// Two states have one name.
+    /// Two states have one name. The place is the second one's name.
     DuplicateState { place: Place, name: Text },
-    /// A target is no state.
+    /// A target is neither `end` nor a state.
     UnknownState { place: Place, name: Text },
-    /// A method stands twice in a state.
+    /// A method stands twice in a state. The place is the second one's name.
     DuplicateMethod { place: Place, name: Text },
-    /// One method name has two results or parameter lists.
+    /// A method has another result or other parameters than an earlier one of its name.
     SignatureDiffers { place: Place, name: Text },
-    /// A label stands twice in one list.
+    /// A label stands twice in one list. The place is the second one.
     DuplicateLabel { place: Place, name: Text },
     /// A state is named `end`.
     ReservedEnd { place: Place, name: Text },

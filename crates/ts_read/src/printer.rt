@@ -1,3 +1,6 @@
+//! The text of a typestate: a line for each state, method and closing brace, four blanks a level.
+//! Each function appends what its part of the layout says, and leaves what stands before it.
+
 ghost use Rattle.std.specs.Prelude.{◌≡◌, ◌++◌, OnOk, string_bytes, map};
 ghost use Rattle.std.specs.List.{flat_map};
 ghost use Rattle.ts_tree.specs.View.{target_of, method_of, state_of};

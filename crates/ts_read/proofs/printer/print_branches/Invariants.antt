@@ -5,4 +5,5 @@ use Rattle.ts_read.proofs.Separated.{behind_commas}
 use Rattle.ts_read.proofs.printer.print_branches.Given as goal
 
 abbrev pub invariant-loop-branch : goal.invariant-loop-branch
-invariant-loop-branch l = string_bytes l.out ≡ string_bytes l.initial.out ++ behind_commas (branch_text (map state_of l.states)) (take l.branch-index l.rest)
+invariant-loop-branch l = string_bytes l.out ≡ string_bytes l.initial.out ++ behind_commas (branch_text (map state_of l.states))
+    (take l.branch-index l.rest)

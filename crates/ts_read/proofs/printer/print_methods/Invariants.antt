@@ -4,4 +4,5 @@ use Rattle.ts_read.proofs.Separated.{behind_lines}
 use Rattle.ts_read.proofs.printer.print_methods.Given as goal
 
 abbrev pub invariant-loop-method : goal.invariant-loop-method
-invariant-loop-method l = string_bytes l.out ≡ string_bytes l.initial.out ++ behind_lines (map state_of l.states) method_of (take l.method-index l.rest)
+invariant-loop-method l = string_bytes l.out ≡ string_bytes l.initial.out ++ behind_lines (map state_of l.states) method_of
+    (take l.method-index l.rest)

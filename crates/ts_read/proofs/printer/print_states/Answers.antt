@@ -11,5 +11,7 @@ use Rattle.ts_read.proofs.printer.print_states.Goals as goal
 pub returns : goal.returns
 returns c =
     c.loop-state.invariant
-    ∙ ap (λ (xs : List State). string_bytes c.args.out.now ++ flat_map (λ s. state_text (map state_of c.args.states.now) (state_of s)) xs) (take_all c.loop-state.state-index c.args.states.now c.loop-state-test.false)
-    ∙ ap (λ t. string_bytes c.args.out.now ++ t) (sym (flat_map-map (state_text (map state_of c.args.states.now)) state_of c.args.states.now))
+    ∙ ap (λ (xs : List State). string_bytes c.args.out.now ++ flat_map (λ s. state_text (map state_of c.args.states.now) (state_of s)) xs)
+    (take_all c.loop-state.state-index c.args.states.now c.loop-state-test.false)
+    ∙ ap (λ t. string_bytes c.args.out.now ++ t)
+    (sym (flat_map-map (state_text (map state_of c.args.states.now)) state_of c.args.states.now))

@@ -6,4 +6,5 @@ use Rattle.ts_read.proofs.printer.print_states.Given as goal
 
 abbrev pub invariant-loop-state : goal.invariant-loop-state
 invariant-loop-state l =
-    string_bytes l.out ≡ string_bytes l.initial.out ++ flat_map (λ s. state_text (map state_of l.states) (state_of s)) (take l.state-index l.states)
+    string_bytes l.out ≡ string_bytes l.initial.out ++ flat_map (λ s. state_text (map state_of l.states) (state_of s))
+    (take l.state-index l.states)

@@ -1,0 +1,5 @@
+pub mod Told
+pub mod Same
+pub mod Named
+pub mod Printed
+pub mod Answered

@@ -1,0 +1,246 @@
+-- Texts that are cut into pieces, with what their tokens are, wherever they stand.
+use Rattle.std.proofs.Common.{◌≡◌, ℕ, ◌<◌, ◌≤◌, List, [], ◌∷◌, ◌++◌, length, Bool, true, false, ◌&&◌, Some, None, refl, sym, ap, subst, ◌∙◌, append_assoc, arith, codes, true≢false}
+use Rattle.std.specs.Prelude.{nat_lt}
+use Rattle.std.specs.Str.{IsAscii}
+use Rattle.std.proofs.lemmas.List.{append-nil}
+use Rattle.std.proofs.lemmas.Bool.Decides.{nat_tests}
+use Rattle.std.proofs.lemmas.Str.{IsUtf8-from_ascii}
+use Rattle.std.proofs.lemmas.Str.Ascii.{IsAscii-nil, IsAscii-cons}
+use Rattle.mg_text.specs.Call.{Name}
+use Rattle.mg_text.specs.Places.{start_of, place_after}
+use Rattle.mg_text.specs.declared.place.Place.{Place}
+use Rattle.mg_read.specs.Letters.{is_blank, is_name_start, is_name_byte}
+use Rattle.mg_read.specs.Passes.{AllPasses, StopsAt, StartsWith}
+use Rattle.mg_read.specs.Pieces.{Piece, blank, word, sign, Cut, is_sign, tokens_from}
+use Rattle.ts_parse.specs.declared.token.Mark.{Mark}
+use Rattle.ts_parse.specs.declared.token.Mark.TheVariants as marks
+use Rattle.ts_parse.specs.Tok.{Tok, named, marked, reserved, sign_of, typestates, word_tok, sign_toks, tok_said, AreTokens}
+
+-- nothing is asked of what follows
+abbrev pub Any : List ℕ → Type 0
+Any bytes = Unit {0}
+
+-- what follows begins with no byte of a name
+abbrev pub NoName : List ℕ → Type 0
+NoName = StopsAt is_name_byte
+
+-- each byte is ASCII
+pub data AreLow : List ℕ → Type 0 where
+  none : AreLow []
+  more : {c : ℕ} {cs : List ℕ} → c < 128 → AreLow cs → AreLow (c ∷ cs)
+
+low-append : {a b : List ℕ} → AreLow a → AreLow b → AreLow (a ++ b)
+low-append none h = h
+low-append (more l g) h = more l (low-append g h)
+
+low-ascii : {a : List ℕ} → AreLow a → IsAscii a
+low-ascii none = IsAscii-nil
+low-ascii (more {c = c} {cs = cs} l h) = IsAscii-cons c cs l (low-ascii h)
+
+low-name : (a : List ℕ) → AllPasses is_name_byte a → AreLow a
+low-name [] h = none
+low-name (c ∷ cs) h = more (below c h.0) (low-name cs h.1)
+  where
+    below : (c : ℕ) → is_name_byte c ≡ true → c < 128
+    below c h = grind (arith, nat_tests)
+
+-- the tokens of pieces that stand at a place: some that P holds of, and then those of the pieces qs
+pub record Tokens (P : List Tok → Type 0) (qs : List Piece) (p : Place) (ps : List Piece) : Type 0 where
+  pub end : Place
+  pub front : List Tok
+  pub parts : tokens_from tok_said p ps ≡ front ++ tokens_from tok_said end qs
+  pub holds : P front
+
+-- bytes that are pieces, which end in the pieces qs
+pub record Reads (P : List Tok → Type 0) (qs : List Piece) (whole : List ℕ) : Type 0 where
+  pub pieces : List Piece
+  pub cut : Cut typestates pieces whole []
+  pub tokens : (p : Place) → Tokens P qs p pieces
+
+-- a text whose tokens P holds of, wherever it stands in front of bytes that are ok
+pub record Told (ok : List ℕ → Type 0) (P : List Tok → Type 0) (text : List ℕ) : Type 0 where
+  pub low : AreLow text
+  pub reads : (qs : List Piece) (bytes : List ℕ) → ok bytes → Cut typestates qs bytes [] → Reads P qs (text ++ bytes)
+
+pub nothing : {ok : List ℕ → Type 0} → Told ok (λ ts. ts ≡ []) []
+nothing = record {
+  low = none;
+  reads =
+      λ qs bytes o cut. record { pieces = qs; cut = cut; tokens = λ p. record { end = p; front = []; parts = refl; holds = refl } };
+}
+
+pub convert : {ok : List ℕ → Type 0} {P Q : List Tok → Type 0} {text : List ℕ} → ((ts : List Tok) → P ts → Q ts) → Told ok P text
+    → Told ok Q text
+convert f h = record {
+  low = h.low;
+  reads = λ qs bytes o cut. let r = h.reads qs bytes o cut in
+      record {
+        pieces = r.pieces;
+        cut = r.cut;
+        tokens = λ p. let t = r.tokens p in
+            record { end = t.end; front = t.front; parts = t.parts; holds = f t.front t.holds };
+      };
+}
+
+-- the same text, grouped in another way
+pub regroup : {ok : List ℕ → Type 0} {P : List Tok → Type 0} {text other : List ℕ} → text ≡ other → Told ok P other → Told ok P text
+regroup {ok} {P} e h = subst (Told ok P) (sym e) h
+
+-- a blank, and then a text
+pub blank_then : {ok : List ℕ → Type 0} {P : List Tok → Type 0} {text : List ℕ} (c : ℕ) → is_blank c ≡ true → c < 128 → Told ok P text
+    → Told ok P (c ∷ text)
+blank_then {text = text} c e l h = record {
+  low = more l h.low;
+  reads = λ qs bytes o cut. let r = h.reads qs bytes o cut in
+      record {
+        pieces = blank c ∷ r.pieces;
+        cut = (text ++ bytes, refl, e, r.cut);
+        tokens = λ p. let t = r.tokens (place_after p (c ∷ [])) in
+            record { end = t.end; front = t.front; parts = t.parts; holds = t.holds };
+      };
+}
+
+pub space_then : {ok : List ℕ → Type 0} {P : List Tok → Type 0} {text : List ℕ} → Told ok P text → Told ok P (32 ∷ text)
+space_then h = blank_then 32 refl (omega arith) h
+
+pub line_then : {ok : List ℕ → Type 0} {P : List Tok → Type 0} {text : List ℕ} → Told ok P text → Told ok P (10 ∷ text)
+line_then h = blank_then 10 refl (omega arith) h
+
+pub level_then : {ok : List ℕ → Type 0} {P : List Tok → Type 0} {text : List ℕ} → Told ok P text → Told ok P (codes "    " ++ text)
+level_then h = space_then (space_then (space_then (space_then h)))
+
+-- a token in front, and then what P holds of
+abbrev pub Front : (Place → Tok) → (List Tok → Type 0) → List Tok → Type 0
+Front tok P ts = (a : Place) × (us : List Tok) × (ts ≡ tok a ∷ us) × P us
+
+pub sign_then : {ok : List ℕ → Type 0} {P : List Tok → Type 0} {text : List ℕ} (c : ℕ) (mark : Mark) → is_sign typestates.signs c ≡ true
+    → sign_of c ≡ Some mark → c < 128
+    → Told ok P text → Told ok (Front (λ a. marked a mark) P) (c ∷ text)
+sign_then {text = text} c mark e s l h = record {
+  low = more l h.low;
+  reads = λ qs bytes o cut. let r = h.reads qs bytes o cut in
+      record {
+        pieces = sign c ∷ r.pieces;
+        cut = (text ++ bytes, refl, e, r.cut);
+        tokens = λ p. let t = r.tokens (place_after p (c ∷ [])) in record {
+          end = t.end;
+          front = marked p mark ∷ t.front;
+          parts = ap (λ o. sign_toks p o ++ tokens_from tok_said (place_after p (c ∷ [])) r.pieces) s ∙ ap (λ z. marked p mark ∷ z) t.parts;
+          holds = (p, t.front, refl, t.holds);
+        };
+      };
+}
+
+-- a word that may stand, and the token that it is
+pub record IsToken (w : Name) (tok : Place → Tok) : Type 0 where
+  pub starts : StartsWith is_name_start w
+  pub bytes : AllPasses is_name_byte w
+  pub short : length w ≤ 255
+  pub token : (p : Place) → word_tok p w (reserved w) ≡ tok p
+
+pub word_then : {ok : List ℕ → Type 0} {P : List Tok → Type 0} {text : List ℕ} (w : Name) (tok : Place → Tok) → IsToken w tok
+    → ((bytes : List ℕ) → ok bytes → NoName (text ++ bytes))
+    → Told ok P text → Told ok (Front tok P) (w ++ text)
+word_then {text = text} w tok is stops h = record {
+  low = low-append (low-name w is.bytes) h.low;
+  reads = λ qs bytes o cut. let r = h.reads qs bytes o cut in
+      record {
+        pieces = word w ∷ r.pieces;
+        cut = (text ++ bytes, append_assoc w text bytes, (is.starts, is.bytes, stops bytes o, is.short), r.cut);
+        tokens = λ p. let t = r.tokens (place_after p w) in record {
+          end = t.end;
+          front = tok p ∷ t.front;
+          parts = ap (λ z. z ∷ tokens_from tok_said (place_after p w) r.pieces) (is.token p) ∙ ap (λ z. tok p ∷ z) t.parts;
+          holds = (p, t.front, refl, t.holds);
+        };
+      };
+}
+
+-- a name, and its token
+pub record IsName (w : Name) : Type 0 where
+  pub starts : StartsWith is_name_start w
+  pub bytes : AllPasses is_name_byte w
+  pub short : length w ≤ 255
+  pub free : reserved w ≡ None
+
+naming : (w : Name) → IsName w → IsToken w (λ a. named a w)
+naming w h = record { starts = h.starts; bytes = h.bytes; short = h.short; token = λ p. ap (word_tok p w) h.free }
+
+pub name_then : {ok : List ℕ → Type 0} {P : List Tok → Type 0} {text : List ℕ} (w : Name) → IsName w
+    → ((bytes : List ℕ) → ok bytes → NoName (text ++ bytes)) → Told ok P text
+    → Told ok (Front (λ a. named a w) P) (w ++ text)
+name_then w is stops h = word_then w (λ a. named a w) (naming w is) stops h
+
+-- a name alone
+pub name_told : (w : Name) → IsName w → Told NoName (λ ts. (a : Place) × (ts ≡ named a w ∷ [])) w
+name_told w is =
+    regroup (sym (append-nil w))
+    (convert (λ ts h. (h.0, h.2 ∙ ap (λ us. named h.0 w ∷ us) h.3)) (name_then w is (λ bytes o. o) nothing))
+
+all_of : List ℕ → Bool
+all_of [] = true
+all_of (c ∷ cs) = is_name_byte c && all_of cs
+
+split : (a b : Bool) → (a && b) ≡ true → (a ≡ true) × (b ≡ true)
+split true b e = (refl, e)
+split false b e = absurd (true≢false (sym e))
+
+all_pass : (cs : List ℕ) → all_of cs ≡ true → AllPasses is_name_byte cs
+unfolding all_of
+all_pass [] e = tt
+all_pass (c ∷ cs) e = let h = split (is_name_byte c) (all_of cs) e in (h.0, all_pass cs h.1)
+
+short_of : (w : Name) → nat_lt (length w) 256 ≡ true → length w ≤ 255
+short_of w e = grind (arith, nat_tests)
+
+pub typestate_word : IsToken (codes "typestate") (λ a. marked a marks.Typestate)
+unfolding all_of
+typestate_word = record {
+  starts = refl;
+  bytes = all_pass (codes "typestate") refl;
+  short = short_of (codes "typestate") refl;
+  token =
+      λ p. refl;
+}
+
+-- two parts
+abbrev pub Both : (List Tok → Type 0) → (List Tok → Type 0) → List Tok → Type 0
+Both P Q ts = (us vs : List Tok) × (ts ≡ us ++ vs) × P us × Q vs
+
+pub both : {fine ok : List ℕ → Type 0} {P Q : List Tok → Type 0} {a b : List ℕ} → Told fine P a
+    → ((bytes : List ℕ) → ok bytes → fine (b ++ bytes)) → Told ok Q b → Told ok (Both P Q) (a ++ b)
+both {a = a} {b = b} h follows g = record {
+  low = low-append h.low g.low;
+  reads = λ qs bytes o cut.
+      let s = g.reads qs bytes o cut in let r = h.reads s.pieces (b ++ bytes) (follows bytes o) s.cut in
+      record {
+        pieces = r.pieces;
+        cut = subst (λ z. Cut typestates r.pieces z []) (sym (append_assoc a b bytes)) r.cut;
+        tokens = λ p. let t = r.tokens p in let u = s.tokens t.end in record {
+          end = u.end;
+          front = t.front ++ u.front;
+          parts = t.parts ∙ ap (λ z. t.front ++ z) u.parts ∙ sym (append_assoc t.front u.front (tokens_from tok_said u.end qs));
+          holds = (t.front, u.front, refl, t.holds, u.holds);
+        };
+      };
+}
+
+-- a whole text
+pub record Whole (file : ℕ) (P : List Tok → Type 0) (text : List ℕ) : Type 0 where
+  pub tokens : List Tok
+  pub cut : AreTokens file tokens text
+  pub holds : P tokens
+
+pub whole : {P : List Tok → Type 0} {text : List ℕ} (file : ℕ) → Told Any P text → Whole file P text
+whole {text = text} file h =
+    let r = h.reads [] [] tt refl in let t = r.tokens (start_of file) in
+    record {
+      tokens = t.front;
+      cut = record {
+        pieces = r.pieces;
+        cut = subst (λ z. Cut typestates r.pieces z []) (append-nil text) r.cut;
+        utf8 = IsUtf8-from_ascii text (low-ascii h.low);
+        tokens = sym (t.parts ∙ append-nil t.front);
+      };
+      holds = t.holds;
+    }

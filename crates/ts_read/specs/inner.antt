@@ -1,0 +1,4 @@
+pub mod Finding
+pub mod Signing
+pub mod Deciding
+pub mod Composing

@@ -1,0 +1,116 @@
+//! The states of a typestate, from what is written: names of states become their numbers.
+//! What names nothing becomes the end; it was refused before.
+
+ghost use Rattle.std.specs.Prelude.{◌≡◌, IfOk, map};
+ghost use Rattle.ts_tree.specs.View.{target_of, method_of, state_of};
+ghost use Rattle.ts_parse.specs.Written.{wtarget_of, wmethod_of, wstate_of};
+ghost use Rattle.ts_read.specs.Meaning.{place_named, branch_meant, target_meant, method_meant, state_meant};
+
+use crate::signatures::{copy_type, copy_types};
+use mg_text::{List, Memory, Names, Text};
+use std::alloc::Global;
+use ts_parse::{WrittenBranch, WrittenMethod, WrittenState, WrittenTarget};
+use ts_tree::{Branch, Method, State, Target, To};
+
+// The end, or the state of this name.
+fn place_named(names: &Names, name: &Text) -> To
+    ensures { result ≡ place_named names.now name.now }
+{
+    let text = name.as_str();
+    if text == "end" {
+        return To::End;
+    }
+    match names.find(text) {
+        Some(number) => To::State(number.0),
+        None => To::End,
+    }
+}
+
+fn branch_meant(names: &Names, branch: &WrittenBranch) -> Result<Branch, Memory>
+    ensures { IfOk result (λ b. b ≡ branch_meant names.now branch.now) }
+{
+    let label = branch.label.text.copy()?;
+    let to = place_named(names, &branch.to.text);
+    Ok(Branch { label, to })
+}
+
+fn branches_meant(
+    alloc: Global,
+    names: &Names,
+    branches: &[WrittenBranch],
+) -> Result<List<Branch>, Memory>
+    ensures { IfOk result (λ l. l.items ≡ map (branch_meant names.now) branches.now) }
+{
+    let mut made = List::new(alloc);
+    for item in branches {
+        let branch = branch_meant(names, item)?;
+        made.push(branch)?;
+    }
+    Ok(made)
+}
+
+fn target_meant(alloc: Global, names: &Names, target: &WrittenTarget) -> Result<Target, Memory>
+    ensures { IfOk result (λ t. target_of t ≡ target_meant names.now (wtarget_of target.now)) }
+{
+    match target {
+        WrittenTarget::One(to) => Ok(Target::One(place_named(names, &to.text))),
+        WrittenTarget::ByAnswer(branches) => {
+            let made = branches_meant(alloc, names, branches.as_slice())?;
+            Ok(Target::ByAnswer(made))
+        }
+    }
+}
+
+fn method_meant(alloc: Global, names: &Names, method: &WrittenMethod) -> Result<Method, Memory>
+    ensures { IfOk result (λ m. method_of m ≡ method_meant names.now (wmethod_of method.now)) }
+{
+    let type_name = copy_type(&method.result)?;
+    let name = method.name.text.copy()?;
+    let params = copy_types(alloc, method.params.as_slice())?;
+    let target = target_meant(alloc, names, &method.target)?;
+    Ok(Method {
+        result: type_name,
+        name,
+        params,
+        target,
+    })
+}
+
+fn methods_meant(
+    alloc: Global,
+    names: &Names,
+    methods: &[WrittenMethod],
+) -> Result<List<Method>, Memory>
+    ensures { IfOk result (λ l. map method_of l.items ≡ map (λ m. method_meant names.now (wmethod_of m)) methods.now) }
+{
+    let mut made = List::new(alloc);
+    for item in methods {
+        let method = method_meant(alloc, names, item)?;
+        made.push(method)?;
+    }
+    Ok(made)
+}
+
+fn state_meant(alloc: Global, names: &Names, state: &WrittenState) -> Result<State, Memory>
+    ensures { IfOk result (λ s. state_of s ≡ record { name = state.now.name.text; methods = map (λ m. method_meant names.now (wmethod_of m)) state.now.methods.items }) }
+{
+    let name = state.name.text.copy()?;
+    let methods = methods_meant(alloc, names, state.methods.as_slice())?;
+    Ok(State { name, methods })
+}
+
+/// The states that are written, with these names.
+pub(crate) fn states_meant(
+    alloc: Global,
+    names: &Names,
+    states: &[WrittenState],
+) -> Result<List<State>, Memory>
+    ensures { IfOk result (λ l. map state_of l.items ≡ map (λ s. record { name = s.name.text; methods = map (λ m. method_meant names.now (wmethod_of m)) s.methods.items }) states.now) }
+{
+    let mut made = List::new(alloc);
+    for item in states {
+        let state = state_meant(alloc, names, item)?;
+        made.push(state)?;
+    }
+    Ok(made)
+}
