@@ -3,3 +3,8 @@ pub mod Paths
 pub mod Proper
 pub mod Acting
 pub mod Agree
+pub mod Numbers
+pub mod Starting
+pub mod Numbering
+pub mod Few
+pub mod Examples

@@ -1,4 +1,5 @@
--- The typestate of a local protocol: a state for each of its states, with a method for each step there, which leads to the state that is reached.
+-- A typestate of a local protocol: a state for each of its states, with a method for each step there, which leads to a state with the text that
+-- is reached. Where two states have the same text left it may be either; Numbered says which.
 use Rattle.std.specs.Prelude.{◌≡◌, ℕ, suc, List, [], ◌∷◌, ◌++◌, codes}
 use Rattle.std.specs.Fmt.{decimal}
 use Rattle.mg_text.specs.Call.{Name}
@@ -81,7 +82,7 @@ abbrev pub methods_by : Name → Act → Standing → List Method → List Branc
 methods_by me (Moves message) to more branches = method_of message to ∷ more
 methods_by me (Looks number peer label) to more branches = label_method me number peer branches ∷ []
 
--- the methods of the steps of a state
+-- the methods of the steps of a state; at a choice elsewhere all edges are looks, and make one method
 abbrev pub methods_of : Name → List Edge → List Method
 methods_of me [] = []
 methods_of me (edge ∷ edges) = methods_by me edge.act edge.to (methods_of me edges) (branches_of (edge ∷ edges))
@@ -102,7 +103,7 @@ AreLaid me all [] k [] = Unit {0}
 AreLaid me all (position ∷ positions) k (s ∷ ss) = IsLaidState me all position k s × AreLaid me all positions (suc k) ss
 AreLaid me all _ k _ = ⊥
 
--- the typestate of a local protocol
+-- a typestate whose states are those of a local protocol, as far as the text that is left tells them apart
 pub record IsLaid (local : LocalTree) (t : Typestate) : Type 0 where
   pub name : t.name ≡ local.me ++ codes "Protocol"
   pub states : AreLaid local.me (state_positions (protocol_of local)) (state_positions (protocol_of local)) 0 t.states

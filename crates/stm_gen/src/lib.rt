@@ -6,10 +6,11 @@ mod methods;
 mod states;
 mod types;
 
-ghost use Rattle.std.specs.Prelude.{◌≡◌, ◌++◌, IfOk, codes};
+ghost use Rattle.std.specs.Prelude.{◌≡◌, ◌≤◌, ◌++◌, length, IfOk, codes};
 ghost use Rattle.scr_tree.specs.Local.{tree_of};
 ghost use Rattle.scr_tree.specs.Meaning.{protocol_of};
 ghost use Rattle.stm_gen.specs.Laid.{IsLaid};
+ghost use Rattle.stm_gen.specs.Numbered.{typestate_of};
 ghost use Rattle.stm_gen.specs.Agreement.{Agrees};
 
 use mg_text::{Memory, Text};
@@ -20,9 +21,12 @@ use std::alloc::Global;
 use ts_tree::Typestate;
 
 /// The typestate of a local protocol: `State0`, `State1`, .. in the order of the text, each with
-/// the methods of the steps there, which lead to the states that these reach.
+/// the methods of the steps there, which lead to the states that these reach. There are at most 1,000.
 /// The only error is `Memory`, where there is too little of it.
 pub fn generate(alloc: Global, local: &Local) -> Result<Typestate, Memory>
+    // Its states, methods and targets are those that the numbers of the text give.
+    ensures numbered { IfOk result (λ t. t ≡ typestate_of (tree_of local.now)) }
+    ensures few { IfOk result (λ t. length t.states ≤ 1000) }
     ensures laid { IfOk result (λ t. IsLaid (tree_of local.now) t) }
     // Its calls are those of the protocol.
     ensures agrees { IfOk result (λ t. Agrees (tree_of local.now).me (protocol_of (tree_of local.now)) t) }

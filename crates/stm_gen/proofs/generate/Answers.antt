@@ -1,4 +1,4 @@
-use Rattle.std.proofs.Common.{◌++◌, ◌∙◌, ◌<◌, ◌^◌, List, map, length, sym, ap, subst, arith}
+use Rattle.std.proofs.Common.{◌≤◌, ◌++◌, ◌∙◌, ◌<◌, ◌^◌, List, map, length, sym, ap, subst, arith}
 use Rattle.std.specs.Prelude.{codes}
 use Rattle.std.proofs.lemmas.List.{length-map}
 use Rattle.mg_text.specs.Call.{Name}
@@ -18,6 +18,8 @@ use Rattle.stm_gen.specs.Laid.{AreLaid}
 use Rattle.stm_gen.proofs.Proper.{HaveOneSignature, proper}
 use Rattle.stm_gen.proofs.Acting.{one_signature}
 use Rattle.stm_gen.proofs.Agree.{agrees, laid}
+use Rattle.stm_gen.proofs.Numbering.{numbered_states}
+use Rattle.stm_gen.proofs.Few.{few}
 use Rattle.stm_gen.proofs.generate.Goals as goal
 
 pub invariant_of-result : goal.invariant_of-result
@@ -29,6 +31,19 @@ invariant_of-result c =
     let along = c.in_ok-laid.ensures.automaton in
     let few : length g.states < 2 ^ 64 = omega (arith, c.in_ok-states.ensures.few, length-map (work_of c.in_ok-laid.laid).cells (edges_of (work_of c.in_ok-laid.laid))) in
     subst IsProper (sym c.in_ok-states.ensures.made) (proper tree.me all g.states few along.states told (one_signature tree c.args.local.now.valid told g.states along.states))
+
+pub returns-clause-numbered : goal.returns-clause-numbered
+returns-clause-numbered c =
+    let tree : LocalTree = tree_of c.args.local.now in
+    let name = c.in_ok-name.ensures ∙ ap (λ (me : Name). me ++ codes "Protocol") c.me.ensures in
+    let states = c.in_ok-states.ensures.made ∙ numbered_states tree c.args.local.now.valid (work_of c.in_ok-laid.laid) c.in_ok-laid.ensures.laid in
+    λ i. record { name = name i; states = states i }
+
+pub returns-clause-few : goal.returns-clause-few
+returns-clause-few c =
+    let tree : LocalTree = tree_of c.args.local.now in
+    let states = c.in_ok-states.ensures.made ∙ numbered_states tree c.args.local.now.valid (work_of c.in_ok-laid.laid) c.in_ok-laid.ensures.laid in
+    subst (λ (ss : List State). length ss ≤ 1000) (sym states) (few tree c.args.local.now.valid)
 
 pub returns-clause-laid : goal.returns-clause-laid
 returns-clause-laid c =
