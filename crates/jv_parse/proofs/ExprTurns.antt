@@ -1,6 +1,6 @@
 -- The turns of the loops that read expressions.
 use Rattle.std.proofs.Common.{◌≡◌, ℕ, zero, suc, ◌-◌, ◌<◌, List, [], ◌∷◌, ◌++◌, length, true, false, Option, Some, None, refl, sym, ap, ◌∙◌, arith}
-use Rattle.std.specs.Prelude.{max, map}
+use Rattle.std.specs.Prelude.{max}
 use Rattle.mg_read.specs.Reader.{◌>>=◌, all_of}
 use Rattle.mg_read.proofs.Loop.{Left, Left-start, Left-none, with_front}
 use Rattle.mg_text.specs.declared.place.Place.{Place}
@@ -11,9 +11,8 @@ use Rattle.jv_tree.specs.Depth.{depth, depth_of_args}
 use Rattle.jv_tree.specs.Expressions.{IsInner}
 use Rattle.jv_tree.specs.View.{exprs_of}
 use Rattle.jv_reading.specs.Base.{sign_at, is_sign}
-use Rattle.jv_reading.specs.Grow.{grown}
 use Rattle.jv_reading.specs.Exprs.{Reads, next_arg_with, args_with, closed_args_with, arguments_with, closed_with, primary_at, tail_at, post_with, post_at, is_op, unary_at, joined_at, binary_with, binary_at, inner_at, expr_at, arguments_at, closed_at}
-use Rattle.jv_reading.proofs.Args.{Reading, Within, next_shorter}
+use Rattle.jv_reading.proofs.Args.{next_shorter}
 use Rattle.jv_reading.proofs.Posts.{tail_shorter}
 use Rattle.jv_reading.proofs.Chains.{step_shorter, binary_exact}
 use Rattle.jv_reading.proofs.Exprs.{inner_reading}

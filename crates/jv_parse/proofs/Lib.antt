@@ -1,2 +1,10 @@
+pub mod Words
 pub mod Turns
 pub mod ExprTurns
+pub mod Evaluating
+pub mod StmtTurns
+pub mod Walks
+pub mod FileTurns
+pub mod MemberTurns
+pub mod Sought
+pub mod Whole

@@ -1,6 +1,6 @@
 -- A turn of a loop that makes one thing larger.
 use Rattle.std.proofs.Common.{◌≡◌, ℕ, zero, suc, ◌<◌, List, length, Bool, true, false, Option, Some, None, refl, sym, ◌∙◌, arith}
-use Rattle.mg_read.specs.Reader.{Reader, ◌>>=◌}
+use Rattle.mg_read.specs.Reader.{Reader}
 use Rattle.jv_parse.specs.declared.halt.Halt.{Halt}
 use Rattle.jv_parse.specs.declared.halt.Halt.TheVariants as halts
 use Rattle.jv_parse.specs.inner.Gives.{Fails}

@@ -1,1 +1,3 @@
+pub mod Unsupported
+pub mod Answer
 pub mod inner

@@ -1,1 +1,7 @@
 pub mod Gives
+pub mod Changes
+pub mod Evaluations
+pub mod Modifiers
+pub mod Members
+pub mod Rests
+pub mod Parsed

@@ -5,6 +5,7 @@ ghost use Rattle.std.specs.Prelude.{◌≡◌, ◌≤◌, Some, IfOk, is_some};
 ghost use Rattle.jv_tree.specs.Sugar.{compound, counter, changed};
 ghost use Rattle.jv_tree.specs.Depth.{depth};
 ghost use Rattle.jv_tree.specs.View.{expr_of, stmt_of};
+ghost use Rattle.jv_parse.specs.inner.Changes.{plain_at, counted_at, compounded_at};
 ghost use Rattle.jv_parse.specs.inner.Gives.{Gives};
 ghost use Rattle.jv_reading.specs.Stmts.{cond_at, ended_at, after_final, type_at, local_at, target_at, compound_at, counter_at, is_compound, is_counter, is_change, is_name_change, is_field_change, is_assign, assigned, change_at, assign_at};
 
@@ -20,7 +21,7 @@ use ts_tree::TypeName;
 pub(crate) type ReadStmt<'a> = Result<(Stmt, &'a [Token]), Halt>;
 
 // How many parentheses may be open at once.
-const MOST_OPEN: u16 = 400;
+pub(crate) const MOST_OPEN: u16 = 400;
 
 // "(" expr ")"
 #[tactic(auto, unfolding(jv_reading::specs::Stmts::cond_at))]
@@ -288,4 +289,102 @@ fn changed(
         kind: ExprKind::Binary(op, left, right),
     };
     assigned(place, target, (made, parts + 1), rest, levels)
+}
+
+// "=" expr ";" behind a target.
+#[tactic(auto, using(jv_tree::proofs::ViewLaws::views))]
+fn plain_of(alloc: Global, target: (Expr, u8), tokens: &[Token], levels: u8) -> ReadStmt<'_>
+    requires { target.1 ≡ depth (expr_of target.0) }
+    ensures { Gives (λ x. (stmt_of x.0, x.1.now)) result (plain_at levels (expr_of target.0) tokens.now) }
+{
+    let place = target.0.place;
+    let (_, rest) = sign_of(tokens, Sign::Assign)?;
+    let (value, deep, rest) = ended_of(alloc, rest, levels)?;
+    assigned(place, target, (value, deep), rest, levels)
+}
+
+// inc ";" behind a target that is there twice.
+#[tactic(auto, using(jv_tree::proofs::ViewLaws::views))]
+fn counted_of(
+    alloc: Global,
+    target: (Expr, u8),
+    operand: Expr,
+    tokens: &[Token],
+    levels: u8,
+) -> ReadStmt<'_>
+    requires target_deep { target.1 ≡ depth (expr_of target.0) }
+    requires same { expr_of operand ≡ expr_of target.0 }
+    ensures { Gives (λ x. (stmt_of x.0, x.1.now)) result (counted_at levels (expr_of target.0) tokens.now) }
+{
+    let place = target.0.place;
+    let (_, op, rest) = counter_of(tokens)?;
+    let (_, rest) = sign_of(rest, Sign::Semicolon)?;
+    let kind = ExprKind::Int(1);
+    let one = Expr { place, kind };
+    changed(alloc, place, op, target, operand, (one, 1), rest, levels)
+}
+
+// asg expr ";" behind a target that is there twice, where the sign isn't "=".
+#[tactic(auto, using(jv_tree::proofs::ViewLaws::views))]
+fn compounded_of(
+    alloc: Global,
+    target: (Expr, u8),
+    operand: Expr,
+    tokens: &[Token],
+    levels: u8,
+) -> ReadStmt<'_>
+    requires target_deep { target.1 ≡ depth (expr_of target.0) }
+    requires same { expr_of operand ≡ expr_of target.0 }
+    ensures { Gives (λ x. (stmt_of x.0, x.1.now)) result (compounded_at levels (expr_of target.0) tokens.now) }
+{
+    let place = target.0.place;
+    let (op, rest) = compound_of(tokens)?;
+    let (value, deep, rest) = ended_of(alloc, rest, levels)?;
+    let value = (value, deep);
+    changed(alloc, place, op, target, operand, value, rest, levels)
+}
+
+// What stands behind a target that is there twice.
+#[tactic(auto, unfolding(jv_reading::specs::Stmts::change_at))]
+fn change_of(
+    alloc: Global,
+    target: (Expr, u8),
+    operand: Expr,
+    tokens: &[Token],
+    levels: u8,
+) -> ReadStmt<'_>
+    requires target_deep { target.1 ≡ depth (expr_of target.0) }
+    requires same { expr_of operand ≡ expr_of target.0 }
+    ensures { Gives (λ x. (stmt_of x.0, x.1.now)) result (change_at levels (expr_of target.0) tokens.now) }
+{
+    if is_sign(tokens, Sign::Assign) {
+        return plain_of(alloc, target, tokens, levels);
+    }
+    if is_counter(tokens) {
+        return counted_of(alloc, target, operand, tokens, levels);
+    }
+    compounded_of(alloc, target, operand, tokens, levels)
+}
+
+// An assignment. Its target is read twice where an operator changes it.
+#[tactic(auto, using(jv_tree::proofs::ViewLaws::views), unfolding(jv_reading::specs::Stmts::assign_at))]
+pub(crate) fn assign_of(alloc: Global, tokens: &[Token], levels: u8) -> ReadStmt<'_>
+    ensures { Gives (λ x. (stmt_of x.0, x.1.now)) result (assign_at levels tokens.now) }
+{
+    if is_counter(tokens) {
+        let (place, op, rest) = counter_of(tokens)?;
+        let (target, deep, after) = target_of(alloc, rest)?;
+        let (operand, _, _) = target_of(alloc, rest)?;
+        let (_, after) = sign_of(after, Sign::Semicolon)?;
+        let kind = ExprKind::Int(1);
+        let one = Expr {
+            place: target.place,
+            kind,
+        };
+        let target = (target, deep);
+        return changed(alloc, place, op, target, operand, (one, 1), after, levels);
+    }
+    let (target, deep, rest) = target_of(alloc, tokens)?;
+    let (operand, _, _) = target_of(alloc, tokens)?;
+    change_of(alloc, (target, deep), operand, rest, levels)
 }

@@ -8,72 +8,13 @@ ghost use Rattle.jv_reading.specs.Base.{sign_at, is_sign, word_at, is_word, name
 
 use crate::halt::Halt;
 use jv_tree::{Sign, Token, TokenKind};
-use mg_text::{Place, Text};
-
-// The words of the language, which are no names.
-const RESERVED: [&str; 53] = [
-    "boolean",
-    "break",
-    "case",
-    "class",
-    "continue",
-    "default",
-    "do",
-    "else",
-    "enum",
-    "final",
-    "if",
-    "import",
-    "int",
-    "new",
-    "package",
-    "private",
-    "protected",
-    "public",
-    "return",
-    "static",
-    "switch",
-    "this",
-    "void",
-    "while",
-    "true",
-    "false",
-    "null",
-    "abstract",
-    "assert",
-    "byte",
-    "catch",
-    "char",
-    "const",
-    "double",
-    "extends",
-    "finally",
-    "float",
-    "for",
-    "goto",
-    "implements",
-    "instanceof",
-    "interface",
-    "long",
-    "native",
-    "short",
-    "strictfp",
-    "super",
-    "synchronized",
-    "throw",
-    "throws",
-    "transient",
-    "try",
-    "volatile",
-];
+use mg_text::{Place, Text, is_java_word};
 
 // Whether a word is a name.
-#[tactic(auto, unfolding(jv_tree::specs::Tokens::is_name))]
 pub(crate) fn is_name(word: &str) -> bool
     ensures { result ≡ is_name word.now }
 {
-    let words: [&str; 53] = RESERVED;
-    !words.as_slice().contains(&word)
+    !is_java_word(word)
 }
 
 // The place of this sign, and the tokens after it.

@@ -391,7 +391,7 @@ printed_call (Call p n args) f h = absurd (none_is_not f h)
 printed_call (MethodCall p e n args) f h = refl
 printed_call (New p n) f h = absurd (none_is_not f h)
 
-out_depth : (e : Expr) → is_out e ≡ true → depth e ≡ 2
+pub out_depth : (e : Expr) → is_out e ≡ true → depth e ≡ 2
 out_depth (Int p z) h = absurd cc
 out_depth (Truth p b) h = absurd cc
 out_depth (Text p t) h = absurd cc
@@ -418,7 +418,7 @@ out_depth (Call p n args) h = absurd cc
 out_depth (MethodCall p e n args) h = absurd cc
 out_depth (New p n) h = absurd cc
 
-only_depth : (args : Exprs) (e : Expr) → only_argument args ≡ Some e → depth_of_args args ≡ max (depth e) 0
+pub only_depth : (args : Exprs) (e : Expr) → only_argument args ≡ Some e → depth_of_args args ≡ max (depth e) 0
 only_depth NoExpr e h = absurd (none_is_not e h)
 only_depth (Argument f NoExpr) e h = ap (λ (g : Expr). max (depth g) 0) (some_is f e h)
 only_depth (Argument f (Argument g more)) e h = absurd (none_is_not e h)

@@ -4,7 +4,7 @@ use Rattle.std.proofs.lemmas.Result.{err_from_is_err_and}
 use Rattle.std.proofs.lemmas.List.{map_push}
 use Rattle.mg_read.proofs.Loop.{Left-more, Left-done}
 use Rattle.jv_tree.specs.declared.token.Sign.TheVariants as signs
-use Rattle.jv_tree.specs.View.{expr_of, exprs_of}
+use Rattle.jv_tree.specs.View.{expr_of}
 use Rattle.jv_reading.specs.Base.{is_sign}
 use Rattle.jv_reading.specs.Exprs.{next_arg_with, args_with, tail_at, post_at, is_op, joined_at, binary_at, expr_at}
 use Rattle.jv_parse.proofs.Turns.{Growing-more, Growing-done, Growing-fails}

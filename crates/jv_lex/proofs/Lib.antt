@@ -1,0 +1,9 @@
+pub mod Texts
+pub mod Right
+pub mod Longest
+pub mod Numbers
+pub mod Fronts
+pub mod Utf8
+pub mod Cuts
+pub mod Scans
+pub mod Told

@@ -1,0 +1,383 @@
+//! Reads statements, one function for each production.
+//! Statements and expressions inside are at most `levels` deep.
+
+ghost use Rattle.std.specs.Prelude.{◌≡◌, ◌≤◌, Some, map};
+ghost use Rattle.jv_tree.specs.View.{expr_of, stmt_of, group_of};
+ghost use Rattle.jv_parse.specs.inner.Gives.{Gives};
+ghost use Rattle.jv_reading.specs.Stmts.{is_typed, is_decl, is_case, goes_on, case_at, cases_at, jump_at, break_at, continue_at, return_at, empty_at, is_label, loop_place, loop_label, stmt_at, item_with, items_with, block_with, if_with, while_with, do_with, loop_with, labelled_with, group_with, groups_with, switch_with, simple_with};
+
+use crate::assigns::{ReadStmt, assign_of, cond_of, ended_of, is_assign, local_of};
+use crate::evaluations::evaluation_of;
+use crate::halt::Halt;
+use crate::tokens::{is_named, is_sign, is_word, name_of, sign_of, word_of};
+use jv_tree::{Group, Sign, Stmt, StmtKind, Token};
+use mg_text::{List, Place, Text};
+use std::alloc::Global;
+
+// Whether two names come next.
+fn is_typed(tokens: &[Token]) -> bool
+    ensures { result ≡ is_typed tokens.now }
+{
+    let Some((_, rest)) = tokens.split_first() else {
+        return false;
+    };
+    is_named(tokens) && is_named(rest)
+}
+
+// Whether a declaration comes next.
+fn is_decl(tokens: &[Token]) -> bool
+    ensures { result ≡ is_decl tokens.now }
+{
+    is_word(tokens, "final")
+        || is_word(tokens, "int")
+        || is_word(tokens, "boolean")
+        || is_typed(tokens)
+}
+
+// Whether a label of a `switch` comes next.
+fn is_case(tokens: &[Token]) -> bool
+    ensures { result ≡ is_case tokens.now }
+{
+    is_word(tokens, "case") || is_word(tokens, "default")
+}
+
+// Whether the statements of a block or a group go on.
+fn goes_on(tokens: &[Token]) -> bool
+    ensures { result ≡ goes_on tokens.now }
+{
+    let ends = is_sign(tokens, Sign::CloseBrace) || is_case(tokens);
+    !ends
+}
+
+// Whether a label comes next.
+fn is_label(tokens: &[Token]) -> bool
+    ensures { result ≡ is_label tokens.now }
+{
+    let Some((_, rest)) = tokens.split_first() else {
+        return false;
+    };
+    is_named(tokens) && is_sign(rest, Sign::Colon)
+}
+
+// "case" name ":" | "default" ":"
+#[tactic(auto, unfolding(jv_reading::specs::Stmts::case_at))]
+fn case_of(tokens: &[Token]) -> Result<(Option<Text>, &[Token]), Halt>
+    ensures { Gives (λ x. (x.0, x.1.now)) result (case_at tokens.now) }
+{
+    if is_word(tokens, "default") {
+        let (_, rest) = word_of(tokens, "default")?;
+        let (_, rest) = sign_of(rest, Sign::Colon)?;
+        return Ok((None, rest));
+    }
+    let (_, rest) = word_of(tokens, "case")?;
+    let (_, name, rest) = name_of(rest)?;
+    let (_, rest) = sign_of(rest, Sign::Colon)?;
+    Ok((Some(name), rest))
+}
+
+// case { case }
+fn cases_of(alloc: Global, tokens: &[Token]) -> Result<(List<Option<Text>>, &[Token]), Halt>
+    ensures { Gives (λ x. (x.0.items, x.1.now)) result (cases_at tokens.now) }
+{
+    let mut labels = List::new(alloc);
+    let (first, mut rest) = case_of(tokens)?;
+    labels.push(first)?;
+    'more: while is_case(rest) {
+        let (label, after) = case_of(rest)?;
+        labels.push(label)?;
+        rest = after;
+    }
+    Ok((labels, rest))
+}
+
+// [ name ] ";"
+#[tactic(auto, unfolding(jv_reading::specs::Stmts::jump_at))]
+fn jump_of(tokens: &[Token]) -> Result<(Option<Text>, &[Token]), Halt>
+    ensures { Gives (λ x. (x.0, x.1.now)) result (jump_at tokens.now) }
+{
+    if is_named(tokens) {
+        let (_, name, rest) = name_of(tokens)?;
+        let (_, rest) = sign_of(rest, Sign::Semicolon)?;
+        return Ok((Some(name), rest));
+    }
+    let (_, rest) = sign_of(tokens, Sign::Semicolon)?;
+    Ok((None, rest))
+}
+
+#[tactic(auto, using(jv_tree::proofs::ViewLaws::views), unfolding(jv_reading::specs::Stmts::break_at))]
+fn break_of(tokens: &[Token]) -> ReadStmt<'_>
+    ensures { Gives (λ x. (stmt_of x.0, x.1.now)) result (break_at tokens.now) }
+{
+    let (place, rest) = word_of(tokens, "break")?;
+    let (label, rest) = jump_of(rest)?;
+    let kind = StmtKind::Break(label);
+    Ok((Stmt { place, kind }, rest))
+}
+
+#[tactic(auto, using(jv_tree::proofs::ViewLaws::views), unfolding(jv_reading::specs::Stmts::continue_at))]
+fn continue_of(tokens: &[Token]) -> ReadStmt<'_>
+    ensures { Gives (λ x. (stmt_of x.0, x.1.now)) result (continue_at tokens.now) }
+{
+    let (place, rest) = word_of(tokens, "continue")?;
+    let (label, rest) = jump_of(rest)?;
+    let kind = StmtKind::Continue(label);
+    Ok((Stmt { place, kind }, rest))
+}
+
+#[tactic(auto, using(jv_tree::proofs::ViewLaws::views), unfolding(jv_reading::specs::Stmts::return_at))]
+fn return_of(alloc: Global, tokens: &[Token], levels: u8) -> ReadStmt<'_>
+    ensures { Gives (λ x. (stmt_of x.0, x.1.now)) result (return_at levels tokens.now) }
+{
+    let (place, rest) = word_of(tokens, "return")?;
+    if is_sign(rest, Sign::Semicolon) {
+        let (_, rest) = sign_of(rest, Sign::Semicolon)?;
+        let kind = StmtKind::Return(None);
+        return Ok((Stmt { place, kind }, rest));
+    }
+    let (value, _, rest) = ended_of(alloc, rest, levels)?;
+    let kind = StmtKind::Return(Some(value));
+    Ok((Stmt { place, kind }, rest))
+}
+
+#[tactic(auto, using(jv_tree::proofs::ViewLaws::views), unfolding(jv_reading::specs::Stmts::empty_at))]
+fn empty_of(tokens: &[Token]) -> ReadStmt<'_>
+    ensures { Gives (λ x. (stmt_of x.0, x.1.now)) result (empty_at tokens.now) }
+{
+    let (place, rest) = sign_of(tokens, Sign::Semicolon)?;
+    let kind = StmtKind::Empty;
+    Ok((Stmt { place, kind }, rest))
+}
+
+// A statement that holds no other one.
+#[tactic(auto, unfolding(jv_reading::specs::Stmts::simple_with))]
+fn simple_of(alloc: Global, tokens: &[Token], levels: u8) -> ReadStmt<'_>
+    requires { levels ≤ 200 }
+    ensures { Gives (λ x. (stmt_of x.0, x.1.now)) result (simple_with levels (stmt_at levels) tokens.now) }
+{
+    if is_word(tokens, "break") {
+        return break_of(tokens);
+    }
+    if is_word(tokens, "continue") {
+        return continue_of(tokens);
+    }
+    if is_word(tokens, "return") {
+        return return_of(alloc, tokens, levels);
+    }
+    if is_assign(tokens) {
+        return assign_of(alloc, tokens, levels);
+    }
+    evaluation_of(alloc, tokens, levels)
+}
+
+// A declaration or a statement.
+#[cycle(nest_stmts)]
+#[tactic(auto, unfolding(jv_reading::specs::Stmts::item_with))]
+fn item_of(alloc: Global, tokens: &[Token], levels: u8) -> ReadStmt<'_>
+    requires { levels ≤ 200 }
+    ensures { Gives (λ x. (stmt_of x.0, x.1.now)) result (item_with levels (stmt_at levels) tokens.now) }
+{
+    if is_decl(tokens) {
+        return local_of(alloc, tokens, levels.saturating_sub(1));
+    }
+    stmt_of(alloc, tokens, levels)
+}
+
+// { item }
+#[cycle(nest_stmts)]
+pub(crate) fn items_of(
+    alloc: Global,
+    tokens: &[Token],
+    levels: u8,
+) -> Result<(List<Stmt>, &[Token]), Halt>
+    requires { levels ≤ 200 }
+    ensures { Gives (λ x. (map stmt_of x.0.items, x.1.now)) result (items_with levels (stmt_at levels) tokens.now) }
+{
+    let mut stmts = List::new(alloc);
+    let mut rest = tokens;
+    'items: while goes_on(rest) {
+        let (stmt, after) = item_of(alloc, rest, levels)?;
+        stmts.push(stmt)?;
+        rest = after;
+    }
+    Ok((stmts, rest))
+}
+
+#[cycle(nest_stmts)]
+#[tactic(auto, using(jv_tree::proofs::ViewLaws::views), unfolding(jv_reading::specs::Stmts::block_with))]
+fn block_of(alloc: Global, tokens: &[Token], levels: u8) -> ReadStmt<'_>
+    requires { levels ≤ 200 }
+    ensures { Gives (λ x. (stmt_of x.0, x.1.now)) result (block_with levels (stmt_at levels) tokens.now) }
+{
+    let (place, rest) = sign_of(tokens, Sign::OpenBrace)?;
+    let (body, rest) = items_of(alloc, rest, levels)?;
+    let (end, rest) = sign_of(rest, Sign::CloseBrace)?;
+    let kind = StmtKind::Block(body, end);
+    Ok((Stmt { place, kind }, rest))
+}
+
+#[cycle(nest_stmts)]
+#[tactic(auto, using(jv_tree::proofs::ViewLaws::views), unfolding(jv_reading::specs::Stmts::if_with, jv_reading::specs::Stmts::else_with))]
+fn if_of(alloc: Global, tokens: &[Token], levels: u8) -> ReadStmt<'_>
+    requires { levels ≤ 200 }
+    ensures { Gives (λ x. (stmt_of x.0, x.1.now)) result (if_with levels (stmt_at levels) tokens.now) }
+{
+    let (place, rest) = word_of(tokens, "if")?;
+    let (test, rest) = cond_of(alloc, rest, levels)?;
+    let (body, rest) = stmt_of(alloc, rest, levels)?;
+    let body = Box::new(alloc, body)?;
+    if is_word(rest, "else") {
+        let (_, rest) = word_of(rest, "else")?;
+        let (other, rest) = stmt_of(alloc, rest, levels)?;
+        let other = Box::new(alloc, other)?;
+        let kind = StmtKind::If(test, body, Some(other));
+        return Ok((Stmt { place, kind }, rest));
+    }
+    let kind = StmtKind::If(test, body, None);
+    Ok((Stmt { place, kind }, rest))
+}
+
+// Where a loop with this first token begins, and its label.
+fn labelled(start: Place, label: Option<(Place, Text)>) -> (Place, Option<Text>)
+    ensures place { result.0 ≡ loop_place start label }
+    ensures name { result.1 ≡ loop_label label }
+{
+    match label {
+        Some((place, name)) => (place, Some(name)),
+        None => (start, None),
+    }
+}
+
+// A loop behind its label, where it has one: the place of the label, and its name.
+#[cycle(nest_stmts)]
+#[tactic(auto, using(jv_tree::proofs::ViewLaws::views), unfolding(jv_reading::specs::Stmts::while_with))]
+fn while_of(
+    alloc: Global,
+    tokens: &[Token],
+    label: Option<(Place, Text)>,
+    levels: u8,
+) -> ReadStmt<'_>
+    requires { levels ≤ 200 }
+    ensures { Gives (λ x. (stmt_of x.0, x.1.now)) result (while_with levels (stmt_at levels) label tokens.now) }
+{
+    let (start, rest) = word_of(tokens, "while")?;
+    let (test, rest) = cond_of(alloc, rest, levels)?;
+    let (body, rest) = stmt_of(alloc, rest, levels)?;
+    let body = Box::new(alloc, body)?;
+    let (place, name) = labelled(start, label);
+    let kind = StmtKind::While(name, test, body);
+    Ok((Stmt { place, kind }, rest))
+}
+
+#[cycle(nest_stmts)]
+#[tactic(auto, using(jv_tree::proofs::ViewLaws::views), unfolding(jv_reading::specs::Stmts::do_with))]
+fn do_of(alloc: Global, tokens: &[Token], label: Option<(Place, Text)>, levels: u8) -> ReadStmt<'_>
+    requires { levels ≤ 200 }
+    ensures { Gives (λ x. (stmt_of x.0, x.1.now)) result (do_with levels (stmt_at levels) label tokens.now) }
+{
+    let (start, rest) = word_of(tokens, "do")?;
+    let (body, rest) = stmt_of(alloc, rest, levels)?;
+    let (_, rest) = word_of(rest, "while")?;
+    let (test, rest) = cond_of(alloc, rest, levels)?;
+    let (_, rest) = sign_of(rest, Sign::Semicolon)?;
+    let body = Box::new(alloc, body)?;
+    let (place, name) = labelled(start, label);
+    let kind = StmtKind::Do(name, body, test);
+    Ok((Stmt { place, kind }, rest))
+}
+
+#[cycle(nest_stmts)]
+#[tactic(auto, unfolding(jv_reading::specs::Stmts::loop_with))]
+fn loop_of(
+    alloc: Global,
+    tokens: &[Token],
+    label: Option<(Place, Text)>,
+    levels: u8,
+) -> ReadStmt<'_>
+    requires { levels ≤ 200 }
+    ensures { Gives (λ x. (stmt_of x.0, x.1.now)) result (loop_with levels (stmt_at levels) label tokens.now) }
+{
+    if is_word(tokens, "while") {
+        return while_of(alloc, tokens, label, levels);
+    }
+    do_of(alloc, tokens, label, levels)
+}
+
+#[cycle(nest_stmts)]
+#[tactic(auto, using(jv_tree::proofs::ViewLaws::views), unfolding(jv_reading::specs::Stmts::group_with))]
+fn group_of(alloc: Global, tokens: &[Token], levels: u8) -> Result<(Group, &[Token]), Halt>
+    requires { levels ≤ 200 }
+    ensures { Gives (λ x. (group_of x.0, x.1.now)) result (group_with levels (stmt_at levels) tokens.now) }
+{
+    let (labels, rest) = cases_of(alloc, tokens)?;
+    let (body, rest) = items_of(alloc, rest, levels)?;
+    let Some((next, _)) = rest.split_first() else {
+        return Err(Halt::Syntax { left: 0 });
+    };
+    let end = next.place;
+    Ok((Group { labels, body, end }, rest))
+}
+
+// { case { case } { item } }
+#[cycle(nest_stmts)]
+fn groups_of(alloc: Global, tokens: &[Token], levels: u8) -> Result<(List<Group>, &[Token]), Halt>
+    requires { levels ≤ 200 }
+    ensures { Gives (λ x. (map group_of x.0.items, x.1.now)) result (groups_with levels (stmt_at levels) tokens.now) }
+{
+    let mut groups = List::new(alloc);
+    let mut rest = tokens;
+    'turns: while is_case(rest) {
+        let (group, after) = group_of(alloc, rest, levels)?;
+        groups.push(group)?;
+        rest = after;
+    }
+    Ok((groups, rest))
+}
+
+#[cycle(nest_stmts)]
+#[tactic(auto, using(jv_tree::proofs::ViewLaws::views), unfolding(jv_reading::specs::Stmts::switch_with))]
+fn switch_of(alloc: Global, tokens: &[Token], levels: u8) -> ReadStmt<'_>
+    requires { levels ≤ 200 }
+    ensures { Gives (λ x. (stmt_of x.0, x.1.now)) result (switch_with levels (stmt_at levels) tokens.now) }
+{
+    let (place, rest) = word_of(tokens, "switch")?;
+    let (value, rest) = cond_of(alloc, rest, levels)?;
+    let (_, rest) = sign_of(rest, Sign::OpenBrace)?;
+    let (groups, rest) = groups_of(alloc, rest, levels)?;
+    let (end, rest) = sign_of(rest, Sign::CloseBrace)?;
+    let kind = StmtKind::Switch(value, groups, end);
+    Ok((Stmt { place, kind }, rest))
+}
+
+// A statement that is at most so deep.
+#[cycle(nest_stmts)]
+#[tactic(auto, unfolding(jv_reading::specs::Stmts::stmt_at, jv_reading::specs::Stmts::stmt_with, jv_reading::specs::Stmts::labelled_with))]
+fn stmt_of(alloc: Global, tokens: &[Token], levels: u8) -> ReadStmt<'_>
+    requires { levels ≤ 200 }
+    ensures { Gives (λ x. (stmt_of x.0, x.1.now)) result (stmt_at levels tokens.now) }
+{
+    if levels == 0 {
+        return Err(Halt::Syntax { left: tokens.len() });
+    }
+    let inside = levels - 1;
+    if is_sign(tokens, Sign::OpenBrace) {
+        return block_of(alloc, tokens, inside);
+    }
+    if is_sign(tokens, Sign::Semicolon) {
+        return empty_of(tokens);
+    }
+    if is_word(tokens, "if") {
+        return if_of(alloc, tokens, inside);
+    }
+    if is_word(tokens, "while") || is_word(tokens, "do") {
+        return loop_of(alloc, tokens, None, inside);
+    }
+    if is_word(tokens, "switch") {
+        return switch_of(alloc, tokens, inside);
+    }
+    if is_label(tokens) {
+        let (place, name, rest) = name_of(tokens)?;
+        let (_, rest) = sign_of(rest, Sign::Colon)?;
+        return loop_of(alloc, rest, Some((place, name)), inside);
+    }
+    simple_of(alloc, tokens, inside)
+}
