@@ -1,0 +1,12 @@
+pub mod Told
+pub mod Texts
+pub mod Exprs
+pub mod Kept
+pub mod Parts
+pub mod Stmts
+pub mod KeptStmts
+pub mod Members
+pub mod Files
+pub mod KeptFiles
+pub mod Depths
+pub mod Law
