@@ -1,0 +1,4 @@
+pub mod Names
+pub mod Doings
+pub mod Methods
+pub mod Files

@@ -1,0 +1,5 @@
+pub mod Laws
+pub mod Collecting
+pub mod Trees
+pub mod Made
+pub mod Whole

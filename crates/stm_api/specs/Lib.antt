@@ -1,0 +1,4 @@
+pub mod Doings
+pub mod Api
+pub mod View
+pub mod inner

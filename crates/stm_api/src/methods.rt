@@ -1,0 +1,162 @@
+//! The methods of an API class: one for each call of the role.
+
+ghost use Rattle.std.specs.Prelude.{◌≡◌, IfOk, map};
+ghost use Rattle.scr_tree.specs.CallNames.{message_call};
+ghost use Rattle.scr_tree.specs.Local.{tree_of};
+ghost use Rattle.scr_tree.specs.Meaning.{message_of};
+ghost use Rattle.stm_gen.specs.Laid.{carried_type, carried_params, choice_enum};
+ghost use Rattle.jv_tree.specs.View.{method_of as kept_method, stmt_of};
+ghost use Rattle.stm_api.specs.Doings.{call_of};
+ghost use Rattle.stm_api.specs.Api.{method_of, method_with, message_method, look_method, send_method, take_method, value_param};
+ghost use Rattle.stm_api.specs.inner.View.{doing_of, names_of};
+
+use crate::bodies::{look_body, send_body, take_body};
+use crate::doings::Doing;
+use jv_tree::{MethodDecl, Param, Stmt};
+use mg_text::{List, Memory, Place, Text};
+use scr_trace::label_call_name;
+use scr_tree::{Direction, Local, Message, Payload, call_name};
+use std::alloc::Global;
+use ts_tree::TypeName;
+
+/// The name of the method that does this.
+pub fn call_of(alloc: Global, local: &Local, doing: &Doing<'_>) -> Result<Text, Memory>
+    ensures { IfOk result (λ t. t ≡ call_of (tree_of local.now).me (doing_of doing.now)) }
+{
+    match doing {
+        Doing::Passes(message) => call_name(alloc, message),
+        Doing::Asks(number, peer, _) => label_call_name(alloc, local, *number, peer.as_str()),
+    }
+}
+
+/// The method that does this.
+pub fn method_of(
+    alloc: Global,
+    local: &Local,
+    place: Place,
+    doing: &Doing<'_>,
+) -> Result<MethodDecl, Memory>
+    ensures { IfOk result (λ m. kept_method m ≡ method_of place (tree_of local.now).me (doing_of doing.now)) }
+{
+    match doing {
+        Doing::Passes(message) => message_method(alloc, place, message),
+        Doing::Asks(number, peer, labels) => {
+            look_method(alloc, local, place, *number, peer, labels.as_slice())
+        }
+    }
+}
+
+// The method that sends or takes a message.
+#[tactic(auto, using(crate::proofs::Made::messages))]
+fn message_method(alloc: Global, place: Place, message: &Message) -> Result<MethodDecl, Memory>
+    ensures { IfOk result (λ m. kept_method m ≡ message_method place (message_of message.now)) }
+{
+    match message.direction {
+        Direction::To => {
+            let method = send_method(alloc, place, message)?;
+            Ok(method)
+        }
+        Direction::From => {
+            let method = take_method(alloc, place, message)?;
+            Ok(method)
+        }
+    }
+}
+
+// The method that sends a message.
+fn send_method(alloc: Global, place: Place, message: &Message) -> Result<MethodDecl, Memory>
+    ensures { IfOk result (λ m. kept_method m ≡ send_method place (message_call (message_of message.now)) message.now.peer message.now.label message.now.payload) }
+{
+    let name = call_name(alloc, message)?;
+    let params = value_params(alloc, place, message.payload)?;
+    let body = send_body(alloc, place, message)?;
+    Ok(method(place, TypeName::Void, name, params, body))
+}
+
+// The method that takes a message, and answers what it carries.
+fn take_method(alloc: Global, place: Place, message: &Message) -> Result<MethodDecl, Memory>
+    ensures { IfOk result (λ m. kept_method m ≡ take_method place (message_call (message_of message.now)) message.now.peer message.now.label message.now.payload) }
+{
+    let name = call_name(alloc, message)?;
+    let body = take_body(alloc, place, message)?;
+    let result = carried(message.payload);
+    Ok(method(place, result, name, List::new(alloc), body))
+}
+
+// The method that looks which branch a peer has taken.
+fn look_method(
+    alloc: Global,
+    local: &Local,
+    place: Place,
+    number: u32,
+    peer: &Text,
+    labels: &[&Text],
+) -> Result<MethodDecl, Memory>
+    ensures { IfOk result (λ m. kept_method m ≡ look_method place (tree_of local.now).me number peer.now (names_of labels.now)) }
+{
+    let name = label_call_name(alloc, local, number, peer.as_str())?;
+    let answers = choice_enum(alloc, local.me().as_str(), number)?;
+    let body = look_body(alloc, place, answers.as_str(), peer.as_str(), labels)?;
+    let result = TypeName::Named(answers);
+    Ok(method(place, result, name, List::new(alloc), body))
+}
+
+// A method of an object.
+fn method(
+    place: Place,
+    answers: TypeName,
+    name: Text,
+    params: List<Param>,
+    body: List<Stmt>,
+) -> MethodDecl
+    ensures { kept_method result ≡ method_with place answers name params.items (map stmt_of body.items) }
+{
+    MethodDecl {
+        place,
+        end: place,
+        is_static: false,
+        result: answers,
+        name,
+        params,
+        takes_args: false,
+        body,
+    }
+}
+
+// The parameter of the method that sends what a message carries.
+fn value_params(alloc: Global, place: Place, payload: Payload) -> Result<List<Param>, Memory>
+    ensures { IfOk result (λ ps. ps.items ≡ map (value_param place) (carried_params payload)) }
+{
+    let mut params = List::new(alloc);
+    if payload == Payload::Nothing {
+        return Ok(params);
+    }
+    let name = Text::of(alloc, "value")?;
+    let ty = carried(payload);
+    params.push(Param { place, ty, name })?;
+    Ok(params)
+}
+
+// The type of what a message carries.
+fn carried(payload: Payload) -> TypeName
+    ensures { result ≡ carried_type payload }
+{
+    match payload {
+        Payload::Nothing => TypeName::Void,
+        Payload::Int => TypeName::Int,
+        Payload::Boolean => TypeName::Boolean,
+        Payload::Text => TypeName::Text,
+    }
+}
+
+/// The name of the enum whose constants are the labels of a choice.
+pub fn choice_enum(alloc: Global, me: &str, number: u32) -> Result<Text, Memory>
+    ensures { IfOk result (λ t. t ≡ choice_enum me.now number) }
+{
+    let digits = format!(in alloc; "{number}")?;
+    let mut name = String::new(alloc);
+    name.push_str(me)?;
+    name.push_str("Choice")?;
+    name.push_str(digits.as_str())?;
+    Ok(Text::from_string(name))
+}
