@@ -1,7 +1,8 @@
 //! Class files that are read and written: that of a class Hello whose `main` prints "hello".
 //! Its 273 bytes are written by hand from the layout (JVMS 4.1).
 
-use cls_bytes::{read_class, write_class};
+use cls_bytes::{ClassFault, read_class, write_class};
+use cls_code::CodeFault;
 use cls_tree::{Attr, Class};
 use std::alloc::Global;
 use std::test::Fail;
@@ -33,7 +34,6 @@ fn class_in(alloc: Global, bytes: &[u8]) -> Option<Class> {
 }
 
 /// Whether what these bytes spell, if anything, is written as they are.
-#[tactic(auto, using(cls_tree::proofs::Files::class_fits))]
 fn is_written_back(alloc: Global, bytes: &[u8]) -> bool {
     match read_class(alloc, bytes) {
         Err(_) => true,
@@ -76,15 +76,106 @@ fn hello_is_read(rt: HostRuntime) -> Result<(), Fail> {
     Ok(())
 }
 
+/// The fault of the bytes of Hello with this byte at this place.
+fn fault_with(alloc: Global, place: usize, byte: u8) -> Option<ClassFault> {
+    let mut bytes = HELLO;
+    *bytes.get_mut(place)? = byte;
+    read_class(alloc, &bytes).err()
+}
+
 #[test]
-fn no_part_of_hello_is_a_class(rt: HostRuntime) -> Result<(), Fail> {
+fn a_part_of_hello_is_short(rt: HostRuntime) -> Result<(), Fail> {
+    // The field in which the bytes end starts at most 22 bytes before.
     for len in 0..273usize {
         let part = HELLO.get(..len).ok_or("the part is there")?;
-        assert!(rt; class_in(rt.alloc(), part).is_none());
+        match read_class(rt.alloc(), part) {
+            Err(ClassFault::Short { offset }) => {
+                assert!(rt; offset as usize <= len && len - (offset as usize) < 23);
+            }
+            _ => assert!(rt; false),
+        }
     }
+    for (len, offset) in [(3, 0), (7, 6), (10, 10), (12, 11), (17, 13), (271, 271)] {
+        let part = HELLO.get(..len).ok_or("the part is there")?;
+        assert_eq!(rt;
+            read_class(rt.alloc(), part).err(),
+            Some(ClassFault::Short { offset })
+        );
+    }
+    Ok(())
+}
+
+#[test]
+fn a_byte_more_is_trailing(rt: HostRuntime) -> Result<(), Fail> {
     let mut longer = Vec::from_slice(rt.alloc(), &HELLO)?;
     longer.push(0)?;
-    assert!(rt; class_in(rt.alloc(), &longer).is_none());
+    assert_eq!(rt;
+        read_class(rt.alloc(), &longer).err(),
+        Some(ClassFault::TrailingBytes { offset: 273 })
+    );
+    Ok(())
+}
+
+#[test]
+fn a_fault_has_the_offset_of_its_field(rt: HostRuntime) -> Result<(), Fail> {
+    let alloc = rt.alloc();
+    assert_eq!(rt;
+        fault_with(alloc, 3, 0),
+        Some(ClassFault::BadMagic { offset: 0 })
+    );
+    assert_eq!(rt;
+        fault_with(alloc, 5, 1),
+        Some(ClassFault::Version { offset: 4 })
+    );
+    assert_eq!(rt;
+        fault_with(alloc, 7, 50),
+        Some(ClassFault::Version { offset: 6 })
+    );
+    // The second constant, a class, names the first.
+    assert_eq!(rt;
+        fault_with(alloc, 18, 2),
+        Some(ClassFault::BadTag { offset: 18 })
+    );
+    assert_eq!(rt;
+        fault_with(alloc, 20, 2),
+        Some(ClassFault::BadIndex { offset: 19 })
+    );
+    assert_eq!(rt;
+        fault_with(alloc, 20, 22),
+        Some(ClassFault::BadIndex { offset: 19 })
+    );
+    assert_eq!(rt;
+        fault_with(alloc, 13, 0),
+        Some(ClassFault::BadText { offset: 13 })
+    );
+    // This class, the count of interfaces, the length of the code's attribute, and the count of handlers.
+    assert_eq!(rt;
+        fault_with(alloc, 227, 1),
+        Some(ClassFault::BadIndex { offset: 226 })
+    );
+    assert_eq!(rt;
+        fault_with(alloc, 231, 1),
+        Some(ClassFault::Unsupported { offset: 230 })
+    );
+    assert_eq!(rt;
+        fault_with(alloc, 249, 22),
+        Some(ClassFault::BadAttribute { offset: 246 })
+    );
+    assert_eq!(rt;
+        fault_with(alloc, 268, 1),
+        Some(ClassFault::Unsupported { offset: 267 })
+    );
+    // The first opcode, and the numbers of the first two instructions.
+    let unknown = CodeFault::UnknownOpcode { offset: 258 };
+    assert_eq!(rt; fault_with(alloc, 258, 0), Some(ClassFault::Code(unknown)));
+    assert_eq!(rt;
+        fault_with(alloc, 260, 12),
+        Some(ClassFault::BadIndex { offset: 258 })
+    );
+    assert_eq!(rt;
+        fault_with(alloc, 262, 14),
+        Some(ClassFault::BadIndex { offset: 261 })
+    );
     Ok(())
 }
 

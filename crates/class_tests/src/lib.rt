@@ -6,3 +6,5 @@
 mod codes;
 #[cfg(test)]
 mod files;
+#[cfg(test)]
+mod texts;

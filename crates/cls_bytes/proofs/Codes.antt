@@ -1,21 +1,20 @@
 -- Codes and attributes: what is read is spelled so, and what is spelled so is read.
-use Rattle.std.proofs.Common.{◌≡◌, ℕ, zero, suc, ◌+◌, ◌<◌, ◌≤◌, ◌^◌, Bool, true, false, cond, ◌&&◌, List, [], ◌∷◌, ◌++◌, length, take, drop, get_or, eqb, ltb, Option, Some, None, refl, sym, ap, subst, ◌∙◌, append_assoc, append-nil, length-append, length-take, arith}
+use Rattle.std.proofs.Common.{◌≡◌, ℕ, zero, suc, ◌+◌, ◌<◌, ◌≤◌, Bool, true, false, cond, ◌&&◌, List, [], ◌∷◌, ◌++◌, length, take, drop, eqb, ltb, Option, Some, None, refl, sym, ap, subst, ◌∙◌, append_assoc, length-append, length-take, arith}
 use Rattle.std.proofs.lemmas.Bool.{ltb-false, le-ltb, eqb-true, eq-eqb}
 use Rattle.std.proofs.lemmas.Bool.Decides.{nat_tests}
 use Rattle.std.proofs.lemmas.List.{take_at, drop_at, take-append-drop}
-use Rattle.std.specs.List.{flat_map, AllByRecursion}
-use Rattle.mg_read.specs.Reader.{Reader, ◌>>=◌}
+use Rattle.std.specs.List.{AllByRecursion}
 use Rattle.mg_read.proofs.Steps.{bind_some, some_is, none_is_not}
 use Rattle.cls_tree.specs.declared.class.Const.{Const}
 use Rattle.cls_tree.specs.Tree.{Instr, Inner, Unread, Misplaced, Code, Attr, Coded, Other}
 use Rattle.cls_tree.specs.Layout.{u2, u4, instr_bytes, code_from, code_bytes, inner_bytes, content_bytes, attr_bytes}
-use Rattle.cls_tree.specs.Fits.{IsU1, IsU2, IsRun, Counted, FitsInstr, FitsInstrs, FitsInner, FitsCode}
+use Rattle.cls_tree.specs.Fits.{IsU1, IsU2, IsRun, FitsInstr, FitsInstrs, FitsInner, FitsCode}
 use Rattle.cls_tree.specs.Jumps.{first_outside, IsSound as IsSoundCode}
 use Rattle.cls_tree.specs.ClassFile.{names_code, FileAttr}
 use Rattle.cls_code.specs.declared.CodeFault.{CodeFault}
 use Rattle.cls_code.specs.Code.{unfit, Decodes, Instrs, Fault, whole}
 use Rattle.cls_code.specs.Inner.{instr_in, size_in}
-use Rattle.cls_code.proofs.Stands.{Stood, stands, seen}
+use Rattle.cls_code.proofs.Stands.{stands, seen}
 use Rattle.cls_code.proofs.Once.{decodes_once}
 use Rattle.cls_bytes.specs.Reading.{number_at, behind, pair_at, in_front, instrs_from, is_none, is_sound, instrs_of, run_at, inner_at, listed_at, body_at, inners_at, content_at, code_at, other_at, attr_at}
 use Rattle.cls_bytes.proofs.Steps.{IsBytes, IsBytes-drop, IsBytes-take, Takes, Takes-then, IsSound, IsComplete, read, held, passed}

@@ -1,15 +1,15 @@
 -- Numbers of several bytes: what is read is spelled so, and what is spelled so is read.
-use Rattle.std.proofs.Common.{◌≡◌, ℕ, ◌+◌, ◌*◌, ◌^◌, ◌<◌, ◌≤◌, List, [], ◌∷◌, ◌++◌, length, take, drop, false, eqb, ltb, Some, refl, sym, ap, subst, ◌∙◌, length-append, arith}
+use Rattle.std.proofs.Common.{◌≡◌, ℕ, ◌^◌, ◌<◌, ◌≤◌, List, [], ◌∷◌, ◌++◌, length, take, drop, false, eqb, ltb, Some, refl, sym, ap, subst, ◌∙◌, length-append, arith}
 use Rattle.std.proofs.lemmas.Bool.{ltb-false, le-ltb, eqb-true, eq-eqb}
 use Rattle.std.proofs.lemmas.List.{drop_at, take-append-drop}
 use Rattle.std.proofs.lemmas.Nat.{be_bytes_2, be_bytes_4}
 use Rattle.byteorder.specs.Endian.{big_number, big_bytes}
 use Rattle.byteorder.specs.Numbers.{big_number-reads_back, big_from-lt, length-bytes_high_first}
-use Rattle.mg_read.proofs.Steps.{bind_some, some_is}
+use Rattle.mg_read.proofs.Steps.{some_is}
 use Rattle.cls_tree.specs.Layout.{u2, u4}
 use Rattle.cls_tree.specs.Fits.{IsU2}
 use Rattle.cls_bytes.specs.Reading.{number_at, behind}
-use Rattle.cls_bytes.proofs.Steps.{IsBytes, IsBytes-drop, IsBytes-take, IsBytes-rest, Takes, Takes-then, IsSound, IsComplete, read, held, passed}
+use Rattle.cls_bytes.proofs.Steps.{IsBytes, IsBytes-drop, IsBytes-take, Takes, IsSound, IsComplete, read, held, passed}
 
 abbrev pub IsU4 : ℕ → Type 0
 IsU4 n = n < 2 ^ 32

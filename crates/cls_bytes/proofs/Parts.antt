@@ -1,18 +1,17 @@
 -- Counted lists, methods and the pool: what is read is spelled so, and what is spelled so is read.
-use Rattle.std.proofs.Common.{◌≡◌, ℕ, zero, suc, ◌+◌, ◌-◌, List, [], ◌∷◌, ◌++◌, length, ◌≤◌, Bool, true, false, eqb, ltb, Some, refl, sym, ap, subst, ◌∙◌, append_assoc, arith}
+use Rattle.std.proofs.Common.{◌≡◌, ℕ, ◌+◌, ◌-◌, List, ◌++◌, length, ◌≤◌, Bool, true, false, eqb, ltb, Some, refl, sym, ap, subst, ◌∙◌, append_assoc, arith}
 use Rattle.std.proofs.lemmas.Bool.{eqb-false, ne_eqb, ltb-false, le-ltb}
 use Rattle.std.specs.List.{flat_map, AllByRecursion}
-use Rattle.mg_read.specs.Reader.{Reader, ◌>>=◌}
-use Rattle.mg_read.proofs.Steps.{bind_some, some_is}
+use Rattle.mg_read.proofs.Steps.{some_is}
 use Rattle.cls_tree.specs.declared.class.Const.{Const}
 use Rattle.cls_tree.specs.Tree.{Attr, Member}
 use Rattle.cls_tree.specs.Layout.{u2, const_bytes, attr_bytes, member_bytes}
 use Rattle.std.specs.Prelude.{count_by}
 use Rattle.cls_tree.specs.WellFormed.{is_code}
-use Rattle.cls_tree.specs.Fits.{IsU2}
-use Rattle.cls_tree.specs.ClassFile.{FileConst, FileAttr, FileMember}
+use Rattle.cls_tree.specs.Fits.{IsU2, FitsConst}
+use Rattle.cls_tree.specs.ClassFile.{FileAttr, FileMember}
 use Rattle.cls_bytes.specs.Reading.{number_at, const_at, attr_at, counted, listed_at, three_at, member_at, Members, members_at, pool_at}
-use Rattle.cls_bytes.proofs.Steps.{IsBytes, Takes, Takes-then, IsSound, IsComplete, read, passed}
+use Rattle.cls_bytes.proofs.Steps.{Takes, Takes-then, IsSound, IsComplete, read, passed}
 use Rattle.cls_bytes.proofs.Numbers.{u2_sound, u2_complete}
 use Rattle.cls_bytes.proofs.Consts.{const_sound, const_complete}
 use Rattle.cls_bytes.proofs.Codes.{attr_sound, attr_complete}
@@ -109,14 +108,14 @@ abbrev pub pool_bytes : List Const → List ℕ
 pool_bytes pool = u2 (length pool + 1) ++ flat_map const_bytes pool
 
 abbrev pub FitPool : List Const → Type 0
-FitPool pool = AllByRecursion FileConst pool × IsU2 (length pool + 1)
+FitPool pool = AllByRecursion FitsConst pool × IsU2 (length pool + 1)
 
 pub pool_sound : IsSound pool_at pool_bytes FitPool
 unfolding pool_at
 pool_sound bytes x fits e =
     let n = read (number_at 2) u2 IsU2 _ bytes x u2_sound fits e in
     let p = passed (eqb n.value 0) (counted const_at (n.value - 1) n.rest) x n.goes_on in
-    let xs = counted_sound const_at const_bytes FileConst const_sound (n.value - 1) n.rest x n.takes.rest_fits p.1 in
+    let xs = counted_sound const_at const_bytes FitsConst const_sound (n.value - 1) n.rest x n.takes.rest_fits p.1 in
     let is : n.value ≡ length x.0 + 1 = omega (arith, xs.1, eqb-false n.value 0 p.0) in
     let all = Takes-then bytes (u2 n.value) n.rest (flat_map const_bytes x.0) x.1 n.takes xs.0 in
     (subst (λ (k : ℕ). Takes bytes (u2 k ++ flat_map const_bytes x.0) x.1) is all, (xs.2, subst IsU2 is n.fits))
@@ -127,4 +126,4 @@ pool_complete pool rest fit =
     let less : length pool + 1 - 1 ≡ length pool = omega arith in
     let some : eqb (length pool + 1) 0 ≡ false = ne_eqb (length pool + 1) 0 (λ h. omega (arith, h)) in
     ap pool_at (append_assoc (u2 (length pool + 1)) (flat_map const_bytes pool) rest)
-    ∙ rw (u2_complete (length pool + 1) (flat_map const_bytes pool ++ rest) fit.1, some, less, counted_complete const_at const_bytes FileConst const_complete pool rest fit.0) refl
+    ∙ rw (u2_complete (length pool + 1) (flat_map const_bytes pool ++ rest) fit.1, some, less, counted_complete const_at const_bytes FitsConst const_complete pool rest fit.0) refl

@@ -10,7 +10,8 @@ use Rattle.std.proofs.lemmas.Bool.Decides.{nat_tests}
 use Rattle.cls_tree.specs.declared.class.Const.{Const}
 use Rattle.cls_tree.specs.Layout.{code_bytes, class_bytes}
 use Rattle.cls_tree.specs.Jumps.{first_outside, IsSound}
-use Rattle.cls_tree.specs.ClassFile.{FileAttr, FileMember, IsClassFile}
+use Rattle.cls_tree.specs.ClassFile.{FileAttr, FileMember}
+use Rattle.cls_bytes.specs.File.{IsFile}
 use Rattle.cls_code.specs.declared.CodeFault.TheVariants as coded
 use Rattle.cls_code.specs.declared.CodeFault.{CodeFault}
 use Rattle.cls_code.specs.Code.{Encoding, Code, Refused, jumped, encoding}
@@ -172,14 +173,14 @@ sound_members pool are_methods [] later all = refl
 sound_members pool are_methods (m ∷ ms) later all =
     sound_attrs pool are_methods m.attributes (members_refusal ms later) all.0.attributes.0 ∙ sound_members pool are_methods ms later all.1
 
-sound_class : (class : Class) → IsClassFile class → class_refusal class ≡ None
+sound_class : (class : Class) → IsFile class → class_refusal class ≡ None
 sound_class class f =
     sound_members class.pool false class.fields (members_refusal class.methods (attrs_refusal class.attributes None)) f.fields.0
     ∙ sound_members class.pool true class.methods (attrs_refusal class.attributes None) f.methods.0
     ∙ sound_attrs class.pool false class.attributes None f.attributes.0
 
 -- so a class file is written
-pub file_written : (class : Class) (result : Result (List ℕ) WriteFault) → IsWritten (writing class) result → IsClassFile class → IsFileOrMemory (class_bytes class) result
+pub file_written : (class : Class) (result : Result (List ℕ) WriteFault) → IsWritten (writing class) result → IsFile class → IsFileOrMemory (class_bytes class) result
 file_written class (Ok b) w f = subst (λ k. IsWritten (written (class_bytes class) k) (Ok b)) (sound_class class f) w
 file_written class (Err refused.Memory) w f = tt
 file_written class (Err (refused.Code fault)) w f = subst (λ k. IsWritten (written (class_bytes class) k) (Err (refused.Code fault))) (sound_class class f) w

@@ -1,5 +1,5 @@
 -- A class file: what is read is spelled so, and what is spelled so is read.
-use Rattle.std.proofs.Common.{◌≡◌, ℕ, List, [], ◌++◌, length, ◌+◌, true, false, append_assoc, append-nil, eqb, Some, None, refl, sym, ap, subst, ◌∙◌, arith}
+use Rattle.std.proofs.Common.{◌≡◌, ℕ, List, [], ◌++◌, length, ◌+◌, append_assoc, append-nil, eqb, Some, None, refl, sym, ap, subst, ◌∙◌, arith}
 use Rattle.std.proofs.lemmas.Bool.{eqb-true}
 use Rattle.std.proofs.lemmas.List.{nil_from_length}
 use Rattle.mg_read.specs.Reader.{◌>>=◌}
@@ -7,7 +7,7 @@ use Rattle.mg_read.proofs.Steps.{bind_some, some_is, none_is_not}
 use Rattle.cls_tree.specs.Tree.{Class as Tree}
 use Rattle.cls_tree.specs.Layout.{u2, u4, const_bytes, class_bytes}
 use Rattle.cls_tree.specs.Fits.{IsU2}
-use Rattle.cls_tree.specs.ClassFile.{IsClassFile}
+use Rattle.cls_bytes.specs.File.{IsFile}
 use Rattle.std.specs.List.{flat_map}
 use Rattle.cls_bytes.specs.Reading.{behind, behind_head, three_at, pool_at, Members, members_at, class_at}
 use Rattle.cls_bytes.proofs.Steps.{IsBytes, Takes, Takes-then, Takes-all, read, held}
@@ -47,7 +47,7 @@ spelled_as c =
     grouped (u4 3405691582) (u2 0) (u2 49) (u2 (length c.pool + 1)) (flat_map const_bytes c.pool) (u2 c.access) (u2 c.this_class) (u2 c.super_class)
     (u2 0 ++ all_members_bytes (c.fields, c.methods, c.attributes))
 
-pub class_sound : (bytes : List ℕ) (class : Tree) → IsBytes bytes → class_at bytes ≡ Some class → IsClassFile class × (bytes ≡ class_bytes class)
+pub class_sound : (bytes : List ℕ) (class : Tree) → IsBytes bytes → class_at bytes ≡ Some class → IsFile class × (bytes ≡ class_bytes class)
 unfolding class_at
 class_sound bytes class fits e =
     let front = bind_some (behind_head bytes) _ class e in
@@ -67,7 +67,7 @@ class_sound bytes class fits e =
     let t0 = Takes-then bytes head front.0 (pool_bytes p ++ (three_bytes three.value ++ (u2 0 ++ all_members_bytes members.value))) members.rest h t1 in
     let all : bytes ≡ class_bytes made =
     Takes-all bytes (head ++ (pool_bytes p ++ (three_bytes three.value ++ (u2 0 ++ all_members_bytes members.value)))) members.rest t0 nothing ∙ spelled_as made in
-    let ok : IsClassFile made =
+    let ok : IsFile made =
     record {
       pool = pool.fits.0;
       count = pool.fits.1;
@@ -78,9 +78,9 @@ class_sound bytes class fits e =
       methods = members.fits.1;
       attributes = members.fits.2;
     } in
-    subst (λ (c : Tree). IsClassFile c × (bytes ≡ class_bytes c)) (some_is made class g.1) (ok, all)
+    subst (λ (c : Tree). IsFile c × (bytes ≡ class_bytes c)) (some_is made class g.1) (ok, all)
 
-pub class_complete : (class : Tree) → IsClassFile class → class_at (class_bytes class) ≡ Some class
+pub class_complete : (class : Tree) → IsFile class → class_at (class_bytes class) ≡ Some class
 unfolding class_at
 class_complete class ok =
     let p = class.pool in
@@ -99,12 +99,12 @@ class_complete class ok =
     ) refl
 
 -- bytes that one class spells and reading gives another
-pub only_one : (bytes : List ℕ) (found class : Tree) → class_at bytes ≡ Some found → IsClassFile class → bytes ≡ class_bytes class → found ≡ class
+pub only_one : (bytes : List ℕ) (found class : Tree) → class_at bytes ≡ Some found → IsFile class → bytes ≡ class_bytes class → found ≡ class
 only_one bytes found class read_so ok e = some_is found class (sym read_so ∙ ap class_at e ∙ class_complete class ok)
 
 -- bytes that a class spells are read
-pub not_none : (bytes : List ℕ) (class : Tree) → class_at bytes ≡ None → IsClassFile class → bytes ≡ class_bytes class → ⊥
+pub not_none : (bytes : List ℕ) (class : Tree) → class_at bytes ≡ None → IsFile class → bytes ≡ class_bytes class → ⊥
 not_none bytes class none ok e = none_is_not class (sym none ∙ ap class_at e ∙ class_complete class ok)
 
-pub one_spelled : (a b : Tree) → IsClassFile a → IsClassFile b → class_bytes a ≡ class_bytes b → a ≡ b
+pub one_spelled : (a b : Tree) → IsFile a → IsFile b → class_bytes a ≡ class_bytes b → a ≡ b
 one_spelled a b fa fb e = some_is a b (sym (class_complete a fa) ∙ ap class_at e ∙ class_complete b fb)

@@ -1,7 +1,6 @@
 -- What reading and writing a class may answer. Want of memory is free.
-use Rattle.std.specs.Prelude.{◌≡◌, ℕ, List, [], ◌∷◌, ◌++◌, Result, Ok, Err, Option, Some, None}
-use Rattle.std.specs.List.{flat_map}
-use Rattle.cls_tree.specs.Tree.{Instr, Attr, Coded, Other, Member, Class as Tree}
+use Rattle.std.specs.Prelude.{◌≡◌, ℕ, List, [], ◌∷◌, Result, Ok, Err, Option, Some, None}
+use Rattle.cls_tree.specs.Tree.{Attr, Coded, Other, Member, Class as Tree}
 use Rattle.cls_tree.specs.View.{class_of}
 use Rattle.cls_tree.specs.Layout.{class_bytes}
 use Rattle.cls_tree.specs.declared.class.Class.{Class}

@@ -1,7 +1,6 @@
 -- What the parts of writing promise one another.
 use Rattle.std.specs.Prelude.{◌≡◌, ◌++◌, ℕ, List, Option, Some, None, Result, Ok, Err}
 use Rattle.cls_code.specs.declared.CodeFault.{CodeFault}
-use Rattle.cls_code.specs.declared.CodeFault.TheVariants as faults
 use Rattle.cls_code.specs.Code.{Encoding, Code, Refused}
 use Rattle.cls_bytes.specs.declared.WriteFault.{WriteFault}
 use Rattle.cls_bytes.specs.declared.WriteFault.TheVariants as refused

@@ -1,5 +1,5 @@
 -- Reading the bytes of a class from left to right: each function gives a value and the bytes after it.
-use Rattle.std.specs.Prelude.{ℕ, ℤ, zero, suc, ◌+◌, ◌-◌, List, [], ◌∷◌, length, take, drop, Option, Some, None, Bool, true, false, nat_lt, ◌==◌, ◌&&◌, count_by, if◌then◌else◌}
+use Rattle.std.specs.Prelude.{ℕ, zero, suc, ◌+◌, ◌-◌, List, [], ◌∷◌, length, take, drop, Option, Some, None, Bool, true, false, nat_lt, ◌==◌, ◌&&◌, count_by, if◌then◌else◌}
 use Rattle.std.specs.Int.{cast_signed}
 use mir.Syntax.{w32}
 use Rattle.byteorder.specs.Endian.{big_number}
@@ -13,6 +13,7 @@ use Rattle.cls_tree.specs.Jumps.{first_outside}
 use Rattle.cls_code.specs.declared.CodeFault.{CodeFault}
 use Rattle.cls_code.specs.Code.{unfit}
 use Rattle.cls_code.specs.Inner.{instr_in, size_in}
+use Rattle.cls_bytes.specs.Letters.{letters}
 
 -- a number of n bytes
 unfoldable pub number_at : ℕ → Reader ℕ ℕ
@@ -24,16 +25,12 @@ behind n wanted bytes = do
   x ← number_at n bytes
   if x.0 == wanted then Some x.1 else None
 
--- whether each byte is in ASCII, and none is 0
-unfoldable pub plain : List ℕ → Bool
-plain [] = true
-plain (b ∷ bytes) = (nat_lt 0 b && nat_lt b 128) && plain bytes
-
--- a count, and that many plain bytes
+-- a count, and a text in as many bytes
 unfoldable pub text_at : Reader ℕ (List ℕ)
 text_at bytes = do
   n ← number_at 2 bytes
-  if nat_lt (length n.1) n.0 then None else if plain (take n.0 n.1) then Some (take n.0 n.1, drop n.0 n.1) else None
+  text ← if nat_lt (length n.1) n.0 then None else letters (take n.0 n.1)
+  Some (text, drop n.0 n.1)
 
 -- the number of a constant
 unfoldable pub one_at : (ℕ → Const) → Reader ℕ Const

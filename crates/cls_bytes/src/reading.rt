@@ -2,19 +2,19 @@
 //! Each function gives a value and the bytes after it.
 
 ghost use Rattle.std.specs.Prelude.{◌≡◌, ℕ, List, ◌+◌, ◌==◌, nat_lt, count_by, length, map, IfOk};
-ghost use Rattle.std.specs.Str.{IsAscii};
 ghost use Rattle.mg_read.specs.Reader.{Gives};
 ghost use Rattle.cls_tree.specs.View.{instrs_of as instrs_seen, inner_of, attr_of, member_of, class_of};
 ghost use Rattle.cls_tree.specs.ClassFile.{names_code};
 ghost use Rattle.cls_tree.specs.WellFormed.{is_code};
-ghost use Rattle.cls_bytes.specs.Reading.{number_at, behind, plain, text_at, tagged_at, const_at, counted, instrs_of, run_at, inner_at, body_at, inners_at, content_at, code_at, other_at, attr_at, listed_at, pair_at, three_at, member_at, members_at, behind_head, pool_at, class_at};
+ghost use Rattle.cls_bytes.specs.Reading.{number_at, behind, text_at, tagged_at, const_at, counted, instrs_of, run_at, inner_at, body_at, inners_at, content_at, code_at, other_at, attr_at, listed_at, pair_at, three_at, member_at, members_at, behind_head, pool_at, class_at};
 
 use crate::format::{MAGIC, VERSION};
+use crate::letters::text_in;
 use byteorder::{BigEndian, ByteOrder};
 use cls_code::{CodeFault, decode};
 use cls_tree::{Attr, Class, Code, Const, Instr, Member};
 use mg_read::ReadError;
-use mg_text::{Bytes, List, Memory, Text};
+use mg_text::{Bytes, List, Text};
 use std::alloc::Global;
 
 #[tactic(auto, unfolding(crate::specs::Reading::number_at))]
@@ -87,29 +87,7 @@ fn three_of(bytes: &[u8]) -> Result<((u16, u16, u16), &[u8]), ReadError>
     Ok(((first, second, third), rest))
 }
 
-// Whether each byte is in ASCII, and none is 0.
-#[tactic(auto, using(crate::proofs::Plain::not_plain, crate::proofs::Plain::plain_more, crate::proofs::Plain::plain_all))]
-fn is_plain(bytes: &[u8]) -> bool
-    ensures { result ≡ plain bytes.now }
-{
-    for byte in bytes {
-        if *byte == 0 || *byte >= 128 {
-            return false;
-        }
-    }
-    true
-}
-
-// The text of these bytes.
-fn ascii_text(alloc: Global, bytes: &[u8]) -> Result<Text, Memory>
-    requires { IsAscii bytes.now }
-    ensures { IfOk result (λ t. t ≡ bytes.now) }
-{
-    let text = std::str::from_utf8(bytes).unwrap();
-    Text::of(alloc, text)
-}
-
-#[tactic(auto, using(crate::proofs::Plain::plain_ascii), unfolding(crate::specs::Reading::text_at))]
+#[tactic(auto, unfolding(crate::specs::Reading::text_at))]
 fn text_of(alloc: Global, bytes: &[u8]) -> Result<(Text, &[u8]), ReadError>
     ensures { Gives (λ x. (x.0, x.1.now)) result (text_at bytes.now) }
 {
@@ -119,10 +97,8 @@ fn text_of(alloc: Global, bytes: &[u8]) -> Result<(Text, &[u8]), ReadError>
         return Err(ReadError::Syntax);
     }
     let (text, rest) = rest.split_at(len);
-    if !is_plain(text) {
-        return Err(ReadError::Syntax);
-    }
-    Ok((ascii_text(alloc, text)?, rest))
+    let text = text_in(alloc, text)?;
+    Ok((text, rest))
 }
 
 // What a constant with this tag holds.

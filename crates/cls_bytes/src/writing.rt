@@ -6,14 +6,15 @@ ghost use Rattle.std.specs.List.{flat_map, AllByRecursion};
 ghost use Rattle.cls_tree.specs.Tree.{Coded};
 ghost use Rattle.cls_tree.specs.View.{code_of as code_seen, attr_of, inner_of, member_of, class_of, instrs_of};
 ghost use Rattle.cls_tree.specs.Layout.{u2, u4, text_bytes, const_bytes, code_bytes, inner_bytes, content_bytes, attr_bytes, attrs_bytes, member_bytes, members_bytes};
-ghost use Rattle.cls_tree.specs.Fits.{Fits, FitsInstrs, FitsInner, FitsCode, FitsAttr, FitsMember, Counted};
-ghost use Rattle.cls_tree.specs.ClassFile.{IsPlainText, FileConst};
+ghost use Rattle.cls_tree.specs.Fits.{Fits, FitsConst, FitsInstrs, FitsInner, FitsCode, FitsAttr, FitsMember, Counted};
+ghost use Rattle.cls_tree.specs.declared.class.Const.TheVariants.{Utf8};
 ghost use Rattle.cls_code.specs.Code.{encoding};
 ghost use Rattle.cls_bytes.specs.Answer.{attr_refusal, attrs_refusal, members_refusal, writing, IsWritten};
 ghost use Rattle.cls_bytes.specs.Puts.{Puts, Encodes};
 
 use crate::WriteFault;
 use crate::format::{MAGIC, VERSION};
+use crate::texts::modified_of;
 use cls_code::{CodeFault, encode, put_s4, put_u1, put_u2, put_u4};
 use cls_tree::{Attr, Class, Code, Const, Instr, Member};
 use mg_text::{Bytes, Memory};
@@ -38,23 +39,24 @@ fn put_two(out: &mut Bytes, tag: u8, first: u16, second: u16) -> Result<(), Memo
     Ok(())
 }
 
-/// The bytes of a text, behind a tag and their count.
-fn put_text(out: &mut Bytes, text: &str) -> Result<(), Memory>
-    requires { IsPlainText text.now }
+/// A text in modified UTF-8, behind a tag and the count of its bytes.
+fn put_text(alloc: Global, out: &mut Bytes, text: &str) -> Result<(), Memory>
+    requires { FitsConst (Utf8 text.now) }
     ensures { OnOk result (out.new ≡ out.old ++ 1 ∷ text_bytes text.now) }
 {
+    let bytes = modified_of(alloc, text)?;
     out.extend(&[1])?;
-    put_u2(out, text.len() as u16)?;
-    out.extend(text.as_bytes())?;
+    put_u2(out, bytes.len() as u16)?;
+    out.extend(bytes.as_slice())?;
     Ok(())
 }
 
-fn put_const(out: &mut Bytes, constant: &Const) -> Result<(), Memory>
-    requires { FileConst constant.now }
+fn put_const(alloc: Global, out: &mut Bytes, constant: &Const) -> Result<(), Memory>
+    requires { FitsConst constant.now }
     ensures { OnOk result (out.new ≡ out.old ++ const_bytes constant.now) }
 {
     match constant {
-        Const::Utf8(text) => put_text(out, text.as_str()),
+        Const::Utf8(text) => put_text(alloc, out, text.as_str()),
         Const::Integer(number) => {
             out.extend(&[3])?;
             put_s4(out, *number)
@@ -67,12 +69,12 @@ fn put_const(out: &mut Bytes, constant: &Const) -> Result<(), Memory>
     }
 }
 
-fn put_consts(out: &mut Bytes, constants: &[Const]) -> Result<(), Memory>
-    requires { AllByRecursion FileConst constants.now }
+fn put_consts(alloc: Global, out: &mut Bytes, constants: &[Const]) -> Result<(), Memory>
+    requires { AllByRecursion FitsConst constants.now }
     ensures { OnOk result (out.new ≡ out.old ++ flat_map const_bytes constants.now) }
 {
     for constant in constants {
-        put_const(out, constant)?;
+        put_const(alloc, out, constant)?;
     }
     Ok(())
 }
@@ -198,27 +200,25 @@ fn put_members(alloc: Global, out: &mut Bytes, members: &[Member]) -> Result<(),
 }
 
 /// Magic, version 49.0, the pool and its count plus one.
-fn put_front(out: &mut Bytes, class: &Class) -> Result<(), Memory>
-    requires fits { Fits (class_of class.now) }
-    requires plain { AllByRecursion FileConst (class_of class.now).pool }
+fn put_front(alloc: Global, out: &mut Bytes, class: &Class) -> Result<(), Memory>
+    requires { Fits (class_of class.now) }
     ensures { OnOk result (out.new ≡ out.old ++ (u4 3405691582 ++ (u2 0 ++ (u2 49 ++ (u2 (length (class_of class.now).pool + 1) ++ flat_map const_bytes (class_of class.now).pool))))) }
 {
     put_u4(out, MAGIC)?;
     put_u2(out, 0)?;
     put_u2(out, VERSION)?;
     put_u2(out, class.pool.len() as u16 + 1)?;
-    put_consts(out, class.pool.as_slice())?;
+    put_consts(alloc, out, class.pool.as_slice())?;
     Ok(())
 }
 
 /// The bytes of a class, unless a code can't be encoded.
 pub(crate) fn class_written(alloc: Global, class: &Class) -> Result<Bytes, WriteFault>
-    requires fits { Fits (class_of class.now) }
-    requires plain { AllByRecursion FileConst (class_of class.now).pool }
+    requires { Fits (class_of class.now) }
     ensures { IsWritten (writing (class_of class.now)) result }
 {
     let mut out = Bytes::new(alloc);
-    put_front(&mut out, class)?;
+    put_front(alloc, &mut out, class)?;
     put_u2(&mut out, class.access)?;
     put_u2(&mut out, class.this_class)?;
     put_u2(&mut out, class.super_class)?;

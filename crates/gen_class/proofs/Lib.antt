@@ -4,3 +4,4 @@ pub mod Numbered
 pub mod Prints
 pub mod Sizes
 pub mod Named
+pub mod Formed

@@ -10,12 +10,12 @@ use Rattle.cls_tree.specs.Pool.{const_at}
 use Rattle.cls_tree.specs.ClassFile.{names_code}
 use Rattle.cls_tree.specs.Emitted.{same_const, found_or_added, number_of, utf8, class_const, text_const, name_and_type, field_const, print, prints}
 
-in_front : {X : Type 0} (xs ys : List X) (k : ℕ) (x : X) → slice_get xs k ≡ Some x → slice_get (xs ++ ys) k ≡ Some x
+pub in_front : {X : Type 0} (xs ys : List X) (k : ℕ) (x : X) → slice_get xs k ≡ Some x → slice_get (xs ++ ys) k ≡ Some x
 in_front [] ys k x h = absurd (cc)
 in_front (z ∷ xs) ys zero x h = h
 in_front (z ∷ xs) ys (suc k) x h = in_front xs ys k x h
 
-behind_front : {X : Type 0} (xs ys : List X) (x : X) → slice_get (xs ++ x ∷ ys) (length xs) ≡ Some x
+pub behind_front : {X : Type 0} (xs ys : List X) (x : X) → slice_get (xs ++ x ∷ ys) (length xs) ≡ Some x
 behind_front [] ys x = refl
 behind_front (z ∷ xs) ys x = behind_front xs ys x
 
@@ -24,14 +24,14 @@ pub record Grows (pool larger : List Const) : Type 0 where
   pub more : List Const
   pub is : larger ≡ pool ++ more
 
-grows_twice : (a b c : List Const) → Grows a b → Grows b c → Grows a c
+pub grows_twice : (a b c : List Const) → Grows a b → Grows b c → Grows a c
 grows_twice a b c f g = record { more = f.more ++ g.more; is = g.is ∙ ap (λ x. x ++ g.more) f.is ∙ append_assoc a f.more g.more }
 
-found_grows : (c : Const) (pool : List Const) (at : Option ℕ) → Grows pool (found_or_added c pool at).1
+pub found_grows : (c : Const) (pool : List Const) (at : Option ℕ) → Grows pool (found_or_added c pool at).1
 found_grows c pool (Some k) = record { more = []; is = sym (append-nil pool) }
 found_grows c pool None = record { more = c ∷ []; is = refl }
 
-number_grows : (c : Const) (pool : List Const) → Grows pool (number_of c pool).1
+pub number_grows : (c : Const) (pool : List Const) → Grows pool (number_of c pool).1
 unfolding number_of
 number_grows c pool = found_grows c pool (position (same_const c) pool)
 
@@ -86,7 +86,7 @@ pub text_stands : (text : List ℕ) (pool : List Const) → const_at (utf8 text 
 unfolding number_of
 text_stands text pool = text_found text pool (position (same_const (Utf8 text)) pool) refl
 
-const_grown : (pool larger : List Const) (n : ℕ) (c : Const) → Grows pool larger → const_at pool n ≡ Some c → const_at larger n ≡ Some c
+pub const_grown : (pool larger : List Const) (n : ℕ) (c : Const) → Grows pool larger → const_at pool n ≡ Some c → const_at larger n ≡ Some c
 const_grown pool larger zero c g h = absurd cc
 const_grown pool larger (suc k) c g h = ap (λ x. slice_get x k) g.is ∙ in_front pool g.more k c h
 

@@ -1,3 +1,6 @@
+//! What is written of a method: constants, names and members taken from the pool, each where it
+//! is first asked for, and the instructions that push them.
+
 ghost use Rattle.std.specs.Prelude.{◌≡◌, [], ◌∷◌, ◌+◌, ◌*◌, ◌<◌, ◌≤◌, ◌^◌, IfOk, OnOk, length};
 ghost use Rattle.cls_tree.specs.Emitted.{class_const as class_made, text_const as text_made, name_and_type as member_made, field_const as field_made, method_const as method_made, push_const as push_made, print as print_made, prints as prints_made, depth as depth_of, main_member as main_made, code_of};
 ghost use Rattle.cls_tree.specs.Layout.{code_bytes};

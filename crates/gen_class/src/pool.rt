@@ -1,3 +1,6 @@
+//! The pool of a class that is being made: each entry stands once, at the number it got when it
+//! was first asked for.
+
 ghost use Rattle.std.specs.Prelude.{◌≡◌, [], ◌+◌, ◌<◌, ◌≤◌, ◌^◌, IfOk, OnOk, length};
 ghost use Rattle.cls_tree.specs.Emitted.{number_of, utf8};
 ghost use Rattle.gen_class.specs.Keys.{const_of};

@@ -4,7 +4,7 @@ use Rattle.std.proofs.lemmas.Result.{err_from_is_err_and}
 use Rattle.cls_tree.specs.View.{attr_of}
 use Rattle.cls_tree.specs.Layout.{attr_bytes}
 use Rattle.cls_tree.specs.Fits.{FitsAttr}
-use Rattle.cls_bytes.specs.Answer.{attr_refusal, attrs_refusal, members_refusal}
+use Rattle.cls_bytes.specs.Answer.{attr_refusal, attrs_refusal}
 use Rattle.cls_tree.specs.Layout.{u2}
 use Rattle.cls_bytes.proofs.Refusals.{attr_step, passed_on, left_first, left_fits, left_more, left_refused, left_last}
 use Rattle.cls_bytes.proofs.writing.put_attrs.Goals as goal

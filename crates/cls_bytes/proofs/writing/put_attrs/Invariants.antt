@@ -2,7 +2,7 @@ use Rattle.std.proofs.Common.{None, drop, map}
 use Rattle.cls_tree.specs.View.{attr_of}
 use Rattle.cls_tree.specs.Layout.{attr_bytes}
 use Rattle.cls_tree.specs.Fits.{FitsAttr}
-use Rattle.cls_bytes.specs.Answer.{attr_refusal, attrs_refusal, members_refusal}
+use Rattle.cls_bytes.specs.Answer.{attrs_refusal}
 use Rattle.cls_bytes.proofs.Refusals.{Left}
 use Rattle.cls_bytes.proofs.writing.put_attrs.Given as goal
 

@@ -4,7 +4,7 @@ use Rattle.std.proofs.lemmas.Result.{err_from_is_err_and}
 use Rattle.cls_tree.specs.View.{member_of}
 use Rattle.cls_tree.specs.Layout.{member_bytes}
 use Rattle.cls_tree.specs.Fits.{FitsMember}
-use Rattle.cls_bytes.specs.Answer.{attr_refusal, attrs_refusal, members_refusal}
+use Rattle.cls_bytes.specs.Answer.{attrs_refusal, members_refusal}
 use Rattle.cls_tree.specs.Layout.{u2}
 use Rattle.cls_bytes.proofs.Refusals.{member_step, passed_on, left_first, left_fits, left_more, left_refused, left_last}
 use Rattle.cls_bytes.proofs.writing.put_members.Goals as goal

@@ -2,7 +2,7 @@ use Rattle.std.proofs.Common.{None, drop, map}
 use Rattle.cls_tree.specs.View.{member_of}
 use Rattle.cls_tree.specs.Layout.{member_bytes}
 use Rattle.cls_tree.specs.Fits.{FitsMember}
-use Rattle.cls_bytes.specs.Answer.{attr_refusal, attrs_refusal, members_refusal}
+use Rattle.cls_bytes.specs.Answer.{members_refusal}
 use Rattle.cls_bytes.proofs.Refusals.{Left}
 use Rattle.cls_bytes.proofs.writing.put_members.Given as goal
 
