@@ -1,0 +1,11 @@
+pub mod Testing
+pub mod Tops
+pub mod Ints
+pub mod Acts
+pub mod Cases
+pub mod Whole
+pub mod Frames
+pub mod Places
+pub mod Mains
+pub mod Waiting
+pub mod Awaited

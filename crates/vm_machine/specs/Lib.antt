@@ -1,0 +1,6 @@
+pub mod State
+pub mod Table
+pub mod Doing
+pub mod Needing
+pub mod Main
+pub mod inner

@@ -1,0 +1,88 @@
+//! Parts of a linked program by their numbers.
+//! What isn't there has no name, takes nothing and has no room.
+
+ghost use Rattle.std.specs.Prelude.{◌≡◌, ◌<◌, ◌^◌, option_map};
+ghost use Rattle.vm_model.specs.Program as model;
+ghost use Rattle.vm_model.specs.View.{classes_of, class_of, method_of, field_of};
+ghost use Rattle.vm_model.specs.Tests.{max_stack_in, max_locals_in, descriptor_in, name_of_method};
+
+use vm_model::{Linked, LinkedClass, LinkedField, LinkedMethod};
+
+/// The class of this number.
+pub(crate) fn class_at(linked: &Linked, class: u32) -> Option<&LinkedClass>
+    ensures { option_map (λ c. class_of c.now) result ≡ model.class_at (classes_of linked.now.classes.items) class }
+{
+    linked.classes.as_slice().get(class as usize)
+}
+
+/// The name of the class of this number.
+pub(crate) fn class_name(linked: &Linked, class: u32) -> &str
+    ensures { result.now ≡ model.class_name (classes_of linked.now.classes.items) class }
+{
+    match class_at(linked, class) {
+        Some(class) => class.name.as_str(),
+        None => "",
+    }
+}
+
+/// The method of these numbers.
+pub(crate) fn method_at(linked: &Linked, class: u32, method: u32) -> Option<&LinkedMethod>
+    ensures { option_map (λ m. method_of m.now) result ≡ model.method_at (classes_of linked.now.classes.items) class method }
+{
+    match class_at(linked, class) {
+        Some(class) => class.methods.as_slice().get(method as usize),
+        None => None,
+    }
+}
+
+/// The field of these numbers.
+pub(crate) fn field_at(linked: &Linked, class: u32, field: u32) -> Option<&LinkedField>
+    ensures { option_map (λ f. field_of f.now) result ≡ model.field_at (classes_of linked.now.classes.items) class field }
+{
+    match class_at(linked, class) {
+        Some(class) => class.fields.as_slice().get(field as usize),
+        None => None,
+    }
+}
+
+/// How many operands a method may have.
+pub(crate) fn max_stack(method: Option<&LinkedMethod>) -> usize
+    ensures value { result ≡ max_stack_in (option_map (λ m. method_of m.now) method.entry) }
+    ensures bound { result < 2 ^ 16 }
+{
+    match method {
+        Some(method) => usize::from(method.max_stack),
+        None => 0,
+    }
+}
+
+/// How many locals a method has.
+pub(crate) fn max_locals(method: Option<&LinkedMethod>) -> usize
+    ensures value { result ≡ max_locals_in (option_map (λ m. method_of m.now) method.entry) }
+    ensures bound { result < 2 ^ 16 }
+{
+    match method {
+        Some(method) => usize::from(method.max_locals),
+        None => 0,
+    }
+}
+
+/// The descriptor of a method.
+pub(crate) fn descriptor<'a>(method: Option<&'a LinkedMethod>) -> &'a str
+    ensures { result.now ≡ descriptor_in (option_map (λ m. method_of m.now) method.entry) }
+{
+    match method {
+        Some(method) => method.descriptor.as_str(),
+        None => "",
+    }
+}
+
+/// The name of a method.
+pub(crate) fn method_name<'a>(method: Option<&'a LinkedMethod>) -> &'a str
+    ensures { result.now ≡ name_of_method (option_map (λ m. method_of m.now) method.entry) }
+{
+    match method {
+        Some(method) => method.name.as_str(),
+        None => "",
+    }
+}
