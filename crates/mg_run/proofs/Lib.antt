@@ -1,3 +1,5 @@
-pub mod Plain
+pub mod Plainly
+pub mod Found
+pub mod Ascii
 pub mod Ran
 pub mod Whole

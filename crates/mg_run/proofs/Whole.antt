@@ -9,18 +9,14 @@ use Rattle.cls_tree.specs.Layout.{class_bytes}
 use Rattle.cls_tree.specs.ClassFile.{IsClassFile as IsFile}
 use Rattle.cls_tree.specs.Emitted.{class_for}
 use Rattle.gen_class.specs.Sizes.{IsCodeTooLong, IsTextTooLong}
-use Rattle.jv_plain.specs.Spelling.{Printer, Spells, printer_of, IsPrinterOrMemory}
-use Rattle.jv_plain.specs.declared.PrintClass.{PrintClass}
 use Rattle.mg_laws.specs.Simulates.{Simulates}
+use Rattle.mg_run.specs.declared.plain.PrintClass.{PrintClass}
+use Rattle.mg_run.specs.inner.Plainly.{printer_of}
 use Rattle.mg_run.specs.declared.Shown.{Shown}
 use Rattle.mg_run.specs.declared.RunFault.{RunFault}
 use Rattle.mg_run.specs.declared.RunFault.TheVariants as faults
 use Rattle.mg_run.specs.Running.{IsSource, IsRun, code_too_long, text_too_long}
 use Rattle.mg_run.specs.Steps.{IsCompiled, IsClassFile, IsPerformed}
-
--- what was read is the source
-pub source_of_read : (bytes : List ℕ) (c : PrintClass) → Spells 0 bytes (printer_of c) → ((printer : Printer) → Spells 0 bytes printer → IsPrinterOrMemory (Ok c) printer) → IsSource bytes (printer_of c)
-source_of_read bytes c spelled only = record { spelled = spelled; only = λ other h. sym (only other h) }
 
 module _ (class : Name) (bytes : List ℕ) (source : PrintClass) (is : IsSource bytes (printer_of source)) (named : source.name ≡ class) where
   abbrev texts : List (List ℕ)
@@ -34,7 +30,7 @@ module _ (class : Name) (bytes : List ℕ) (source : PrintClass) (is : IsSource 
 
   -- a source that isn't compiled is refused
   refused : (fault : RunFault) → IsCompiled class source.main_place texts (Err fault) → IsRun class bytes (Err fault)
-  refused (faults.TooLarge place) h = absurd h
+  refused (faults.Unread fault) h = absurd h
   refused (faults.Unsupported place) h = absurd h
   refused faults.NoMain h = absurd h
   refused (faults.CodeTooLong place) (at, h) = rw at (code_too_long (printer_of source) is named h)
@@ -60,7 +56,7 @@ module _ (class : Name) (bytes : List ℕ) (source : PrintClass) (is : IsSource 
         shown = done.1;
         performs = rw layout at done.0;
       }
-  run_of file compiled sim (Err (faults.TooLarge place)) h = absurd h
+  run_of file compiled sim (Err (faults.Unread fault)) h = absurd h
   run_of file compiled sim (Err (faults.Unsupported place)) h = absurd h
   run_of file compiled sim (Err faults.NoMain) h = absurd h
   run_of file compiled sim (Err (faults.CodeTooLong place)) h = absurd h

@@ -1,2 +1,4 @@
+pub mod Plain
 pub mod Running
 pub mod Steps
+pub mod inner

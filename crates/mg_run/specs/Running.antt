@@ -1,12 +1,15 @@
 -- What the bytes of a source do when a class of it is run: what is shown, or why they are refused.
-use Rattle.std.specs.Prelude.{◌≡◌, ◌≢◌, ℕ, ◌<◌, ◌≤◌, List, length, Some, Result, Ok, Err}
+use Rattle.std.specs.Prelude.{◌≡◌, ◌≢◌, ℕ, List, Some, Result, Ok, Err}
 use Rattle.mg_text.specs.Call.{Name}
 use Rattle.mg_text.specs.Places.{start_of}
 use Rattle.mg_text.specs.declared.event.Event.{Event}
 use Rattle.mg_text.specs.declared.event.Ending.TheVariants as endings
 use Rattle.jv_tree.specs.Values.{Done}
 use Rattle.jv_tree.specs.Meaning.{mean}
-use Rattle.jv_plain.specs.Spelling.{Printer, Spells}
+use Rattle.jv_tree.specs.Source.{File as Tree}
+use Rattle.jv_read.specs.Spelling.{Spells}
+use Rattle.jv_read.specs.Outcome.{Answer, Outcome, fault_answer}
+use Rattle.jv_read.specs.declared.JavaFault.{JavaFault}
 use Rattle.cls_tree.specs.Tree.{Class as File}
 use Rattle.cls_tree.specs.Layout.{class_bytes}
 use Rattle.cls_tree.specs.ClassFile.{IsClassFile as IsFile}
@@ -17,14 +20,16 @@ use Rattle.vm_model.specs.PrintingLinks.{Links}
 use Rattle.vm_model.specs.PrintingMachine.{Runs, main_in, start}
 use Rattle.vm_step.specs.Ran.{printed as printed_by}
 use Rattle.mg_laws.specs.Simulates.{source_of}
+use Rattle.mg_run.specs.Plain.{Printer, IsPlain}
 use Rattle.mg_run.specs.declared.Shown.{Shown}
 use Rattle.mg_run.specs.declared.RunFault.{RunFault}
 use Rattle.mg_run.specs.declared.RunFault.TheVariants as faults
 
--- the bytes of a source spell this class, and no other
+-- the bytes of a source spell a file that is this class
 pub record IsSource (bytes : List ℕ) (printer : Printer) : Type 0 where
-  pub spelled : Spells 0 bytes printer
-  pub only : (other : Printer) → Spells 0 bytes other → other ≡ printer
+  pub tree : Tree
+  pub spelled : Spells 0 bytes tree
+  pub plain : IsPlain tree printer
 
 -- A class file of these bytes is read back, linked and run: its `main` returns after so many instructions, with these events.
 pub record Performs (class : Name) (bytes : List ℕ) (instructions : ℕ) (events : List Event) : Type 0 where
@@ -52,8 +57,10 @@ pub record Shows (class : Name) (bytes printed : List ℕ) (instructions : ℕ) 
 
 -- The bytes of a source are refused, by the first of these that holds.
 pub data Refused (class : Name) (bytes : List ℕ) : RunFault → Type 0 where
-  too_large : 1048576 < length bytes → Refused class bytes (faults.TooLarge (start_of 0))
-  unsupported : length bytes ≤ 1048576 → ((printer : Printer) → Spells 0 bytes printer → ⊥) → Refused class bytes (faults.Unsupported (start_of 0))
+  -- they spell no file, and this is what reading them gives
+  unread : (fault : JavaFault) (answer : Answer) → fault_answer fault ≡ Some answer → Outcome 0 bytes answer → Refused class bytes (faults.Unread fault)
+  -- they spell a file that isn't a class that prints texts
+  unsupported : (tree : Tree) → Spells 0 bytes tree → ((printer : Printer) → IsPlain tree printer → ⊥) → Refused class bytes (faults.Unsupported (start_of 0))
   no_main : (printer : Printer) → IsSource bytes printer → printer.name ≢ class → Refused class bytes faults.NoMain
   code_too_long : (printer : Printer) → IsSource bytes printer → printer.name ≡ class → IsCodeTooLong class printer.texts →
       Refused class bytes (faults.CodeTooLong printer.main_place)
@@ -63,7 +70,7 @@ pub data Refused (class : Name) (bytes : List ℕ) : RunFault → Type 0 where
 -- what running a class of a source may answer; memory may run out
 abbrev pub IsRun : Name → List ℕ → Result Shown RunFault → Type 0
 IsRun class bytes (Ok s) = Shows class bytes s.printed s.instructions
-IsRun class bytes (Err (faults.TooLarge place)) = Refused class bytes (faults.TooLarge place)
+IsRun class bytes (Err (faults.Unread fault)) = Refused class bytes (faults.Unread fault)
 IsRun class bytes (Err (faults.Unsupported place)) = Refused class bytes (faults.Unsupported place)
 IsRun class bytes (Err faults.NoMain) = Refused class bytes faults.NoMain
 IsRun class bytes (Err (faults.CodeTooLong place)) = Refused class bytes (faults.CodeTooLong place)

@@ -2,8 +2,10 @@
 use Rattle.std.specs.Prelude.{◌≡◌, ℕ, List, map, Result, Ok, Err}
 use Rattle.mg_text.specs.Call.{Name}
 use Rattle.mg_text.specs.declared.place.Place.{Place}
-use Rattle.jv_plain.specs.Spelling.{printer_of}
-use Rattle.jv_plain.specs.declared.PrintClass.{PrintClass}
+use Rattle.mg_run.specs.declared.plain.PrintClass.{PrintClass}
+use Rattle.mg_run.specs.inner.Plainly.{printer_of}
+use Rattle.jv_read.specs.declared.JavaFault.{JavaFault}
+use Rattle.jv_read.specs.declared.JavaFault.TheVariants as java
 use Rattle.cls_tree.specs.Layout.{class_bytes}
 use Rattle.cls_tree.specs.ClassFile.{IsClassFile as IsFile}
 use Rattle.cls_tree.specs.Emitted.{class_for}
@@ -14,6 +16,11 @@ use Rattle.mg_run.specs.declared.RunFault.TheVariants as faults
 use Rattle.mg_run.specs.Running.{IsSource, Refused, Performs}
 use Rattle.mg_text.specs.declared.event.Event.TheVariants as seen
 use Rattle.vm_step.specs.Ran.{printed as printed_by}
+
+-- why a class isn't run whose source couldn't be read
+abbrev pub refusal_of : JavaFault → RunFault
+refusal_of java.Memory = faults.Memory
+refusal_of fault = faults.Unread fault
 
 -- the source of the class of this name, or why it is refused
 abbrev pub IsFound : Name → List ℕ → Result PrintClass RunFault → Type 0

@@ -5,11 +5,11 @@
 ghost use Rattle.std.specs.Prelude.{◌≤◌, length};
 ghost use Rattle.mg_run.specs.Running.{IsRun};
 
+mod plain;
 mod steps;
-#[cfg(test)]
-mod tests;
 
 use crate::steps::{compile, find, perform};
+use jv_read::JavaFault;
 use mg_laws::simulation;
 use mg_text::{Bytes, Memory, Place, Text};
 use std::alloc::Global;
@@ -24,11 +24,12 @@ pub struct Shown {
 }
 
 /// Why a class of a source isn't run.
-#[derive(Clone, Copy, Debug, PartialEq, Eq)]
+#[derive(Debug, PartialEq, Eq, Drop)]
 pub enum RunFault {
-    /// The source holds over 1,048,576 bytes. The place is the file's start.
-    TooLarge { place: Place },
-    /// The source spells no class that is read so far. The place is the file's start.
+    /// The bytes spell no source, for this reason, which isn't want of memory.
+    Unread(JavaFault),
+    /// The source isn't a class that prints texts in printable ASCII. The place is the file's
+    /// start.
     Unsupported { place: Place },
     /// The source has no class of this name with a `main`.
     NoMain,

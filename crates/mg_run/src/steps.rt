@@ -4,34 +4,47 @@ ghost use Rattle.std.specs.Prelude.{◌≡◌, ◌≤◌, ℕ, length, IfOk, Lis
 ghost use Rattle.cls_tree.specs.View.{class_of};
 ghost use Rattle.cls_tree.specs.Layout.{class_bytes};
 ghost use Rattle.cls_tree.specs.ClassFile.{IsClassFile as IsFile};
-ghost use Rattle.jv_plain.specs.Spelling.{Spells, printer_of};
-ghost use Rattle.mg_run.specs.Steps.{IsFound, IsCompiled, IsClassFile, IsPerformed};
+ghost use Rattle.mg_run.specs.Running.{IsSource};
+ghost use Rattle.mg_run.specs.Steps.{refusal_of, IsFound, IsCompiled, IsClassFile, IsPerformed};
+ghost use Rattle.mg_run.specs.inner.Plainly.{printer_of};
 
+use crate::plain::{PrintClass, plain_of};
 use crate::{RunFault, Shown};
 use cls_bytes::{ClassFault, WriteFault, read_class, write_class};
 use cls_tree::Class;
 use gen_class::{GenFault, gen_class};
-use jv_plain::{JavaFault, PrintClass, read_printer};
+use jv_read::{JavaFault, read_java};
 use mg_laws::simulation;
-use mg_text::{Bytes, Ending, Memory, Text};
+use mg_text::{Bytes, Ending, Memory, Place, Text};
 use std::alloc::Global;
 use vm_step::{LoadFault, load, run};
+
+// Why a class isn't run whose source couldn't be read.
+fn refusal(fault: JavaFault) -> RunFault
+    ensures { result ≡ refusal_of fault }
+{
+    match fault {
+        JavaFault::Memory => RunFault::Memory,
+        unread => RunFault::Unread(unread),
+    }
+}
 
 /// The class of this name in a source.
 pub fn find(alloc: Global, class: &Text, bytes: &[u8]) -> Result<PrintClass, RunFault>
     ensures { IsFound class.now bytes.now result }
 {
-    match read_printer(alloc, 0, bytes) {
-        Ok(source) => {
-            if source.name.as_str() == class.as_str() {
-                Ok(source)
-            } else {
-                Err(RunFault::NoMain)
-            }
-        }
-        Err(JavaFault::TooLarge { place }) => Err(RunFault::TooLarge { place }),
-        Err(JavaFault::Unsupported { place }) => Err(RunFault::Unsupported { place }),
-        Err(JavaFault::Memory) => Err(RunFault::Memory),
+    let tree = match read_java(alloc, 0, bytes) {
+        Ok(tree) => tree,
+        Err(fault) => return Err(refusal(fault)),
+    };
+    let Some(source) = plain_of(alloc, &tree)? else {
+        let place = Place::start(0);
+        return Err(RunFault::Unsupported { place });
+    };
+    if source.name.as_str() == class.as_str() {
+        Ok(source)
+    } else {
+        Err(RunFault::NoMain)
     }
 }
 
@@ -50,7 +63,7 @@ fn bytes_of(alloc: Global, class: &Class) -> Result<Bytes, Memory>
 /// The bytes of the class file of a source.
 pub fn compile(alloc: Global, source: &PrintClass) -> Result<Bytes, RunFault>
     requires short { length source.now.name ≤ 255 }
-    requires spelled { (bytes : Seq ℕ) × Spells 0 bytes (printer_of source.now) }
+    requires spelled { (bytes : Seq ℕ) × IsSource bytes (printer_of source.now) }
     ensures { IsCompiled source.now.name source.now.main_place source.now.texts.items result }
 {
     let place = source.main_place;
@@ -73,8 +86,10 @@ pub fn perform(alloc: Global, class: &Text, bytes: &[u8]) -> Result<Shown, RunFa
     simulation();
     let file = match read_class(alloc, bytes) {
         Ok(file) => file,
-        Err(ClassFault::Unreadable) => unreachable!(),
-        Err(ClassFault::Memory) => return Err(RunFault::Memory),
+        Err(fault) => match fault {
+            ClassFault::Memory => return Err(RunFault::Memory),
+            _ => unreachable!(),
+        },
     };
     let linked = match load(alloc, &file) {
         Ok(linked) => linked,

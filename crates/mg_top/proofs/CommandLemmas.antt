@@ -35,7 +35,7 @@ gives command contents actions status (Err e) a s y = tt
 
 -- a fault that isn't want of memory is a refusal
 refused_by : (class : Word) (bytes : List ℕ) (fault : RunFault) → IsRun class bytes (Err fault) → fault ≢ run_faults.Memory → RunRefused class bytes fault
-refused_by class bytes (run_faults.TooLarge place) h isnt = h
+refused_by class bytes (run_faults.Unread fault) h isnt = h
 refused_by class bytes (run_faults.Unsupported place) h isnt = h
 refused_by class bytes run_faults.NoMain h isnt = h
 refused_by class bytes (run_faults.CodeTooLong place) h isnt = h

@@ -1,11 +1,14 @@
 -- Each command gives one thing of the same contents, and no status of the delivery's own.
-use Rattle.std.proofs.Common.{◌≡◌, ◌≢◌, ℕ, ◌<◌, ◌≤◌, ◌⊎◌, inl, inr, Option, List, [], ◌∷◌, ◌++◌, length, refl, sym, ap, ◌∙◌, subst, arith}
+use Rattle.std.proofs.Common.{◌≡◌, ◌≢◌, ℕ, ◌<◌, ◌≤◌, ◌⊎◌, inl, inr, Option, Some, List, [], ◌∷◌, ◌++◌, length, refl, sym, ap, ◌∙◌, subst, arith}
 use Rattle.mg_read.proofs.Judging.{no_both}
-use Rattle.jv_plain.specs.Spelling.{Printer, Spells}
+use Rattle.jv_tree.specs.Source.{File as Tree}
+use Rattle.jv_read.specs.Outcome.{Read, read}
+use Rattle.jv_read.proofs.Unique as reading
 use Rattle.gen_class.specs.Sizes.{IsCodeTooLong, IsTextTooLong}
+use Rattle.mg_run.specs.Plain.{Printer, IsPlain}
 use Rattle.mg_run.specs.declared.RunFault.{RunFault}
-use Rattle.mg_run.specs.Running as running
-use Rattle.mg_run.specs.Running.{Shows, Refused as RunRefused, unsupported, no_main, code_too_long, text_too_long}
+use Rattle.mg_run.proofs.Found.{one_source}
+use Rattle.mg_run.specs.Running.{IsSource, Shows, Refused as RunRefused, unread, unsupported, no_main, code_too_long, text_too_long}
 use Rattle.mg_top.specs.declared.status.Status.{Status}
 use Rattle.mg_top.specs.declared.status.Status.TheVariants as statuses
 use Rattle.mg_top.specs.declared.delivery.Action.{Action}
@@ -34,19 +37,21 @@ not_both folder files actions line t (refused h) = no_both (none_refused_of_tran
 not_both folder files actions line t (same_role nobody h) = no_both t.apart h
 
 -- a class that was run isn't refused
-never_taken : (class : Word) (content : List ℕ) (fault : RunFault) (printer : Printer) → Spells 0 content printer → printer.name ≡ class → (IsCodeTooLong class printer.texts → ⊥) → (IsTextTooLong printer.texts → ⊥)
+never_taken : (class : Word) (content : List ℕ) (fault : RunFault) (printer : Printer) → IsSource content printer → printer.name ≡ class → (IsCodeTooLong class printer.texts → ⊥) → (IsTextTooLong printer.texts → ⊥)
     → RunRefused class content fault → ⊥
-never_taken class content fault printer h named code text (running.too_large large) = let size = h.size in omega arith
-never_taken class content fault printer h named code text (unsupported small none) = none printer h
-never_taken class content fault printer h named code text (no_main other is isnt) =
-    isnt (ap (λ (p : Printer). p.name) (sym (is.only printer h)) ∙ named)
-never_taken class content fault printer h named code text (code_too_long other is same long) =
-    code (subst (λ (p : Printer). IsCodeTooLong class p.texts) (sym (is.only printer h)) long)
-never_taken class content fault printer h named code text (text_too_long other is same short long) =
-    text (subst (λ (p : Printer). IsTextTooLong p.texts) (sym (is.only printer h)) long)
+never_taken class content fault printer source named code text (unread reason answer says o) =
+    reading.no_file reason source.tree (says ∙ ap Some (reading.one_outcome 0 content answer (Read source.tree) o (read source.tree source.spelled)))
+never_taken class content fault printer source named code text (unsupported tree spelled none) =
+    none printer (subst (λ (t : Tree). IsPlain t printer) (reading.one_file 0 content source.tree tree source.spelled spelled) source.plain)
+never_taken class content fault printer source named code text (no_main other is isnt) =
+    isnt (ap (λ (p : Printer). p.name) (one_source content other printer is source) ∙ named)
+never_taken class content fault printer source named code text (code_too_long other is same long) =
+    code (subst (λ (p : Printer). IsCodeTooLong class p.texts) (one_source content other printer is source) long)
+never_taken class content fault printer source named code text (text_too_long other is same short long) =
+    text (subst (λ (p : Printer). IsTextTooLong p.texts) (one_source content other printer is source) long)
 
 not_shown : (class : Word) (bytes printed : List ℕ) (n : ℕ) (fault : RunFault) → Shows class bytes printed n → RunRefused class bytes fault → ⊥
-not_shown class bytes printed n fault h = never_taken class bytes fault h.printer h.source.spelled h.named h.short_code h.short_texts
+not_shown class bytes printed n fault h = never_taken class bytes fault h.printer h.source h.named h.short_code h.short_texts
 
 -- the refusals of translate and run
 no_translation : (folder : Option Word) (files : List Word) (contents : List (List ℕ)) (line : List ℕ) → Refusal (sources files contents) line → (command : Command) → command ≡ Translate folder files

@@ -1,6 +1,7 @@
 -- Files that spell protocols aren't refused, and which of them are of one role.
-use Rattle.std.proofs.Common.{◌≡◌, ◌↔◌, ◌<◌, ◌≤◌, ◌+◌, ℕ, zero, suc, Bool, true, false, not, List, [], ◌∷◌, ◌++◌, map, length, get_or, take, drop, Contains, IsTrue, String, string_bytes, Option, Some, None, refl, sym, ap, ◌∙◌, subst, arith, true≢false, Decides, cond, ⊎_elim, add-one, drop-cons, codes, Result, Ok, Err}
-use Rattle.std.proofs.lemmas.List.{take_more, take_all, map-append, length-map}
+use Rattle.std.proofs.Common.{◌≡◌, ◌↔◌, ◌<◌, ◌≤◌, ◌+◌, ℕ, zero, suc, Bool, true, false, not, List, [], ◌∷◌, ◌++◌, map, length, get_or, take, drop, Contains, IsTrue, String, string_bytes, Option, Some, None, refl, sym, ap, ◌∙◌, subst, arith, true≢false, Decides, cond, ⊎_elim, add-one, drop-cons, codes, Result, Ok, Err, append_assoc}
+use Rattle.std.specs.Prelude.{OnOk}
+use Rattle.std.proofs.lemmas.List.{append-nil, take_more, take_all, map-append, length-map}
 use Rattle.std.proofs.lemmas.List.Elements.{Contains-push, Contains-push_cases, Contains-append_left, Contains-append_right}
 use Rattle.std.proofs.lemmas.Slice.Eq.{bytes_eq-Decides}
 use Rattle.std.specs.HashSet.{HashSet, contains_text}
@@ -16,13 +17,17 @@ use Rattle.mg_top.specs.Files.{Source, source_of, Output, sources_from}
 use Rattle.mg_top.specs.Reading.{Reads, Refuses}
 use Rattle.mg_top.proofs.ReaderLemmas.{excludes}
 use Rattle.mg_top.specs.Sources.{IsRefused, IsOnly, IsOfRole, SharesRole}
-use Rattle.mg_top.specs.Translation.{Translates, EachTranslates, none, one}
+use Rattle.mg_top.specs.Translation.{IsTypestateFile, IsTranslation, api_written, Translates, EachTranslates, none, one}
 use Rattle.mg_text.specs.Row.{Row}
+use Rattle.mg_text.specs.declared.memory.Memory.{Memory}
+use Rattle.stm_api.specs.Api.{IsApi}
+use Rattle.stm_api.specs.View.{written_of}
+use Rattle.stm_api.specs.declared.files.ApiFile.{ApiFile}
 use Rattle.scr_tree.specs.Local.{tree_of}
 use Rattle.scr_tree.specs.declared.local.Local.{Local}
 use Rattle.mg_top.specs.declared.sources.Stop.{Stop}
 use Rattle.mg_top.specs.declared.sources.Stop.TheVariants as stops
-use Rattle.mg_top.specs.inner.Preparing.{EachIsOnly, IsSource, AreSources, IsTranslated, EachIsWritten}
+use Rattle.mg_top.specs.inner.Preparing.{EachIsOnly, IsSource, AreSources, AddsTranslation, EachIsWritten}
 use Rattle.mg_top.specs.inner.Preparing as preparing
 
 pub not_refused : (source : Source) (local : LocalTree) (line : List ℕ) → Reads source.number source.bytes local → IsRefused source line → ⊥
@@ -233,22 +238,40 @@ pub translated : (folder : Option Word) (files : List Source) (locals : List Loc
 translated folder [] [] actions each preparing.none = none
 translated folder [] (l ∷ ls) actions each written = absurd each
 translated folder (f ∷ fs) [] actions each written = absurd each
-translated folder (f ∷ fs) (l ∷ ls) actions (only, rest) (preparing.one {output = o} {actions = more} t written) =
-    one (record { local = l; spelled = only.reads; typestate = t.typestate; laid = t.laid; agrees = t.agrees; named = t.named; layout = t.layout })
-    (translated folder fs ls more rest written)
+translated folder (f ∷ fs) (l ∷ ls) actions (only, rest) (preparing.one {actions = more} t written) =
+    one (record { local = l; spelled = only.reads; translation = t }) (translated folder fs ls more rest written)
 
-pub written_push : {folder : Option Word} {locals : List LocalTree} {actions : List Action} (l : LocalTree) (o : Output) → EachIsWritten folder locals actions → IsTranslated folder l o → EachIsWritten folder (locals ++ l ∷ []) (actions ++ acts.Write o ∷ [])
-written_push l o preparing.none t = preparing.one t preparing.none
-written_push l o (preparing.one t' rest) t = preparing.one t' (written_push l o rest t)
+pub written_push : {folder : Option Word} {locals : List LocalTree} {actions : List Action} (l : LocalTree) (writes : List Action) →
+    EachIsWritten folder locals actions → IsTranslation folder l writes → EachIsWritten folder (locals ++ l ∷ []) (actions ++ writes)
+written_push {folder} l writes preparing.none t =
+    subst (EachIsWritten folder (l ∷ [])) (append-nil writes) (preparing.one t preparing.none)
+written_push {folder} l writes (preparing.one {local = k} {writes = ws} {locals = ls} {actions = more} t' rest) t =
+    subst (EachIsWritten folder (k ∷ (ls ++ l ∷ []))) (sym (append_assoc ws more writes)) (preparing.one t' (written_push l writes rest t))
 
 -- one more of a list is written
-pub written_more : {folder : Option Word} {actions actions' : List Action} (locals : List Local) (i : ℕ) (l : Local) → i < length locals → l ≡ get_or locals i l → (o : Output) → actions' ≡ actions ++ acts.Write o ∷ []
-    → EachIsWritten folder (map tree_of (take i locals)) actions → IsTranslated folder (tree_of l) o → EachIsWritten folder (map tree_of (take (i + 1) locals)) actions'
-written_more {folder} {actions} {actions'} locals i l lt is o grown before t =
+pub written_more : {folder : Option Word} {actions actions' : List Action} (locals : List Local) (i : ℕ) (l : Local) → i < length locals →
+    l ≡ get_or locals i l → EachIsWritten folder (map tree_of (take i locals)) actions → AddsTranslation folder (tree_of l) actions actions' →
+    EachIsWritten folder (map tree_of (take (i + 1) locals)) actions'
+written_more {folder} {actions} {actions'} locals i l lt is before added =
     let names : map tree_of (take (i + 1) locals) ≡ map tree_of (take i locals) ++ tree_of l ∷ [] =
     ap (map tree_of) (take_more locals i l lt ∙ ap (λ (z : Local). take i locals ++ z ∷ []) (sym is)) ∙ map-append tree_of (take i locals) (l ∷ []) in
     subst (λ (z : List LocalTree). EachIsWritten folder z actions') (sym names)
-    (subst (EachIsWritten folder (map tree_of (take i locals) ++ tree_of l ∷ [])) (sym grown) (written_push (tree_of l) o before t))
+    (subst (EachIsWritten folder (map tree_of (take i locals) ++ tree_of l ∷ [])) (sym added.grown)
+    (written_push (tree_of l) added.writes before added.translation))
+
+-- a protocol's typestate and the files of its API are appended
+pub adds_translation : (r : Result Unit Memory) (folder : Option Word) (local : LocalTree) (before pushed after : List Action)
+    (files listed : List ApiFile) (file : Output) → IsTypestateFile folder local file → IsApi local (map written_of files) → listed ≡ files →
+    pushed ≡ before ++ acts.Write file ∷ [] → OnOk r (after ≡ pushed ++ map (api_written folder) (map written_of listed)) →
+    OnOk r (AddsTranslation folder local before after)
+adds_translation (Err e) folder local before pushed after files listed file is api same grown h = tt
+adds_translation (Ok x) folder local before pushed after files listed file is api same grown h =
+    let rest : List Action = map (api_written folder) (map written_of files) in record {
+      writes = acts.Write file ∷ rest;
+      translation = record { typestate = file; is_typestate = is; files = map written_of files; is_api = api; both = refl };
+      grown = h ∙ ap (λ (z : List ApiFile). pushed ++ map (api_written folder) (map written_of z)) same ∙ ap (λ (z : List Action). z ++ rest) grown
+          ∙ append_assoc before (acts.Write file ∷ []) rest;
+    }
 
 -- as many protocols as names
 pub local_count : (names : List Word) (contents : List (List ℕ)) (locals slice : List Local) → length names ≡ length contents → EachIsOnly (sources_from 0 names contents) (map tree_of locals) → slice ≡ locals → length names ≡ length slice

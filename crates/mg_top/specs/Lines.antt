@@ -2,6 +2,8 @@
 use Rattle.std.specs.Prelude.{ℕ, List, [], ◌∷◌, ◌++◌, Option, Some, None, codes}
 use Rattle.std.specs.Fmt.{decimal}
 use Rattle.mg_text.specs.declared.place.Place.{Place}
+use Rattle.jv_read.specs.declared.JavaFault.{JavaFault}
+use Rattle.jv_read.specs.declared.JavaFault.TheVariants as java_faults
 use Rattle.mg_run.specs.declared.RunFault.{RunFault}
 use Rattle.mg_run.specs.declared.RunFault.TheVariants as run_faults
 use Rattle.mg_top.specs.Words.{Word}
@@ -49,9 +51,21 @@ fault_line file fault =
 abbrev pub no_main_line : Word → List ℕ
 no_main_line class = ended (codes "mungo: NoMain " ++ class)
 
+-- why the bytes of a file spell no Java source
+abbrev pub java_line : (file : Word) → JavaFault → List ℕ
+java_line file (java_faults.TooLarge place) = fault_line file (fault_at (codes "TooLarge") place [])
+java_line file (java_faults.BadByte place) = fault_line file (fault_at (codes "BadByte") place [])
+java_line file (java_faults.OpenComment place) = fault_line file (fault_at (codes "OpenComment") place [])
+java_line file (java_faults.OpenText place) = fault_line file (fault_at (codes "OpenText") place [])
+java_line file (java_faults.BadEscape place) = fault_line file (fault_at (codes "BadEscape") place [])
+java_line file (java_faults.BadNumber place) = fault_line file (fault_at (codes "BadNumber") place [])
+java_line file (java_faults.Unsupported place name) = fault_line file (fault_at (codes "Unsupported") place name)
+java_line file (java_faults.Syntax place) = fault_line file (fault_at (codes "Syntax") place [])
+java_line file java_faults.Memory = memory_line
+
 -- why a class of a source isn't run
 abbrev pub run_line : (class file : Word) → RunFault → List ℕ
-run_line class file (run_faults.TooLarge place) = fault_line file (fault_at (codes "TooLarge") place [])
+run_line class file (run_faults.Unread fault) = java_line file fault
 run_line class file (run_faults.Unsupported place) = fault_line file (fault_at (codes "Unsupported") place [])
 run_line class file run_faults.NoMain = no_main_line class
 run_line class file (run_faults.CodeTooLong place) = fault_line file (fault_at (codes "CodeTooLong") place (codes "main"))

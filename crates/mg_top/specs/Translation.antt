@@ -1,12 +1,14 @@
 -- What translating Scribble files gives.
-use Rattle.std.specs.Prelude.{◌≡◌, List, [], ◌∷◌, ◌++◌, codes, Option, Some, None}
+use Rattle.std.specs.Prelude.{◌≡◌, map, List, [], ◌∷◌, ◌++◌, codes, Option, Some, None}
 use Rattle.mg_read.specs.First.{Judged, with_earlier}
 use Rattle.scr_tree.specs.Tree.{LocalTree}
 use Rattle.scr_tree.specs.Meaning.{protocol_of}
 use Rattle.ts_tree.specs.Typestate.{Typestate}
 use Rattle.ts_read.specs.Layout.{layout}
 use Rattle.stm_gen.specs.Laid.{IsLaid}
+use Rattle.stm_gen.specs.Numbered.{typestate_of}
 use Rattle.stm_gen.specs.Agreement.{Agrees}
+use Rattle.stm_api.specs.Api.{ApiText, IsApi}
 use Rattle.mg_top.specs.declared.delivery.Action.{Action}
 use Rattle.mg_top.specs.declared.delivery.Action.TheVariants.{Write}
 use Rattle.mg_top.specs.Words.{Word}
@@ -19,21 +21,38 @@ abbrev pub in_folder : Option Word → Word → Word
 in_folder None name = name
 in_folder (Some folder) name = folder ++ codes "/" ++ name
 
--- The file spells a valid local protocol, and what is written is a typestate that allows exactly its calls, under the name of its role's file.
-pub record Translates (folder : Option Word) (source : Source) (output : Output) : Type 0 where
-  pub local : LocalTree
-  pub spelled : Reads source.number source.bytes local
+-- The file of a protocol's typestate: the typestate is the one that the numbers of the text give, and it allows exactly the protocol's calls.
+pub record IsTypestateFile (folder : Option Word) (local : LocalTree) (file : Output) : Type 0 where
   pub typestate : Typestate
+  pub numbered : typestate ≡ typestate_of local
   pub laid : IsLaid local typestate
   pub agrees : Agrees local.me (protocol_of local) typestate
-  pub named : output.name ≡ in_folder folder (local.me ++ codes "Protocol.protocol")
-  pub layout : output.text ≡ layout typestate
+  pub named : file.name ≡ in_folder folder (local.me ++ codes "Protocol.protocol")
+  pub layout : file.text ≡ layout typestate
 
--- each of the files is translated, and that is written
+-- a file of an API is written, in the folder where there is one
+abbrev pub api_written : Option Word → ApiText → Action
+api_written folder file = Write (record { name = in_folder folder file.name; text = file.text })
+
+-- what is written for a protocol: its typestate, then its API, the class first and then the enums
+pub record IsTranslation (folder : Option Word) (local : LocalTree) (writes : List Action) : Type 0 where
+  pub typestate : Output
+  pub is_typestate : IsTypestateFile folder local typestate
+  pub files : List ApiText
+  pub is_api : IsApi local files
+  pub both : writes ≡ Write typestate ∷ map (api_written folder) files
+
+-- the file spells a valid local protocol, and these writes are its translation
+pub record Translates (folder : Option Word) (source : Source) (writes : List Action) : Type 0 where
+  pub local : LocalTree
+  pub spelled : Reads source.number source.bytes local
+  pub translation : IsTranslation folder local writes
+
+-- each of the files is translated, in their order
 pub data EachTranslates (folder : Option Word) : List Source → List Action → Type 0 where
   none : EachTranslates folder [] []
-  one : {source : Source} {output : Output} {sources : List Source} {actions : List Action} →
-      Translates folder source output → EachTranslates folder sources actions → EachTranslates folder (source ∷ sources) (Write output ∷ actions)
+  one : {source : Source} {writes : List Action} {sources : List Source} {actions : List Action} →
+      Translates folder source writes → EachTranslates folder sources actions → EachTranslates folder (source ∷ sources) (writes ++ actions)
 
 -- These writes are the translations of the files: each spells a protocol, and no two are of one role.
 pub record AreTranslated (folder : Option Word) (files : List Source) (writes : List Action) : Type 0 where

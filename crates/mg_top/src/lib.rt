@@ -9,8 +9,6 @@ mod reading;
 mod run;
 mod sources;
 mod status;
-#[cfg(test)]
-mod tests;
 mod top;
 mod translate;
 mod words;

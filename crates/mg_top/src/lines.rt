@@ -1,8 +1,9 @@
 //! The lines that are said of faults and of runs.
 
 ghost use Rattle.std.specs.Prelude.{◌≡◌, ◌++◌, IfOk, OnOk, option_map, string_bytes};
-ghost use Rattle.mg_top.specs.Lines.{words_line, read_line, write_line, fault_line, fault_name, no_main_line, not_offered_line, run_line, ran_line};
+ghost use Rattle.mg_top.specs.Lines.{words_line, read_line, write_line, fault_line, fault_name, no_main_line, not_offered_line, java_line, run_line, ran_line};
 
+use jv_read::JavaFault;
 use mg_run::RunFault;
 use mg_text::{Memory, Place, Text};
 use std::alloc::Global;
@@ -80,12 +81,31 @@ pub fn not_run(alloc: Global, class: &Text, file: &Text, reason: RunFault) -> Re
     ensures { IfOk result (λ t. t ≡ run_line class.now file.now reason) }
 {
     match reason {
-        RunFault::TooLarge { place } => fault(alloc, file, place, "TooLarge", ""),
+        RunFault::Unread(reason) => unread_java(alloc, file, reason),
         RunFault::Unsupported { place } => fault(alloc, file, place, "Unsupported", ""),
         RunFault::NoMain => no_main(alloc, class),
         RunFault::CodeTooLong { place } => fault(alloc, file, place, "CodeTooLong", "main"),
         RunFault::TextTooLong { place } => fault(alloc, file, place, "TextTooLong", "main"),
         RunFault::Memory => Text::of(alloc, MEMORY),
+    }
+}
+
+// The bytes of a file spell no Java source.
+fn unread_java(alloc: Global, file: &Text, reason: JavaFault) -> Result<Text, Memory>
+    ensures { IfOk result (λ t. t ≡ java_line file.now reason) }
+{
+    match reason {
+        JavaFault::TooLarge { place } => fault(alloc, file, place, "TooLarge", ""),
+        JavaFault::BadByte { place } => fault(alloc, file, place, "BadByte", ""),
+        JavaFault::OpenComment { place } => fault(alloc, file, place, "OpenComment", ""),
+        JavaFault::OpenText { place } => fault(alloc, file, place, "OpenText", ""),
+        JavaFault::BadEscape { place } => fault(alloc, file, place, "BadEscape", ""),
+        JavaFault::BadNumber { place } => fault(alloc, file, place, "BadNumber", ""),
+        JavaFault::Unsupported { place, name } => {
+            fault(alloc, file, place, "Unsupported", name.as_str())
+        }
+        JavaFault::Syntax { place } => fault(alloc, file, place, "Syntax", ""),
+        JavaFault::Memory => Text::of(alloc, MEMORY),
     }
 }
 

@@ -1,12 +1,14 @@
-//! The command `translate`: Scribble files become the typestates of their roles.
+//! The command `translate`: Scribble files become the typestates of their roles, and the Java
+//! classes by which programs play them.
 
-ghost use Rattle.std.specs.Prelude.{◌≡◌, ◌<◌, ◌^◌, ◌++◌, codes, length, map, IfOk, option_map};
+ghost use Rattle.std.specs.Prelude.{◌≡◌, ◌<◌, ◌^◌, ◌++◌, codes, length, map, IfOk, OnOk, option_map};
 ghost use Rattle.scr_tree.specs.Local.{tree_of};
 ghost use Rattle.mg_top.specs.Files.{sources};
 ghost use Rattle.mg_top.specs.Words.{Translate};
-ghost use Rattle.mg_top.specs.Translation.{in_folder};
+ghost use Rattle.mg_top.specs.Translation.{in_folder, IsTypestateFile, api_written};
 ghost use Rattle.mg_top.specs.Commands.{Yields};
-ghost use Rattle.mg_top.specs.inner.Preparing.{AreWritten, IsTranslated, EachIsWritten};
+ghost use Rattle.mg_top.specs.inner.Preparing.{AreWritten, AddsTranslation, EachIsWritten};
+ghost use Rattle.stm_api.specs.View.{written_of};
 
 use crate::Status;
 use crate::delivery::{Action, Delivery, Output};
@@ -14,10 +16,11 @@ use crate::sources::{Stop, check_roles, read_sources};
 use mg_text::{Bytes, List, Memory, Text};
 use scr_tree::Local;
 use std::alloc::Global;
+use stm_api::{ApiFile, api};
 use stm_gen::generate;
 use ts_read::print_typestate;
 
-/// The typestates of all files, or the first refusal.
+/// The typestates and the Java files of all protocols, or the first refusal.
 pub fn translate(
     alloc: Global,
     folder: Option<&Text>,
@@ -39,7 +42,7 @@ pub fn translate(
     }
 }
 
-// The writes of all typestates, or the line of the first refusal.
+// The writes of all protocols, or the line of the first refusal.
 fn translations(
     alloc: Global,
     folder: Option<&Text>,
@@ -57,39 +60,70 @@ fn translations(
     Ok(writes)
 }
 
-// The writes of the typestates of all protocols.
+// The writes of all protocols.
 fn write_all(alloc: Global, folder: Option<&Text>, locals: &[Local]) -> Result<List<Action>, Memory>
     ensures { IfOk result (λ w. EachIsWritten (option_map (λ f. f.now) folder.entry) (map tree_of locals.now) w.items) }
 {
     let mut writes = List::new(alloc);
     for local in locals {
-        let output = translation(alloc, folder, local)?;
-        writes.push(Action::Write(output))?;
+        add_translation(alloc, folder, local, &mut writes)?;
     }
     Ok(writes)
 }
 
-// What is written for a protocol.
-fn translation(alloc: Global, folder: Option<&Text>, local: &Local) -> Result<Output, Memory>
-    ensures { IfOk result (λ o. IsTranslated (option_map (λ f. f.now) folder.entry) (tree_of local.now) o) }
+// Appends what is written for a protocol: its typestate and its API.
+fn add_translation(
+    alloc: Global,
+    folder: Option<&Text>,
+    local: &Local,
+    writes: &mut List<Action>,
+) -> Result<(), Memory>
+    ensures { OnOk result (AddsTranslation (option_map (λ f. f.now) folder.entry) (tree_of local.now) writes.old.items writes.new.items) }
+{
+    let typestate = typestate_file(alloc, folder, local)?;
+    let files = api(alloc, local)?;
+    writes.push(Action::Write(typestate))?;
+    add_files(alloc, folder, files.as_slice(), writes)
+}
+
+// The file of a protocol's typestate.
+fn typestate_file(alloc: Global, folder: Option<&Text>, local: &Local) -> Result<Output, Memory>
+    ensures { IfOk result (λ o. IsTypestateFile (option_map (λ f. f.now) folder.entry) (tree_of local.now) o) }
 {
     let typestate = generate(alloc, local)?;
     let text = print_typestate(alloc, &typestate)?;
-    let text = Bytes::of(alloc, text.as_str().as_bytes())?;
-    let name = file_name(alloc, folder, local.me())?;
-    Output::new(alloc, name, text)
+    let mut name = String::new(alloc);
+    name.push_str(local.me().as_str())?;
+    name.push_str("Protocol.protocol")?;
+    file_in(alloc, folder, &name, &text)
 }
 
-// The file of a role's typestate.
-fn file_name(alloc: Global, folder: Option<&Text>, role: &Text) -> Result<Text, Memory>
-    ensures { IfOk result (λ t. t ≡ in_folder (option_map (λ f. f.now) folder.entry) (role.now ++ codes "Protocol.protocol")) }
+// Appends the writes of these files.
+fn add_files(
+    alloc: Global,
+    folder: Option<&Text>,
+    files: &[ApiFile],
+    writes: &mut List<Action>,
+) -> Result<(), Memory>
+    ensures { OnOk result (writes.new.items ≡ writes.old.items ++ map (api_written (option_map (λ f. f.now) folder.entry)) (map written_of files.now)) }
 {
-    let mut name = String::new(alloc);
-    if let Some(folder) = folder {
-        name.push_str(folder.as_str())?;
-        name.push_str("/")?;
+    for file in files {
+        let output = file_in(alloc, folder, file.name.as_str(), &file.text)?;
+        writes.push(Action::Write(output))?;
     }
-    name.push_str(role.as_str())?;
-    name.push_str("Protocol.protocol")?;
-    Ok(Text::from_string(name))
+    Ok(())
+}
+
+// A file with this text, in the folder where there is one.
+fn file_in(alloc: Global, folder: Option<&Text>, name: &str, text: &Text) -> Result<Output, Memory>
+    ensures { IfOk result (λ o. o ≡ record { name = in_folder (option_map (λ f. f.now) folder.entry) name.now; text = text.now }) }
+{
+    let mut path = String::new(alloc);
+    if let Some(folder) = folder {
+        path.push_str(folder.as_str())?;
+        path.push_str("/")?;
+    }
+    path.push_str(name)?;
+    let text = Bytes::of(alloc, text.as_str().as_bytes())?;
+    Output::new(alloc, Text::from_string(path), text)
 }

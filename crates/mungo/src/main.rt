@@ -80,3 +80,29 @@ fn exit_code(status: Status) -> ExitCode
 {
     ExitCode::from(status.number())
 }
+
+#[cfg(test)]
+mod tests {
+    use super::*;
+    use std::test::Fail;
+
+    #[test]
+    fn each_status_ends_with_its_number(rt: HostRuntime) -> Result<(), Fail> {
+        for (status, number) in [
+            (Status::Done, 0),
+            (Status::Refused, 1),
+            (Status::Words, 2),
+            (Status::ReadFault, 3),
+            (Status::WriteFault, 4),
+            (Status::Memory, 5),
+            (Status::Zero, 6),
+            (Status::Mismatch, 7),
+            (Status::Waits, 8),
+            (Status::Bound, 9),
+            (Status::Broken, 10),
+        ] {
+            assert_eq!(rt; exit_code(status), ExitCode::from(number), "{number}");
+        }
+        Ok(())
+    }
+}

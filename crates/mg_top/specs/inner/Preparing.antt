@@ -23,17 +23,12 @@ use Rattle.mg_top.specs.declared.reading.Unread.TheVariants as unread
 use Rattle.mg_top.specs.declared.sources.Stop.{Stop}
 use Rattle.mg_top.specs.declared.sources.Stop.TheVariants as stops
 use Rattle.mg_top.specs.Words.{Word}
-use Rattle.scr_tree.specs.Meaning.{protocol_of}
-use Rattle.ts_tree.specs.Typestate.{Typestate}
-use Rattle.ts_read.specs.Layout.{layout}
-use Rattle.stm_gen.specs.Laid.{IsLaid}
-use Rattle.stm_gen.specs.Agreement.{Agrees}
 use Rattle.scr_read.specs.declared.ScrFault.{ScrFault}
 use Rattle.mg_top.specs.declared.delivery.Action.TheVariants as acts
 use Rattle.mg_top.specs.Lines.{Fault, fault_line, run_line}
-use Rattle.mg_top.specs.Files.{Source, Output}
+use Rattle.mg_top.specs.Files.{Source}
 use Rattle.mg_top.specs.Sources.{IsRefused, IsOnly, SharesRole, Refusal}
-use Rattle.mg_top.specs.Translation.{in_folder, AreTranslated}
+use Rattle.mg_top.specs.Translation.{IsTranslation, AreTranslated}
 use Rattle.mg_top.specs.Outside.{Outside}
 use Rattle.mg_top.specs.inner.Saying.{said_of}
 use Rattle.mg_top.specs.Ending.{AreRead, after_read, IsUnread, IsDue}
@@ -68,19 +63,17 @@ AreApart sources (Ok _) = Judged SharesRole (with_earlier sources) None
 AreApart sources (Err (stops.Refused line)) = Judged SharesRole (with_earlier sources) (Some line)
 AreApart sources (Err stops.Memory) = Unit {0}
 
--- what is written for a protocol
-pub record IsTranslated (folder : Option Word) (local : LocalTree) (output : Output) : Type 0 where
-  pub typestate : Typestate
-  pub laid : IsLaid local typestate
-  pub agrees : Agrees local.me (protocol_of local) typestate
-  pub named : output.name ≡ in_folder folder (local.me ++ codes "Protocol.protocol")
-  pub layout : output.text ≡ layout typestate
-
 -- what is written for each protocol
 pub data EachIsWritten (folder : Option Word) : List LocalTree → List Action → Type 0 where
   none : EachIsWritten folder [] []
-  one : {local : LocalTree} {output : Output} {locals : List LocalTree} {actions : List Action} →
-      IsTranslated folder local output → EachIsWritten folder locals actions → EachIsWritten folder (local ∷ locals) (acts.Write output ∷ actions)
+  one : {local : LocalTree} {writes : List Action} {locals : List LocalTree} {actions : List Action} →
+      IsTranslation folder local writes → EachIsWritten folder locals actions → EachIsWritten folder (local ∷ locals) (writes ++ actions)
+
+-- these were appended, which are the translation of a protocol
+pub record AddsTranslation (folder : Option Word) (local : LocalTree) (before after : List Action) : Type 0 where
+  pub writes : List Action
+  pub translation : IsTranslation folder local writes
+  pub grown : after ≡ before ++ writes
 
 -- the writes of the files' translations, or the line of the first refusal
 abbrev pub AreWritten : Option Word → List Source → Result (Row Action) Stop → Type 0

@@ -1,10 +1,10 @@
 use Rattle.std.proofs.Common.{subst, sym}
 use Rattle.std.specs.List.{AllByRecursion}
 use Rattle.gen_class.specs.Sizes.{IsAscii, IsCodeTooLong, IsTextTooLong}
-use Rattle.jv_plain.specs.Spelling.{printer_of}
+use Rattle.mg_run.specs.inner.Plainly.{printer_of}
 use Rattle.gen_class.specs.declared.GenFault.TheVariants as gen_faults
 use Rattle.mg_run.proofs.Whole.{compiled_of, not_refused}
-use Rattle.mg_run.proofs.Plain.{name_ascii_of, texts_ascii_of}
+use Rattle.mg_run.proofs.Ascii.{name_ascii_of, texts_ascii_of}
 use Rattle.mg_run.proofs.steps.compile.Goals as goal
 
 pub gen_class-requires-clause-name : goal.gen_class-requires-clause-name

@@ -1,33 +1,30 @@
-use Rattle.std.proofs.Common.{◌∙◌, sym, true≢false, ap, Err, Result}
+use Rattle.std.proofs.Common.{ap, ◌∙◌, sym, subst, true≢false}
+use Rattle.std.specs.Prelude.{option_map}
 use Rattle.std.proofs.lemmas.Slice.Eq.{bytes_eq-Decides}
-use Rattle.jv_plain.specs.declared.PrintClass.{PrintClass}
-use Rattle.jv_plain.specs.declared.JavaFault.{JavaFault}
-use Rattle.jv_plain.specs.Spelling.{printer_of}
-use Rattle.mg_run.specs.Running.{too_large, unsupported, no_main}
-use Rattle.mg_run.proofs.Whole.{source_of_read}
+use Rattle.mg_text.specs.declared.place.Place.{Place}
+use Rattle.mg_run.specs.Running.{Refused, no_main}
+use Rattle.mg_run.specs.declared.RunFault.TheVariants as faults
+use Rattle.mg_run.specs.inner.Plainly.{printer_of}
+use Rattle.mg_run.proofs.Found.{unread_refused, source_of, not_plain}
 use Rattle.mg_run.proofs.steps.find.Goals as goal
 
-abbrev failed : JavaFault → Result PrintClass JavaFault
-failed f = Err f
+pub returns-in-Err : goal.returns-in-Err
+returns-in-Err c = unread_refused c.args.class.now c.args.bytes.now c.in-Err.fault c.refusal.result c.refusal.ensures c.in-Err.ensures.answered
+
+pub returns-in_default : goal.returns-in_default
+returns-in_default c =
+    let e = sym (ap (option_map printer_of) c.in_default.is) ∙ c.in_ok-source.ensures in
+    subst (λ (p : Place). Refused c.args.class.now c.args.bytes.now (faults.Unsupported p)) (sym c.start-place.ensures)
+    (not_plain c.args.bytes.now c.in-Ok.tree c.in-Ok.ensures.answered c.args.class.now e)
 
 pub returns-then-eq : goal.returns-then-eq
 returns-then-eq c =
-    let e = c.in-Ok.ensures in
-    let same = (bytes_eq-Decides c.as_str.result.now c.as_str-in-Ok.result.now).0 (sym c.if-eq.ensures) in
-    (source_of_read c.args.bytes.now c.in-Ok.source e.found e.only, sym c.as_str.ensures ∙ (same ∙ c.as_str-in-Ok.ensures))
+    let e = sym (ap (option_map printer_of) c.in-Some.is) ∙ c.in_ok-source.ensures in
+    let same = (bytes_eq-Decides c.as_str.result.now c.as_str-2.result.now).0 (sym c.if-eq.ensures) in
+    (source_of c.args.bytes.now c.in-Ok.tree c.in-Ok.ensures.answered c.in-Some.source e, sym c.as_str.ensures ∙ (same ∙ c.as_str-2.ensures))
 
-pub returns-else-eq : goal.returns-else-eq
-returns-else-eq c =
-    let e = c.in-Ok.ensures in
-    no_main (printer_of c.in-Ok.source) (source_of_read c.args.bytes.now c.in-Ok.source e.found e.only)
-    (λ same. true≢false (sym ((bytes_eq-Decides c.as_str.result.now c.as_str-in-Ok.result.now).1 (c.as_str.ensures ∙ (same ∙ sym c.as_str-in-Ok.ensures))) ∙ sym c.if-eq.ensures))
-
-pub returns-in-Err-TooLarge : goal.returns-in-Err-TooLarge
-returns-in-Err-TooLarge c =
-    let h = c.in-Err-TooLarge.ensures.too_large c.in-Err-TooLarge.place (ap failed c.in-Err-TooLarge.field-0-is) in
-    rw h.1 (too_large h.0)
-
-pub returns-in-Err-Unsupported : goal.returns-in-Err-Unsupported
-returns-in-Err-Unsupported c =
-    let h = c.in-Err-Unsupported.ensures.unsupported c.in-Err-Unsupported.place (ap failed c.in-Err-Unsupported.field-0-is) in
-    rw h.1 (unsupported h.0 h.2)
+pub returns : goal.returns
+returns c =
+    let e = sym (ap (option_map printer_of) c.in-Some.is) ∙ c.in_ok-source.ensures in
+    no_main (printer_of c.in-Some.source) (source_of c.args.bytes.now c.in-Ok.tree c.in-Ok.ensures.answered c.in-Some.source e)
+    (λ same. true≢false (sym ((bytes_eq-Decides c.as_str.result.now c.as_str-2.result.now).1 (c.as_str.ensures ∙ (same ∙ sym c.as_str-2.ensures))) ∙ sym c.if-eq.ensures))

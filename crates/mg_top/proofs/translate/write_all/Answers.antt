@@ -13,7 +13,8 @@ loop-local-init c = subst (EachIsWritten (option_map (λ f. f.now) c.args.folder
 
 pub loop-local-preserved : goal.loop-local-preserved
 loop-local-preserved c =
-    written_more c.args.locals.now c.loop-local.local-index c.local-item.result c.loop-local-test.true c.local-item.is c.in_ok-output.output c.in_ok-push.ensures.ok c.loop-local.invariant c.in_ok-output.ensures
+    written_more c.args.locals.now c.loop-local.local-index c.local-item.result c.loop-local-test.true c.local-item.is c.loop-local.invariant
+    c.in_ok-add_translation.ensures
 
 pub returns : goal.returns
 returns c = subst (λ (z : List Local). EachIsWritten (option_map (λ f. f.now) c.args.folder) (map tree_of z) c.loop-local.writes.items) (take_all c.loop-local.local-index c.args.locals.now (omega arith)) c.loop-local.invariant

@@ -1,6 +1,0 @@
-mod Spans
-mod Cuts
-mod Steps
-mod Prints
-mod Whole
-mod Answer

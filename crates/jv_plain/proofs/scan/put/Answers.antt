@@ -1,8 +1,0 @@
-use Rattle.std.proofs.Common.{◌-◌, length, drop}
-use Rattle.std.proofs.lemmas.Str.{IsAscii-take, IsAscii-drop}
-use Rattle.jv_plain.proofs.scan.put.Goals as goal
-
-pub text_of-requires-in-Quote : goal.text_of-requires-in-Quote
-text_of-requires-in-Quote c =
-    let h = rw c.in-Quote.is at c.requires in
-    IsAscii-take (drop 1 c.args.text.now) (length c.args.text.now - 1 - 1) (IsAscii-drop c.args.text.now 1 h.1)
