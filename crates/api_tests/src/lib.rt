@@ -1,7 +1,5 @@
-//! Tests of the API of a protocol and of printed Java files, byte for byte.
+//! Tests of the API of a protocol, byte for byte.
 #![tactic(auto)]
 
 #[cfg(test)]
 mod apis;
-#[cfg(test)]
-mod printed;

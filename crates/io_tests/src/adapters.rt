@@ -1,64 +1,139 @@
 //! Tests of the fakes in memory and of the adapters.
 
 use mg_io::*;
+use mg_text::Text;
+use std::alloc::Global;
+use std::process::Abort;
 use std::test::Fail;
 use std::{fs, io};
 
+/// A call of a folder, and what it is to give.
+#[derive(Clone, Copy)]
+enum Call {
+    /// The file of this name, so many bytes of it at most, and those that are read.
+    Read(&'static str, usize, &'static str),
+    /// A file that isn't read.
+    NoRead(&'static str),
+    /// The file of this name, and what it holds then.
+    Write(&'static str, &'static str),
+    /// A file that isn't written.
+    NoWrite(&'static str, &'static str),
+}
+
+// Whether a folder gives these bytes of a file, or fails where there are none.
+fn reads(
+    alloc: Global,
+    folder: &mut impl Folder,
+    name: &str,
+    limit: usize,
+    wanted: Option<&str>,
+) -> bool {
+    match (folder.read(alloc, name, limit), wanted) {
+        (Ok(bytes), Some(text)) => bytes.as_slice() == text.as_bytes(),
+        (Err(fault), None) => fault == IoFault::Failed,
+        _ => false,
+    }
+}
+
+// Whether a folder writes a file, or fails where it is to.
+fn writes(alloc: Global, folder: &mut impl Folder, name: &str, text: &str, wanted: bool) -> bool {
+    match folder.write(alloc, name, text.as_bytes()) {
+        Ok(()) => wanted,
+        Err(fault) => !wanted && fault == IoFault::Failed,
+    }
+}
+
+fn gives(alloc: Global, folder: &mut impl Folder, call: Call) -> bool {
+    match call {
+        Call::Read(name, limit, text) => reads(alloc, folder, name, limit, Some(text)),
+        Call::NoRead(name) => reads(alloc, folder, name, 9, None),
+        Call::Write(name, text) => writes(alloc, folder, name, text, true),
+        Call::NoWrite(name, text) => writes(alloc, folder, name, text, false),
+    }
+}
+
+fn each_gives(rt: &impl Abort, alloc: Global, folder: &mut impl Folder, calls: &[Call]) {
+    for call in calls {
+        assert!(rt; gives(alloc, folder, *call));
+    }
+}
+
+fn is_alone(names: &[Text], wanted: &str) -> bool {
+    match names {
+        [name] => name.as_str() == wanted,
+        _ => false,
+    }
+}
+
+// The call with the number 2 is to fail.
+const IN_MEMORY: [Call; 4] = [
+    Call::Read("a", 4, "hell"),
+    Call::NoRead("b"),
+    Call::NoWrite("a", "new"),
+    Call::Write("c", "new"),
+];
+
 #[test]
 fn a_folder_in_memory_reads_writes_and_fails_as_listed(rt: HostRuntime) -> Result<(), Fail> {
-    let mut files = FileList::new(rt.alloc());
-    files.add(rt.alloc(), "a", b"hello")?;
-    let failing = NumberList::of(rt.alloc(), &[2])?;
-    let mut folder = MemFolder::new(rt.alloc(), files, failing)?;
-    let front = folder.read(rt.alloc(), "a", 4)?;
-    assert_eq!(rt; front.as_slice(), b"hell".as_slice());
-    let absent = folder.read(rt.alloc(), "b", 4);
-    assert!(rt; matches!(absent, Err(IoFault::Failed)));
-    let refused = folder.write(rt.alloc(), "a", b"new");
-    assert!(rt; matches!(refused, Err(IoFault::Failed)));
+    let alloc = rt.alloc();
+    let mut files = FileList::new(alloc);
+    files.add(alloc, "a", b"hello")?;
+    let mut folder = MemFolder::new(alloc, files, NumberList::of(alloc, &[2])?)?;
+    each_gives(&rt, alloc, &mut folder, IN_MEMORY.as_slice());
     assert!(rt; folder.content("a") == Some(b"hello".as_slice()));
-    folder.write(rt.alloc(), "c", b"new")?;
     assert!(rt; folder.content("c") == Some(b"new".as_slice()));
     assert_eq!(rt; folder.calls(), 4);
-    let [name] = folder.failed_reads() else {
-        panic!(rt; "one read failed");
-    };
-    assert_eq!(rt; name.as_str(), "b");
-    assert_eq!(rt; folder.failed_writes().len(), 1);
+    assert!(rt; is_alone(folder.failed_reads(), "b"));
+    assert!(rt; is_alone(folder.failed_writes(), "a"));
     Ok(())
 }
 
-#[test]
-fn a_sink_in_memory_fails_as_listed(rt: HostRuntime) -> Result<(), Fail> {
-    let failing = NumberList::of(rt.alloc(), &[1])?;
-    let mut sink = MemSink::new(rt.alloc(), failing);
-    sink.put(b"")?;
-    sink.put(b"ab")?;
-    let refused = sink.put(b"cd");
-    assert!(rt; matches!(refused, Err(IoFault::Failed)));
-    sink.put(b"ef")?;
-    assert_eq!(rt; sink.bytes(), b"abef".as_slice());
-    assert_eq!(rt; sink.faults(), 1);
-    Ok(())
-}
+const WRITTEN: [Call; 3] = [
+    Call::Write("mg_io_test_file", "hello"),
+    Call::Read("mg_io_test_file", 4, "hell"),
+    Call::Read("mg_io_test_file", 9, "hello"),
+];
+
+const REMOVED: [Call; 3] = [
+    Call::NoRead("mg_io_test_file"),
+    Call::NoWrite("mg_io_no_folder/file", "x"),
+    Call::NoRead("."),
+];
 
 #[test]
 fn the_real_files_keep_what_is_written(rt: HostRuntime) -> Result<(), Fail> {
     let mut folder = HostFolder::new(rt.alloc(), &rt);
-    folder.write(rt.alloc(), "mg_io_test_file", b"hello")?;
-    let front = folder.read(rt.alloc(), "mg_io_test_file", 4)?;
-    assert_eq!(rt; front.as_slice(), b"hell".as_slice());
-    let all = folder.read(rt.alloc(), "mg_io_test_file", 9)?;
-    assert_eq!(rt; all.as_slice(), b"hello".as_slice());
+    each_gives(&rt, rt.alloc(), &mut folder, WRITTEN.as_slice());
     fs::remove_file(&rt, "mg_io_test_file")?;
-    let absent = folder.read(rt.alloc(), "mg_io_test_file", 9);
-    assert!(rt; matches!(absent, Err(IoFault::Failed)));
-    let nowhere = folder.write(rt.alloc(), "mg_io_no_folder/file", b"x");
-    assert!(rt; matches!(nowhere, Err(IoFault::Failed)));
-    let a_folder = folder.read(rt.alloc(), ".", 9);
-    assert!(rt; matches!(a_folder, Err(IoFault::Failed)));
+    each_gives(&rt, rt.alloc(), &mut folder, REMOVED.as_slice());
     assert_eq!(rt; folder.failed_reads().len(), 2);
     assert_eq!(rt; folder.failed_writes().len(), 1);
+    Ok(())
+}
+
+// Whether a sink takes each of these pieces, and fails at those that are to fail.
+fn takes(sink: &mut impl Sink, pieces: &[(&str, bool)]) -> bool {
+    for (piece, wanted) in pieces {
+        let taken = match sink.put(piece.as_bytes()) {
+            Ok(()) => *wanted,
+            Err(fault) => !*wanted && fault == IoFault::Failed,
+        };
+        if !taken {
+            return false;
+        }
+    }
+    true
+}
+
+// Nothing is no piece; of the others the one with the number 1 is to fail.
+const PIECES: [(&str, bool); 4] = [("", true), ("ab", true), ("cd", false), ("ef", true)];
+
+#[test]
+fn a_sink_in_memory_fails_as_listed(rt: HostRuntime) -> Result<(), Fail> {
+    let mut sink = MemSink::new(rt.alloc(), NumberList::of(rt.alloc(), &[1])?);
+    assert!(rt; takes(&mut sink, PIECES.as_slice()));
+    assert_eq!(rt; sink.bytes(), b"abef".as_slice());
+    assert_eq!(rt; sink.faults(), 1);
     Ok(())
 }
 
@@ -82,6 +157,8 @@ impl io::Write for Narrow {
     }
 }
 
+const NARROW: [(&str, bool); 3] = [("abcdefg", true), ("hij", false), ("", true)];
+
 #[test]
 fn a_stream_takes_a_piece_bit_by_bit_or_fails(rt: HostRuntime) -> Result<(), Fail> {
     let mut narrow = Narrow {
@@ -89,10 +166,7 @@ fn a_stream_takes_a_piece_bit_by_bit_or_fails(rt: HostRuntime) -> Result<(), Fai
         room: 9,
     };
     let mut sink = HostSink::new(&mut narrow);
-    sink.put(b"abcdefg")?;
-    let refused = sink.put(b"hij");
-    assert!(rt; matches!(refused, Err(IoFault::Failed)));
-    sink.put(b"")?;
+    assert!(rt; takes(&mut sink, NARROW.as_slice()));
     assert_eq!(rt; sink.faults(), 1);
     assert_eq!(rt; narrow.taken.as_slice(), b"abcdefghi".as_slice());
     Ok(())

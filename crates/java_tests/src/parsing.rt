@@ -245,19 +245,22 @@ fn an_unsupported_word_is_told_first(rt: HostRuntime) -> Result<(), Fail> {
     Ok(())
 }
 
+// Sources, and the number of the token that can't stand there.
+const SYNTAX: [(&str, u32); 4] = [
+    ("class A { int = 1 ; }", 5),
+    ("class A { int x ;", 6),
+    ("class A { static int x ; }", 7),
+    ("class A { void m ( ) { 1 + 1 ; } }", 10),
+];
+
 #[test]
 fn syntax_has_the_place_of_what_does_not_fit(rt: HostRuntime) -> Result<(), Fail> {
-    let alloc = rt.alloc();
-    assert_eq!(rt; refused_at(alloc, "class A { int = 1 ; }")?, Some(at(5)));
-    assert_eq!(rt; refused_at(alloc, "class A { int x ;")?, Some(at(6)));
-    assert_eq!(rt;
-        refused_at(alloc, "class A { static int x ; }")?,
-        Some(at(7))
-    );
-    assert_eq!(rt;
-        refused_at(alloc, "class A { void m ( ) { 1 + 1 ; } }")?,
-        Some(at(10))
-    );
+    for (source, column) in SYNTAX {
+        assert!(rt;
+            refused_at(rt.alloc(), source)? == Some(at(column)),
+            "{source}"
+        );
+    }
     Ok(())
 }
 

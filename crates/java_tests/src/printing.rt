@@ -2,6 +2,8 @@
 
 use jv_print::print_file;
 use jv_read::read_java;
+use mg_text::{Memory, Text};
+use std::alloc::Global;
 use std::test::Fail;
 
 const FILE: &str = "enum FileStatus { OK, ERROR }
@@ -148,26 +150,66 @@ const PRINTED: &str = "public class Main {
 }
 ";
 
+// The text of the file that a source spells, or nothing where it is refused.
+fn printed(alloc: Global, source: &str) -> Result<Option<Text>, Memory> {
+    match read_java(alloc, 0, source.as_bytes()) {
+        Ok(file) => Ok(Some(print_file(alloc, &file)?)),
+        Err(_) => Ok(None),
+    }
+}
+
+fn is_printed(alloc: Global, source: &str, wanted: &str) -> Result<bool, Memory> {
+    match printed(alloc, source)? {
+        Some(text) => Ok(text.as_str() == wanted),
+        None => Ok(false),
+    }
+}
+
+fn is_read_back(alloc: Global, source: &str) -> Result<bool, Memory> {
+    match printed(alloc, source)? {
+        Some(text) => is_printed(alloc, text.as_str(), text.as_str()),
+        None => Ok(false),
+    }
+}
+
+// Sources, and the text that each is printed as: in the one layout, with parentheses round
+// operands that have operators, a line of its own for a branch that is no block, and escapes for
+// the characters that no text holds.
+const LAYOUTS: [(&str, &str); 4] = [
+    (READER, PRINTED),
+    (
+        "class A { void m() { System.out.println(-(2) - -1); } }",
+        "public class A {\n    public void m() {\n        \
+         System.out.println((-(2)) - -1);\n    }\n}\n",
+    ),
+    (
+        "class A { void m() { if (true) { } else return; } }",
+        "public class A {\n    public void m() {\n        \
+         if (true) {\n        } else\n            return;\n    }\n}\n",
+    ),
+    (
+        "class A { void m() { System.out.println(\"a\\\"b\\\\c\\nd\\'\u{e9}\"); } }",
+        "public class A {\n    public void m() {\n        \
+         System.out.println(\"a\\\"b\\\\c\\nd'\u{e9}\");\n    }\n}\n",
+    ),
+];
+
 #[test]
 fn a_printed_file_is_laid_out(rt: HostRuntime) -> Result<(), Fail> {
-    let alloc = rt.alloc();
-    let file = read_java(alloc, 0, READER.as_bytes())?;
-    let text = print_file(alloc, &file)?;
-    assert_eq!(rt; text.as_str(), PRINTED);
+    for (source, wanted) in LAYOUTS {
+        assert!(rt; is_printed(rt.alloc(), source, wanted)?, "{source}");
+    }
     Ok(())
 }
 
+const SOURCES: [&str; 9] = [
+    FILE, READER, COUNTER, STEPS, HOLDER, NODE, LIST, CLIENT, SERVER,
+];
+
 #[test]
 fn what_is_printed_is_read_and_printed_again(rt: HostRuntime) -> Result<(), Fail> {
-    let alloc = rt.alloc();
-    for source in [
-        FILE, READER, COUNTER, STEPS, HOLDER, NODE, LIST, CLIENT, SERVER,
-    ] {
-        let file = read_java(alloc, 0, source.as_bytes())?;
-        let text = print_file(alloc, &file)?;
-        let again = read_java(alloc, 0, text.as_str().as_bytes())?;
-        let printed = print_file(alloc, &again)?;
-        assert_eq!(rt; printed.as_str(), text.as_str());
+    for source in SOURCES {
+        assert!(rt; is_read_back(rt.alloc(), source)?, "{source}");
     }
     Ok(())
 }

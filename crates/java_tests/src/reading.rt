@@ -2,7 +2,7 @@
 
 use jv_read::{JavaFault, read_java};
 use jv_tree::{Class, Decl, ExprKind, File, StmtKind};
-use mg_text::{Place, Text};
+use mg_text::Place;
 use std::alloc::{AllocError, Global};
 use std::test::Fail;
 
@@ -13,11 +13,6 @@ fn at(line: u32, column: u32) -> Place {
         line,
         column,
     }
-}
-
-// What is told of a source that is refused.
-fn fault(alloc: Global, source: &str) -> Option<JavaFault> {
-    read_java(alloc, 3, source.as_bytes()).err()
 }
 
 // The first class of a file.
@@ -60,37 +55,46 @@ fn comments_are_passed_and_escapes_are_read(rt: HostRuntime) -> Result<(), Fail>
     Ok(())
 }
 
-#[test]
-fn the_first_fault_of_the_tokens_is_told(rt: HostRuntime) -> Result<(), Fail> {
-    let alloc = rt.alloc();
-    let place = at(1, 11);
-    for (source, wanted) in [
-        ("class A { # 010; }", JavaFault::BadByte { place }),
-        ("class A { /* 010; }", JavaFault::OpenComment { place }),
-        ("class A { \"010; }", JavaFault::OpenText { place }),
-        ("class A { 010; \"}", JavaFault::BadNumber { place }),
-    ] {
-        assert!(rt; fault(alloc, source) == Some(wanted), "{source}");
-    }
-    let place = at(1, 12);
-    let wanted = JavaFault::BadEscape { place };
-    assert!(rt; fault(alloc, "class A { \"\\x\" # }") == Some(wanted));
-    Ok(())
+// What reading a source gives: its fault with the place and what is named, or that there is none.
+fn told(alloc: Global, source: &str) -> Result<String, AllocError> {
+    let (place, word) = match read_java(alloc, 3, source.as_bytes()) {
+        Ok(_) => return format!(in alloc; "read"),
+        Err(JavaFault::TooLarge { place }) => (place, "TooLarge"),
+        Err(JavaFault::BadByte { place }) => (place, "BadByte"),
+        Err(JavaFault::OpenComment { place }) => (place, "OpenComment"),
+        Err(JavaFault::OpenText { place }) => (place, "OpenText"),
+        Err(JavaFault::BadEscape { place }) => (place, "BadEscape"),
+        Err(JavaFault::BadNumber { place }) => (place, "BadNumber"),
+        Err(JavaFault::Syntax { place }) => (place, "Syntax"),
+        Err(JavaFault::Unsupported { place, name }) => {
+            let Place { file, line, column } = place;
+            return format!(in alloc; "{file}:{line}:{column}: Unsupported {}", name.as_str());
+        }
+        Err(JavaFault::Memory) => return format!(in alloc; "Memory"),
+    };
+    let Place { file, line, column } = place;
+    format!(in alloc; "{file}:{line}:{column}: {word}")
 }
 
+const FAULTS: [(&str, &str); 8] = [
+    // The first fault of the tokens is told.
+    ("class A { # 010; }", "3:1:11: BadByte"),
+    ("class A { /* 010; }", "3:1:11: OpenComment"),
+    ("class A { \"010; }", "3:1:11: OpenText"),
+    ("class A { 010; \"}", "3:1:11: BadNumber"),
+    ("class A { \"\\x\" # }", "3:1:12: BadEscape"),
+    // A word that isn't supported comes before syntax, and the tokens before both.
+    ("class A { long x; } } try", "3:1:11: Unsupported long"),
+    ("class A { long x 01", "3:1:18: BadNumber"),
+    ("class while { }", "3:1:7: Syntax"),
+];
+
 #[test]
-fn a_word_that_is_not_supported_comes_before_syntax(rt: HostRuntime) -> Result<(), Fail> {
-    let alloc = rt.alloc();
-    let place = at(1, 11);
-    let name = Text::of(alloc, "long")?;
-    let wanted = JavaFault::Unsupported { place, name };
-    assert!(rt; fault(alloc, "class A { long x; } } try") == Some(wanted));
-    // The tokens come first, whatever the words are.
-    let place = at(1, 18);
-    let wanted = JavaFault::BadNumber { place };
-    assert!(rt; fault(alloc, "class A { long x 01") == Some(wanted));
-    let place = at(1, 7);
-    assert!(rt; fault(alloc, "class while { }") == Some(JavaFault::Syntax { place }));
+fn the_first_fault_is_told(rt: HostRuntime) -> Result<(), Fail> {
+    for (source, wanted) in FAULTS {
+        let found = told(rt.alloc(), source)?;
+        assert!(rt; found.as_str() == wanted, "{source}");
+    }
     Ok(())
 }
 
@@ -105,11 +109,10 @@ fn wide(alloc: Global, bytes: usize) -> Result<String, AllocError> {
 
 #[test]
 fn a_file_holds_at_most_1048576_bytes(rt: HostRuntime) -> Result<(), Fail> {
-    let alloc = rt.alloc();
-    let most = wide(alloc, 1_048_576)?;
-    assert!(rt; fault(alloc, most.as_str()).is_none());
-    let more = wide(alloc, 1_048_577)?;
-    let place = at(1, 1);
-    assert!(rt; fault(alloc, more.as_str()) == Some(JavaFault::TooLarge { place }));
+    for (bytes, wanted) in [(1_048_576, "read"), (1_048_577, "3:1:1: TooLarge")] {
+        let source = wide(rt.alloc(), bytes)?;
+        let found = told(rt.alloc(), source.as_str())?;
+        assert!(rt; found.as_str() == wanted, "{bytes}");
+    }
     Ok(())
 }

@@ -1,8 +1,25 @@
 //! The text of a local protocol, as it is read and written again.
 
+use mg_text::{Memory, Text};
 use scr_print::print_local;
 use scr_read::read_local;
+use std::alloc::Global;
 use std::test::Fail;
+
+// The text of the protocol of a file, or nothing where the file is refused.
+fn printed(alloc: Global, file: &str) -> Result<Option<Text>, Memory> {
+    match read_local(alloc, 0, file.as_bytes()) {
+        Ok(local) => Ok(Some(print_local(alloc, &local)?)),
+        Err(_) => Ok(None),
+    }
+}
+
+fn is_printed(alloc: Global, file: &str, wanted: &str) -> Result<bool, Memory> {
+    match printed(alloc, file)? {
+        Some(text) => Ok(text.as_str() == wanted),
+        None => Ok(false),
+    }
+}
 
 const EXAMPLE: &str = "local protocol P at C(role S, role C) {
     choice at S {
@@ -18,31 +35,37 @@ const EXAMPLE: &str = "local protocol P at C(role S, role C) {
 }
 ";
 
-#[test]
-fn a_printed_protocol_is_the_text_that_was_read(rt: HostRuntime) -> Result<(), Fail> {
-    let alloc = rt.alloc();
-    let Ok(local) = read_local(alloc, 0, EXAMPLE.as_bytes()) else {
-        assert!(rt; false);
-        return Ok(());
-    };
-    let text = print_local(alloc, &local)?;
-    assert_eq!(rt; text.as_str(), EXAMPLE);
-    Ok(())
+const ACKNOWLEDGED: &str = "local protocol P at C(role S, role C) {
+    choice at S {
+        more(int) from S;
+    } or {
+        stop() from S;
+    }
+    ack() to S;
 }
+";
+
+// Files, and the text that each is printed as: a printed text as itself, and without the types
+// and the layout of the file.
+const FILES: [(&str, &str); 4] = [
+    (EXAMPLE, EXAMPLE),
+    (
+        "module m; type <java> \"java.lang.Integer\" from \"\" as N; \
+         local protocol P(role S, self C) { a(N) to S; rec X{} }",
+        "local protocol P at C(role S, role C) {\n    a(int) to S;\n    rec X {\n    }\n}\n",
+    ),
+    (
+        "local protocol P(role S, self C) { choice at S { more(int) from S; } or { stop() from S; } \
+         ack() to S; }",
+        ACKNOWLEDGED,
+    ),
+    (ACKNOWLEDGED, ACKNOWLEDGED),
+];
 
 #[test]
-fn types_and_layout_of_a_file_are_not_printed(rt: HostRuntime) -> Result<(), Fail> {
-    let alloc = rt.alloc();
-    let file =
-        b"module m; type <java> \"java.lang.Integer\" from \"\" as N; local protocol P(role S, self C) { a(N) to S; rec X{} }";
-    let Ok(local) = read_local(alloc, 0, file.as_slice()) else {
-        assert!(rt; false);
-        return Ok(());
-    };
-    let text = print_local(alloc, &local)?;
-    assert_eq!(rt;
-        text.as_str(),
-        "local protocol P at C(role S, role C) {\n    a(int) to S;\n    rec X {\n    }\n}\n"
-    );
+fn a_protocol_is_printed_in_the_one_layout(rt: HostRuntime) -> Result<(), Fail> {
+    for (file, wanted) in FILES {
+        assert!(rt; is_printed(rt.alloc(), file, wanted)?, "{file}");
+    }
     Ok(())
 }

@@ -80,28 +80,21 @@ fn refused(alloc: Global, text: &[u8]) -> Result<Option<(u32, u32)>, LexFault> {
     }
 }
 
+const FRONTS: [(&[u8], Option<(u32, u32)>); 7] = [
+    (b"typestate T {}", None),
+    (b"typestate T {", Some((0, 0))),
+    (b"typestate T {} x", Some((1, 16))),
+    (b"import a.;", Some((1, 10))),
+    (b"typestate T {S={,}}", Some((1, 17))),
+    (b"typestate T {S={int f(void):S}}", Some((1, 23))),
+    (b"typestate T {S={int f():<>}}", Some((1, 26))),
+];
+
 #[test]
 fn the_first_token_that_nothing_goes_on_with_is_told(rt: HostRuntime) -> Result<(), Fail> {
-    let alloc = rt.alloc();
-    assert_eq!(rt; refused(alloc, b"typestate T {}".as_slice())?, None);
-    assert_eq!(rt; refused(alloc, b"typestate T {".as_slice())?, Some((0, 0)));
-    assert_eq!(rt;
-        refused(alloc, b"typestate T {} x".as_slice())?,
-        Some((1, 16))
-    );
-    assert_eq!(rt; refused(alloc, b"import a.;".as_slice())?, Some((1, 10)));
-    assert_eq!(rt;
-        refused(alloc, b"typestate T {S={,}}".as_slice())?,
-        Some((1, 17))
-    );
-    assert_eq!(rt;
-        refused(alloc, b"typestate T {S={int f(void):S}}".as_slice())?,
-        Some((1, 23))
-    );
-    assert_eq!(rt;
-        refused(alloc, b"typestate T {S={int f():<>}}".as_slice())?,
-        Some((1, 26))
-    );
+    for (text, wanted) in FRONTS {
+        assert!(rt; refused(rt.alloc(), text)? == wanted, "{text:?}");
+    }
     Ok(())
 }
 

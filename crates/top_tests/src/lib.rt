@@ -2,7 +2,9 @@
 #![tactic(auto)]
 
 #[cfg(test)]
-mod refused;
+mod delivery;
+#[cfg(test)]
+mod inputs;
 #[cfg(test)]
 mod rows;
 #[cfg(test)]

@@ -3,7 +3,6 @@
 
 use mg_text::{Place, Text};
 use std::alloc::{AllocError, Global};
-use std::process::Abort;
 use std::test::Fail;
 use ts_read::{TsFault, read_typestate};
 
@@ -41,20 +40,55 @@ fn told(alloc: Global, text: &[u8]) -> Result<String, AllocError> {
     }
 }
 
-fn each_is_told(rt: &impl Abort, alloc: Global, cases: &[(&str, &str)]) -> Result<(), Fail> {
-    for (text, wanted) in cases {
-        let found = told(alloc, text.as_bytes())?;
-        assert_eq!(rt; found.as_str(), *wanted, "{text}");
+const BYTES: [(&[u8], &str); 7] = [
+    (b"", "1:1: Syntax"),
+    (b"\0", "1:1: BadByte"),
+    (b"typestate P { \"S\" }", "1:15: BadByte"),
+    (b"typestate P {\n // \xff\n}", "2:5: BadByte"),
+    (b"typestate P {} /* open", "1:16: BadByte"),
+    (b"typestate P { S = { void 1(): S } }", "1:26: BadByte"),
+    (b"} #", "1:3: BadByte"),
+];
+
+#[test]
+fn faults_of_bytes(rt: HostRuntime) -> Result<(), Fail> {
+    for (text, wanted) in BYTES {
+        let found = told(rt.alloc(), text)?;
+        assert!(rt; found.as_str() == wanted, "{text:?}");
     }
     Ok(())
 }
 
-// The states of a typestate `P`, and what reading it gives. The states begin at column 15.
-fn each_row_is_told(rt: &impl Abort, alloc: Global, cases: &[(&str, &str)]) -> Result<(), Fail> {
-    for (states, wanted) in cases {
-        let text = format!(in alloc; "typestate P {{ {states} }}")?;
-        let found = told(alloc, text.as_bytes())?;
-        assert_eq!(rt; found.as_str(), *wanted, "{states}");
+// A front, a part so many times, and an end.
+fn repeated(
+    alloc: Global,
+    front: &str,
+    part: &str,
+    times: usize,
+    end: &str,
+) -> Result<String, AllocError> {
+    let mut text = String::from_str(alloc, front)?;
+    for _ in 0..times {
+        text.push_str(part)?;
+    }
+    text.push_str(end)?;
+    Ok(text)
+}
+
+// Names have 255 bytes at most, and files 1,048,576.
+const SIZES: [(&str, &str, usize, &str, &str); 4] = [
+    ("typestate ", "n", 255, " {}", "read"),
+    ("typestate ", "n", 256, " {}", "1:11: BadByte"),
+    ("typestate P {}", " ", 1_048_562, "", "read"),
+    ("typestate P {}", " ", 1_048_562, "#", "1:1: TooLarge"),
+];
+
+#[test]
+fn names_and_files_have_their_limits(rt: HostRuntime) -> Result<(), Fail> {
+    for (front, part, times, end, wanted) in SIZES {
+        let text = repeated(rt.alloc(), front, part, times, end)?;
+        let found = told(rt.alloc(), text.as_bytes())?;
+        assert!(rt; found.as_str() == wanted, "{part} {times} {end}");
     }
     Ok(())
 }
@@ -69,167 +103,107 @@ fn many_states(alloc: Global, count: u32, end: &str) -> Result<String, AllocErro
     Ok(text)
 }
 
-#[test]
-fn faults_of_bytes(rt: HostRuntime) -> Result<(), Fail> {
-    let alloc = rt.alloc();
-    for (text, wanted) in [
-        (b"".as_slice(), "1:1: Syntax"),
-        (b"\0".as_slice(), "1:1: BadByte"),
-        (b"typestate P { \"S\" }".as_slice(), "1:15: BadByte"),
-        (b"typestate P {\n // \xff\n}".as_slice(), "2:5: BadByte"),
-        (b"typestate P {} /* open".as_slice(), "1:16: BadByte"),
-        (
-            b"typestate P { S = { void 1(): S } }".as_slice(),
-            "1:26: BadByte",
-        ),
-        (b"} #".as_slice(), "1:3: BadByte"),
-    ] {
-        let found = told(alloc, text)?;
-        assert_eq!(rt; found.as_str(), wanted, "{text:?}");
-    }
-    Ok(())
-}
-
-#[test]
-fn names_of_files_have_255_bytes_at_most(rt: HostRuntime) -> Result<(), Fail> {
-    let alloc = rt.alloc();
-    let mut name = String::new(alloc);
-    for _ in 0..255 {
-        name.push_str("n")?;
-    }
-    let longest = format!(in alloc; "typestate {} {{}}", name.as_str())?;
-    assert_eq!(rt; told(alloc, longest.as_bytes())?.as_str(), "read");
-    let longer = format!(in alloc; "typestate {}n {{}}", name.as_str())?;
-    assert_eq!(rt; told(alloc, longer.as_bytes())?.as_str(), "1:11: BadByte");
-    Ok(())
-}
-
-#[test]
-fn large_files_are_told(rt: HostRuntime) -> Result<(), Fail> {
-    let alloc = rt.alloc();
-    let mut text = String::from_str(alloc, "typestate P {}")?;
-    for _ in 0..1_048_562 {
-        text.push_str(" ")?;
-    }
-    assert_eq!(rt; text.len(), 1_048_576);
-    assert_eq!(rt; told(alloc, text.as_bytes())?.as_str(), "read");
-    text.push_str("#")?;
-    assert_eq!(rt; told(alloc, text.as_bytes())?.as_str(), "1:1: TooLarge");
-    Ok(())
-}
+// Bytes and tokens come before many states.
+const MANY_STATES: [(u32, &str, &str); 7] = [
+    (1000, "}", "read"),
+    (1001, "}", "1:1: TooLarge"),
+    (1000, "S7={}}", "1:1: TooLarge"),
+    (1000, "end={}}", "1:1: TooLarge"),
+    (999, "S7={}}", "1:6897: DuplicateState S7"),
+    (1001, "#}", "1:6912: BadByte"),
+    (1001, ",}", "1:6912: Syntax"),
+];
 
 #[test]
 fn many_states_are_told(rt: HostRuntime) -> Result<(), Fail> {
-    let alloc = rt.alloc();
-    for (count, end, wanted) in [
-        (1000, "}", "read"),
-        (1001, "}", "1:1: TooLarge"),
-        (1000, "S7={}}", "1:1: TooLarge"),
-        (1000, "end={}}", "1:1: TooLarge"),
-        (999, "S7={}}", "1:6897: DuplicateState S7"),
-    ] {
-        let text = many_states(alloc, count, end)?;
-        assert_eq!(rt;
-            told(alloc, text.as_bytes())?.as_str(),
-            wanted,
-            "{count} {end}"
-        );
+    for (count, end, wanted) in MANY_STATES {
+        let text = many_states(rt.alloc(), count, end)?;
+        let found = told(rt.alloc(), text.as_bytes())?;
+        assert!(rt; found.as_str() == wanted, "{count} {end}");
     }
     Ok(())
 }
 
-#[test]
-fn bytes_and_tokens_come_before_many_states(rt: HostRuntime) -> Result<(), Fail> {
-    let alloc = rt.alloc();
-    for (end, wanted) in [("#}", "1:6912: BadByte"), (",}", "1:6912: Syntax")] {
-        let text = many_states(alloc, 1001, end)?;
-        assert_eq!(rt; told(alloc, text.as_bytes())?.as_str(), wanted, "{end}");
-    }
-    Ok(())
-}
+const FILES: [(&str, &str); 10] = [
+    ("typestate P {", "1:14: Syntax"),
+    ("typestate P {\n}\n}\n", "3:1: Syntax"),
+    ("typestate P { S = { void m(): } }", "1:31: Syntax"),
+    ("typestate P { S = { void m(void): end } }", "1:28: Syntax"),
+    ("typestate P { S = { void m(): <> } }", "1:32: Syntax"),
+    ("typestate P { S = { , } }", "1:21: Syntax"),
+    ("typestate P { S = { void m(): end,, } }", "1:35: Syntax"),
+    ("typestate import { }", "1:11: Syntax"),
+    ("import a; package b; typestate P { }", "1:11: Syntax"),
+    ("typestate P { S = {\n", "2:1: Syntax"),
+];
 
 #[test]
 fn places_of_syntax(rt: HostRuntime) -> Result<(), Fail> {
-    each_is_told(
-        &rt,
-        rt.alloc(),
-        &[
-            ("typestate P {", "1:14: Syntax"),
-            ("typestate P {\n}\n}\n", "3:1: Syntax"),
-            ("typestate P { S = { void m(): } }", "1:31: Syntax"),
-            ("typestate P { S = { void m(void): end } }", "1:28: Syntax"),
-            ("typestate P { S = { void m(): <> } }", "1:32: Syntax"),
-            ("typestate P { S = { , } }", "1:21: Syntax"),
-            ("typestate P { S = { void m(): end,, } }", "1:35: Syntax"),
-            ("typestate import { }", "1:11: Syntax"),
-            ("import a; package b; typestate P { }", "1:11: Syntax"),
-            ("typestate P { S = {\n", "2:1: Syntax"),
-        ],
-    )
+    for (text, wanted) in FILES {
+        let found = told(rt.alloc(), text.as_bytes())?;
+        assert!(rt; found.as_str() == wanted, "{text}");
+    }
+    Ok(())
 }
 
-#[test]
-fn each_condition_has_its_place_and_name(rt: HostRuntime) -> Result<(), Fail> {
-    each_row_is_told(
-        &rt,
-        rt.alloc(),
-        &[
-            ("S = { } S = { }", "1:23: DuplicateState S"),
-            ("S = { void m(): Q }", "1:31: UnknownState Q"),
-            ("S = { A m(): <a: S, b: R> }", "1:38: UnknownState R"),
-            (
-                "S = {\n void m(): S, A k(): <a: S,\n b: R> }",
-                "3:5: UnknownState R",
-            ),
-            (
-                "S = { void m(): end, void m(): end }",
-                "1:41: DuplicateMethod m",
-            ),
-            (
-                "S = { void m(): T } T = { int m(): end }",
-                "1:45: SignatureDiffers m",
-            ),
-            (
-                "S = { void m(int): T } T = { void m(A): end }",
-                "1:49: SignatureDiffers m",
-            ),
-            (
-                "S = { void m(int): T } T = { void m(): end }",
-                "1:49: SignatureDiffers m",
-            ),
-            ("S = { A m(): <a: S, a: end> }", "1:35: DuplicateLabel a"),
-            ("end = { }", "1:15: ReservedEnd end"),
-            ("S = { A m(): <end: S> } T = { A m(): end }", "read"),
-        ],
-    )
-}
+// The states of a typestate `P`. They begin at column 15.
+const STATES: [(&str, &str); 20] = [
+    // Each condition has its place and its name.
+    ("S = { } S = { }", "1:23: DuplicateState S"),
+    ("S = { void m(): Q }", "1:31: UnknownState Q"),
+    ("S = { A m(): <a: S, b: R> }", "1:38: UnknownState R"),
+    (
+        "S = {\n void m(): S, A k(): <a: S,\n b: R> }",
+        "3:5: UnknownState R",
+    ),
+    (
+        "S = { void m(): end, void m(): end }",
+        "1:41: DuplicateMethod m",
+    ),
+    (
+        "S = { void m(): T } T = { int m(): end }",
+        "1:45: SignatureDiffers m",
+    ),
+    (
+        "S = { void m(int): T } T = { void m(A): end }",
+        "1:49: SignatureDiffers m",
+    ),
+    (
+        "S = { void m(int): T } T = { void m(): end }",
+        "1:49: SignatureDiffers m",
+    ),
+    ("S = { A m(): <a: S, a: end> }", "1:35: DuplicateLabel a"),
+    ("end = { }", "1:15: ReservedEnd end"),
+    ("S = { A m(): <end: S> } T = { A m(): end }", "read"),
+    // The lowest number is told at its first place.
+    ("end = { } end = { }", "1:25: DuplicateState end"),
+    ("A = { } B = { } B = { } A = { }", "1:31: DuplicateState B"),
+    ("A = { void m(): Q } A = { }", "1:35: DuplicateState A"),
+    ("S = { void m(): end, void m(): Q }", "1:46: UnknownState Q"),
+    ("S = { void m(): Q, void k(): R }", "1:31: UnknownState Q"),
+    ("S = { void m(): S, int m(): S }", "1:38: DuplicateMethod m"),
+    (
+        "S = { A m(): <a: S, a: end>, A m(): S }",
+        "1:46: DuplicateMethod m",
+    ),
+    (
+        "S = { A m(): <a: S, a: end> } T = { void m(): end }",
+        "1:56: SignatureDiffers m",
+    ),
+    (
+        "end = { A m(): <a: end, a: end> }",
+        "1:39: DuplicateLabel a",
+    ),
+];
 
 #[test]
 fn the_lowest_number_is_told_at_its_first_place(rt: HostRuntime) -> Result<(), Fail> {
-    each_row_is_told(
-        &rt,
-        rt.alloc(),
-        &[
-            ("end = { } end = { }", "1:25: DuplicateState end"),
-            ("A = { } B = { } B = { } A = { }", "1:31: DuplicateState B"),
-            ("A = { void m(): Q } A = { }", "1:35: DuplicateState A"),
-            ("S = { void m(): end, void m(): Q }", "1:46: UnknownState Q"),
-            ("S = { void m(): Q, void k(): R }", "1:31: UnknownState Q"),
-            ("S = { void m(): S, int m(): S }", "1:38: DuplicateMethod m"),
-            (
-                "S = { A m(): <a: S, a: end>, A m(): S }",
-                "1:46: DuplicateMethod m",
-            ),
-            (
-                "S = { A m(): <a: S, a: end> } T = { void m(): end }",
-                "1:56: SignatureDiffers m",
-            ),
-            (
-                "end = { A m(): <a: end, a: end> }",
-                "1:39: DuplicateLabel a",
-            ),
-        ],
-    )
+    for (states, wanted) in STATES {
+        let text = format!(in rt.alloc(); "typestate P {{ {states} }}")?;
+        let found = told(rt.alloc(), text.as_bytes())?;
+        assert!(rt; found.as_str() == wanted, "{states}");
+    }
+    Ok(())
 }
 
 #[test]

@@ -7,4 +7,6 @@ mod faults;
 #[cfg(test)]
 mod files;
 #[cfg(test)]
+mod reached;
+#[cfg(test)]
 mod trees;

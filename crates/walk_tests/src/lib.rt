@@ -3,8 +3,6 @@
 #![tactic(auto)]
 
 #[cfg(test)]
-mod printed;
-#[cfg(test)]
 mod states;
 #[cfg(test)]
 mod walks;

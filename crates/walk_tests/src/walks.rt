@@ -36,57 +36,72 @@ fn call(alloc: Global, method: &str, answer: Option<&str>) -> Result<Call, Memor
     Ok(Call { method, answer })
 }
 
-#[test]
-fn a_client_is_offered_what_its_choice_has(rt: HostRuntime) -> Result<(), Fail> {
-    let alloc = rt.alloc();
-    let Ok(local) = read_local(alloc, 0, CLIENT.as_bytes()) else {
-        assert!(rt; false);
-        return Ok(());
-    };
+/// A call, whether it is taken, whether the walk is done then, and what it offers then.
+type Row = (&'static str, Option<&'static str>, bool, bool, &'static str);
+
+// Whether a walk takes the call or refuses it, and then stands where it is to.
+fn goes(alloc: Global, walk: &mut Walk<'_>, row: Row) -> Result<bool, Fail> {
+    let (method, answer, taken, done, offers) = row;
+    let call = call(alloc, method, answer)?;
+    let is_so = walk.step(&call).is_ok() == taken;
+    let found = shown(alloc, walk)?;
+    Ok(is_so && walk.done() == done && found.as_str() == offers)
+}
+
+// Whether a walk along the protocol of a file offers this first, and then goes these steps.
+fn is_walked(alloc: Global, file: &str, offers: &str, rows: &[Row]) -> Result<bool, Fail> {
+    let local = read_local(alloc, 0, file.as_bytes())?;
     let mut walk = Walk::new(alloc, &local)?;
-    assert_eq!(rt;
-        shown(alloc, &walk)?.as_str(),
-        "send_addIntToS\nsend_byeToS\n"
-    );
-    assert!(rt; walk.step(&call(alloc, "send_addIntToS", None)?).is_ok());
-    assert_eq!(rt; shown(alloc, &walk)?.as_str(), "receive_totalIntFromS\n");
-    assert!(rt; walk.step(&call(alloc, "send_byeToS", None)?).is_err());
-    assert!(rt;
-        walk.step(&call(alloc, "receive_totalIntFromS", None)?)
-            .is_ok()
-    );
-    assert!(rt; !walk.done());
-    assert!(rt; walk.step(&call(alloc, "send_byeToS", None)?).is_ok());
-    assert_eq!(rt; shown(alloc, &walk)?.as_str(), "");
-    assert!(rt; walk.done());
+    let mut is_so = shown(alloc, &walk)?.as_str() == offers;
+    for row in rows {
+        is_so = goes(alloc, &mut walk, *row)? && is_so;
+    }
+    Ok(is_so)
+}
+
+const CHOSEN: &str = "send_addIntToS\nsend_byeToS\n";
+
+const TOTAL: &str = "receive_totalIntFromS\n";
+
+const OF_CLIENT: [Row; 4] = [
+    ("send_addIntToS", None, true, false, TOTAL),
+    ("send_byeToS", None, false, false, TOTAL),
+    ("receive_totalIntFromS", None, true, false, CHOSEN),
+    ("send_byeToS", None, true, true, ""),
+];
+
+const LABELS: &str = "receive_SChoice1LabelFromC add bye\n";
+
+const OF_SERVER: [Row; 4] = [
+    (
+        "receive_SChoice1LabelFromC",
+        Some("more"),
+        false,
+        false,
+        LABELS,
+    ),
+    ("receive_SChoice1LabelFromC", None, false, false, LABELS),
+    (
+        "receive_SChoice1LabelFromC",
+        Some("bye"),
+        true,
+        false,
+        "receive_byeFromC\n",
+    ),
+    ("receive_byeFromC", None, true, true, ""),
+];
+
+#[test]
+fn a_walk_is_offered_what_its_protocol_has(rt: HostRuntime) -> Result<(), Fail> {
+    assert!(rt; is_walked(rt.alloc(), CLIENT, CHOSEN, OF_CLIENT.as_slice())?);
+    assert!(rt; is_walked(rt.alloc(), SERVER, LABELS, OF_SERVER.as_slice())?);
     Ok(())
 }
 
 #[test]
-fn a_server_is_offered_the_labels(rt: HostRuntime) -> Result<(), Fail> {
-    let alloc = rt.alloc();
-    let Ok(local) = read_local(alloc, 0, SERVER.as_bytes()) else {
-        assert!(rt; false);
-        return Ok(());
-    };
-    let mut walk = Walk::new(alloc, &local)?;
-    assert_eq!(rt;
-        shown(alloc, &walk)?.as_str(),
-        "receive_SChoice1LabelFromC add bye\n"
-    );
-    let method = label_call_name(alloc, &local, 1, "C")?;
-    assert_eq!(rt; method.as_str(), "receive_SChoice1LabelFromC");
-    assert!(rt;
-        walk.step(&call(alloc, method.as_str(), Some("more"))?)
-            .is_err()
-    );
-    assert!(rt; walk.step(&call(alloc, method.as_str(), None)?).is_err());
-    assert!(rt;
-        walk.step(&call(alloc, method.as_str(), Some("bye"))?)
-            .is_ok()
-    );
-    assert_eq!(rt; shown(alloc, &walk)?.as_str(), "receive_byeFromC\n");
-    assert!(rt; walk.step(&call(alloc, "receive_byeFromC", None)?).is_ok());
-    assert!(rt; walk.done());
+fn a_label_call_has_the_number_of_its_choice(rt: HostRuntime) -> Result<(), Fail> {
+    let local = read_local(rt.alloc(), 0, SERVER.as_bytes())?;
+    let method = label_call_name(rt.alloc(), &local, 1, "C")?;
+    assert!(rt; method.as_str() == "receive_SChoice1LabelFromC");
     Ok(())
 }
