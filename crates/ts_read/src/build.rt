@@ -6,7 +6,7 @@ ghost use Rattle.ts_tree.specs.View.{target_of, method_of, state_of};
 ghost use Rattle.ts_parse.specs.Written.{wtarget_of, wmethod_of, wstate_of};
 ghost use Rattle.ts_read.specs.Meaning.{place_named, branch_meant, target_meant, method_meant, state_meant};
 
-use crate::signatures::{copy_type, copy_types};
+use crate::signatures::copy_types;
 use mg_text::{List, Memory, Names, Text};
 use std::alloc::Global;
 use ts_parse::{WrittenBranch, WrittenMethod, WrittenState, WrittenTarget};
@@ -64,7 +64,7 @@ fn target_meant(alloc: Global, names: &Names, target: &WrittenTarget) -> Result<
 fn method_meant(alloc: Global, names: &Names, method: &WrittenMethod) -> Result<Method, Memory>
     ensures { IfOk result (λ m. method_of m ≡ method_meant names.now (wmethod_of method.now)) }
 {
-    let type_name = copy_type(&method.result)?;
+    let type_name = method.result.copy()?;
     let name = method.name.text.copy()?;
     let params = copy_types(alloc, method.params.as_slice())?;
     let target = target_meant(alloc, names, &method.target)?;

@@ -57,27 +57,12 @@ fn both(left: bool, right: bool) -> bool
     left && right
 }
 
-pub(crate) fn copy_type(type_name: &TypeName) -> Result<TypeName, Memory>
-    ensures { IfOk result (λ t. t ≡ type_name.now) }
-{
-    match type_name {
-        TypeName::Void => Ok(TypeName::Void),
-        TypeName::Int => Ok(TypeName::Int),
-        TypeName::Boolean => Ok(TypeName::Boolean),
-        TypeName::Text => Ok(TypeName::Text),
-        TypeName::Named(name) => {
-            let copy = name.copy()?;
-            Ok(TypeName::Named(copy))
-        }
-    }
-}
-
 pub(crate) fn copy_types(alloc: Global, types: &[TypeName]) -> Result<List<TypeName>, Memory>
     ensures { IfOk result (λ l. l.items ≡ types.now) }
 {
     let mut copies = List::new(alloc);
     for item in types {
-        let copy = copy_type(item)?;
+        let copy = item.copy()?;
         copies.push(copy)?;
     }
     Ok(copies)
@@ -86,7 +71,7 @@ pub(crate) fn copy_types(alloc: Global, types: &[TypeName]) -> Result<List<TypeN
 fn signature_of(alloc: Global, method: &WrittenMethod) -> Result<Signature, Memory>
     ensures { IfOk result (λ s. sig_of s ≡ sig_in method.now) }
 {
-    let type_name = copy_type(&method.result)?;
+    let type_name = method.result.copy()?;
     let params = copy_types(alloc, method.params.as_slice())?;
     Ok(Signature {
         result: type_name,

@@ -1,8 +1,12 @@
 //! Whole typestates: a name and its states, the first of which is where an object begins.
 
+use crate::copies::copy_states;
 use crate::led::led_by;
+use crate::walk::Walk;
 use crate::{State, To};
-use mg_text::{List, Text};
+use mg_sets::StateSet;
+use mg_text::{List, Memory, Text};
+use std::alloc::Global;
 use std::marker::Model;
 
 /// A typestate. The first state, if there is one, is the initial one.
@@ -31,8 +35,9 @@ impl Model for Typestate {
 }
 
 impl Typestate {
-    ghost use Rattle.std.specs.Prelude.{◌≡◌, ◌<◌, length, option_map};
+    ghost use Rattle.std.specs.Prelude.{◌≡◌, ◌<◌, IfOk, length, option_map};
     ghost use Rattle.ts_tree.specs.Calls.{initial, next};
+    ghost use Rattle.ts_tree.specs.Reachable.{MarksReachable};
 
     /// The initial state, or the end where there are no states.
     pub fn initial(&self) -> To
@@ -43,6 +48,34 @@ impl Typestate {
         } else {
             To::State(0)
         }
+    }
+
+    /// An equal typestate.
+    ///
+    /// # Errors
+    /// `Memory` only.
+    pub fn copy(&self, alloc: Global) -> Result<Typestate, Memory>
+        ensures { IfOk result (λ t. t ≡ self.now) }
+    {
+        let name = self.name.copy()?;
+        let states = copy_states(alloc, self.states.as_slice())?;
+        Ok(Typestate { name, states })
+    }
+
+    /// The states that calls lead to from the initial one: a set as wide as there are states.
+    ///
+    /// # Errors
+    /// `Memory` only.
+    pub fn reachable(&self, alloc: Global) -> Result<StateSet, Memory>
+        ensures { IfOk result (MarksReachable self.now) }
+    {
+        let states = self.states.as_slice();
+        let mut walk = Walk::new(alloc, states.len())?;
+        walk.visit(self.initial())?;
+        while let Some(state) = walk.next() {
+            walk.visit_all(states[state as usize].methods.as_slice())?;
+        }
+        Ok(walk.into_marked())
     }
 
     /// Where a call of the method leads from state `q` if it answers so. None comes exactly where
