@@ -33,10 +33,10 @@ fn class_in(alloc: Global, bytes: &[u8]) -> Option<Class> {
     read_class(alloc, bytes).ok()
 }
 
-/// Whether what these bytes spell, if anything, is written as they are.
+/// Whether these bytes are refused by a fault that stands in them, or spell a class that is written as they are.
 fn is_written_back(alloc: Global, bytes: &[u8]) -> bool {
     match read_class(alloc, bytes) {
-        Err(_) => true,
+        Err(fault) => is_within(fault, bytes),
         Ok(class) => match write_class(alloc, &class) {
             Ok(written) => written.as_slice() == bytes,
             Err(_) => false,
@@ -116,73 +116,122 @@ fn a_byte_more_is_trailing(rt: HostRuntime) -> Result<(), Fail> {
     Ok(())
 }
 
+/// A place in the bytes of Hello, what stands there instead, and the fault of that.
+const CHANGES: [(usize, u8, ClassFault); 20] = [
+    // Magic, version, and a pool's count that is 0.
+    (3, 0, ClassFault::BadMagic { offset: 0 }),
+    (5, 1, ClassFault::Version { offset: 4 }),
+    (7, 50, ClassFault::Version { offset: 6 }),
+    (9, 0, ClassFault::BadIndex { offset: 8 }),
+    // The first constant is a text; the second, a class, names it.
+    (13, 0, ClassFault::BadText { offset: 13 }),
+    (18, 2, ClassFault::BadTag { offset: 18 }),
+    (20, 2, ClassFault::BadIndex { offset: 19 }),
+    (20, 22, ClassFault::BadIndex { offset: 19 }),
+    // This class, and the counts of interfaces and of methods.
+    (227, 1, ClassFault::BadIndex { offset: 226 }),
+    (231, 1, ClassFault::Unsupported { offset: 230 }),
+    (235, 2, ClassFault::Short { offset: 273 }),
+    // The length of the code's attribute, a little and 4 GB too large; the size of the code, 4 GB; the count of handlers.
+    (249, 22, ClassFault::BadAttribute { offset: 246 }),
+    (246, 255, ClassFault::BadAttribute { offset: 246 }),
+    (254, 255, ClassFault::Short { offset: 258 }),
+    (268, 1, ClassFault::Unsupported { offset: 267 }),
+    // The first opcode, the last, and the numbers of the first two instructions.
+    (
+        258,
+        0,
+        ClassFault::Code(CodeFault::UnknownOpcode { offset: 258 }),
+    ),
+    (266, 16, ClassFault::Code(CodeFault::Short { offset: 266 })),
+    (260, 12, ClassFault::BadIndex { offset: 258 }),
+    (262, 14, ClassFault::BadIndex { offset: 261 }),
+    // A count of attributes of the class, behind which none stands.
+    (272, 1, ClassFault::Short { offset: 273 }),
+];
+
 #[test]
-fn a_fault_has_the_offset_of_its_field(rt: HostRuntime) -> Result<(), Fail> {
-    let alloc = rt.alloc();
+fn a_fault_has_the_offset_of_its_field(rt: HostRuntime) {
+    for (place, byte, fault) in CHANGES {
+        assert_eq!(rt; fault_with(rt.alloc(), place, byte), Some(fault));
+    }
+}
+
+/// The first bytes of Hello, and others behind them.
+fn hello_with(alloc: Global, len: usize, others: &[u8]) -> Option<Vec<u8>> {
+    let mut bytes = Vec::from_slice(alloc, HELLO.get(..len)?).ok()?;
+    bytes.extend_from_slice(others).ok()?;
+    Some(bytes)
+}
+
+#[test]
+fn an_attribute_of_4_gb_is_short(rt: HostRuntime) -> Result<(), Fail> {
+    // One attribute of the class, named as code is, whose bytes would begin at 279.
+    let bytes = hello_with(rt.alloc(), 271, &[0, 1, 0, 7, 255, 255, 255, 255, 0]).ok_or(
+        "there is memory",
+    )?;
     assert_eq!(rt;
-        fault_with(alloc, 3, 0),
-        Some(ClassFault::BadMagic { offset: 0 })
-    );
-    assert_eq!(rt;
-        fault_with(alloc, 5, 1),
-        Some(ClassFault::Version { offset: 4 })
-    );
-    assert_eq!(rt;
-        fault_with(alloc, 7, 50),
-        Some(ClassFault::Version { offset: 6 })
-    );
-    // The second constant, a class, names the first.
-    assert_eq!(rt;
-        fault_with(alloc, 18, 2),
-        Some(ClassFault::BadTag { offset: 18 })
-    );
-    assert_eq!(rt;
-        fault_with(alloc, 20, 2),
-        Some(ClassFault::BadIndex { offset: 19 })
-    );
-    assert_eq!(rt;
-        fault_with(alloc, 20, 22),
-        Some(ClassFault::BadIndex { offset: 19 })
-    );
-    assert_eq!(rt;
-        fault_with(alloc, 13, 0),
-        Some(ClassFault::BadText { offset: 13 })
-    );
-    // This class, the count of interfaces, the length of the code's attribute, and the count of handlers.
-    assert_eq!(rt;
-        fault_with(alloc, 227, 1),
-        Some(ClassFault::BadIndex { offset: 226 })
-    );
-    assert_eq!(rt;
-        fault_with(alloc, 231, 1),
-        Some(ClassFault::Unsupported { offset: 230 })
-    );
-    assert_eq!(rt;
-        fault_with(alloc, 249, 22),
-        Some(ClassFault::BadAttribute { offset: 246 })
-    );
-    assert_eq!(rt;
-        fault_with(alloc, 268, 1),
-        Some(ClassFault::Unsupported { offset: 267 })
-    );
-    // The first opcode, and the numbers of the first two instructions.
-    let unknown = CodeFault::UnknownOpcode { offset: 258 };
-    assert_eq!(rt; fault_with(alloc, 258, 0), Some(ClassFault::Code(unknown)));
-    assert_eq!(rt;
-        fault_with(alloc, 260, 12),
-        Some(ClassFault::BadIndex { offset: 258 })
-    );
-    assert_eq!(rt;
-        fault_with(alloc, 262, 14),
-        Some(ClassFault::BadIndex { offset: 261 })
+        read_class(rt.alloc(), &bytes).err(),
+        Some(ClassFault::Short { offset: 279 })
     );
     Ok(())
 }
 
 #[test]
-fn a_changed_byte_is_written_back_or_refused(rt: HostRuntime) -> Result<(), Fail> {
+fn code_of_32768_bytes_is_too_long(rt: HostRuntime) -> Result<(), Fail> {
+    let sizes = [0, 0, 0x80, 0x0c, 0, 2, 0, 1, 0, 0, 0x80, 0];
+    let mut bytes = hello_with(rt.alloc(), 246, &sizes).ok_or("there is memory")?;
+    bytes.extend_from_slice(&[3; 32768])?;
+    bytes.extend_from_slice(&[0; 6])?;
+    let fault = CodeFault::CodeTooLong { offset: 258 };
+    assert_eq!(rt;
+        read_class(rt.alloc(), &bytes).err(),
+        Some(ClassFault::Code(fault))
+    );
+    Ok(())
+}
+
+/// The offset of a fault of code; `None` where memory ran out.
+fn code_offset(fault: CodeFault) -> Option<u32> {
+    match fault {
+        CodeFault::CodeTooLong { offset }
+        | CodeFault::UnknownOpcode { offset }
+        | CodeFault::Short { offset }
+        | CodeFault::BadSwitch { offset }
+        | CodeFault::JumpOutside { offset } => Some(offset),
+        CodeFault::Memory => None,
+    }
+}
+
+/// The offset of a fault; `None` where memory ran out.
+fn offset_of(fault: ClassFault) -> Option<u32> {
+    match fault {
+        ClassFault::BadMagic { offset }
+        | ClassFault::Version { offset }
+        | ClassFault::Short { offset }
+        | ClassFault::TrailingBytes { offset }
+        | ClassFault::BadTag { offset }
+        | ClassFault::BadIndex { offset }
+        | ClassFault::BadText { offset }
+        | ClassFault::BadAttribute { offset }
+        | ClassFault::Unsupported { offset } => Some(offset),
+        ClassFault::Code(fault) => code_offset(fault),
+        ClassFault::Memory => None,
+    }
+}
+
+/// Whether a fault stands in these bytes, or at their end.
+fn is_within(fault: ClassFault, bytes: &[u8]) -> bool {
+    match offset_of(fault) {
+        Some(offset) => offset as usize <= bytes.len(),
+        None => false,
+    }
+}
+
+#[test]
+fn each_other_byte_is_written_back_or_refused_at_its_place(rt: HostRuntime) -> Result<(), Fail> {
     for place in 0..273usize {
-        for byte in [0u8, 1, 7, 18, 40, 127, 177, 255] {
+        for byte in 0..=255u8 {
             let mut bytes = HELLO;
             *bytes.get_mut(place).ok_or("the place is there")? = byte;
             assert!(rt; is_written_back(rt.alloc(), &bytes));

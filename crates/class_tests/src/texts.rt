@@ -3,7 +3,7 @@
 
 ghost use Rattle.std.specs.Prelude.{◌<◌, length};
 
-use cls_bytes::{read_class, write_class};
+use cls_bytes::{ClassFault, read_class, write_class};
 use cls_tree::Const;
 use std::alloc::{AllocError, Global};
 use std::test::Fail;
@@ -71,20 +71,30 @@ fn characters_of_one_to_six_bytes(rt: HostRuntime) -> Result<(), Fail> {
 
 #[test]
 fn no_text_has_these_bytes(rt: HostRuntime) -> Result<(), Fail> {
-    // The byte 0, forms that are too long, four bytes, and surrogates alone.
-    for bytes in [
+    // The byte 0, forms that are too long, four bytes, surrogates alone, and forms that are cut.
+    for text in [
         b"\0".as_slice(),
+        b"\xc0\x81",
         b"\xc1\xbf",
+        b"\xe0\x80\x80",
         b"\xe0\x9f\xbf",
         b"\xf0\x90\x80\x80",
         b"\xed\xa0\x80",
+        b"\xed\xbf\xbf",
+        b"\xed\xa0\x80a",
         b"\xed\xb0\x80\xed\xa0\x80",
         b"\x80",
         b"\xc2",
+        b"\xc2a",
         b"\xe2\x82",
+        b"\xff",
     ] {
-        if bytes.len() < 256 {
-            assert_eq!(rt; is_read_as(rt.alloc(), bytes, ""), None);
+        if text.len() < 256 {
+            let bytes = spelled(rt.alloc(), text)?;
+            assert_eq!(rt;
+                read_class(rt.alloc(), &bytes).err(),
+                Some(ClassFault::BadText { offset: 13 })
+            );
         }
     }
     Ok(())

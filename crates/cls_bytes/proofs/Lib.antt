@@ -21,3 +21,4 @@ pub mod Single
 pub mod SpelledRows
 pub mod SpelledPools
 pub mod SpelledClasses
+pub mod Spells

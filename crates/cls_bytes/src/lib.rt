@@ -7,6 +7,7 @@ ghost use Rattle.cls_tree.specs.Tree.{Class as Tree};
 ghost use Rattle.cls_tree.specs.View.{class_of};
 ghost use Rattle.cls_tree.specs.Layout.{class_bytes};
 ghost use Rattle.cls_tree.specs.Fits.{Fits};
+ghost use Rattle.cls_tree.specs.WellFormed.{IsWellFormed};
 ghost use Rattle.cls_bytes.specs.File.{IsFile};
 ghost use Rattle.cls_bytes.specs.declared.ClassFault.{ClassFault as Fault};
 ghost use Rattle.cls_bytes.specs.Faults.{Fails};
@@ -101,6 +102,8 @@ pub fn write_class(alloc: Global, class: &Class) -> Result<Bytes, WriteFault>
     ensures exact { IsWritten (writing (class_of class.now)) result }
     // A class file is written.
     ensures file { IsFile (class_of class.now) → IsFileOrMemory (class_bytes (class_of class.now)) result }
+    // What is written of a well-formed class spells it.
+    ensures spelled { IsWellFormed (class_of class.now) → IfOk result (λ b. ClassSpells b (class_of class.now)) }
 {
     class_written(alloc, class)
 }
