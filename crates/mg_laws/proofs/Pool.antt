@@ -10,7 +10,25 @@ use Rattle.std.proofs.lemmas.Bool.Decides.{Decides-int_eq}
 use Rattle.cls_tree.specs.declared.class.Const.{Const}
 use Rattle.cls_tree.specs.declared.class.Const.TheVariants.{Utf8, Integer, Class as ClassConst, Text, Field, Method, NameAndType}
 use Rattle.cls_tree.specs.Emitted.{same_const, Pooled, ◌>>=◌, give, found_or_added, number_of, utf8, class_const, text_const, name_and_type, field_const, method_const}
-use Rattle.vm_model.specs.PrintingLinks.{Is, IsText, IsClassNamed, IsNameAndType, IsField, IsMethod}
+
+-- the constant of this number, which counts from 1
+abbrev pub Is : List Const → ℕ → Const → Type 0
+Is pool n const = (k : ℕ) × (n ≡ suc k) × (slice_get pool k ≡ Some const)
+
+abbrev pub IsText : List Const → ℕ → Name → Type 0
+IsText pool n text = Is pool n (Utf8 text)
+
+abbrev pub IsClassNamed : List Const → ℕ → Name → Type 0
+IsClassNamed pool n name = (k : ℕ) × Is pool n (ClassConst k) × IsText pool k name
+
+abbrev pub IsNameAndType : List Const → ℕ → Name → Name → Type 0
+IsNameAndType pool n name descriptor = (a b : ℕ) × Is pool n (NameAndType a b) × IsText pool a name × IsText pool b descriptor
+
+abbrev pub IsField : List Const → ℕ → Name → Name → Name → Type 0
+IsField pool n class name descriptor = (a b : ℕ) × Is pool n (Field a b) × IsClassNamed pool a class × IsNameAndType pool b name descriptor
+
+abbrev pub IsMethod : List Const → ℕ → Name → Name → Name → Type 0
+IsMethod pool n class name descriptor = (a b : ℕ) × Is pool n (Method a b) × IsClassNamed pool a class × IsNameAndType pool b name descriptor
 
 -- an element of the front of a list
 pub slice_get-front : {X : Type 0} (xs ys : List X) (k : ℕ) (x : X) → slice_get xs k ≡ Some x → slice_get (xs ++ ys) k ≡ Some x
@@ -55,6 +73,13 @@ field-grown g n class name descriptor h =
 pub method-grown : {pool larger : List Const} → Grows pool larger → (n : ℕ) (class name descriptor : Name) → IsMethod pool n class name descriptor → IsMethod larger n class name descriptor
 method-grown g n class name descriptor h =
     (h.0, h.1, is-grown g n (Method h.0 h.1) h.2, class-grown g h.0 class h.3, name_and_type-grown g h.1 name descriptor h.4)
+
+-- the number of a text that code may push
+abbrev pub IsPushed : List Const → ℕ → List ℕ → Type 0
+IsPushed pool n text = (k : ℕ) × Is pool n (Text k) × IsText pool k text
+
+pub push-grown : {pool larger : List Const} → Grows pool larger → (n : ℕ) (text : List ℕ) → IsPushed pool n text → IsPushed larger n text
+push-grown g n text h = (h.0, is-grown g n (Text h.0) h.1, is-grown g h.0 (Utf8 text) h.2)
 
 -- What is made while constants are added: the pool grows, and this holds of the larger pool and of what is made.
 pub record Gives {A : Type 0} (P : List Const → A → Type 0) (pool : List Const) (m : Pooled A) : Type 0 where
@@ -121,10 +146,6 @@ pub class_const-gives : (name : Name) (pool : List Const) → Gives (λ p n. IsC
 class_const-gives name pool = gives_then (utf8-gives name pool)
     (λ n p _ text. gives_as (number_of-gives (ClassConst n) p)
     (λ c q g is. (n, is, is-grown g n (Utf8 name) text)))
-
--- the number of a text that code may push
-abbrev pub IsPushed : List Const → ℕ → List ℕ → Type 0
-IsPushed pool n text = (k : ℕ) × Is pool n (Text k) × IsText pool k text
 
 pub text_const-gives : (text : List ℕ) (pool : List Const) → Gives (λ p n. IsPushed p n text) pool (text_const text)
 text_const-gives text pool = gives_then (utf8-gives text pool)

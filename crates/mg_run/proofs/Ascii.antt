@@ -1,7 +1,9 @@
--- The name and the texts of a class that prints texts are ASCII.
-use Rattle.std.proofs.Common.{◌≡◌, ℕ, ◌<◌, List, [], ◌∷◌, ◌++◌, Bool, true, false, refl, sym, subst, codes, arith}
+-- The name and the texts of a class that prints texts are ASCII, and the name is none of a built-in class.
+use Rattle.std.proofs.Common.{◌≡◌, ℕ, ◌<◌, List, [], ◌∷◌, ◌++◌, Bool, true, false, refl, sym, subst, codes, arith, true≢false}
 use Rattle.std.specs.Prelude.{◌&&◌}
 use Rattle.std.specs.List.{AllByRecursion, list_all}
+use Rattle.std.specs.Str.{bytes_eq}
+use Rattle.std.proofs.lemmas.Slice.Eq.{bytes_eq-Decides}
 use Rattle.std.proofs.lemmas.Bool.Decides.{nat_tests}
 use Rattle.mg_text.specs.Places.{start_of, place_after}
 use Rattle.mg_text.specs.declared.place.Place.{Place}
@@ -16,6 +18,7 @@ use Rattle.jv_tree.specs.Files.{IsClass, AreDecls, IsFile}
 use Rattle.jv_lex.specs.Letters.{is_word_byte}
 use Rattle.jv_lex.specs.Pieces.{Piece, blank, line, block, word, number, text, sign, spell, Cut, tokens_from, AreTokens}
 use Rattle.gen_class.specs.Sizes.{IsAscii}
+use Rattle.vm_model.specs.Linked.{is_built_in}
 use Rattle.mg_run.specs.Plain.{Printer, ArePrints, none, one, is_printable}
 use Rattle.mg_run.specs.Running.{IsSource}
 
@@ -95,10 +98,36 @@ prints_ascii : (texts : List (List ℕ)) (body : Stmts) → ArePrints texts body
 prints_ascii texts body none = tt
 prints_ascii texts body (one p q t ts more printable prints) = (text_ascii t printable, prints_ascii ts more prints)
 
-pub name_ascii_of : (bytes : List ℕ) (printer : Printer) → IsSource bytes printer → IsAscii printer.name
-name_ascii_of bytes printer source =
+name_good : (bytes : List ℕ) (printer : Printer) → IsSource bytes printer → AllPasses is_word_byte printer.name
+name_good bytes printer source =
     let p = source.plain in let s = source.spelled in
-    subst IsAscii (sym p.named) (words_ascii p.class.name (file_good p.class s.tokens (good_tokens 0 s.tokens bytes s.cut) (subst (λ (f : File). IsFile f s.tokens) p.alone s.spelled.0)))
+    subst (AllPasses is_word_byte) (sym p.named) (file_good p.class s.tokens (good_tokens 0 s.tokens bytes s.cut) (subst (λ (f : File). IsFile f s.tokens) p.alone s.spelled.0))
+
+pub name_ascii_of : (bytes : List ℕ) (printer : Printer) → IsSource bytes printer → IsAscii printer.name
+name_ascii_of bytes printer source = words_ascii printer.name (name_good bytes printer source)
 
 pub texts_ascii_of : (bytes : List ℕ) (printer : Printer) → IsSource bytes printer → AllByRecursion IsAscii printer.texts
 texts_ascii_of bytes printer source = prints_ascii printer.texts source.plain.main.body source.plain.prints
+
+-- ---- a word is no name of a built-in class
+
+-- a name with a slash in it is no word
+slashed : (w name : List ℕ) → (AllPasses is_word_byte name → ⊥) → AllPasses is_word_byte w → bytes_eq w name ≡ false
+slashed w name isnt h = go (bytes_eq w name) refl
+  where
+    go : (b : Bool) → bytes_eq w name ≡ b → bytes_eq w name ≡ false
+    go true e = absurd (isnt (subst (AllPasses is_word_byte) ((bytes_eq-Decides w name).0 e) h))
+    go false e = e
+
+word_free : (w : List ℕ) → AllPasses is_word_byte w → is_built_in w ≡ false
+word_free w h =
+    rw (
+      slashed w (codes "java/lang/Object") (λ g. true≢false (sym g.1.1.1.1.0)) h,
+      slashed w (codes "java/lang/String") (λ g. true≢false (sym g.1.1.1.1.0)) h,
+      slashed w (codes "java/lang/System") (λ g. true≢false (sym g.1.1.1.1.0)) h,
+      slashed w (codes "java/io/PrintStream") (λ g. true≢false (sym g.1.1.1.1.0)) h,
+      slashed w (codes "mungo/lib/Session") (λ g. true≢false (sym g.1.1.1.1.1.0)) h,
+    ) refl
+
+pub name_free_of : (bytes : List ℕ) (printer : Printer) → IsSource bytes printer → is_built_in printer.name ≡ false
+name_free_of bytes printer source = word_free printer.name (name_good bytes printer source)

@@ -1,5 +1,5 @@
 -- From the steps to the run of a source.
-use Rattle.std.proofs.Common.{◌≡◌, ℕ, ◌≤◌, List, length, map, Result, Ok, Err, sym, ap, ◌∙◌, subst, ◌⊎◌, inl, inr}
+use Rattle.std.proofs.Common.{◌≡◌, ℕ, ◌≤◌, false, List, length, map, Result, Ok, Err, sym, ap, ◌∙◌, subst, ◌⊎◌, inl, inr}
 use Rattle.std.specs.Prelude.{IsErrOf}
 use Rattle.mg_text.specs.Call.{Name}
 use Rattle.mg_text.specs.declared.place.Place.{Place}
@@ -9,6 +9,7 @@ use Rattle.cls_tree.specs.Layout.{class_bytes}
 use Rattle.cls_tree.specs.ClassFile.{IsClassFile as IsFile}
 use Rattle.cls_tree.specs.Emitted.{class_for}
 use Rattle.gen_class.specs.Sizes.{IsCodeTooLong, IsTextTooLong}
+use Rattle.vm_model.specs.Linked.{is_built_in}
 use Rattle.mg_laws.specs.Simulates.{Simulates}
 use Rattle.mg_run.specs.declared.plain.PrintClass.{PrintClass}
 use Rattle.mg_run.specs.inner.Plainly.{printer_of}
@@ -17,6 +18,7 @@ use Rattle.mg_run.specs.declared.RunFault.{RunFault}
 use Rattle.mg_run.specs.declared.RunFault.TheVariants as faults
 use Rattle.mg_run.specs.Running.{IsSource, IsRun, code_too_long, text_too_long}
 use Rattle.mg_run.specs.Steps.{IsCompiled, IsClassFile, IsPerformed}
+use Rattle.mg_run.proofs.Ascii.{name_free_of}
 
 module _ (class : Name) (bytes : List ℕ) (source : PrintClass) (is : IsSource bytes (printer_of source)) (named : source.name ≡ class) where
   abbrev texts : List (List ℕ)
@@ -24,6 +26,9 @@ module _ (class : Name) (bytes : List ℕ) (source : PrintClass) (is : IsSource 
 
   abbrev Compiled : Result (List ℕ) RunFault → Type 0
   Compiled = IsCompiled source.name source.main_place texts
+
+  pub free : is_built_in class ≡ false
+  free = subst (λ (n : Name). is_built_in n ≡ false) named (name_free_of bytes (printer_of source) is)
 
   of_class : (r : Result (List ℕ) RunFault) → Compiled r → IsCompiled class source.main_place texts r
   of_class r h = subst (λ (n : Name). IsCompiled n source.main_place texts r) named h
@@ -43,7 +48,7 @@ module _ (class : Name) (bytes : List ℕ) (source : PrintClass) (is : IsSource 
   -- a class that was compiled and performed was run
   run_of : (file : List ℕ) → IsCompiled class source.main_place texts (Ok file) → Simulates class texts → (r : Result Shown RunFault) → IsPerformed class file r → IsRun class bytes r
   run_of file (fits, layout, code, text) sim (Ok s) performed =
-      let made : IsClassFile class file = record { texts = texts; fits = fits; layout = layout } in
+      let made : IsClassFile class file = record { texts = texts; fits = fits; layout = layout; short = code; free = free } in
       let done = performed made in
       record {
         printer = printer_of source;
@@ -73,7 +78,7 @@ module _ (class : Name) (bytes : List ℕ) (source : PrintClass) (is : IsSource 
   pub class_file : (file given : List ℕ) → given ≡ file → Compiled (Ok file) → IsClassFile class given
   class_file file given same compiled =
       let (fits, layout, code, text) = of_class (Ok file) compiled in
-      record { texts = texts; fits = fits; layout = same ∙ layout }
+      record { texts = texts; fits = fits; layout = same ∙ layout; short = code; free = free }
 
 -- a class that was generated isn't too large
 pub not_refused : {T E : Type 0} (t : T) (e d : E) → IsErrOf {T = T} (Ok t) e ⊎ IsErrOf {T = T} (Ok t) d → ⊥

@@ -1,5 +1,5 @@
 -- What the bytes of a source do when a class of it is run: what is shown, or why they are refused.
-use Rattle.std.specs.Prelude.{◌≡◌, ◌≢◌, ℕ, List, Some, Result, Ok, Err}
+use Rattle.std.specs.Prelude.{◌≡◌, ◌≢◌, ℕ, List, [], ◌∷◌, Some, Result, Ok, Err}
 use Rattle.mg_text.specs.Call.{Name}
 use Rattle.mg_text.specs.Places.{start_of}
 use Rattle.mg_text.specs.declared.event.Event.{Event}
@@ -15,10 +15,13 @@ use Rattle.cls_tree.specs.Layout.{class_bytes}
 use Rattle.cls_tree.specs.ClassFile.{IsClassFile as IsFile}
 use Rattle.cls_tree.specs.Emitted.{class_for}
 use Rattle.gen_class.specs.Sizes.{IsCodeTooLong, IsTextTooLong}
-use Rattle.vm_model.specs.PrintingProgram.{Method, Class}
-use Rattle.vm_model.specs.PrintingLinks.{Links}
-use Rattle.vm_model.specs.PrintingMachine.{Runs, main_in, start}
-use Rattle.vm_step.specs.Ran.{printed as printed_by}
+use Rattle.vm_model.specs.Program.{Program}
+use Rattle.vm_model.specs.Messages.{no_messages}
+use Rattle.vm_model.specs.Links.{Links}
+use Rattle.vm_model.specs.Machine.{Machine}
+use Rattle.vm_model.specs.Step.{step}
+use Rattle.vm_model.specs.Start.{IsStart}
+use Rattle.vm_model.specs.Runs.{Runs, printed as printed_by}
 use Rattle.mg_laws.specs.Simulates.{source_of}
 use Rattle.mg_run.specs.Plain.{Printer, IsPlain}
 use Rattle.mg_run.specs.declared.Shown.{Shown}
@@ -31,17 +34,16 @@ pub record IsSource (bytes : List ℕ) (printer : Printer) : Type 0 where
   pub spelled : Spells 0 bytes tree
   pub plain : IsPlain tree printer
 
--- A class file of these bytes is read back, linked and run: its `main` returns after so many instructions, with these events.
+-- A class file of these bytes is read back, linked and run, with no other role: its `main` returns after so many instructions, with these events.
 pub record Performs (class : Name) (bytes : List ℕ) (instructions : ℕ) (events : List Event) : Type 0 where
   pub file : File
   pub fits : IsFile file
   pub read : bytes ≡ class_bytes file
-  pub linked : Class
-  pub links : Links file linked
-  pub named : linked.name ≡ class
-  pub main : Method
-  pub has_main : main_in linked.methods ≡ Some main
-  pub runs : Runs (start main) instructions events endings.Done
+  pub program : Program
+  pub links : Links (file ∷ []) program
+  pub machine : Machine
+  pub starts : IsStart program class machine
+  pub runs : Runs (step program 0) machine (no_messages []) instructions events endings.Done
 
 -- The bytes of a source spell the class of this name, which isn't too large. What is printed is what the source means with every budget, and the bytes of its class do the same in so many instructions.
 pub record Shows (class : Name) (bytes printed : List ℕ) (instructions : ℕ) : Type 0 where

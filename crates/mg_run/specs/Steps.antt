@@ -1,5 +1,5 @@
 -- What the steps from a source to its run may answer.
-use Rattle.std.specs.Prelude.{◌≡◌, ℕ, List, map, Result, Ok, Err}
+use Rattle.std.specs.Prelude.{◌≡◌, ℕ, List, map, false, Result, Ok, Err}
 use Rattle.mg_text.specs.Call.{Name}
 use Rattle.mg_text.specs.declared.place.Place.{Place}
 use Rattle.mg_run.specs.declared.plain.PrintClass.{PrintClass}
@@ -15,7 +15,8 @@ use Rattle.mg_run.specs.declared.RunFault.{RunFault}
 use Rattle.mg_run.specs.declared.RunFault.TheVariants as faults
 use Rattle.mg_run.specs.Running.{IsSource, Refused, Performs}
 use Rattle.mg_text.specs.declared.event.Event.TheVariants as seen
-use Rattle.vm_step.specs.Ran.{printed as printed_by}
+use Rattle.vm_model.specs.Linked.{is_built_in}
+use Rattle.vm_model.specs.Runs.{printed as printed_by}
 
 -- why a class isn't run whose source couldn't be read
 abbrev pub refusal_of : JavaFault → RunFault
@@ -37,11 +38,13 @@ IsCompiled name place texts (Err (faults.TextTooLong at)) = (at ≡ place) × (I
 IsCompiled name place texts (Err faults.Memory) = Unit {0}
 IsCompiled name place texts (Err _) = ⊥
 
--- these are the bytes of the class that prints these texts
+-- these are the bytes of a class that prints texts, whose name is none of a built-in class
 pub record IsClassFile (name : Name) (bytes : List ℕ) : Type 0 where
   pub texts : List (List ℕ)
   pub fits : IsFile (class_for name texts)
   pub layout : bytes ≡ class_bytes (class_for name texts)
+  pub short : IsCodeTooLong name texts → ⊥
+  pub free : is_built_in name ≡ false
 
 -- what running the class of this name may answer
 abbrev pub IsPerformed : Name → List ℕ → Result Shown RunFault → Type 0

@@ -6,6 +6,7 @@ ghost use Rattle.std.specs.Prelude.{◌≤◌, length};
 ghost use Rattle.mg_run.specs.Running.{IsRun};
 
 mod plain;
+mod running;
 mod steps;
 
 use crate::steps::{compile, find, perform};

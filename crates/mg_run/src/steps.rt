@@ -1,14 +1,19 @@
 //! The steps from a source to its run.
 
-ghost use Rattle.std.specs.Prelude.{◌≡◌, ◌≤◌, ℕ, length, IfOk, List as Seq};
+ghost use Rattle.std.specs.Prelude.{◌≡◌, ◌≤◌, ℕ, [], ◌∷◌, length, IfOk, IfErr, List as Seq};
+ghost use Rattle.mg_text.specs.Call.{Name};
 ghost use Rattle.cls_tree.specs.View.{class_of};
 ghost use Rattle.cls_tree.specs.Layout.{class_bytes};
 ghost use Rattle.cls_tree.specs.ClassFile.{IsClassFile as IsFile};
+ghost use Rattle.cls_tree.specs.Emitted.{class_for};
+ghost use Rattle.vm_model.specs.View.{classes_of};
+ghost use Rattle.vm_model.specs.Links.{Links};
 ghost use Rattle.mg_run.specs.Running.{IsSource};
 ghost use Rattle.mg_run.specs.Steps.{refusal_of, IsFound, IsCompiled, IsClassFile, IsPerformed};
 ghost use Rattle.mg_run.specs.inner.Plainly.{printer_of};
 
 use crate::plain::{PrintClass, plain_of};
+use crate::running::{Outcome, run_main};
 use crate::{RunFault, Shown};
 use cls_bytes::{ClassFault, WriteFault, read_class, write_class};
 use cls_tree::Class;
@@ -17,7 +22,8 @@ use jv_read::{JavaFault, read_java};
 use mg_laws::simulation;
 use mg_text::{Bytes, Ending, Memory, Place, Text};
 use std::alloc::Global;
-use vm_step::{LoadFault, load, run};
+use vm_load::{LoadFault, load};
+use vm_model::Linked;
 
 // Why a class isn't run whose source couldn't be read.
 fn refusal(fault: JavaFault) -> RunFault
@@ -78,10 +84,11 @@ pub fn compile(alloc: Global, source: &PrintClass) -> Result<Bytes, RunFault>
     }
 }
 
-/// Reads the bytes of a class file, links the class and runs its `main`.
-pub fn perform(alloc: Global, class: &Text, bytes: &[u8]) -> Result<Shown, RunFault>
-    requires { IsClassFile class.now bytes.now }
-    ensures { IsPerformed class.now bytes.now result }
+/// Reads the bytes of a class file back and links the class.
+fn load_back(alloc: Global, bytes: &[u8]) -> Result<Linked, RunFault>
+    requires { (name : Name) × IsClassFile name bytes.now }
+    ensures linked { (name : Name) (made : IsClassFile name bytes.now) → IfOk result (λ l. Links (class_for name made.texts ∷ []) (classes_of l.classes.items)) }
+    ensures memory { IfErr result (λ e. e ≡ RunFault.Memory) }
 {
     simulation();
     let file = match read_class(alloc, bytes) {
@@ -91,19 +98,37 @@ pub fn perform(alloc: Global, class: &Text, bytes: &[u8]) -> Result<Shown, RunFa
             _ => unreachable!(),
         },
     };
-    let linked = match load(alloc, &file) {
-        Ok(linked) => linked,
-        Err(LoadFault::Unlinked) => unreachable!(),
-        Err(LoadFault::Memory) => return Err(RunFault::Memory),
-    };
-    let Some(ran) = run(alloc, &linked, class.as_str())? else {
-        unreachable!()
-    };
-    match ran.ending {
-        Ending::Done => Ok(Shown {
-            printed: ran.printed,
-            instructions: ran.instructions,
-        }),
-        _ => unreachable!(),
+    let files = [file];
+    match load(alloc, files.as_slice()) {
+        Ok(linked) => Ok(linked),
+        Err(fault) => match fault {
+            LoadFault::Memory => Err(RunFault::Memory),
+            _ => unreachable!(),
+        },
+    }
+}
+
+/// Reads the bytes of a class file, links the class and runs its `main`.
+pub fn perform(alloc: Global, class: &Text, bytes: &[u8]) -> Result<Shown, RunFault>
+    requires { IsClassFile class.now bytes.now }
+    ensures { IsPerformed class.now bytes.now result }
+{
+    simulation();
+    let linked = load_back(alloc, bytes)?;
+    let outcome = run_main(alloc, &linked, class.as_str())?;
+    match outcome {
+        Outcome::Ended {
+            printed,
+            instructions,
+            ending,
+        } => match ending {
+            Ending::Done => Ok(Shown {
+                printed,
+                instructions,
+            }),
+            _ => unreachable!(),
+        },
+        Outcome::Waits(_peer) => unreachable!(),
+        Outcome::Longer => unreachable!(),
     }
 }

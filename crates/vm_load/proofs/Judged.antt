@@ -27,13 +27,13 @@ judged_told view os op r (faults.NoCode name) flaw h = rw h refl
 judged_told view os op r faults.Memory flaw h = tt
 
 -- an instruction is wrong where what it works with is
-pub judged_instr_of : (op : ℕ) (fault : LoadFault) (wanted : Result Args Flaw) → Judges args_of (Err fault) wanted → Judges instr_of (Err fault) (with_op op wanted)
-judged_instr_of op (faults.DuplicateClass name) wanted h = rw h refl
-judged_instr_of op (faults.UnknownClass name) wanted h = rw h refl
-judged_instr_of op (faults.UnknownMember name) wanted h = rw h refl
-judged_instr_of op (faults.BadDescriptor name) wanted h = rw h refl
-judged_instr_of op (faults.NoCode name) wanted h = rw h refl
-judged_instr_of op faults.Memory wanted h = tt
+pub judged_instr_of : (count op : ℕ) (fault : LoadFault) (wanted : Result Args Flaw) → Judges args_of (Err fault) wanted → Judges instr_of (Err fault) (with_op count op wanted)
+judged_instr_of count op (faults.DuplicateClass name) wanted h = rw h refl
+judged_instr_of count op (faults.UnknownClass name) wanted h = rw h refl
+judged_instr_of count op (faults.UnknownMember name) wanted h = rw h refl
+judged_instr_of count op (faults.BadDescriptor name) wanted h = rw h refl
+judged_instr_of count op (faults.NoCode name) wanted h = rw h refl
+judged_instr_of count op faults.Memory wanted h = tt
 
 pub ruleset with_ops = (judged_instr_of)
 

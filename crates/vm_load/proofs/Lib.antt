@@ -8,3 +8,5 @@ pub mod Codes
 pub mod Attributes
 pub mod ClassLaws
 pub mod Loads
+pub mod Keeping
+pub mod Rising

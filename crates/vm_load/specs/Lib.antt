@@ -1,3 +1,4 @@
 pub mod Faults
 pub mod Outlines
 pub mod Width
+pub mod Places

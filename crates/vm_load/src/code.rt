@@ -1,20 +1,22 @@
 //! The code of a method: its instructions, what they name looked up, and their jumps as numbers.
 
-ghost use Rattle.std.specs.Prelude.{◌≡◌, ◌<◌, ◌+◌, ◌*◌, ◌^◌, ◌+ℤ◌, pos, map, length, IfOk, OnOk, ◌++◌, ◌∷◌, [], Result};
+ghost use Rattle.std.specs.Prelude.{◌≡◌, ◌<◌, ◌+◌, ◌*◌, ◌^◌, ◌+ℤ◌, pos, map, length, IfOk, OnOk, ◌++◌, ◌∷◌, [], Result, Ok};
 ghost use Rattle.cls_tree.specs.View.{instr_of, instrs_of};
 ghost use Rattle.cls_tree.specs.View as file;
 ghost use Rattle.cls_tree.specs.Layout.{pad, instr_bytes};
 ghost use Rattle.cls_tree.specs.Jumps.{starts_from};
 ghost use Rattle.vm_model.specs.View.{args_of};
 ghost use Rattle.vm_model.specs.View as model;
-ghost use Rattle.vm_model.specs.Links.{started, judged_instr_args, judged_instr, judged_from, judged_code, right_in, wrong_in, lower, least};
+ghost use Rattle.vm_model.specs.Links.{started, judged_instr_args, judged_instr, judged_from, judged_code, with_op, right_in, wrong_in, lower, least};
 ghost use Rattle.vm_model.specs.Program.{Table, Instr as InstrOf};
 ghost use Rattle.vm_model.specs.Links.{Flaw};
 ghost use Rattle.vm_load.specs.Faults.{Judges, best_flaw};
 ghost use Rattle.vm_load.specs.Outlines.{outlines_of, names_of};
 ghost use Rattle.vm_load.specs.Width.{args_width, width};
+ghost use Rattle.vm_load.specs.Places.{AreRising};
 
-use crate::fault::{LoadFault, note};
+use crate::fault::{LoadFault, note, unknown_member};
+use crate::fit::fits_code;
 use crate::outline::Outline;
 use crate::reference::judge_pool;
 use cls_tree::{Args, Const, Form, Instr, form_of};
@@ -53,7 +55,8 @@ fn width(place: usize, instr: &Instr) -> usize
 
 /// The places at which instructions start.
 fn starts_of(alloc: Global, instrs: &[Instr]) -> Result<Vec<u32>, Memory>
-    ensures { IfOk result (λ v. v.items ≡ starts_from 0 (instrs_of instrs.now)) }
+    ensures starts { IfOk result (λ v. v.items ≡ starts_from 0 (instrs_of instrs.now)) }
+    ensures rising { IfOk result (λ v. AreRising v.items) }
 {
     let mut starts = Vec::new(alloc);
     let mut place: usize = 0;
@@ -77,16 +80,29 @@ fn listed(number: usize) -> Result<u32, Memory>
     Ok(number as u32)
 }
 
-/// The number of the instruction that starts at a place.
+/// The number of the instruction that starts at a place, which is found by halving.
+fn number_of(starts: &[u32], place: u32) -> Result<u32, Memory>
+    requires { AreRising starts.now }
+    ensures { IfOk result (λ n. n ≡ started starts.now (pos place)) }
+{
+    match starts.binary_search(&place) {
+        Ok(number) => listed(number),
+        Err(_next) => listed(starts.len()),
+    }
+}
+
+/// The number of the instruction that starts at a place, or how many instructions there are.
 fn number_at(starts: &[u32], place: i64) -> Result<u32, Memory>
+    requires { AreRising starts.now }
     ensures { IfOk result (λ n. n ≡ started starts.now place) }
 {
-    for (number, start) in starts.iter().enumerate() {
-        if i64::from(*start) == place {
-            return listed(number);
-        }
+    if place < 0 {
+        return listed(starts.len());
     }
-    listed(starts.len())
+    if place > 0xffff_ffff {
+        return listed(starts.len());
+    }
+    number_of(starts, place as u32)
 }
 
 /// The place that is so far from another.
@@ -99,7 +115,8 @@ fn place_from(place: usize, distance: i32) -> i64
 
 /// The number of the instruction to which a jump leads.
 fn target(starts: &[u32], place: usize, distance: i32) -> Result<u32, Memory>
-    requires { place < 2 ^ 33 }
+    requires rising { AreRising starts.now }
+    requires place { place < 2 ^ 33 }
     ensures { IfOk result (λ n. n ≡ started starts.now (pos place +ℤ distance)) }
 {
     number_at(starts, place_from(place, distance))
@@ -112,7 +129,8 @@ fn targets(
     place: usize,
     offsets: &[i32],
 ) -> Result<List<u32>, Memory>
-    requires { place < 2 ^ 33 }
+    requires rising { AreRising starts.now }
+    requires place { place < 2 ^ 33 }
     ensures { IfOk result (λ l. l.items ≡ map (λ d. started starts.now (pos place +ℤ d)) offsets.now) }
 {
     let mut all = List::new(alloc);
@@ -132,7 +150,8 @@ fn table(
     low: i32,
     offsets: &[i32],
 ) -> Result<LinkedArgs, Memory>
-    requires { place < 2 ^ 33 }
+    requires rising { AreRising starts.now }
+    requires place { place < 2 ^ 33 }
     ensures { IfOk result (λ a. args_of a ≡ Table (started starts.now (pos place +ℤ default)) low (map (λ d. started starts.now (pos place +ℤ d)) offsets.now)) }
 {
     let default = target(starts, place, default)?;
@@ -155,6 +174,7 @@ fn judge_args(
     instr: &Instr,
 ) -> Result<LinkedArgs, LoadFault>
     requires names { names.now ≡ names_of (outlines_of outlines.now) }
+    requires rising { AreRising starts.now }
     requires place { place < 2 ^ 33 }
     ensures { Judges args_of result (judged_instr_args (outlines_of outlines.now) pool.now starts.now place instr.now.op (file.args_of instr.now.args)) }
 {
@@ -179,6 +199,17 @@ fn judge_args(
     }
 }
 
+/// An instruction of a code of so many, where these are arguments of its opcode.
+#[tactic(auto, using(crate::proofs::Judged::judges))]
+fn fitting(alloc: Global, count: usize, op: u8, args: LinkedArgs) -> Result<LinkedInstr, LoadFault>
+    ensures { Judges model.instr_of result (with_op count op (Ok (args_of args))) }
+{
+    if fits_code(count, op, &args) {
+        return Ok(LinkedInstr { op, args });
+    }
+    Err(unknown_member(alloc, ""))
+}
+
 /// An instruction that stands at a place.
 #[tactic(auto, using(crate::proofs::Judged::with_ops))]
 fn judge_instr(
@@ -191,11 +222,12 @@ fn judge_instr(
     instr: &Instr,
 ) -> Result<LinkedInstr, LoadFault>
     requires names { names.now ≡ names_of (outlines_of outlines.now) }
+    requires rising { AreRising starts.now }
     requires place { place < 2 ^ 33 }
     ensures { Judges model.instr_of result (judged_instr (outlines_of outlines.now) pool.now starts.now place (instr_of instr.now)) }
 {
     match judge_args(alloc, outlines, names, pool, starts, place, instr) {
-        Ok(args) => Ok(LinkedInstr { op: instr.op, args }),
+        Ok(args) => fitting(alloc, starts.len(), instr.op, args),
         Err(fault) => Err(fault),
     }
 }
@@ -230,7 +262,8 @@ fn judge_from(
     instrs: &[Instr],
     first: Option<LoadFault>,
 ) -> Result<(List<LinkedInstr>, Option<LoadFault>), Memory>
-    requires { names.now ≡ names_of (outlines_of outlines.now) }
+    requires names { names.now ≡ names_of (outlines_of outlines.now) }
+    requires rising { AreRising starts.now }
     ensures right { IfOk result (λ r. map model.instr_of r.0.items ≡ right_in (judged_from (outlines_of outlines.now) pool.now starts.now 0 (instrs_of instrs.now))) }
     ensures wrong { IfOk result (λ r. best_flaw r.1 ≡ lower (best_flaw first) (least (wrong_in (judged_from (outlines_of outlines.now) pool.now starts.now 0 (instrs_of instrs.now))))) }
 {

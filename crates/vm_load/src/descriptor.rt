@@ -3,8 +3,9 @@
 ghost use Rattle.std.specs.Prelude.{◌≡◌, option_map, IfOk};
 ghost use Rattle.std.specs.Str.{bytes_eq};
 ghost use Rattle.vm_model.specs.Linked.{is_built_in};
+ghost use Rattle.vm_model.specs.Types.{is_main_alone, types_of_signature};
 ghost use Rattle.vm_model.specs.Descriptors.{types_view, signature_view};
-ghost use Rattle.vm_model.specs.Links.{UnknownClass, loaded, is_known, unknown_in, is_main_alone, types_of_signature, method_types, field_flaw, method_flaw, super_flaw};
+ghost use Rattle.vm_model.specs.Links.{UnknownClass, loaded, is_known, unknown_in, method_types, field_flaw, method_flaw, super_flaw};
 ghost use Rattle.vm_load.specs.Faults.{Tells};
 ghost use Rattle.vm_load.specs.Outlines.{class_named};
 ghost use Rattle.vm_load.specs.Outlines.{declared_of, outlines_of, names_of};

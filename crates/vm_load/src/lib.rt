@@ -6,6 +6,7 @@ mod classes;
 mod code;
 mod descriptor;
 mod fault;
+mod fit;
 mod loading;
 mod member;
 mod outline;

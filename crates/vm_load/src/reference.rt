@@ -18,6 +18,7 @@ use crate::pool::{Named, class_at, constant, field_at, method_at, or_empty, text
 use cls_tree::Const;
 use mg_text::{Memory, Names, Text};
 use std::alloc::Global;
+use std::rc::Rc;
 use vm_model::{FieldType, LinkedArgs, read_type};
 
 /// Makes an object of a class.
@@ -140,6 +141,7 @@ fn pushed_text(text: Option<&str>, alloc: Global) -> Result<LinkedArgs, Memory>
     match text {
         Some(text) => {
             let text = Text::of(alloc, text)?;
+            let text = Rc::new(alloc, text)?;
             Ok(LinkedArgs::Text(text))
         }
         None => Ok(LinkedArgs::None),

@@ -44,7 +44,7 @@ calling_of callings.Static = model.Static
 
 abbrev pub constant_of : Constant → Value
 constant_of (constants.Int x) = values.Int x
-constant_of (constants.Text text) = values.Text text.now
+constant_of (constants.Text text) = values.Text text.now.value
 constant_of constants.Null = values.Null
 
 abbrev pub plain_of : Plain → model.Action

@@ -7,6 +7,7 @@ ghost use Rattle.vm_model.specs.View.{args_of};
 ghost use Rattle.vm_machine.specs.Table.{action_of};
 
 use mg_text::Text;
+use std::rc::Rc;
 use vm_model::{Built, LinkedArgs, LinkedInstr};
 
 /// Ints, and everything else.
@@ -49,7 +50,7 @@ pub(crate) enum Calling {
 #[derive(Clone, Copy)]
 pub(crate) enum Constant<'a> {
     Int(i32),
-    Text(&'a Text),
+    Text(&'a Rc<Text>),
     Null,
 }
 
@@ -143,8 +144,8 @@ fn int_action<'a>(op: u8, value: i32) -> Option<Action<'a>>
 }
 
 /// What an opcode with a text does.
-fn text_action<'a>(op: u8, text: &'a Text) -> Option<Action<'a>>
-    ensures { option_map action_of result ≡ model.text_action op text.now }
+fn text_action<'a>(op: u8, text: &'a Rc<Text>) -> Option<Action<'a>>
+    ensures { option_map action_of result ≡ model.text_action op text.now.value }
 {
     match op {
         0x12 | 0x13 => Some(Action::Plain(Plain::Push(Constant::Text(text)))),

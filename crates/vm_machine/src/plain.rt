@@ -17,18 +17,15 @@ use crate::operands::{int_at, int_of_local, operand, push, replace, set_local, s
 use crate::state::{Cell, State};
 use crate::stepped::{Stepped, broken};
 use mg_text::{BadKind, Ending, Memory};
-use std::alloc::Global;
-use std::rc::Rc;
 
-/// A constant of the code as a value.
-fn cell_of(alloc: Global, constant: Constant<'_>) -> Result<Cell, Memory>
+/// A constant of the code as a value, which shares its text.
+fn cell_of(constant: Constant<'_>) -> Result<Cell, Memory>
     ensures { IfOk result (λ c. value_of c ≡ constant_of constant.entry) }
 {
     match constant {
         Constant::Int(x) => Ok(Cell::Int(x)),
         Constant::Text(text) => {
-            let text = text.copy()?;
-            let text = Rc::new(alloc, text)?;
+            let text = text.clone()?;
             Ok(Cell::Text(text))
         }
         Constant::Null => Ok(Cell::Null),
@@ -36,17 +33,13 @@ fn cell_of(alloc: Global, constant: Constant<'_>) -> Result<Cell, Memory>
 }
 
 /// Pushes a constant.
-pub(crate) fn push_constant(
-    state: &mut State,
-    alloc: Global,
-    constant: Constant<'_>,
-) -> Result<Stepped, Memory>
+pub(crate) fn push_constant(state: &mut State, constant: Constant<'_>) -> Result<Stepped, Memory>
     requires { state.old.frame.place < 2 ^ 32 - 1 }
     ensures ok { IfOk result (λ s. Plays (λ q. model.goes q (model.next (state_of state.old)
         (operands_of state.old ++ constant_of constant.entry ∷ []))) (state_of state.old) (state_of state.new) s) }
     ensures err { OnErr result (state_of state.new ≡ state_of state.old) }
 {
-    let cell = cell_of(alloc, constant)?;
+    let cell = cell_of(constant)?;
     let place = state.frame.place + 1;
     push(state, cell, place)?;
     Ok(Stepped::Went(None))

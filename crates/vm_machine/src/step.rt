@@ -97,12 +97,7 @@ fn check_plain(linked: &Linked, state: &State, plain: Plain<'_>) -> Option<BadKi
 }
 
 /// Acts on an instruction that stays in its frame.
-fn act_plain(
-    state: &mut State,
-    alloc: Global,
-    linked: &Linked,
-    plain: Plain<'_>,
-) -> Result<Stepped, Memory>
+fn act_plain(state: &mut State, linked: &Linked, plain: Plain<'_>) -> Result<Stepped, Memory>
     requires { state.old.frame.place < 2 ^ 32 - 1 }
     ensures ok { IfOk result (λ s. (me : ℕ) → Plays (λ q. model.act (classes_of linked.now.classes.items) q (state_of state.old) me
         (plain_of plain.entry)) (state_of state.old) (state_of state.new) s) }
@@ -112,7 +107,7 @@ fn act_plain(
         return Ok(Stepped::Ended(Ending::Bad(kind)));
     }
     match plain {
-        Plain::Push(constant) => push_constant(state, alloc, constant),
+        Plain::Push(constant) => push_constant(state, constant),
         Plain::Load(_, local) => load(state, local),
         Plain::Store(_, local) => Ok(store(state, local)),
         Plain::Pop => Ok(pop(state)),
@@ -292,7 +287,7 @@ fn act(
     ensures err_ports { OnErr result (ports.new ≡ ports.old) }
 {
     match action {
-        Action::Plain(plain) => act_plain(state, alloc, linked, plain),
+        Action::Plain(plain) => act_plain(state, linked, plain),
         Action::Return(sort) => return_from(state, alloc, linked, sort),
         Action::Read { class, field } => act_read(state, linked, class, field),
         Action::Write { class, field } => act_write(state, alloc, linked, class, field),

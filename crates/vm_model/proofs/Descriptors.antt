@@ -1,12 +1,11 @@
 -- How the reading of a descriptor goes on, byte by byte.
-use Rattle.std.proofs.Common.{◌≡◌, ℕ, zero, suc, ◌+◌, ◌-◌, ◌<◌, ◌≤◌, List, [], ◌∷◌, ◌++◌, length, take, drop, get_or, slice_range, refl, sym, ap, ◌∙◌, arith, add-one}
+use Rattle.std.proofs.Common.{◌≡◌, ℕ, zero, suc, ◌+◌, ◌-◌, ◌<◌, ◌≤◌, List, [], ◌∷◌, ◌++◌, length, take, drop, get_or, slice_range, refl, sym, ap, ◌∙◌, arith}
 use Rattle.std.proofs.Common.{fold, Option, Some, None, false, ◌==◌, ◌≢◌}
 use Rattle.std.proofs.lemmas.Bool.Decides.{nat_tests}
 use Rattle.vm_model.specs.declared.types.Next.{Next}
 use Rattle.vm_model.specs.declared.types.Stage.TheVariants as stages
 use Rattle.vm_model.specs.Descriptors.{after_of}
 use Rattle.vm_model.specs.Types.{FieldType, Reading, Wrong, ParamName, ResultName, reads, read_param_name, read_result_name, signature_in}
-use Rattle.std.specs.Str.{IsCharBoundary, IsUtf8}
 use Rattle.std.proofs.lemmas.Str.{IsCharBoundary-before_ascii, IsCharBoundary-after_ascii}
 use Rattle.std.proofs.lemmas.List.{take_more, get_or-drop}
 use Rattle.std.proofs.Common.{length-drop, append-nil}

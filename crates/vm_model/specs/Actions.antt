@@ -1,5 +1,5 @@
 -- What instructions do. Opcodes (JVMS chapter 6) are mapped to actions by one table, a row for each.
-use Rattle.std.specs.Prelude.{ℕ, ◌-◌, ℤ, pos, negsuc, List, [], ◌∷◌, Option, Some, None, Bool, true, false, if◌then◌else◌, ◌==◌, ◌&&◌, nat_le, slice_get}
+use Rattle.std.specs.Prelude.{ℕ, ◌-◌, ℤ, pos, negsuc, List, Option, Some, None, Bool, true, false, if◌then◌else◌, ◌==◌, ◌&&◌, nat_le}
 use Rattle.vm_model.specs.declared.value.Value.{Value}
 use Rattle.vm_model.specs.declared.value.Value.TheVariants as values
 use Rattle.vm_model.specs.declared.linked.Built.{Built as BuiltIn}

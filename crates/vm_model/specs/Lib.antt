@@ -11,7 +11,4 @@ pub mod Tests
 pub mod Arithmetic
 pub mod Step
 pub mod Start
-pub mod PrintingProgram
-pub mod PrintingView
-pub mod PrintingLinks
-pub mod PrintingMachine
+pub mod Runs

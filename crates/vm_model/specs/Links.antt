@@ -1,6 +1,6 @@
 -- What class files link to, and what is wrong where they don't link. All that is judged stands in one order:
 -- class by class, the super class, the descriptors of fields and of methods, and what instructions name, by method and place.
-use Rattle.std.specs.Prelude.{◌≡◌, ℕ, zero, suc, ◌+◌, ◌+ℤ◌, ℤ, pos, List, [], ◌∷◌, ◌++◌, length, map, Bool, true, false, not, Option, Some, None, Result, Ok, Err, if◌then◌else◌, nat_lt, nat_eq, ◌==◌, ◌&&◌, ◌||◌, bit_and, codes, slice_get, option_map}
+use Rattle.std.specs.Prelude.{◌≡◌, ℕ, ◌+◌, ◌+ℤ◌, ℤ, pos, List, [], ◌∷◌, ◌++◌, length, map, Bool, true, false, not, Option, Some, None, Result, Ok, Err, if◌then◌else◌, nat_lt, ◌==◌, ◌&&◌, ◌||◌, bit_and, codes, slice_get, option_map}
 use Rattle.std.specs.List.{position, position_or_len, flat_map, filter, list_any}
 use Rattle.std.specs.Ordering.{int_eq}
 use Rattle.std.specs.Str.{bytes_eq}
@@ -15,9 +15,8 @@ use Rattle.cls_tree.specs.Pool as pool
 use Rattle.vm_model.specs.declared.linked.Built.{Built as BuiltIn}
 use Rattle.vm_model.specs.declared.linked.Built.TheVariants as built
 use Rattle.vm_model.specs.Program.{Args, Nothing, Int, Text, Local, Add, Jump, Table, Class, Field, Method, Built, Instr, FieldOf, MethodOf, ClassOf, Program}
-use Rattle.vm_model.specs.Types.{FieldType, Named, Signature as Typed, signature_of, type_of}
-use Rattle.vm_model.specs.Types as types
-use Rattle.vm_model.specs.Linked.{is_built_in}
+use Rattle.vm_model.specs.Types.{FieldType, Named, is_main_alone, signature_of, type_of, types_of_signature}
+use Rattle.vm_model.specs.Linked.{is_built_in, fits_code}
 
 -- What is wrong: the name is a class's for the first two, the member's, the descriptor, and the method's.
 pub data Flaw : Type 0 where
@@ -114,17 +113,6 @@ abbrev pub unknown_in : List Outline → List FieldType → Option Name
 unknown_in os [] = None
 unknown_in os (Named name ∷ ts) = if is_known os name then unknown_in os ts else Some name
 unknown_in os (t ∷ ts) = unknown_in os ts
-
-abbrev pub result_types : Option FieldType → List FieldType
-result_types None = []
-result_types (Some t) = t ∷ []
-
-abbrev pub types_of_signature : Typed → List FieldType
-types_of_signature s = s.params ++ result_types s.result
-
--- the array of texts stands in the descriptor of a `main` alone
-abbrev pub is_main_alone : Name → Name → Bool
-is_main_alone name descriptor = not (bytes_eq descriptor (codes "([Ljava/lang/String;)V")) || bytes_eq name (codes "main")
 
 -- the types in the descriptor of a field, and in that of a method of this name
 abbrev pub field_types : Name → Option (List FieldType)
@@ -282,12 +270,14 @@ judged_instr_args os pool starts place op (file.Add local n) = Ok (Add local n)
 judged_instr_args os pool starts place op (file.Table default low offsets) =
     Ok (Table (started starts (pos place +ℤ default)) low (map (λ d. started starts (pos place +ℤ d)) offsets))
 
-abbrev pub with_op : ℕ → Result Args Flaw → Result Instr Flaw
-with_op op (Err flaw) = Err flaw
-with_op op (Ok args) = Ok (record { op = op; args = args })
+-- An instruction of a code of so many, with these arguments. Where they aren't those of its opcode, or a jump leads to no instruction,
+-- it names nothing; in a sound code none is so.
+abbrev pub with_op : ℕ → ℕ → Result Args Flaw → Result Instr Flaw
+with_op count op (Err flaw) = Err flaw
+with_op count op (Ok args) = if fits_code count op args then Ok (record { op = op; args = args }) else Err (UnknownMember [])
 
 abbrev pub judged_instr : List Outline → List Const → List ℕ → ℕ → Read → Result Instr Flaw
-judged_instr os pool starts place i = with_op i.op (judged_instr_args os pool starts place i.op i.args)
+judged_instr os pool starts place i = with_op (length starts) i.op (judged_instr_args os pool starts place i.op i.args)
 
 -- the instructions from a place on
 abbrev pub judged_from : List Outline → List Const → List ℕ → ℕ → List Read → List (Result Instr Flaw)

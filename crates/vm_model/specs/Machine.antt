@@ -1,11 +1,8 @@
 -- The machine: frames over a heap; what a step is, and the runs of steps.
-use Rattle.std.specs.Prelude.{◌≡◌, ℕ, ◌+◌, suc, List, [], ◌∷◌, ◌++◌, Option, Some, None, replicate, slice_get, map, pos}
-use Rattle.std.specs.Str.{bytes_eq}
-use Rattle.mg_text.specs.Call.{Name}
+use Rattle.std.specs.Prelude.{◌≡◌, ℕ, suc, List, [], ◌∷◌, ◌++◌, Option, Some, None}
 use Rattle.mg_text.specs.declared.event.Event.{Event}
 use Rattle.mg_text.specs.declared.event.Ending.{Ending}
 use Rattle.vm_model.specs.declared.value.Value.{Value}
-use Rattle.vm_model.specs.Program.{Program}
 use Rattle.vm_model.specs.Messages.{Messages}
 
 -- What runs of a method: its class and its number there, the number of its next instruction, its locals, of which some may be unset, and its operands, the topmost last.

@@ -1,10 +1,10 @@
 -- Where a run begins: the first `static void main(String[])` of the first class of a name.
-use Rattle.std.specs.Prelude.{◌≡◌, ℕ, List, [], ◌∷◌, Bool, true, false, Option, Some, None, replicate, ◌&&◌, codes}
+use Rattle.std.specs.Prelude.{◌≡◌, ℕ, [], Bool, Option, Some, None, replicate, ◌&&◌, codes}
 use Rattle.std.specs.List.{position}
 use Rattle.std.specs.Str.{bytes_eq}
 use Rattle.mg_text.specs.Call.{Name}
 use Rattle.vm_model.specs.Program.{Program, ClassOf, MethodOf, methods_in, class_at, method_at}
-use Rattle.vm_model.specs.Machine.{Frame, Machine}
+use Rattle.vm_model.specs.Machine.{Machine}
 use Rattle.vm_model.specs.Tests.{max_locals_in}
 
 abbrev pub is_main : MethodOf → Bool

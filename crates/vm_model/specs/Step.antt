@@ -1,5 +1,5 @@
 -- What a step does: first the tests, then the instruction, one line for each action.
-use Rattle.std.specs.Prelude.{ℕ, zero, suc, ◌+◌, ◌-◌, ℤ, pos, negsuc, neg_ℤ, ◌+ℤ◌, List, [], ◌∷◌, ◌++◌, length, take, drop, map, replicate, Bool, true, false, not, ◌&&◌, ◌||◌, Option, Some, None, if◌then◌else◌, ◌==◌, nat_lt, slice_get, slice_set, codes}
+use Rattle.std.specs.Prelude.{ℕ, zero, ◌+◌, ◌-◌, ℤ, pos, neg_ℤ, ◌+ℤ◌, List, [], ◌∷◌, ◌++◌, length, map, replicate, Bool, true, false, not, Option, Some, None, if◌then◌else◌, ◌==◌, slice_get, slice_set, codes}
 use Rattle.std.specs.Str.{bytes_eq}
 use Rattle.std.specs.Fmt.{signed_decimal}
 use Rattle.mg_text.specs.Call.{Name}
@@ -8,7 +8,6 @@ use Rattle.mg_text.specs.declared.event.Event.TheVariants as seen
 use Rattle.mg_text.specs.declared.event.Sent.{Sent}
 use Rattle.mg_text.specs.declared.event.Carried.{Carried}
 use Rattle.mg_text.specs.declared.event.Carried.TheVariants as carried
-use Rattle.mg_text.specs.declared.event.Ending.{Ending}
 use Rattle.mg_text.specs.declared.event.Ending.TheVariants as endings
 use Rattle.mg_text.specs.declared.event.BadKind.{BadKind}
 use Rattle.mg_text.specs.declared.event.BadKind.TheVariants as bad
@@ -22,7 +21,7 @@ use Rattle.vm_model.specs.Types as types
 use Rattle.vm_model.specs.Messages.{Messages, on_way, with_list, sending, role_named}
 use Rattle.vm_model.specs.Machine.{Frame, Object, Machine, Stepped, Went, Waits, Stops}
 use Rattle.vm_model.specs.Arithmetic.{wrap, computed, compares, switched}
-use Rattle.vm_model.specs.Actions.{Sort, Calling, Telling, Silent, Static, Operation, Comparison, Action, Push, Load, Store, Pop, Double, Swap, Compute, Negate, Increase, IfZero, IfBoth, IfNull, Go, Switch, Return, Read, Write, Make, Call, Use, action}
+use Rattle.vm_model.specs.Actions.{Calling, Telling, Silent, Static, Operation, Comparison, Action, Push, Load, Store, Pop, Double, Swap, Compute, Negate, Increase, IfZero, IfBoth, IfNull, Go, Switch, Return, Read, Write, Make, Call, Use, action}
 use Rattle.vm_model.specs.Tests.{needs, wrong, on_top, below, method_of_frame, max_locals_in, name_of_method, is_null}
 
 abbrev pub broken : BadKind → Stepped

@@ -1,5 +1,5 @@
 -- What an instruction needs of the machine, and what is wrong where it isn't there.
-use Rattle.std.specs.Prelude.{ℕ, suc, zero, ◌+◌, ◌-◌, ◌*◌, List, [], ◌∷◌, ◌++◌, length, take, drop, replicate, map, Bool, true, false, Option, Some, None, if◌then◌else◌, nat_lt, nat_le, ◌==◌, ◌&&◌, ◌||◌, not, is_some, codes, slice_get}
+use Rattle.std.specs.Prelude.{ℕ, ◌+◌, ◌-◌, List, [], ◌∷◌, ◌++◌, length, take, drop, map, Bool, true, false, Option, Some, None, if◌then◌else◌, nat_lt, ◌&&◌, ◌||◌, not, is_some, codes, slice_get}
 use Rattle.std.specs.Str.{bytes_eq}
 use Rattle.mg_text.specs.Call.{Name}
 use Rattle.mg_text.specs.declared.event.BadKind.{BadKind}
@@ -10,9 +10,8 @@ use Rattle.vm_model.specs.declared.linked.Built.{Built as BuiltIn}
 use Rattle.vm_model.specs.declared.linked.Built.TheVariants as built
 use Rattle.vm_model.specs.Program.{Program, FieldOf, MethodOf, class_name, method_at, field_at}
 use Rattle.vm_model.specs.Types.{FieldType, Named, Texts, Signature, signature_of, type_of}
-use Rattle.vm_model.specs.Types as types
 use Rattle.vm_model.specs.Machine.{Frame, Object, Machine}
-use Rattle.vm_model.specs.Actions.{Sort, Number, Reference, Calling, Telling, Silent, Static, Action, Push, Load, Store, Pop, Double, Swap, Compute, Negate, Increase, IfZero, IfBoth, IfNull, Go, Switch, Return, Read, Write, Make, Call, Use}
+use Rattle.vm_model.specs.Actions.{Sort, Number, Reference, Calling, Static, Action, Push, Load, Store, Pop, Double, Swap, Compute, Negate, Increase, IfZero, IfBoth, IfNull, Go, Switch, Return, Read, Write, Make, Call, Use}
 
 -- what an operand or a local must be
 pub data Want : Type 0 where

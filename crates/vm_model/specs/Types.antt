@@ -1,5 +1,5 @@
 -- Descriptors (JVMS 4.3): the types of fields, parameters and results.
-use Rattle.std.specs.Prelude.{◌≡◌, ◌≢◌, ℕ, List, [], ◌∷◌, ◌++◌, Bool, Option, Some, None, if◌then◌else◌, ◌==◌, codes}
+use Rattle.std.specs.Prelude.{◌≡◌, ◌≢◌, ℕ, List, [], ◌∷◌, ◌++◌, Bool, not, ◌||◌, Option, Some, None, if◌then◌else◌, ◌==◌, codes}
 use Rattle.std.specs.List.{fold, flat_map, AllByRecursion}
 use Rattle.std.specs.Str.{bytes_eq}
 use Rattle.mg_text.specs.Call.{Name}
@@ -26,6 +26,14 @@ type_text Texts = codes "[Ljava/lang/String;"
 abbrev pub result_text : Option FieldType → List ℕ
 result_text None = codes "V"
 result_text (Some type) = type_text type
+
+-- all the types of a signature, the result's last
+abbrev pub result_types : Option FieldType → List FieldType
+result_types None = []
+result_types (Some type) = type ∷ []
+
+abbrev pub types_of_signature : Signature → List FieldType
+types_of_signature s = s.params ++ result_types s.result
 
 -- the descriptor of a method
 abbrev pub signature_text : Signature → List ℕ
@@ -105,6 +113,10 @@ reads Wrong b = Wrong
 abbrev pub signature_in : Reading → Option Signature
 signature_in (Whole signature) = Some signature
 signature_in _ = None
+
+-- the array of texts stands in the descriptor of a `main` alone
+abbrev pub is_main_alone : Name → Name → Bool
+is_main_alone name descriptor = not (bytes_eq descriptor (codes "([Ljava/lang/String;)V")) || bytes_eq name (codes "main")
 
 -- the signature of a method of this descriptor
 unfoldable pub signature_of : Name → Option Signature

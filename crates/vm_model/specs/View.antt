@@ -11,7 +11,7 @@ use Rattle.vm_model.specs.Program.{Args, Nothing, Int, Text, Local, Add, Jump, T
 abbrev pub args_of : LinkedArgs → Args
 args_of kept.None = Nothing
 args_of (kept.Int value) = Int value
-args_of (kept.Text text) = Text text
+args_of (kept.Text text) = Text text.value
 args_of (kept.Local local) = Local local
 args_of (kept.Add local value) = Add local value
 args_of (kept.Jump target) = Jump target

@@ -4,13 +4,14 @@
 
 mod linked;
 mod ports;
-pub mod printing;
 mod program;
+mod spelling;
 mod types;
 mod value;
 
 pub use linked::{Built, LinkedArgs, LinkedClass, LinkedField, LinkedInstr, LinkedMethod};
 pub use ports::Ports;
 pub use program::Linked;
+pub use spelling::descriptors_spell_one;
 pub use types::{FieldType, Signature, read_signature, read_type};
 pub use value::Value;

@@ -2,6 +2,7 @@
 //! Classes are numbered in their order in the program, fields and methods in their order in the class.
 
 use mg_text::{List, Text};
+use std::rc::Rc;
 
 /// A member of the built-in classes.
 #[derive(Clone, Copy, Debug, PartialEq, Eq)]
@@ -47,7 +48,8 @@ pub enum Built {
 pub enum LinkedArgs {
     None,
     Int(i32),
-    Text(Text),
+    /// A text, which every value that is made of it shares.
+    Text(Rc<Text>),
     /// A local of the frame.
     Local(u8),
     /// A local, and what is added to it.

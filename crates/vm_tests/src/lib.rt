@@ -3,6 +3,10 @@
 #![tactic(auto)]
 
 #[cfg(test)]
+mod classes;
+#[cfg(test)]
+mod faults;
+#[cfg(test)]
 mod linking;
 #[cfg(test)]
 mod machine;

@@ -1,132 +1,20 @@
-//! A class that prints a text, by hand, and what is wrong with it when a constant is another.
-//! The pool is that of the file that a Java compiler writes for such a class.
+//! What a class that prints links to, and what is wrong with it when a constant is another.
+//! Each fault is told by its number and the name in it.
 
-use cls_tree::{Args, Attr, Class, Code, Const, Instr, Member};
-use mg_text::{List, Memory, Text};
+use crate::classes::{Words, class, instr, named, plain, prints, right};
+use cls_tree::Args;
+use mg_text::List;
 use std::alloc::Global;
+use std::test::Fail;
 use vm_load::{LoadFault, load};
 use vm_model::{Built, Linked, LinkedArgs};
-
-/// What the constants of the class say.
-#[derive(Clone, Copy)]
-struct Words {
-    super_class: &'static str,
-    main: &'static str,
-    descriptor: &'static str,
-    println: &'static str,
-}
-
-/// The class as it links.
-fn right() -> Words {
-    Words {
-        super_class: "java/lang/Object",
-        main: "main",
-        descriptor: "([Ljava/lang/String;)V",
-        println: "println",
-    }
-}
-
-fn utf8(alloc: Global, text: &str) -> Result<Const, Memory> {
-    let text = Text::of(alloc, text)?;
-    Ok(Const::Utf8(text))
-}
-
-/// The constants for the class and its method.
-fn first_constants(alloc: Global, words: Words) -> Result<List<Const>, Memory> {
-    let mut pool = List::new(alloc);
-    pool.push(utf8(alloc, "Hello")?)?;
-    pool.push(Const::Class(1))?;
-    pool.push(utf8(alloc, words.super_class)?)?;
-    pool.push(Const::Class(3))?;
-    pool.push(utf8(alloc, words.main)?)?;
-    pool.push(utf8(alloc, words.descriptor)?)?;
-    pool.push(utf8(alloc, "Code")?)?;
-    Ok(pool)
-}
-
-/// And those that its code names.
-fn constants(alloc: Global, words: Words) -> Result<List<Const>, Memory> {
-    let mut pool = first_constants(alloc, words)?;
-    pool.push(utf8(alloc, "java/lang/System")?)?;
-    pool.push(Const::Class(8))?;
-    pool.push(utf8(alloc, "out")?)?;
-    pool.push(utf8(alloc, "Ljava/io/PrintStream;")?)?;
-    pool.push(Const::NameAndType(10, 11))?;
-    pool.push(Const::Field(9, 12))?;
-    pool.push(utf8(alloc, "hello")?)?;
-    pool.push(Const::Text(14))?;
-    pool.push(utf8(alloc, "java/io/PrintStream")?)?;
-    pool.push(Const::Class(16))?;
-    pool.push(utf8(alloc, words.println)?)?;
-    pool.push(utf8(alloc, "(Ljava/lang/String;)V")?)?;
-    pool.push(Const::NameAndType(18, 19))?;
-    pool.push(Const::Method(17, 20))?;
-    Ok(pool)
-}
-
-fn named(op: u8, number: u16) -> Instr {
-    Instr {
-        op,
-        args: Args::Pool(number),
-    }
-}
-
-/// The code of the method.
-fn code(alloc: Global) -> Result<Code, Memory> {
-    let mut instrs = List::new(alloc);
-    instrs.push(named(0xb2, 13))?;
-    instrs.push(named(0x12, 15))?;
-    instrs.push(named(0xb6, 21))?;
-    instrs.push(Instr {
-        op: 0xb1,
-        args: Args::None,
-    })?;
-    Ok(Code {
-        name: 7,
-        max_stack: 2,
-        max_locals: 1,
-        instrs,
-        attributes: List::new(alloc),
-    })
-}
-
-/// The method's attributes.
-fn attributes(alloc: Global, has_code: bool) -> Result<List<Attr>, Memory> {
-    let mut attributes = List::new(alloc);
-    if has_code {
-        let code = code(alloc)?;
-        attributes.push(Attr::Code(code))?;
-    }
-    Ok(attributes)
-}
-
-/// The class, with its code or without.
-fn class(alloc: Global, words: Words, has_code: bool) -> Result<Class, Memory> {
-    let attributes = attributes(alloc, has_code)?;
-    let mut methods = List::new(alloc);
-    methods.push(Member {
-        access: 9,
-        name: 5,
-        descriptor: 6,
-        attributes,
-    })?;
-    let pool = constants(alloc, words)?;
-    Ok(Class {
-        pool,
-        access: 0x21,
-        this_class: 2,
-        super_class: 4,
-        fields: List::new(alloc),
-        methods,
-        attributes: List::new(alloc),
-    })
-}
 
 /// What so many of this class link to.
 fn linked(alloc: Global, words: Words, has_code: bool, count: usize) -> Result<Linked, LoadFault> {
     let mut classes = List::new(alloc);
     for _ in 0..count {
-        let one = class(alloc, words, has_code)?;
+        let code = if has_code { Some(prints(alloc)?) } else { None };
+        let one = class(alloc, words, code)?;
         classes.push(one)?;
     }
     load(alloc, classes.as_slice())
@@ -164,57 +52,96 @@ fn is_hello(program: &Linked) -> bool {
     is_out && is_text && is_println && is_end && is_named && method.is_static
 }
 
+fn with_super(super_class: &'static str) -> Words {
+    let mut words = right();
+    words.super_class = super_class;
+    words
+}
+
+fn with_name(main: &'static str) -> Words {
+    let mut words = right();
+    words.main = main;
+    words
+}
+
+fn with_members(descriptor: &'static str, called: &'static str) -> Words {
+    let mut words = right();
+    words.descriptor = descriptor;
+    words.called = called;
+    words
+}
+
+fn with_descriptor(descriptor: &'static str) -> Words {
+    with_members(descriptor, "println")
+}
+
 #[test]
 fn a_class_that_prints_links(rt: HostRuntime) {
     let answer = linked(rt.alloc(), right(), true, 1);
-    assert_eq!(rt; told(&answer).0, 0);
     let program = answer.expect(&rt, "the class links");
     assert!(rt; is_hello(&program));
+    let other = with_descriptor("(Ljava/lang/System;ZI)LHello;");
+    let answer = linked(rt.alloc(), other, true, 1);
+    assert_eq!(rt; told(&answer).0, 0);
 }
 
 #[test]
-fn two_classes_have_one_name(rt: HostRuntime) {
-    let answer = linked(rt.alloc(), right(), true, 2);
-    let (number, name) = told(&answer);
-    assert_eq!(rt; number, 1);
-    assert_eq!(rt; name, "Hello");
+fn the_first_fault_of_the_lowest_number_is_told(rt: HostRuntime) {
+    // What the constants say, whether the method has code, how many such classes there are, and the fault: its number and its name.
+    let cases: [(Words, bool, usize, u8, &str); 13] = [
+        // Two classes of one name.
+        (right(), true, 2, 1, "Hello"),
+        // Another super class.
+        (
+            with_super("java/lang/String"),
+            true,
+            1,
+            2,
+            "java/lang/String",
+        ),
+        (with_super("Hello"), true, 1, 2, "Hello"),
+        // Classes in descriptors that aren't there.
+        (with_descriptor("(L;)V"), true, 1, 2, ""),
+        (with_descriptor("(I)LNone;"), true, 1, 2, "None"),
+        // Members that aren't there; a wrong descriptor comes after them.
+        (with_members("([I)V", "print"), true, 1, 3, "print"),
+        (with_members("()V", "<init>"), true, 1, 3, "<init>"),
+        // Wrong descriptors; the array stands in `main` alone, and the want of code comes after them.
+        (with_descriptor("()"), true, 1, 4, "()"),
+        (with_descriptor("(V)V"), true, 1, 4, "(V)V"),
+        (with_descriptor("()VV"), true, 1, 4, "()VV"),
+        (
+            with_descriptor("([Ljava/lang/String;I)V"),
+            true,
+            1,
+            4,
+            "([Ljava/lang/String;I)V",
+        ),
+        (with_name("start"), false, 1, 4, "([Ljava/lang/String;)V"),
+        // A method without code.
+        (right(), false, 1, 5, "main"),
+    ];
+    for (words, has_code, count, number, name) in cases {
+        let answer = linked(rt.alloc(), words, has_code, count);
+        assert_eq!(rt; told(&answer), (number, name));
+    }
 }
 
 #[test]
-fn a_super_class_is_another(rt: HostRuntime) {
-    let mut words = right();
-    words.super_class = "java/lang/String";
-    let answer = linked(rt.alloc(), words, true, 1);
-    let (number, name) = told(&answer);
-    assert_eq!(rt; number, 2);
-    assert_eq!(rt; name, "java/lang/String");
-}
-
-#[test]
-fn a_member_is_not_there(rt: HostRuntime) {
-    let mut words = right();
-    words.println = "print";
-    words.descriptor = "([I)V";
-    let answer = linked(rt.alloc(), words, true, 1);
-    let (number, name) = told(&answer);
-    assert_eq!(rt; number, 3);
-    assert_eq!(rt; name, "print");
-}
-
-#[test]
-fn the_array_stands_in_main_alone(rt: HostRuntime) {
-    let mut words = right();
-    words.main = "start";
-    let answer = linked(rt.alloc(), words, false, 1);
-    let (number, name) = told(&answer);
-    assert_eq!(rt; number, 4);
-    assert_eq!(rt; name, "([Ljava/lang/String;)V");
-}
-
-#[test]
-fn a_method_has_no_code(rt: HostRuntime) {
-    let answer = linked(rt.alloc(), right(), false, 1);
-    let (number, name) = told(&answer);
-    assert_eq!(rt; number, 5);
-    assert_eq!(rt; name, "main");
+fn what_is_no_instruction_names_nothing(rt: HostRuntime) -> Result<(), Fail> {
+    let wrong = [
+        plain(0x12),
+        named(0x12, 8),
+        instr(0xa7, Args::Jump(1)),
+        instr(0x60, Args::Local(0)),
+    ];
+    for one in wrong {
+        let mut code = List::new(rt.alloc());
+        code.push(one)?;
+        let class = class(rt.alloc(), right(), Some(code))?;
+        let answer = load(rt.alloc(), &[class]);
+        assert_eq!(rt; told(&answer).0, 3);
+        assert_eq!(rt; told(&answer).1, "");
+    }
+    Ok(())
 }

@@ -1,70 +1,56 @@
 //! Small programs by hand, and what their machines do.
 //! The events and endings are those of the instructions' description (JVMS chapter 6).
 
-use mg_text::{Ending, Event, List, Memory, Text};
+use crate::classes::{Words, class, instr, named, plain, prints, right};
+use cls_tree::{Args, Instr};
+use mg_text::{Ending, Event, List, Memory};
 use std::alloc::Global;
 use std::test::Fail;
+use vm_load::{LoadFault, load};
 use vm_machine::{Machine, Stepped, has_main};
-use vm_model::{Built, Linked, LinkedArgs, LinkedClass, LinkedInstr, LinkedMethod, Ports};
-
-fn instr(op: u8, args: LinkedArgs) -> LinkedInstr {
-    LinkedInstr { op, args }
-}
+use vm_model::{Linked, Ports};
 
 /// The class `Hello` whose `main` has this code.
-fn program(alloc: Global, code: List<LinkedInstr>) -> Result<Linked, Memory> {
-    let mut methods = List::new(alloc);
-    methods.push(LinkedMethod {
-        name: Text::of(alloc, "main")?,
-        descriptor: Text::of(alloc, "([Ljava/lang/String;)V")?,
-        is_static: true,
-        max_stack: 2,
-        max_locals: 1,
-        code,
-    })?;
-    let mut classes = List::new(alloc);
-    classes.push(LinkedClass {
-        name: Text::of(alloc, "Hello")?,
-        fields: List::new(alloc),
-        methods,
-    })?;
-    Ok(Linked { classes })
+fn program(alloc: Global, words: Words, code: List<Instr>) -> Result<Linked, LoadFault> {
+    let class = class(alloc, words, Some(code))?;
+    load(alloc, &[class])
 }
 
 /// Prints `hello`.
-fn hello(alloc: Global) -> Result<Linked, Memory> {
-    let mut code = List::new(alloc);
-    code.push(instr(0xb2, LinkedArgs::Built(Built::Out)))?;
-    code.push(instr(0x12, LinkedArgs::Text(Text::of(alloc, "hello")?)))?;
-    code.push(instr(0xb6, LinkedArgs::Built(Built::Println)))?;
-    code.push(instr(0xb1, LinkedArgs::None))?;
-    program(alloc, code)
+fn hello(alloc: Global) -> Result<Linked, LoadFault> {
+    let code = prints(alloc)?;
+    program(alloc, right(), code)
 }
 
 /// Counts a local from 0 up to a bound.
-fn counts(alloc: Global, bound: i32) -> Result<Linked, Memory> {
+fn counts(alloc: Global, bound: i16) -> Result<Linked, LoadFault> {
     let mut code = List::new(alloc);
-    code.push(instr(0x03, LinkedArgs::None))?;
-    code.push(instr(0x3b, LinkedArgs::None))?;
-    code.push(instr(0x1a, LinkedArgs::None))?;
-    code.push(instr(0x12, LinkedArgs::Int(bound)))?;
-    code.push(instr(0xa2, LinkedArgs::Jump(7)))?;
-    code.push(instr(0x84, LinkedArgs::Add(0, 1)))?;
-    code.push(instr(0xa7, LinkedArgs::Jump(2)))?;
-    code.push(instr(0xb1, LinkedArgs::None))?;
-    program(alloc, code)
+    code.push(plain(0x03))?;
+    code.push(plain(0x3b))?;
+    code.push(plain(0x1a))?;
+    code.push(instr(0x10, Args::Number(bound)))?;
+    code.push(instr(0xa2, Args::Jump(9)))?;
+    code.push(instr(0x84, Args::Add(0, 1)))?;
+    code.push(instr(0xa7, Args::Jump(-9)))?;
+    code.push(plain(0xb1))?;
+    program(alloc, right(), code)
 }
 
 /// Looks at a message from a role that isn't there.
-fn looks(alloc: Global) -> Result<Linked, Memory> {
+fn looks(alloc: Global) -> Result<Linked, LoadFault> {
+    let mut words = right();
+    words.text = "S";
+    words.owner = "mungo/lib/Session";
+    words.called = "look";
+    words.called_descriptor = "(Ljava/lang/String;)Ljava/lang/String;";
     let mut code = List::new(alloc);
-    code.push(instr(0x12, LinkedArgs::Text(Text::of(alloc, "S")?)))?;
-    code.push(instr(0xb8, LinkedArgs::Built(Built::Look)))?;
-    program(alloc, code)
+    code.push(named(0x12, 15))?;
+    code.push(named(0xb8, 21))?;
+    program(alloc, words, code)
 }
 
 /// No roles.
-fn no_ports(alloc: Global) -> Result<Ports, Memory> {
+pub(crate) fn no_ports(alloc: Global) -> Result<Ports, Memory> {
     Ports::new(alloc, &[])
 }
 
@@ -97,7 +83,7 @@ fn step_after(
 
 #[test]
 fn a_text_is_printed(rt: HostRuntime) -> Result<(), Fail> {
-    let linked = hello(rt.alloc())?;
+    let linked = hello(rt.alloc()).expect(&rt, "the class links");
     assert!(rt; has_main(&linked, "Hello"));
     let mut machine = Machine::start(rt.alloc(), &linked, "Hello")?;
     let printed = step_after(rt.alloc(), &linked, &mut machine, 2)?;
@@ -109,7 +95,7 @@ fn a_text_is_printed(rt: HostRuntime) -> Result<(), Fail> {
 
 #[test]
 fn a_loop_counts(rt: HostRuntime) -> Result<(), Fail> {
-    let linked = counts(rt.alloc(), 10)?;
+    let linked = counts(rt.alloc(), 10).expect(&rt, "the class links");
     assert!(rt; has_main(&linked, "Hello"));
     let mut machine = Machine::start(rt.alloc(), &linked, "Hello")?;
     let mut ports = no_ports(rt.alloc())?;
@@ -124,7 +110,7 @@ fn a_loop_counts(rt: HostRuntime) -> Result<(), Fail> {
 
 #[test]
 fn a_peer_is_no_role(rt: HostRuntime) -> Result<(), Fail> {
-    let linked = looks(rt.alloc())?;
+    let linked = looks(rt.alloc()).expect(&rt, "the class links");
     assert!(rt; has_main(&linked, "Hello"));
     let mut machine = Machine::start(rt.alloc(), &linked, "Hello")?;
     let mut ports = no_ports(rt.alloc())?;

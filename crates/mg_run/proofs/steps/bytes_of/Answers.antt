@@ -7,3 +7,6 @@ write_class-requires c = class_fits _ c.requires
 
 pub unreachable-requires : goal.unreachable-requires
 unreachable-requires c = rw c.in-Err-Code.field-0-is at (c.in-Err-Code.ensures.file (plain_file _ c.requires))
+
+pub returns-in-Ok : goal.returns-in-Ok
+returns-in-Ok c = c.in-Ok.ensures.file (plain_file _ c.requires)

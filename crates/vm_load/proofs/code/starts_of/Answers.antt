@@ -1,7 +1,8 @@
 use Rattle.std.proofs.Common.{rules, ◌≡◌, ◌<◌, ◌≤◌, [], length, arith}
-use Rattle.cls_tree.specs.View.{instr_of}
+use Rattle.cls_tree.specs.View.{instr_of, instrs_of}
 use Rattle.cls_tree.specs.Layout.{instr_bytes}
 use Rattle.vm_load.proofs.Codes.{starts_on, starts_done}
+use Rattle.vm_load.proofs.Rising.{starts_rise}
 use Rattle.vm_load.proofs.code.starts_of.Goals as goal
 
 pub loop-instr-preserved : goal.loop-instr-preserved
@@ -14,7 +15,13 @@ loop-instr-preserved c =
       bound = omega (arith, c.width-place.ensures.bound);
     }
 
-pub returns : goal.returns
-returns c =
+pub returns-clause-starts : goal.returns-clause-starts
+returns-clause-starts c =
     let past : length c.args.instrs.now ≤ c.loop-instr.instr-index = search rules in
     starts_done c.args.instrs.now c.loop-instr.instr-index c.loop-instr.starts.items c.loop-instr.place _ past c.loop-instr.invariant.whole
+
+pub returns-clause-rising : goal.returns-clause-rising
+returns-clause-rising c =
+    let past : length c.args.instrs.now ≤ c.loop-instr.instr-index = search rules in
+    starts_rise (instrs_of c.args.instrs.now) c.loop-instr.starts.items
+    (starts_done c.args.instrs.now c.loop-instr.instr-index c.loop-instr.starts.items c.loop-instr.place _ past c.loop-instr.invariant.whole)

@@ -1,4 +1,4 @@
-use Rattle.std.proofs.Common.{◌≡◌, ◌∙◌, length, ap, sym}
+use Rattle.std.proofs.Common.{◌≡◌, ◌∙◌, length, ap, sym, refl}
 use Rattle.std.proofs.lemmas.List.{length-map}
 use Rattle.vm_model.specs.View.{classes_of}
 use Rattle.vm_model.specs.Program.{method_at}
@@ -17,8 +17,11 @@ returns-in-Some-clause-ok c =
     let m = state_of c.args.state.now in
     let same : needs_of c.call_needs-needs.result ≡ needs p m (Call (calling_of c.args.calling) c.args.class c.args.method) =
     rw (c.as_slice.ensures.value, c.in_ok-takes.ensures, c.method_at.ensures) at c.call_needs-needs.ensures in
-    λ me q. act_wrong p q m me (Call (calling_of c.args.calling) c.args.class c.args.method) c.in-Some.kind
-    (sym c.in-Some.is ∙ c.wrong.ensures ∙ ap (λ (n : Needs). wrong p n m) same)
+    λ me q. (
+      act_wrong p q m me (Call (calling_of c.args.calling) c.args.class c.args.method) c.in-Some.kind
+          (sym c.in-Some.is ∙ c.wrong.ensures ∙ ap (λ (n : Needs). wrong p n m) same),
+      refl,
+    )
 
 pub returns-clause-ok : goal.returns-clause-ok
 returns-clause-ok c =

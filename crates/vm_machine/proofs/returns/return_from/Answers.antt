@@ -1,4 +1,4 @@
-use Rattle.std.proofs.Common.{◌≡◌, ◌∙◌, Some, Option, sym, ap}
+use Rattle.std.proofs.Common.{◌≡◌, ◌∙◌, Some, Option, sym, ap, refl}
 use Rattle.std.specs.Option.{option_map}
 use Rattle.vm_model.specs.View.{classes_of}
 use Rattle.vm_model.specs.Types.{FieldType, signature_of}
@@ -19,7 +19,7 @@ returns-in-Some-clause-ok c =
     rw (c.descriptor.ensures, c.method_at-method.ensures) at c.in_ok-answer.ensures in
     let checked : c.check.result ≡ wrong p (needs p m (Return (option_map sort_of c.args.sort))) m =
     c.check.ensures ∙ ap (λ (t : Option FieldType). wrong p (return_needs p m (option_map sort_of c.args.sort) t) m) same in
-    λ me q. act_wrong p q m me (Return (option_map sort_of c.args.sort)) c.in-Some.kind (sym c.in-Some.is ∙ checked)
+    λ me q. (act_wrong p q m me (Return (option_map sort_of c.args.sort)) c.in-Some.kind (sym c.in-Some.is ∙ checked), refl)
 
 pub returns-in-None-clause-ok : goal.returns-in-None-clause-ok
 returns-in-None-clause-ok c =

@@ -1,4 +1,4 @@
-use Rattle.std.proofs.Common.{◌∙◌, sym, Ok}
+use Rattle.std.proofs.Common.{◌∙◌, sym, Ok, refl}
 use Rattle.vm_model.specs.View.{classes_of}
 use Rattle.vm_machine.specs.State.{state_of}
 use Rattle.vm_machine.proofs.Acts.{act_wrong, does_same, does_plays_same}
@@ -6,8 +6,11 @@ use Rattle.vm_machine.proofs.Whole.{init_is, concat_is, equals_is, show_int_is, 
 use Rattle.vm_machine.proofs.step.act_built.Goals as goal
 
 pub returns-in-Some-clause-ok : goal.returns-in-Some-clause-ok
-returns-in-Some-clause-ok c = act_wrong (classes_of c.args.linked.now.classes.items) c.args.ports.now (state_of c.args.state.now)
-    c.args.me _ c.in-Some.kind (sym c.in-Some.is ∙ c.check_built.ensures)
+returns-in-Some-clause-ok c = (
+  act_wrong (classes_of c.args.linked.now.classes.items) c.args.ports.now (state_of c.args.state.now)
+      c.args.me _ c.in-Some.kind (sym c.in-Some.is ∙ c.check_built.ensures),
+  refl,
+)
 
 pub returns-in-Init-clause-ok : goal.returns-in-Init-clause-ok
 returns-in-Init-clause-ok c =

@@ -1,4 +1,4 @@
-use Rattle.std.proofs.Common.{◌∙◌, sym}
+use Rattle.std.proofs.Common.{◌∙◌, sym, refl}
 use Rattle.vm_model.specs.View.{classes_of}
 use Rattle.vm_model.specs.Actions as actions
 use Rattle.vm_machine.specs.State.{state_of}
@@ -7,9 +7,11 @@ use Rattle.vm_machine.proofs.Whole.{make_is}
 use Rattle.vm_machine.proofs.step.act_make.Goals as goal
 
 pub returns-in-Some-clause-ok : goal.returns-in-Some-clause-ok
-returns-in-Some-clause-ok c = λ me q.
-    act_wrong (classes_of c.args.linked.now.classes.items) q (state_of c.args.state.now) me (actions.Make c.args.class)
-    c.in-Some.kind (sym c.in-Some.is ∙ c.check.ensures)
+returns-in-Some-clause-ok c = λ me q. (
+  act_wrong (classes_of c.args.linked.now.classes.items) q (state_of c.args.state.now) me (actions.Make c.args.class)
+      c.in-Some.kind (sym c.in-Some.is ∙ c.check.ensures),
+  refl,
+)
 
 pub returns-clause-ok : goal.returns-clause-ok
 returns-clause-ok c =

@@ -1,4 +1,4 @@
-use Rattle.std.proofs.Common.{◌∙◌, sym, Ok}
+use Rattle.std.proofs.Common.{◌∙◌, sym, Ok, refl}
 use Rattle.vm_model.specs.View.{classes_of}
 use Rattle.vm_machine.specs.State.{state_of}
 use Rattle.vm_machine.proofs.Acts.{act_wrong, plays_for}
@@ -6,8 +6,11 @@ use Rattle.vm_machine.proofs.Whole.{push_is, load_is, store_is, pop_is, double_i
 use Rattle.vm_machine.proofs.step.act_plain.Goals as goal
 
 pub returns-in-Some-clause-ok : goal.returns-in-Some-clause-ok
-returns-in-Some-clause-ok c = λ me q. act_wrong (classes_of c.args.linked.now.classes.items) q (state_of c.args.state.now) me _
-    c.in-Some.kind (sym c.in-Some.is ∙ c.check_plain.ensures)
+returns-in-Some-clause-ok c = λ me q. (
+  act_wrong (classes_of c.args.linked.now.classes.items) q (state_of c.args.state.now) me _
+      c.in-Some.kind (sym c.in-Some.is ∙ c.check_plain.ensures),
+  refl,
+)
 
 pub returns-in-Push-clause-ok : goal.returns-in-Push-clause-ok
 returns-in-Push-clause-ok c =

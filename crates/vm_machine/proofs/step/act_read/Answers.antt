@@ -1,4 +1,4 @@
-use Rattle.std.proofs.Common.{◌∙◌, ◌∷◌, [], sym, ap}
+use Rattle.std.proofs.Common.{◌∙◌, ◌∷◌, [], sym, ap, refl}
 use Rattle.vm_model.specs.View.{classes_of}
 use Rattle.vm_model.specs.Actions as actions
 use Rattle.vm_model.specs.Tests.{Want, taking, wrong}
@@ -8,12 +8,14 @@ use Rattle.vm_machine.proofs.Whole.{read_is}
 use Rattle.vm_machine.proofs.step.act_read.Goals as goal
 
 pub returns-in-Some-clause-ok : goal.returns-in-Some-clause-ok
-returns-in-Some-clause-ok c = λ me q.
-    act_wrong (classes_of c.args.linked.now.classes.items) q (state_of c.args.state.now) me (actions.Read c.args.class c.args.field)
-    c.in-Some.kind (sym c.in-Some.is ∙ c.check.ensures
-    ∙ ap (λ (w : Want). wrong (classes_of c.args.linked.now.classes.items)
-    (taking (classes_of c.args.linked.now.classes.items) (state_of c.args.state.now) (w ∷ []) 1) (state_of c.args.state.now))
-    c.object.ensures)
+returns-in-Some-clause-ok c = λ me q. (
+  act_wrong (classes_of c.args.linked.now.classes.items) q (state_of c.args.state.now) me (actions.Read c.args.class c.args.field)
+      c.in-Some.kind (sym c.in-Some.is ∙ c.check.ensures
+      ∙ ap (λ (w : Want). wrong (classes_of c.args.linked.now.classes.items)
+      (taking (classes_of c.args.linked.now.classes.items) (state_of c.args.state.now) (w ∷ []) 1) (state_of c.args.state.now))
+      c.object.ensures),
+  refl,
+)
 
 pub returns-clause-ok : goal.returns-clause-ok
 returns-clause-ok c =

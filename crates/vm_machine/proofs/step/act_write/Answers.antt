@@ -1,4 +1,4 @@
-use Rattle.std.proofs.Common.{◌∙◌, ◌∷◌, [], sym, ap, Ok}
+use Rattle.std.proofs.Common.{◌∙◌, ◌∷◌, [], sym, ap, Ok, refl}
 use Rattle.vm_model.specs.View.{classes_of}
 use Rattle.vm_model.specs.Actions as actions
 use Rattle.vm_model.specs.Tests.{Want, Typed, taking, wrong, type_in}
@@ -11,16 +11,18 @@ use Rattle.vm_machine.proofs.Whole.{write_is}
 use Rattle.vm_machine.proofs.step.act_write.Goals as goal
 
 pub returns-in-Some-clause-ok : goal.returns-in-Some-clause-ok
-returns-in-Some-clause-ok c = λ me q.
-    act_wrong (classes_of c.args.linked.now.classes.items) q (state_of c.args.state.now) me
-    (actions.Write c.args.class c.args.field) c.in-Some.kind (sym c.in-Some.is ∙ c.check.ensures
-    ∙ ap (λ (w : Want). wrong (classes_of c.args.linked.now.classes.items)
-    (taking (classes_of c.args.linked.now.classes.items) (state_of c.args.state.now) (w ∷ want_of c.in_ok-value.value ∷ []) 0)
-    (state_of c.args.state.now)) c.object.ensures
-    ∙ ap (λ (w : Want). wrong (classes_of c.args.linked.now.classes.items)
-    (taking (classes_of c.args.linked.now.classes.items) (state_of c.args.state.now)
-    (Typed (Named (class_name (classes_of c.args.linked.now.classes.items) c.args.class)) ∷ w ∷ []) 0)
-    (state_of c.args.state.now)) (c.in_ok-value.ensures ∙ ap type_in c.field_at.ensures))
+returns-in-Some-clause-ok c = λ me q. (
+  act_wrong (classes_of c.args.linked.now.classes.items) q (state_of c.args.state.now) me
+      (actions.Write c.args.class c.args.field) c.in-Some.kind (sym c.in-Some.is ∙ c.check.ensures
+      ∙ ap (λ (w : Want). wrong (classes_of c.args.linked.now.classes.items)
+      (taking (classes_of c.args.linked.now.classes.items) (state_of c.args.state.now) (w ∷ want_of c.in_ok-value.value ∷ []) 0)
+      (state_of c.args.state.now)) c.object.ensures
+      ∙ ap (λ (w : Want). wrong (classes_of c.args.linked.now.classes.items)
+      (taking (classes_of c.args.linked.now.classes.items) (state_of c.args.state.now)
+      (Typed (Named (class_name (classes_of c.args.linked.now.classes.items) c.args.class)) ∷ w ∷ []) 0)
+      (state_of c.args.state.now)) (c.in_ok-value.ensures ∙ ap type_in c.field_at.ensures)),
+  refl,
+)
 
 pub returns-clause-ok : goal.returns-clause-ok
 returns-clause-ok c =

@@ -1,5 +1,4 @@
-use Rattle.std.proofs.Common.{◌≡◌, None, position, take, get_or, ◌++◌, ◌∷◌, [], ap, sym, ◌∙◌}
-use Rattle.std.specs.Str.{bytes_eq}
+use Rattle.std.proofs.Common.{ap, ◌∙◌}
 use Rattle.mg_text.specs.Interned.{with_text}
 use Rattle.vm_model.proofs.Queues.{one_more}
 use Rattle.vm_model.proofs.ports.table_of.Goals as goal

@@ -1,4 +1,4 @@
-use Rattle.std.proofs.Common.{rules, ◌∙◌, ◌<◌, ◌≤◌, ap, sym, drop, slice_get, map, length}
+use Rattle.std.proofs.Common.{rules, ◌∙◌, ◌<◌, ◌≤◌, ap, sym, drop, slice_get, length}
 use Rattle.vm_model.proofs.Queues.{changed_by, list_by, list_past, first_given}
 use Rattle.vm_model.proofs.ports.take_first.Goals as goal
 

@@ -1,4 +1,4 @@
-use Rattle.std.proofs.Common.{rules, ◌≡◌, ◌+◌, ◌<◌, [], ap, sym, refl, ◌∙◌, get_or, length}
+use Rattle.std.proofs.Common.{rules, ◌+◌, ◌<◌, [], ap, sym, ◌∙◌, get_or, length}
 use Rattle.vm_model.specs.Descriptors.{reading_of, after_of, types_view}
 use Rattle.vm_model.proofs.Descriptors.{read_on, wrong_byte}
 use Rattle.vm_model.proofs.types.read_from.Goals as goal

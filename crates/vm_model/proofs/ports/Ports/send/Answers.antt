@@ -1,5 +1,5 @@
-use Rattle.std.proofs.Common.{rules, ◌≡◌, ◌∙◌, ◌<◌, ◌++◌, ◌∷◌, [], ap, sym, slice_get, slice_set, map, length}
-use Rattle.vm_model.specs.Messages.{Messages, or_nothing}
+use Rattle.std.proofs.Common.{rules, ◌++◌, ◌∷◌, [], ap, map}
+use Rattle.vm_model.specs.Messages.{Messages}
 use Rattle.vm_model.proofs.Queues.{row_changed, same_by, on_ok, on_err}
 use Rattle.vm_model.proofs.ports.Ports.send.Goals as goal
 

@@ -1,5 +1,5 @@
-use Rattle.std.proofs.Common.{rules, ◌≡◌, ◌∙◌, ◌<◌, ◌≤◌, ap, sym, drop, slice_get, slice_set, map, length}
-use Rattle.vm_model.specs.Messages.{Messages, or_nothing, on_way, with_list}
+use Rattle.std.proofs.Common.{rules, ◌∙◌, ◌<◌, ◌≤◌, ap, sym, drop, slice_get, map, length}
+use Rattle.vm_model.specs.Messages.{Messages, or_nothing}
 use Rattle.vm_model.proofs.Queues.{row_changed, list_by, list_past}
 use Rattle.vm_model.proofs.ports.Ports.take.Goals as goal
 

@@ -1,4 +1,0 @@
-pub mod Came
-pub mod Loops
-pub mod Exact
-pub mod Attributes
