@@ -1,0 +1,3 @@
+pub mod Combine
+pub mod Expressions
+pub mod Further

@@ -1,0 +1,12 @@
+pub mod Values
+pub mod Doing
+pub mod Operators
+pub mod Objects
+pub mod Messages
+pub mod Statements
+pub mod Calls
+pub mod Budget
+pub mod Seen
+pub mod Alike
+pub mod Further
+pub mod Laws

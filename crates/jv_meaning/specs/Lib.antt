@@ -1,0 +1,7 @@
+pub mod Program
+pub mod Names
+pub mod Meaning
+pub mod Calls
+pub mod Budget
+pub mod examples
+pub mod Computed

@@ -1,0 +1,4 @@
+pub mod Small
+pub mod Programs
+pub mod Roles
+pub mod Followed
