@@ -1,0 +1,12 @@
+pub mod Tree
+pub mod View
+pub mod Lookup
+pub mod Types
+pub mod Completes
+pub mod Statements
+pub mod Numbering
+pub mod Members
+pub mod Conditions
+pub mod Core
+pub mod Meaning
+pub mod Calls

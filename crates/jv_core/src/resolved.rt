@@ -1,0 +1,89 @@
+//! A resolved program as a whole, which keeps its conditions by its type.
+//! Contracts see it as the tree of its parts.
+
+ghost use Rattle.jv_core.specs.View.{program_of};
+ghost use Rattle.jv_core.specs.Conditions.{IsCore};
+
+use crate::{CoreClass, CoreEnum, CoreMethod};
+use mg_text::{List, Names};
+use ts_tree::Typestate;
+
+/// A resolved program: each number in it is in range, it is well typed, and it is numbered in the
+/// order of its text.
+///
+/// The methods of a class are those whose `class` it is, in rising order. An instance method has
+/// the kind `Protocol` exactly where the typestate of its class names it. The first slots of a
+/// method are its parameters; each other slot is declared once and each loop stands once, both in
+/// the order of the text. The scope of a loop has the slots in scope where it begins.
+#[derive(Drop)]
+pub struct Core {
+    classes: List<CoreClass>,
+    enums: List<CoreEnum>,
+    methods: List<CoreMethod>,
+    typestates: List<Typestate>,
+    names: Names,
+    ghost valid: { ∥ IsCore (program_of classes.items enums.items methods.items typestates.items names) ∥₁ },
+}
+
+impl Core {
+    ghost use Rattle.std.specs.Prelude.{◌≡◌, map};
+    ghost use Rattle.jv_core.specs.View.{class_of, enum_of, method_of};
+    ghost use Rattle.jv_core.specs.Core.{tree_of};
+
+    /// The program of these parts. They are in range, well typed, and numbered in the order of
+    /// the text; an enum has at most 2^31 constants, and the slots of a method and the fields of
+    /// its class are together at most 2^32 - 1.
+    pub fn new(
+        classes: List<CoreClass>,
+        enums: List<CoreEnum>,
+        methods: List<CoreMethod>,
+        typestates: List<Typestate>,
+        names: Names,
+    ) -> Core
+        requires { ∥ IsCore (program_of classes.items enums.items methods.items typestates.items names) ∥₁ }
+        ensures { tree_of result ≡ program_of classes.items enums.items methods.items typestates.items names }
+    {
+        Core {
+            classes,
+            enums,
+            methods,
+            typestates,
+            names,
+        }
+    }
+
+    /// The classes, by their numbers.
+    pub fn classes(&self) -> &[CoreClass]
+        ensures { map class_of result.now ≡ (tree_of self.now).classes }
+    {
+        self.classes.as_slice()
+    }
+
+    /// The enums, by their numbers.
+    pub fn enums(&self) -> &[CoreEnum]
+        ensures { map enum_of result.now ≡ (tree_of self.now).enums }
+    {
+        self.enums.as_slice()
+    }
+
+    /// The methods, by their numbers.
+    pub fn methods(&self) -> &[CoreMethod]
+        ensures { map method_of result.now ≡ (tree_of self.now).methods }
+    {
+        self.methods.as_slice()
+    }
+
+    /// The typestates, by their numbers.
+    pub fn typestates(&self) -> &[Typestate]
+        ensures { result.now ≡ (tree_of self.now).typestates }
+    {
+        self.typestates.as_slice()
+    }
+
+    /// The names, by their numbers.
+    pub fn names(&self) -> &Names
+        ensures { result.now ≡ (tree_of self.now).names }
+    {
+        &self.names
+    }
+}
