@@ -1,0 +1,5 @@
+pub mod Tests
+pub mod Leaving
+pub mod Deciding
+pub mod Judged
+pub mod Positive

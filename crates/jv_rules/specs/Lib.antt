@@ -1,0 +1,14 @@
+pub mod Program
+pub mod Types
+pub mod Scope
+pub mod Typing
+pub mod Completes
+pub mod Spots
+pub mod Taking
+pub mod Conditions
+pub mod Members
+pub mod Declarations
+pub mod Faults
+pub mod Shape
+pub mod inner
+pub mod Examples

@@ -1,0 +1,24 @@
+//! The type rules of Java sources: which condition is at fault in a program, where, and with which name.
+//! Definitions and their laws; no code of a program stands here.
+#![tactic(auto)]
+
+mod condition;
+
+ghost use Rattle.jv_rules.specs.Program.{Program};
+ghost use Rattle.jv_rules.specs.Faults.{IsFault};
+ghost use Rattle.jv_rules.specs.Examples.{AreJudged};
+ghost use Rattle.jv_rules.specs.inner.Deciding.{method_fault};
+
+pub use condition::Condition;
+
+/// The fault of a program's methods, or that there is none, can be computed.
+#[tactic(auto, using(crate::proofs::Deciding::judging))]
+pub fn methods_are_judged()
+    ensures { (program : Program) → IsFault program (method_fault program) }
+{}
+
+/// Small programs are judged as they should be.
+#[tactic(auto, using(crate::proofs::Judged::are_judged))]
+pub fn examples()
+    ensures { AreJudged }
+{}

@@ -1,0 +1,43 @@
+//! What is found by name in the tables of a program.
+
+ghost use Rattle.std.specs.Prelude.{◌≡◌, map, option_map, IfSome};
+ghost use Rattle.jv_tree.specs.View.{enum_of};
+ghost use Rattle.jv_meaning.specs.Program.{class_named, classes_of, enum_named};
+ghost use Rattle.jv_types.specs.inner.Tabled.{class_in, enum_in, IsEntryOf, AreEntriesOf};
+ghost use Rattle.jv_types.specs.Tables.{program_in};
+
+use crate::entry::{ClassEntry, EnumEntry};
+use crate::table::Table;
+
+impl<'a> Table<'a> {
+    /// The class of a name.
+    #[tactic(auto, using(crate::proofs::Entries::within))]
+    pub(crate) fn class_named(&self, name: &str) -> Option<&ClassEntry<'a>>
+        ensures class { option_map (λ e. class_in e.now) result ≡ class_named (program_in self.now).files name.now }
+        ensures entry { IfSome result (λ e. IsEntryOf (program_in self.now) e.now) }
+    {
+        match self.class_names.find(name) {
+            Some(number) => Some(&self.classes[number.0 as usize]),
+            None => None,
+        }
+    }
+
+    /// The enum of a name.
+    #[tactic(auto, using(crate::proofs::Entries::within))]
+    pub(crate) fn enum_named(&self, name: &str) -> Option<&EnumEntry<'a>>
+        ensures { option_map (λ e. enum_in e.now) result ≡ enum_named (program_in self.now).files name.now }
+    {
+        match self.enum_names.find(name) {
+            Some(number) => Some(&self.enums[number.0 as usize]),
+            None => None,
+        }
+    }
+
+    /// The classes, in file and text order.
+    pub(crate) fn classes(&self) -> &[ClassEntry<'a>]
+        ensures classes { map class_in result.now ≡ classes_of (program_in self.now).files }
+        ensures entries { AreEntriesOf (program_in self.now) result.now }
+    {
+        self.classes.as_slice()
+    }
+}

@@ -1,0 +1,25 @@
+//! The declarations of a program in tables by name.
+
+ghost use Rattle.std.specs.Coded.{codes};
+ghost use Rattle.jv_tree.specs.contracts.tree.ExprKind as exprs;
+ghost use Rattle.jv_tree.specs.contracts.tree.StmtKind as stmts;
+ghost use Rattle.jv_types.specs.inner.Kept.{IsTabled};
+
+use crate::entry::{ClassEntry, EnumEntry};
+use jv_tree::File;
+use mg_text::Names;
+use ts_tree::Typestate;
+
+/// A program whose declarations have no type fault, in tables by name.
+#[derive(Drop)]
+pub struct Table<'a> {
+    pub(crate) files: &'a [File],
+    pub(crate) typestates: &'a [Typestate],
+    // The classes and their names, in file and text order.
+    pub(crate) classes: Vec<ClassEntry<'a>>,
+    pub(crate) class_names: Names,
+    // The enums and their names.
+    pub(crate) enums: Vec<EnumEntry<'a>>,
+    pub(crate) enum_names: Names,
+    ghost tabled: { IsTabled files.now typestates.now classes.items class_names enums.items enum_names } by { Prim.hlevel (codes, exprs.the_row.coded, stmts.the_row.coded) },
+}
