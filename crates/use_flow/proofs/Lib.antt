@@ -1,0 +1,7 @@
+mod Examples
+mod Members
+mod Orders
+mod Rules
+mod Values
+mod Steps
+mod Laws

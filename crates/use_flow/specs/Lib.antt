@@ -1,0 +1,9 @@
+pub mod Elements
+pub mod Keys
+pub mod State
+pub mod Flow
+pub mod Tables
+pub mod inner
+pub mod examples
+pub mod Computed
+pub mod Laws

@@ -1,0 +1,27 @@
+//! What flows through a method: which elements each variable may have, and which demands fail.
+//! The rules are definitions; a table is asked for, and never changed here.
+#![tactic(auto)]
+
+ghost use Rattle.use_flow.specs.Computed.{ExamplesFail};
+ghost use Rattle.use_flow.specs.Laws.{GrowsWithTables, LeastSolve};
+
+mod demand;
+mod element;
+mod key;
+
+pub use demand::{Demand, DemandKind};
+pub use element::Element;
+pub use key::{Context, TableKey};
+
+/// The rules are computed on worked programs with their tables: which demands fail, in order, and
+/// that what flows out is within the tables. The function carries a law.
+pub fn examples_fail()
+    ensures { ExamplesFail }
+{}
+
+/// The flow grows with its tables: with larger tables more flows out, and each demand that failed
+/// fails. So the least tables solve a program where some tables do. The function carries laws.
+pub fn grows()
+    ensures flow { GrowsWithTables }
+    ensures least { LeastSolve }
+{}
