@@ -1,1 +1,1 @@
-mod ViewLaws
+pub mod ViewLaws

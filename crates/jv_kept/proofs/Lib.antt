@@ -1,28 +1,28 @@
-mod Apart
-mod Bodies
-mod BodyIs
-mod Clean
-mod Completing
-mod Decided
-mod Declared
-mod Enums
-mod Fields
-mod Fitting
+pub mod Apart
+pub mod Bodies
+pub mod BodyIs
+pub mod Clean
+pub mod Completing
+pub mod Decided
+pub mod Declared
+pub mod Enums
+pub mod Fields
+pub mod Fitting
 pub mod Kept
-mod Labels
-mod Locals
-mod Mentioned
-mod MethodKinds
-mod Moving
-mod NamedApart
-mod Naming
-mod OneNumber
-mod Operating
-mod Owned
-mod Params
-mod Performing
-mod Scopes
-mod Slots
-mod Stating
-mod TypesMeet
-mod Typing
+pub mod Labels
+pub mod Locals
+pub mod Mentioned
+pub mod MethodKinds
+pub mod Moving
+pub mod NamedApart
+pub mod Naming
+pub mod OneNumber
+pub mod Operating
+pub mod Owned
+pub mod Params
+pub mod Performing
+pub mod Scopes
+pub mod Slots
+pub mod Stating
+pub mod TypesMeet
+pub mod Typing

@@ -56,8 +56,8 @@ joined_past old other now i grew j there = record {
   grown = j.grown;
 }
 
-pub joined_all : (old other now : List Bool) (i : ℕ) (grew : Bool) → Joined old other now i grew → length old ≡ length other → length other ≤ i → now ≡ join old other
+pub joined_all : (old other now : List Bool) (i : ℕ) (grew : Bool) → Joined old other now i grew → length other ≤ length old → length other ≤ i → now ≡ join old other
 joined_all old other now i grew j wide all =
-    sym (join_all now other (j.wide ∙ wide) (λ k h. j.passed k (omega (arith, member-below other k h)) h)) ∙ j.both
+    sym (join_all now other (rw j.wide wide) (λ k h. j.passed k (omega (arith, member-below other k h)) h)) ∙ j.both
 
 pub ruleset joining = (joined_none, joined_past)

@@ -1,7 +1,7 @@
 //! Sets of numbers below a width.
 //! Only making one takes memory.
 
-ghost use Rattle.std.specs.Prelude.{◌≡◌, ◌<◌, IsTrue, IfOk, ◌↔◌, false, true, not, length, replicate, slice_set};
+ghost use Rattle.std.specs.Prelude.{◌≡◌, ◌<◌, ◌≤◌, IsTrue, IfOk, ◌↔◌, false, true, not, length, replicate, slice_set};
 ghost use Rattle.std.specs.Bool.{OnFalse, OnTrue};
 ghost use Rattle.mg_sets.specs.Sets.{has, join, members, Grows, IsSubset};
 
@@ -36,8 +36,8 @@ impl StateSet {
         Ok(StateSet { values })
     }
 
-    // How many numbers the set has room for.
-    fn width(&self) -> usize
+    /// How many numbers the set has room for.
+    pub fn width(&self) -> usize
         ensures { result ≡ length self.now }
     {
         self.values.len()
@@ -62,11 +62,22 @@ impl StateSet {
         absent
     }
 
-    /// Makes the members of another set of the same width members of this one.
+    /// An equal set.
+    ///
+    /// # Errors
+    /// `Memory` only.
+    pub fn copy(&self) -> Result<StateSet, Memory>
+        ensures { IfOk result (λ s. s ≡ self.now) }
+    {
+        let values = self.values.clone()?;
+        Ok(StateSet { values })
+    }
+
+    /// Makes the members of another set members of this one, which is at least as wide.
     /// True where this one grew, false where it is as before.
     #[tactic(auto, using(crate::proofs::Joining::joining))]
     pub fn join(&mut self, other: &StateSet) -> bool
-        requires { length self.old ≡ length other.now }
+        requires { length other.now ≤ length self.old }
         ensures set { self.new ≡ join self.old other.now }
         ensures same { OnFalse result (self.new ≡ self.old) }
         ensures grew { OnTrue result (Grows self.old self.new) }
