@@ -10,3 +10,6 @@ pub mod ClassLaws
 pub mod Loads
 pub mod Keeping
 pub mod Rising
+pub mod Noted
+pub mod Remembered
+pub mod Outlined

@@ -6,26 +6,14 @@ use Rattle.vm_model.specs.Linked.{is_built_in}
 use Rattle.vm_model.specs.declared.types.FieldType.{FieldType}
 use Rattle.vm_model.specs.declared.types.FieldType.TheVariants as types
 use Rattle.mg_text.specs.Call.{Name}
-use Rattle.cls_tree.specs.Pool.{Signature, Reference}
 use Rattle.cls_tree.specs.Tree.{Code, Attr, Coded}
-use Rattle.vm_model.specs.Links.{Declared, Outline, Member_of}
+use Rattle.vm_model.specs.Links.{Outline, Member_of}
 use Rattle.vm_load.specs.declared.member.BuiltMember.{BuiltMember}
-use Rattle.vm_load.specs.declared.pool.NamedType.{NamedType}
-use Rattle.vm_load.specs.declared.pool.Named.{Named}
-use Rattle.vm_load.specs.declared.outline.Declared.{Declared as KeptDeclared}
+use Rattle.vm_load.specs.Declaring.{declared_of}
 use Rattle.vm_load.specs.declared.outline.Outline.{Outline as KeptOutline}
 
-abbrev pub named_of : NamedType → Signature
-named_of n = record { name = n.name.now; descriptor = n.descriptor.now }
-
-abbrev pub member_of : Named → Reference
-member_of n = record { class = n.class.now; member = record { name = n.name.now; descriptor = n.descriptor.now } }
-
-abbrev pub declared_of : KeptDeclared → Declared
-declared_of d = record { name = d.name.now; descriptor = d.descriptor.now; is_static = d.is_static }
-
 abbrev pub outline_of : KeptOutline → Outline
-outline_of o = record { name = o.name.now; fields = map declared_of o.fields.items; own = map declared_of o.own.items; methods = map declared_of o.methods.items }
+outline_of o = record { name = o.name.now; fields = map declared_of o.fields.items; own = map declared_of o.own.all.items; methods = map declared_of o.methods.all.items }
 
 abbrev pub outlines_of : List KeptOutline → List Outline
 outlines_of os = map outline_of os

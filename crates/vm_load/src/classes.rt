@@ -6,18 +6,24 @@ ghost use Rattle.cls_tree.specs.View.{attr_of, code_of, member_of, class_of};
 ghost use Rattle.cls_tree.specs.Pool.{class_at};
 ghost use Rattle.vm_model.specs.View as model;
 ghost use Rattle.vm_model.specs.Links.{code_among, method_of_member, method_flaws, field_flaw, method_flaw, field_made, class_flaws, linked_class, super_flaw, or_empty as empty_or, outline, lower, least, some_in};
+ghost use Rattle.indexmap.specs.IndexMap.{get};
 ghost use Rattle.vm_load.specs.Faults.{best_flaw};
-ghost use Rattle.vm_load.specs.Outlines.{declared_of, outline_of, outlines_of, names_of, code_in};
+ghost use Rattle.vm_load.specs.Known.{AreRight};
+ghost use Rattle.vm_load.specs.Declaring.{declared_of};
+ghost use Rattle.vm_load.specs.Outlines.{outline_of, outlines_of, names_of, code_in};
 
 use crate::code::judge_code;
+use crate::declared::{Declared, declared_by};
 use crate::descriptor::{judge_field, judge_method, judge_super};
 use crate::fault::{LoadFault, no_code, note_flaw, note_told};
-use crate::outline::{Declared, Outline, declared_by, outlined};
+use crate::outline::{Outline, outlined};
 use crate::pool::{class_at, or_empty};
+use crate::uses::Use;
 use cls_tree::{Attr, Class, Code, Const, Member};
+use indexmap::IndexMap;
 use mg_text::{List, Memory, Names, Text};
 use std::alloc::Global;
-use vm_model::{LinkedClass, LinkedField, LinkedMethod};
+use vm_model::{LinkedArgs, LinkedClass, LinkedField, LinkedMethod};
 
 /// The code that an attribute is.
 #[tactic(auto, using(crate::proofs::Attributes::views))]
@@ -49,19 +55,23 @@ fn judge_body(
     outlines: &[Outline<'_>],
     names: &Names,
     pool: &[Const],
+    known: &mut IndexMap<Use, LinkedArgs>,
     member: &Member,
     first: Option<LoadFault>,
 ) -> Result<(Option<LinkedMethod>, Option<LoadFault>), Memory>
-    requires { names.now ≡ names_of (outlines_of outlines.now) }
+    requires names { names.now ≡ names_of (outlines_of outlines.now) }
+    requires known { AreRight (outlines_of outlines.now) pool.now (get ⟦<Use as PartialEq>⟧.eq known.old) }
     ensures right { IfOk result (λ r. option_to_list (option_map model.method_of r.0) ≡ method_of_member (outlines_of outlines.now) pool.now (member_of member.now)) }
     ensures wrong { IfOk result (λ r. best_flaw r.1 ≡ lower (best_flaw first) (least (method_flaws (outlines_of outlines.now) pool.now (member_of member.now)))) }
+    ensures known { IfOk result (λ _. AreRight (outlines_of outlines.now) pool.now (get ⟦<Use as PartialEq>⟧.eq known.new)) }
 {
     let declared = declared_by(pool, member);
     let Some(code) = code_among(member.attributes.as_slice()) else {
         let best = note_flaw(first, no_code(alloc, declared.name))?;
         return Ok((None, best));
     };
-    let (instrs, best) = judge_code(alloc, outlines, names, pool, code.instrs.as_slice(), first)?;
+    let instrs = code.instrs.as_slice();
+    let (instrs, best) = judge_code(alloc, outlines, names, pool, known, instrs, first)?;
     let name = Text::of(alloc, declared.name)?;
     let descriptor = Text::of(alloc, declared.descriptor)?;
     let method = LinkedMethod {
@@ -94,17 +104,20 @@ fn judge_bodies(
     outlines: &[Outline<'_>],
     names: &Names,
     pool: &[Const],
+    known: &mut IndexMap<Use, LinkedArgs>,
     members: &[Member],
     first: Option<LoadFault>,
 ) -> Result<(List<LinkedMethod>, Option<LoadFault>), Memory>
-    requires { names.now ≡ names_of (outlines_of outlines.now) }
+    requires names { names.now ≡ names_of (outlines_of outlines.now) }
+    requires known { AreRight (outlines_of outlines.now) pool.now (get ⟦<Use as PartialEq>⟧.eq known.old) }
     ensures right { IfOk result (λ r. map model.method_of r.0.items ≡ flat_map (method_of_member (outlines_of outlines.now) pool.now) (map member_of members.now)) }
     ensures wrong { IfOk result (λ r. best_flaw r.1 ≡ lower (best_flaw first) (least (flat_map (method_flaws (outlines_of outlines.now) pool.now) (map member_of members.now)))) }
+    ensures known { IfOk result (λ _. AreRight (outlines_of outlines.now) pool.now (get ⟦<Use as PartialEq>⟧.eq known.new)) }
 {
     let mut methods = List::new(alloc);
     let mut best = first;
     for member in members {
-        let (method, more) = judge_body(alloc, outlines, names, pool, member, best)?;
+        let (method, more) = judge_body(alloc, outlines, names, pool, known, member, best)?;
         add_method(&mut methods, method)?;
         best = more;
     }
@@ -187,12 +200,13 @@ fn judge_own_bodies(
     ensures right { IfOk result (λ r. map model.method_of r.0.items ≡ flat_map (method_of_member (outlines_of outlines.now) (class_of class.now).pool) (class_of class.now).methods) }
     ensures wrong { IfOk result (λ r. best_flaw r.1 ≡ lower (best_flaw first) (least (flat_map (method_flaws (outlines_of outlines.now) (class_of class.now).pool) (class_of class.now).methods))) }
 {
-    let pool = class.pool.as_slice();
+    let mut known = IndexMap::new(alloc);
     judge_bodies(
         alloc,
         outlines,
         names,
-        pool,
+        class.pool.as_slice(),
+        &mut known,
         class.methods.as_slice(),
         first,
     )
@@ -206,7 +220,7 @@ fn made(
 ) -> Result<LinkedClass, Memory>
     ensures { IfOk result (λ l. model.class_of l ≡ record { name = (outline_of own.now).name; fields = map field_made (outline_of own.now).own; methods = map model.method_of methods.items }) }
 {
-    let fields = fields_of(alloc, own.own.as_slice())?;
+    let fields = fields_of(alloc, own.own.all.as_slice())?;
     let name = Text::of(alloc, own.name)?;
     Ok(LinkedClass {
         name,
@@ -227,7 +241,7 @@ fn judge_descriptors(
     ensures { IfOk result (λ b. best_flaw b ≡ lower (lower (best_flaw first) (least (some_in (map (field_flaw (outlines_of outlines.now)) (outline_of own.now).fields)))) (least (some_in (map (method_flaw (outlines_of outlines.now)) (outline_of own.now).methods)))) }
 {
     let best = judge_fields(alloc, outlines, names, own.fields.as_slice(), first)?;
-    judge_methods(alloc, outlines, names, own.methods.as_slice(), best)
+    judge_methods(alloc, outlines, names, own.methods.all.as_slice(), best)
 }
 
 /// A class, and what is wrong with it, after what was wrong before.

@@ -1,6 +1,7 @@
 //! The code of a method: its instructions, what they name looked up, and their jumps as numbers.
 
 ghost use Rattle.std.specs.Prelude.{◌≡◌, ◌<◌, ◌+◌, ◌*◌, ◌^◌, ◌+ℤ◌, pos, map, length, IfOk, OnOk, ◌++◌, ◌∷◌, [], Result, Ok};
+ghost use Rattle.indexmap.specs.IndexMap.{get};
 ghost use Rattle.cls_tree.specs.View.{instr_of, instrs_of};
 ghost use Rattle.cls_tree.specs.View as file;
 ghost use Rattle.cls_tree.specs.Layout.{pad, instr_bytes};
@@ -12,14 +13,16 @@ ghost use Rattle.vm_model.specs.Program.{Table, Instr as InstrOf};
 ghost use Rattle.vm_model.specs.Links.{Flaw};
 ghost use Rattle.vm_load.specs.Faults.{Judges, best_flaw};
 ghost use Rattle.vm_load.specs.Outlines.{outlines_of, names_of};
+ghost use Rattle.vm_load.specs.Known.{AreRight};
 ghost use Rattle.vm_load.specs.Width.{args_width, width};
 ghost use Rattle.vm_load.specs.Places.{AreRising};
 
 use crate::fault::{LoadFault, note, unknown_member};
 use crate::fit::fits_code;
 use crate::outline::Outline;
-use crate::reference::judge_pool;
+use crate::uses::{Use, judge_use};
 use cls_tree::{Args, Const, Form, Instr, form_of};
+use indexmap::IndexMap;
 use mg_text::{List, Memory, Names};
 use std::alloc::Global;
 use vm_model::{LinkedArgs, LinkedInstr};
@@ -169,6 +172,7 @@ fn judge_args(
     outlines: &[Outline<'_>],
     names: &Names,
     pool: &[Const],
+    known: &mut IndexMap<Use, LinkedArgs>,
     starts: &[u32],
     place: usize,
     instr: &Instr,
@@ -176,13 +180,15 @@ fn judge_args(
     requires names { names.now ≡ names_of (outlines_of outlines.now) }
     requires rising { AreRising starts.now }
     requires place { place < 2 ^ 33 }
-    ensures { Judges args_of result (judged_instr_args (outlines_of outlines.now) pool.now starts.now place instr.now.op (file.args_of instr.now.args)) }
+    requires known { AreRight (outlines_of outlines.now) pool.now (get ⟦<Use as PartialEq>⟧.eq known.old) }
+    ensures judges { Judges args_of result (judged_instr_args (outlines_of outlines.now) pool.now starts.now place instr.now.op (file.args_of instr.now.args)) }
+    ensures known { AreRight (outlines_of outlines.now) pool.now (get ⟦<Use as PartialEq>⟧.eq known.new) }
 {
     match &instr.args {
         Args::None => Ok(LinkedArgs::None),
         Args::Number(number) => Ok(LinkedArgs::Int(i32::from(*number))),
         Args::Local(local) => Ok(LinkedArgs::Local(*local)),
-        Args::Pool(number) => judge_pool(alloc, outlines, names, pool, instr.op, *number),
+        Args::Pool(number) => { judge_use(alloc, outlines, names, pool, known, instr.op, *number) }
         Args::Jump(distance) => {
             let target = target(starts, place, i32::from(*distance))?;
             Ok(LinkedArgs::Jump(target))
@@ -217,6 +223,7 @@ fn judge_instr(
     outlines: &[Outline<'_>],
     names: &Names,
     pool: &[Const],
+    known: &mut IndexMap<Use, LinkedArgs>,
     starts: &[u32],
     place: usize,
     instr: &Instr,
@@ -224,9 +231,11 @@ fn judge_instr(
     requires names { names.now ≡ names_of (outlines_of outlines.now) }
     requires rising { AreRising starts.now }
     requires place { place < 2 ^ 33 }
-    ensures { Judges model.instr_of result (judged_instr (outlines_of outlines.now) pool.now starts.now place (instr_of instr.now)) }
+    requires known { AreRight (outlines_of outlines.now) pool.now (get ⟦<Use as PartialEq>⟧.eq known.old) }
+    ensures judges { Judges model.instr_of result (judged_instr (outlines_of outlines.now) pool.now starts.now place (instr_of instr.now)) }
+    ensures known { AreRight (outlines_of outlines.now) pool.now (get ⟦<Use as PartialEq>⟧.eq known.new) }
 {
-    match judge_args(alloc, outlines, names, pool, starts, place, instr) {
+    match judge_args(alloc, outlines, names, pool, known, starts, place, instr) {
         Ok(args) => fitting(alloc, starts.len(), instr.op, args),
         Err(fault) => Err(fault),
     }
@@ -258,14 +267,17 @@ fn judge_from(
     outlines: &[Outline<'_>],
     names: &Names,
     pool: &[Const],
+    known: &mut IndexMap<Use, LinkedArgs>,
     starts: &[u32],
     instrs: &[Instr],
     first: Option<LoadFault>,
 ) -> Result<(List<LinkedInstr>, Option<LoadFault>), Memory>
     requires names { names.now ≡ names_of (outlines_of outlines.now) }
     requires rising { AreRising starts.now }
+    requires known { AreRight (outlines_of outlines.now) pool.now (get ⟦<Use as PartialEq>⟧.eq known.old) }
     ensures right { IfOk result (λ r. map model.instr_of r.0.items ≡ right_in (judged_from (outlines_of outlines.now) pool.now starts.now 0 (instrs_of instrs.now))) }
     ensures wrong { IfOk result (λ r. best_flaw r.1 ≡ lower (best_flaw first) (least (wrong_in (judged_from (outlines_of outlines.now) pool.now starts.now 0 (instrs_of instrs.now))))) }
+    ensures known { IfOk result (λ _. AreRight (outlines_of outlines.now) pool.now (get ⟦<Use as PartialEq>⟧.eq known.new)) }
 {
     let mut code = List::new(alloc);
     let mut best = first;
@@ -274,7 +286,7 @@ fn judge_from(
         if place > 0xffff_ffff {
             return Err(Memory);
         }
-        let judged = judge_instr(alloc, outlines, names, pool, starts, place, instr);
+        let judged = judge_instr(alloc, outlines, names, pool, known, starts, place, instr);
         best = add(&mut code, best, judged)?;
         place += width(place, instr);
     }
@@ -287,12 +299,15 @@ pub(crate) fn judge_code(
     outlines: &[Outline<'_>],
     names: &Names,
     pool: &[Const],
+    known: &mut IndexMap<Use, LinkedArgs>,
     instrs: &[Instr],
     best: Option<LoadFault>,
 ) -> Result<(List<LinkedInstr>, Option<LoadFault>), Memory>
-    requires { names.now ≡ names_of (outlines_of outlines.now) }
+    requires names { names.now ≡ names_of (outlines_of outlines.now) }
+    requires known { AreRight (outlines_of outlines.now) pool.now (get ⟦<Use as PartialEq>⟧.eq known.old) }
     ensures right { IfOk result (λ r. map model.instr_of r.0.items ≡ right_in (judged_code (outlines_of outlines.now) pool.now (instrs_of instrs.now))) }
     ensures wrong { IfOk result (λ r. best_flaw r.1 ≡ lower (best_flaw best) (least (wrong_in (judged_code (outlines_of outlines.now) pool.now (instrs_of instrs.now))))) }
+    ensures known { IfOk result (λ _. AreRight (outlines_of outlines.now) pool.now (get ⟦<Use as PartialEq>⟧.eq known.new)) }
 {
     let starts = starts_of(alloc, instrs)?;
     judge_from(
@@ -300,6 +315,7 @@ pub(crate) fn judge_code(
         outlines,
         names,
         pool,
+        known,
         starts.as_slice(),
         instrs,
         best,

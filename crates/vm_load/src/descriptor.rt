@@ -8,10 +8,12 @@ ghost use Rattle.vm_model.specs.Descriptors.{types_view, signature_view};
 ghost use Rattle.vm_model.specs.Links.{UnknownClass, loaded, is_known, unknown_in, method_types, field_flaw, method_flaw, super_flaw};
 ghost use Rattle.vm_load.specs.Faults.{Tells};
 ghost use Rattle.vm_load.specs.Outlines.{class_named};
-ghost use Rattle.vm_load.specs.Outlines.{declared_of, outlines_of, names_of};
+ghost use Rattle.vm_load.specs.Declaring.{declared_of};
+ghost use Rattle.vm_load.specs.Outlines.{outlines_of, names_of};
 
+use crate::declared::Declared;
 use crate::fault::{LoadFault, bad_descriptor, unknown_class};
-use crate::outline::{Declared, Outline};
+use crate::outline::Outline;
 use mg_text::{Memory, Names};
 use std::alloc::Global;
 use vm_model::{FieldType, Signature, read_signature, read_type};

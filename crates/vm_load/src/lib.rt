@@ -4,14 +4,18 @@
 
 mod classes;
 mod code;
+mod declared;
 mod descriptor;
 mod fault;
 mod fit;
 mod loading;
 mod member;
+mod members;
+mod numbers;
 mod outline;
 mod pool;
 mod reference;
+mod uses;
 
 pub use fault::LoadFault;
 pub use loading::load;

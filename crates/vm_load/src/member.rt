@@ -1,16 +1,17 @@
 //! What a reference to a field or a method names: a member of a built-in class or of a loaded one.
 
 ghost use Rattle.std.specs.Prelude.{◌≡◌, ◌<◌, Some, map, option_map, slice_get, IfOk};
-ghost use Rattle.std.specs.List.{position};
 ghost use Rattle.vm_model.specs.View.{args_of};
-ghost use Rattle.vm_model.specs.Links.{is_member, is_named, built_in, built_members, loaded_member, member_args, field_of_class, method_of_class, args_by};
+ghost use Rattle.vm_model.specs.Links.{is_named, built_in, built_members, loaded_member, member_args, field_of_class, method_of_class, args_by};
 ghost use Rattle.vm_model.specs.Program.{Field, Method};
-ghost use Rattle.vm_load.specs.Outlines.{declared_of, named_of, member_of, outlines_of, outline_of, names_of, built_view};
+ghost use Rattle.vm_load.specs.Declaring.{named_of, member_of};
+ghost use Rattle.vm_load.specs.Outlines.{outlines_of, outline_of, names_of, built_view};
 
 use crate::descriptor::class_number;
-use crate::outline::{Declared, Outline};
+use crate::outline::Outline;
 use crate::pool::{Named, NamedType};
 use mg_text::{Memory, Names};
+use std::alloc::Global;
 use vm_model::{Built, LinkedArgs};
 
 /// Reads a static field.
@@ -214,88 +215,52 @@ fn built_in(op: u8, reference: Named<'_>) -> Option<Built>
     None
 }
 
-/// Whether this is the declared member of a name, a descriptor and a kind.
-fn is_member(declared: Declared<'_>, wanted: NamedType<'_>, is_static: bool) -> bool
-    ensures { result ≡ is_member (named_of wanted.entry) is_static (declared_of declared.entry) }
-{
-    let same_kind = if is_static {
-        declared.is_static
-    } else {
-        !declared.is_static
-    };
-    declared.name == wanted.name && declared.descriptor == wanted.descriptor && same_kind
-}
-
-/// The first declared member of a name, a descriptor and a kind.
-#[tactic(auto, using(crate::proofs::Found::found))]
-fn find_member(members: &[Declared<'_>], wanted: NamedType<'_>, is_static: bool) -> Option<usize>
-    ensures { result ≡ position (is_member (named_of wanted.entry) is_static) (map declared_of members.now) }
-{
-    for (index, declared) in members.iter().enumerate() {
-        if is_member(*declared, wanted, is_static) {
-            return Some(index);
-        }
-    }
-    None
-}
-
 /// The field of a class, by its number.
-fn field_args(class: u32, found: Option<usize>) -> Result<Option<LinkedArgs>, Memory>
-    ensures { IfOk result (λ a. option_map args_of a ≡ args_by (Field class) found) }
+fn field_args(class: u32, found: Option<u32>) -> Option<LinkedArgs>
+    ensures { option_map args_of result ≡ args_by (Field class) found }
 {
     match found {
-        Some(field) => {
-            if field > 0xffff_ffff {
-                return Err(Memory);
-            }
-            Ok(Some(LinkedArgs::Field {
-                class,
-                field: field as u32,
-            }))
-        }
-        None => Ok(None),
+        Some(field) => Some(LinkedArgs::Field { class, field }),
+        None => None,
     }
 }
 
 /// The method of a class, by its number.
-fn method_args(class: u32, found: Option<usize>) -> Result<Option<LinkedArgs>, Memory>
-    ensures { IfOk result (λ a. option_map args_of a ≡ args_by (Method class) found) }
+fn method_args(class: u32, found: Option<u32>) -> Option<LinkedArgs>
+    ensures { option_map args_of result ≡ args_by (Method class) found }
 {
     match found {
-        Some(method) => {
-            if method > 0xffff_ffff {
-                return Err(Memory);
-            }
-            Ok(Some(LinkedArgs::Method {
-                class,
-                method: method as u32,
-            }))
-        }
-        None => Ok(None),
+        Some(method) => Some(LinkedArgs::Method { class, method }),
+        None => None,
     }
 }
 
 /// The field that a class's objects have.
-fn field_of_class(outline: Option<&Outline<'_>>, wanted: NamedType<'_>) -> Option<usize>
-    ensures { result ≡ field_of_class (named_of wanted.entry) (option_map (λ o. outline_of o.now) outline.entry) }
+fn field_of_class(
+    alloc: Global,
+    outline: Option<&Outline<'_>>,
+    wanted: NamedType<'_>,
+) -> Result<Option<u32>, Memory>
+    ensures { IfOk result (λ n. n ≡ field_of_class (named_of wanted.entry) (option_map (λ o. outline_of o.now) outline.entry)) }
 {
     match outline {
-        Some(outline) => find_member(outline.own.as_slice(), wanted, false),
-        None => None,
+        Some(outline) => outline.own.find(alloc, wanted, false),
+        None => Ok(None),
     }
 }
 
 /// The method of a class, static or not.
 fn method_of_class(
+    alloc: Global,
     outline: Option<&Outline<'_>>,
     wanted: NamedType<'_>,
     is_static: bool,
-) -> Option<usize>
-    ensures { result ≡ method_of_class (named_of wanted.entry) is_static (option_map (λ o. outline_of o.now) outline.entry) }
+) -> Result<Option<u32>, Memory>
+    ensures { IfOk result (λ n. n ≡ method_of_class (named_of wanted.entry) is_static (option_map (λ o. outline_of o.now) outline.entry)) }
 {
     match outline {
-        Some(outline) => find_member(outline.methods.as_slice(), wanted, is_static),
-        None => None,
+        Some(outline) => outline.methods.find(alloc, wanted, is_static),
+        None => Ok(None),
     }
 }
 
@@ -309,6 +274,7 @@ fn outline_at<'a, 'b>(outlines: &'b [Outline<'a>], class: u32) -> Option<&'b Out
 
 /// The member of a loaded class that an opcode names.
 fn loaded_member(
+    alloc: Global,
     outlines: &[Outline<'_>],
     op: u8,
     wanted: NamedType<'_>,
@@ -318,17 +284,21 @@ fn loaded_member(
 {
     let outline = outline_at(outlines, class);
     match op {
-        GETFIELD => field_args(class, field_of_class(outline, wanted)),
-        PUTFIELD => field_args(class, field_of_class(outline, wanted)),
-        INVOKEVIRTUAL => method_args(class, method_of_class(outline, wanted, false)),
-        INVOKESPECIAL => method_args(class, method_of_class(outline, wanted, false)),
-        INVOKESTATIC => method_args(class, method_of_class(outline, wanted, true)),
+        GETFIELD | PUTFIELD => {
+            let field = field_of_class(alloc, outline, wanted)?;
+            Ok(field_args(class, field))
+        }
+        INVOKEVIRTUAL | INVOKESPECIAL | INVOKESTATIC => {
+            let method = method_of_class(alloc, outline, wanted, op == INVOKESTATIC)?;
+            Ok(method_args(class, method))
+        }
         _ => Ok(None),
     }
 }
 
 /// The member that an opcode and a reference name, where there is one.
 pub(crate) fn member_args(
+    alloc: Global,
     outlines: &[Outline<'_>],
     names: &Names,
     op: u8,
@@ -347,5 +317,5 @@ pub(crate) fn member_args(
         name: reference.name,
         descriptor: reference.descriptor,
     };
-    loaded_member(outlines, op, wanted, class)
+    loaded_member(alloc, outlines, op, wanted, class)
 }

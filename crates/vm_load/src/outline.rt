@@ -1,24 +1,19 @@
 //! The classes that are loaded together, by what their constants say: names and declared members.
-//! A class is found by its name in a table.
+//! Classes and members are found by their names in tables.
 
 ghost use Rattle.std.specs.Prelude.{◌≡◌, map, IfOk};
 ghost use Rattle.std.specs.List.{filter};
 ghost use Rattle.cls_tree.specs.View.{class_of, member_of};
 ghost use Rattle.vm_model.specs.Links.{outline, declared, is_dynamic};
-ghost use Rattle.vm_load.specs.Outlines.{declared_of, outline_of, outlines_of, names_of};
+ghost use Rattle.vm_load.specs.Declaring.{declared_of};
+ghost use Rattle.vm_load.specs.Outlines.{outline_of, outlines_of, names_of};
 
-use crate::pool::{class_at, or_empty, text_at};
+use crate::declared::{Declared, declared_by};
+use crate::members::Members;
+use crate::pool::{class_at, or_empty};
 use cls_tree::{Class, Const, Member};
 use mg_text::Memory;
 use std::alloc::Global;
-
-/// A declared field or method.
-#[derive(Clone, Copy)]
-pub(crate) struct Declared<'a> {
-    pub name: &'a str,
-    pub descriptor: &'a str,
-    pub is_static: bool,
-}
 
 /// A class: its name and its declared members.
 #[derive(Drop)]
@@ -26,22 +21,8 @@ pub(crate) struct Outline<'a> {
     pub name: &'a str,
     pub fields: Vec<Declared<'a>>,
     /// The fields that aren't static.
-    pub own: Vec<Declared<'a>>,
-    pub methods: Vec<Declared<'a>>,
-}
-
-/// The access flag of what belongs to a class and not to its objects.
-const STATIC: u16 = 8;
-
-/// What a member declares.
-pub(crate) fn declared_by<'a>(pool: &'a [Const], member: &Member) -> Declared<'a>
-    ensures { declared_of result ≡ declared pool.now (member_of member.now) }
-{
-    Declared {
-        name: or_empty(text_at(pool, member.name)),
-        descriptor: or_empty(text_at(pool, member.descriptor)),
-        is_static: member.access & STATIC == STATIC,
-    }
+    pub own: Members<'a>,
+    pub methods: Members<'a>,
 }
 
 /// What members declare.
@@ -80,8 +61,8 @@ pub(crate) fn outlined<'a>(alloc: Global, class: &'a Class) -> Result<Outline<'a
 {
     let pool = class.pool.as_slice();
     let fields = all_declared(alloc, pool, class.fields.as_slice())?;
-    let own = own_of(alloc, fields.as_slice())?;
-    let methods = all_declared(alloc, pool, class.methods.as_slice())?;
+    let own = Members::new(alloc, own_of(alloc, fields.as_slice())?)?;
+    let methods = Members::new(alloc, all_declared(alloc, pool, class.methods.as_slice())?)?;
     Ok(Outline {
         name: or_empty(class_at(pool, class.this_class)),
         fields,

@@ -4,7 +4,7 @@
 ghost use Rattle.std.specs.Prelude.{◌≡◌, option_map};
 ghost use Rattle.vm_model.specs.Links.{or_empty};
 ghost use Rattle.cls_tree.specs.Pool.{const_at, text_at, class_at, field_at, method_at, name_and_type_at, reference};
-ghost use Rattle.vm_load.specs.Outlines.{named_of, member_of};
+ghost use Rattle.vm_load.specs.Declaring.{named_of, member_of};
 
 use cls_tree::Const;
 

@@ -6,7 +6,8 @@ ghost use Rattle.vm_model.specs.View.{args_of};
 ghost use Rattle.vm_model.specs.Links.{field_types, judged_args, judged_member, judged_reference, judged_field_reference, judged_method_reference, judged_new, judged_pool, member_args, pushed_args, or_empty, loaded};
 ghost use Rattle.cls_tree.specs.Pool.{field_at, method_at, pushed_at, class_at};
 ghost use Rattle.vm_load.specs.Faults.{Judges, pushed_text};
-ghost use Rattle.vm_load.specs.Outlines.{member_of, outlines_of, names_of};
+ghost use Rattle.vm_load.specs.Declaring.{member_of};
+ghost use Rattle.vm_load.specs.Outlines.{outlines_of, names_of};
 
 use crate::descriptor::{class_number, is_known, judge_types, method_types};
 use crate::fault::{LoadFault, unknown_class, unknown_member};
@@ -48,7 +49,7 @@ fn found_member(
     requires { names.now ≡ names_of (outlines_of outlines.now) }
     ensures { Judges args_of result (judged_args (member_of reference.entry).member.name (member_args (outlines_of outlines.now) op (member_of reference.entry))) }
 {
-    match member_args(outlines, names, op, reference)? {
+    match member_args(alloc, outlines, names, op, reference)? {
         Some(args) => Ok(args),
         None => Err(unknown_member(alloc, reference.name)),
     }

@@ -1,5 +1,5 @@
 use Rattle.vm_model.specs.Links.{field_made}
-use Rattle.vm_load.specs.Outlines.{declared_of}
+use Rattle.vm_load.specs.Declaring.{declared_of}
 use Rattle.vm_load.proofs.Maps.{mapped_twice}
 use Rattle.vm_load.proofs.classes.fields_of.Goals as goal
 

@@ -23,6 +23,7 @@ loop-member-preserved c =
           (λ m. method_flaws (outlines_of c.args.outlines.now) c.args.pool.now (member_of m)) (best_flaw c.loop-member.best) _ _ c.loop-member.invariant.wrong
           (c.in_ok-method.ensures.wrong
           ∙ ap (λ m. lower (best_flaw c.loop-member.best) (least (method_flaws (outlines_of c.args.outlines.now) c.args.pool.now (member_of m)))) c.member-item.is);
+      known = c.in_ok-method.ensures.known;
     }
 
 pub returns-clause-right : goal.returns-clause-right

@@ -2,7 +2,8 @@ use Rattle.std.proofs.Common.{rules, ◌<◌, ◌≤◌, length, map, ap, sym, �
 use Rattle.std.proofs.lemmas.Simd.{map-map}
 use Rattle.vm_model.specs.Links.{lower, least, some_in, method_flaw}
 use Rattle.vm_load.specs.Faults.{best_flaw}
-use Rattle.vm_load.specs.Outlines.{declared_of, outlines_of}
+use Rattle.vm_load.specs.Declaring.{declared_of}
+use Rattle.vm_load.specs.Outlines.{outlines_of}
 use Rattle.vm_load.proofs.ClassLaws.{some_next}
 use Rattle.vm_load.proofs.Codes.{drop_whole}
 use Rattle.vm_load.proofs.Lower.{lower-none}

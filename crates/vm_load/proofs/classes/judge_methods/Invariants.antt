@@ -1,7 +1,8 @@
 use Rattle.std.proofs.Common.{◌≡◌, map, drop}
 use Rattle.vm_model.specs.Links.{lower, least, some_in, method_flaw}
 use Rattle.vm_load.specs.Faults.{best_flaw}
-use Rattle.vm_load.specs.Outlines.{declared_of, outlines_of}
+use Rattle.vm_load.specs.Declaring.{declared_of}
+use Rattle.vm_load.specs.Outlines.{outlines_of}
 use Rattle.vm_load.proofs.classes.judge_methods.Given as goal
 
 abbrev pub invariant-loop-method : goal.invariant-loop-method

@@ -1,6 +1,7 @@
 use Rattle.std.proofs.Common.{sym, ◌∙◌}
 use Rattle.vm_model.specs.Links.{built_members}
-use Rattle.vm_load.specs.Outlines.{member_of, built_view}
+use Rattle.vm_load.specs.Declaring.{member_of}
+use Rattle.vm_load.specs.Outlines.{built_view}
 use Rattle.vm_load.proofs.Found.{passed}
 use Rattle.vm_load.proofs.member.built_in.Goals as goal
 
