@@ -28,7 +28,7 @@ pub at_nodes-append : (scope : Scope) (xs ys : List Node) → at_nodes scope (xs
 at_nodes-append scope [] ys = refl
 at_nodes-append scope (x ∷ xs) ys = ap (λ zs. AtNode scope x ∷ zs) (at_nodes-append scope xs ys)
 
-or-none : {C : Type 0} (o : Option C) → option_or o None ≡ o
+pub or-none : {C : Type 0} (o : Option C) → option_or o None ≡ o
 or-none None = refl
 or-none (Some c) = refl
 
@@ -41,7 +41,7 @@ told_alone None = refl
 told_alone (Some c) = refl
 
 module _ (scope : Scope) where
-  nodes-append : (xs ys : List Node) → fault_in (at_nodes scope (xs ++ ys)) ≡ option_or (fault_in (at_nodes scope xs)) (fault_in (at_nodes scope ys))
+  pub nodes-append : (xs ys : List Node) → fault_in (at_nodes scope (xs ++ ys)) ≡ option_or (fault_in (at_nodes scope xs)) (fault_in (at_nodes scope ys))
   nodes-append xs ys = ap fault_in (at_nodes-append scope xs ys) ∙ first_by-append fault_at (at_nodes scope xs) (at_nodes scope ys)
 
   -- the node behind its operands

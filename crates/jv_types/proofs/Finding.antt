@@ -55,7 +55,7 @@ some_or_none : {X : Type 0} (f : X → ℕ) (o : Option X) (r : Option ℕ) → 
 some_or_none f None r e = ap is_some e
 some_or_none f (Some x) r e = ap is_some e
 
-any_at : (name : Name) (names : List Name) → is_some (position (bytes_eq name) names) ≡ list_any (bytes_eq name) names
+pub any_at : (name : Name) (names : List Name) → is_some (position (bytes_eq name) names) ≡ list_any (bytes_eq name) names
 any_at name names = go (list_any (bytes_eq name) names) (list_any-position (bytes_eq name) names)
   where
     go : (b : Bool) → b ≡ nat_lt (position_or_len (bytes_eq name) names) (length names) →

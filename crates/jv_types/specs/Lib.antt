@@ -1,3 +1,4 @@
 pub mod View
 pub mod inner
 pub mod Tables
+pub mod Outcome

@@ -6,3 +6,9 @@ pub mod Locals
 pub mod Scopes
 pub mod Signatures
 pub mod Judging
+pub mod Blaming
+pub mod Repeating
+pub mod Declaring
+pub mod Deciding
+pub mod Calls
+pub mod Stating

@@ -90,8 +90,8 @@ pub(crate) fn end_binary<'a>(
     }
 }
 
-// Whether one of two facts holds.
-fn either(a: bool, b: bool) -> bool
+/// Whether one of two facts holds.
+pub(crate) fn either(a: bool, b: bool) -> bool
     ensures { result ≡ (a || b) }
 {
     a || b

@@ -1,13 +1,13 @@
 //! Classes and enums with what they declare in tables by name.
 
-ghost use Rattle.std.specs.Prelude.{◌≡◌, map, option_map};
+ghost use Rattle.std.specs.Prelude.{◌≡◌, [], Some, true, map, option_map};
 ghost use Rattle.std.specs.List.{list_any};
 ghost use Rattle.std.specs.Str.{bytes_eq};
 ghost use Rattle.jv_tree.specs.View.{class_of, enum_of, field_of, method_of};
 ghost use Rattle.jv_meaning.specs.Program.{field_named, method_named};
 ghost use Rattle.jv_rules.specs.inner.Deciding.{has_constant};
+ghost use Rattle.jv_types.specs.inner.Blaming.{are_new};
 ghost use Rattle.jv_types.specs.inner.Entries.{OffersAll, is_offered};
-ghost use Rattle.std.specs.Prelude.{Some};
 
 use jv_tree::{Class, Enum, Field, MethodDecl};
 use mg_text::Names;
@@ -24,6 +24,7 @@ pub struct ClassEntry<'a> {
     pub(crate) offered: Names,
     ghost named_fields: { fields ≡ map (λ f. f.name) class.now.fields.items },
     ghost named_methods: { methods ≡ map (λ m. m.name) class.now.methods.items },
+    ghost methods_apart: { are_new [] (map (λ m. m.name) class.now.methods.items) ≡ true },
     ghost offers: { OffersAll (option_map (λ t. t.now) typestate) offered },
 }
 

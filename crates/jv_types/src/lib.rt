@@ -3,18 +3,37 @@
 #![tactic(auto)]
 
 mod arguments;
+mod blame;
+mod build;
 mod callee;
+mod calls;
+mod declarations;
+mod demands;
 mod ends;
 mod entry;
+mod exprs;
+mod fault;
+mod fields;
 mod judged;
+mod jumps;
 mod locals;
 mod lookup;
 mod members;
+mod mentions;
+mod merged;
+mod naming;
 mod operands;
+mod plain;
+mod receivers;
+mod repeats;
 mod scope;
 mod signature;
+mod simple;
 mod table;
 mod value_type;
+mod values;
 mod variable;
 
+pub use declarations::build_table;
+pub use fault::TypeFault;
 pub use table::Table;

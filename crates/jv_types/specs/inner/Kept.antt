@@ -25,6 +25,10 @@ kept_classes files = flat_map (λ f. flat_map class_kept f.decls.items) files
 abbrev pub kept_enums : List File → List Enum
 kept_enums files = flat_map (λ f. flat_map enum_kept f.decls.items) files
 
+-- the declarations of files, in their order
+abbrev pub kept_decls : List File → List Decl
+kept_decls files = flat_map (λ f. f.decls.items) files
+
 abbrev pub typestate_in : ClassEntry → Option Typestate
 typestate_in e = option_map (λ t. t.now) e.typestate
 

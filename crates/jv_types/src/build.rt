@@ -1,0 +1,193 @@
+//! The tables of a program whose names are all new where they are declared.
+//! Each declaration is looked at once, and no tree is copied.
+
+ghost use Rattle.std.specs.Prelude.{◌≡◌, ◌++◌, [], IfOk, OnOk, Option, None, true, map, option_map, option_and_then, flat_map};
+ghost use Rattle.jv_tree.specs.View.{class_of, enum_of, decl_of};
+ghost use Rattle.jv_meaning.specs.Program.{typestate_named};
+ghost use Rattle.jv_rules.specs.Members.{members_of};
+ghost use Rattle.jv_rules.specs.inner.Deciding.{first_by};
+ghost use Rattle.jv_types.specs.Tables.{program_in};
+ghost use Rattle.jv_types.specs.View.{program_of};
+ghost use Rattle.jv_types.specs.inner.Blaming.{are_new};
+ghost use Rattle.jv_types.specs.inner.Repeating.{repeat_member, repeat_constant, repeat_type, repeat_in};
+ghost use Rattle.jv_types.specs.inner.Kept.{class_kept, enum_kept, kept_decls, typestate_in, followed};
+
+use crate::entry::{ClassEntry, EnumEntry};
+use crate::naming::{
+    class_names, constant_names, enum_names, field_names, method_names, offered_by, typestate_names,
+};
+use crate::table::Table;
+use jv_tree::{Class, Decl, Enum, File};
+use mg_text::{Memory, Names};
+use std::alloc::Global;
+use ts_tree::Typestate;
+
+// Adds the declarations of a file.
+fn add_decls<'a>(all: &mut Vec<&'a Decl>, decls: &'a [Decl]) -> Result<(), Memory>
+    ensures { OnOk result (map (λ d. d.now) all.new.items ≡ map (λ d. d.now) all.old.items ++ decls.now) }
+{
+    for decl in decls {
+        all.push(decl)?;
+    }
+    Ok(())
+}
+
+/// The declarations of files, in file and text order.
+pub(crate) fn declarations<'a>(alloc: Global, files: &'a [File]) -> Result<Vec<&'a Decl>, Memory>
+    ensures { IfOk result (λ v. map (λ d. d.now) v.items ≡ kept_decls files.now) }
+{
+    let mut all = Vec::new(alloc);
+    for file in files {
+        add_decls(&mut all, file.decls.as_slice())?;
+    }
+    Ok(all)
+}
+
+// The typestate that a class names, where it names one and that is there.
+#[tactic(auto, using(crate::proofs::Finding::found))]
+fn typestate_for<'a>(
+    names: &Names,
+    typestates: &'a [Typestate],
+    class: &Class,
+) -> Option<&'a Typestate>
+    requires { names.now ≡ map (λ t. t.name) typestates.now }
+    ensures { option_map (λ t. t.now) result ≡ option_and_then (typestate_named typestates.now) class.now.typestate }
+{
+    let name = match &class.typestate {
+        Some(name) => name,
+        None => return None,
+    };
+    match names.find(name.as_str()) {
+        Some(number) => Some(&typestates[number.0 as usize]),
+        None => None,
+    }
+}
+
+// The entry of a class.
+fn class_entry<'a>(
+    alloc: Global,
+    class: &'a Class,
+    typestate: Option<&'a Typestate>,
+) -> Result<ClassEntry<'a>, Memory>
+    requires { repeat_member [] [] (members_of (class_of class.now)) ≡ None }
+    ensures class { IfOk result (λ e. e.class.now ≡ class.now) }
+    ensures typestate { IfOk result (λ e. typestate_in e ≡ option_map (λ t. t.now) typestate.entry) }
+{
+    let fields = field_names(alloc, class.fields.as_slice())?;
+    let methods = method_names(alloc, class.methods.as_slice())?;
+    let offered = offered_by(alloc, typestate)?;
+    Ok(ClassEntry {
+        class,
+        typestate,
+        fields,
+        methods,
+        offered,
+    })
+}
+
+// The entry of an enum.
+fn enum_entry<'a>(alloc: Global, of: &'a Enum) -> Result<EnumEntry<'a>, Memory>
+    requires { repeat_constant of.now.place [] of.now.constants.items ≡ None }
+    ensures { IfOk result (λ e. e.of.now ≡ of.now) }
+{
+    let constants = constant_names(alloc, of.constants.as_slice())?;
+    Ok(EnumEntry { of, constants })
+}
+
+// Adds the entry of a class. Of an enum nothing is added.
+fn add_class<'a>(
+    alloc: Global,
+    names: &Names,
+    typestates: &'a [Typestate],
+    entries: &mut Vec<ClassEntry<'a>>,
+    decl: &'a Decl,
+) -> Result<(), Memory>
+    requires names { names.now ≡ map (λ t. t.name) typestates.now }
+    requires member { repeat_in (decl_of decl.now) ≡ None }
+    ensures classes { OnOk result (map (λ e. e.class.now) entries.new.items ≡ map (λ e. e.class.now) entries.old.items ++ class_kept decl.now) }
+    ensures follow { OnOk result (map typestate_in entries.old.items ≡ map (followed typestates.now) entries.old.items → map typestate_in entries.new.items ≡ map (followed typestates.now) entries.new.items) }
+{
+    let Decl::Class(class) = decl else {
+        return Ok(());
+    };
+    let typestate = typestate_for(names, typestates, class);
+    let entry = class_entry(alloc, class, typestate)?;
+    entries.push(entry)?;
+    Ok(())
+}
+
+// The entries of the classes.
+fn class_entries<'a>(
+    alloc: Global,
+    names: &Names,
+    typestates: &'a [Typestate],
+    decls: &[&'a Decl],
+) -> Result<Vec<ClassEntry<'a>>, Memory>
+    requires names { names.now ≡ map (λ t. t.name) typestates.now }
+    requires members { first_by repeat_in (map (λ d. decl_of d.now) decls.now) ≡ None }
+    ensures classes { IfOk result (λ es. map (λ e. e.class.now) es.items ≡ flat_map class_kept (map (λ d. d.now) decls.now)) }
+    ensures follow { IfOk result (λ es. map typestate_in es.items ≡ map (followed typestates.now) es.items) }
+{
+    let mut entries = Vec::new(alloc);
+    for decl in decls {
+        add_class(alloc, names, typestates, &mut entries, decl)?;
+    }
+    Ok(entries)
+}
+
+// Adds the entry of an enum. Of a class nothing is added.
+fn add_enum<'a>(
+    alloc: Global,
+    entries: &mut Vec<EnumEntry<'a>>,
+    decl: &'a Decl,
+) -> Result<(), Memory>
+    requires { repeat_in (decl_of decl.now) ≡ None }
+    ensures { OnOk result (map (λ e. e.of.now) entries.new.items ≡ map (λ e. e.of.now) entries.old.items ++ enum_kept decl.now) }
+{
+    let Decl::Enum(of) = decl else {
+        return Ok(());
+    };
+    let entry = enum_entry(alloc, of)?;
+    entries.push(entry)?;
+    Ok(())
+}
+
+// The entries of the enums.
+fn enum_entries<'a>(alloc: Global, decls: &[&'a Decl]) -> Result<Vec<EnumEntry<'a>>, Memory>
+    requires { first_by repeat_in (map (λ d. decl_of d.now) decls.now) ≡ None }
+    ensures { IfOk result (λ es. map (λ e. e.of.now) es.items ≡ flat_map enum_kept (map (λ d. d.now) decls.now)) }
+{
+    let mut entries = Vec::new(alloc);
+    for decl in decls {
+        add_enum(alloc, &mut entries, decl)?;
+    }
+    Ok(entries)
+}
+
+/// The tables of a program, in which no name is declared twice.
+pub(crate) fn build<'a>(
+    alloc: Global,
+    files: &'a [File],
+    typestates: &'a [Typestate],
+    decls: &[&'a Decl],
+) -> Result<Table<'a>, Memory>
+    requires decls { map (λ d. d.now) decls.now ≡ kept_decls files.now }
+    requires types { repeat_type [] (map decl_of (kept_decls files.now)) ≡ None }
+    requires typestates { are_new [] (map (λ t. t.name) typestates.now) ≡ true }
+    requires members { first_by repeat_in (map (λ d. decl_of d.now) decls.now) ≡ None }
+    ensures { IfOk result (λ t. program_in t ≡ program_of files.now typestates.now) }
+{
+    let names = typestate_names(alloc, typestates)?;
+    let classes = class_entries(alloc, &names, typestates, decls)?;
+    let enums = enum_entries(alloc, decls)?;
+    let class_names = class_names(alloc, classes.as_slice())?;
+    let enum_names = enum_names(alloc, enums.as_slice())?;
+    Ok(Table {
+        files,
+        typestates,
+        classes,
+        class_names,
+        enums,
+        enum_names,
+    })
+}
