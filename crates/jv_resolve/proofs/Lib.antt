@@ -1,0 +1,15 @@
+pub mod AtIndex
+pub mod BuildingSteps
+pub mod ByHead
+pub mod Called
+pub mod Chains
+pub mod Composing
+pub mod ExprSteps
+pub mod Items
+pub mod OffersSteps
+pub mod Placed
+pub mod RowSteps
+pub mod Shapes
+pub mod StmtLoops
+pub mod StmtShapes
+pub mod StmtSteps

@@ -1,0 +1,16 @@
+use Rattle.std.proofs.Common.{◌≡◌, Option, Some, sym, ap, ◌∙◌}
+use Rattle.std.specs.Prelude.{map}
+use Rattle.jv_core.specs.Tree as Core
+use Rattle.jv_core.specs.View.{expr_of, exprs_of}
+use Rattle.jv_core.specs.Types.{session_result}
+use Rattle.jv_core.specs.declared.tree.SessionCall.{SessionCall}
+use Rattle.jv_core.proofs.ViewLaws.{kind-Session}
+use Rattle.jv_resolving.specs.Tables.{◌>>=◌}
+use Rattle.jv_resolving.specs.Expressions.{Resolved, typed}
+use Rattle.jv_resolve.proofs.calls.session_call.Goals as goal
+
+pub returns : goal.returns
+returns c =
+    ap (λ o. o >>= λ (k : SessionCall). Some (typed (Core.Session c.args.place k (exprs_of (map expr_of c.args.args.items))) (session_result k))) (sym c.in-Some.ensures)
+    ∙ ap Some (sym (c.typed.ensures ∙ ap (λ e. typed e c.session_result.result) (kind-Session c.in-Some.call c.args.args c.args.place)
+    ∙ ap (typed (Core.Session c.args.place c.in-Some.call (exprs_of (map expr_of c.args.args.items)))) c.session_result.ensures))

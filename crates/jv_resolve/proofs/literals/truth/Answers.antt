@@ -1,0 +1,8 @@
+use Rattle.std.proofs.Common.{ap, ◌∙◌}
+use Rattle.jv_core.specs.declared.program.CoreType.TheVariants as types
+use Rattle.jv_core.proofs.ViewLaws.{kind-Truth}
+use Rattle.jv_resolving.specs.Expressions.{typed}
+use Rattle.jv_resolve.proofs.literals.truth.Goals as goal
+
+pub returns : goal.returns
+returns c = c.typed.ensures ∙ ap (λ e. typed e types.Boolean) (kind-Truth c.args.value c.args.place)

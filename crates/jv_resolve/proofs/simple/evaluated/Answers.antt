@@ -1,0 +1,17 @@
+use Rattle.std.proofs.Common.{sym, ap, ◌∙◌}
+use Rattle.std.specs.Prelude.{Some}
+use Rattle.jv_tree.specs.View.{expr_of}
+use Rattle.jv_core.specs.Tree as Core
+use Rattle.jv_core.specs.View.{stmt_of, expr_of as core_expr}
+use Rattle.jv_core.proofs.ViewLaws.{stmt-Eval}
+use Rattle.jv_resolving.specs.Expressions.{resolved, Resolved}
+use Rattle.jv_resolving.specs.Statements.{left_by, gone_on_by, given_back}
+use Rattle.jv_resolve.specs.inner.Seen.{tables_seen, standing_seen, resolved_seen, around_seen}
+use Rattle.jv_resolve.specs.inner.Counted.{counted_seen}
+use Rattle.jv_resolve.proofs.StmtSteps.{one_made, assigned_made}
+use Rattle.jv_resolve.proofs.simple.evaluated.Goals as goal
+
+pub returns : goal.returns
+returns c =
+    one_made (resolved (tables_seen c.args.scope.now.tables.now) (standing_seen c.args.scope.now) c.args.body.now.locals (expr_of c.args.value.now)) (resolved_seen c.in_ok-value.value) (λ (v : Resolved). Core.Eval c.args.place v.expr)
+    (stmt_of c.stmt_at.result) (counted_seen c.args.body.now) c.in_ok-value.ensures (c.stmt_at.ensures ∙ stmt-Eval c.in_ok-value.value.expr c.args.place)

@@ -1,0 +1,17 @@
+use Rattle.std.proofs.Common.{sym, ap, ◌∙◌}
+use Rattle.std.specs.Prelude.{Some, option_map}
+use Rattle.jv_tree.specs.View.{expr_of}
+use Rattle.jv_core.specs.Tree as Core
+use Rattle.jv_core.specs.View.{stmt_of, expr_of as core_expr}
+use Rattle.jv_core.proofs.ViewLaws.{stmt-Return}
+use Rattle.jv_resolving.specs.Expressions.{resolved, Resolved}
+use Rattle.jv_resolving.specs.Statements.{left_by, gone_on_by, given_back}
+use Rattle.jv_resolve.specs.inner.Seen.{tables_seen, standing_seen, resolved_seen, around_seen}
+use Rattle.jv_resolve.specs.inner.Counted.{counted_seen}
+use Rattle.jv_resolve.proofs.StmtSteps.{one_made, assigned_made}
+use Rattle.jv_resolve.proofs.simple.returned.Goals as goal
+
+pub returns : goal.returns
+returns c =
+    one_made (given_back (tables_seen c.args.scope.now.tables.now) (standing_seen c.args.scope.now) c.args.body.now.locals (option_map expr_of c.args.value.now)) (option_map core_expr c.in_ok-value.value) (λ v. Core.Return c.args.place v)
+    (stmt_of c.stmt_at.result) (counted_seen c.args.body.now) c.in_ok-value.ensures (c.stmt_at.ensures ∙ stmt-Return c.in_ok-value.value c.args.place)

@@ -1,0 +1,16 @@
+pub mod Building
+pub mod Counted
+pub mod Declaring
+pub mod Gives
+pub mod Heads
+pub mod HeadsSeen
+pub mod Interning
+pub mod Labels
+pub mod Named
+pub mod Offers
+pub mod Places
+pub mod Receivers
+pub mod Row
+pub mod Seen
+pub mod Writing
+pub mod WrittenLocal

@@ -1,0 +1,59 @@
+//! A method as far as it is resolved.
+//! Contracts see what was numbered so far, and what is in scope.
+
+ghost use Rattle.std.specs.Prelude.{◌≡◌, OnOk, IfOk, length};
+ghost use Rattle.jv_resolving.specs.Statements.{slot_more, loop_more};
+ghost use Rattle.jv_resolve.specs.inner.Counted.{counted_seen, counting};
+ghost use Rattle.jv_resolve.specs.inner.Gives.{Gives};
+ghost use Rattle.jv_resolve.specs.inner.Row.{known};
+ghost use Rattle.jv_resolve.specs.inner.Seen.{tables_seen};
+
+use crate::given::Unresolved;
+use crate::locals::{Local, Locals};
+use crate::names::{add_name, count};
+use crate::tables::Tables;
+use jv_core::{CoreLoop, CoreSlot};
+use mg_text::{List, Memory, Names, Place};
+use std::alloc::Global;
+use ts_tree::TypeName;
+
+/// A method as far as it is resolved, with what is in scope.
+#[derive(Drop)]
+pub(crate) struct Body<'a> {
+    /// The names of the program.
+    pub names: Names,
+    pub locals: Locals<'a>,
+    pub slots: List<CoreSlot>,
+    pub loops: List<CoreLoop>,
+}
+
+impl<'a> Body<'a> {
+    /// One more slot. Nothing is in its scope yet.
+    pub(crate) fn add_slot(
+        &mut self,
+        tables: &Tables<'_>,
+        ty: &TypeName,
+        name: &str,
+    ) -> Result<Local, Unresolved>
+        ensures it { Gives (λ l. counting (known name.now l) (counted_seen self.new)) result (slot_more (tables_seen tables.now) ty.now name.now (counted_seen self.old)) }
+        ensures locals { self.new.locals ≡ self.old.locals }
+    {
+        let ty = tables.meant(ty)?;
+        let number = add_name(&mut self.names, name)?;
+        let slot = count(self.slots.len())?;
+        self.slots.push(CoreSlot { name: number, ty })?;
+        Ok(Local { slot, ty })
+    }
+
+    /// One more loop, with the slots in scope.
+    pub(crate) fn add_loop(&mut self, alloc: Global, place: Place) -> Result<u32, Memory>
+        ensures number { IfOk result (λ n. n ≡ length self.old.loops.items) }
+        ensures added { OnOk result (counted_seen self.new ≡ loop_more place self.old.locals (counted_seen self.old)) }
+        ensures locals { self.new.locals ≡ self.old.locals }
+    {
+        let scope = self.locals.slots(alloc)?;
+        let number = count(self.loops.len())?;
+        self.loops.push(CoreLoop { place, scope })?;
+        Ok(number)
+    }
+}

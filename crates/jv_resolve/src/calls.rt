@@ -1,0 +1,373 @@
+//! Calls, whose receiver and arguments are resolved.
+//! Contracts see expressions as trees.
+
+ghost use Rattle.std.specs.Prelude.{◌≡◌, IfOk, map};
+ghost use Rattle.jv_core.specs.Types.{session_result};
+ghost use Rattle.jv_core.specs.Tree as Core;
+ghost use Rattle.jv_core.specs.View.{expr_of};
+ghost use Rattle.jv_core.specs.declared.program.CoreType.TheVariants as types;
+ghost use Rattle.jv_resolving.specs.Expressions.{call_own, call_on, call_this, call_class, call_typed, call_protocol, static_call, helper_call, object_call, text_call, only, typed, session_call, session_named, variable_in};
+ghost use Rattle.jv_resolve.specs.inner.Gives.{Gives};
+ghost use Rattle.jv_resolve.specs.inner.Seen.{tables_seen, standing_seen, callee_seen, given_seen, resolved_seen};
+ghost use Rattle.jv_resolve.specs.inner.Named.{text_called};
+ghost use Rattle.jv_resolve.specs.inner.Receivers.{receiver_seen};
+
+use crate::given::{Given, Resolved, Unresolved, boxed, typed};
+use crate::scope::Scope;
+use crate::tables::Callee;
+use jv_core::{CoreExpr, CoreExprKind, CoreType, CoreVar, SessionCall};
+use mg_text::{List, Memory, Place};
+use std::alloc::Global;
+
+/// What a call is on.
+#[derive(Drop)]
+pub(crate) enum Receiver<'e> {
+    This,
+    /// A name that no variable has.
+    Class(&'e str),
+    Value(Resolved),
+}
+
+/// `name(..)`: a method of the own class.
+pub(crate) fn call_own(
+    scope: &Scope<'_, '_>,
+    place: Place,
+    name: &str,
+    args: List<CoreExpr>,
+) -> Result<Resolved, Unresolved>
+    ensures { Gives resolved_seen result (call_own (tables_seen scope.now.tables.now) (standing_seen scope.now) place name.now (map expr_of args.items)) }
+{
+    let Some(callee) = scope.class.method(name) else {
+        return Err(Unresolved::Fault);
+    };
+    if callee.method.is_static {
+        static_call(scope, place, callee, args)
+    } else {
+        helper_call(scope, place, callee, args)
+    }
+}
+
+/// `e.name(..)`
+pub(crate) fn call_on(
+    scope: &Scope<'_, '_>,
+    place: Place,
+    receiver: Receiver<'_>,
+    name: &str,
+    args: List<CoreExpr>,
+) -> Result<Resolved, Unresolved>
+    ensures { Gives resolved_seen result (call_on (tables_seen scope.now.tables.now) (standing_seen scope.now) place (receiver_seen receiver.entry) name.now (map expr_of args.items)) }
+{
+    match receiver {
+        Receiver::This => call_this(scope, place, name, args),
+        Receiver::Class(class) => {
+            if class == "Session" {
+                session_call(place, name, args)
+            } else {
+                call_class(scope, place, class, name, args)
+            }
+        }
+        Receiver::Value(value) => call_value(scope, place, value, name, args),
+    }
+}
+
+// `this.name(..)`
+fn call_this(
+    scope: &Scope<'_, '_>,
+    place: Place,
+    name: &str,
+    args: List<CoreExpr>,
+) -> Result<Resolved, Unresolved>
+    ensures { Gives resolved_seen result (call_this (tables_seen scope.now.tables.now) (standing_seen scope.now) place name.now (map expr_of args.items)) }
+{
+    let Some(callee) = scope.class.method(name) else {
+        return Err(Unresolved::Fault);
+    };
+    if callee.method.is_static {
+        return Err(Unresolved::Fault);
+    }
+    helper_call(scope, place, callee, args)
+}
+
+// `C.name(..)`
+fn call_class(
+    scope: &Scope<'_, '_>,
+    place: Place,
+    class: &str,
+    name: &str,
+    args: List<CoreExpr>,
+) -> Result<Resolved, Unresolved>
+    ensures { Gives resolved_seen result (call_class (tables_seen scope.now.tables.now) place class.now name.now (map expr_of args.items)) }
+{
+    let Some(entry) = scope.tables.class_named(class) else {
+        return Err(Unresolved::Fault);
+    };
+    let Some(callee) = entry.method(name) else {
+        return Err(Unresolved::Fault);
+    };
+    if !callee.method.is_static {
+        return Err(Unresolved::Fault);
+    }
+    static_call(scope, place, callee, args)
+}
+
+// A call on a value: of a text's method, or of the protocol of a variable.
+fn call_value(
+    scope: &Scope<'_, '_>,
+    place: Place,
+    value: Resolved,
+    name: &str,
+    args: List<CoreExpr>,
+) -> Result<Resolved, Unresolved>
+    ensures { Gives resolved_seen result (call_typed (tables_seen scope.now.tables.now) place (expr_of value.expr) (given_seen value.given) name.now (map expr_of args.items)) }
+{
+    match value.given {
+        Given::Of(CoreType::Text) => text_call(scope, place, value.expr, name, args),
+        Given::Of(CoreType::Object(class)) => {
+            let receiver = variable_of(&value.expr)?;
+            protocol_call(scope, place, receiver, class, name, args)
+        }
+        _ => Err(Unresolved::Fault),
+    }
+}
+
+/// The variable that an expression is, with its place.
+#[tactic(auto, using(jv_core::proofs::ViewLaws::views))]
+pub(crate) fn variable_of(expr: &CoreExpr) -> Result<CoreVar, Unresolved>
+    ensures { Gives (λ x. x) result (variable_in (expr_of expr.now)) }
+{
+    match &expr.kind {
+        CoreExprKind::Var(var) => Ok(CoreVar {
+            place: expr.place,
+            var: *var,
+        }),
+        CoreExprKind::Int(_) | CoreExprKind::Truth(_) | CoreExprKind::Text(_) => {
+            Err(Unresolved::Fault)
+        }
+        CoreExprKind::Null | CoreExprKind::Constant { .. } => Err(Unresolved::Fault),
+        CoreExprKind::Neg(_) | CoreExprKind::Not(_) => Err(Unresolved::Fault),
+        CoreExprKind::Binary(_, _, _) => Err(Unresolved::Fault),
+        CoreExprKind::Protocol { .. } | CoreExprKind::Helper { .. } => Err(Unresolved::Fault),
+        CoreExprKind::Static { .. } | CoreExprKind::Session { .. } => Err(Unresolved::Fault),
+        CoreExprKind::Equals(_, _) | CoreExprKind::Concat(_, _) => Err(Unresolved::Fault),
+        CoreExprKind::New(_) => Err(Unresolved::Fault),
+    }
+}
+
+// A call of a protocol's method, on a variable of the class of this number.
+fn protocol_call(
+    scope: &Scope<'_, '_>,
+    place: Place,
+    receiver: CoreVar,
+    class: u32,
+    name: &str,
+    args: List<CoreExpr>,
+) -> Result<Resolved, Unresolved>
+    ensures { Gives resolved_seen result (call_protocol (tables_seen scope.now.tables.now) place receiver class name.now (map expr_of args.items)) }
+{
+    let Some(entry) = scope.tables.class_at(class) else {
+        return Err(Unresolved::Fault);
+    };
+    let Some(callee) = entry.method(name) else {
+        return Err(Unresolved::Fault);
+    };
+    if callee.method.is_static {
+        return Err(Unresolved::Fault);
+    }
+    object_call(scope, place, receiver, callee, args)
+}
+
+// A call of a method on the object of a variable.
+fn object_call(
+    scope: &Scope<'_, '_>,
+    place: Place,
+    receiver: CoreVar,
+    callee: Callee<'_>,
+    args: List<CoreExpr>,
+) -> Result<Resolved, Unresolved>
+    ensures { Gives resolved_seen result (object_call (tables_seen scope.now.tables.now) place receiver (callee_seen callee.entry) (map expr_of args.items)) }
+{
+    let result = scope.tables.meant(&callee.method.result)?;
+    Ok(typed(
+        place,
+        CoreExprKind::Protocol {
+            receiver,
+            method: callee.number,
+            args,
+        },
+        result,
+    ))
+}
+
+// A call of a static method.
+fn static_call(
+    scope: &Scope<'_, '_>,
+    place: Place,
+    callee: Callee<'_>,
+    args: List<CoreExpr>,
+) -> Result<Resolved, Unresolved>
+    ensures { Gives resolved_seen result (static_call (tables_seen scope.now.tables.now) place (callee_seen callee.entry) (map expr_of args.items)) }
+{
+    let result = scope.tables.meant(&callee.method.result)?;
+    Ok(typed(
+        place,
+        CoreExprKind::Static {
+            method: callee.number,
+            args,
+        },
+        result,
+    ))
+}
+
+// A call of another method on the own object.
+fn helper_call(
+    scope: &Scope<'_, '_>,
+    place: Place,
+    callee: Callee<'_>,
+    args: List<CoreExpr>,
+) -> Result<Resolved, Unresolved>
+    ensures { Gives resolved_seen result (helper_call (tables_seen scope.now.tables.now) place (callee_seen callee.entry) (map expr_of args.items)) }
+{
+    let result = scope.tables.meant(&callee.method.result)?;
+    Ok(typed(
+        place,
+        CoreExprKind::Helper {
+            method: callee.number,
+            args,
+        },
+        result,
+    ))
+}
+
+// `equals` or `concat` of a text, with one argument.
+fn text_call(
+    scope: &Scope<'_, '_>,
+    place: Place,
+    text: CoreExpr,
+    name: &str,
+    args: List<CoreExpr>,
+) -> Result<Resolved, Unresolved>
+    ensures { Gives resolved_seen result (text_called place (expr_of text) name.now (map expr_of args.items)) }
+{
+    let arg = only(args)?;
+    text_method(scope.alloc, place, text, name, arg)
+}
+
+// `equals` or `concat` of a text.
+fn text_method(
+    alloc: Global,
+    place: Place,
+    text: CoreExpr,
+    name: &str,
+    arg: CoreExpr,
+) -> Result<Resolved, Unresolved>
+    ensures { Gives resolved_seen result (text_call place (expr_of text) name.now (expr_of arg)) }
+{
+    if name == "equals" {
+        return Ok(equals(alloc, place, text, arg)?);
+    }
+    if name == "concat" {
+        return Ok(concat(alloc, place, text, arg)?);
+    }
+    Err(Unresolved::Fault)
+}
+
+// `text.equals(arg)`
+fn equals(alloc: Global, place: Place, text: CoreExpr, arg: CoreExpr) -> Result<Resolved, Memory>
+    ensures { IfOk result (λ r. resolved_seen r ≡ typed (Core.Equals place (expr_of text) (expr_of arg)) types.Boolean) }
+{
+    let text = boxed(alloc, text)?;
+    let arg = boxed(alloc, arg)?;
+    Ok(typed(place, CoreExprKind::Equals(text, arg), CoreType::Boolean))
+}
+
+// `text.concat(arg)`
+fn concat(alloc: Global, place: Place, text: CoreExpr, arg: CoreExpr) -> Result<Resolved, Memory>
+    ensures { IfOk result (λ r. resolved_seen r ≡ typed (Core.Concat place (expr_of text) (expr_of arg)) types.Text) }
+{
+    let text = boxed(alloc, text)?;
+    let arg = boxed(alloc, arg)?;
+    Ok(typed(place, CoreExprKind::Concat(text, arg), CoreType::Text))
+}
+
+// The one argument of a call.
+fn only(args: List<CoreExpr>) -> Result<CoreExpr, Unresolved>
+    ensures { Gives expr_of result (only (map expr_of args.items)) }
+{
+    let mut args = args.into_vec();
+    let Some(arg) = args.pop() else {
+        return Err(Unresolved::Fault);
+    };
+    if args.is_empty() {
+        Ok(arg)
+    } else {
+        Err(Unresolved::Fault)
+    }
+}
+
+// A call of the session.
+fn session_call(place: Place, name: &str, args: List<CoreExpr>) -> Result<Resolved, Unresolved>
+    ensures { Gives resolved_seen result (session_call place name.now (map expr_of args.items)) }
+{
+    let Some(call) = session_method(name) else {
+        return Err(Unresolved::Fault);
+    };
+    Ok(typed(
+        place,
+        CoreExprKind::Session { call, args },
+        session_result(call),
+    ))
+}
+
+// The method of the session that has this name.
+fn session_method(name: &str) -> Option<SessionCall>
+    ensures { result ≡ session_named name.now }
+{
+    if name == "send" {
+        return Some(SessionCall::Send);
+    }
+    if name == "sendInt" {
+        return Some(SessionCall::SendInt);
+    }
+    if name == "sendBoolean" {
+        return Some(SessionCall::SendBoolean);
+    }
+    if name == "sendString" {
+        return Some(SessionCall::SendString);
+    }
+    if name == "look" {
+        return Some(SessionCall::Look);
+    }
+    if name == "take" {
+        return Some(SessionCall::Take);
+    }
+    if name == "takeInt" {
+        return Some(SessionCall::TakeInt);
+    }
+    if name == "takeBoolean" {
+        return Some(SessionCall::TakeBoolean);
+    }
+    if name == "takeString" {
+        return Some(SessionCall::TakeString);
+    }
+    if name == "refuse" {
+        return Some(SessionCall::Refuse);
+    }
+    None
+}
+
+// What a method of the session gives.
+fn session_result(call: SessionCall) -> CoreType
+    ensures { result ≡ session_result call }
+{
+    match call {
+        SessionCall::Send
+        | SessionCall::SendInt
+        | SessionCall::SendBoolean
+        | SessionCall::SendString
+        | SessionCall::Take
+        | SessionCall::Refuse => CoreType::Void,
+        SessionCall::Look | SessionCall::TakeString => CoreType::Text,
+        SessionCall::TakeInt => CoreType::Int,
+        SessionCall::TakeBoolean => CoreType::Boolean,
+    }
+}
