@@ -5,3 +5,18 @@ mod Rules
 mod Values
 mod Steps
 mod Laws
+pub mod Keyed
+pub mod Rests
+pub mod Leading
+pub mod Unions
+pub mod Rows
+pub mod Grown
+pub mod Scenes
+pub mod Seeking
+pub mod Turns
+pub mod Taken
+pub mod Meeting
+pub mod Entries
+pub mod Reached
+pub mod Heading
+pub mod Leaving

@@ -7,3 +7,6 @@ pub mod inner
 pub mod examples
 pub mod Computed
 pub mod Laws
+pub mod Shapes
+pub mod Start
+pub mod View

@@ -1,17 +1,35 @@
 //! What flows through a method: which elements each variable may have, and which demands fail.
-//! The rules are definitions; a table is asked for, and never changed here.
+//! The rules are definitions; the code computes contexts, and parts of what flows.
 #![tactic(auto)]
 
 ghost use Rattle.use_flow.specs.Computed.{ExamplesFail};
 ghost use Rattle.use_flow.specs.Laws.{GrowsWithTables, LeastSolve};
 
+mod arguments;
+mod calling;
+mod calls;
 mod demand;
 mod element;
+mod elements;
+mod entered;
+mod evaluated;
+mod exits;
+mod fields;
+mod heads;
+mod held;
 mod key;
+mod out;
+mod returns;
+mod scene;
+mod sets;
+mod variables;
 
 pub use demand::{Demand, DemandKind};
 pub use element::Element;
+pub use entered::contexts;
+pub use held::Tables;
 pub use key::{Context, TableKey};
+pub use out::{Flow, Out};
 
 /// The rules are computed on worked programs with their tables: which demands fail, in order, and
 /// that what flows out is within the tables. The function carries a law.

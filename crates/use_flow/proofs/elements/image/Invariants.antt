@@ -1,0 +1,8 @@
+use Rattle.std.proofs.Common.{◌≡◌, drop}
+use Rattle.use_flow.specs.Elements.{image, leads_from, marked}
+use Rattle.use_flow.specs.inner.Mappings.{mapping_of}
+use Rattle.use_flow.proofs.elements.image.Given as goal
+
+abbrev pub invariant-loop-element : goal.invariant-loop-element
+invariant-loop-element l =
+    marked (leads_from (mapping_of l.mapping) l.element (drop l.element l.set)) l.found ≡ image l.width (mapping_of l.mapping) l.set

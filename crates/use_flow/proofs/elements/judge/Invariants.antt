@@ -1,0 +1,9 @@
+use Rattle.std.proofs.Common.{◌≡◌, ◌++◌, drop}
+use Rattle.use_flow.specs.State.{judged, judged_from}
+use Rattle.use_flow.specs.inner.Mappings.{rule_of, title_in}
+use Rattle.use_flow.proofs.elements.judge.Given as goal
+
+abbrev pub invariant-loop-element : goal.invariant-loop-element
+invariant-loop-element l =
+    l.failed.items ++ judged_from (rule_of l.rule) l.subject.place (title_in l.names l.subject.title) l.subject.class l.element (drop l.element l.set)
+    ≡ l.initial.failed.items ++ judged (rule_of l.rule) l.subject.place (title_in l.names l.subject.title) l.subject.class l.set

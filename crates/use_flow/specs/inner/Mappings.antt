@@ -1,0 +1,41 @@
+-- The element maps and demands of the rules, by the names that the code has for them.
+use Rattle.std.specs.Prelude.{ℕ, List, [], ◌∷◌, Option, Some, None, get_or, codes}
+use Rattle.use_flow.specs.declared.elements.Mapping.{Mapping}
+use Rattle.use_flow.specs.declared.elements.Mapping.TheVariants as mappings
+use Rattle.use_flow.specs.declared.elements.Rule.{Rule}
+use Rattle.use_flow.specs.declared.elements.Rule.TheVariants as rules
+use Rattle.use_flow.specs.declared.elements.Title.{Title}
+use Rattle.use_flow.specs.declared.elements.Title.TheVariants as titles
+use Rattle.use_flow.specs.declared.demand.DemandKind.{DemandKind}
+use Rattle.use_flow.specs.declared.demand.DemandKind.TheVariants as demands
+use Rattle.use_flow.specs.declared.demand.Demand.{Demand}
+use Rattle.mg_text.specs.Call.{Name}
+use Rattle.mg_text.specs.declared.place.Place.{Place}
+use Rattle.use_flow.specs.Elements.{as_value, left_behind, not_null, only_null, if_moved, if_state, element_at}
+
+abbrev pub mapping_of : Mapping → ℕ → List ℕ
+mapping_of mappings.AsValue = as_value
+mapping_of mappings.LeftBehind = left_behind
+mapping_of mappings.NotNull = not_null
+mapping_of mappings.OnlyNull = only_null
+
+abbrev pub rule_of : Rule → ℕ → Option DemandKind
+rule_of rules.Moved = if_moved
+rule_of rules.LeftOpen = if_state demands.LeftOpen
+rule_of rules.Overwritten = if_state demands.Overwritten
+rule_of rules.FieldOpenAtEnd = if_state demands.FieldOpenAtEnd
+
+abbrev pub listed : Option ℕ → List ℕ
+listed None = []
+listed (Some x) = x ∷ []
+
+-- what a demand is about, as a text
+abbrev pub title_in : List Name → Title → Name
+title_in names (titles.Variable n) = get_or names n.0 []
+title_in names titles.Value = codes "value"
+title_in names titles.Unnamed = []
+
+-- the demand that an element fails, where it fails one
+abbrev pub blamed : Place → Name → (class element : ℕ) → Option DemandKind → List Demand
+blamed q x c e None = []
+blamed q x c e (Some k) = record { kind = k; place = q; slot = x; class = c; element = element_at e } ∷ []

@@ -1,0 +1,217 @@
+//! Where calls of a method lead from the elements of a set, and which demands they fail.
+//! A method is named by its text, as typestates name it.
+
+ghost use Rattle.std.specs.Prelude.{◌≡◌, ◌++◌, map, option_map, is_some, slice_set, true, IfOk, OnOk};
+ghost use Rattle.ts_tree.specs.Calls.{offered, offered_in, by_label};
+ghost use Rattle.ts_tree.specs.View.{method_of, target_of};
+ghost use Rattle.use_flow.specs.Elements.{begin, image, along, element_of, marked, target_at, unless_called, offering};
+ghost use Rattle.use_flow.specs.State.{judged};
+ghost use Rattle.use_flow.specs.inner.Calling.{which_of};
+ghost use Rattle.use_flow.specs.inner.Followed.{typestate_or_end};
+ghost use Rattle.use_flow.specs.inner.Mappings.{title_in};
+
+use crate::elements::{Subject, blame, empty_set, mark};
+use crate::{Demand, DemandKind};
+use mg_sets::StateSet;
+use mg_text::{List, Memory, Names};
+use std::alloc::Global;
+use ts_tree::{Branch, Method, Target, To, Typestate};
+
+// The method of a name among those of a state.
+#[tactic(auto, using(crate::proofs::Seeking::seeking))]
+fn offered_in<'t>(methods: &'t [Method], name: &str) -> Option<&'t Method>
+    ensures { option_map (λ m. method_of m.now) result ≡ offered_in (map method_of methods.now) name.now }
+{
+    for method in methods {
+        if method.name.as_str() == name {
+            return Some(method);
+        }
+    }
+    None
+}
+
+// Where the label leads.
+#[tactic(auto, using(crate::proofs::Seeking::seeking))]
+pub(crate) fn by_label(branches: &[Branch], label: &str) -> Option<To>
+    ensures { result ≡ by_label branches.now label.now }
+{
+    for branch in branches {
+        if branch.label.as_str() == label {
+            return Some(branch.to);
+        }
+    }
+    None
+}
+
+// Where a method leads that the state offers.
+#[tactic(auto, using(crate::proofs::Scenes::scenes))]
+fn target_at<'t>(typestate: Option<&'t Typestate>, method: &str, state: usize) -> Option<&'t Target>
+    ensures { option_map (λ t. target_of t.now) result ≡ target_at (typestate_or_end (option_map (λ t. t.now) typestate.entry)) method.now state }
+{
+    let state = typestate?.states.as_slice().get(state)?;
+    let offered = offered_in(state.methods.as_slice(), method)?;
+    Some(&offered.target)
+}
+
+// Whether a state offers a method.
+#[tactic(auto, using(crate::proofs::Seeking::offered_tests))]
+pub(crate) fn offers(typestate: Option<&Typestate>, method: &str, state: usize) -> bool
+    ensures { result ≡ is_some (offered (typestate_or_end (option_map (λ t. t.now) typestate.entry)) state method.now) }
+{
+    target_at(typestate, method, state).is_some()
+}
+
+// Makes the element of a place a member.
+fn mark_place(found: &mut StateSet, to: To)
+    ensures { found.new ≡ slice_set found.old (element_of to) true }
+{
+    match to {
+        To::State(state) => mark(found, 3 + state as usize),
+        To::End => mark(found, 2),
+    }
+}
+
+// Makes the elements of all places members.
+#[tactic(auto, using(crate::proofs::Seeking::seeking))]
+fn mark_branches(found: &mut StateSet, branches: &[Branch])
+    ensures { found.new ≡ marked (map element_of (map (λ b. b.to) branches.now)) found.old }
+{
+    for branch in branches {
+        mark_place(found, branch.to);
+    }
+}
+
+// Makes the elements to which a call leads members.
+fn mark_target(found: &mut StateSet, target: &Target, label: Option<&str>)
+    ensures { found.new ≡ marked (map element_of (which_of (option_map (λ l. l.now) label.entry) (target_of target.now))) found.old }
+{
+    match target {
+        Target::One(to) => mark_place(found, *to),
+        Target::ByAnswer(branches) => {
+            let Some(label) = label else {
+                mark_branches(found, branches.as_slice());
+                return;
+            };
+            if let Some(to) = by_label(branches.as_slice(), label) {
+                mark_place(found, to);
+            }
+        }
+    }
+}
+
+// Makes the elements to which a call leads from an element members.
+#[tactic(auto, using(crate::proofs::Seeking::alongs))]
+fn mark_led(
+    found: &mut StateSet,
+    typestate: Option<&Typestate>,
+    method: &str,
+    label: Option<&str>,
+    element: usize,
+)
+    ensures { found.new ≡ marked (along (which_of (option_map (λ l. l.now) label.entry)) (typestate_or_end (option_map (λ t. t.now) typestate.entry)) method.now element) found.old }
+{
+    if element < 3 {
+        return;
+    }
+    if let Some(target) = target_at(typestate, method, element - 3) {
+        mark_target(found, target, label);
+    }
+}
+
+// Where the elements of a set lead by a call, as a set of this width.
+#[tactic(auto, using(crate::proofs::Rests::rests))]
+pub(crate) fn image_along(
+    alloc: Global,
+    width: usize,
+    typestate: Option<&Typestate>,
+    method: &str,
+    label: Option<&str>,
+    set: &StateSet,
+) -> Result<StateSet, Memory>
+    ensures { IfOk result (λ s. s ≡ image width (along (which_of (option_map (λ l. l.now) label.entry)) (typestate_or_end (option_map (λ t. t.now) typestate.entry)) method.now) set.now) }
+{
+    let mut found = empty_set(alloc, width)?;
+    for element in 0..set.width() {
+        if set.has(element) {
+            mark_led(&mut found, typestate, method, label, element);
+        }
+    }
+    Ok(found)
+}
+
+// Which demand an element fails on which a method is called.
+#[tactic(auto, using(crate::proofs::Seeking::alongs))]
+fn called_asked(typestate: Option<&Typestate>, method: &str, element: usize) -> Option<DemandKind>
+    ensures { result ≡ unless_called (typestate_or_end (option_map (λ t. t.now) typestate.entry)) method.now element }
+{
+    if element == 0 {
+        return Some(DemandKind::MaybeNull);
+    }
+    if element == 1 {
+        return Some(DemandKind::UseMoved);
+    }
+    if element == 2 {
+        return Some(DemandKind::NotOffered);
+    }
+    match target_at(typestate, method, element - 3) {
+        Some(_) => None,
+        None => Some(DemandKind::NotOffered),
+    }
+}
+
+// Appends the demands that a set fails on which a method is called.
+#[tactic(auto, using(crate::proofs::Rests::rests))]
+pub(crate) fn judge_call(
+    alloc: Global,
+    names: &Names,
+    failed: &mut List<Demand>,
+    subject: Subject,
+    typestate: Option<&Typestate>,
+    method: &str,
+    set: &StateSet,
+) -> Result<(), Memory>
+    ensures { OnOk result (failed.new.items ≡ failed.old.items ++ judged (unless_called (typestate_or_end (option_map (λ t. t.now) typestate.entry)) method.now) subject.place (title_in names.now subject.title) subject.class set.now) }
+{
+    for element in 0..set.width() {
+        if set.has(element) {
+            let kind = called_asked(typestate, method, element);
+            blame(alloc, names, failed, subject, element, kind)?;
+        }
+    }
+    Ok(())
+}
+
+// Where an object begins.
+pub(crate) fn begin_of(typestate: Option<&Typestate>) -> usize
+    ensures { result ≡ begin (typestate_or_end (option_map (λ t. t.now) typestate.entry)) }
+{
+    let Some(typestate) = typestate else {
+        return 2;
+    };
+    match typestate.initial() {
+        To::State(state) => 3 + state as usize,
+        To::End => 2,
+    }
+}
+
+// The states of a set that offer a method.
+#[tactic(auto, using(crate::proofs::Seeking::offers))]
+pub(crate) fn offering(
+    alloc: Global,
+    typestate: Option<&Typestate>,
+    method: &str,
+    set: &StateSet,
+) -> Result<Vec<usize>, Memory>
+    ensures { IfOk result (λ v. v.items ≡ offering (typestate_or_end (option_map (λ t. t.now) typestate.entry)) method.now set.now) }
+{
+    let mut states = Vec::new(alloc);
+    for element in 3..set.width() {
+        if !set.has(element) {
+            continue;
+        }
+        if target_at(typestate, method, element - 3).is_some() {
+            states.push(element - 3)?;
+        }
+    }
+    Ok(states)
+}

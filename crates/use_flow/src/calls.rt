@@ -1,0 +1,158 @@
+//! Calls, behind their arguments.
+//! What flows into the method that is called stands in the log, and its result comes from the tables.
+
+ghost use Rattle.std.specs.Prelude.{◌≡◌, Some, IfOk};
+ghost use Rattle.jv_core.specs.View.{method_of};
+ghost use Rattle.jv_core.specs.Lookup.{text_at};
+ghost use Rattle.use_flow.specs.Elements.{targets};
+ghost use Rattle.use_flow.specs.View.{log_of};
+ghost use Rattle.use_flow.specs.inner.Followed.{seen};
+ghost use Rattle.use_flow.specs.inner.Values.{evaluated_of, protocol_call, static_call, helper_call};
+
+use crate::arguments::params_of;
+use crate::calling::{image_along, judge_call, offering};
+use crate::evaluated::{Arguments, Value, Ways};
+use crate::fields::{FieldTable, copy_at};
+use crate::scene::{Scene, typestate_of};
+use crate::sets::Sets;
+use crate::{Context, Flow};
+use jv_core::{CoreMethod, CoreVar};
+use mg_text::Memory;
+use std::alloc::Global;
+
+impl<'a> Scene<'a> {
+    // A call of a static method.
+    pub(crate) fn static_call(
+        &self,
+        alloc: Global,
+        number: u32,
+        method: &CoreMethod,
+        args: Arguments,
+        log: &mut Flow,
+    ) -> Result<Value, Memory>
+        ensures { IfOk result (λ v. evaluated_of v (log_of log.new) ≡ static_call (seen self.now) number (method_of method.now) args.sets args.now (log_of log.old)) }
+    {
+        let Arguments { sets: given, now } = args;
+        let Some(sets) = now else {
+            return Value::plain(alloc, None);
+        };
+        let context = self
+            .tables
+            .context_number(Context::Plain { method: number })?;
+        let params = params_of(method);
+        self.send_params(alloc, &mut log.outs, context, params, &given)?;
+        let set = self.result_of(alloc, context, method)?;
+        Ok(Value {
+            set,
+            ways: Ways::Alike(Some(sets)),
+        })
+    }
+
+    // A call of a helper: the own fields flow to where it is entered, and are then as it is left.
+    pub(crate) fn helper_call(
+        &self,
+        alloc: Global,
+        number: u32,
+        method: &CoreMethod,
+        args: Arguments,
+        log: &mut Flow,
+    ) -> Result<Value, Memory>
+        ensures { IfOk result (λ v. evaluated_of v (log_of log.new) ≡ helper_call (seen self.now) number (method_of method.now) args.sets args.now (log_of log.old)) }
+    {
+        let Arguments { sets: given, now } = args;
+        let Some(mut sets) = now else {
+            return Value::plain(alloc, None);
+        };
+        let context = self
+            .tables
+            .context_number(Context::Plain { method: number })?;
+        let params = params_of(method);
+        self.send_params(alloc, &mut log.outs, context, params, &given)?;
+        self.send_fields(
+            alloc,
+            &mut log.outs,
+            FieldTable::Enter { method: number },
+            &sets,
+        )?;
+        self.fill_fields(alloc, FieldTable::Leave { method: number }, &mut sets)?;
+        let set = self.result_of(alloc, context, method)?;
+        Ok(Value {
+            set,
+            ways: Ways::Alike(Some(sets)),
+        })
+    }
+
+    // A call of a protocol method of this name, from what the variable has.
+    pub(crate) fn named_call(
+        &self,
+        alloc: Global,
+        receiver: CoreVar,
+        number: u32,
+        method: &CoreMethod,
+        name: &str,
+        args: &Sets,
+        sets: Sets,
+        log: &mut Flow,
+    ) -> Result<Value, Memory>
+        requires { name.now ≡ text_at (seen self.now).program (method_of method.now).name }
+        ensures { IfOk result (λ v. evaluated_of v (log_of log.new) ≡ protocol_call (seen self.now) targets receiver number (method_of method.now) args.now (Some sets) (log_of log.old)) }
+    {
+        let mut sets = sets;
+        let typestate = typestate_of(self.core, method.class);
+        let at = self.variable_at(receiver.var);
+        let set = copy_at(alloc, &sets, at)?;
+        let subject = self.subject(receiver.place, receiver.var);
+        let names = self.core.names();
+        judge_call(
+            alloc,
+            names,
+            &mut log.failed,
+            subject,
+            typestate,
+            name,
+            &set,
+        )?;
+        let states = offering(alloc, typestate, name, &set)?;
+        self.send_states(
+            alloc,
+            &mut log.outs,
+            number,
+            method,
+            states.as_slice(),
+            args,
+        )?;
+        let result = self.results_of(alloc, number, method, states.as_slice())?;
+        let width = self.variable_width(receiver.var);
+        let led = image_along(alloc, width, typestate, name, None, &set)?;
+        sets.put(at, led);
+        Ok(Value {
+            set: result,
+            ways: Ways::Alike(Some(sets)),
+        })
+    }
+
+    // A call of a protocol method.
+    #[tactic(auto, using(crate::proofs::Scenes::scenes))]
+    pub(crate) fn protocol_call(
+        &self,
+        alloc: Global,
+        receiver: CoreVar,
+        number: u32,
+        method: &CoreMethod,
+        args: Arguments,
+        log: &mut Flow,
+    ) -> Result<Value, Memory>
+        ensures { IfOk result (λ v. evaluated_of v (log_of log.new) ≡ protocol_call (seen self.now) targets receiver number (method_of method.now) args.sets args.now (log_of log.old)) }
+    {
+        let Arguments { sets: given, now } = args;
+        let Some(sets) = now else {
+            return Value::plain(alloc, None);
+        };
+        let names = self.core.names();
+        if (method.name.0 as usize) < names.len() {
+            let name = names.text(method.name);
+            return self.named_call(alloc, receiver, number, method, name, &given, sets, log);
+        }
+        self.named_call(alloc, receiver, number, method, "", &given, sets, log)
+    }
+}

@@ -1,0 +1,231 @@
+//! Where the elements of a set lead, and which demands they fail.
+//! Each is a loop over the members of a set.
+
+ghost use Rattle.std.specs.Prelude.{◌≡◌, ◌++◌, slice_set, true, IfOk, OnOk};
+ghost use Rattle.use_flow.specs.Elements.{element_at, if_state, image, marked, none};
+ghost use Rattle.use_flow.specs.State.{judged};
+ghost use Rattle.use_flow.specs.inner.Mappings.{mapping_of, rule_of, listed, blamed, title_in};
+
+use crate::{Demand, DemandKind, Element};
+use mg_sets::StateSet;
+use mg_text::{List, Memory, Name, Names, Place, Text};
+use std::alloc::Global;
+
+/// Where reads and null tests lead from an element.
+#[derive(Clone, Copy, Debug, PartialEq, Eq)]
+pub(crate) enum Mapping {
+    /// What a read gives.
+    AsValue,
+    /// What a read leaves in the variable.
+    LeftBehind,
+    NotNull,
+    OnlyNull,
+}
+
+/// What is asked of an element, wherever it stands.
+#[derive(Clone, Copy, Debug, PartialEq, Eq)]
+pub(crate) enum Rule {
+    Moved,
+    LeftOpen,
+    Overwritten,
+    FieldOpenAtEnd,
+}
+
+// The set of this width without members.
+pub(crate) fn empty_set(alloc: Global, width: usize) -> Result<StateSet, Memory>
+    ensures { IfOk result (λ s. s ≡ none width) }
+{
+    let Ok(set) = StateSet::new(alloc, width) else {
+        return Err(Memory);
+    };
+    Ok(set)
+}
+
+// An equal set.
+pub(crate) fn copy_set(set: &StateSet) -> Result<StateSet, Memory>
+    ensures { IfOk result (λ s. s ≡ set.now) }
+{
+    let Ok(copy) = set.copy() else {
+        return Err(Memory);
+    };
+    Ok(copy)
+}
+
+// Makes an element a member, where it is below the width.
+pub(crate) fn mark(set: &mut StateSet, element: usize)
+    ensures { set.new ≡ slice_set set.old element true }
+{
+    if element < set.width() {
+        let _new = set.add(element);
+    }
+}
+
+// Where an element leads, if anywhere.
+#[tactic(auto, using(crate::proofs::Leading::leading))]
+fn lead(mapping: Mapping, element: usize) -> Option<usize>
+    ensures { listed result ≡ mapping_of mapping element }
+{
+    match mapping {
+        Mapping::AsValue => { if element == 1 { None } else { Some(element) } }
+        Mapping::LeftBehind => match element {
+            0 => Some(0),
+            1 => None,
+            _ => Some(1),
+        },
+        Mapping::NotNull => { if element == 0 { None } else { Some(element) } }
+        Mapping::OnlyNull => { if element == 0 { Some(0) } else { None } }
+    }
+}
+
+// Makes the element that there may be a member.
+fn mark_found(set: &mut StateSet, element: Option<usize>)
+    ensures { set.new ≡ marked (listed element) set.old }
+{
+    if let Some(element) = element {
+        mark(set, element);
+    }
+}
+
+// Where the elements of a set lead, as a set of this width.
+#[tactic(auto, using(crate::proofs::Rests::rests))]
+pub(crate) fn image(
+    alloc: Global,
+    width: usize,
+    mapping: Mapping,
+    set: &StateSet,
+) -> Result<StateSet, Memory>
+    ensures { IfOk result (λ s. s ≡ image width (mapping_of mapping) set.now) }
+{
+    let mut found = empty_set(alloc, width)?;
+    for element in 0..set.width() {
+        if set.has(element) {
+            mark_found(&mut found, lead(mapping, element));
+        }
+    }
+    Ok(found)
+}
+
+// Which demand an element fails.
+#[tactic(auto, using(crate::proofs::Leading::leading))]
+fn asked(rule: Rule, element: usize) -> Option<DemandKind>
+    ensures { result ≡ rule_of rule element }
+{
+    match rule {
+        Rule::Moved => {
+            if element == 1 {
+                Some(DemandKind::UseMoved)
+            } else {
+                None
+            }
+        }
+        Rule::LeftOpen => state_asked(DemandKind::LeftOpen, element),
+        Rule::Overwritten => state_asked(DemandKind::Overwritten, element),
+        Rule::FieldOpenAtEnd => state_asked(DemandKind::FieldOpenAtEnd, element),
+    }
+}
+
+// The demand that no state meets.
+#[tactic(auto, using(crate::proofs::Leading::leading))]
+fn state_asked(kind: DemandKind, element: usize) -> Option<DemandKind>
+    ensures { result ≡ if_state kind element }
+{
+    if element < 3 { None } else { Some(kind) }
+}
+
+// The element at a place of a set.
+#[tactic(auto, using(crate::proofs::Leading::leading))]
+fn element_at(place: usize) -> Result<Element, Memory>
+    ensures { IfOk result (λ e. e ≡ element_at place) }
+{
+    if place == 0 {
+        return Ok(Element::Null);
+    }
+    if place == 1 {
+        return Ok(Element::Moved);
+    }
+    if place == 2 {
+        return Ok(Element::End);
+    }
+    let Ok(state) = u32::try_from(place - 3) else {
+        return Err(Memory);
+    };
+    Ok(Element::State(state))
+}
+
+/// What a demand is about: a variable of this name, or a value that is dropped.
+#[derive(Clone, Copy, Debug)]
+pub(crate) enum Title {
+    Variable(Name),
+    Value,
+    Unnamed,
+}
+
+/// What a demand is about, where that stands, and the class of its objects.
+#[derive(Clone, Copy, Debug)]
+pub(crate) struct Subject {
+    pub place: Place,
+    pub title: Title,
+    pub class: u32,
+}
+
+// What a demand is about, as a text.
+#[tactic(auto, using(crate::proofs::Scenes::scenes))]
+fn title_text(alloc: Global, names: &Names, title: Title) -> Result<Text, Memory>
+    ensures { IfOk result (λ t. t ≡ title_in names.now title) }
+{
+    match title {
+        Title::Variable(name) => {
+            if (name.0 as usize) < names.len() {
+                return Text::of(alloc, names.text(name));
+            }
+            Text::of(alloc, "")
+        }
+        Title::Value => Text::of(alloc, "value"),
+        Title::Unnamed => Text::of(alloc, ""),
+    }
+}
+
+// Appends the demand that an element fails, where it fails one.
+pub(crate) fn blame(
+    alloc: Global,
+    names: &Names,
+    failed: &mut List<Demand>,
+    subject: Subject,
+    place: usize,
+    kind: Option<DemandKind>,
+) -> Result<(), Memory>
+    ensures { OnOk result (failed.new.items ≡ failed.old.items ++ blamed subject.place (title_in names.now subject.title) subject.class place kind) }
+{
+    if let Some(kind) = kind {
+        let element = element_at(place)?;
+        let slot = title_text(alloc, names, subject.title)?;
+        failed.push(Demand {
+            kind,
+            place: subject.place,
+            slot,
+            class: subject.class,
+            element,
+        })?;
+    }
+    Ok(())
+}
+
+// Appends the demands that a set fails, element by element.
+#[tactic(auto, using(crate::proofs::Rests::rests))]
+pub(crate) fn judge(
+    alloc: Global,
+    names: &Names,
+    failed: &mut List<Demand>,
+    subject: Subject,
+    rule: Rule,
+    set: &StateSet,
+) -> Result<(), Memory>
+    ensures { OnOk result (failed.new.items ≡ failed.old.items ++ judged (rule_of rule) subject.place (title_in names.now subject.title) subject.class set.now) }
+{
+    for element in 0..set.width() {
+        if set.has(element) {
+            blame(alloc, names, failed, subject, element, asked(rule, element))?;
+        }
+    }
+    Ok(())
+}

@@ -1,0 +1,193 @@
+//! The own fields of the object that a method runs on, and the tables that they flow into.
+//! A field that has no objects has no table.
+
+ghost use Rattle.std.specs.Prelude.{◌≡◌, ◌+◌, ◌++◌, ◌∷◌, [], map, slice_index_or, IfOk, OnOk};
+ghost use Rattle.jv_core.specs.View.{field_of};
+ghost use Rattle.use_flow.specs.inner.Fields.{key_in, outs_in};
+ghost use Rattle.use_flow.specs.inner.Followed.{seen, field_outs, field_outs_from, with_fields, with_fields_from};
+
+use crate::elements::{copy_set, empty_set};
+use crate::scene::{Scene, class_in};
+use crate::sets::Sets;
+use crate::{Out, TableKey};
+use jv_core::CoreField;
+use mg_sets::StateSet;
+use mg_text::{List, Memory};
+use std::alloc::Global;
+
+/// The tables of the fields of an object: in a state, where a helper is entered or left, or at the
+/// head of a loop, where fields stand behind so many slots.
+#[derive(Clone, Copy, Debug)]
+pub(crate) enum FieldTable {
+    State {
+        class: u32,
+        state: u32,
+    },
+    Enter {
+        method: u32,
+    },
+    Leave {
+        method: u32,
+    },
+    Head {
+        context: u32,
+        number: u32,
+        slots: usize,
+    },
+}
+
+// A number as keys have it.
+pub(crate) fn number(n: usize) -> Result<u32, Memory>
+    ensures { IfOk result (λ m. m ≡ n) }
+{
+    let Ok(number) = u32::try_from(n) else {
+        return Err(Memory);
+    };
+    Ok(number)
+}
+
+// The sum of two numbers.
+pub(crate) fn sum(n: usize, m: usize) -> Result<usize, Memory>
+    ensures { IfOk result (λ k. k ≡ n + m) }
+{
+    let Some(sum) = n.checked_add(m) else {
+        return Err(Memory);
+    };
+    Ok(sum)
+}
+
+// The table of a field.
+fn key_of(table: FieldTable, field: usize) -> Result<TableKey, Memory>
+    ensures { IfOk result (λ k. k ≡ key_in table field) }
+{
+    match table {
+        FieldTable::State { class, state } => {
+            let field = number(field)?;
+            Ok(TableKey::Field {
+                class,
+                state,
+                field,
+            })
+        }
+        FieldTable::Enter { method } => {
+            let field = number(field)?;
+            Ok(TableKey::Enter { method, field })
+        }
+        FieldTable::Leave { method } => {
+            let field = number(field)?;
+            Ok(TableKey::Leave { method, field })
+        }
+        FieldTable::Head {
+            context,
+            number: loop_number,
+            slots,
+        } => {
+            let at = sum(slots, field)?;
+            let slot = number(at)?;
+            Ok(TableKey::Loop {
+                context,
+                number: loop_number,
+                slot,
+            })
+        }
+    }
+}
+
+// Appends what flows into a table.
+pub(crate) fn send(outs: &mut List<Out>, key: TableKey, set: StateSet) -> Result<(), Memory>
+    ensures { OnOk result (outs_in outs.new.items ≡ outs_in outs.old.items ++ record { key = key; set = set } ∷ []) }
+{
+    outs.push(Out { key, set })?;
+    Ok(())
+}
+
+// A copy of the set at a place.
+#[tactic(auto, using(crate::proofs::Scenes::scenes))]
+pub(crate) fn copy_at(alloc: Global, sets: &Sets, at: usize) -> Result<StateSet, Memory>
+    ensures { IfOk result (λ s. s ≡ slice_index_or sets.now at []) }
+{
+    if at < sets.len() {
+        return copy_set(sets.get(at));
+    }
+    empty_set(alloc, 0)
+}
+
+impl<'a> Scene<'a> {
+    // Appends what flows of these fields, each into its table.
+    #[tactic(auto, using(crate::proofs::Turns::fields))]
+    fn send_these(
+        &self,
+        alloc: Global,
+        outs: &mut List<Out>,
+        table: FieldTable,
+        fields: &[CoreField],
+        sets: &Sets,
+    ) -> Result<(), Memory>
+        ensures { OnOk result (outs_in outs.new.items ≡ outs_in outs.old.items ++ field_outs_from (seen self.now) (key_in table) 0 (map field_of fields.now) sets.now) }
+    {
+        for field in 0..fields.len() {
+            if class_in(fields[field].ty).is_none() {
+                continue;
+            }
+            let key = key_of(table, field)?;
+            let at = sum(self.method.slots.len(), field)?;
+            let set = copy_at(alloc, sets, at)?;
+            send(outs, key, set)?;
+        }
+        Ok(())
+    }
+
+    // Appends what flows of the own fields, each into its table.
+    pub(crate) fn send_fields(
+        &self,
+        alloc: Global,
+        outs: &mut List<Out>,
+        table: FieldTable,
+        sets: &Sets,
+    ) -> Result<(), Memory>
+        ensures { OnOk result (outs_in outs.new.items ≡ outs_in outs.old.items ++ field_outs (seen self.now) (key_in table) sets.now) }
+    {
+        match self.own_class() {
+            Some(class) => self.send_these(alloc, outs, table, class.fields.as_slice(), sets),
+            None => Ok(()),
+        }
+    }
+
+    // Gives these fields what their tables have.
+    #[tactic(auto, using(crate::proofs::Turns::filled))]
+    fn fill_these(
+        &self,
+        alloc: Global,
+        table: FieldTable,
+        fields: &[CoreField],
+        sets: &mut Sets,
+    ) -> Result<(), Memory>
+        ensures { OnOk result (sets.new ≡ with_fields_from (seen self.now) (key_in table) 0 (map field_of fields.now) sets.old) }
+    {
+        for field in 0..fields.len() {
+            if class_in(fields[field].ty).is_none() {
+                continue;
+            }
+            let key = key_of(table, field)?;
+            let at = sum(self.method.slots.len(), field)?;
+            let set = self.tables.copy_of(alloc, key)?;
+            sets.put(at, set);
+        }
+        Ok(())
+    }
+
+    // Gives the own fields what their tables have.
+    pub(crate) fn fill_fields(
+        &self,
+        alloc: Global,
+        table: FieldTable,
+        sets: &mut Sets,
+    ) -> Result<(), Memory>
+        ensures { OnOk result (sets.new ≡ with_fields (seen self.now) (key_in table) sets.old) }
+    {
+        match self.own_class() {
+            Some(class) => self.fill_these(alloc, table, class.fields.as_slice(), sets),
+            None => Ok(()),
+        }
+    }
+}

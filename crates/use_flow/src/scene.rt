@@ -1,0 +1,190 @@
+//! What is followed: a context of a program, with its method and the tables as they stand.
+//! Names, types and widths of its variables are found here.
+
+ghost use Rattle.std.specs.Prelude.{◌≡◌, map, option_map, slice_get};
+ghost use Rattle.jv_core.specs.Core.{tree_of};
+ghost use Rattle.jv_core.specs.View.{class_of};
+ghost use Rattle.jv_core.specs.Lookup.{slot_type, field_type, variable_type};
+ghost use Rattle.use_flow.specs.Keys.{class_in, typestate_of};
+ghost use Rattle.use_flow.specs.inner.Followed.{seen, typestate_or_end, variable_at, variable_text, class_or_none, variable_class, elements_of, width_of, variable_width};
+ghost use Rattle.use_flow.specs.inner.Mappings.{title_in};
+
+use crate::elements::{Subject, Title};
+use crate::{Context, Tables};
+use jv_core::{Core, CoreClass, CoreMethod, CoreType, Var};
+use mg_text::Place;
+use ts_tree::Typestate;
+
+/// A context that is followed, its method, and the tables.
+#[derive(Drop)]
+pub(crate) struct Scene<'a> {
+    pub core: &'a Core,
+    pub tables: &'a Tables,
+    pub context: Context,
+    pub method: &'a CoreMethod,
+}
+
+// The class of a type's objects.
+pub(crate) fn class_in(ty: CoreType) -> Option<u32>
+    ensures { result ≡ class_in ty }
+{
+    match ty {
+        CoreType::Object(class) => Some(class),
+        _ => None,
+    }
+}
+
+// The class of a program.
+#[tactic(auto, using(crate::proofs::Scenes::scenes))]
+pub(crate) fn class_at(core: &Core, class: u32) -> Option<&CoreClass>
+    ensures { option_map (λ k. class_of k.now) result ≡ slice_get (tree_of core.now).classes class }
+{
+    core.classes().get(class as usize)
+}
+
+// The typestate that a class follows, if it follows one.
+#[tactic(auto, using(crate::proofs::Scenes::scenes))]
+pub(crate) fn typestate_of(core: &Core, class: u32) -> Option<&Typestate>
+    ensures { typestate_or_end (option_map (λ t. t.now) result) ≡ typestate_of (tree_of core.now) class }
+{
+    let class = class_at(core, class)?;
+    let number = class.typestate?;
+    core.typestates().get(number as usize)
+}
+
+impl<'a> Scene<'a> {
+    // The class of the method.
+    pub(crate) fn own_class(&self) -> Option<&CoreClass>
+        ensures { option_map (λ k. class_of k.now) result ≡ slice_get (seen self.now).program.classes (seen self.now).method.class }
+    {
+        class_at(self.core, self.method.class)
+    }
+
+    // How many elements a variable of a class may have.
+    pub(crate) fn elements_of(&self, class: u32) -> usize
+        ensures { result ≡ elements_of (seen self.now) class }
+    {
+        match typestate_of(self.core, class) {
+            Some(typestate) => 3 + typestate.states.len(),
+            None => 3,
+        }
+    }
+
+    // The width of the sets of a type.
+    pub(crate) fn width_of(&self, ty: CoreType) -> usize
+        ensures { result ≡ width_of (seen self.now) ty }
+    {
+        match class_in(ty) {
+            Some(class) => self.elements_of(class),
+            None => 0,
+        }
+    }
+
+    // The type of a slot.
+    #[tactic(auto, using(crate::proofs::Scenes::scenes))]
+    pub(crate) fn slot_type(&self, slot: u32) -> Option<CoreType>
+        ensures { result ≡ slot_type (seen self.now).method slot }
+    {
+        match self.method.slots.as_slice().get(slot as usize) {
+            Some(slot) => Some(slot.ty),
+            None => None,
+        }
+    }
+
+    // The type of an own field.
+    #[tactic(auto, using(crate::proofs::Scenes::scenes))]
+    fn field_type(&self, field: u32) -> Option<CoreType>
+        ensures { result ≡ field_type (seen self.now).program (seen self.now).method.class field }
+    {
+        match self.own_class()?.fields.as_slice().get(field as usize) {
+            Some(field) => Some(field.ty),
+            None => None,
+        }
+    }
+
+    // The type of a variable.
+    pub(crate) fn variable_type(&self, variable: Var) -> Option<CoreType>
+        ensures { result ≡ variable_type (seen self.now).program (seen self.now).method variable }
+    {
+        match variable {
+            Var::Slot(slot) => self.slot_type(slot),
+            Var::Field(field) => self.field_type(field),
+        }
+    }
+
+    // Where the set of a variable stands: slots come first, and then the own fields.
+    #[tactic(auto, using(crate::proofs::Scenes::scenes))]
+    pub(crate) fn variable_at(&self, variable: Var) -> usize
+        ensures { result ≡ variable_at (seen self.now) variable }
+    {
+        match variable {
+            Var::Slot(slot) => slot as usize,
+            Var::Field(field) => self.method.slots.len() + field as usize,
+        }
+    }
+
+    // The width of the sets of a variable.
+    pub(crate) fn variable_width(&self, variable: Var) -> usize
+        ensures { result ≡ variable_width (seen self.now) variable }
+    {
+        match self.variable_type(variable) {
+            Some(ty) => self.width_of(ty),
+            None => 0,
+        }
+    }
+
+    // The class that a type names.
+    pub(crate) fn class_or_none(&self, ty: Option<CoreType>) -> u32
+        ensures { result ≡ class_or_none (seen self.now) ty }
+    {
+        let Some(ty) = ty else {
+            return 0;
+        };
+        match class_in(ty) {
+            Some(class) => class,
+            None => 0,
+        }
+    }
+
+    // The name of a slot.
+    #[tactic(auto, using(crate::proofs::Scenes::scenes))]
+    fn slot_title(&self, slot: u32) -> Title
+        ensures { title_in (seen self.now).program.names result ≡ variable_text (seen self.now) (Var.Slot slot) }
+    {
+        match self.method.slots.as_slice().get(slot as usize) {
+            Some(slot) => Title::Variable(slot.name),
+            None => Title::Unnamed,
+        }
+    }
+
+    // The name of an own field.
+    #[tactic(auto, using(crate::proofs::Scenes::scenes))]
+    fn field_title(&self, field: u32) -> Title
+        ensures { title_in (seen self.now).program.names result ≡ variable_text (seen self.now) (Var.Field field) }
+    {
+        let Some(class) = self.own_class() else {
+            return Title::Unnamed;
+        };
+        match class.fields.as_slice().get(field as usize) {
+            Some(field) => Title::Variable(field.name),
+            None => Title::Unnamed,
+        }
+    }
+
+    // A variable as demands name it.
+    pub(crate) fn subject(&self, place: Place, variable: Var) -> Subject
+        ensures place { result.place ≡ place }
+        ensures name { title_in (seen self.now).program.names result.title ≡ variable_text (seen self.now) variable }
+        ensures class { result.class ≡ variable_class (seen self.now) variable }
+    {
+        let title = match variable {
+            Var::Slot(slot) => self.slot_title(slot),
+            Var::Field(field) => self.field_title(field),
+        };
+        Subject {
+            place,
+            title,
+            class: self.class_or_none(self.variable_type(variable)),
+        }
+    }
+}
