@@ -1,0 +1,14 @@
+pub mod Starts
+pub mod Numbers
+pub mod Judging
+pub mod Pieces
+pub mod Bodies
+pub mod Parts
+pub mod Filed
+pub mod Programs
+pub mod Apart
+pub mod Described
+pub mod Looked
+pub mod Called
+pub mod Cores
+pub mod Sounding

@@ -1,0 +1,9 @@
+pub mod Places
+pub mod Generates
+pub mod Examples
+pub mod Files
+pub mod Types
+pub mod Hello
+pub mod Linking
+pub mod Pool
+pub mod Found

@@ -1,0 +1,16 @@
+pub mod Symbolic
+pub mod Members
+pub mod Typed
+pub mod Locals
+pub mod Spans
+pub mod Around
+pub mod Cases
+pub mod Templates
+pub mod Frames
+pub mod Assembled
+pub mod Classes
+pub mod Limits
+pub mod Linked
+pub mod inner
+pub mod examples
+pub mod Laws
