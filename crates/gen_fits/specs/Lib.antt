@@ -1,0 +1,4 @@
+pub mod Encodable
+pub mod Held
+pub mod Files
+pub mod Spelled
