@@ -22,3 +22,7 @@ pub mod ExprSteps
 pub mod FormSteps
 pub mod StmtSteps
 pub mod Composing
+pub mod Choosing
+pub mod StmtLoops
+pub mod ParamSteps
+pub mod StmtForms

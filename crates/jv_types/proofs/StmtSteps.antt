@@ -6,21 +6,22 @@ use Rattle.mg_text.specs.Call.{Name}
 use Rattle.mg_text.specs.declared.place.Place.{Place}
 use Rattle.mg_read.specs.Culprit.{Culprit, culprit}
 use Rattle.ts_tree.specs.declared.parts.TypeName.{TypeName}
-use Rattle.jv_tree.specs.Source.{Expr, Local, Assign, Print, Break, Continue, Return}
+use Rattle.jv_tree.specs.Source.{Expr, Stmt, Local, Assign, Print, Break, Continue, Return}
+use Rattle.jv_tree.specs.Source as S
 use Rattle.jv_rules.specs.declared.condition.Condition.{Condition}
 use Rattle.jv_rules.specs.declared.condition.Condition.TheVariants as conditions
 use Rattle.jv_rules.specs.Types.{ValueType, NoValue, IntType, BooleanType, TextType, EnumType, ClassType, NullType, meant}
-use Rattle.jv_rules.specs.Scope.{Scope, local_named}
+use Rattle.jv_rules.specs.Scope.{Scope, Declared, local_named, declared_named, declare, behind}
 use Rattle.jv_rules.specs.Typing.{type_of}
 use Rattle.jv_rules.specs.Conditions.{label_name}
 use Rattle.jv_rules.specs.Spots.{Spot, AtStatement, expr_spots}
-use Rattle.jv_rules.specs.Taking.{Wanted, Fitting, Writable, taken, all_taken, assigned, returned, result_of}
+use Rattle.jv_rules.specs.Taking.{Wanted, Fitting, Writable, AnyEnum, Nothing, taken, all_taken, assigned, returned, returned_nothing, result_of}
 use Rattle.jv_rules.specs.inner.Deciding.{when, told, first_by, type_mismatch, can_break, can_continue, has_label, fault_at, fault_in}
 use Rattle.jv_types.specs.declared.judged.Wrong.{Wrong}
 use Rattle.jv_types.specs.declared.judged.Checked.{Checked}
 use Rattle.jv_types.specs.inner.View.{type_seen}
 use Rattle.jv_types.specs.inner.Judging.{Tells, IsChecked, expr_fault, misfit, at_place}
-use Rattle.jv_types.specs.inner.Stating.{stmt_fault, value_told, label_told, returned_wanted, IsTaken}
+use Rattle.jv_types.specs.inner.Stating.{stmt_fault, value_told, label_told, returned_wanted, nothing_told, IsTaken, Written, written, written_in, Extends}
 use Rattle.jv_types.proofs.Faulting.{or-none, first_by-append, alone_taken}
 use Rattle.jv_types.proofs.Checking.{tells_first}
 
@@ -137,3 +138,90 @@ module _ (s : Scope) (p : Place) (ty : TypeName) (name : Name) (e : Expr) where
 
     pub local_fine : is_some (local_named s name) ≡ false → None ≡ misfit (Fitting (meant s.program ty)) e (type_seen c.ty) → stmt_fault s (Local p ty name e) ≡ None
     local_fine k m = local_decides false k ∙ ap (declared_by false) (sym m)
+
+-- a name that no local has
+pub unnamed : (l : List Declared) (name : Name) → is_some (declared_named l name) ≡ false → declared_named l name ≡ None
+unnamed l name e = go (declared_named l name) e
+  where
+    go : (d : Option Declared) → is_some d ≡ false → d ≡ None
+    go None h = refl
+    go (Some d) h = let no : ⊥ = cc in absurd no
+
+-- `return` without a value
+pub empty_return_told : (s : Scope) (p : Place) → stmt_fault s (Return p None) ≡ nothing_told p (returned_wanted (result_of s))
+empty_return_told s p = go (result_of s)
+  where
+    go : (t : ValueType) → option_or (told conditions.TypeMismatch (first_by type_mismatch (returned_nothing t p)) None) None ≡ nothing_told p (returned_wanted t)
+    go NoValue = refl
+    go IntType = refl
+    go BooleanType = refl
+    go TextType = refl
+    go (EnumType n) = refl
+    go (ClassType n) = refl
+    go NullType = refl
+
+pub return_fine : (s : Scope) (p : Place) → Nothing ≡ returned_wanted (result_of s) → stmt_fault s (Return p None) ≡ None
+return_fine s p e = empty_return_told s p ∙ ap (nothing_told p) (sym e)
+
+pub return_lacks : (s : Scope) (p : Place) (t : ValueType) → Fitting t ≡ returned_wanted (result_of s) → stmt_fault s (Return p None) ≡ Some (conditions.TypeMismatch, culprit p [])
+return_lacks s p t e = empty_return_told s p ∙ ap (nothing_told p) (sym e)
+
+pub return_writable : (s : Scope) (p : Place) → Writable ≡ returned_wanted (result_of s) → stmt_fault s (Return p None) ≡ Some (conditions.TypeMismatch, culprit p [])
+return_writable s p e = empty_return_told s p ∙ ap (nothing_told p) (sym e)
+
+pub return_enum : (s : Scope) (p : Place) → AnyEnum ≡ returned_wanted (result_of s) → stmt_fault s (Return p None) ≡ Some (conditions.TypeMismatch, culprit p [])
+return_enum s p e = empty_return_told s p ∙ ap (nothing_told p) (sym e)
+
+pub ruleset returning = (return_fine, return_lacks, return_writable, return_enum)
+
+-- what is in scope behind a statement
+abbrev pub behind_written : Option Written → Scope → Scope
+behind_written None s = s
+behind_written (Some w) s = declare w.name w.ty s
+
+pub behind-written : (x : Stmt) (s : Scope) → behind x s ≡ behind_written (written_in x) s
+behind-written (S.Block p b end) s = refl
+behind-written (S.Empty p) s = refl
+behind-written (Local p ty n e) s = refl
+behind-written (Assign p t v) s = refl
+behind-written (S.If p c x) s = refl
+behind-written (S.IfElse p c x y) s = refl
+behind-written (S.While p l c x) s = refl
+behind-written (S.Do p l x c) s = refl
+behind-written (S.Switch p e gs end) s = refl
+behind-written (Break p l) s = refl
+behind-written (Continue p l) s = refl
+behind-written (Return p v) s = refl
+behind-written (Print p e) s = refl
+behind-written (S.Eval p e) s = refl
+
+-- where nothing is wrong with a declaration, its name is new
+local_new : (s : Scope) (p : Place) (ty : TypeName) (name : Name) (e : Expr) → stmt_fault s (Local p ty name e) ≡ None → declared_named s.locals name ≡ None
+local_new s p ty name e fine = go (expr_fault s e) (declared_named s.locals name) (mismatch s p ty name e) (sym (local_told s p ty name e) ∙ fine)
+  where
+    go : (o : Option (Condition × Culprit)) (d : Option Declared) (m : Option Culprit) → option_or o (declared_by s p ty name e (is_some d) m) ≡ None → d ≡ None
+    go o None m h = refl
+    go None (Some d) m h = let no : ⊥ = cc in absurd no
+    go (Some x) (Some d) m h = let no : ⊥ = cc in absurd no
+
+pub written_new : (s : Scope) (x : Stmt) (w : Written) → Some w ≡ written_in x → stmt_fault s x ≡ None → declared_named s.locals w.name ≡ None
+written_new s (Local p ty n e) w is fine = let same : w ≡ written ty n = cc in ap (λ z. declared_named s.locals z.name) same ∙ local_new s p ty n e fine
+written_new s (S.Block p b end) w is fine = let no : ⊥ = cc in absurd no
+written_new s (S.Empty p) w is fine = let no : ⊥ = cc in absurd no
+written_new s (Assign p t v) w is fine = let no : ⊥ = cc in absurd no
+written_new s (S.If p c x) w is fine = let no : ⊥ = cc in absurd no
+written_new s (S.IfElse p c x y) w is fine = let no : ⊥ = cc in absurd no
+written_new s (S.While p l c x) w is fine = let no : ⊥ = cc in absurd no
+written_new s (S.Do p l x c) w is fine = let no : ⊥ = cc in absurd no
+written_new s (S.Switch p e gs end) w is fine = let no : ⊥ = cc in absurd no
+written_new s (Break p l) w is fine = let no : ⊥ = cc in absurd no
+written_new s (Continue p l) w is fine = let no : ⊥ = cc in absurd no
+written_new s (Return p v) w is fine = let no : ⊥ = cc in absurd no
+written_new s (Print p e) w is fine = let no : ⊥ = cc in absurd no
+written_new s (S.Eval p e) w is fine = let no : ⊥ = cc in absurd no
+
+pub behind_some : (x : Stmt) (s : Scope) (w : Written) → Some w ≡ written_in x → behind x s ≡ declare w.name w.ty s
+behind_some x s w e = behind-written x s ∙ ap (λ o. behind_written o s) (sym e)
+
+pub behind_none : (x : Stmt) (s : Scope) → None ≡ written_in x → behind x s ≡ s
+behind_none x s e = behind-written x s ∙ ap (λ o. behind_written o s) (sym e)

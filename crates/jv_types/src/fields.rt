@@ -17,8 +17,8 @@ use jv_tree::{Expr, ExprKind, Field};
 use mg_text::Text;
 use ts_tree::TypeName;
 
-// Whether the enum of a name has a constant.
-fn has_constant(table: &Table<'_>, of: &str, name: &str) -> bool
+/// Whether the enum of a name has a constant.
+pub(crate) fn has_constant(table: &Table<'_>, of: &str, name: &str) -> bool
     ensures { result ≡ has_constant (enum_named (program_in table.now).files of.now) name.now }
 {
     match table.enum_named(of) {

@@ -1,6 +1,6 @@
 //! `break`, `continue` and labels, by the loops and switches around.
 
-ghost use Rattle.std.specs.Prelude.{◌≡◌};
+ghost use Rattle.std.specs.Prelude.{◌≡◌, option_map};
 ghost use Rattle.std.specs.List.{list_any};
 ghost use Rattle.jv_tree.specs.Source.{Break, Continue};
 ghost use Rattle.jv_rules.specs.inner.Deciding.{is_loop, has_label, can_break, can_continue};
@@ -59,6 +59,16 @@ fn can_continue(around: &Around<'_>, label: &Option<Text>) -> bool
     match label {
         Some(label) => is_within_label(around, label.as_str()),
         None => is_within_loop(around),
+    }
+}
+
+/// The name of a label, where there is one.
+pub(crate) fn label_text(label: &Option<Text>) -> Option<&str>
+    ensures { option_map (λ n. n.now) result ≡ label.now }
+{
+    match label {
+        Some(label) => Some(label.as_str()),
+        None => None,
     }
 }
 

@@ -1,6 +1,6 @@
 //! What is visible at a place of a method.
 
-ghost use Rattle.std.specs.Prelude.{◌≡◌, option_map};
+ghost use Rattle.std.specs.Prelude.{◌≡◌, List, option_map};
 ghost use Rattle.std.specs.Coded.{codes};
 ghost use Rattle.jv_types.specs.inner.Tabled.{IsEntryOf};
 ghost use Rattle.jv_types.specs.Tables.{program_in};
@@ -27,4 +27,22 @@ pub(crate) struct Scope<'s, 'a> {
     pub method: &'a MethodDecl,
     pub around: &'s Around<'s>,
     ghost entry: { IsEntryOf (program_in table.now) class.now } by { Prim.hlevel codes },
+}
+
+impl<'s, 'a> Scope<'s, 'a> {
+    ghost use Rattle.jv_rules.specs.Scope.{Declared};
+    ghost use Rattle.jv_types.specs.inner.Scopes.{around_seen, scope_seen};
+
+    /// The same class and method, within a loop or a switch.
+    pub(crate) fn within<'t>(&'t self, around: &'t Around<'t>) -> Scope<'t, 'a>
+        ensures { (locals : List Declared) → scope_seen result locals ≡ record (scope_seen self.now locals) { around = around_seen around.now } }
+    {
+        Scope {
+            alloc: self.alloc,
+            table: self.table,
+            class: self.class,
+            method: self.method,
+            around,
+        }
+    }
 }

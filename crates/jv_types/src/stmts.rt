@@ -1,0 +1,116 @@
+//! Statements: the first fault in one.
+//! A local is in scope behind its declaration, up to the end of its list.
+
+ghost use Rattle.std.specs.Prelude.{◌≡◌, map, OnOk};
+ghost use Rattle.jv_tree.specs.View.{stmt_of, stmts_of, group_of, groups_of};
+ghost use Rattle.jv_types.specs.inner.Scopes.{scope_seen};
+ghost use Rattle.jv_types.specs.inner.Stating.{Answers, stmt_fault, stmts_fault, groups_fault};
+
+use crate::heads::{check_condition, check_loop};
+use crate::judged::Wrong;
+use crate::jumps::{check_break, check_continue, label_text};
+use crate::locals::Locals;
+use crate::scope::{Around, Scope};
+use crate::simple::{
+    check_assign, check_eval, check_local, check_print, check_return, check_returned, declare_local,
+};
+use crate::switches::check_choice;
+use jv_tree::{Group, Stmt, StmtKind};
+
+/// Judges a statement. The locals in scope stay as they are, that of a declaration included.
+#[cycle(stmts)]
+pub(crate) fn check_stmt<'a>(
+    scope: &Scope<'_, 'a>,
+    locals: &mut Locals<'a>,
+    stmt: &'a Stmt,
+) -> Result<(), Wrong<'a>>
+    ensures told { Answers (stmt_fault (scope_seen scope.now locals.old) (stmt_of stmt.now)) result }
+    ensures kept { OnOk result (locals.new ≡ locals.old) }
+{
+    let place = stmt.place;
+    match &stmt.kind {
+        StmtKind::Block(body, _) => check_stmts(scope, locals, body.as_slice()),
+        StmtKind::Empty => Ok(()),
+        StmtKind::Local(ty, name, value) => check_local(
+            scope,
+            locals,
+            place,
+            ty,
+            name.as_str(),
+            value,
+        ),
+        StmtKind::Assign(target, value) => check_assign(scope, locals, place, target, value),
+        StmtKind::If(condition, inner, otherwise) => {
+            check_condition(scope, locals, condition)?;
+            match otherwise {
+                None => check_stmt(scope, locals, inner),
+                Some(otherwise) => {
+                    check_stmt(scope, locals, inner)?;
+                    check_stmt(scope, locals, otherwise)
+                }
+            }
+        }
+        StmtKind::While(label, condition, inner) => {
+            check_loop(scope, locals, place, label, condition)?;
+            let around = Around::Loop(label_text(label), &*scope.around);
+            let within = (&*scope).within(&around);
+            check_stmt(&within, locals, inner)
+        }
+        StmtKind::Do(label, inner, condition) => {
+            let around = Around::Loop(label_text(label), &*scope.around);
+            let within = (&*scope).within(&around);
+            check_stmt(&within, locals, inner)?;
+            check_loop(scope, locals, place, label, condition)
+        }
+        StmtKind::Switch(value, groups, _) => {
+            let groups = groups.as_slice();
+            check_choice(scope, locals, place, value, groups)?;
+            let around = Around::Switch(&*scope.around);
+            let within = (&*scope).within(&around);
+            check_groups(&within, locals, groups)
+        }
+        StmtKind::Break(label) => check_break(scope, locals, place, label),
+        StmtKind::Continue(label) => check_continue(scope, locals, place, label),
+        StmtKind::Return(value) => match value {
+            None => check_return(scope, locals, place),
+            Some(value) => check_returned(scope, locals, place, value),
+        },
+        StmtKind::Print(value) => check_print(scope, locals, place, value),
+        StmtKind::Eval(value) => check_eval(scope, locals, place, value),
+    }
+}
+
+/// Judges statements in their order.
+#[cycle(stmts)]
+pub(crate) fn check_stmts<'a>(
+    scope: &Scope<'_, 'a>,
+    locals: &mut Locals<'a>,
+    stmts: &'a [Stmt],
+) -> Result<(), Wrong<'a>>
+    ensures told { Answers (stmts_fault (scope_seen scope.now locals.old) (stmts_of (map stmt_of stmts.now))) result }
+    ensures kept { OnOk result (locals.new ≡ locals.old) }
+{
+    let outer = locals.len();
+    for stmt in stmts {
+        check_stmt(scope, locals, stmt)?;
+        declare_local(scope, locals, stmt)?;
+    }
+    locals.truncate(outer);
+    Ok(())
+}
+
+// Judges the groups of a switch. A local is not in scope in the next group.
+#[cycle(stmts)]
+fn check_groups<'a>(
+    scope: &Scope<'_, 'a>,
+    locals: &mut Locals<'a>,
+    groups: &'a [Group],
+) -> Result<(), Wrong<'a>>
+    ensures told { Answers (groups_fault (scope_seen scope.now locals.old) (groups_of (map group_of groups.now))) result }
+    ensures kept { OnOk result (locals.new ≡ locals.old) }
+{
+    for group in groups {
+        check_stmts(scope, locals, group.body.as_slice())?;
+    }
+    Ok(())
+}
