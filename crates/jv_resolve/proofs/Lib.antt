@@ -1,4 +1,5 @@
 pub mod AtIndex
+pub mod Bounding
 pub mod BuildingSteps
 pub mod ByHead
 pub mod Called
@@ -6,10 +7,14 @@ pub mod Chains
 pub mod Composing
 pub mod ExprSteps
 pub mod Items
+pub mod MemberSteps
+pub mod MethodSteps
 pub mod OffersSteps
+pub mod OneGroup
 pub mod Placed
 pub mod RowSteps
 pub mod Shapes
 pub mod StmtLoops
 pub mod StmtShapes
 pub mod StmtSteps
+pub mod Threads

@@ -24,7 +24,7 @@ pub bytes_eq_flip : (a b : Name) → bytes_eq a b ≡ bytes_eq b a
 bytes_eq_flip a b =
     same_from_decides (bytes_eq a b) (bytes_eq b a) (bytes_eq-Decides a b) ((λ e. sym ((bytes_eq-Decides b a).0 e)), (λ e. (bytes_eq-Decides b a).1 (sym e)))
 
-any_at : (name : Name) (names : List Name) → is_some (position (bytes_eq name) names) ≡ list_any (bytes_eq name) names
+pub any_at : (name : Name) (names : List Name) → is_some (position (bytes_eq name) names) ≡ list_any (bytes_eq name) names
 any_at name names = go (list_any (bytes_eq name) names) (list_any-position (bytes_eq name) names)
   where
     go : (b : Bool) → b ≡ nat_lt (position_or_len (bytes_eq name) names) (length names) →

@@ -7,7 +7,9 @@ pub mod HeadsSeen
 pub mod Interning
 pub mod Labels
 pub mod Named
+pub mod Naming
 pub mod Offers
+pub mod Parts
 pub mod Places
 pub mod Receivers
 pub mod Row

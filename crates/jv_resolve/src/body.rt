@@ -1,10 +1,11 @@
 //! A method as far as it is resolved.
 //! Contracts see what was numbered so far, and what is in scope.
 
-ghost use Rattle.std.specs.Prelude.{◌≡◌, OnOk, IfOk, length};
+ghost use Rattle.std.specs.Prelude.{◌≡◌, [], OnOk, IfOk, length};
 ghost use Rattle.jv_resolving.specs.Statements.{slot_more, loop_more};
 ghost use Rattle.jv_resolve.specs.inner.Counted.{counted_seen, counting};
 ghost use Rattle.jv_resolve.specs.inner.Gives.{Gives};
+ghost use Rattle.jv_resolve.specs.inner.Naming.{unnumbered};
 ghost use Rattle.jv_resolve.specs.inner.Row.{known};
 ghost use Rattle.jv_resolve.specs.inner.Seen.{tables_seen};
 
@@ -28,6 +29,19 @@ pub(crate) struct Body<'a> {
 }
 
 impl<'a> Body<'a> {
+    /// Nothing is resolved yet.
+    pub(crate) fn new(alloc: Global, names: Names) -> Body<'a>
+        ensures counted { counted_seen result ≡ unnumbered names }
+        ensures locals { result.locals ≡ [] }
+    {
+        Body {
+            names,
+            locals: Locals::new(alloc),
+            slots: List::new(alloc),
+            loops: List::new(alloc),
+        }
+    }
+
     /// One more slot. Nothing is in its scope yet.
     pub(crate) fn add_slot(
         &mut self,

@@ -5,7 +5,8 @@ ghost use Rattle.std.specs.Prelude.{◌≡◌, ◌+◌, ◌++◌, ◌∷◌, [],
 ghost use Rattle.jv_tree.specs.View.{class_of, enum_of, decl_of, file_of};
 ghost use Rattle.jv_meaning.specs.Program.{classes_of, enums_of};
 ghost use Rattle.jv_resolving.specs.Tables.{tables_of};
-ghost use Rattle.jv_resolve.specs.inner.Building.{program_of, followed_by, entry_at, entries_by, classes_within, enums_within};
+ghost use Rattle.jv_resolve.specs.Program.{program_of};
+ghost use Rattle.jv_resolve.specs.inner.Building.{followed_by, entry_at, entries_by, classes_within, enums_within};
 ghost use Rattle.jv_resolve.specs.inner.Gives.{Gives};
 ghost use Rattle.jv_resolve.specs.inner.Seen.{entry_seen, tables_seen};
 
@@ -138,8 +139,8 @@ fn add_entry<'a>(entries: &mut Vec<ClassEntry<'a>>, entry: ClassEntry<'a>) -> Re
     Ok(())
 }
 
-// A number behind so many others.
-fn next(number: u32, len: usize) -> Result<u32, Memory>
+/// A number behind so many others.
+pub(crate) fn next(number: u32, len: usize) -> Result<u32, Memory>
     ensures { IfOk result (λ n. n ≡ number + len) }
 {
     let len = count(len)?;

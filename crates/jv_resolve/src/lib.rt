@@ -3,8 +3,10 @@
 #![tactic(auto)]
 
 mod body;
+mod bounds;
 mod building;
 mod calls;
+mod classes;
 mod composed;
 mod exprs;
 mod given;
@@ -13,13 +15,18 @@ mod labels;
 mod literals;
 mod locals;
 mod lookup;
+mod methods;
 mod names;
 mod naming;
 mod offers;
 mod operators;
 mod positions;
+mod program;
 mod scope;
 mod simple;
+mod stmts;
 mod tables;
 mod variables;
 mod written;
+
+pub use program::resolve;

@@ -2,13 +2,18 @@
 //! Contracts see the tables as those of the trees.
 
 ghost use Rattle.std.specs.Prelude.{◌≡◌, option_map, slice_get};
+ghost use Rattle.std.specs.List.{list_any};
+ghost use Rattle.std.specs.Str.{bytes_eq};
 ghost use Rattle.jv_tree.specs.View.{enum_of};
+ghost use Rattle.jv_rules.specs.Program.{offers_in};
 ghost use Rattle.jv_resolving.specs.Tables.{class_called, enum_called, method_called, field_called, type_called, type_meant};
 ghost use Rattle.jv_resolve.specs.inner.Gives.{Gives};
 ghost use Rattle.jv_resolve.specs.inner.Seen.{entry_seen, tables_seen, callee_seen, placed_seen, numbered_seen};
 
 use crate::given::Unresolved;
-use crate::tables::{Callee, ClassEntry, EnumEntry, NumberedEnum, PlacedField, Tables};
+use crate::tables::{
+    Callee, ClassEntry, EnumEntry, NumberedEnum, PlacedField, Tables, TypestateEntry,
+};
 use jv_core::CoreType;
 use ts_tree::TypeName;
 
@@ -81,6 +86,13 @@ impl<'a> Tables<'a> {
         self.enums.as_slice().get(number as usize)
     }
 
+    /// The typestate of a number.
+    pub(crate) fn typestate_at(&self, number: u32) -> Option<&TypestateEntry<'a>>
+        ensures { option_map (λ e. e.now.typestate.now) result ≡ slice_get (tables_seen self.now).typestates number }
+    {
+        self.typestates.as_slice().get(number as usize)
+    }
+
     /// What a written type is.
     pub(crate) fn meant(&self, written: &TypeName) -> Result<CoreType, Unresolved>
         ensures { Gives (λ ty. ty) result (type_meant (tables_seen self.now) written.now) }
@@ -105,5 +117,14 @@ impl<'a> Tables<'a> {
             Some(number) => Ok(CoreType::Enum(number)),
             None => Err(Unresolved::Fault),
         }
+    }
+}
+
+impl TypestateEntry<'_> {
+    /// Whether some state offers a method of this name.
+    pub(crate) fn has_offer(&self, name: &str) -> bool
+        ensures { result ≡ list_any (λ m. bytes_eq m.name name.now) (offers_in self.now.typestate.now.states) }
+    {
+        self.offered.find(name).is_some()
     }
 }

@@ -2,16 +2,9 @@
 use Rattle.std.specs.Prelude.{ℕ, suc, ◌+◌, List, [], ◌∷◌, map, length, Option, Some, None, position, flat_map}
 use Rattle.std.specs.Str.{bytes_eq}
 use Rattle.mg_text.specs.Call.{Name}
-use Rattle.ts_tree.specs.Typestate.{Typestate}
 use Rattle.jv_tree.specs.Source.{Class, Enum, Decl}
-use Rattle.jv_tree.specs.declared.tree.File.{File}
-use Rattle.jv_tree.specs.View.{file_of}
 use Rattle.jv_meaning.specs.Program.{class_in, enum_in}
-use Rattle.jv_rules.specs.Program.{Program}
 use Rattle.jv_resolving.specs.Tables.{◌>>=◌, Entry}
-
-abbrev pub program_of : List File → List Typestate → Program
-program_of files typestates = record { files = map file_of files; typestates = typestates }
 
 abbrev pub classes_within : List Decl → List Class
 classes_within decls = flat_map class_in decls

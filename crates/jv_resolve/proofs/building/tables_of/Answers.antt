@@ -1,7 +1,7 @@
 use Rattle.std.proofs.Common.{map, sym, ap, ◌∙◌}
 use Rattle.std.proofs.lemmas.Result.{err_from_is_err_and}
 use Rattle.jv_tree.specs.View.{class_of, enum_of}
-use Rattle.jv_resolve.specs.inner.Building.{program_of}
+use Rattle.jv_resolve.specs.Program.{program_of}
 use Rattle.jv_resolve.specs.inner.Seen.{entry_seen}
 use Rattle.jv_resolve.proofs.BuildingSteps.{tables_fail, tables_made}
 use Rattle.jv_resolve.proofs.building.tables_of.Goals as goal

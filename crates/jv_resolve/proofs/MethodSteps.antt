@@ -1,0 +1,231 @@
+-- What methods and programs are resolved to, from what their parts are.
+use Rattle.std.proofs.Common.{◌≡◌, ℕ, ◌+◌, List, [], ◌∷◌, ◌++◌, map, length, Bool, true, false, Option, Some, None, refl, sym, ap, ◌∙◌, append_assoc, append-nil}
+use Rattle.std.specs.Prelude.{is_some, position, slice_get}
+use Rattle.std.specs.Option.{option_map}
+use Rattle.std.specs.List.{list_any}
+use Rattle.std.specs.Str.{bytes_eq}
+use Rattle.mg_text.specs.Call.{Name}
+use Rattle.ts_tree.specs.Typestate.{Typestate}
+use Rattle.jv_tree.specs.declared.tree.Param.{Param}
+use Rattle.jv_tree.specs.Source
+use Rattle.jv_rules.specs.Program.{Program, offers_in}
+use Rattle.jv_core.specs.Tree as Core
+use Rattle.jv_core.specs.View.{stmts_of}
+use Rattle.jv_core.specs.declared.program.CoreType.{CoreType}
+use Rattle.jv_core.specs.declared.program.MethodKind.{MethodKind}
+use Rattle.jv_resolving.specs.Tables.{◌>>=◌, Tables, Entry, interned, type_meant, is_offered, kind_meant, tables_of}
+use Rattle.jv_resolving.specs.Expressions.{Known, Standing}
+use Rattle.jv_resolving.specs.Statements.{Counted, Counting, declared, slot_more, stmts}
+use Rattle.jv_resolving.specs.Members.{Naming, Opened, params, method, methods_of, methods, enums, classes, resolving}
+use Rattle.jv_resolve.specs.declared.given.Unresolved.{Unresolved}
+use Rattle.jv_resolve.specs.inner.Gives.{Fails}
+use Rattle.jv_resolve.specs.inner.Interning.{with_number}
+use Rattle.jv_resolve.specs.inner.Naming.{naming, threaded, with_done, opened, param_at, unnumbered}
+use Rattle.jv_resolve.specs.inner.Offers.{OffersAll}
+use Rattle.jv_resolve.proofs.Chains.{fails_then, fails_as}
+use Rattle.jv_resolve.proofs.OffersSteps.{any_at}
+use Rattle.jv_resolve.proofs.Threads.{same_threaded}
+
+-- ---- what a typestate offers
+
+same_some : {A B : Type 0} (f : A → B) (o : Option A) → is_some o ≡ is_some (option_map f o)
+same_some f None = refl
+same_some f (Some a) = refl
+
+abbrev offers_in_any : Option Typestate → Name → Bool
+offers_in_any o name = elim o [ None ↦ false | Some t ↦ list_any (λ m. bytes_eq m.name name) (offers_in t.states) ]
+
+pub offer_found : {A : Type 0} (f : A → ℕ) (o : Option A) (t : Typestate) (names : List Name) (name : Name) → option_map f o ≡ position (bytes_eq name) names → OffersAll t names →
+    is_some o ≡ list_any (λ m. bytes_eq m.name name) (offers_in t.states)
+offer_found f o t names name h all = same_some f o ∙ ap is_some h ∙ any_at name names ∙ all.each name
+
+module _ (tables : Tables) (e : Entry) (name : Name) where
+  pub none_followed : e.typestate ≡ None → false ≡ is_offered tables e name
+  none_followed h = sym (ap (λ o. offers_in_any (o >>= slice_get tables.typestates) name) h)
+
+  module _ (n : ℕ) (named : e.typestate ≡ Some n) where
+    pub none_there : slice_get tables.typestates n ≡ None → false ≡ is_offered tables e name
+    none_there h = sym (ap (λ o. offers_in_any (o >>= slice_get tables.typestates) name) named ∙ ap (λ o. offers_in_any o name) h)
+
+    pub one_followed : (t : Typestate) (b : Bool) → slice_get tables.typestates n ≡ Some t → b ≡ list_any (λ m. bytes_eq m.name name) (offers_in t.states) → b ≡ is_offered tables e name
+    one_followed t b h is = is ∙ sym (ap (λ o. offers_in_any (o >>= slice_get tables.typestates) name) named ∙ ap (λ o. offers_in_any o name) h)
+
+-- ---- parameters
+
+module _ (tables : Tables) (p : Param) (locals : List Known) (s : Counted) where
+  abbrev in_scope : Counting Known → Option Opened
+  in_scope k = declared k.it locals >>= λ more. Some (opened more k.so_far)
+
+  pub param_made : (k : Counting Known) (more : List Known) → slot_more tables p.ty p.name s ≡ Some k → declared k.it locals ≡ Some more → param_at tables p locals s ≡ Some (opened more k.so_far)
+  param_made k more h new = ap (λ o. o >>= in_scope) h ∙ ap (λ o. o >>= λ ls. Some (opened ls k.so_far)) new
+
+  pub param_slot_fails : (err : Unresolved) → Fails err (slot_more tables p.ty p.name s) → Fails err (param_at tables p locals s)
+  param_slot_fails err h = fails_then err (slot_more tables p.ty p.name s) in_scope h
+
+  pub param_scope_fails : (err : Unresolved) (k : Counting Known) → slot_more tables p.ty p.name s ≡ Some k → Fails err (declared k.it locals) → Fails err (param_at tables p locals s)
+  param_scope_fails err k h new = fails_as err _ _ (ap (λ o. o >>= in_scope) h) (fails_then err (declared k.it locals) (λ ls. Some (opened ls k.so_far)) new)
+
+regrouped : (a : Option (Counting Known)) (d : Counting Known → Option (List Known)) (F : List Known → Counted → Option Opened) →
+    (a >>= λ k. d k >>= λ more. F more k.so_far) ≡ ((a >>= λ k. d k >>= λ more. Some (opened more k.so_far)) >>= λ o. F o.locals o.so_far)
+regrouped None d F = refl
+regrouped (Some k) d F = go (d k)
+  where
+    go : (o : Option (List Known)) → (o >>= λ more. F more k.so_far) ≡ ((o >>= λ more. Some (opened more k.so_far)) >>= λ r. F r.locals r.so_far)
+    go None = refl
+    go (Some more) = refl
+
+module _ (tables : Tables) (total : Option Opened) (left : List Param) (locals : List Known) (s : Counted) (so_far : total ≡ params tables left locals s) where
+  module _ (p : Param) (rest : List Param) (next : left ≡ p ∷ rest) where
+    abbrev then_rest : Opened → Option Opened
+    then_rest o = params tables rest o.locals o.so_far
+
+    params_opened : total ≡ (param_at tables p locals s >>= then_rest)
+    params_opened =
+        so_far ∙ ap (λ ps. params tables ps locals s) next
+        ∙ regrouped (slot_more tables p.ty p.name s) (λ k. declared k.it locals) (λ ls t. params tables rest ls t)
+
+    pub params_more : (o : Opened) → param_at tables p locals s ≡ Some o → total ≡ params tables rest o.locals o.so_far
+    params_more o h = params_opened ∙ ap (λ q. q >>= then_rest) h
+
+    pub params_fail : (err : Unresolved) → Fails err (param_at tables p locals s) → Fails err total
+    params_fail err h = fails_as err _ _ params_opened (fails_then err (param_at tables p locals s) then_rest h)
+
+  pub params_done : left ≡ [] → total ≡ Some (opened locals s)
+  params_done end = so_far ∙ ap (λ ps. params tables ps locals s) end
+
+-- ---- methods
+
+abbrev pub standing : Entry → Source.Method → Standing
+standing e m = record { entry = e; is_static = m.is_static }
+
+abbrev pub core_method : Entry → Source.Method → ℕ → CoreType → ℕ → MethodKind → Counting (List Core.Stmt) → Core.Method
+core_method e m n ty count kind b = record {
+  place = m.place;
+  end = m.end;
+  class = e.number;
+  name = n;
+  kind = kind;
+  result = ty;
+  params = count;
+  slots = b.so_far.slots;
+  loops = b.so_far.loops;
+  body = stmts_of b.it;
+}
+
+module _ (tables : Tables) (names : List Name) (e : Entry) (m : Source.Method) (n : ℕ) (ns : List Name) (named : interned names m.name ≡ Some (with_number n ns)) where
+  abbrev then_done : ℕ → CoreType → Counting (List Core.Stmt) → Option (Naming Core.Method)
+  then_done k ty b = Some (naming (core_method e m k ty (length m.params) (kind_meant tables e m) b) b.so_far.names)
+
+  abbrev then_body : ℕ → CoreType → Opened → Option (Naming Core.Method)
+  then_body k ty o = stmts tables (standing e m) m.body [] o.locals o.so_far >>= then_done k ty
+
+  abbrev then_params : ℕ → List Name → CoreType → Option (Naming Core.Method)
+  then_params k xs ty = params tables m.params [] (unnumbered xs) >>= then_body k ty
+
+  method_named : method tables names e m ≡ (type_meant tables m.result >>= then_params n ns)
+  method_named = ap (λ o. o >>= λ k. type_meant tables m.result >>= then_params k.number k.names) named
+
+  pub method_type_fails : (err : Unresolved) → Fails err (type_meant tables m.result) → Fails err (method tables names e m)
+  method_type_fails err h = fails_as err _ _ method_named (fails_then err (type_meant tables m.result) (then_params n ns) h)
+
+  module _ (ty : CoreType) (typed : type_meant tables m.result ≡ Some ty) (locals : List Known) (s : Counted) (no_local : locals ≡ []) (unnumbered_yet : s ≡ unnumbered ns) where
+    method_typed : method tables names e m ≡ (params tables m.params locals s >>= then_body n ty)
+    method_typed =
+        method_named ∙ ap (λ o. o >>= then_params n ns) typed
+        ∙ ap (λ ls. params tables m.params ls (unnumbered ns) >>= then_body n ty) (sym no_local)
+        ∙ ap (λ t. params tables m.params locals t >>= then_body n ty) (sym unnumbered_yet)
+
+    pub method_params_fail : (err : Unresolved) → Fails err (params tables m.params locals s) → Fails err (method tables names e m)
+    method_params_fail err h = fails_as err _ _ method_typed (fails_then err (params tables m.params locals s) (then_body n ty) h)
+
+    module _ (o : Opened) (taken : params tables m.params locals s ≡ Some o) where
+      method_opened : method tables names e m ≡ then_body n ty o
+      method_opened = method_typed ∙ ap (λ q. q >>= then_body n ty) taken
+
+      pub method_body_fails : (err : Unresolved) → Fails err (stmts tables (standing e m) m.body [] o.locals o.so_far) → Fails err (method tables names e m)
+      method_body_fails err h = fails_as err _ _ method_opened (fails_then err (stmts tables (standing e m) m.body [] o.locals o.so_far) (then_done n ty) h)
+
+      pub method_made : (b : Counting (List Core.Stmt)) (count : ℕ) (kind : MethodKind) → stmts tables (standing e m) m.body [] o.locals o.so_far ≡ Some b → count ≡ length m.params → kind ≡ kind_meant tables e m →
+          method tables names e m ≡ Some (naming (core_method e m n ty count kind b) b.so_far.names)
+      method_made b count kind h counted is =
+          method_opened ∙ ap (λ q. q >>= then_done n ty) h
+          ∙ ap (λ k. Some (naming (core_method e m n ty k (kind_meant tables e m) b) b.so_far.names)) (sym counted)
+          ∙ ap (λ k. Some (naming (core_method e m n ty count k b) b.so_far.names)) (sym is)
+
+pub same_methods_of : (tables : Tables) (e : Entry) (names : List Name) (ms : List Source.Method) → methods_of tables names e ms ≡ threaded (λ ns m. method tables ns e m) names ms
+same_methods_of tables e = same_threaded (λ ns m. method tables ns e m) (λ ns ms. methods_of tables ns e ms) (λ ns. refl) (λ ns m ms. refl)
+
+-- ---- the methods of classes
+
+last : (after : List Core.Method) (o : Option (Naming (List Core.Method))) → (o >>= λ r. Some (naming (after ++ r.it) r.names)) ≡ with_done after o
+last after None = refl
+last after (Some r) = refl
+
+pub classes_start : (o : Option (Naming (List Core.Method))) → o ≡ with_done [] o
+classes_start None = refl
+classes_start (Some r) = refl
+
+module _ (tables : Tables) (total : Option (Naming (List Core.Method))) (done : List Core.Method) (names : List Name) (left : List Entry) (so_far : total ≡ with_done done (methods tables names left)) where
+  module _ (e : Entry) (rest : List Entry) (next : left ≡ e ∷ rest) where
+    abbrev then_classes : Naming (List Core.Method) → Option (Naming (List Core.Method))
+    then_classes k = methods tables k.names rest >>= λ r. Some (naming (k.it ++ r.it) r.names)
+
+    grouped : (o : Option (Naming (List Core.Method))) → with_done done (o >>= then_classes) ≡ (with_done done o >>= then_classes)
+    grouped None = refl
+    grouped (Some k) = go (methods tables k.names rest)
+      where
+        go : (q : Option (Naming (List Core.Method))) → with_done done (q >>= λ r. Some (naming (k.it ++ r.it) r.names)) ≡ (q >>= λ r. Some (naming ((done ++ k.it) ++ r.it) r.names))
+        go None = refl
+        go (Some r) = ap (λ xs. Some (naming xs r.names)) (sym (append_assoc done k.it r.it))
+
+    classes_opened : total ≡ (with_done done (methods_of tables names e e.class.methods) >>= then_classes)
+    classes_opened = so_far ∙ ap (λ es. with_done done (methods tables names es)) next ∙ grouped (methods_of tables names e e.class.methods)
+
+    pub classes_more : (after : List Core.Method) (later : List Name) → with_done done (methods_of tables names e e.class.methods) ≡ Some (naming after later) → total ≡ with_done after (methods tables later rest)
+    classes_more after later h = classes_opened ∙ ap (λ o. o >>= then_classes) h ∙ last after (methods tables later rest)
+
+    pub classes_fail : (err : Unresolved) → Fails err (with_done done (methods_of tables names e e.class.methods)) → Fails err total
+    classes_fail err h = fails_as err _ _ classes_opened (fails_then err (with_done done (methods_of tables names e e.class.methods)) then_classes h)
+
+  pub classes_done : left ≡ [] → total ≡ Some (naming done names)
+  classes_done end = so_far ∙ ap (λ es. with_done done (methods tables names es)) end ∙ ap (λ xs. Some (naming xs names)) (append-nil done)
+
+-- ---- whole programs
+
+abbrev pub core_program : List Core.Class → List Core.Enum → List Core.Method → List Typestate → List Name → Core.Program
+core_program cs es ms ts names = record { classes = cs; enums = es; methods = ms; typestates = ts; names = names }
+
+module _ (program : Program) where
+  abbrev then_whole : Naming (List Core.Enum) → Naming (List Core.Class) → Naming (List Core.Method) → Option Core.Program
+  then_whole es cs ms = Some (core_program cs.it es.it ms.it program.typestates ms.names)
+
+  abbrev then_methods : Tables → Naming (List Core.Enum) → Naming (List Core.Class) → Option Core.Program
+  then_methods t es cs = methods t cs.names t.classes >>= then_whole es cs
+
+  abbrev then_made : Tables → Naming (List Core.Enum) → Option Core.Program
+  then_made t es = classes t es.names t.classes >>= then_methods t es
+
+  abbrev then_enums : Tables → Option Core.Program
+  then_enums t = enums [] t.enums >>= then_made t
+
+  pub program_tables_fail : (err : Unresolved) → Fails err (tables_of program) → Fails err (resolving program)
+  program_tables_fail err h = fails_then err (tables_of program) then_enums h
+
+  module _ (t : Tables) (tabled : tables_of program ≡ Some t) (none_yet : List Name) (is_none : none_yet ≡ []) (es : List Core.Enum) (ns : List Name) (made : enums none_yet t.enums ≡ Some (naming es ns)) where
+    program_enums : resolving program ≡ then_made t (naming es ns)
+    program_enums = ap (λ o. o >>= then_enums) tabled ∙ ap (λ xs. enums xs t.enums >>= then_made t) (sym is_none) ∙ ap (λ o. o >>= then_made t) made
+
+    pub program_classes_fail : (err : Unresolved) → Fails err (classes t ns t.classes) → Fails err (resolving program)
+    program_classes_fail err h = fails_as err _ _ program_enums (fails_then err (classes t ns t.classes) (then_methods t (naming es ns)) h)
+
+    module _ (cs : List Core.Class) (more : List Name) (classed : classes t ns t.classes ≡ Some (naming cs more)) where
+      program_classes : resolving program ≡ then_methods t (naming es ns) (naming cs more)
+      program_classes = program_enums ∙ ap (λ o. o >>= then_methods t (naming es ns)) classed
+
+      pub program_methods_fail : (err : Unresolved) → Fails err (methods t more t.classes) → Fails err (resolving program)
+      program_methods_fail err h = fails_as err _ _ program_classes (fails_then err (methods t more t.classes) (then_whole (naming es ns) (naming cs more)) h)
+
+      pub program_made : (ms : List Core.Method) (later : List Name) (ts : List Typestate) → methods t more t.classes ≡ Some (naming ms later) → ts ≡ program.typestates →
+          resolving program ≡ Some (core_program cs es ms ts later)
+      program_made ms later ts h same =
+          program_classes ∙ ap (λ o. o >>= then_whole (naming es ns) (naming cs more)) h ∙ ap (λ xs. Some (core_program cs es ms xs later)) (sym same)

@@ -1,0 +1,175 @@
+//! Methods.
+//! Contracts see them as trees, with the names that have numbers by then.
+
+ghost use Rattle.std.specs.Prelude.{◌≡◌, [], map};
+ghost use Rattle.jv_tree.specs.View.{method_of as source_method};
+ghost use Rattle.jv_core.specs.View.{method_of};
+ghost use Rattle.jv_resolving.specs.Tables.{is_offered, kind_meant};
+ghost use Rattle.jv_resolving.specs.Members.{params as params_meant, method as method_meant, methods_of as methods_of_meant, methods as methods_meant};
+ghost use Rattle.jv_resolve.specs.inner.Counted.{counted_seen};
+ghost use Rattle.jv_resolve.specs.inner.Gives.{Gives};
+ghost use Rattle.jv_resolve.specs.inner.Naming.{naming, with_done, opened, param_at};
+ghost use Rattle.jv_resolve.specs.inner.Seen.{entry_seen, tables_seen};
+
+use crate::body::Body;
+use crate::given::Unresolved;
+use crate::names::{add_name, count};
+use crate::scope::{Around, Scope};
+use crate::stmts::resolve_stmts;
+use crate::tables::{ClassEntry, Tables};
+use jv_core::{CoreMethod, MethodKind};
+use jv_tree::{MethodDecl, Param};
+use mg_text::{List, Names};
+use std::alloc::Global;
+
+// Whether the typestate of a class offers a method of this name.
+fn is_offered(tables: &Tables<'_>, entry: &ClassEntry<'_>, name: &str) -> bool
+    ensures { result ≡ is_offered (tables_seen tables.now) (entry_seen entry.now) name.now }
+{
+    match entry.typestate {
+        None => false,
+        Some(number) => match tables.typestate_at(number) {
+            None => false,
+            Some(followed) => followed.has_offer(name),
+        },
+    }
+}
+
+// What a method is.
+fn kind_of(tables: &Tables<'_>, entry: &ClassEntry<'_>, method: &MethodDecl) -> MethodKind
+    ensures { result ≡ kind_meant (tables_seen tables.now) (entry_seen entry.now) (source_method method.now) }
+{
+    if method.is_static {
+        if method.takes_args {
+            return MethodKind::Main;
+        }
+        return MethodKind::Static;
+    }
+    if is_offered(tables, entry, method.name.as_str()) {
+        return MethodKind::Protocol;
+    }
+    MethodKind::Helper
+}
+
+// A parameter, which is in scope from then on.
+fn resolve_param<'a>(
+    tables: &Tables<'_>,
+    body: &mut Body<'a>,
+    param: &'a Param,
+) -> Result<(), Unresolved>
+    ensures { Gives (λ u. opened body.new.locals (counted_seen body.new)) result (param_at (tables_seen tables.now) param.now body.old.locals (counted_seen body.old)) }
+{
+    let local = body.add_slot(tables, &param.ty, param.name.as_str())?;
+    body.locals.declare(param.name.as_str(), local)?;
+    Ok(())
+}
+
+// Parameters.
+fn resolve_params<'a>(
+    tables: &Tables<'_>,
+    body: &mut Body<'a>,
+    params: &'a [Param],
+) -> Result<(), Unresolved>
+    ensures { Gives (λ u. opened body.new.locals (counted_seen body.new)) result (params_meant (tables_seen tables.now) params.now body.old.locals (counted_seen body.old)) }
+{
+    for param in params {
+        resolve_param(tables, body, param)?;
+    }
+    Ok(())
+}
+
+/// A method, and the names that have numbers by then.
+#[derive(Drop)]
+pub(crate) struct NamedMethod {
+    pub method: CoreMethod,
+    pub names: Names,
+}
+
+// A method of a class.
+fn resolve_method<'a>(
+    alloc: Global,
+    tables: &Tables<'a>,
+    names: Names,
+    entry: &ClassEntry<'a>,
+    method: &'a MethodDecl,
+) -> Result<NamedMethod, Unresolved>
+    ensures { Gives (λ r. naming (method_of r.method) r.names) result (method_meant (tables_seen tables.now) names (entry_seen entry.now) (source_method method.now)) }
+{
+    let scope = Scope {
+        alloc,
+        tables,
+        class: entry,
+        is_static: method.is_static,
+    };
+    let mut body = Body::new(alloc, names);
+    let name = add_name(&mut body.names, method.name.as_str())?;
+    let ty = tables.meant(&method.result)?;
+    let params = count(method.params.len())?;
+    resolve_params(tables, &mut body, method.params.as_slice())?;
+    let stmts = resolve_stmts(&scope, &Around::Outside, &mut body, method.body.as_slice())?;
+    let kind = kind_of(tables, entry, method);
+    Ok(NamedMethod {
+        method: CoreMethod {
+            place: method.place,
+            end: method.end,
+            class: entry.number,
+            name,
+            kind,
+            result: ty,
+            params,
+            slots: body.slots,
+            loops: body.loops,
+            body: stmts,
+        },
+        names: body.names,
+    })
+}
+
+// The methods of a class, behind those of the classes before it; and the names that have numbers by then.
+fn resolve_methods_of<'a>(
+    alloc: Global,
+    tables: &Tables<'a>,
+    names: Names,
+    entry: &ClassEntry<'a>,
+    resolved: &mut List<CoreMethod>,
+    methods: &'a [MethodDecl],
+) -> Result<Names, Unresolved>
+    ensures { Gives (λ n. naming (map method_of resolved.new.items) n) result (with_done (map method_of resolved.old.items) (methods_of_meant (tables_seen tables.now) names (entry_seen entry.now) (map source_method methods.now))) }
+{
+    let mut known = names;
+    for method in methods {
+        let one = resolve_method(alloc, tables, known, entry, method)?;
+        known = one.names;
+        resolved.push(one.method)?;
+    }
+    Ok(known)
+}
+
+/// The methods of classes.
+#[derive(Drop)]
+pub(crate) struct NamedMethods {
+    pub methods: List<CoreMethod>,
+    pub names: Names,
+}
+
+/// The methods of classes, and the names that have numbers by then.
+pub(crate) fn resolve_methods<'a>(
+    alloc: Global,
+    tables: &Tables<'a>,
+    names: Names,
+    entries: &[ClassEntry<'a>],
+) -> Result<NamedMethods, Unresolved>
+    ensures { Gives (λ r. naming (map method_of r.methods.items) r.names) result (methods_meant (tables_seen tables.now) names (map entry_seen entries.now)) }
+{
+    let mut known = names;
+    let mut methods = List::new(alloc);
+    for entry in entries {
+        let written = entry.class.methods.as_slice();
+        let after = resolve_methods_of(alloc, tables, known, entry, &mut methods, written)?;
+        known = after;
+    }
+    Ok(NamedMethods {
+        methods,
+        names: known,
+    })
+}
