@@ -20,3 +20,7 @@ pub mod Entries
 pub mod Reached
 pub mod Heading
 pub mod Leaving
+pub mod Behind
+pub mod Tested
+pub mod Following
+pub mod Arms

@@ -45,7 +45,11 @@ pub(crate) fn by_label(branches: &[Branch], label: &str) -> Option<To>
 
 // Where a method leads that the state offers.
 #[tactic(auto, using(crate::proofs::Scenes::scenes))]
-fn target_at<'t>(typestate: Option<&'t Typestate>, method: &str, state: usize) -> Option<&'t Target>
+pub(crate) fn target_at<'t>(
+    typestate: Option<&'t Typestate>,
+    method: &str,
+    state: usize,
+) -> Option<&'t Target>
     ensures { option_map (λ t. target_of t.now) result ≡ target_at (typestate_or_end (option_map (λ t. t.now) typestate.entry)) method.now state }
 {
     let state = typestate?.states.as_slice().get(state)?;

@@ -16,7 +16,7 @@ use std::alloc::Global;
 impl<'a> Scene<'a> {
     // Appends the demands that no own field has a state.
     #[tactic(auto, using(crate::proofs::Scenes::scenes))]
-    fn judge_fields(
+    pub(crate) fn judge_fields(
         &self,
         alloc: Global,
         failed: &mut List<Demand>,

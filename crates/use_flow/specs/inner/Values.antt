@@ -5,7 +5,6 @@ use Rattle.ts_tree.specs.declared.parts.To.{To}
 use Rattle.ts_tree.specs.Typestate.{Target}
 use Rattle.jv_core.specs.declared.tree.CoreVar.{CoreVar}
 use Rattle.jv_core.specs.declared.tree.Var.{Var}
-use Rattle.jv_tree.specs.declared.tree.Op.{Op}
 use Rattle.jv_core.specs.Tree.{Expr, Variable, Null, Exprs, Method}
 use Rattle.use_flow.specs.declared.evaluated.Ways.{Ways}
 use Rattle.use_flow.specs.declared.evaluated.Ways.TheVariants as ways
@@ -63,8 +62,20 @@ is_null _ = false
 abbrev pub settled : rules.Evaluated → rules.Evaluated
 settled v = rules.alike [] (joined v.yes v.no) v.log
 
-abbrev pub negative : Followed → Expr → List Set → Log → rules.Evaluated
-negative s e sets log = settled (eval s 0 e (Some sets) log)
+-- a condition, which has no object
+abbrev pub parted : Now → Now → Log → rules.Evaluated
+parted holds fails log = record { set = []; yes = holds; no = fails; log = log }
+
+abbrev pub both_ways : rules.Evaluated → rules.Evaluated
+both_ways v = parted v.yes v.no v.log
+
+-- behind the second operand of `&&`, where the first fails so
+abbrev pub both_with : (fails : Now) → rules.Evaluated → rules.Evaluated
+both_with fails v = parted v.yes (joined fails v.no) v.log
+
+-- behind the second operand of `||`, where the first holds so
+abbrev pub either_with : (holds : Now) → rules.Evaluated → rules.Evaluated
+either_with holds v = parted (joined holds v.yes) v.no v.log
 
 abbrev pub turned : rules.Evaluated → rules.Evaluated
 turned v = record { set = []; yes = v.no; no = v.yes; log = v.log }
@@ -83,9 +94,6 @@ operands s l r sets log =
     let a = eval s 0 l (Some sets) log in
     let b = eval s 0 r (joined a.yes a.no) a.log in
     rules.alike [] (joined b.yes b.no) b.log
-
-abbrev pub compared : Followed → Op → Expr → Expr → List Set → Log → rules.Evaluated
-compared s op l r sets log = elim (rules.null_test op l r) [ None ↦ operands s l r sets log | Some n ↦ null_tested s n sets log ]
 
 abbrev pub conjunction : Followed → Expr → Expr → List Set → Log → rules.Evaluated
 conjunction s l r sets log =

@@ -1,0 +1,375 @@
+//! Expressions: each is followed once, from left to right.
+//! What isn't reached flows nowhere.
+
+ghost use Rattle.std.specs.Prelude.{◌≡◌, Some, [], map, IfOk};
+ghost use Rattle.jv_core.specs.View.{expr_of, exprs_of};
+ghost use Rattle.use_flow.specs.Flow.{alike};
+ghost use Rattle.use_flow.specs.State.{Log};
+ghost use Rattle.use_flow.specs.View.{log_of};
+ghost use Rattle.use_flow.specs.inner.Followed.{seen, eval, eval_all, width_of};
+ghost use Rattle.use_flow.specs.inner.Values.{evaluated_of, argued_of, test_of, called_protocol, called_static, called_helper, null_tested, read, settled, parted, both_ways, both_with, either_with, opposite, behind};
+
+use crate::Flow;
+use crate::arguments::{method_at, params_of};
+use crate::calling::begin_of;
+use crate::elements::Mapping;
+use crate::evaluated::{Arguments, NullTest, Value, Ways};
+use crate::null_tests::null_test;
+use crate::scene::{Scene, typestate_of};
+use crate::sets::{Sets, meet};
+use jv_core::{CoreExpr, CoreExprKind, CoreOp, CoreSlot, CoreVar, Var};
+use mg_text::{Memory, Place};
+use std::alloc::Global;
+
+impl<'a> Scene<'a> {
+    // A variable that is read.
+    fn read_value(
+        &self,
+        alloc: Global,
+        place: Place,
+        variable: Var,
+        sets: Sets,
+        log: &mut Flow,
+    ) -> Result<Value, Memory>
+        ensures { IfOk result (λ v. evaluated_of v (log_of log.new) ≡ read (seen self.now) place variable sets (log_of log.old)) }
+    {
+        let mut sets = sets;
+        let set = self.read(alloc, place, variable, &mut sets, log)?;
+        Ok(Value {
+            set,
+            ways: Ways::Alike(Some(sets)),
+        })
+    }
+
+    // A variable that is tested for null: each way leaves out what the other has.
+    fn null_tested(&self, alloc: Global, test: NullTest, sets: Sets) -> Result<Value, Memory>
+        ensures { (log : Log) → IfOk result (λ v. evaluated_of v log ≡ null_tested (seen self.now) (test_of test) sets log) }
+    {
+        let mut null = sets;
+        let mut object = null.copy(alloc)?;
+        self.narrow(alloc, Mapping::OnlyNull, test.variable, &mut null)?;
+        self.narrow(alloc, Mapping::NotNull, test.variable, &mut object)?;
+        if test.holds {
+            return Value::apart(alloc, Some(null), Some(object));
+        }
+        Value::apart(alloc, Some(object), Some(null))
+    }
+
+    /// Follows an expression from what is known before it. `width` is how many elements the variable
+    /// may have that takes the value.
+    ///
+    /// # Errors
+    /// `Memory` only.
+    #[tactic(auto, using(crate::proofs::Arms::arms))]
+    #[cycle(expressions)]
+    pub(crate) fn eval(
+        &self,
+        alloc: Global,
+        width: usize,
+        expr: &CoreExpr,
+        sets: Sets,
+        log: &mut Flow,
+    ) -> Result<Value, Memory>
+        ensures { IfOk result (λ v. evaluated_of v (log_of log.new) ≡ eval (seen self.now) width (expr_of expr.now) (Some sets) (log_of log.old)) }
+    {
+        match &expr.kind {
+            CoreExprKind::Int(_) => Value::plain(alloc, Some(sets)),
+            CoreExprKind::Text(_) => Value::plain(alloc, Some(sets)),
+            CoreExprKind::Constant { .. } => Value::plain(alloc, Some(sets)),
+            CoreExprKind::Truth(holds) => {
+                if *holds {
+                    return Value::apart(alloc, Some(sets), None);
+                }
+                Value::apart(alloc, None, Some(sets))
+            }
+            CoreExprKind::Null => Value::single(alloc, width, 0, sets),
+            CoreExprKind::New(class) => {
+                let begin = begin_of(typestate_of(self.core, *class));
+                Value::single(alloc, self.elements_of(*class), begin, sets)
+            }
+            CoreExprKind::Var(variable) => {
+                self.read_value(alloc, expr.place, *variable, sets, log)
+            }
+            CoreExprKind::Neg(inner) => self.eval_last(alloc, inner, Some(sets), log),
+            CoreExprKind::Not(inner) => self.eval_not(alloc, inner, sets, log),
+            CoreExprKind::Binary(op, left, right) => match null_test(*op, left, right) {
+                Some(test) => self.null_tested(alloc, test, sets),
+                None => match op {
+                    CoreOp::And => {
+                        let (holds, fails) = self.eval_ways(alloc, left, Some(sets), log)?;
+                        self.eval_and(alloc, right, holds, fails, log)
+                    }
+                    CoreOp::Or => {
+                        let (holds, fails) = self.eval_ways(alloc, left, Some(sets), log)?;
+                        self.eval_or(alloc, right, holds, fails, log)
+                    }
+                    _ => {
+                        let now = self.eval_past(alloc, left, Some(sets), log)?;
+                        self.eval_last(alloc, right, now, log)
+                    }
+                },
+            },
+            CoreExprKind::Equals(left, right) => {
+                let now = self.eval_past(alloc, left, Some(sets), log)?;
+                self.eval_last(alloc, right, now, log)
+            }
+            CoreExprKind::Concat(left, right) => {
+                let now = self.eval_past(alloc, left, Some(sets), log)?;
+                self.eval_last(alloc, right, now, log)
+            }
+            CoreExprKind::Session { args, .. } => {
+                self.eval_session(alloc, args.as_slice(), sets, log)
+            }
+            CoreExprKind::Protocol {
+                receiver,
+                method,
+                args,
+            } => self.eval_protocol(alloc, *receiver, *method, args.as_slice(), sets, log),
+            CoreExprKind::Helper { method, args } => {
+                self.eval_helper(alloc, *method, args.as_slice(), sets, log)
+            }
+            CoreExprKind::Static { method, args } => {
+                self.eval_static(alloc, *method, args.as_slice(), sets, log)
+            }
+        }
+    }
+
+    // Behind an expression whose value is dropped.
+    #[tactic(auto, using(crate::proofs::Following::pasts))]
+    #[cycle(expressions)]
+    fn eval_past(
+        &self,
+        alloc: Global,
+        expr: &CoreExpr,
+        now: Option<Sets>,
+        log: &mut Flow,
+    ) -> Result<Option<Sets>, Memory>
+        ensures { IfOk result (λ n. alike [] n (log_of log.new) ≡ settled (eval (seen self.now) 0 (expr_of expr.now) now (log_of log.old))) }
+    {
+        let Value { set, ways } = self.eval_now(alloc, 0, expr, now, log)?;
+        drop(set);
+        let now = ways.after()?;
+        Ok(now)
+    }
+
+    // The last operand, where neither the operands nor the value have an object.
+    #[tactic(auto, using(crate::proofs::Following::pasts))]
+    #[cycle(expressions)]
+    fn eval_last(
+        &self,
+        alloc: Global,
+        expr: &CoreExpr,
+        now: Option<Sets>,
+        log: &mut Flow,
+    ) -> Result<Value, Memory>
+        ensures { IfOk result (λ v. evaluated_of v (log_of log.new) ≡ settled (eval (seen self.now) 0 (expr_of expr.now) now (log_of log.old))) }
+    {
+        let now = self.eval_past(alloc, expr, now, log)?;
+        let value = Value::plain(alloc, now)?;
+        Ok(value)
+    }
+
+    // Where a condition holds, and where it doesn't.
+    #[tactic(auto, using(crate::proofs::Following::parts))]
+    #[cycle(expressions)]
+    pub(crate) fn eval_ways(
+        &self,
+        alloc: Global,
+        expr: &CoreExpr,
+        now: Option<Sets>,
+        log: &mut Flow,
+    ) -> Result<(Option<Sets>, Option<Sets>), Memory>
+        ensures { IfOk result (λ r. parted r.0 r.1 (log_of log.new) ≡ both_ways (eval (seen self.now) 0 (expr_of expr.now) now (log_of log.old))) }
+    {
+        let Value { set, ways } = self.eval_now(alloc, 0, expr, now, log)?;
+        drop(set);
+        let both = ways.split(alloc)?;
+        Ok(both)
+    }
+
+    // The opposite of a condition.
+    #[tactic(auto, using(crate::proofs::Following::parts))]
+    #[cycle(expressions)]
+    fn eval_not(
+        &self,
+        alloc: Global,
+        inner: &CoreExpr,
+        sets: Sets,
+        log: &mut Flow,
+    ) -> Result<Value, Memory>
+        ensures { IfOk result (λ v. evaluated_of v (log_of log.new) ≡ opposite (seen self.now) (expr_of inner.now) sets (log_of log.old)) }
+    {
+        let (holds, fails) = self.eval_ways(alloc, inner, Some(sets), log)?;
+        let value = Value::apart(alloc, fails, holds)?;
+        Ok(value)
+    }
+
+    // The second operand of `&&`, evaluated where the first holds.
+    #[tactic(auto, using(crate::proofs::Following::parts))]
+    #[cycle(expressions)]
+    fn eval_and(
+        &self,
+        alloc: Global,
+        right: &CoreExpr,
+        holds: Option<Sets>,
+        fails: Option<Sets>,
+        log: &mut Flow,
+    ) -> Result<Value, Memory>
+        ensures { IfOk result (λ v. evaluated_of v (log_of log.new) ≡ both_with fails (eval (seen self.now) 0 (expr_of right.now) holds (log_of log.old))) }
+    {
+        let (both, neither) = self.eval_ways(alloc, right, holds, log)?;
+        let fails = meet(fails, neither)?;
+        let value = Value::apart(alloc, both, fails)?;
+        Ok(value)
+    }
+
+    // The second operand of `||`, evaluated where the first doesn't hold.
+    #[tactic(auto, using(crate::proofs::Following::parts))]
+    #[cycle(expressions)]
+    fn eval_or(
+        &self,
+        alloc: Global,
+        right: &CoreExpr,
+        holds: Option<Sets>,
+        fails: Option<Sets>,
+        log: &mut Flow,
+    ) -> Result<Value, Memory>
+        ensures { IfOk result (λ v. evaluated_of v (log_of log.new) ≡ either_with holds (eval (seen self.now) 0 (expr_of right.now) fails (log_of log.old))) }
+    {
+        let (either, neither) = self.eval_ways(alloc, right, fails, log)?;
+        let holds = meet(holds, either)?;
+        let value = Value::apart(alloc, holds, neither)?;
+        Ok(value)
+    }
+
+    // A call that takes no object.
+    #[tactic(auto, using(crate::proofs::Following::calls))]
+    #[cycle(expressions)]
+    fn eval_session(
+        &self,
+        alloc: Global,
+        args: &[CoreExpr],
+        sets: Sets,
+        log: &mut Flow,
+    ) -> Result<Value, Memory>
+        ensures { IfOk result (λ v. evaluated_of v (log_of log.new) ≡ behind (eval_all (seen self.now) [] (exprs_of (map expr_of args.now)) (Some sets) (log_of log.old))) }
+    {
+        let Arguments { sets: given, now } = self.eval_all(alloc, &[], args, Some(sets), log)?;
+        drop(given);
+        let value = Value::plain(alloc, now)?;
+        Ok(value)
+    }
+
+    // An expression that may not be reached.
+    #[tactic(auto, using(crate::proofs::Following::calls))]
+    #[cycle(expressions)]
+    pub(crate) fn eval_now(
+        &self,
+        alloc: Global,
+        width: usize,
+        expr: &CoreExpr,
+        now: Option<Sets>,
+        log: &mut Flow,
+    ) -> Result<Value, Memory>
+        ensures { IfOk result (λ v. evaluated_of v (log_of log.new) ≡ eval (seen self.now) width (expr_of expr.now) now (log_of log.old)) }
+    {
+        match now {
+            Some(sets) => self.eval(alloc, width, expr, sets, log),
+            None => Value::plain(alloc, None),
+        }
+    }
+
+    // Arguments, from left to right, each as wide as its parameter.
+    #[tactic(auto, using(crate::proofs::Following::arguments))]
+    #[cycle(expressions)]
+    fn eval_all(
+        &self,
+        alloc: Global,
+        params: &[CoreSlot],
+        args: &[CoreExpr],
+        now: Option<Sets>,
+        log: &mut Flow,
+    ) -> Result<Arguments, Memory>
+        ensures { IfOk result (λ a. argued_of a (log_of log.new) ≡ eval_all (seen self.now) (map (width_of (seen self.now)) (map (λ s. s.ty) params.now)) (exprs_of (map expr_of args.now)) now (log_of log.old)) }
+    {
+        let mut sets = Sets::new(alloc);
+        let mut now = now;
+        for i in 0..args.len() {
+            let width = match params.get(i) {
+                Some(param) => self.width_of(param.ty),
+                None => 0,
+            };
+            let Value { set, ways } = self.eval_now(alloc, width, &args[i], now, log)?;
+            now = ways.after()?;
+            sets.push(set)?;
+        }
+        Ok(Arguments { sets, now })
+    }
+
+    // A call of a protocol method.
+    #[tactic(auto, using(crate::proofs::Following::calls))]
+    #[cycle(expressions)]
+    fn eval_protocol(
+        &self,
+        alloc: Global,
+        receiver: CoreVar,
+        method: u32,
+        args: &[CoreExpr],
+        sets: Sets,
+        log: &mut Flow,
+    ) -> Result<Value, Memory>
+        ensures { IfOk result (λ v. evaluated_of v (log_of log.new) ≡ called_protocol (seen self.now) receiver method (exprs_of (map expr_of args.now)) sets (log_of log.old)) }
+    {
+        let Some(called) = method_at(self.core, method) else {
+            let value = self.eval_session(alloc, args, sets, log)?;
+            return Ok(value);
+        };
+        let args = self.eval_all(alloc, params_of(called), args, Some(sets), log)?;
+        let value = self.protocol_call(alloc, receiver, method, called, args, log)?;
+        Ok(value)
+    }
+
+    // A call of a helper.
+    #[tactic(auto, using(crate::proofs::Following::calls))]
+    #[cycle(expressions)]
+    fn eval_helper(
+        &self,
+        alloc: Global,
+        method: u32,
+        args: &[CoreExpr],
+        sets: Sets,
+        log: &mut Flow,
+    ) -> Result<Value, Memory>
+        ensures { IfOk result (λ v. evaluated_of v (log_of log.new) ≡ called_helper (seen self.now) method (exprs_of (map expr_of args.now)) sets (log_of log.old)) }
+    {
+        let Some(called) = method_at(self.core, method) else {
+            let value = self.eval_session(alloc, args, sets, log)?;
+            return Ok(value);
+        };
+        let args = self.eval_all(alloc, params_of(called), args, Some(sets), log)?;
+        let value = self.helper_call(alloc, method, called, args, log)?;
+        Ok(value)
+    }
+
+    // A call of a static method.
+    #[tactic(auto, using(crate::proofs::Following::calls))]
+    #[cycle(expressions)]
+    fn eval_static(
+        &self,
+        alloc: Global,
+        method: u32,
+        args: &[CoreExpr],
+        sets: Sets,
+        log: &mut Flow,
+    ) -> Result<Value, Memory>
+        ensures { IfOk result (λ v. evaluated_of v (log_of log.new) ≡ called_static (seen self.now) method (exprs_of (map expr_of args.now)) sets (log_of log.old)) }
+    {
+        let Some(called) = method_at(self.core, method) else {
+            let value = self.eval_session(alloc, args, sets, log)?;
+            return Ok(value);
+        };
+        let args = self.eval_all(alloc, params_of(called), args, Some(sets), log)?;
+        let value = self.static_call(alloc, method, called, args, log)?;
+        Ok(value)
+    }
+}

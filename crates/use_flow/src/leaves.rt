@@ -1,0 +1,124 @@
+//! What a method leaves behind at its ends: its variables, its result and the own fields.
+//! Fields go to the states that follow; behind a helper they go to its own tables.
+
+ghost use Rattle.std.specs.Prelude.{◌≡◌, option_map, reverse, OnOk};
+ghost use Rattle.ts_tree.specs.View.{target_of};
+ghost use Rattle.jv_core.specs.Lookup.{text_at};
+ghost use Rattle.use_flow.specs.View.{log_of};
+ghost use Rattle.use_flow.specs.inner.Calling.{which_of};
+ghost use Rattle.use_flow.specs.inner.Ending.{followed, fields_left, leaves_fields, left};
+ghost use Rattle.use_flow.specs.inner.Followed.{seen};
+
+use crate::calling::target_at;
+use crate::exits::ends;
+use crate::fields::FieldTable;
+use crate::scene::{Scene, typestate_of};
+use crate::sets::Sets;
+use crate::{Context, Flow};
+use mg_sets::StateSet;
+use mg_text::{Memory, Name, Place};
+use std::alloc::Global;
+use ts_tree::Target;
+
+impl<'a> Scene<'a> {
+    // The text of a name.
+    #[tactic(auto, using(crate::proofs::Scenes::scenes))]
+    fn text_of(&self, name: Name) -> &str
+        ensures { result.now ≡ text_at (seen self.now).program name.0 }
+    {
+        let names = self.core.names();
+        if (name.0 as usize) < names.len() {
+            return names.text(name);
+        }
+        ""
+    }
+
+    // The fields go to where the target leads; where it leads to the end none may have a state.
+    #[tactic(auto, using(crate::proofs::Behind::led))]
+    fn leave_target(
+        &self,
+        alloc: Global,
+        log: &mut Flow,
+        place: Place,
+        class: u32,
+        target: &Target,
+        label: Option<&str>,
+        sets: &Sets,
+    ) -> Result<(), Memory>
+        ensures { OnOk result (log_of log.new ≡ fields_left (seen self.now) class (which_of (option_map (λ l. l.now) label.entry) (target_of target.now)) place sets.now (log_of log.old)) }
+    {
+        self.send_target(alloc, &mut log.outs, class, target, label, sets)?;
+        if !ends(target, label) {
+            return Ok(());
+        }
+        self.judge_fields(alloc, &mut log.failed, place, sets)
+    }
+
+    // What a protocol method leaves of the fields, in a state.
+    #[tactic(auto, using(crate::proofs::Behind::offers))]
+    fn leave_state(
+        &self,
+        alloc: Global,
+        log: &mut Flow,
+        place: Place,
+        class: u32,
+        state: u32,
+        label: Option<&str>,
+        sets: &Sets,
+    ) -> Result<(), Memory>
+        ensures { OnOk result (log_of log.new ≡ fields_left (seen self.now) class (followed (seen self.now) class state (option_map (λ l. l.now) label.entry)) place sets.now (log_of log.old)) }
+    {
+        let name = self.text_of(self.method.name);
+        match target_at(typestate_of(self.core, class), name, state as usize) {
+            Some(target) => self.leave_target(alloc, log, place, class, target, label, sets),
+            None => Ok(()),
+        }
+    }
+
+    // What a method leaves of its object's fields.
+    fn leave_fields(
+        &self,
+        alloc: Global,
+        log: &mut Flow,
+        place: Place,
+        label: Option<&str>,
+        sets: &Sets,
+    ) -> Result<(), Memory>
+        ensures { OnOk result (log_of log.new ≡ leaves_fields (seen self.now) place (option_map (λ l. l.now) label.entry) sets.now (log_of log.old)) }
+    {
+        match self.context {
+            Context::Protocol { class, state, .. } => {
+                self.leave_state(alloc, log, place, class, state, label, sets)
+            }
+            Context::Plain { method } => {
+                if !self.has_fields() {
+                    return Ok(());
+                }
+                self.send_fields(alloc, &mut log.outs, FieldTable::Leave { method }, sets)
+            }
+        }
+    }
+
+    // The method is left at a place, with the set of a value. The variables in scope stand in the
+    // order of their declarations.
+    #[tactic(auto, using(crate::proofs::Behind::places))]
+    pub(crate) fn leave_method(
+        &self,
+        alloc: Global,
+        place: Place,
+        label: Option<&str>,
+        set: StateSet,
+        scope: &[u32],
+        now: Option<Sets>,
+        log: &mut Flow,
+    ) -> Result<(), Memory>
+        ensures { OnOk result (log_of log.new ≡ left (seen self.now) place (option_map (λ l. l.now) label.entry) set (reverse scope.now) now (log_of log.old)) }
+    {
+        let Some(sets) = now else {
+            return Ok(());
+        };
+        self.judge_left(alloc, &mut log.failed, place, scope, &sets)?;
+        self.send_result(&mut log.outs, set)?;
+        self.leave_fields(alloc, log, place, label, &sets)
+    }
+}
