@@ -32,7 +32,7 @@ use Rattle.gen_links.proofs.Looked.{At, here, class_at, named_class, plain_class
 
 -- The methods of a class are those that say so, in their order.
 
-methods_filtered : (whole : List Method) (c n : ℕ) (ms : List Method) →
+pub methods_filtered : (whole : List Method) (c n : ℕ) (ms : List Method) →
     ((i : ℕ) (m : Method) → slice_get ms i ≡ Some m → slice_get whole (n + i) ≡ Some m) →
     filter_map (slice_get whole) (methods_of c n ms) ≡ filter (λ m. nat_eq m.class c) ms
 methods_filtered whole c n [] h = refl
@@ -49,11 +49,11 @@ methods_filtered whole c n (m ∷ ms) h =
     go false e rest = rw e rest
 
 -- a method of the class is among them
-record Among (ms : List Method) (m : Method) : Type 0 where
-  number : ℕ
-  at : slice_get ms number ≡ Some m
+pub record Among (ms : List Method) (m : Method) : Type 0 where
+  pub number : ℕ
+  pub at : slice_get ms number ≡ Some m
 
-among : (c : ℕ) (ms : List Method) (n : ℕ) (m : Method) → slice_get ms n ≡ Some m → nat_eq m.class c ≡ true →
+pub among : (c : ℕ) (ms : List Method) (n : ℕ) (m : Method) → slice_get ms n ≡ Some m → nat_eq m.class c ≡ true →
     Among (filter (λ x. nat_eq x.class c) ms) m
 among c [] n m e t = absurd cc
 among c (x ∷ ms) zero m e t =
@@ -84,7 +84,7 @@ compiled_at p (x ∷ ms) [] h i m e = absurd h
 compiled_at p (x ∷ ms) (c ∷ cs) h zero m e = ((h.0).0, ap Some ((h.0).2 ∙ ap (λ y. compiled p y (h.0).0) (some_is e)))
 compiled_at p (x ∷ ms) (c ∷ cs) h (suc i) m e = compiled_at p ms cs h.1 i m e
 
-plain_names : (p : Program) → HasPlainNames p → (ms : List Method) → AllByRecursion IsPlainName (map (λ m. text_at p m.name) ms)
+pub plain_names : (p : Program) → HasPlainNames p → (ms : List Method) → AllByRecursion IsPlainName (map (λ m. text_at p m.name) ms)
 plain_names p h [] = tt
 plain_names p h (m ∷ ms) = (plain_at p.names h m.name, plain_names p h ms)
 
@@ -97,7 +97,7 @@ plain_get [] k d h l = absurd (omega (arith, l))
 plain_get (x ∷ xs) zero d h l = h.0
 plain_get (x ∷ xs) (suc k) d h l = plain_get xs k d h.1 (omega (arith, l))
 
-none_is_init : (xs : List Name) → AllByRecursion IsPlainName xs → Contains xs init_name → ⊥
+pub none_is_init : (xs : List Name) → AllByRecursion IsPlainName xs → Contains xs init_name → ⊥
 none_is_init xs h c = not_init (subst IsPlainName c.2 (plain_get xs c.0 init_name h c.1))
 
 -- No method of a program is one of a built-in class.

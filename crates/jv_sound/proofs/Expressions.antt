@@ -91,7 +91,7 @@ module _ (p : Program) (ok : IsCore p) where
   params_usable : (k : Method) → IsMethod p k → AllByRecursion NoVoid (param_types k)
   params_usable k is = first_usable k.params k.slots is.slots
 
-  session_usable : (c : SessionCall) → AllByRecursion NoVoid (session_params c)
+  pub session_usable : (c : SessionCall) → AllByRecursion NoVoid (session_params c)
   session_usable calls.Send = ((λ e. cc), ((λ e. cc), tt))
   session_usable calls.SendInt = ((λ e. cc), ((λ e. cc), ((λ e. cc), tt)))
   session_usable calls.SendBoolean = ((λ e. cc), ((λ e. cc), ((λ e. cc), tt)))
@@ -332,7 +332,7 @@ module _ (p : Program) (ok : IsCore p) where
           (valuing_runs p H (types.Object c) w _ (make_runs p ok w c has.class
           (record { class = text_at p has.class.name; fields = b.row }) has.at (λ x. record { named = refl; fields = b.fits x }))))
 
-      args_good : {sc : List ℕ} {es : Exprs} {ts : List CoreType} {row : Row ℕ} → HasAll p m sc es ts → AllByRecursion NoVoid ts →
+      pub args_good : {sc : List ℕ} {es : Exprs} {ts : List CoreType} {row : Row ℕ} → HasAll p m sc es ts → AllByRecursion NoVoid ts →
           (w : World) → This w → RowFits p m w sc row → Runs H (Args ts) w (eval_all p inputs low n here row es)
       args_good Types.no_args all w o r = runs_give H (Args []) w [] (λ x q. worlds.no_values)
       args_good {row = row} (Types.arg {e = e} {more = es} {t = t} {ts = ts} x xs) all w o r =

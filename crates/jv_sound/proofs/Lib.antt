@@ -1,12 +1,12 @@
 mod Examples
 mod CounterIsCore
-mod Lists
-mod Worlds
-mod Operators
-mod Sessions
-mod Objects
-mod Expressions
-mod Completions
-mod Executions
+pub mod Lists
+pub mod Worlds
+pub mod Operators
+pub mod Sessions
+pub mod Objects
+pub mod Expressions
+pub mod Completions
+pub mod Executions
 pub mod Sound
 mod Budget

@@ -171,7 +171,7 @@ module _ (p : Program) (ok : IsCore p) where
   }
 
   -- every budget
-  lowers : (inputs : Inputs) (budget : ℕ) → Lowers p ok (below (language p inputs) budget)
+  pub lowers : (inputs : Inputs) (budget : ℕ) → Lowers p ok (below (language p inputs) budget)
   lowers inputs zero = record {
     calls = λ n m at w this vs c fs. runs_stop (Heap p ok) (λ w r. GivesA p w r m.result) w More (λ e. cc);
     turn = λ n m at this sc ts z x w o. within_runs p ok m (Comes p ok m ts (Leaves z)) sc w (λ locals. stop More)
@@ -193,12 +193,13 @@ module _ (p : Program) (ok : IsCore p) where
   ends_well t (Gives v s) g = λ e. cc
   ends_well t (Ends f es) g = g
 
-  record IsMainAt (c : ℕ) (r : values.Method ℕ Code) : Type 0 where
-    number : ℕ
-    method : Method
-    at : slice_get p.methods number ≡ Some method
-    main : method.kind ≡ kinds.Main
-    is : r ≡ as_run p number method
+  pub record IsMainAt (c : ℕ) (r : values.Method ℕ Code) : Type 0 where
+    pub number : ℕ
+    pub method : Method
+    pub at : slice_get p.methods number ≡ Some method
+    pub main : method.kind ≡ kinds.Main
+    pub mine : nat_eq method.class c ≡ true
+    pub is : r ≡ as_run p number method
 
   method_front : (front : List Method) (m : Method) (rest : List Method) → slice_get (front ++ m ∷ rest) (length front) ≡ Some m
   method_front [] m rest = refl
@@ -212,13 +213,17 @@ module _ (p : Program) (ok : IsCore p) where
   both_true true b e = e
   both_true false b e = absurd (cc)
 
+  first_true : (a b : Bool) → (a && b) ≡ true → a ≡ true
+  first_true true b e = refl
+  first_true false b e = absurd (cc)
+
   main_kind : (k : MethodKind) → is_main k ≡ true → k ≡ kinds.Main
   main_kind kinds.Main e = refl
   main_kind kinds.Static e = absurd (cc)
   main_kind kinds.Helper e = absurd (cc)
   main_kind kinds.Protocol e = absurd (cc)
 
-  main_at : (c : ℕ) (front ms : List Method) (r : values.Method ℕ Code) → p.methods ≡ front ++ ms →
+  pub main_at : (c : ℕ) (front ms : List Method) (r : values.Method ℕ Code) → p.methods ≡ front ++ ms →
       main_in p c (length front) ms ≡ Some r → IsMainAt c r
   main_at c front [] r e f = absurd (cc)
   main_at c front (m ∷ ms) r e f =
@@ -232,6 +237,7 @@ module _ (p : Program) (ok : IsCore p) where
         method = m;
         at = ap (λ ms. slice_get ms (length front)) e ∙ method_front front m ms;
         main = main_kind m.kind (both_true (nat_eq m.class c) (is_main m.kind) is);
+        mine = first_true (nat_eq m.class c) (is_main m.kind) is;
         is = sym (some_is f);
       }
       go ih false is f = ih f
@@ -239,7 +245,7 @@ module _ (p : Program) (ok : IsCore p) where
   no_params : (m : Method) → m.params ≡ 0 → param_types m ≡ []
   no_params m e = ap (λ n. map (λ (s : Slot). s.ty) (take n m.slots)) e
 
-  is_main_method : (m : Method) (k : MethodKind) → IsOfKind p m k → k ≡ kinds.Main → IsMain p m
+  pub is_main_method : (m : Method) (k : MethodKind) → IsOfKind p m k → k ≡ kinds.Main → IsMain p m
   is_main_method m kinds.Main h e = h
   is_main_method m kinds.Static h e = absurd (cc)
   is_main_method m kinds.Helper h e = absurd (cc)
