@@ -26,3 +26,7 @@ pub mod Choosing
 pub mod StmtLoops
 pub mod ParamSteps
 pub mod StmtForms
+pub mod ExitSteps
+pub mod Leaving
+pub mod LeaveForms
+pub mod MethodSteps

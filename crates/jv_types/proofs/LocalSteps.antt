@@ -57,7 +57,7 @@ module _ (locals : List Declared) (d : Declared) (get get' : Name → Option Kep
     }
 
 -- what a table answers after a change
-pub changed_at : {A S : Type 0} (m n : HashMap (String A) KeptType S) (name : Name) (w : Option KeptType) → UpdatesBy string_eq (λ k. bytes_eq name (string_bytes k)) m n w →
+pub changed_at : {A V S : Type 0} (m n : HashMap (String A) V S) (name : Name) (w : Option V) → UpdatesBy string_eq (λ k. bytes_eq name (string_bytes k)) m n w →
     (q : Name) → get_by_text n q ≡ cond (bytes_eq name q) w (get_by_text m q)
 changed_at m n name w u q = hash_map_updates_text name m n w u q
 

@@ -12,3 +12,5 @@ pub mod Declaring
 pub mod Deciding
 pub mod Calls
 pub mod Stating
+pub mod Exits
+pub mod Methods
