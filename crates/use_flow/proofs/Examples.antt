@@ -46,7 +46,7 @@ taken_at t (x ∷ os) o zero w lt e =
     subst (λ (y : Out). IsSubset y.set (t y.key)) e (record { within = within x.set (t x.key) (left (is_within x.set (t x.key)) (are_within t os) w) })
 taken_at t (x ∷ os) o (suc k) w lt e = taken_at t os o k (right (is_within x.set (t x.key)) (are_within t os) w) (omega arith) e
 
-fails : (p : Program) (reached : List (List Bool)) (t : Tables) (ds : List Demand) → all_failed p reached t ≡ ds → are_within t (all_outs p reached t) ≡ true → Fails p reached t ds
+pub fails : (p : Program) (reached : List (List Bool)) (t : Tables) (ds : List Demand) → all_failed p reached t ≡ ds → are_within t (all_outs p reached t) ≡ true → Fails p reached t ds
 fails p reached t ds e w = record { failed = e; takes = λ o c. taken_at t (all_outs p reached t) o c.0 w c.1 c.2 }
 
 pub examples_fail : ExamplesFail

@@ -1,10 +1,10 @@
-mod Examples
+pub mod Examples
 mod Members
 mod Orders
 mod Rules
 mod Values
 mod Steps
-mod Laws
+pub mod Laws
 pub mod Keyed
 pub mod Rests
 pub mod Leading
@@ -24,3 +24,16 @@ pub mod Behind
 pub mod Tested
 pub mod Following
 pub mod Arms
+pub mod Simply
+pub mod Jumping
+pub mod Coursing
+pub mod Choosing
+pub mod Stepping
+pub mod Forms
+pub mod Grouping
+pub mod Starting
+pub mod Flowing
+pub mod Adding
+pub mod Listing
+pub mod Apart
+pub mod Holding

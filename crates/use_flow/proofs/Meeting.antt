@@ -8,11 +8,11 @@ or_self : (a : Bool) → (a || a) ≡ a
 or_self true = refl
 or_self false = refl
 
-union-self : (s : Set) → union s s ≡ s
+pub union-self : (s : Set) → union s s ≡ s
 union-self [] = refl
 union-self (a ∷ s) = ap (λ x. x ∷ union s s) (or_self a) ∙ ap (λ r. a ∷ r) (union-self s)
 
-sets-self : (ss : List Set) → joined_sets ss ss ≡ ss
+pub sets-self : (ss : List Set) → joined_sets ss ss ≡ ss
 sets-self [] = refl
 sets-self (s ∷ ss) = ap (λ x. x ∷ joined_sets ss ss) (union-self s) ∙ ap (λ r. s ∷ r) (sets-self ss)
 

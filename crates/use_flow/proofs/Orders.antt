@@ -143,7 +143,7 @@ one_jump to a b i = record { each = λ at. go (same_lead at to) }
     go true = joined_grows a b None None i tt
     go false = tt
 
-same_is : (a b : Leads) → same_lead a b ≡ true → a ≡ b
+pub same_is : (a b : Leads) → same_lead a b ≡ true → a ≡ b
 same_is BehindSwitch BehindSwitch h = refl
 same_is BehindSwitch (BehindLoop l) h = absurd (cc)
 same_is BehindSwitch (GoesOn l) h = absurd (cc)
@@ -174,7 +174,7 @@ nothing to true = refl
 nothing to false = refl
 
 -- what passes by jumps elsewhere as before
-caught_passing : (l to : Leads) (js : List Jump) → caught to (passing l js) ≡ (if same_lead l to then None else caught to js)
+pub caught_passing : (l to : Leads) (js : List Jump) → caught to (passing l js) ≡ (if same_lead l to then None else caught to js)
 caught_passing l to [] = nothing to (same_lead l to)
 caught_passing l to (j ∷ js) =
     passing_one to j (passing l js) (same_lead l j.to)

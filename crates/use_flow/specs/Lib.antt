@@ -9,4 +9,5 @@ pub mod Computed
 pub mod Laws
 pub mod Shapes
 pub mod Start
+pub mod Fits
 pub mod View

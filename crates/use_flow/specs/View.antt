@@ -1,6 +1,8 @@
 -- What contracts see of the tables of a program, and of what flows.
-use Rattle.std.specs.Prelude.{◌≡◌, ◌<◌, ℕ, Bool, false, List, [], map, length, Option, Some, None, position, slice_index_or, nat_eq, ◌&&◌, ◌∷◌, ◌+◌}
+use Rattle.std.specs.Prelude.{◌≡◌, ◌<◌, ℕ, Bool, false, List, [], map, length, Option, Some, None, position, slice_index_or, slice_get, nat_eq, ◌&&◌, ◌∷◌, ◌+◌}
 use Rattle.mg_sets.proofs.Missing.{missing}
+use Rattle.ts_tree.specs.Typestate.{Typestate}
+use Rattle.ts_tree.specs.Proper.{IsProper}
 use Rattle.jv_core.specs.Tree.{Program}
 use Rattle.use_flow.specs.declared.key.Context.{Context}
 use Rattle.use_flow.specs.declared.key.TableKey.{TableKey}
@@ -63,8 +65,13 @@ pub record HasKey (t : held.Tables) (key : TableKey) : Type 0 where
   pub at : position (same_key key) t.keys.keys ≡ Some number
   pub within : number < length t.sets.items
 
+-- each typestate keeps its conditions
+pub record AreProper (p : Program) : Type 0 where
+  pub each : (n : ℕ) (t : Typestate) → slice_get p.typestates n ≡ Some t → IsProper t.states
+
 -- the tables of a program: a set for each key that has a class
 pub record AreFor (p : Program) (t : held.Tables) : Type 0 where
+  pub proper : AreProper p
   pub reached : AreReached p (reached_of t)
   pub contexts : contexts_of t ≡ contexts_in p (reached_of t)
   pub has : (key : TableKey) (c : ℕ) → class_at p (reached_of t) key ≡ Some c → HasKey t key

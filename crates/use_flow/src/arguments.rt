@@ -20,9 +20,9 @@ use mg_sets::StateSet;
 use mg_text::{List, Memory};
 use std::alloc::Global;
 
-// The method of a number.
+/// The method of this number, if there is one.
 #[tactic(auto, using(crate::proofs::Scenes::scenes))]
-pub(crate) fn method_at(core: &Core, method: u32) -> Option<&CoreMethod>
+pub fn method_at(core: &Core, method: u32) -> Option<&CoreMethod>
     ensures { option_map (λ m. method_of m.now) result ≡ slice_get (tree_of core.now).methods method }
 {
     core.methods().get(method as usize)

@@ -3,11 +3,13 @@
 
 ghost use Rattle.std.specs.Prelude.{◌≡◌, ◌++◌, [], ◌∷◌, map, option_map, IfOk, OnOk};
 ghost use Rattle.mg_sets.specs.Sets.{members};
+ghost use Rattle.ts_tree.specs.Proper.{IsProper};
+ghost use Rattle.ts_tree.specs.Reachable.{MarksReachable};
 ghost use Rattle.jv_core.specs.Core.{tree_of};
 ghost use Rattle.jv_core.specs.View.{method_of};
 ghost use Rattle.jv_core.specs.Lookup.{text_at};
 ghost use Rattle.use_flow.specs.Keys.{AreReached, contexts_in, contexts_of, in_states, offering_states, reached_states, typestate_of};
-ghost use Rattle.use_flow.specs.View.{AreContexts};
+ghost use Rattle.use_flow.specs.View.{AreContexts, AreProper};
 ghost use Rattle.use_flow.specs.inner.Entering.{set_or_none, entered_from};
 ghost use Rattle.use_flow.specs.inner.Followed.{typestate_or_end};
 
@@ -21,14 +23,25 @@ use mg_text::{List, Memory};
 use std::alloc::Global;
 use ts_tree::Typestate;
 
+// The states of a typestate that calls lead to; a typestate keeps its conditions.
+fn reached_set(alloc: Global, typestate: &Typestate) -> Result<StateSet, Memory>
+    ensures marks { IfOk result (MarksReachable typestate.now) }
+    ensures proper { IsProper typestate.now.states }
+{
+    let _states = &typestate.states;
+    let set = typestate.reachable(alloc)?;
+    Ok(set)
+}
+
 // The states of each typestate that calls lead to.
 #[tactic(auto, using(crate::proofs::Entries::reached))]
 pub(crate) fn reached_sets(alloc: Global, core: &Core) -> Result<Vec<StateSet>, Memory>
-    ensures { IfOk result (λ v. AreReached (tree_of core.now) v.items) }
+    ensures reached { IfOk result (λ v. AreReached (tree_of core.now) v.items) }
+    ensures proper { OnOk result (AreProper (tree_of core.now)) }
 {
     let mut reached = Vec::new(alloc);
     for typestate in core.typestates() {
-        let set = typestate.reachable(alloc)?;
+        let set = reached_set(alloc, typestate)?;
         reached.push(set)?;
     }
     Ok(reached)
@@ -36,7 +49,11 @@ pub(crate) fn reached_sets(alloc: Global, core: &Core) -> Result<Vec<StateSet>, 
 
 // The states of a class that calls lead to, if it has a typestate.
 #[tactic(auto, using(crate::proofs::Scenes::scenes))]
-fn reached_in<'r>(core: &Core, reached: &'r [StateSet], class: u32) -> Option<&'r StateSet>
+pub(crate) fn reached_in<'r>(
+    core: &Core,
+    reached: &'r [StateSet],
+    class: u32,
+) -> Option<&'r StateSet>
     ensures { members (set_or_none (option_map (λ s. s.now) result)) ≡ reached_states (tree_of core.now) reached.now class }
 {
     let class = class_at(core, class)?;

@@ -282,7 +282,7 @@ impl<'a> Scene<'a> {
     // Arguments, from left to right, each as wide as its parameter.
     #[tactic(auto, using(crate::proofs::Following::arguments))]
     #[cycle(expressions)]
-    fn eval_all(
+    pub(crate) fn eval_all(
         &self,
         alloc: Global,
         params: &[CoreSlot],

@@ -18,7 +18,7 @@ use std::alloc::Global;
 /// The tables of the fields of an object: in a state, where a helper is entered or left, or at the
 /// head of a loop, where fields stand behind so many slots.
 #[derive(Clone, Copy, Debug)]
-pub(crate) enum FieldTable {
+pub enum FieldTable {
     State {
         class: u32,
         state: u32,
@@ -36,8 +36,11 @@ pub(crate) enum FieldTable {
     },
 }
 
-// A number as keys have it.
-pub(crate) fn number(n: usize) -> Result<u32, Memory>
+/// A number as keys have it.
+///
+/// # Errors
+/// `Memory` only, at 2^32.
+pub fn number(n: usize) -> Result<u32, Memory>
     ensures { IfOk result (λ m. m ≡ n) }
 {
     let Ok(number) = u32::try_from(n) else {
@@ -46,8 +49,11 @@ pub(crate) fn number(n: usize) -> Result<u32, Memory>
     Ok(number)
 }
 
-// The sum of two numbers.
-pub(crate) fn sum(n: usize, m: usize) -> Result<usize, Memory>
+/// The sum of two numbers.
+///
+/// # Errors
+/// `Memory` only, where it fits no `usize`.
+pub fn sum(n: usize, m: usize) -> Result<usize, Memory>
     ensures { IfOk result (λ k. k ≡ n + m) }
 {
     let Some(sum) = n.checked_add(m) else {
@@ -56,8 +62,11 @@ pub(crate) fn sum(n: usize, m: usize) -> Result<usize, Memory>
     Ok(sum)
 }
 
-// The table of a field.
-fn key_of(table: FieldTable, field: usize) -> Result<TableKey, Memory>
+/// The table of a field.
+///
+/// # Errors
+/// `Memory` only, where a number fits no `u32`.
+pub fn key_of(table: FieldTable, field: usize) -> Result<TableKey, Memory>
     ensures { IfOk result (λ k. k ≡ key_in table field) }
 {
     match table {

@@ -204,4 +204,20 @@ impl<'a> Scene<'a> {
         self.fill_fields(alloc, table, sets)?;
         Ok(())
     }
+
+    // What may be known at the end of a turn flows to the head of the loop.
+    pub(crate) fn send_end(
+        &self,
+        alloc: Global,
+        number: u32,
+        now: &Option<Sets>,
+        log: &mut Flow,
+    ) -> Result<(), Memory>
+        ensures { OnOk result (log_of log.new ≡ heads (seen self.now) number now.now (log_of log.old)) }
+    {
+        match now {
+            Some(sets) => self.send_heads(alloc, number, sets, log),
+            None => Ok(()),
+        }
+    }
 }

@@ -1,20 +1,31 @@
 //! The tables of a program: a set of elements for each key.
 //! Keys and contexts have numbers, which are looked up by hashing; sets stand by their numbers.
 
-ghost use Rattle.std.specs.Prelude.{◌≡◌, ◌≢◌, ◌<◌, ◌≤◌, length, position, IfOk};
+ghost use Rattle.std.specs.Prelude.{◌≡◌, ◌≢◌, ◌<◌, ◌≤◌, length, position, option_map, IfOk, OnOk};
 ghost use Rattle.std.specs.Bool.{OnFalse, OnTrue};
-ghost use Rattle.mg_sets.specs.Sets.{join, Grows};
+ghost use Rattle.mg_sets.specs.Sets.{join, members, Grows};
+ghost use Rattle.jv_core.specs.Core.{tree_of};
 ghost use Rattle.use_flow.specs.declared.key.TableKey.{TableKey};
-ghost use Rattle.use_flow.specs.Keys.{number_of};
-ghost use Rattle.use_flow.specs.View.{same_key, tables_of, contexts_of, lacks, HasKey, IsKept};
+ghost use Rattle.ts_tree.specs.Calls.{initial};
+ghost use Rattle.use_flow.specs.Shapes.{elements_in};
+ghost use Rattle.use_flow.specs.Start.{start_in, start_of, starting};
+ghost use Rattle.use_flow.specs.Keys.{number_of, reached_states, typestate_of};
+ghost use Rattle.use_flow.specs.inner.Entering.{set_or_none};
+ghost use Rattle.use_flow.specs.inner.Holding.{AreApart, AreHeld, WithEntry};
+ghost use Rattle.use_flow.specs.View.{same_key, tables_of, contexts_of, reached_of, lacks, HasKey, AreFor, IsKept};
 
-use crate::elements::{copy_set, empty_set};
+use crate::classed::{Entry, entries_of};
+use crate::elements::{copy_set, empty_set, mark};
+use crate::entered::{contexts_by, reached_in, reached_sets};
 use crate::fields::number;
+use crate::scene::typestate_of;
 use crate::{Context, TableKey};
 use indexmap::IndexSet;
+use jv_core::Core;
 use mg_sets::StateSet;
 use mg_text::Memory;
 use std::alloc::Global;
+use ts_tree::To;
 
 /// The tables of a program: a set for each field of an object in a state, each parameter and result
 /// of a context, each field where a helper is entered and left, and each variable at a loop's head.
@@ -29,7 +40,140 @@ pub struct Tables {
     sets: Vec<StateSet>,
 }
 
+// The contexts, each with its place as its number.
+#[tactic(auto, using(crate::proofs::Apart::inserting))]
+fn numbered(alloc: Global, contexts: &[Context]) -> Result<IndexSet<Context>, Memory>
+    ensures { IfOk result (λ s. AreApart contexts.now → s.keys ≡ contexts.now) }
+{
+    let mut numbers = IndexSet::new(alloc);
+    for place in 0..contexts.len() {
+        let _new = numbers.insert(contexts[place])?;
+    }
+    Ok(numbers)
+}
+
+// Where objects of a class begin.
+fn begin_of(core: &Core, class: u32) -> To
+    ensures { result ≡ initial (typestate_of (tree_of core.now) class) }
+{
+    match typestate_of(core, class) {
+        Some(typestate) => typestate.initial(),
+        None => To::End,
+    }
+}
+
+// How many elements a variable of a class may have.
+fn elements_in(core: &Core, class: u32) -> usize
+    ensures { result ≡ elements_in (tree_of core.now) class }
+{
+    match typestate_of(core, class) {
+        Some(typestate) => 3 + typestate.states.len(),
+        None => 3,
+    }
+}
+
+// What a field has before anything flows, in a state of an object that begins there.
+#[tactic(auto, using(crate::proofs::Holding::starts))]
+fn starting(alloc: Global, begins: To, state: u32, width: usize) -> Result<StateSet, Memory>
+    ensures { IfOk result (λ s. s ≡ starting begins state width) }
+{
+    let mut set = empty_set(alloc, width)?;
+    match begins {
+        To::State(begin) => {
+            if begin != 0 {
+                return Ok(set);
+            }
+            if state != 0 {
+                return Ok(set);
+            }
+            mark(&mut set, 0);
+            Ok(set)
+        }
+        To::End => Ok(set),
+    }
+}
+
+// What a table has before anything flows.
+fn start_set(alloc: Global, core: &Core, entry: Entry) -> Result<StateSet, Memory>
+    ensures { IfOk result (λ s. s ≡ start_in (tree_of core.now) entry.key entry.class) }
+{
+    let width = elements_in(core, entry.class);
+    match entry.key {
+        TableKey::Field { class, state, .. } => {
+            starting(alloc, begin_of(core, class), state, width)
+        }
+        TableKey::Param { .. }
+        | TableKey::Result { .. }
+        | TableKey::Enter { .. }
+        | TableKey::Leave { .. }
+        | TableKey::Loop { .. } => empty_set(alloc, width),
+    }
+}
+
+// Makes the set of a table, where it has none yet.
+#[tactic(auto, using(crate::proofs::Holding::holding))]
+fn hold(
+    alloc: Global,
+    core: &Core,
+    keys: &mut IndexSet<TableKey>,
+    sets: &mut Vec<StateSet>,
+    entry: Entry,
+) -> Result<(), Memory>
+    ensures { OnOk result (WithEntry (tree_of core.now) entry keys.old.keys sets.old.items keys.new.keys sets.new.items) }
+{
+    let new = keys.insert(entry.key)?;
+    if !new {
+        return Ok(());
+    }
+    let set = start_set(alloc, core, entry)?;
+    sets.push(set)?;
+    Ok(())
+}
+
+// Tables with the sets of these entries before anything flows.
+#[tactic(auto, using(crate::proofs::Holding::filling))]
+fn filled(
+    alloc: Global,
+    core: &Core,
+    reached: Vec<StateSet>,
+    contexts: IndexSet<Context>,
+    entries: &[Entry],
+) -> Result<Tables, Memory>
+    ensures reached { IfOk result (λ t. reached_of t ≡ reached.items) }
+    ensures contexts { IfOk result (λ t. contexts_of t ≡ contexts.keys) }
+    ensures held { IfOk result (λ t. AreHeld (tree_of core.now) entries.now (length entries.now) t.keys.keys t.sets.items) }
+{
+    let mut keys = IndexSet::new(alloc);
+    let mut sets = Vec::new(alloc);
+    for place in 0..entries.len() {
+        hold(alloc, core, &mut keys, &mut sets, entries[place])?;
+    }
+    Ok(Tables {
+        reached,
+        contexts,
+        keys,
+        sets,
+    })
+}
+
 impl Tables {
+    /// The tables before anything flows: a field that has objects holds null alone where its own
+    /// object begins, and all other sets are empty.
+    ///
+    /// # Errors
+    /// `Memory` only.
+    pub fn new(alloc: Global, core: &Core) -> Result<Tables, Memory>
+        ensures made { IfOk result (λ t. AreFor (tree_of core.now) t) }
+        ensures start { IfOk result (λ t. (key : TableKey) → tables_of t key ≡ start_of (tree_of core.now) (reached_of t) key) }
+    {
+        let reached = reached_sets(alloc, core)?;
+        let contexts = contexts_by(alloc, core, reached.as_slice())?;
+        let numbers = numbered(alloc, contexts.as_slice())?;
+        let entries = entries_of(alloc, core, contexts.as_slice())?;
+        let tables = filled(alloc, core, reached, numbers, entries.as_slice())?;
+        Ok(tables)
+    }
+
     // The number of a key's set.
     #[tactic(auto, using(crate::proofs::Keyed::keyed))]
     fn number_of(&self, key: TableKey) -> Option<usize>
@@ -74,6 +218,22 @@ impl Tables {
         &self.sets[number]
     }
 
+    /// The set of a key, if the tables have the key.
+    #[tactic(auto, using(crate::proofs::Scenes::scenes))]
+    pub fn find(&self, key: TableKey) -> Option<&StateSet>
+        ensures { set_or_none (option_map (λ s. s.now) result) ≡ tables_of self.now key }
+    {
+        let number = self.number_of(key)?;
+        self.sets.get(number)
+    }
+
+    /// The states of a class that calls lead to, if it has a typestate.
+    pub fn reached_states<'t>(&'t self, core: &Core, class: u32) -> Option<&'t StateSet>
+        ensures { members (set_or_none (option_map (λ s. s.now) result)) ≡ reached_states (tree_of core.now) (reached_of self.now) class }
+    {
+        reached_in(core, self.reached.as_slice(), class)
+    }
+
     /// Makes the members of a set members of the set of a key, which is at least as wide.
     /// True where that one grew, false where all is as before.
     pub fn join(&mut self, key: TableKey, set: &StateSet) -> bool
@@ -84,6 +244,7 @@ impl Tables {
         ensures same { OnFalse result ((k : TableKey) → tables_of self.new k ≡ tables_of self.old k) }
         ensures grew { OnTrue result (Grows (tables_of self.old key) (tables_of self.new key)) }
         ensures falls { OnTrue result (lacks self.new < lacks self.old) }
+        ensures stays { OnFalse result (lacks self.new ≡ lacks self.old) }
         ensures kept { IsKept self.old self.new }
     {
         let Some(number) = self.number_of(key) else {

@@ -23,7 +23,7 @@ use ts_tree::Target;
 impl<'a> Scene<'a> {
     // The text of a name.
     #[tactic(auto, using(crate::proofs::Scenes::scenes))]
-    fn text_of(&self, name: Name) -> &str
+    pub(crate) fn text_of(&self, name: Name) -> &str
         ensures { result.now ≡ text_at (seen self.now).program name.0 }
     {
         let names = self.core.names();

@@ -24,8 +24,8 @@ pub(crate) struct Scene<'a> {
     pub method: &'a CoreMethod,
 }
 
-// The class of a type's objects.
-pub(crate) fn class_in(ty: CoreType) -> Option<u32>
+/// The class of a type's objects, if it has any.
+pub fn class_in(ty: CoreType) -> Option<u32>
     ensures { result ≡ class_in ty }
 {
     match ty {
@@ -34,17 +34,17 @@ pub(crate) fn class_in(ty: CoreType) -> Option<u32>
     }
 }
 
-// The class of a program.
+/// The class of this number, if there is one.
 #[tactic(auto, using(crate::proofs::Scenes::scenes))]
-pub(crate) fn class_at(core: &Core, class: u32) -> Option<&CoreClass>
+pub fn class_at(core: &Core, class: u32) -> Option<&CoreClass>
     ensures { option_map (λ k. class_of k.now) result ≡ slice_get (tree_of core.now).classes class }
 {
     core.classes().get(class as usize)
 }
 
-// The typestate that a class follows, if it follows one.
+/// The typestate that a class follows, if it follows one.
 #[tactic(auto, using(crate::proofs::Scenes::scenes))]
-pub(crate) fn typestate_of(core: &Core, class: u32) -> Option<&Typestate>
+pub fn typestate_of(core: &Core, class: u32) -> Option<&Typestate>
     ensures { typestate_or_end (option_map (λ t. t.now) result) ≡ typestate_of (tree_of core.now) class }
 {
     let class = class_at(core, class)?;

@@ -1,7 +1,8 @@
-use Rattle.std.proofs.Common.{◌≡◌, ◌<◌, [], length, get_or, position, sym, ◌∙◌, arith}
+use Rattle.std.proofs.Common.{◌≡◌, ◌<◌, ℕ, List, [], length, get_or, set, Some, position, sym, ap, ◌∙◌, arith}
+use Rattle.std.proofs.lemmas.List.{set-get_or}
 use Rattle.std.proofs.lemmas.Bool.{OnFalse_at, OnFalse_from, OnTrue_at, OnTrue_from}
 use Rattle.std.proofs.lemmas.Grind.{common_steps}
-use Rattle.use_flow.specs.View.{same_key}
+use Rattle.use_flow.specs.View.{same_key, lacking}
 use Rattle.use_flow.proofs.Grown.{numbers-apart, numbered-other, numbered-same, lacking-joined}
 use Rattle.use_flow.proofs.held.Tables.join.Goals as goal
 
@@ -21,3 +22,8 @@ returns-clause-falls c = OnTrue_from c.join.result _ (λ h.
     let within : c.in-Some.number < length c.args.self.now.sets.items = grind (arith, common_steps) in
     lacking-joined c.args.self.now.sets.items c.in-Some.number c.index_mut.result.now c.join.new.self c.args.set.now within old c.join.ensures.set
     (OnTrue_at h c.join.ensures.grew))
+
+pub returns-clause-stays : goal.returns-clause-stays
+returns-clause-stays c = OnFalse_from c.join.result _ (λ h.
+    let old : c.index_mut.result.now ≡ get_or c.args.self.now.sets.items c.in-Some.number [] = grind (arith, common_steps) in
+    ap lacking (ap (set c.args.self.now.sets.items c.in-Some.number) (OnFalse_at h c.join.ensures.same ∙ old) ∙ set-get_or c.args.self.now.sets.items c.in-Some.number []))
