@@ -1,0 +1,4 @@
+mod Worked
+mod Failing
+pub mod Listed
+mod Reporting
