@@ -1,0 +1,7 @@
+pub mod Files
+pub mod Faults
+pub mod Words
+pub mod Reading
+pub mod Sources
+pub mod View
+pub mod inner

@@ -1,0 +1,13 @@
+//! The sources of a command: each file is read by its reader, in the order of the words, and what
+//! the files spell is one program.
+#![tactic(auto)]
+
+mod line;
+mod part;
+mod parts;
+mod sources;
+mod stop;
+
+pub use line::refused;
+pub use sources::{Sources, read_program};
+pub use stop::Stop;

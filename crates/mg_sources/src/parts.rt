@@ -1,0 +1,72 @@
+//! What all files spell, in the order of the words.
+//! No two of them may be protocols of one role.
+
+ghost use Rattle.std.specs.Prelude.{◌≡◌, [], ◌∷◌, ◌<◌, ◌^◌, ℕ, List as Seq, length, map, IfSome, None};
+ghost use Rattle.mg_sources.specs.Files.{HaveKinds, sources};
+ghost use Rattle.mg_sources.specs.inner.Answers.{AreParts, AreApart, EachSpells};
+ghost use Rattle.mg_sources.specs.inner.Parts.{part_of, role_in};
+
+use crate::line::refused;
+use crate::part::{Part, read_part};
+use crate::stop::Stop;
+use mg_text::{Bytes, List, Place, Text};
+use std::alloc::Global;
+use std::collections::HashSet;
+
+/// What these files spell, or the line of the first fault.
+pub(crate) fn read_parts(
+    alloc: Global,
+    names: &[Text],
+    contents: &[Bytes],
+) -> Result<List<Part>, Stop>
+    requires same { length names.now ≡ length contents.now }
+    requires count { length contents.now < 2 ^ 32 }
+    requires kinds { HaveKinds names.now }
+    ensures { AreParts (sources names.now contents.now) result }
+{
+    let mut parts = List::new(alloc);
+    for (number, bytes) in contents.iter().enumerate() {
+        let part = read_part(alloc, number as u32, &names[number], bytes.as_slice())?;
+        parts.push(part)?;
+    }
+    Ok(parts)
+}
+
+/// Tells whether each protocol is of a role that no earlier one is of; the line of the first that
+/// isn't is the error.
+pub(crate) fn check_roles(alloc: Global, names: &[Text], parts: &[Part]) -> Result<(), Stop>
+    requires same { length names.now ≡ length parts.now }
+    requires count { length parts.now < 2 ^ 32 }
+    ensures { (contents : Seq (Seq ℕ)) → EachSpells (sources names.now contents) (map part_of parts.now)
+        → AreApart (sources names.now contents) result }
+{
+    let mut roles: HashSet<String> = HashSet::new(alloc);
+    for (number, part) in parts.iter().enumerate() {
+        let role = match role_of(part) {
+            Some(role) => role,
+            None => continue,
+        };
+        if !roles.insert(String::from_str(alloc, role.as_str())?)? {
+            let place = Place::start(number as u32);
+            return Err(refused(
+                alloc,
+                names[number].as_str(),
+                place,
+                "SameRole",
+                role.as_str(),
+            ));
+        }
+    }
+    Ok(())
+}
+
+// The role of a part that is a protocol.
+fn role_of(part: &Part) -> Option<&Text>
+    ensures some { IfSome result (λ role. role_in (part_of part.now) ≡ role.now ∷ []) }
+    ensures none { result ≡ None → role_in (part_of part.now) ≡ [] }
+{
+    match part {
+        Part::Protocol(local) => Some(local.me()),
+        Part::States(_) | Part::Classes(_) => None,
+    }
+}
