@@ -1,0 +1,3 @@
+pub mod Aimed
+pub mod Drafting
+pub mod Held

@@ -1,0 +1,12 @@
+//! The constants that instructions need in the pool: classes and members by their names and
+//! descriptors, which are those of the program's numbers.
+#![tactic(auto)]
+
+mod constants;
+mod descriptors;
+mod names;
+mod session;
+
+pub use constants::constant;
+pub use descriptors::{field_descriptor, method_descriptor};
+pub use names::{class_name, name_text};
