@@ -1,0 +1,4 @@
+pub mod Filing
+pub mod Seen
+pub mod Stages
+pub mod Whole
