@@ -16,6 +16,7 @@ use crate::code::judge_code;
 use crate::declared::{Declared, declared_by};
 use crate::descriptor::{judge_field, judge_method, judge_super};
 use crate::fault::{LoadFault, no_code, note_flaw, note_told};
+use crate::kept::{linked_field, linked_method};
 use crate::outline::{Outline, outlined};
 use crate::pool::{class_at, or_empty};
 use crate::uses::Use;
@@ -72,16 +73,7 @@ fn judge_body(
     };
     let instrs = code.instrs.as_slice();
     let (instrs, best) = judge_code(alloc, outlines, names, pool, known, instrs, first)?;
-    let name = Text::of(alloc, declared.name)?;
-    let descriptor = Text::of(alloc, declared.descriptor)?;
-    let method = LinkedMethod {
-        name,
-        descriptor,
-        is_static: declared.is_static,
-        max_stack: code.max_stack,
-        max_locals: code.max_locals,
-        code: instrs,
-    };
+    let method = linked_method(alloc, declared, code, instrs)?;
     Ok((Some(method), best))
 }
 
@@ -168,9 +160,8 @@ fn fields_of(alloc: Global, own: &[Declared<'_>]) -> Result<List<LinkedField>, M
 {
     let mut fields = List::new(alloc);
     for field in own {
-        let name = Text::of(alloc, field.name)?;
-        let descriptor = Text::of(alloc, field.descriptor)?;
-        fields.push(LinkedField { name, descriptor })?;
+        let field = linked_field(alloc, field)?;
+        fields.push(field)?;
     }
     Ok(fields)
 }

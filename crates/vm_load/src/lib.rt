@@ -8,6 +8,7 @@ mod declared;
 mod descriptor;
 mod fault;
 mod fit;
+mod kept;
 mod loading;
 mod member;
 mod members;

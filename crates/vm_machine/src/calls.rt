@@ -5,9 +5,9 @@ ghost use Rattle.std.specs.Prelude.{◌≡◌, ℕ, ◌<◌, ◌≤◌, ◌-◌,
 ghost use Rattle.vm_model.specs.Program.{method_at};
 ghost use Rattle.vm_model.specs.View.{classes_of, method_of};
 ghost use Rattle.vm_model.specs.Types.{signature_of};
-ghost use Rattle.vm_model.specs.Descriptors.{types_view};
+ghost use Rattle.vm_model.specs.Kept.{type_kept};
 ghost use Rattle.vm_model.specs.Actions.{Call};
-ghost use Rattle.vm_model.specs.Tests.{below, on_top, Typed, params_in, name_of_method, receiver, call_takes, call_needs};
+ghost use Rattle.vm_model.specs.Tests.{below, on_top, Typed, params_in, descriptor_in, name_of_method, receiver, call_takes, call_needs};
 ghost use Rattle.vm_model.specs.Step as model;
 ghost use Rattle.vm_machine.specs.State.{value_of, values_of, locals_of, state_of};
 ghost use Rattle.vm_machine.specs.Table.{calling_of};
@@ -19,13 +19,13 @@ ghost use Rattle.vm_machine.specs.inner.Calls.{calls_by, IsReceived};
 use crate::action::Calling;
 use crate::needs::{Needs, Want, taking, wrong};
 use crate::operands::{operand, top};
-use crate::program::{class_name, descriptor, max_locals, method_at, method_name};
+use crate::program::{class_name, max_locals, method_at, method_name};
 use crate::state::{Cell, Frame, State};
 use crate::stepped::Stepped;
 use mg_text::{BadKind, Ending, Event, Memory, Text};
 use std::alloc::Global;
 use std::mem;
-use vm_model::{FieldType, Linked, LinkedMethod, Signature, read_signature};
+use vm_model::{FieldType, Linked, LinkedMethod, LinkedType};
 
 /// A method that is called, how many operands it takes, and the object that tells of it.
 #[derive(Clone, Copy)]
@@ -98,6 +98,7 @@ fn enter(
         callee.told event) (state_of state.old) (state_of state.new) s) }
     ensures err { OnErr result (state_of state.new ≡ state_of state.old) }
 {
+    state.callers.reserve(1)?;
     let count = max_locals(method_at(linked, callee.class, callee.method));
     let locals = locals_for(alloc, top(state, callee.taken), count)?;
     let frame = Frame {
@@ -108,7 +109,6 @@ fn enter(
         operands: Vec::new(alloc),
         told: callee.told,
     };
-    state.callers.reserve(1)?;
     drop_top(&mut state.frame.operands, callee.taken);
     state.frame.place += 1;
     let caller = mem::replace(&mut state.frame, frame);
@@ -190,19 +190,6 @@ fn call_tested(
     }
 }
 
-/// The types of the parameters of a descriptor.
-fn params<'a>(alloc: Global, descriptor: &'a str) -> Result<Vec<FieldType<'a>>, Memory>
-    ensures { IfOk result (λ v. types_view v.items ≡ params_in (signature_of descriptor.now)) }
-{
-    match read_signature(alloc, descriptor)? {
-        Some(signature) => {
-            let Signature { params, result: _ } = signature;
-            Ok(params)
-        }
-        None => Ok(Vec::new(alloc)),
-    }
-}
-
 /// What stands under the arguments.
 fn receiver<'a>(alloc: Global, calling: Calling, class: &'a str) -> Result<Vec<Want<'a>>, Memory>
     ensures { IfOk result (λ v. wants_of v.items ≡ receiver (calling_of calling) class.now) }
@@ -217,14 +204,25 @@ fn receiver<'a>(alloc: Global, calling: Calling, class: &'a str) -> Result<Vec<W
     }
 }
 
-/// Appends what arguments must be.
-fn add_params<'a>(takes: &mut Vec<Want<'a>>, params: &[FieldType<'a>]) -> Result<(), Memory>
-    ensures { IfOk result (λ _. wants_of takes.new.items ≡ wants_of takes.old.items ++ map Typed (types_view params.now)) }
+/// Appends what arguments of these types must be.
+fn add_params<'a>(takes: &mut Vec<Want<'a>>, params: &'a [LinkedType]) -> Result<(), Memory>
+    ensures { IfOk result (λ _. wants_of takes.new.items ≡ wants_of takes.old.items ++ map Typed (map type_kept params.now)) }
 {
     for param in params {
-        takes.push(Want::Typed(*param))?;
+        takes.push(Want::Typed(param.field_type()))?;
     }
     Ok(())
+}
+
+/// Appends what the arguments of a method must be.
+fn add_args<'a>(takes: &mut Vec<Want<'a>>, method: Option<&'a LinkedMethod>) -> Result<(), Memory>
+    ensures { IfOk result (λ _. wants_of takes.new.items ≡ wants_of takes.old.items
+        ++ map Typed (params_in (signature_of (descriptor_in (option_map (λ m. method_of m.now) method.entry))))) }
+{
+    match method {
+        Some(method) => add_params(takes, method.params.as_slice()),
+        None => Ok(()),
+    }
 }
 
 /// What a call takes.
@@ -238,9 +236,8 @@ fn call_takes<'a>(
     ensures { IfOk result (λ v. wants_of v.items ≡ call_takes (classes_of linked.now.classes.items) (calling_of calling) class
         (method_at (classes_of linked.now.classes.items) class method)) }
 {
-    let params = params(alloc, descriptor(method_at(linked, class, method)))?;
     let mut takes = receiver(alloc, calling, class_name(linked, class))?;
-    add_params(&mut takes, params.as_slice())?;
+    add_args(&mut takes, method_at(linked, class, method))?;
     Ok(takes)
 }
 

@@ -17,15 +17,15 @@ use crate::state::{Cell, Object, State};
 use crate::stepped::{Stepped, broken};
 use mg_text::{BadKind, Ending, Event, Memory, Text};
 use std::alloc::Global;
-use vm_model::{FieldType, Linked, LinkedField, read_type};
+use vm_model::{Linked, LinkedField, LinkedType};
 
 /// What a field of a new object holds: 0, false or null.
-fn blank(alloc: Global, field: &LinkedField) -> Result<Cell, Memory>
-    ensures { IfOk result (λ c. value_of c ≡ model.blank (field_of field.now)) }
+fn blank(field: &LinkedField) -> Cell
+    ensures { value_of result ≡ model.blank (field_of field.now) }
 {
-    match read_type(alloc, field.descriptor.as_str())? {
-        Some(FieldType::Int | FieldType::Truth) => Ok(Cell::Int(0)),
-        _ => Ok(Cell::Null),
+    match &field.field_type {
+        Some(LinkedType::Int | LinkedType::Truth) => Cell::Int(0),
+        _ => Cell::Null,
     }
 }
 
@@ -35,8 +35,7 @@ fn blanks(alloc: Global, fields: &[LinkedField]) -> Result<Vec<Cell>, Memory>
 {
     let mut cells = Vec::new(alloc);
     for field in fields {
-        let cell = blank(alloc, field)?;
-        cells.push(cell)?;
+        cells.push(blank(field))?;
     }
     Ok(cells)
 }

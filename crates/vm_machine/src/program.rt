@@ -3,10 +3,13 @@
 
 ghost use Rattle.std.specs.Prelude.{◌≡◌, ◌<◌, ◌^◌, option_map};
 ghost use Rattle.vm_model.specs.Program as model;
+ghost use Rattle.vm_model.specs.Types.{signature_of};
+ghost use Rattle.vm_model.specs.Descriptors.{type_view};
+ghost use Rattle.vm_model.specs.Kept.{type_kept};
 ghost use Rattle.vm_model.specs.View.{classes_of, class_of, method_of, field_of};
-ghost use Rattle.vm_model.specs.Tests.{max_stack_in, max_locals_in, descriptor_in, name_of_method};
+ghost use Rattle.vm_model.specs.Tests.{max_stack_in, max_locals_in, descriptor_in, result_in, name_of_method};
 
-use vm_model::{Linked, LinkedClass, LinkedField, LinkedMethod};
+use vm_model::{FieldType, Linked, LinkedClass, LinkedField, LinkedMethod, LinkedType};
 
 /// The class of this number.
 pub(crate) fn class_at(linked: &Linked, class: u32) -> Option<&LinkedClass>
@@ -67,13 +70,23 @@ pub(crate) fn max_locals(method: Option<&LinkedMethod>) -> usize
     }
 }
 
-/// The descriptor of a method.
-pub(crate) fn descriptor<'a>(method: Option<&'a LinkedMethod>) -> &'a str
-    ensures { result.now ≡ descriptor_in (option_map (λ m. method_of m.now) method.entry) }
+/// A kept type, lent.
+pub(crate) fn lent<'a>(kept: &'a Option<LinkedType>) -> Option<FieldType<'a>>
+    ensures { option_map type_view result ≡ option_map type_kept kept.now }
+{
+    match kept {
+        Some(kept) => Some(kept.field_type()),
+        None => None,
+    }
+}
+
+/// The type of what a method answers.
+pub(crate) fn result_type<'a>(method: Option<&'a LinkedMethod>) -> Option<FieldType<'a>>
+    ensures { option_map type_view result ≡ result_in (signature_of (descriptor_in (option_map (λ m. method_of m.now) method.entry))) }
 {
     match method {
-        Some(method) => method.descriptor.as_str(),
-        None => "",
+        Some(method) => lent(&method.result),
+        None => None,
     }
 }
 

@@ -17,25 +17,11 @@ ghost use Rattle.vm_machine.specs.inner.Returning.{handed};
 use crate::action::Sort;
 use crate::needs::{Needs, Want, taking, wrong};
 use crate::operands::operand;
-use crate::program::{descriptor, max_stack, method_at};
+use crate::program::{max_stack, method_at, result_type};
 use crate::state::{Cell, Frame, State};
 use crate::stepped::Stepped;
 use mg_text::{BadKind, Ending, Event, Memory};
-use std::alloc::Global;
-use vm_model::{FieldType, Linked, Signature, read_signature};
-
-/// The type of what a method of this descriptor answers.
-fn result_type<'a>(alloc: Global, descriptor: &'a str) -> Result<Option<FieldType<'a>>, Memory>
-    ensures { IfOk result (λ r. option_map type_view r ≡ tests.result_in (signature_of descriptor.now)) }
-{
-    match read_signature(alloc, descriptor)? {
-        Some(signature) => {
-            let Signature { params: _, result } = signature;
-            Ok(result)
-        }
-        None => Ok(None),
-    }
-}
+use vm_model::{FieldType, Linked};
 
 /// Whether a return is of the kind that the descriptor says.
 fn is_sort(sort: Option<Sort>, answer: Option<FieldType<'_>>) -> bool
@@ -184,7 +170,6 @@ fn leave(state: &mut State, value: Option<Cell>) -> Result<Stepped, Memory>
 /// Returns, with a value of this sort or none.
 pub(crate) fn return_from(
     state: &mut State,
-    alloc: Global,
     linked: &Linked,
     sort: Option<Sort>,
 ) -> Result<Stepped, Memory>
@@ -193,7 +178,7 @@ pub(crate) fn return_from(
     ensures err { OnErr result (state_of state.new ≡ state_of state.old) }
 {
     let method = method_at(linked, state.frame.class, state.frame.method);
-    let answer = result_type(alloc, descriptor(method))?;
+    let answer = result_type(method);
     if let Some(kind) = check(linked, state, sort, answer) {
         return Ok(Stepped::Ended(Ending::Bad(kind)));
     }

@@ -110,6 +110,26 @@ fn sent_count(carries: Payload) -> usize
     }
 }
 
+/// The message of a label with an equal payload.
+fn sent(label: &Text, payload: &Carried) -> Result<Sent, Memory>
+    ensures { IfOk result (λ m. m ≡ record { label = label.now; payload = payload.now }) }
+{
+    let payload = copied(payload)?;
+    let label = label.copy()?;
+    Ok(Sent { label, payload })
+}
+
+/// The event of a message that is sent.
+fn sent_event(peer: &Text, label: &Text, payload: Carried) -> Result<Event, Memory>
+    ensures { IfOk result (λ e. e ≡ Event.Send peer.now label.now payload) }
+{
+    Ok(Event::Send {
+        peer: peer.copy()?,
+        label: label.copy()?,
+        payload,
+    })
+}
+
 /// Sends this payload to the role that the lowest of so many operands names, with the label above it.
 fn send_payload(
     state: &mut State,
@@ -136,15 +156,8 @@ fn send_payload(
     let Some(to) = other_role(ports, me, peer.as_str()) else {
         return no_peer(peer);
     };
-    let message = Sent {
-        label: label.copy()?,
-        payload: copied(&payload)?,
-    };
-    let event = Event::Send {
-        peer: peer.copy()?,
-        label: label.copy()?,
-        payload,
-    };
+    let message = sent(label, &payload)?;
+    let event = sent_event(peer, label, payload)?;
     ports.send(me, to, message)?;
     let place = state.frame.place + 1;
     settle(state, taken, place);

@@ -25,14 +25,14 @@ use crate::plain::{
     compute, double, increase, jump, jump_on_both, jump_on_null, jump_on_zero, load, negate, pop,
     push_constant, store, swap, switch,
 };
-use crate::program::{class_name, field_at, method_at};
+use crate::program::{class_name, field_at, lent, method_at};
 use crate::returns::return_from;
 use crate::session::{Payload, look, other_role, refuse, send, take};
 use crate::state::State;
 use crate::stepped::Stepped;
 use mg_text::{BadKind, Ending, Memory};
 use std::alloc::Global;
-use vm_model::{Built, FieldType, Linked, LinkedField, LinkedInstr, Ports, read_type};
+use vm_model::{Built, FieldType, Linked, LinkedField, LinkedInstr, Ports};
 
 /// What is wrong with an instruction that takes these operands and gives so many.
 fn check(linked: &Linked, state: &State, takes: &[Want<'_>], gives: usize) -> Option<BadKind>
@@ -150,32 +150,26 @@ fn act_read(state: &mut State, linked: &Linked, class: u32, field: u32) -> Resul
 }
 
 /// What a field takes.
-fn field_want<'a>(alloc: Global, field: Option<&'a LinkedField>) -> Result<Want<'a>, Memory>
-    ensures { IfOk result (λ w. want_of w ≡ tests.type_in (option_map (λ f. field_of f.now) field.entry)) }
+fn field_want<'a>(field: Option<&'a LinkedField>) -> Want<'a>
+    ensures { want_of result ≡ tests.type_in (option_map (λ f. field_of f.now) field.entry) }
 {
     let Some(field) = field else {
-        return Ok(Want::Any);
+        return Want::Any;
     };
-    match read_type(alloc, field.descriptor.as_str())? {
-        Some(field_type) => Ok(Want::Typed(field_type)),
-        None => Ok(Want::Any),
+    match lent(&field.field_type) {
+        Some(field_type) => Want::Typed(field_type),
+        None => Want::Any,
     }
 }
 
 /// Writes a field.
-fn act_write(
-    state: &mut State,
-    alloc: Global,
-    linked: &Linked,
-    class: u32,
-    field: u32,
-) -> Result<Stepped, Memory>
+fn act_write(state: &mut State, linked: &Linked, class: u32, field: u32) -> Result<Stepped, Memory>
     requires { state.old.frame.place < 2 ^ 32 - 1 }
     ensures ok { IfOk result (λ s. (me : ℕ) → Plays (λ q. model.act (classes_of linked.now.classes.items) q (state_of state.old) me
         (actions.Write class field)) (state_of state.old) (state_of state.new) s) }
     ensures err { OnErr result (state_of state.new ≡ state_of state.old) }
 {
-    let value = field_want(alloc, field_at(linked, class, field))?;
+    let value = field_want(field_at(linked, class, field));
     let takes = [object(linked, class), value];
     if let Some(kind) = check(linked, state, &takes, 0) {
         return Ok(Stepped::Ended(Ending::Bad(kind)));
@@ -288,9 +282,9 @@ fn act(
 {
     match action {
         Action::Plain(plain) => act_plain(state, linked, plain),
-        Action::Return(sort) => return_from(state, alloc, linked, sort),
+        Action::Return(sort) => return_from(state, linked, sort),
         Action::Read { class, field } => act_read(state, linked, class, field),
-        Action::Write { class, field } => act_write(state, alloc, linked, class, field),
+        Action::Write { class, field } => act_write(state, linked, class, field),
         Action::Make(class) => act_make(state, alloc, linked, class),
         Action::Call {
             calling,

@@ -1,3 +1,4 @@
 pub mod Queues
 pub mod Descriptors
 pub mod Spelled
+pub mod KeptTypes

@@ -1,6 +1,7 @@
 pub mod Program
 pub mod View
 pub mod Types
+pub mod Kept
 pub mod Descriptors
 pub mod Messages
 pub mod Machine

@@ -3,6 +3,7 @@
 #![tactic(auto)]
 
 mod linked;
+mod linked_type;
 mod ports;
 mod program;
 mod spelling;
@@ -10,6 +11,7 @@ mod types;
 mod value;
 
 pub use linked::{Built, LinkedArgs, LinkedClass, LinkedField, LinkedInstr, LinkedMethod};
+pub use linked_type::LinkedType;
 pub use ports::Ports;
 pub use program::Linked;
 pub use spelling::descriptors_spell_one;

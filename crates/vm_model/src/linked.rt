@@ -1,6 +1,13 @@
 //! The parts of a linked program: each reference is a number of what it names.
 //! Classes are numbered in their order in the program, fields and methods in their order in the class.
 
+ghost use Rattle.std.specs.Prelude.{◌≡◌, option_map};
+ghost use Rattle.std.specs.Coded.{codes};
+ghost use Rattle.vm_model.specs.contracts.linked_type.LinkedType as types;
+ghost use Rattle.vm_model.specs.Types.{signature_of, type_of};
+ghost use Rattle.vm_model.specs.Kept.{kept_type, kept_params, kept_result};
+
+use crate::linked_type::LinkedType;
 use mg_text::{List, Text};
 use std::rc::Rc;
 
@@ -81,15 +88,20 @@ pub struct LinkedInstr {
     pub args: LinkedArgs,
 }
 
-/// A method: its name and descriptor, its bounds, and its code.
+/// A method: its name and descriptor, the types that the descriptor names, its bounds, and its code.
 #[derive(Debug, Drop)]
 pub struct LinkedMethod {
     pub name: Text,
     pub descriptor: Text,
+    pub params: List<LinkedType>,
+    /// What the method answers, where it answers something.
+    pub result: Option<LinkedType>,
     pub is_static: bool,
     pub max_stack: u16,
     pub max_locals: u16,
     pub code: List<LinkedInstr>,
+    ghost takes: { params.items ≡ kept_params (signature_of descriptor) } by { Prim.hlevel (codes, types.the_row.coded) },
+    ghost gives: { result ≡ kept_result (signature_of descriptor) } by { Prim.hlevel (codes, types.the_row.coded) },
 }
 
 /// A field that each object of a class has.
@@ -97,6 +109,9 @@ pub struct LinkedMethod {
 pub struct LinkedField {
     pub name: Text,
     pub descriptor: Text,
+    /// The type that the descriptor names, where it names one.
+    pub field_type: Option<LinkedType>,
+    ghost holds: { field_type ≡ option_map kept_type (type_of descriptor) } by { Prim.hlevel (codes, types.the_row.coded) },
 }
 
 /// A class: its name, its fields that aren't static, and its methods.

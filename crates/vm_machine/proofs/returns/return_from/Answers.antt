@@ -15,8 +15,8 @@ pub returns-in-Some-clause-ok : goal.returns-in-Some-clause-ok
 returns-in-Some-clause-ok c =
     let p = classes_of c.args.linked.now.classes.items in
     let m = state_of c.args.state.now in
-    let same : option_map type_view c.in_ok-answer.answer ≡ result_in (signature_of (descriptor_in (method_of_frame p m.frame))) =
-    rw (c.descriptor.ensures, c.method_at-method.ensures) at c.in_ok-answer.ensures in
+    let same : option_map type_view c.result_type-answer.result ≡ result_in (signature_of (descriptor_in (method_of_frame p m.frame))) =
+    rw (c.method_at-method.ensures) at c.result_type-answer.ensures in
     let checked : c.check.result ≡ wrong p (needs p m (Return (option_map sort_of c.args.sort))) m =
     c.check.ensures ∙ ap (λ (t : Option FieldType). wrong p (return_needs p m (option_map sort_of c.args.sort) t) m) same in
     λ me q. (act_wrong p q m me (Return (option_map sort_of c.args.sort)) c.in-Some.kind (sym c.in-Some.is ∙ checked), refl)
@@ -25,8 +25,8 @@ pub returns-in-None-clause-ok : goal.returns-in-None-clause-ok
 returns-in-None-clause-ok c =
     let p = classes_of c.args.linked.now.classes.items in
     let m = state_of c.args.state.now in
-    let same : option_map type_view c.in_ok-answer.answer ≡ result_in (signature_of (descriptor_in (method_of_frame p m.frame))) =
-    rw (c.descriptor.ensures, c.method_at-method.ensures) at c.in_ok-answer.ensures in
+    let same : option_map type_view c.result_type-answer.result ≡ result_in (signature_of (descriptor_in (method_of_frame p m.frame))) =
+    rw (c.method_at-method.ensures) at c.result_type-answer.ensures in
     let checked : c.check.result ≡ wrong p (needs p m (Return (option_map sort_of c.args.sort))) m =
     c.check.ensures ∙ ap (λ (t : Option FieldType). wrong p (return_needs p m (option_map sort_of c.args.sort) t) m) same in
     plays_for m (state_of c.leave.new.state) c.leave.result _ _
@@ -37,8 +37,8 @@ pub returns-in_ok-value-in-Some-sort-clause-ok : goal.returns-in_ok-value-in-Som
 returns-in_ok-value-in-Some-sort-clause-ok c =
     let p = classes_of c.args.linked.now.classes.items in
     let m = state_of c.args.state.now in
-    let same : option_map type_view c.in_ok-answer.answer ≡ result_in (signature_of (descriptor_in (method_of_frame p m.frame))) =
-    rw (c.descriptor.ensures, c.method_at-method.ensures) at c.in_ok-answer.ensures in
+    let same : option_map type_view c.result_type-answer.result ≡ result_in (signature_of (descriptor_in (method_of_frame p m.frame))) =
+    rw (c.method_at-method.ensures) at c.result_type-answer.ensures in
     let checked : c.check.result ≡ wrong p (needs p m (Return (option_map sort_of c.args.sort))) m =
     c.check.ensures ∙ ap (λ (t : Option FieldType). wrong p (return_needs p m (option_map sort_of c.args.sort) t) m) same in
     plays_for m (state_of c.leave-in-Some-sort.new.state) c.leave-in-Some-sort.result _ _

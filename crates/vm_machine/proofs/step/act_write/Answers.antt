@@ -15,12 +15,12 @@ returns-in-Some-clause-ok c = λ me q. (
   act_wrong (classes_of c.args.linked.now.classes.items) q (state_of c.args.state.now) me
       (actions.Write c.args.class c.args.field) c.in-Some.kind (sym c.in-Some.is ∙ c.check.ensures
       ∙ ap (λ (w : Want). wrong (classes_of c.args.linked.now.classes.items)
-      (taking (classes_of c.args.linked.now.classes.items) (state_of c.args.state.now) (w ∷ want_of c.in_ok-value.value ∷ []) 0)
+      (taking (classes_of c.args.linked.now.classes.items) (state_of c.args.state.now) (w ∷ want_of c.field_want-value.result ∷ []) 0)
       (state_of c.args.state.now)) c.object.ensures
       ∙ ap (λ (w : Want). wrong (classes_of c.args.linked.now.classes.items)
       (taking (classes_of c.args.linked.now.classes.items) (state_of c.args.state.now)
       (Typed (Named (class_name (classes_of c.args.linked.now.classes.items) c.args.class)) ∷ w ∷ []) 0)
-      (state_of c.args.state.now)) (c.in_ok-value.ensures ∙ ap type_in c.field_at.ensures)),
+      (state_of c.args.state.now)) (c.field_want-value.ensures ∙ ap type_in c.field_at.ensures)),
   refl,
 )
 
@@ -30,9 +30,9 @@ returns-clause-ok c =
     (λ me q. write_is (classes_of c.args.linked.now.classes.items) q (state_of c.args.state.now) me c.args.class c.args.field
     (sym c.in_default.is ∙ c.check.ensures
     ∙ ap (λ (w : Want). wrong (classes_of c.args.linked.now.classes.items)
-    (taking (classes_of c.args.linked.now.classes.items) (state_of c.args.state.now) (w ∷ want_of c.in_ok-value.value ∷ []) 0)
+    (taking (classes_of c.args.linked.now.classes.items) (state_of c.args.state.now) (w ∷ want_of c.field_want-value.result ∷ []) 0)
     (state_of c.args.state.now)) c.object.ensures
     ∙ ap (λ (w : Want). wrong (classes_of c.args.linked.now.classes.items)
     (taking (classes_of c.args.linked.now.classes.items) (state_of c.args.state.now)
     (Typed (Named (class_name (classes_of c.args.linked.now.classes.items) c.args.class)) ∷ w ∷ []) 0)
-    (state_of c.args.state.now)) (c.in_ok-value.ensures ∙ ap type_in c.field_at.ensures))) c.write.ensures
+    (state_of c.args.state.now)) (c.field_want-value.ensures ∙ ap type_in c.field_at.ensures))) c.write.ensures
