@@ -33,9 +33,10 @@ use Rattle.gen_sound.specs.Related.{Running, moment, flat, flat_given, RunsCode}
 use Rattle.gen_sound.specs.Arriving.{Arrives}
 use Rattle.gen_sound.specs.Standing.{HoldsRow}
 use Rattle.gen_sound.specs.Plain.{IsPlain}
+use Rattle.gen_sound.proofs.Calling.{CallsDo}
 use Rattle.gen_sound.proofs.Steps.{comes_on, ClosedBefore, follows_later}
 use Rattle.gen_sound.proofs.Forms.{next_place}
-use Rattle.gen_sound.proofs.Expressions.{takes_room}
+use Rattle.gen_sound.proofs.Expressions.{takes_room, shown_room}
 use Rattle.gen_sound.proofs.Completing.{Stand, Complete, DoesHere, completes_closed}
 use Rattle.gen_sound.proofs.Uses.{forms_do, over_none}
 use Rattle.gen_sound.proofs.Peers.{seen_holds}
@@ -49,7 +50,8 @@ two_fit k room h g = omega (arith, h, g)
 
 module _ (p : Program) (ok : IsCore p) (os : List Outline) (program : linked.Program) (inputs : Inputs) (me : ℕ) (r : Running) (m : Method)
     (code : List Instr) (runs : RunsCode p os program me r m code) (this : Option ℕ) (n : ℕ) (sc : List ℕ) (low : Lower)
-    (well : CallsWell p ok low) (number : ℕ) (at : slice_get p.methods number ≡ Some m) where
+    (well : CallsWell p ok low) (may : List ℕ)
+    (calls : CallsDo p ok os program inputs me may (suc n) low) (number : ℕ) (at : slice_get p.methods number ≡ Some m) where
   abbrev here : Here ℕ
   here = record { class = m.class; object = this }
 
@@ -88,7 +90,7 @@ module _ (p : Program) (ok : IsCore p) (os : List Outline) (program : linked.Pro
         };
       })
 
-  pub prints : (e : Expr) (t : CoreType) → Has p m sc e t → IsShown t → IsPlain e → (ts : List Around) (from first mid last to : ℕ) →
+  pub prints : (e : Expr) (t : CoreType) → Has p m sc e t → IsShown t → IsPlain may e → (ts : List Around) (from first mid last to : ℕ) →
       slice_get code from ≡ Some (getstatic out_reference) → first ≡ suc from → templates.value p m code sc e first mid →
       templates.text p m code (type_of p m e) mid last → slice_get code last ≡ Some (invokevirtual println_reference) → to ≡ suc last →
       suc (depths p m e).value ≤ max_stack p m →
@@ -97,7 +99,7 @@ module _ (p : Program) (ok : IsCore p) (os : List Outline) (program : linked.Pro
     does = λ w s ls q a.
         let start : Moment = moment p r from [] ls s.shared q in
         let c : Moment = moment p r first (held.Out ∷ []) ls s.shared q in
-        let some : 1 ≤ (depths p m e).value = takes_room p m e plain in
+        let some : 1 ≤ (depths p m e).value = takes_room p m h (shown_room t shown_too) in
         follows_later (step program me) (suc n) (C ts to) (closed ts to) start c
         ((within (λ locals. valued (eval p inputs low number here locals e) >>= print) >>= λ done. give Normal) s)
         (next_place p ok os program inputs me r m code runs 0 (λ k. Comes (step program me) start (moment p r k (held.Out ∷ []) ls s.shared q))
@@ -105,7 +107,7 @@ module _ (p : Program) (ok : IsCore p) (os : List Outline) (program : linked.Pro
         (work_then p ok os program inputs me r m code runs (suc n) (C ts to) ls mid (held.Out ∷ []) c w t s.locals
         (eval p inputs low number here s.locals e s.shared) print (λ done. give Normal)
         ((eval_good p ok inputs low well number m at this h w a.mine a.living.locals).run w (same_world w) s.shared a.living.shared)
-        ((forms_do p ok os program inputs me r m code runs this n sc low well number at e t h plain w s ls q a).value first mid
+        ((forms_do p ok os program inputs me r m code runs this n sc low well may calls number at e t h plain w s ls q a).value first mid
         (held.Out ∷ []) w s.shared q stands_value (over_one _ _ room) (same_world w) a.living.shared a.holds)
         (λ x v u g fits heap arrives.
         let told : Shows p (Heap p ok) v = shows p (Heap p ok) x v t shown_too fits in
@@ -130,7 +132,7 @@ module _ (p : Program) (ok : IsCore p) (os : List Outline) (program : linked.Pro
       subst (λ o. templates.discard p m code o place to) (void_type p m sc e h) d
 
   -- what is given is dropped, where there is something
-  dropped : (e : Expr) (t : CoreType) → Has p m sc e t → IsPlain e → (ts : List Around) (place to : ℕ) →
+  dropped : (e : Expr) (t : CoreType) → Has p m sc e t → IsPlain may e → (ts : List Around) (place to : ℕ) →
       templates.discard p m code (type_of p m e) place to → (row : Row ℕ) (ls : List (Option Held)) (c : Moment) → HoldsRow m this row ls →
       (x : World) (v : Option Value) (u : Shared) → GivesA p x v t → Arrives p program inputs me r place (flat_given v) ls c u →
       S to c (record { locals = row; shared = u })
@@ -151,14 +153,14 @@ module _ (p : Program) (ok : IsCore p) (os : List Outline) (program : linked.Pro
   dropped e t h plain ts place to stands row ls c holds x v u worlds.nothing a =
       subst (λ k. S k c (record { locals = row; shared = u })) (sym (nothing_dropped e h stands)) (record { locals = ls; row = holds; arrives = a })
 
-  pub drops : (e : Expr) (t : CoreType) → Has p m sc e t → IsPlain e → (ts : List Around) (from mid to : ℕ) →
+  pub drops : (e : Expr) (t : CoreType) → Has p m sc e t → IsPlain may e → (ts : List Around) (from mid to : ℕ) →
       templates.value p m code sc e from mid → templates.discard p m code (type_of p m e) mid to → (depths p m e).value ≤ max_stack p m →
       Does_here (C ts to) from (within (λ locals. eval p inputs low number here locals e) >>= λ v. give Normal)
   drops e t h plain ts from mid to stands_value stands_drop room = record {
     does = λ w s ls q a. given_then p ok os program inputs me r m code runs (suc n) (C ts to) ls mid [] (moment p r from [] ls s.shared q) w t
         s.locals (eval p inputs low number here s.locals e s.shared) (λ v. give Normal)
         ((eval_good p ok inputs low well number m at this h w a.mine a.living.locals).run w (same_world w) s.shared a.living.shared)
-        ((forms_do p ok os program inputs me r m code runs this n sc low well number at e t h plain w s ls q a).value from mid [] w s.shared q
+        ((forms_do p ok os program inputs me r m code runs this n sc low well may calls number at e t h plain w s ls q a).value from mid [] w s.shared q
         stands_value (over_none _ _ room) (same_world w) a.living.shared a.holds)
         (λ x v u g given heap arrives. dropped e t h plain ts mid to stands_drop s.locals ls (moment p r from [] ls s.shared q) a.row x v u given
         arrives);

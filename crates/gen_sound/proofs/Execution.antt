@@ -1,24 +1,29 @@
 -- The code of plain statements does what they mean.
-use Rattle.std.proofs.Common.{◌≡◌, ℕ, suc, ◌≤◌, max, Bool, true, false, List, [], ◌∷◌, Option, Some, None, refl, sym, subst, arith}
-use Rattle.std.specs.Prelude.{slice_get, if◌then◌else◌}
-use Rattle.jv_mean.specs.Values.{Inputs, Here, Lives}
-use Rattle.jv_mean.specs.Doing.{◌>>=◌, give, valued, truth}
+use Rattle.std.proofs.Common.{◌≡◌, ℕ, suc, ◌≤◌, max, Bool, true, false, List, [], ◌∷◌, Option, Some, None, refl, sym, subst, arith, ◌∙◌}
+use Rattle.std.specs.Prelude.{slice_get, if◌then◌else◌, length, ◌+◌}
+use Rattle.jv_mean.specs.Values.{Value, Row, Shared, Inputs, Here, Lives}
+use Rattle.jv_mean.specs.Values as values
+use Rattle.jv_mean.specs.Doing.{◌>>=◌, and_then, give, kept, valued, truth}
 use Rattle.jv_mean.specs.Statements.{Completion, Normal, Breaks, Continues, Returns, Does, any_label, next_do}
 use Rattle.jv_core.specs.declared.tree.Var.{Var}
 use Rattle.jv_core.specs.declared.tree.Var.TheVariants as vars
 use Rattle.jv_core.specs.declared.program.CoreType.{CoreType}
 use Rattle.jv_core.specs.declared.program.CoreType.TheVariants as types
-use Rattle.jv_core.specs.Tree.{Expr, Stmt, Block, Empty, Local, Assign, If, IfElse, While, Do, Switch, Break, Continue, Return, Print, Eval}
-use Rattle.jv_core.specs.Tree.{Stmts, NoStmt, Then, Declare, Groups, NoGroup, Group, Method, Program}
+use Rattle.jv_core.specs.Tree.{Expr, Stmt, While, Do}
+use Rattle.jv_core.specs.Tree.{Stmts, Groups, Method, Program}
+use Rattle.jv_core.specs.Lookup.{field_type}
 use Rattle.jv_core.specs.Types.{IsVariable, Has}
 use Rattle.jv_core.specs.Statements.{Target, LoopOf, ASwitch, Fine, FineAll, FineGroups}
 use Rattle.jv_core.specs.Statements
 use Rattle.jv_core.specs.Conditions.{IsMethod, IsCore}
 use Rattle.jv_core.specs.Meaning.{Lower, eval, test, value, write, exec, exec_all, exec_groups, exec_from}
+use Rattle.vm_model.specs.declared.value.Value.{Value as Held}
+use Rattle.vm_model.specs.declared.value.Value.TheVariants as held
 use Rattle.vm_model.specs.Program as linked
 use Rattle.vm_model.specs.Links.{Outline}
 use Rattle.vm_model.specs.Step.{step}
-use Rattle.gen_rules.specs.Symbolic.{Instr, goto, return}
+use Rattle.gen_rules.specs.Symbolic.{Instr, goto, putfield, return}
+use Rattle.gen_rules.specs.Members.{field_reference}
 use Rattle.gen_rules.specs.Locals.{next_local}
 use Rattle.gen_rules.specs.Around.{Around}
 use Rattle.gen_rules.specs.Around as around
@@ -31,48 +36,28 @@ use Rattle.gen_rules.specs.Frames.{max_stack, max_locals, depths, depth_of_assig
 use Rattle.gen_rules.specs.Frames.{locals_of, locals_of_all, locals_of_groups}
 use Rattle.jv_sound.proofs.Worlds.{World, Runs, runs_then, Fits}
 use Rattle.jv_sound.proofs.Completions.{Living, within_runs}
-use Rattle.jv_sound.proofs.Objects.{Heap}
+use Rattle.jv_sound.proofs.Objects.{Heap, Owned}
 use Rattle.jv_sound.proofs.Operators.{truth_runs}
 use Rattle.jv_sound.proofs.Expressions.{value_good}
 use Rattle.jv_sound.proofs.Executions.{On, on_more, Lowers, exec_good, all_good}
 use Rattle.jv_sound.proofs.Lists.{some_is}
-use Rattle.gen_sound.specs.Following.{Moment}
-use Rattle.gen_sound.specs.Related.{Running, moment, RunsCode}
-use Rattle.gen_sound.specs.Plain.{IsPlain, IsPlainVar, IsPlainStmt, ArePlain, ArePlainGroups}
-use Rattle.gen_sound.proofs.Steps.{stays}
-use Rattle.gen_sound.proofs.Completing.{Complete, DoesHere, goto_leaps}
+use Rattle.gen_sound.specs.Following.{Moment, Comes, Follows}
+use Rattle.gen_sound.specs.Related.{Running, moment, flat, LaidObject, RunsCode}
+use Rattle.gen_sound.specs.Plain.{IsPlain, IsPlainStmt, ArePlain, ArePlainGroups}
+use Rattle.gen_sound.specs.Arriving.{Arrives}
+use Rattle.gen_sound.specs.Standing.{HoldsRow}
+use Rattle.gen_sound.proofs.Steps.{stays, comes_on, follows_later}
+use Rattle.gen_sound.proofs.Forms.{next_place}
+use Rattle.gen_sound.proofs.LocalSteps.{load_goes}
+use Rattle.gen_sound.proofs.Fields.{set_to, write_is, put_goes}
+use Rattle.gen_sound.proofs.Entering.{at_least_all}
+use Rattle.gen_sound.proofs.Calling.{CallsDo}
+use Rattle.gen_sound.proofs.Completing.{Stand, Complete, DoesHere, goto_leaps, completes_closed}
 use Rattle.gen_sound.proofs.Control.{if_does, if_else_does, while_does, do_does, next_does}
 use Rattle.gen_sound.proofs.Switches.{switch_does, chosen_does, groups_match}
 use Rattle.gen_sound.proofs.Comparing.{written}
-use Rattle.gen_sound.proofs.Uses.{test_unless, test_when, declares, assigns, returns}
+use Rattle.gen_sound.proofs.Uses.{used, test_unless, test_when, declares, assigns, returns}
 use Rattle.gen_sound.proofs.Effects.{prints, drops}
-
--- a statement takes locals above those that are taken
-mutual
-  at_least : (n : ℕ) (s : Stmt) → n ≤ locals_of n s
-  at_least n (Block q body end) = at_least_all n body
-  at_least n (Empty q) = omega arith
-  at_least n (Local q k e) = omega arith
-  at_least n (Assign q x e) = omega arith
-  at_least n (If q c s) = at_least n s
-  at_least n (IfElse q c s r) = let h = at_least n s in omega (arith, h)
-  at_least n (While q l c s) = at_least n s
-  at_least n (Do q l s c) = at_least n s
-  at_least n (Switch q e gs end) = at_least_groups n gs
-  at_least n (Break q l) = omega arith
-  at_least n (Continue q l) = omega arith
-  at_least n (Return q v) = omega arith
-  at_least n (Print q e) = omega arith
-  at_least n (Eval q e) = omega arith
-
-  at_least_all : (n : ℕ) (s : Stmts) → n ≤ locals_of_all n s
-  at_least_all n NoStmt = omega arith
-  at_least_all n (Then s more) = let h = at_least n s in omega (arith, h)
-  at_least_all n (Declare q k e more) = let h = at_least_all (suc n) more in omega (arith, h)
-
-  at_least_groups : (n : ℕ) (gs : Groups) → n ≤ locals_of_groups n gs
-  at_least_groups n NoGroup = omega arith
-  at_least_groups n (Group labels body end more) = let h = at_least_all n body in omega (arith, h)
 
 left_fits : (a b c : ℕ) → max a b ≤ c → a ≤ c
 left_fits a b c h = omega (arith, h)
@@ -82,7 +67,7 @@ right_fits a b c h = omega (arith, h)
 
 module _ (p : Program) (ok : IsCore p) (os : List Outline) (program : linked.Program) (inputs : Inputs) (me : ℕ) (r : Running) (m : Method)
     (code : List Instr) (runs : RunsCode p os program me r m code) (this : Option ℕ) (n : ℕ) (low : Lower) (lows : Lowers p ok low)
-    (number : ℕ) (at : slice_get p.methods number ≡ Some m) (is : IsMethod p m) where
+    (may : List ℕ) (calls : CallsDo p ok os program inputs me may (suc n) low) (number : ℕ) (at : slice_get p.methods number ≡ Some m) (is : IsMethod p m) where
   abbrev here : Here ℕ
   here = record { class = m.class; object = this }
 
@@ -116,7 +101,7 @@ module _ (p : Program) (ok : IsCore p) (os : List Outline) (program : linked.Pro
 
   -- a later turn of a loop has one less
   pub record Turns : Type 0 where
-    pub turn : (sc : List ℕ) (around : List Target) (ts : List Around) (z : Stmt) (from to : ℕ) → Fine p m sc around z → IsPlainStmt z →
+    pub turn : (sc : List ℕ) (around : List Target) (ts : List Around) (z : Stmt) (from to : ℕ) → Fine p m sc around z → IsPlainStmt may z →
         Stands_there sc ts z from to → Code_does n sc ts from to (low.turn here (record { method = number; stmt = z }))
 
   abbrev Any : World → Bool → Type 0
@@ -174,14 +159,62 @@ module _ (p : Program) (ok : IsCore p) (os : List Outline) (program : linked.Pro
     };
   }
 
+  over_object : (v : Held) (k room : ℕ) → suc k ≤ room → length (v ∷ []) + k ≤ room
+  over_object v k room h = omega (arith, h)
+
+  -- the value on top goes into an own field
+  field_put : (sc : List ℕ) (ts : List Around) (f : ℕ) (t : CoreType) (typed : field_type p m.class f ≡ Some t) (place to : ℕ) →
+      slice_get code place ≡ Some (putfield (field_reference p m.class f)) → to ≡ suc place → (row : Row ℕ) (ls : List (Option Held))
+      (c : Moment) (x : World) (u : Value) (y : Shared) (mine : Owned p ok x m.class this) → Heap p ok x y → Fits p x u t →
+      HoldsRow m this row ls → Arrives p program inputs me r place (held.Object mine.object ∷ flat u ∷ []) ls c y →
+      Follows (step program me) (suc n) (C ts to) c
+      (write p inputs low number here (vars.Field f) u (record { locals = row; shared = y }))
+  field_put sc ts f t typed place to at_put next row ls c x u y mine heap fits holds arrives =
+      let set : Shared = set_to p ok os program inputs me calls.known r m code runs n low number this f t typed x y heap mine u fits in
+      subst (λ o. Follows (step program me) (suc n) (C ts to) c (and_then (kept row o) (λ done. give Normal)))
+      (sym (write_is p ok os program inputs me calls.known r m code runs n low number this f t typed x y heap mine u fits))
+      (next_place p ok os program inputs me r m code runs 0
+      (λ j. Stand p ok os program inputs me r m code runs this j c (record { locals = row; shared = set })) place to next
+      (record {
+        locals = ls;
+        row = holds;
+        arrives = record {
+          messages = arrives.messages;
+          comes = comes_on (step program me) c (moment p r place (held.Object mine.object ∷ flat u ∷ []) ls y arrives.messages)
+              (moment p r (place + 1) [] ls set arrives.messages) arrives.comes
+              (put_goes p ok os program inputs me calls.known r m code runs n low number this f t typed x y heap mine u fits place ls
+              arrives.messages at_put).comes;
+          holds = arrives.holds;
+        };
+      }))
+
   -- a local or an own field is set
   assigned_does : (sc : List ℕ) (ts : List Around) (x : Var) (e : Expr) (t : CoreType) → IsVariable p m sc x t → Has p m sc e t →
-      IsPlainVar x → IsPlain e → (from to : ℕ) → assign p m code sc x (templates.value p m code sc e) from to →
+      IsPlain may e → (from to : ℕ) → assign p m code sc x (templates.value p m code sc e) from to →
       depth_of_assignment p m x (depths p m e).value ≤ max_stack p m →
       Code_does (suc n) sc ts from to (value p inputs low number here e >>= write p inputs low number here x)
-  assigned_does sc ts (vars.Slot k) e t v h plain_var plain from to stands room =
-      assigns p ok os program inputs me r m code runs this n sc low lows.calls number at k e t v h plain ts from stands.0 to stands.1 stands.2 room
-  assigned_does sc ts (vars.Field f) e t v h plain_var plain from to stands room = absurd plain_var
+  assigned_does sc ts (vars.Slot k) e t v h plain from to stands room =
+      assigns p ok os program inputs me r m code runs this n sc low lows.calls may calls number at k e t v h plain ts from stands.0 to stands.1 stands.2 room
+  assigned_does sc ts (vars.Field f) e t v h plain from to stands room = record {
+    does = λ w s ls q a.
+        let mine : Owned p ok w m.class this = a.mine v.visible in
+        let object : Held = held.Object mine.object in
+        let start : Moment = moment p r from [] ls s.shared q in
+        let middle : Moment = moment p r stands.1.0 (object ∷ []) ls s.shared q in
+        follows_later (step program me) (suc n) (C ts to) (completes_closed p ok os program inputs me r m code runs this ts to) start middle
+        ((value p inputs low number here e >>= write p inputs low number here (vars.Field f)) s)
+        (next_place p ok os program inputs me r m code runs 0 (λ j. Comes (step program me) start (moment p r j (object ∷ []) ls s.shared q))
+        from stands.1.0 stands.1.1.1
+        (load_goes p ok os program inputs me r m code runs 0 from [] ls s.shared q (types.Object 0) 0 (values.Object mine.object) stands.1.1.0
+        (subst (λ y. LaidObject y ls) mine.is (a.row.object v.visible)) refl (omega (arith, room))).comes)
+        (used p ok os program inputs me r m code runs this n sc low lows.calls may calls number at (C ts to) e t h plain stands.1.0 stands.0
+        (object ∷ []) stands.1.2 (over_object object (depths p m e).value (max_stack p m) room)
+        (write p inputs low number here (vars.Field f)) w s ls q a
+        (λ x u y mine_there living fits arrives.
+        field_put sc ts f t v.type stands.0 to stands.2.0 stands.2.1 s.locals ls middle x u y (mine_there v.visible) living.shared fits a.row
+        (subst (λ o. Arrives p program inputs me r stands.0 (held.Object o ∷ flat u ∷ []) ls middle y)
+        (some_is (sym mine.is ∙ (mine_there v.visible).is)) arrives)));
+  }
 
   -- the locals that are taken once one more is in scope
   one_more : (sc : List ℕ) (k : ℕ) (more : Stmts) → locals_of_all (suc (next_local m.kind sc)) more ≤ max_locals m →
@@ -204,27 +237,27 @@ module _ (p : Program) (ok : IsCore p) (os : List Outline) (program : linked.Pro
 
   module _ (turns : Turns) where
     mutual
-      pub stmt_does : {sc : List ℕ} {around : List Target} {z : Stmt} (ts : List Around) → Fine p m sc around z → IsPlainStmt z →
+      pub stmt_does : {sc : List ℕ} {around : List Target} {z : Stmt} (ts : List Around) → Fine p m sc around z → IsPlainStmt may z →
           (from to : ℕ) → Stands_there sc ts z from to → Code_does (suc n) sc ts from to (exec p inputs low number here z)
       stmt_does ts (Statements.block x) plain from to h =
           all_do ts x plain from to (record { stands = h.stands; depth = h.depth; locals = h.locals })
       stmt_does {sc} ts Statements.empty plain from to h = stays_here sc ts from to h.stands
       stmt_does {sc} ts (Statements.local {k = k} {e = e} d) plain from to h =
-          declares p ok os program inputs me r m code runs this n sc low lows.calls number at k e d.type d.is d.value plain ts from h.stands.0 to to
+          declares p ok os program inputs me r m code runs this n sc low lows.calls may calls number at k e d.type d.is d.value plain ts from h.stands.0 to to
           h.stands.1 h.stands.2 h.depth h.locals (give Normal) (stays_here (k ∷ sc) ts to to refl)
       stmt_does {sc} ts (Statements.assign {x = x} {e = e} {t = t} v f) plain from to h =
-          assigned_does sc ts x.var e t v f plain.0 plain.1 from to h.stands h.depth
+          assigned_does sc ts x.var e t v f plain from to h.stands h.depth
       stmt_does {sc} ts (Statements.if_true {c = c} {s = s} f x) plain from to h =
           if_does p ok os program inputs me r m code runs this n sc ts from h.stands.0 to (test p inputs low number here c)
           (exec p inputs low number here s) (λ w o. test_well sc c f w o)
-          (test_unless p ok os program inputs me r m code runs this n sc low lows.calls number at c f plain.0 to from h.stands.0 h.stands.1
+          (test_unless p ok os program inputs me r m code runs this n sc low lows.calls may calls number at c f plain.0 to from h.stands.0 h.stands.1
           (left_fits _ _ _ h.depth))
           (stmt_does ts x plain.1 h.stands.0 to (record { stands = h.stands.2; depth = right_fits _ _ _ h.depth; locals = h.locals }))
       stmt_does {sc} ts (Statements.if_else {c = c} {s = s} {r = z} f x y) plain from to h =
           if_else_does p ok os program inputs me r m code runs this n sc ts from h.stands.1.1.0 h.stands.1.0 h.stands.0 to
           (test p inputs low number here c) (exec p inputs low number here s) (exec p inputs low number here z)
           (λ w o. test_well sc c f w o)
-          (test_unless p ok os program inputs me r m code runs this n sc low lows.calls number at c f plain.0 h.stands.0 from h.stands.1.1.0
+          (test_unless p ok os program inputs me r m code runs this n sc low lows.calls may calls number at c f plain.0 h.stands.0 from h.stands.1.1.0
           h.stands.1.1.1 (left_fits _ _ _ h.depth))
           (stmt_does ts x plain.1 h.stands.1.1.0 h.stands.1.0 (record {
             stands = h.stands.1.1.2;
@@ -242,7 +275,7 @@ module _ (p : Program) (ok : IsCore p) (os : List Outline) (program : linked.Pro
           (exec p inputs low number here s) (low.turn here (record { method = number; stmt = While q l c s }))
           (λ w o. test_well sc c f w o)
           (λ w o. exec_good p ok inputs low lows number m at is this x w o)
-          (test_unless p ok os program inputs me r m code runs this n sc low lows.calls number at c f plain.0 to from h.stands.1.0 h.stands.1.1
+          (test_unless p ok os program inputs me r m code runs this n sc low lows.calls may calls number at c f plain.0 to from h.stands.1.0 h.stands.1.1
           (left_fits _ _ _ h.depth))
           (stmt_does (around.Loop l to from ∷ ts) x plain.1 h.stands.1.0 h.stands.0
           (record { stands = h.stands.1.2; depth = right_fits _ _ _ h.depth; locals = h.locals }))
@@ -253,16 +286,16 @@ module _ (p : Program) (ok : IsCore p) (os : List Outline) (program : linked.Pro
           (exec p inputs low number here s) (low.turn here (record { method = number; stmt = Do q l s c }))
           (λ w o. test_well sc c f w o)
           (λ w o. exec_good p ok inputs low lows number m at is this x w o)
-          (test_when p ok os program inputs me r m code runs this n sc low lows.calls number at c f plain.0 from h.stands.0 to h.stands.2
+          (test_when p ok os program inputs me r m code runs this n sc low lows.calls may calls number at c f plain.0 from h.stands.0 to h.stands.2
           (right_fits _ _ _ h.depth))
           (stmt_does (around.Loop l to h.stands.0 ∷ ts) x plain.1 from h.stands.0
           (record { stands = h.stands.1; depth = left_fits _ _ _ h.depth; locals = h.locals }))
           (turns.turn sc _ ts (Do q l s c) from to (Statements.do_while d x f) plain h)
       stmt_does {sc} ts (Statements.switch {e = e} {gs = gs} {of = of} f cases g) plain from to h =
           let known = groups_there sc (around.Switch to ∷ ts) gs h.stands.0 h.stands.1.0 to h.stands.1.2 (right_fits _ _ _ h.depth) h.locals in
-          switch_does p ok os program inputs me r m code runs this n sc low lows.calls number at ts of e gs f plain.0
+          switch_does p ok os program inputs me r m code runs this n sc low lows.calls may calls number at ts of e gs f plain.0
           (enum_typed sc e of f) cases h.stands.0 from h.stands.1.1.0 to h.stands.1.1.1 h.stands.1.1.2.0 (left_fits _ _ _ h.depth)
-          (chosen_does p ok os program inputs me r m code runs this n sc low lows.calls number at ts gs h.stands.0 to
+          (chosen_does p ok os program inputs me r m code runs this n sc low lows.calls may calls number at ts gs h.stands.0 to
           (groups_match p m code sc (around.Switch to ∷ ts) gs h.stands.0 h.stands.1.0 to h.stands.1.2)
           (λ wanted start e. from_do (around.Switch to ∷ ts) wanted g plain.1 h.stands.0 h.stands.1.0 to known start e)
           (stays_here sc (around.Switch to ∷ ts) to to refl))
@@ -270,15 +303,15 @@ module _ (p : Program) (ok : IsCore p) (os : List Outline) (program : linked.Pro
       stmt_does {sc} ts (Statements.continue {l = l} b) plain from to h = continues sc ts from to l h.stands.0
       stmt_does {sc} ts (Statements.return {value = None} b) plain from to h = returns_none sc ts from to h.stands.0
       stmt_does {sc} ts (Statements.return {value = Some e} b) plain from to h =
-          returns p ok os program inputs me r m code runs this n sc low lows.calls number at e b.1 plain ts from h.stands.0 to h.stands.1 h.stands.2.0
+          returns p ok os program inputs me r m code runs this n sc low lows.calls may calls number at e b.1 plain ts from h.stands.0 to h.stands.1 h.stands.2.0
           h.depth
       stmt_does {sc} ts (Statements.print {e = e} {t = t} f i) plain from to h =
-          prints p ok os program inputs me r m code runs this n sc low lows.calls number at e t f i plain ts from h.stands.1.1.0 h.stands.1.0
+          prints p ok os program inputs me r m code runs this n sc low lows.calls may calls number at e t f i plain ts from h.stands.1.1.0 h.stands.1.0
           h.stands.0 to h.stands.1.1.1.0 h.stands.1.1.1.1 h.stands.1.1.2 h.stands.1.2 h.stands.2.0 h.stands.2.1 h.depth
       stmt_does {sc} ts (Statements.eval {e = e} {t = t} f) plain from to h =
-          drops p ok os program inputs me r m code runs this n sc low lows.calls number at e t f plain ts from h.stands.0 to h.stands.1 h.stands.2 h.depth
+          drops p ok os program inputs me r m code runs this n sc low lows.calls may calls number at e t f plain ts from h.stands.0 to h.stands.1 h.stands.2 h.depth
 
-      pub all_do : {sc : List ℕ} {around : List Target} {z : Stmts} (ts : List Around) → FineAll p m sc around z → ArePlain z →
+      pub all_do : {sc : List ℕ} {around : List Target} {z : Stmts} (ts : List Around) → FineAll p m sc around z → ArePlain may z →
           (from to : ℕ) → Stand_there sc ts z from to → Code_does (suc n) sc ts from to (exec_all p inputs low number here z)
       all_do {sc} ts Statements.no_stmt plain from to h = stays_here sc ts from to h.stands
       all_do {sc} ts (Statements.then {s = s} {more = more} x g) plain from to h =
@@ -289,14 +322,14 @@ module _ (p : Program) (ok : IsCore p) (os : List Outline) (program : linked.Pro
           (all_do ts g plain.1 h.stands.0 to
           (record { stands = h.stands.2; depth = right_fits _ _ _ h.depth; locals = right_fits _ _ _ h.locals }))
       all_do {sc} ts (Statements.declare {k = k} {e = e} {more = more} d g) plain from to h =
-          declares p ok os program inputs me r m code runs this n sc low lows.calls number at k e d.type d.is d.value plain.0 ts from
+          declares p ok os program inputs me r m code runs this n sc low lows.calls may calls number at k e d.type d.is d.value plain.0 ts from
           h.stands.1.0 h.stands.0 to h.stands.1.1 h.stands.1.2 (left_fits _ _ _ h.depth)
           (let j = at_least_all (suc (next_local m.kind sc)) more in let i = h.locals in omega (arith, i, j))
           (exec_all p inputs low number here more)
           (all_do ts g plain.1 h.stands.0 to
           (record { stands = h.stands.2; depth = right_fits _ _ _ h.depth; locals = one_more sc k more h.locals }))
 
-      groups_do : {sc : List ℕ} {around : List Target} {gs : Groups} (ts : List Around) → FineGroups p m sc around gs → ArePlainGroups gs →
+      groups_do : {sc : List ℕ} {around : List Target} {gs : Groups} (ts : List Around) → FineGroups p m sc around gs → ArePlainGroups may gs →
           (starts : List ℕ) (from to : ℕ) → Groups_there sc ts gs starts from to →
           Code_does (suc n) sc ts from to (exec_groups p inputs low number here gs)
       groups_do {sc} ts Statements.no_group plain [] from to h = stays_here sc ts from to h.stands
@@ -312,7 +345,7 @@ module _ (p : Program) (ok : IsCore p) (os : List Outline) (program : linked.Pro
 
       -- from the first group with such a label on
       from_do : {sc : List ℕ} {around : List Target} {gs : Groups} (ts : List Around) (wanted : Option ℕ → Bool) →
-          FineGroups p m sc around gs → ArePlainGroups gs → (starts : List ℕ) (from to : ℕ) → Groups_there sc ts gs starts from to →
+          FineGroups p m sc around gs → ArePlainGroups may gs → (starts : List ℕ) (from to : ℕ) → Groups_there sc ts gs starts from to →
           (start : ℕ) → group_at wanted gs starts ≡ Some start →
           Code_does (suc n) sc ts start to (exec_from p inputs low number here wanted gs)
       from_do ts wanted Statements.no_group plain starts from to h start e = absurd (cc)

@@ -28,4 +28,11 @@ pub mod Bodies
 pub mod Agreeing
 pub mod Loading
 pub mod Starting
+pub mod Linkage
+pub mod Fitting
+pub mod Entering
+pub mod Calling
+pub mod Fields
+pub mod Making
+pub mod Covering
 pub mod PlainMains

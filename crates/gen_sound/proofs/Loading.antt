@@ -12,6 +12,8 @@ use Rattle.jv_core.specs.Conditions.{IsCore}
 use Rattle.vm_model.specs.Program as linked
 use Rattle.vm_model.specs.Links.{Outline}
 use Rattle.vm_model.specs.Actions.{action}
+use Rattle.vm_model.specs.Messages.{Messages}
+use Rattle.vm_model.specs.Machine.{Machine}
 use Rattle.vm_model.specs.Step.{act_at, act_some}
 use Rattle.gen_rules.specs.Symbolic.{Operand, Nothing, Number, Constant, Local, Jump, Table, Class as ClassOf, Field, Method as MethodOf, Instr}
 use Rattle.gen_rules.specs.Assembled.{numbered, numbered_by, all_numbered, aimed_by, all_aimed}
@@ -128,20 +130,30 @@ class_at p os first (k ∷ ks) (x ∷ all) h (suc c) cs e =
     let g = class_at p os (suc first) ks all h.1 c cs e in
     record { class = g.class; at = g.at }
 
--- in the linked program a frame of this class and method runs the code
-pub linked_runs : (p : Program) → IsCore p → HasPlainNames p → (all : List (List Compiled)) → IsCompiled p all → (me class method : ℕ)
-    (cs : List Compiled) → slice_get all class ≡ Some cs → (m : Method) (code : List Instr) → slice_get cs method ≡ Some (compiled p m code) →
-    (r : Running) → r.class ≡ class → r.method ≡ method → RunsCode p (outlines_of p p.classes all) (linked_program p all) me r m code
-linked_runs p core plain all made me class method cs class_is m code method_is r e f =
+-- What runs of a compiled method: its frame has its sizes, and at each place stands what is linked of its instruction there.
+pub record RunsAs (os : List Outline) (program : linked.Program) (me : ℕ) (r : Running) (x : Compiled) : Type 0 where
+  pub method : linked.MethodOf
+  pub at : linked.method_at program r.class r.method ≡ Some method
+  pub stack : method.max_stack ≡ x.max_stack
+  pub locals : method.max_locals ≡ x.max_locals
+  pub descriptor : method.descriptor ≡ x.descriptor
+  pub does : (place : ℕ) (i : Instr) → slice_get x.code place ≡ Some i → (q : Messages) (state : Machine) →
+      act_at program q state me (slice_get method.code place) ≡ act_some program q state me (action_of os i)
+
+-- in the linked program a frame of this class and method runs the compiled method
+pub compiled_runs : (p : Program) → IsCore p → HasPlainNames p → (all : List (List Compiled)) → IsCompiled p all → (me class method : ℕ)
+    (cs : List Compiled) → slice_get all class ≡ Some cs → (x : Compiled) → slice_get cs method ≡ Some x →
+    (r : Running) → r.class ≡ class → r.method ≡ method → RunsAs (outlines_of p p.classes all) (linked_program p all) me r x
+compiled_runs p core plain all made me class method cs class_is x method_is r e f =
     let os : List Outline = outlines_of p p.classes all in
     let knows = (all_found p core plain all made.classes).knows in
     let right = each_at (CodesRight os) all class (classes_right p os knows core.methods 0 p.classes all
     (λ i k g. let same : i ≡ 0 + i = omega arith in subst (λ n. slice_get p.classes n ≡ Some k) same g) made.classes) class_is in
-    let pushed = all_pushed os (length code) code (each_at (λ c. AreRight os c.code) cs method right method_is) in
+    let pushed = all_pushed os (length x.code) x.code (each_at (λ c. AreRight os c.code) cs method right method_is) in
     let k = class_at p os 0 p.classes all made.classes class cs class_is in
-    let at = method_at os cs _ method (compiled p m code) method_is in
+    let at = method_at os cs _ method x method_is in
     record {
-      method = linked_method os (compiled p m code) (method_in_file (compiled p m code) at.pool).0;
+      method = linked_method os x (method_in_file x at.pool).0;
       at = ap (λ c. linked.method_at (linked_program p all) c r.method) e
           ∙ ap (λ n. linked.method_at (linked_program p all) class n) f
           ∙ ap (λ o. slice_get (linked.methods_in o) method) k.at
@@ -150,6 +162,14 @@ linked_runs p core plain all made me class method cs class_is m code method_is r
       locals = refl;
       descriptor = refl;
       does = λ place i h q state.
-          let l = linked_at os _ _ code _ (length-starts 0 _ ∙ as_many code _) pushed place i h in
+          let l = linked_at os _ _ x.code _ (length-starts 0 _ ∙ as_many x.code _) pushed place i h in
           ap (act_at (linked_program p all) q state me) l.at ∙ ap (act_some (linked_program p all) q state me) l.does;
     }
+
+-- so it runs the code of a method
+pub linked_runs : (p : Program) → IsCore p → HasPlainNames p → (all : List (List Compiled)) → IsCompiled p all → (me class method : ℕ)
+    (cs : List Compiled) → slice_get all class ≡ Some cs → (m : Method) (code : List Instr) → slice_get cs method ≡ Some (compiled p m code) →
+    (r : Running) → r.class ≡ class → r.method ≡ method → RunsCode p (outlines_of p p.classes all) (linked_program p all) me r m code
+linked_runs p core plain all made me class method cs class_is m code method_is r e f =
+    let h = compiled_runs p core plain all made me class method cs class_is (compiled p m code) method_is r e f in
+    record { method = h.method; at = h.at; stack = h.stack; locals = h.locals; descriptor = h.descriptor; does = h.does }

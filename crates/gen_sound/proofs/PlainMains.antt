@@ -1,11 +1,11 @@
 -- Plain mains and their meanings agree.
 use Rattle.std.proofs.Common.{◌≡◌, ◌≢◌, ℕ, suc, ◌+◌, List, [], replicate, Some, None, refl, sym, ap, ap₂, ◌∙◌, subst, arith}
-use Rattle.std.specs.Prelude.{slice_get}
+use Rattle.std.specs.Prelude.{slice_get, Contains}
 use Rattle.mg_text.specs.Call.{Name}
 use Rattle.mg_text.specs.declared.event.Event.{Event}
 use Rattle.mg_text.specs.declared.event.Ending.{Ending}
 use Rattle.mg_text.specs.declared.event.Ending.TheVariants as endings
-use Rattle.jv_mean.specs.Values.{Finish, Wait, Inputs, Ended, Wrong}
+use Rattle.jv_mean.specs.Values.{Finish, Wait, More, Inputs, Ended, Wrong}
 use Rattle.jv_mean.specs.Budget.{ran}
 use Rattle.jv_core.specs.declared.program.MethodKind.TheVariants as kinds
 use Rattle.jv_core.specs.Tree.{Method, Program}
@@ -28,11 +28,13 @@ use Rattle.gen_sound.specs.Related.{Holds}
 use Rattle.gen_sound.specs.Plain.{ArePlain}
 use Rattle.gen_sound.specs.Begun.{outermost, begun}
 use Rattle.gen_sound.specs.Laws.{finish_of, Means, RunsTo, Agrees}
-use Rattle.gen_sound.specs.PlainMains.{DoesAsMeant, StandsAs, LinkedCodeRuns, PlainMainsRun, PlainMainsAgree}
+use Rattle.gen_sound.specs.PlainMains.{DoesAsMeant, StandsAs, LinkedCodeRuns, PlainMainsRun, PlainMainsAgree, MainsAgree}
 use Rattle.gen_sound.proofs.Agreeing.{further_is, ended_so, waits_so, goes_so}
 use Rattle.gen_sound.proofs.Bodies
 use Rattle.gen_sound.proofs.Loading.{linked_runs}
 use Rattle.gen_sound.proofs.Starting.{main_stands}
+use Rattle.gen_sound.proofs.Linkage.{linkage}
+use Rattle.gen_sound.proofs.Covering.{main_plain}
 use Rattle.jv_sound.proofs.Lists.{some_is}
 
 pub linked_code_runs : LinkedCodeRuns
@@ -41,11 +43,12 @@ linked_code_runs p ok plain all made class method m code h me r e f =
 
 -- from the `main` of these numbers
 run_from : (p : Program) → IsCore p → HasPlainNames p → (all : List (List Compiled)) → IsCompiled p all → (number : ℕ) (m : Method) →
-    slice_get p.methods number ≡ Some m → m.kind ≡ kinds.Main → ArePlain m.body → (class method : ℕ) (code : List Instr) →
+    slice_get p.methods number ≡ Some m → m.kind ≡ kinds.Main → (may : List ℕ) → Contains may number →
+    ((n : ℕ) (m : Method) → Contains may n → slice_get p.methods n ≡ Some m → ArePlain may m.body) → (class method : ℕ) (code : List Instr) →
     StandsAs p all class method m code → (inputs : Inputs) (me : ℕ) (q : Messages) → Holds inputs q me [] → (budget : ℕ) →
     DoesAsMeant me (linked_program p all) budget (begun (started (linked_program p all) class method) q)
     (ran (language p inputs) (Some (as_run p number m)) budget)
-run_from p ok names all made number m at main plain class method code h inputs me q holds budget =
+run_from p ok names all made number m at main may among plain class method code h inputs me q holds budget =
     let program : linked.Program = linked_program p all in
     let runs = linked_code_runs p ok names all made class method m code h me (outermost class method) refl refl in
     let meant = ran (language p inputs) (Some (as_run p number m)) budget in
@@ -58,7 +61,8 @@ run_from p ok names all made number m at main plain class method code h inputs m
       messages = q;
       events = [];
     }) meant.finish meant.events) (sym (ap max_locals_in runs.at ∙ runs.locals))
-    (Bodies.main_ends p ok (outlines_of p p.classes all) program inputs me class method m code runs number at main budget h.is_code plain q holds)
+    (Bodies.main_ends p ok (outlines_of p p.classes all) program inputs me (linkage p ok names all made me) may plain class method m code runs
+    number at main budget h.is_code among q holds)
 
 pub plain_mains_run : PlainMainsRun
 plain_mains_run p ok names all made class main inputs me q holds start is budget =
@@ -70,7 +74,7 @@ plain_mains_run p ok names all made class main inputs me q holds start is budget
     subst (λ r. DoesAsMeant me (linked_program p all) budget (begun start q) r) (ap (λ r. ran (language p inputs) r budget) (sym main.is))
     (subst (λ s. DoesAsMeant me (linked_program p all) budget (begun s q) (ran (language p inputs) (Some (as_run p main.number main.method)) budget))
     (sym machine)
-    (run_from p ok names all made main.number main.method main.at h.kind main.plain h.class h.method h.code h.stands inputs me q holds budget))
+    (run_from p ok names all made main.number main.method main.at h.kind main.may main.among main.plain h.class h.method h.code h.stands inputs me q holds budget))
 
 finish_is : {a b : Finish} → Some a ≡ Some b → a ≡ b
 finish_is e = cc
@@ -148,6 +152,17 @@ module _ (p : Program) (name : Name) (program : linked.Program) (inputs : Inputs
           named = h.named;
           waits = h.waits;
         };
+    spent = λ budget events means.
+        let h = as_meant budget events More means in
+        record {
+          count = h.comes.count;
+          machine = h.moment.machine;
+          messages = h.moment.messages;
+          steps = subst (λ es. Steps (step program me) start q h.comes.count es h.moment.machine h.moment.messages)
+              (further_is (step program me) c h.moment h.comes refl ∙ h.events_are) h.comes.steps;
+          enough = h.enough;
+        };
+    right = λ budget events means. fine budget (ap (λ r. r.finish) means.is);
   }
 
 pub plain_mains_agree : PlainMainsAgree
@@ -155,3 +170,7 @@ plain_mains_agree p ok names all made class main inputs me q holds start is =
     agrees p class (linked_program p all) inputs me start q
     (λ budget. plain_mains_run p ok names all made class main inputs me q holds start is budget)
     (λ budget. never_wrong p ok class (λ e. absurd (let both = sym main.is ∙ e in cc)) inputs budget)
+
+pub mains_agree : MainsAgree
+mains_agree p ok names all made class main inputs me q holds start is =
+    plain_mains_agree p ok names all made class (main_plain p ok class main) inputs me q holds start is

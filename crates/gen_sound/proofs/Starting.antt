@@ -21,7 +21,7 @@ use Rattle.gen_rules.specs.Symbolic.{Instr}
 use Rattle.gen_rules.specs.Members.{descriptor_of}
 use Rattle.gen_rules.specs.Templates.{IsCode}
 use Rattle.gen_rules.specs.Classes.{Compiled, compiled, access_of, constructors, methods_in, method_in_file, each, AreCompiled, IsCompiledClass, AreCompiledClasses, IsCompiled, class_file}
-use Rattle.gen_rules.specs.Linked.{outlines_of, linked_method, linked_methods, linked_class, linked_classes, linked_program}
+use Rattle.gen_rules.specs.Linked.{outline_of, outlines_of, linked_method, linked_methods, linked_class, linked_classes, linked_program}
 use Rattle.jv_sound.proofs.Lists.{some_is, name_is}
 use Rattle.jv_sound.proofs.Expressions.{method_ok}
 use Rattle.jv_sound.proofs.Sound.{main_at, is_main_method}
@@ -49,13 +49,15 @@ first_of_both false b e = absurd (cc)
 
 -- Classes.
 
-record LinkedClass (p : Program) (os : List Outline) (first : ℕ) (ks : List Class) (all : List (List Compiled)) (i : ℕ) (k : Class) : Type 0 where
-  methods : List Compiled
-  class_is : slice_get all i ≡ Some methods
-  compiled : IsCompiledClass p (first + i) k methods
-  linked : slice_get (linked_classes p os ks all) i ≡ Some (linked_class p os k methods)
+pub record LinkedClass (p : Program) (os : List Outline) (first : ℕ) (ks : List Class) (all : List (List Compiled)) (i : ℕ) (k : Class)
+    : Type 0 where
+  pub methods : List Compiled
+  pub class_is : slice_get all i ≡ Some methods
+  pub compiled : IsCompiledClass p (first + i) k methods
+  pub linked : slice_get (linked_classes p os ks all) i ≡ Some (linked_class p os k methods)
+  pub outline : slice_get (outlines_of p ks all) i ≡ Some (outline_of p k methods)
 
-linked_class_at : (p : Program) (os : List Outline) (first : ℕ) (ks : List Class) (all : List (List Compiled)) →
+pub linked_class_at : (p : Program) (os : List Outline) (first : ℕ) (ks : List Class) (all : List (List Compiled)) →
     AreCompiledClasses p first ks all → (i : ℕ) (k : Class) → slice_get ks i ≡ Some k → LinkedClass p os first ks all i k
 linked_class_at p os first [] all h i k e = absurd (cc)
 linked_class_at p os first (x ∷ ks) [] h i k e = absurd h
@@ -65,6 +67,7 @@ linked_class_at p os first (x ∷ ks) (cs ∷ all) h zero k e =
       class_is = refl;
       compiled = let same : first ≡ first + 0 = omega arith in subst (λ y. IsCompiledClass p y x cs) same h.0;
       linked = refl;
+      outline = refl;
     })
 linked_class_at p os first (x ∷ ks) (cs ∷ all) h (suc i) k e =
     let g = linked_class_at p os (suc first) ks all h.1 i k e in
@@ -73,6 +76,7 @@ linked_class_at p os first (x ∷ ks) (cs ∷ all) h (suc i) k e =
       class_is = g.class_is;
       compiled = let same : suc first + i ≡ first + suc i = omega arith in subst (λ y. IsCompiledClass p y k g.methods) same g.compiled;
       linked = g.linked;
+      outline = g.outline;
     }
 
 linked_names : (p : Program) (os : List Outline) (first : ℕ) (ks : List Class) (all : List (List Compiled)) →
@@ -84,19 +88,19 @@ linked_names p os first (k ∷ ks) (x ∷ all) h = ap (λ xs. text_at p k.name �
 
 -- Methods.
 
-names_of : (p : Program) (ms : List Method) (cs : List Compiled) → AreCompiled p ms cs →
+pub names_of : (p : Program) (ms : List Method) (cs : List Compiled) → AreCompiled p ms cs →
     map (λ c. c.name) cs ≡ map (λ m. text_at p m.name) ms
 names_of p [] [] h = refl
 names_of p [] (c ∷ cs) h = absurd h
 names_of p (m ∷ ms) [] h = absurd h
 names_of p (m ∷ ms) (c ∷ cs) h = ap₂ (λ x xs. x ∷ xs) (ap (λ x. x.name) (h.0).2) (names_of p ms cs h.1)
 
-record CompiledAt (p : Program) (m : Method) (cs : List Compiled) (i : ℕ) : Type 0 where
-  code : List Instr
-  is_code : IsCode p m code
-  at : slice_get cs i ≡ Some (compiled p m code)
+pub record CompiledAt (p : Program) (m : Method) (cs : List Compiled) (i : ℕ) : Type 0 where
+  pub code : List Instr
+  pub is_code : IsCode p m code
+  pub at : slice_get cs i ≡ Some (compiled p m code)
 
-compiled_at : (p : Program) (ms : List Method) (cs : List Compiled) → AreCompiled p ms cs → (i : ℕ) (m : Method) →
+pub compiled_at : (p : Program) (ms : List Method) (cs : List Compiled) → AreCompiled p ms cs → (i : ℕ) (m : Method) →
     slice_get ms i ≡ Some m → CompiledAt p m cs i
 compiled_at p [] cs h i m e = absurd (cc)
 compiled_at p (x ∷ ms) [] h i m e = absurd h
@@ -112,16 +116,16 @@ method_names os [] pool = refl
 method_names os (c ∷ cs) pool = ap (λ xs. c.name ∷ xs) (method_names os cs (method_in_file c pool).1)
 
 -- behind the constructor
-record Behind (cs : List Compiled) (x : Compiled) : Type 0 where
-  number : ℕ
-  at : slice_get cs number ≡ Some x
+pub record Behind (cs : List Compiled) (x : Compiled) : Type 0 where
+  pub number : ℕ
+  pub at : slice_get cs number ≡ Some x
 
-behind : (p : Program) (c : ℕ) (k : Class) (t : Option ℕ) (methods : List Compiled) (i : ℕ) (x : Compiled) → slice_get methods i ≡ Some x →
+pub behind : (p : Program) (c : ℕ) (k : Class) (t : Option ℕ) (methods : List Compiled) (i : ℕ) (x : Compiled) → slice_get methods i ≡ Some x →
     Behind (constructors p c k t ++ methods) x
 behind p c k None methods i x e = record { number = i; at = e }
 behind p c k (Some t) methods i x e = record { number = suc i; at = e }
 
-all_apart : (p : Program) (c : ℕ) (k : Class) (t : Option ℕ) (methods : List Compiled) →
+pub all_apart : (p : Program) (c : ℕ) (k : Class) (t : Option ℕ) (methods : List Compiled) →
     AllByRecursion IsPlainName (map (λ c. c.name) methods) → AreDistinct (map (λ c. c.name) methods) →
     AreDistinct (map (λ c. c.name) (constructors p c k t ++ methods))
 all_apart p c k None methods plain apart = apart
@@ -145,7 +149,7 @@ module _ (p : Program) (core : IsCore p) (plain : HasPlainNames p) (all : List (
   abbrev os : List Outline
   os = outlines_of p p.classes all
 
-  in_class : (c : ℕ) (k : Class) → slice_get p.classes c ≡ Some k → methods_in p k ≡ filter (λ m. nat_eq m.class c) p.methods
+  pub in_class : (c : ℕ) (k : Class) → slice_get p.classes c ≡ Some k → methods_in p k ≡ filter (λ m. nat_eq m.class c) p.methods
   in_class c k at =
       ap (filter_map (slice_get p.methods)) (core.classes c k at).methods
       ∙ methods_filtered p.methods c 0 p.methods (λ i m e. let same : i ≡ 0 + i = omega arith in

@@ -42,6 +42,7 @@ use Rattle.gen_sound.specs.Following.{Moment, Leads, Follows}
 use Rattle.gen_sound.specs.Related.{Running, moment, RunsCode}
 use Rattle.gen_sound.specs.Arriving.{Arrives}
 use Rattle.gen_sound.specs.Plain.{IsPlain}
+use Rattle.gen_sound.proofs.Calling.{CallsDo}
 use Rattle.gen_sound.proofs.Steps.{comes_on, lead_of, follows_then}
 use Rattle.gen_sound.proofs.Taking.{step_takes}
 use Rattle.gen_sound.proofs.Forms.{Value_at}
@@ -133,7 +134,8 @@ known (Some n) name k s = go (bytes_eq name n)
 
 module _ (p : Program) (ok : IsCore p) (os : List Outline) (program : linked.Program) (inputs : Inputs) (me : ℕ) (r : Running) (m : Method)
     (code : List Instr) (runs : RunsCode p os program me r m code) (this : Option ℕ) (n : ℕ) (sc : List ℕ) (low : Lower)
-    (well : CallsWell p ok low) (number_of : ℕ) (at : slice_get p.methods number_of ≡ Some m) where
+    (well : CallsWell p ok low) (may : List ℕ)
+    (calls : CallsDo p ok os program inputs me may (suc n) low) (number_of : ℕ) (at : slice_get p.methods number_of ≡ Some m) where
   abbrev here : Here ℕ
   here = record { class = m.class; object = this }
 
@@ -250,7 +252,7 @@ module _ (p : Program) (ok : IsCore p) (os : List Outline) (program : linked.Pro
           ap (λ t. constants_in (option_and_then (slice_get p.enums) (option_and_then enum_in t))) is ∙ ap constants_in cases.at in
           absurd (omega (arith, few, many, le))
 
-  pub switch_does : (ts : List Around) (of : ℕ) (e : Expr) (gs : Groups) → Has p m sc e (types.Enum of) → IsPlain e →
+  pub switch_does : (ts : List Around) (of : ℕ) (e : Expr) (gs : Groups) → Has p m sc e (types.Enum of) → IsPlain may e →
       type_of p m e ≡ Some (types.Enum of) → AreCases p m of (labels_in gs) → (starts : List ℕ) (from mid to : ℕ) →
       templates.value p m code sc e from mid →
       slice_get code mid ≡ Some (tableswitch (default_at gs starts to) (targets gs starts to (positions p (type_of p m e)))) →
@@ -263,7 +265,7 @@ module _ (p : Program) (ok : IsCore p) (os : List Outline) (program : linked.Pro
         position_then (C ts to) ls mid c w (types.Enum of) s.locals (enum_given p number_of e)
         (eval p inputs low number_of here s.locals e s.shared) (λ k. chosen gs k >>= after_switch)
         ((eval_good p ok inputs low well number_of m at this h w a.mine a.living.locals).run w (same_world w) s.shared a.living.shared)
-        ((forms_do p ok os program inputs me r m code runs this n sc low well number_of at e (types.Enum of) h plain w s ls q a).value from mid []
+        ((forms_do p ok os program inputs me r m code runs this n sc low well may calls number_of at e (types.Enum of) h plain w s ls q a).value from mid []
         w s.shared q stands_value (over_none _ _ room) (same_world w) a.living.shared a.holds)
         (λ x k u g heap arrives.
         let place : ℕ = constant_at gs starts to k in

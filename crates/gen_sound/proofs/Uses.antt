@@ -35,6 +35,7 @@ use Rattle.gen_sound.specs.Related.{Running, moment, flat, Laid, RunsCode}
 use Rattle.gen_sound.specs.Arriving.{Arrives}
 use Rattle.gen_sound.specs.Standing.{HoldsRow}
 use Rattle.gen_sound.specs.Plain.{IsPlain}
+use Rattle.gen_sound.proofs.Calling.{CallsDo}
 use Rattle.gen_sound.proofs.Forms.{Does as DoesForms, Unless_at, When_at}
 use Rattle.gen_sound.proofs.Slots.{as_long, laid_at}
 use Rattle.gen_sound.proofs.Rows.{fits_sort, laid_more, laid_put, PutAt}
@@ -59,7 +60,8 @@ declared_local kind sc k = ap (λ b. if b then next_local kind sc else local_of 
 
 module _ (p : Program) (ok : IsCore p) (os : List Outline) (program : linked.Program) (inputs : Inputs) (me : ℕ) (r : Running) (m : Method)
     (code : List Instr) (runs : RunsCode p os program me r m code) (this : Option ℕ) (n : ℕ) (sc : List ℕ) (low : Lower)
-    (well : CallsWell p ok low) (number : ℕ) (at : slice_get p.methods number ≡ Some m) where
+    (well : CallsWell p ok low) (may : List ℕ)
+    (calls : CallsDo p ok os program inputs me may (suc n) low) (number : ℕ) (at : slice_get p.methods number ≡ Some m) where
   abbrev here : Here ℕ
   here = record { class = m.class; object = this }
 
@@ -79,15 +81,15 @@ module _ (p : Program) (ok : IsCore p) (os : List Outline) (program : linked.Pro
   Place = Placed p ok os program inputs me r m code runs this sc
 
   -- the code of an expression, over these locals
-  pub forms_do : (e : Expr) (t : CoreType) → Has p m sc e t → IsPlain e → (w : World) (s : Lives ℕ) (ls : List (Option Held)) (q : Messages) →
+  pub forms_do : (e : Expr) (t : CoreType) → Has p m sc e t → IsPlain may e → (w : World) (s : Lives ℕ) (ls : List (Option Held)) (q : Messages) →
       Place w s ls q →
       DoesForms p ok os program inputs me r m code runs (suc n) w ls (templates.forms p m code sc e)
       (eval p inputs low number here s.locals e) (depths p m e)
   forms_do e t h plain w s ls q a =
-      expression_does p ok os program inputs me r m code runs (suc n) low well number at this ls h plain w a.mine a.living.locals a.row.laid
+      expression_does p ok os program inputs me r m code runs (suc n) low well may calls number at this ls a.row.object h plain w a.mine a.living.locals a.row.laid
 
   -- a value over these operands, and what uses it
-  pub used : {A : Type 0} (R : Moment → A → Lives ℕ → Type 0) (e : Expr) (t : CoreType) → Has p m sc e t → IsPlain e → (from to : ℕ)
+  pub used : {A : Type 0} (R : Moment → A → Lives ℕ → Type 0) (e : Expr) (t : CoreType) → Has p m sc e t → IsPlain may e → (from to : ℕ)
       (st : List Held) → templates.value p m code sc e from to → length st + (depths p m e).value ≤ max_stack p m →
       (f : Value → Run (Lives ℕ) A) → (w : World) (s : Lives ℕ) (ls : List (Option Held)) (q : Messages) → Place w s ls q →
       ((x : World) (v : Value) (u : Shared) → On p ok m this x → Living p ok m sc x (record { locals = s.locals; shared = u }) →
@@ -115,7 +117,7 @@ module _ (p : Program) (ok : IsCore p) (os : List Outline) (program : linked.Pro
   when_stand target to ls c row false u h a = record { locals = ls; row = h; arrives = a }
 
   -- the test of a branch or a loop
-  pub test_unless : (e : Expr) → Has p m sc e types.Boolean → IsPlain e → (target from to : ℕ) →
+  pub test_unless : (e : Expr) → Has p m sc e types.Boolean → IsPlain may e → (target from to : ℕ) →
       templates.unless p m code sc e target from to → (depths p m e).jump ≤ max_stack p m →
       Does_here sc (UnlessStand p ok os program inputs me r m code runs this n sc target to) from (test p inputs low number here e)
   test_unless e h plain target from to stands room = record {
@@ -131,7 +133,7 @@ module _ (p : Program) (ok : IsCore p) (os : List Outline) (program : linked.Pro
         (λ x b u g heap at. unless_stand target to ls (moment p r from [] ls s.shared q) s.locals b u a.row at));
   }
 
-  pub test_when : (e : Expr) → Has p m sc e types.Boolean → IsPlain e → (target from to : ℕ) →
+  pub test_when : (e : Expr) → Has p m sc e types.Boolean → IsPlain may e → (target from to : ℕ) →
       templates.when p m code sc e target from to → (depths p m e).jump ≤ max_stack p m →
       Does_here sc (WhenStand p ok os program inputs me r m code runs this n sc target to) from (test p inputs low number here e)
   test_when e h plain target from to stands room = record {
@@ -152,7 +154,7 @@ module _ (p : Program) (ok : IsCore p) (os : List Outline) (program : linked.Pro
   store_at place k i t e is = e ∙ ap (λ x. Some (store (type_or_int x) i)) is
 
   -- a declaration, and the code in its scope
-  pub declares : (k : ℕ) (e : Expr) (t : CoreType) → slot_type m k ≡ Some t → Has p m sc e t → IsPlain e → (ts : List Around)
+  pub declares : (k : ℕ) (e : Expr) (t : CoreType) → slot_type m k ≡ Some t → Has p m sc e t → IsPlain may e → (ts : List Around)
       (from mid in_scope to : ℕ) → templates.value p m code sc e from mid → store_in p m code (k ∷ sc) k mid in_scope →
       (depths p m e).value ≤ max_stack p m → next_local m.kind sc < max_locals m → (rest : Does ℕ) →
       Does_here (k ∷ sc) (C ts to) in_scope rest →
@@ -182,7 +184,7 @@ module _ (p : Program) (ok : IsCore p) (os : List Outline) (program : linked.Pro
   }
 
   -- an assignment of a local
-  pub assigns : (k : ℕ) (e : Expr) (t : CoreType) → IsVariable p m sc (vars.Slot k) t → Has p m sc e t → IsPlain e → (ts : List Around)
+  pub assigns : (k : ℕ) (e : Expr) (t : CoreType) → IsVariable p m sc (vars.Slot k) t → Has p m sc e t → IsPlain may e → (ts : List Around)
       (from mid to : ℕ) → templates.value p m code sc e from mid → store_in p m code sc k mid to → (depths p m e).value ≤ max_stack p m →
       Does_here sc (C ts to) from (value p inputs low number here e >>= write p inputs low number here (vars.Slot k))
   assigns k e t is h plain ts from mid to stands_value stands_store room = record {
@@ -203,7 +205,7 @@ module _ (p : Program) (ok : IsCore p) (os : List Outline) (program : linked.Pro
   }
 
   -- a return of a value
-  pub returns : (e : Expr) → Has p m sc e m.result → IsPlain e → (ts : List Around) (from mid to : ℕ) →
+  pub returns : (e : Expr) → Has p m sc e m.result → IsPlain may e → (ts : List Around) (from mid to : ℕ) →
       templates.value p m code sc e from mid → slice_get code mid ≡ Some (return_value m.result) → (depths p m e).value ≤ max_stack p m →
       Does_here sc (C ts to) from (value p inputs low number here e >>= λ v. give (Returns (Some v)))
   returns e h plain ts from mid to stands_value at_return room = record {

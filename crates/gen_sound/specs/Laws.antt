@@ -1,10 +1,10 @@
 -- What is owed of the compiler, for one role: the machine on the linked program of a core does what the core means.
-use Rattle.std.specs.Prelude.{◌≡◌, ℕ, suc, List, [], Option, Some, None}
+use Rattle.std.specs.Prelude.{◌≡◌, ◌≤◌, ℕ, suc, List, [], Option, Some, None}
 use Rattle.mg_text.specs.Call.{Name}
 use Rattle.mg_text.specs.declared.event.Event.{Event}
 use Rattle.mg_text.specs.declared.event.Ending.{Ending}
 use Rattle.mg_text.specs.declared.event.Ending.TheVariants as endings
-use Rattle.jv_mean.specs.Values.{Finish, Done, Zero, Null, Mismatch, NoPeer, Wait, Inputs}
+use Rattle.jv_mean.specs.Values.{Finish, Done, Zero, Null, Mismatch, NoPeer, Wait, More, Wrong, Inputs}
 use Rattle.jv_mean.specs.Alike.{Prefix}
 use Rattle.jv_core.specs.Tree.{Program}
 use Rattle.jv_core.specs.Conditions.{IsCore}
@@ -60,8 +60,16 @@ module _ (p : Program) (class : Name) (program : linked.Program) (inputs : Input
     pub named : role_named messages peer ≡ Some from
     pub waits : step program me machine messages ≡ Waits from
 
-  -- The run and the meaning agree: what so many instructions show, the meaning shows with one more as its budget; and where the
-  -- meaning comes to an end or a wait with any budget, the run comes to it.
+  -- the machine goes on for at least so many instructions, and has shown these events by then
+  pub record GoesOnFor (least : ℕ) (events : List Event) : Type 0 where
+    pub count : ℕ
+    pub machine : Machine
+    pub messages : Messages
+    pub steps : Steps (step program me) start q count events machine messages
+    pub enough : least ≤ count
+
+  -- The run and the meaning agree: what so many instructions show, the meaning shows with one more as its budget; where the
+  -- meaning comes to an end or a wait with any budget, the run comes to it; where a budget is spent, the run goes on; and no meaning is wrong.
   pub record Agrees : Type 0 where
     pub ended : (count : ℕ) (events : List Event) (ending : Ending) → Runs (step program me) start q count events ending →
         MeansEnd (suc count) events ending
@@ -73,10 +81,13 @@ module _ (p : Program) (class : Name) (program : linked.Program) (inputs : Input
     pub ends : (budget : ℕ) (events : List Event) (ending : Ending) (finish : Finish) → finish_of ending ≡ Some finish →
         Means budget events finish → RunsTo events ending
     pub waits : (budget : ℕ) (events : List Event) (peer : Name) → Means budget events (Wait peer) → WaitsFor events peer
+    -- where a budget is spent the run goes on: no meaning goes on for ever in silence beside a run that shows something, nor the other way round
+    pub spent : (budget : ℕ) (events : List Event) → Means budget events More → GoesOnFor (suc budget) events
+    pub right : (budget : ℕ) (events : List Event) → Means budget events Wrong → ⊥
 
 -- For each core whose names are plain: on its linked program the machine that starts at the `main` of a class, with lists that hold
 -- the inputs, agrees with the class's meaning. No usage of the typestates is asked: a null in the meaning is a null in the machine.
--- So far it is proved where that `main` is plain (PlainMains.antt).
+-- It is proved for each class that has a `main` in the core (`MainsAgree` in PlainMains.antt).
 abbrev pub Simulates : Type 0
 Simulates = (p : Program) → IsCore p → HasPlainNames p → (all : List (List Compiled)) → IsCompiled p all →
     (class : Name) (inputs : Inputs) (me : ℕ) (q : Messages) → Holds inputs q me [] → (start : Machine) →

@@ -1,5 +1,5 @@
--- What is proved so far: runs of a `main` that calls no methods of the program and makes no objects.
-use Rattle.std.specs.Prelude.{◌≡◌, ℕ, suc, List, [], Some, slice_get}
+-- What is proved: runs of a `main` beside which all methods are named that it may come to.
+use Rattle.std.specs.Prelude.{◌≡◌, ℕ, suc, List, [], Some, slice_get, Contains}
 use Rattle.mg_text.specs.Call.{Name}
 use Rattle.jv_mean.specs.Values.{Inputs, Ended}
 use Rattle.jv_core.specs.Tree.{Method, Program}
@@ -40,13 +40,22 @@ LinkedCodeRuns = (p : Program) → IsCore p → HasPlainNames p → (all : List 
     (m : Method) (code : List Instr) → StandsAs p all class method m code → (me : ℕ) (r : Running) → r.class ≡ class → r.method ≡ method →
     RunsCode p (outlines_of p p.classes all) (linked_program p all) me r m code
 
--- the `main` of a class is plain
+-- the `main` of a class, and each method that it may call, is plain and calls none but these
 pub record HasPlainMain (p : Program) (class : Name) : Type 0 where
   pub number : ℕ
   pub method : Method
   pub at : slice_get p.methods number ≡ Some method
   pub is : main_of p class ≡ Some (as_run p number method)
-  pub plain : ArePlain method.body
+  pub may : List ℕ
+  pub among : Contains may number
+  pub plain : (n : ℕ) (m : Method) → Contains may n → slice_get p.methods n ≡ Some m → ArePlain may m.body
+
+-- a class has a `main`
+pub record HasMain (p : Program) (class : Name) : Type 0 where
+  pub number : ℕ
+  pub method : Method
+  pub at : slice_get p.methods number ≡ Some method
+  pub is : main_of p class ≡ Some (as_run p number method)
 
 -- For each core whose names are plain and each of its classes whose `main` is plain: on the linked program, with lists that hold
 -- what the other roles sent, the machine that starts at this `main` does with each budget what is meant.
@@ -60,4 +69,10 @@ PlainMainsRun = (p : Program) → IsCore p → HasPlainNames p → (all : List (
 abbrev pub PlainMainsAgree : Type 0
 PlainMainsAgree = (p : Program) → IsCore p → HasPlainNames p → (all : List (List Compiled)) → IsCompiled p all →
     (class : Name) → HasPlainMain p class → (inputs : Inputs) (me : ℕ) (q : Messages) → Holds inputs q me [] → (start : Machine) →
+    IsStart (linked_program p all) class start → Agrees p class (linked_program p all) inputs me start q
+
+-- So they agree for each class with a `main`: in a core all methods are plain, where each may be called.
+abbrev pub MainsAgree : Type 0
+MainsAgree = (p : Program) → IsCore p → HasPlainNames p → (all : List (List Compiled)) → IsCompiled p all →
+    (class : Name) → HasMain p class → (inputs : Inputs) (me : ℕ) (q : Messages) → Holds inputs q me [] → (start : Machine) →
     IsStart (linked_program p all) class start → Agrees p class (linked_program p all) inputs me start q

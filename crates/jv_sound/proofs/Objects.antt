@@ -154,7 +154,7 @@ module _ (p : Program) (ok : IsCore p) where
   objects_more q none = none
   objects_more q (more {i = i} e n f h) = more {i = i} e n (fields_more p q f) (objects_more q h)
 
-  objects_length : {w cs : World} {h : List Instance} → Objects w cs h → length h ≡ length cs
+  pub objects_length : {w cs : World} {h : List Instance} → Objects w cs h → length h ≡ length cs
   objects_length none = refl
   objects_length (more e n f h) = ap suc (objects_length h)
 
@@ -163,12 +163,12 @@ module _ (p : Program) (ok : IsCore p) where
     pub named : i.class ≡ text_at p k.name
     pub fields : FieldsFit p w k.fields i.fields
 
-  record There (w : World) (k : Class) (o : Option Instance) : Type 0 where
-    instance : Instance
-    is : o ≡ Some instance
-    object : IsObject k w instance
+  pub record There (w : World) (k : Class) (o : Option Instance) : Type 0 where
+    pub instance : Instance
+    pub is : o ≡ Some instance
+    pub object : IsObject k w instance
 
-  there : {w cs : World} {h : List Instance} {c : ℕ} {k : Class} → Objects w cs h → (o : ℕ) → slice_get cs o ≡ Some c →
+  pub there : {w cs : World} {h : List Instance} {c : ℕ} {k : Class} → Objects w cs h → (o : ℕ) → slice_get cs o ≡ Some c →
       slice_get p.classes c ≡ Some k → There w k (slice_get h o)
   there none o e g = absurd (cc)
   there {w} {k = k} (more {i = i} {k = j} at n f h) zero e g =
@@ -210,7 +210,7 @@ module _ (p : Program) (ok : IsCore p) where
   pub object_more : {k : Class} {w x : World} {i : Instance} → Extends w x → IsObject k w i → IsObject k x i
   object_more q is = record { named = is.named; fields = fields_more p q is.fields }
 
-  object_is : (w : World) (o : ℕ) (name : Name) (s : Shared) (i : Instance) → slice_get s.heap o ≡ Some i → i.class ≡ name →
+  pub object_is : (w : World) (o : ℕ) (name : Name) (s : Shared) (i : Instance) → slice_get s.heap o ≡ Some i → i.class ≡ name →
       object_of name o s ≡ Gives i s
   object_is w o name s i is named =
       ap (λ x. and_then (found x s) (λ i. if bytes_eq i.class name then give i else stop Wrong)) is

@@ -33,7 +33,7 @@ use Rattle.jv_sound.proofs.Executions.{Lowers, exec_good}
 -- Parameters.
 
 -- slots have these types
-data HaveTypes (m : Method) : List ℕ → List CoreType → Type 0 where
+pub data HaveTypes (m : Method) : List ℕ → List CoreType → Type 0 where
   none : HaveTypes m [] []
   more : {k : ℕ} {t : CoreType} {ks : List ℕ} {ts : List CoreType} → slot_type m k ≡ Some t → HaveTypes m ks ts →
       HaveTypes m (k ∷ ks) (t ∷ ts)
@@ -47,7 +47,7 @@ longer [] s = refl
 longer (f ∷ front) s = ap suc (longer front s)
 
 -- the slots behind some of a method, from the number of those on
-have_types : (m : Method) (front rest : List Slot) (count : ℕ) → m.slots ≡ front ++ rest → count ≤ length rest →
+pub have_types : (m : Method) (front rest : List Slot) (count : ℕ) → m.slots ≡ front ++ rest → count ≤ length rest →
     HaveTypes m (numbers_from (length front) count) (map (λ s. s.ty) (take count rest))
 have_types m front rest zero e le = none
 have_types m front [] (suc count) e le = absurd (omega arith)
@@ -61,7 +61,7 @@ have_types m front (s ∷ rest) (suc count) e le =
     shorter le = omega arith
 
 -- arguments become the parameters, the last innermost
-bounds : (p : Program) (m : Method) (w : World) (ks : List ℕ) (vs : List Value) (ts : List CoreType) (sc : List ℕ) (row : Row ℕ) →
+pub bounds : (p : Program) (m : Method) (w : World) (ks : List ℕ) (vs : List Value) (ts : List CoreType) (sc : List ℕ) (row : Row ℕ) →
     HaveTypes m ks ts → AllFit p w vs ts → RowFits p m w sc row →
     Puts p m w (reverse ks ++ sc) (bound ks vs row)
 bounds p m w ks vs ts sc row none worlds.no_values r = record { row = row; is = refl; fits = r }

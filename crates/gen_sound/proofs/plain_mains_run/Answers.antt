@@ -6,3 +6,6 @@ returns-clause-meant c = mains.plain_mains_run
 
 pub returns-clause-agree : goal.returns-clause-agree
 returns-clause-agree c = mains.plain_mains_agree
+
+pub returns-clause-whole : goal.returns-clause-whole
+returns-clause-whole c = mains.mains_agree
