@@ -1,6 +1,6 @@
 -- What flows on with each constant of a switch.
-use Rattle.std.proofs.Common.{◌≡◌, ℕ, zero, suc, ◌+◌, ◌<◌, ◌≤◌, Bool, true, false, cond, List, [], ◌∷◌, ◌++◌, length, get_or, drop, map, Option, Some, None, slice_get, refl, sym, ap, ◌∙◌, arith, add-one, append_assoc}
-use Rattle.std.specs.Prelude.{◌||◌, nat_eq, slice_set, slice_index_or, if◌then◌else◌, option_map}
+use Rattle.std.proofs.Common.{◌≡◌, ℕ, zero, suc, ◌+◌, ◌<◌, ◌≤◌, Bool, true, false, List, [], ◌∷◌, ◌++◌, length, get_or, drop, map, Option, Some, None, slice_get, refl, sym, ap, ◌∙◌, arith, add-one, append_assoc}
+use Rattle.std.specs.Prelude.{◌||◌, nat_eq, slice_set, if◌then◌else◌, option_map}
 use Rattle.std.specs.List.{list_any}
 use Rattle.std.proofs.lemmas.List.{at_drop_more, at_drop_all}
 use lib.Dec.{eqb-zero-suc, eqb-suc-zero, eqb-suc-suc}
@@ -10,10 +10,9 @@ use Rattle.mg_text.specs.declared.names.Name.{Name as Numbered}
 use Rattle.mg_sets.specs.Sets.{has}
 use Rattle.jv_core.specs.declared.tree.CoreVar.{CoreVar}
 use Rattle.jv_core.specs.declared.tree.Var.{Var}
-use Rattle.jv_core.specs.declared.tree.CoreStmt.{CoreStmt}
 use Rattle.jv_core.specs.declared.tree.CoreGroup.{CoreGroup, out-CoreGroup, fold_out-CoreGroup}
 use Rattle.jv_core.specs.Lookup.{text_at}
-use Rattle.jv_core.specs.Tree.{Expr, Int, Truth, Text, Null, Variable, Constant, Neg, Not, Binary, Protocol, Helper, Static, Equals, Concat, Session, New, Groups, Method, Stmt}
+use Rattle.jv_core.specs.Tree.{Expr, Int, Truth, Text, Null, Variable, Constant, Neg, Not, Binary, Protocol, Helper, Static, Equals, Concat, Session, New, Method, Stmt}
 use Rattle.jv_core.specs.View.{stmt_of, stmts_of, group_of, groups_of, OneGroup, stmt_layer, group_layer, placed_stmt_layer}
 use Rattle.jv_core.specs.Lookup.{param_types}
 use Rattle.jv_core.specs.declared.program.CoreType.{CoreType}
@@ -21,7 +20,7 @@ use Rattle.use_flow.specs.declared.evaluated.Arguments.{Arguments}
 use Rattle.use_flow.specs.declared.evaluated.Value.{Value}
 use Rattle.use_flow.specs.declared.switches.Branches.{Branches}
 use Rattle.use_flow.specs.declared.switches.Labels.{Labels}
-use Rattle.use_flow.specs.Elements.{Set, none, union, image, along, targets, targets_by}
+use Rattle.use_flow.specs.Elements.{Set, none, union, targets, targets_by}
 use Rattle.use_flow.specs.Flow.{Evaluated, alike, after, placed, all_labels, is_label, is_default}
 use Rattle.use_flow.specs.State.{Now, Log, Argued, joined, joined_sets}
 use Rattle.use_flow.specs.inner.Followed.{Followed, eval, eval_all, variable_at, width_of}

@@ -1,12 +1,14 @@
 -- Where scopes end, and what jumps.
-use Rattle.std.proofs.Common.{◌≡◌, ℕ, ◌+◌, ◌<◌, ◌≤◌, Bool, true, false, not, List, [], ◌∷◌, ◌++◌, length, get_or, drop, reverse, Some, None, refl, sym, ap, ◌∙◌, append_assoc}
-use Rattle.std.specs.Prelude.{◌||◌, nat_eq, if◌then◌else◌}
+use Rattle.std.proofs.Common.{◌≡◌, ℕ, zero, suc, ◌+◌, ◌<◌, ◌≤◌, Bool, true, false, not, List, [], ◌∷◌, ◌++◌, length, get_or, drop, reverse, Some, None, refl, sym, ap, ◌∙◌, arith, append_assoc}
+use Rattle.std.specs.Prelude.{◌||◌, nat_eq, slice_set, if◌then◌else◌}
 use Rattle.std.specs.List.{filter, list_any}
 use Rattle.std.proofs.lemmas.List.{at_drop_more, at_drop_all, reverse-append}
+use lib.Dec.{eqb-zero-suc, eqb-suc-zero, eqb-suc-suc}
 use Rattle.mg_text.specs.declared.place.Place.{Place}
+use Rattle.mg_sets.specs.Sets.{has}
 use Rattle.use_flow.specs.declared.jumps.Jumps.{Jumps}
 use Rattle.use_flow.specs.declared.course.Course.{Course}
-use Rattle.use_flow.specs.Elements.{Set}
+use Rattle.use_flow.specs.Elements.{Set, marked, none}
 use Rattle.use_flow.specs.Flow.{flow}
 use Rattle.use_flow.specs.State.{Now, Log, Leads, same_lead, Jump, Flow, joined, leaving}
 use Rattle.use_flow.specs.View.{log_of}
@@ -22,6 +24,73 @@ use Rattle.use_flow.proofs.Jumping.{nat_turned, same_turned, joined-none}
 any_turned : (k : ℕ) (ys : List ℕ) → list_any (λ y. nat_eq y k) ys ≡ list_any (nat_eq k) ys
 any_turned k [] = refl
 any_turned k (y ∷ ys) = ap (λ b. b || list_any (λ y. nat_eq y k) ys) (nat_turned y k) ∙ ap (λ b. nat_eq k y || b) (any_turned k ys)
+
+-- Which slots stay, as a set.
+
+or_none : (a : Bool) → (a || false) ≡ a
+or_none true = refl
+or_none false = refl
+
+set_length : (s : Set) (k : ℕ) → length (slice_set s k true) ≡ length s
+set_length [] k = refl
+set_length (b ∷ s) zero = refl
+set_length (b ∷ s) (suc k) = ap suc (set_length s k)
+
+set_has : (s : Set) (k n : ℕ) → n < length s → has (slice_set s k true) n ≡ (nat_eq n k || has s n)
+set_has [] k n lt = absurd (omega (arith, lt))
+set_has (b ∷ s) zero zero lt = refl
+set_has (b ∷ s) zero (suc n) lt = sym (ap (λ v. v || has s n) (eqb-suc-zero n))
+set_has (b ∷ s) (suc k) zero lt = sym (ap (λ v. v || b) (eqb-zero-suc k))
+set_has (b ∷ s) (suc k) (suc n) lt = set_has s k n (omega (arith, lt)) ∙ sym (ap (λ v. v || has s n) (eqb-suc-suc n k))
+
+marked_length : (ks : List ℕ) (s : Set) → length (marked ks s) ≡ length s
+marked_length [] s = refl
+marked_length (k ∷ ks) s = marked_length ks (slice_set s k true) ∙ set_length s k
+
+none_length : (w : ℕ) → length (none w) ≡ w
+none_length zero = refl
+none_length (suc w) = ap suc (none_length w)
+
+none_has : (w n : ℕ) → has (none w) n ≡ false
+none_has zero n = refl
+none_has (suc w) zero = refl
+none_has (suc w) (suc n) = none_has w n
+
+marked_has : (ks : List ℕ) (s : Set) (n : ℕ) → n < length s → has (marked ks s) n ≡ (list_any (nat_eq n) ks || has s n)
+marked_has [] s n lt = refl
+marked_has (k ∷ ks) s n lt =
+    marked_has ks (slice_set s k true) n (let e : length (slice_set s k true) ≡ length s = set_length s k in omega (arith, lt, e))
+    ∙ ap (λ b. list_any (nat_eq n) ks || b) (set_has s k n lt)
+    ∙ or_around (list_any (nat_eq n) ks) (nat_eq n k) (has s n)
+  where
+    or_around : (a b c : Bool) → (a || (b || c)) ≡ ((b || a) || c)
+    or_around true true c = refl
+    or_around true false c = refl
+    or_around false true c = refl
+    or_around false false c = refl
+
+pub mark_more : (ks : List ℕ) (i k : ℕ) (s s' total : Set) → i < length ks → k ≡ get_or ks i k → s' ≡ slice_set s k true → marked (drop i ks) s ≡ total →
+    marked (drop (i + 1) ks) s' ≡ total
+mark_more ks i k s s' total lt at e h =
+    ap (marked (drop (i + 1) ks)) e ∙ sym (at_drop_more (λ (xs : List ℕ). marked xs s) ks i k lt ∙ ap (λ x. marked (x ∷ drop (i + 1) ks) s) (sym at)) ∙ h
+
+pub all_marked : (ks : List ℕ) (i w : ℕ) (s : Set) → length ks ≤ i → marked (drop i ks) s ≡ marked ks (none w) → s ≡ marked ks (none (length s))
+all_marked ks i w s le h =
+    let e : s ≡ marked ks (none w) = sym (at_drop_all (λ (xs : List ℕ). marked xs s) ks i le) ∙ h in
+    e ∙ ap (λ n. marked ks (none n)) (sym (ap length e ∙ marked_length ks (none w) ∙ none_length w))
+
+pub ruleset stays = (mark_more, all_marked)
+
+pub member_stays : (ks : List ℕ) (s : Set) (n : ℕ) → s ≡ marked ks (none (length s)) → n < length s → has s n ≡ list_any (nat_eq n) ks
+member_stays ks s n e lt =
+    ap (λ x. has x n) e
+    ∙ marked_has ks (none (length s)) n (let l : length (none (length s)) ≡ length s = none_length (length s) in omega (arith, lt, l))
+    ∙ ap (λ b. list_any (nat_eq n) ks || b) (none_has (length s) n) ∙ or_none (list_any (nat_eq n) ks)
+
+pub searched_stays : (k : ℕ) (ys : List ℕ) (b : Bool) → b ≡ list_any (λ y. nat_eq y k) ys → b ≡ list_any (nat_eq k) ys
+searched_stays k ys b e = e ∙ any_turned k ys
+
+pub ruleset members = (member_stays, searched_stays)
 
 abbrev goes : List ℕ → ℕ → Bool
 goes stays k = not (list_any (nat_eq k) stays)
@@ -58,16 +127,16 @@ module _ (xs stays : List ℕ) (i k : ℕ) (done total : List ℕ) (lt : i < len
   rest_at : filter (goes stays) (drop i xs) ≡ filter (goes stays) (k ∷ drop (i + 1) xs)
   rest_at = at_drop_more (filter (goes stays)) xs i k lt ∙ ap (λ z. filter (goes stays) (z ∷ drop (i + 1) xs)) (sym at)
 
-  pub slot_stays : (b : Bool) → b ≡ list_any (λ y. nat_eq y k) stays → b ≡ true → done ++ filter (goes stays) (drop i xs) ≡ total →
+  pub slot_stays : (b : Bool) → b ≡ list_any (nat_eq k) stays → b ≡ true → done ++ filter (goes stays) (drop i xs) ≡ total →
       done ++ filter (goes stays) (drop (i + 1) xs) ≡ total
   slot_stays b e h r =
-      ap (λ z. done ++ z) (sym (rest_at ∙ filter_past (goes stays) k (drop (i + 1) xs) (ap not (sym (any_turned k stays) ∙ sym e ∙ h)))) ∙ r
+      ap (λ z. done ++ z) (sym (rest_at ∙ filter_past (goes stays) k (drop (i + 1) xs) (ap not (sym e ∙ h)))) ∙ r
 
-  pub slot_left : (done' : List ℕ) (b : Bool) → b ≡ list_any (λ y. nat_eq y k) stays → b ≡ false → done' ≡ done ++ k ∷ [] →
+  pub slot_left : (done' : List ℕ) (b : Bool) → b ≡ list_any (nat_eq k) stays → b ≡ false → done' ≡ done ++ k ∷ [] →
       done ++ filter (goes stays) (drop i xs) ≡ total → done' ++ filter (goes stays) (drop (i + 1) xs) ≡ total
   slot_left done' b e h d r =
       ap (λ z. z ++ filter (goes stays) (drop (i + 1) xs)) d ∙ append_assoc done (k ∷ []) (filter (goes stays) (drop (i + 1) xs))
-      ∙ ap (λ z. done ++ z) (sym (rest_at ∙ filter_with (goes stays) k (drop (i + 1) xs) (ap not (sym (any_turned k stays) ∙ sym e ∙ h)))) ∙ r
+      ∙ ap (λ z. done ++ z) (sym (rest_at ∙ filter_with (goes stays) k (drop (i + 1) xs) (ap not (sym e ∙ h)))) ∙ r
 
 pub all_left : (xs stays : List ℕ) (i : ℕ) (done : List ℕ) → length xs ≤ i → done ++ filter (goes stays) (drop i xs) ≡ filter (goes stays) xs →
     done ≡ leaving (reverse xs) stays
@@ -104,8 +173,6 @@ filter_same p q e (x ∷ xs) = go (filter_same p q e xs) (q x) refl
 -- what stays is asked for by number alone
 pub leaving-turned : (scope ys : List ℕ) → leaving scope (reverse ys) ≡ leaving scope ys
 leaving-turned scope ys = ap reverse (filter_same (goes (reverse ys)) (goes ys) (λ k. ap not (any_reverse (nat_eq k) ys)) scope)
-
-pub ruleset leaves = (slot_stays, slot_left, all_left)
 
 pub slot_copied : (xs : List ℕ) (i k : ℕ) (done done' total : List ℕ) → i < length xs → k ≡ get_or xs i k → done' ≡ done ++ k ∷ [] → done ++ drop i xs ≡ total →
     done' ++ drop (i + 1) xs ≡ total

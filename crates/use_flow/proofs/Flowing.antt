@@ -1,5 +1,5 @@
 -- A whole context, from its start to its end.
-use Rattle.std.proofs.Common.{◌≡◌, ℕ, zero, suc, ◌+◌, List, [], ◌∷◌, ◌++◌, map, reverse, Option, Some, None, slice_get, refl, sym, ap, ◌∙◌, arith, add-one}
+use Rattle.std.proofs.Common.{◌≡◌, ℕ, zero, suc, ◌+◌, List, [], ◌∷◌, ◌++◌, reverse, Option, Some, None, slice_get, sym, ap, ◌∙◌, arith, add-one}
 use Rattle.std.proofs.lemmas.List.{reverse-append}
 use Rattle.jv_core.specs.Numbering.{numbers_from}
 use Rattle.jv_core.specs.Tree.{Method, Program, Stmts}

@@ -1,6 +1,5 @@
 -- Each form of a statement, from what the code has behind its parts.
-use Rattle.std.proofs.Common.{◌≡◌, ℕ, List, [], ◌∷◌, map, reverse, Option, Some, None, refl, sym, ap, ◌∙◌, subst}
-use Rattle.std.specs.Prelude.{option_map}
+use Rattle.std.proofs.Common.{◌≡◌, ℕ, List, [], map, reverse, Some, None, refl, sym, ap, ◌∙◌, subst}
 use Rattle.std.specs.declared.boxed.Box.{Box}
 use Rattle.std.specs.declared.alloc.Global.{Global}
 use Rattle.mg_text.specs.Row.{Row}
@@ -11,7 +10,7 @@ use Rattle.jv_core.specs.declared.tree.CoreStmt.{CoreStmt}
 use Rattle.jv_core.specs.declared.tree.CoreGroup.{CoreGroup}
 use Rattle.jv_core.specs.declared.tree.CoreStmtKind.{CoreStmtKind}
 use Rattle.jv_core.specs.declared.tree.CoreStmtKind.TheVariants as S
-use Rattle.jv_core.specs.Tree.{Expr, Stmt, Block, Empty, Local, Assign, If, IfElse, While, Do, Switch, Break, Continue, Return, Print, Eval, Groups}
+use Rattle.jv_core.specs.Tree.{Stmt, Block, Empty, Local, Assign, If, IfElse, While, Do, Switch, Break, Continue, Return, Print, Eval}
 use Rattle.jv_core.specs.View.{expr_of, stmt_of, stmts_of, group_of, groups_of, stmt_kind_of}
 use Rattle.jv_core.proofs.ViewLaws.{stmt_of-is, stmt-Block, stmt-Empty, stmt-Local, stmt-Assign, stmt-If-None, stmt-If-Some, stmt-While, stmt-Do, stmt-Switch, stmt-Break, stmt-Continue, stmt-Return, stmt-Print, stmt-Eval}
 use Rattle.use_flow.specs.declared.course.Course.{Course}

@@ -1,15 +1,15 @@
 -- The groups of a switch, one after another.
-use Rattle.std.proofs.Common.{◌≡◌, ℕ, ◌+◌, ◌<◌, ◌≤◌, Bool, true, false, List, [], ◌∷◌, ◌++◌, length, get_or, drop, map, reverse, Option, Some, None, refl, sym, ap, ◌∙◌, subst, append_assoc}
+use Rattle.std.proofs.Common.{◌≡◌, ℕ, ◌+◌, ◌<◌, ◌≤◌, Bool, true, false, List, [], ◌∷◌, ◌++◌, length, get_or, drop, map, reverse, Option, None, refl, sym, ap, ◌∙◌, subst, append_assoc}
 use Rattle.std.specs.Prelude.{if◌then◌else◌}
 use Rattle.std.proofs.lemmas.List.{at_drop_more, at_drop_all}
 use Rattle.jv_core.specs.declared.tree.CoreStmt.{CoreStmt}
 use Rattle.jv_core.specs.declared.tree.CoreGroup.{CoreGroup, out-CoreGroup}
-use Rattle.jv_core.specs.Tree.{Stmts, Groups, NoGroup, Group}
+use Rattle.jv_core.specs.Tree.{Groups, NoGroup}
 use Rattle.jv_core.specs.View.{stmt_of, stmts_of, group_of, groups_of, OneGroup}
 use Rattle.use_flow.specs.declared.course.Course.{Course}
 use Rattle.use_flow.specs.declared.jumps.Jumps.{Jumps}
 use Rattle.use_flow.specs.Flow.{flow, declared_here}
-use Rattle.use_flow.specs.State.{Now, Log, Leads, BehindSwitch, same_lead, Jump, Flow, joined, caught, passing}
+use Rattle.use_flow.specs.State.{Now, Log, Leads, BehindSwitch, same_lead, Jump, Flow, joined, caught}
 use Rattle.use_flow.specs.View.{log_of}
 use Rattle.use_flow.specs.inner.Followed.{Followed}
 use Rattle.use_flow.specs.inner.Jumping.{held}

@@ -1,5 +1,5 @@
 -- Tables with a set for each key that has a class, each as it starts.
-use Rattle.std.proofs.Common.{◌≡◌, ℕ, zero, suc, ◌+◌, ◌<◌, ◌≤◌, ◌≢◌, Bool, true, false, cond, not, ◌&&◌, ◌||◌, List, [], ◌∷◌, ◌++◌, map, length, get_or, Option, Some, None, slice_get, position, ◌⊎◌, inl, inr, ⊎_elim, refl, sym, ap, ◌∙◌, subst, arith, true≢false}
+use Rattle.std.proofs.Common.{◌≡◌, ℕ, zero, suc, ◌+◌, ◌<◌, ◌≤◌, ◌≢◌, Bool, true, false, cond, not, ◌&&◌, ◌||◌, List, [], ◌∷◌, ◌++◌, map, length, get_or, Option, Some, None, slice_get, position, inl, inr, ⊎_elim, refl, sym, ap, ◌∙◌, subst, arith, true≢false}
 use Rattle.std.specs.Prelude.{Contains, nat_eq, slice_set}
 use Rattle.std.specs.List.{AllByRecursion, list_any, position_or_len}
 use Rattle.std.proofs.lemmas.Bool.{false≢true, eq-eqb, lt-ltb}
@@ -18,7 +18,7 @@ use Rattle.use_flow.specs.Elements.{Set, none}
 use Rattle.use_flow.specs.Keys.{AreReached, contexts_in}
 use Rattle.use_flow.specs.Shapes.{class_at}
 use Rattle.use_flow.specs.Start.{starting, start_in, start_of}
-use Rattle.use_flow.specs.View.{same_key, numbered, reached_of, contexts_of, tables_of, HasKey, AreFor, AreProper}
+use Rattle.use_flow.specs.View.{same_key, numbered, reached_of, contexts_of, tables_of, AreFor, AreProper}
 use Rattle.use_flow.specs.inner.Holding.{AreApart, WithEntry, AreHeld}
 use Rattle.use_flow.specs.inner.Listing.{entries_in}
 use Rattle.use_flow.proofs.Apart.{contexts_apart}

@@ -1,5 +1,5 @@
 -- What the code has behind statements without statements inside.
-use Rattle.std.proofs.Common.{◌≡◌, ℕ, List, [], ◌∷◌, ◌++◌, reverse, Option, Some, None, refl, sym, ap, ◌∙◌}
+use Rattle.std.proofs.Common.{◌≡◌, ℕ, List, [], ◌∷◌, ◌++◌, Option, Some, None, ap, ◌∙◌}
 use Rattle.std.specs.Prelude.{slice_set, codes}
 use Rattle.mg_text.specs.Call.{Name}
 use Rattle.mg_text.specs.declared.place.Place.{Place}
@@ -10,11 +10,11 @@ use Rattle.use_flow.specs.declared.demand.Demand.{Demand}
 use Rattle.use_flow.specs.declared.demand.DemandKind.TheVariants as demands
 use Rattle.use_flow.specs.declared.elements.Rule.TheVariants as judging
 use Rattle.use_flow.specs.Elements.{Set, if_state}
-use Rattle.use_flow.specs.State.{Now, Out, Log, Flow, Jump, joined, judged}
+use Rattle.use_flow.specs.State.{Now, Out, Log, Jump, joined, judged}
 use Rattle.use_flow.specs.Flow.{Evaluated, flow, placed}
 use Rattle.use_flow.specs.inner.Ending.{answer_of, left}
 use Rattle.use_flow.specs.inner.Followed.{Followed, eval, width_of, variable_at, variable_width, judged_variable, left_open, without}
-use Rattle.use_flow.specs.inner.Simple.{exit, slot_width, placed_flow, declared, local, overwritten, assigned, printed_flow, printed, dropped_flow, dropped, returned_flow, returned}
+use Rattle.use_flow.specs.inner.Simple.{exit, slot_width, placed_flow, declared, local, overwritten, assigned, printed_flow, printed, dropped_flow, returned_flow, returned}
 use Rattle.use_flow.specs.inner.Values.{yes_of, no_of, evaluated_of}
 
 module _ (s : Followed) (q : Place) (ks : List ℕ) (js : List Jump) (sets sets' : List Set) (os : List Out) (ds ds' : List Demand) where

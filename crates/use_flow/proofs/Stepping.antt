@@ -1,5 +1,5 @@
 -- What the code has behind statements, part by part.
-use Rattle.std.proofs.Common.{◌≡◌, ℕ, Bool, true, false, List, [], ◌∷◌, ◌++◌, length, drop, take, get_or, map, reverse, Option, Some, None, refl, sym, ap, ◌∙◌, subst, append_assoc, ◌+◌, ◌<◌, ◌≤◌}
+use Rattle.std.proofs.Common.{◌≡◌, ℕ, List, [], ◌∷◌, ◌++◌, length, drop, take, get_or, map, reverse, Option, Some, None, refl, sym, ap, ◌∙◌, subst, append_assoc, ◌+◌, ◌<◌, ◌≤◌}
 use Rattle.std.specs.Prelude.{if◌then◌else◌, ◌||◌}
 use Rattle.std.proofs.Math.Seq.{drop-append_seam, take-append_seam}
 use Rattle.std.proofs.lemmas.List.{reverse-append, at_drop_more, at_drop_all}
@@ -17,7 +17,7 @@ use Rattle.use_flow.specs.View.{log_of}
 use Rattle.use_flow.specs.inner.Followed.{Followed, eval, heads, at_head}
 use Rattle.use_flow.specs.inner.Jumping.{held}
 use Rattle.use_flow.specs.inner.Simple.{exit, declared}
-use Rattle.use_flow.specs.inner.Stepping.{Follows, both_flows, step, steps, Declared, local_in, declared_by, item, if_flow, if_else_flow, loop_flow, while_end, while_flow, do_end, do_flow}
+use Rattle.use_flow.specs.inner.Stepping.{Follows, both_flows, step, steps, Declared, local_in, declared_by, item, if_flow, if_else_flow, while_end, while_flow, do_end, do_flow}
 use Rattle.use_flow.specs.inner.Values.{parted, both_ways}
 use Rattle.use_flow.proofs.Rests.{append_nil}
 use Rattle.use_flow.proofs.Jumping.{joined-none, held_more, behind-caught, on-caught, loop_held}

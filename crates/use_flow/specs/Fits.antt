@@ -1,5 +1,5 @@
 -- What tables may hold: sets of their class, with no state but those that calls lead to. What flows out fits its table.
-use Rattle.std.specs.Prelude.{◌≡◌, ◌≤◌, ℕ, suc, Bool, true, List, [], length, Option, Some, None, slice_get, get_or, Contains}
+use Rattle.std.specs.Prelude.{◌≡◌, ◌≤◌, ℕ, suc, Bool, true, List, [], length, Some, None, slice_get, get_or}
 use Rattle.mg_sets.specs.Sets.{has}
 use Rattle.jv_core.specs.Tree.{Program}
 use Rattle.use_flow.specs.declared.key.TableKey.{TableKey}

@@ -1,7 +1,9 @@
 //! What is carried along a method: the variables in scope, what has jumped, and what was met.
 //! Jumps end scopes before they are kept.
 
-ghost use Rattle.std.specs.Prelude.{◌≡◌, ◌≤◌, List, length, drop, take, reverse, IfOk, OnOk};
+ghost use Rattle.std.specs.Prelude.{◌≡◌, ◌≤◌, List, length, drop, take, reverse, nat_eq, IfOk, OnOk};
+ghost use Rattle.std.specs.List.{list_any};
+ghost use Rattle.use_flow.specs.Elements.{marked, none};
 ghost use Rattle.use_flow.specs.State.{Jump, leaving};
 ghost use Rattle.use_flow.specs.Flow.{flow};
 ghost use Rattle.use_flow.specs.View.{log_of};
@@ -11,9 +13,11 @@ ghost use Rattle.use_flow.specs.inner.Simple.{exit};
 ghost use Rattle.use_flow.specs.inner.Stepping.{Follows, scope_of, jump_flow};
 
 use crate::Flow;
+use crate::elements::{empty_set, mark};
 use crate::jumps::{Jumps, Lead};
 use crate::scene::Scene;
 use crate::sets::Sets;
+use mg_sets::StateSet;
 use mg_text::{Memory, Place};
 use std::alloc::Global;
 
@@ -37,14 +41,38 @@ pub(crate) fn copy_slots(alloc: Global, scope: &[u32]) -> Result<Vec<u32>, Memor
     Ok(copy)
 }
 
+// The slots that stay, as a set of this width.
+#[tactic(auto, using(crate::proofs::Coursing::stays))]
+fn staying(alloc: Global, width: usize, stays: &[u32]) -> Result<StateSet, Memory>
+    ensures { IfOk result (λ s. s ≡ marked stays.now (none (length s))) }
+{
+    let mut set = empty_set(alloc, width)?;
+    for slot in stays {
+        mark(&mut set, *slot as usize);
+    }
+    Ok(set)
+}
+
+// Whether a slot stays. One that the set has no room for is searched.
+#[tactic(auto, using(crate::proofs::Coursing::members))]
+fn is_staying(set: &StateSet, stays: &[u32], slot: u32) -> bool
+    requires { set.now ≡ marked stays.now (none (length set.now)) }
+    ensures { result ≡ list_any (nat_eq slot) stays.now }
+{
+    if (slot as usize) < set.width() {
+        return set.has(slot as usize);
+    }
+    stays.contains(&slot)
+}
+
 // The slots of a scope that aren't among those that stay.
-#[tactic(auto, using(crate::proofs::Coursing::leaves))]
-fn leaving(alloc: Global, scope: &[u32], stays: &[u32]) -> Result<Vec<u32>, Memory>
+fn leaving(alloc: Global, width: usize, scope: &[u32], stays: &[u32]) -> Result<Vec<u32>, Memory>
     ensures { IfOk result (λ v. v.items ≡ leaving (reverse scope.now) stays.now) }
 {
+    let kept = staying(alloc, width, stays)?;
     let mut left = Vec::new(alloc);
     for slot in scope {
-        if stays.contains(slot) {
+        if is_staying(&kept, stays, *slot) {
             continue;
         }
         left.push(*slot)?;
@@ -66,7 +94,8 @@ impl<'a> Scene<'a> {
     ) -> Result<Option<Sets>, Memory>
         ensures { IfOk result (λ n. Follows (jump_flow (seen self.now) place (lead_of lead) (scope_of course.old) stays.now sets (log_of course.old.log)) course.old.scope.items course.old.jumps n course.new) }
     {
-        let left = leaving(alloc, course.scope.as_slice(), stays)?;
+        let width = self.method.slots.len();
+        let left = leaving(alloc, width, course.scope.as_slice(), stays)?;
         let now = self.exit(alloc, place, left.as_slice(), Some(sets), &mut course.log)?;
         course.jumps.add(lead, now)?;
         Ok(None)

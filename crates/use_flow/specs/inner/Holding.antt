@@ -1,5 +1,5 @@
 -- Tables as they are made: contexts that are all different, and sets that stand by the numbers of their keys.
-use Rattle.std.specs.Prelude.{◌≡◌, ◌<◌, ℕ, Bool, false, List, [], ◌∷◌, ◌++◌, map, Some, slice_get, Contains, ◌⊎◌}
+use Rattle.std.specs.Prelude.{◌≡◌, ◌<◌, ℕ, false, List, [], ◌∷◌, ◌++◌, map, Some, slice_get, Contains, ◌⊎◌}
 use Rattle.std.specs.List.{AllByRecursion}
 use Rattle.jv_core.specs.Tree.{Program}
 use Rattle.use_flow.specs.declared.classed.Entry.{Entry}

@@ -1,5 +1,5 @@
 -- Statements without statements inside, as the code says them.
-use Rattle.std.specs.Prelude.{ℕ, List, [], ◌∷◌, Option, Some, None, option_map, slice_get, codes}
+use Rattle.std.specs.Prelude.{ℕ, List, [], ◌∷◌, Option, Some, None, slice_get, codes}
 use Rattle.mg_text.specs.declared.place.Place.{Place}
 use Rattle.jv_core.specs.declared.tree.CoreVar.{CoreVar}
 use Rattle.jv_core.specs.declared.program.CoreType.{CoreType}

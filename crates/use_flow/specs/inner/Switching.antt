@@ -1,5 +1,5 @@
 -- Switches, as the code follows them.
-use Rattle.std.specs.Prelude.{ℕ, suc, Bool, true, List, [], ◌∷◌, Option, Some, None, slice_get, slice_set, slice_index_or, length, option_map, if◌then◌else◌}
+use Rattle.std.specs.Prelude.{ℕ, suc, true, List, [], ◌∷◌, Option, Some, None, slice_get, slice_set, slice_index_or, length, option_map, if◌then◌else◌}
 use Rattle.mg_text.specs.Call.{Name}
 use Rattle.jv_core.specs.declared.tree.CoreVar.{CoreVar}
 use Rattle.jv_core.specs.Tree.{Expr, Protocol, Exprs, Groups, Method}

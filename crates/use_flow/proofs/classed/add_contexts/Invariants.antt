@@ -1,4 +1,4 @@
-use Rattle.std.proofs.Common.{◌≡◌, ◌++◌, drop, map}
+use Rattle.std.proofs.Common.{◌≡◌, ◌++◌, drop}
 use Rattle.jv_core.specs.Core.{tree_of}
 use Rattle.use_flow.specs.inner.Listing.{listed_from, entries_at, by_contexts}
 use Rattle.use_flow.proofs.classed.add_contexts.Given as goal

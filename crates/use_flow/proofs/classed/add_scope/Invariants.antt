@@ -1,4 +1,4 @@
-use Rattle.std.proofs.Common.{◌≡◌, ◌++◌, drop, map}
+use Rattle.std.proofs.Common.{◌≡◌, ◌++◌, drop}
 use Rattle.jv_core.specs.View.{method_of}
 use Rattle.use_flow.specs.inner.Listing.{listed_from, slot_entry, scope_entries}
 use Rattle.use_flow.proofs.classed.add_scope.Given as goal

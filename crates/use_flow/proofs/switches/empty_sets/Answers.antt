@@ -1,4 +1,4 @@
-use Rattle.std.proofs.Common.{◌∷◌, ◌++◌, [], ap, ◌∙◌, get_or}
+use Rattle.std.proofs.Common.{◌∷◌, ◌++◌, [], ap, ◌∙◌}
 use Rattle.mg_text.specs.declared.names.Name.{Name}
 use Rattle.use_flow.specs.Elements.{none}
 use Rattle.use_flow.proofs.Choosing.{mapped_any, mapped_all}
