@@ -1,8 +1,8 @@
 -- What the kinds of expressions say of statements.
-use Rattle.std.proofs.Common.{◌≡◌, ℕ, suc, ◌-◌, ◌<◌, List, [], ◌∷◌, length, Bool, true, false, None, refl, sym, ap, ◌∙◌, arith, nat_eq, true≢false}
+use Rattle.std.proofs.Common.{◌≡◌, ℕ, suc, ◌-◌, ◌<◌, ◌≤◌, List, [], ◌∷◌, length, Bool, true, false, None, refl, sym, ap, ◌∙◌, arith, nat_eq, true≢false}
 use Rattle.std.specs.Prelude.{◌&&◌, codes, leb, map, max, if◌then◌else◌}
 use Rattle.std.specs.Str.{bytes_eq}
-use Rattle.std.proofs.lemmas.Bool.{lt-leb, leb-false, eqb-true}
+use Rattle.std.proofs.lemmas.Bool.{lt-leb, leb-true, leb-false, eqb-true}
 use Rattle.mg_text.specs.Call.{Name}
 use Rattle.mg_text.specs.declared.place.Place.{Place}
 use Rattle.jv_tree.specs.declared.tree.Expr.{Expr as KeptExpr}
@@ -13,7 +13,7 @@ use Rattle.jv_tree.specs.View.{expr_of, exprs_of}
 use Rattle.jv_tree.proofs.ViewLaws.{views}
 use Rattle.jv_reading.specs.Stmts.{evaluated_by, evaluated}
 use Rattle.jv_reading.proofs.Primaries.{depth_pos}
-use Rattle.jv_parse.specs.inner.Evaluations.{is_variable, is_none, is_leaf, eval_if, print_if}
+use Rattle.jv_parse.specs.inner.Evaluations.{is_variable, is_none, is_leaf, eval_if}
 
 pub out-Member : (p : Place) (e : Expr) (n : Name) → is_out (Member p e n) ≡ (is_variable (codes "System") e && bytes_eq n (codes "out"))
 out-Member p (Int q z) n = refl
@@ -55,16 +55,19 @@ leaf-is (New p n) = refl
 
 pub ruleset kinds = (views, out-Member, none-is)
 
--- nothing is printed where nothing fits
-pub print_zero : (d : ℕ) (p : Place) (e : Expr) → d ≡ 0 → print_if d p e ≡ None
-print_zero d p e h = let deeper : leb (depth e) d ≡ false = lt-leb (depth e) d (omega (arith, depth_pos e)) in rw deeper refl
+-- one that holds no other one is one deep
+pub within_leaf : (d : ℕ) (e : Expr) → is_leaf e ≡ true → leb 1 d ≡ leb (depth e) d
+within_leaf d e h =
+    let most : depth e ≤ 1 = leb-true (depth e) 1 (sym (leaf-is e) ∙ h) in
+    let one : 1 ≡ depth e = omega (arith, depth_pos e) in
+    ap (λ (k : ℕ). leb k d) one
 
 -- Its call is one deeper than what is printed, where that holds something.
-pub print_deeper : (d call : ℕ) (p : Place) (e : Expr) → call ≡ suc (max 2 (max (depth e) 0)) → is_leaf e ≡ false → d < call - 1 → print_if d p e ≡ None
-print_deeper d call p e deep h less =
+pub within_call : (d call : ℕ) (e : Expr) → call ≡ suc (max 2 (max (depth e) 0)) → is_leaf e ≡ false → leb (call - 1) d ≡ leb (depth e) d
+within_call d call e deep h =
     let more : 1 < depth e = leb-false (depth e) 1 (sym (leaf-is e) ∙ h) in
-    let deeper : leb (depth e) d ≡ false = lt-leb (depth e) d (omega arith) in
-    rw deeper refl
+    let one : call - 1 ≡ depth e = omega arith in
+    ap (λ (k : ℕ). leb k d) one
 
 pub ruleset printing = (views, leaf-is)
 

@@ -1,4 +1,5 @@
 pub mod Gives
+pub mod Found
 pub mod Changes
 pub mod Evaluations
 pub mod Modifiers

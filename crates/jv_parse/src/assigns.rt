@@ -9,7 +9,7 @@ ghost use Rattle.jv_parse.specs.inner.Changes.{plain_at, counted_at, compounded_
 ghost use Rattle.jv_parse.specs.inner.Gives.{Gives};
 ghost use Rattle.jv_reading.specs.Stmts.{cond_at, ended_at, after_final, type_at, local_at, target_at, compound_at, counter_at, is_compound, is_counter, is_change, is_name_change, is_field_change, is_assign, assigned, change_at, assign_at};
 
-use crate::exprs::{Read, closed_of, expr_of};
+use crate::exprs::{Read, closed_of, expr_of, leaf};
 use crate::halt::Halt;
 use crate::tokens::{is_name, is_named, is_sign, is_word, name_of, sign_of, word_of};
 use jv_tree::{Expr, ExprKind, Op, Sign, Stmt, StmtKind, Token, TokenKind};
@@ -25,8 +25,12 @@ pub(crate) const MOST_OPEN: u16 = 400;
 
 // "(" expr ")"
 #[tactic(auto, unfolding(jv_reading::specs::Stmts::cond_at))]
-pub(crate) fn cond_of(alloc: Global, tokens: &[Token], levels: u8) -> Result<(Expr, &[Token]), Halt>
-    ensures { Gives (λ x. (expr_of x.0, x.1.now)) result (cond_at levels tokens.now) }
+pub(crate) fn cond_of(
+    alloc: Global,
+    tokens: &[Token],
+    levels: u8,
+) -> Result<(Box<Expr>, &[Token]), Halt>
+    ensures { Gives (λ x. (expr_of x.0.value, x.1.now)) result (cond_at levels tokens.now) }
 {
     let (_, rest) = sign_of(tokens, Sign::OpenParen)?;
     let (expr, _, rest) = closed_of(alloc, rest, MOST_OPEN, levels)?;
@@ -36,8 +40,8 @@ pub(crate) fn cond_of(alloc: Global, tokens: &[Token], levels: u8) -> Result<(Ex
 // expr ";"
 #[tactic(auto, unfolding(jv_reading::specs::Stmts::ended_at))]
 pub(crate) fn ended_of(alloc: Global, tokens: &[Token], levels: u8) -> Read<'_>
-    ensures read { Gives (λ x. (expr_of x.0, x.2.now)) result (ended_at levels tokens.now) }
-    ensures deep { IfOk result (λ x. x.1 ≡ depth (expr_of x.0)) }
+    ensures read { Gives (λ x. (expr_of x.0.value, x.2.now)) result (ended_at levels tokens.now) }
+    ensures deep { IfOk result (λ x. x.1 ≡ depth (expr_of x.0.value)) }
 {
     let (expr, deep, rest) = expr_of(alloc, tokens, MOST_OPEN, levels)?;
     let (_, rest) = sign_of(rest, Sign::Semicolon)?;
@@ -93,7 +97,7 @@ pub(crate) fn local_of(alloc: Global, tokens: &[Token], levels: u8) -> ReadStmt<
     let (place, name, rest) = name_of(rest)?;
     let (_, rest) = sign_of(rest, Sign::Assign)?;
     let (value, _, rest) = ended_of(alloc, rest, levels)?;
-    let kind = StmtKind::Local(ty, name, value);
+    let kind = StmtKind::Local(ty, name, Box::into_inner(value));
     Ok((Stmt { place, kind }, rest))
 }
 
@@ -224,8 +228,8 @@ pub(crate) fn is_assign(tokens: &[Token]) -> bool
 // target = name | "this" "." name
 #[tactic(auto, using(jv_tree::proofs::ViewLaws::views), unfolding(jv_reading::specs::Stmts::target_at))]
 fn target_of(alloc: Global, tokens: &[Token]) -> Read<'_>
-    ensures read { Gives (λ x. (expr_of x.0, x.2.now)) result (target_at tokens.now) }
-    ensures deep { IfOk result (λ x. x.1 ≡ depth (expr_of x.0)) }
+    ensures read { Gives (λ x. (expr_of x.0.value, x.2.now)) result (target_at tokens.now) }
+    ensures deep { IfOk result (λ x. x.1 ≡ depth (expr_of x.0.value)) }
 {
     if is_word(tokens, "this") {
         let (place, rest) = word_of(tokens, "this")?;
@@ -234,30 +238,30 @@ fn target_of(alloc: Global, tokens: &[Token]) -> Read<'_>
         let kind = ExprKind::This;
         let this = Box::new(alloc, Expr { place, kind })?;
         let kind = ExprKind::Member(this, name);
-        return Ok((Expr { place, kind }, 2, rest));
+        let target = Box::new(alloc, Expr { place, kind })?;
+        return Ok((target, 2, rest));
     }
     let (place, name, rest) = name_of(tokens)?;
-    let kind = ExprKind::Name(name);
-    Ok((Expr { place, kind }, 1, rest))
+    leaf(alloc, place, ExprKind::Name(name), rest)
 }
 
 // An assignment, where its parts are at most so deep.
 #[tactic(auto, using(jv_tree::proofs::ViewLaws::views))]
 fn assigned(
     place: Place,
-    target: (Expr, u8),
-    value: (Expr, u8),
+    target: (Box<Expr>, u8),
+    value: (Box<Expr>, u8),
     rest: &[Token],
     levels: u8,
 ) -> ReadStmt<'_>
-    requires target_deep { target.1 ≡ depth (expr_of target.0) }
-    requires value_deep { value.1 ≡ depth (expr_of value.0) }
-    ensures { Gives (λ x. (stmt_of x.0, x.1.now)) result (assigned levels place (expr_of target.0) (expr_of value.0) rest.now) }
+    requires target_deep { target.1 ≡ depth (expr_of target.0.value) }
+    requires value_deep { value.1 ≡ depth (expr_of value.0.value) }
+    ensures { Gives (λ x. (stmt_of x.0, x.1.now)) result (assigned levels place (expr_of target.0.value) (expr_of value.0.value) rest.now) }
 {
     if target.1 > levels || value.1 > levels {
         return Err(Halt::Syntax { left: rest.len() });
     }
-    let kind = StmtKind::Assign(target.0, value.0);
+    let kind = StmtKind::Assign(Box::into_inner(target.0), Box::into_inner(value.0));
     Ok((Stmt { place, kind }, rest))
 }
 
@@ -267,35 +271,34 @@ fn changed(
     alloc: Global,
     place: Place,
     op: Op,
-    target: (Expr, u8),
-    operand: Expr,
-    value: (Expr, u8),
+    target: (Box<Expr>, u8),
+    operand: Box<Expr>,
+    value: (Box<Expr>, u8),
     rest: &[Token],
     levels: u8,
 ) -> ReadStmt<'_>
-    requires target_deep { target.1 ≡ depth (expr_of target.0) }
-    requires same { expr_of operand ≡ expr_of target.0 }
-    requires value_deep { value.1 ≡ depth (expr_of value.0) }
-    ensures { Gives (λ x. (stmt_of x.0, x.1.now)) result (assigned levels place (expr_of target.0) (changed op (expr_of target.0) (expr_of value.0)) rest.now) }
+    requires target_deep { target.1 ≡ depth (expr_of target.0.value) }
+    requires same { expr_of operand.value ≡ expr_of target.0.value }
+    requires value_deep { value.1 ≡ depth (expr_of value.0.value) }
+    ensures { Gives (λ x. (stmt_of x.0, x.1.now)) result (assigned levels place (expr_of target.0.value) (changed op (expr_of target.0.value) (expr_of value.0.value)) rest.now) }
 {
     let parts = target.1.max(value.1);
     if parts >= levels {
         return Err(Halt::Syntax { left: rest.len() });
     }
-    let left = Box::new(alloc, operand)?;
-    let right = Box::new(alloc, value.0)?;
     let made = Expr {
         place: target.0.place,
-        kind: ExprKind::Binary(op, left, right),
+        kind: ExprKind::Binary(op, operand, value.0),
     };
+    let made = Box::new(alloc, made)?;
     assigned(place, target, (made, parts + 1), rest, levels)
 }
 
 // "=" expr ";" behind a target.
 #[tactic(auto, using(jv_tree::proofs::ViewLaws::views))]
-fn plain_of(alloc: Global, target: (Expr, u8), tokens: &[Token], levels: u8) -> ReadStmt<'_>
-    requires { target.1 ≡ depth (expr_of target.0) }
-    ensures { Gives (λ x. (stmt_of x.0, x.1.now)) result (plain_at levels (expr_of target.0) tokens.now) }
+fn plain_of(alloc: Global, target: (Box<Expr>, u8), tokens: &[Token], levels: u8) -> ReadStmt<'_>
+    requires { target.1 ≡ depth (expr_of target.0.value) }
+    ensures { Gives (λ x. (stmt_of x.0, x.1.now)) result (plain_at levels (expr_of target.0.value) tokens.now) }
 {
     let place = target.0.place;
     let (_, rest) = sign_of(tokens, Sign::Assign)?;
@@ -307,20 +310,20 @@ fn plain_of(alloc: Global, target: (Expr, u8), tokens: &[Token], levels: u8) -> 
 #[tactic(auto, using(jv_tree::proofs::ViewLaws::views))]
 fn counted_of(
     alloc: Global,
-    target: (Expr, u8),
-    operand: Expr,
+    target: (Box<Expr>, u8),
+    operand: Box<Expr>,
     tokens: &[Token],
     levels: u8,
 ) -> ReadStmt<'_>
-    requires target_deep { target.1 ≡ depth (expr_of target.0) }
-    requires same { expr_of operand ≡ expr_of target.0 }
-    ensures { Gives (λ x. (stmt_of x.0, x.1.now)) result (counted_at levels (expr_of target.0) tokens.now) }
+    requires target_deep { target.1 ≡ depth (expr_of target.0.value) }
+    requires same { expr_of operand.value ≡ expr_of target.0.value }
+    ensures { Gives (λ x. (stmt_of x.0, x.1.now)) result (counted_at levels (expr_of target.0.value) tokens.now) }
 {
     let place = target.0.place;
     let (_, op, rest) = counter_of(tokens)?;
     let (_, rest) = sign_of(rest, Sign::Semicolon)?;
     let kind = ExprKind::Int(1);
-    let one = Expr { place, kind };
+    let one = Box::new(alloc, Expr { place, kind })?;
     changed(alloc, place, op, target, operand, (one, 1), rest, levels)
 }
 
@@ -328,14 +331,14 @@ fn counted_of(
 #[tactic(auto, using(jv_tree::proofs::ViewLaws::views))]
 fn compounded_of(
     alloc: Global,
-    target: (Expr, u8),
-    operand: Expr,
+    target: (Box<Expr>, u8),
+    operand: Box<Expr>,
     tokens: &[Token],
     levels: u8,
 ) -> ReadStmt<'_>
-    requires target_deep { target.1 ≡ depth (expr_of target.0) }
-    requires same { expr_of operand ≡ expr_of target.0 }
-    ensures { Gives (λ x. (stmt_of x.0, x.1.now)) result (compounded_at levels (expr_of target.0) tokens.now) }
+    requires target_deep { target.1 ≡ depth (expr_of target.0.value) }
+    requires same { expr_of operand.value ≡ expr_of target.0.value }
+    ensures { Gives (λ x. (stmt_of x.0, x.1.now)) result (compounded_at levels (expr_of target.0.value) tokens.now) }
 {
     let place = target.0.place;
     let (op, rest) = compound_of(tokens)?;
@@ -348,14 +351,14 @@ fn compounded_of(
 #[tactic(auto, unfolding(jv_reading::specs::Stmts::change_at))]
 fn change_of(
     alloc: Global,
-    target: (Expr, u8),
-    operand: Expr,
+    target: (Box<Expr>, u8),
+    operand: Box<Expr>,
     tokens: &[Token],
     levels: u8,
 ) -> ReadStmt<'_>
-    requires target_deep { target.1 ≡ depth (expr_of target.0) }
-    requires same { expr_of operand ≡ expr_of target.0 }
-    ensures { Gives (λ x. (stmt_of x.0, x.1.now)) result (change_at levels (expr_of target.0) tokens.now) }
+    requires target_deep { target.1 ≡ depth (expr_of target.0.value) }
+    requires same { expr_of operand.value ≡ expr_of target.0.value }
+    ensures { Gives (λ x. (stmt_of x.0, x.1.now)) result (change_at levels (expr_of target.0.value) tokens.now) }
 {
     if is_sign(tokens, Sign::Assign) {
         return plain_of(alloc, target, tokens, levels);
@@ -381,6 +384,7 @@ pub(crate) fn assign_of(alloc: Global, tokens: &[Token], levels: u8) -> ReadStmt
             place: target.place,
             kind,
         };
+        let one = Box::new(alloc, one)?;
         let target = (target, deep);
         return changed(alloc, place, op, target, operand, (one, 1), after, levels);
     }

@@ -1,6 +1,6 @@
 //! Reads expressions as statements: calls, `new`, and what is printed.
 
-ghost use Rattle.std.specs.Prelude.{◌≡◌, ◌≤◌, ◌+◌, ◌&&◌, Some, codes, length, map, max, nat_eq, option_map, suc};
+ghost use Rattle.std.specs.Prelude.{◌≡◌, ◌≤◌, ◌+◌, ◌&&◌, Some, codes, leb, length, map, max, nat_eq, option_map, suc};
 ghost use Rattle.std.specs.Str.{bytes_eq};
 ghost use Rattle.jv_tree.specs.Sugar.{is_out};
 ghost use Rattle.jv_tree.specs.Depth.{depth};
@@ -99,21 +99,26 @@ fn eval(place: Place, expr: Expr, deep: u8, levels: u8) -> Option<Stmt>
     Some(Stmt { place, kind })
 }
 
-// A statement that prints, where it is at most so deep. Its call is one deeper than what is
-// printed, or three deep where that holds nothing.
+// Whether what is printed is at most so deep. Its call is one deeper, or three deep where it holds
+// no other expression.
+#[tactic(auto, using(crate::proofs::Evaluating::printing))]
+fn is_within(value: &Expr, call: u8, levels: u8) -> bool
+    requires { call ≡ suc (max 2 (max (depth (expr_of value.now)) 0)) }
+    ensures { result ≡ leb (depth (expr_of value.now)) levels }
+{
+    if is_leaf(value) {
+        return levels >= 1;
+    }
+    call - 1 <= levels
+}
+
+// A statement that prints, where it is at most so deep.
 #[tactic(auto, using(crate::proofs::Evaluating::printing))]
 fn print(place: Place, value: Expr, call: u8, levels: u8) -> Option<Stmt>
     requires { call ≡ suc (max 2 (max (depth (expr_of value)) 0)) }
     ensures { option_map stmt_of result ≡ print_if levels place (expr_of value) }
 {
-    if is_leaf(&value) {
-        if levels == 0 {
-            return None;
-        }
-        let kind = StmtKind::Print(value);
-        return Some(Stmt { place, kind });
-    }
-    if call - 1 > levels {
+    if !is_within(&value, call, levels) {
         return None;
     }
     let kind = StmtKind::Print(value);
@@ -152,11 +157,11 @@ fn method_call(
 
 // What the statement of an expression is, which begins at a place.
 #[tactic(auto, using(crate::proofs::Evaluating::kinds))]
-fn evaluated(place: Place, expr: Expr, deep: u8, levels: u8) -> Option<Stmt>
-    requires { deep ≡ depth (expr_of expr) }
-    ensures { option_map stmt_of result ≡ evaluated levels place (expr_of expr) }
+fn evaluated(place: Place, expr: Box<Expr>, deep: u8, levels: u8) -> Option<Stmt>
+    requires { deep ≡ depth (expr_of expr.value) }
+    ensures { option_map stmt_of result ≡ evaluated levels place (expr_of expr.value) }
 {
-    let Expr { place: at, kind } = expr;
+    let Expr { place: at, kind } = Box::into_inner(expr);
     match kind {
         ExprKind::MethodCall(receiver, name, args) => {
             method_call(place, at, receiver, name, args, deep, levels)

@@ -6,6 +6,7 @@ ghost use Rattle.jv_tree.specs.Expressions.{looseness};
 ghost use Rattle.jv_tree.specs.Source.{Binary, place_of};
 ghost use Rattle.jv_tree.specs.Depth.{depth, depth_of_args};
 ghost use Rattle.jv_tree.specs.View.{expr_of, kind_of, exprs_of};
+ghost use Rattle.jv_parse.specs.inner.Found.{found};
 ghost use Rattle.jv_parse.specs.inner.Gives.{Gives};
 ghost use Rattle.jv_reading.specs.Base.{fits};
 ghost use Rattle.jv_reading.specs.Exprs.{args_with, next_arg_with, arguments_at, closed_at, negative_at, named_at, word_primary_at, new_with, literal, primary_at, tail_at, post_at, is_negation, unary_at, operator, op_at, op_found, is_op, joined_at, binary_at, expr_at};
@@ -17,7 +18,7 @@ use mg_text::{List, Place, Text};
 use std::alloc::Global;
 
 // An expression, its depth, and the tokens after it.
-pub(crate) type Read<'a> = Result<(Expr, u8, &'a [Token]), Halt>;
+pub(crate) type Read<'a> = Result<(Box<Expr>, u8, &'a [Token]), Halt>;
 
 // Arguments, the depth of the deepest, and the tokens after them.
 type ReadArgs<'a> = Result<(List<Expr>, u8, &'a [Token]), Halt>;
@@ -27,15 +28,34 @@ const LOOSEST: u8 = 6;
 
 // An expression whose parts are so deep, in front of tokens that are left, where it fits.
 #[tactic(auto, using(jv_tree::proofs::ViewLaws::views))]
-fn fit(place: Place, kind: ExprKind, parts: u8, levels: u8, rest: &[Token]) -> Read<'_>
+fn fit(
+    alloc: Global,
+    place: Place,
+    kind: ExprKind,
+    parts: u8,
+    levels: u8,
+    rest: &[Token],
+) -> Read<'_>
     requires { suc parts ≡ depth (kind_of kind place) }
-    ensures read { Gives (λ x. (expr_of x.0, x.2.now)) result (fits levels (kind_of kind place) rest.now) }
-    ensures deep { IfOk result (λ x. x.1 ≡ depth (expr_of x.0)) }
+    ensures read { Gives (λ x. (expr_of x.0.value, x.2.now)) result (fits levels (kind_of kind place) rest.now) }
+    ensures deep { IfOk result (λ x. x.1 ≡ depth (expr_of x.0.value)) }
 {
+    let expr = Box::new(alloc, Expr { place, kind })?;
     if parts >= levels {
         return Err(Halt::Syntax { left: rest.len() });
     }
-    Ok((Expr { place, kind }, parts + 1, rest))
+    Ok((expr, parts + 1, rest))
+}
+
+// An expression that holds no other one, in front of tokens that are left.
+#[tactic(auto, using(jv_tree::proofs::ViewLaws::views))]
+pub(crate) fn leaf(alloc: Global, place: Place, kind: ExprKind, rest: &[Token]) -> Read<'_>
+    requires { 1 ≡ depth (kind_of kind place) }
+    ensures read { Gives (λ x. (expr_of x.0.value, x.2.now)) result (found (kind_of kind place) rest.now) }
+    ensures deep { IfOk result (λ x. x.1 ≡ depth (expr_of x.0.value)) }
+{
+    let expr = Box::new(alloc, Expr { place, kind })?;
+    Ok((expr, 1, rest))
 }
 
 // The operator that a sign is.
@@ -109,9 +129,9 @@ fn is_negation(tokens: &[Token]) -> bool
 
 // The number behind a "-" at this place.
 #[tactic(auto, using(jv_tree::proofs::ViewLaws::views))]
-fn negative_of(place: Place, tokens: &[Token]) -> Read<'_>
-    ensures read { Gives (λ x. (expr_of x.0, x.2.now)) result (negative_at place tokens.now) }
-    ensures deep { IfOk result (λ x. x.1 ≡ depth (expr_of x.0)) }
+fn negative_of(alloc: Global, place: Place, tokens: &[Token]) -> Read<'_>
+    ensures read { Gives (λ x. (expr_of x.0.value, x.2.now)) result (negative_at place tokens.now) }
+    ensures deep { IfOk result (λ x. x.1 ≡ depth (expr_of x.0.value)) }
 {
     let Some((first, rest)) = tokens.split_first() else {
         return Err(Halt::Syntax { left: 0 });
@@ -123,24 +143,23 @@ fn negative_of(place: Place, tokens: &[Token]) -> Read<'_>
         return Err(Halt::Syntax { left: tokens.len() });
     }
     let value = (-i64::from(*number)) as i32;
-    let kind = ExprKind::Int(value);
-    Ok((Expr { place, kind }, 1, rest))
+    leaf(alloc, place, ExprKind::Int(value), rest)
 }
 
 // What "new" at this place begins.
 #[tactic(auto, using(jv_tree::proofs::ViewLaws::views), unfolding(jv_reading::specs::Exprs::new_with))]
-fn new_of(place: Place, tokens: &[Token], room: u16) -> Read<'_>
-    ensures read { Gives (λ x. (expr_of x.0, x.2.now)) result (new_with room place tokens.now) }
-    ensures deep { IfOk result (λ x. x.1 ≡ depth (expr_of x.0)) }
+fn new_of(alloc: Global, place: Place, tokens: &[Token], room: u16) -> Read<'_>
+    ensures read { Gives (λ x. (expr_of x.0.value, x.2.now)) result (new_with room place tokens.now) }
+    ensures deep { IfOk result (λ x. x.1 ≡ depth (expr_of x.0.value)) }
 {
     if room == 0 {
-        return Err(Halt::Syntax { left: tokens.len() });
+        let (_, _, rest) = name_of(tokens)?;
+        return Err(Halt::Syntax { left: rest.len() });
     }
     let (_, name, rest) = name_of(tokens)?;
     let (_, rest) = sign_of(rest, Sign::OpenParen)?;
     let (_, rest) = sign_of(rest, Sign::CloseParen)?;
-    let kind = ExprKind::New(name);
-    Ok((Expr { place, kind }, 1, rest))
+    leaf(alloc, place, ExprKind::New(name), rest)
 }
 
 // A word that is an expression.
@@ -176,10 +195,10 @@ fn args_of(alloc: Global, tokens: &[Token], room: u16, levels: u8) -> ReadArgs<'
 {
     let mut args = List::new(alloc);
     let (first, mut deepest, mut rest) = chain_of(alloc, tokens, room, levels, LOOSEST)?;
-    args.push(first)?;
+    args.push(Box::into_inner(first))?;
     'more: while is_sign(rest, Sign::Comma) {
         let (arg, deep, after) = next_arg_of(alloc, rest, room, levels)?;
-        args.push(arg)?;
+        args.push(Box::into_inner(arg))?;
         deepest = deepest.max(deep);
         rest = after;
     }
@@ -190,8 +209,8 @@ fn args_of(alloc: Global, tokens: &[Token], room: u16, levels: u8) -> ReadArgs<'
 #[cycle(nest)]
 #[tactic(auto, unfolding(jv_reading::specs::Exprs::next_arg_with, jv_reading::specs::Exprs::expr_at))]
 fn next_arg_of(alloc: Global, tokens: &[Token], room: u16, levels: u8) -> Read<'_>
-    ensures read { Gives (λ x. (expr_of x.0, x.2.now)) result (next_arg_with (expr_at room levels) tokens.now) }
-    ensures deep { IfOk result (λ x. x.1 ≡ depth (expr_of x.0)) }
+    ensures read { Gives (λ x. (expr_of x.0.value, x.2.now)) result (next_arg_with (expr_at room levels) tokens.now) }
+    ensures deep { IfOk result (λ x. x.1 ≡ depth (expr_of x.0.value)) }
 {
     let (_, rest) = sign_of(tokens, Sign::Comma)?;
     chain_of(alloc, rest, room, levels, LOOSEST)
@@ -219,11 +238,13 @@ fn arguments_of(alloc: Global, tokens: &[Token], room: u16, levels: u8) -> ReadA
 // expr ")" behind the "("
 #[cycle(nest)]
 pub(crate) fn closed_of(alloc: Global, tokens: &[Token], room: u16, levels: u8) -> Read<'_>
-    ensures read { Gives (λ x. (expr_of x.0, x.2.now)) result (closed_at room levels tokens.now) }
-    ensures deep { IfOk result (λ x. x.1 ≡ depth (expr_of x.0)) }
+    ensures read { Gives (λ x. (expr_of x.0.value, x.2.now)) result (closed_at room levels tokens.now) }
+    ensures deep { IfOk result (λ x. x.1 ≡ depth (expr_of x.0.value)) }
 {
     if room == 0 {
-        return Err(Halt::Syntax { left: tokens.len() });
+        return Err(Halt::Syntax {
+            left: tokens.len() + 1,
+        });
     }
     let (inner, deep, rest) = chain_of(alloc, tokens, room - 1, levels, LOOSEST)?;
     let (_, rest) = sign_of(rest, Sign::CloseParen)?;
@@ -241,15 +262,21 @@ fn named_of(
     room: u16,
     levels: u8,
 ) -> Read<'_>
-    ensures read { Gives (λ x. (expr_of x.0, x.2.now)) result (named_at room levels place name tokens.now) }
-    ensures deep { IfOk result (λ x. x.1 ≡ depth (expr_of x.0)) }
+    ensures read { Gives (λ x. (expr_of x.0.value, x.2.now)) result (named_at room levels place name tokens.now) }
+    ensures deep { IfOk result (λ x. x.1 ≡ depth (expr_of x.0.value)) }
 {
     if is_sign(tokens, Sign::OpenParen) {
         let (args, deepest, rest) = arguments_of(alloc, tokens, room, levels.saturating_sub(1))?;
-        return fit(place, ExprKind::Call(name, args), deepest, levels, rest);
+        return fit(
+            alloc,
+            place,
+            ExprKind::Call(name, args),
+            deepest,
+            levels,
+            rest,
+        );
     }
-    let kind = ExprKind::Name(name);
-    Ok((Expr { place, kind }, 1, tokens))
+    leaf(alloc, place, ExprKind::Name(name), tokens)
 }
 
 // What a word in front begins.
@@ -263,18 +290,18 @@ fn word_primary_of<'a>(
     room: u16,
     levels: u8,
 ) -> Read<'a>
-    ensures read { Gives (λ x. (expr_of x.0, x.2.now)) result (word_primary_at room levels place word.now tokens.now) }
-    ensures deep { IfOk result (λ x. x.1 ≡ depth (expr_of x.0)) }
+    ensures read { Gives (λ x. (expr_of x.0.value, x.2.now)) result (word_primary_at room levels place word.now tokens.now) }
+    ensures deep { IfOk result (λ x. x.1 ≡ depth (expr_of x.0.value)) }
 {
     if is_name(word) {
         let name = Text::of(alloc, word)?;
         return named_of(alloc, place, name, tokens, room, levels);
     }
     if word == "new" {
-        return new_of(place, tokens, room);
+        return new_of(alloc, place, tokens, room);
     }
     match literal(place, word) {
-        Some(expr) => Ok((expr, 1, tokens)),
+        Some(expr) => Ok((Box::new(alloc, expr)?, 1, tokens)),
         None => Err(Halt::Syntax {
             left: tokens.len() + 1,
         }),
@@ -284,8 +311,8 @@ fn word_primary_of<'a>(
 #[cycle(nest)]
 #[tactic(auto, using(jv_tree::proofs::ViewLaws::views), unfolding(jv_reading::specs::Exprs::primary_at, jv_reading::specs::Exprs::primary_with, jv_reading::specs::Exprs::signed_with, jv_reading::specs::Exprs::closed_at, jv_reading::specs::Exprs::word_primary_at))]
 fn primary_of(alloc: Global, tokens: &[Token], room: u16, levels: u8) -> Read<'_>
-    ensures read { Gives (λ x. (expr_of x.0, x.2.now)) result (primary_at room levels tokens.now) }
-    ensures deep { IfOk result (λ x. x.1 ≡ depth (expr_of x.0)) }
+    ensures read { Gives (λ x. (expr_of x.0.value, x.2.now)) result (primary_at room levels tokens.now) }
+    ensures deep { IfOk result (λ x. x.1 ≡ depth (expr_of x.0.value)) }
 {
     let left = tokens.len();
     if levels == 0 {
@@ -303,18 +330,14 @@ fn primary_of(alloc: Global, tokens: &[Token], room: u16, levels: u8) -> Read<'_
             if *number > 2_147_483_647 {
                 return Err(Halt::Syntax { left });
             }
-            let kind = ExprKind::Int(*number as i32);
-            Ok((Expr { place, kind }, 1, rest))
+            leaf(alloc, place, ExprKind::Int(*number as i32), rest)
         }
-        TokenKind::Text(text) => {
-            let kind = ExprKind::Text(text.copy()?);
-            Ok((Expr { place, kind }, 1, rest))
-        }
+        TokenKind::Text(text) => { leaf(alloc, place, ExprKind::Text(text.copy()?), rest) }
         TokenKind::Sign(sign) => {
             if *sign == Sign::OpenParen {
                 closed_of(alloc, rest, room, levels)
             } else if *sign == Sign::Minus {
-                negative_of(place, rest)
+                negative_of(alloc, place, rest)
             } else {
                 Err(Halt::Syntax { left })
             }
@@ -325,28 +348,40 @@ fn primary_of(alloc: Global, tokens: &[Token], room: u16, levels: u8) -> Read<'_
 // "." name [ "(" [args] ")" ] behind an expression.
 #[cycle(nest)]
 #[tactic(auto, using(jv_tree::proofs::ViewLaws::views), unfolding(jv_reading::specs::Exprs::tail_at, jv_reading::specs::Exprs::arguments_at, jv_reading::specs::Exprs::tail_with, jv_reading::specs::Exprs::member_with))]
-fn tail_of(alloc: Global, left: Expr, deep: u8, tokens: &[Token], room: u16, levels: u8) -> Read<'_>
-    requires { deep ≡ depth (expr_of left) }
-    ensures read { Gives (λ x. (expr_of x.0, x.2.now)) result (tail_at room levels (expr_of left) tokens.now) }
-    ensures deep { IfOk result (λ x. x.1 ≡ depth (expr_of x.0)) }
+fn tail_of(
+    alloc: Global,
+    left: Box<Expr>,
+    deep: u8,
+    tokens: &[Token],
+    room: u16,
+    levels: u8,
+) -> Read<'_>
+    requires { deep ≡ depth (expr_of left.value) }
+    ensures read { Gives (λ x. (expr_of x.0.value, x.2.now)) result (tail_at room levels (expr_of left.value) tokens.now) }
+    ensures deep { IfOk result (λ x. x.1 ≡ depth (expr_of x.0.value)) }
 {
+    let place = left.place;
     let (_, rest) = sign_of(tokens, Sign::Dot)?;
     let (_, name, rest) = name_of(rest)?;
-    let place = left.place;
     if is_sign(rest, Sign::OpenParen) {
         let (args, deepest, rest) = arguments_of(alloc, rest, room, levels.saturating_sub(1))?;
-        let left = Box::new(alloc, left)?;
         let kind = ExprKind::MethodCall(left, name, args);
-        return fit(place, kind, deep.max(deepest), levels, rest);
+        return fit(alloc, place, kind, deep.max(deepest), levels, rest);
     }
-    let left = Box::new(alloc, left)?;
-    fit(place, ExprKind::Member(left, name), deep, levels, rest)
+    fit(
+        alloc,
+        place,
+        ExprKind::Member(left, name),
+        deep,
+        levels,
+        rest,
+    )
 }
 
 #[cycle(nest)]
 pub(crate) fn post_of(alloc: Global, tokens: &[Token], room: u16, levels: u8) -> Read<'_>
-    ensures read { Gives (λ x. (expr_of x.0, x.2.now)) result (post_at room levels tokens.now) }
-    ensures deep { IfOk result (λ x. x.1 ≡ depth (expr_of x.0)) }
+    ensures read { Gives (λ x. (expr_of x.0.value, x.2.now)) result (post_at room levels tokens.now) }
+    ensures deep { IfOk result (λ x. x.1 ≡ depth (expr_of x.0.value)) }
 {
     let (mut left, mut deep, mut rest) = primary_of(alloc, tokens, room, levels)?;
     'tails: while is_sign(rest, Sign::Dot) {
@@ -361,8 +396,8 @@ pub(crate) fn post_of(alloc: Global, tokens: &[Token], room: u16, levels: u8) ->
 #[cycle(nest)]
 #[tactic(auto, using(jv_tree::proofs::ViewLaws::views), unfolding(jv_reading::specs::Exprs::unary_at, jv_reading::specs::Exprs::post_at, jv_reading::specs::Exprs::unary_with))]
 fn unary_of(alloc: Global, tokens: &[Token], room: u16, levels: u8) -> Read<'_>
-    ensures read { Gives (λ x. (expr_of x.0, x.2.now)) result (unary_at room levels tokens.now) }
-    ensures deep { IfOk result (λ x. x.1 ≡ depth (expr_of x.0)) }
+    ensures read { Gives (λ x. (expr_of x.0.value, x.2.now)) result (unary_at room levels tokens.now) }
+    ensures deep { IfOk result (λ x. x.1 ≡ depth (expr_of x.0.value)) }
 {
     if levels == 0 {
         return Err(Halt::Syntax { left: tokens.len() });
@@ -370,14 +405,12 @@ fn unary_of(alloc: Global, tokens: &[Token], room: u16, levels: u8) -> Read<'_>
     if is_negation(tokens) {
         let (place, rest) = sign_of(tokens, Sign::Minus)?;
         let (inner, deep, rest) = unary_of(alloc, rest, room, levels - 1)?;
-        let inner = Box::new(alloc, inner)?;
-        return fit(place, ExprKind::Neg(inner), deep, levels, rest);
+        return fit(alloc, place, ExprKind::Neg(inner), deep, levels, rest);
     }
     if is_sign(tokens, Sign::Bang) {
         let (place, rest) = sign_of(tokens, Sign::Bang)?;
         let (inner, deep, rest) = unary_of(alloc, rest, room, levels - 1)?;
-        let inner = Box::new(alloc, inner)?;
-        return fit(place, ExprKind::Not(inner), deep, levels, rest);
+        return fit(alloc, place, ExprKind::Not(inner), deep, levels, rest);
     }
     post_of(alloc, tokens, room, levels)
 }
@@ -387,33 +420,31 @@ fn unary_of(alloc: Global, tokens: &[Token], room: u16, levels: u8) -> Read<'_>
 #[tactic(auto, using(jv_tree::proofs::ViewLaws::views), unfolding(jv_reading::specs::Exprs::joined_at, jv_reading::specs::Exprs::binary_at, jv_reading::specs::Exprs::joined_with))]
 fn joined_of(
     alloc: Global,
-    left: Expr,
+    left: Box<Expr>,
     deep: u8,
     tokens: &[Token],
     room: u16,
     levels: u8,
     strength: u8,
 ) -> Read<'_>
-    requires { deep ≡ depth (expr_of left) }
-    ensures read { Gives (λ x. (expr_of x.0, x.2.now)) result (joined_at room strength levels (expr_of left) tokens.now) }
-    ensures deep { IfOk result (λ x. x.1 ≡ depth (expr_of x.0)) }
+    requires { deep ≡ depth (expr_of left.value) }
+    ensures read { Gives (λ x. (expr_of x.0.value, x.2.now)) result (joined_at room strength levels (expr_of left.value) tokens.now) }
+    ensures deep { IfOk result (λ x. x.1 ≡ depth (expr_of x.0.value)) }
 {
+    let place = left.place;
     let Some((op, rest)) = op_of(tokens, strength) else {
         return Err(Halt::Syntax { left: tokens.len() });
     };
     let (right, height, rest) = chain_of(alloc, rest, room, levels.saturating_sub(1), strength)?;
-    let place = left.place;
-    let left = Box::new(alloc, left)?;
-    let right = Box::new(alloc, right)?;
     let kind = ExprKind::Binary(op, left, right);
-    fit(place, kind, deep.max(height), levels, rest)
+    fit(alloc, place, kind, deep.max(height), levels, rest)
 }
 
 // Parts with operators between them that all bind less loosely than this.
 #[cycle(nest)]
 fn chain_of(alloc: Global, tokens: &[Token], room: u16, levels: u8, looseness: u8) -> Read<'_>
-    ensures read { Gives (λ x. (expr_of x.0, x.2.now)) result (binary_at room looseness levels tokens.now) }
-    ensures deep { IfOk result (λ x. x.1 ≡ depth (expr_of x.0)) }
+    ensures read { Gives (λ x. (expr_of x.0.value, x.2.now)) result (binary_at room looseness levels tokens.now) }
+    ensures deep { IfOk result (λ x. x.1 ≡ depth (expr_of x.0.value)) }
 {
     if looseness == 0 {
         return unary_of(alloc, tokens, room, levels);
@@ -432,8 +463,8 @@ fn chain_of(alloc: Global, tokens: &[Token], room: u16, levels: u8, looseness: u
 // An expression in which so many parentheses may be open, and which is at most so deep.
 #[tactic(auto, unfolding(jv_reading::specs::Exprs::expr_at))]
 pub(crate) fn expr_of(alloc: Global, tokens: &[Token], room: u16, levels: u8) -> Read<'_>
-    ensures read { Gives (λ x. (expr_of x.0, x.2.now)) result (expr_at room levels tokens.now) }
-    ensures deep { IfOk result (λ x. x.1 ≡ depth (expr_of x.0)) }
+    ensures read { Gives (λ x. (expr_of x.0.value, x.2.now)) result (expr_at room levels tokens.now) }
+    ensures deep { IfOk result (λ x. x.1 ≡ depth (expr_of x.0.value)) }
 {
     chain_of(alloc, tokens, room, levels, LOOSEST)
 }

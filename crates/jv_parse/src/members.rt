@@ -206,7 +206,7 @@ fn field_of(alloc: Global, head: Head, tokens: &[Token]) -> Result<(Field, &[Tok
     if is_sign(tokens, Sign::Assign) {
         let (_, rest) = sign_of(tokens, Sign::Assign)?;
         let (value, _, rest) = ended_of(alloc, rest, MOST_LEVELS)?;
-        let value = Some(value);
+        let value = Some(Box::into_inner(value));
         return Ok((
             Field {
                 place,

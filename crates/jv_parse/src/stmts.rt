@@ -135,7 +135,7 @@ fn return_of(alloc: Global, tokens: &[Token], levels: u8) -> ReadStmt<'_>
         return Ok((Stmt { place, kind }, rest));
     }
     let (value, _, rest) = ended_of(alloc, rest, levels)?;
-    let kind = StmtKind::Return(Some(value));
+    let kind = StmtKind::Return(Some(Box::into_inner(value)));
     Ok((Stmt { place, kind }, rest))
 }
 
@@ -215,6 +215,17 @@ fn block_of(alloc: Global, tokens: &[Token], levels: u8) -> ReadStmt<'_>
     Ok((Stmt { place, kind }, rest))
 }
 
+// A statement that stands in another one.
+#[cycle(nest_stmts)]
+fn inner_of(alloc: Global, tokens: &[Token], levels: u8) -> Result<(Box<Stmt>, &[Token]), Halt>
+    requires { levels ≤ 200 }
+    ensures { Gives (λ x. (stmt_of x.0.value, x.1.now)) result (stmt_at levels tokens.now) }
+{
+    let (stmt, rest) = stmt_of(alloc, tokens, levels)?;
+    let stmt = Box::new(alloc, stmt)?;
+    Ok((stmt, rest))
+}
+
 #[cycle(nest_stmts)]
 #[tactic(auto, using(jv_tree::proofs::ViewLaws::views), unfolding(jv_reading::specs::Stmts::if_with, jv_reading::specs::Stmts::else_with))]
 fn if_of(alloc: Global, tokens: &[Token], levels: u8) -> ReadStmt<'_>
@@ -223,16 +234,14 @@ fn if_of(alloc: Global, tokens: &[Token], levels: u8) -> ReadStmt<'_>
 {
     let (place, rest) = word_of(tokens, "if")?;
     let (test, rest) = cond_of(alloc, rest, levels)?;
-    let (body, rest) = stmt_of(alloc, rest, levels)?;
-    let body = Box::new(alloc, body)?;
+    let (body, rest) = inner_of(alloc, rest, levels)?;
     if is_word(rest, "else") {
         let (_, rest) = word_of(rest, "else")?;
-        let (other, rest) = stmt_of(alloc, rest, levels)?;
-        let other = Box::new(alloc, other)?;
-        let kind = StmtKind::If(test, body, Some(other));
+        let (other, rest) = inner_of(alloc, rest, levels)?;
+        let kind = StmtKind::If(Box::into_inner(test), body, Some(other));
         return Ok((Stmt { place, kind }, rest));
     }
-    let kind = StmtKind::If(test, body, None);
+    let kind = StmtKind::If(Box::into_inner(test), body, None);
     Ok((Stmt { place, kind }, rest))
 }
 
@@ -261,10 +270,9 @@ fn while_of(
 {
     let (start, rest) = word_of(tokens, "while")?;
     let (test, rest) = cond_of(alloc, rest, levels)?;
-    let (body, rest) = stmt_of(alloc, rest, levels)?;
-    let body = Box::new(alloc, body)?;
+    let (body, rest) = inner_of(alloc, rest, levels)?;
     let (place, name) = labelled(start, label);
-    let kind = StmtKind::While(name, test, body);
+    let kind = StmtKind::While(name, Box::into_inner(test), body);
     Ok((Stmt { place, kind }, rest))
 }
 
@@ -275,13 +283,12 @@ fn do_of(alloc: Global, tokens: &[Token], label: Option<(Place, Text)>, levels: 
     ensures { Gives (λ x. (stmt_of x.0, x.1.now)) result (do_with levels (stmt_at levels) label tokens.now) }
 {
     let (start, rest) = word_of(tokens, "do")?;
-    let (body, rest) = stmt_of(alloc, rest, levels)?;
+    let (body, rest) = inner_of(alloc, rest, levels)?;
     let (_, rest) = word_of(rest, "while")?;
     let (test, rest) = cond_of(alloc, rest, levels)?;
     let (_, rest) = sign_of(rest, Sign::Semicolon)?;
-    let body = Box::new(alloc, body)?;
     let (place, name) = labelled(start, label);
-    let kind = StmtKind::Do(name, body, test);
+    let kind = StmtKind::Do(name, body, Box::into_inner(test));
     Ok((Stmt { place, kind }, rest))
 }
 
@@ -344,7 +351,7 @@ fn switch_of(alloc: Global, tokens: &[Token], levels: u8) -> ReadStmt<'_>
     let (_, rest) = sign_of(rest, Sign::OpenBrace)?;
     let (groups, rest) = groups_of(alloc, rest, levels)?;
     let (end, rest) = sign_of(rest, Sign::CloseBrace)?;
-    let kind = StmtKind::Switch(value, groups, end);
+    let kind = StmtKind::Switch(Box::into_inner(value), groups, end);
     Ok((Stmt { place, kind }, rest))
 }
 

@@ -56,15 +56,15 @@ decreases-args_of-more l = length l.rest
 
 abbrev pub invariant-post_of-tails : goal.invariant-post_of-tails
 invariant-post_of-tails l =
-    Growing (is_sign signs.Dot) (tail_at l.room l.levels) (expr_of l.left) l.rest (post_at l.room l.levels l.fn.tokens) × (l.deep ≡ depth (expr_of l.left))
+    Growing (is_sign signs.Dot) (tail_at l.room l.levels) (expr_of l.left.value) l.rest (post_at l.room l.levels l.fn.tokens) × (l.deep ≡ depth (expr_of l.left.value))
 
 abbrev pub decreases-post_of-tails : goal.decreases-post_of-tails
 decreases-post_of-tails l = length l.rest
 
 abbrev pub invariant-chain_of-parts : goal.invariant-chain_of-parts
 invariant-chain_of-parts l =
-    Growing (is_op l.strength) (joined_at l.room l.strength l.levels) (expr_of l.left) l.rest (binary_at l.room l.looseness l.levels l.fn.tokens)
-    × (l.deep ≡ depth (expr_of l.left))
+    Growing (is_op l.strength) (joined_at l.room l.strength l.levels) (expr_of l.left.value) l.rest (binary_at l.room l.looseness l.levels l.fn.tokens)
+    × (l.deep ≡ depth (expr_of l.left.value))
 
 abbrev pub decreases-chain_of-parts : goal.decreases-chain_of-parts
 decreases-chain_of-parts l = length l.rest

@@ -18,17 +18,20 @@ decreases-items_of l = 10 * l.levels + 2
 abbrev pub decreases-block_of : goal.decreases-block_of
 decreases-block_of l = 10 * l.levels + 3
 
+abbrev pub decreases-inner_of : goal.decreases-inner_of
+decreases-inner_of l = 10 * l.levels + 1
+
 abbrev pub decreases-if_of : goal.decreases-if_of
-decreases-if_of l = 10 * l.levels + 1
+decreases-if_of l = 10 * l.levels + 2
 
 abbrev pub decreases-while_of : goal.decreases-while_of
-decreases-while_of l = 10 * l.levels + 1
+decreases-while_of l = 10 * l.levels + 2
 
 abbrev pub decreases-do_of : goal.decreases-do_of
-decreases-do_of l = 10 * l.levels + 1
+decreases-do_of l = 10 * l.levels + 2
 
 abbrev pub decreases-loop_of : goal.decreases-loop_of
-decreases-loop_of l = 10 * l.levels + 2
+decreases-loop_of l = 10 * l.levels + 3
 
 abbrev pub decreases-group_of : goal.decreases-group_of
 decreases-group_of l = 10 * l.levels + 3
