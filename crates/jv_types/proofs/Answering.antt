@@ -8,20 +8,17 @@ use Rattle.ts_tree.specs.Typestate.{Typestate}
 use Rattle.jv_tree.specs.declared.tree.Decl.{Decl as KeptDecl}
 use Rattle.jv_tree.specs.declared.tree.File.{File as KeptFile}
 use Rattle.jv_tree.specs.View.{decl_of, file_of}
-use Rattle.jv_meaning.specs.Program.{classes_of}
 use Rattle.jv_rules.specs.declared.condition.Condition.{Condition}
 use Rattle.jv_rules.specs.Program.{Program, decls_of}
 use Rattle.jv_rules.specs.Faults.{IsTableFault}
 use Rattle.jv_rules.specs.inner.Deciding.{first_by}
-use Rattle.jv_types.specs.declared.entry.ClassEntry.{ClassEntry}
 use Rattle.jv_types.specs.declared.fault.TypeFault.{TypeFault}
 use Rattle.jv_types.specs.Outcome.{fault_told, TellsFault}
 use Rattle.jv_types.specs.View.{program_of}
 use Rattle.jv_types.specs.inner.Blaming.{is_in, are_new}
 use Rattle.jv_types.specs.inner.Repeating.{repeat_type, repeat_typestate, repeat_in}
 use Rattle.jv_types.specs.inner.Kept.{kept_decls}
-use Rattle.jv_types.specs.inner.Tabled.{class_in, AreEntriesOf}
-use Rattle.jv_types.specs.inner.Deciding.{early_in, early_found, later_found}
+use Rattle.jv_types.specs.inner.Deciding.{early_in, early_found, IsLater}
 use Rattle.jv_types.proofs.Building.{none_some, none_or}
 use Rattle.jv_types.proofs.Declared.{early_fault, later_fault, later_by, no_repeats}
 use Rattle.jv_types.proofs.Entries.{map-map}
@@ -73,8 +70,14 @@ module _ (files : List KeptFile) (ts : List Typestate) (origins : List ℕ) (ds 
     pub members_none : first_by repeat_in (map (λ d. decl_of d.now) ds) ≡ None
     members_none = ap (first_by repeat_in) seen_decls ∙ (no_repeats (program_of files ts) origins early_none).1
 
-    pub later_told : (p : Program) → p ≡ program_of files ts → (es : List ClassEntry) → map class_in es ≡ classes_of p.files → AreEntriesOf p es →
-        (r : Option (Condition × Culprit)) → r ≡ later_found p es → IsTableFault (program_of files ts) origins r
-    later_told p same es each h r e =
-        subst (λ q. IsTableFault q origins r) same
-        (subst (IsTableFault p origins) (sym (e ∙ later_by p es each h origins)) (later_fault p origins (ap (λ q. early_found q origins) same ∙ early_none)))
+  -- of the declarations as they are kept
+  pub early_kept : None ≡ early_in (map (λ d. decl_of d.now) ds) ts origins → early_in (map decl_of (kept_decls files)) ts origins ≡ None
+  early_kept none = ap (λ xs. early_in xs ts origins) (decls_kept files ∙ sym seen_decls) ∙ sym none
+
+-- what is found later is a fault of the declarations
+pub later_as : (files : List KeptFile) (ts : List Typestate) (origins : List ℕ) → early_in (map decl_of (kept_decls files)) ts origins ≡ None → (p : Program) → p ≡ program_of files ts →
+    (r : Option (Condition × Culprit)) → IsLater p r → IsTableFault (program_of files ts) origins r
+later_as files ts origins none p same r h =
+    subst (λ q. IsTableFault q origins r) same
+    (subst (IsTableFault p origins) (sym (h.is ∙ later_by p h.entries h.classes h.each origins))
+    (later_fault p origins (ap (λ q. early_found q origins) same ∙ ap (λ xs. early_in xs ts origins) (sym (decls_kept files)) ∙ none)))

@@ -6,7 +6,6 @@ use Rattle.mg_text.specs.declared.place.Place.{Place}
 use Rattle.jv_tree.specs.Source.{Expr, Stmt, If, IfElse, While, Do, Switch, Stmts, Then, Groups, Group}
 use Rattle.mg_read.specs.Culprit.{Culprit}
 use Rattle.mg_read.specs.First.{with_earlier}
-use Rattle.jv_rules.specs.declared.condition.Condition.{Condition}
 use Rattle.jv_rules.specs.declared.condition.Condition.TheVariants as conditions
 use Rattle.jv_rules.specs.Types.{BooleanType}
 use Rattle.jv_rules.specs.Scope.{Scope, Loop, within, behind}

@@ -91,7 +91,7 @@ demanded_by program c m (Some t) e h = (t, e, h)
 offered_by : (program : Program) (c : Class) (m : protocols.Method) → IsDemanded program c m → Contains (offers_of (typestate_of program c)) m
 offered_by program c m d = subst (λ o. Contains (offers_of o) m) (sym d.1) d.2
 
-type_is : (a b : TypeName) → type_eq a b ≡ true → a ≡ b
+pub type_is : (a b : TypeName) → type_eq a b ≡ true → a ≡ b
 type_is written.Void written.Void e = refl
 type_is written.Int written.Int e = refl
 type_is written.Boolean written.Boolean e = refl

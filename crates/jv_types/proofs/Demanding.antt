@@ -1,5 +1,5 @@
 -- What a typestate demands of the methods of its class, by the names of those that break it.
-use Rattle.std.proofs.Common.{◌≡◌, ℕ, ◌+◌, ◌<◌, length, get_or, drop, List, [], ◌∷◌, ◌++◌, map, Option, Some, None, Bool, true, false, not, ◌&&◌, ◌||◌, cond, Contains, refl, sym, ap, subst, ◌∙◌, true≢false}
+use Rattle.std.proofs.Common.{◌≡◌, List, [], ◌∷◌, ◌++◌, map, Option, Some, None, Bool, true, false, not, ◌&&◌, ◌||◌, cond, Contains, refl, sym, ap, subst, ◌∙◌, true≢false}
 use Rattle.std.specs.Prelude.{is_some, position}
 use Rattle.std.specs.List.{list_any, find}
 use Rattle.std.specs.Option.{option_or}
@@ -10,46 +10,20 @@ use Rattle.std.proofs.lemmas.Slice.Eq.{bytes_eq-Decides}
 use Rattle.mg_text.specs.Call.{Name}
 use Rattle.mg_text.specs.Interned.{with_text}
 use Rattle.mg_read.specs.Culprit.{Culprit, culprit}
-use Rattle.ts_tree.specs.declared.parts.State.{State as KeptState}
-use Rattle.ts_tree.specs.View.{method_of, state_of}
 use Rattle.ts_tree.specs.Typestate as protocols
 use Rattle.jv_tree.specs.Source.{Method, Class}
 use Rattle.jv_tree.specs.declared.tree.MethodDecl.{MethodDecl}
 use Rattle.jv_tree.specs.View.{method_of as source_of}
 use Rattle.jv_types.proofs.Entries.{map-map}
 use Rattle.jv_meaning.specs.Program.{method_named}
-use Rattle.jv_rules.specs.Program.{Program, offers_in}
+use Rattle.jv_rules.specs.Program.{Program}
 use Rattle.jv_rules.specs.inner.Deciding.{when, first_by}
 use Rattle.jv_types.specs.declared.demands.Demand.{Demand}
 use Rattle.jv_types.specs.inner.Blaming.{is_in, noted, are_new}
-use Rattle.jv_types.specs.inner.Declaring.{missing_method, all_in, breaks, breaks_it, broken_names, broken_by_name, broken_method}
-use Rattle.jv_types.proofs.Faulting.{first_by-append}
+use Rattle.jv_types.specs.inner.Declaring.{all_in, breaks, breaks_it, broken_names, broken_by_name, broken_method}
 use Rattle.jv_types.proofs.Finding.{any_at, bytes_eq_flip}
 use Rattle.jv_types.proofs.NewNames.{new_split, in-Decides, not_in}
-use Rattle.jv_types.proofs.Offers.{any_with, any_noted, or_or, drop_step}
-
--- ---- states, one after another
-
-pub missing-step : (c : Class) (ss : List KeptState) (i : ℕ) (x : KeptState) → i < length ss → x ≡ get_or ss i x →
-    first_by (missing_method c) (offers_in (map state_of (drop i ss)))
-    ≡ option_or (first_by (missing_method c) (map method_of x.methods.items)) (first_by (missing_method c) (offers_in (map state_of (drop (i + 1) ss))))
-missing-step c ss i x within is =
-    drop_step (λ l. first_by (missing_method c) (offers_in (map state_of l))) ss i x within is
-    ∙ first_by-append (missing_method c) (map method_of x.methods.items) (offers_in (map state_of (drop (i + 1) ss)))
-
-module _ (program : Program) (k : Demand) (c : Class) where
-  broken-append : (met : List Name) (ds es : List protocols.Method) → broken_names program k c met (ds ++ es) ≡ broken_names program k c (broken_names program k c met ds) es
-  broken-append met [] es = refl
-  broken-append met (d ∷ ds) es = broken-append (cond (breaks_it program k (method_named c d.name) d) (with_text met d.name) met) ds es
-
-  pub broken-step : (met : List Name) (ss : List KeptState) (i : ℕ) (x : KeptState) → i < length ss → x ≡ get_or ss i x →
-      broken_names program k c met (offers_in (map state_of (drop i ss)))
-      ≡ broken_names program k c (broken_names program k c met (map method_of x.methods.items)) (offers_in (map state_of (drop (i + 1) ss)))
-  broken-step met ss i x within is =
-      drop_step (λ l. broken_names program k c met (offers_in (map state_of l))) ss i x within is
-      ∙ broken-append met (map method_of x.methods.items) (offers_in (map state_of (drop (i + 1) ss)))
-
-pub ruleset demanding = (common_steps, missing-step, broken-step)
+use Rattle.jv_types.proofs.Offers.{any_with, any_noted, or_or}
 
 -- ---- tables of labels
 

@@ -1,19 +1,20 @@
 -- What the entries of a program are found to be.
-use Rattle.std.proofs.Common.{◌≡◌, ℕ, zero, suc, ◌<◌, List, [], ◌∷◌, ◌++◌, map, length, get_or, Some, None, refl, sym, ap, ◌∙◌, arith, position}
+use Rattle.std.proofs.Common.{◌≡◌, ℕ, zero, suc, ◌<◌, List, [], ◌∷◌, ◌++◌, map, length, get_or, Option, Some, None, refl, sym, ap, ◌∙◌, arith, position}
 use Rattle.std.specs.List.{find}
 use Rattle.std.specs.Str.{bytes_eq}
 use Rattle.mg_text.specs.Call.{Name}
-use Rattle.std.specs.Prelude.{flat_map}
+use Rattle.std.specs.Prelude.{flat_map, option_and_then}
 use Rattle.std.proofs.lemmas.List.{map-append}
 use Rattle.ts_tree.specs.Typestate.{Typestate}
 use Rattle.jv_tree.specs.declared.tree.Decl.{Decl}
 use Rattle.jv_tree.specs.declared.tree.Decl.TheVariants as decls
 use Rattle.jv_tree.specs.declared.tree.File.{File}
 use Rattle.jv_tree.specs.View.{class_of, enum_of, decl_of, file_of}
-use Rattle.jv_meaning.specs.Program.{class_in as class_in_decl, enum_in as enum_in_decl, classes_of, enums_of, class_named, enum_named}
+use Rattle.jv_meaning.specs.Program.{class_in as class_in_decl, enum_in as enum_in_decl, classes_of, enums_of, class_named, enum_named, typestate_named}
 use Rattle.jv_types.specs.View.{program_of}
 use Rattle.jv_types.specs.declared.entry.ClassEntry.{ClassEntry}
 use Rattle.jv_types.specs.declared.entry.EnumEntry.{EnumEntry}
+use Rattle.jv_types.specs.declared.protocols.Protocol.{Protocol}
 use Rattle.jv_types.specs.inner.Kept.{class_kept, enum_kept, kept_classes, kept_enums, typestate_in, followed, IsTabled}
 use Rattle.jv_types.specs.inner.Tabled.{class_in, enum_in, IsEntryOf, AreEntriesOf}
 use Rattle.jv_types.proofs.Finding.{found_at, found_within, found_none}
@@ -76,8 +77,8 @@ enums_kept (f ∷ fs) =
     ∙ ap (λ es. es ++ map enum_of (kept_enums fs)) (decl_enums f.decls.items)
     ∙ ap (λ es. flat_map enum_in_decl (map decl_of f.decls.items) ++ es) (enums_kept fs)
 
-module _ {files : List File} {typestates : List Typestate} {classes : List ClassEntry} {class_names : List Name} {enums : List EnumEntry} {enum_names : List Name}
-    (t : IsTabled files typestates classes class_names enums enum_names) where
+module _ {files : List File} {typestates : List Typestate} {protocols : List Protocol} {typestate_names : List Name} {classes : List ClassEntry} {class_names : List Name} {enums : List EnumEntry} {enum_names : List Name}
+    (t : IsTabled files typestates protocols typestate_names classes class_names enums enum_names) where
   pub all_classes_in : map class_in classes ≡ classes_of (map file_of files)
   all_classes_in = sym (map-map (λ e. e.class.now) class_of classes) ∙ ap (map class_of) t.all_classes ∙ classes_kept files
 
@@ -97,6 +98,9 @@ module _ {files : List File} {typestates : List Typestate} {classes : List Class
   entry_at i e within is = record { follows = same_at typestate_in (followed typestates) classes t.follow i e within is }
 
   module _ (name : Name) (i : ℕ) where
+    pub protocol_within : Some i ≡ position (bytes_eq name) typestate_names → i < length protocols
+    protocol_within at = within_entries name typestate_names protocols (λ p. p.of.now) (λ x. x.name) typestates t.all_typestates t.typestates_named i at
+
     pub class_within : Some i ≡ position (bytes_eq name) class_names → i < length classes
     class_within at = within_entries name class_names classes class_in (λ c. c.name) (classes_of (map file_of files)) all_classes_in classes_are_named i at
 
@@ -117,4 +121,16 @@ module _ {files : List File} {typestates : List Typestate} {classes : List Class
   pub enum_missing : (name : Name) → None ≡ position (bytes_eq name) enum_names → None ≡ enum_named (map file_of files) name
   enum_missing name none = no_entry name enum_names enums enum_in (λ e. e.name) (enums_of (map file_of files)) all_enums_in enums_are_named none
 
-pub ruleset within = (class_within, enum_within)
+  -- the typestate that is named, by a text that is its name
+  module _ (o : Option Name) (n : Name) (named : o ≡ Some n) (text : Name) (same : text ≡ n) where
+    follow_named : typestate_named typestates text ≡ option_and_then (typestate_named typestates) o
+    follow_named = ap (typestate_named typestates) same ∙ ap (option_and_then (typestate_named typestates)) (sym named)
+
+    pub protocol_found : (i : ℕ) → Some i ≡ position (bytes_eq text) typestate_names → (x : Protocol) → x ≡ get_or protocols i x → Some x.of.now ≡ option_and_then (typestate_named typestates) o
+    protocol_found i at x is =
+        found_entry text typestate_names protocols (λ p. p.of.now) (λ y. y.name) typestates t.all_typestates t.typestates_named i at protocols refl x is ∙ follow_named
+
+    pub protocol_missing : None ≡ position (bytes_eq text) typestate_names → None ≡ option_and_then (typestate_named typestates) o
+    protocol_missing none = no_entry text typestate_names protocols (λ p. p.of.now) (λ y. y.name) typestates t.all_typestates t.typestates_named none ∙ follow_named
+
+pub ruleset within = (class_within, enum_within, protocol_within)

@@ -13,6 +13,7 @@ pub mod Building
 pub mod Mentioned
 pub mod Demanding
 pub mod Declaring
+pub mod Offering
 pub mod Declared
 pub mod Chains
 pub mod Answering

@@ -1,39 +1,17 @@
 -- The names of what a typestate offers.
-use Rattle.std.proofs.Common.{◌≡◌, ℕ, ◌+◌, ◌<◌, length, get_or, drop, List, [], ◌∷◌, ◌++◌, map, Some, None, Bool, true, false, ◌||◌, cond, refl, sym, ap, ◌∙◌, true≢false}
+use Rattle.std.proofs.Common.{◌≡◌, List, [], ◌∷◌, ◌++◌, map, Some, Bool, true, false, ◌||◌, cond, refl, sym, ap, ◌∙◌, true≢false}
 use Rattle.std.specs.List.{list_any}
 use Rattle.std.specs.Str.{bytes_eq}
-use Rattle.std.proofs.lemmas.Grind.{common_steps}
-use Rattle.std.proofs.lemmas.List.{map-append}
 use Rattle.std.proofs.lemmas.Slice.Eq.{bytes_eq-Decides}
 use Rattle.mg_text.specs.Call.{Name}
 use Rattle.mg_text.specs.Interned.{with_text}
-use Rattle.ts_tree.specs.declared.parts.State.{State as KeptState}
-use Rattle.ts_tree.specs.View.{method_of, state_of}
 use Rattle.ts_tree.specs.Typestate.{Method, Typestate}
 use Rattle.jv_rules.specs.Program.{offers_in}
 use Rattle.jv_types.specs.inner.Blaming.{is_in, noted}
 use Rattle.jv_types.specs.inner.Entries.{OffersAll}
-use Rattle.jv_types.proofs.AtIndex.{drop_at}
 use Rattle.jv_types.proofs.Finding.{any_at, bytes_eq_flip}
 
-pub noted-append : (met xs ys : List Name) → noted met (xs ++ ys) ≡ noted (noted met xs) ys
-noted-append met [] ys = refl
-noted-append met (x ∷ xs) ys = noted-append (with_text met x) xs ys
-
--- the state at an index, and those behind it
-pub drop_step : {X Y : Type 0} (F : List X → Y) (xs : List X) (i : ℕ) (x : X) → i < length xs → x ≡ get_or xs i x → F (drop i xs) ≡ F (x ∷ drop (i + 1) xs)
-drop_step F xs i x within is = ap F (drop_at xs i x within is)
-
-pub offers-step : (met : List Name) (ss : List KeptState) (i : ℕ) (x : KeptState) → i < length ss → x ≡ get_or ss i x →
-    noted met (map (λ m. m.name) (offers_in (map state_of (drop i ss))))
-    ≡ noted (noted met (map (λ m. m.name) (map method_of x.methods.items))) (map (λ m. m.name) (offers_in (map state_of (drop (i + 1) ss))))
-offers-step met ss i x within is =
-    let more = offers_in (map state_of (drop (i + 1) ss)) in
-    drop_step (λ l. noted met (map (λ m. m.name) (offers_in (map state_of l)))) ss i x within is
-    ∙ ap (noted met) (map-append (λ m. m.name) (map method_of x.methods.items) more)
-    ∙ noted-append met (map (λ m. m.name) (map method_of x.methods.items)) (map (λ m. m.name) more)
-
-any_push : (p : Name → Bool) (xs : List Name) (x : Name) → list_any p (xs ++ x ∷ []) ≡ (list_any p xs || p x)
+pub any_push : (p : Name → Bool) (xs : List Name) (x : Name) → list_any p (xs ++ x ∷ []) ≡ (list_any p xs || p x)
 any_push p [] x = go (p x)
   where
     go : (b : Bool) → (b || false) ≡ b
@@ -75,15 +53,8 @@ any_names : (n : Name) (ms : List Method) → list_any (bytes_eq n) (map (λ m. 
 any_names n [] = refl
 any_names n (m ∷ ms) = ap (λ b. b || list_any (bytes_eq n) (map (λ m. m.name) ms)) (bytes_eq_flip n m.name) ∙ ap (λ b. bytes_eq m.name n || b) (any_names n ms)
 
--- the table of all names that states offer
-pub offers_all : (t : Typestate) (names : List Name) (ss : List KeptState) → map state_of ss ≡ t.states → names ≡ noted [] (map (λ m. m.name) (offers_in (map state_of ss))) → OffersAll (Some t) names
-offers_all t names ss same is = record {
-  each = λ n. ap (list_any (bytes_eq n)) (is ∙ ap (λ xs. noted [] (map (λ m. m.name) (offers_in xs))) same) ∙ any_noted n [] (map (λ m. m.name) (offers_in t.states)) ∙ any_names n (offers_in t.states);
+-- the table of the names of all methods of a typestate
+pub offers_all : (t : Typestate) (names : List Name) (ds : List Method) → ds ≡ offers_in t.states → names ≡ noted [] (map (λ m. m.name) ds) → OffersAll (Some t) names
+offers_all t names ds same is = record {
+  each = λ n. ap (list_any (bytes_eq n)) (is ∙ ap (λ xs. noted [] (map (λ m. m.name) xs)) same) ∙ any_noted n [] (map (λ m. m.name) (offers_in t.states)) ∙ any_names n (offers_in t.states);
 }
-
-pub offers_none : (names : List Name) → names ≡ [] → OffersAll None names
-offers_none names is = record { each = λ n. ap (list_any (bytes_eq n)) is }
-
-pub ruleset offers = (common_steps, offers-step)
-
-pub ruleset offered = (common_steps, offers_all, offers_none)

@@ -1,12 +1,12 @@
 -- Statements one after another: what is left to be judged, and what is in scope there.
-use Rattle.std.proofs.Common.{◌≡◌, ℕ, zero, suc, ◌+◌, ◌-◌, ◌<◌, ◌≤◌, List, [], ◌∷◌, ◌++◌, map, length, drop, get_or, Option, Some, None, Result, refl, sym, ap, subst, ◌∙◌, arith, append_assoc}
+use Rattle.std.proofs.Common.{◌≡◌, ℕ, zero, suc, ◌+◌, ◌-◌, ◌<◌, ◌≤◌, List, [], ◌∷◌, ◌++◌, map, length, drop, get_or, Option, None, Result, refl, sym, ap, subst, ◌∙◌, arith, append_assoc}
 use Rattle.std.specs.Option.{option_or}
 use Rattle.std.proofs.Math.ListN.{drop_of_length-le, length-append}
 use Rattle.mg_read.specs.Culprit.{Culprit}
 use Rattle.jv_tree.specs.declared.tree.Stmt.{Stmt as KeptStmt}
 use Rattle.jv_tree.specs.declared.tree.StmtKind.{StmtKind as KeptStmtKind}
 use Rattle.jv_tree.specs.declared.tree.Group.{Group as KeptGroup, out-Group}
-use Rattle.jv_tree.specs.Source.{Stmt, Stmts, NoStmt, Then, Groups}
+use Rattle.jv_tree.specs.Source.{Stmt, Stmts, Groups}
 use Rattle.jv_tree.specs.View.{stmt_of, stmts_of, group_of, groups_of, stmt_kind_of}
 use Rattle.jv_tree.proofs.ViewLaws.{stmt_of-is}
 use Rattle.jv_rules.specs.declared.condition.Condition.{Condition}
@@ -15,7 +15,7 @@ use Rattle.jv_types.specs.declared.judged.Wrong.{Wrong}
 use Rattle.jv_types.specs.inner.Judging.{Tells}
 use Rattle.jv_types.specs.inner.Stating.{Answers, Extends, stmt_fault, stmts_fault, groups_fault}
 use Rattle.jv_types.proofs.AtIndex.{drop_at}
-use Rattle.jv_types.proofs.Checking.{tells_first, tells_later}
+use Rattle.jv_types.proofs.Checking.{tells_first}
 use Rattle.jv_types.proofs.Choosing.{group_of-is}
 use Rattle.jv_types.proofs.Composing.{then_told, group_told}
 

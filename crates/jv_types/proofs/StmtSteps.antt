@@ -21,7 +21,7 @@ use Rattle.jv_types.specs.declared.judged.Wrong.{Wrong}
 use Rattle.jv_types.specs.declared.judged.Checked.{Checked}
 use Rattle.jv_types.specs.inner.View.{type_seen}
 use Rattle.jv_types.specs.inner.Judging.{Tells, IsChecked, expr_fault, misfit, at_place}
-use Rattle.jv_types.specs.inner.Stating.{stmt_fault, value_told, label_told, returned_wanted, nothing_told, IsTaken, Written, written, written_in, Extends}
+use Rattle.jv_types.specs.inner.Stating.{stmt_fault, value_told, label_told, returned_wanted, nothing_told, IsTaken, Written, written, written_in}
 use Rattle.jv_types.proofs.Faulting.{or-none, first_by-append, alone_taken}
 use Rattle.jv_types.proofs.Checking.{tells_first}
 

@@ -9,6 +9,7 @@ pub mod Judging
 pub mod Blaming
 pub mod Repeating
 pub mod Declaring
+pub mod Offering
 pub mod Deciding
 pub mod Calls
 pub mod Stating

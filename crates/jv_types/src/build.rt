@@ -10,12 +10,13 @@ ghost use Rattle.jv_types.specs.Tables.{program_in};
 ghost use Rattle.jv_types.specs.View.{program_of};
 ghost use Rattle.jv_types.specs.inner.Blaming.{are_new};
 ghost use Rattle.jv_types.specs.inner.Repeating.{repeat_member, repeat_constant, repeat_type, repeat_in};
-ghost use Rattle.jv_types.specs.inner.Kept.{class_kept, enum_kept, kept_decls, typestate_in, followed};
+ghost use Rattle.jv_types.specs.inner.Kept.{class_kept, enum_kept, kept_classes, kept_decls, kept_enums, typestate_in, followed};
 
 use crate::entry::{ClassEntry, EnumEntry};
 use crate::naming::{
-    class_names, constant_names, enum_names, field_names, method_names, offered_by, typestate_names,
+    class_names, constant_names, enum_names, field_names, method_names, typestate_names,
 };
+use crate::protocols::{Protocol, protocols};
 use crate::table::Table;
 use jv_tree::{Class, Decl, Enum, File};
 use mg_text::{Memory, Names};
@@ -75,13 +76,11 @@ fn class_entry<'a>(
 {
     let fields = field_names(alloc, class.fields.as_slice())?;
     let methods = method_names(alloc, class.methods.as_slice())?;
-    let offered = offered_by(alloc, typestate)?;
     Ok(ClassEntry {
         class,
         typestate,
         fields,
         methods,
-        offered,
     })
 }
 
@@ -164,6 +163,38 @@ fn enum_entries<'a>(alloc: Global, decls: &[&'a Decl]) -> Result<Vec<EnumEntry<'
     Ok(entries)
 }
 
+// The tables of these entries.
+fn tabled<'a>(
+    alloc: Global,
+    files: &'a [File],
+    typestates: &'a [Typestate],
+    typestate_names: Names,
+    protocols: Vec<Protocol<'a>>,
+    classes: Vec<ClassEntry<'a>>,
+    enums: Vec<EnumEntry<'a>>,
+) -> Result<Table<'a>, Memory>
+    requires types { repeat_type [] (map decl_of (kept_decls files.now)) ≡ None }
+    requires named { typestate_names ≡ map (λ t. t.name) typestates.now }
+    requires protocols { map (λ p. p.of.now) protocols.items ≡ typestates.now }
+    requires classes { map (λ e. e.class.now) classes.items ≡ kept_classes files.now }
+    requires follow { map typestate_in classes.items ≡ map (followed typestates.now) classes.items }
+    requires enums { map (λ e. e.of.now) enums.items ≡ kept_enums files.now }
+    ensures { IfOk result (λ t. program_in t ≡ program_of files.now typestates.now) }
+{
+    let class_names = class_names(alloc, classes.as_slice())?;
+    let enum_names = enum_names(alloc, enums.as_slice())?;
+    Ok(Table {
+        files,
+        typestates,
+        protocols,
+        typestate_names,
+        classes,
+        class_names,
+        enums,
+        enum_names,
+    })
+}
+
 /// The tables of a program, in which no name is declared twice.
 pub(crate) fn build<'a>(
     alloc: Global,
@@ -180,14 +211,6 @@ pub(crate) fn build<'a>(
     let names = typestate_names(alloc, typestates)?;
     let classes = class_entries(alloc, &names, typestates, decls)?;
     let enums = enum_entries(alloc, decls)?;
-    let class_names = class_names(alloc, classes.as_slice())?;
-    let enum_names = enum_names(alloc, enums.as_slice())?;
-    Ok(Table {
-        files,
-        typestates,
-        classes,
-        class_names,
-        enums,
-        enum_names,
-    })
+    let protocols = protocols(alloc, typestates)?;
+    tabled(alloc, files, typestates, names, protocols, classes, enums)
 }

@@ -108,7 +108,7 @@ fn protocol_method<'a>(
     if method.is_static {
         return None;
     }
-    if !entry.is_offered(name) {
+    if !table.is_offered(entry, name) {
         return None;
     }
     Some(signature_of(table, method))

@@ -20,8 +20,8 @@ use std::alloc::Global;
 fn is_always_true(condition: &Expr) -> bool
     ensures { result ≡ is_always_true (expr_of condition.now) }
 {
-    match &condition.kind {
-        ExprKind::Truth(value) => *value,
+    match condition.kind {
+        ExprKind::Truth(value) => value,
         ExprKind::Int(_) | ExprKind::Text(_) | ExprKind::Null | ExprKind::This => false,
         ExprKind::Name(_) | ExprKind::Member(_, _) | ExprKind::Neg(_) | ExprKind::Not(_) => false,
         ExprKind::Binary(_, _, _) | ExprKind::Call(_, _) => false,
@@ -83,9 +83,9 @@ fn leave_stmt(exits: &mut Exits, stmt: &Stmt) -> Result<bool, Memory>
     ensures through { IfOk result (λ b. b ≡ leaves (stmt_of stmt.now) Through) }
     ensures exits { OnOk result (Adds (leaves (stmt_of stmt.now)) (met_at exits.old) (met_at exits.new)) }
 {
-    match &stmt.kind {
-        StmtKind::Block(body, _) => leave_stmts(exits, body.as_slice()),
-        StmtKind::If(_, inner, otherwise) => {
+    match stmt.kind {
+        StmtKind::Block(ref body, _) => leave_stmts(exits, body.as_slice()),
+        StmtKind::If(_, ref inner, ref otherwise) => {
             let completes = leave_stmt(exits, inner)?;
             match otherwise {
                 None => Ok(true),
@@ -95,32 +95,32 @@ fn leave_stmt(exits: &mut Exits, stmt: &Stmt) -> Result<bool, Memory>
                 }
             }
         }
-        StmtKind::While(label, condition, inner) => {
+        StmtKind::While(ref label, ref condition, ref inner) => {
             let label = label_text(label);
             let hidden = exits.enter_loop(label)?;
             leave_stmt(exits, inner)?;
             let jumps = exits.leave_loop(label, hidden)?;
             Ok(ends_while(condition, jumps))
         }
-        StmtKind::Do(label, inner, condition) => {
+        StmtKind::Do(ref label, ref inner, ref condition) => {
             let label = label_text(label);
             let hidden = exits.enter_loop(label)?;
             let completes = leave_stmt(exits, inner)?;
             let jumps = exits.leave_loop(label, hidden)?;
             Ok(ends_do(condition, completes, jumps))
         }
-        StmtKind::Switch(_, groups, _) => {
+        StmtKind::Switch(_, ref groups, _) => {
             let groups = groups.as_slice();
             let hidden = exits.enter_switch();
             let completes = leave_groups(exits, groups)?;
             let broken = exits.leave_switch(hidden);
             Ok(ends_switch(groups, completes, broken))
         }
-        StmtKind::Break(label) => {
+        StmtKind::Break(ref label) => {
             exits.add_break(label_text(label))?;
             Ok(false)
         }
-        StmtKind::Continue(label) => {
+        StmtKind::Continue(ref label) => {
             exits.add_continue(label_text(label))?;
             Ok(false)
         }

@@ -11,14 +11,17 @@ ghost use Rattle.jv_types.specs.inner.Blaming.{blamed_of};
 ghost use Rattle.jv_tree.specs.View.{decl_of};
 ghost use Rattle.std.specs.Option.{option_or};
 ghost use Rattle.jv_types.specs.inner.Repeating.{repeat_type, repeat_typestate};
-ghost use Rattle.jv_types.specs.inner.Deciding.{found_of, early_in, fields_found, demands_found, later_found};
+ghost use Rattle.jv_types.specs.inner.Kept.{kept_decls};
+ghost use Rattle.jv_types.specs.inner.Tabled.{AreEntriesOf};
+ghost use Rattle.jv_types.specs.inner.Deciding.{found_of, early_in, fields_found, demands_found, later_found, IsLater};
 
 use crate::blame::Blamed;
 use crate::build::{build, declarations};
-use crate::demands::{Demand, broken_method, missing_method};
+use crate::demands::{missing_method, signature_differs};
 use crate::entry::ClassEntry;
 use crate::fault::{TypeFault, type_fault};
 use crate::fields::field_needs_value;
+use crate::labels::labels_differ;
 use crate::mentions::unknown_class;
 use crate::plain::{instance_in_plain, unknown_typestate};
 use crate::repeats::{repeated, repeated_type, repeated_typestate};
@@ -98,20 +101,21 @@ fn fields_fault<'a>(
 // What is wrong with what typestates demand, or later.
 fn demands_fault<'a>(
     alloc: Global,
-    table: &Table<'_>,
+    table: &Table<'a>,
     entries: &[ClassEntry<'a>],
 ) -> Result<Option<Found<'a>>, Memory>
+    requires { AreEntriesOf (program_in table.now) entries.now }
     ensures { IfOk result (λ o. option_map found_of o ≡ demands_found (program_in table.now) entries.now) }
 {
-    let found = missing_method(entries);
+    let found = missing_method(table, entries);
     if found.is_some() {
         return Ok(found_by(Condition::MissingMethod, found));
     }
-    let found = broken_method(alloc, table, Demand::OfSignature, entries)?;
+    let found = signature_differs(alloc, table, entries)?;
     if found.is_some() {
         return Ok(found_by(Condition::SignatureDiffers, found));
     }
-    let found = broken_method(alloc, table, Demand::OfLabels, entries)?;
+    let found = labels_differ(alloc, table, entries)?;
     if found.is_some() {
         return Ok(found_by(Condition::LabelsDiffer, found));
     }
@@ -121,9 +125,10 @@ fn demands_fault<'a>(
 // What the tables tell to be wrong.
 fn later_fault<'a>(
     alloc: Global,
-    table: &Table<'_>,
+    table: &Table<'a>,
     entries: &[ClassEntry<'a>],
 ) -> Result<Option<Found<'a>>, Memory>
+    requires { AreEntriesOf (program_in table.now) entries.now }
     ensures { IfOk result (λ o. option_map found_of o ≡ later_found (program_in table.now) entries.now) }
 {
     let found = unknown_class(alloc, table, entries)?;
@@ -149,6 +154,37 @@ fn fault_of(alloc: Global, found: Found<'_>) -> TypeFault
     )
 }
 
+// The tables of a program in which no name is declared twice.
+fn tables_of<'a>(
+    alloc: Global,
+    files: &'a [File],
+    typestates: &'a [Typestate],
+    origins: &[u32],
+) -> Result<Table<'a>, TypeFault>
+    requires { length origins.now ≡ length typestates.now }
+    ensures program { IfOk result (λ t. program_in t ≡ program_of files.now typestates.now) }
+    ensures fine { OnOk result (early_in (map decl_of (kept_decls files.now)) typestates.now origins.now ≡ None) }
+    ensures fault { IfErr result (λ e. TellsFault (IsTableFault (program_of files.now typestates.now) origins.now) e) }
+{
+    let decls = declarations(alloc, files)?;
+    if let Some(found) = early_fault(alloc, decls.as_slice(), typestates, origins)? {
+        return Err(fault_of(alloc, found));
+    }
+    let table = build(alloc, files, typestates, decls.as_slice())?;
+    Ok(table)
+}
+
+// Judges what the tables tell.
+fn check_tables(alloc: Global, table: &Table<'_>) -> Result<(), TypeFault>
+    ensures fine { OnOk result (IsLater (program_in table.now) None) }
+    ensures fault { IfErr result (λ e. TellsFault (IsLater (program_in table.now)) e) }
+{
+    match later_fault(alloc, table, table.classes())? {
+        Some(found) => Err(fault_of(alloc, found)),
+        None => Ok(()),
+    }
+}
+
 /// The declarations of a program in tables by name. `origins` has the number of the file of each
 /// typestate, in their order.
 ///
@@ -166,13 +202,7 @@ pub fn build_table<'a>(
     ensures fine { OnOk result (IsTableFault (program_of files.now typestates.now) origins.now None) }
     ensures fault { IfErr result (λ e. TellsFault (IsTableFault (program_of files.now typestates.now) origins.now) e) }
 {
-    let decls = declarations(alloc, files)?;
-    if let Some(found) = early_fault(alloc, decls.as_slice(), typestates, origins)? {
-        return Err(fault_of(alloc, found));
-    }
-    let table = build(alloc, files, typestates, decls.as_slice())?;
-    if let Some(found) = later_fault(alloc, &table, table.classes())? {
-        return Err(fault_of(alloc, found));
-    }
+    let table = tables_of(alloc, files, typestates, origins)?;
+    check_tables(alloc, &table)?;
     Ok(table)
 }

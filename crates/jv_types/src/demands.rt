@@ -2,16 +2,17 @@
 //! and the labels that they answer with.
 
 ghost use Rattle.std.specs.Prelude.{◌≡◌, [], ◌&&◌, IfOk, OnOk, Some, map, option_map};
-ghost use Rattle.ts_tree.specs.View.{method_of as offer_of, state_of, target_of};
+ghost use Rattle.ts_tree.specs.View.{method_of as offer_of, target_of};
 ghost use Rattle.jv_tree.specs.View.{method_of};
 ghost use Rattle.jv_meaning.specs.Program.{method_named};
-ghost use Rattle.jv_rules.specs.Program.{offers_in};
 ghost use Rattle.jv_rules.specs.inner.Deciding.{first_by};
 ghost use Rattle.jv_types.specs.Tables.{program_in};
+ghost use Rattle.jv_types.specs.declared.demands.Demand.TheVariants as demands;
 ghost use Rattle.jv_types.specs.inner.Blaming.{blamed_of, noted};
 ghost use Rattle.jv_types.specs.inner.Declaring.{missing_method, missing_in_class, type_eq, types_eq, same_signature, all_in, are_constants, are_labels_of, other_labels, breaks, breaks_it, broken_names, broken_by_name, broken_method, broken_in_class};
 ghost use Rattle.jv_types.specs.inner.Kept.{typestate_in};
-ghost use Rattle.jv_types.specs.inner.Tabled.{class_in, enum_in};
+ghost use Rattle.jv_types.specs.inner.Offering.{offers_seen};
+ghost use Rattle.jv_types.specs.inner.Tabled.{class_in, enum_in, IsEntryOf, AreEntriesOf};
 
 use crate::blame::{Blamed, note};
 use crate::entry::{ClassEntry, EnumEntry};
@@ -19,7 +20,7 @@ use crate::table::Table;
 use jv_tree::{MethodDecl, Param};
 use mg_text::{Memory, Names, Text};
 use std::alloc::Global;
-use ts_tree::{Branch, Method, State, Target, TypeName};
+use ts_tree::{Branch, Method, Target, TypeName};
 
 /// What is demanded of a method that is there.
 #[derive(Clone, Copy)]
@@ -31,8 +32,8 @@ pub(crate) enum Demand {
 }
 
 // The first method that a class lacks as an instance method.
-fn missing_in<'a>(entry: &ClassEntry<'_>, methods: &'a [Method]) -> Option<Blamed<'a>>
-    ensures { option_map blamed_of result ≡ first_by (missing_method (class_in entry.now)) (map offer_of methods.now) }
+fn missing_in<'a>(entry: &ClassEntry<'_>, methods: &[&'a Method]) -> Option<Blamed<'a>>
+    ensures { option_map blamed_of result ≡ first_by (missing_method (class_in entry.now)) (offers_seen methods.now) }
 {
     for item in methods {
         let found = missing(entry, item);
@@ -60,34 +61,27 @@ fn missing<'a>(entry: &ClassEntry<'_>, demanded: &'a Method) -> Option<Blamed<'a
     }
 }
 
-#[tactic(auto, using(crate::proofs::Demanding::demanding))]
-fn missing_in_states<'a>(entry: &ClassEntry<'_>, states: &'a [State]) -> Option<Blamed<'a>>
-    ensures { option_map blamed_of result ≡ first_by (missing_method (class_in entry.now)) (offers_in (map state_of states.now)) }
-{
-    for item in states {
-        let found = missing_in(entry, item.methods.as_slice());
-        if found.is_some() {
-            return found;
-        }
-    }
-    None
-}
-
-fn missing_of_class<'a>(entry: &ClassEntry<'a>) -> Option<Blamed<'a>>
+// The first method that a class lacks of those that its typestate has. Each name is looked up once.
+fn missing_of_class<'a>(table: &Table<'a>, entry: &ClassEntry<'a>) -> Option<Blamed<'a>>
+    requires { IsEntryOf (program_in table.now) entry.now }
     ensures { option_map blamed_of result ≡ missing_in_class (typestate_in entry.now) (class_in entry.now) }
 {
-    match entry.typestate {
-        Some(typestate) => missing_in_states(entry, typestate.states.as_slice()),
+    match table.protocol_of(entry) {
+        Some(protocol) => missing_in(entry, protocol.firsts.as_slice()),
         None => None,
     }
 }
 
 /// The first method that a class lacks of those that its typestate has.
-pub(crate) fn missing_method<'a>(entries: &[ClassEntry<'a>]) -> Option<Blamed<'a>>
+pub(crate) fn missing_method<'a>(
+    table: &Table<'a>,
+    entries: &[ClassEntry<'a>],
+) -> Option<Blamed<'a>>
+    requires { AreEntriesOf (program_in table.now) entries.now }
     ensures { option_map blamed_of result ≡ first_by (λ e. missing_in_class (typestate_in e) (class_in e)) entries.now }
 {
     for item in entries {
-        let found = missing_of_class(item);
+        let found = missing_of_class(table, item);
         if found.is_some() {
             return found;
         }
@@ -207,7 +201,8 @@ fn are_labels_of(
     }
 }
 
-fn other_labels(
+/// Whether an answer has other labels than the constants of a type.
+pub(crate) fn other_labels(
     alloc: Global,
     table: &Table<'_>,
     ty: &TypeName,
@@ -269,31 +264,14 @@ fn note_broken(
     demand: Demand,
     entry: &ClassEntry<'_>,
     met: &mut Names,
-    methods: &[Method],
+    methods: &[&Method],
 ) -> Result<(), Memory>
-    ensures { OnOk result (met.new ≡ broken_names (program_in table.now) demand (class_in entry.now) met.old (map offer_of methods.now)) }
+    ensures { OnOk result (met.new ≡ broken_names (program_in table.now) demand (class_in entry.now) met.old (offers_seen methods.now)) }
 {
     for item in methods {
         if breaks_it(alloc, table, demand, entry, item)? {
             let _fresh = note(met, item.name.as_str())?;
         }
-    }
-    Ok(())
-}
-
-#[tactic(auto, using(crate::proofs::Demanding::demanding))]
-fn note_broken_in_states(
-    alloc: Global,
-    table: &Table<'_>,
-    demand: Demand,
-    entry: &ClassEntry<'_>,
-    met: &mut Names,
-    states: &[State],
-) -> Result<(), Memory>
-    ensures { OnOk result (met.new ≡ broken_names (program_in table.now) demand (class_in entry.now) met.old (offers_in (map state_of states.now))) }
-{
-    for item in states {
-        note_broken(alloc, table, demand, entry, met, item.methods.as_slice())?;
     }
     Ok(())
 }
@@ -312,46 +290,51 @@ fn first_of<'a>(met: &Names, methods: &'a [MethodDecl]) -> Option<Blamed<'a>>
     None
 }
 
-// The first method that breaks what these states demand.
-fn broken_by<'a>(
+/// The first method that breaks what these methods of a typestate demand.
+pub(crate) fn broken_by<'a>(
     alloc: Global,
     table: &Table<'_>,
     demand: Demand,
     entry: &ClassEntry<'a>,
-    states: &[State],
+    methods: &[&Method],
 ) -> Result<Option<Blamed<'a>>, Memory>
-    ensures { IfOk result (λ o. option_map blamed_of o ≡ first_by (broken_method (program_in table.now) demand (offers_in (map state_of states.now))) (class_in entry.now).methods) }
+    ensures { IfOk result (λ o. option_map blamed_of o ≡ first_by (broken_method (program_in table.now) demand (offers_seen methods.now)) (class_in entry.now).methods) }
 {
     let mut met = Names::new(alloc);
-    note_broken_in_states(alloc, table, demand, entry, &mut met, states)?;
+    note_broken(alloc, table, demand, entry, &mut met, methods)?;
     Ok(first_of(&met, entry.class.methods.as_slice()))
 }
 
-fn broken_in_class<'a>(
+// The first instance method of a class with another signature than its typestate has.
+// Methods of one name have one signature there, so each name is looked up once.
+fn other_signature<'a>(
     alloc: Global,
-    table: &Table<'_>,
-    demand: Demand,
+    table: &Table<'a>,
     entry: &ClassEntry<'a>,
 ) -> Result<Option<Blamed<'a>>, Memory>
-    ensures { IfOk result (λ o. option_map blamed_of o ≡ broken_in_class (program_in table.now) demand (typestate_in entry.now) (class_in entry.now)) }
+    requires { IsEntryOf (program_in table.now) entry.now }
+    ensures { IfOk result (λ o. option_map blamed_of o ≡ broken_in_class (program_in table.now) demands.OfSignature (typestate_in entry.now) (class_in entry.now)) }
 {
-    match entry.typestate {
-        Some(typestate) => { broken_by(alloc, table, demand, entry, typestate.states.as_slice()) }
+    match table.protocol_of(entry) {
+        Some(protocol) => {
+            let firsts = protocol.firsts.as_slice();
+            broken_by(alloc, table, Demand::OfSignature, entry, firsts)
+        }
         None => Ok(None),
     }
 }
 
-/// The first instance method that breaks what the typestate of its class demands.
-pub(crate) fn broken_method<'a>(
+/// The first instance method with another signature than the typestate of its class has.
+pub(crate) fn signature_differs<'a>(
     alloc: Global,
-    table: &Table<'_>,
-    demand: Demand,
+    table: &Table<'a>,
     entries: &[ClassEntry<'a>],
 ) -> Result<Option<Blamed<'a>>, Memory>
-    ensures { IfOk result (λ o. option_map blamed_of o ≡ first_by (λ e. broken_in_class (program_in table.now) demand (typestate_in e) (class_in e)) entries.now) }
+    requires { AreEntriesOf (program_in table.now) entries.now }
+    ensures { IfOk result (λ o. option_map blamed_of o ≡ first_by (λ e. broken_in_class (program_in table.now) demands.OfSignature (typestate_in e) (class_in e)) entries.now) }
 {
     for item in entries {
-        let found = broken_in_class(alloc, table, demand, item)?;
+        let found = other_signature(alloc, table, item)?;
         if found.is_some() {
             return Ok(found);
         }

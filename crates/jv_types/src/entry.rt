@@ -7,25 +7,21 @@ ghost use Rattle.jv_tree.specs.View.{class_of, enum_of, field_of, method_of};
 ghost use Rattle.jv_meaning.specs.Program.{field_named, method_named};
 ghost use Rattle.jv_rules.specs.inner.Deciding.{has_constant};
 ghost use Rattle.jv_types.specs.inner.Blaming.{are_new};
-ghost use Rattle.jv_types.specs.inner.Entries.{OffersAll, is_offered};
 
 use jv_tree::{Class, Enum, Field, MethodDecl};
 use mg_text::Names;
 use ts_tree::Typestate;
 
-/// A class, its typestate, and the names of its fields, of its methods and of what its typestate
-/// offers.
+/// A class, its typestate, and the names of its fields and of its methods.
 #[derive(Drop)]
 pub struct ClassEntry<'a> {
     pub class: &'a Class,
     pub typestate: Option<&'a Typestate>,
     pub(crate) fields: Names,
     pub(crate) methods: Names,
-    pub(crate) offered: Names,
     ghost named_fields: { fields ≡ map (λ f. f.name) class.now.fields.items },
     ghost named_methods: { methods ≡ map (λ m. m.name) class.now.methods.items },
     ghost methods_apart: { are_new [] (map (λ m. m.name) class.now.methods.items) ≡ true },
-    ghost offers: { OffersAll (option_map (λ t. t.now) typestate) offered },
 }
 
 /// An enum and the names of its constants.
@@ -57,14 +53,6 @@ impl<'a> ClassEntry<'a> {
             Some(number) => Some(&self.class.methods.as_slice()[number.0 as usize]),
             None => None,
         }
-    }
-
-    /// Whether the typestate offers a method of this name.
-    #[tactic(auto, using(crate::proofs::Finding::found))]
-    pub fn is_offered(&self, name: &str) -> bool
-        ensures { result ≡ is_offered (option_map (λ t. t.now) self.now.typestate) name.now }
-    {
-        self.offered.find(name).is_some()
     }
 }
 

@@ -31,29 +31,29 @@ pub(crate) fn check_expr<'a>(
     ensures { Judges (scope_seen scope.now locals.now) (expr_of expr.now) result }
 {
     let place = expr.place;
-    match &expr.kind {
+    match expr.kind {
         ExprKind::Int(_) => Ok(plain(ValueType::Int)),
         ExprKind::Truth(_) => Ok(plain(ValueType::Boolean)),
         ExprKind::Text(_) => Ok(plain(ValueType::Text)),
         ExprKind::Null => Ok(plain(ValueType::Null)),
         ExprKind::This => Err(Wrong::Fault(Condition::ThisAsValue, place, "")),
-        ExprKind::Name(name) => end_name(scope, locals, place, name.as_str()),
-        ExprKind::Member(of, name) => check_member(scope, locals, place, of, name.as_str()),
-        ExprKind::Neg(of) => check_neg(scope, locals, place, of),
-        ExprKind::Not(of) => check_not(scope, locals, place, of),
-        ExprKind::Binary(op, left, right) => {
+        ExprKind::Name(ref name) => end_name(scope, locals, place, name.as_str()),
+        ExprKind::Member(ref of, ref name) => check_member(scope, locals, place, of, name.as_str()),
+        ExprKind::Neg(ref of) => check_neg(scope, locals, place, of),
+        ExprKind::Not(ref of) => check_not(scope, locals, place, of),
+        ExprKind::Binary(op, ref left, ref right) => {
             let one = check_expr(scope, locals, left)?;
             let other = check_expr(scope, locals, right)?;
-            end_binary(place, *op, left, one, right, other)
+            end_binary(place, op, left, one, right, other)
         }
-        ExprKind::Call(name, args) => check_call(
+        ExprKind::Call(ref name, ref args) => check_call(
             scope,
             locals,
             place,
             name.as_str(),
             args.as_slice(),
         ),
-        ExprKind::MethodCall(of, name, args) => {
+        ExprKind::MethodCall(ref of, ref name, ref args) => {
             let args = args.as_slice();
             let receiver = check_receiver(scope, locals, of)?;
             let given = check_args(scope, locals, args)?;
@@ -68,7 +68,7 @@ pub(crate) fn check_expr<'a>(
                 &given,
             )
         }
-        ExprKind::New(class) => Ok(plain(ValueType::Class(class.as_str()))),
+        ExprKind::New(ref class) => Ok(plain(ValueType::Class(class.as_str()))),
     }
 }
 

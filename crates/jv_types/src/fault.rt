@@ -11,7 +11,7 @@ use std::alloc::Global;
 
 /// Why a program is refused. The first nine are judged over the declarations, in the order of
 /// their numbers, the others over the methods, in the order of the text.
-#[derive(Debug, PartialEq, Eq, Drop)]
+#[derive(Debug, Drop)]
 pub enum TypeFault {
     /// Two classes or enums have one name, or two typestates, or a class or enum has the name of
     /// a class that is built in.

@@ -32,8 +32,8 @@ pub(crate) fn has_constant(table: &Table<'_>, of: &str, name: &str) -> bool
 fn is_member_of(table: &Table<'_>, name: &str, expr: &Expr, constant: &str) -> bool
     ensures { result ≡ is_member_of (program_in table.now) name.now (expr_of expr.now) constant.now }
 {
-    match &expr.kind {
-        ExprKind::Name(of) => {
+    match expr.kind {
+        ExprKind::Name(ref of) => {
             if of.as_str() != name {
                 return false;
             }
@@ -51,9 +51,9 @@ fn is_member_of(table: &Table<'_>, name: &str, expr: &Expr, constant: &str) -> b
 fn is_constant_named(table: &Table<'_>, name: &Text, expr: &Expr) -> bool
     ensures { result ≡ is_constant_named (program_in table.now) name.now (expr_of expr.now) }
 {
-    match &expr.kind {
+    match expr.kind {
         ExprKind::Null => table.class_named(name.as_str()).is_some(),
-        ExprKind::Member(of, constant) => {
+        ExprKind::Member(ref of, ref constant) => {
             is_member_of(table, name.as_str(), of, constant.as_str())
         }
         ExprKind::Int(_) | ExprKind::Truth(_) | ExprKind::Text(_) | ExprKind::Name(_) => false,
@@ -68,7 +68,7 @@ fn is_constant_named(table: &Table<'_>, name: &Text, expr: &Expr) -> bool
 fn is_int(expr: &Expr) -> bool
     ensures { result ≡ is_int (expr_of expr.now) }
 {
-    match &expr.kind {
+    match expr.kind {
         ExprKind::Int(_) => true,
         ExprKind::Truth(_) | ExprKind::Text(_) | ExprKind::Null => false,
         ExprKind::Name(_) | ExprKind::This | ExprKind::Member(_, _) => false,
@@ -82,7 +82,7 @@ fn is_int(expr: &Expr) -> bool
 fn is_truth(expr: &Expr) -> bool
     ensures { result ≡ is_truth (expr_of expr.now) }
 {
-    match &expr.kind {
+    match expr.kind {
         ExprKind::Truth(_) => true,
         ExprKind::Int(_) | ExprKind::Text(_) | ExprKind::Null => false,
         ExprKind::Name(_) | ExprKind::This | ExprKind::Member(_, _) => false,
@@ -96,7 +96,7 @@ fn is_truth(expr: &Expr) -> bool
 fn is_text(expr: &Expr) -> bool
     ensures { result ≡ is_text (expr_of expr.now) }
 {
-    match &expr.kind {
+    match expr.kind {
         ExprKind::Text(_) => true,
         ExprKind::Int(_) | ExprKind::Truth(_) | ExprKind::Null => false,
         ExprKind::Name(_) | ExprKind::This | ExprKind::Member(_, _) => false,

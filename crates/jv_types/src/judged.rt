@@ -5,7 +5,7 @@ use jv_rules::Condition;
 use mg_text::{Memory, Place};
 
 /// Why judging ends.
-#[derive(Clone, Copy, Debug)]
+#[derive(Clone, Copy)]
 pub(crate) enum Wrong<'a> {
     /// Want of memory.
     Memory,

@@ -3,10 +3,12 @@
 ghost use Rattle.std.specs.Prelude.{◌≡◌, map, option_map, IfSome};
 ghost use Rattle.jv_tree.specs.View.{enum_of};
 ghost use Rattle.jv_meaning.specs.Program.{class_named, classes_of, enum_named};
+ghost use Rattle.jv_rules.specs.Program.{typestate_of, is_of_protocol};
 ghost use Rattle.jv_types.specs.inner.Tabled.{class_in, enum_in, IsEntryOf, AreEntriesOf};
 ghost use Rattle.jv_types.specs.Tables.{program_in};
 
 use crate::entry::{ClassEntry, EnumEntry};
+use crate::protocols::Protocol;
 use crate::table::Table;
 
 impl<'a> Table<'a> {
@@ -30,6 +32,31 @@ impl<'a> Table<'a> {
         match self.enum_names.find(name) {
             Some(number) => Some(&self.enums[number.0 as usize]),
             None => None,
+        }
+    }
+
+    /// What the typestate of a class offers, where it has one.
+    #[tactic(auto, using(crate::proofs::Entries::within))]
+    pub(crate) fn protocol_of(&self, entry: &ClassEntry<'a>) -> Option<&Protocol<'a>>
+        ensures { option_map (λ p. p.now.of.now) result ≡ typestate_of (program_in self.now) (class_in entry.now) }
+    {
+        let name = match &entry.class.typestate {
+            Some(name) => name,
+            None => return None,
+        };
+        match self.typestate_names.find(name.as_str()) {
+            Some(number) => Some(&self.protocols[number.0 as usize]),
+            None => None,
+        }
+    }
+
+    /// Whether the typestate of a class offers a method of this name.
+    pub(crate) fn is_offered(&self, entry: &ClassEntry<'a>, name: &str) -> bool
+        ensures { result ≡ is_of_protocol (program_in self.now) (class_in entry.now) name.now }
+    {
+        match self.protocol_of(entry) {
+            Some(protocol) => protocol.names.find(name).is_some(),
+            None => false,
         }
     }
 

@@ -73,28 +73,28 @@ fn unknown_made<'a>(table: &Table<'_>, place: Place, name: &'a str) -> Option<Bl
 fn unknown_in<'a>(table: &Table<'_>, expr: &'a Expr) -> Option<Blamed<'a>>
     ensures { option_map blamed_of result ≡ first_by (unknown_class (program_in table.now)) (mentions_in (expr_of expr.now)) }
 {
-    match &expr.kind {
+    match expr.kind {
         ExprKind::Int(_) | ExprKind::Truth(_) | ExprKind::Text(_) | ExprKind::Null => None,
         ExprKind::This | ExprKind::Name(_) => None,
-        ExprKind::Member(of, _) => unknown_in(table, of),
-        ExprKind::Neg(of) => unknown_in(table, of),
-        ExprKind::Not(of) => unknown_in(table, of),
-        ExprKind::Binary(_, left, right) => {
+        ExprKind::Member(ref of, _) => unknown_in(table, of),
+        ExprKind::Neg(ref of) => unknown_in(table, of),
+        ExprKind::Not(ref of) => unknown_in(table, of),
+        ExprKind::Binary(_, ref left, ref right) => {
             let found = unknown_in(table, left);
             if found.is_some() {
                 return found;
             }
             unknown_in(table, right)
         }
-        ExprKind::Call(_, args) => unknown_in_args(table, args.as_slice()),
-        ExprKind::MethodCall(of, _, args) => {
+        ExprKind::Call(_, ref args) => unknown_in_args(table, args.as_slice()),
+        ExprKind::MethodCall(ref of, _, ref args) => {
             let found = unknown_in(table, of);
             if found.is_some() {
                 return found;
             }
             unknown_in_args(table, args.as_slice())
         }
-        ExprKind::New(name) => unknown_made(table, expr.place, name.as_str()),
+        ExprKind::New(ref name) => unknown_made(table, expr.place, name.as_str()),
     }
 }
 
@@ -158,12 +158,12 @@ fn unknown_in_local<'a>(
 fn unknown_in_stmt<'a>(table: &Table<'_>, stmt: &'a Stmt) -> Option<Blamed<'a>>
     ensures { option_map blamed_of result ≡ first_by (unknown_class (program_in table.now)) (mentions_in_stmt (stmt_of stmt.now)) }
 {
-    match &stmt.kind {
-        StmtKind::Block(body, _) => unknown_in_stmts(table, body.as_slice()),
+    match stmt.kind {
+        StmtKind::Block(ref body, _) => unknown_in_stmts(table, body.as_slice()),
         StmtKind::Empty | StmtKind::Break(_) | StmtKind::Continue(_) => None,
-        StmtKind::Local(ty, _, value) => unknown_in_local(table, stmt.place, ty, value),
-        StmtKind::Assign(target, value) => unknown_in_both(table, target, value),
-        StmtKind::If(test, then, other) => {
+        StmtKind::Local(ref ty, _, ref value) => unknown_in_local(table, stmt.place, ty, value),
+        StmtKind::Assign(ref target, ref value) => unknown_in_both(table, target, value),
+        StmtKind::If(ref test, ref then, ref other) => {
             let found = unknown_in(table, test);
             if found.is_some() {
                 return found;
@@ -177,30 +177,30 @@ fn unknown_in_stmt<'a>(table: &Table<'_>, stmt: &'a Stmt) -> Option<Blamed<'a>>
             };
             unknown_in_stmt(table, other)
         }
-        StmtKind::While(_, test, body) => {
+        StmtKind::While(_, ref test, ref body) => {
             let found = unknown_in(table, test);
             if found.is_some() {
                 return found;
             }
             unknown_in_stmt(table, body)
         }
-        StmtKind::Do(_, body, test) => {
+        StmtKind::Do(_, ref body, ref test) => {
             let found = unknown_in_stmt(table, body);
             if found.is_some() {
                 return found;
             }
             unknown_in(table, test)
         }
-        StmtKind::Switch(value, groups, _) => {
+        StmtKind::Switch(ref value, ref groups, _) => {
             let found = unknown_in(table, value);
             if found.is_some() {
                 return found;
             }
             unknown_in_groups(table, groups.as_slice())
         }
-        StmtKind::Return(value) => unknown_in_value(table, value),
-        StmtKind::Print(value) => unknown_in(table, value),
-        StmtKind::Eval(value) => unknown_in(table, value),
+        StmtKind::Return(ref value) => unknown_in_value(table, value),
+        StmtKind::Print(ref value) => unknown_in(table, value),
+        StmtKind::Eval(ref value) => unknown_in(table, value),
     }
 }
 

@@ -31,9 +31,9 @@ pub(crate) fn is_this(expr: &Expr) -> bool
 pub(crate) fn is_variable(expr: &Expr) -> bool
     ensures { result ≡ is_variable (expr_of expr.now) }
 {
-    match &expr.kind {
+    match expr.kind {
         ExprKind::Name(_) => true,
-        ExprKind::Member(of, _) => is_this(of),
+        ExprKind::Member(ref of, _) => is_this(of),
         ExprKind::Int(_) | ExprKind::Truth(_) | ExprKind::Text(_) | ExprKind::Null => false,
         ExprKind::This | ExprKind::Neg(_) | ExprKind::Not(_) => false,
         ExprKind::Binary(_, _, _) | ExprKind::Call(_, _) => false,

@@ -84,14 +84,14 @@ pub(crate) fn field_of<'a>(
     requires { variable_name (expr_of expr.now) ≡ None }
     ensures { option_map (λ f. field_seen f.now) result ≡ field_of (scope_seen scope.now locals.now) (expr_of expr.now) }
 {
-    match &expr.kind {
-        ExprKind::Member(of, name) => {
+    match expr.kind {
+        ExprKind::Member(ref of, ref name) => {
             if is_this(of) {
                 return own_field(scope, locals, name.as_str());
             }
             None
         }
-        ExprKind::Name(name) => field_named(scope, locals, name.as_str()),
+        ExprKind::Name(ref name) => field_named(scope, locals, name.as_str()),
         ExprKind::Int(_) | ExprKind::Truth(_) | ExprKind::Text(_) | ExprKind::Null => None,
         ExprKind::This | ExprKind::Neg(_) | ExprKind::Not(_) => None,
         ExprKind::Binary(_, _, _) | ExprKind::Call(_, _) => None,

@@ -46,6 +46,24 @@ fn place_of(decl: &Decl) -> Place
     }
 }
 
+// The first class or enum whose name was met, or is that of an earlier one or one that is built in.
+fn type_met<'a>(met: &mut Names, decls: &[&'a Decl]) -> Result<Option<Blamed<'a>>, Memory>
+    ensures { IfOk result (λ o. option_map blamed_of o ≡ repeat_type met.old (map (λ d. decl_of d.now) decls.now)) }
+{
+    for decl in decls {
+        let name = name_of(decl);
+        let place = place_of(decl);
+        if is_built_in(name) {
+            return Ok(Some(Blamed { place, name }));
+        }
+        let fresh = note(met, name)?;
+        if !fresh {
+            return Ok(Some(Blamed { place, name }));
+        }
+    }
+    Ok(None)
+}
+
 /// The first class or enum whose name an earlier one or a class that is built in has.
 pub(crate) fn repeated_type<'a>(
     alloc: Global,
@@ -54,16 +72,31 @@ pub(crate) fn repeated_type<'a>(
     ensures { IfOk result (λ o. option_map blamed_of o ≡ repeat_type [] (map (λ d. decl_of d.now) decls.now)) }
 {
     let mut met = Names::new(alloc);
-    for decl in decls {
-        let name = name_of(decl);
-        let place = place_of(decl);
-        if is_built_in(name) {
-            return Ok(Some(Blamed { place, name }));
-        }
-        let fresh = note(&mut met, name)?;
+    type_met(&mut met, decls)
+}
+
+// The first typestate whose name was met, or is that of an earlier one.
+fn typestate_met<'a>(
+    met: &mut Names,
+    typestates: &'a [Typestate],
+    origins: &[u32],
+) -> Result<Option<Blamed<'a>>, Memory>
+    ensures { IfOk result (λ o. option_map blamed_of o ≡ repeat_typestate met.old typestates.now origins.now) }
+{
+    let mut rest = typestates;
+    let mut files = origins;
+    'typestates: while let Some((typestate, more)) = rest.split_first() {
+        let Some((file, others)) = files.split_first() else {
+            return Ok(None);
+        };
+        let name = typestate.name.as_str();
+        let fresh = note(met, name)?;
         if !fresh {
+            let place = Place::start(*file);
             return Ok(Some(Blamed { place, name }));
         }
+        rest = more;
+        files = others;
     }
     Ok(None)
 }
@@ -77,20 +110,36 @@ pub(crate) fn repeated_typestate<'a>(
     ensures { IfOk result (λ o. option_map blamed_of o ≡ repeat_typestate [] typestates.now origins.now) }
 {
     let mut met = Names::new(alloc);
-    let mut rest = typestates;
-    let mut files = origins;
-    'typestates: while let Some((typestate, more)) = rest.split_first() {
-        let Some((file, others)) = files.split_first() else {
-            return Ok(None);
-        };
-        let name = typestate.name.as_str();
-        let fresh = note(&mut met, name)?;
-        if !fresh {
-            let place = Place::start(*file);
-            return Ok(Some(Blamed { place, name }));
+    typestate_met(&mut met, typestates, origins)
+}
+
+// The first member whose name was met, or is that of an earlier one of its kind.
+fn member_met<'a>(
+    fields: &mut Names,
+    methods: &mut Names,
+    members: &[Member<'a>],
+) -> Result<Option<Blamed<'a>>, Memory>
+    ensures { IfOk result (λ o. option_map blamed_of o ≡ repeat_member fields.old methods.old (map member_seen members.now)) }
+{
+    for member in members {
+        match member {
+            Member::Field(field) => {
+                let name = field.name.as_str();
+                let fresh = note(fields, name)?;
+                if !fresh {
+                    let place = field.place;
+                    return Ok(Some(Blamed { place, name }));
+                }
+            }
+            Member::Method(method) => {
+                let name = method.name.as_str();
+                let fresh = note(methods, name)?;
+                if !fresh {
+                    let place = method.place;
+                    return Ok(Some(Blamed { place, name }));
+                }
+            }
         }
-        rest = more;
-        files = others;
     }
     Ok(None)
 }
@@ -101,24 +150,22 @@ fn repeated_member<'a>(alloc: Global, members: &[Member<'a>]) -> Result<Option<B
 {
     let mut fields = Names::new(alloc);
     let mut methods = Names::new(alloc);
-    for member in members {
-        match member {
-            Member::Field(field) => {
-                let name = field.name.as_str();
-                let fresh = note(&mut fields, name)?;
-                if !fresh {
-                    let place = field.place;
-                    return Ok(Some(Blamed { place, name }));
-                }
-            }
-            Member::Method(method) => {
-                let name = method.name.as_str();
-                let fresh = note(&mut methods, name)?;
-                if !fresh {
-                    let place = method.place;
-                    return Ok(Some(Blamed { place, name }));
-                }
-            }
+    member_met(&mut fields, &mut methods, members)
+}
+
+// The first constant that was met, or stands twice, at the enum's place.
+fn constant_met<'a>(
+    met: &mut Names,
+    place: Place,
+    constants: &'a [Text],
+) -> Result<Option<Blamed<'a>>, Memory>
+    ensures { IfOk result (λ o. option_map blamed_of o ≡ repeat_constant place met.old constants.now) }
+{
+    for constant in constants {
+        let name = constant.as_str();
+        let fresh = note(met, name)?;
+        if !fresh {
+            return Ok(Some(Blamed { place, name }));
         }
     }
     Ok(None)
@@ -133,14 +180,7 @@ fn repeated_constant<'a>(
     ensures { IfOk result (λ o. option_map blamed_of o ≡ repeat_constant place [] constants.now) }
 {
     let mut met = Names::new(alloc);
-    for constant in constants {
-        let name = constant.as_str();
-        let fresh = note(&mut met, name)?;
-        if !fresh {
-            return Ok(Some(Blamed { place, name }));
-        }
-    }
-    Ok(None)
+    constant_met(&mut met, place, constants)
 }
 
 // The first member of a declaration that shares its name.

@@ -1,6 +1,6 @@
 //! What calls take and give.
 
-ghost use Rattle.std.specs.Prelude.{◌≡◌, option_map};
+ghost use Rattle.std.specs.Prelude.{◌≡◌, drop, option_map, take};
 ghost use Rattle.jv_tree.specs.View.{method_of};
 ghost use Rattle.jv_rules.specs.Program.{Program};
 ghost use Rattle.jv_rules.specs.Types.{signature_of};
@@ -39,9 +39,9 @@ pub(crate) fn signature_of<'a>(table: &Table<'_>, method: &'a MethodDecl) -> Sig
     }
 }
 
-/// The method of `Session` of a name.
-pub(crate) fn session_method<'a>(name: &str) -> Option<Signature<'a>>
-    ensures { (program : Program) → option_map (signature_seen program) result ≡ built_in session_methods name.now }
+// The method of `Session` that sends, of a name.
+fn sending<'a>(name: &str) -> Option<Signature<'a>>
+    ensures { (program : Program) → option_map (signature_seen program) result ≡ built_in (take 4 session_methods) name.now }
 {
     if "send" == name {
         return Some(Signature {
@@ -67,6 +67,13 @@ pub(crate) fn session_method<'a>(name: &str) -> Option<Signature<'a>>
             result: ValueType::NoValue,
         });
     }
+    None
+}
+
+// The method of `Session` that looks, takes or refuses, of a name.
+fn taking<'a>(name: &str) -> Option<Signature<'a>>
+    ensures { (program : Program) → option_map (signature_seen program) result ≡ built_in (drop 4 session_methods) name.now }
+{
     if "look" == name {
         return Some(Signature {
             params: Params::OneText,
@@ -104,6 +111,16 @@ pub(crate) fn session_method<'a>(name: &str) -> Option<Signature<'a>>
         });
     }
     None
+}
+
+/// The method of `Session` of a name.
+pub(crate) fn session_method<'a>(name: &str) -> Option<Signature<'a>>
+    ensures { (program : Program) → option_map (signature_seen program) result ≡ built_in session_methods name.now }
+{
+    match sending(name) {
+        Some(signature) => Some(signature),
+        None => taking(name),
+    }
 }
 
 /// The method of texts of a name.

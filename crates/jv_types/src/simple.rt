@@ -141,8 +141,8 @@ struct Written<'s> {
 fn written_in(stmt: &Stmt) -> Option<Written<'_>>
     ensures { option_map written_seen result ≡ written_in (stmt_of stmt.now) }
 {
-    match &stmt.kind {
-        StmtKind::Local(ty, name, _) => Some(Written {
+    match stmt.kind {
+        StmtKind::Local(ref ty, ref name, _) => Some(Written {
             ty,
             name: name.as_str(),
         }),

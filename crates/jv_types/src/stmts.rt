@@ -3,6 +3,8 @@
 
 ghost use Rattle.std.specs.Prelude.{◌≡◌, map, OnOk};
 ghost use Rattle.jv_tree.specs.View.{stmt_of, stmts_of, group_of, groups_of};
+ghost use Rattle.jv_rules.specs.Scope.{Loop, within};
+ghost use Rattle.jv_rules.specs.Scope as targets;
 ghost use Rattle.jv_types.specs.inner.Scopes.{scope_seen};
 ghost use Rattle.jv_types.specs.inner.Stating.{Answers, stmt_fault, stmts_fault, groups_fault};
 
@@ -16,6 +18,7 @@ use crate::simple::{
 };
 use crate::switches::check_choice;
 use jv_tree::{Group, Stmt, StmtKind};
+use mg_text::Text;
 
 /// Judges a statement. The locals in scope stay as they are, that of a declaration included.
 #[cycle(stmts)]
@@ -28,10 +31,10 @@ pub(crate) fn check_stmt<'a>(
     ensures kept { OnOk result (locals.new ≡ locals.old) }
 {
     let place = stmt.place;
-    match &stmt.kind {
-        StmtKind::Block(body, _) => check_stmts(scope, locals, body.as_slice()),
+    match stmt.kind {
+        StmtKind::Block(ref body, _) => check_stmts(scope, locals, body.as_slice()),
         StmtKind::Empty => Ok(()),
-        StmtKind::Local(ty, name, value) => check_local(
+        StmtKind::Local(ref ty, ref name, ref value) => check_local(
             scope,
             locals,
             place,
@@ -39,8 +42,10 @@ pub(crate) fn check_stmt<'a>(
             name.as_str(),
             value,
         ),
-        StmtKind::Assign(target, value) => check_assign(scope, locals, place, target, value),
-        StmtKind::If(condition, inner, otherwise) => {
+        StmtKind::Assign(ref target, ref value) => check_assign(
+            scope, locals, place, target, value,
+        ),
+        StmtKind::If(ref condition, ref inner, ref otherwise) => {
             check_condition(scope, locals, condition)?;
             match otherwise {
                 None => check_stmt(scope, locals, inner),
@@ -50,34 +55,59 @@ pub(crate) fn check_stmt<'a>(
                 }
             }
         }
-        StmtKind::While(label, condition, inner) => {
+        StmtKind::While(ref label, ref condition, ref inner) => {
             check_loop(scope, locals, place, label, condition)?;
-            let around = Around::Loop(label_text(label), &*scope.around);
-            let within = (&*scope).within(&around);
-            check_stmt(&within, locals, inner)
+            check_inner(scope, locals, label, inner)
         }
-        StmtKind::Do(label, inner, condition) => {
-            let around = Around::Loop(label_text(label), &*scope.around);
-            let within = (&*scope).within(&around);
-            check_stmt(&within, locals, inner)?;
+        StmtKind::Do(ref label, ref inner, ref condition) => {
+            check_inner(scope, locals, label, inner)?;
             check_loop(scope, locals, place, label, condition)
         }
-        StmtKind::Switch(value, groups, _) => {
+        StmtKind::Switch(ref value, ref groups, _) => {
             let groups = groups.as_slice();
             check_choice(scope, locals, place, value, groups)?;
-            let around = Around::Switch(&*scope.around);
-            let within = (&*scope).within(&around);
-            check_groups(&within, locals, groups)
+            check_chosen(scope, locals, groups)
         }
-        StmtKind::Break(label) => check_break(scope, locals, place, label),
-        StmtKind::Continue(label) => check_continue(scope, locals, place, label),
-        StmtKind::Return(value) => match value {
+        StmtKind::Break(ref label) => check_break(scope, locals, place, label),
+        StmtKind::Continue(ref label) => check_continue(scope, locals, place, label),
+        StmtKind::Return(ref value) => match value {
             None => check_return(scope, locals, place),
             Some(value) => check_returned(scope, locals, place, value),
         },
-        StmtKind::Print(value) => check_print(scope, locals, place, value),
-        StmtKind::Eval(value) => check_eval(scope, locals, place, value),
+        StmtKind::Print(ref value) => check_print(scope, locals, place, value),
+        StmtKind::Eval(ref value) => check_eval(scope, locals, place, value),
     }
+}
+
+// Judges the statement of a loop.
+#[cycle(stmts)]
+fn check_inner<'a>(
+    scope: &Scope<'_, 'a>,
+    locals: &mut Locals<'a>,
+    label: &Option<Text>,
+    stmt: &'a Stmt,
+) -> Result<(), Wrong<'a>>
+    ensures told { Answers (stmt_fault (within (Loop label.now) (scope_seen scope.now locals.old)) (stmt_of stmt.now)) result }
+    ensures kept { OnOk result (locals.new ≡ locals.old) }
+{
+    let around = Around::Loop(label_text(label), &*scope.around);
+    let within = (&*scope).within(&around);
+    check_stmt(&within, locals, stmt)
+}
+
+// Judges the groups of a switch, in their switch.
+#[cycle(stmts)]
+fn check_chosen<'a>(
+    scope: &Scope<'_, 'a>,
+    locals: &mut Locals<'a>,
+    groups: &'a [Group],
+) -> Result<(), Wrong<'a>>
+    ensures told { Answers (groups_fault (within targets.Switch (scope_seen scope.now locals.old)) (groups_of (map group_of groups.now))) result }
+    ensures kept { OnOk result (locals.new ≡ locals.old) }
+{
+    let around = Around::Switch(&*scope.around);
+    let within = (&*scope).within(&around);
+    check_groups(&within, locals, groups)
 }
 
 /// Judges statements in their order.

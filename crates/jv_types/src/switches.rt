@@ -56,16 +56,16 @@ fn is_case_of(table: &Table<'_>, ty: ValueType<'_>, name: &str) -> bool
     }
 }
 
-// The first label that stands twice or is no constant of the enum. That of a default is empty.
-fn bad_case<'a>(
-    alloc: Global,
+// The first label that was met, stands twice or is no constant of the enum. That of a default is
+// empty.
+fn label_met<'a>(
+    met: &mut Names,
     table: &Table<'_>,
     ty: ValueType<'_>,
     labels: &[&'a Option<Text>],
 ) -> Result<Option<&'a str>, Memory>
-    ensures { IfOk result (λ o. option_map (λ n. n.now) o ≡ bad_case (is_case_of (program_in table.now) (Some (type_seen ty.entry))) [] false (map (λ l. l.now) labels.now)) }
+    ensures { IfOk result (λ o. option_map (λ n. n.now) o ≡ bad_case (is_case_of (program_in table.now) (Some (type_seen ty.entry))) met.old false (map (λ l. l.now) labels.now)) }
 {
-    let mut met = Names::new(alloc);
     let mut has_default = false;
     for label in labels {
         match label_text(label) {
@@ -76,7 +76,7 @@ fn bad_case<'a>(
                 has_default = true;
             }
             Some(name) => {
-                let fresh = note(&mut met, name)?;
+                let fresh = note(met, name)?;
                 if !fresh {
                     return Ok(Some(name));
                 }
@@ -87,6 +87,19 @@ fn bad_case<'a>(
         }
     }
     Ok(None)
+}
+
+// The first label that stands twice or is no constant of the enum. That of a default is empty.
+fn bad_case<'a>(
+    alloc: Global,
+    table: &Table<'_>,
+    ty: ValueType<'_>,
+    labels: &[&'a Option<Text>],
+) -> Result<Option<&'a str>, Memory>
+    ensures { IfOk result (λ o. option_map (λ n. n.now) o ≡ bad_case (is_case_of (program_in table.now) (Some (type_seen ty.entry))) [] false (map (λ l. l.now) labels.now)) }
+{
+    let mut met = Names::new(alloc);
+    label_met(&mut met, table, ty, labels)
 }
 
 // Judges the cases and defaults of a switch.

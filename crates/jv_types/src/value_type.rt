@@ -10,7 +10,7 @@ use crate::table::Table;
 use ts_tree::TypeName;
 
 /// The type of a value.
-#[derive(Clone, Copy, Debug)]
+#[derive(Clone, Copy)]
 pub(crate) enum ValueType<'a> {
     /// What a call of a method without a result gives.
     NoValue,

@@ -59,5 +59,5 @@ pub(crate) fn variable_type<'a>(
 pub(crate) fn is_protocol(scope: &Scope<'_, '_>, name: &str) -> bool
     ensures { result ≡ is_of_protocol (program_seen scope.now) (class_seen scope.now) name.now }
 {
-    scope.class.is_offered(name)
+    scope.table.is_offered(scope.class, name)
 }

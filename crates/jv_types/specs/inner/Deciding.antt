@@ -1,5 +1,5 @@
 -- The fault of the declarations, by computing.
-use Rattle.std.specs.Prelude.{ℕ, List, [], ◌∷◌, map, Option, None}
+use Rattle.std.specs.Prelude.{◌≡◌, ℕ, List, [], ◌∷◌, map, Option, None}
 use Rattle.std.specs.Option.{option_or}
 use Rattle.mg_read.specs.Culprit.{Culprit}
 use Rattle.ts_tree.specs.Typestate as protocols
@@ -17,7 +17,7 @@ use Rattle.jv_types.specs.inner.Blaming.{blamed_of}
 use Rattle.jv_types.specs.inner.Repeating.{repeat_type, repeat_typestate, repeat_in}
 use Rattle.jv_types.specs.inner.Declaring.{unknown_in_class, unknown_typestate, missing_in_class, broken_in_class, fields_need_values, plain_in_class}
 use Rattle.jv_types.specs.inner.Kept.{typestate_in}
-use Rattle.jv_types.specs.inner.Tabled.{class_in}
+use Rattle.jv_types.specs.inner.Tabled.{class_in, AreEntriesOf}
 
 abbrev pub found_of : Found → Condition × Culprit
 found_of f = (f.condition, blamed_of f.blamed)
@@ -72,3 +72,10 @@ later_found program es =
     told conditions.UnknownClass (first_by (unknown_in_class program) (map class_in es))
     (told conditions.UnknownTypestate (first_by (λ e. unknown_typestate (typestate_in e) (class_in e)) es)
     (demands_found program es))
+
+-- what the entries of some tables of a program tell
+pub record IsLater (program : Program) (told : Option (Condition × Culprit)) : Type 0 where
+  pub entries : List ClassEntry
+  pub classes : map class_in entries ≡ classes_of program.files
+  pub each : AreEntriesOf program entries
+  pub is : told ≡ later_found program entries

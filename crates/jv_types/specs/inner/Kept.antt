@@ -10,6 +10,7 @@ use Rattle.jv_tree.specs.declared.tree.File.{File}
 use Rattle.jv_meaning.specs.Program.{typestate_named}
 use Rattle.jv_types.specs.declared.entry.ClassEntry.{ClassEntry}
 use Rattle.jv_types.specs.declared.entry.EnumEntry.{EnumEntry}
+use Rattle.jv_types.specs.declared.protocols.Protocol.{Protocol}
 
 abbrev pub class_kept : Decl → List Class
 class_kept (decls.Class c) = c ∷ []
@@ -36,8 +37,11 @@ typestate_in e = option_map (λ t. t.now) e.typestate
 abbrev pub followed : List Typestate → ClassEntry → Option Typestate
 followed typestates e = option_and_then (typestate_named typestates) e.class.now.typestate
 
--- the tables have all classes and enums of files, and their names
-pub record IsTabled (files : List File) (typestates : List Typestate) (classes : List ClassEntry) (class_names : List Name) (enums : List EnumEntry) (enum_names : List Name) : Type 0 where
+-- the tables have all typestates, and all classes and enums of files, and their names
+pub record IsTabled (files : List File) (typestates : List Typestate) (protocols : List Protocol) (typestate_names : List Name) (classes : List ClassEntry) (class_names : List Name)
+    (enums : List EnumEntry) (enum_names : List Name) : Type 0 where
+  pub all_typestates : map (λ p. p.of.now) protocols ≡ typestates
+  pub typestates_named : typestate_names ≡ map (λ t. t.name) typestates
   pub all_classes : map (λ e. e.class.now) classes ≡ kept_classes files
   pub classes_named : class_names ≡ map (λ c. c.name) (kept_classes files)
   pub follow : map typestate_in classes ≡ map (followed typestates) classes

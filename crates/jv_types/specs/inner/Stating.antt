@@ -1,5 +1,5 @@
 -- What is judged at a statement, once nothing is wrong with its operands.
-use Rattle.std.specs.Prelude.{◌≡◌, List, [], ◌∷◌, ◌++◌, map, Option, Some, None, option_map, Bool, true, false, if◌then◌else◌, Result, MatchResult}
+use Rattle.std.specs.Prelude.{◌≡◌, List, [], ◌∷◌, ◌++◌, map, Option, Some, None, Bool, true, if◌then◌else◌, Result, MatchResult}
 use Rattle.std.specs.Option.{option_or}
 use Rattle.mg_text.specs.Call.{Name}
 use Rattle.mg_text.specs.declared.place.Place.{Place}

@@ -118,29 +118,11 @@ leave_stmt-returns-in-Print-clause-through t c = (forms.spoken_left c.args.stmt.
 pub leave_stmt-returns-in-Print-clause-exits : goal.leave_stmt-returns-in-Print-clause-exits
 leave_stmt-returns-in-Print-clause-exits t c = (forms.spoken_left c.args.stmt.now (met_at c.args.exits.now) c.in-Print.is).1
 
-pub leave_stmt-returns-in-Print-2-clause-through : goal.leave_stmt-returns-in-Print-2-clause-through
-leave_stmt-returns-in-Print-2-clause-through t c = (forms.spoken_left c.args.stmt.now (met_at c.args.exits.now) c.in-Print.is).0
-
-pub leave_stmt-returns-in-Print-2-clause-exits : goal.leave_stmt-returns-in-Print-2-clause-exits
-leave_stmt-returns-in-Print-2-clause-exits t c = (forms.spoken_left c.args.stmt.now (met_at c.args.exits.now) c.in-Print.is).1
-
 pub leave_stmt-returns-in-Empty-clause-through : goal.leave_stmt-returns-in-Empty-clause-through
 leave_stmt-returns-in-Empty-clause-through t c = (forms.silent_left c.args.stmt.now (met_at c.args.exits.now) c.in-Empty.is).0
 
 pub leave_stmt-returns-in-Empty-clause-exits : goal.leave_stmt-returns-in-Empty-clause-exits
 leave_stmt-returns-in-Empty-clause-exits t c = (forms.silent_left c.args.stmt.now (met_at c.args.exits.now) c.in-Empty.is).1
-
-pub leave_stmt-returns-in-Empty-2-clause-through : goal.leave_stmt-returns-in-Empty-2-clause-through
-leave_stmt-returns-in-Empty-2-clause-through t c = (forms.silent_left c.args.stmt.now (met_at c.args.exits.now) c.in-Empty.is).0
-
-pub leave_stmt-returns-in-Empty-2-clause-exits : goal.leave_stmt-returns-in-Empty-2-clause-exits
-leave_stmt-returns-in-Empty-2-clause-exits t c = (forms.silent_left c.args.stmt.now (met_at c.args.exits.now) c.in-Empty.is).1
-
-pub leave_stmt-returns-in-Empty-3-clause-through : goal.leave_stmt-returns-in-Empty-3-clause-through
-leave_stmt-returns-in-Empty-3-clause-through t c = (forms.silent_left c.args.stmt.now (met_at c.args.exits.now) c.in-Empty.is).0
-
-pub leave_stmt-returns-in-Empty-3-clause-exits : goal.leave_stmt-returns-in-Empty-3-clause-exits
-leave_stmt-returns-in-Empty-3-clause-exits t c = (forms.silent_left c.args.stmt.now (met_at c.args.exits.now) c.in-Empty.is).1
 
 pub leave_stmts-loop-stmt-init : goal.leave_stmts-loop-stmt-init
 leave_stmts-loop-stmt-init t c = left_start (stmts_of (map stmt_of c.args.stmts.now)) (met_at c.args.exits.now)

@@ -1,39 +1,26 @@
-use Rattle.std.proofs.Common.{Bor, sym, ap, ◌∙◌, map, option_map}
-use Rattle.jv_tree.specs.declared.tree.Decl.{Decl}
+use Rattle.std.proofs.Common.{Some, None}
+use Rattle.std.proofs.lemmas.Result.{err_from_is_err_and}
 use Rattle.jv_rules.specs.Faults.{IsTableFault}
 use Rattle.jv_types.specs.Tables.{program_in}
 use Rattle.jv_types.specs.View.{program_of}
-use Rattle.jv_types.specs.inner.Deciding.{found_of}
-use Rattle.jv_types.proofs.Answering.{told_as, early_told, types_none, typestates_apart, later_told}
+use Rattle.jv_types.specs.inner.Deciding.{IsLater}
+use Rattle.jv_types.proofs.Answering.{later_as}
+use Rattle.jv_types.proofs.MethodSteps.{told_more}
 use Rattle.jv_types.proofs.declarations.build_table.Goals as goal
 
-pub returns-in-Some-clause-fault : goal.returns-in-Some-clause-fault
-returns-in-Some-clause-fault c =
-    told_as (IsTableFault (program_of c.args.files.now c.args.typestates.now) c.args.origins.now) (found_of c.in-Some.found) c.fault_of.result c.fault_of.ensures
-    (early_told c.args.files.now c.args.typestates.now c.args.origins.now c.as_slice.result.now
-    (ap (map (λ (d : Bor Decl). d.now)) c.as_slice.ensures.value ∙ c.in_ok-decls.ensures) (found_of c.in-Some.found) (sym (ap (option_map found_of) c.in-Some.is) ∙ c.in_ok-found.ensures))
+pub returns-in_err-table-clause-fault : goal.returns-in_err-table-clause-fault
+returns-in_err-table-clause-fault c =
+    let r = err_from_is_err_and c.from_residual.result c.from_residual.ensures.1 in
+    rw (r.1, r.2) c.in_err-table.ensures.fault
 
-pub build-requires-clause-types : goal.build-requires-clause-types
-build-requires-clause-types c =
-    types_none c.args.files.now c.args.typestates.now c.args.origins.now c.as_slice.result.now (ap (map (λ (d : Bor Decl). d.now)) c.as_slice.ensures.value ∙ c.in_ok-decls.ensures)
-    (sym (ap (option_map found_of) c.in_default.is) ∙ c.in_ok-found.ensures)
-
-pub build-requires-clause-typestates : goal.build-requires-clause-typestates
-build-requires-clause-typestates c =
-    typestates_apart c.args.files.now c.args.typestates.now c.args.origins.now c.as_slice.result.now (ap (map (λ (d : Bor Decl). d.now)) c.as_slice.ensures.value ∙ c.in_ok-decls.ensures)
-    (sym (ap (option_map found_of) c.in_default.is) ∙ c.in_ok-found.ensures) c.requires
-
-pub returns-in-Some-2-clause-fault : goal.returns-in-Some-2-clause-fault
-returns-in-Some-2-clause-fault c =
-    told_as (IsTableFault (program_of c.args.files.now c.args.typestates.now) c.args.origins.now) (found_of c.in-Some-2.found) c.fault_of-in-Some-2.result c.fault_of-in-Some-2.ensures
-    (later_told c.args.files.now c.args.typestates.now c.args.origins.now c.as_slice.result.now
-    (ap (map (λ (d : Bor Decl). d.now)) c.as_slice.ensures.value ∙ c.in_ok-decls.ensures) (sym (ap (option_map found_of) c.in_default.is) ∙ c.in_ok-found.ensures)
-    (program_in c.in_ok-table.table) c.in_ok-table.ensures c.classes.result.now c.classes.ensures.classes c.classes.ensures.entries _
-    (sym (ap (option_map found_of) c.in-Some-2.is) ∙ c.in_ok-found-2.ensures))
+pub returns-in_err-check_tables-clause-fault : goal.returns-in_err-check_tables-clause-fault
+returns-in_err-check_tables-clause-fault c =
+    let r = err_from_is_err_and c.from_residual-in_err-check_tables.result c.from_residual-in_err-check_tables.ensures.1 in
+    rw (r.1, r.2)
+    (told_more (IsLater (program_in c.in_ok-table.table)) (IsTableFault (program_of c.args.files.now c.args.typestates.now) c.args.origins.now)
+    (λ f. later_as c.args.files.now c.args.typestates.now c.args.origins.now c.in_ok-table.ensures.fine (program_in c.in_ok-table.table) c.in_ok-table.ensures.program (Some f))
+    c.in_err-check_tables.field-0.0 c.in_err-check_tables.ensures.fault)
 
 pub returns-clause-fine : goal.returns-clause-fine
 returns-clause-fine c =
-    later_told c.args.files.now c.args.typestates.now c.args.origins.now c.as_slice.result.now
-    (ap (map (λ (d : Bor Decl). d.now)) c.as_slice.ensures.value ∙ c.in_ok-decls.ensures) (sym (ap (option_map found_of) c.in_default.is) ∙ c.in_ok-found.ensures)
-    (program_in c.in_ok-table.table) c.in_ok-table.ensures c.classes.result.now c.classes.ensures.classes c.classes.ensures.entries _
-    (sym (ap (option_map found_of) c.in_default-2.is) ∙ c.in_ok-found-2.ensures)
+    later_as c.args.files.now c.args.typestates.now c.args.origins.now c.in_ok-table.ensures.fine (program_in c.in_ok-table.table) c.in_ok-table.ensures.program None c.in_ok-check_tables.ensures.fine

@@ -1,4 +1,4 @@
-use Rattle.std.proofs.Common.{◌+◌, drop, Some, refl, sym, ap, ◌∙◌}
+use Rattle.std.proofs.Common.{Some, refl, sym, ap, ◌∙◌}
 use Rattle.std.specs.Option.{is_some}
 use Rattle.std.proofs.lemmas.Result.{err_from_is_err_and}
 use Rattle.mg_read.specs.Culprit.{culprit}

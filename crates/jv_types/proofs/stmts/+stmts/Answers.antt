@@ -1,13 +1,12 @@
-use Rattle.std.proofs.Common.{◌≡◌, ◌+◌, ◌-◌, drop, length, map, Some, None, refl, sym, ap, subst, ◌∙◌}
-use Rattle.std.specs.Option.{option_map}
+use Rattle.std.proofs.Common.{◌≡◌, ◌-◌, drop, length, map, Some, None, refl, sym, ap, subst, ◌∙◌}
 use Rattle.std.proofs.lemmas.Result.{err_from_is_err_and}
 use Rattle.jv_tree.specs.declared.tree.StmtKind.TheVariants as kinds
-use Rattle.jv_tree.specs.declared.tree.Stmt.{Stmt as KeptStmt}
 use Rattle.jv_tree.specs.View.{expr_of, stmt_of, stmts_of, group_of, groups_of}
 use Rattle.jv_types.specs.inner.Scopes.{scope_seen}
-use Rattle.jv_rules.specs.Scope.{behind}
+use Rattle.jv_rules.specs.Scope.{behind, Loop, within}
+use Rattle.jv_rules.specs.Scope as targets
 use Rattle.jv_types.specs.inner.Judging.{Tells}
-use Rattle.jv_types.specs.inner.Stating.{Answers, Extends, stmt_fault, stmts_fault, loop_told}
+use Rattle.jv_types.specs.inner.Stating.{Answers, Extends, stmt_fault, stmts_fault, groups_fault, loop_told}
 use Rattle.jv_types.proofs.Checking.{tells_first, tells_later}
 use Rattle.jv_types.proofs.StmtLoops.{answers_as, answers_last, judged_start, judged_wrong, judged_more, judged_done, all_dropped, group_wrong, group_more, groups_done}
 use Rattle.jv_types.proofs.StmtForms as forms
@@ -53,18 +52,18 @@ check_stmt-returns-in_err-check_loop-in-While-clause-told t c =
 
 pub check_stmt-returns-in_ok-check_loop-in-While-clause-told : goal.check_stmt-returns-in_ok-check_loop-in-While-clause-told
 check_stmt-returns-in_ok-check_loop-in-While-clause-told t c =
-    answers_last c.check_stmt-in-While.result _ _ _ (forms.while_is (scope_seen c.args.scope.now c.args.locals.now) c.args.stmt.now c.in-While.condition c.in-While.inner c.deref-in-While.result.now c.deref-in-While.ensures c.in-While.label (scope_seen c.within-within.result c.args.locals.now) (forms.loop_within (scope_seen c.args.scope.now c.args.locals.now) (scope_seen c.within-within.result c.args.locals.now) c.in-While.label _ (c.within-within.ensures c.args.locals.now) c.label_text.ensures) c.in-While.is) c.in_ok-check_loop-in-While.ensures c.check_stmt-in-While.ensures.told
+    answers_last c.check_inner.result _ _ _ (forms.while_is (scope_seen c.args.scope.now c.args.locals.now) c.args.stmt.now c.in-While.condition c.in-While.inner c.deref-in-While.result.now c.deref-in-While.ensures c.in-While.label (within (Loop c.in-While.label) (scope_seen c.args.scope.now c.args.locals.now)) refl c.in-While.is) c.in_ok-check_loop-in-While.ensures c.check_inner.ensures.told
 
-pub check_stmt-returns-in_err-check_stmt-in-Do-clause-told : goal.check_stmt-returns-in_err-check_stmt-in-Do-clause-told
-check_stmt-returns-in_err-check_stmt-in-Do-clause-told t c =
-    let r = err_from_is_err_and c.from_residual-in_err-check_stmt-in-Do.result c.from_residual-in_err-check_stmt-in-Do.ensures.1 in
+pub check_stmt-returns-in_err-check_inner-in-Do-clause-told : goal.check_stmt-returns-in_err-check_inner-in-Do-clause-told
+check_stmt-returns-in_err-check_inner-in-Do-clause-told t c =
+    let r = err_from_is_err_and c.from_residual-in_err-check_inner-in-Do.result c.from_residual-in_err-check_inner-in-Do.ensures.1 in
     rw (r.1, r.2)
-    (tells_first c.in_err-check_stmt-in-Do.field-0.0 _ _ _ (forms.do_is (scope_seen c.args.scope.now c.args.locals.now) c.args.stmt.now c.in-Do.condition c.in-Do.inner c.deref-in-Do.result.now c.deref-in-Do.ensures c.in-Do.label (scope_seen c.within-within-in-Do.result c.args.locals.now) (forms.loop_within (scope_seen c.args.scope.now c.args.locals.now) (scope_seen c.within-within-in-Do.result c.args.locals.now) c.in-Do.label _ (c.within-within-in-Do.ensures c.args.locals.now) c.label_text-in-Do.ensures) c.in-Do.is) c.in_err-check_stmt-in-Do.ensures.told)
+    (tells_first c.in_err-check_inner-in-Do.field-0.0 _ _ _ (forms.do_is (scope_seen c.args.scope.now c.args.locals.now) c.args.stmt.now c.in-Do.condition c.in-Do.inner c.deref-in-Do.result.now c.deref-in-Do.ensures c.in-Do.label (within (Loop c.in-Do.label) (scope_seen c.args.scope.now c.args.locals.now)) refl c.in-Do.is) c.in_err-check_inner-in-Do.ensures.told)
 
-pub check_stmt-returns-in_ok-check_stmt-in-Do-clause-told : goal.check_stmt-returns-in_ok-check_stmt-in-Do-clause-told
-check_stmt-returns-in_ok-check_stmt-in-Do-clause-told t c =
-    answers_last c.check_loop-in-Do.result _ _ _ (forms.do_is (scope_seen c.args.scope.now c.args.locals.now) c.args.stmt.now c.in-Do.condition c.in-Do.inner c.deref-in-Do.result.now c.deref-in-Do.ensures c.in-Do.label (scope_seen c.within-within-in-Do.result c.args.locals.now) (forms.loop_within (scope_seen c.args.scope.now c.args.locals.now) (scope_seen c.within-within-in-Do.result c.args.locals.now) c.in-Do.label _ (c.within-within-in-Do.ensures c.args.locals.now) c.label_text-in-Do.ensures) c.in-Do.is) c.in_ok-check_stmt-in-Do.ensures.told
-    (subst (λ l. Answers (loop_told (scope_seen c.args.scope.now l) c.args.stmt.now.place c.in-Do.label (expr_of c.in-Do.condition)) c.check_loop-in-Do.result) c.in_ok-check_stmt-in-Do.ensures.kept c.check_loop-in-Do.ensures)
+pub check_stmt-returns-in_ok-check_inner-in-Do-clause-told : goal.check_stmt-returns-in_ok-check_inner-in-Do-clause-told
+check_stmt-returns-in_ok-check_inner-in-Do-clause-told t c =
+    answers_last c.check_loop-in-Do.result _ _ _ (forms.do_is (scope_seen c.args.scope.now c.args.locals.now) c.args.stmt.now c.in-Do.condition c.in-Do.inner c.deref-in-Do.result.now c.deref-in-Do.ensures c.in-Do.label (within (Loop c.in-Do.label) (scope_seen c.args.scope.now c.args.locals.now)) refl c.in-Do.is) c.in_ok-check_inner-in-Do.ensures.told
+    (subst (λ l. Answers (loop_told (scope_seen c.args.scope.now l) c.args.stmt.now.place c.in-Do.label (expr_of c.in-Do.condition)) c.check_loop-in-Do.result) c.in_ok-check_inner-in-Do.ensures.kept c.check_loop-in-Do.ensures)
 
 pub check_stmt-returns-in_err-check_choice-in-Switch-clause-told : goal.check_stmt-returns-in_err-check_choice-in-Switch-clause-told
 check_stmt-returns-in_err-check_choice-in-Switch-clause-told t c =
@@ -74,7 +73,7 @@ check_stmt-returns-in_err-check_choice-in-Switch-clause-told t c =
 
 pub check_stmt-returns-in_ok-check_choice-in-Switch-clause-told : goal.check_stmt-returns-in_ok-check_choice-in-Switch-clause-told
 check_stmt-returns-in_ok-check_choice-in-Switch-clause-told t c =
-    answers_last c.check_groups.result _ _ _ (forms.switch_is (scope_seen c.args.scope.now c.args.locals.now) c.args.stmt.now c.in-Switch.value c.in-Switch.groups _ c.as_slice-groups.result.now (scope_seen c.within-within-in-Switch.result c.args.locals.now) c.in-Switch.is c.as_slice-groups.ensures.items (c.within-within-in-Switch.ensures c.args.locals.now)) c.in_ok-check_choice-in-Switch.ensures c.check_groups.ensures.told
+    answers_last c.check_chosen.result _ _ _ (forms.switch_is (scope_seen c.args.scope.now c.args.locals.now) c.args.stmt.now c.in-Switch.value c.in-Switch.groups _ c.as_slice-groups.result.now (within targets.Switch (scope_seen c.args.scope.now c.args.locals.now)) c.in-Switch.is c.as_slice-groups.ensures.items refl) c.in_ok-check_choice-in-Switch.ensures c.check_chosen.ensures.told
 
 pub check_stmts-loop-stmt-init : goal.check_stmts-loop-stmt-init
 check_stmts-loop-stmt-init t c =
@@ -163,3 +162,13 @@ check_stmt-returns-in-None-value-clause-told t c =
 pub check_stmt-returns-in-Some-value-clause-told : goal.check_stmt-returns-in-Some-value-clause-told
 check_stmt-returns-in-Some-value-clause-told t c =
     answers_as c.check_returned.result _ _ (forms.return_is (scope_seen c.args.scope.now c.args.locals.now) c.args.stmt.now (Some c.in-Some-value.value) (c.in-Return.is ∙ ap kinds.Return c.in-Some-value.is)) c.check_returned.ensures
+
+pub check_inner-returns-clause-told : goal.check_inner-returns-clause-told
+check_inner-returns-clause-told t c =
+    subst (λ z. Answers (stmt_fault z (stmt_of c.args.stmt.now)) c.check_stmt.result)
+    (forms.loop_within (scope_seen c.args.scope.now c.args.locals.now) (scope_seen c.within-within.result c.args.locals.now) c.args.label.now _ (c.within-within.ensures c.args.locals.now) c.label_text.ensures)
+    c.check_stmt.ensures.told
+
+pub check_chosen-returns-clause-told : goal.check_chosen-returns-clause-told
+check_chosen-returns-clause-told t c =
+    subst (λ z. Answers (groups_fault z (groups_of (map group_of c.args.groups.now))) c.check_groups.result) (c.within-within.ensures c.args.locals.now) c.check_groups.ensures.told
