@@ -1,5 +1,5 @@
 -- The entries of classes, one after another.
-use Rattle.std.proofs.Common.{◌≡◌, ℕ, suc, ◌+◌, List, [], ◌∷◌, ◌++◌, map, length, Option, Some, None, refl, sym, ap, ◌∙◌, append_assoc, append-nil, arith, add-one}
+use Rattle.std.proofs.Common.{◌≡◌, ℕ, suc, ◌+◌, List, [], ◌∷◌, ◌++◌, map, length, Option, Some, None, refl, sym, ap, ◌∙◌, append_assoc, append-nil, add-one}
 use Rattle.std.specs.Option.{option_map}
 use Rattle.mg_text.specs.Call.{Name}
 use Rattle.ts_tree.specs.Typestate.{Typestate}
@@ -68,18 +68,21 @@ same_entries typestates n m (c ∷ cs) =
 abbrev tabled : List Entry → List Enum → List Typestate → Tables
 tabled classes enums typestates = record { classes = classes; enums = enums; typestates = typestates }
 
-module _ (program : Program) (names : List Name) (cs : List Class) (named : names ≡ map (λ t. t.name) program.typestates) (all : cs ≡ classes_of program.files) where
-  entries_as : entries_from program.typestates 0 0 (classes_of program.files) ≡ entries_by names 0 0 cs
-  entries_as =
-      sym (ap (λ ns. entries_by ns 0 0 cs) named ∙ ap (entries_by (map (λ t. t.name) program.typestates) 0 0) all ∙ same_entries program.typestates 0 0 (classes_of program.files))
+-- the classes of files, in which the names of the typestates are looked up
+pub entries_as : (typestates : List Typestate) (names : List Name) (cs all : List Class) → names ≡ map (λ t. t.name) typestates → cs ≡ all → entries_from typestates 0 0 all ≡ entries_by names 0 0 cs
+entries_as typestates names cs all named same =
+    sym (ap (λ ns. entries_by ns 0 0 cs) named ∙ ap (entries_by (map (λ t. t.name) typestates) 0 0) same ∙ same_entries typestates 0 0 all)
 
-  pub tables_fail : (err : Unresolved) → Fails err (entries_by names 0 0 cs) → Fails err (tables_of program)
-  tables_fail err h =
-      fails_then err (entries_from program.typestates 0 0 (classes_of program.files)) (λ es. Some (tabled es (enums_of program.files) program.typestates)) (fails_as err _ _ entries_as h)
+module _ (program : Program) where
+  abbrev all_entries : Option (List Entry)
+  all_entries = entries_from program.typestates 0 0 (classes_of program.files)
 
-  pub tables_made : (es : List Entry) (enums : List Enum) (typestates : List Typestate) → entries_by names 0 0 cs ≡ Some es → enums ≡ enums_of program.files → typestates ≡ program.typestates →
+  pub tables_fail : (err : Unresolved) → Fails err all_entries → Fails err (tables_of program)
+  tables_fail err h = fails_then err all_entries (λ es. Some (tabled es (enums_of program.files) program.typestates)) h
+
+  pub tables_made : (es : List Entry) (enums : List Enum) (typestates : List Typestate) → all_entries ≡ Some es → enums ≡ enums_of program.files → typestates ≡ program.typestates →
       tables_of program ≡ Some (tabled es enums typestates)
   tables_made es enums typestates h same_enums same_typestates =
-      ap (λ o. o >>= λ xs. Some (tabled xs (enums_of program.files) program.typestates)) (entries_as ∙ h)
+      ap (λ o. o >>= λ xs. Some (tabled xs (enums_of program.files) program.typestates)) h
       ∙ ap (λ xs. Some (tabled es xs program.typestates)) (sym same_enums)
       ∙ ap (λ xs. Some (tabled es enums xs)) (sym same_typestates)

@@ -1,11 +1,11 @@
 -- What members, receivers and first values are, by what stands before the `.`.
-use Rattle.std.proofs.Common.{◌≡◌, ℕ, ◌≢◌, Bool, true, false, List, [], ◌∷◌, Option, Some, None, refl, sym, ap, ◌∙◌, true≢false}
+use Rattle.std.proofs.Common.{◌≡◌, Bool, true, false, List, [], Option, Some, None, refl, sym, ap, ◌∙◌, true≢false}
 use Rattle.std.specs.Option.{option_map}
 use Rattle.mg_text.specs.Call.{Name}
 use Rattle.mg_text.specs.declared.place.Place.{Place}
 use Rattle.jv_tree.specs.Source.{Expr, Int, Truth, Text, Null, This, Variable, Member, Neg, Not, Binary, Call, MethodCall, New, place_of}
 use Rattle.jv_resolving.specs.Tables.{◌>>=◌, Tables}
-use Rattle.jv_resolving.specs.Expressions.{Known, Standing, Resolved, Receiver, OnThis, OnValue, found, own_found, variable_at, constant_at, constant, member, named_receiver, receiver, initial}
+use Rattle.jv_resolving.specs.Expressions.{Known, Standing, Resolved, OnThis, OnValue, found, own_found, variable_at, constant_at, constant, member, named_receiver, receiver, initial}
 use Rattle.jv_resolve.specs.inner.Heads.{Head, ThisHead, NameHead, OtherHead, head_of}
 
 -- a test of heads, to tell them apart

@@ -1,5 +1,5 @@
 -- What a statement with inner ones is resolved to, from what these are.
-use Rattle.std.proofs.Common.{◌≡◌, ℕ, List, [], ◌∷◌, ◌++◌, length, map, Option, Some, None, refl, sym, ap, ◌∙◌}
+use Rattle.std.proofs.Common.{◌≡◌, ℕ, List, ◌∷◌, length, Option, Some, sym, ap, ◌∙◌}
 use Rattle.mg_text.specs.Call.{Name}
 use Rattle.mg_text.specs.declared.place.Place.{Place}
 use Rattle.ts_tree.specs.declared.parts.TypeName.{TypeName}
@@ -12,7 +12,7 @@ use Rattle.jv_resolving.specs.Statements.{Counted, Counting, Around, InLoop, InS
 use Rattle.jv_resolve.specs.declared.given.Unresolved.{Unresolved}
 use Rattle.jv_resolve.specs.inner.Gives.{Fails}
 use Rattle.jv_resolve.specs.inner.Counted.{counting}
-use Rattle.jv_resolve.proofs.Chains.{fails_then, fails_as}
+use Rattle.jv_resolve.proofs.Chains.{fails_then, fails_last, fails_as}
 
 module _ (tables : Tables) (at : Standing) (around : List Around) (locals : List Known) (s : Counted) (p : Place) where
   abbrev meant : Source.Stmt → Option (Counting Core.Stmt)
@@ -34,8 +34,8 @@ module _ (tables : Tables) (at : Standing) (around : List Around) (locals : List
     abbrev kept_local : Option (Counting Known × Core.Stmt)
     kept_local = local tables at p ty name e locals s
 
-    pub local_made : (k : Counting Known) (made : Core.Stmt) → kept_local ≡ Some (k, made) → meant (Source.Local p ty name e) ≡ Some (counting made k.so_far)
-    local_made k made h = ap (λ o. o >>= λ d. Some (counting d.1 d.0.so_far)) h
+    pub local_made : (k : Counting Known) (u made : Core.Stmt) → kept_local ≡ Some (k, u) → made ≡ u → meant (Source.Local p ty name e) ≡ Some (counting made k.so_far)
+    local_made k u made h is = ap (λ o. o >>= λ d. Some (counting d.1 d.0.so_far)) h ∙ ap (λ v. Some (counting v k.so_far)) (sym is)
 
     pub local_fails : (err : Unresolved) → Fails err kept_local → Fails err (meant (Source.Local p ty name e))
     local_fails err h = fails_then err kept_local (λ d. Some (counting d.1 d.0.so_far)) h
@@ -55,10 +55,8 @@ module _ (tables : Tables) (at : Standing) (around : List Around) (locals : List
     pub if_test_fails : (err : Unresolved) → Fails err (value c) → Fails err (meant (Source.If p c then))
     if_test_fails err h = fails_then err (value c) (λ v. first >>= λ a. Some (counting (Core.If p v.expr a.it) a.so_far)) h
 
-    pub if_fails : (err : Unresolved) (t : Resolved) → value c ≡ Some t → Fails err first → Fails err (meant (Source.If p c then))
-    if_fails err t test h =
-        fails_as err _ _ (ap (λ o. o >>= λ v. first >>= λ a. Some (counting (Core.If p v.expr a.it) a.so_far)) test)
-        (fails_then err first (λ a. Some (counting (Core.If p t.expr a.it) a.so_far)) h)
+    pub if_fails : (err : Unresolved) → Fails err first → Fails err (meant (Source.If p c then))
+    if_fails err h = fails_last err (value c) first (λ v a. Some (counting (Core.If p v.expr a.it) a.so_far)) h
 
     module _ (otherwise : Source.Stmt) where
       abbrev second : Counted → Option (Counting Core.Stmt)
@@ -76,15 +74,13 @@ module _ (tables : Tables) (at : Standing) (around : List Around) (locals : List
       pub else_test_fails : (err : Unresolved) → Fails err (value c) → Fails err (meant (Source.IfElse p c then otherwise))
       else_test_fails err h = fails_then err (value c) (λ v. after_first v first) h
 
-      pub else_first_fails : (err : Unresolved) (t : Resolved) → value c ≡ Some t → Fails err first → Fails err (meant (Source.IfElse p c then otherwise))
-      else_first_fails err t test h =
-          fails_as err _ _ (ap (λ o. o >>= λ v. after_first v first) test)
-          (fails_then err first (λ a. second a.so_far >>= λ d. Some (counting (Core.IfElse p t.expr a.it d.it) d.so_far)) h)
+      pub else_first_fails : (err : Unresolved) → Fails err first → Fails err (meant (Source.IfElse p c then otherwise))
+      else_first_fails err h = fails_last err (value c) first (λ v a. second a.so_far >>= λ d. Some (counting (Core.IfElse p v.expr a.it d.it) d.so_far)) h
 
-      pub else_fails : (err : Unresolved) (t : Resolved) (b : Counting Core.Stmt) → value c ≡ Some t → first ≡ Some b → Fails err (second b.so_far) → Fails err (meant (Source.IfElse p c then otherwise))
-      else_fails err t b test h k =
-          fails_as err _ _ (ap (λ o. o >>= λ v. after_first v first) test ∙ ap (after_first t) h)
-          (fails_then err (second b.so_far) (λ e. Some (counting (Core.IfElse p t.expr b.it e.it) e.so_far)) k)
+      pub else_fails : (err : Unresolved) (b : Counting Core.Stmt) → first ≡ Some b → Fails err (second b.so_far) → Fails err (meant (Source.IfElse p c then otherwise))
+      else_fails err b h k =
+          fails_as err _ _ (ap (λ o. value c >>= λ v. after_first v o) h)
+          (fails_last err (value c) (second b.so_far) (λ v e. Some (counting (Core.IfElse p v.expr b.it e.it) e.so_far)) k)
 
   -- ---- loops
 
@@ -112,10 +108,8 @@ module _ (tables : Tables) (at : Standing) (around : List Around) (locals : List
     pub while_test_fails : (err : Unresolved) → Fails err (value c) → Fails err (meant (Source.While p label c body))
     while_test_fails err h = fails_then err (value c) (λ v. within >>= λ a. Some (counting (Core.While p (length s.loops) v.expr a.it) a.so_far)) h
 
-    pub while_fails : (err : Unresolved) (t : Resolved) → value c ≡ Some t → Fails err within → Fails err (meant (Source.While p label c body))
-    while_fails err t test h =
-        fails_as err _ _ (ap (λ o. o >>= λ v. within >>= λ a. Some (counting (Core.While p (length s.loops) v.expr a.it) a.so_far)) test)
-        (fails_then err within (λ a. Some (counting (Core.While p (length s.loops) t.expr a.it) a.so_far)) h)
+    pub while_fails : (err : Unresolved) → Fails err within → Fails err (meant (Source.While p label c body))
+    while_fails err h = fails_last err (value c) within (λ v a. Some (counting (Core.While p (length s.loops) v.expr a.it) a.so_far)) h
 
     pub do_made : (t : Resolved) (b : Counting Core.Stmt) (n : ℕ) (made : Core.Stmt) → within ≡ Some b → value c ≡ Some t → n ≡ length s.loops → made ≡ Core.Do p n b.it t.expr →
         meant (Source.Do p label body c) ≡ Some (counting made b.so_far)

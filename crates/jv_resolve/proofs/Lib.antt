@@ -1,3 +1,4 @@
+pub mod Assigning
 pub mod AtIndex
 pub mod Bounding
 pub mod BuildingSteps
@@ -18,3 +19,4 @@ pub mod StmtLoops
 pub mod StmtShapes
 pub mod StmtSteps
 pub mod Threads
+pub mod Wholes

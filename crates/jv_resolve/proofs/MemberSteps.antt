@@ -1,8 +1,7 @@
 -- What members are resolved to, from what their parts are.
-use Rattle.std.proofs.Common.{◌≡◌, ℕ, zero, suc, ◌+◌, List, [], ◌∷◌, ◌++◌, map, length, Option, Some, None, refl, sym, ap, ◌∙◌, append_assoc, append-nil, arith, add-one}
+use Rattle.std.proofs.Common.{◌≡◌, ℕ, zero, suc, ◌+◌, List, [], ◌∷◌, ◌++◌, map, length, Option, Some, None, refl, sym, ap, ◌∙◌, arith}
 use Rattle.std.specs.Option.{option_map}
 use Rattle.mg_text.specs.Call.{Name}
-use Rattle.jv_tree.specs.declared.tree.Param.{Param}
 use Rattle.jv_tree.specs.Source
 use Rattle.jv_core.specs.Tree as Core
 use Rattle.jv_core.specs.Numbering.{numbers_from}

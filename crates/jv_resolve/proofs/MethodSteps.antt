@@ -1,5 +1,5 @@
--- What methods and programs are resolved to, from what their parts are.
-use Rattle.std.proofs.Common.{◌≡◌, ℕ, ◌+◌, List, [], ◌∷◌, ◌++◌, map, length, Bool, true, false, Option, Some, None, refl, sym, ap, ◌∙◌, append_assoc, append-nil}
+-- What methods are resolved to, from what their parts are.
+use Rattle.std.proofs.Common.{◌≡◌, ℕ, List, [], ◌∷◌, ◌++◌, length, Bool, false, Option, Some, None, refl, sym, ap, ◌∙◌, append_assoc, append-nil}
 use Rattle.std.specs.Prelude.{is_some, position, slice_get}
 use Rattle.std.specs.Option.{option_map}
 use Rattle.std.specs.List.{list_any}
@@ -8,21 +8,22 @@ use Rattle.mg_text.specs.Call.{Name}
 use Rattle.ts_tree.specs.Typestate.{Typestate}
 use Rattle.jv_tree.specs.declared.tree.Param.{Param}
 use Rattle.jv_tree.specs.Source
-use Rattle.jv_rules.specs.Program.{Program, offers_in}
+use Rattle.jv_rules.specs.Program.{offers_in}
 use Rattle.jv_core.specs.Tree as Core
 use Rattle.jv_core.specs.View.{stmts_of}
 use Rattle.jv_core.specs.declared.program.CoreType.{CoreType}
 use Rattle.jv_core.specs.declared.program.MethodKind.{MethodKind}
-use Rattle.jv_resolving.specs.Tables.{◌>>=◌, Tables, Entry, interned, type_meant, is_offered, kind_meant, tables_of}
+use Rattle.jv_resolving.specs.Tables.{◌>>=◌, Tables, Entry, Interned, interned, type_meant, is_offered, kind_meant}
 use Rattle.jv_resolving.specs.Expressions.{Known, Standing}
 use Rattle.jv_resolving.specs.Statements.{Counted, Counting, declared, slot_more, stmts}
-use Rattle.jv_resolving.specs.Members.{Naming, Opened, params, method, methods_of, methods, enums, classes, resolving}
+use Rattle.jv_resolving.specs.Members.{Naming, Opened, params, method, methods_of, methods}
 use Rattle.jv_resolve.specs.declared.given.Unresolved.{Unresolved}
 use Rattle.jv_resolve.specs.inner.Gives.{Fails}
 use Rattle.jv_resolve.specs.inner.Interning.{with_number}
 use Rattle.jv_resolve.specs.inner.Naming.{naming, threaded, with_done, opened, param_at, unnumbered}
 use Rattle.jv_resolve.specs.inner.Offers.{OffersAll}
-use Rattle.jv_resolve.proofs.Chains.{fails_then, fails_as}
+use Rattle.jv_resolve.specs.inner.Signatures.{Signed, signed, signature_meant, body_meant}
+use Rattle.jv_resolve.proofs.Chains.{fails_then, fails_as, two_steps, kept_steps}
 use Rattle.jv_resolve.proofs.OffersSteps.{any_at}
 use Rattle.jv_resolve.proofs.Threads.{same_threaded}
 
@@ -98,59 +99,65 @@ module _ (tables : Tables) (total : Option Opened) (left : List Param) (locals :
 abbrev pub standing : Entry → Source.Method → Standing
 standing e m = record { entry = e; is_static = m.is_static }
 
-abbrev pub core_method : Entry → Source.Method → ℕ → CoreType → ℕ → MethodKind → Counting (List Core.Stmt) → Core.Method
-core_method e m n ty count kind b = record {
+abbrev pub core_method : Entry → Source.Method → Signed → ℕ → MethodKind → Counting (List Core.Stmt) → Core.Method
+core_method e m g count kind b = record {
   place = m.place;
   end = m.end;
   class = e.number;
-  name = n;
+  name = g.name;
   kind = kind;
-  result = ty;
+  result = g.result;
   params = count;
   slots = b.so_far.slots;
   loops = b.so_far.loops;
   body = stmts_of b.it;
 }
 
-module _ (tables : Tables) (names : List Name) (e : Entry) (m : Source.Method) (n : ℕ) (ns : List Name) (named : interned names m.name ≡ Some (with_number n ns)) where
-  abbrev then_done : ℕ → CoreType → Counting (List Core.Stmt) → Option (Naming Core.Method)
-  then_done k ty b = Some (naming (core_method e m k ty (length m.params) (kind_meant tables e m) b) b.so_far.names)
+module _ (tables : Tables) (names : List Name) (m : Source.Method) (n : ℕ) (ns : List Name) (named : interned names m.name ≡ Some (with_number n ns)) where
+  abbrev then_signed : ℕ → List Name → CoreType → Option (Naming Signed)
+  then_signed k xs ty = Some (naming (signed k ty) xs)
 
-  abbrev then_body : ℕ → CoreType → Opened → Option (Naming Core.Method)
-  then_body k ty o = stmts tables (standing e m) m.body [] o.locals o.so_far >>= then_done k ty
+  signature_named : signature_meant tables names m ≡ (type_meant tables m.result >>= then_signed n ns)
+  signature_named = ap (λ o. o >>= λ k. type_meant tables m.result >>= then_signed k.number k.names) named
 
-  abbrev then_params : ℕ → List Name → CoreType → Option (Naming Core.Method)
-  then_params k xs ty = params tables m.params [] (unnumbered xs) >>= then_body k ty
+  pub signature_fails : (err : Unresolved) → Fails err (type_meant tables m.result) → Fails err (signature_meant tables names m)
+  signature_fails err h = fails_as err _ _ signature_named (fails_then err (type_meant tables m.result) (then_signed n ns) h)
 
-  method_named : method tables names e m ≡ (type_meant tables m.result >>= then_params n ns)
-  method_named = ap (λ o. o >>= λ k. type_meant tables m.result >>= then_params k.number k.names) named
+  pub signature_made : (ty : CoreType) → type_meant tables m.result ≡ Some ty → signature_meant tables names m ≡ Some (naming (signed n ty) ns)
+  signature_made ty h = signature_named ∙ ap (λ o. o >>= then_signed n ns) h
 
-  pub method_type_fails : (err : Unresolved) → Fails err (type_meant tables m.result) → Fails err (method tables names e m)
-  method_type_fails err h = fails_as err _ _ method_named (fails_then err (type_meant tables m.result) (then_params n ns) h)
+module _ (tables : Tables) (names : List Name) (e : Entry) (m : Source.Method) where
+  abbrev then_done : Signed → Counting (List Core.Stmt) → Option (Naming Core.Method)
+  then_done g b = Some (naming (core_method e m g (length m.params) (kind_meant tables e m) b) b.so_far.names)
 
-  module _ (ty : CoreType) (typed : type_meant tables m.result ≡ Some ty) (locals : List Known) (s : Counted) (no_local : locals ≡ []) (unnumbered_yet : s ≡ unnumbered ns) where
-    method_typed : method tables names e m ≡ (params tables m.params locals s >>= then_body n ty)
-    method_typed =
-        method_named ∙ ap (λ o. o >>= then_params n ns) typed
-        ∙ ap (λ ls. params tables m.params ls (unnumbered ns) >>= then_body n ty) (sym no_local)
-        ∙ ap (λ t. params tables m.params locals t >>= then_body n ty) (sym unnumbered_yet)
+  abbrev then_body : Naming Signed → Option (Naming Core.Method)
+  then_body g = body_meant tables (standing e m) m [] (unnumbered g.names) >>= then_done g.it
 
-    pub method_params_fail : (err : Unresolved) → Fails err (params tables m.params locals s) → Fails err (method tables names e m)
-    method_params_fail err h = fails_as err _ _ method_typed (fails_then err (params tables m.params locals s) (then_body n ty) h)
+  method_opened : method tables names e m ≡ (signature_meant tables names m >>= then_body)
+  method_opened =
+      kept_steps (interned names m.name) (type_meant tables m.result) (λ (k : Interned) (ty : CoreType). naming (signed k.number ty) k.names) then_body
+      (λ (k : Interned) (ty : CoreType). params tables m.params [] (unnumbered k.names) >>= λ o. stmts tables (standing e m) m.body [] o.locals o.so_far >>= then_done (signed k.number ty))
+      (λ (k : Interned) (ty : CoreType). two_steps (params tables m.params [] (unnumbered k.names)) (λ (o : Opened). stmts tables (standing e m) m.body [] o.locals o.so_far) (then_done (signed k.number ty)))
 
-    module _ (o : Opened) (taken : params tables m.params locals s ≡ Some o) where
-      method_opened : method tables names e m ≡ then_body n ty o
-      method_opened = method_typed ∙ ap (λ q. q >>= then_body n ty) taken
+  pub method_signature_fails : (err : Unresolved) → Fails err (signature_meant tables names m) → Fails err (method tables names e m)
+  method_signature_fails err h = fails_as err _ _ method_opened (fails_then err (signature_meant tables names m) then_body h)
 
-      pub method_body_fails : (err : Unresolved) → Fails err (stmts tables (standing e m) m.body [] o.locals o.so_far) → Fails err (method tables names e m)
-      method_body_fails err h = fails_as err _ _ method_opened (fails_then err (stmts tables (standing e m) m.body [] o.locals o.so_far) (then_done n ty) h)
+  module _ (g : Naming Signed) (known : signature_meant tables names m ≡ Some g) (locals : List Known) (s : Counted) (no_local : locals ≡ []) (unnumbered_yet : s ≡ unnumbered g.names) where
+    method_signed : method tables names e m ≡ (body_meant tables (standing e m) m locals s >>= then_done g.it)
+    method_signed =
+        method_opened ∙ ap (λ o. o >>= then_body) known
+        ∙ ap (λ ls. body_meant tables (standing e m) m ls (unnumbered g.names) >>= then_done g.it) (sym no_local)
+        ∙ ap (λ t. body_meant tables (standing e m) m locals t >>= then_done g.it) (sym unnumbered_yet)
 
-      pub method_made : (b : Counting (List Core.Stmt)) (count : ℕ) (kind : MethodKind) → stmts tables (standing e m) m.body [] o.locals o.so_far ≡ Some b → count ≡ length m.params → kind ≡ kind_meant tables e m →
-          method tables names e m ≡ Some (naming (core_method e m n ty count kind b) b.so_far.names)
-      method_made b count kind h counted is =
-          method_opened ∙ ap (λ q. q >>= then_done n ty) h
-          ∙ ap (λ k. Some (naming (core_method e m n ty k (kind_meant tables e m) b) b.so_far.names)) (sym counted)
-          ∙ ap (λ k. Some (naming (core_method e m n ty count k b) b.so_far.names)) (sym is)
+    pub method_body_fails : (err : Unresolved) → Fails err (body_meant tables (standing e m) m locals s) → Fails err (method tables names e m)
+    method_body_fails err h = fails_as err _ _ method_signed (fails_then err (body_meant tables (standing e m) m locals s) (then_done g.it) h)
+
+    pub method_made : (b : Counting (List Core.Stmt)) (count : ℕ) (kind : MethodKind) → body_meant tables (standing e m) m locals s ≡ Some b → count ≡ length m.params → kind ≡ kind_meant tables e m →
+        method tables names e m ≡ Some (naming (core_method e m g.it count kind b) b.so_far.names)
+    method_made b count kind h counted is =
+        method_signed ∙ ap (λ o. o >>= then_done g.it) h
+        ∙ ap (λ k. Some (naming (core_method e m g.it k (kind_meant tables e m) b) b.so_far.names)) (sym counted)
+        ∙ ap (λ k. Some (naming (core_method e m g.it count k b) b.so_far.names)) (sym is)
 
 pub same_methods_of : (tables : Tables) (e : Entry) (names : List Name) (ms : List Source.Method) → methods_of tables names e ms ≡ threaded (λ ns m. method tables ns e m) names ms
 same_methods_of tables e = same_threaded (λ ns m. method tables ns e m) (λ ns ms. methods_of tables ns e ms) (λ ns. refl) (λ ns m ms. refl)
@@ -189,43 +196,3 @@ module _ (tables : Tables) (total : Option (Naming (List Core.Method))) (done : 
 
   pub classes_done : left ≡ [] → total ≡ Some (naming done names)
   classes_done end = so_far ∙ ap (λ es. with_done done (methods tables names es)) end ∙ ap (λ xs. Some (naming xs names)) (append-nil done)
-
--- ---- whole programs
-
-abbrev pub core_program : List Core.Class → List Core.Enum → List Core.Method → List Typestate → List Name → Core.Program
-core_program cs es ms ts names = record { classes = cs; enums = es; methods = ms; typestates = ts; names = names }
-
-module _ (program : Program) where
-  abbrev then_whole : Naming (List Core.Enum) → Naming (List Core.Class) → Naming (List Core.Method) → Option Core.Program
-  then_whole es cs ms = Some (core_program cs.it es.it ms.it program.typestates ms.names)
-
-  abbrev then_methods : Tables → Naming (List Core.Enum) → Naming (List Core.Class) → Option Core.Program
-  then_methods t es cs = methods t cs.names t.classes >>= then_whole es cs
-
-  abbrev then_made : Tables → Naming (List Core.Enum) → Option Core.Program
-  then_made t es = classes t es.names t.classes >>= then_methods t es
-
-  abbrev then_enums : Tables → Option Core.Program
-  then_enums t = enums [] t.enums >>= then_made t
-
-  pub program_tables_fail : (err : Unresolved) → Fails err (tables_of program) → Fails err (resolving program)
-  program_tables_fail err h = fails_then err (tables_of program) then_enums h
-
-  module _ (t : Tables) (tabled : tables_of program ≡ Some t) (none_yet : List Name) (is_none : none_yet ≡ []) (es : List Core.Enum) (ns : List Name) (made : enums none_yet t.enums ≡ Some (naming es ns)) where
-    program_enums : resolving program ≡ then_made t (naming es ns)
-    program_enums = ap (λ o. o >>= then_enums) tabled ∙ ap (λ xs. enums xs t.enums >>= then_made t) (sym is_none) ∙ ap (λ o. o >>= then_made t) made
-
-    pub program_classes_fail : (err : Unresolved) → Fails err (classes t ns t.classes) → Fails err (resolving program)
-    program_classes_fail err h = fails_as err _ _ program_enums (fails_then err (classes t ns t.classes) (then_methods t (naming es ns)) h)
-
-    module _ (cs : List Core.Class) (more : List Name) (classed : classes t ns t.classes ≡ Some (naming cs more)) where
-      program_classes : resolving program ≡ then_methods t (naming es ns) (naming cs more)
-      program_classes = program_enums ∙ ap (λ o. o >>= then_methods t (naming es ns)) classed
-
-      pub program_methods_fail : (err : Unresolved) → Fails err (methods t more t.classes) → Fails err (resolving program)
-      program_methods_fail err h = fails_as err _ _ program_classes (fails_then err (methods t more t.classes) (then_whole (naming es ns) (naming cs more)) h)
-
-      pub program_made : (ms : List Core.Method) (later : List Name) (ts : List Typestate) → methods t more t.classes ≡ Some (naming ms later) → ts ≡ program.typestates →
-          resolving program ≡ Some (core_program cs es ms ts later)
-      program_made ms later ts h same =
-          program_classes ∙ ap (λ o. o >>= then_whole (naming es ns) (naming cs more)) h ∙ ap (λ xs. Some (core_program cs es ms xs later)) (sym same)

@@ -1,5 +1,5 @@
 -- The names of what a typestate offers.
-use Rattle.std.proofs.Common.{◌≡◌, ℕ, ◌+◌, ◌<◌, get_or, drop, List, [], ◌∷◌, ◌++◌, map, length, Option, Some, None, Bool, true, false, ◌||◌, cond, refl, sym, ap, ◌∙◌, true≢false, nat_lt}
+use Rattle.std.proofs.Common.{◌≡◌, ℕ, ◌+◌, ◌<◌, get_or, drop, List, [], ◌∷◌, ◌++◌, map, length, Some, None, Bool, true, false, ◌||◌, cond, refl, sym, ap, ◌∙◌, true≢false, nat_lt}
 use Rattle.std.specs.Prelude.{is_some, position}
 use Rattle.std.specs.List.{list_any, position_or_len}
 use Rattle.std.specs.Str.{bytes_eq}

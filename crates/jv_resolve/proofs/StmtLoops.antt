@@ -1,5 +1,5 @@
 -- Statements, groups and labels, one after another.
-use Rattle.std.proofs.Common.{◌≡◌, ◌⊎◌, inl, inr, ℕ, zero, suc, ◌-◌, ◌≤◌, List, [], ◌∷◌, ◌++◌, map, length, drop, Option, Some, None, refl, sym, ap, subst, ◌∙◌, append_assoc, append-nil, arith}
+use Rattle.std.proofs.Common.{◌≡◌, ◌⊎◌, inl, inr, ℕ, suc, ◌-◌, ◌≤◌, List, [], ◌∷◌, ◌++◌, map, length, drop, Option, Some, None, refl, sym, ap, subst, ◌∙◌, append_assoc, append-nil, arith}
 use Rattle.std.specs.Option.{option_map}
 use Rattle.mg_text.specs.Call.{Name}
 use Rattle.jv_tree.specs.declared.tree.Stmt.{Stmt as KeptStmt}
@@ -11,7 +11,7 @@ use Rattle.jv_core.specs.Tree as Core
 use Rattle.jv_core.specs.View.{OneGroup, stmts_of}
 use Rattle.jv_resolving.specs.Tables.{◌>>=◌, Tables}
 use Rattle.jv_resolving.specs.Expressions.{Known, Standing, known_named}
-use Rattle.jv_resolving.specs.Statements.{Counted, Counting, Around, Item, item, stmt, stmts, groups, labels_at, declared, local}
+use Rattle.jv_resolving.specs.Statements.{Counted, Counting, Around, Item, stmt, stmts, groups, labels_at, declared, local}
 use Rattle.jv_resolve.specs.declared.given.Unresolved.{Unresolved}
 use Rattle.jv_resolve.specs.inner.Gives.{Fails}
 use Rattle.jv_resolve.specs.inner.Counted.{counting, item_at, group_at}

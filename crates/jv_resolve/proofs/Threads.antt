@@ -1,6 +1,5 @@
 -- Members one after another: each step with the names of those before it.
 use Rattle.std.proofs.Common.{◌≡◌, ℕ, ◌+◌, ◌<◌, ◌≤◌, List, [], ◌∷◌, ◌++◌, map, length, get_or, drop, Option, Some, None, refl, sym, ap, ◌∙◌, append_assoc, append-nil}
-use Rattle.std.specs.Option.{option_map}
 use Rattle.std.proofs.lemmas.List.{map_push}
 use Rattle.mg_text.specs.Call.{Name}
 use Rattle.jv_resolving.specs.Tables.{◌>>=◌}

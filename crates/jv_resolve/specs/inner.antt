@@ -2,6 +2,7 @@ pub mod Building
 pub mod Counted
 pub mod Declaring
 pub mod Gives
+pub mod HeadedSeen
 pub mod Heads
 pub mod HeadsSeen
 pub mod Interning
@@ -13,6 +14,11 @@ pub mod Parts
 pub mod Places
 pub mod Receivers
 pub mod Row
+pub mod Scoping
 pub mod Seen
+pub mod Signatures
+pub mod SignaturesSeen
+pub mod Targets
+pub mod Wholes
 pub mod Writing
 pub mod WrittenLocal

@@ -4,7 +4,7 @@
 ghost use Rattle.std.specs.Prelude.{◌≡◌, ◌+◌, ◌++◌, ◌∷◌, [], IfOk, OnOk, map};
 ghost use Rattle.jv_tree.specs.View.{class_of, enum_of, decl_of, file_of};
 ghost use Rattle.jv_meaning.specs.Program.{classes_of, enums_of};
-ghost use Rattle.jv_resolving.specs.Tables.{tables_of};
+ghost use Rattle.jv_resolving.specs.Tables.{entries_from, tables_of};
 ghost use Rattle.jv_resolve.specs.Program.{program_of};
 ghost use Rattle.jv_resolve.specs.inner.Building.{followed_by, entry_at, entries_by, classes_within, enums_within};
 ghost use Rattle.jv_resolve.specs.inner.Gives.{Gives};
@@ -177,6 +177,27 @@ fn typestate_entries<'a>(
     Ok(entries)
 }
 
+// The classes of files.
+fn class_table<'a>(
+    alloc: Global,
+    files: &'a [File],
+    typestates: &[Typestate],
+) -> Result<Vec<ClassEntry<'a>>, Unresolved>
+    ensures { Gives (λ v. map entry_seen v.items) result (entries_from typestates.now 0 0 (classes_of (map file_of files.now))) }
+{
+    let typestate_names = typestate_names(alloc, typestates)?;
+    let classes = classes_in(alloc, files)?;
+    class_entries(alloc, &typestate_names, classes.as_slice())
+}
+
+// The enums of files.
+fn enum_table<'a>(alloc: Global, files: &'a [File]) -> Result<Vec<EnumEntry<'a>>, Memory>
+    ensures { IfOk result (λ v. map (λ e. enum_of e.of.now) v.items ≡ enums_of (map file_of files.now)) }
+{
+    let enums = enums_in(alloc, files)?;
+    enum_entries(alloc, enums.as_slice())
+}
+
 /// The tables of files and typestates.
 pub(crate) fn tables_of<'a>(
     alloc: Global,
@@ -185,11 +206,8 @@ pub(crate) fn tables_of<'a>(
 ) -> Result<Tables<'a>, Unresolved>
     ensures { Gives tables_seen result (tables_of (program_of files.now typestates.now)) }
 {
-    let typestate_names = typestate_names(alloc, typestates)?;
-    let classes = classes_in(alloc, files)?;
-    let classes = class_entries(alloc, &typestate_names, classes.as_slice())?;
-    let enums = enums_in(alloc, files)?;
-    let enums = enum_entries(alloc, enums.as_slice())?;
+    let classes = class_table(alloc, files, typestates)?;
+    let enums = enum_table(alloc, files)?;
     let typestates = typestate_entries(alloc, typestates)?;
     let class_names = class_names(alloc, classes.as_slice())?;
     let enum_names = enum_names(alloc, enums.as_slice())?;

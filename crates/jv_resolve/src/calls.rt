@@ -1,7 +1,7 @@
 //! Calls, whose receiver and arguments are resolved.
 //! Contracts see expressions as trees.
 
-ghost use Rattle.std.specs.Prelude.{◌≡◌, IfOk, map};
+ghost use Rattle.std.specs.Prelude.{◌≡◌, map};
 ghost use Rattle.jv_core.specs.Types.{session_result};
 ghost use Rattle.jv_core.specs.Tree as Core;
 ghost use Rattle.jv_core.specs.View.{expr_of};
@@ -12,12 +12,11 @@ ghost use Rattle.jv_resolve.specs.inner.Seen.{tables_seen, standing_seen, callee
 ghost use Rattle.jv_resolve.specs.inner.Named.{text_called};
 ghost use Rattle.jv_resolve.specs.inner.Receivers.{receiver_seen};
 
-use crate::given::{Given, Resolved, Unresolved, boxed, typed};
+use crate::given::{Given, Operand, Resolved, Unresolved, boxed, typed};
 use crate::scope::Scope;
 use crate::tables::Callee;
 use jv_core::{CoreExpr, CoreExprKind, CoreType, CoreVar, SessionCall};
-use mg_text::{List, Memory, Place};
-use std::alloc::Global;
+use mg_text::{List, Place};
 
 /// What a call is on.
 #[derive(Drop)]
@@ -25,7 +24,7 @@ pub(crate) enum Receiver<'e> {
     This,
     /// A name that no variable has.
     Class(&'e str),
-    Value(Resolved),
+    Value(Operand),
 }
 
 /// `name(..)`: a method of the own class.
@@ -114,11 +113,11 @@ fn call_class(
 fn call_value(
     scope: &Scope<'_, '_>,
     place: Place,
-    value: Resolved,
+    value: Operand,
     name: &str,
     args: List<CoreExpr>,
 ) -> Result<Resolved, Unresolved>
-    ensures { Gives resolved_seen result (call_typed (tables_seen scope.now.tables.now) place (expr_of value.expr) (given_seen value.given) name.now (map expr_of args.items)) }
+    ensures { Gives resolved_seen result (call_typed (tables_seen scope.now.tables.now) place (expr_of value.expr.value) (given_seen value.given) name.now (map expr_of args.items)) }
 {
     match value.given {
         Given::Of(CoreType::Text) => text_call(scope, place, value.expr, name, args),
@@ -135,10 +134,10 @@ fn call_value(
 pub(crate) fn variable_of(expr: &CoreExpr) -> Result<CoreVar, Unresolved>
     ensures { Gives (λ x. x) result (variable_in (expr_of expr.now)) }
 {
-    match &expr.kind {
+    match expr.kind {
         CoreExprKind::Var(var) => Ok(CoreVar {
             place: expr.place,
-            var: *var,
+            var,
         }),
         CoreExprKind::Int(_) | CoreExprKind::Truth(_) | CoreExprKind::Text(_) => {
             Err(Unresolved::Fault)
@@ -242,51 +241,47 @@ fn helper_call(
 fn text_call(
     scope: &Scope<'_, '_>,
     place: Place,
-    text: CoreExpr,
+    text: Box<CoreExpr>,
     name: &str,
     args: List<CoreExpr>,
 ) -> Result<Resolved, Unresolved>
-    ensures { Gives resolved_seen result (text_called place (expr_of text) name.now (map expr_of args.items)) }
+    ensures { Gives resolved_seen result (text_called place (expr_of text.value) name.now (map expr_of args.items)) }
 {
     let arg = only(args)?;
-    text_method(scope.alloc, place, text, name, arg)
+    let kept = boxed(scope.alloc, arg)?;
+    text_method(place, text, name, kept)
 }
 
 // `equals` or `concat` of a text.
 fn text_method(
-    alloc: Global,
     place: Place,
-    text: CoreExpr,
+    text: Box<CoreExpr>,
     name: &str,
-    arg: CoreExpr,
+    arg: Box<CoreExpr>,
 ) -> Result<Resolved, Unresolved>
-    ensures { Gives resolved_seen result (text_call place (expr_of text) name.now (expr_of arg)) }
+    ensures { Gives resolved_seen result (text_call place (expr_of text.value) name.now (expr_of arg.value)) }
 {
     if name == "equals" {
-        return Ok(equals(alloc, place, text, arg)?);
+        return Ok(equals(place, text, arg));
     }
     if name == "concat" {
-        return Ok(concat(alloc, place, text, arg)?);
+        return Ok(concat(place, text, arg));
     }
     Err(Unresolved::Fault)
 }
 
 // `text.equals(arg)`
-fn equals(alloc: Global, place: Place, text: CoreExpr, arg: CoreExpr) -> Result<Resolved, Memory>
-    ensures { IfOk result (λ r. resolved_seen r ≡ typed (Core.Equals place (expr_of text) (expr_of arg)) types.Boolean) }
+fn equals(place: Place, text: Box<CoreExpr>, arg: Box<CoreExpr>) -> Resolved
+    ensures { resolved_seen result ≡ typed (Core.Equals place (expr_of text.value) (expr_of arg.value)) types.Boolean }
 {
-    let text = boxed(alloc, text)?;
-    let arg = boxed(alloc, arg)?;
-    Ok(typed(place, CoreExprKind::Equals(text, arg), CoreType::Boolean))
+    typed(place, CoreExprKind::Equals(text, arg), CoreType::Boolean)
 }
 
 // `text.concat(arg)`
-fn concat(alloc: Global, place: Place, text: CoreExpr, arg: CoreExpr) -> Result<Resolved, Memory>
-    ensures { IfOk result (λ r. resolved_seen r ≡ typed (Core.Concat place (expr_of text) (expr_of arg)) types.Text) }
+fn concat(place: Place, text: Box<CoreExpr>, arg: Box<CoreExpr>) -> Resolved
+    ensures { resolved_seen result ≡ typed (Core.Concat place (expr_of text.value) (expr_of arg.value)) types.Text }
 {
-    let text = boxed(alloc, text)?;
-    let arg = boxed(alloc, arg)?;
-    Ok(typed(place, CoreExprKind::Concat(text, arg), CoreType::Text))
+    typed(place, CoreExprKind::Concat(text, arg), CoreType::Text)
 }
 
 // The one argument of a call.

@@ -6,11 +6,11 @@ ghost use Rattle.jv_tree.specs.View.{expr_of, exprs_of};
 ghost use Rattle.jv_core.specs.View.{expr_of as core_expr};
 ghost use Rattle.jv_resolving.specs.Expressions.{resolved, resolved_all, receiver, make};
 ghost use Rattle.jv_resolve.specs.inner.Gives.{Gives};
-ghost use Rattle.jv_resolve.specs.inner.Seen.{tables_seen, standing_seen, resolved_seen};
+ghost use Rattle.jv_resolve.specs.inner.Seen.{tables_seen, standing_seen, resolved_seen, operand_seen};
 ghost use Rattle.jv_resolve.specs.inner.Receivers.{receiver_seen};
 
 use crate::calls::{Receiver, call_on, call_own};
-use crate::given::{Resolved, Unresolved, typed};
+use crate::given::{Operand, Resolved, Unresolved, as_operand, typed};
 use crate::heads::{Head, head_of};
 use crate::literals::{int, null, quoted, truth};
 use crate::locals::Locals;
@@ -31,38 +31,52 @@ pub(crate) fn resolve_expr(
     ensures { Gives resolved_seen result (resolved (tables_seen scope.now.tables.now) (standing_seen scope.now) locals.now (expr_of expr.now)) }
 {
     let place = expr.place;
-    match &expr.kind {
-        ExprKind::Int(value) => Ok(int(place, *value)),
-        ExprKind::Truth(value) => Ok(truth(place, *value)),
-        ExprKind::Text(text) => Ok(quoted(place, text)?),
+    match expr.kind {
+        ExprKind::Int(value) => Ok(int(place, value)),
+        ExprKind::Truth(value) => Ok(truth(place, value)),
+        ExprKind::Text(ref text) => Ok(quoted(place, text)?),
         ExprKind::Null => Ok(null(place)),
         ExprKind::This => Err(Unresolved::Fault),
-        ExprKind::Name(name) => variable(scope, locals, place, name.as_str()),
-        ExprKind::Member(of, name) => member(scope, locals, place, of, name.as_str()),
-        ExprKind::Neg(of) => {
-            let inner = resolve_expr(scope, locals, of)?;
-            Ok(negative(scope.alloc, place, inner.expr)?)
+        ExprKind::Name(ref name) => variable(scope, locals, place, name.as_str()),
+        ExprKind::Member(ref of, ref name) => member(scope, locals, place, of, name.as_str()),
+        ExprKind::Neg(ref of) => {
+            let inner = resolve_operand(scope, locals, of)?;
+            Ok(negative(place, inner.expr))
         }
-        ExprKind::Not(of) => {
-            let inner = resolve_expr(scope, locals, of)?;
-            Ok(opposite(scope.alloc, place, inner.expr)?)
+        ExprKind::Not(ref of) => {
+            let inner = resolve_operand(scope, locals, of)?;
+            Ok(opposite(place, inner.expr))
         }
-        ExprKind::Binary(op, left, right) => {
-            let left = resolve_expr(scope, locals, left)?;
-            let right = resolve_expr(scope, locals, right)?;
-            Ok(binary(scope.alloc, place, *op, left, right)?)
+        ExprKind::Binary(op, ref left, ref right) => {
+            let left = resolve_operand(scope, locals, left)?;
+            let right = resolve_operand(scope, locals, right)?;
+            Ok(binary(place, op, left, right))
         }
-        ExprKind::Call(name, args) => {
+        ExprKind::Call(ref name, ref args) => {
             let args = resolve_args(scope, locals, args.as_slice())?;
             call_own(scope, place, name.as_str(), args)
         }
-        ExprKind::MethodCall(of, name, args) => {
+        ExprKind::MethodCall(ref of, ref name, ref args) => {
             let receiver = resolve_receiver(scope, locals, of)?;
             let args = resolve_args(scope, locals, args.as_slice())?;
             call_on(scope, place, receiver, name.as_str(), args)
         }
-        ExprKind::New(name) => new(scope, place, name.as_str()),
+        ExprKind::New(ref name) => new(scope, place, name.as_str()),
     }
+}
+
+/// An expression in a box.
+#[cycle(exprs)]
+pub(crate) fn resolve_operand(
+    scope: &Scope<'_, '_>,
+    locals: &Locals<'_>,
+    expr: &Expr,
+) -> Result<Operand, Unresolved>
+    ensures { Gives operand_seen result (resolved (tables_seen scope.now.tables.now) (standing_seen scope.now) locals.now (expr_of expr.now)) }
+{
+    let value = resolve_expr(scope, locals, expr)?;
+    let boxed = as_operand(scope.alloc, value)?;
+    Ok(boxed)
 }
 
 // Arguments.
@@ -95,7 +109,7 @@ fn resolve_receiver<'e>(
         Head::This => Ok(Receiver::This),
         Head::Name(name) => named_receiver(scope, locals, of.place, name),
         Head::Other => {
-            let value = resolve_expr(scope, locals, of)?;
+            let value = resolve_operand(scope, locals, of)?;
             Ok(Receiver::Value(value))
         }
     }

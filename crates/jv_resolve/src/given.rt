@@ -4,14 +4,14 @@
 ghost use Rattle.std.specs.Prelude.{◌≡◌, IfOk};
 ghost use Rattle.jv_core.specs.View.{expr_of, stmt_of, kind_of, stmt_kind_of};
 ghost use Rattle.jv_resolving.specs.Expressions.{typed};
-ghost use Rattle.jv_resolve.specs.inner.Seen.{resolved_seen};
+ghost use Rattle.jv_resolve.specs.inner.Seen.{resolved_seen, operand_seen};
 
 use jv_core::{CoreExpr, CoreExprKind, CoreStmt, CoreStmtKind, CoreType};
 use mg_text::{Memory, Place};
 use std::alloc::Global;
 
 /// Why something isn't resolved.
-#[derive(Clone, Copy, Debug)]
+#[derive(Clone, Copy)]
 pub(crate) enum Unresolved {
     /// Want of memory, or a program past a bound.
     Memory,
@@ -31,7 +31,7 @@ impl From<Memory> for Unresolved {
 }
 
 /// The type of an expression.
-#[derive(Clone, Copy, Debug)]
+#[derive(Clone, Copy)]
 pub(crate) enum Given {
     /// The type of `null`.
     Null,
@@ -43,6 +43,13 @@ pub(crate) enum Given {
 #[derive(Drop)]
 pub(crate) struct Resolved {
     pub expr: CoreExpr,
+    pub given: Given,
+}
+
+/// An expression of the core in a box, and its type.
+#[derive(Drop)]
+pub(crate) struct Operand {
+    pub expr: Box<CoreExpr>,
     pub given: Given,
 }
 
@@ -76,6 +83,17 @@ pub(crate) fn boxed(alloc: Global, expr: CoreExpr) -> Result<Box<CoreExpr>, Memo
 {
     let expr = Box::new(alloc, expr)?;
     Ok(expr)
+}
+
+/// An expression in a box, with its type.
+pub(crate) fn as_operand(alloc: Global, value: Resolved) -> Result<Operand, Memory>
+    ensures { IfOk result (λ o. operand_seen o ≡ resolved_seen value) }
+{
+    let expr = boxed(alloc, value.expr)?;
+    Ok(Operand {
+        expr,
+        given: value.given,
+    })
 }
 
 /// A statement in a box.

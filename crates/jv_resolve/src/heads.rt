@@ -22,9 +22,9 @@ pub(crate) enum Head<'e> {
 pub(crate) fn head_of(expr: &Expr) -> Head<'_>
     ensures { head_seen result ≡ head_of (expr_of expr.now) }
 {
-    match &expr.kind {
+    match expr.kind {
         ExprKind::This => Head::This,
-        ExprKind::Name(name) => Head::Name(name.as_str()),
+        ExprKind::Name(ref name) => Head::Name(name.as_str()),
         ExprKind::Int(_) | ExprKind::Truth(_) | ExprKind::Text(_) | ExprKind::Null => Head::Other,
         ExprKind::Member(_, _) | ExprKind::Neg(_) | ExprKind::Not(_) => Head::Other,
         ExprKind::Binary(_, _, _) | ExprKind::Call(_, _) => Head::Other,

@@ -9,7 +9,7 @@ ghost use Rattle.jv_resolve.specs.inner.Gives.{Gives};
 ghost use Rattle.jv_resolve.specs.inner.Labels.{label_at};
 ghost use Rattle.jv_resolve.specs.inner.Seen.{tables_seen, given_seen};
 
-use crate::given::{Given, Resolved, Unresolved};
+use crate::given::{Given, Unresolved};
 use crate::scope::Scope;
 use crate::tables::EnumEntry;
 use jv_core::CoreType;
@@ -48,11 +48,11 @@ fn resolve_label(of: &EnumEntry<'_>, label: &Option<Text>) -> Result<Option<u32>
 /// The enum of the value of a switch.
 pub(crate) fn enum_of<'s, 'a>(
     scope: &Scope<'s, 'a>,
-    value: &Resolved,
+    given: Given,
 ) -> Result<&'s EnumEntry<'a>, Unresolved>
-    ensures { Gives (λ e. enum_of e.now.of.now) result (enum_given (tables_seen scope.now.tables.now) (given_seen value.now.given)) }
+    ensures { Gives (λ e. enum_of e.now.of.now) result (enum_given (tables_seen scope.now.tables.now) (given_seen given)) }
 {
-    match value.given {
+    match given {
         Given::Of(CoreType::Enum(number)) => match scope.tables.enum_at(number) {
             Some(entry) => Ok(entry),
             None => Err(Unresolved::Fault),

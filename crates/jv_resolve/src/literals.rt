@@ -82,12 +82,12 @@ pub(crate) fn resolve_initial(tables: &Tables<'_>, value: &Expr) -> Result<CoreE
     ensures { Gives core_expr result (initial (tables_seen tables.now) (expr_of value.now)) }
 {
     let place = value.place;
-    match &value.kind {
-        ExprKind::Int(value) => Ok(int(place, *value).expr),
-        ExprKind::Truth(value) => Ok(truth(place, *value).expr),
-        ExprKind::Text(text) => Ok(quoted(place, text)?.expr),
+    match value.kind {
+        ExprKind::Int(value) => Ok(int(place, value).expr),
+        ExprKind::Truth(value) => Ok(truth(place, value).expr),
+        ExprKind::Text(ref text) => Ok(quoted(place, text)?.expr),
         ExprKind::Null => Ok(null(place).expr),
-        ExprKind::Member(of, name) => initial_member(tables, place, of, name.as_str()),
+        ExprKind::Member(ref of, ref name) => initial_member(tables, place, of, name.as_str()),
         ExprKind::This | ExprKind::Name(_) | ExprKind::Neg(_) => Err(Unresolved::Fault),
         ExprKind::Not(_) | ExprKind::Binary(_, _, _) | ExprKind::Call(_, _) => {
             Err(Unresolved::Fault)

@@ -1,15 +1,17 @@
 //! Methods.
 //! Contracts see them as trees, with the names that have numbers by then.
 
-ghost use Rattle.std.specs.Prelude.{◌≡◌, [], map};
+ghost use Rattle.std.specs.Prelude.{◌≡◌, [], IfOk, length, map};
 ghost use Rattle.jv_tree.specs.View.{method_of as source_method};
-ghost use Rattle.jv_core.specs.View.{method_of};
+ghost use Rattle.jv_core.specs.View.{method_of, stmt_of};
 ghost use Rattle.jv_resolving.specs.Tables.{is_offered, kind_meant};
 ghost use Rattle.jv_resolving.specs.Members.{params as params_meant, method as method_meant, methods_of as methods_of_meant, methods as methods_meant};
-ghost use Rattle.jv_resolve.specs.inner.Counted.{counted_seen};
+ghost use Rattle.jv_resolve.specs.inner.Counted.{counted_seen, counting};
 ghost use Rattle.jv_resolve.specs.inner.Gives.{Gives};
 ghost use Rattle.jv_resolve.specs.inner.Naming.{naming, with_done, opened, param_at};
-ghost use Rattle.jv_resolve.specs.inner.Seen.{entry_seen, tables_seen};
+ghost use Rattle.jv_resolve.specs.inner.Seen.{entry_seen, tables_seen, standing_seen};
+ghost use Rattle.jv_resolve.specs.inner.Signatures.{signature_meant, body_meant};
+ghost use Rattle.jv_resolve.specs.inner.SignaturesSeen.{signature_seen};
 
 use crate::body::Body;
 use crate::given::Unresolved;
@@ -17,9 +19,9 @@ use crate::names::{add_name, count};
 use crate::scope::{Around, Scope};
 use crate::stmts::resolve_stmts;
 use crate::tables::{ClassEntry, Tables};
-use jv_core::{CoreMethod, MethodKind};
+use jv_core::{CoreMethod, CoreStmt, CoreType, MethodKind};
 use jv_tree::{MethodDecl, Param};
-use mg_text::{List, Names};
+use mg_text::{List, Name, Names};
 use std::alloc::Global;
 
 // Whether the typestate of a class offers a method of this name.
@@ -78,6 +80,45 @@ fn resolve_params<'a>(
     Ok(())
 }
 
+// What stands before the body of a method: its name, its result, and how many parameters it has.
+#[derive(Clone, Copy)]
+struct Signature {
+    name: Name,
+    result: CoreType,
+    params: u32,
+}
+
+// What stands before the body of a method.
+fn signature_of(
+    tables: &Tables<'_>,
+    names: &mut Names,
+    method: &MethodDecl,
+) -> Result<Signature, Unresolved>
+    ensures it { Gives (λ s. naming (signature_seen s) names.new) result (signature_meant (tables_seen tables.now) names.old (source_method method.now)) }
+    ensures params { IfOk result (λ s. s.params ≡ length (source_method method.now).params) }
+{
+    let name = add_name(names, method.name.as_str())?;
+    let result = tables.meant(&method.result)?;
+    let params = count(method.params.len())?;
+    Ok(Signature {
+        name,
+        result,
+        params,
+    })
+}
+
+// The statements of a method, with its parameters in scope.
+fn resolve_body<'a>(
+    scope: &Scope<'_, 'a>,
+    body: &mut Body<'a>,
+    method: &'a MethodDecl,
+) -> Result<List<CoreStmt>, Unresolved>
+    ensures { Gives (λ l. counting (map stmt_of l.items) (counted_seen body.new)) result (body_meant (tables_seen scope.now.tables.now) (standing_seen scope.now) (source_method method.now) body.old.locals (counted_seen body.old)) }
+{
+    resolve_params(scope.tables, body, method.params.as_slice())?;
+    resolve_stmts(scope, &Around::Outside, body, method.body.as_slice())
+}
+
 /// A method, and the names that have numbers by then.
 #[derive(Drop)]
 pub(crate) struct NamedMethod {
@@ -101,22 +142,20 @@ fn resolve_method<'a>(
         class: entry,
         is_static: method.is_static,
     };
+    let mut names = names;
+    let signature = signature_of(tables, &mut names, method)?;
     let mut body = Body::new(alloc, names);
-    let name = add_name(&mut body.names, method.name.as_str())?;
-    let ty = tables.meant(&method.result)?;
-    let params = count(method.params.len())?;
-    resolve_params(tables, &mut body, method.params.as_slice())?;
-    let stmts = resolve_stmts(&scope, &Around::Outside, &mut body, method.body.as_slice())?;
+    let stmts = resolve_body(&scope, &mut body, method)?;
     let kind = kind_of(tables, entry, method);
     Ok(NamedMethod {
         method: CoreMethod {
             place: method.place,
             end: method.end,
             class: entry.number,
-            name,
+            name: signature.name,
             kind,
-            result: ty,
-            params,
+            result: signature.result,
+            params: signature.params,
             slots: body.slots,
             loops: body.loops,
             body: stmts,

@@ -1,49 +1,42 @@
 //! Operators.
 //! Contracts see expressions as trees.
 
-ghost use Rattle.std.specs.Prelude.{◌≡◌, IfOk};
+ghost use Rattle.std.specs.Prelude.{◌≡◌};
 ghost use Rattle.jv_core.specs.Tree as Core;
 ghost use Rattle.jv_core.specs.View.{expr_of};
 ghost use Rattle.jv_core.specs.declared.program.CoreType.TheVariants as types;
 ghost use Rattle.jv_resolving.specs.Expressions.{typed, operator_gives, is_text};
 ghost use Rattle.jv_resolve.specs.inner.Seen.{given_seen, resolved_seen};
 
-use crate::given::{Given, Resolved, boxed, typed};
+use crate::given::{Given, Operand, Resolved, typed};
 use jv_core::{CoreExpr, CoreExprKind, CoreType};
 use jv_tree::Op;
-use mg_text::{Memory, Place};
-use std::alloc::Global;
+use mg_text::Place;
 
 /// `-e`
-pub(crate) fn negative(alloc: Global, place: Place, inner: CoreExpr) -> Result<Resolved, Memory>
-    ensures { IfOk result (λ r. resolved_seen r ≡ typed (Core.Neg place (expr_of inner)) types.Int) }
+pub(crate) fn negative(place: Place, inner: Box<CoreExpr>) -> Resolved
+    ensures { resolved_seen result ≡ typed (Core.Neg place (expr_of inner.value)) types.Int }
 {
-    let inner = boxed(alloc, inner)?;
-    Ok(typed(place, CoreExprKind::Neg(inner), CoreType::Int))
+    typed(place, CoreExprKind::Neg(inner), CoreType::Int)
 }
 
 /// `!e`
-pub(crate) fn opposite(alloc: Global, place: Place, inner: CoreExpr) -> Result<Resolved, Memory>
-    ensures { IfOk result (λ r. resolved_seen r ≡ typed (Core.Not place (expr_of inner)) types.Boolean) }
+pub(crate) fn opposite(place: Place, inner: Box<CoreExpr>) -> Resolved
+    ensures { resolved_seen result ≡ typed (Core.Not place (expr_of inner.value)) types.Boolean }
 {
-    let inner = boxed(alloc, inner)?;
-    Ok(typed(place, CoreExprKind::Not(inner), CoreType::Boolean))
+    typed(place, CoreExprKind::Not(inner), CoreType::Boolean)
 }
 
 /// A binary operator.
-pub(crate) fn binary(
-    alloc: Global,
-    place: Place,
-    op: Op,
-    left: Resolved,
-    right: Resolved,
-) -> Result<Resolved, Memory>
-    ensures { IfOk result (λ r. resolved_seen r ≡ typed (Core.Binary place op (expr_of left.expr) (expr_of right.expr)) (operator_gives op (given_seen left.given) (given_seen right.given))) }
+pub(crate) fn binary(place: Place, op: Op, left: Operand, right: Operand) -> Resolved
+    ensures { resolved_seen result ≡ typed (Core.Binary place op (expr_of left.expr.value) (expr_of right.expr.value)) (operator_gives op (given_seen left.given) (given_seen right.given)) }
 {
     let given = operator_type(op, left.given, right.given);
-    let left = boxed(alloc, left.expr)?;
-    let right = boxed(alloc, right.expr)?;
-    Ok(typed(place, CoreExprKind::Binary(op, left, right), given))
+    typed(
+        place,
+        CoreExprKind::Binary(op, left.expr, right.expr),
+        given,
+    )
 }
 
 // What an operator gives, of operands of these types.

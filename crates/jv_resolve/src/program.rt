@@ -1,8 +1,9 @@
 //! Whole programs.
 //! Contracts see programs and cores as trees.
 
-ghost use Rattle.std.specs.Prelude.{◌≡◌, IfOk, map};
+ghost use Rattle.std.specs.Prelude.{◌≡◌, Some, IfOk, OnOk, map};
 ghost use Rattle.jv_rules.specs.Faults.{IsWellTyped};
+ghost use Rattle.jv_rules.specs.Program.{Program};
 ghost use Rattle.jv_rules.specs.Shape.{IsShaped};
 ghost use Rattle.jv_core.specs.Core.{tree_of};
 ghost use Rattle.jv_names.specs.Resolves.{AreBounded, Resolves};
@@ -10,13 +11,17 @@ ghost use Rattle.jv_resolving.specs.Members.{resolving};
 ghost use Rattle.jv_resolving.specs.Targets.{OnlyVariablesAreAssigned};
 ghost use Rattle.jv_resolve.specs.Program.{program_of};
 ghost use Rattle.jv_resolve.specs.inner.Gives.{Gives};
+ghost use Rattle.jv_resolve.specs.inner.HeadedSeen.{heads_seen};
 ghost use Rattle.jv_resolve.specs.inner.Parts.{parts_seen};
+ghost use Rattle.jv_resolve.specs.inner.Seen.{tables_seen};
+ghost use Rattle.jv_resolve.specs.inner.Wholes.{headed, core_in};
 
 use crate::bounds::{bound_enums, bound_methods};
 use crate::building::tables_of;
 use crate::classes::{resolve_classes, resolve_enums};
 use crate::given::Unresolved;
 use crate::methods::resolve_methods;
+use crate::tables::Tables;
 use jv_core::{Core, CoreClass, CoreEnum, CoreMethod};
 use jv_kept::core_is_kept;
 use jv_resolving::{resolving_is_right, resolving_is_total};
@@ -47,30 +52,81 @@ fn copies_of(alloc: Global, typestates: &[Typestate]) -> Result<List<Typestate>,
     Ok(copies)
 }
 
-// The parts of the core of a program.
-fn parts_of(alloc: Global, files: &[File], typestates: &[Typestate]) -> Result<Parts, Unresolved>
-    ensures resolved { Gives parts_seen result (resolving (program_of files.now typestates.now)) }
-    ensures bounded { IfOk result (λ p. AreBounded (program_of files.now typestates.now) (parts_seen p)) }
+// The enums and classes of a core, and the names that have numbers by then.
+#[derive(Drop)]
+struct Heads {
+    enums: List<CoreEnum>,
+    classes: List<CoreClass>,
+    names: Names,
+}
+
+// The enums and classes of a program in tables.
+fn resolve_heads(alloc: Global, tables: &Tables<'_>) -> Result<Heads, Unresolved>
+    ensures { Gives heads_seen result (headed (tables_seen tables.now)) }
 {
-    let tables = tables_of(alloc, files, typestates)?;
     let mut names = Names::new(alloc);
     let enums = resolve_enums(alloc, &mut names, tables.enums.as_slice())?;
-    let classes = resolve_classes(alloc, &tables, &mut names, tables.classes.as_slice())?;
-    let resolved = resolve_methods(alloc, &tables, names, tables.classes.as_slice())?;
-    let typestates = copies_of(alloc, typestates)?;
-    bound_enums(enums.as_slice())?;
-    bound_methods(classes.as_slice(), resolved.methods.as_slice())?;
-    Ok(Parts {
-        classes,
+    let classes = resolve_classes(alloc, tables, &mut names, tables.classes.as_slice())?;
+    Ok(Heads {
         enums,
+        classes,
+        names,
+    })
+}
+
+// The parts of the core of a program in tables.
+fn resolve_parts(
+    alloc: Global,
+    tables: &Tables<'_>,
+    typestates: &[Typestate],
+) -> Result<Parts, Unresolved>
+    ensures { Gives parts_seen result (core_in (tables_seen tables.now) typestates.now) }
+{
+    let typestates = copies_of(alloc, typestates)?;
+    let heads = resolve_heads(alloc, tables)?;
+    let resolved = resolve_methods(alloc, tables, heads.names, tables.classes.as_slice())?;
+    Ok(Parts {
+        classes: heads.classes,
+        enums: heads.enums,
         methods: resolved.methods,
         typestates,
         names: resolved.names,
     })
 }
 
+// The parts of the core of a program, however many they are.
+fn unbounded_parts(
+    alloc: Global,
+    files: &[File],
+    typestates: &[Typestate],
+) -> Result<Parts, Unresolved>
+    ensures { Gives parts_seen result (resolving (program_of files.now typestates.now)) }
+{
+    let tables = tables_of(alloc, files, typestates)?;
+    resolve_parts(alloc, &tables, typestates)
+}
+
+// The parts of a core are few enough.
+fn bound_parts(parts: &Parts) -> Result<(), Memory>
+    ensures { OnOk result ((p : Program) → AreBounded p (parts_seen parts.now)) }
+{
+    bound_enums(parts.enums.as_slice())?;
+    bound_methods(parts.classes.as_slice(), parts.methods.as_slice())?;
+    Ok(())
+}
+
+// The parts of the core of a program.
+fn parts_of(alloc: Global, files: &[File], typestates: &[Typestate]) -> Result<Parts, Unresolved>
+    ensures resolved { Gives parts_seen result (resolving (program_of files.now typestates.now)) }
+    ensures bounded { IfOk result (λ p. AreBounded (program_of files.now typestates.now) (parts_seen p)) }
+{
+    let parts = unbounded_parts(alloc, files, typestates)?;
+    bound_parts(&parts)?;
+    Ok(parts)
+}
+
 /// The core of a well typed program, whose trees are as the grammar has them: it stands for the
-/// program, construct by construct.
+/// program, construct by construct. A program has one core, that of `jv_resolving`.
 ///
 /// # Errors
 /// `Memory` only: where it is wanting, or where an enum, a method or the program as a whole has
@@ -79,7 +135,8 @@ pub fn resolve(alloc: Global, files: &[File], typestates: &[Typestate]) -> Resul
     requires well_typed { IsWellTyped (program_of files.now typestates.now) }
     requires shaped { IsShaped (program_of files.now typestates.now) }
     requires assigns { OnlyVariablesAreAssigned (program_of files.now typestates.now) }
-    ensures { IfOk result (λ c. Resolves (program_of files.now typestates.now) (tree_of c)) }
+    ensures stands { IfOk result (λ c. Resolves (program_of files.now typestates.now) (tree_of c)) }
+    ensures resolved { IfOk result (λ c. resolving (program_of files.now typestates.now) ≡ Some (tree_of c)) }
 {
     resolving_is_total();
     resolving_is_right();

@@ -2,8 +2,9 @@
 //! Contracts see them as trees, and what they are resolved to.
 
 ghost use Rattle.std.specs.Prelude.{◌≡◌, [], option_map};
-ghost use Rattle.jv_tree.specs.Source.{Local as SourceLocal, Assign, Break, Continue, Return, Print, Eval};
+ghost use Rattle.jv_tree.specs.Source.{Assign, Break, Continue, Return, Print, Eval};
 ghost use Rattle.jv_tree.specs.View.{expr_of};
+ghost use Rattle.jv_core.specs.Tree as Core;
 ghost use Rattle.jv_core.specs.View.{expr_of as core_expr, stmt_of};
 ghost use Rattle.jv_resolving.specs.Statements.{stmt, local, given_back};
 ghost use Rattle.jv_resolve.specs.inner.Counted.{counted_seen, counting};
@@ -12,21 +13,22 @@ ghost use Rattle.jv_resolve.specs.inner.Gives.{Gives};
 ghost use Rattle.jv_resolve.specs.inner.Seen.{tables_seen, standing_seen, around_seen};
 
 use crate::body::Body;
-use crate::calls::variable_of;
 use crate::exprs::resolve_expr;
 use crate::given::{Unresolved, stmt_at};
 use crate::locals::Local;
 use crate::scope::{Around, Scope, gone_on_by, left_by};
+use crate::targets::target_of;
 use jv_core::{CoreExpr, CoreStmt, CoreStmtKind};
 use jv_tree::Expr;
 use mg_text::{Place, Text};
 use ts_tree::TypeName;
 
-/// A declaration: its local, and the statement.
+/// A declaration: its place, its local and its first value.
 #[derive(Drop)]
 pub(crate) struct Declaration {
+    pub place: Place,
     pub local: Local,
-    pub stmt: CoreStmt,
+    pub value: CoreExpr,
 }
 
 /// A declaration. Its local isn't in scope yet.
@@ -41,10 +43,24 @@ pub(crate) fn resolve_declaration(
     ensures it { Gives (λ d. declaration_seen name.now d (counted_seen body.new)) result (local (tables_seen scope.now.tables.now) (standing_seen scope.now) place ty.now name.now (expr_of value.now) body.old.locals (counted_seen body.old)) }
     ensures locals { body.new.locals ≡ body.old.locals }
 {
-    let value = resolve_expr(scope, &body.locals, value)?;
     let local = body.add_slot(scope.tables, ty, name)?;
-    let stmt = stmt_at(place, CoreStmtKind::Local(local.slot, value.expr));
-    Ok(Declaration { local, stmt })
+    let value = resolve_expr(scope, &body.locals, value)?;
+    Ok(Declaration {
+        place,
+        local,
+        value: value.expr,
+    })
+}
+
+/// The statement of a declaration.
+pub(crate) fn local_stmt(declaration: Declaration) -> CoreStmt
+    ensures { stmt_of result ≡ Core.Local declaration.place declaration.local.slot (core_expr declaration.value) }
+{
+    let slot = declaration.local.slot;
+    stmt_at(
+        declaration.place,
+        CoreStmtKind::Local(slot, declaration.value),
+    )
 }
 
 /// An assignment.
@@ -57,8 +73,7 @@ pub(crate) fn assigned(
 ) -> Result<CoreStmt, Unresolved>
     ensures { Gives (λ s. counting (stmt_of s) (counted_seen body.now)) result (stmt (tables_seen scope.now.tables.now) (standing_seen scope.now) (Assign place (expr_of target.now) (expr_of value.now)) [] body.now.locals (counted_seen body.now)) }
 {
-    let target = resolve_expr(scope, &body.locals, target)?;
-    let target = variable_of(&target.expr)?;
+    let target = target_of(scope, body, target)?;
     let value = resolve_expr(scope, &body.locals, value)?;
     Ok(stmt_at(place, CoreStmtKind::Assign(target, value.expr)))
 }

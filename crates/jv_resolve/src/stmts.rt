@@ -10,13 +10,13 @@ ghost use Rattle.jv_resolve.specs.inner.Gives.{Gives};
 ghost use Rattle.jv_resolve.specs.inner.Seen.{tables_seen, standing_seen, around_seen};
 
 use crate::body::Body;
-use crate::composed::{do_loop, if_else, if_then, while_loop};
-use crate::exprs::resolve_expr;
-use crate::given::{Unresolved, stmt_at};
+use crate::exprs::{resolve_expr, resolve_operand};
+use crate::given::{Unresolved, boxed_stmt, stmt_at};
 use crate::labels::{enum_of, resolve_labels};
 use crate::scope::{Around, Scope};
 use crate::simple::{
-    assigned, broken, continued, evaluated, label_of, printed, resolve_declaration, returned,
+    assigned, broken, continued, evaluated, label_of, local_stmt, printed, resolve_declaration,
+    returned,
 };
 use crate::tables::EnumEntry;
 use crate::written::{resolve_local, written_in};
@@ -73,57 +73,76 @@ fn resolve_stmt<'a>(
     ensures locals { OnOk result (body.new.locals ≡ body.old.locals) }
 {
     let place = stmt.place;
-    match &stmt.kind {
-        StmtKind::Block(inner, end) => {
+    match stmt.kind {
+        StmtKind::Block(ref inner, end) => {
             let inner = resolve_stmts(scope, around, body, inner.as_slice())?;
-            Ok(stmt_at(place, CoreStmtKind::Block(inner, *end)))
+            Ok(stmt_at(place, CoreStmtKind::Block(inner, end)))
         }
         StmtKind::Empty => Ok(stmt_at(place, CoreStmtKind::Empty)),
-        StmtKind::Local(ty, name, value) => {
+        StmtKind::Local(ref ty, ref name, ref value) => {
             let declared = resolve_declaration(scope, body, place, ty, name.as_str(), value)?;
-            Ok(declared.stmt)
+            Ok(local_stmt(declared))
         }
-        StmtKind::Assign(target, value) => assigned(scope, body, place, target, value),
-        StmtKind::If(test, then, otherwise) => match otherwise {
+        StmtKind::Assign(ref target, ref value) => assigned(scope, body, place, target, value),
+        // A test numbers nothing, so it may come last.
+        StmtKind::If(ref test, ref then, ref otherwise) => match otherwise {
             None => {
+                let then = resolve_inner(scope, around, body, then)?;
                 let test = resolve_expr(scope, &body.locals, test)?;
-                let then = resolve_stmt(scope, around, body, then)?;
-                Ok(if_then(scope.alloc, place, test.expr, then)?)
+                Ok(stmt_at(place, CoreStmtKind::If(test.expr, then, None)))
             }
             Some(otherwise) => {
+                let then = resolve_inner(scope, around, body, then)?;
+                let otherwise = resolve_inner(scope, around, body, otherwise)?;
                 let test = resolve_expr(scope, &body.locals, test)?;
-                let then = resolve_stmt(scope, around, body, then)?;
-                let otherwise = resolve_stmt(scope, around, body, otherwise)?;
-                Ok(if_else(scope.alloc, place, test.expr, then, otherwise)?)
+                let kind = CoreStmtKind::If(test.expr, then, Some(otherwise));
+                Ok(stmt_at(place, kind))
             }
         },
-        StmtKind::While(label, test, inner) => {
-            let test = resolve_expr(scope, &body.locals, test)?;
+        StmtKind::While(ref label, ref test, ref inner) => {
             let number = body.add_loop(scope.alloc, place)?;
             let within = Around::Loop(label_of(label), number, &*around);
-            let inner = resolve_stmt(scope, &within, body, inner)?;
-            Ok(while_loop(scope.alloc, place, number, test.expr, inner)?)
+            let inner = resolve_inner(scope, &within, body, inner)?;
+            let test = resolve_expr(scope, &body.locals, test)?;
+            Ok(stmt_at(place, CoreStmtKind::While(number, test.expr, inner)))
         }
-        StmtKind::Do(label, inner, test) => {
+        StmtKind::Do(ref label, ref inner, ref test) => {
             let number = body.add_loop(scope.alloc, place)?;
             let within = Around::Loop(label_of(label), number, &*around);
-            let inner = resolve_stmt(scope, &within, body, inner)?;
+            let inner = resolve_inner(scope, &within, body, inner)?;
             let test = resolve_expr(scope, &body.locals, test)?;
-            Ok(do_loop(scope.alloc, place, number, inner, test.expr)?)
+            Ok(stmt_at(place, CoreStmtKind::Do(number, inner, test.expr)))
         }
-        StmtKind::Switch(value, groups, end) => {
-            let value = resolve_expr(scope, &body.locals, value)?;
-            let of = enum_of(scope, &value)?;
+        StmtKind::Switch(ref value, ref groups, end) => {
+            let value = resolve_operand(scope, &body.locals, value)?;
+            let of = enum_of(scope, value.given)?;
             let within = Around::Switch(&*around);
             let groups = resolve_groups(scope, &within, body, of, groups.as_slice())?;
-            Ok(stmt_at(place, CoreStmtKind::Switch(value.expr, groups, *end)))
+            let kind = CoreStmtKind::Switch(Box::into_inner(value.expr), groups, end);
+            Ok(stmt_at(place, kind))
         }
-        StmtKind::Break(label) => broken(scope, around, body, place, label),
-        StmtKind::Continue(label) => continued(scope, around, body, place, label),
-        StmtKind::Return(value) => returned(scope, body, place, value),
-        StmtKind::Print(value) => printed(scope, body, place, value),
-        StmtKind::Eval(value) => evaluated(scope, body, place, value),
+        StmtKind::Break(ref label) => broken(scope, around, body, place, label),
+        StmtKind::Continue(ref label) => continued(scope, around, body, place, label),
+        StmtKind::Return(ref value) => returned(scope, body, place, value),
+        StmtKind::Print(ref value) => printed(scope, body, place, value),
+        StmtKind::Eval(ref value) => evaluated(scope, body, place, value),
     }
+}
+
+// A statement inside another one, in a box.
+#[cycle(stmts)]
+fn resolve_inner<'a>(
+    scope: &Scope<'_, 'a>,
+    around: &Around<'_>,
+    body: &mut Body<'a>,
+    stmt: &'a Stmt,
+) -> Result<Box<CoreStmt>, Unresolved>
+    ensures it { Gives (λ s. counting (stmt_of s.value) (counted_seen body.new)) result (meant (tables_seen scope.now.tables.now) (standing_seen scope.now) (source_stmt stmt.now) (around_seen around.now) body.old.locals (counted_seen body.old)) }
+    ensures locals { OnOk result (body.new.locals ≡ body.old.locals) }
+{
+    let resolved = resolve_stmt(scope, around, body, stmt)?;
+    let boxed = boxed_stmt(scope.alloc, resolved)?;
+    Ok(boxed)
 }
 
 // The groups of a switch over an enum. A local's scope ends with its group.

@@ -10,7 +10,7 @@ ghost use Rattle.jv_resolve.specs.inner.Seen.{tables_seen, standing_seen, found_
 ghost use Rattle.jv_resolve.specs.inner.Receivers.{receiver_seen};
 
 use crate::calls::Receiver;
-use crate::given::{Resolved, Unresolved, typed};
+use crate::given::{Resolved, Unresolved, as_operand, typed};
 use crate::heads::{Head, head_of};
 use crate::literals::constant;
 use crate::locals::Locals;
@@ -100,6 +100,9 @@ pub(crate) fn named_receiver<'e>(
 {
     match scope.variable(locals, name)? {
         None => Ok(Receiver::Class(name)),
-        Some(found) => Ok(Receiver::Value(found_at(place, found))),
+        Some(found) => {
+            let value = as_operand(scope.alloc, found_at(place, found))?;
+            Ok(Receiver::Value(value))
+        }
     }
 }

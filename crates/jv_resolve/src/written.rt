@@ -13,6 +13,7 @@ ghost use Rattle.jv_resolve.specs.inner.WrittenLocal.{written_in, local_item};
 use crate::body::Body;
 use crate::given::Unresolved;
 use crate::scope::Scope;
+use crate::scoping::in_scope;
 use crate::simple::resolve_declaration;
 use jv_core::CoreStmt;
 use jv_tree::{Expr, Stmt, StmtKind};
@@ -33,8 +34,8 @@ pub(crate) struct Written<'s> {
 pub(crate) fn written_in(stmt: &Stmt) -> Option<Written<'_>>
     ensures { option_map written_seen result ≡ written_in (source_stmt stmt.now) }
 {
-    match &stmt.kind {
-        StmtKind::Local(ty, name, value) => Some(Written {
+    match stmt.kind {
+        StmtKind::Local(ref ty, ref name, ref value) => Some(Written {
             place: stmt.place,
             ty,
             name: name.as_str(),
@@ -63,6 +64,5 @@ pub(crate) fn resolve_local<'a>(
         written.name,
         written.value,
     )?;
-    body.locals.declare(written.name, declared.local)?;
-    Ok(declared.stmt)
+    in_scope(body, written.name, declared)
 }

@@ -1,7 +1,7 @@
 -- What a declaration says: its local and its statement.
 use Rattle.mg_text.specs.Call.{Name}
 use Rattle.jv_core.specs.Tree as Core
-use Rattle.jv_core.specs.View.{stmt_of}
+use Rattle.jv_core.specs.View.{expr_of}
 use Rattle.jv_resolving.specs.Expressions.{Known}
 use Rattle.jv_resolving.specs.Statements.{Counted, Counting}
 use Rattle.jv_resolve.specs.declared.simple.Declaration.{Declaration}
@@ -9,4 +9,4 @@ use Rattle.jv_resolve.specs.inner.Counted.{counting}
 use Rattle.jv_resolve.specs.inner.Row.{known}
 
 abbrev pub declaration_seen : Name → Declaration → Counted → Counting Known × Core.Stmt
-declaration_seen name d so_far = (counting (known name d.local) so_far, stmt_of d.stmt)
+declaration_seen name d so_far = (counting (known name d.local) so_far, Core.Local d.place d.local.slot (expr_of d.value))

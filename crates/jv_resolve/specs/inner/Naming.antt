@@ -1,5 +1,5 @@
 -- Members one after another, with the names that have numbers by then.
-use Rattle.std.specs.Prelude.{ℕ, List, [], ◌∷◌, ◌++◌, Option, Some, None, option_map}
+use Rattle.std.specs.Prelude.{ℕ, List, [], ◌∷◌, ◌++◌, Option, Some, option_map}
 use Rattle.mg_text.specs.Call.{Name}
 use Rattle.jv_tree.specs.declared.tree.Param.{Param}
 use Rattle.jv_resolving.specs.Tables.{◌>>=◌, Tables, interned}

@@ -1,5 +1,5 @@
 -- What the parts of the code say as trees.
-use Rattle.std.specs.Prelude.{List, [], ◌∷◌, map, Option, Some, None, option_map}
+use Rattle.std.specs.Prelude.{List, [], ◌∷◌, map, option_map}
 use Rattle.jv_tree.specs.View.{class_of, enum_of, field_of, method_of}
 use Rattle.jv_core.specs.View.{expr_of}
 use Rattle.jv_resolving.specs.Tables.{Entry, Tables as Tabled, Callee as Called, Placed, Numbered}
@@ -7,9 +7,9 @@ use Rattle.jv_resolving.specs.Expressions.{Given as GivenType, OfNull, Of, Resol
 use Rattle.jv_resolving.specs.Statements.{Around as Target, InLoop, InSwitch}
 use Rattle.jv_resolve.specs.declared.given.Given.{Given}
 use Rattle.jv_resolve.specs.declared.given.Given.TheVariants as kept_given
+use Rattle.jv_resolve.specs.declared.given.Operand.{Operand}
 use Rattle.jv_resolve.specs.declared.given.Resolved.{Resolved}
 use Rattle.jv_resolve.specs.declared.tables.ClassEntry.{ClassEntry}
-use Rattle.jv_resolve.specs.declared.tables.EnumEntry.{EnumEntry}
 use Rattle.jv_resolve.specs.declared.tables.Tables.{Tables}
 use Rattle.jv_resolve.specs.declared.tables.Callee.{Callee}
 use Rattle.jv_resolve.specs.declared.tables.PlacedField.{PlacedField}
@@ -25,6 +25,9 @@ given_seen (kept_given.Of ty) = Of ty
 
 abbrev pub resolved_seen : Resolved → ResolvedExpr
 resolved_seen r = record { expr = expr_of r.expr; given = given_seen r.given }
+
+abbrev pub operand_seen : Operand → ResolvedExpr
+operand_seen o = record { expr = expr_of o.expr.value; given = given_seen o.given }
 
 abbrev pub entry_seen : ClassEntry → Entry
 entry_seen e = record { class = class_of e.class.now; number = e.number; first_method = e.first_method; typestate = e.typestate }

@@ -1,4 +1,4 @@
-use Rattle.std.proofs.Common.{◌≡◌, ◌≤◌, ◌+◌, ◌-◌, ◌^◌, Some, map, length}
+use Rattle.std.proofs.Common.{◌≤◌, ◌^◌, length}
 use Rattle.jv_core.specs.View.{enum_of}
 use Rattle.jv_resolve.proofs.Bounding.{all_more, all_done}
 use Rattle.jv_resolve.proofs.bounds.bound_enums.Goals as goal

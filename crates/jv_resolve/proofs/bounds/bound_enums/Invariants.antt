@@ -1,4 +1,4 @@
-use Rattle.std.proofs.Common.{◌≡◌, ◌≤◌, ◌+◌, ◌-◌, ◌^◌, Some, drop, map, length}
+use Rattle.std.proofs.Common.{◌≤◌, ◌^◌, drop, map, length}
 use Rattle.std.specs.List.{AllByRecursion}
 use Rattle.jv_core.specs.View.{enum_of}
 use Rattle.jv_resolve.proofs.bounds.bound_enums.Given as goal

@@ -1,4 +1,4 @@
-use Rattle.std.proofs.Common.{◌≡◌, ◌≤◌, ◌+◌, ◌-◌, ◌^◌, Some, map, length, sym, ◌∙◌}
+use Rattle.std.proofs.Common.{◌≤◌, ◌+◌, ◌-◌, ◌^◌, map, length}
 use Rattle.std.specs.Prelude.{slice_get}
 use Rattle.jv_core.specs.Tree as Core
 use Rattle.jv_core.specs.View.{class_of, method_of}

@@ -1,4 +1,4 @@
-use Rattle.std.proofs.Common.{◌≡◌, Option, Some, sym, ap, ◌∙◌}
+use Rattle.std.proofs.Common.{Some, sym, ap, ◌∙◌}
 use Rattle.std.specs.Prelude.{map}
 use Rattle.jv_core.specs.Tree as Core
 use Rattle.jv_core.specs.View.{expr_of, exprs_of}
@@ -6,7 +6,7 @@ use Rattle.jv_core.specs.Types.{session_result}
 use Rattle.jv_core.specs.declared.tree.SessionCall.{SessionCall}
 use Rattle.jv_core.proofs.ViewLaws.{kind-Session}
 use Rattle.jv_resolving.specs.Tables.{◌>>=◌}
-use Rattle.jv_resolving.specs.Expressions.{Resolved, typed}
+use Rattle.jv_resolving.specs.Expressions.{typed}
 use Rattle.jv_resolve.proofs.calls.session_call.Goals as goal
 
 pub returns : goal.returns

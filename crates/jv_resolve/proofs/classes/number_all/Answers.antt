@@ -1,4 +1,4 @@
-use Rattle.std.proofs.Common.{map, sym, ap, ◌∙◌}
+use Rattle.std.proofs.Common.{sym, ap, ◌∙◌}
 use Rattle.jv_resolving.specs.Tables.{interned}
 use Rattle.jv_resolving.specs.Members.{all_interned}
 use Rattle.jv_resolve.specs.inner.Naming.{numbered}

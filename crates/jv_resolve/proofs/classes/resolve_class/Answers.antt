@@ -1,4 +1,4 @@
-use Rattle.std.proofs.Common.{map, length, sym, ap, ◌∙◌}
+use Rattle.std.proofs.Common.{map, sym, ap, ◌∙◌}
 use Rattle.std.proofs.lemmas.Result.{err_from_is_err_and}
 use Rattle.std.proofs.Math.ListN.{length-map}
 use Rattle.jv_tree.specs.View.{field_of as source_field, method_of as source_method}

@@ -4,18 +4,18 @@ use Rattle.std.specs.Int.RustNames.{FitsSigned}
 use mir.Syntax.{w32}
 use Rattle.jv_core.specs.Tree as Core
 use Rattle.jv_core.specs.declared.program.CoreType.TheVariants as types
-use Rattle.std.specs.Prelude.{map}
+use Rattle.std.specs.Prelude.{map, Some, option_map}
 use Rattle.std.proofs.lemmas.Result.{err_from_is_err_and}
 use Rattle.jv_tree.specs.View.{expr_of, exprs_of}
 use Rattle.jv_core.specs.View.{expr_of as core_expr}
-use Rattle.jv_resolving.specs.Expressions.{typed, resolved, resolved_all, receiver, member, call_own, call_on, make}
+use Rattle.jv_resolving.specs.Expressions.{OnValue, typed, resolved, resolved_all, receiver, member, call_own, call_on, make}
 use Rattle.jv_resolve.specs.inner.HeadsSeen.{head_seen}
 use Rattle.jv_resolve.specs.inner.Named.{variable_named, receiver_named}
-use Rattle.jv_resolve.specs.inner.Seen.{tables_seen, standing_seen, resolved_seen}
+use Rattle.jv_resolve.specs.inner.Seen.{tables_seen, standing_seen, resolved_seen, operand_seen}
 use Rattle.jv_resolve.specs.inner.Receivers.{receiver_seen}
 use Rattle.jv_tree.proofs.ViewLaws.{place-expr}
-use Rattle.jv_resolve.proofs.ByHead.{receiver-name}
-use Rattle.jv_resolve.proofs.Chains.{gives_as, fails_as}
+use Rattle.jv_resolve.proofs.ByHead.{receiver-this, receiver-name, receiver-other}
+use Rattle.jv_resolve.proofs.Chains.{gives_as, fails_as, fails_map}
 use Rattle.jv_resolve.proofs.ExprSteps as steps
 use Rattle.jv_resolve.proofs.exprs.+exprs.Goals as goal
 
@@ -59,22 +59,22 @@ resolve_expr-returns-in_err-inner-in-Neg t c =
     let p = err_from_is_err_and c.from_residual-in_err-inner-in-Neg.result c.from_residual-in_err-inner-in-Neg.ensures.1 in
     rw (p.1, p.2) (steps.fails-Neg (tables_seen c.args.scope.now.tables.now) (standing_seen c.args.scope.now) c.args.locals.now c.args.expr.now c.in_err-inner-in-Neg.field-0.0 c.in-Neg.of c.in-Neg.is (fails_as c.in_err-inner-in-Neg.field-0.0 _ _ (ap (λ y. resolved (tables_seen c.args.scope.now.tables.now) (standing_seen c.args.scope.now) c.args.locals.now (expr_of y)) (sym c.deref-in-Neg.ensures)) c.in_err-inner-in-Neg.ensures))
 
-pub resolve_expr-returns-in_ok-negative-in-Neg : goal.resolve_expr-returns-in_ok-negative-in-Neg
-resolve_expr-returns-in_ok-negative-in-Neg t c =
-    steps.is-Neg (tables_seen c.args.scope.now.tables.now) (standing_seen c.args.scope.now) c.args.locals.now c.args.expr.now (resolved_seen c.in_ok-negative-in-Neg.field-0) c.in-Neg.of (resolved_seen c.in_ok-inner-in-Neg.inner)
+pub resolve_expr-returns-in_ok-inner-in-Neg : goal.resolve_expr-returns-in_ok-inner-in-Neg
+resolve_expr-returns-in_ok-inner-in-Neg t c =
+    steps.is-Neg (tables_seen c.args.scope.now.tables.now) (standing_seen c.args.scope.now) c.args.locals.now c.args.expr.now (resolved_seen c.negative.result) c.in-Neg.of (operand_seen c.in_ok-inner-in-Neg.inner)
     (ap (λ y. resolved (tables_seen c.args.scope.now.tables.now) (standing_seen c.args.scope.now) c.args.locals.now (expr_of y)) (sym c.deref-in-Neg.ensures) ∙ c.in_ok-inner-in-Neg.ensures)
-    c.in-Neg.is c.in_ok-negative-in-Neg.ensures
+    c.in-Neg.is c.negative.ensures
 
 pub resolve_expr-returns-in_err-inner-in-Not : goal.resolve_expr-returns-in_err-inner-in-Not
 resolve_expr-returns-in_err-inner-in-Not t c =
     let p = err_from_is_err_and c.from_residual-in_err-inner-in-Not.result c.from_residual-in_err-inner-in-Not.ensures.1 in
     rw (p.1, p.2) (steps.fails-Not (tables_seen c.args.scope.now.tables.now) (standing_seen c.args.scope.now) c.args.locals.now c.args.expr.now c.in_err-inner-in-Not.field-0.0 c.in-Not.of c.in-Not.is (fails_as c.in_err-inner-in-Not.field-0.0 _ _ (ap (λ y. resolved (tables_seen c.args.scope.now.tables.now) (standing_seen c.args.scope.now) c.args.locals.now (expr_of y)) (sym c.deref-in-Not.ensures)) c.in_err-inner-in-Not.ensures))
 
-pub resolve_expr-returns-in_ok-opposite-in-Not : goal.resolve_expr-returns-in_ok-opposite-in-Not
-resolve_expr-returns-in_ok-opposite-in-Not t c =
-    steps.is-Not (tables_seen c.args.scope.now.tables.now) (standing_seen c.args.scope.now) c.args.locals.now c.args.expr.now (resolved_seen c.in_ok-opposite-in-Not.field-0) c.in-Not.of (resolved_seen c.in_ok-inner-in-Not.inner)
+pub resolve_expr-returns-in_ok-inner-in-Not : goal.resolve_expr-returns-in_ok-inner-in-Not
+resolve_expr-returns-in_ok-inner-in-Not t c =
+    steps.is-Not (tables_seen c.args.scope.now.tables.now) (standing_seen c.args.scope.now) c.args.locals.now c.args.expr.now (resolved_seen c.opposite.result) c.in-Not.of (operand_seen c.in_ok-inner-in-Not.inner)
     (ap (λ y. resolved (tables_seen c.args.scope.now.tables.now) (standing_seen c.args.scope.now) c.args.locals.now (expr_of y)) (sym c.deref-in-Not.ensures) ∙ c.in_ok-inner-in-Not.ensures)
-    c.in-Not.is c.in_ok-opposite-in-Not.ensures
+    c.in-Not.is c.opposite.ensures
 
 pub resolve_expr-returns-in_err-left-in-Binary : goal.resolve_expr-returns-in_err-left-in-Binary
 resolve_expr-returns-in_err-left-in-Binary t c =
@@ -84,17 +84,17 @@ resolve_expr-returns-in_err-left-in-Binary t c =
 pub resolve_expr-returns-in_err-right-in-Binary : goal.resolve_expr-returns-in_err-right-in-Binary
 resolve_expr-returns-in_err-right-in-Binary t c =
     let p = err_from_is_err_and c.from_residual-in_err-right-in-Binary.result c.from_residual-in_err-right-in-Binary.ensures.1 in
-    rw (p.1, p.2) (steps.fails-right (tables_seen c.args.scope.now.tables.now) (standing_seen c.args.scope.now) c.args.locals.now c.args.expr.now c.in_err-right-in-Binary.field-0.0 c.in-Binary.op c.in-Binary.left c.in-Binary.right (resolved_seen c.in_ok-left-in-Binary.left) c.in-Binary.is
+    rw (p.1, p.2) (steps.fails-right (tables_seen c.args.scope.now.tables.now) (standing_seen c.args.scope.now) c.args.locals.now c.args.expr.now c.in_err-right-in-Binary.field-0.0 c.in-Binary.op c.in-Binary.left c.in-Binary.right (operand_seen c.in_ok-left-in-Binary.left) c.in-Binary.is
     (ap (λ y. resolved (tables_seen c.args.scope.now.tables.now) (standing_seen c.args.scope.now) c.args.locals.now (expr_of y)) (sym c.deref-in-Binary.ensures) ∙ c.in_ok-left-in-Binary.ensures)
     (fails_as c.in_err-right-in-Binary.field-0.0 _ _ (ap (λ y. resolved (tables_seen c.args.scope.now.tables.now) (standing_seen c.args.scope.now) c.args.locals.now (expr_of y)) (sym c.deref-in-Binary-2.ensures)) c.in_err-right-in-Binary.ensures))
 
-pub resolve_expr-returns-in_ok-binary-in-Binary : goal.resolve_expr-returns-in_ok-binary-in-Binary
-resolve_expr-returns-in_ok-binary-in-Binary t c =
-    steps.is-Binary (tables_seen c.args.scope.now.tables.now) (standing_seen c.args.scope.now) c.args.locals.now c.args.expr.now (resolved_seen c.in_ok-binary-in-Binary.field-0) c.in-Binary.left (resolved_seen c.in_ok-left-in-Binary.left)
+pub resolve_expr-returns-in_ok-right-in-Binary : goal.resolve_expr-returns-in_ok-right-in-Binary
+resolve_expr-returns-in_ok-right-in-Binary t c =
+    steps.is-Binary (tables_seen c.args.scope.now.tables.now) (standing_seen c.args.scope.now) c.args.locals.now c.args.expr.now (resolved_seen c.binary.result) c.in-Binary.left (operand_seen c.in_ok-left-in-Binary.left)
     (ap (λ y. resolved (tables_seen c.args.scope.now.tables.now) (standing_seen c.args.scope.now) c.args.locals.now (expr_of y)) (sym c.deref-in-Binary.ensures) ∙ c.in_ok-left-in-Binary.ensures)
-    c.in-Binary.right (resolved_seen c.in_ok-right-in-Binary.right)
+    c.in-Binary.right (operand_seen c.in_ok-right-in-Binary.right)
     (ap (λ y. resolved (tables_seen c.args.scope.now.tables.now) (standing_seen c.args.scope.now) c.args.locals.now (expr_of y)) (sym c.deref-in-Binary-2.ensures) ∙ c.in_ok-right-in-Binary.ensures)
-    c.in-Binary.op c.in-Binary.is c.in_ok-binary-in-Binary.ensures
+    c.in-Binary.op c.in-Binary.is c.binary.ensures
 
 pub resolve_expr-returns-in_err-args-in-Call : goal.resolve_expr-returns-in_err-args-in-Call
 resolve_expr-returns-in_err-args-in-Call t c =
@@ -140,3 +140,28 @@ resolve_receiver-returns-in-Name t c =
     (receiver-name (tables_seen c.args.scope.now.tables.now) (standing_seen c.args.scope.now) c.args.locals.now (resolved (tables_seen c.args.scope.now.tables.now) (standing_seen c.args.scope.now) c.args.locals.now (expr_of c.args.of.now)) (expr_of c.args.of.now) c.in-Name.name.now (sym c.head_of.ensures ∙ ap head_seen c.in-Name.is)
     ∙ ap (λ p. receiver_named (tables_seen c.args.scope.now.tables.now) (standing_seen c.args.scope.now) c.args.locals.now p c.in-Name.name.now) (place-expr c.args.of.now))
     c.named_receiver.ensures
+
+pub resolve_operand-returns-in_err-value : goal.resolve_operand-returns-in_err-value
+resolve_operand-returns-in_err-value t c =
+    let p = err_from_is_err_and c.from_residual.result c.from_residual.ensures.1 in
+    rw (p.1, p.2) c.in_err-value.ensures
+
+pub resolve_operand-returns : goal.resolve_operand-returns
+resolve_operand-returns t c = c.in_ok-value.ensures ∙ ap Some (sym c.in_ok-boxed.ensures)
+
+pub resolve_receiver-returns-in-This : goal.resolve_receiver-returns-in-This
+resolve_receiver-returns-in-This t c =
+    receiver-this (tables_seen c.args.scope.now.tables.now) (standing_seen c.args.scope.now) c.args.locals.now (resolved (tables_seen c.args.scope.now.tables.now) (standing_seen c.args.scope.now) c.args.locals.now (expr_of c.args.of.now)) (expr_of c.args.of.now) (sym c.head_of.ensures ∙ ap head_seen c.in-This.is)
+
+pub resolve_receiver-returns-in_err-value-in-Other : goal.resolve_receiver-returns-in_err-value-in-Other
+resolve_receiver-returns-in_err-value-in-Other t c =
+    let p = err_from_is_err_and c.from_residual.result c.from_residual.ensures.1 in
+    let r = resolved (tables_seen c.args.scope.now.tables.now) (standing_seen c.args.scope.now) c.args.locals.now (expr_of c.args.of.now) in
+    rw (p.1, p.2)
+    (fails_as c.in_err-value-in-Other.field-0.0 _ _ (receiver-other (tables_seen c.args.scope.now.tables.now) (standing_seen c.args.scope.now) c.args.locals.now r (expr_of c.args.of.now) (sym c.head_of.ensures ∙ ap head_seen c.in-Other.is))
+    (fails_map c.in_err-value-in-Other.field-0.0 r OnValue c.in_err-value-in-Other.ensures))
+
+pub resolve_receiver-returns-in_ok-value-in-Other : goal.resolve_receiver-returns-in_ok-value-in-Other
+resolve_receiver-returns-in_ok-value-in-Other t c =
+    receiver-other (tables_seen c.args.scope.now.tables.now) (standing_seen c.args.scope.now) c.args.locals.now (resolved (tables_seen c.args.scope.now.tables.now) (standing_seen c.args.scope.now) c.args.locals.now (expr_of c.args.of.now)) (expr_of c.args.of.now) (sym c.head_of.ensures ∙ ap head_seen c.in-Other.is)
+    ∙ ap (option_map OnValue) c.in_ok-value-in-Other.ensures

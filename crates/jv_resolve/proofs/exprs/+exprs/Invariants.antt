@@ -7,13 +7,16 @@ use Rattle.jv_resolve.specs.inner.Seen.{tables_seen, standing_seen}
 use Rattle.jv_resolve.proofs.exprs.+exprs.Given as goal
 
 abbrev pub decreases-resolve_expr : goal.decreases-resolve_expr
-decreases-resolve_expr l = 3 * goal.size-resolve_expr l
+decreases-resolve_expr l = 4 * goal.size-resolve_expr l
+
+abbrev pub decreases-resolve_operand : goal.decreases-resolve_operand
+decreases-resolve_operand l = 4 * goal.size-resolve_operand l + 1
 
 abbrev pub decreases-resolve_receiver : goal.decreases-resolve_receiver
-decreases-resolve_receiver l = 3 * goal.size-resolve_receiver l + 1
+decreases-resolve_receiver l = 4 * goal.size-resolve_receiver l + 2
 
 abbrev pub decreases-resolve_args : goal.decreases-resolve_args
-decreases-resolve_args l = 3 * goal.size-resolve_args l + 2
+decreases-resolve_args l = 4 * goal.size-resolve_args l + 3
 
 abbrev pub invariant-resolve_args-loop-arg : goal.invariant-resolve_args-loop-arg
 invariant-resolve_args-loop-arg l =

@@ -1,4 +1,4 @@
-use Rattle.std.proofs.Common.{◌≡◌, ℕ, Option, Some, sym, ap, ◌∙◌}
+use Rattle.std.proofs.Common.{Some, sym, ap, ◌∙◌}
 use Rattle.std.specs.Prelude.{position}
 use Rattle.std.specs.Str.{bytes_eq}
 use Rattle.jv_meaning.specs.Program.{constant_position}
@@ -6,7 +6,7 @@ use Rattle.jv_core.specs.Tree as Core
 use Rattle.jv_core.specs.declared.program.CoreType.TheVariants as types
 use Rattle.jv_core.proofs.ViewLaws.{kind-Constant}
 use Rattle.jv_resolving.specs.Tables.{◌>>=◌, Numbered}
-use Rattle.jv_resolving.specs.Expressions.{Resolved, typed}
+use Rattle.jv_resolving.specs.Expressions.{typed}
 use Rattle.jv_resolve.specs.inner.Seen.{numbered_seen}
 use Rattle.jv_resolve.proofs.literals.constant.Goals as goal
 

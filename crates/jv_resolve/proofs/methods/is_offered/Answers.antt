@@ -1,4 +1,4 @@
-use Rattle.std.proofs.Common.{sym, ap, ◌∙◌}
+use Rattle.std.proofs.Common.{sym}
 use Rattle.jv_resolve.specs.inner.Seen.{entry_seen, tables_seen}
 use Rattle.jv_resolve.proofs.MethodSteps.{none_followed, none_there, one_followed}
 use Rattle.jv_resolve.proofs.methods.is_offered.Goals as goal

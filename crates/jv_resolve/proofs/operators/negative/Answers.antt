@@ -1,10 +1,8 @@
 use Rattle.std.proofs.Common.{ap, ◌∙◌}
-use Rattle.jv_core.specs.Tree as Core
-use Rattle.jv_core.specs.View.{expr_of}
 use Rattle.jv_core.specs.declared.program.CoreType.TheVariants as types
 use Rattle.jv_core.proofs.ViewLaws.{kind-Neg}
 use Rattle.jv_resolving.specs.Expressions.{typed}
 use Rattle.jv_resolve.proofs.operators.negative.Goals as goal
 
 pub returns : goal.returns
-returns c = c.typed.ensures ∙ ap (λ e. typed e types.Int) (kind-Neg c.in_ok-inner.inner c.args.place) ∙ ap (λ e. typed (Core.Neg c.args.place (expr_of e)) types.Int) c.in_ok-inner.ensures
+returns c = c.typed.ensures ∙ ap (λ e. typed e types.Int) (kind-Neg c.args.inner c.args.place)

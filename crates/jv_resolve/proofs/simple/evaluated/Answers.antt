@@ -1,14 +1,12 @@
-use Rattle.std.proofs.Common.{sym, ap, ◌∙◌}
-use Rattle.std.specs.Prelude.{Some}
+use Rattle.std.proofs.Common.{◌∙◌}
 use Rattle.jv_tree.specs.View.{expr_of}
 use Rattle.jv_core.specs.Tree as Core
-use Rattle.jv_core.specs.View.{stmt_of, expr_of as core_expr}
+use Rattle.jv_core.specs.View.{stmt_of}
 use Rattle.jv_core.proofs.ViewLaws.{stmt-Eval}
 use Rattle.jv_resolving.specs.Expressions.{resolved, Resolved}
-use Rattle.jv_resolving.specs.Statements.{left_by, gone_on_by, given_back}
-use Rattle.jv_resolve.specs.inner.Seen.{tables_seen, standing_seen, resolved_seen, around_seen}
+use Rattle.jv_resolve.specs.inner.Seen.{tables_seen, standing_seen, resolved_seen}
 use Rattle.jv_resolve.specs.inner.Counted.{counted_seen}
-use Rattle.jv_resolve.proofs.StmtSteps.{one_made, assigned_made}
+use Rattle.jv_resolve.proofs.StmtSteps.{one_made}
 use Rattle.jv_resolve.proofs.simple.evaluated.Goals as goal
 
 pub returns : goal.returns

@@ -5,13 +5,14 @@ use Rattle.std.proofs.lemmas.List.{map_push}
 use Rattle.std.proofs.Math.ListN.{length-map}
 use Rattle.jv_tree.specs.declared.tree.Group.{out-Group}
 use Rattle.jv_tree.specs.View as source
-use Rattle.jv_core.specs.View.{expr_of, stmt_of, group_of, loop_of}
+use Rattle.jv_core.specs.Tree as Core
+use Rattle.jv_core.specs.View.{expr_of, stmt_of, group_of, groups_of, loop_of}
 use Rattle.jv_resolving.specs.Expressions.{resolved}
-use Rattle.jv_resolving.specs.Statements.{InLoop, InSwitch, stmt, stmts, groups, enum_given, local}
+use Rattle.jv_resolving.specs.Statements.{InLoop, InSwitch, stmt, stmts, groups, local}
 use Rattle.jv_resolve.specs.inner.Counted.{counted_seen, counting, itemed}
-use Rattle.jv_resolve.specs.inner.Seen.{tables_seen, standing_seen, resolved_seen, given_seen, around_seen}
+use Rattle.jv_resolve.specs.inner.Seen.{tables_seen, standing_seen, resolved_seen, operand_seen, around_seen}
 use Rattle.jv_resolve.proofs.AtIndex.{drop_at, drop_end}
-use Rattle.jv_resolve.proofs.Chains.{gives_as, fails_as}
+use Rattle.jv_resolve.proofs.Chains.{gives_as, fails_as, always_ok}
 use Rattle.jv_resolve.specs.inner.Writing.{written_seen}
 use Rattle.jv_resolve.specs.inner.Counted.{group_at}
 use Rattle.jv_resolving.specs.Statements.{labels_at}
@@ -46,9 +47,11 @@ resolve_stmt-returns-in-Empty-clause-it t c =
 
 pub resolve_stmt-returns-in_ok-declared-in-Local-clause-it : goal.resolve_stmt-returns-in_ok-declared-in-Local-clause-it
 resolve_stmt-returns-in_ok-declared-in-Local-clause-it t c =
+    let d = c.in_ok-declared-in-Local.declared in
     ap (λ x. stmt (tables_seen c.args.scope.now.tables.now) (standing_seen c.args.scope.now) x (around_seen c.args.around.now) c.args.body.now.locals (counted_seen c.args.body.now)) (shapes.shape-Local c.args.stmt.now c.in-Local.ty c.in-Local.name c.in-Local.value c.in-Local.is)
-    ∙ steps.local_made (tables_seen c.args.scope.now.tables.now) (standing_seen c.args.scope.now) (around_seen c.args.around.now) c.args.body.now.locals (counted_seen c.args.body.now) c.args.stmt.now.place c.in-Local.ty c.in-Local.name (source.expr_of c.in-Local.value) (counting (known c.as_str.result.now c.in_ok-declared-in-Local.declared.local) (counted_seen c.resolve_declaration.new.body)) (stmt_of c.in_ok-declared-in-Local.declared.stmt)
+    ∙ steps.local_made (tables_seen c.args.scope.now.tables.now) (standing_seen c.args.scope.now) (around_seen c.args.around.now) c.args.body.now.locals (counted_seen c.args.body.now) c.args.stmt.now.place c.in-Local.ty c.in-Local.name (source.expr_of c.in-Local.value) (counting (known c.as_str.result.now d.local) (counted_seen c.resolve_declaration.new.body)) (Core.Local d.place d.local.slot (expr_of d.value)) (stmt_of c.local_stmt.result)
     (ap (λ n. local (tables_seen c.args.scope.now.tables.now) (standing_seen c.args.scope.now) c.args.stmt.now.place c.in-Local.ty n (source.expr_of c.in-Local.value) c.args.body.now.locals (counted_seen c.args.body.now)) (sym c.as_str.ensures) ∙ c.in_ok-declared-in-Local.ensures.it)
+    c.local_stmt.ensures
 
 pub resolve_stmt-returns-in_err-declared-in-Local-clause-it : goal.resolve_stmt-returns-in_err-declared-in-Local-clause-it
 resolve_stmt-returns-in_err-declared-in-Local-clause-it t c =
@@ -87,25 +90,26 @@ resolve_stmt-returns-in_err-test-in-While-clause-it t c =
     let p = err_from_is_err_and c.from_residual-in_err-test-in-While.result c.from_residual-in_err-test-in-While.ensures.1 in
     rw (p.1, p.2)
     (fails_as c.in_err-test-in-While.field-0.0 _ _ (ap (λ x. stmt (tables_seen c.args.scope.now.tables.now) (standing_seen c.args.scope.now) x (around_seen c.args.around.now) c.args.body.now.locals (counted_seen c.args.body.now)) (shapes.shape-While c.args.stmt.now c.in-While.label c.in-While.test c.in-While.inner c.in-While.is))
-    (steps.while_test_fails (tables_seen c.args.scope.now.tables.now) (standing_seen c.args.scope.now) (around_seen c.args.around.now) c.args.body.now.locals (counted_seen c.args.body.now) c.args.stmt.now.place c.in-While.label (source.expr_of c.in-While.test) (source.stmt_of c.in-While.inner.value) c.in_err-test-in-While.field-0.0 c.in_err-test-in-While.ensures))
+    (steps.while_test_fails (tables_seen c.args.scope.now.tables.now) (standing_seen c.args.scope.now) (around_seen c.args.around.now) c.args.body.now.locals (counted_seen c.args.body.now) c.args.stmt.now.place c.in-While.label (source.expr_of c.in-While.test) (source.stmt_of c.in-While.inner.value) c.in_err-test-in-While.field-0.0
+    (fails_as c.in_err-test-in-While.field-0.0 _ _ (ap (λ ls. resolved (tables_seen c.args.scope.now.tables.now) (standing_seen c.args.scope.now) ls (source.expr_of c.in-While.test)) (sym (c.in_ok-inner-in-While.ensures.locals ∙ c.in_ok-number-in-While.ensures.locals))) c.in_err-test-in-While.ensures)))
 
 pub resolve_stmt-returns-in_err-inner-in-While-clause-it : goal.resolve_stmt-returns-in_err-inner-in-While-clause-it
 resolve_stmt-returns-in_err-inner-in-While-clause-it t c =
     let p = err_from_is_err_and c.from_residual-in_err-inner-in-While.result c.from_residual-in_err-inner-in-While.ensures.1 in
     rw (p.1, p.2)
     (fails_as c.in_err-inner-in-While.field-0.0 _ _ (ap (λ x. stmt (tables_seen c.args.scope.now.tables.now) (standing_seen c.args.scope.now) x (around_seen c.args.around.now) c.args.body.now.locals (counted_seen c.args.body.now)) (shapes.shape-While c.args.stmt.now c.in-While.label c.in-While.test c.in-While.inner c.in-While.is))
-    (steps.while_fails (tables_seen c.args.scope.now.tables.now) (standing_seen c.args.scope.now) (around_seen c.args.around.now) c.args.body.now.locals (counted_seen c.args.body.now) c.args.stmt.now.place c.in-While.label (source.expr_of c.in-While.test) (source.stmt_of c.in-While.inner.value) c.in_err-inner-in-While.field-0.0 (resolved_seen c.in_ok-test-in-While.test) c.in_ok-test-in-While.ensures
+    (steps.while_fails (tables_seen c.args.scope.now.tables.now) (standing_seen c.args.scope.now) (around_seen c.args.around.now) c.args.body.now.locals (counted_seen c.args.body.now) c.args.stmt.now.place c.in-While.label (source.expr_of c.in-While.test) (source.stmt_of c.in-While.inner.value) c.in_err-inner-in-While.field-0.0
     (fails_as c.in_err-inner-in-While.field-0.0 _ _ (steps.within_as (tables_seen c.args.scope.now.tables.now) (standing_seen c.args.scope.now) (around_seen c.args.around.now) c.args.body.now.locals (counted_seen c.args.body.now) c.args.stmt.now.place c.in-While.label (source.expr_of c.in-While.test) (source.stmt_of c.in-While.inner.value) (option_map (λ l. l.now) c.label_of.result) c.in_ok-number-in-While.number c.add_loop.new.self.locals (counted_seen c.add_loop.new.self) c.label_of.ensures (c.in_ok-number-in-While.ensures.number ∙ sym (length-map c.args.body.now.loops.items loop_of)) c.in_ok-number-in-While.ensures.locals c.in_ok-number-in-While.ensures.added
     ∙ ap (λ y. stmt (tables_seen c.args.scope.now.tables.now) (standing_seen c.args.scope.now) (source.stmt_of y) (InLoop (option_map (λ l. l.now) c.label_of.result) c.in_ok-number-in-While.number ∷ (around_seen c.args.around.now)) c.add_loop.new.self.locals (counted_seen c.add_loop.new.self)) (sym c.deref-in-While.ensures)) c.in_err-inner-in-While.ensures.it)))
 
-pub resolve_stmt-returns-in_ok-while_loop-in-While-clause-it : goal.resolve_stmt-returns-in_ok-while_loop-in-While-clause-it
-resolve_stmt-returns-in_ok-while_loop-in-While-clause-it t c =
+pub resolve_stmt-returns-in_ok-test-in-While-clause-it : goal.resolve_stmt-returns-in_ok-test-in-While-clause-it
+resolve_stmt-returns-in_ok-test-in-While-clause-it t c =
     ap (λ x. stmt (tables_seen c.args.scope.now.tables.now) (standing_seen c.args.scope.now) x (around_seen c.args.around.now) c.args.body.now.locals (counted_seen c.args.body.now)) (shapes.shape-While c.args.stmt.now c.in-While.label c.in-While.test c.in-While.inner c.in-While.is)
-    ∙ steps.while_made (tables_seen c.args.scope.now.tables.now) (standing_seen c.args.scope.now) (around_seen c.args.around.now) c.args.body.now.locals (counted_seen c.args.body.now) c.args.stmt.now.place c.in-While.label (source.expr_of c.in-While.test) (source.stmt_of c.in-While.inner.value) (resolved_seen c.in_ok-test-in-While.test) (counting (stmt_of c.in_ok-inner-in-While.inner) (counted_seen c.resolve_stmt-in-While.new.body)) c.in_ok-number-in-While.number (stmt_of c.in_ok-while_loop-in-While.field-0)
-    c.in_ok-test-in-While.ensures
+    ∙ steps.while_made (tables_seen c.args.scope.now.tables.now) (standing_seen c.args.scope.now) (around_seen c.args.around.now) c.args.body.now.locals (counted_seen c.args.body.now) c.args.stmt.now.place c.in-While.label (source.expr_of c.in-While.test) (source.stmt_of c.in-While.inner.value) (resolved_seen c.in_ok-test-in-While.test) (counting (stmt_of c.in_ok-inner-in-While.inner.value) (counted_seen c.resolve_inner-in-While.new.body)) c.in_ok-number-in-While.number (stmt_of c.stmt_at-in-While.result)
+    (ap (λ ls. resolved (tables_seen c.args.scope.now.tables.now) (standing_seen c.args.scope.now) ls (source.expr_of c.in-While.test)) (sym (c.in_ok-inner-in-While.ensures.locals ∙ c.in_ok-number-in-While.ensures.locals)) ∙ c.in_ok-test-in-While.ensures)
     (steps.within_as (tables_seen c.args.scope.now.tables.now) (standing_seen c.args.scope.now) (around_seen c.args.around.now) c.args.body.now.locals (counted_seen c.args.body.now) c.args.stmt.now.place c.in-While.label (source.expr_of c.in-While.test) (source.stmt_of c.in-While.inner.value) (option_map (λ l. l.now) c.label_of.result) c.in_ok-number-in-While.number c.add_loop.new.self.locals (counted_seen c.add_loop.new.self) c.label_of.ensures (c.in_ok-number-in-While.ensures.number ∙ sym (length-map c.args.body.now.loops.items loop_of)) c.in_ok-number-in-While.ensures.locals c.in_ok-number-in-While.ensures.added
     ∙ ap (λ y. stmt (tables_seen c.args.scope.now.tables.now) (standing_seen c.args.scope.now) (source.stmt_of y) (InLoop (option_map (λ l. l.now) c.label_of.result) c.in_ok-number-in-While.number ∷ (around_seen c.args.around.now)) c.add_loop.new.self.locals (counted_seen c.add_loop.new.self)) (sym c.deref-in-While.ensures) ∙ c.in_ok-inner-in-While.ensures.it)
-    (c.in_ok-number-in-While.ensures.number ∙ sym (length-map c.args.body.now.loops.items loop_of)) c.in_ok-while_loop-in-While.ensures
+    (c.in_ok-number-in-While.ensures.number ∙ sym (length-map c.args.body.now.loops.items loop_of)) (c.stmt_at-in-While.ensures ∙ laws.stmt-While c.in_ok-number-in-While.number c.in_ok-test-in-While.test.expr c.in_ok-inner-in-While.inner c.args.stmt.now.place)
 
 pub resolve_stmt-returns-in_err-inner-in-Do-clause-it : goal.resolve_stmt-returns-in_err-inner-in-Do-clause-it
 resolve_stmt-returns-in_err-inner-in-Do-clause-it t c =
@@ -121,18 +125,19 @@ resolve_stmt-returns-in_err-test-in-Do-clause-it t c =
     let p = err_from_is_err_and c.from_residual-in_err-test-in-Do.result c.from_residual-in_err-test-in-Do.ensures.1 in
     rw (p.1, p.2)
     (fails_as c.in_err-test-in-Do.field-0.0 _ _ (ap (λ x. stmt (tables_seen c.args.scope.now.tables.now) (standing_seen c.args.scope.now) x (around_seen c.args.around.now) c.args.body.now.locals (counted_seen c.args.body.now)) (shapes.shape-Do c.args.stmt.now c.in-Do.label c.in-Do.inner c.in-Do.test c.in-Do.is))
-    (steps.do_test_fails (tables_seen c.args.scope.now.tables.now) (standing_seen c.args.scope.now) (around_seen c.args.around.now) c.args.body.now.locals (counted_seen c.args.body.now) c.args.stmt.now.place c.in-Do.label (source.expr_of c.in-Do.test) (source.stmt_of c.in-Do.inner.value) c.in_err-test-in-Do.field-0.0 (counting (stmt_of c.in_ok-inner-in-Do.inner) (counted_seen c.resolve_stmt-in-Do.new.body)) (steps.within_as (tables_seen c.args.scope.now.tables.now) (standing_seen c.args.scope.now) (around_seen c.args.around.now) c.args.body.now.locals (counted_seen c.args.body.now) c.args.stmt.now.place c.in-Do.label (source.expr_of c.in-Do.test) (source.stmt_of c.in-Do.inner.value) (option_map (λ l. l.now) c.label_of-in-Do.result) c.in_ok-number-in-Do.number c.add_loop-in-Do.new.self.locals (counted_seen c.add_loop-in-Do.new.self) c.label_of-in-Do.ensures (c.in_ok-number-in-Do.ensures.number ∙ sym (length-map c.args.body.now.loops.items loop_of)) c.in_ok-number-in-Do.ensures.locals c.in_ok-number-in-Do.ensures.added
+    (steps.do_test_fails (tables_seen c.args.scope.now.tables.now) (standing_seen c.args.scope.now) (around_seen c.args.around.now) c.args.body.now.locals (counted_seen c.args.body.now) c.args.stmt.now.place c.in-Do.label (source.expr_of c.in-Do.test) (source.stmt_of c.in-Do.inner.value) c.in_err-test-in-Do.field-0.0 (counting (stmt_of c.in_ok-inner-in-Do.inner.value) (counted_seen c.resolve_inner-in-Do.new.body))
+    (steps.within_as (tables_seen c.args.scope.now.tables.now) (standing_seen c.args.scope.now) (around_seen c.args.around.now) c.args.body.now.locals (counted_seen c.args.body.now) c.args.stmt.now.place c.in-Do.label (source.expr_of c.in-Do.test) (source.stmt_of c.in-Do.inner.value) (option_map (λ l. l.now) c.label_of-in-Do.result) c.in_ok-number-in-Do.number c.add_loop-in-Do.new.self.locals (counted_seen c.add_loop-in-Do.new.self) c.label_of-in-Do.ensures (c.in_ok-number-in-Do.ensures.number ∙ sym (length-map c.args.body.now.loops.items loop_of)) c.in_ok-number-in-Do.ensures.locals c.in_ok-number-in-Do.ensures.added
     ∙ ap (λ y. stmt (tables_seen c.args.scope.now.tables.now) (standing_seen c.args.scope.now) (source.stmt_of y) (InLoop (option_map (λ l. l.now) c.label_of-in-Do.result) c.in_ok-number-in-Do.number ∷ (around_seen c.args.around.now)) c.add_loop-in-Do.new.self.locals (counted_seen c.add_loop-in-Do.new.self)) (sym c.deref-in-Do.ensures) ∙ c.in_ok-inner-in-Do.ensures.it)
     (fails_as c.in_err-test-in-Do.field-0.0 _ _ (ap (λ ls. resolved (tables_seen c.args.scope.now.tables.now) (standing_seen c.args.scope.now) ls (source.expr_of c.in-Do.test)) (sym (c.in_ok-inner-in-Do.ensures.locals ∙ c.in_ok-number-in-Do.ensures.locals))) c.in_err-test-in-Do.ensures)))
 
-pub resolve_stmt-returns-in_ok-do_loop-in-Do-clause-it : goal.resolve_stmt-returns-in_ok-do_loop-in-Do-clause-it
-resolve_stmt-returns-in_ok-do_loop-in-Do-clause-it t c =
+pub resolve_stmt-returns-in_ok-test-in-Do-clause-it : goal.resolve_stmt-returns-in_ok-test-in-Do-clause-it
+resolve_stmt-returns-in_ok-test-in-Do-clause-it t c =
     ap (λ x. stmt (tables_seen c.args.scope.now.tables.now) (standing_seen c.args.scope.now) x (around_seen c.args.around.now) c.args.body.now.locals (counted_seen c.args.body.now)) (shapes.shape-Do c.args.stmt.now c.in-Do.label c.in-Do.inner c.in-Do.test c.in-Do.is)
-    ∙ steps.do_made (tables_seen c.args.scope.now.tables.now) (standing_seen c.args.scope.now) (around_seen c.args.around.now) c.args.body.now.locals (counted_seen c.args.body.now) c.args.stmt.now.place c.in-Do.label (source.expr_of c.in-Do.test) (source.stmt_of c.in-Do.inner.value) (resolved_seen c.in_ok-test-in-Do.test) (counting (stmt_of c.in_ok-inner-in-Do.inner) (counted_seen c.resolve_stmt-in-Do.new.body)) c.in_ok-number-in-Do.number (stmt_of c.in_ok-do_loop-in-Do.field-0)
+    ∙ steps.do_made (tables_seen c.args.scope.now.tables.now) (standing_seen c.args.scope.now) (around_seen c.args.around.now) c.args.body.now.locals (counted_seen c.args.body.now) c.args.stmt.now.place c.in-Do.label (source.expr_of c.in-Do.test) (source.stmt_of c.in-Do.inner.value) (resolved_seen c.in_ok-test-in-Do.test) (counting (stmt_of c.in_ok-inner-in-Do.inner.value) (counted_seen c.resolve_inner-in-Do.new.body)) c.in_ok-number-in-Do.number (stmt_of c.stmt_at-in-Do.result)
     (steps.within_as (tables_seen c.args.scope.now.tables.now) (standing_seen c.args.scope.now) (around_seen c.args.around.now) c.args.body.now.locals (counted_seen c.args.body.now) c.args.stmt.now.place c.in-Do.label (source.expr_of c.in-Do.test) (source.stmt_of c.in-Do.inner.value) (option_map (λ l. l.now) c.label_of-in-Do.result) c.in_ok-number-in-Do.number c.add_loop-in-Do.new.self.locals (counted_seen c.add_loop-in-Do.new.self) c.label_of-in-Do.ensures (c.in_ok-number-in-Do.ensures.number ∙ sym (length-map c.args.body.now.loops.items loop_of)) c.in_ok-number-in-Do.ensures.locals c.in_ok-number-in-Do.ensures.added
     ∙ ap (λ y. stmt (tables_seen c.args.scope.now.tables.now) (standing_seen c.args.scope.now) (source.stmt_of y) (InLoop (option_map (λ l. l.now) c.label_of-in-Do.result) c.in_ok-number-in-Do.number ∷ (around_seen c.args.around.now)) c.add_loop-in-Do.new.self.locals (counted_seen c.add_loop-in-Do.new.self)) (sym c.deref-in-Do.ensures) ∙ c.in_ok-inner-in-Do.ensures.it)
     (ap (λ ls. resolved (tables_seen c.args.scope.now.tables.now) (standing_seen c.args.scope.now) ls (source.expr_of c.in-Do.test)) (sym (c.in_ok-inner-in-Do.ensures.locals ∙ c.in_ok-number-in-Do.ensures.locals)) ∙ c.in_ok-test-in-Do.ensures)
-    (c.in_ok-number-in-Do.ensures.number ∙ sym (length-map c.args.body.now.loops.items loop_of)) c.in_ok-do_loop-in-Do.ensures
+    (c.in_ok-number-in-Do.ensures.number ∙ sym (length-map c.args.body.now.loops.items loop_of)) (c.stmt_at-in-Do.ensures ∙ laws.stmt-Do c.in_ok-number-in-Do.number c.in_ok-inner-in-Do.inner c.in_ok-test-in-Do.test.expr c.args.stmt.now.place)
 
 pub resolve_stmt-returns-in_err-value-in-Switch-clause-it : goal.resolve_stmt-returns-in_err-value-in-Switch-clause-it
 resolve_stmt-returns-in_err-value-in-Switch-clause-it t c =
@@ -146,23 +151,24 @@ resolve_stmt-returns-in_err-of-in-Switch-clause-it t c =
     let p = err_from_is_err_and c.from_residual-in_err-of-in-Switch.result c.from_residual-in_err-of-in-Switch.ensures.1 in
     rw (p.1, p.2)
     (fails_as c.in_err-of-in-Switch.field-0.0 _ _ (ap (λ x. stmt (tables_seen c.args.scope.now.tables.now) (standing_seen c.args.scope.now) x (around_seen c.args.around.now) c.args.body.now.locals (counted_seen c.args.body.now)) (shapes.shape-Switch c.args.stmt.now c.in-Switch.value c.in-Switch.groups c.in-Switch.end c.in-Switch.is))
-    (steps.switch_enum_fails (tables_seen c.args.scope.now.tables.now) (standing_seen c.args.scope.now) (around_seen c.args.around.now) c.args.body.now.locals (counted_seen c.args.body.now) c.args.stmt.now.place (source.expr_of c.in-Switch.value) (source.groups_of (map source.group_of c.in-Switch.groups.items)) c.in-Switch.end c.in_err-of-in-Switch.field-0.0 (resolved_seen c.in_ok-value-in-Switch.value) c.in_ok-value-in-Switch.ensures c.in_err-of-in-Switch.ensures))
+    (steps.switch_enum_fails (tables_seen c.args.scope.now.tables.now) (standing_seen c.args.scope.now) (around_seen c.args.around.now) c.args.body.now.locals (counted_seen c.args.body.now) c.args.stmt.now.place (source.expr_of c.in-Switch.value) (source.groups_of (map source.group_of c.in-Switch.groups.items)) c.in-Switch.end c.in_err-of-in-Switch.field-0.0 (operand_seen c.in_ok-value-in-Switch.value) c.in_ok-value-in-Switch.ensures c.in_err-of-in-Switch.ensures))
 
 pub resolve_stmt-returns-in_err-groups-in-Switch-clause-it : goal.resolve_stmt-returns-in_err-groups-in-Switch-clause-it
 resolve_stmt-returns-in_err-groups-in-Switch-clause-it t c =
     let p = err_from_is_err_and c.from_residual-in_err-groups-in-Switch.result c.from_residual-in_err-groups-in-Switch.ensures.1 in
     rw (p.1, p.2)
     (fails_as c.in_err-groups-in-Switch.field-0.0 _ _ (ap (λ x. stmt (tables_seen c.args.scope.now.tables.now) (standing_seen c.args.scope.now) x (around_seen c.args.around.now) c.args.body.now.locals (counted_seen c.args.body.now)) (shapes.shape-Switch c.args.stmt.now c.in-Switch.value c.in-Switch.groups c.in-Switch.end c.in-Switch.is))
-    (steps.switch_fails (tables_seen c.args.scope.now.tables.now) (standing_seen c.args.scope.now) (around_seen c.args.around.now) c.args.body.now.locals (counted_seen c.args.body.now) c.args.stmt.now.place (source.expr_of c.in-Switch.value) (source.groups_of (map source.group_of c.in-Switch.groups.items)) c.in-Switch.end c.in_err-groups-in-Switch.field-0.0 (resolved_seen c.in_ok-value-in-Switch.value) (source.enum_of c.in_ok-of-in-Switch.of.now.of.now) c.in_ok-value-in-Switch.ensures c.in_ok-of-in-Switch.ensures
+    (steps.switch_fails (tables_seen c.args.scope.now.tables.now) (standing_seen c.args.scope.now) (around_seen c.args.around.now) c.args.body.now.locals (counted_seen c.args.body.now) c.args.stmt.now.place (source.expr_of c.in-Switch.value) (source.groups_of (map source.group_of c.in-Switch.groups.items)) c.in-Switch.end c.in_err-groups-in-Switch.field-0.0 (operand_seen c.in_ok-value-in-Switch.value) (source.enum_of c.in_ok-of-in-Switch.of.now.of.now) c.in_ok-value-in-Switch.ensures c.in_ok-of-in-Switch.ensures
     (fails_as c.in_err-groups-in-Switch.field-0.0 _ _ (ap (λ ys. groups (tables_seen c.args.scope.now.tables.now) (standing_seen c.args.scope.now) (source.groups_of (map source.group_of ys)) (source.enum_of c.in_ok-of-in-Switch.of.now.of.now) (InSwitch ∷ (around_seen c.args.around.now)) c.args.body.now.locals (counted_seen c.args.body.now)) (sym c.as_slice-in-Switch.ensures.items)) c.in_err-groups-in-Switch.ensures.it)))
 
 pub resolve_stmt-returns-in_ok-groups-in-Switch-clause-it : goal.resolve_stmt-returns-in_ok-groups-in-Switch-clause-it
 resolve_stmt-returns-in_ok-groups-in-Switch-clause-it t c =
     ap (λ x. stmt (tables_seen c.args.scope.now.tables.now) (standing_seen c.args.scope.now) x (around_seen c.args.around.now) c.args.body.now.locals (counted_seen c.args.body.now)) (shapes.shape-Switch c.args.stmt.now c.in-Switch.value c.in-Switch.groups c.in-Switch.end c.in-Switch.is)
-    ∙ steps.switch_made (tables_seen c.args.scope.now.tables.now) (standing_seen c.args.scope.now) (around_seen c.args.around.now) c.args.body.now.locals (counted_seen c.args.body.now) c.args.stmt.now.place (source.expr_of c.in-Switch.value) (source.groups_of (map source.group_of c.in-Switch.groups.items)) c.in-Switch.end (resolved_seen c.in_ok-value-in-Switch.value) (source.enum_of c.in_ok-of-in-Switch.of.now.of.now) (counting (map group_of c.in_ok-groups-in-Switch.groups.items) (counted_seen c.resolve_groups.new.body)) (stmt_of c.stmt_at-in-Switch.result)
+    ∙ steps.switch_made (tables_seen c.args.scope.now.tables.now) (standing_seen c.args.scope.now) (around_seen c.args.around.now) c.args.body.now.locals (counted_seen c.args.body.now) c.args.stmt.now.place (source.expr_of c.in-Switch.value) (source.groups_of (map source.group_of c.in-Switch.groups.items)) c.in-Switch.end (operand_seen c.in_ok-value-in-Switch.value) (source.enum_of c.in_ok-of-in-Switch.of.now.of.now) (counting (map group_of c.in_ok-groups-in-Switch.groups.items) (counted_seen c.resolve_groups.new.body)) (stmt_of c.stmt_at-in-Switch.result)
     c.in_ok-value-in-Switch.ensures c.in_ok-of-in-Switch.ensures
     (ap (λ ys. groups (tables_seen c.args.scope.now.tables.now) (standing_seen c.args.scope.now) (source.groups_of (map source.group_of ys)) (source.enum_of c.in_ok-of-in-Switch.of.now.of.now) (InSwitch ∷ (around_seen c.args.around.now)) c.args.body.now.locals (counted_seen c.args.body.now)) (sym c.as_slice-in-Switch.ensures.items) ∙ c.in_ok-groups-in-Switch.ensures.it)
-    (c.stmt_at-in-Switch.ensures ∙ laws.stmt-Switch c.in_ok-value-in-Switch.value.expr c.in_ok-groups-in-Switch.groups c.in-Switch.end c.args.stmt.now.place)
+    (c.stmt_at-in-Switch.ensures ∙ laws.stmt-Switch c.into_inner.result c.in_ok-groups-in-Switch.groups c.in-Switch.end c.args.stmt.now.place
+    ∙ ap (λ e. Core.Switch c.args.stmt.now.place (expr_of e) (groups_of (map group_of c.in_ok-groups-in-Switch.groups.items)) c.in-Switch.end) c.into_inner.ensures)
 
 pub resolve_stmts-loop-stmt-init : goal.resolve_stmts-loop-stmt-init
 resolve_stmts-loop-stmt-init t c =
@@ -256,35 +262,39 @@ resolve_stmt-returns-in_err-test-in-None-clause-it t c =
     let p = err_from_is_err_and c.from_residual-in_err-test-in-None.result c.from_residual-in_err-test-in-None.ensures.1 in
     rw (p.1, p.2)
     (fails_as c.in_err-test-in-None.field-0.0 _ _ (ap (λ x. stmt (tables_seen c.args.scope.now.tables.now) (standing_seen c.args.scope.now) x (around_seen c.args.around.now) c.args.body.now.locals (counted_seen c.args.body.now)) (shapes.shape-If c.args.stmt.now c.in-If.test c.in-If.then (c.in-If.is ∙ ap (kinds.If c.in-If.test c.in-If.then) c.in-None.is)))
-    (steps.if_test_fails (tables_seen c.args.scope.now.tables.now) (standing_seen c.args.scope.now) (around_seen c.args.around.now) c.args.body.now.locals (counted_seen c.args.body.now) c.args.stmt.now.place (source.expr_of c.in-If.test) (source.stmt_of c.in-If.then.value) c.in_err-test-in-None.field-0.0 c.in_err-test-in-None.ensures))
+    (steps.if_test_fails (tables_seen c.args.scope.now.tables.now) (standing_seen c.args.scope.now) (around_seen c.args.around.now) c.args.body.now.locals (counted_seen c.args.body.now) c.args.stmt.now.place (source.expr_of c.in-If.test) (source.stmt_of c.in-If.then.value) c.in_err-test-in-None.field-0.0
+    (fails_as c.in_err-test-in-None.field-0.0 _ _ (ap (λ ls. resolved (tables_seen c.args.scope.now.tables.now) (standing_seen c.args.scope.now) ls (source.expr_of c.in-If.test)) (sym c.in_ok-then-in-None.ensures.locals)) c.in_err-test-in-None.ensures)))
 
 pub resolve_stmt-returns-in_err-then-in-None-clause-it : goal.resolve_stmt-returns-in_err-then-in-None-clause-it
 resolve_stmt-returns-in_err-then-in-None-clause-it t c =
     let p = err_from_is_err_and c.from_residual-in_err-then-in-None.result c.from_residual-in_err-then-in-None.ensures.1 in
     rw (p.1, p.2)
     (fails_as c.in_err-then-in-None.field-0.0 _ _ (ap (λ x. stmt (tables_seen c.args.scope.now.tables.now) (standing_seen c.args.scope.now) x (around_seen c.args.around.now) c.args.body.now.locals (counted_seen c.args.body.now)) (shapes.shape-If c.args.stmt.now c.in-If.test c.in-If.then (c.in-If.is ∙ ap (kinds.If c.in-If.test c.in-If.then) c.in-None.is)))
-    (steps.if_fails (tables_seen c.args.scope.now.tables.now) (standing_seen c.args.scope.now) (around_seen c.args.around.now) c.args.body.now.locals (counted_seen c.args.body.now) c.args.stmt.now.place (source.expr_of c.in-If.test) (source.stmt_of c.in-If.then.value) c.in_err-then-in-None.field-0.0 (resolved_seen c.in_ok-test-in-None.test) c.in_ok-test-in-None.ensures
+    (steps.if_fails (tables_seen c.args.scope.now.tables.now) (standing_seen c.args.scope.now) (around_seen c.args.around.now) c.args.body.now.locals (counted_seen c.args.body.now) c.args.stmt.now.place (source.expr_of c.in-If.test) (source.stmt_of c.in-If.then.value) c.in_err-then-in-None.field-0.0
     (fails_as c.in_err-then-in-None.field-0.0 _ _ (ap (λ y. stmt (tables_seen c.args.scope.now.tables.now) (standing_seen c.args.scope.now) (source.stmt_of y) (around_seen c.args.around.now) c.args.body.now.locals (counted_seen c.args.body.now)) (sym c.deref.ensures)) c.in_err-then-in-None.ensures.it)))
 
-pub resolve_stmt-returns-in_ok-if_then-in-None-clause-it : goal.resolve_stmt-returns-in_ok-if_then-in-None-clause-it
-resolve_stmt-returns-in_ok-if_then-in-None-clause-it t c =
+pub resolve_stmt-returns-in_ok-test-in-None-clause-it : goal.resolve_stmt-returns-in_ok-test-in-None-clause-it
+resolve_stmt-returns-in_ok-test-in-None-clause-it t c =
     ap (λ x. stmt (tables_seen c.args.scope.now.tables.now) (standing_seen c.args.scope.now) x (around_seen c.args.around.now) c.args.body.now.locals (counted_seen c.args.body.now)) (shapes.shape-If c.args.stmt.now c.in-If.test c.in-If.then (c.in-If.is ∙ ap (kinds.If c.in-If.test c.in-If.then) c.in-None.is))
-    ∙ steps.if_made (tables_seen c.args.scope.now.tables.now) (standing_seen c.args.scope.now) (around_seen c.args.around.now) c.args.body.now.locals (counted_seen c.args.body.now) c.args.stmt.now.place (source.expr_of c.in-If.test) (source.stmt_of c.in-If.then.value) (resolved_seen c.in_ok-test-in-None.test) (counting (stmt_of c.in_ok-then-in-None.then) (counted_seen c.resolve_stmt.new.body)) (stmt_of c.in_ok-if_then-in-None.field-0)
-    c.in_ok-test-in-None.ensures (ap (λ y. stmt (tables_seen c.args.scope.now.tables.now) (standing_seen c.args.scope.now) (source.stmt_of y) (around_seen c.args.around.now) c.args.body.now.locals (counted_seen c.args.body.now)) (sym c.deref.ensures) ∙ c.in_ok-then-in-None.ensures.it) c.in_ok-if_then-in-None.ensures
+    ∙ steps.if_made (tables_seen c.args.scope.now.tables.now) (standing_seen c.args.scope.now) (around_seen c.args.around.now) c.args.body.now.locals (counted_seen c.args.body.now) c.args.stmt.now.place (source.expr_of c.in-If.test) (source.stmt_of c.in-If.then.value) (resolved_seen c.in_ok-test-in-None.test) (counting (stmt_of c.in_ok-then-in-None.then.value) (counted_seen c.resolve_inner.new.body)) (stmt_of c.stmt_at-in-None.result)
+    (ap (λ ls. resolved (tables_seen c.args.scope.now.tables.now) (standing_seen c.args.scope.now) ls (source.expr_of c.in-If.test)) (sym c.in_ok-then-in-None.ensures.locals) ∙ c.in_ok-test-in-None.ensures)
+    (ap (λ y. stmt (tables_seen c.args.scope.now.tables.now) (standing_seen c.args.scope.now) (source.stmt_of y) (around_seen c.args.around.now) c.args.body.now.locals (counted_seen c.args.body.now)) (sym c.deref.ensures) ∙ c.in_ok-then-in-None.ensures.it)
+    (c.stmt_at-in-None.ensures ∙ laws.stmt-If-None c.in_ok-test-in-None.test.expr c.in_ok-then-in-None.then c.args.stmt.now.place)
 
 pub resolve_stmt-returns-in_err-test-in-Some-clause-it : goal.resolve_stmt-returns-in_err-test-in-Some-clause-it
 resolve_stmt-returns-in_err-test-in-Some-clause-it t c =
     let p = err_from_is_err_and c.from_residual-in_err-test-in-Some.result c.from_residual-in_err-test-in-Some.ensures.1 in
     rw (p.1, p.2)
     (fails_as c.in_err-test-in-Some.field-0.0 _ _ (ap (λ x. stmt (tables_seen c.args.scope.now.tables.now) (standing_seen c.args.scope.now) x (around_seen c.args.around.now) c.args.body.now.locals (counted_seen c.args.body.now)) (shapes.shape-IfElse c.args.stmt.now c.in-If.test c.in-If.then c.in-Some.otherwise (c.in-If.is ∙ ap (kinds.If c.in-If.test c.in-If.then) c.in-Some.is)))
-    (steps.else_test_fails (tables_seen c.args.scope.now.tables.now) (standing_seen c.args.scope.now) (around_seen c.args.around.now) c.args.body.now.locals (counted_seen c.args.body.now) c.args.stmt.now.place (source.expr_of c.in-If.test) (source.stmt_of c.in-If.then.value) (source.stmt_of c.in-Some.otherwise.value) c.in_err-test-in-Some.field-0.0 c.in_err-test-in-Some.ensures))
+    (steps.else_test_fails (tables_seen c.args.scope.now.tables.now) (standing_seen c.args.scope.now) (around_seen c.args.around.now) c.args.body.now.locals (counted_seen c.args.body.now) c.args.stmt.now.place (source.expr_of c.in-If.test) (source.stmt_of c.in-If.then.value) (source.stmt_of c.in-Some.otherwise.value) c.in_err-test-in-Some.field-0.0
+    (fails_as c.in_err-test-in-Some.field-0.0 _ _ (ap (λ ls. resolved (tables_seen c.args.scope.now.tables.now) (standing_seen c.args.scope.now) ls (source.expr_of c.in-If.test)) (sym (c.in_ok-otherwise-in-Some.ensures.locals ∙ c.in_ok-then-in-Some.ensures.locals))) c.in_err-test-in-Some.ensures)))
 
 pub resolve_stmt-returns-in_err-then-in-Some-clause-it : goal.resolve_stmt-returns-in_err-then-in-Some-clause-it
 resolve_stmt-returns-in_err-then-in-Some-clause-it t c =
     let p = err_from_is_err_and c.from_residual-in_err-then-in-Some.result c.from_residual-in_err-then-in-Some.ensures.1 in
     rw (p.1, p.2)
     (fails_as c.in_err-then-in-Some.field-0.0 _ _ (ap (λ x. stmt (tables_seen c.args.scope.now.tables.now) (standing_seen c.args.scope.now) x (around_seen c.args.around.now) c.args.body.now.locals (counted_seen c.args.body.now)) (shapes.shape-IfElse c.args.stmt.now c.in-If.test c.in-If.then c.in-Some.otherwise (c.in-If.is ∙ ap (kinds.If c.in-If.test c.in-If.then) c.in-Some.is)))
-    (steps.else_first_fails (tables_seen c.args.scope.now.tables.now) (standing_seen c.args.scope.now) (around_seen c.args.around.now) c.args.body.now.locals (counted_seen c.args.body.now) c.args.stmt.now.place (source.expr_of c.in-If.test) (source.stmt_of c.in-If.then.value) (source.stmt_of c.in-Some.otherwise.value) c.in_err-then-in-Some.field-0.0 (resolved_seen c.in_ok-test-in-Some.test) c.in_ok-test-in-Some.ensures
+    (steps.else_first_fails (tables_seen c.args.scope.now.tables.now) (standing_seen c.args.scope.now) (around_seen c.args.around.now) c.args.body.now.locals (counted_seen c.args.body.now) c.args.stmt.now.place (source.expr_of c.in-If.test) (source.stmt_of c.in-If.then.value) (source.stmt_of c.in-Some.otherwise.value) c.in_err-then-in-Some.field-0.0
     (fails_as c.in_err-then-in-Some.field-0.0 _ _ (ap (λ y. stmt (tables_seen c.args.scope.now.tables.now) (standing_seen c.args.scope.now) (source.stmt_of y) (around_seen c.args.around.now) c.args.body.now.locals (counted_seen c.args.body.now)) (sym c.deref-in-Some.ensures)) c.in_err-then-in-Some.ensures.it)))
 
 pub resolve_stmt-returns-in_err-otherwise-in-Some-clause-it : goal.resolve_stmt-returns-in_err-otherwise-in-Some-clause-it
@@ -292,13 +302,68 @@ resolve_stmt-returns-in_err-otherwise-in-Some-clause-it t c =
     let p = err_from_is_err_and c.from_residual-in_err-otherwise-in-Some.result c.from_residual-in_err-otherwise-in-Some.ensures.1 in
     rw (p.1, p.2)
     (fails_as c.in_err-otherwise-in-Some.field-0.0 _ _ (ap (λ x. stmt (tables_seen c.args.scope.now.tables.now) (standing_seen c.args.scope.now) x (around_seen c.args.around.now) c.args.body.now.locals (counted_seen c.args.body.now)) (shapes.shape-IfElse c.args.stmt.now c.in-If.test c.in-If.then c.in-Some.otherwise (c.in-If.is ∙ ap (kinds.If c.in-If.test c.in-If.then) c.in-Some.is)))
-    (steps.else_fails (tables_seen c.args.scope.now.tables.now) (standing_seen c.args.scope.now) (around_seen c.args.around.now) c.args.body.now.locals (counted_seen c.args.body.now) c.args.stmt.now.place (source.expr_of c.in-If.test) (source.stmt_of c.in-If.then.value) (source.stmt_of c.in-Some.otherwise.value) c.in_err-otherwise-in-Some.field-0.0 (resolved_seen c.in_ok-test-in-Some.test) (counting (stmt_of c.in_ok-then-in-Some.then) (counted_seen c.resolve_stmt-in-Some.new.body)) c.in_ok-test-in-Some.ensures
+    (steps.else_fails (tables_seen c.args.scope.now.tables.now) (standing_seen c.args.scope.now) (around_seen c.args.around.now) c.args.body.now.locals (counted_seen c.args.body.now) c.args.stmt.now.place (source.expr_of c.in-If.test) (source.stmt_of c.in-If.then.value) (source.stmt_of c.in-Some.otherwise.value) c.in_err-otherwise-in-Some.field-0.0 (counting (stmt_of c.in_ok-then-in-Some.then.value) (counted_seen c.resolve_inner-in-Some.new.body))
     (ap (λ y. stmt (tables_seen c.args.scope.now.tables.now) (standing_seen c.args.scope.now) (source.stmt_of y) (around_seen c.args.around.now) c.args.body.now.locals (counted_seen c.args.body.now)) (sym c.deref-in-Some.ensures) ∙ c.in_ok-then-in-Some.ensures.it)
-    (fails_as c.in_err-otherwise-in-Some.field-0.0 _ _ (ap (λ ls. stmt (tables_seen c.args.scope.now.tables.now) (standing_seen c.args.scope.now) (source.stmt_of c.in-Some.otherwise.value) (around_seen c.args.around.now) ls (counted_seen c.resolve_stmt-in-Some.new.body)) (sym c.in_ok-then-in-Some.ensures.locals) ∙ ap (λ y. stmt (tables_seen c.args.scope.now.tables.now) (standing_seen c.args.scope.now) (source.stmt_of y) (around_seen c.args.around.now) c.resolve_stmt-in-Some.new.body.locals (counted_seen c.resolve_stmt-in-Some.new.body)) (sym c.deref-in-Some-2.ensures)) c.in_err-otherwise-in-Some.ensures.it)))
+    (fails_as c.in_err-otherwise-in-Some.field-0.0 _ _ (ap (λ ls. stmt (tables_seen c.args.scope.now.tables.now) (standing_seen c.args.scope.now) (source.stmt_of c.in-Some.otherwise.value) (around_seen c.args.around.now) ls (counted_seen c.resolve_inner-in-Some.new.body)) (sym c.in_ok-then-in-Some.ensures.locals) ∙ ap (λ y. stmt (tables_seen c.args.scope.now.tables.now) (standing_seen c.args.scope.now) (source.stmt_of y) (around_seen c.args.around.now) c.resolve_inner-in-Some.new.body.locals (counted_seen c.resolve_inner-in-Some.new.body)) (sym c.deref-in-Some-2.ensures)) c.in_err-otherwise-in-Some.ensures.it)))
 
-pub resolve_stmt-returns-in_ok-if_else-in-Some-clause-it : goal.resolve_stmt-returns-in_ok-if_else-in-Some-clause-it
-resolve_stmt-returns-in_ok-if_else-in-Some-clause-it t c =
+pub resolve_stmt-returns-in_ok-test-in-Some-clause-it : goal.resolve_stmt-returns-in_ok-test-in-Some-clause-it
+resolve_stmt-returns-in_ok-test-in-Some-clause-it t c =
     ap (λ x. stmt (tables_seen c.args.scope.now.tables.now) (standing_seen c.args.scope.now) x (around_seen c.args.around.now) c.args.body.now.locals (counted_seen c.args.body.now)) (shapes.shape-IfElse c.args.stmt.now c.in-If.test c.in-If.then c.in-Some.otherwise (c.in-If.is ∙ ap (kinds.If c.in-If.test c.in-If.then) c.in-Some.is))
-    ∙ steps.else_made (tables_seen c.args.scope.now.tables.now) (standing_seen c.args.scope.now) (around_seen c.args.around.now) c.args.body.now.locals (counted_seen c.args.body.now) c.args.stmt.now.place (source.expr_of c.in-If.test) (source.stmt_of c.in-If.then.value) (source.stmt_of c.in-Some.otherwise.value) (resolved_seen c.in_ok-test-in-Some.test) (counting (stmt_of c.in_ok-then-in-Some.then) (counted_seen c.resolve_stmt-in-Some.new.body)) (counting (stmt_of c.in_ok-otherwise-in-Some.otherwise) (counted_seen c.resolve_stmt-in-Some-2.new.body)) (stmt_of c.in_ok-if_else-in-Some.field-0)
-    c.in_ok-test-in-Some.ensures (ap (λ y. stmt (tables_seen c.args.scope.now.tables.now) (standing_seen c.args.scope.now) (source.stmt_of y) (around_seen c.args.around.now) c.args.body.now.locals (counted_seen c.args.body.now)) (sym c.deref-in-Some.ensures) ∙ c.in_ok-then-in-Some.ensures.it)
-    (ap (λ ls. stmt (tables_seen c.args.scope.now.tables.now) (standing_seen c.args.scope.now) (source.stmt_of c.in-Some.otherwise.value) (around_seen c.args.around.now) ls (counted_seen c.resolve_stmt-in-Some.new.body)) (sym c.in_ok-then-in-Some.ensures.locals) ∙ ap (λ y. stmt (tables_seen c.args.scope.now.tables.now) (standing_seen c.args.scope.now) (source.stmt_of y) (around_seen c.args.around.now) c.resolve_stmt-in-Some.new.body.locals (counted_seen c.resolve_stmt-in-Some.new.body)) (sym c.deref-in-Some-2.ensures) ∙ c.in_ok-otherwise-in-Some.ensures.it) c.in_ok-if_else-in-Some.ensures
+    ∙ steps.else_made (tables_seen c.args.scope.now.tables.now) (standing_seen c.args.scope.now) (around_seen c.args.around.now) c.args.body.now.locals (counted_seen c.args.body.now) c.args.stmt.now.place (source.expr_of c.in-If.test) (source.stmt_of c.in-If.then.value) (source.stmt_of c.in-Some.otherwise.value) (resolved_seen c.in_ok-test-in-Some.test) (counting (stmt_of c.in_ok-then-in-Some.then.value) (counted_seen c.resolve_inner-in-Some.new.body)) (counting (stmt_of c.in_ok-otherwise-in-Some.otherwise.value) (counted_seen c.resolve_inner-in-Some-2.new.body)) (stmt_of c.stmt_at-in-Some.result)
+    (ap (λ ls. resolved (tables_seen c.args.scope.now.tables.now) (standing_seen c.args.scope.now) ls (source.expr_of c.in-If.test)) (sym (c.in_ok-otherwise-in-Some.ensures.locals ∙ c.in_ok-then-in-Some.ensures.locals)) ∙ c.in_ok-test-in-Some.ensures)
+    (ap (λ y. stmt (tables_seen c.args.scope.now.tables.now) (standing_seen c.args.scope.now) (source.stmt_of y) (around_seen c.args.around.now) c.args.body.now.locals (counted_seen c.args.body.now)) (sym c.deref-in-Some.ensures) ∙ c.in_ok-then-in-Some.ensures.it)
+    (ap (λ ls. stmt (tables_seen c.args.scope.now.tables.now) (standing_seen c.args.scope.now) (source.stmt_of c.in-Some.otherwise.value) (around_seen c.args.around.now) ls (counted_seen c.resolve_inner-in-Some.new.body)) (sym c.in_ok-then-in-Some.ensures.locals) ∙ ap (λ y. stmt (tables_seen c.args.scope.now.tables.now) (standing_seen c.args.scope.now) (source.stmt_of y) (around_seen c.args.around.now) c.resolve_inner-in-Some.new.body.locals (counted_seen c.resolve_inner-in-Some.new.body)) (sym c.deref-in-Some-2.ensures) ∙ c.in_ok-otherwise-in-Some.ensures.it)
+    (c.stmt_at-in-Some.ensures ∙ laws.stmt-If-Some c.in_ok-test-in-Some.test.expr c.in_ok-then-in-Some.then c.in_ok-otherwise-in-Some.otherwise c.args.stmt.now.place)
+
+pub resolve_inner-returns-in_err-resolved-clause-it : goal.resolve_inner-returns-in_err-resolved-clause-it
+resolve_inner-returns-in_err-resolved-clause-it t c =
+    let p = err_from_is_err_and c.from_residual.result c.from_residual.ensures.1 in
+    rw (p.1, p.2) c.in_err-resolved.ensures.it
+
+pub resolve_inner-returns-clause-it : goal.resolve_inner-returns-clause-it
+resolve_inner-returns-clause-it t c = c.in_ok-resolved.ensures.it ∙ ap (λ y. Some (counting (stmt_of y) (counted_seen c.resolve_stmt.new.body))) (sym c.in_ok-boxed.ensures)
+
+pub resolve_inner-returns-clause-locals : goal.resolve_inner-returns-clause-locals
+resolve_inner-returns-clause-locals t c = c.in_ok-resolved.ensures.locals
+
+pub resolve_stmt-returns-in_ok-inner-in-Block-clause-locals : goal.resolve_stmt-returns-in_ok-inner-in-Block-clause-locals
+resolve_stmt-returns-in_ok-inner-in-Block-clause-locals t c = c.in_ok-inner-in-Block.ensures.locals
+
+pub resolve_stmt-returns-in-Empty-clause-locals : goal.resolve_stmt-returns-in-Empty-clause-locals
+resolve_stmt-returns-in-Empty-clause-locals t c = refl
+
+pub resolve_stmt-returns-in_ok-declared-in-Local-clause-locals : goal.resolve_stmt-returns-in_ok-declared-in-Local-clause-locals
+resolve_stmt-returns-in_ok-declared-in-Local-clause-locals t c = c.in_ok-declared-in-Local.ensures.locals
+
+pub resolve_stmt-returns-in_ok-test-in-None-clause-locals : goal.resolve_stmt-returns-in_ok-test-in-None-clause-locals
+resolve_stmt-returns-in_ok-test-in-None-clause-locals t c = c.in_ok-then-in-None.ensures.locals
+
+pub resolve_stmt-returns-in_ok-test-in-Some-clause-locals : goal.resolve_stmt-returns-in_ok-test-in-Some-clause-locals
+resolve_stmt-returns-in_ok-test-in-Some-clause-locals t c = c.in_ok-otherwise-in-Some.ensures.locals ∙ c.in_ok-then-in-Some.ensures.locals
+
+pub resolve_stmt-returns-in_ok-test-in-While-clause-locals : goal.resolve_stmt-returns-in_ok-test-in-While-clause-locals
+resolve_stmt-returns-in_ok-test-in-While-clause-locals t c = c.in_ok-inner-in-While.ensures.locals ∙ c.in_ok-number-in-While.ensures.locals
+
+pub resolve_stmt-returns-in_ok-test-in-Do-clause-locals : goal.resolve_stmt-returns-in_ok-test-in-Do-clause-locals
+resolve_stmt-returns-in_ok-test-in-Do-clause-locals t c = c.in_ok-inner-in-Do.ensures.locals ∙ c.in_ok-number-in-Do.ensures.locals
+
+pub resolve_stmt-returns-in_ok-groups-in-Switch-clause-locals : goal.resolve_stmt-returns-in_ok-groups-in-Switch-clause-locals
+resolve_stmt-returns-in_ok-groups-in-Switch-clause-locals t c = c.in_ok-groups-in-Switch.ensures.locals
+
+pub resolve_stmt-returns-in-Assign-clause-locals : goal.resolve_stmt-returns-in-Assign-clause-locals
+resolve_stmt-returns-in-Assign-clause-locals t c = always_ok c.assigned.result refl
+
+pub resolve_stmt-returns-in-Return-clause-locals : goal.resolve_stmt-returns-in-Return-clause-locals
+resolve_stmt-returns-in-Return-clause-locals t c = always_ok c.returned.result refl
+
+pub resolve_stmt-returns-in-Print-clause-locals : goal.resolve_stmt-returns-in-Print-clause-locals
+resolve_stmt-returns-in-Print-clause-locals t c = always_ok c.printed.result refl
+
+pub resolve_stmt-returns-in-Eval-clause-locals : goal.resolve_stmt-returns-in-Eval-clause-locals
+resolve_stmt-returns-in-Eval-clause-locals t c = always_ok c.evaluated.result refl
+
+pub resolve_stmt-returns-in-Break-clause-locals : goal.resolve_stmt-returns-in-Break-clause-locals
+resolve_stmt-returns-in-Break-clause-locals t c = always_ok c.broken.result refl
+
+pub resolve_stmt-returns-in-Continue-clause-locals : goal.resolve_stmt-returns-in-Continue-clause-locals
+resolve_stmt-returns-in-Continue-clause-locals t c = always_ok c.continued.result refl

@@ -13,6 +13,9 @@ decreases-resolve_stmt l = 8 * goal.size-resolve_stmt l
 abbrev pub decreases-resolve_item : goal.decreases-resolve_item
 decreases-resolve_item l = 8 * goal.size-resolve_item l + 1
 
+abbrev pub decreases-resolve_inner : goal.decreases-resolve_inner
+decreases-resolve_inner l = 8 * goal.size-resolve_inner l + 1
+
 abbrev pub decreases-resolve_stmts : goal.decreases-resolve_stmts
 decreases-resolve_stmts l = 8 * goal.size-resolve_stmts l + 2
 

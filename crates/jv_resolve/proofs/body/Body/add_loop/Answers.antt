@@ -1,7 +1,6 @@
-use Rattle.std.proofs.Common.{◌≡◌, ◌++◌, ◌∷◌, [], List, ap, sym, ◌∙◌}
+use Rattle.std.proofs.Common.{◌++◌, ◌∷◌, [], ap, ◌∙◌}
 use Rattle.std.specs.Prelude.{map}
 use Rattle.std.proofs.lemmas.List.{map_push}
-use Rattle.jv_core.specs.Tree as Core
 use Rattle.jv_core.specs.View.{slot_of, loop_of}
 use Rattle.jv_resolve.proofs.StmtSteps.{with_slots, one_loop}
 use Rattle.jv_resolve.proofs.body.Body.add_loop.Goals as goal
