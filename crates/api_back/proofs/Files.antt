@@ -27,8 +27,8 @@ use Rattle.api_back.proofs.Doings.{IsTold, all_both, does_told}
 use Rattle.api_back.proofs.Methods.{method_fine}
 
 -- a file whose tree can be written, and that has its text
-record IsFineFile (f : ApiText) : Type 0 where
-  written : AllByRecursion IsWrittenDecl f.tree
+pub record IsFineFile (f : ApiText) : Type 0 where
+  pub written : AllByRecursion IsWrittenDecl f.tree
   shallow : depth_of_file f.tree ≤ 200
   text : f.text ≡ layout f.tree
 
@@ -71,7 +71,7 @@ enums_fine p me (d ∷ ds) n h =
 of_each : {X : Type 0} (P : X → Type 0) (xs : List X) (x : X) → AllByRecursion P xs → Contains xs x → P x
 of_each P xs x h c = All-contains P xs x (All-from_recursion P xs h) c
 
-files_fine : (local : LocalTree) (files : List ApiText) → IsValid local → IsApi local files → AllByRecursion IsFineFile files
+pub files_fine : (local : LocalTree) (files : List ApiText) → IsValid local → IsApi local files → AllByRecursion IsFineFile files
 files_fine local files valid api =
     let p : Place = start_of local.file in
     let me : IsRoleName local.me = of_each IsRoleName local.roles local.me valid.written.roles valid.me_listed in

@@ -6,3 +6,4 @@ pub mod Limits
 pub mod Members
 pub mod Whole
 pub mod Programs
+pub mod Few

@@ -35,3 +35,8 @@ pub record HasFewMembers (k : Class) : Type 0 where
 pub record CoresFit : Type 0 where
   pub spelled : (p : Program) → IsCore p → HasPlainNames p → IsHeld p → AllByRecursion HasFewMembers p.classes → IsFirstExcess p None →
       (files : List file.Class) → AreClasses p files → AllByRecursion IsSpelled files
+
+-- No class of a core has too many members where nothing exceeds a limit: no two of their names are the same, and each is a text of its own
+-- in the class's pool.
+pub record CoresAreSmall : Type 0 where
+  pub few : (p : Program) → IsCore p → IsFirstExcess p None → AllByRecursion HasFewMembers p.classes

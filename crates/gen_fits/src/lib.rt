@@ -3,7 +3,7 @@
 #![tactic(auto)]
 
 ghost use Rattle.gen_fits.specs.Files.{CodeFits};
-ghost use Rattle.gen_fits.specs.Spelled.{CoresFit, FilesFit};
+ghost use Rattle.gen_fits.specs.Spelled.{CoresAreSmall, CoresFit, FilesFit};
 
 /// Each instruction that is generated for a method has an operand of its opcode's form, whose numbers
 /// fit, where the method has at most 255 locals; its stack is never deeper than its code is long.
@@ -18,4 +18,10 @@ pub fn code_fits()
 pub fn files_fit()
     ensures spelled { FilesFit }
     ensures cores { CoresFit }
+{}
+
+/// Where nothing exceeds a limit, no class of a core has 65,536 fields or 65,535 methods: the names of
+/// either are apart, and all of them are texts of a pool of at most 65,534 constants.
+pub fn members_are_few()
+    ensures few { CoresAreSmall }
 {}

@@ -1,4 +1,4 @@
-mod Steps
+pub mod Steps
 mod Tabled
 mod Given
 mod Calls

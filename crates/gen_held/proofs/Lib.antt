@@ -1,0 +1,5 @@
+mod Words
+mod Exprs
+mod Stmts
+mod Members
+mod Programs
