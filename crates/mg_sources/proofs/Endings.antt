@@ -8,13 +8,13 @@ use Rattle.std.proofs.lemmas.List.Elements.{All-get_or}
 use Rattle.mg_sources.specs.Files.{Source, source_of, EndsWith, Kind, Scribble, Typestates, Java, suffix_of, IsOf, HaveKinds}
 
 -- what ends with these bytes has something in front of them
-ends_is : (name suffix : List ℕ) → ends_with eqb name suffix ≡ true → EndsWith suffix name
+pub ends_is : (name suffix : List ℕ) → ends_with eqb name suffix ≡ true → EndsWith suffix name
 ends_is name suffix h =
     let k : ℕ = length name - length suffix in
     let tail : suffix ≡ drop k name = (bytes_eq-Decides suffix (drop k name)).0 h in
     (take k name, sym (take-append-drop k name) ∙ ap (λ (z : List ℕ). take k name ++ z) (sym tail))
 
-is_ends : (name suffix : List ℕ) → EndsWith suffix name → ends_with eqb name suffix ≡ true
+pub is_ends : (name suffix : List ℕ) → EndsWith suffix name → ends_with eqb name suffix ≡ true
 is_ends name suffix (front, e) =
     let at : length front ≡ length name - length suffix = omega (arith, ap length e, length-append front suffix) in
     let tail : drop (length name - length suffix) name ≡ suffix =

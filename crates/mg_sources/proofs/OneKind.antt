@@ -74,6 +74,13 @@ module _ (source : Source) where
   excludes part fault (reading.classes is o) (reading.classes answer is' o' said) =
       subst (λ (a : of_java.Answer). IsSaidOfJava a fault) (classes_unique.one_outcome source.number source.bytes answer _ o' o) said
 
+  -- a local protocol is neither a typestate nor classes
+  pub no_states : (typestate : Typestate) → IsOf Scribble source → Reads source (States typestate) → ⊥
+  no_states typestate is (reading.states is' o) = ends_alike Scribble Typestates source is is' (λ e. differ 114 108 e (λ k. absurd (omega (arith, k))))
+
+  pub no_classes : (file : File) → IsOf Scribble source → Reads source (Classes file) → ⊥
+  no_classes file is (reading.classes is' o) = ends_alike Scribble Java source is is' (λ e. differ 114 97 e (λ k. absurd (omega (arith, k))))
+
   same_protocol : (l k : LocalTree) → of_protocols.Protocol l ≡ of_protocols.Protocol k → Protocol l ≡ Protocol k
   same_protocol l k e = cc
 

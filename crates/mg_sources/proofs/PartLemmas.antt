@@ -9,7 +9,8 @@ use Rattle.mg_sources.specs.Sources.{IsRefused}
 use Rattle.mg_sources.specs.declared.part.Part.{Part as KeptPart}
 use Rattle.mg_sources.specs.declared.stop.Stop.{Stop}
 use Rattle.mg_sources.specs.declared.stop.Stop.TheVariants as stops
-use Rattle.mg_sources.specs.inner.Answers.{IsPart, EachSpells, AreParts}
+use Rattle.mg_sources.specs.Parts.{EachSpells, AreParts}
+use Rattle.mg_sources.specs.inner.Answers.{IsPart}
 use Rattle.mg_sources.proofs.OneKind.{excludes}
 
 pub not_refused : (source : Source) (part : Part) (line : List ℕ) → Reads source part → IsRefused source line → ⊥

@@ -22,8 +22,8 @@ use Rattle.mg_sources.specs.declared.part.Part.{Part as KeptPart}
 use Rattle.mg_sources.specs.declared.sources.Sources.{Sources as KeptSources}
 use Rattle.mg_sources.specs.declared.stop.Stop.{Stop}
 use Rattle.mg_sources.specs.declared.stop.Stop.TheVariants as stops
-use Rattle.mg_sources.specs.inner.Answers.{AreParts, AreApart, EachSpells, Make, Appends}
-use Rattle.mg_sources.specs.inner.Parts.{part_of}
+use Rattle.mg_sources.specs.Parts.{AreParts, AreApart, EachSpells, part_of}
+use Rattle.mg_sources.specs.inner.Answers.{Make, Appends}
 use Rattle.mg_sources.proofs.PartLemmas.{none_refused, same_length, sources_length}
 use Rattle.mg_sources.proofs.Together.{spelled_from, not_both, one_program}
 

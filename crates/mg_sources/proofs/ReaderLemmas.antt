@@ -16,6 +16,7 @@ use Rattle.mg_sources.specs.Files.{Source, Scribble, Typestates, Java, IsOf}
 use Rattle.mg_sources.specs.Reading.{IsSaidOfProtocol, IsSaidOfTypestate, IsSaidOfJava}
 use Rattle.mg_sources.specs.Reading as reading
 use Rattle.mg_sources.specs.View.{IsStop}
+use Rattle.mg_sources.specs.Parts.{IsProtocol}
 use Rattle.mg_sources.specs.inner.Answers.{IsPart, IsRefusal}
 use Rattle.mg_sources.specs.inner.Saying.{said_of_protocol, said_of_typestate, said_of_java}
 
@@ -78,11 +79,16 @@ java_said java.Memory f e = not_said f e
 -- the line of a fault is that of a refusal
 
 pub protocol_refused : (s : Source) (fault : ScrFault) (stop : Stop) → IsOf Scribble s → IsRefusal s.name (said_of_protocol fault) stop
-    → ((answer : of_protocols.Answer) → of_protocols.fault_answer fault ≡ Some answer → of_protocols.Outcome s.number s.bytes answer) → IsPart s (Err stop)
+    → ((answer : of_protocols.Answer) → of_protocols.fault_answer fault ≡ Some answer → of_protocols.Outcome s.number s.bytes answer) → IsProtocol s (Err stop)
 protocol_refused s fault (stops.Refused line) is (f, told, said) answered =
     let a = protocol_said fault f told in
     (f, reading.protocol a.0 is (answered a.0 a.1) a.2, said)
 protocol_refused s fault stops.Memory is said answered = tt
+
+-- a file that spells no protocol spells no part
+pub part_refused : (s : Source) (stop : Stop) → IsProtocol s (Err stop) → IsPart s (Err stop)
+part_refused s (stops.Refused line) h = h
+part_refused s stops.Memory h = tt
 
 pub states_refused : (s : Source) (fault : TsFault) (stop : Stop) → IsOf Typestates s → IsRefusal s.name (said_of_typestate fault) stop
     → ((answer : of_typestates.Answer) → of_typestates.answer_of (Err fault) ≡ Some answer → of_typestates.Outcome s.number s.bytes answer) → IsPart s (Err stop)

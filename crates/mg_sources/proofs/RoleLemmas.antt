@@ -15,11 +15,11 @@ use Rattle.mg_sources.specs.Files.{Source, source_of, sources}
 use Rattle.mg_sources.specs.Reading.{Part, Protocol, States, Classes, Reads}
 use Rattle.mg_sources.specs.Sources.{IsOfRole, SharesRole}
 use Rattle.mg_sources.specs.declared.part.Part.{Part as KeptPart}
-use Rattle.mg_sources.specs.inner.Parts.{part_of, role_in}
+use Rattle.mg_sources.specs.Parts.{part_of, EachSpells, AreApart}
+use Rattle.mg_sources.specs.inner.Answers.{role_in}
 use Rattle.mg_sources.specs.View.{IsStop}
 use Rattle.mg_sources.specs.declared.stop.Stop.{Stop}
 use Rattle.mg_sources.specs.declared.stop.Stop.TheVariants as stops
-use Rattle.mg_sources.specs.inner.Answers.{EachSpells, AreApart}
 use Rattle.mg_sources.proofs.OneKind.{one_part}
 use Rattle.mg_sources.proofs.PartLemmas.{same_length, source_named}
 

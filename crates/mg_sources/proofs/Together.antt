@@ -18,7 +18,8 @@ use Rattle.mg_sources.specs.Files.{Source, sources_from}
 use Rattle.mg_sources.specs.Reading.{Part, Reads}
 use Rattle.mg_sources.specs.Sources.{Sourced, empty, adding, Stands, Spell, AreProgram, Refusal, IsRefused}
 use Rattle.mg_sources.specs.Sources as together
-use Rattle.mg_sources.specs.inner.Answers.{EachSpells, Make, Appends}
+use Rattle.mg_sources.specs.Parts.{EachSpells}
+use Rattle.mg_sources.specs.inner.Answers.{Make, Appends}
 use Rattle.mg_sources.specs.inner.Answers as answers
 use Rattle.mg_sources.proofs.OneKind.{one_part}
 use Rattle.mg_sources.proofs.PartLemmas.{not_refused}

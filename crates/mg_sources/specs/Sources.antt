@@ -62,7 +62,8 @@ pub record AreProgram (files : List Source) (sourced : Sourced) : Type 0 where
   pub spell : Spell files sourced
   pub apart : Judged SharesRole (with_earlier files) None
 
--- The first refusal of these files, with its line: by the reader of the first file that is refused, or else by the first role that is shared.
+-- The first refusal of these files, with its line: by the reader of the first file that is refused,
+-- or else at the first file whose protocol is of a role that an earlier file's is of.
 pub data Refusal (files : List Source) (line : List ℕ) : Type 0 where
   refused : Judged IsRefused files (Some line) → Refusal files line
   same_role : Judged IsRefused files None → Judged SharesRole (with_earlier files) (Some line) → Refusal files line

@@ -8,6 +8,8 @@ mod parts;
 mod sources;
 mod stop;
 
-pub use line::refused;
+pub use line::{fault_line, refused};
+pub use part::{Part, read_protocol};
+pub use parts::{check_roles, read_parts};
 pub use sources::{Sources, read_program};
 pub use stop::Stop;

@@ -9,8 +9,12 @@ use crate::stop::Stop;
 use mg_text::{Memory, Place, Text};
 use std::alloc::Global;
 
-// A file is refused, at a place of it; the name is empty where the fault names nothing.
-fn fault_line(
+/// The line of a file that is refused, at a place of it; the name is empty where the fault names
+/// nothing.
+///
+/// # Errors
+/// `Memory` only.
+pub fn fault_line(
     alloc: Global,
     file: &str,
     place: Place,

@@ -4,6 +4,7 @@
 ghost use Rattle.std.specs.Prelude.{◌≡◌, ◌↔◌, IsTrue, option_map};
 ghost use Rattle.mg_sources.specs.Faults.{fault_at};
 ghost use Rattle.mg_sources.specs.Files.{EndsWith, Kind, Scribble, Typestates, Java, IsOf, source_of};
+ghost use Rattle.mg_sources.specs.Parts.{IsProtocol};
 ghost use Rattle.mg_sources.specs.inner.Answers.{IsPart, IsRefusal};
 ghost use Rattle.mg_sources.specs.inner.Saying.{said_of_protocol, said_of_typestate, said_of_java};
 
@@ -19,9 +20,12 @@ use ts_tree::Typestate;
 
 /// What a file spells.
 #[derive(Drop)]
-pub(crate) enum Part {
+pub enum Part {
+    /// A local protocol.
     Protocol(Local),
+    /// A typestate.
     States(Typestate),
+    /// Classes and enums.
     Classes(File),
 }
 
@@ -31,7 +35,7 @@ pub(crate) fn read_part(alloc: Global, number: u32, name: &Text, bytes: &[u8]) -
     ensures { IsPart (source_of number name.now bytes.now) result }
 {
     if ends_with(name, b".scr") {
-        return read_protocol(alloc, number, name, bytes);
+        return read_scribble(alloc, number, name, bytes);
     }
     if ends_with(name, b".protocol") {
         return read_states(alloc, number, name, bytes);
@@ -46,13 +50,27 @@ fn ends_with(name: &Text, suffix: &[u8]) -> bool
     name.as_str().as_bytes().ends_with(suffix)
 }
 
-// A local protocol.
-fn read_protocol(alloc: Global, number: u32, name: &Text, bytes: &[u8]) -> Result<Part, Stop>
+// A local protocol, as a part.
+fn read_scribble(alloc: Global, number: u32, name: &Text, bytes: &[u8]) -> Result<Part, Stop>
     requires { IsOf Scribble (source_of number name.now bytes.now) }
     ensures { IsPart (source_of number name.now bytes.now) result }
 {
-    match read_local(alloc, number, bytes) {
+    match read_protocol(alloc, number, name, bytes) {
         Ok(local) => Ok(Part::Protocol(local)),
+        Err(stop) => Err(stop),
+    }
+}
+
+/// The local protocol that one file spells.
+///
+/// # Errors
+/// `Refused` with the line of the file's fault; `Memory` where memory is wanted.
+pub fn read_protocol(alloc: Global, number: u32, name: &Text, bytes: &[u8]) -> Result<Local, Stop>
+    requires { IsOf Scribble (source_of number name.now bytes.now) }
+    ensures { IsProtocol (source_of number name.now bytes.now) result }
+{
+    match read_local(alloc, number, bytes) {
+        Ok(local) => Ok(local),
         Err(fault) => Err(told(alloc, name, told_of_protocol(&fault))),
     }
 }

@@ -3,8 +3,8 @@
 
 ghost use Rattle.std.specs.Prelude.{◌≡◌, [], ◌∷◌, ◌<◌, ◌^◌, ℕ, List as Seq, length, map, IfSome, None};
 ghost use Rattle.mg_sources.specs.Files.{HaveKinds, sources};
-ghost use Rattle.mg_sources.specs.inner.Answers.{AreParts, AreApart, EachSpells};
-ghost use Rattle.mg_sources.specs.inner.Parts.{part_of, role_in};
+ghost use Rattle.mg_sources.specs.Parts.{AreParts, AreApart, EachSpells, part_of};
+ghost use Rattle.mg_sources.specs.inner.Answers.{role_in};
 
 use crate::line::refused;
 use crate::part::{Part, read_part};
@@ -13,12 +13,12 @@ use mg_text::{Bytes, List, Place, Text};
 use std::alloc::Global;
 use std::collections::HashSet;
 
-/// What these files spell, or the line of the first fault.
-pub(crate) fn read_parts(
-    alloc: Global,
-    names: &[Text],
-    contents: &[Bytes],
-) -> Result<List<Part>, Stop>
+/// What these files spell, each by the ending of its name.
+///
+/// # Errors
+/// `Refused` with the line of the first file in the order of the words that its reader refuses;
+/// `Memory` where memory is wanted.
+pub fn read_parts(alloc: Global, names: &[Text], contents: &[Bytes]) -> Result<List<Part>, Stop>
     requires same { length names.now ≡ length contents.now }
     requires count { length contents.now < 2 ^ 32 }
     requires kinds { HaveKinds names.now }
@@ -32,9 +32,11 @@ pub(crate) fn read_parts(
     Ok(parts)
 }
 
-/// Tells whether each protocol is of a role that no earlier one is of; the line of the first that
-/// isn't is the error.
-pub(crate) fn check_roles(alloc: Global, names: &[Text], parts: &[Part]) -> Result<(), Stop>
+/// Tells whether each protocol is of a role that no earlier one is of.
+///
+/// # Errors
+/// `Refused` with the line of the first that isn't, `SameRole`; `Memory` where memory is wanted.
+pub fn check_roles(alloc: Global, names: &[Text], parts: &[Part]) -> Result<(), Stop>
     requires same { length names.now ≡ length parts.now }
     requires count { length parts.now < 2 ^ 32 }
     ensures { (contents : Seq (Seq ℕ)) → EachSpells (sources names.now contents) (map part_of parts.now)

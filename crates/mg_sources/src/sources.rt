@@ -9,8 +9,8 @@ ghost use Rattle.mg_sources.specs.Files.{HaveKinds, sources};
 ghost use Rattle.mg_sources.specs.Reading.{Protocol};
 ghost use Rattle.mg_sources.specs.Sources.{Sourced, AreProgram, Refusal};
 ghost use Rattle.mg_sources.specs.View.{sourced_of, IsProgram, IsThat};
+ghost use Rattle.mg_sources.specs.Parts.{part_of};
 ghost use Rattle.mg_sources.specs.inner.Answers.{Make, Appends};
-ghost use Rattle.mg_sources.specs.inner.Parts.{part_of};
 
 use crate::part::Part;
 use crate::parts::{check_roles, read_parts};

@@ -1,30 +1,35 @@
 -- What the functions of the commands answer.
-use Rattle.std.proofs.Common.{◌≡◌, ◌≢◌, ℕ, List, [], ◌∷◌, ◌++◌, ◌⊎◌, inl, inr, Contains, Option, Some, None, refl, sym, ap, ◌∙◌, subst}
+use Rattle.std.proofs.Common.{◌≡◌, ◌≢◌, ℕ, List, [], ◌∷◌, ◌++◌, All, codes, inl, inr, Option, None, refl, sym, ap, ◌∙◌, subst}
 use Rattle.std.specs.Prelude.{IfOk, Result, Ok, Err}
 use Rattle.mg_text.specs.declared.memory.Memory.{Memory}
 use Rattle.mg_run.specs.declared.RunFault.{RunFault}
 use Rattle.mg_run.specs.declared.RunFault.TheVariants as run_faults
-use Rattle.mg_run.specs.Running.{Shows, Refused as RunRefused, IsRun}
+use Rattle.mg_run.specs.Running.{Refused as RunRefused, IsRun}
 use Rattle.mg_top.specs.declared.status.Status.{Status}
 use Rattle.mg_top.specs.declared.status.Status.TheVariants as statuses
 use Rattle.mg_top.specs.declared.delivery.Action.{Action}
 use Rattle.mg_top.specs.declared.delivery.Action.TheVariants.{Say}
 use Rattle.mg_top.specs.declared.delivery.Delivery.{Delivery}
-use Rattle.mg_top.specs.Words.{Word, Command, Run, files_of, IsCommand}
-use Rattle.mg_top.specs.Lines.{run_line, ran_line, read_line, memory_line}
-use Rattle.mg_top.specs.Commands.{Yields, prints, ran, not_run}
+use Rattle.mg_top.specs.Words.{Word, Command, Check, Run, files_of, IsCommand, IsFileOf}
+use Rattle.mg_top.specs.Lines.{run_line, read_line, memory_line}
+use Rattle.mg_top.specs.Commands.{Yields, prints, checked, not_run}
 use Rattle.mg_read.specs.First.{Judged, with_earlier}
 use Rattle.mg_text.specs.Row.{Row}
-use Rattle.scr_tree.specs.Tree.{LocalTree}
-use Rattle.mg_top.specs.declared.sources.Stop.{Stop}
-use Rattle.mg_top.specs.declared.sources.Stop.TheVariants as stops
-use Rattle.mg_top.specs.Files.{Source}
-use Rattle.mg_top.specs.Sources.{SharesRole, refused, same_role}
+use Rattle.mg_sources.specs.Files.{Source, sources}
+use Rattle.mg_sources.specs.Reading.{Part}
+use Rattle.mg_sources.specs.Sources.{SharesRole, refused, same_role}
+use Rattle.mg_sources.specs.Parts.{AreParts, AreApart, EachSpells}
+use Rattle.mg_sources.specs.declared.stop.Stop.{Stop}
+use Rattle.mg_sources.specs.declared.stop.Stop.TheVariants as stops
+use Rattle.mg_sources.proofs.PartLemmas.{none_refused}
+use Rattle.jv_core.specs.Tree as Core
+use Rattle.mg_accepted.specs.Accepted.{AreAccepted}
+use Rattle.use_check.specs.Report.{IsReport}
 use Rattle.mg_top.specs.Translation.{AreTranslated}
 use Rattle.mg_top.specs.Outside.{Outside}
-use Rattle.mg_top.specs.Ending.{AreRead, after_read, IsUnread, IsDue, wrong, unread, yielded, starved, mute}
-use Rattle.mg_top.specs.inner.Preparing.{IsRunRefusal, IsPrepared, IsLeft, AreSources, AreApart, AreWritten, EachIsOnly, EachIsWritten}
-use Rattle.mg_top.proofs.SourceLemmas.{none_refused, translated}
+use Rattle.mg_top.specs.Ending.{AreRead, after_read, IsUnread, IsDue, unread, yielded, starved, mute}
+use Rattle.mg_top.specs.inner.Preparing.{IsRunRefusal, IsReported, IsPrepared, IsLeft, AreWritten, EachIsWritten, locals_in}
+use Rattle.mg_top.proofs.SourceLemmas.{translated}
 
 -- a delivery of these actions with this status
 pub gives : (command : Command) (contents : List (List ℕ)) (actions : List Action) (status : Status) (r : Result Delivery Memory) → IfOk r (λ d. d.actions.items ≡ actions) → IfOk r (λ d. d.status ≡ status) → Yields command contents actions status
@@ -48,6 +53,19 @@ refusal_given class file bytes fault (Ok d) h k =
     subst (λ (z : List Action). Yields (Run class (file ∷ [])) (bytes ∷ []) z d.status) (sym k.says)
     (subst (λ (z : Status). Yields (Run class (file ∷ [])) (bytes ∷ []) (Say (run_line class file fault) ∷ []) z) (sym k.refuses) (not_run (refused_by class bytes fault h k.proper)))
 refusal_given class file bytes fault (Err e) h k = tt
+
+pub reported : (core : Core.Program) (text given : List ℕ) (r : Result Delivery Memory) → given ≡ text → IsReport core text
+    → IfOk r (λ d. d.actions.items ≡ prints given) → IfOk r (λ d. d.status ≡ statuses.Done) → IfOk r (λ d. IsReported core d.actions.items d.status)
+reported core text given (Ok d) e h a s = record { text = text; says = a ∙ ap prints e; done = s; report = h }
+reported core text given (Err x) e h a s = tt
+
+-- the report of accepted files
+pub report_given : (files : List Word) (contents : List (List ℕ)) (core : Core.Program) (r : Result Delivery Memory) → AreAccepted (sources files contents) core
+    → IfOk r (λ d. IsReported core d.actions.items d.status) → IfOk r (λ d. Yields (Check files) contents d.actions.items d.status)
+report_given files contents core (Ok d) a k =
+    subst (λ (z : List Action). Yields (Check files) contents z d.status) (sym k.says)
+    (subst (λ (z : Status). Yields (Check files) contents (prints k.text) z) (sym k.done) (checked core a k.report))
+report_given files contents core (Err e) a k = tt
 
 -- ---- what is due
 
@@ -84,20 +102,22 @@ unread_of words before command names name front rest contents is named stands re
 
 -- ---- the writes of translations
 
-pub sources_failed : (folder : Option Word) (files : List Source) (fault : Stop) (answer : Result (Row Action) Stop) → AreSources files (Err fault) → answer ≡ Err fault → AreWritten folder files answer
+pub sources_failed : (folder : Option Word) (files : List Source) (fault : Stop) (answer : Result (Row Action) Stop) → AreParts files (Err fault) → answer ≡ Err fault → AreWritten folder files answer
 sources_failed folder files (stops.Refused line) answer h e = subst (AreWritten folder files) (sym e) (refused h)
 sources_failed folder files stops.Memory answer h e = subst (AreWritten folder files) (sym e) tt
 
-pub roles_failed : (folder : Option Word) (files : List Source) (locals : List LocalTree) (fault : Stop) (answer : Result (Row Action) Stop) → EachIsOnly files locals → AreApart files (Err fault) → answer ≡ Err fault → AreWritten folder files answer
-roles_failed folder files locals (stops.Refused line) answer each h e = subst (AreWritten folder files) (sym e) (same_role (none_refused files locals each) h)
-roles_failed folder files locals stops.Memory answer each h e = subst (AreWritten folder files) (sym e) tt
+pub roles_failed : (folder : Option Word) (files : List Source) (parts : List Part) (fault : Stop) (answer : Result (Row Action) Stop) → EachSpells files parts → AreApart files (Err fault) → answer ≡ Err fault → AreWritten folder files answer
+roles_failed folder files parts (stops.Refused line) answer each h e = subst (AreWritten folder files) (sym e) (same_role (none_refused files parts each) h)
+roles_failed folder files parts stops.Memory answer each h e = subst (AreWritten folder files) (sym e) tt
 
 pub memory_failed : (folder : Option Word) (files : List Source) (answer : Result (Row Action) Stop) → answer ≡ Err stops.Memory → AreWritten folder files answer
 memory_failed folder files answer e = subst (AreWritten folder files) (sym e) tt
 
-pub all_written : (folder : Option Word) (files : List Source) (locals given : List LocalTree) (writes : List Action) → EachIsOnly files locals → given ≡ locals → Judged SharesRole (with_earlier files) None → EachIsWritten folder given writes → AreTranslated folder files writes
-all_written folder files locals given writes each e apart written = record {
-  each = translated folder files locals writes each (subst (λ (z : List LocalTree). EachIsWritten folder z writes) e written);
+pub all_written : (folder : Option Word) (names : List Word) (contents : List (List ℕ)) (parts given : List Part) (writes : List Action) → All (IsFileOf (codes ".scr")) names
+    → EachSpells (sources names contents) parts → given ≡ parts → Judged SharesRole (with_earlier (sources names contents)) None → EachIsWritten folder (locals_in given) writes
+    → AreTranslated folder (sources names contents) writes
+all_written folder names contents parts given writes scribble each e apart written = record {
+  each = translated folder 0 names contents parts writes scribble each (subst (λ (z : List Part). EachIsWritten folder (locals_in z) writes) e written);
   apart = apart;
 }
 

@@ -22,12 +22,13 @@ use Rattle.mg_top.specs.declared.delivery.Action.{Action}
 use Rattle.mg_top.specs.declared.delivery.Action.TheVariants.{Print, Say}
 use Rattle.mg_top.specs.declared.delivery.Delivery.{Delivery}
 use Rattle.mg_top.specs.Words.{Word, Conform}
-use Rattle.mg_top.specs.Lines.{ended, fault_line, not_offered_line}
-use Rattle.mg_top.specs.Files.{source_of}
-use Rattle.mg_top.specs.Sources.{IsOnly}
+use Rattle.mg_sources.specs.Faults.{fault_line}
+use Rattle.mg_top.specs.Lines.{ended, not_offered_line}
+use Rattle.mg_sources.specs.Files.{source_of}
+use Rattle.mg_sources.specs.Reading.{Protocol, Reads}
 use Rattle.mg_top.specs.Conformance.{calls_of, Conforms, complete, unfinished, not_offered, IsNoList, too_large, bad_line}
 use Rattle.mg_top.specs.Commands.{Yields, conforms, no_calls}
-use Rattle.mg_top.proofs.SourceLemmas.{same_at}
+use Rattle.mg_sources.proofs.PartLemmas.{same_at}
 use Rattle.mg_top.specs.inner.Preparing.{IsAnswered, IsListRefusal, list_fault}
 
 -- the calls of lines
@@ -103,7 +104,7 @@ pub answered : (local : LocalTree) (calls : List CallAt) (text made : List ℕ) 
 answered local calls text made status (Ok d) a s e c = record { text = text; says = a ∙ ap (λ (z : List ℕ). Print z ∷ []) e; conforms = subst (Conforms local calls text) (sym s) c }
 answered local calls text made status (Err x) a s e c = tt
 
-pub followed : (protocol calls : Word) (bytes listed : List ℕ) (local : LocalTree) (list : List CallLine) (slice : List CallLine) (r : Result Delivery Memory) → IsOnly (source_of 0 protocol bytes) local → (items : Row CallLine) → items.items ≡ list → IsRead 1 listed (Ok items) → slice ≡ list
+pub followed : (protocol calls : Word) (bytes listed : List ℕ) (local : LocalTree) (list : List CallLine) (slice : List CallLine) (r : Result Delivery Memory) → Reads (source_of 0 protocol bytes) (Protocol local) → (items : Row CallLine) → items.items ≡ list → IsRead 1 listed (Ok items) → slice ≡ list
     → IfOk r (λ d. IsAnswered local (map call_of slice) d.actions.items d.status) → IfOk r (λ d. Yields (Conform (protocol ∷ calls ∷ [])) (bytes ∷ listed ∷ []) d.actions.items d.status)
 followed protocol calls bytes listed local list slice (Ok d) only items same read e h =
     subst (λ (z : List Action). Yields (Conform (protocol ∷ calls ∷ [])) (bytes ∷ listed ∷ []) z d.status) (sym h.says)
@@ -116,7 +117,7 @@ refused_list name listed (faults.TooLarge place) proper (large, at) =
 refused_list name listed (faults.BadLine place) proper (small, bad) = bad_line place small bad
 refused_list name listed faults.Memory proper h = absurd (proper refl)
 
-pub list_refused : (protocol calls : Word) (bytes listed : List ℕ) (local : LocalTree) (fault : CallsFault) (r : Result Delivery Memory) → IsOnly (source_of 0 protocol bytes) local → IsRead 1 listed (Err fault)
+pub list_refused : (protocol calls : Word) (bytes listed : List ℕ) (local : LocalTree) (fault : CallsFault) (r : Result Delivery Memory) → Reads (source_of 0 protocol bytes) (Protocol local) → IsRead 1 listed (Err fault)
     → IfOk r (λ d. IsListRefusal calls fault d.actions.items d.status) → IfOk r (λ d. Yields (Conform (protocol ∷ calls ∷ [])) (bytes ∷ listed ∷ []) d.actions.items d.status)
 list_refused protocol calls bytes listed local fault (Ok d) only read h =
     subst (λ (z : List Action). Yields (Conform (protocol ∷ calls ∷ [])) (bytes ∷ listed ∷ []) z d.status) (sym h.says)

@@ -2,15 +2,14 @@
 use Rattle.std.proofs.Common.{◌≡◌, ◌≢◌, ◌<◌, ◌+◌, ℕ, ◌⊎◌, inl, inr, zero, suc, Bool, true, false, cond, List, [], ◌∷◌, ◌++◌, length, get_or, take, drop, Contains, Decides, Option, Some, None, refl, sym, ap, ◌∙◌, subst, append-nil, length-append, drop-cons, take-append-drop, arith}
 use Rattle.std.specs.Prelude.{Result, Ok, Err, option_map}
 use Rattle.std.specs.FinMap as map
-use Rattle.std.specs.Ordering.{is_eq, nat_cmp}
-use Rattle.std.specs.Cmp.Lexicographic.{slice_cmp, nat_list_cmp_total}
+use Rattle.std.specs.Cmp.Lexicographic.{nat_list_cmp_total}
 use Rattle.std.specs.FinMap.{get-insert}
 use Rattle.std.specs.Str.{bytes_eq}
 use Rattle.std.proofs.lemmas.Map.Text.{is_eq-slice_cmp}
 use Rattle.std.proofs.lemmas.Slice.Eq.{bytes_eq-Decides}
 use Rattle.std.proofs.lemmas.List.{take_more, take_all}
 use Rattle.std.proofs.lemmas.List.Elements.{Contains-append_right, Contains-append_left}
-use Rattle.mg_io.specs.Outside.{Files, Rose, with_file, Writes, Puts, Counts}
+use Rattle.mg_io.specs.Outside.{Files, Rose, with_file, Puts, Counts}
 use Rattle.mg_io.specs.declared.fault.IoFault.{IoFault}
 use Rattle.mg_io.specs.declared.fault.IoFault.TheVariants as io
 use Rattle.mg_top.specs.declared.status.Status.{Status}

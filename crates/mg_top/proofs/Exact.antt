@@ -1,5 +1,5 @@
 -- Each command gives one thing of the same contents, and no status of the delivery's own.
-use Rattle.std.proofs.Common.{◌≡◌, ◌≢◌, ℕ, ◌<◌, ◌≤◌, ◌⊎◌, inl, inr, Option, Some, List, [], ◌∷◌, ◌++◌, length, refl, sym, ap, ◌∙◌, subst, arith}
+use Rattle.std.proofs.Common.{◌≡◌, ℕ, ◌⊎◌, inl, inr, Option, Some, List, [], ◌∷◌, refl, sym, ap, ◌∙◌, subst, arith}
 use Rattle.mg_read.proofs.Judging.{no_both}
 use Rattle.jv_tree.specs.Source.{File as Tree}
 use Rattle.jv_read.specs.Outcome.{Read, read}
@@ -15,21 +15,26 @@ use Rattle.mg_top.specs.declared.delivery.Action.{Action}
 use Rattle.mg_top.specs.declared.delivery.Action.TheVariants.{Print, Say}
 use Rattle.mg_text.specs.Call.{Call}
 use Rattle.scr_tree.specs.Tree.{LocalTree}
+use Rattle.mg_accepted.specs.Accepted as accepted
+use Rattle.mg_accepted.proofs.Apart.{not_refused as not_unmet}
 use Rattle.scr_tree.specs.Meaning.{protocol_of}
 use Rattle.scr_tree.specs.Traces.{Trace}
 use Rattle.mg_calls.specs.Calls.{CallAt}
 use Rattle.mg_calls.proofs.Laws.{one_list, no_bad}
 use Rattle.std.proofs.lemmas.List.{map-append}
-use Rattle.mg_top.specs.Words.{Word, Command, Translate, Conform, Run}
+use Rattle.mg_top.specs.Words.{Word, Command, Translate, Conform, Check, Run}
 use Rattle.mg_top.specs.Lines.{run_line, not_offered_line}
-use Rattle.mg_top.specs.Files.{Source, source_of, sources}
+use Rattle.mg_sources.specs.Files.{Source, source_of, sources}
 use Rattle.mg_top.specs.Conformance.{calls_of, Conforms, complete, unfinished, not_offered, Lists, IsNoList, bad_line}
 use Rattle.mg_top.specs.Conformance as conformance
-use Rattle.mg_top.specs.Sources.{IsOnly, Refusal, refused, same_role}
+use Rattle.mg_sources.specs.Reading.{Protocol, Reads}
+use Rattle.mg_sources.specs.Sources.{Refusal, refused, same_role}
+use Rattle.mg_sources.proofs.OneKind.{one_part}
+use Rattle.mg_sources.proofs.PartLemmas.{not_refused}
 use Rattle.mg_top.specs.Translation.{AreTranslated}
-use Rattle.mg_top.specs.Commands.{Yields, translated, not_translated, conforms, no_protocol, no_calls, ran, not_run}
+use Rattle.mg_top.specs.Commands.{Yields, translated, not_translated, conforms, no_protocol, no_calls, checked, not_checked, ran, not_run}
 use Rattle.mg_top.specs.Promises.{IsYielded}
-use Rattle.mg_top.proofs.SourceLemmas.{none_refused_of_translated, not_refused}
+use Rattle.mg_top.proofs.SourceLemmas.{none_refused_of_translated}
 
 -- files that are refused aren't translated
 not_both : (folder : Option Word) (files : List Source) (actions : List Action) (line : List ℕ) → AreTranslated folder files actions → Refusal files line → ⊥
@@ -63,6 +68,8 @@ no_translation folder files contents line h command e given e' actions status do
 no_translation folder files contents line h command e given e' actions status done (conforms local list o l c) = absurd cc
 no_translation folder files contents line h command e given e' actions status done (no_protocol r) = absurd cc
 no_translation folder files contents line h command e given e' actions status done (no_calls local o r) = absurd cc
+no_translation folder files contents line h command e given e' actions status done (checked core a r) = absurd cc
+no_translation folder files contents line h command e given e' actions status done (not_checked r) = absurd cc
 no_translation folder files contents line h command e given e' actions status done (ran s) = absurd cc
 no_translation folder files contents line h command e given e' actions status done (not_run r) = absurd cc
 
@@ -73,10 +80,26 @@ no_run class file bytes fault h command e given e' actions status done (not_tran
 no_run class file bytes fault h command e given e' actions status done (conforms local list o l c) = absurd cc
 no_run class file bytes fault h command e given e' actions status done (no_protocol r) = absurd cc
 no_run class file bytes fault h command e given e' actions status done (no_calls local o r) = absurd cc
+no_run class file bytes fault h command e given e' actions status done (checked core a r) = absurd cc
+no_run class file bytes fault h command e given e' actions status done (not_checked r) = absurd cc
 no_run class file bytes fault h command e given e' actions status done (ran {class = d} {bytes = bs} {printed = printed} {n = n} s) =
     let d_is : d ≡ class = cc in let bs_is : bs ≡ bytes = cc in
     not_shown class bytes printed n fault (subst (λ (z : Word). Shows z bytes printed n) d_is (subst (λ (z : List ℕ). Shows d z printed n) bs_is s)) h
 no_run class file bytes fault h command e given e' actions status done (not_run r) = absurd cc
+
+no_report : (files : List Word) (contents : List (List ℕ)) (line : List ℕ) → accepted.Refusal (sources files contents) line → (command : Command) → command ≡ Check files
+    → (given : List (List ℕ)) → given ≡ contents → (actions : List Action) (status : Status) → status ≡ statuses.Done → Yields command given actions status → ⊥
+no_report files contents line h command e given e' actions status done (translated t) = absurd cc
+no_report files contents line h command e given e' actions status done (not_translated r) = absurd cc
+no_report files contents line h command e given e' actions status done (conforms local list o l c) = absurd cc
+no_report files contents line h command e given e' actions status done (no_protocol r) = absurd cc
+no_report files contents line h command e given e' actions status done (no_calls local o r) = absurd cc
+no_report files contents line h command e given e' actions status done (checked {files = fs} core a r) =
+    let fs_is : fs ≡ files = cc in
+    not_unmet (sources fs given) core line a (subst (λ (z : List Source). accepted.Refusal z line) (λ i. sources (sym fs_is i) (sym e' i)) h)
+no_report files contents line h command e given e' actions status done (not_checked r) = absurd cc
+no_report files contents line h command e given e' actions status done (ran s) = absurd cc
+no_report files contents line h command e given e' actions status done (not_run r) = absurd cc
 
 -- ---- the command conform
 
@@ -88,7 +111,7 @@ follows local calls text status done (not_offered front call rest split trace is
 -- what is given where calls follow
 pub record DoneConform (protocol calls : Word) (bytes listed : List ℕ) : Type 0 where
   pub local : LocalTree
-  pub only : IsOnly (source_of 0 protocol bytes) local
+  pub reads : Reads (source_of 0 protocol bytes) (Protocol local)
   pub list : List CallAt
   pub lists : Lists (source_of 1 calls listed) list
   pub trace : Trace local.me (protocol_of local) (calls_of list)
@@ -101,13 +124,15 @@ done_conform protocol calls bytes listed command e given e' actions status done 
     let p_is : p ≡ protocol = cc in let k_is : k ≡ calls = cc in let bs_is : bs ≡ bytes = cc in let ls_is : ls ≡ listed = cc in
     record {
       local = local;
-      only = subst (λ (z : Source). IsOnly z local) (λ i. source_of 0 (p_is i) (bs_is i)) o;
+      reads = subst (λ (z : Source). Reads z (Protocol local)) (λ i. source_of 0 (p_is i) (bs_is i)) o;
       list = list;
       lists = subst (λ (z : Source). Lists z list) (λ i. source_of 1 (k_is i) (ls_is i)) l;
       trace = follows local list text status done c;
     }
 done_conform protocol calls bytes listed command e given e' actions status done (no_protocol r) = absurd cc
 done_conform protocol calls bytes listed command e given e' actions status done (no_calls local o r) = absurd cc
+done_conform protocol calls bytes listed command e given e' actions status done (checked core a r) = absurd cc
+done_conform protocol calls bytes listed command e given e' actions status done (not_checked r) = absurd cc
 done_conform protocol calls bytes listed command e given e' actions status done (ran s) = absurd cc
 done_conform protocol calls bytes listed command e given e' actions status done (not_run r) = absurd cc
 
@@ -123,10 +148,13 @@ stopped local calls text status refusal (unfinished h isnt) trace = cc
 stopped local calls text status refusal (not_offered front call rest split before isnt) trace =
     isnt (calls_of rest) (subst (λ (z : List Call). Trace local.me (protocol_of local) z) (ap calls_of split ∙ map-append (λ c. c.call) front (call ∷ rest)) trace)
 
-not_followed : (protocol calls : Word) (bytes listed text : List ℕ) (status : Status) (local : LocalTree) (list : List CallAt) → IsOnly (source_of 0 protocol bytes) local → Lists (source_of 1 calls listed) list → status ≡ statuses.Refused → Conforms local list text status
+same_local : (k l : LocalTree) → Protocol k ≡ Protocol l → k ≡ l
+same_local k l e = cc
+
+not_followed : (protocol calls : Word) (bytes listed text : List ℕ) (status : Status) (local : LocalTree) (list : List CallAt) → Reads (source_of 0 protocol bytes) (Protocol local) → Lists (source_of 1 calls listed) list → status ≡ statuses.Refused → Conforms local list text status
     → DoneConform protocol calls bytes listed → ⊥
 not_followed protocol calls bytes listed text status local list o l refusal c d =
-    let local_is : d.local ≡ local = o.only d.local d.only.reads in
+    let local_is : d.local ≡ local = same_local d.local local (one_part (source_of 0 protocol bytes) (Protocol d.local) (Protocol local) d.reads o) in
     let list_is : d.list ≡ list = one_list listed d.list list d.lists.listed l.listed in
     stopped local list text status refusal c
     (subst (λ (z : List CallAt). Trace local.me (protocol_of local) (calls_of z)) list_is (subst (λ (z : LocalTree). Trace z.me (protocol_of z) (calls_of d.list)) local_is d.trace))
@@ -144,6 +172,8 @@ refused_or_done (not_translated r) = inr refl
 refused_or_done (conforms local list o l c) = answered_status c
 refused_or_done (no_protocol r) = inr refl
 refused_or_done (no_calls local o r) = inr refl
+refused_or_done (checked core a r) = inl refl
+refused_or_done (not_checked r) = inr refl
 refused_or_done (ran s) = inl refl
 refused_or_done (not_run r) = inr refl
 
@@ -153,9 +183,11 @@ clash (translated t) e xb n y f = cc
 clash (not_translated {folder = folder} {files = files} {contents = contents} {line = line} r) e xb n y f = no_translation folder files contents line r _ refl _ refl xb n f y
 clash {m = m} (conforms {protocol = p} {calls = k} {bytes = bs} {listed = ls} {text = text} local list o l c) e xb n y f = not_followed p k bs ls text m local list o l e c (done_conform p k bs ls _ refl _ refl xb n f y)
 clash (no_protocol {protocol = p} {calls = k} {bytes = bs} {listed = ls} {line = line} r) e xb n y f =
-    let d = done_conform p k bs ls _ refl _ refl xb n f y in not_refused (source_of 0 p bs) d.local line d.only.reads r
+    let d = done_conform p k bs ls _ refl _ refl xb n f y in not_refused (source_of 0 p bs) (Protocol d.local) line d.reads r
 clash (no_calls {protocol = p} {calls = k} {bytes = bs} {listed = ls} {line = line} local o r) e xb n y f =
     let d = done_conform p k bs ls _ refl _ refl xb n f y in listed_once (source_of 1 k ls) d.list line d.lists r
+clash (checked core a r) e xb n y f = cc
+clash (not_checked {files = files} {contents = contents} {line = line} r) e xb n y f = no_report files contents line r _ refl _ refl xb n f y
 clash (ran s) e xb n y f = cc
 clash (not_run {class = class} {file = file} {bytes = bytes} {fault = fault} r) e xb n y f = no_run class file bytes fault r _ refl _ refl xb n f y
 
@@ -175,6 +207,8 @@ proper (conforms local list o l (unfinished h isnt)) = (λ e. cc, λ e. cc, λ e
 proper (conforms local list o l (not_offered front call rest split before isnt)) = (λ e. cc, λ e. cc, λ e. cc, λ e. cc)
 proper (no_protocol r) = (λ e. cc, λ e. cc, λ e. cc, λ e. cc)
 proper (no_calls local o r) = (λ e. cc, λ e. cc, λ e. cc, λ e. cc)
+proper (checked core a r) = (λ e. cc, λ e. cc, λ e. cc, λ e. cc)
+proper (not_checked r) = (λ e. cc, λ e. cc, λ e. cc, λ e. cc)
 proper (ran s) = (λ e. cc, λ e. cc, λ e. cc, λ e. cc)
 proper (not_run r) = (λ e. cc, λ e. cc, λ e. cc, λ e. cc)
 
@@ -190,5 +224,7 @@ refusal_says (conforms local list o l (unfinished h isnt)) e = absurd cc
 refusal_says (conforms local list o l (not_offered front call rest split before isnt)) e = inr (call.line, refl)
 refusal_says (no_protocol {line = line} r) e = inl (line, refl)
 refusal_says (no_calls {line = line} local o r) e = inl (line, refl)
+refusal_says (checked core a r) e = absurd cc
+refusal_says (not_checked {line = line} r) e = inl (line, refl)
 refusal_says (ran s) e = absurd cc
 refusal_says (not_run {class = class} {file = file} {fault = fault} r) e = inl (run_line class file fault, refl)

@@ -1,8 +1,6 @@
 pub mod WordsLemmas
 pub mod DeliveryLaws
 pub mod SourceLemmas
-pub mod RolesLemmas
-pub mod ReaderLemmas
 pub mod ReadingLemmas
 pub mod CommandLemmas
 pub mod ConformLemmas

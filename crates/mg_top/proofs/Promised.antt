@@ -1,7 +1,6 @@
 -- What follows of how a run ends: all that is promised.
-use Rattle.std.proofs.Common.{◌≡◌, ◌≢◌, ◌<◌, ℕ, zero, suc, ◌⊎◌, inl, inr, List, [], ◌∷◌, ◌++◌, take, Contains, Option, Some, None, length, refl, sym, ap, ◌∙◌, subst, length-append, arith}
+use Rattle.std.proofs.Common.{◌≡◌, ◌≢◌, ◌<◌, ℕ, zero, suc, ◌⊎◌, inl, inr, List, [], ◌∷◌, ◌++◌, take, Contains, Option, Some, length, refl, sym, ap, ◌∙◌, subst, length-append, arith}
 use Rattle.std.proofs.lemmas.List.Elements.{Contains-append_right}
-use Rattle.std.specs.FinMap as map
 use Rattle.mg_io.specs.Outside.{Files, Rose}
 use Rattle.mg_top.specs.declared.status.Status.{Status}
 use Rattle.mg_top.specs.declared.status.Status.TheVariants as statuses
@@ -111,7 +110,8 @@ module _ (words : List Word) (before : Outside) where
         λ h. let no : statuses.Refused ≡ statuses.WriteFault = sym e ∙ h in cc,
         λ h. let no : statuses.Refused ≡ statuses.Memory = sym e ∙ h in cc,
       ) in
-      one_line o.0 after (refusal_says o.1.yields e) o.2
+      let said : SaysRefusal o.0 = refusal_says {command = o.1.command} {contents = o.1.contents} {actions = o.0} o.1.yields e in
+      one_line o.0 after said o.2
 
   -- where a command gives a status, it comes
   where_yielded : {actions : List Action} {meant status : Status} {at after : Outside} → IsDue words before actions meant at → Delivers actions meant at status after

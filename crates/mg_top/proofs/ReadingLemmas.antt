@@ -1,6 +1,6 @@
 -- Files that are read one after another.
-use Rattle.std.proofs.Common.{◌≡◌, ◌<◌, ◌≤◌, ◌+◌, ℕ, suc, List, [], ◌∷◌, ◌++◌, take, drop, length, get_or, Option, Some, None, refl, sym, ap, ◌∙◌, subst, append-nil}
-use Rattle.std.specs.Prelude.{IfSome, option_map, Result, Ok, Err}
+use Rattle.std.proofs.Common.{◌≡◌, ◌<◌, ◌≤◌, ◌+◌, ℕ, suc, List, [], ◌∷◌, ◌++◌, take, drop, length, get_or, Option, Some, None, refl, sym, ap, ◌∙◌, subst}
+use Rattle.std.specs.Prelude.{IfSome, option_map, Result, Err}
 use Rattle.std.proofs.lemmas.List.{take_more, take_all, at_drop_more, take-append-drop}
 use Rattle.std.specs.FinMap as map
 use Rattle.mg_io.specs.Outside.{Files}
@@ -9,7 +9,7 @@ use Rattle.mg_top.specs.declared.reading.Unread.{Unread}
 use Rattle.mg_top.specs.declared.reading.Unread.TheVariants as unread
 use Rattle.mg_top.specs.Words.{Word}
 use Rattle.mg_top.specs.Outside.{Stream, Outside, outside, IsRead}
-use Rattle.mg_top.specs.Ending.{AreRead, after_read}
+use Rattle.mg_top.specs.Ending.{AreRead}
 use Rattle.mg_top.specs.inner.Preparing.{AreContents}
 
 -- what a folder answered was read of the file

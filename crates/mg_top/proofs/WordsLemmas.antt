@@ -1,12 +1,12 @@
 -- Which words are a command, and which can't follow.
-use Rattle.std.proofs.Common.{◌≡◌, ℕ, ◌<◌, ◌≤◌, ◌⊎◌, inl, inr, List, [], ◌∷◌, ◌++◌, All, length, get_or, take, drop, take-append-drop, drop-cons, ◌-◌, ◌+◌, zero, suc, Option, Some, None, Bool, true, false, ◌&&◌, eqb, codes, refl, sym, ap, ◌∙◌, subst, arith, append_assoc, length-append, Bor}
+use Rattle.std.proofs.Common.{◌≡◌, ◌≢◌, ℕ, ◌<◌, ◌≤◌, ◌⊎◌, inl, inr, List, [], ◌∷◌, ◌++◌, All, length, get_or, take, drop, take-append-drop, drop-cons, zero, suc, Option, Some, None, Bool, true, false, ◌&&◌, eqb, codes, refl, sym, ap, ◌∙◌, subst, arith, append_assoc, Bor}
 use Rattle.std.specs.Prelude.{IfSome, option_map}
-use Rattle.std.proofs.lemmas.Slice.Eq.{bytes_eq-Decides}
-use Rattle.std.proofs.lemmas.List.{drop_at}
 use Rattle.std.specs.List.{ends_with, list_all}
 use Rattle.mg_read.specs.Passes.{AllPasses}
 use Rattle.scr_tree.specs.Words.{reserved}
-use Rattle.mg_top.specs.Words.{Word, Command, Translate, Conform, Run, AreProtocolAndCalls, EndsWith, IsFileName, IsFileOf, AreFilesOf, IsClassName, out_words, IsCommand, AreCommand, CanBegin, AreOutside, AreWrong}
+use Rattle.mg_sources.specs.Files.{EndsWith, Kind, Scribble, Typestates, Java, suffix_of, HaveKinds}
+use Rattle.mg_top.specs.Words.{Word, Command, Translate, Conform, Check, Run, AreProtocolAndCalls, IsFileName, IsFileOf, IsSourceName, AreFilesOf, IsClassName, out_words, IsCommand, AreCommand, CanBegin, AreWrong}
+use Rattle.mg_sources.proofs.Endings.{ends_is, is_ends}
 use Rattle.mg_top.specs.inner.Judging.{IsFirstOther}
 
 abbrev translate : Word
@@ -17,6 +17,9 @@ out = codes "--out"
 
 abbrev conform : Word
 conform = codes "conform"
+
+abbrev check : Word
+check = codes "check"
 
 abbrev run : Word
 run = codes "run"
@@ -56,6 +59,15 @@ apart_first e = absurd cc
 
 apart_last : {P : Type 0} → conform ≡ run → P
 apart_last e = absurd cc
+
+no_check : {P : Type 0} → translate ≡ check → P
+no_check e = absurd cc
+
+no_check_calls : {P : Type 0} → conform ≡ check → P
+no_check_calls e = absurd cc
+
+no_check_run : {P : Type 0} → check ≡ run → P
+no_check_run e = absurd cc
 
 -- all of one word, and of some words and one more
 All-one : (P : Word → Type 0) (x : Word) → P x → All P (x ∷ [])
@@ -138,6 +150,16 @@ begins_protocol protocol h = let b = begins_calls protocol some_class h is_name 
 begins_conform : CanBegin AreCommand (conform ∷ [])
 begins_conform = let b = begins_protocol some_source named in (some_source ∷ b.0, b.1)
 
+source_named : IsSourceName some_source
+source_named = (named.0, (Scribble, named.1))
+
+begins_sources : (before : List Word) → All IsSourceName before → CanBegin AreCommand (check ∷ before)
+begins_sources before each =
+    (some_source ∷ [], (Check (before ++ some_source ∷ []), (refl, pushed_filled before some_source, All-push IsSourceName before some_source each source_named)))
+
+begins_check : CanBegin AreCommand (check ∷ [])
+begins_check = begins_sources [] (none_yet _)
+
 begins_java : (class file : Word) → IsClassName class → IsFileOf (codes ".java") file → CanBegin AreCommand (run ∷ main ∷ class ∷ file ∷ [])
 begins_java class file h h' = ([], (Run class (file ∷ []), (refl, h, (file, refl, h'))))
 
@@ -152,10 +174,11 @@ begins_run = let b = begins_main in (main ∷ b.0, b.1)
 
 -- ---- what words of a command are
 
-first_word : (command : Command) (w : Word) (more : List Word) → IsCommand command (w ∷ more) → (w ≡ translate) ⊎ (w ≡ conform) ⊎ (w ≡ run)
+first_word : (command : Command) (w : Word) (more : List Word) → IsCommand command (w ∷ more) → (w ≡ translate) ⊎ (w ≡ conform) ⊎ (w ≡ check) ⊎ (w ≡ run)
 first_word (Translate folder files) w more (e, h, k) = inl (head_is e)
 first_word (Conform files) w more (e, h) = inr (inl (head_is e))
-first_word (Run class files) w more (e, h, k) = inr (inr (head_is e))
+first_word (Check files) w more (e, h, k) = inr (inr (inl (head_is e)))
+first_word (Run class files) w more (e, h, k) = inr (inr (inr (head_is e)))
 
 -- the option isn't a file
 no_file : {P : Type 0} (files rest : List Word) → out ∷ rest ≡ files → AreFilesOf (codes ".scr") files → P
@@ -170,6 +193,7 @@ translate_files (Translate (Some d) files) None rest plain (e, h, each) = absurd
 translate_files (Translate None files) (Some f) rest plain (e, h, each) = no_file files (f ∷ rest) (tail_is e) each
 translate_files (Translate (Some d) files) (Some f) rest plain (e, h, each) = subst (AreFilesOf (codes ".scr")) (sym (tail_is (tail_is (tail_is e)))) each
 translate_files (Conform files) folder rest plain (e, h) = apart_first (head_is e)
+translate_files (Check files) folder rest plain (e, h, k) = no_check (head_is e)
 translate_files (Run class files) folder rest plain (e, h, k) = apart (head_is e)
 
 -- what stands behind "--out" is a folder
@@ -177,27 +201,32 @@ folder_word : (command : Command) (f : Word) (rest : List Word) → IsCommand co
 folder_word (Translate None files) f rest (e, h, each) = no_file files (f ∷ rest) (tail_is e) each
 folder_word (Translate (Some d) files) f rest (e, h, each) = subst IsFileName (sym (head_is (tail_is (tail_is e)))) h
 folder_word (Conform files) f rest (e, h) = apart_first (head_is e)
+folder_word (Check files) f rest (e, h, k) = no_check (head_is e)
 folder_word (Run class files) f rest (e, h, k) = apart (head_is e)
 
 out_is_none : (command : Command) → IsCommand command (translate ∷ out ∷ []) → ⊥
 out_is_none (Translate None files) (e, h, each) = no_file files [] (tail_is e) each
 out_is_none (Translate (Some d) files) (e, h, each) = filled (tail_is (tail_is e))
 out_is_none (Conform files) (e, h) = apart_first (head_is e)
+out_is_none (Check files) (e, h, k) = no_check (head_is e)
 out_is_none (Run class files) (e, h, k) = apart (head_is e)
 
 main_word : (command : Command) (o : Word) (more : List Word) → IsCommand command (run ∷ o ∷ more) → o ≡ main
 main_word (Translate folder files) o more (e, h, k) = apart (sym (head_is e))
 main_word (Conform files) o more (e, h) = apart_last (sym (head_is e))
+main_word (Check files) o more (e, h, k) = no_check_run (sym (head_is e))
 main_word (Run class files) o more (e, h, k) = head_is (tail_is e)
 
 class_word : (command : Command) (o c : Word) (more : List Word) → IsCommand command (run ∷ o ∷ c ∷ more) → IsClassName c
 class_word (Translate folder files) o c more (e, h, k) = apart (sym (head_is e))
 class_word (Conform files) o c more (e, h) = apart_last (sym (head_is e))
+class_word (Check files) o c more (e, h, k) = no_check_run (sym (head_is e))
 class_word (Run class files) o c more (e, h, f) = subst IsClassName (sym (head_is (tail_is (tail_is e)))) h
 
 java_word : (command : Command) (o c f : Word) (more : List Word) → IsCommand command (run ∷ o ∷ c ∷ f ∷ more) → IsFileOf (codes ".java") f × (more ≡ [])
 java_word (Translate folder files) o c f more (e, h, k) = apart (sym (head_is e))
 java_word (Conform files) o c f more (e, h) = apart_last (sym (head_is e))
+java_word (Check files) o c f more (e, h, k) = no_check_run (sym (head_is e))
 java_word (Run class files) o c f more (e, h, (file, one, java)) =
     let rest : ◌≡◌ {A = List Word} (f ∷ more) (file ∷ []) = tail_is (tail_is (tail_is e)) ∙ one in
     (subst (IsFileOf (codes ".java")) (sym (head_is rest)) java, tail_is rest)
@@ -205,42 +234,57 @@ java_word (Run class files) o c f more (e, h, (file, one, java)) =
 none_is_none : (command : Command) → IsCommand command [] → ⊥
 none_is_none (Translate folder files) (e, h, k) = filled e
 none_is_none (Conform files) (e, h) = filled e
+none_is_none (Check files) (e, h, k) = filled e
 none_is_none (Run class files) (e, h, k) = filled e
 
 run_is_none : (command : Command) → IsCommand command (run ∷ []) → ⊥
 run_is_none (Translate folder files) (e, h, k) = apart (sym (head_is e))
 run_is_none (Conform files) (e, h) = apart_last (sym (head_is e))
+run_is_none (Check files) (e, h, k) = no_check_run (sym (head_is e))
 run_is_none (Run class files) (e, h, k) = filled (tail_is e)
 
 main_is_none : (command : Command) → IsCommand command (run ∷ main ∷ []) → ⊥
 main_is_none (Translate folder files) (e, h, k) = apart (sym (head_is e))
 main_is_none (Conform files) (e, h) = apart_last (sym (head_is e))
+main_is_none (Check files) (e, h, k) = no_check_run (sym (head_is e))
 main_is_none (Run class files) (e, h, k) = filled (tail_is (tail_is e))
 
 class_is_none : (class : Word) (command : Command) → IsCommand command (run ∷ main ∷ class ∷ []) → ⊥
 class_is_none class (Translate folder files) (e, h, k) = apart (sym (head_is e))
 class_is_none class (Conform files) (e, h) = apart_last (sym (head_is e))
+class_is_none class (Check files) (e, h, k) = no_check_run (sym (head_is e))
 class_is_none class (Run other files) (e, h, (file, one, java)) = filled (tail_is (tail_is (tail_is e)) ∙ one)
 
 protocol_word : (command : Command) (p : Word) (more : List Word) → IsCommand command (conform ∷ p ∷ more) → IsFileOf (codes ".scr") p
 protocol_word (Translate folder files) p more (e, h, k) = apart_first (sym (head_is e))
 protocol_word (Conform files) p more (e, h) = subst (IsFileOf (codes ".scr")) (sym (head_is (tail_is e ∙ h.two))) h.scribble
+protocol_word (Check files) p more (e, h, k) = no_check_calls (head_is e)
 protocol_word (Run class files) p more (e, h, k) = apart_last (head_is e)
 
 calls_word : (command : Command) (p c : Word) (more : List Word) → IsCommand command (conform ∷ p ∷ c ∷ more) → IsFileName c × (more ≡ [])
 calls_word (Translate folder files) p c more (e, h, k) = apart_first (sym (head_is e))
 calls_word (Conform files) p c more (e, h) = let two = tail_is e ∙ h.two in (subst IsFileName (sym (head_is (tail_is two))) h.named, tail_is (tail_is two))
+calls_word (Check files) p c more (e, h, k) = no_check_calls (head_is e)
 calls_word (Run class files) p c more (e, h, k) = apart_last (head_is e)
 
 conform_is_none : (command : Command) → IsCommand command (conform ∷ []) → ⊥
 conform_is_none (Translate folder files) (e, h, k) = apart_first (sym (head_is e))
 conform_is_none (Conform files) (e, h) = filled (tail_is e ∙ h.two)
+conform_is_none (Check files) (e, h, k) = no_check_calls (head_is e)
 conform_is_none (Run class files) (e, h, k) = apart_last (head_is e)
 
 protocol_is_none : (protocol : Word) (command : Command) → IsCommand command (conform ∷ protocol ∷ []) → ⊥
 protocol_is_none protocol (Translate folder files) (e, h, k) = apart_first (sym (head_is e))
 protocol_is_none protocol (Conform files) (e, h) = filled (tail_is (tail_is e ∙ h.two))
+protocol_is_none protocol (Check files) (e, h, k) = no_check_calls (head_is e)
 protocol_is_none protocol (Run class files) (e, h, k) = apart_last (head_is e)
+
+-- what stands behind "check" are sources
+check_files : (command : Command) (rest : List Word) → IsCommand command (check ∷ rest) → (rest ≢ []) × All IsSourceName rest
+check_files (Translate folder files) rest (e, h, k) = no_check (sym (head_is e))
+check_files (Conform files) rest (e, h) = no_check_calls (sym (head_is e))
+check_files (Check files) rest (e, h, each) = (λ r. h (sym (tail_is e) ∙ r), subst (All IsSourceName) (sym (tail_is e)) each)
+check_files (Run class files) rest (e, h, k) = no_check_run (head_is e)
 
 -- ---- what is judged: where words are lacking, and where one can't follow
 
@@ -277,6 +321,9 @@ pub few_protocol : (rest : List Word) (protocol : Word) (more : List Word) → r
 few_protocol rest protocol more is h e =
     subst (λ (z : List Word). AreWrong (conform ∷ z) None) (sym is) (few (conform ∷ protocol ∷ []) more e (begins_protocol protocol h) (protocol_is_none protocol))
 
+pub few_check : (rest : List Word) → length rest ≡ 0 → AreWrong (check ∷ rest) None
+few_check rest e = few (check ∷ []) rest e begins_check (λ command is. (check_files command [] is).0 refl)
+
 pub few_run : (rest : List Word) → length rest ≡ 0 → AreWrong (run ∷ rest) None
 few_run rest e = few (run ∷ []) rest e begins_run run_is_none
 
@@ -294,12 +341,13 @@ first_wrong before word more can cannot = record { before = before; after = more
 wrong_at : (before rest : List Word) (word : Word) (more : List Word) → rest ≡ word ∷ more → CanBegin AreCommand before → (CanBegin AreCommand (before ++ word ∷ []) → ⊥) → AreWrong (before ++ rest) (Some word)
 wrong_at before rest word more e can cannot = subst (λ (ws : List Word). AreWrong (before ++ ws) (Some word)) (sym e) (first_wrong before word more can cannot)
 
-pub wrong_command : (rest : List Word) (word : Word) (more : List Word) → rest ≡ word ∷ more → (word ≡ translate → ⊥) → (word ≡ conform → ⊥) → (word ≡ run → ⊥) → AreWrong rest (Some word)
-wrong_command rest word more e isnt isnt' isnt'' = wrong_at [] rest word more e begins_empty (λ b. neither (first_word b.1.0 word b.0 b.1.1)) where
-  neither : (word ≡ translate) ⊎ (word ≡ conform) ⊎ (word ≡ run) → ⊥
+pub wrong_command : (rest : List Word) (word : Word) (more : List Word) → rest ≡ word ∷ more → (word ≡ translate → ⊥) → (word ≡ conform → ⊥) → (word ≡ check → ⊥) → (word ≡ run → ⊥) → AreWrong rest (Some word)
+wrong_command rest word more e isnt isnt' isnt'' isnt''' = wrong_at [] rest word more e begins_empty (λ b. neither (first_word b.1.0 word b.0 b.1.1)) where
+  neither : (word ≡ translate) ⊎ (word ≡ conform) ⊎ (word ≡ check) ⊎ (word ≡ run) → ⊥
   neither (inl h) = isnt h
   neither (inr (inl h)) = isnt' h
-  neither (inr (inr h)) = isnt'' h
+  neither (inr (inr (inl h))) = isnt'' h
+  neither (inr (inr (inr h))) = isnt''' h
 
 pub wrong_protocol : (rest : List Word) (word : Word) (more : List Word) → rest ≡ word ∷ more → (IsFileOf (codes ".scr") word → ⊥) → AreWrong (conform ∷ rest) (Some word)
 wrong_protocol rest word more e isnt = wrong_at (conform ∷ []) rest word more e begins_conform (λ b. isnt (protocol_word b.1.0 word b.0 b.1.1))
@@ -343,6 +391,31 @@ wrong_file folder files word name plain (before, after, is, each, isnt) = record
       let still = λ (n : folder ≡ None). still_plain before word after more (λ r e. plain n r (is ∙ e)) in
       All-mid (IsFileOf (codes ".scr")) before word more (translate_files command folder (before ++ word ∷ more) still there).1
 
+pub wrong_source : (files : List Word) (word : Word) → IsFirstOther IsSourceName files (Some word) → AreWrong (check ∷ files) (Some word)
+wrong_source files word (before, after, is, each, isnt) = record {
+  before = check ∷ before;
+  after = after;
+  stands = ap (λ (z : List Word). check ∷ z) is;
+  begins = begins_sources before each;
+  wrong = λ b. isnt (found b);
+} where
+  found : CanBegin AreCommand ((check ∷ before) ++ word ∷ []) → IsSourceName word
+  found (more, (command, k)) =
+      let split : ((check ∷ before) ++ word ∷ []) ++ more ≡ check ∷ (before ++ word ∷ more) = append_assoc (check ∷ before) (word ∷ []) more in
+      All-mid IsSourceName before word more (check_files command (before ++ word ∷ more) (subst (IsCommand command) split k)).1
+
+-- the names of files of a program tell of which kinds they are
+pub kinds_of : (words files : List Word) → IsCommand (Check files) words → HaveKinds files
+kinds_of words files (e, some, each) k d lt = (each k d lt).1
+
+-- all files of translate are local protocols by their names, and so is the first of conform
+pub protocols_of : (words files : List Word) (folder : Option Word) → IsCommand (Translate folder files) words → All (IsFileOf (codes ".scr")) files
+protocols_of words files folder (e, _, are) = are.1
+
+pub protocol_of_two : (words files : List Word) (first : Word) → IsCommand (Conform files) words → first ≡ get_or files 0 first → EndsWith (codes ".scr") first
+protocol_of_two words files first (e, are) is =
+    subst (EndsWith (codes ".scr")) (sym (is ∙ ap (λ (z : List Word). get_or z 0 first) are.two)) are.scribble.1
+
 pub wrong_main : (rest : List Word) (word : Word) (more : List Word) → rest ≡ word ∷ more → (word ≡ main → ⊥) → AreWrong (run ∷ rest) (Some word)
 wrong_main rest word more e isnt = wrong_at (run ∷ []) rest word more e begins_run (λ b. isnt (main_word b.1.0 word b.0 b.1.1))
 
@@ -375,9 +448,16 @@ same_command words (Translate (Some c) f) (Translate (Some d) g) (e, h, k) (e', 
     let rest = tail_is (tail_is (sym e ∙ e')) in
     (λ i. Translate (Some (head_is rest i)) (tail_is rest i))
 same_command words (Translate c f) (Conform g) (e, h, k) (e', h') = apart_first (head_is (sym e ∙ e'))
+same_command words (Translate c f) (Check g) (e, h, k) (e', h', k') = no_check (head_is (sym e ∙ e'))
 same_command words (Conform f) (Translate d g) (e, h) (e', h', k') = apart_first (sym (head_is (sym e ∙ e')))
 same_command words (Conform f) (Conform g) (e, h) (e', h') = ap Conform (tail_is (sym e ∙ e'))
+same_command words (Conform f) (Check g) (e, h) (e', h', k') = no_check_calls (head_is (sym e ∙ e'))
 same_command words (Conform f) (Run d g) (e, h) (e', h', k') = apart_last (head_is (sym e ∙ e'))
+same_command words (Check f) (Translate d g) (e, h, k) (e', h', k') = no_check (sym (head_is (sym e ∙ e')))
+same_command words (Check f) (Conform g) (e, h, k) (e', h') = no_check_calls (sym (head_is (sym e ∙ e')))
+same_command words (Check f) (Check g) (e, h, k) (e', h', k') = ap Check (tail_is (sym e ∙ e'))
+same_command words (Check f) (Run d g) (e, h, k) (e', h', k') = no_check_run (head_is (sym e ∙ e'))
+same_command words (Run c f) (Check g) (e, h, k) (e', h', k') = no_check_run (sym (head_is (sym e ∙ e')))
 same_command words (Run c f) (Conform g) (e, h, k) (e', h') = apart_last (sym (head_is (sym e ∙ e')))
 same_command words (Translate c f) (Run d g) (e, h, k) (e', h', k') = apart (head_is (sym e ∙ e'))
 same_command words (Run c f) (Translate d g) (e, h, k) (e', h', k') = apart (sym (head_is (sym e ∙ e')))
@@ -387,18 +467,18 @@ same_command words (Run c f) (Run d g) (e, h, k) (e', h', k') =
 
 -- ---- the end of a file's name
 
--- what ends with these bytes has something in front of them
-pub ends_is : (word suffix : List ℕ) → ends_with eqb word suffix ≡ true → EndsWith suffix word
-ends_is word suffix h =
-    let k : ℕ = length word - length suffix in
-    let tail : suffix ≡ drop k word = (bytes_eq-Decides suffix (drop k word)).0 h in
-    (take k word, sym (take-append-drop k word) ∙ ap (λ (z : List ℕ). take k word ++ z) (sym tail))
+-- the name of a file is one of a program's, by its ending
+pub source_of_kind : (kind : Kind) (word : Word) → IsFileOf (suffix_of kind) word → IsSourceName word
+source_of_kind kind word h = (h.0, (kind, h.1))
 
-pub is_ends : (word suffix : List ℕ) → EndsWith suffix word → ends_with eqb word suffix ≡ true
-is_ends word suffix (front, e) =
-    let at : length front ≡ length word - length suffix = omega (arith, ap length e, length-append front suffix) in
-    let tail : drop (length word - length suffix) word ≡ suffix = rw e (drop_at front suffix _ (at ∙ ap (λ (z : Word). length z - length suffix) e)) in
-    (bytes_eq-Decides suffix (drop (length word - length suffix) word)).1 (sym tail)
+-- it ends in none but these
+pub other_kinds : (r : Bool) (word : Word) → (IsFileOf (codes ".scr") word → ⊥) → (IsFileOf (codes ".protocol") word → ⊥)
+    → (r ≡ true → IsFileOf (codes ".java") word) × (IsFileOf (codes ".java") word → r ≡ true) → (r ≡ true → IsSourceName word) × (IsSourceName word → r ≡ true)
+other_kinds r word no_protocol no_states java = (λ t. source_of_kind Java word (java.0 t), by_kind) where
+  by_kind : IsSourceName word → r ≡ true
+  by_kind (name, (Scribble, ends)) = absurd (no_protocol (name, ends))
+  by_kind (name, (Typestates, ends)) = absurd (no_states (name, ends))
+  by_kind (name, (Java, ends)) = java.1 (name, ends)
 
 pub refuted : {P : Type 0} → (P → false ≡ true) → P → ⊥
 refuted f p = let e : false ≡ true = f p in cc

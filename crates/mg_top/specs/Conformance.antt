@@ -9,8 +9,9 @@ use Rattle.scr_tree.specs.Traces.{Trace, Complete}
 use Rattle.mg_calls.specs.Calls.{CallAt, AreCalls, IsFirstBad}
 use Rattle.mg_top.specs.declared.status.Status.{Status}
 use Rattle.mg_top.specs.declared.status.Status.TheVariants.{Done, Refused}
-use Rattle.mg_top.specs.Files.{Source}
-use Rattle.mg_top.specs.Lines.{ended, fault_line, not_offered_line}
+use Rattle.mg_sources.specs.Files.{Source}
+use Rattle.mg_sources.specs.Faults.{fault_line}
+use Rattle.mg_top.specs.Lines.{ended, not_offered_line}
 
 -- the calls, without the numbers of their lines
 abbrev pub calls_of : List CallAt → List Call

@@ -2,8 +2,6 @@ pub mod Words
 pub mod Numbers
 pub mod Lines
 pub mod Files
-pub mod Reading
-pub mod Sources
 pub mod Translation
 pub mod Conformance
 pub mod Outside

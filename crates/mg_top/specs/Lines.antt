@@ -1,11 +1,11 @@
 -- The lines that are said of faults and of runs.
 use Rattle.std.specs.Prelude.{ℕ, List, [], ◌∷◌, ◌++◌, Option, Some, None, codes}
 use Rattle.std.specs.Fmt.{decimal}
-use Rattle.mg_text.specs.declared.place.Place.{Place}
 use Rattle.jv_read.specs.declared.JavaFault.{JavaFault}
 use Rattle.jv_read.specs.declared.JavaFault.TheVariants as java_faults
 use Rattle.mg_run.specs.declared.RunFault.{RunFault}
 use Rattle.mg_run.specs.declared.RunFault.TheVariants as run_faults
+use Rattle.mg_sources.specs.Faults.{fault_at, fault_line}
 use Rattle.mg_top.specs.Words.{Word}
 
 abbrev pub ended : List ℕ → List ℕ
@@ -27,25 +27,6 @@ write_line file = ended (codes "mungo: write " ++ file)
 
 abbrev pub memory_line : List ℕ
 memory_line = ended (codes "mungo: memory")
-
--- what is at fault in a file: its kind, its place, and what is named, which is empty where nothing is
-pub record Fault : Type 0 where
-  pub kind : List ℕ
-  pub place : Place
-  pub name : List ℕ
-
-abbrev pub fault_at : List ℕ → Place → List ℕ → Fault
-fault_at kind place name = record { kind = kind; place = place; name = name }
-
--- behind a fault stand a blank and the name, if there is one
-abbrev pub fault_name : List ℕ → List ℕ
-fault_name [] = []
-fault_name (c ∷ cs) = codes " " ++ c ∷ cs
-
--- a fault of a file
-abbrev pub fault_line : Word → Fault → List ℕ
-fault_line file fault =
-    ended (file ++ codes ":" ++ decimal fault.place.line ++ codes ":" ++ decimal fault.place.column ++ codes ": " ++ fault.kind ++ fault_name fault.name)
 
 -- a class of the words can't be run
 abbrev pub no_main_line : Word → List ℕ

@@ -12,9 +12,10 @@ use Rattle.stm_api.specs.Api.{ApiText, IsApi}
 use Rattle.mg_top.specs.declared.delivery.Action.{Action}
 use Rattle.mg_top.specs.declared.delivery.Action.TheVariants.{Write}
 use Rattle.mg_top.specs.Words.{Word}
-use Rattle.mg_top.specs.Files.{Source, Output}
-use Rattle.mg_top.specs.Reading.{Reads}
-use Rattle.mg_top.specs.Sources.{SharesRole}
+use Rattle.mg_sources.specs.Files.{Source}
+use Rattle.mg_sources.specs.Reading.{Protocol, Reads}
+use Rattle.mg_sources.specs.Sources.{SharesRole}
+use Rattle.mg_top.specs.Files.{Output}
 
 -- a name of a file, in a folder where there is one
 abbrev pub in_folder : Option Word → Word → Word
@@ -45,7 +46,7 @@ pub record IsTranslation (folder : Option Word) (local : LocalTree) (writes : Li
 -- the file spells a valid local protocol, and these writes are its translation
 pub record Translates (folder : Option Word) (source : Source) (writes : List Action) : Type 0 where
   pub local : LocalTree
-  pub spelled : Reads source.number source.bytes local
+  pub spelled : Reads source (Protocol local)
   pub translation : IsTranslation folder local writes
 
 -- each of the files is translated, in their order

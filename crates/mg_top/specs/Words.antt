@@ -4,6 +4,7 @@ use Rattle.mg_read.specs.Letters.{is_name_byte}
 use Rattle.mg_read.specs.Passes.{AllPasses}
 use Rattle.scr_tree.specs.Words.{reserved}
 use Rattle.scr_lex.specs.Pieces.{StartsName}
+use Rattle.mg_sources.specs.Files.{EndsWith, Kind, suffix_of}
 
 abbrev pub Word : Type 0
 Word = List ℕ
@@ -13,6 +14,8 @@ pub data Command : Type 0 where
   Translate : (folder : Option Word) → (files : List Word) → Command
   -- tell whether the calls of the second file follow the protocol of the first
   Conform : (files : List Word) → Command
+  -- tell what the least tables of these files' program have
+  Check : (files : List Word) → Command
   -- run the `main` of a class of the file
   Run : (class : Word) → (files : List Word) → Command
 
@@ -20,15 +23,13 @@ pub data Command : Type 0 where
 abbrev pub files_of : Command → List Word
 files_of (Translate folder files) = files
 files_of (Conform files) = files
+files_of (Check files) = files
 files_of (Run class files) = files
 
 -- no name of a file or folder is empty or begins with "-"
 abbrev pub IsFileName : Word → Type 0
 IsFileName [] = ⊥
 IsFileName (c ∷ cs) = c ≢ 45
-
-abbrev pub EndsWith : List ℕ → Word → Type 0
-EndsWith suffix word = (front : List ℕ) × (word ≡ front ++ suffix)
 
 -- the name of a file with this ending
 abbrev pub IsFileOf : List ℕ → Word → Type 0
@@ -37,6 +38,10 @@ IsFileOf suffix word = IsFileName word × EndsWith suffix word
 -- one or more names of files with this ending
 abbrev pub AreFilesOf : List ℕ → List Word → Type 0
 AreFilesOf suffix files = (files ≢ []) × All (IsFileOf suffix) files
+
+-- the name of a file of a protocol, of a typestate, or of classes and enums
+abbrev pub IsSourceName : Word → Type 0
+IsSourceName word = IsFileName word × ((kind : Kind) × EndsWith (suffix_of kind) word)
 
 -- the name of a file of a protocol, and that of a file of calls
 pub record AreProtocolAndCalls (files : List Word) : Type 0 where
@@ -60,6 +65,7 @@ abbrev pub IsCommand : Command → List Word → Type 0
 IsCommand (Translate folder files) words =
     (words ≡ codes "translate" ∷ (out_words folder ++ files)) × IfSome folder IsFileName × AreFilesOf (codes ".scr") files
 IsCommand (Conform files) words = (words ≡ codes "conform" ∷ files) × AreProtocolAndCalls files
+IsCommand (Check files) words = (words ≡ codes "check" ∷ files) × (files ≢ []) × All IsSourceName files
 IsCommand (Run class files) words =
     (words ≡ codes "run" ∷ codes "--main" ∷ class ∷ files) × IsClassName class × ((file : Word) × (files ≡ file ∷ []) × IsFileOf (codes ".java") file)
 

@@ -1,17 +1,18 @@
 //! The command `conform`: whether the calls of a file follow a local protocol.
 
-ghost use Rattle.std.specs.Prelude.{◌≡◌, ◌∷◌, [], IfOk, map};
+ghost use Rattle.std.specs.Prelude.{◌≡◌, ◌∷◌, [], IfOk, codes, map};
 ghost use Rattle.scr_tree.specs.Local.{tree_of};
 ghost use Rattle.mg_calls.specs.Answer.{call_of as call_at};
 ghost use Rattle.scr_trace.specs.Walking.{call_said};
+ghost use Rattle.mg_sources.specs.Files.{EndsWith};
 ghost use Rattle.mg_top.specs.Words.{Conform};
 ghost use Rattle.mg_top.specs.Commands.{Yields};
 ghost use Rattle.mg_top.specs.inner.Preparing.{IsAnswered, IsListRefusal};
 
 use crate::delivery::Delivery;
-use crate::sources::{Stop, read_source};
 use crate::{Status, lines};
 use mg_calls::{CallLine, CallsFault, read_calls};
+use mg_sources::{Stop, fault_line, read_protocol};
 use mg_text::{Memory, Text};
 use scr_trace::{Call, StepFault, Walk};
 use scr_tree::Local;
@@ -25,10 +26,11 @@ pub fn conform(
     bytes: &[u8],
     listed: &[u8],
 ) -> Result<Delivery, Memory>
+    requires { EndsWith (codes ".scr") protocol.now }
     ensures { IfOk result (λ d. Yields (Conform (protocol.now ∷ calls.now ∷ []))
         (bytes.now ∷ listed.now ∷ []) d.actions.items d.status) }
 {
-    let local = match read_source(alloc, 0, protocol, bytes) {
+    let local = match read_protocol(alloc, 0, protocol, bytes) {
         Ok(local) => local,
         Err(Stop::Refused(line)) => return Delivery::said(alloc, line, Status::Refused),
         Err(Stop::Memory) => return Err(Memory),
@@ -44,8 +46,8 @@ fn refuse(alloc: Global, name: &Text, fault: CallsFault) -> Result<Delivery, Mem
     ensures { IfOk result (λ d. IsListRefusal name.now fault d.actions.items d.status) }
 {
     let line = match fault {
-        CallsFault::TooLarge { place } => lines::fault(alloc, name, place, "TooLarge", "")?,
-        CallsFault::BadLine { place } => lines::fault(alloc, name, place, "BadLine", "")?,
+        CallsFault::TooLarge { place } => fault_line(alloc, name.as_str(), place, "TooLarge", "")?,
+        CallsFault::BadLine { place } => fault_line(alloc, name.as_str(), place, "BadLine", "")?,
         CallsFault::Memory => return Err(Memory),
     };
     Delivery::said(alloc, line, Status::Refused)

@@ -2,12 +2,12 @@
 //! Its contract carries what the whole program promises.
 #![tactic(auto)]
 
+mod check;
 mod conform;
 mod delivery;
 mod lines;
 mod reading;
 mod run;
-mod sources;
 mod status;
 mod top;
 mod translate;

@@ -1,11 +1,12 @@
 //! The lines that are said of faults and of runs.
 
-ghost use Rattle.std.specs.Prelude.{◌≡◌, ◌++◌, IfOk, OnOk, option_map, string_bytes};
-ghost use Rattle.mg_top.specs.Lines.{words_line, read_line, write_line, fault_line, fault_name, no_main_line, not_offered_line, java_line, run_line, ran_line};
+ghost use Rattle.std.specs.Prelude.{◌≡◌, IfOk, option_map};
+ghost use Rattle.mg_top.specs.Lines.{words_line, read_line, write_line, no_main_line, not_offered_line, java_line, run_line, ran_line};
 
 use jv_read::JavaFault;
 use mg_run::RunFault;
-use mg_text::{Memory, Place, Text};
+use mg_sources::fault_line;
+use mg_text::{Memory, Text};
 use std::alloc::Global;
 
 /// The line of want of memory, which takes none.
@@ -44,48 +45,34 @@ pub fn unwritten(alloc: Global, file: &Text) -> Result<Text, Memory>
     Ok(Text::from_string(line))
 }
 
-/// A file is refused, at a place of it; the name is empty where the fault names nothing.
-pub fn fault(
-    alloc: Global,
-    file: &Text,
-    place: Place,
-    kind: &str,
-    name: &str,
-) -> Result<Text, Memory>
-    ensures { IfOk result
-        (λ t. t ≡ fault_line file.now (record { kind = kind.now; place = place; name = name.now })) }
-{
-    let line = place.line;
-    let column = place.column;
-    let mut text = String::from_str(alloc, file.as_str())?;
-    write!(text, ":{line}:{column}: ")?;
-    text.push_str(kind)?;
-    push_name(&mut text, name)?;
-    text.push_str("\n")?;
-    Ok(Text::from_string(text))
-}
-
-// Appends a blank and a name, if there is one.
-fn push_name(text: &mut String, name: &str) -> Result<(), Memory>
-    ensures { OnOk result (string_bytes text.new ≡ string_bytes text.old ++ fault_name name.now) }
-{
-    if !name.is_empty() {
-        text.push_str(" ")?;
-        text.push_str(name)?;
-    }
-    Ok(())
-}
-
 /// A class of the words can't be run, or its source is refused.
 pub fn not_run(alloc: Global, class: &Text, file: &Text, reason: RunFault) -> Result<Text, Memory>
     ensures { IfOk result (λ t. t ≡ run_line class.now file.now reason) }
 {
     match reason {
         RunFault::Unread(reason) => unread_java(alloc, file, reason),
-        RunFault::Unsupported { place } => fault(alloc, file, place, "Unsupported", ""),
+        RunFault::Unsupported { place } => fault_line(
+            alloc,
+            file.as_str(),
+            place,
+            "Unsupported",
+            "",
+        ),
         RunFault::NoMain => no_main(alloc, class),
-        RunFault::CodeTooLong { place } => fault(alloc, file, place, "CodeTooLong", "main"),
-        RunFault::TextTooLong { place } => fault(alloc, file, place, "TextTooLong", "main"),
+        RunFault::CodeTooLong { place } => fault_line(
+            alloc,
+            file.as_str(),
+            place,
+            "CodeTooLong",
+            "main",
+        ),
+        RunFault::TextTooLong { place } => fault_line(
+            alloc,
+            file.as_str(),
+            place,
+            "TextTooLong",
+            "main",
+        ),
         RunFault::Memory => Text::of(alloc, MEMORY),
     }
 }
@@ -95,16 +82,22 @@ fn unread_java(alloc: Global, file: &Text, reason: JavaFault) -> Result<Text, Me
     ensures { IfOk result (λ t. t ≡ java_line file.now reason) }
 {
     match reason {
-        JavaFault::TooLarge { place } => fault(alloc, file, place, "TooLarge", ""),
-        JavaFault::BadByte { place } => fault(alloc, file, place, "BadByte", ""),
-        JavaFault::OpenComment { place } => fault(alloc, file, place, "OpenComment", ""),
-        JavaFault::OpenText { place } => fault(alloc, file, place, "OpenText", ""),
-        JavaFault::BadEscape { place } => fault(alloc, file, place, "BadEscape", ""),
-        JavaFault::BadNumber { place } => fault(alloc, file, place, "BadNumber", ""),
+        JavaFault::TooLarge { place } => fault_line(alloc, file.as_str(), place, "TooLarge", ""),
+        JavaFault::BadByte { place } => fault_line(alloc, file.as_str(), place, "BadByte", ""),
+        JavaFault::OpenComment { place } => fault_line(
+            alloc,
+            file.as_str(),
+            place,
+            "OpenComment",
+            "",
+        ),
+        JavaFault::OpenText { place } => fault_line(alloc, file.as_str(), place, "OpenText", ""),
+        JavaFault::BadEscape { place } => fault_line(alloc, file.as_str(), place, "BadEscape", ""),
+        JavaFault::BadNumber { place } => fault_line(alloc, file.as_str(), place, "BadNumber", ""),
         JavaFault::Unsupported { place, name } => {
-            fault(alloc, file, place, "Unsupported", name.as_str())
+            fault_line(alloc, file.as_str(), place, "Unsupported", name.as_str())
         }
-        JavaFault::Syntax { place } => fault(alloc, file, place, "Syntax", ""),
+        JavaFault::Syntax { place } => fault_line(alloc, file.as_str(), place, "Syntax", ""),
         JavaFault::Memory => Text::of(alloc, MEMORY),
     }
 }

@@ -8,6 +8,7 @@ ghost use Rattle.mg_top.specs.Promises.{Promises};
 ghost use Rattle.mg_top.specs.inner.Judging.{command_of, IsKnown};
 ghost use Rattle.mg_top.specs.inner.Preparing.{IsPrepared};
 
+use crate::check::check;
 use crate::conform::conform;
 use crate::delivery::{Delivery, deliver, starve};
 use crate::reading::{Unread, read_all};
@@ -25,6 +26,7 @@ use std::alloc::Global;
 /// `translate [--out D] F..` reads the local protocols in the files and writes the typestates of
 /// their roles, into the folder D where one is named.
 /// `conform F CALLS` tells whether the calls of the second file follow the protocol of the first.
+/// `check F..` tells what the least tables of the files' program have, where some tables solve it.
 /// `run --main C F` compiles the class C of F and runs its `main`; what it prints goes to `out`.
 pub fn mungo<F: Folder, O: Sink, E: Sink>(
     alloc: Global,
@@ -86,6 +88,7 @@ fn carry_out(alloc: Global, command: &Command<'_>, contents: &[Bytes]) -> Result
             contents[0].as_slice(),
             contents[1].as_slice(),
         ),
+        Command::Check { files } => check(alloc, files, contents),
         Command::Run { class, files } => run(alloc, class, &files[0], contents[0].as_slice()),
     }
 }

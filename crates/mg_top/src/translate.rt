@@ -1,18 +1,19 @@
 //! The command `translate`: Scribble files become the typestates of their roles, and the Java
 //! classes by which programs play them.
 
-ghost use Rattle.std.specs.Prelude.{◌≡◌, ◌<◌, ◌^◌, ◌++◌, codes, length, map, IfOk, OnOk, option_map};
+ghost use Rattle.std.specs.Prelude.{◌≡◌, ◌<◌, ◌^◌, ◌++◌, All, codes, length, map, IfOk, OnOk, option_map};
 ghost use Rattle.scr_tree.specs.Local.{tree_of};
-ghost use Rattle.mg_top.specs.Files.{sources};
-ghost use Rattle.mg_top.specs.Words.{Translate};
+ghost use Rattle.mg_sources.specs.Files.{sources};
+ghost use Rattle.mg_sources.specs.Parts.{part_of};
+ghost use Rattle.mg_top.specs.Words.{IsFileOf, Translate};
 ghost use Rattle.mg_top.specs.Translation.{in_folder, IsTypestateFile, api_written};
 ghost use Rattle.mg_top.specs.Commands.{Yields};
-ghost use Rattle.mg_top.specs.inner.Preparing.{AreWritten, AddsTranslation, EachIsWritten};
+ghost use Rattle.mg_top.specs.inner.Preparing.{AreWritten, AddsPart, AddsTranslation, EachIsWritten, locals_in};
 ghost use Rattle.stm_api.specs.View.{written_of};
 
 use crate::Status;
 use crate::delivery::{Action, Delivery, Output};
-use crate::sources::{Stop, check_roles, read_sources};
+use mg_sources::{Part, Stop, check_roles, read_parts};
 use mg_text::{Bytes, List, Memory, Text};
 use scr_tree::Local;
 use std::alloc::Global;
@@ -29,6 +30,7 @@ pub fn translate(
 ) -> Result<Delivery, Memory>
     requires same { length names.now ≡ length contents.now }
     requires count { length contents.now < 2 ^ 32 }
+    requires scribble { All (IsFileOf (codes ".scr")) names.now }
     ensures { IfOk result (λ d. Yields (Translate (option_map (λ f. f.now) folder.entry) names.now)
         contents.now d.actions.items d.status) }
 {
@@ -51,24 +53,40 @@ fn translations(
 ) -> Result<List<Action>, Stop>
     requires same { length names.now ≡ length contents.now }
     requires count { length contents.now < 2 ^ 32 }
+    requires scribble { All (IsFileOf (codes ".scr")) names.now }
     ensures { AreWritten (option_map (λ f. f.now) folder.entry) (sources names.now contents.now)
         result }
 {
-    let locals = read_sources(alloc, names, contents)?;
-    check_roles(alloc, names, locals.as_slice())?;
-    let writes = write_all(alloc, folder, locals.as_slice())?;
+    let parts = read_parts(alloc, names, contents)?;
+    check_roles(alloc, names, parts.as_slice())?;
+    let writes = write_all(alloc, folder, parts.as_slice())?;
     Ok(writes)
 }
 
 // The writes of all protocols.
-fn write_all(alloc: Global, folder: Option<&Text>, locals: &[Local]) -> Result<List<Action>, Memory>
-    ensures { IfOk result (λ w. EachIsWritten (option_map (λ f. f.now) folder.entry) (map tree_of locals.now) w.items) }
+fn write_all(alloc: Global, folder: Option<&Text>, parts: &[Part]) -> Result<List<Action>, Memory>
+    ensures { IfOk result (λ w. EachIsWritten (option_map (λ f. f.now) folder.entry) (locals_in (map part_of parts.now)) w.items) }
 {
     let mut writes = List::new(alloc);
-    for local in locals {
-        add_translation(alloc, folder, local, &mut writes)?;
+    for part in parts {
+        add_part(alloc, folder, part, &mut writes)?;
     }
     Ok(writes)
+}
+
+// Appends what is written for what a file spells, which is nothing but for a protocol.
+fn add_part(
+    alloc: Global,
+    folder: Option<&Text>,
+    part: &Part,
+    writes: &mut List<Action>,
+) -> Result<(), Memory>
+    ensures { OnOk result (AddsPart (option_map (λ f. f.now) folder.entry) (part_of part.now) writes.old.items writes.new.items) }
+{
+    match part {
+        Part::Protocol(local) => add_translation(alloc, folder, local, writes),
+        Part::States(_) | Part::Classes(_) => Ok(()),
+    }
 }
 
 // Appends what is written for a protocol: its typestate and its API.

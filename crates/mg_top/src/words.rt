@@ -4,7 +4,7 @@
 ghost use Rattle.std.specs.Prelude.{◌≡◌, ◌↔◌, ◌∷◌, ◌++◌, List, codes, IsTrue, IfSome, Option, None, option_map};
 ghost use Rattle.std.specs.List.{list_all};
 ghost use Rattle.scr_lex.specs.Pieces.{StartsName, AllPasses, is_name_start, is_name_byte};
-ghost use Rattle.mg_top.specs.Words.{Word, IsFileName, IsFileOf, IsClassName, out_words, files_of};
+ghost use Rattle.mg_top.specs.Words.{Word, IsFileName, IsFileOf, IsSourceName, IsClassName, out_words, files_of};
 ghost use Rattle.mg_top.specs.inner.Judging.{IsJudged, IsFirstOther, command_of};
 
 use mg_text::Text;
@@ -22,6 +22,10 @@ pub enum Command<'a> {
     Conform {
         files: &'a [Text],
     },
+    /// `check`, and the files.
+    Check {
+        files: &'a [Text],
+    },
     /// `run --main`, the class and its file.
     Run {
         class: &'a Text,
@@ -37,6 +41,7 @@ impl<'a> Command<'a> {
         match *self {
             Command::Translate { files, .. } => files,
             Command::Conform { files } => files,
+            Command::Check { files } => files,
             Command::Run { files, .. } => files,
         }
     }
@@ -63,6 +68,8 @@ pub fn judge(words: &[Text]) -> Judged<'_>
                 judge_translate(rest)
             } else if is_word(command, "conform") {
                 judge_conform(rest)
+            } else if is_word(command, "check") {
+                judge_check(rest)
             } else if is_word(command, "run") {
                 judge_run(rest)
             } else {
@@ -146,6 +153,19 @@ fn judge_conform(words: &[Text]) -> Judged<'_>
     }
 }
 
+// The same of the words behind `check`, which are its files.
+fn judge_check(files: &[Text]) -> Judged<'_>
+    ensures { IsJudged (codes "check" ∷ files.now) result }
+{
+    if let Some(word) = other_source(files) {
+        return Judged::Wrong(Some(word));
+    }
+    if files.is_empty() {
+        return Judged::Wrong(None);
+    }
+    Judged::Known(Command::Check { files })
+}
+
 // The same of the words behind `run`.
 fn judge_run(words: &[Text]) -> Judged<'_>
     ensures { IsJudged (codes "run" ∷ words.now) result }
@@ -212,6 +232,18 @@ fn other_file<'a>(words: &'a [Text], suffix: &[u8]) -> Option<&'a Text>
     None
 }
 
+// The first word that is no name of a file that a program may have.
+fn other_source(words: &[Text]) -> Option<&Text>
+    ensures { IsFirstOther IsSourceName words.now (option_map (λ w. w.now) result) }
+{
+    for word in words {
+        if !is_source_name(word) {
+            return Some(word);
+        }
+    }
+    None
+}
+
 fn is_word(word: &Text, text: &str) -> bool
     ensures { IsTrue result ↔ (word.now ≡ text.now) }
 {
@@ -237,6 +269,19 @@ fn is_file(word: &Text, suffix: &[u8]) -> bool
         [] => false,
         [first, ..] => *first != b'-' && bytes.ends_with(suffix),
     }
+}
+
+// Whether the word is the name of a file of a protocol, of a typestate, or of classes and enums.
+fn is_source_name(word: &Text) -> bool
+    ensures { IsTrue result ↔ IsSourceName word.now }
+{
+    if is_file(word, b".scr") {
+        return true;
+    }
+    if is_file(word, b".protocol") {
+        return true;
+    }
+    is_file(word, b".java")
 }
 
 // Whether the word is a name as Scribble has them, and no reserved word.

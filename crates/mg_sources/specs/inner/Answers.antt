@@ -1,14 +1,12 @@
 -- What the functions that read the files of a command may answer.
-use Rattle.std.specs.Prelude.{◌≡◌, ℕ, suc, List, [], ◌∷◌, ◌++◌, map, Option, Some, None, Result, Ok, Err}
-use Rattle.mg_text.specs.Row.{Row}
-use Rattle.mg_read.specs.First.{Judged, with_earlier}
+use Rattle.std.specs.Prelude.{◌≡◌, ℕ, suc, List, [], ◌∷◌, ◌++◌, map, Option, Some, Result, Ok, Err}
 use Rattle.ts_tree.specs.Typestate.{Typestate}
 use Rattle.jv_tree.specs.Source.{File}
 use Rattle.mg_sources.specs.Faults.{Fault, fault_line}
 use Rattle.mg_sources.specs.Files.{Source}
-use Rattle.mg_sources.specs.Reading.{Part, Reads}
-use Rattle.mg_sources.specs.Sources.{Sourced, empty, adding, Stands, IsRefused, SharesRole}
-use Rattle.mg_sources.specs.inner.Parts.{part_of}
+use Rattle.mg_sources.specs.Reading.{Part, Protocol, States, Classes, Reads}
+use Rattle.mg_sources.specs.Sources.{Sourced, empty, adding, Stands, IsRefused}
+use Rattle.mg_sources.specs.Parts.{part_of}
 use Rattle.mg_sources.specs.declared.part.Part.{Part as KeptPart}
 use Rattle.mg_sources.specs.declared.stop.Stop.{Stop}
 use Rattle.mg_sources.specs.declared.stop.Stop.TheVariants as stops
@@ -24,24 +22,11 @@ IsPart source (Ok part) = Reads source (part_of part)
 IsPart source (Err (stops.Refused line)) = IsRefused source line
 IsPart source (Err stops.Memory) = Unit {0}
 
--- each of the files spells one of these, in their order
-abbrev pub EachSpells : List Source → List Part → Type 0
-EachSpells [] [] = Unit {0}
-EachSpells [] (part ∷ more) = ⊥
-EachSpells (source ∷ sources) [] = ⊥
-EachSpells (source ∷ sources) (part ∷ more) = Reads source part × EachSpells sources more
-
--- what the files spell, or the line of the first fault
-abbrev pub AreParts : List Source → Result (Row KeptPart) Stop → Type 0
-AreParts sources (Ok parts) = EachSpells sources (map part_of parts.items)
-AreParts sources (Err (stops.Refused line)) = Judged IsRefused sources (Some line)
-AreParts sources (Err stops.Memory) = Unit {0}
-
--- no two of the files are of one role, or the line of the first that is of the role of an earlier one
-abbrev pub AreApart : List Source → Result Unit Stop → Type 0
-AreApart sources (Ok _) = Judged SharesRole (with_earlier sources) None
-AreApart sources (Err (stops.Refused line)) = Judged SharesRole (with_earlier sources) (Some line)
-AreApart sources (Err stops.Memory) = Unit {0}
+-- the role of a part that is a protocol
+abbrev pub role_in : Part → List (List ℕ)
+role_in (Protocol local) = local.me ∷ []
+role_in (States typestate) = []
+role_in (Classes file) = []
 
 -- these parts, of files numbered from here on, stand together for a program
 pub data Make : ℕ → List Part → Sourced → Type 0 where

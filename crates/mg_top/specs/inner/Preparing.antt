@@ -1,67 +1,43 @@
 -- What the functions that prepare a delivery may answer.
-use Rattle.std.specs.Prelude.{◌≡◌, ◌≢◌, ℕ, ◌⊎◌, List, [], ◌∷◌, ◌++◌, Contains, codes, map, Option, Some, None, Result, Ok, Err}
+use Rattle.std.specs.Prelude.{◌≡◌, ◌≢◌, ℕ, ◌⊎◌, List, [], ◌∷◌, ◌++◌, codes, Option, Result, Ok, Err}
 use Rattle.mg_text.specs.Row.{Row}
 use Rattle.mg_text.specs.declared.memory.Memory.{Memory}
-use Rattle.mg_read.specs.First.{Judged, with_earlier}
 use Rattle.scr_tree.specs.Tree.{LocalTree}
-use Rattle.scr_tree.specs.Local.{tree_of}
-use Rattle.scr_tree.specs.declared.local.Local.{Local}
-use Rattle.mg_io.specs.Outside.{Files}
 use Rattle.mg_top.specs.declared.delivery.Action.{Action}
 use Rattle.mg_top.specs.declared.delivery.Delivery.{Delivery}
 use Rattle.mg_text.specs.Places.{start_of}
 use Rattle.mg_calls.specs.Calls.{CallAt}
 use Rattle.mg_calls.specs.declared.CallsFault.{CallsFault}
 use Rattle.mg_calls.specs.declared.CallsFault.TheVariants as calls_faults
+use Rattle.mg_top.specs.Commands.{prints}
 use Rattle.mg_top.specs.Conformance.{Conforms}
+use Rattle.jv_core.specs.Tree as Core
+use Rattle.use_check.specs.Report.{IsReport}
 use Rattle.mg_run.specs.declared.RunFault.{RunFault}
 use Rattle.mg_run.specs.declared.RunFault.TheVariants as run_faults
 use Rattle.mg_top.specs.declared.status.Status.{Status}
 use Rattle.mg_top.specs.declared.status.Status.TheVariants as statuses
 use Rattle.mg_top.specs.declared.reading.Unread.{Unread}
 use Rattle.mg_top.specs.declared.reading.Unread.TheVariants as unread
-use Rattle.mg_top.specs.declared.sources.Stop.{Stop}
-use Rattle.mg_top.specs.declared.sources.Stop.TheVariants as stops
 use Rattle.mg_top.specs.Words.{Word}
-use Rattle.scr_read.specs.declared.ScrFault.{ScrFault}
 use Rattle.mg_top.specs.declared.delivery.Action.TheVariants as acts
-use Rattle.mg_top.specs.Lines.{Fault, fault_line, run_line}
-use Rattle.mg_top.specs.Files.{Source}
-use Rattle.mg_top.specs.Sources.{IsRefused, IsOnly, SharesRole, Refusal}
+use Rattle.mg_sources.specs.Faults.{Fault, fault_line}
+use Rattle.mg_top.specs.Lines.{run_line}
+use Rattle.mg_sources.specs.Files.{Source}
+use Rattle.mg_sources.specs.Reading.{Part, Protocol, States, Classes}
+use Rattle.mg_sources.specs.Sources.{Refusal}
+use Rattle.mg_sources.specs.declared.stop.Stop.{Stop}
+use Rattle.mg_sources.specs.declared.stop.Stop.TheVariants as stops
 use Rattle.mg_top.specs.Translation.{IsTranslation, AreTranslated}
 use Rattle.mg_top.specs.Outside.{Outside}
-use Rattle.mg_top.specs.inner.Saying.{said_of}
 use Rattle.mg_top.specs.Ending.{AreRead, after_read, IsUnread, IsDue}
 
--- each of the files spells one of these protocols alone, in their order
-abbrev pub EachIsOnly : List Source → List LocalTree → Type 0
-EachIsOnly [] [] = Unit {0}
-EachIsOnly [] (local ∷ more) = ⊥
-EachIsOnly (source ∷ sources) [] = ⊥
-EachIsOnly (source ∷ sources) (local ∷ more) = IsOnly source local × EachIsOnly sources more
-
--- the protocol of a file, or the line of its fault
-abbrev pub IsSource : Source → Result Local Stop → Type 0
-IsSource source (Ok local) = IsOnly source (tree_of local)
-IsSource source (Err (stops.Refused line)) = IsRefused source line
-IsSource source (Err stops.Memory) = Unit {0}
-
--- the line of a fault of the reader, or want of memory
-abbrev pub IsRefusal : Word → ScrFault → Stop → Type 0
-IsRefusal name fault (stops.Refused line) = (told : Fault) × (said_of fault ≡ Some told) × (line ≡ fault_line name told)
-IsRefusal name fault stops.Memory = Unit {0}
-
--- the protocols of files, or the line of the first fault
-abbrev pub AreSources : List Source → Result (Row Local) Stop → Type 0
-AreSources sources (Ok locals) = EachIsOnly sources (map tree_of locals.items)
-AreSources sources (Err (stops.Refused line)) = Judged IsRefused sources (Some line)
-AreSources sources (Err stops.Memory) = Unit {0}
-
--- no two of the files are of one role, or the line of the first that is of the role of an earlier one
-abbrev pub AreApart : List Source → Result Unit Stop → Type 0
-AreApart sources (Ok _) = Judged SharesRole (with_earlier sources) None
-AreApart sources (Err (stops.Refused line)) = Judged SharesRole (with_earlier sources) (Some line)
-AreApart sources (Err stops.Memory) = Unit {0}
+-- the protocols among what files spell
+abbrev pub locals_in : List Part → List LocalTree
+locals_in [] = []
+locals_in (Protocol local ∷ parts) = local ∷ locals_in parts
+locals_in (States typestate ∷ parts) = locals_in parts
+locals_in (Classes file ∷ parts) = locals_in parts
 
 -- what is written for each protocol
 pub data EachIsWritten (folder : Option Word) : List LocalTree → List Action → Type 0 where
@@ -74,6 +50,12 @@ pub record AddsTranslation (folder : Option Word) (local : LocalTree) (before af
   pub writes : List Action
   pub translation : IsTranslation folder local writes
   pub grown : after ≡ before ++ writes
+
+-- the same of what a file spells; what is no protocol has none
+abbrev pub AddsPart : Option Word → Part → List Action → List Action → Type 0
+AddsPart folder (Protocol local) before after = AddsTranslation folder local before after
+AddsPart folder (States typestate) before after = after ≡ before
+AddsPart folder (Classes file) before after = after ≡ before
 
 -- the writes of the files' translations, or the line of the first refusal
 abbrev pub AreWritten : Option Word → List Source → Result (Row Action) Stop → Type 0
@@ -103,6 +85,13 @@ pub record IsAnswered (local : LocalTree) (calls : List CallAt) (actions : List 
   pub text : List ℕ
   pub says : actions ≡ acts.Print text ∷ []
   pub conforms : Conforms local calls text status
+
+-- a report is put on standard output
+pub record IsReported (core : Core.Program) (actions : List Action) (status : Status) : Type 0 where
+  pub text : List ℕ
+  pub says : actions ≡ prints text
+  pub done : status ≡ statuses.Done
+  pub report : IsReport core text
 
 -- what was read of the files, or which of them is the first that can't be read
 abbrev pub AreContents : List Word → Outside → Result (Row (List ℕ)) Unread → Outside → Type 0

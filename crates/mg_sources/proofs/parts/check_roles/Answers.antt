@@ -1,11 +1,11 @@
-use Rattle.std.proofs.Common.{◌≡◌, ◌∙◌, ◌+◌, ℕ, List, [], ◌∷◌, ◌++◌, map, take, sym, ap, subst, arith, codes, string_bytes, get_or, refl}
+use Rattle.std.proofs.Common.{◌≡◌, ◌∙◌, ℕ, List, [], ◌∷◌, ◌++◌, map, take, sym, ap, subst, arith, codes, string_bytes, get_or, refl}
 use Rattle.std.proofs.lemmas.List.{append-nil}
 use Rattle.std.proofs.lemmas.Map.Text.{hash_set_updates_text}
 use Rattle.mg_read.proofs.Scanning.{left_start}
 use Rattle.mg_sources.specs.Files.{sources}
 use Rattle.mg_sources.specs.Sources.{SharesRole}
 use Rattle.mg_sources.specs.Faults.{fault_at, fault_line}
-use Rattle.mg_sources.specs.inner.Parts.{part_of}
+use Rattle.mg_sources.specs.Parts.{part_of}
 use Rattle.mg_sources.proofs.PartLemmas.{same_at}
 use Rattle.mg_sources.proofs.RoleLemmas.{HasExactly, roles, nothing_yet, end_of, shared, apart, exact_next, without_role, roles_next, apart_refused}
 use Rattle.mg_sources.proofs.parts.check_roles.Goals as goal

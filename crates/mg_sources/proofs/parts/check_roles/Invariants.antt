@@ -2,8 +2,7 @@ use Rattle.std.proofs.Common.{map, take, ℕ, List}
 use Rattle.mg_read.proofs.Scanning.{Left}
 use Rattle.mg_sources.specs.Files.{sources}
 use Rattle.mg_sources.specs.Sources.{SharesRole}
-use Rattle.mg_sources.specs.inner.Answers.{EachSpells}
-use Rattle.mg_sources.specs.inner.Parts.{part_of}
+use Rattle.mg_sources.specs.Parts.{EachSpells, part_of}
 use Rattle.mg_sources.proofs.RoleLemmas.{HasExactly, roles}
 use Rattle.mg_sources.proofs.parts.check_roles.Given as goal
 

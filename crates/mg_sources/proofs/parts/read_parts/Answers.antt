@@ -5,7 +5,7 @@ use Rattle.mg_text.specs.Row.{Row}
 use Rattle.mg_sources.specs.declared.part.Part.{Part as KeptPart}
 use Rattle.mg_sources.specs.declared.stop.Stop.{Stop}
 use Rattle.mg_sources.specs.Files.{source_of, sources}
-use Rattle.mg_sources.specs.inner.Parts.{part_of}
+use Rattle.mg_sources.specs.Parts.{part_of}
 use Rattle.mg_sources.proofs.Endings.{kind_at}
 use Rattle.mg_sources.proofs.PartLemmas.{ReadSoFar, read_start, read_more, read_failed, read_end, source_is, source_within, sources_length}
 use Rattle.mg_sources.proofs.parts.read_parts.Goals as goal

@@ -1,6 +1,6 @@
 use Rattle.std.proofs.Common.{map}
 use Rattle.mg_sources.specs.Files.{sources}
-use Rattle.mg_sources.specs.inner.Parts.{part_of}
+use Rattle.mg_sources.specs.Parts.{part_of}
 use Rattle.mg_sources.proofs.PartLemmas.{ReadSoFar}
 use Rattle.mg_sources.proofs.parts.read_parts.Given as goal
 

@@ -3,8 +3,8 @@ use Rattle.std.specs.Prelude.{OnOk}
 use Rattle.mg_sources.specs.View.{sourced_of}
 use Rattle.mg_sources.specs.declared.part.Part.{Part as KeptPart}
 use Rattle.mg_sources.specs.declared.sources.Sources.{Sources as KeptSources}
+use Rattle.mg_sources.specs.Parts.{part_of}
 use Rattle.mg_sources.specs.inner.Answers.{Appends}
-use Rattle.mg_sources.specs.inner.Parts.{part_of}
 use Rattle.mg_sources.proofs.Programs.{adds_typestate, adds_file}
 use Rattle.mg_sources.proofs.sources.add_part.Goals as goal
 

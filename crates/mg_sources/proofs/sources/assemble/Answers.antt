@@ -3,7 +3,7 @@ use Rattle.std.proofs.lemmas.List.{length-map}
 use Rattle.std.specs.Vec.Iter.{into_iter_items}
 use Rattle.mg_sources.specs.declared.part.Part.{Part as KeptPart}
 use Rattle.mg_sources.specs.declared.sources.Sources.{Sources as KeptSources}
-use Rattle.mg_sources.specs.inner.Parts.{part_of}
+use Rattle.mg_sources.specs.Parts.{part_of}
 use Rattle.mg_sources.specs.View.{sourced_of}
 use Rattle.jv_tree.specs.View.{file_of}
 use Rattle.mg_sources.proofs.Together.{MadeSoFar, made_start, made_more, made_end, nothing_left}

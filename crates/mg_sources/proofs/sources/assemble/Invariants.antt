@@ -1,7 +1,7 @@
 use Rattle.std.proofs.Common.{◌≡◌, map, length}
 use Rattle.std.specs.Vec.Iter.{into_iter_items, into_iter_len}
 use Rattle.mg_sources.specs.View.{sourced_of}
-use Rattle.mg_sources.specs.inner.Parts.{part_of}
+use Rattle.mg_sources.specs.Parts.{part_of}
 use Rattle.mg_sources.proofs.Together.{MadeSoFar}
 use Rattle.mg_sources.proofs.sources.assemble.Given as goal
 

@@ -3,7 +3,7 @@ use Rattle.std.proofs.lemmas.Result.{err_from_is_err_and}
 use Rattle.mg_sources.specs.Files.{sources}
 use Rattle.mg_sources.specs.declared.sources.Sources.{Sources as KeptSources}
 use Rattle.mg_sources.specs.declared.stop.Stop.{Stop}
-use Rattle.mg_sources.specs.inner.Parts.{part_of}
+use Rattle.mg_sources.specs.Parts.{part_of}
 use Rattle.mg_sources.specs.View.{sourced_of}
 use Rattle.mg_sources.proofs.Programs.{parts_failed, roles_failed, part_count, of_slice, is_program}
 use Rattle.mg_sources.proofs.sources.program_of.Goals as goal

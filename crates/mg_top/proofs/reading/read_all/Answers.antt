@@ -1,4 +1,4 @@
-use Rattle.std.proofs.Common.{◌≡◌, ℕ, ◌+◌, ◌∷◌, ◌++◌, [], take, drop, refl, sym, ap, ◌∙◌, append-nil, arith, List, Err, Result}
+use Rattle.std.proofs.Common.{ℕ, ◌+◌, ◌∷◌, ◌++◌, [], take, drop, refl, ap, ◌∙◌, append-nil, arith, List, Err, Result}
 use Rattle.std.proofs.lemmas.Result.{err_from_is_err_and}
 use Rattle.mg_text.specs.Row.{Row}
 use Rattle.mg_top.specs.declared.reading.Unread.{Unread}

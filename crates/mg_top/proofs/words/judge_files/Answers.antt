@@ -1,4 +1,4 @@
-use Rattle.std.proofs.Common.{◌≡◌, List, Option, Some, None, option_map, sym, ◌∙◌, eqb-true, length}
+use Rattle.std.proofs.Common.{option_map, sym, ◌∙◌, eqb-true, length}
 use Rattle.mg_top.proofs.WordsLemmas.{few_files, wrong_file, named_folder, no_folder}
 use Rattle.mg_top.proofs.words.judge_files.Goals as goal
 

@@ -1,4 +1,4 @@
-use Rattle.std.proofs.Common.{◌≡◌, List, All, take, drop, suc, sym, subst, length, arith, ◌∙◌, ap, ◌++◌, ◌∷◌, [], refl}
+use Rattle.std.proofs.Common.{All, take, drop, suc, sym, subst, arith, ◌∙◌, ap, ◌++◌, ◌∷◌, [], refl}
 use Rattle.std.proofs.lemmas.List.{take_more, take_all}
 use Rattle.mg_top.specs.Words.{Word, IsFileOf}
 use Rattle.mg_top.proofs.WordsLemmas.{All-push, refuted, at_index}

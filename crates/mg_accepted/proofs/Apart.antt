@@ -1,0 +1,26 @@
+-- Files that are refused aren't accepted.
+use Rattle.std.proofs.Common.{◌≡◌, ℕ, List, Bool, Option, Some, None, slice_get, sym, ap, ◌∙◌, subst}
+use Rattle.jv_core.specs.Tree as Core
+use Rattle.use_flow.specs.declared.demand.Demand.{Demand}
+use Rattle.use_flow.specs.Tables.{Solves}
+use Rattle.use_flow.proofs.Laws.{least_solve}
+use Rattle.use_flow.proofs.Reached.{reached_same}
+use Rattle.use_check.specs.Verdict.{IsAccepted, FailsFirst}
+use Rattle.mg_sources.specs.Files.{Source}
+use Rattle.mg_program.proofs.Apart.{no_refusal, one_core}
+use Rattle.mg_accepted.specs.Accepted.{AreAccepted, Refusal, ill_typed, unmet}
+
+none_first : {P : Type 0} (d : Demand) → ◌≡◌ {A = Option Demand} None (Some d) → P
+none_first d h = absurd cc
+
+-- where some tables solve a core, no demand fails under the least ones
+no_failing : (core : Core.Program) (d : Demand) → FailsFirst core d → IsAccepted core → ⊥
+no_failing core d f a =
+    let same : a.reached ≡ f.reached = reached_same core a.reached f.reached a.are f.are in
+    let solves : Solves core f.reached a.tables = subst (λ (r : List (List Bool)). Solves core r a.tables) same a.solves in
+    none_first d (sym (sym f.first ∙ ap (λ (ds : List Demand). slice_get ds 0) (least_solve core f.reached f.tables a.tables f.least solves).none_fails))
+
+pub not_refused : (files : List Source) (core : Core.Program) (line : List ℕ) → AreAccepted files core → Refusal files line → ⊥
+not_refused files core line a (ill_typed r) = no_refusal files a.have.program line a.have.are r
+not_refused files core line a (unmet other d have fails said) =
+    no_failing other d fails (subst IsAccepted (one_core files core other a.have have) a.solved)

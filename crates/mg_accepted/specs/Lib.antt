@@ -1,0 +1,4 @@
+pub mod Lines
+pub mod Accepted
+pub mod View
+pub mod inner

@@ -1,0 +1,129 @@
+//! The line of a demand that fails, in the file where it stands.
+
+ghost use Rattle.std.specs.Prelude.{◌≡◌, IfOk, Some, option_map, string_bytes};
+ghost use Rattle.jv_core.specs.Core.{tree_of};
+ghost use Rattle.use_flow.specs.inner.Followed.{typestate_or_end};
+ghost use Rattle.use_check.specs.Report.{state_text, element_text};
+ghost use Rattle.mg_accepted.specs.Lines.{demand_word, tells_element, element_of, demand_name};
+ghost use Rattle.mg_accepted.specs.inner.Answers.{IsRefusal, demand_of};
+
+use jv_core::Core;
+use mg_program::refused_at;
+use mg_sources::Stop;
+use mg_text::{Memory, Text};
+use std::alloc::Global;
+use ts_tree::Typestate;
+use use_check::CheckFault;
+use use_flow::{Demand, DemandKind, Element, typestate_of};
+
+/// The refusal by the demand of a fault, with its line, or want of memory.
+pub(crate) fn refusal(alloc: Global, names: &[Text], core: &Core, fault: &CheckFault) -> Stop
+    ensures { IsRefusal names.now (tree_of core.now) (demand_of fault.now) result }
+{
+    match demand_of(fault) {
+        None => Stop::Memory,
+        Some(demand) => refused(alloc, names, core, demand),
+    }
+}
+
+// The refusal by a demand.
+fn refused(alloc: Global, names: &[Text], core: &Core, demand: &Demand) -> Stop
+    ensures { IsRefusal names.now (tree_of core.now) (Some demand.now) result }
+{
+    match name_of(alloc, core, demand) {
+        Ok(name) => {
+            let kind = word_of(demand.kind);
+            refused_at(alloc, names, demand.place, kind, name.as_str())
+        }
+        Err(Memory) => Stop::Memory,
+    }
+}
+
+// The demand that a fault tells of. Want of memory tells of none.
+fn demand_of(fault: &CheckFault) -> Option<&Demand>
+    ensures { option_map (λ d. d.now) result ≡ demand_of fault.now }
+{
+    match fault {
+        CheckFault::UseMoved(demand) => Some(demand),
+        CheckFault::MaybeNull(demand) => Some(demand),
+        CheckFault::NotOffered(demand) => Some(demand),
+        CheckFault::LeftOpen(demand) => Some(demand),
+        CheckFault::Overwritten(demand) => Some(demand),
+        CheckFault::FieldOpenAtEnd(demand) => Some(demand),
+        CheckFault::Memory => None,
+    }
+}
+
+// The word for each kind of demand.
+fn word_of(kind: DemandKind) -> &'static str
+    ensures { result.now ≡ demand_word kind }
+{
+    match kind {
+        DemandKind::UseMoved => "UseMoved",
+        DemandKind::MaybeNull => "MaybeNull",
+        DemandKind::NotOffered => "NotOffered",
+        DemandKind::LeftOpen => "LeftOpen",
+        DemandKind::Overwritten => "Overwritten",
+        DemandKind::FieldOpenAtEnd => "FieldOpenAtEnd",
+    }
+}
+
+// Whether a demand tells which state fails it.
+fn tells_element(kind: DemandKind) -> bool
+    ensures { result ≡ tells_element kind }
+{
+    match kind {
+        DemandKind::UseMoved => false,
+        DemandKind::MaybeNull => false,
+        DemandKind::NotOffered => true,
+        DemandKind::LeftOpen => true,
+        DemandKind::Overwritten => true,
+        DemandKind::FieldOpenAtEnd => true,
+    }
+}
+
+// What is named of a demand: the variable, and behind a blank the element, where it is told.
+fn name_of(alloc: Global, core: &Core, demand: &Demand) -> Result<String, Memory>
+    ensures { IfOk result (λ s. string_bytes s ≡ demand_name (tree_of core.now) demand.now) }
+{
+    let mut name = String::from_str(alloc, demand.slot.as_str())?;
+    if !tells_element(demand.kind) {
+        return Ok(name);
+    }
+    name.push_str(" ")?;
+    name.push_str(element_of(core, demand))?;
+    Ok(name)
+}
+
+// The element that fails a demand, by its name.
+fn element_of<'a>(core: &'a Core, demand: &Demand) -> &'a str
+    ensures { result.now ≡ element_of (tree_of core.now) demand.now }
+{
+    element_text(typestate_of(core, demand.class), demand.element)
+}
+
+// An element by its name.
+fn element_text(typestate: Option<&Typestate>, element: Element) -> &str
+    ensures { result.now ≡ element_text (typestate_or_end (option_map (λ t. t.now) typestate.entry)) element }
+{
+    match element {
+        Element::Null => "null",
+        Element::Moved => "moved",
+        Element::End => "end",
+        Element::State(state) => state_text(typestate, state as usize),
+    }
+}
+
+// The name of a state.
+#[tactic(auto, using(use_flow::proofs::Scenes::scenes))]
+fn state_text(typestate: Option<&Typestate>, state: usize) -> &str
+    ensures { result.now ≡ state_text (typestate_or_end (option_map (λ t. t.now) typestate.entry)) state }
+{
+    let Some(typestate) = typestate else {
+        return "";
+    };
+    match typestate.states.as_slice().get(state) {
+        Some(state) => state.name.as_str(),
+        None => "",
+    }
+}

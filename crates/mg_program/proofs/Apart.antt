@@ -1,0 +1,62 @@
+-- A program has one core, and files that are refused are no well typed program.
+use Rattle.std.proofs.Common.{◌≡◌, ℕ, List, Option, None, Some, sym, ap, ◌∙◌, subst}
+use Rattle.mg_read.specs.Culprit.{Culprit, culprit}
+use Rattle.mg_read.proofs.Judging.{no_both, no_both_first}
+use Rattle.jv_core.specs.Tree as Core
+use Rattle.jv_resolving.specs.Members.{resolving}
+use Rattle.jv_rules.specs.Program.{Program}
+use Rattle.jv_rules.specs.Faults.{Of, IsTableFault, IsFault}
+use Rattle.jv_rules.specs.declared.condition.Condition.{Condition}
+use Rattle.jv_rules.specs.declared.condition.Condition.TheVariants as conditions
+use Rattle.mg_sources.specs.Files.{Source}
+use Rattle.mg_sources.specs.Sources.{Sourced}
+use Rattle.mg_sources.proofs.Together.{not_both, one_program}
+use Rattle.mg_program.specs.Program.{AreWellTyped, HaveCore, Refusal, unread, declarations, methods}
+
+-- no condition answers twice
+never : (program : Program) (origins : List ℕ) (k : Condition) (c : Culprit) → Of program origins k None → Of program origins k (Some c) → ⊥
+never program origins conditions.DuplicateName c n e = no_both n e
+never program origins conditions.DuplicateMember c n e = no_both n e
+never program origins conditions.UnknownClass c n e = no_both n e
+never program origins conditions.UnknownTypestate c n e = no_both n e
+never program origins conditions.MissingMethod c n e = no_both n e
+never program origins conditions.SignatureDiffers c n e = no_both n e
+never program origins conditions.LabelsDiffer c n e = no_both n e
+never program origins conditions.FieldNeedsValue c n e = no_both n e
+never program origins conditions.InstanceInPlain c n e = no_both n e
+never program origins conditions.UnknownName c n e = let no : ⊥ = cc in no
+never program origins conditions.DuplicateLocal c n e = let no : ⊥ = cc in no
+never program origins conditions.TypeMismatch c n e = let no : ⊥ = cc in no
+never program origins conditions.Arity c n e = let no : ⊥ = cc in no
+never program origins conditions.BadLabel c n e = let no : ⊥ = cc in no
+never program origins conditions.MissingReturn c n e = let no : ⊥ = cc in no
+never program origins conditions.SelfCall c n e = let no : ⊥ = cc in no
+never program origins conditions.ThisAsValue c n e = let no : ⊥ = cc in no
+never program origins conditions.ArgsMayMove c n e = let no : ⊥ = cc in no
+
+-- ---- there is one core
+
+same_core : {a b : Core.Program} → ◌≡◌ {A = Option Core.Program} (Some a) (Some b) → a ≡ b
+same_core e = cc
+
+-- files have one core at most
+pub one_core : (files : List Source) (a b : Core.Program) → HaveCore files a → HaveCore files b → a ≡ b
+one_core files a b h k =
+    let sourced : h.are.sourced ≡ k.are.sourced = one_program files h.are.sourced k.are.sourced h.are.are k.are.are in
+    let same : h.program ≡ k.program = sym h.are.is ∙ ap (λ (s : Sourced). s.program) sourced ∙ k.are.is in
+    same_core (sym h.resolved ∙ ap resolving same ∙ k.resolved)
+
+-- ---- what is refused has none
+
+-- files that are refused are no well typed program
+pub no_refusal : (files : List Source) (program : Program) (line : List ℕ) → AreWellTyped files program → Refusal files line → ⊥
+no_refusal files program line well (unread r) = not_both well.are r
+no_refusal files program line well (declarations sourced condition place name are fault said) =
+    let same : sourced ≡ well.sourced = one_program files sourced well.sourced are well.are in
+    let none = subst (λ (z : Program). IsTableFault z well.sourced.origins None) (sym well.is) well.declarations in
+    no_both_first (never well.sourced.program well.sourced.origins) none
+    (subst (λ (z : Sourced). IsTableFault z.program z.origins (Some (condition, culprit place name))) same fault)
+no_refusal files program line well (methods sourced condition place name are clean fault said) =
+    let same : sourced ≡ well.sourced = one_program files sourced well.sourced are well.are in
+    let none = subst (λ (z : Program). IsFault z None) (sym well.is) well.methods in
+    no_both none (subst (λ (z : Sourced). IsFault z.program (Some (condition, culprit place name))) same fault)

@@ -1,0 +1,6 @@
+pub mod Shaped
+pub mod Grammatical
+pub mod Lines
+pub mod Apart
+pub mod Resolved
+pub mod Total

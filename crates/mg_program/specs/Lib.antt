@@ -1,0 +1,5 @@
+pub mod Words
+pub mod Program
+pub mod Laws
+pub mod View
+pub mod inner

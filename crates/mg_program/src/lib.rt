@@ -1,0 +1,12 @@
+//! The program of a command: the sources become one core, where all of them are accepted.
+//! The first refusal in the order of work is told with its line.
+#![tactic(auto)]
+
+mod judged;
+mod law;
+mod program;
+mod refusal;
+
+pub use law::well_typed_is_resolved;
+pub use program::resolve_program;
+pub use refusal::refused_at;

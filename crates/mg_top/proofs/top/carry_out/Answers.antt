@@ -1,0 +1,22 @@
+use Rattle.std.proofs.Common.{option_map, subst}
+use Rattle.mg_top.specs.declared.words.Command.{Command}
+use Rattle.mg_top.specs.Words.{IsCommand}
+use Rattle.mg_top.specs.inner.Judging.{command_of}
+use Rattle.mg_top.proofs.WordsLemmas.{kinds_of, protocols_of, protocol_of_two}
+use Rattle.mg_top.proofs.top.carry_out.Goals as goal
+
+pub translate-requires-clause-scribble : goal.translate-requires-clause-scribble
+translate-requires-clause-scribble c =
+    let known = c.requires.known in
+    protocols_of known.0 c.in-Translate.files.now (option_map (λ f. f.now) c.in-Translate.folder)
+    (subst (λ (z : Command). IsCommand (command_of z) known.0) c.in-Translate.is known.1)
+
+pub conform-requires : goal.conform-requires
+conform-requires c =
+    let known = c.requires.known in
+    protocol_of_two known.0 c.in-Conform.files.now _ (subst (λ (z : Command). IsCommand (command_of z) known.0) c.in-Conform.is known.1) c.index-files-0.is
+
+pub check-requires-clause-kinds : goal.check-requires-clause-kinds
+check-requires-clause-kinds c =
+    let known = c.requires.known in
+    kinds_of known.0 c.in-Check.files.now (subst (λ (z : Command). IsCommand (command_of z) known.0) c.in-Check.is known.1)

@@ -1,0 +1,56 @@
+//! The command `check`: what the least tables of a program have, or its first refusal.
+
+ghost use Rattle.std.specs.Prelude.{◌≡◌, ◌<◌, ◌^◌, length, IfOk};
+ghost use Rattle.jv_core.specs.Core.{tree_of};
+ghost use Rattle.use_check.specs.Verdict.{AreAnswer};
+ghost use Rattle.mg_sources.specs.Files.{HaveKinds};
+ghost use Rattle.mg_top.specs.Words.{Check};
+ghost use Rattle.mg_top.specs.Commands.{Yields, prints};
+ghost use Rattle.mg_top.specs.inner.Preparing.{IsReported};
+
+use crate::Status;
+use crate::delivery::{Action, Delivery};
+use mg_accepted::{AcceptedProgram, accept};
+use mg_sources::Stop;
+use mg_text::{Bytes, List, Memory, Text};
+use std::alloc::Global;
+use use_check::report;
+
+/// The report of the program that the files are, or the first refusal.
+pub fn check(alloc: Global, names: &[Text], contents: &[Bytes]) -> Result<Delivery, Memory>
+    requires same { length names.now ≡ length contents.now }
+    requires count { length contents.now < 2 ^ 32 }
+    requires kinds { HaveKinds names.now }
+    ensures { IfOk result (λ d. Yields (Check names.now) contents.now d.actions.items d.status) }
+{
+    match accept(alloc, names, contents) {
+        Ok(program) => show(alloc, &program),
+        Err(Stop::Refused(line)) => Delivery::said(alloc, line, Status::Refused),
+        Err(Stop::Memory) => Err(Memory),
+    }
+}
+
+// The report of an accepted program on standard output.
+fn show(alloc: Global, program: &AcceptedProgram) -> Result<Delivery, Memory>
+    requires { AreAnswer (tree_of program.now.core) program.now.accepted.tables }
+    ensures { IfOk result (λ d. IsReported (tree_of program.now.core) d.actions.items d.status) }
+{
+    let text = report(alloc, &program.core, &program.accepted)?;
+    print(alloc, text.as_str())
+}
+
+// A text on standard output; an empty one isn't put.
+fn print(alloc: Global, text: &str) -> Result<Delivery, Memory>
+    ensures actions { IfOk result (λ d. d.actions.items ≡ prints text.now) }
+    ensures status { IfOk result (λ d. d.status ≡ Status.Done) }
+{
+    let mut actions = List::new(alloc);
+    if !text.is_empty() {
+        let text = Bytes::of(alloc, text.as_bytes())?;
+        actions.push(Action::Print(text))?;
+    }
+    Ok(Delivery {
+        actions,
+        status: Status::Done,
+    })
+}

@@ -1,0 +1,22 @@
+// Reads a file to its end, and closes it.
+class Main {
+    public static void main(String[] args) {
+        File f = new File();
+        switch (f.open()) {
+            case OK:
+                loop: do {
+                    switch (f.hasNext()) {
+                        case TRUE:
+                            f.read();
+                            continue loop;
+                        case FALSE:
+                            f.close();
+                            break loop;
+                    }
+                } while (true);
+                break;
+            case ERROR:
+                break;
+        }
+    }
+}
