@@ -1,0 +1,5 @@
+pub mod Filed
+pub mod Ready
+pub mod Writing
+pub mod Given
+pub mod Apart

@@ -1,0 +1,4 @@
+pub mod Files
+pub mod Compiled
+pub mod View
+pub mod inner
