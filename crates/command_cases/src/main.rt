@@ -1,0 +1,56 @@
+//! The commands of mungo, over a folder and sinks in memory. Each case of the files in `data/` is
+//! run, and what it leaves is told where it isn't what is wanted.
+//!
+//! A case gives lines, and then files, each begun by a line `>>> NAME`:
+//!
+//! ```text
+//! mungo check A.java B.java     the words of the command
+//! with A.java                   files of these names that lie here are in the folder too
+//! out fails 0 1                 calls of standard output that fail, counted from 0
+//! err fails 0                   the same of standard error
+//! folder fails 4                and of the folder, whose reads and writes are counted together
+//! shows a.txt                   files whose contents are told afterwards
+//! ```
+#![tactic(auto)]
+
+mod given;
+mod world;
+
+use crate::world::answer;
+use cases::{Answers, CasesFault, tell};
+use mg_text::Memory;
+use std::alloc::Global;
+use std::rt::Files;
+
+/// The files of cases, in the order in which they are answered.
+const FILES: [&str; 6] = [
+    "translate.txt",
+    "conform.txt",
+    "check.txt",
+    "refused.txt",
+    "run.txt",
+    "words.txt",
+];
+
+/// Runs the commands of cases, which may ask for files of this runtime.
+#[derive(Drop)]
+struct Commands<'a, R: Files> {
+    rt: &'a R,
+}
+
+impl<'a, R: Files> Answers for Commands<'a, R> {
+    fn answer(&self, alloc: Global, _file: &str, given: &[u8]) -> Result<String, Memory> {
+        match str::from_utf8(given) {
+            Ok(given) => answer(alloc, self.rt, given),
+            Err(_) => Ok(String::from_str(alloc, "what is given is no UTF-8")?),
+        }
+    }
+}
+
+fn main(rt: HostRuntime) -> Result<(), CasesFault> {
+    let commands = Commands { rt: &rt };
+    for file in FILES {
+        tell(&rt, &commands, file)?;
+    }
+    Ok(())
+}

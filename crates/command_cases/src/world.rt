@@ -1,0 +1,152 @@
+//! A folder and sinks in memory, in which a command is run, and what it leaves, as lines: its
+//! status, how often the folder was called, what was put on the sinks, and files.
+
+use crate::given::{are_clear, line_of, numbers_of, words_of};
+use mg_io::{FileList, Folder, HostFolder, IoFault, MemFolder, MemSink};
+use mg_text::Memory;
+use mg_top::{Status, mungo};
+use std::alloc::{AllocError, Global};
+use std::rt::Files;
+
+/// What a command is run in.
+#[derive(Drop)]
+struct World {
+    folder: MemFolder,
+    out: MemSink,
+    err: MemSink,
+}
+
+/// What the run that a case asks for leaves.
+pub fn answer<R: Files>(alloc: Global, rt: &R, given: &str) -> Result<String, Memory> {
+    match given.split_once("\n>>> ") {
+        Some((head, files)) => answer_to(alloc, rt, head, files),
+        None => answer_to(alloc, rt, given, ""),
+    }
+}
+
+// What it leaves, with these files, each begun by its name.
+fn answer_to<R: Files>(alloc: Global, rt: &R, head: &str, files: &str) -> Result<String, Memory> {
+    if are_clear(head) {
+        let world = world_of(alloc, rt, head, files)?;
+        world.answer(alloc, head)
+    } else {
+        Ok(String::from_str(alloc, "out of form")?)
+    }
+}
+
+// The world in which it runs.
+fn world_of<R: Files>(alloc: Global, rt: &R, head: &str, files: &str) -> Result<World, Memory> {
+    let out = MemSink::new(alloc, numbers_of(alloc, line_of(head, "out fails "))?);
+    let err = MemSink::new(alloc, numbers_of(alloc, line_of(head, "err fails "))?);
+    let folder = folder_of(alloc, rt, head, files)?;
+    Ok(World { folder, out, err })
+}
+
+fn folder_of<R: Files>(
+    alloc: Global,
+    rt: &R,
+    head: &str,
+    files: &str,
+) -> Result<MemFolder, Memory> {
+    let failing = numbers_of(alloc, line_of(head, "folder fails "))?;
+    let mut kept = FileList::new(alloc);
+    add_files(alloc, &mut kept, files)?;
+    add_files_here(alloc, rt, &mut kept, line_of(head, "with "))?;
+    MemFolder::new(alloc, kept, failing)
+}
+
+// Adds files, each begun by a line that is its name.
+fn add_files(alloc: Global, kept: &mut FileList, files: &str) -> Result<(), Memory> {
+    if files.is_empty() {
+        return Ok(());
+    }
+    for file in files.split("\n>>> ") {
+        let (name, text) = file.split_once('\n').unwrap_or((file, ""));
+        kept.add(alloc, name, text.as_bytes())?;
+    }
+    Ok(())
+}
+
+/// The longest file here that a case may ask for.
+const LIMIT: usize = 1_000_000;
+
+// Adds the files of these names that lie here, where they do.
+fn add_files_here<R: Files>(
+    alloc: Global,
+    rt: &R,
+    kept: &mut FileList,
+    names: &str,
+) -> Result<(), Memory> {
+    let mut here = HostFolder::new(alloc, rt);
+    for name in names.split(' ') {
+        match here.read(alloc, name, LIMIT) {
+            Ok(bytes) => kept.add(alloc, name, bytes.as_slice())?,
+            Err(IoFault::Failed) => {}
+            Err(IoFault::Memory) => return Err(Memory),
+        }
+    }
+    Ok(())
+}
+
+impl World {
+    // What the command leaves.
+    fn answer(mut self, alloc: Global, head: &str) -> Result<String, Memory> {
+        let status = self.run(alloc, head)?;
+        self.told(alloc, status, line_of(head, "shows "))
+    }
+
+    fn run(&mut self, alloc: Global, head: &str) -> Result<Status, Memory> {
+        let words = words_of(alloc, line_of(head, "mungo "))?;
+        let words = words.as_slice();
+        Ok(mungo(alloc, words, &mut self.folder, &mut self.out, &mut self.err))
+    }
+
+    // What a run left, with the contents of the files of these names.
+    fn told(&self, alloc: Global, status: Status, shown: &str) -> Result<String, Memory> {
+        let (number, calls) = (status.number(), self.folder.calls());
+        let mut told = format!(in alloc; "status {number} after {calls} calls")?;
+        tell(&mut told, "out: ", self.out.bytes())?;
+        tell(&mut told, "err: ", self.err.bytes())?;
+        for name in shown.split(' ') {
+            tell_file(&mut told, name, self.folder.content(name))?;
+        }
+        Ok(told)
+    }
+}
+
+// Tells a file, or that there is none. A file with no name isn't told.
+fn tell_file(told: &mut String, name: &str, content: Option<&[u8]>) -> Result<(), AllocError> {
+    match content {
+        Some(bytes) => {
+            write!(told, "\n>>> {name}")?;
+            tell(told, "", bytes)
+        }
+        None if name.is_empty() => Ok(()),
+        None => write!(told, "\nno {name}"),
+    }
+}
+
+/// The most bytes that are told. Of more the count is told.
+const MOST: usize = 2000;
+
+// Tells bytes in lines, each behind a label.
+fn tell(told: &mut String, label: &str, bytes: &[u8]) -> Result<(), AllocError> {
+    let count = bytes.len();
+    if count == 0 {
+        return Ok(());
+    }
+    if count > MOST {
+        return write!(told, "\n{label}{count} bytes");
+    }
+    let Ok(text) = str::from_utf8(bytes) else {
+        return write!(told, "\n{label}{count} bytes, no UTF-8");
+    };
+    let (lines, end) = match text.strip_suffix('\n') {
+        Some(lines) => (lines, ""),
+        None => (text, " and no line end"),
+    };
+    for line in lines.split('\n') {
+        write!(told, "\n{label}{line}")?;
+    }
+    told.push_str(end)
+}

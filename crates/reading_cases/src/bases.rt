@@ -1,0 +1,148 @@
+//! Answers on texts, bytes, lists, places, tables of names, Java's words and sets.
+//! Each call that takes memory is seen to succeed where there is enough of it.
+
+use crate::answer::{Answer, plain, told};
+use mg_sets::StateSet;
+use mg_text::{Bytes, List, Memory, Name, Names, Place, Text, is_java_word, place_of};
+use std::alloc::Global;
+
+// The two parts of a text around a sign.
+fn parts(text: &str, sign: char) -> (&str, &str) {
+    text.split_once(sign).unwrap_or((text, ""))
+}
+
+fn number(text: &str) -> usize {
+    text.parse().unwrap_or(0)
+}
+
+/// The copy of a text, whether it is equal, and the bytes of its first word with those behind it.
+pub fn kept(alloc: Global, given: &str) -> Result<String, Memory> {
+    let text = Text::of(alloc, given)?;
+    let copy = text.copy()?;
+    let (front, more) = parts(given, ' ');
+    let mut bytes = Bytes::of(alloc, front.as_bytes())?;
+    bytes.extend(more.as_bytes())?;
+    told(
+        alloc,
+        &(copy.as_str(), text == copy, bytes.as_slice(), bytes.len()),
+    )
+}
+
+/// A list of the lengths of two words, the second of which is added in the room that was reserved.
+pub fn listed(alloc: Global, given: &str) -> Result<String, Memory> {
+    let (first, second) = parts(given, ' ');
+    let mut list = List::new(alloc);
+    list.push(first.len())?;
+    list.reserve(3)?;
+    list.add(second.len());
+    told(alloc, &(list.as_slice(), list.len()))
+}
+
+/// The place of an offset, the first line, in the text behind it, found in both ways.
+pub fn place(alloc: Global, given: &str) -> Result<String, Memory> {
+    let (offset, text) = parts(given, '\n');
+    let (offset, bytes) = (number(offset), text.as_bytes());
+    if bytes.len() > 1000 || offset > bytes.len() {
+        return plain(alloc, "too long");
+    }
+    let found = place_of(7, bytes, offset);
+    let moved = Place::start(7).after(&bytes[..offset]);
+    told(alloc, &(found, moved))
+}
+
+/// The numbers of the words up to a bar, and what is found of those behind it.
+pub fn numbered(alloc: Global, given: &str) -> Result<String, Memory> {
+    let (added, sought) = parts(given, '|');
+    let mut names = Names::new(alloc);
+    let mut answer = Answer::new(alloc);
+    for word in added.split(' ') {
+        if names.len() < 9 {
+            answer.tell(&names.add(word)?)?;
+            answer.add(" ")?;
+        }
+    }
+    answer.tell(&names.len())?;
+    for word in sought.split(' ') {
+        add_found(&mut answer, &names, word)?;
+    }
+    Ok(answer.into_text())
+}
+
+// The number of a word, and the text of that.
+fn add_found(answer: &mut Answer, names: &Names, word: &str) -> Result<(), Memory> {
+    let found = number_of(names, word);
+    answer.add(" ")?;
+    answer.tell(&found)?;
+    match found {
+        Some(name) => answer.add(text_of(names, name)),
+        None => Ok(()),
+    }
+}
+
+fn number_of(names: &Names, word: &str) -> Option<Name> {
+    names.find(word)
+}
+
+fn text_of(names: &Names, name: Name) -> &str {
+    if (name.0 as usize) < names.len() {
+        names.text(name)
+    } else {
+        "no text"
+    }
+}
+
+/// Whether Java reserves a word.
+pub fn java_word(alloc: Global, word: &str) -> Result<String, Memory> {
+    told(alloc, &is_java_word(word))
+}
+
+/// Two sets of the numbers up to a bar and behind it: which of them are new, which set lies in the
+/// other, and what joining them changes, to and fro and again.
+pub fn joined(alloc: Global, given: &str) -> Result<String, Memory> {
+    let (first, second) = parts(given, '|');
+    let mut answer = Answer::new(alloc);
+    let mut left = set_of(&mut answer, alloc, first)?;
+    let mut right = set_of(&mut answer, alloc, second)?;
+    answer.tell(&[is_within(&left, &right), is_within(&right, &left)])?;
+    answer.add(" ")?;
+    answer.tell(&[
+        join(&mut left, &right),
+        join(&mut right, &left),
+        join(&mut right, &left),
+    ])?;
+    add_members(&mut answer, &right)?;
+    Ok(answer.into_text())
+}
+
+fn is_within(one: &StateSet, other: &StateSet) -> bool {
+    one.width() == other.width() && one.is_subset(other)
+}
+
+fn join(set: &mut StateSet, other: &StateSet) -> bool {
+    other.width() <= set.width() && set.join(other)
+}
+
+/// The members of a set.
+pub fn add_members(answer: &mut Answer, set: &StateSet) -> Result<(), Memory> {
+    for member in set.iter() {
+        answer.add(" ")?;
+        answer.show(&member)?;
+    }
+    Ok(())
+}
+
+// A set of numbers below 4, and whether each is new.
+fn set_of(answer: &mut Answer, alloc: Global, numbers: &str) -> Result<StateSet, Memory> {
+    let Ok(mut set) = StateSet::new(alloc, 4) else {
+        return Err(Memory);
+    };
+    for word in numbers.split(' ') {
+        answer.tell(&add_to(&mut set, number(word)))?;
+        answer.add(" ")?;
+    }
+    Ok(set)
+}
+
+fn add_to(set: &mut StateSet, number: usize) -> bool {
+    number < set.width() && set.add(number)
+}

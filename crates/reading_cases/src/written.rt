@@ -1,0 +1,83 @@
+//! What is written in typestate files: states and methods with the places of their names.
+
+use crate::answer::{Answer, plain, told};
+use mg_read::ParseFault;
+use mg_text::Memory;
+use std::alloc::Global;
+use ts_parse::{Naming, WrittenMethod, WrittenTarget, WrittenTypestate, read_written, tokens};
+
+/// A line for each state and each method of a file, or where its tokens begin no file.
+pub fn written(alloc: Global, given: &[u8]) -> Result<String, Memory> {
+    if given.len() > 1000 {
+        return plain(alloc, "too long");
+    }
+    let found = match tokens(alloc, 3, given) {
+        Ok(found) => found,
+        Err(fault) => return told(alloc, &fault),
+    };
+    match read_written(alloc, found.as_slice()) {
+        Ok(file) => shown(alloc, &file),
+        Err(fault) => refused(alloc, fault),
+    }
+}
+
+// Where the token stands that no file goes on with.
+fn refused(alloc: Global, fault: ParseFault) -> Result<String, Memory> {
+    match fault {
+        ParseFault::Syntax(Some(place)) => {
+            let mut answer = Answer::new(alloc);
+            answer.add("Syntax ")?;
+            answer.place(place)?;
+            Ok(answer.into_text())
+        }
+        ParseFault::Syntax(None) => plain(alloc, "Syntax at the end"),
+        ParseFault::Memory => Err(Memory),
+    }
+}
+
+fn shown(alloc: Global, file: &WrittenTypestate) -> Result<String, Memory> {
+    let mut answer = Answer::new(alloc);
+    answer.add(file.name.as_str())?;
+    for state in file.states.as_slice() {
+        answer.add("\n")?;
+        add_naming(&mut answer, &state.name)?;
+        for method in state.methods.as_slice() {
+            add_method(&mut answer, method)?;
+        }
+    }
+    Ok(answer.into_text())
+}
+
+fn add_naming(answer: &mut Answer, name: &Naming) -> Result<(), Memory> {
+    answer.add(name.text.as_str())?;
+    answer.add(" ")?;
+    answer.place(name.place)
+}
+
+fn add_method(answer: &mut Answer, method: &WrittenMethod) -> Result<(), Memory> {
+    answer.add("\n  ")?;
+    answer.tell(&method.result)?;
+    answer.add(" ")?;
+    add_naming(answer, &method.name)?;
+    answer.add(" ")?;
+    answer.tell(&method.params.as_slice())?;
+    add_target(answer, &method.target)
+}
+
+fn add_target(answer: &mut Answer, target: &WrittenTarget) -> Result<(), Memory> {
+    match target {
+        WrittenTarget::One(to) => {
+            answer.add(" to ")?;
+            add_naming(answer, to)?;
+        }
+        WrittenTarget::ByAnswer(branches) => {
+            for branch in branches.as_slice() {
+                answer.add(" ")?;
+                add_naming(answer, &branch.label)?;
+                answer.add(" to ")?;
+                add_naming(answer, &branch.to)?;
+            }
+        }
+    }
+    Ok(())
+}
