@@ -1,4 +1,4 @@
--- What is proved: runs of a `main` beside which all methods are named that it may come to.
+-- What is proved: runs of each class with a `main` (`MainsAgree`, at the end), by way of those beside whose `main` the methods are named that it may come to.
 use Rattle.std.specs.Prelude.{◌≡◌, ℕ, suc, List, [], Some, slice_get, Contains}
 use Rattle.mg_text.specs.Call.{Name}
 use Rattle.jv_mean.specs.Values.{Inputs, Ended}
