@@ -22,7 +22,7 @@ use Rattle.scr_tree.specs.Traces.{Trace}
 use Rattle.mg_calls.specs.Calls.{CallAt}
 use Rattle.mg_calls.proofs.Laws.{one_list, no_bad}
 use Rattle.std.proofs.lemmas.List.{map-append}
-use Rattle.mg_top.specs.Words.{Word, Command, Translate, Conform, Check, Run}
+use Rattle.mg_top.specs.Words.{Word, Command, Translate, Conform, Check, Compile, Run}
 use Rattle.mg_top.specs.Lines.{run_line, not_offered_line}
 use Rattle.mg_sources.specs.Files.{Source, source_of, sources}
 use Rattle.mg_top.specs.Conformance.{calls_of, Conforms, complete, unfinished, not_offered, Lists, IsNoList, bad_line}
@@ -32,7 +32,9 @@ use Rattle.mg_sources.specs.Sources.{Refusal, refused, same_role}
 use Rattle.mg_sources.proofs.OneKind.{one_part}
 use Rattle.mg_sources.proofs.PartLemmas.{not_refused}
 use Rattle.mg_top.specs.Translation.{AreTranslated}
-use Rattle.mg_top.specs.Commands.{Yields, translated, not_translated, conforms, no_protocol, no_calls, checked, not_checked, ran, not_run}
+use Rattle.mg_compile.proofs.Apart.{not_refused as not_exceeded}
+use Rattle.mg_top.specs.Commands.{TranslateGives, translated, not_translated, ConformGives, conforms, no_protocol, no_calls, CheckGives, checked, not_checked}
+use Rattle.mg_top.specs.Commands.{CompileGives, compiled, not_compiled, RunGives, ran, not_run, ConformYields, RunYields, Yields}
 use Rattle.mg_top.specs.Promises.{IsYielded}
 use Rattle.mg_top.proofs.SourceLemmas.{none_refused_of_translated}
 
@@ -58,83 +60,38 @@ never_taken class content fault printer source named code text (text_too_long ot
 not_shown : (class : Word) (bytes printed : List ℕ) (n : ℕ) (fault : RunFault) → Shows class bytes printed n → RunRefused class bytes fault → ⊥
 not_shown class bytes printed n fault h = never_taken class bytes fault h.printer h.source h.named h.short_code h.short_texts
 
--- the refusals of translate and run
-no_translation : (folder : Option Word) (files : List Word) (contents : List (List ℕ)) (line : List ℕ) → Refusal (sources files contents) line → (command : Command) → command ≡ Translate folder files
-    → (given : List (List ℕ)) → given ≡ contents → (actions : List Action) (status : Status) → status ≡ statuses.Done → Yields command given actions status → ⊥
-no_translation folder files contents line h command e given e' actions status done (translated {folder = d} {files = fs} t) =
-    let d_is : d ≡ folder = cc in let fs_is : fs ≡ files = cc in
-    not_both _ _ _ line t (subst (λ (z : List Word). Refusal (sources z given) line) (sym fs_is) (subst (λ (z : List (List ℕ)). Refusal (sources files z) line) (sym e') h))
-no_translation folder files contents line h command e given e' actions status done (not_translated r) = absurd cc
-no_translation folder files contents line h command e given e' actions status done (conforms local list o l c) = absurd cc
-no_translation folder files contents line h command e given e' actions status done (no_protocol r) = absurd cc
-no_translation folder files contents line h command e given e' actions status done (no_calls local o r) = absurd cc
-no_translation folder files contents line h command e given e' actions status done (checked core a r) = absurd cc
-no_translation folder files contents line h command e given e' actions status done (not_checked r) = absurd cc
-no_translation folder files contents line h command e given e' actions status done (ran s) = absurd cc
-no_translation folder files contents line h command e given e' actions status done (not_run r) = absurd cc
+-- ---- one status, command by command
 
-no_run : (class file : Word) (bytes : List ℕ) (fault : RunFault) → RunRefused class bytes fault → (command : Command) → command ≡ Run class (file ∷ []) → (given : List (List ℕ)) → given ≡ bytes ∷ []
-    → (actions : List Action) (status : Status) → status ≡ statuses.Done → Yields command given actions status → ⊥
-no_run class file bytes fault h command e given e' actions status done (translated t) = absurd cc
-no_run class file bytes fault h command e given e' actions status done (not_translated r) = absurd cc
-no_run class file bytes fault h command e given e' actions status done (conforms local list o l c) = absurd cc
-no_run class file bytes fault h command e given e' actions status done (no_protocol r) = absurd cc
-no_run class file bytes fault h command e given e' actions status done (no_calls local o r) = absurd cc
-no_run class file bytes fault h command e given e' actions status done (checked core a r) = absurd cc
-no_run class file bytes fault h command e given e' actions status done (not_checked r) = absurd cc
-no_run class file bytes fault h command e given e' actions status done (ran {class = d} {bytes = bs} {printed = printed} {n = n} s) =
-    let d_is : d ≡ class = cc in let bs_is : bs ≡ bytes = cc in
-    not_shown class bytes printed n fault (subst (λ (z : Word). Shows z bytes printed n) d_is (subst (λ (z : List ℕ). Shows d z printed n) bs_is s)) h
-no_run class file bytes fault h command e given e' actions status done (not_run r) = absurd cc
+translate_status : {folder : Option Word} {files : List Source} {xa xb : List Action} {m n : Status} → TranslateGives folder files xa m → TranslateGives folder files xb n → m ≡ n
+translate_status (translated t) (translated u) = refl
+translate_status {folder = folder} {files = files} (translated {writes = writes} t) (not_translated {line = line} r) = absurd (not_both folder files writes line t r)
+translate_status {folder = folder} {files = files} (not_translated {line = line} r) (translated {writes = writes} t) = absurd (not_both folder files writes line t r)
+translate_status (not_translated r) (not_translated q) = refl
 
-no_report : (files : List Word) (contents : List (List ℕ)) (line : List ℕ) → accepted.Refusal (sources files contents) line → (command : Command) → command ≡ Check files
-    → (given : List (List ℕ)) → given ≡ contents → (actions : List Action) (status : Status) → status ≡ statuses.Done → Yields command given actions status → ⊥
-no_report files contents line h command e given e' actions status done (translated t) = absurd cc
-no_report files contents line h command e given e' actions status done (not_translated r) = absurd cc
-no_report files contents line h command e given e' actions status done (conforms local list o l c) = absurd cc
-no_report files contents line h command e given e' actions status done (no_protocol r) = absurd cc
-no_report files contents line h command e given e' actions status done (no_calls local o r) = absurd cc
-no_report files contents line h command e given e' actions status done (checked {files = fs} core a r) =
-    let fs_is : fs ≡ files = cc in
-    not_unmet (sources fs given) core line a (subst (λ (z : List Source). accepted.Refusal z line) (λ i. sources (sym fs_is i) (sym e' i)) h)
-no_report files contents line h command e given e' actions status done (not_checked r) = absurd cc
-no_report files contents line h command e given e' actions status done (ran s) = absurd cc
-no_report files contents line h command e given e' actions status done (not_run r) = absurd cc
+check_status : {files : List Source} {xa xb : List Action} {m n : Status} → CheckGives files xa m → CheckGives files xb n → m ≡ n
+check_status (checked core a r) (checked core' a' r') = refl
+check_status {files = files} (checked core a r) (not_checked {line = line} h) = absurd (not_unmet files core line a h)
+check_status {files = files} (not_checked {line = line} h) (checked core a r) = absurd (not_unmet files core line a h)
+check_status (not_checked h) (not_checked k) = refl
 
--- ---- the command conform
+compile_status : {folder : Option Word} {files : List Source} {xa xb : List Action} {m n : Status} → CompileGives folder files xa m → CompileGives folder files xb n → m ≡ n
+compile_status (compiled written h) (compiled written' h') = refl
+compile_status {files = files} (compiled written h) (not_compiled {line = line} r) = absurd (not_exceeded files written line h r)
+compile_status {files = files} (not_compiled {line = line} r) (compiled written h) = absurd (not_exceeded files written line h r)
+compile_status (not_compiled r) (not_compiled q) = refl
+
+run_status : {class : Word} {file : Source} {xa xb : List Action} {m n : Status} → RunGives class file xa m → RunGives class file xb n → m ≡ n
+run_status (ran s) (ran t) = refl
+run_status {class = class} {file = file} (ran {printed = printed} {n = n} s) (not_run {fault = fault} r) = absurd (not_shown class file.bytes printed n fault s r)
+run_status {class = class} {file = file} (not_run {fault = fault} r) (ran {printed = printed} {n = n} s) = absurd (not_shown class file.bytes printed n fault s r)
+run_status (not_run r) (not_run q) = refl
+
+-- the command conform
 
 follows : (local : LocalTree) (calls : List CallAt) (text : List ℕ) (status : Status) → status ≡ statuses.Done → Conforms local calls text status → Trace local.me (protocol_of local) (calls_of calls)
 follows local calls text status done (complete (acts, end, run, finished, named)) = (acts, end, run, named)
 follows local calls text status done (unfinished trace isnt) = trace
 follows local calls text status done (not_offered front call rest split trace isnt) = absurd cc
-
--- what is given where calls follow
-pub record DoneConform (protocol calls : Word) (bytes listed : List ℕ) : Type 0 where
-  pub local : LocalTree
-  pub reads : Reads (source_of 0 protocol bytes) (Protocol local)
-  pub list : List CallAt
-  pub lists : Lists (source_of 1 calls listed) list
-  pub trace : Trace local.me (protocol_of local) (calls_of list)
-
-done_conform : (protocol calls : Word) (bytes listed : List ℕ) (command : Command) → command ≡ Conform (protocol ∷ calls ∷ []) → (given : List (List ℕ)) → given ≡ bytes ∷ listed ∷ [] → (actions : List Action) (status : Status) → status ≡ statuses.Done → Yields command given actions status
-    → DoneConform protocol calls bytes listed
-done_conform protocol calls bytes listed command e given e' actions status done (translated t) = absurd cc
-done_conform protocol calls bytes listed command e given e' actions status done (not_translated r) = absurd cc
-done_conform protocol calls bytes listed command e given e' actions status done (conforms {protocol = p} {calls = k} {bytes = bs} {listed = ls} {text = text} local list o l c) =
-    let p_is : p ≡ protocol = cc in let k_is : k ≡ calls = cc in let bs_is : bs ≡ bytes = cc in let ls_is : ls ≡ listed = cc in
-    record {
-      local = local;
-      reads = subst (λ (z : Source). Reads z (Protocol local)) (λ i. source_of 0 (p_is i) (bs_is i)) o;
-      list = list;
-      lists = subst (λ (z : Source). Lists z list) (λ i. source_of 1 (k_is i) (ls_is i)) l;
-      trace = follows local list text status done c;
-    }
-done_conform protocol calls bytes listed command e given e' actions status done (no_protocol r) = absurd cc
-done_conform protocol calls bytes listed command e given e' actions status done (no_calls local o r) = absurd cc
-done_conform protocol calls bytes listed command e given e' actions status done (checked core a r) = absurd cc
-done_conform protocol calls bytes listed command e given e' actions status done (not_checked r) = absurd cc
-done_conform protocol calls bytes listed command e given e' actions status done (ran s) = absurd cc
-done_conform protocol calls bytes listed command e given e' actions status done (not_run r) = absurd cc
 
 -- a file that lists calls isn't refused
 listed_once : (source : Source) (list : List CallAt) (line : List ℕ) → Lists source list → IsNoList source line → ⊥
@@ -151,80 +108,124 @@ stopped local calls text status refusal (not_offered front call rest split befor
 same_local : (k l : LocalTree) → Protocol k ≡ Protocol l → k ≡ l
 same_local k l e = cc
 
-not_followed : (protocol calls : Word) (bytes listed text : List ℕ) (status : Status) (local : LocalTree) (list : List CallAt) → Reads (source_of 0 protocol bytes) (Protocol local) → Lists (source_of 1 calls listed) list → status ≡ statuses.Refused → Conforms local list text status
-    → DoneConform protocol calls bytes listed → ⊥
-not_followed protocol calls bytes listed text status local list o l refusal c d =
-    let local_is : d.local ≡ local = same_local d.local local (one_part (source_of 0 protocol bytes) (Protocol d.local) (Protocol local) d.reads o) in
-    let list_is : d.list ≡ list = one_list listed d.list list d.lists.listed l.listed in
-    stopped local list text status refusal c
-    (subst (λ (z : List CallAt). Trace local.me (protocol_of local) (calls_of z)) list_is (subst (λ (z : LocalTree). Trace z.me (protocol_of z) (calls_of d.list)) local_is d.trace))
-
--- ---- one thing
-
 answered_status : {local : LocalTree} {calls : List CallAt} {text : List ℕ} {status : Status} → Conforms local calls text status → (status ≡ statuses.Done) ⊎ (status ≡ statuses.Refused)
 answered_status (complete h) = inl refl
 answered_status (unfinished h isnt) = inl refl
 answered_status (not_offered front call rest split before isnt) = inr refl
 
-refused_or_done : {command : Command} {contents : List (List ℕ)} {actions : List Action} {status : Status} → Yields command contents actions status → (status ≡ statuses.Done) ⊎ (status ≡ statuses.Refused)
-refused_or_done (translated t) = inl refl
-refused_or_done (not_translated r) = inr refl
-refused_or_done (conforms local list o l c) = answered_status c
-refused_or_done (no_protocol r) = inr refl
-refused_or_done (no_calls local o r) = inr refl
-refused_or_done (checked core a r) = inl refl
-refused_or_done (not_checked r) = inr refl
-refused_or_done (ran s) = inl refl
-refused_or_done (not_run r) = inr refl
-
--- what is refused isn't carried out
-clash : {command : Command} {contents : List (List ℕ)} {xa : List Action} {m : Status} → Yields command contents xa m → m ≡ statuses.Refused → (xb : List Action) (n : Status) → Yields command contents xb n → n ≡ statuses.Done → ⊥
-clash (translated t) e xb n y f = cc
-clash (not_translated {folder = folder} {files = files} {contents = contents} {line = line} r) e xb n y f = no_translation folder files contents line r _ refl _ refl xb n f y
-clash {m = m} (conforms {protocol = p} {calls = k} {bytes = bs} {listed = ls} {text = text} local list o l c) e xb n y f = not_followed p k bs ls text m local list o l e c (done_conform p k bs ls _ refl _ refl xb n f y)
-clash (no_protocol {protocol = p} {calls = k} {bytes = bs} {listed = ls} {line = line} r) e xb n y f =
-    let d = done_conform p k bs ls _ refl _ refl xb n f y in not_refused (source_of 0 p bs) (Protocol d.local) line d.reads r
-clash (no_calls {protocol = p} {calls = k} {bytes = bs} {listed = ls} {line = line} local o r) e xb n y f =
-    let d = done_conform p k bs ls _ refl _ refl xb n f y in listed_once (source_of 1 k ls) d.list line d.lists r
-clash (checked core a r) e xb n y f = cc
-clash (not_checked {files = files} {contents = contents} {line = line} r) e xb n y f = no_report files contents line r _ refl _ refl xb n f y
-clash (ran s) e xb n y f = cc
-clash (not_run {class = class} {file = file} {bytes = bytes} {fault = fault} r) e xb n y f = no_run class file bytes fault r _ refl _ refl xb n f y
-
-pub one_status : {command : Command} {contents : List (List ℕ)} {xa xb : List Action} {m n : Status} → Yields command contents xa m → Yields command contents xb n → m ≡ n
-one_status {xa = xa} {xb = xb} {m = m} {n = n} y z = go (refused_or_done y) (refused_or_done z) where
+-- calls follow, or they don't
+conforms_status : (local : LocalTree) (list : List CallAt) (t u : List ℕ) (m n : Status) → Conforms local list t m → Conforms local list u n → m ≡ n
+conforms_status local list t u m n c d = go (answered_status c) (answered_status d) where
   go : (m ≡ statuses.Done) ⊎ (m ≡ statuses.Refused) → (n ≡ statuses.Done) ⊎ (n ≡ statuses.Refused) → m ≡ n
   go (inl e) (inl f) = e ∙ sym f
-  go (inl e) (inr f) = absurd (clash z f xa m y e)
-  go (inr e) (inl f) = absurd (clash y e xb n z f)
+  go (inl e) (inr f) = absurd (stopped local list u n f d (follows local list t m e c))
+  go (inr e) (inl f) = absurd (stopped local list t m e c (follows local list u n f d))
   go (inr e) (inr f) = e ∙ sym f
 
+conform_status : {protocol calls : Source} {xa xb : List Action} {m n : Status} → ConformGives protocol calls xa m → ConformGives protocol calls xb n → m ≡ n
+conform_status {protocol = protocol} {calls = calls} {m = m} {n = n} (conforms {text = t} local list o l c) (conforms {text = u} local' list' o' l' c') =
+    let local_is : local' ≡ local = same_local local' local (one_part protocol (Protocol local') (Protocol local) o' o) in
+    let list_is : list' ≡ list = one_list calls.bytes list' list l'.listed l.listed in
+    conforms_status local list t u m n c
+    (subst (λ (z : List CallAt). Conforms local z u n) list_is (subst (λ (z : LocalTree). Conforms z list' u n) local_is c'))
+conform_status {protocol = protocol} (conforms local list o l c) (no_protocol {line = line} r) = absurd (not_refused protocol (Protocol local) line o r)
+conform_status {calls = calls} (conforms local list o l c) (no_calls {line = line} local' o' r) = absurd (listed_once calls list line l r)
+conform_status {protocol = protocol} (no_protocol {line = line} r) (conforms local list o l c) = absurd (not_refused protocol (Protocol local) line o r)
+conform_status (no_protocol r) (no_protocol q) = refl
+conform_status (no_protocol r) (no_calls local o q) = refl
+conform_status {calls = calls} (no_calls {line = line} local' o' r) (conforms local list o l c) = absurd (listed_once calls list line l r)
+conform_status (no_calls local o r) (no_protocol q) = refl
+conform_status (no_calls local o r) (no_calls local' o' q) = refl
+
+conform_yields : (files : List Source) {xa xb : List Action} {m n : Status} → ConformYields files xa m → ConformYields files xb n → m ≡ n
+conform_yields [] y z = absurd y
+conform_yields (p ∷ []) y z = absurd y
+conform_yields (p ∷ c ∷ []) y z = conform_status y z
+conform_yields (p ∷ c ∷ d ∷ more) y z = absurd y
+
+run_yields : (class : Word) (files : List Source) {xa xb : List Action} {m n : Status} → RunYields class files xa m → RunYields class files xb n → m ≡ n
+run_yields class [] y z = absurd y
+run_yields class (f ∷ []) y z = run_status y z
+run_yields class (f ∷ g ∷ more) y z = absurd y
+
+status_of : (command : Command) {contents : List (List ℕ)} {xa xb : List Action} {m n : Status} → Yields command contents xa m → Yields command contents xb n → m ≡ n
+status_of (Translate folder files) y z = translate_status y z
+status_of (Conform files) {contents = contents} y z = conform_yields (sources files contents) y z
+status_of (Check files) y z = check_status y z
+status_of (Compile folder files) y z = compile_status y z
+status_of (Run class files) {contents = contents} y z = run_yields class (sources files contents) y z
+
+pub one_status : {command : Command} {contents : List (List ℕ)} {xa xb : List Action} {m n : Status} → Yields command contents xa m → Yields command contents xb n → m ≡ n
+one_status {command = command} y z = status_of command y z
+
+-- ---- the statuses that a command may have
+
+-- a command is done or refused
+abbrev IsOutcome : Status → Type 0
+IsOutcome status = (status ≡ statuses.Done) ⊎ (status ≡ statuses.Refused)
+
+outcome_proper : (status : Status) → IsOutcome status → IsYielded status
+outcome_proper status (inl e) = (λ f. let no : statuses.Done ≡ statuses.Words = sym e ∙ f in cc, λ f. let no : statuses.Done ≡ statuses.ReadFault = sym e ∙ f in cc,
+    λ f. let no : statuses.Done ≡ statuses.WriteFault = sym e ∙ f in cc, λ f. let no : statuses.Done ≡ statuses.Memory = sym e ∙ f in cc)
+outcome_proper status (inr e) = (λ f. let no : statuses.Refused ≡ statuses.Words = sym e ∙ f in cc, λ f. let no : statuses.Refused ≡ statuses.ReadFault = sym e ∙ f in cc,
+    λ f. let no : statuses.Refused ≡ statuses.WriteFault = sym e ∙ f in cc, λ f. let no : statuses.Refused ≡ statuses.Memory = sym e ∙ f in cc)
+
+conform_outcome : (files : List Source) {actions : List Action} {status : Status} → ConformYields files actions status → IsOutcome status
+conform_outcome [] y = absurd y
+conform_outcome (p ∷ []) y = absurd y
+conform_outcome (p ∷ k ∷ []) (conforms local list o l c) = answered_status c
+conform_outcome (p ∷ k ∷ []) (no_protocol r) = inr refl
+conform_outcome (p ∷ k ∷ []) (no_calls local o r) = inr refl
+conform_outcome (p ∷ k ∷ d ∷ more) y = absurd y
+
+run_outcome : (class : Word) (files : List Source) {actions : List Action} {status : Status} → RunYields class files actions status → IsOutcome status
+run_outcome class [] y = absurd y
+run_outcome class (f ∷ []) (ran s) = inl refl
+run_outcome class (f ∷ []) (not_run r) = inr refl
+run_outcome class (f ∷ g ∷ more) y = absurd y
+
+outcome : (command : Command) {contents : List (List ℕ)} {actions : List Action} {status : Status} → Yields command contents actions status → IsOutcome status
+outcome (Translate folder files) (translated t) = inl refl
+outcome (Translate folder files) (not_translated r) = inr refl
+outcome (Conform files) {contents = contents} y = conform_outcome (sources files contents) y
+outcome (Check files) (checked core a r) = inl refl
+outcome (Check files) (not_checked r) = inr refl
+outcome (Compile folder files) (compiled written h) = inl refl
+outcome (Compile folder files) (not_compiled r) = inr refl
+outcome (Run class files) {contents = contents} y = run_outcome class (sources files contents) y
+
 pub proper : {command : Command} {contents : List (List ℕ)} {actions : List Action} {status : Status} → Yields command contents actions status → IsYielded status
-proper (translated t) = (λ e. cc, λ e. cc, λ e. cc, λ e. cc)
-proper (not_translated r) = (λ e. cc, λ e. cc, λ e. cc, λ e. cc)
-proper (conforms local list o l (complete h)) = (λ e. cc, λ e. cc, λ e. cc, λ e. cc)
-proper (conforms local list o l (unfinished h isnt)) = (λ e. cc, λ e. cc, λ e. cc, λ e. cc)
-proper (conforms local list o l (not_offered front call rest split before isnt)) = (λ e. cc, λ e. cc, λ e. cc, λ e. cc)
-proper (no_protocol r) = (λ e. cc, λ e. cc, λ e. cc, λ e. cc)
-proper (no_calls local o r) = (λ e. cc, λ e. cc, λ e. cc, λ e. cc)
-proper (checked core a r) = (λ e. cc, λ e. cc, λ e. cc, λ e. cc)
-proper (not_checked r) = (λ e. cc, λ e. cc, λ e. cc, λ e. cc)
-proper (ran s) = (λ e. cc, λ e. cc, λ e. cc, λ e. cc)
-proper (not_run r) = (λ e. cc, λ e. cc, λ e. cc, λ e. cc)
+proper {command = command} {status = status} y = outcome_proper status (outcome command y)
 
 -- a refusal is a line on standard error, or that of a call that isn't offered
 abbrev pub SaysRefusal : List Action → Type 0
 SaysRefusal actions = ((line : List ℕ) × (actions ≡ Say line ∷ [])) ⊎ ((n : ℕ) × (actions ≡ Print (not_offered_line n) ∷ []))
 
+conform_says : (files : List Source) {actions : List Action} {status : Status} → ConformYields files actions status → status ≡ statuses.Refused → SaysRefusal actions
+conform_says [] y e = absurd y
+conform_says (p ∷ []) y e = absurd y
+conform_says (p ∷ k ∷ []) (conforms local list o l (complete h)) e = absurd cc
+conform_says (p ∷ k ∷ []) (conforms local list o l (unfinished h isnt)) e = absurd cc
+conform_says (p ∷ k ∷ []) (conforms local list o l (not_offered front call rest split before isnt)) e = inr (call.line, refl)
+conform_says (p ∷ k ∷ []) (no_protocol {line = line} r) e = inl (line, refl)
+conform_says (p ∷ k ∷ []) (no_calls {line = line} local o r) e = inl (line, refl)
+conform_says (p ∷ k ∷ d ∷ more) y e = absurd y
+
+run_says : (class : Word) (files : List Source) {actions : List Action} {status : Status} → RunYields class files actions status → status ≡ statuses.Refused → SaysRefusal actions
+run_says class [] y e = absurd y
+run_says class (f ∷ []) (ran s) e = absurd cc
+run_says class (f ∷ []) (not_run {fault = fault} r) e = inl (run_line class f.name fault, refl)
+run_says class (f ∷ g ∷ more) y e = absurd y
+
+says : (command : Command) {contents : List (List ℕ)} {actions : List Action} {status : Status} → Yields command contents actions status → status ≡ statuses.Refused → SaysRefusal actions
+says (Translate folder files) (translated t) e = absurd cc
+says (Translate folder files) (not_translated {line = line} r) e = inl (line, refl)
+says (Conform files) {contents = contents} y e = conform_says (sources files contents) y e
+says (Check files) (checked core a r) e = absurd cc
+says (Check files) (not_checked {line = line} r) e = inl (line, refl)
+says (Compile folder files) (compiled written h) e = absurd cc
+says (Compile folder files) (not_compiled {line = line} r) e = inl (line, refl)
+says (Run class files) {contents = contents} y e = run_says class (sources files contents) y e
+
 pub refusal_says : {command : Command} {contents : List (List ℕ)} {actions : List Action} {status : Status} → Yields command contents actions status → status ≡ statuses.Refused → SaysRefusal actions
-refusal_says (translated t) e = absurd cc
-refusal_says (not_translated {line = line} r) e = inl (line, refl)
-refusal_says (conforms local list o l (complete h)) e = absurd cc
-refusal_says (conforms local list o l (unfinished h isnt)) e = absurd cc
-refusal_says (conforms local list o l (not_offered front call rest split before isnt)) e = inr (call.line, refl)
-refusal_says (no_protocol {line = line} r) e = inl (line, refl)
-refusal_says (no_calls {line = line} local o r) e = inl (line, refl)
-refusal_says (checked core a r) e = absurd cc
-refusal_says (not_checked {line = line} r) e = inl (line, refl)
-refusal_says (ran s) e = absurd cc
-refusal_says (not_run {class = class} {file = file} {fault = fault} r) e = inl (run_line class file fault, refl)
+refusal_says {command = command} y e = says command y e

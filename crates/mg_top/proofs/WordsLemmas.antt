@@ -5,7 +5,7 @@ use Rattle.std.specs.List.{ends_with, list_all}
 use Rattle.mg_read.specs.Passes.{AllPasses}
 use Rattle.scr_tree.specs.Words.{reserved}
 use Rattle.mg_sources.specs.Files.{EndsWith, Kind, Scribble, Typestates, Java, suffix_of, HaveKinds}
-use Rattle.mg_top.specs.Words.{Word, Command, Translate, Conform, Check, Run, AreProtocolAndCalls, IsFileName, IsFileOf, IsSourceName, AreFilesOf, IsClassName, out_words, IsCommand, AreCommand, CanBegin, AreWrong}
+use Rattle.mg_top.specs.Words.{Word, Command, Translate, Conform, Check, Compile, Run, AreProtocolAndCalls, IsFileName, IsFileOf, IsSourceName, AreSourceNames, AreFilesOf, IsClassName, out_words, IsCommand, AreCommand, CanBegin, AreOutside, AreWrong}
 use Rattle.mg_sources.proofs.Endings.{ends_is, is_ends}
 use Rattle.mg_top.specs.inner.Judging.{IsFirstOther}
 
@@ -20,6 +20,9 @@ conform = codes "conform"
 
 abbrev check : Word
 check = codes "check"
+
+abbrev compile : Word
+compile = codes "compile"
 
 abbrev run : Word
 run = codes "run"
@@ -68,6 +71,18 @@ no_check_calls e = absurd cc
 
 no_check_run : {P : Type 0} → check ≡ run → P
 no_check_run e = absurd cc
+
+no_compile : {P : Type 0} → translate ≡ compile → P
+no_compile e = absurd cc
+
+no_compile_calls : {P : Type 0} → conform ≡ compile → P
+no_compile_calls e = absurd cc
+
+no_compile_check : {P : Type 0} → check ≡ compile → P
+no_compile_check e = absurd cc
+
+no_compile_run : {P : Type 0} → compile ≡ run → P
+no_compile_run e = absurd cc
 
 -- all of one word, and of some words and one more
 All-one : (P : Word → Type 0) (x : Word) → P x → All P (x ∷ [])
@@ -160,6 +175,27 @@ begins_sources before each =
 begins_check : CanBegin AreCommand (check ∷ [])
 begins_check = begins_sources [] (none_yet _)
 
+-- the same of compile
+begins_classes : (folder : Option Word) (before : List Word) → IfSome folder IsFileName → All IsSourceName before
+    → CanBegin AreCommand (compile ∷ (out_words folder ++ before))
+begins_classes folder before name each = (
+  some_source ∷ [],
+  (
+    Compile folder (before ++ some_source ∷ []),
+    (
+      ap (λ (z : List Word). compile ∷ z) (append_assoc (out_words folder) before (some_source ∷ [])),
+      name,
+      (pushed_filled before some_source, All-push IsSourceName before some_source each source_named),
+    ),
+  ),
+)
+
+begins_compile : CanBegin AreCommand (compile ∷ [])
+begins_compile = begins_classes None [] tt (none_yet _)
+
+begins_class_out : CanBegin AreCommand (compile ∷ out ∷ [])
+begins_class_out = let b = begins_classes (Some some_class) [] is_name (none_yet _) in (some_class ∷ b.0, b.1)
+
 begins_java : (class file : Word) → IsClassName class → IsFileOf (codes ".java") file → CanBegin AreCommand (run ∷ main ∷ class ∷ file ∷ [])
 begins_java class file h h' = ([], (Run class (file ∷ []), (refl, h, (file, refl, h'))))
 
@@ -174,11 +210,12 @@ begins_run = let b = begins_main in (main ∷ b.0, b.1)
 
 -- ---- what words of a command are
 
-first_word : (command : Command) (w : Word) (more : List Word) → IsCommand command (w ∷ more) → (w ≡ translate) ⊎ (w ≡ conform) ⊎ (w ≡ check) ⊎ (w ≡ run)
+first_word : (command : Command) (w : Word) (more : List Word) → IsCommand command (w ∷ more) → (w ≡ translate) ⊎ (w ≡ conform) ⊎ (w ≡ check) ⊎ (w ≡ compile) ⊎ (w ≡ run)
 first_word (Translate folder files) w more (e, h, k) = inl (head_is e)
 first_word (Conform files) w more (e, h) = inr (inl (head_is e))
 first_word (Check files) w more (e, h, k) = inr (inr (inl (head_is e)))
-first_word (Run class files) w more (e, h, k) = inr (inr (inr (head_is e)))
+first_word (Compile folder files) w more (e, h, k) = inr (inr (inr (inl (head_is e))))
+first_word (Run class files) w more (e, h, k) = inr (inr (inr (inr (head_is e))))
 
 -- the option isn't a file
 no_file : {P : Type 0} (files rest : List Word) → out ∷ rest ≡ files → AreFilesOf (codes ".scr") files → P
@@ -194,6 +231,7 @@ translate_files (Translate None files) (Some f) rest plain (e, h, each) = no_fil
 translate_files (Translate (Some d) files) (Some f) rest plain (e, h, each) = subst (AreFilesOf (codes ".scr")) (sym (tail_is (tail_is (tail_is e)))) each
 translate_files (Conform files) folder rest plain (e, h) = apart_first (head_is e)
 translate_files (Check files) folder rest plain (e, h, k) = no_check (head_is e)
+translate_files (Compile d files) folder rest plain (e, h, k) = no_compile (head_is e)
 translate_files (Run class files) folder rest plain (e, h, k) = apart (head_is e)
 
 -- what stands behind "--out" is a folder
@@ -202,6 +240,7 @@ folder_word (Translate None files) f rest (e, h, each) = no_file files (f ∷ re
 folder_word (Translate (Some d) files) f rest (e, h, each) = subst IsFileName (sym (head_is (tail_is (tail_is e)))) h
 folder_word (Conform files) f rest (e, h) = apart_first (head_is e)
 folder_word (Check files) f rest (e, h, k) = no_check (head_is e)
+folder_word (Compile d files) f rest (e, h, k) = no_compile (head_is e)
 folder_word (Run class files) f rest (e, h, k) = apart (head_is e)
 
 out_is_none : (command : Command) → IsCommand command (translate ∷ out ∷ []) → ⊥
@@ -209,24 +248,28 @@ out_is_none (Translate None files) (e, h, each) = no_file files [] (tail_is e) e
 out_is_none (Translate (Some d) files) (e, h, each) = filled (tail_is (tail_is e))
 out_is_none (Conform files) (e, h) = apart_first (head_is e)
 out_is_none (Check files) (e, h, k) = no_check (head_is e)
+out_is_none (Compile d files) (e, h, k) = no_compile (head_is e)
 out_is_none (Run class files) (e, h, k) = apart (head_is e)
 
 main_word : (command : Command) (o : Word) (more : List Word) → IsCommand command (run ∷ o ∷ more) → o ≡ main
 main_word (Translate folder files) o more (e, h, k) = apart (sym (head_is e))
 main_word (Conform files) o more (e, h) = apart_last (sym (head_is e))
 main_word (Check files) o more (e, h, k) = no_check_run (sym (head_is e))
+main_word (Compile d files) o more (e, h, k) = no_compile_run (sym (head_is e))
 main_word (Run class files) o more (e, h, k) = head_is (tail_is e)
 
 class_word : (command : Command) (o c : Word) (more : List Word) → IsCommand command (run ∷ o ∷ c ∷ more) → IsClassName c
 class_word (Translate folder files) o c more (e, h, k) = apart (sym (head_is e))
 class_word (Conform files) o c more (e, h) = apart_last (sym (head_is e))
 class_word (Check files) o c more (e, h, k) = no_check_run (sym (head_is e))
+class_word (Compile d files) o c more (e, h, k) = no_compile_run (sym (head_is e))
 class_word (Run class files) o c more (e, h, f) = subst IsClassName (sym (head_is (tail_is (tail_is e)))) h
 
 java_word : (command : Command) (o c f : Word) (more : List Word) → IsCommand command (run ∷ o ∷ c ∷ f ∷ more) → IsFileOf (codes ".java") f × (more ≡ [])
 java_word (Translate folder files) o c f more (e, h, k) = apart (sym (head_is e))
 java_word (Conform files) o c f more (e, h) = apart_last (sym (head_is e))
 java_word (Check files) o c f more (e, h, k) = no_check_run (sym (head_is e))
+java_word (Compile d files) o c f more (e, h, k) = no_compile_run (sym (head_is e))
 java_word (Run class files) o c f more (e, h, (file, one, java)) =
     let rest : ◌≡◌ {A = List Word} (f ∷ more) (file ∷ []) = tail_is (tail_is (tail_is e)) ∙ one in
     (subst (IsFileOf (codes ".java")) (sym (head_is rest)) java, tail_is rest)
@@ -235,48 +278,56 @@ none_is_none : (command : Command) → IsCommand command [] → ⊥
 none_is_none (Translate folder files) (e, h, k) = filled e
 none_is_none (Conform files) (e, h) = filled e
 none_is_none (Check files) (e, h, k) = filled e
+none_is_none (Compile d files) (e, h, k) = filled e
 none_is_none (Run class files) (e, h, k) = filled e
 
 run_is_none : (command : Command) → IsCommand command (run ∷ []) → ⊥
 run_is_none (Translate folder files) (e, h, k) = apart (sym (head_is e))
 run_is_none (Conform files) (e, h) = apart_last (sym (head_is e))
 run_is_none (Check files) (e, h, k) = no_check_run (sym (head_is e))
+run_is_none (Compile d files) (e, h, k) = no_compile_run (sym (head_is e))
 run_is_none (Run class files) (e, h, k) = filled (tail_is e)
 
 main_is_none : (command : Command) → IsCommand command (run ∷ main ∷ []) → ⊥
 main_is_none (Translate folder files) (e, h, k) = apart (sym (head_is e))
 main_is_none (Conform files) (e, h) = apart_last (sym (head_is e))
 main_is_none (Check files) (e, h, k) = no_check_run (sym (head_is e))
+main_is_none (Compile d files) (e, h, k) = no_compile_run (sym (head_is e))
 main_is_none (Run class files) (e, h, k) = filled (tail_is (tail_is e))
 
 class_is_none : (class : Word) (command : Command) → IsCommand command (run ∷ main ∷ class ∷ []) → ⊥
 class_is_none class (Translate folder files) (e, h, k) = apart (sym (head_is e))
 class_is_none class (Conform files) (e, h) = apart_last (sym (head_is e))
 class_is_none class (Check files) (e, h, k) = no_check_run (sym (head_is e))
+class_is_none class (Compile d files) (e, h, k) = no_compile_run (sym (head_is e))
 class_is_none class (Run other files) (e, h, (file, one, java)) = filled (tail_is (tail_is (tail_is e)) ∙ one)
 
 protocol_word : (command : Command) (p : Word) (more : List Word) → IsCommand command (conform ∷ p ∷ more) → IsFileOf (codes ".scr") p
 protocol_word (Translate folder files) p more (e, h, k) = apart_first (sym (head_is e))
 protocol_word (Conform files) p more (e, h) = subst (IsFileOf (codes ".scr")) (sym (head_is (tail_is e ∙ h.two))) h.scribble
 protocol_word (Check files) p more (e, h, k) = no_check_calls (head_is e)
+protocol_word (Compile d files) p more (e, h, k) = no_compile_calls (head_is e)
 protocol_word (Run class files) p more (e, h, k) = apart_last (head_is e)
 
 calls_word : (command : Command) (p c : Word) (more : List Word) → IsCommand command (conform ∷ p ∷ c ∷ more) → IsFileName c × (more ≡ [])
 calls_word (Translate folder files) p c more (e, h, k) = apart_first (sym (head_is e))
 calls_word (Conform files) p c more (e, h) = let two = tail_is e ∙ h.two in (subst IsFileName (sym (head_is (tail_is two))) h.named, tail_is (tail_is two))
 calls_word (Check files) p c more (e, h, k) = no_check_calls (head_is e)
+calls_word (Compile d files) p c more (e, h, k) = no_compile_calls (head_is e)
 calls_word (Run class files) p c more (e, h, k) = apart_last (head_is e)
 
 conform_is_none : (command : Command) → IsCommand command (conform ∷ []) → ⊥
 conform_is_none (Translate folder files) (e, h, k) = apart_first (sym (head_is e))
 conform_is_none (Conform files) (e, h) = filled (tail_is e ∙ h.two)
 conform_is_none (Check files) (e, h, k) = no_check_calls (head_is e)
+conform_is_none (Compile d files) (e, h, k) = no_compile_calls (head_is e)
 conform_is_none (Run class files) (e, h, k) = apart_last (head_is e)
 
 protocol_is_none : (protocol : Word) (command : Command) → IsCommand command (conform ∷ protocol ∷ []) → ⊥
 protocol_is_none protocol (Translate folder files) (e, h, k) = apart_first (sym (head_is e))
 protocol_is_none protocol (Conform files) (e, h) = filled (tail_is (tail_is e ∙ h.two))
 protocol_is_none protocol (Check files) (e, h, k) = no_check_calls (head_is e)
+protocol_is_none protocol (Compile d files) (e, h, k) = no_compile_calls (head_is e)
 protocol_is_none protocol (Run class files) (e, h, k) = apart_last (head_is e)
 
 -- what stands behind "check" are sources
@@ -284,7 +335,41 @@ check_files : (command : Command) (rest : List Word) → IsCommand command (chec
 check_files (Translate folder files) rest (e, h, k) = no_check (sym (head_is e))
 check_files (Conform files) rest (e, h) = no_check_calls (sym (head_is e))
 check_files (Check files) rest (e, h, each) = (λ r. h (sym (tail_is e) ∙ r), subst (All IsSourceName) (sym (tail_is e)) each)
+check_files (Compile d files) rest (e, h, k) = no_compile_check (head_is e)
 check_files (Run class files) rest (e, h, k) = no_check_run (head_is e)
+
+-- the option isn't a source
+no_source : {P : Type 0} (files rest : List Word) → out ∷ rest ≡ files → AreSourceNames files → P
+no_source files rest e (_, each) = let first : IsSourceName out = All-first IsSourceName out rest (subst (All IsSourceName) (sym e) each) in absurd (first.0 refl)
+
+-- what stands behind the options of "compile" are sources
+compile_files : (command : Command) (folder : Option Word) (rest : List Word) → (folder ≡ None → (r : List Word) → rest ≡ out ∷ r → ⊥)
+    → IsCommand command (compile ∷ (out_words folder ++ rest)) → AreSourceNames rest
+compile_files (Translate d files) folder rest plain (e, h, k) = no_compile (sym (head_is e))
+compile_files (Conform files) folder rest plain (e, h) = no_compile_calls (sym (head_is e))
+compile_files (Check files) folder rest plain (e, h, k) = no_compile_check (sym (head_is e))
+compile_files (Compile None files) None rest plain (e, h, each) = subst AreSourceNames (sym (tail_is e)) each
+compile_files (Compile (Some d) files) None rest plain (e, h, each) = absurd (plain refl (d ∷ files) (tail_is e))
+compile_files (Compile None files) (Some f) rest plain (e, h, each) = no_source files (f ∷ rest) (tail_is e) each
+compile_files (Compile (Some d) files) (Some f) rest plain (e, h, each) = subst AreSourceNames (sym (tail_is (tail_is (tail_is e)))) each
+compile_files (Run class files) folder rest plain (e, h, k) = no_compile_run (head_is e)
+
+-- what stands behind "compile --out" is a folder
+class_folder_word : (command : Command) (f : Word) (rest : List Word) → IsCommand command (compile ∷ out ∷ f ∷ rest) → IsFileName f
+class_folder_word (Translate d files) f rest (e, h, k) = no_compile (sym (head_is e))
+class_folder_word (Conform files) f rest (e, h) = no_compile_calls (sym (head_is e))
+class_folder_word (Check files) f rest (e, h, k) = no_compile_check (sym (head_is e))
+class_folder_word (Compile None files) f rest (e, h, each) = no_source files (f ∷ rest) (tail_is e) each
+class_folder_word (Compile (Some d) files) f rest (e, h, each) = subst IsFileName (sym (head_is (tail_is (tail_is e)))) h
+class_folder_word (Run class files) f rest (e, h, k) = no_compile_run (head_is e)
+
+class_out_is_none : (command : Command) → IsCommand command (compile ∷ out ∷ []) → ⊥
+class_out_is_none (Translate d files) (e, h, k) = no_compile (sym (head_is e))
+class_out_is_none (Conform files) (e, h) = no_compile_calls (sym (head_is e))
+class_out_is_none (Check files) (e, h, k) = no_compile_check (sym (head_is e))
+class_out_is_none (Compile None files) (e, h, each) = no_source files [] (tail_is e) each
+class_out_is_none (Compile (Some d) files) (e, h, each) = filled (tail_is (tail_is e))
+class_out_is_none (Run class files) (e, h, k) = no_compile_run (head_is e)
 
 -- ---- what is judged: where words are lacking, and where one can't follow
 
@@ -324,6 +409,22 @@ few_protocol rest protocol more is h e =
 pub few_check : (rest : List Word) → length rest ≡ 0 → AreWrong (check ∷ rest) None
 few_check rest e = few (check ∷ []) rest e begins_check (λ command is. (check_files command [] is).0 refl)
 
+no_sources : (command : Command) (folder : Option Word) → IsCommand command (compile ∷ (out_words folder ++ [])) → ⊥
+no_sources command folder is = (compile_files command folder [] (λ n r. filled) is).0 refl
+
+pub few_compile : (rest : List Word) → length rest ≡ 0 → AreWrong (compile ∷ rest) None
+few_compile rest e = few (compile ∷ []) rest e begins_compile (λ command. no_sources command None)
+
+pub few_class_out : (rest : List Word) → length rest ≡ 0 → AreWrong (compile ∷ out ∷ rest) None
+few_class_out rest e = few (compile ∷ out ∷ []) rest e begins_class_out class_out_is_none
+
+pub few_sources : (folder : Option Word) (files : List Word) → IfSome folder IsFileName → length files ≡ 0 → AreWrong (compile ∷ (out_words folder ++ files)) None
+few_sources folder files name e =
+    subst (λ (z : List Word). AreWrong (compile ∷ (out_words folder ++ z)) None) (sym (empty_is files e)) (
+      begins_classes folder [] name (none_yet _),
+      λ k. no_sources k.0 folder k.1,
+    )
+
 pub few_run : (rest : List Word) → length rest ≡ 0 → AreWrong (run ∷ rest) None
 few_run rest e = few (run ∷ []) rest e begins_run run_is_none
 
@@ -341,13 +442,14 @@ first_wrong before word more can cannot = record { before = before; after = more
 wrong_at : (before rest : List Word) (word : Word) (more : List Word) → rest ≡ word ∷ more → CanBegin AreCommand before → (CanBegin AreCommand (before ++ word ∷ []) → ⊥) → AreWrong (before ++ rest) (Some word)
 wrong_at before rest word more e can cannot = subst (λ (ws : List Word). AreWrong (before ++ ws) (Some word)) (sym e) (first_wrong before word more can cannot)
 
-pub wrong_command : (rest : List Word) (word : Word) (more : List Word) → rest ≡ word ∷ more → (word ≡ translate → ⊥) → (word ≡ conform → ⊥) → (word ≡ check → ⊥) → (word ≡ run → ⊥) → AreWrong rest (Some word)
-wrong_command rest word more e isnt isnt' isnt'' isnt''' = wrong_at [] rest word more e begins_empty (λ b. neither (first_word b.1.0 word b.0 b.1.1)) where
-  neither : (word ≡ translate) ⊎ (word ≡ conform) ⊎ (word ≡ check) ⊎ (word ≡ run) → ⊥
-  neither (inl h) = isnt h
-  neither (inr (inl h)) = isnt' h
-  neither (inr (inr (inl h))) = isnt'' h
-  neither (inr (inr (inr h))) = isnt''' h
+pub wrong_command : (rest : List Word) (word : Word) (more : List Word) → rest ≡ word ∷ more → (word ≡ translate → ⊥) → (word ≡ conform → ⊥) → (word ≡ check → ⊥) → (word ≡ compile → ⊥) → (word ≡ run → ⊥) → AreWrong rest (Some word)
+wrong_command rest word more e is_no_translate is_no_conform is_no_check is_no_compile is_no_run = wrong_at [] rest word more e begins_empty (λ b. neither (first_word b.1.0 word b.0 b.1.1)) where
+  neither : (word ≡ translate) ⊎ (word ≡ conform) ⊎ (word ≡ check) ⊎ (word ≡ compile) ⊎ (word ≡ run) → ⊥
+  neither (inl h) = is_no_translate h
+  neither (inr (inl h)) = is_no_conform h
+  neither (inr (inr (inl h))) = is_no_check h
+  neither (inr (inr (inr (inl h)))) = is_no_compile h
+  neither (inr (inr (inr (inr h)))) = is_no_run h
 
 pub wrong_protocol : (rest : List Word) (word : Word) (more : List Word) → rest ≡ word ∷ more → (IsFileOf (codes ".scr") word → ⊥) → AreWrong (conform ∷ rest) (Some word)
 wrong_protocol rest word more e isnt = wrong_at (conform ∷ []) rest word more e begins_conform (λ b. isnt (protocol_word b.1.0 word b.0 b.1.1))
@@ -404,7 +506,30 @@ wrong_source files word (before, after, is, each, isnt) = record {
       let split : ((check ∷ before) ++ word ∷ []) ++ more ≡ check ∷ (before ++ word ∷ more) = append_assoc (check ∷ before) (word ∷ []) more in
       All-mid IsSourceName before word more (check_files command (before ++ word ∷ more) (subst (IsCommand command) split k)).1
 
+pub wrong_class_folder : (rest : List Word) (word : Word) (more : List Word) → rest ≡ word ∷ more → (IsFileName word → ⊥) → AreWrong (compile ∷ out ∷ rest) (Some word)
+wrong_class_folder rest word more e isnt = wrong_at (compile ∷ out ∷ []) rest word more e begins_class_out (λ b. isnt (class_folder_word b.1.0 word b.0 b.1.1))
+
+pub wrong_class_source : (folder : Option Word) (files : List Word) (word : Word) → IfSome folder IsFileName → (folder ≡ None → (r : List Word) → files ≡ out ∷ r → ⊥)
+    → IsFirstOther IsSourceName files (Some word) → AreWrong (compile ∷ (out_words folder ++ files)) (Some word)
+wrong_class_source folder files word name plain (before, after, is, each, isnt) = record {
+  before = compile ∷ (out_words folder ++ before);
+  after = after;
+  stands = ap (λ (z : List Word). compile ∷ z) (ap (λ (z : List Word). out_words folder ++ z) is ∙ sym (append_assoc (out_words folder) before (word ∷ after)));
+  begins = begins_classes folder before name each;
+  wrong = λ b. isnt (found b);
+} where
+  found : CanBegin AreCommand ((compile ∷ (out_words folder ++ before)) ++ word ∷ []) → IsSourceName word
+  found (more, (command, k)) =
+      let split : ((compile ∷ (out_words folder ++ before)) ++ word ∷ []) ++ more ≡ compile ∷ (out_words folder ++ (before ++ word ∷ more)) =
+      append_assoc (compile ∷ (out_words folder ++ before)) (word ∷ []) more ∙ ap (λ (z : List Word). compile ∷ z) (append_assoc (out_words folder) before (word ∷ more)) in
+      let there : IsCommand command (compile ∷ (out_words folder ++ (before ++ word ∷ more))) = subst (IsCommand command) split k in
+      let still = λ (n : folder ≡ None). still_plain before word after more (λ r e. plain n r (is ∙ e)) in
+      All-mid IsSourceName before word more (compile_files command folder (before ++ word ∷ more) still there).1
+
 -- the names of files of a program tell of which kinds they are
+pub kinds_of_classes : (words : List Word) (folder : Option Word) (files : List Word) → IsCommand (Compile folder files) words → HaveKinds files
+kinds_of_classes words folder files (e, name, some, each) k d lt = (each k d lt).1
+
 pub kinds_of : (words files : List Word) → IsCommand (Check files) words → HaveKinds files
 kinds_of words files (e, some, each) k d lt = (each k d lt).1
 
@@ -448,6 +573,20 @@ same_command words (Translate (Some c) f) (Translate (Some d) g) (e, h, k) (e', 
     let rest = tail_is (tail_is (sym e ∙ e')) in
     (λ i. Translate (Some (head_is rest i)) (tail_is rest i))
 same_command words (Translate c f) (Conform g) (e, h, k) (e', h') = apart_first (head_is (sym e ∙ e'))
+same_command words (Compile None f) (Compile None g) (e, h, k) (e', h', k') = ap (Compile None) (tail_is (sym e ∙ e'))
+same_command words (Compile None f) (Compile (Some d) g) (e, h, each) (e', h', each') = no_source f (d ∷ g) (tail_is (sym e' ∙ e)) each
+same_command words (Compile (Some c) f) (Compile None g) (e, h, each) (e', h', each') = no_source g (c ∷ f) (tail_is (sym e ∙ e')) each'
+same_command words (Compile (Some c) f) (Compile (Some d) g) (e, h, k) (e', h', k') =
+    let rest = tail_is (tail_is (sym e ∙ e')) in
+    (λ i. Compile (Some (head_is rest i)) (tail_is rest i))
+same_command words (Compile c f) (Translate d g) (e, h, k) (e', h', k') = no_compile (sym (head_is (sym e ∙ e')))
+same_command words (Compile c f) (Conform g) (e, h, k) (e', h') = no_compile_calls (sym (head_is (sym e ∙ e')))
+same_command words (Compile c f) (Check g) (e, h, k) (e', h', k') = no_compile_check (sym (head_is (sym e ∙ e')))
+same_command words (Compile c f) (Run d g) (e, h, k) (e', h', k') = no_compile_run (head_is (sym e ∙ e'))
+same_command words (Translate c f) (Compile d g) (e, h, k) (e', h', k') = no_compile (head_is (sym e ∙ e'))
+same_command words (Conform f) (Compile d g) (e, h) (e', h', k') = no_compile_calls (head_is (sym e ∙ e'))
+same_command words (Check f) (Compile d g) (e, h, k) (e', h', k') = no_compile_check (head_is (sym e ∙ e'))
+same_command words (Run c f) (Compile d g) (e, h, k) (e', h', k') = no_compile_run (sym (head_is (sym e ∙ e')))
 same_command words (Translate c f) (Check g) (e, h, k) (e', h', k') = no_check (head_is (sym e ∙ e'))
 same_command words (Conform f) (Translate d g) (e, h) (e', h', k') = apart_first (sym (head_is (sym e ∙ e')))
 same_command words (Conform f) (Conform g) (e, h) (e', h') = ap Conform (tail_is (sym e ∙ e'))

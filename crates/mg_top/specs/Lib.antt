@@ -2,6 +2,7 @@ pub mod Words
 pub mod Numbers
 pub mod Lines
 pub mod Files
+pub mod Writing
 pub mod Translation
 pub mod Conformance
 pub mod Outside

@@ -16,11 +16,7 @@ use Rattle.mg_sources.specs.Files.{Source}
 use Rattle.mg_sources.specs.Reading.{Protocol, Reads}
 use Rattle.mg_sources.specs.Sources.{SharesRole}
 use Rattle.mg_top.specs.Files.{Output}
-
--- a name of a file, in a folder where there is one
-abbrev pub in_folder : Option Word → Word → Word
-in_folder None name = name
-in_folder (Some folder) name = folder ++ codes "/" ++ name
+use Rattle.mg_top.specs.Writing.{in_folder}
 
 -- The file of a protocol's typestate: the typestate is the one that the numbers of the text give, and it allows exactly the protocol's calls.
 pub record IsTypestateFile (folder : Option Word) (local : LocalTree) (file : Output) : Type 0 where

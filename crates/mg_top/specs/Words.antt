@@ -16,6 +16,8 @@ pub data Command : Type 0 where
   Conform : (files : List Word) → Command
   -- tell what the least tables of these files' program have
   Check : (files : List Word) → Command
+  -- write the class files of these files' program, into a folder where one is named
+  Compile : (folder : Option Word) → (files : List Word) → Command
   -- run the `main` of a class of the file
   Run : (class : Word) → (files : List Word) → Command
 
@@ -24,6 +26,7 @@ abbrev pub files_of : Command → List Word
 files_of (Translate folder files) = files
 files_of (Conform files) = files
 files_of (Check files) = files
+files_of (Compile folder files) = files
 files_of (Run class files) = files
 
 -- no name of a file or folder is empty or begins with "-"
@@ -42,6 +45,10 @@ AreFilesOf suffix files = (files ≢ []) × All (IsFileOf suffix) files
 -- the name of a file of a protocol, of a typestate, or of classes and enums
 abbrev pub IsSourceName : Word → Type 0
 IsSourceName word = IsFileName word × ((kind : Kind) × EndsWith (suffix_of kind) word)
+
+-- one or more such names
+abbrev pub AreSourceNames : List Word → Type 0
+AreSourceNames files = (files ≢ []) × All IsSourceName files
 
 -- the name of a file of a protocol, and that of a file of calls
 pub record AreProtocolAndCalls (files : List Word) : Type 0 where
@@ -65,7 +72,9 @@ abbrev pub IsCommand : Command → List Word → Type 0
 IsCommand (Translate folder files) words =
     (words ≡ codes "translate" ∷ (out_words folder ++ files)) × IfSome folder IsFileName × AreFilesOf (codes ".scr") files
 IsCommand (Conform files) words = (words ≡ codes "conform" ∷ files) × AreProtocolAndCalls files
-IsCommand (Check files) words = (words ≡ codes "check" ∷ files) × (files ≢ []) × All IsSourceName files
+IsCommand (Check files) words = (words ≡ codes "check" ∷ files) × AreSourceNames files
+IsCommand (Compile folder files) words =
+    (words ≡ codes "compile" ∷ (out_words folder ++ files)) × IfSome folder IsFileName × AreSourceNames files
 IsCommand (Run class files) words =
     (words ≡ codes "run" ∷ codes "--main" ∷ class ∷ files) × IsClassName class × ((file : Word) × (files ≡ file ∷ []) × IsFileOf (codes ".java") file)
 

@@ -3,6 +3,7 @@
 #![tactic(auto)]
 
 mod check;
+mod compile;
 mod conform;
 mod delivery;
 mod lines;

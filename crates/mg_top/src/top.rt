@@ -9,6 +9,7 @@ ghost use Rattle.mg_top.specs.inner.Judging.{command_of, IsKnown};
 ghost use Rattle.mg_top.specs.inner.Preparing.{IsPrepared};
 
 use crate::check::check;
+use crate::compile::compile;
 use crate::conform::conform;
 use crate::delivery::{Delivery, deliver, starve};
 use crate::reading::{Unread, read_all};
@@ -27,6 +28,8 @@ use std::alloc::Global;
 /// their roles, into the folder D where one is named.
 /// `conform F CALLS` tells whether the calls of the second file follow the protocol of the first.
 /// `check F..` tells what the least tables of the files' program have, where some tables solve it.
+/// `compile [--out D] F..` writes the class files of the files' program, into the folder D where one
+/// is named.
 /// `run --main C F` compiles the class C of F and runs its `main`; what it prints goes to `out`.
 pub fn mungo<F: Folder, O: Sink, E: Sink>(
     alloc: Global,
@@ -89,6 +92,7 @@ fn carry_out(alloc: Global, command: &Command<'_>, contents: &[Bytes]) -> Result
             contents[1].as_slice(),
         ),
         Command::Check { files } => check(alloc, files, contents),
+        Command::Compile { folder, files } => compile(alloc, folder, files, contents),
         Command::Run { class, files } => run(alloc, class, &files[0], contents[0].as_slice()),
     }
 }

@@ -6,7 +6,8 @@ ghost use Rattle.scr_tree.specs.Local.{tree_of};
 ghost use Rattle.mg_sources.specs.Files.{sources};
 ghost use Rattle.mg_sources.specs.Parts.{part_of};
 ghost use Rattle.mg_top.specs.Words.{IsFileOf, Translate};
-ghost use Rattle.mg_top.specs.Translation.{in_folder, IsTypestateFile, api_written};
+ghost use Rattle.mg_top.specs.Writing.{in_folder};
+ghost use Rattle.mg_top.specs.Translation.{IsTypestateFile, api_written};
 ghost use Rattle.mg_top.specs.Commands.{Yields};
 ghost use Rattle.mg_top.specs.inner.Preparing.{AreWritten, AddsPart, AddsTranslation, EachIsWritten, locals_in};
 ghost use Rattle.stm_api.specs.View.{written_of};
@@ -113,7 +114,7 @@ fn typestate_file(alloc: Global, folder: Option<&Text>, local: &Local) -> Result
     let mut name = String::new(alloc);
     name.push_str(local.me().as_str())?;
     name.push_str("Protocol.protocol")?;
-    file_in(alloc, folder, &name, &text)
+    file_in(alloc, folder, &name, text.as_str().as_bytes())
 }
 
 // Appends the writes of these files.
@@ -126,14 +127,24 @@ fn add_files(
     ensures { OnOk result (writes.new.items ≡ writes.old.items ++ map (api_written (option_map (λ f. f.now) folder.entry)) (map written_of files.now)) }
 {
     for file in files {
-        let output = file_in(alloc, folder, file.name.as_str(), &file.text)?;
+        let output = file_in(
+            alloc,
+            folder,
+            file.name.as_str(),
+            file.text.as_str().as_bytes(),
+        )?;
         writes.push(Action::Write(output))?;
     }
     Ok(())
 }
 
-// A file with this text, in the folder where there is one.
-fn file_in(alloc: Global, folder: Option<&Text>, name: &str, text: &Text) -> Result<Output, Memory>
+/// A file with this text, in the folder where there is one.
+pub fn file_in(
+    alloc: Global,
+    folder: Option<&Text>,
+    name: &str,
+    text: &[u8],
+) -> Result<Output, Memory>
     ensures { IfOk result (λ o. o ≡ record { name = in_folder (option_map (λ f. f.now) folder.entry) name.now; text = text.now }) }
 {
     let mut path = String::new(alloc);
@@ -142,6 +153,6 @@ fn file_in(alloc: Global, folder: Option<&Text>, name: &str, text: &Text) -> Res
         path.push_str("/")?;
     }
     path.push_str(name)?;
-    let text = Bytes::of(alloc, text.as_str().as_bytes())?;
+    let text = Bytes::of(alloc, text)?;
     Output::new(alloc, Text::from_string(path), text)
 }

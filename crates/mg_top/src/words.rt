@@ -26,6 +26,11 @@ pub enum Command<'a> {
     Check {
         files: &'a [Text],
     },
+    /// `compile`, a folder where `--out` names one, and the files.
+    Compile {
+        folder: Option<&'a Text>,
+        files: &'a [Text],
+    },
     /// `run --main`, the class and its file.
     Run {
         class: &'a Text,
@@ -42,6 +47,7 @@ impl<'a> Command<'a> {
             Command::Translate { files, .. } => files,
             Command::Conform { files } => files,
             Command::Check { files } => files,
+            Command::Compile { files, .. } => files,
             Command::Run { files, .. } => files,
         }
     }
@@ -70,6 +76,8 @@ pub fn judge(words: &[Text]) -> Judged<'_>
                 judge_conform(rest)
             } else if is_word(command, "check") {
                 judge_check(rest)
+            } else if is_word(command, "compile") {
+                judge_compile(rest)
             } else if is_word(command, "run") {
                 judge_run(rest)
             } else {
@@ -164,6 +172,54 @@ fn judge_check(files: &[Text]) -> Judged<'_>
         return Judged::Wrong(None);
     }
     Judged::Known(Command::Check { files })
+}
+
+// The same of the words behind `compile`.
+fn judge_compile(words: &[Text]) -> Judged<'_>
+    ensures { IsJudged (codes "compile" ∷ words.now) result }
+{
+    match words.split_first() {
+        None => Judged::Wrong(None),
+        Some((option, rest)) => {
+            if is_word(option, "--out") {
+                judge_class_folder(rest)
+            } else {
+                judge_sources(None, words)
+            }
+        }
+    }
+}
+
+// The same of the words behind `compile --out`.
+fn judge_class_folder(words: &[Text]) -> Judged<'_>
+    ensures { IsJudged (codes "compile" ∷ codes "--out" ∷ words.now) result }
+{
+    match words.split_first() {
+        None => Judged::Wrong(None),
+        Some((folder, rest)) => {
+            if is_file_name(folder) {
+                judge_sources(Some(folder), rest)
+            } else {
+                Judged::Wrong(Some(folder))
+            }
+        }
+    }
+}
+
+// The same of the words behind the options of `compile`, which are its files.
+fn judge_sources<'a>(folder: Option<&'a Text>, files: &'a [Text]) -> Judged<'a>
+    requires name { IfSome folder (λ f. IsFileName f.now) }
+    requires option { folder ≡ None → (rest : List Word) → files.now ≡ codes "--out" ∷ rest → ⊥ }
+    ensures { IsJudged (codes "compile"
+        ∷ (out_words (option_map (λ f. f.now) folder.entry) ++ files.now)) result }
+{
+    if let Some(word) = other_source(files) {
+        return Judged::Wrong(Some(word));
+    }
+    if files.is_empty() {
+        return Judged::Wrong(None);
+    }
+    Judged::Known(Command::Compile { folder, files })
 }
 
 // The same of the words behind `run`.

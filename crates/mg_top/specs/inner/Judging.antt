@@ -1,6 +1,7 @@
 -- What judging the words may answer.
-use Rattle.std.specs.Prelude.{◌≡◌, List, ◌∷◌, ◌++◌, All, Option, Some, None, option_map}
-use Rattle.mg_top.specs.Words.{Word, Command, Translate, Conform, Check, Run, IsCommand, AreWrong}
+use Rattle.std.specs.Prelude.{◌≡◌, List, [], ◌∷◌, ◌++◌, All, Option, Some, None, option_map}
+use Rattle.mg_text.specs.Call.{Name}
+use Rattle.mg_top.specs.Words.{Word, Command, Translate, Conform, Check, Compile, Run, IsCommand, AreWrong}
 use Rattle.mg_top.specs.declared.words.Command.{Command as Found}
 use Rattle.mg_top.specs.declared.words.Command.TheVariants as found
 use Rattle.mg_top.specs.declared.words.Judged.{Judged}
@@ -11,6 +12,7 @@ abbrev pub command_of : Found → Command
 command_of (found.Translate folder files) = Translate (option_map (λ w. w.now) folder) files.now
 command_of (found.Conform files) = Conform files.now
 command_of (found.Check files) = Check files.now
+command_of (found.Compile folder files) = Compile (option_map (λ w. w.now) folder) files.now
 command_of (found.Run class files) = Run class.now files.now
 
 -- some words are this command

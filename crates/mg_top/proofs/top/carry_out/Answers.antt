@@ -2,7 +2,7 @@ use Rattle.std.proofs.Common.{option_map, subst}
 use Rattle.mg_top.specs.declared.words.Command.{Command}
 use Rattle.mg_top.specs.Words.{IsCommand}
 use Rattle.mg_top.specs.inner.Judging.{command_of}
-use Rattle.mg_top.proofs.WordsLemmas.{kinds_of, protocols_of, protocol_of_two}
+use Rattle.mg_top.proofs.WordsLemmas.{kinds_of, kinds_of_classes, protocols_of, protocol_of_two}
 use Rattle.mg_top.proofs.top.carry_out.Goals as goal
 
 pub translate-requires-clause-scribble : goal.translate-requires-clause-scribble
@@ -20,3 +20,9 @@ pub check-requires-clause-kinds : goal.check-requires-clause-kinds
 check-requires-clause-kinds c =
     let known = c.requires.known in
     kinds_of known.0 c.in-Check.files.now (subst (λ (z : Command). IsCommand (command_of z) known.0) c.in-Check.is known.1)
+
+pub compile-requires-clause-kinds : goal.compile-requires-clause-kinds
+compile-requires-clause-kinds c =
+    let known = c.requires.known in
+    kinds_of_classes known.0 (option_map (λ w. w.now) c.in-Compile.folder) c.in-Compile.files.now
+    (subst (λ (z : Command). IsCommand (command_of z) known.0) c.in-Compile.is known.1)

@@ -1,0 +1,10 @@
+pub mod Steps
+pub mod One
+pub mod Alone
+pub mod Sound
+pub mod Reading
+pub mod Shown
+pub mod Coming
+pub mod Apart
+pub mod Tracks
+pub mod Naming

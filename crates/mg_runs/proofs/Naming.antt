@@ -1,0 +1,50 @@
+-- Methods and classes by their names.
+use Rattle.std.proofs.Common.{◌≡◌, ◌≢◌, ◌↔◌, ◌&&◌, ◌||◌, ◌<◌, ◌+◌, IsTrue, ℕ, suc, Bool, true, false, if◌then◌else◌, not, cond, List, [], ◌∷◌, length, map, Option, Some, None, nat_lt, nat_eq, refl, sym, ap, ◌∙◌, subst, arith}
+use Rattle.std.proofs.lemmas.List.{length-map}
+use Rattle.std.specs.List.{position, position_or_len, list_any}
+use Rattle.std.specs.Str.{bytes_eq}
+use Rattle.mg_text.specs.Call.{Name}
+use Rattle.jv_core.specs.Tree.{Method, Program}
+use Rattle.jv_core.specs.Lookup.{is_main}
+use Rattle.jv_core.specs.Meaning.{main_in}
+
+module _ {A B : Type 0} (f : A → B) (p : B → Bool) where
+  prefix-map : (xs : List A) → position_or_len p (map f xs) ≡ position_or_len (λ x. p (f x)) xs
+  prefix-map [] = refl
+  prefix-map (x ∷ xs) = ap (λ n. cond (not (p (f x))) (1 + n) 0) (prefix-map xs)
+
+  pub position-map : (xs : List A) → position p (map f xs) ≡ position (λ x. p (f x)) xs
+  position-map xs =
+      ap (λ n. cond (nat_lt n (length (map f xs))) (Some n) None) (prefix-map xs)
+      ∙ ap (λ k. cond (nat_lt (position_or_len (λ x. p (f x)) xs) k) (Some (position_or_len (λ x. p (f x)) xs)) None) (length-map xs f)
+
+  pub any-map : (xs : List A) → list_any p (map f xs) ≡ list_any (λ x. p (f x)) xs
+  any-map [] = refl
+  any-map (x ∷ xs) = ap (λ (b : Bool). p (f x) || b) (any-map xs)
+
+-- a `main` of the class of this number
+abbrev pub is_main_of : (class : ℕ) → Method → Bool
+is_main_of class m = nat_eq m.class class && is_main m.kind
+
+-- a class has a `main` exactly where some method is one of it
+pub some_main : (p : Program) (class n : ℕ) (ms : List Method) → list_any (is_main_of class) ms ≡ true → main_in p class n ms ≢ None
+some_main p class n [] h = absurd cc
+some_main p class n (m ∷ ms) h = go (is_main_of class m) refl (some_main p class (suc n) ms)
+  where
+    go : (b : Bool) → is_main_of class m ≡ b → (list_any (is_main_of class) ms ≡ true → main_in p class (suc n) ms ≢ None) →
+        main_in p class n (m ∷ ms) ≢ None
+    go true e rest none = let no = sym (rw e at none) in cc
+    go false e rest none = rest (rw e at h) (rw e at none)
+
+pub no_main : (p : Program) (class n : ℕ) (ms : List Method) → list_any (is_main_of class) ms ≡ false → main_in p class n ms ≡ None
+no_main p class n [] h = refl
+no_main p class n (m ∷ ms) h = go (is_main_of class m) refl (no_main p class (suc n) ms)
+  where
+    go : (b : Bool) → is_main_of class m ≡ b → (list_any (is_main_of class) ms ≡ false → main_in p class (suc n) ms ≡ None) →
+        main_in p class n (m ∷ ms) ≡ None
+    go true e rest = absurd (let no = rw e at h in cc)
+    go false e rest = rw e (rest (rw e at h))
+
+pub has_main_is : (p : Program) (class : ℕ) (ms : List Method) (b : Bool) → b ≡ list_any (is_main_of class) ms → IsTrue b ↔ (main_in p class 0 ms ≢ None)
+has_main_is p class ms true h = ((λ _. some_main p class 0 ms (sym h)), (λ _. refl))
+has_main_is p class ms false h = ((λ no. absurd (let h = no in cc)), (λ has. absurd (has (no_main p class 0 ms (sym h)))))

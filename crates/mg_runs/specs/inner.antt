@@ -1,0 +1,3 @@
+pub mod Tracing
+pub mod Loading
+pub mod Going

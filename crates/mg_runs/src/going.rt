@@ -1,0 +1,160 @@
+//! The run of a linked program from the `main` of a class, step by step, with what it shows.
+//! No other role takes part in it.
+
+ghost use Rattle.std.specs.Prelude.{◌≡◌, ◌++◌, [], Bool, List as Seq, IfOk, OnOk, get_or};
+ghost use Rattle.mg_text.specs.declared.event.Event.{Event as Seen};
+ghost use Rattle.jv_core.specs.Tree.{Program};
+ghost use Rattle.vm_model.specs.View.{classes_of};
+ghost use Rattle.vm_model.specs.Messages.{no_messages};
+ghost use Rattle.vm_model.specs.Machine.{noted};
+ghost use Rattle.vm_machine.specs.Main.{HasMain};
+ghost use Rattle.jv_core.specs.Core.{tree_of};
+ghost use Rattle.mg_runs.specs.Runs.{alone};
+ghost use Rattle.mg_runs.specs.inner.Going.{Went, IsStandOf, NotBad, NeverBad, told};
+ghost use Rattle.mg_runs.specs.inner.Tracing.{IsShowing};
+
+use crate::ran::Stand;
+use crate::trace::Trace;
+use jv_core::Core;
+use mg_text::{Bytes, Ending, Event, List, Memory, Text};
+use std::alloc::Global;
+use vm_machine::{Machine, Stepped};
+use vm_model::{Linked, Ports};
+
+/// To what a run came.
+#[derive(Drop)]
+pub(crate) struct Gone {
+    pub instructions: u64,
+    pub stand: Stand,
+    pub printed: Bytes,
+    pub trace: Text,
+}
+
+/// Runs `static void main(String[])` of a class, at most `limit` instructions. A run of a core never
+/// ends because its code is wrong.
+pub(crate) fn go(
+    alloc: Global,
+    core: &Core,
+    linked: &Linked,
+    class: &str,
+    limit: u32,
+    traced: bool,
+) -> Result<Gone, Memory>
+    requires main { HasMain (classes_of linked.now.classes.items) class.now }
+    requires sound { NeverBad (classes_of linked.now.classes.items) class.now }
+    ensures { IfOk result (λ g. Went (tree_of core.now) (classes_of linked.now.classes.items) class.now limit traced
+        g.instructions g.stand g.printed g.trace) }
+{
+    let mut machine = Machine::start(alloc, linked, class)?;
+    let mut ports = alone(alloc)?;
+    let mut shows = Showing::new(alloc, core, traced);
+    for taken in 0..limit {
+        match machine.step(alloc, linked, &mut ports, 0)? {
+            Stepped::Went(event) => shows.add(event)?,
+            Stepped::Waits(peer) => return Ok(shows.gone(alloc, taken as u64, waiting(alloc, peer)?)),
+            Stepped::Ended(ending) => return Ok(shows.gone(alloc, taken as u64 + 1, stand_of(ending))),
+        }
+    }
+    let stand = match machine.waits(linked, &ports, 0) {
+        Some(peer) => waiting(alloc, peer)?,
+        None => Stand::Bound,
+    };
+    Ok(shows.gone(alloc, limit as u64, stand))
+}
+
+// The one role, and no message on its way.
+fn alone(alloc: Global) -> Result<Ports, Memory>
+    ensures { IfOk result (λ p. p ≡ no_messages alone) }
+{
+    let mut roles = List::new(alloc);
+    roles.push(Text::of(alloc, "main")?)?;
+    Ports::new(alloc, roles.as_slice())
+}
+
+// How a run stands that waits for a message from the role of this number.
+fn waiting(alloc: Global, peer: u32) -> Result<Stand, Memory>
+    ensures { IfOk result (λ s. s ≡ Stand.Waits (get_or alone peer [])) }
+{
+    let name = if peer == 0 { "main" } else { "" };
+    Ok(Stand::Waits {
+        peer: Text::of(alloc, name)?,
+    })
+}
+
+// How a run stands that has ended, not because its code is wrong.
+fn stand_of(ending: Ending) -> Stand
+    requires { NotBad ending }
+    ensures { IsStandOf ending result }
+{
+    match ending {
+        Ending::Done => Stand::Done,
+        Ending::Zero => Stand::Zero,
+        Ending::Null => Stand::Null,
+        Ending::Mismatch(peer, found) => Stand::Mismatch { peer, found },
+        Ending::NoPeer(peer) => Stand::NoPeer { peer },
+        Ending::Bad(_) => unreachable!(),
+    }
+}
+
+// What a run has shown.
+#[derive(Drop)]
+struct Showing<'a> {
+    printed: Bytes,
+    // the lines of its events, where they are asked for
+    trace: Option<Trace<'a>>,
+}
+
+impl<'a> Showing<'a> {
+    // Nothing yet.
+    fn new(alloc: Global, core: &'a Core, traced: bool) -> Showing<'a>
+        ensures { IsShowing (tree_of core.now) traced [] result }
+    {
+        let trace = if traced {
+            Some(Trace::new(alloc, core))
+        } else {
+            None
+        };
+        Showing {
+            printed: Bytes::new(alloc),
+            trace,
+        }
+    }
+
+    // What a step showed more.
+    fn add(&mut self, event: Option<Event>) -> Result<(), Memory>
+        ensures { (p : Program) (traced : Bool) (events : Seq Seen) → IsShowing p traced events self.old
+            → OnOk result (IsShowing p traced (events ++ noted event) self.new) }
+    {
+        let Some(event) = event else {
+            return Ok(());
+        };
+        if let Event::Print(text) = &event {
+            self.printed.extend(text.as_str().as_bytes())?;
+            self.printed.extend(b"\n")?;
+        }
+        match &mut self.trace {
+            Some(trace) => trace.add(event),
+            None => Ok(()),
+        }
+    }
+
+    // All of it, with how the run stands.
+    fn gone(self, alloc: Global, instructions: u64, stand: Stand) -> Gone
+        ensures count { result.instructions ≡ instructions }
+        ensures stand { result.stand ≡ stand }
+        ensures printed { result.printed ≡ self.entry.printed }
+        ensures trace { (p : Program) (traced : Bool) (events : Seq Seen) → IsShowing p traced events self.entry → result.trace ≡ told p traced events }
+    {
+        let Showing { printed, trace } = self;
+        let trace = match trace {
+            Some(trace) => trace.into_text(),
+            None => Text::from_string(String::new(alloc)),
+        };
+        Gone {
+            instructions,
+            stand,
+            printed,
+            trace,
+        }
+    }
+}

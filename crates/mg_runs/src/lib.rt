@@ -1,0 +1,15 @@
+//! Runs of a command: its files are one accepted program, whose class files are read back, linked
+//! and run from the `main` of a class, or the first refusal is told with its line.
+#![tactic(auto)]
+
+mod going;
+mod lines;
+mod loading;
+mod objects;
+mod ran;
+mod results;
+mod running;
+mod trace;
+
+pub use ran::{Ran, Stand};
+pub use running::run_class;

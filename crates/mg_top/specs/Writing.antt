@@ -1,0 +1,18 @@
+-- The files that are written, by their names in a folder.
+use Rattle.std.specs.Prelude.{List, map, ◌++◌, codes, Option, Some, None}
+use Rattle.mg_compile.specs.declared.files.ClassFile.{ClassFile}
+use Rattle.mg_top.specs.declared.delivery.Action.{Action}
+use Rattle.mg_top.specs.declared.delivery.Action.TheVariants.{Write}
+use Rattle.mg_top.specs.Words.{Word}
+
+-- a name of a file, in a folder where there is one
+abbrev pub in_folder : Option Word → Word → Word
+in_folder None name = name
+in_folder (Some folder) name = folder ++ codes "/" ++ name
+
+-- a class file is written, in the folder where there is one
+abbrev pub class_written : Option Word → ClassFile → Action
+class_written folder file = Write (record { name = in_folder folder file.name; text = file.bytes })
+
+abbrev pub classes_written : Option Word → List ClassFile → List Action
+classes_written folder files = map (class_written folder) files
