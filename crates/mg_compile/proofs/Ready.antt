@@ -27,7 +27,7 @@ use Rattle.mg_program.specs.Program.{AreWellTyped, HaveCore}
 use Rattle.mg_program.proofs.Grammatical.{shaped, numbered}
 use Rattle.mg_compile.specs.View.{IsOfFiles}
 
-well_typed : (files : List Source) (program : Program) → AreWellTyped files program → IsWellTyped program
+pub well_typed : (files : List Source) (program : Program) → AreWellTyped files program → IsWellTyped program
 well_typed files program h = record {
   origins = h.sourced.origins;
   numbered = numbered h.are.spell ∙ ap (λ (z : Program). length z.typestates) h.is;

@@ -21,9 +21,10 @@ pub struct Accepted {
     ghost answer: { ∥ AnswerOf tables ∥₁ },
 }
 
-/// A demand that fails: a variable that was moved is used; a call is made on one that may be null,
-/// or in a state that doesn't offer the method; an object is left or dropped with a state, is
-/// overwritten, or stands in a field where its owner ends.
+/// A demand that fails: a variable that was moved is read or called on; a call is made on one that may
+/// be null, or whose object may be finished or in a state that doesn't offer the method; an object is
+/// left or dropped with a state, is overwritten with one, or stands with one in a field where its
+/// owner ends. `Memory` is no demand: memory is wanted.
 #[derive(Debug, Drop)]
 pub enum CheckFault {
     UseMoved(Demand),

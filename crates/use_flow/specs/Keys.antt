@@ -1,4 +1,4 @@
--- In which ways methods are followed, and which tables there are.
+-- The contexts in which methods are followed, in their order, and the keys of the tables that a program has.
 use Rattle.std.specs.Prelude.{◌≡◌, ℕ, suc, Bool, false, List, [], ◌∷◌, ◌++◌, length, Option, Some, None, is_some, slice_get, position, get_or, nat_eq, ◌&&◌, if◌then◌else◌}
 use Rattle.ts_tree.specs.Typestate.{Typestate}
 use Rattle.ts_tree.specs.Calls.{offered}
