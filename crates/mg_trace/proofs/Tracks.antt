@@ -1,9 +1,9 @@
 -- What is kept of the objects of a run.
 use Rattle.std.proofs.Common.{◌≡◌, ◌<◌, ◌+◌, ℕ, zero, suc, List, [], ◌∷◌, ◌++◌, Bool, true, false, if◌then◌else◌, length, get_or, map, refl, sym, ap, ◌∙◌, subst, arith}
 use Rattle.mg_text.specs.declared.event.Event.{Event}
-use Rattle.mg_runs.specs.declared.objects.Tracked.{Tracked}
-use Rattle.mg_runs.specs.Trace.{Known, unknown}
-use Rattle.mg_runs.specs.inner.Tracing.{known_of, known_at, AreKnown}
+use Rattle.mg_trace.specs.declared.objects.Tracked.{Tracked}
+use Rattle.mg_trace.specs.Trace.{Known, unknown}
+use Rattle.mg_trace.specs.Kept.{known_of, known_at}
 
 -- an object more, of which nothing is known
 pub known_pushed : (objects : List Tracked) (t : Tracked) → known_of t ≡ unknown → (o : ℕ) → known_at (objects ++ t ∷ []) o ≡ known_at objects o

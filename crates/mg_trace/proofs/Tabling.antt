@@ -1,0 +1,1 @@
+-- The tables of results grow as their methods and classes are added.
