@@ -78,7 +78,7 @@ carried_words (carried.Text text) = codes " " ++ text
 abbrev pub object_words : (class : Name) → (object : ℕ) → List ℕ
 object_words class o = class ++ codes "#" ++ decimal o
 
--- an event in words, where this is known of its object
+-- An event in words, where this is known of its object. An object leaves the method that it entered last.
 abbrev pub event_words : Program → Known → Event → List ℕ
 event_words p k (seen.Print text) = []
 event_words p k (seen.Made o class) = codes "made " ++ object_words class o

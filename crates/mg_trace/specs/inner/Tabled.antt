@@ -5,7 +5,7 @@ use Rattle.mg_text.specs.Call.{Name}
 use Rattle.jv_core.specs.declared.program.CoreType.{CoreType}
 use Rattle.jv_core.specs.Tree.{Class, Program}
 use Rattle.mg_trace.specs.declared.results.Results.{Results}
-use Rattle.mg_trace.specs.Trace.{methods_of, result_in, class_in, result_named}
+use Rattle.mg_trace.specs.Trace.{methods_of, result_in, class_in}
 
 -- a table has of each name the result of the first of these methods that has it
 abbrev pub AreMethods : {A S : Type 0} → Program → (methods : List ℕ) → HashMap (String A) CoreType S → Type 0

@@ -1,0 +1,13 @@
+use Rattle.jv_core.specs.Core.{tree_of}
+use Rattle.std.proofs.Common.{◌∙◌}
+use Rattle.std.proofs.lemmas.Result.{on_ok_weaker}
+use Rattle.mg_trace.proofs.Tabling.{found_result}
+use Rattle.mg_trace.proofs.Telling.{left}
+use Rattle.mg_trace.proofs.lines.push_event.Goals as goal
+
+pub returns-in_ok-push_call-in-Leave : goal.returns-in_ok-push_call-in-Leave
+returns-in_ok-push_call-in-Leave c = λ h. on_ok_weaker c.push_answer.result
+    (left (tree_of c.args.core.now) c.args.objects.now c.args.event.now c.in-Leave.object c.in-Leave.answer c.in-Leave.is c.known-in-Leave.result.0.now c.known-in-Leave.result.1.now
+    c.known-in-Leave.ensures.class c.known-in-Leave.ensures.method c.find.result
+    (c.find.ensures ∙ found_result (tree_of c.args.core.now) c.args.results.now h c.known-in-Leave.result.0.now c.known-in-Leave.result.1.now)
+    _ _ _ c.in_ok-push_call-in-Leave.ensures) c.push_answer.ensures
