@@ -30,12 +30,14 @@ is_none (Some x) h = absurd cc
 
 module _ (p : Program) where
   -- one method more
-  result_more : (ms : List Method) (m : Method) (q : Name) → result_in p (ms ++ m ∷ []) q ≡ option_or (result_in p ms q) (result_in p (m ∷ []) q)
+  result_more : (ms : List Method) (m : Method) (q : Name) →
+      result_in p (ms ++ m ∷ []) q ≡ option_or (result_in p ms q) (result_in p (m ∷ []) q)
   result_more [] m q = refl
   result_more (x ∷ ms) m q = go (bytes_eq (text_at p x.name) q) (result_more ms m q)
     where
       go : (b : Bool) → result_in p (ms ++ m ∷ []) q ≡ option_or (result_in p ms q) (result_in p (m ∷ []) q) →
-          cond b (Some x.result) (result_in p (ms ++ m ∷ []) q) ≡ option_or (cond b (Some x.result) (result_in p ms q)) (result_in p (m ∷ []) q)
+          cond b (Some x.result) (result_in p (ms ++ m ∷ []) q)
+          ≡ option_or (cond b (Some x.result) (result_in p ms q)) (result_in p (m ∷ []) q)
       go true h = refl
       go false h = h
 
@@ -63,15 +65,19 @@ module _ (p : Program) where
 
   module _ (n : ℕ) (m : Method) (is : slice_get p.methods n ≡ Some m) where
     method_more : (before : List ℕ) (q : Name) →
-        result_in p (methods_of p (before ++ n ∷ [])) q ≡ option_or (result_in p (methods_of p before) q) (cond (bytes_eq (text_at p m.name) q) (Some m.result) None)
-    method_more before q = ap (λ (ms : List Method). result_in p ms q) (methods_more before n (Some m) is) ∙ result_more (methods_of p before) m q
+        result_in p (methods_of p (before ++ n ∷ [])) q
+        ≡ option_or (result_in p (methods_of p before) q) (cond (bytes_eq (text_at p m.name) q) (Some m.result) None)
+    method_more before q =
+        ap (λ (ms : List Method). result_in p ms q) (methods_more before n (Some m) is)
+        ∙ result_more (methods_of p before) m q
 
     -- a method of a name that is there already adds nothing
     pub kept_method : {A S : Type 0} (own : HashMap (String A) CoreType S) → is_some (get_by_text own (text_at p m.name)) ≡ true →
         (before : List ℕ) → AreMethods p before own → AreMethods p (before ++ n ∷ []) own
     kept_method own has before h q =
         go (bytes_eq (text_at p m.name) q) (bytes_eq-Decides (text_at p m.name) q)
-        ∙ ap (λ (o : Option CoreType). option_or o (cond (bytes_eq (text_at p m.name) q) (Some m.result) None)) (h q) ∙ sym (method_more before q)
+        ∙ ap (λ (o : Option CoreType). option_or o (cond (bytes_eq (text_at p m.name) q) (Some m.result) None)) (h q)
+        ∙ sym (method_more before q)
       where
         go : (b : Bool) → Decides b (text_at p m.name ≡ q) → get_by_text own q ≡ option_or (get_by_text own q) (cond b (Some m.result) None)
         go true d = or_some (get_by_text own q) (Some m.result) (ap (λ (z : Name). is_some (get_by_text own z)) (sym (d.0 refl)) ∙ has)
@@ -86,7 +92,8 @@ module _ (p : Program) where
         hash_map_updates_text (string_bytes key) old new (Some m.result) u q
         ∙ ap (λ (z : Name). cond (bytes_eq z q) (Some m.result) (get_by_text old q)) same
         ∙ go (bytes_eq (text_at p m.name) q) (bytes_eq-Decides (text_at p m.name) q)
-        ∙ ap (λ (o : Option CoreType). option_or o (cond (bytes_eq (text_at p m.name) q) (Some m.result) None)) (h q) ∙ sym (method_more before q)
+        ∙ ap (λ (o : Option CoreType). option_or o (cond (bytes_eq (text_at p m.name) q) (Some m.result) None)) (h q)
+        ∙ sym (method_more before q)
       where
         go : (b : Bool) → Decides b (text_at p m.name ≡ q) →
             cond b (Some m.result) (get_by_text old q) ≡ option_or (get_by_text old q) (cond b (Some m.result) None)
@@ -95,7 +102,8 @@ module _ (p : Program) where
         go false d = or_none (get_by_text old q)
 
   module _ {A S : Type 0} where
-    own_some : (a d : Option Class) (t : Option (HashMap (String A) CoreType S)) → is_some t ≡ true → IsOwn p a t → IsOwn p (option_or a d) t
+    own_some : (a d : Option Class) (t : Option (HashMap (String A) CoreType S)) → is_some t ≡ true → IsOwn p a t →
+        IsOwn p (option_or a d) t
     own_some (Some c) d (Some t) has h = h
     own_some (Some c) d None has h = absurd h
     own_some None d (Some t) has h = absurd h
@@ -105,7 +113,8 @@ module _ (p : Program) where
     own_none (Some c) t h = h
     own_none None t h = h
 
-    own_new : (c : Class) (own : HashMap (String A) CoreType S) → AreMethods p c.methods own → (a : Option Class) (t : Option (HashMap (String A) CoreType S)) →
+    own_new : (c : Class) (own : HashMap (String A) CoreType S) → AreMethods p c.methods own →
+        (a : Option Class) (t : Option (HashMap (String A) CoreType S)) →
         is_some t ≡ false → IsOwn p a t → IsOwn p (option_or a (Some c)) (Some own)
     own_new c own is (Some x) (Some t) has h = absurd cc
     own_new c own is (Some x) None has h = absurd h
@@ -114,25 +123,29 @@ module _ (p : Program) where
 
   module _ {A S R : Type 0} (c : Class) where
     -- a class of a name that is there already adds nothing
-    pub kept_class : (tables : HashMap (String A) (HashMap (String A) CoreType S) R) → is_some (get_by_text tables (text_at p c.name)) ≡ true →
+    pub kept_class : (tables : HashMap (String A) (HashMap (String A) CoreType S) R) →
+        is_some (get_by_text tables (text_at p c.name)) ≡ true →
         (before : List Class) → AreClasses p before tables → AreClasses p (before ++ c ∷ []) tables
     kept_class tables has before h q =
         subst (λ (o : Option Class). IsOwn p o (get_by_text tables q)) (sym (class_more before c q))
         (go (bytes_eq (text_at p c.name) q) (bytes_eq-Decides (text_at p c.name) q))
       where
-        go : (b : Bool) → Decides b (text_at p c.name ≡ q) → IsOwn p (option_or (class_in p before q) (cond b (Some c) None)) (get_by_text tables q)
+        go : (b : Bool) → Decides b (text_at p c.name ≡ q) →
+            IsOwn p (option_or (class_in p before q) (cond b (Some c) None)) (get_by_text tables q)
         go true d = own_some (class_in p before q) (Some c) (get_by_text tables q)
             (ap (λ (z : Name). is_some (get_by_text tables z)) (sym (d.0 refl)) ∙ has) (h q)
         go false d = own_none (class_in p before q) (get_by_text tables q) (h q)
 
     -- a class of a new name is found by it
-    pub added_class : (old new : HashMap (String A) (HashMap (String A) CoreType S) R) (key : String A) (own : HashMap (String A) CoreType S) →
-        string_bytes key ≡ text_at p c.name → is_some (get_by_text old (text_at p c.name)) ≡ false → AreMethods p c.methods own →
+    pub added_class : (old new : HashMap (String A) (HashMap (String A) CoreType S) R) (key : String A)
+        (own : HashMap (String A) CoreType S) → string_bytes key ≡ text_at p c.name →
+        is_some (get_by_text old (text_at p c.name)) ≡ false → AreMethods p c.methods own →
         UpdatesBy string_eq (λ k. bytes_eq (string_bytes key) (string_bytes k)) old new (Some own) →
         (before : List Class) → AreClasses p before old → AreClasses p (before ++ c ∷ []) new
     added_class old new key own same has is u before h q =
         subst (λ (t : Option (HashMap (String A) CoreType S)). IsOwn p (class_in p (before ++ c ∷ []) q) t) (sym found)
-        (subst (λ (o : Option Class). IsOwn p o (cond (bytes_eq (text_at p c.name) q) (Some own) (get_by_text old q))) (sym (class_more before c q))
+        (subst (λ (o : Option Class). IsOwn p o (cond (bytes_eq (text_at p c.name) q) (Some own) (get_by_text old q)))
+        (sym (class_more before c q))
         (go (bytes_eq (text_at p c.name) q) (bytes_eq-Decides (text_at p c.name) q)))
       where
         found : get_by_text new q ≡ cond (bytes_eq (text_at p c.name) q) (Some own) (get_by_text old q)

@@ -15,7 +15,8 @@ use Rattle.mg_trace.specs.inner.Tabled.{AreResults}
 use Rattle.mg_trace.specs.Kept.{known_at, AreKnown, Traces}
 
 -- the lines of events behind others
-lines_append : (p : Program) (before es fs : List Event) → lines_from p before (es ++ fs) ≡ lines_from p before es ++ lines_from p (before ++ es) fs
+lines_append : (p : Program) (before es fs : List Event) →
+    lines_from p before (es ++ fs) ≡ lines_from p before es ++ lines_from p (before ++ es) fs
 lines_append p before [] fs = ap (λ (b : List Event). lines_from p b fs) (sym (append-nil before))
 lines_append p before (e ∷ es) fs =
     ap (λ (l : List ℕ). event_line p before e ++ l)
@@ -28,7 +29,8 @@ trace_more : (p : Program) (events : List Event) (e : Event) → trace p (events
 trace_more p events e = lines_append p [] events (e ∷ []) ∙ ap (λ (l : List ℕ). trace p events ++ l) (append-nil (event_line p events e))
 
 -- what is known of an object behind one event more
-known_behind : (k : Known) (events : List Event) (e : Event) (o : ℕ) → known_from k (events ++ e ∷ []) o ≡ known_more o (known_from k events o) e
+known_behind : (k : Known) (events : List Event) (e : Event) (o : ℕ) →
+    known_from k (events ++ e ∷ []) o ≡ known_more o (known_from k events o) e
 known_behind k [] e o = refl
 known_behind k (x ∷ events) e o = known_behind (known_more o k x) events e o
 
@@ -46,9 +48,10 @@ traced_more p objects events e old new known h line =
     ∙ ap (λ (k : Known). trace p events ++ line_of p k e) (known.each (object_of e)) ∙ sym (trace_more p events e)
 
 -- one event more, and what is kept behind it
-pub traces_more : (p : Program) (events : List Event) (e : Event) (t : Trace) (objects : List Tracked) (now : Vec Tracked Global) (lines : String Global) →
-    objects ≡ t.objects.items →
-    (AreResults (tree_of t.core.now) t.results → string_bytes lines ≡ string_bytes t.lines ++ line_of (tree_of t.core.now) (known_at objects (object_of e)) e) →
+pub traces_more : (p : Program) (events : List Event) (e : Event) (t : Trace) (objects : List Tracked) (now : Vec Tracked Global)
+    (lines : String Global) → objects ≡ t.objects.items →
+    (AreResults (tree_of t.core.now) t.results →
+    string_bytes lines ≡ string_bytes t.lines ++ line_of (tree_of t.core.now) (known_at objects (object_of e)) e) →
     Traces p events t → ((o : ℕ) → known_at now.items o ≡ known_more o (known_at t.objects.items o) e) →
     Traces p (events ++ e ∷ []) (record t { objects = now; lines = lines })
 traces_more p events e t objects now lines same line h more = record {
@@ -70,7 +73,8 @@ pub left : (p : Program) (objects : List Tracked) (event : Event) (o : ℕ) (ans
 left p objects event o answer is class method class_is method_is kind kind_is old mid new call line =
     line ∙ ap (λ (l : List ℕ). l ++ answer_words p kind answer) call
     ∙ append_assoc old (codes "leave " ++ object_words class o ++ codes " " ++ method) (answer_words p kind answer)
-    ∙ ap (λ (k : Option CoreType). old ++ ((codes "leave " ++ object_words class o ++ codes " " ++ method) ++ answer_words p k answer)) kind_is
+    ∙ ap (λ (k : Option CoreType). old ++ ((codes "leave " ++ object_words class o ++ codes " " ++ method) ++ answer_words p k answer))
+    kind_is
     ∙ ap (λ (k : Known). old ++ event_words p k (seen.Leave o answer)) known_is
     ∙ ap (λ (e : Event). old ++ event_words p (known_at objects (object_of e)) e) (sym is)
   where

@@ -9,7 +9,8 @@ use Rattle.mg_trace.specs.Trace.{Known, unknown, known_more}
 use Rattle.mg_trace.specs.Kept.{known_of, known_at}
 
 -- an object more, of which nothing is known
-pub known_pushed : (objects : List Tracked) (t : Tracked) → known_of t ≡ unknown → (o : ℕ) → known_at (objects ++ t ∷ []) o ≡ known_at objects o
+pub known_pushed : (objects : List Tracked) (t : Tracked) → known_of t ≡ unknown → (o : ℕ) →
+    known_at (objects ++ t ∷ []) o ≡ known_at objects o
 known_pushed [] t is zero = is
 known_pushed [] t is (suc o) = refl
 known_pushed (x ∷ objects) t is zero = refl
@@ -28,13 +29,15 @@ known_there (x ∷ objects) zero (suc o) t apart = refl
 known_there (x ∷ objects) (suc i) zero t apart = refl
 known_there (x ∷ objects) (suc i) (suc o) t apart = known_there objects i o t (λ e. apart (ap suc e))
 
-module _ (old objects : List Tracked) (i : ℕ) (within : i < length objects) (same : (o : ℕ) → known_at objects o ≡ known_at old o) (t : Tracked) where
+module _ (old objects : List Tracked) (i : ℕ) (within : i < length objects) (same : (o : ℕ) → known_at objects o ≡ known_at old o)
+    (t : Tracked) where
   -- an object of a class was made
   pub known_made : (class : Name) → known_of t ≡ (record { class = class; method = [] }) → (o : ℕ) →
       known_at (slice_set objects i t) o ≡ known_more o (known_at old o) (seen.Made i class)
   known_made class is o = go (i == o) (Decides-eqb i o)
     where
-      go : (b : Bool) → Decides b (i ≡ o) → known_at (slice_set objects i t) o ≡ (if b then record { class = class; method = [] } else known_at old o)
+      go : (b : Bool) → Decides b (i ≡ o) →
+          known_at (slice_set objects i t) o ≡ (if b then record { class = class; method = [] } else known_at old o)
       go true d = ap (λ n. known_at (slice_set objects i t) n) (sym (d.0 refl)) ∙ known_here objects i t within ∙ is
       go false d = known_there objects i o t (λ e. let no : false ≡ true = d.1 e in absurd cc) ∙ same o
 
@@ -51,7 +54,8 @@ module _ (old objects : List Tracked) (i : ℕ) (within : i < length objects) (s
       go false d = known_there objects i o t (λ e. let no : false ≡ true = d.1 e in absurd cc) ∙ same o
 
 -- what is kept of an object that is there
-pub known_is : (objects : List Tracked) (i : ℕ) (t : Tracked) → i < length objects → t ≡ get_or objects i t → known_of t ≡ known_at objects i
+pub known_is : (objects : List Tracked) (i : ℕ) (t : Tracked) → i < length objects → t ≡ get_or objects i t →
+    known_of t ≡ known_at objects i
 known_is [] i t lt is = absurd (omega arith)
 known_is (x ∷ objects) zero t lt is = ap known_of is
 known_is (x ∷ objects) (suc i) t lt is = known_is objects i t (omega arith) is

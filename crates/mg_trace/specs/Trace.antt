@@ -57,7 +57,9 @@ truth_text false = codes "false"
 
 -- the constant of an enum at a position
 abbrev pub label_text : Program → (enum : ℕ) → ℤ → List ℕ
-label_text p e (pos n) = elim (option_and_then (λ enum. slice_get enum.constants n) (slice_get p.enums e)) [ None ↦ [] | Some name ↦ text_at p name ]
+label_text p e (pos n) =
+    elim (option_and_then (λ enum. slice_get enum.constants n) (slice_get p.enums e))
+    [ None ↦ [] | Some name ↦ text_at p name ]
 label_text p e (negsuc n) = []
 
 -- an answer in words, behind a blank: a number, a truth value, or the constant of an enum

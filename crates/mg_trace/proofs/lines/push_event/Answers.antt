@@ -6,8 +6,12 @@ use Rattle.mg_trace.proofs.Telling.{left}
 use Rattle.mg_trace.proofs.lines.push_event.Goals as goal
 
 pub returns-in_ok-push_call-in-Leave : goal.returns-in_ok-push_call-in-Leave
-returns-in_ok-push_call-in-Leave c = λ h. on_ok_weaker c.push_answer.result
-    (left (tree_of c.args.core.now) c.args.objects.now c.args.event.now c.in-Leave.object c.in-Leave.answer c.in-Leave.is c.known-in-Leave.result.0.now c.known-in-Leave.result.1.now
-    c.known-in-Leave.ensures.class c.known-in-Leave.ensures.method c.find.result
-    (c.find.ensures ∙ found_result (tree_of c.args.core.now) c.args.results.now h c.known-in-Leave.result.0.now c.known-in-Leave.result.1.now)
-    _ _ _ c.in_ok-push_call-in-Leave.ensures) c.push_answer.ensures
+returns-in_ok-push_call-in-Leave c = λ h.
+    let p = tree_of c.args.core.now in
+    let class = c.known-in-Leave.result.0.now in
+    let method = c.known-in-Leave.result.1.now in
+    on_ok_weaker c.push_answer.result
+    (left p c.args.objects.now c.args.event.now c.in-Leave.object c.in-Leave.answer c.in-Leave.is class method
+    c.known-in-Leave.ensures.class c.known-in-Leave.ensures.method
+    c.find.result (c.find.ensures ∙ found_result p c.args.results.now h class method) _ _ _ c.in_ok-push_call-in-Leave.ensures)
+    c.push_answer.ensures

@@ -9,7 +9,8 @@ use Rattle.jv_core.specs.View.{method_of}
 use Rattle.mg_trace.proofs.Tabling.{no_method, kept_method, added_method}
 use Rattle.mg_trace.proofs.results.add_method.Goals as goal
 
-method_at : (ms : List CoreMethod) (n : ℕ) (m : CoreMethod) → n < length ms → m ≡ get_or ms n m → slice_get (map method_of ms) n ≡ Some (method_of m)
+method_at : (ms : List CoreMethod) (n : ℕ) (m : CoreMethod) → n < length ms → m ≡ get_or ms n m →
+    slice_get (map method_of ms) n ≡ Some (method_of m)
 method_at ms n m within is = slice_get-map method_of ms n ∙ ap (option_map method_of) (slice_get_read ms (length ms) n m refl within is)
 
 pub returns-in_default : goal.returns-in_default
