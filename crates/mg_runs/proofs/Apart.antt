@@ -59,8 +59,8 @@ one_performed bytes class limit k l es fs a b h g =
     let program : h.program ≡ g.program = h.links.program ∙ ap linked files ∙ sym g.links.program in
     let start : h.start ≡ g.start = one_start g.program class h.start g.start (subst (λ (z : Program). IsStart z class h.start) program h.starts) g.starts in
     let comes : ComesTo (step g.program 0) limit g.start (no_messages alone) k es a
-        = subst (λ (z : Machine). ComesTo (step g.program 0) limit z (no_messages alone) k es a) start
-          (subst (λ (z : Program). ComesTo (step z 0) limit h.start (no_messages alone) k es a) program h.comes) in
+    = subst (λ (z : Machine). ComesTo (step g.program 0) limit z (no_messages alone) k es a) start
+    (subst (λ (z : Program). ComesTo (step z 0) limit h.start (no_messages alone) k es a) program h.comes) in
     one_course (step g.program 0) limit g.start (no_messages alone) k l es fs a b comes g.comes
 
 -- two runs of the same files
@@ -75,7 +75,7 @@ pub one_of_run : (files : List Source) (class : Name) (limit : ℕ) (a b : Cours
 one_of_run files class limit a b h g =
     let core : a.core ≡ b.core = one_core files a.core b.core h.accepted.have g.accepted.have in
     let written : a.written ≡ b.written
-        = one_list b.core a.written b.written (subst (λ (z : Core.Program). AreClassFiles z a.written) core h.class_files) g.class_files in
+    = one_list b.core a.written b.written (subst (λ (z : Core.Program). AreClassFiles z a.written) core h.class_files) g.class_files in
     let moved = subst (λ (z : List ClassFile). Performs (map (λ f. f.bytes) z) class limit a.count a.events a.stand) written h.performs in
     let same = one_performed (map (λ f. f.bytes) b.written) class limit a.count b.count a.events b.events a.stand b.stand moved g.performs in
     record { core = core; written = written; count = same.count; events = same.events; stand = same.stand }

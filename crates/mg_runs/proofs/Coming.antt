@@ -1,5 +1,5 @@
 -- How far a run has come, and what it has shown.
-use Rattle.std.proofs.Common.{◌≡◌, ◌≢◌, ℕ, suc, ◌+◌, ◌≤◌, List, [], ◌∷◌, ◌++◌, Bool, true, false, Option, Some, None, Result, Ok, Err, refl, sym, ap, ◌∙◌, subst, append-nil}
+use Rattle.std.proofs.Common.{◌≡◌, ℕ, ◌+◌, ◌≤◌, List, [], ◌∷◌, ◌++◌, Bool, true, false, Option, Some, None, Result, Ok, Err, refl, sym, ap, ◌∙◌, subst, append-nil}
 use Rattle.std.specs.Prelude.{OnOk}
 use Rattle.mg_text.specs.Call.{Name}
 use Rattle.mg_text.specs.declared.event.Event.{Event}
@@ -81,7 +81,7 @@ module _ (core : Core.Program) (p : Program) (class : Name) (traced : Bool) wher
     starts = c.starts;
     events = c.events;
     comes = subst (λ (n : ℕ). ComesTo (step p 0) limit c.start (no_messages alone) n c.events said) (sym counted)
-    (subst (λ (s : Stand). ComesTo (step p 0) limit c.start (no_messages alone) count c.events s) (sym stands) comes);
+        (subst (λ (s : Stand). ComesTo (step p 0) limit c.start (no_messages alone) count c.events s) (sym stands) comes);
     shown_is = is ∙ c.showing.shown;
     lines_are = are;
   }

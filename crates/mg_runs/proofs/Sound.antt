@@ -1,8 +1,7 @@
 -- The class files of a core are read back and linked to the expected program, and its runs do what the sources mean.
-use Rattle.std.proofs.Common.{◌≡◌, ◌≢◌, ℕ, suc, List, [], ◌∷◌, map, Option, Some, None, refl, sym, ap, ap₂, ◌∙◌, subst}
+use Rattle.std.proofs.Common.{◌≡◌, ◌≢◌, ℕ, List, [], ◌∷◌, map, Option, Some, None, refl, sym, ap, ap₂, ◌∙◌, subst}
 use Rattle.std.specs.Prelude.{option_and_then}
 use Rattle.mg_text.specs.Call.{Name}
-use Rattle.mg_text.specs.declared.event.Event.{Event}
 use Rattle.mg_text.specs.declared.event.Ending.{Ending}
 use Rattle.mg_text.specs.declared.event.Ending.TheVariants as endings
 use Rattle.cls_tree.specs.Tree.{Class as File}
@@ -28,7 +27,6 @@ use Rattle.vm_model.specs.Messages.{Messages, no_messages}
 use Rattle.vm_model.specs.Machine.{Machine}
 use Rattle.vm_model.specs.Start.{IsStart}
 use Rattle.vm_model.specs.Step.{step}
-use Rattle.vm_model.specs.Runs.{Runs}
 use Rattle.vm_machine.specs.Main as vm
 use Rattle.gen_rules.specs.Classes.{class_files}
 use Rattle.gen_rules.specs.Linked.{linked_program}
@@ -115,7 +113,7 @@ module _ (p : Program) (core : IsCore p) (plain : HasPlainNames p) (written : Li
   classes_link : Links made.classes (linked_program p made.are.all)
   classes_link =
       let expected : Links (class_files p p.classes made.are.all) (linked_program p made.are.all)
-          = law.link p core plain made.are.all made.are.compiled in
+      = law.link p core plain made.are.all made.are.compiled in
       subst (λ (z : List File). Links z (linked_program p made.are.all)) (sym made.are.files_are) expected
 
   -- what these bytes are read as and link to is the expected program
@@ -178,8 +176,7 @@ runs_law law kept held link agree enough files core written have made class main
     let is = is_core law kept files core have in
     let can = is_held held files core have in
     let same = linked_is core is can.plain written made link read program spelled links in
-    let found = main_found core is can.plain written made link class main in
-    (
+    let found = main_found core is can.plain written made link class main in (
       main_linked core is can.plain written made link class found program same,
       λ inputs me q holds start starts.
           subst (λ (f : ℕ → Ended). RunsAsMeant (step program me) start q f) (meant_alike enough law files class core have inputs)

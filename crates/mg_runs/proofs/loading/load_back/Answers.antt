@@ -1,4 +1,4 @@
-use Rattle.std.proofs.Common.{List, map, ap, sym, subst, ◌∙◌}
+use Rattle.std.proofs.Common.{List, map, ap, subst, ◌∙◌}
 use Rattle.cls_tree.specs.Tree.{Class as File}
 use Rattle.cls_tree.specs.View.{class_of as file_of}
 use Rattle.jv_core.specs.Core.{tree_of}

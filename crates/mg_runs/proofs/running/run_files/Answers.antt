@@ -1,4 +1,4 @@
-use Rattle.std.proofs.Common.{◌≡◌, ℕ, List, map, sym, refl, subst}
+use Rattle.std.proofs.Common.{List, map, sym, refl, subst}
 use Rattle.mg_text.specs.Call.{Name}
 use Rattle.jv_core.specs.Core.{tree_of}
 use Rattle.mg_compile.specs.declared.files.ClassFile.{ClassFile}
