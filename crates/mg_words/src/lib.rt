@@ -1,0 +1,6 @@
+//! The words of the command line: which command they are, or the first word that can't follow.
+#![tactic(auto)]
+
+mod words;
+
+pub use words::{Asked, Command, Judged, judge};
