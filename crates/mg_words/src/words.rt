@@ -1,11 +1,12 @@
 //! The words of the command line.
 //! They are judged from left to right, so that the first that can't follow is known.
 
-ghost use Rattle.std.specs.Prelude.{◌≡◌, ◌↔◌, ◌∷◌, ◌++◌, List, codes, IsTrue, IfSome, Option, None, option_map};
+ghost use Rattle.std.specs.Prelude.{◌≡◌, ◌≢◌, ◌<◌, ◌↔◌, length, ◌∷◌, ◌++◌, List, codes, IsTrue, IfSome, Option, None, option_map};
 ghost use Rattle.std.specs.List.{list_all};
 ghost use Rattle.scr_lex.specs.Pieces.{StartsName, AllPasses, is_name_start, is_name_byte};
 ghost use Rattle.mg_words.specs.Words.{Word, IsFileName, IsFileOf, IsSourceName, IsClassName, out_words, files_of};
-ghost use Rattle.mg_words.specs.inner.Judging.{IsJudged, IsFirstOther, IsSteps, command_of};
+ghost use Rattle.mg_words.specs.inner.Judging.{IsJudged, IsFirstOther, IsSteps, StartsNumber, IsRunnable, IsPlain, IsNamed, IsStep, IsWith, is_given, given_of, command_of};
+ghost use Rattle.mg_words.specs.declared.words.Named.TheVariants as named;
 
 use mg_text::Text;
 use scr_lex::reserved;
@@ -76,10 +77,8 @@ pub enum Judged<'a> {
 
 const NAME_LIMIT: usize = 255;
 
-/// The most instructions that a run may be asked for, and its digits.
+// The most instructions that a run may be asked for.
 const MOST_STEPS: u32 = 20_000_000;
-
-const MOST_DIGITS: usize = 8;
 
 /// Tells which command the words are, or the first word that can't follow those before it.
 pub fn judge(words: &[Text]) -> Judged<'_>
@@ -250,12 +249,20 @@ struct Options<'a> {
 }
 
 // An option of a run, by its word.
-#[derive(Clone, Copy, PartialEq, Eq)]
+#[derive(Clone, Copy)]
 enum Named {
     Main,
     Steps,
     Trace,
     Out,
+}
+
+// What reading one more option gives.
+enum Step<'a> {
+    // The options with it, and the words behind it.
+    More(Options<'a>, &'a [Text]),
+    // It can't be read: because of this word, or because its value is lacking.
+    Stuck(Option<&'a Text>),
 }
 
 // The same of the words behind `run`: options in any order, each once, and then files.
@@ -268,34 +275,31 @@ fn judge_run(words: &[Text]) -> Judged<'_>
         traced: false,
         folder: None,
     };
-    let mut at = 0;
-    while at < words.len() {
-        let word = &words[at];
+    let mut rest = words;
+    while let Some((word, behind)) = rest.split_first() {
         let Some(option) = option_named(word) else {
-            return judge_runnable(options, &words[at..]);
+            return judge_runnable(options, rest);
         };
         if is_given(&options, option) {
             return Judged::Wrong(Some(word));
         }
-        at += 1;
-        if option == Named::Trace {
-            options.traced = true;
-        } else {
-            let Some(value) = words.get(at) else {
-                return Judged::Wrong(None);
-            };
-            match with_value(options, option, value) {
-                Some(more) => options = more,
-                None => return Judged::Wrong(Some(value)),
+        match read_option(options, option, behind) {
+            Step::More(more, left) => {
+                options = more;
+                rest = left;
             }
-            at += 1;
+            Step::Stuck(wrong) => return Judged::Wrong(wrong),
         }
     }
     Judged::Wrong(None)
 }
 
 // The same of the words behind the options, which are the files of the run.
-fn judge_runnable<'a>(options: Options<'a>, files: &'a [Text]) -> Judged<'a> {
+fn judge_runnable<'a>(options: Options<'a>, files: &'a [Text]) -> Judged<'a>
+    requires some { 0 < length files.now }
+    requires plain { IsPlain files.now }
+    ensures { IsRunnable (given_of options.entry) files.now result }
+{
     let Some(class) = options.class else {
         return Judged::Wrong(files.first());
     };
@@ -312,7 +316,9 @@ fn judge_runnable<'a>(options: Options<'a>, files: &'a [Text]) -> Judged<'a> {
 }
 
 // The option that a word is.
-fn option_named(word: &Text) -> Option<Named> {
+fn option_named(word: &Text) -> Option<Named>
+    ensures { IsNamed word.now result }
+{
     if is_word(word, "--main") {
         Some(Named::Main)
     } else if is_word(word, "--steps") {
@@ -327,7 +333,9 @@ fn option_named(word: &Text) -> Option<Named> {
 }
 
 // Whether an option was named before.
-fn is_given(options: &Options<'_>, option: Named) -> bool {
+fn is_given(options: &Options<'_>, option: Named) -> bool
+    ensures { result ≡ is_given (given_of options.now) option }
+{
     match option {
         Named::Main => options.class.is_some(),
         Named::Steps => options.steps.is_some(),
@@ -336,49 +344,115 @@ fn is_given(options: &Options<'_>, option: Named) -> bool {
     }
 }
 
-// The options with one more, whose value this word is, if it may be.
-fn with_value<'a>(options: Options<'a>, option: Named, value: &'a Text) -> Option<Options<'a>> {
-    let mut more = options;
+// Reads an option whose word stands before these words.
+fn read_option<'a>(options: Options<'a>, option: Named, words: &'a [Text]) -> Step<'a>
+    ensures { IsStep (given_of options.entry) option words.now result }
+{
     match option {
-        Named::Main => {
-            if !is_class_name(value) {
-                return None;
-            }
-            more.class = Some(value);
+        Named::Trace => {
+            let traced = Options {
+                traced: true,
+                ..options
+            };
+            Step::More(traced, words)
         }
-        Named::Steps => more.steps = Some(steps_of(value)?),
-        Named::Trace => return None,
-        Named::Out => {
-            if !is_file_name(value) {
-                return None;
-            }
-            more.folder = Some(value);
-        }
+        _ => read_value(options, option, words),
     }
-    Some(more)
+}
+
+// The same of an option that has a value.
+fn read_value<'a>(options: Options<'a>, option: Named, words: &'a [Text]) -> Step<'a>
+    requires { option ≢ named.Trace }
+    ensures { IsStep (given_of options.entry) option words.now result }
+{
+    match words.split_first() {
+        None => Step::Stuck(None),
+        Some((value, rest)) => match with_value(options, option, value) {
+            Some(more) => Step::More(more, rest),
+            None => Step::Stuck(Some(value)),
+        },
+    }
+}
+
+// The options with one more, whose value this word is, if it may be.
+fn with_value<'a>(options: Options<'a>, option: Named, value: &'a Text) -> Option<Options<'a>>
+    ensures { IsWith (given_of options.entry) option value.now (option_map given_of result) }
+{
+    match option {
+        Named::Main => with_class(options, value),
+        Named::Steps => with_steps(options, value),
+        Named::Trace => None,
+        Named::Out => with_folder(options, value),
+    }
+}
+
+// The options with a class of this name, if it may be one.
+fn with_class<'a>(options: Options<'a>, value: &'a Text) -> Option<Options<'a>>
+    ensures { IsWith (given_of options.entry) named.Main value.now (option_map given_of result) }
+{
+    if !is_class_name(value) {
+        return None;
+    }
+    Some(Options {
+        class: Some(value),
+        ..options
+    })
+}
+
+// The options with a number, which this word names, if it may.
+fn with_steps<'a>(options: Options<'a>, value: &'a Text) -> Option<Options<'a>>
+    ensures { IsWith (given_of options.entry) named.Steps value.now (option_map given_of result) }
+{
+    match steps_of(value) {
+        None => None,
+        Some(steps) => Some(Options {
+            steps: Some(steps),
+            ..options
+        }),
+    }
+}
+
+// The options with a folder of this name, if it may be one.
+fn with_folder<'a>(options: Options<'a>, value: &'a Text) -> Option<Options<'a>>
+    ensures { IsWith (given_of options.entry) named.Out value.now (option_map given_of result) }
+{
+    if !is_file_name(value) {
+        return None;
+    }
+    Some(Options {
+        folder: Some(value),
+        ..options
+    })
 }
 
 // The number of instructions that a word names: decimal, from 1 to 20,000,000.
 fn steps_of(word: &Text) -> Option<u32>
     ensures { IsSteps word.now result }
 {
-    let bytes = word.as_str().as_bytes();
-    match bytes.split_first() {
-        None => return None,
-        Some((first, _)) => {
-            if *first == b'0' || MOST_DIGITS < bytes.len() {
-                return None;
+    let text = word.as_str();
+    if !starts_number(text.as_bytes()) {
+        return None;
+    }
+    match text.parse::<u32>() {
+        Err(_) => None,
+        Ok(steps) => {
+            if steps <= MOST_STEPS {
+                Some(steps)
+            } else {
+                None
             }
         }
     }
-    let mut steps = 0;
-    for byte in bytes {
-        if !byte.is_ascii_digit() {
-            return None;
-        }
-        steps = steps * 10 + (*byte - b'0') as u32;
+}
+
+// Whether the first byte is a digit other than 0.
+fn starts_number(bytes: &[u8]) -> bool
+    ensures { IsTrue result ↔ StartsNumber bytes.now }
+{
+    match bytes {
+        [] => false,
+        [first, ..] => b'1' <= *first && *first <= b'9',
     }
-    if steps <= MOST_STEPS { Some(steps) } else { None }
 }
 
 // The first word that is no name of a file with this ending.
