@@ -26,7 +26,8 @@ positive zero word h e =
 positive (suc n) word h e = omega arith
 
 -- a number that was read
-read_number : {E : Type 0} (word : Word) (r : Result ℕ E) (n : ℕ) → StartsNumber word → ParsesUnsigned 32 10 word r → r ≡ Ok n → n ≤ 20000000 → IsSteps word (Some n)
+read_number : {E : Type 0} (word : Word) (r : Result ℕ E) (n : ℕ) → StartsNumber word → ParsesUnsigned 32 10 word r → r ≡ Ok n
+    → n ≤ 20000000 → IsSteps word (Some n)
 read_number {E} word r n starts parsed is small =
     let read = parse_plain own {E = E} 32 word (Ok n) (subst (ParsesUnsigned 32 10 word) is parsed) (no_plus word starts) in
     let ((digits, some, below), value) = read in
@@ -43,11 +44,13 @@ no_number : (word : Word) → (StartsNumber word → ⊥) → IsSteps word None
 no_number word isnt n low high e = isnt (subst StartsNumber (sym e) starts) where
   some : 0 < length (decimal n)
   some = decimal_nonempty n (omega arith)
+
   starts : StartsNumber (decimal n)
   starts = starts_with (decimal n) some (first_decimal n (omega arith) (omega arith)) (digit_at (decimal n) 0 (digits_decimal own n (omega arith)) some).1
 
 -- a word that is read as no number, or as a larger one
-no_steps : {E : Type 0} (word : Word) (r : Result ℕ E) → ParsesUnsigned 32 10 word r → ((n : ℕ) → r ≡ Ok n → n ≤ 20000000 → ⊥) → IsSteps word None
+no_steps : {E : Type 0} (word : Word) (r : Result ℕ E) → ParsesUnsigned 32 10 word r → ((n : ℕ) → r ≡ Ok n → n ≤ 20000000 → ⊥)
+    → IsSteps word None
 no_steps word r parsed isnt n low high e = isnt n (parse-decimal 32 n word r (omega arith) (omega arith) e parsed) high
 
 -- ---- words in the code
@@ -55,19 +58,23 @@ no_steps word r parsed isnt n low high e = isnt n (parse-decimal 32 n word r (om
 pub not_started : (bytes text word : Word) → bytes ≡ text → text ≡ word → (StartsNumber bytes → ⊥) → IsSteps word None
 not_started bytes text word e e' isnt = no_number word (λ h. isnt (subst StartsNumber (sym (e ∙ e')) h))
 
-pub not_read : {E : Type 0} (text word : Word) (r : Result ℕ E) (x : E) → text ≡ word → ParsesUnsigned 32 10 text r → r ≡ Err x → IsSteps word None
+pub not_read : {E : Type 0} (text word : Word) (r : Result ℕ E) (x : E) → text ≡ word → ParsesUnsigned 32 10 text r → r ≡ Err x
+    → IsSteps word None
 not_read {E} text word r x e parsed is = no_steps {E = E} word r (subst (λ (w : Word). ParsesUnsigned 32 10 w r) e parsed) (λ n ok small. absurd (never n (sym is ∙ ok))) where
   never : (n : ℕ) → ◌≡◌ {A = Result ℕ E} (Err x) (Ok n) → ⊥
   never n e = cc
 
-pub too_many : {E : Type 0} (text word : Word) (r : Result ℕ E) (m : ℕ) → text ≡ word → ParsesUnsigned 32 10 text r → r ≡ Ok m → 20000000 < m → IsSteps word None
+pub too_many : {E : Type 0} (text word : Word) (r : Result ℕ E) (m : ℕ) → text ≡ word → ParsesUnsigned 32 10 text r → r ≡ Ok m
+    → 20000000 < m → IsSteps word None
 too_many {E} text word r m e parsed is large = no_steps {E = E} word r (subst (λ (w : Word). ParsesUnsigned 32 10 w r) e parsed) (λ n ok small. absurd (never n (sym is ∙ ok) small)) where
   same : (n : ℕ) → ◌≡◌ {A = Result ℕ E} (Ok m) (Ok n) → m ≡ n
   same n e = cc
+
   never : (n : ℕ) → ◌≡◌ {A = Result ℕ E} (Ok m) (Ok n) → n ≤ 20000000 → ⊥
   never n e small = let k : m ≡ n = same n e in absurd (omega arith)
 
-pub read_steps : {E : Type 0} (bytes text word : Word) (r : Result ℕ E) (m : ℕ) → bytes ≡ text → text ≡ word → StartsNumber bytes → ParsesUnsigned 32 10 text r → r ≡ Ok m → m ≤ 20000000
+pub read_steps : {E : Type 0} (bytes text word : Word) (r : Result ℕ E) (m : ℕ) → bytes ≡ text → text ≡ word → StartsNumber bytes
+    → ParsesUnsigned 32 10 text r → r ≡ Ok m → m ≤ 20000000
     → IsSteps word (Some m)
 read_steps {E} bytes text word r m e e' starts parsed is small =
     read_number {E = E} word r m (subst StartsNumber (e ∙ e') starts) (subst (λ (w : Word). ParsesUnsigned 32 10 w r) e' parsed) is small

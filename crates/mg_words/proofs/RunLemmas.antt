@@ -6,10 +6,10 @@ use Rattle.std.specs.Fmt.{decimal}
 use Rattle.std.proofs.lemmas.Fmt.{decimal_injective}
 use Rattle.std.proofs.lemmas.Grind.{flat_map-append}
 use Rattle.std.proofs.lemmas.List.Elements.{filter_map-append, filter-append}
-use Rattle.mg_words.specs.declared.words.Named.{Named}
-use Rattle.mg_words.specs.declared.words.Named.TheVariants as named
-use Rattle.mg_words.specs.declared.words.Options.{Options}
-use Rattle.mg_words.specs.declared.words.Step.TheVariants as step
+use Rattle.mg_words.specs.declared.runs.Named.{Named}
+use Rattle.mg_words.specs.declared.runs.Named.TheVariants as named
+use Rattle.mg_words.specs.declared.runs.Options.{Options}
+use Rattle.mg_words.specs.declared.runs.Step.TheVariants as step
 use Rattle.mg_words.specs.declared.words.Judged.{Judged}
 use Rattle.mg_words.specs.Words.{Word, Command, Translate, Conform, Check, Compile, Run, Asked, RunOption, Main, Steps, Trace, Out, option_words, IsOption, class_in, steps_in, folder_in, is_trace, IsFileName, IsSourceName, AreSourceNames, IsClassName, IsBehind, IsCommand, AreCommand, CanBegin, AreWrong}
 use Rattle.mg_words.specs.inner.Judging.{IsFirstOther, Given, AreGiven, AreRead, given_of, word_of, is_given, with_more, IsPlain, IsNoValue, IsStep, IsWith, IsSteps, IsRunnable, IsJudged}
@@ -43,7 +43,8 @@ trace_out : {P : Type 0} → ◌≡◌ {A = Word} (codes "--trace") (codes "--ou
 trace_out e = absurd (omega (arith, ap length e))
 
 -- an option is known by its word
-pub same_kind : (option : Named) (x : RunOption) (ws rest : List Word) → ◌≡◌ {A = List Word} (word_of option ∷ ws) (option_words x ++ rest) → option ≡ kind_of x
+pub same_kind : (option : Named) (x : RunOption) (ws rest : List Word)
+    → ◌≡◌ {A = List Word} (word_of option ∷ ws) (option_words x ++ rest) → option ≡ kind_of x
 same_kind named.Main (Main v) ws rest e = refl
 same_kind named.Main (Steps v) ws rest e = main_steps (head_is e)
 same_kind named.Main Trace ws rest e = main_trace (head_is e)
@@ -65,7 +66,8 @@ same_number : (n m : ℕ) → n ≤ 20000000 → m ≤ 20000000 → decimal n �
 same_number n m h k e = decimal_injective n m (omega arith) (omega arith) e
 
 -- options that are written alike are one
-same_option : (x y : RunOption) (r r' : List Word) → IsOption x → IsOption y → option_words x ++ r ≡ option_words y ++ r' → (x ≡ y) × (r ≡ r')
+same_option : (x y : RunOption) (r r' : List Word) → IsOption x → IsOption y → option_words x ++ r ≡ option_words y ++ r'
+    → (x ≡ y) × (r ≡ r')
 same_option (Main v) (Main w) r r' h k e = (ap Main (head_is (tail_is e)), tail_is (tail_is e))
 same_option (Main v) (Steps w) r r' h k e = main_steps (head_is e)
 same_option (Main v) Trace r r' h k e = main_trace (head_is e)
@@ -133,7 +135,8 @@ record Goes (o : List RunOption) (rest : List Word) (command : Command) : Type 0
   traced : filter is_trace (o ++ more) ≡ (if asked.traced then Trace ∷ [] else [])
   folder : filter_map folder_in (o ++ more) ≡ option_to_list asked.folder
 
-goes_on : (o : List RunOption) (rest : List Word) (command : Command) → All IsOption o → IsCommand command (run ∷ (flat_map option_words o ++ rest)) → Goes o rest command
+goes_on : (o : List RunOption) (rest : List Word) (command : Command) → All IsOption o
+    → IsCommand command (run ∷ (flat_map option_words o ++ rest)) → Goes o rest command
 goes_on o rest command right is =
     let (asked, files, same, (options, e, how, are)) = is_run command (flat_map option_words o ++ rest) is in
     let left = left_of o how.order rest files right how.right are (e ∙ ap (λ (z : List Word). z ++ files) how.written) in
@@ -170,16 +173,19 @@ kept : {A : Type 0} (f : RunOption → Option A) (o : List RunOption) (x : RunOp
     → filter_map f (x ∷ []) ≡ [] → filter_map f (o ++ x ∷ []) ≡ option_to_list a
 kept f o x a was one = filter_map-append f o (x ∷ []) ∙ (λ i. was i ++ one i) ∙ at_end (option_to_list a)
 
-same_trace : (o : List RunOption) (x : RunOption) (t : Bool) → filter is_trace o ≡ (if t then Trace ∷ [] else []) → filter is_trace (x ∷ []) ≡ []
+same_trace : (o : List RunOption) (x : RunOption) (t : Bool) → filter is_trace o ≡ (if t then Trace ∷ [] else [])
+    → filter is_trace (x ∷ []) ≡ []
     → filter is_trace (o ++ x ∷ []) ≡ (if t then Trace ∷ [] else [])
 same_trace o x t was one = filter-append is_trace o (x ∷ []) ∙ (λ i. was i ++ one i) ∙ at_end (if t then Trace ∷ [] else [])
 
-one_trace : (o : List RunOption) (t : Bool) → filter is_trace o ≡ (if t then Trace ∷ [] else []) → t ≡ false → filter is_trace (o ++ Trace ∷ []) ≡ Trace ∷ []
+one_trace : (o : List RunOption) (t : Bool) → filter is_trace o ≡ (if t then Trace ∷ [] else []) → t ≡ false
+    → filter is_trace (o ++ Trace ∷ []) ≡ Trace ∷ []
 one_trace o t was new =
     let none : filter is_trace o ≡ [] = was ∙ ap (λ (b : Bool). if b then Trace ∷ [] else []) new in
     filter-append is_trace o (Trace ∷ []) ∙ ap (λ (z : List RunOption). z ++ Trace ∷ []) none
 
-pub given_more : (o : List RunOption) (g : Given) (x : RunOption) → AreGiven o g → IsOption x → is_given g (kind_of x) ≡ false → AreGiven (o ++ x ∷ []) (with_more x g)
+pub given_more : (o : List RunOption) (g : Given) (x : RunOption) → AreGiven o g → IsOption x → is_given g (kind_of x) ≡ false
+    → AreGiven (o ++ x ∷ []) (with_more x g)
 given_more o g (Main v) h is new = record {
   right = All-push IsOption o (Main v) h.right is;
   class = pushed class_in o (Main v) g.class (Some v) h.class refl (no_value g.class new);
@@ -213,7 +219,8 @@ pub none_given : AreGiven [] (record { class = None; steps = None; traced = fals
 none_given = record { right = none_yet IsOption; class = refl; steps = refl; traced = refl; folder = refl }
 
 -- what was named isn't named again
-two_values : {A : Type 0} (a b : Option A) (c : A) (rest : List A) → is_some a ≡ true → option_to_list a ++ c ∷ rest ≡ option_to_list b → ⊥
+two_values : {A : Type 0} (a b : Option A) (c : A) (rest : List A) → is_some a ≡ true → option_to_list a ++ c ∷ rest ≡ option_to_list b
+    → ⊥
 two_values None b c rest h e = let never : ⊥ = cc in never
 two_values (Some x) None c rest h e = let never : ⊥ = cc in never
 two_values (Some x) (Some y) c rest h e = let k = ap length e in absurd (omega (arith, k))
@@ -223,9 +230,11 @@ named_twice : {A : Type 0} (f : RunOption → Option A) (o : List RunOption) (x 
 named_twice f o x more a b c was some here all =
     two_values a b c (filter_map f more) some ((λ i. sym was i ++ sym here i) ∙ sym (filter_map-append f o (x ∷ more)) ∙ all)
 
-twice : (o : List RunOption) (g : Given) (x : RunOption) (more : List RunOption) (asked : Asked) → AreGiven o g → is_given g (kind_of x) ≡ true
+twice : (o : List RunOption) (g : Given) (x : RunOption) (more : List RunOption) (asked : Asked) → AreGiven o g
+    → is_given g (kind_of x) ≡ true
     → filter_map class_in (o ++ x ∷ more) ≡ asked.class ∷ [] → filter_map steps_in (o ++ x ∷ more) ≡ option_to_list asked.steps
-    → filter is_trace (o ++ x ∷ more) ≡ (if asked.traced then Trace ∷ [] else []) → filter_map folder_in (o ++ x ∷ more) ≡ option_to_list asked.folder → ⊥
+    → filter is_trace (o ++ x ∷ more) ≡ (if asked.traced then Trace ∷ [] else [])
+    → filter_map folder_in (o ++ x ∷ more) ≡ option_to_list asked.folder → ⊥
 twice o g (Main v) more asked h given class steps traced folder = named_twice class_in o (Main v) more g.class (Some asked.class) v h.class given refl class
 twice o g (Steps v) more asked h given class steps traced folder = named_twice steps_in o (Steps v) more g.steps asked.steps v h.steps given refl steps
 twice o g Trace more asked h given class steps traced folder =
@@ -243,7 +252,8 @@ twice o g (Out v) more asked h given class steps traced folder = named_twice fol
 abbrev pub asked_from : Given → Word → Asked
 asked_from g class = record { class = class; steps = g.steps; traced = g.traced; folder = g.folder }
 
-pub runnable : (o : List RunOption) (g : Given) (class : Word) (files : List Word) → AreGiven o g → g.class ≡ Some class → files ≢ [] → All IsSourceName files
+pub runnable : (o : List RunOption) (g : Given) (class : Word) (files : List Word) → AreGiven o g → g.class ≡ Some class → files ≢ []
+    → All IsSourceName files
     → IsCommand (Run (asked_from g class) files) (run ∷ (flat_map option_words o ++ files))
 runnable o g class files h is some each = (
   flat_map option_words o ++ files,
@@ -265,14 +275,15 @@ runnable o g class files h is some each = (
 )
 
 -- options and files can be followed by a file
-begins_run : (o : List RunOption) (g : Given) (class : Word) (files : List Word) → AreGiven o g → g.class ≡ Some class → All IsSourceName files
+begins_run : (o : List RunOption) (g : Given) (class : Word) (files : List Word) → AreGiven o g → g.class ≡ Some class
+    → All IsSourceName files
     → CanBegin AreCommand (run ∷ (flat_map option_words o ++ files))
 begins_run o g class files h is each = (
   some_source ∷ [],
   (
     Run (asked_from g class) (files ++ some_source ∷ []),
     subst (IsCommand (Run (asked_from g class) (files ++ some_source ∷ []))) (ap (λ (z : List Word). run ∷ z) (sym (append_assoc (flat_map option_words o) files (some_source ∷ []))))
-    (runnable o g class (files ++ some_source ∷ []) h is (pushed_filled files some_source) (All-push IsSourceName files some_source each source_named)),
+        (runnable o g class (files ++ some_source ∷ []) h is (pushed_filled files some_source) (All-push IsSourceName files some_source each source_named)),
   ),
 )
 
@@ -293,7 +304,8 @@ begins_options o g h = go g.class refl where
       begins_sooner (flat_map option_words o) (option_words (Main some_class)) (subst (λ (z : List Word). CanBegin AreCommand (run ∷ z)) (nothing_behind (flat_map option_words (o ++ Main some_class ∷ [])) ∙ flat_push o (Main some_class)) b)
 
 -- an option that wasn't named yet can follow
-begins_by : (o : List RunOption) (g : Given) (x : RunOption) (word : Word) (values : List Word) → AreGiven o g → IsOption x → is_given g (kind_of x) ≡ false
+begins_by : (o : List RunOption) (g : Given) (x : RunOption) (word : Word) (values : List Word) → AreGiven o g → IsOption x
+    → is_given g (kind_of x) ≡ false
     → option_words x ≡ word ∷ values → CanBegin AreCommand (run ∷ (flat_map option_words o ++ word ∷ []))
 begins_by o g x word values h is new e =
     let b = begins_options (o ++ x ∷ []) (with_more x g) (given_more o g x h is new) in
@@ -301,24 +313,28 @@ begins_by o g x word values h is new e =
     flat_push o x ∙ ap (λ (z : List Word). flat_map option_words o ++ z) e ∙ sym (append_assoc (flat_map option_words o) (word ∷ []) values) in
     begins_sooner (flat_map option_words o ++ word ∷ []) values (subst (λ (z : List Word). CanBegin AreCommand (run ∷ z)) same b)
 
-begins_word : (o : List RunOption) (g : Given) (option : Named) → AreGiven o g → is_given g option ≡ false → CanBegin AreCommand (run ∷ (flat_map option_words o ++ word_of option ∷ []))
+begins_word : (o : List RunOption) (g : Given) (option : Named) → AreGiven o g → is_given g option ≡ false
+    → CanBegin AreCommand (run ∷ (flat_map option_words o ++ word_of option ∷ []))
 begins_word o g named.Main h new = begins_by o g (Main some_class) (codes "--main") (some_class ∷ []) h classed new refl
 begins_word o g named.Steps h new = begins_by o g (Steps 1) (codes "--steps") (decimal 1 ∷ []) h (omega arith, omega arith) new refl
 begins_word o g named.Trace h new = begins_by o g Trace (codes "--trace") [] h tt new refl
 begins_word o g named.Out h new = begins_by o g (Out some_class) (codes "--out") (some_class ∷ []) h is_name new refl
 
 -- the same of a word of the code
-begins_named : (o : List RunOption) (g : Given) (option : Named) (word : Word) → AreGiven o g → is_given g option ≡ false → word ≡ word_of option
+begins_named : (o : List RunOption) (g : Given) (option : Named) (word : Word) → AreGiven o g → is_given g option ≡ false
+    → word ≡ word_of option
     → CanBegin AreCommand (run ∷ (flat_map option_words o ++ word ∷ []))
 begins_named o g option word h new is = subst (λ (w : Word). CanBegin AreCommand (run ∷ (flat_map option_words o ++ w ∷ []))) (sym is) (begins_word o g option h new)
 
 -- ---- the first word that can't follow
 
-split : (o : List RunOption) (word : Word) (more : List Word) → ((run ∷ flat_map option_words o) ++ word ∷ []) ++ more ≡ run ∷ (flat_map option_words o ++ word ∷ more)
+split : (o : List RunOption) (word : Word) (more : List Word)
+    → ((run ∷ flat_map option_words o) ++ word ∷ []) ++ more ≡ run ∷ (flat_map option_words o ++ word ∷ more)
 split o word more = ap (λ (z : List Word). run ∷ z) (append_assoc (flat_map option_words o) (word ∷ []) more)
 
 -- an option that was named before
-pub wrong_again : (o : List RunOption) (g : Given) (option : Named) (word : Word) (rest : List Word) → AreGiven o g → is_given g option ≡ true → word ≡ word_of option
+pub wrong_again : (o : List RunOption) (g : Given) (option : Named) (word : Word) (rest : List Word) → AreGiven o g
+    → is_given g option ≡ true → word ≡ word_of option
     → AreWrong (run ∷ (flat_map option_words o ++ word ∷ rest)) (Some word)
 wrong_again o g option word rest h given is = first_wrong (run ∷ flat_map option_words o) word rest (begins_options o g h) (λ b. cannot b.0 b.1.0 b.1.1) where
   cannot : (more : List Word) (command : Command) → IsCommand command (((run ∷ flat_map option_words o) ++ word ∷ []) ++ more) → ⊥
@@ -335,7 +351,8 @@ wrong_again o g option word rest h given is = first_wrong (run ∷ flat_map opti
             twice o g x xs asked h (sym (ap (is_given g) kind) ∙ given) class steps traced folder
 
 -- the option whose word and value these are
-full_option : (option : Named) (x : RunOption) (value : Word) (more r : List Word) → option ≢ named.Trace → word_of option ∷ value ∷ more ≡ option_words x ++ r
+full_option : (option : Named) (x : RunOption) (value : Word) (more r : List Word) → option ≢ named.Trace
+    → word_of option ∷ value ∷ more ≡ option_words x ++ r
     → option_words x ≡ word_of option ∷ value ∷ []
 full_option option (Main v) value more r other e = λ i. sym (head_is e) i ∷ sym (head_is (tail_is e)) i ∷ []
 full_option option (Steps v) value more r other e = λ i. sym (head_is e) i ∷ sym (head_is (tail_is e)) i ∷ []
@@ -343,7 +360,8 @@ full_option option Trace value more r other e = absurd (other (same_kind option 
 full_option option (Out v) value more r other e = λ i. sym (head_is e) i ∷ sym (head_is (tail_is e)) i ∷ []
 
 -- a value that its option can't have
-pub wrong_value : (o : List RunOption) (g : Given) (option : Named) (word value : Word) (rest : List Word) → AreGiven o g → is_given g option ≡ false → word ≡ word_of option
+pub wrong_value : (o : List RunOption) (g : Given) (option : Named) (word value : Word) (rest : List Word) → AreGiven o g
+    → is_given g option ≡ false → word ≡ word_of option
     → option ≢ named.Trace → IsNoValue option value → AreWrong (run ∷ (flat_map option_words o ++ word ∷ value ∷ rest)) (Some value)
 wrong_value o g option word value rest h new is other isnt =
     subst (λ (z : List Word). AreWrong (run ∷ z) (Some value)) (append_assoc (flat_map option_words o) (word ∷ []) (value ∷ rest))
@@ -354,6 +372,7 @@ wrong_value o g option word value rest h new is other isnt =
       by more (x ∷ xs) files e are right =
           let e' = e ∙ append_assoc (option_words x) (flat_map option_words xs) files in
           isnt x (full_option option x value more (flat_map option_words xs ++ files) other e') (All-mid IsOption o x xs right)
+
       cannot : (more : List Word) (command : Command) → IsCommand command (((run ∷ (flat_map option_words o ++ word ∷ [])) ++ value ∷ []) ++ more) → ⊥
       cannot more command k =
           let same : ((run ∷ (flat_map option_words o ++ word ∷ [])) ++ value ∷ []) ++ more ≡ run ∷ (flat_map option_words o ++ word ∷ value ∷ more) =
@@ -363,7 +382,8 @@ wrong_value o g option word value rest h new is other isnt =
           by more goes.more goes.files (ap (λ (w : Word). w ∷ value ∷ more) (sym is) ∙ goes.words) goes.sources goes.right
 
 -- a value is lacking
-few_value : (o : List RunOption) (g : Given) (option : Named) (word : Word) → AreGiven o g → is_given g option ≡ false → word ≡ word_of option → option ≢ named.Trace
+few_value : (o : List RunOption) (g : Given) (option : Named) (word : Word) → AreGiven o g → is_given g option ≡ false
+    → word ≡ word_of option → option ≢ named.Trace
     → AreWrong (run ∷ (flat_map option_words o ++ word ∷ [])) None
 few_value o g option word h new is other = (begins_named o g option word h new is, λ k. cannot k.0 k.1) where
   short : (x : RunOption) (r : List Word) → word_of option ∷ [] ≡ option_words x ++ r → ⊥
@@ -371,9 +391,11 @@ few_value o g option word h new is other = (begins_named o g option word h new i
   short (Steps v) r e = filled (tail_is e)
   short Trace r e = other (same_kind option Trace [] r e)
   short (Out v) r e = filled (tail_is e)
+
   by : (more' : List RunOption) (files : List Word) → word_of option ∷ [] ≡ flat_map option_words more' ++ files → AreSourceNames files → ⊥
   by [] files e are = no_word option [] files e are
   by (x ∷ xs) files e are = short x (flat_map option_words xs ++ files) (e ∙ append_assoc (option_words x) (flat_map option_words xs) files)
+
   cannot : (command : Command) → IsCommand command (run ∷ (flat_map option_words o ++ word ∷ [])) → ⊥
   cannot command k =
       let goes = goes_on o (word ∷ []) command h.right k in
@@ -387,9 +409,11 @@ few_more o g h = (subst (λ (z : List Word). CanBegin AreCommand (run ∷ z)) (s
   short (Steps v) r e = filled e
   short Trace r e = filled e
   short (Out v) r e = filled e
+
   by : (more' : List RunOption) (files : List Word) → [] ≡ flat_map option_words more' ++ files → AreSourceNames files → ⊥
   by [] files e are = are.0 (sym e)
   by (x ∷ xs) files e are = short x (flat_map option_words xs ++ files) (e ∙ append_assoc (option_words x) (flat_map option_words xs) files)
+
   cannot : (command : Command) → IsCommand command (run ∷ (flat_map option_words o ++ [])) → ⊥
   cannot command k = let goes = goes_on o [] command h.right k in by goes.more goes.files goes.words goes.sources
 
@@ -416,17 +440,20 @@ lacks_class o g word rest h none plain = first_wrong (run ∷ flat_map option_wo
   by more (x ∷ xs) files class e one =
       let start = option_first x word more (flat_map option_words xs ++ files) (e ∙ append_assoc (option_words x) (flat_map option_words xs) files) in
       plain (kind_of x) rest (ap (λ (w : Word). w ∷ rest) start)
+
   cannot : (more : List Word) (command : Command) → IsCommand command (((run ∷ flat_map option_words o) ++ word ∷ []) ++ more) → ⊥
   cannot more command k =
       let goes = goes_on o (word ∷ more) command h.right (subst (IsCommand command) (split o word more) k) in
       by more goes.more goes.files goes.asked.class goes.words goes.class
 
-plain_still : (before : List Word) (word : Word) (after more : List Word) → IsPlain (before ++ word ∷ after) → IsPlain (before ++ word ∷ more)
+plain_still : (before : List Word) (word : Word) (after more : List Word) → IsPlain (before ++ word ∷ after)
+    → IsPlain (before ++ word ∷ more)
 plain_still [] word after more plain = λ option rest e. plain option after (ap (λ (w : Word). w ∷ after) (head_is e))
 plain_still (b ∷ bs) word after more plain = λ option rest e. plain option (bs ++ word ∷ after) (ap (λ (w : Word). w ∷ (bs ++ word ∷ after)) (head_is e))
 
 -- a word that is no file of a program
-wrong_run_file : (o : List RunOption) (g : Given) (class : Word) (files : List Word) (word : Word) → AreGiven o g → g.class ≡ Some class → IsPlain files
+wrong_run_file : (o : List RunOption) (g : Given) (class : Word) (files : List Word) (word : Word) → AreGiven o g → g.class ≡ Some class
+    → IsPlain files
     → IsFirstOther IsSourceName files (Some word) → AreWrong (run ∷ (flat_map option_words o ++ files)) (Some word)
 wrong_run_file o g class files word h is plain (before, after, stands, each, isnt) =
     subst (λ (z : List Word). AreWrong (run ∷ z) (Some word)) (append_assoc (flat_map option_words o) before (word ∷ after) ∙ ap (λ (z : List Word). flat_map option_words o ++ z) (sym stands))
@@ -436,6 +463,7 @@ wrong_run_file o g class files word h is plain (before, after, stands, each, isn
       by more (x ∷ xs) files' e are =
           no_start x (before ++ word ∷ more) (flat_map option_words xs ++ files') (plain_still before word after more (subst IsPlain stands plain))
           (e ∙ append_assoc (option_words x) (flat_map option_words xs) files')
+
       cannot : (more : List Word) (command : Command) → IsCommand command (((run ∷ (flat_map option_words o ++ before)) ++ word ∷ []) ++ more) → ⊥
       cannot more command k =
           let same : ((run ∷ (flat_map option_words o ++ before)) ++ word ∷ []) ++ more ≡ run ∷ (flat_map option_words o ++ (before ++ word ∷ more)) =
@@ -461,7 +489,8 @@ same_traced false false e = refl
 same_asked : (a b : Asked) → a.class ≡ b.class → a.steps ≡ b.steps → a.traced ≡ b.traced → a.folder ≡ b.folder → a ≡ b
 same_asked a b class steps traced folder = λ i. record { class = class i; steps = steps i; traced = traced i; folder = folder i }
 
-same_run : (command : Command) (asked : Asked) (files rest : List Word) → IsBehind (Run asked files) rest → IsCommand command (run ∷ rest) → Run asked files ≡ command
+same_run : (command : Command) (asked : Asked) (files rest : List Word) → IsBehind (Run asked files) rest
+    → IsCommand command (run ∷ rest) → Run asked files ≡ command
 same_run command asked files rest (options, e, how, are) is =
     let o = how.order in
     let goes = goes_on o files command how.right (subst (λ (z : List Word). IsCommand command (run ∷ z)) (e ∙ ap (λ (z : List Word). z ++ files) how.written) is) in
@@ -486,17 +515,19 @@ same_run command asked files rest (options, e, how, are) is =
 pub started : (words : List Word) → AreRead words (record { class = None; steps = None; traced = false; folder = None }) words
 started words = ([], refl, none_given)
 
-pub again_at : (words : List Word) (g : Given) (rest : List Word) (option : Named) (word : Word) (behind : List Word) → AreRead words g rest → rest ≡ word ∷ behind
+pub again_at : (words : List Word) (g : Given) (rest : List Word) (option : Named) (word : Word) (behind : List Word)
+    → AreRead words g rest → rest ≡ word ∷ behind
     → word ≡ word_of option → is_given g option ≡ true → AreWrong (run ∷ words) (Some word)
 again_at words g rest option word behind (o, e, h) is name given =
     subst (λ (z : List Word). AreWrong (run ∷ z) (Some word)) (sym (e ∙ ap (λ (z : List Word). flat_map option_words o ++ z) is)) (wrong_again o g option word behind h given name)
 
 pub more_at : (words : List Word) (g : Given) (rest : List Word) (option : Named) (word : Word) (behind : List Word) (more : Options) (left : Bor (List Word)) → AreRead words g rest
-    → rest ≡ word ∷ behind → word ≡ word_of option → is_given g option ≡ false → IsStep g option behind (step.More more left) → AreRead words (given_of more) left.now
+    → rest ≡ word ∷ behind → word ≡ word_of option → is_given g option ≡ false → IsStep g option behind (step.More more left)
+    → AreRead words (given_of more) left.now
 more_at words g rest option word behind more left (o, e, h) is name new (full, spelled, right, same) = (
   o ++ full ∷ [],
   e ∙ ap (λ (z : List Word). flat_map option_words o ++ z) (is ∙ ap (λ (w : Word). w ∷ behind) name ∙ spelled) ∙ sym (append_assoc (flat_map option_words o) (option_words full) left.now)
-  ∙ ap (λ (z : List Word). z ++ left.now) (sym (flat_push o full)),
+      ∙ ap (λ (z : List Word). z ++ left.now) (sym (flat_push o full)),
   subst (AreGiven (o ++ full ∷ [])) (sym same) (given_more o g full h right (sym (ap (is_given g) (same_kind option full behind left.now spelled)) ∙ new)),
 )
 
@@ -510,7 +541,8 @@ shorter_at g rest option word behind more left is (full, spelled, right, same) =
   go (Out v) e e' = omega arith
 
 pub stuck_at : (words : List Word) (g : Given) (rest : List Word) (option : Named) (word : Word) (behind : List Word) (wrong : Option (Bor Word)) → AreRead words g rest
-    → rest ≡ word ∷ behind → word ≡ word_of option → is_given g option ≡ false → IsStep g option behind (step.Stuck wrong) → AreWrong (run ∷ words) (option_map (λ w. w.now) wrong)
+    → rest ≡ word ∷ behind → word ≡ word_of option → is_given g option ≡ false → IsStep g option behind (step.Stuck wrong)
+    → AreWrong (run ∷ words) (option_map (λ w. w.now) wrong)
 stuck_at words g rest option word behind None (o, e, h) is name new (other, none) =
     subst (λ (z : List Word). AreWrong (run ∷ z) None) (sym (e ∙ ap (λ (z : List Word). flat_map option_words o ++ z) (is ∙ ap (λ (z : List Word). word ∷ z) none)))
     (few_value o g option word h new name other)
@@ -522,10 +554,12 @@ pub end_at : (words : List Word) (g : Given) (rest : List Word) → AreRead word
 end_at words g rest (o, e, h) none =
     subst (λ (z : List Word). AreWrong (run ∷ z) None) (sym (e ∙ ap (λ (z : List Word). flat_map option_words o ++ z) (empty_is rest none))) (few_more o g h)
 
-pub files_at : (words : List Word) (g : Given) (rest : List Word) (result : Judged) → AreRead words g rest → IsRunnable g rest result → IsJudged (run ∷ words) result
+pub files_at : (words : List Word) (g : Given) (rest : List Word) (result : Judged) → AreRead words g rest → IsRunnable g rest result
+    → IsJudged (run ∷ words) result
 files_at words g rest result (o, e, h) runs = subst (λ (z : List Word). IsJudged (run ∷ z) result) (sym e) (runs o h)
 
-pub plain_at : (rest : List Word) (word : Word) (behind : List Word) → rest ≡ word ∷ behind → ((option : Named) → word ≡ word_of option → ⊥) → IsPlain rest
+pub plain_at : (rest : List Word) (word : Word) (behind : List Word) → rest ≡ word ∷ behind
+    → ((option : Named) → word ≡ word_of option → ⊥) → IsPlain rest
 plain_at rest word behind is isnt = λ option more e. isnt option (head_is (sym is ∙ e))
 
 -- the files of a run
@@ -534,7 +568,8 @@ lacks_class_at : (g : Given) (files : List Word) (word : Word) (rest : List Word
 lacks_class_at g files word rest is plain none = λ o h. subst (λ (z : List Word). AreWrong (run ∷ (flat_map option_words o ++ z)) (Some word)) (sym is)
     (lacks_class o g word rest h none (subst IsPlain is plain))
 
-pub wrong_file_at : (g : Given) (class : Word) (files : List Word) (word : Word) → g.class ≡ Some class → IsPlain files → IsFirstOther IsSourceName files (Some word)
+pub wrong_file_at : (g : Given) (class : Word) (files : List Word) (word : Word) → g.class ≡ Some class → IsPlain files
+    → IsFirstOther IsSourceName files (Some word)
     → (o : List RunOption) → AreGiven o g → AreWrong (run ∷ (flat_map option_words o ++ files)) (Some word)
 wrong_file_at g class files word is plain other = λ o h. wrong_run_file o g class files word h is plain other
 
@@ -556,13 +591,16 @@ same_command words (Run asked files) b (rest, e, behind) is = same_run b asked f
 
 -- ---- one option, with its value
 
-pub class_value : (g : Given) (value : Word) (more : Given) → IsClassName value → more ≡ with_more (Main value) g → IsWith g named.Main value (Some more)
+pub class_value : (g : Given) (value : Word) (more : Given) → IsClassName value → more ≡ with_more (Main value) g
+    → IsWith g named.Main value (Some more)
 class_value g value more h same = (Main value, refl, h, same)
 
-pub steps_value : (g : Given) (value : Word) (n : ℕ) (more : Given) → IsSteps value (Some n) → more ≡ with_more (Steps n) g → IsWith g named.Steps value (Some more)
+pub steps_value : (g : Given) (value : Word) (n : ℕ) (more : Given) → IsSteps value (Some n) → more ≡ with_more (Steps n) g
+    → IsWith g named.Steps value (Some more)
 steps_value g value n more (e, low, high) same = (Steps n, ap (λ (w : Word). codes "--steps" ∷ w ∷ []) (sym e), (low, high), same)
 
-pub folder_value : (g : Given) (value : Word) (more : Given) → IsFileName value → more ≡ with_more (Out value) g → IsWith g named.Out value (Some more)
+pub folder_value : (g : Given) (value : Word) (more : Given) → IsFileName value → more ≡ with_more (Out value) g
+    → IsWith g named.Out value (Some more)
 folder_value g value more h same = (Out value, refl, h, same)
 
 pub no_class_value : (value : Word) → (IsClassName value → ⊥) → IsNoValue named.Main value
@@ -589,10 +627,12 @@ no_folder_value value isnt (Steps v) e h = steps_out (head_is e)
 no_folder_value value isnt Trace e h = trace_out (head_is e)
 no_folder_value value isnt (Out v) e h = isnt (subst IsFileName (head_is (tail_is e)) h)
 
-pub trace_step : (g : Given) (words : List Word) (more : Options) (rest : Bor (List Word)) → words ≡ rest.now → given_of more ≡ with_more Trace g → IsStep g named.Trace words (step.More more rest)
+pub trace_step : (g : Given) (words : List Word) (more : Options) (rest : Bor (List Word)) → words ≡ rest.now
+    → given_of more ≡ with_more Trace g → IsStep g named.Trace words (step.More more rest)
 trace_step g words more rest e same = (Trace, ap (λ (z : List Word). codes "--trace" ∷ z) e, tt, same)
 
-pub value_step : (g : Given) (option : Named) (words : List Word) (value : Word) (more : Options) (rest : Bor (List Word)) → words ≡ value ∷ rest.now
+pub value_step : (g : Given) (option : Named) (words : List Word) (value : Word) (more : Options) (rest : Bor (List Word))
+    → words ≡ value ∷ rest.now
     → IsWith g option value (Some (given_of more)) → IsStep g option words (step.More more rest)
 value_step g option words value more rest e (full, spelled, right, same) =
     (full, ap (λ (z : List Word). word_of option ∷ z) e ∙ ap (λ (z : List Word). z ++ rest.now) (sym spelled), right, same)
@@ -604,7 +644,8 @@ first_at [] found e some = absurd (omega arith)
 first_at (w ∷ ws) None e some = absurd cc
 first_at (w ∷ ws) (Some f) e some = (w, ws, refl, e)
 
-pub lacks_class_first : (g : Given) (files : List Word) (found : Option (Bor Word)) → option_copied found ≡ slice_get files 0 → 0 < length files → IsPlain files → g.class ≡ None
+pub lacks_class_first : (g : Given) (files : List Word) (found : Option (Bor Word)) → option_copied found ≡ slice_get files 0
+    → 0 < length files → IsPlain files → g.class ≡ None
     → (o : List RunOption) → AreGiven o g → AreWrong (run ∷ (flat_map option_words o ++ files)) (option_map (λ w. w.now) found)
 lacks_class_first g files found e some plain none =
     let (word, rest, is, same) = first_at files found e some in

@@ -215,7 +215,8 @@ begins_class_out = let b = begins_classes (Some some_class) [] is_name (none_yet
 -- ---- what words of a command are
 
 -- its first word is one of the verbs
-first_word : (command : Command) → (verb command ≡ translate) ⊎ (verb command ≡ conform) ⊎ (verb command ≡ check) ⊎ (verb command ≡ compile) ⊎ (verb command ≡ run)
+first_word : (command : Command)
+    → (verb command ≡ translate) ⊎ (verb command ≡ conform) ⊎ (verb command ≡ check) ⊎ (verb command ≡ compile) ⊎ (verb command ≡ run)
 first_word (Translate folder files) = inl refl
 first_word (Conform files) = inr (inl refl)
 first_word (Check files) = inr (inr (inl refl))
@@ -274,7 +275,8 @@ pub no_source : (rest : List Word) → AreSourceNames (out ∷ rest) → ⊥
 no_source rest (_, each) = let first : IsSourceName out = All-first IsSourceName out rest each in first.0 refl
 
 -- what stands behind the option of a folder, or where it isn't, are the files
-files_behind : (Q : List Word → Type 0) → ((r : List Word) → Q (out ∷ r) → ⊥) → (d : Option Word) (files : List Word) (folder : Option Word) (rest : List Word)
+files_behind : (Q : List Word → Type 0) → ((r : List Word) → Q (out ∷ r) → ⊥)
+    → (d : Option Word) (files : List Word) (folder : Option Word) (rest : List Word)
     → (folder ≡ None → (r : List Word) → rest ≡ out ∷ r → ⊥) → out_words folder ++ rest ≡ out_words d ++ files → Q files → Q rest
 files_behind Q never None files None rest plain e q = subst Q (sym e) q
 files_behind Q never (Some d) files None rest plain e q = absurd (plain refl (d ∷ files) e)
@@ -282,12 +284,14 @@ files_behind Q never None files (Some f) rest plain e q = absurd (never (f ∷ r
 files_behind Q never (Some d) files (Some f) rest plain e q = subst Q (sym (tail_is (tail_is e))) q
 
 -- behind "--out" stands a folder
-folder_behind : (Q : List Word → Type 0) → ((r : List Word) → Q (out ∷ r) → ⊥) → (d : Option Word) (files : List Word) (f : Word) (rest : List Word)
+folder_behind : (Q : List Word → Type 0) → ((r : List Word) → Q (out ∷ r) → ⊥)
+    → (d : Option Word) (files : List Word) (f : Word) (rest : List Word)
     → out ∷ f ∷ rest ≡ out_words d ++ files → IfSome d IsFileName → Q files → IsFileName f
 folder_behind Q never None files f rest e name q = absurd (never (f ∷ rest) (subst Q (sym e) q))
 folder_behind Q never (Some d) files f rest e name q = subst IsFileName (sym (head_is (tail_is e))) name
 
-folder_lacks : (Q : List Word → Type 0) → ((r : List Word) → Q (out ∷ r) → ⊥) → (d : Option Word) (files : List Word) → out ∷ [] ≡ out_words d ++ files → Q files → ⊥
+folder_lacks : (Q : List Word → Type 0) → ((r : List Word) → Q (out ∷ r) → ⊥) → (d : Option Word) (files : List Word)
+    → out ∷ [] ≡ out_words d ++ files → Q files → ⊥
 folder_lacks Q never None files e q = never [] (subst Q (sym e) q)
 folder_lacks Q never (Some d) files e q = filled (tail_is e)
 
@@ -349,7 +353,8 @@ class_out_is_none command is =
 
 -- ---- what is judged: where words are lacking, and where one can't follow
 
-pub few : (words rest : List Word) → length rest ≡ 0 → CanBegin AreCommand words → ((command : Command) → IsCommand command words → ⊥) → AreWrong (words ++ rest) None
+pub few : (words rest : List Word) → length rest ≡ 0 → CanBegin AreCommand words → ((command : Command) → IsCommand command words → ⊥)
+    → AreWrong (words ++ rest) None
 few words rest e can isnt =
     subst (λ (ws : List Word). AreWrong ws None) (sym (ap (λ (z : List Word). words ++ z) (empty_is rest e) ∙ nothing_behind words)) (can, λ k. isnt k.0 k.1)
 
@@ -365,7 +370,8 @@ few_translate rest e = few (translate ∷ []) rest e begins_translate (λ comman
 pub few_out : (rest : List Word) → length rest ≡ 0 → AreWrong (translate ∷ out ∷ rest) None
 few_out rest e = few (translate ∷ out ∷ []) rest e begins_out out_is_none
 
-pub few_files : (folder : Option Word) (files : List Word) → IfSome folder IsFileName → length files ≡ 0 → AreWrong (translate ∷ (out_words folder ++ files)) None
+pub few_files : (folder : Option Word) (files : List Word) → IfSome folder IsFileName → length files ≡ 0
+    → AreWrong (translate ∷ (out_words folder ++ files)) None
 few_files folder files name e =
     subst (λ (z : List Word). AreWrong (translate ∷ (out_words folder ++ z)) None) (sym (empty_is files e)) (
       begins_files folder [] name (none_yet _),
@@ -375,7 +381,8 @@ few_files folder files name e =
 pub few_conform : (rest : List Word) → length rest ≡ 0 → AreWrong (conform ∷ rest) None
 few_conform rest e = few (conform ∷ []) rest e begins_conform conform_is_none
 
-pub few_protocol : (rest : List Word) (protocol : Word) (more : List Word) → rest ≡ protocol ∷ more → IsFileOf (codes ".scr") protocol → length more ≡ 0 → AreWrong (conform ∷ rest) None
+pub few_protocol : (rest : List Word) (protocol : Word) (more : List Word) → rest ≡ protocol ∷ more → IsFileOf (codes ".scr") protocol
+    → length more ≡ 0 → AreWrong (conform ∷ rest) None
 few_protocol rest protocol more is h e =
     subst (λ (z : List Word). AreWrong (conform ∷ z) None) (sym is) (few (conform ∷ protocol ∷ []) more e (begins_protocol protocol h) (protocol_is_none protocol))
 
@@ -391,7 +398,8 @@ few_compile rest e = few (compile ∷ []) rest e begins_compile (λ command. no_
 pub few_class_out : (rest : List Word) → length rest ≡ 0 → AreWrong (compile ∷ out ∷ rest) None
 few_class_out rest e = few (compile ∷ out ∷ []) rest e begins_class_out class_out_is_none
 
-pub few_sources : (folder : Option Word) (files : List Word) → IfSome folder IsFileName → length files ≡ 0 → AreWrong (compile ∷ (out_words folder ++ files)) None
+pub few_sources : (folder : Option Word) (files : List Word) → IfSome folder IsFileName → length files ≡ 0
+    → AreWrong (compile ∷ (out_words folder ++ files)) None
 few_sources folder files name e =
     subst (λ (z : List Word). AreWrong (compile ∷ (out_words folder ++ z)) None) (sym (empty_is files e)) (
       begins_classes folder [] name (none_yet _),
@@ -399,14 +407,17 @@ few_sources folder files name e =
     )
 
 -- the word behind words that can begin a command is the first wrong one, where the words can't begin one with it
-pub first_wrong : (before : List Word) (word : Word) (more : List Word) → CanBegin AreCommand before → (CanBegin AreCommand (before ++ word ∷ []) → ⊥) → AreWrong (before ++ word ∷ more) (Some word)
+pub first_wrong : (before : List Word) (word : Word) (more : List Word) → CanBegin AreCommand before
+    → (CanBegin AreCommand (before ++ word ∷ []) → ⊥) → AreWrong (before ++ word ∷ more) (Some word)
 first_wrong before word more can cannot = record { before = before; after = more; stands = refl; begins = can; wrong = cannot }
 
 -- the same of words that are told by their first and the rest
-pub wrong_at : (before rest : List Word) (word : Word) (more : List Word) → rest ≡ word ∷ more → CanBegin AreCommand before → (CanBegin AreCommand (before ++ word ∷ []) → ⊥) → AreWrong (before ++ rest) (Some word)
+pub wrong_at : (before rest : List Word) (word : Word) (more : List Word) → rest ≡ word ∷ more → CanBegin AreCommand before
+    → (CanBegin AreCommand (before ++ word ∷ []) → ⊥) → AreWrong (before ++ rest) (Some word)
 wrong_at before rest word more e can cannot = subst (λ (ws : List Word). AreWrong (before ++ ws) (Some word)) (sym e) (first_wrong before word more can cannot)
 
-pub wrong_command : (rest : List Word) (word : Word) (more : List Word) → rest ≡ word ∷ more → (word ≡ translate → ⊥) → (word ≡ conform → ⊥)
+pub wrong_command : (rest : List Word) (word : Word) (more : List Word) → rest ≡ word ∷ more → (word ≡ translate → ⊥)
+    → (word ≡ conform → ⊥)
     → (word ≡ check → ⊥) → (word ≡ compile → ⊥) → (word ≡ run → ⊥) → AreWrong rest (Some word)
 wrong_command rest word more e is_no_translate is_no_conform is_no_check is_no_compile is_no_run =
     wrong_at [] rest word more e begins_empty (λ b. cannot b.0 b.1.0 b.1.1) where
@@ -420,32 +431,40 @@ wrong_command rest word more e is_no_translate is_no_conform is_no_check is_no_c
       cannot : (after : List Word) (command : Command) → IsCommand command (word ∷ after) → ⊥
       cannot after command (r, is, behind) = neither (subst (λ (w : Word). (w ≡ translate) ⊎ (w ≡ conform) ⊎ (w ≡ check) ⊎ (w ≡ compile) ⊎ (w ≡ run)) (sym (head_is is)) (first_word command))
 
-pub wrong_protocol : (rest : List Word) (word : Word) (more : List Word) → rest ≡ word ∷ more → (IsFileOf (codes ".scr") word → ⊥) → AreWrong (conform ∷ rest) (Some word)
+pub wrong_protocol : (rest : List Word) (word : Word) (more : List Word) → rest ≡ word ∷ more → (IsFileOf (codes ".scr") word → ⊥)
+    → AreWrong (conform ∷ rest) (Some word)
 wrong_protocol rest word more e isnt = wrong_at (conform ∷ []) rest word more e begins_conform (λ b. isnt (protocol_word b.1.0 word b.0 b.1.1))
 
-pub wrong_calls : (rest : List Word) (protocol word : Word) (more more' : List Word) → rest ≡ protocol ∷ more → more ≡ word ∷ more' → IsFileOf (codes ".scr") protocol → (IsFileName word → ⊥) → AreWrong (conform ∷ rest) (Some word)
+pub wrong_calls : (rest : List Word) (protocol word : Word) (more more' : List Word) → rest ≡ protocol ∷ more → more ≡ word ∷ more'
+    → IsFileOf (codes ".scr") protocol → (IsFileName word → ⊥) → AreWrong (conform ∷ rest) (Some word)
 wrong_calls rest protocol word more more' e e' h isnt =
     subst (λ (ws : List Word). AreWrong (conform ∷ ws) (Some word)) (sym e)
     (wrong_at (conform ∷ protocol ∷ []) more word more' e' (begins_protocol protocol h) (λ b. isnt (calls_word b.1.0 protocol word b.0 b.1.1).0))
 
-pub wrong_third : (rest : List Word) (protocol calls word : Word) (more more' more'' : List Word) → rest ≡ protocol ∷ more → more ≡ calls ∷ more' → more' ≡ word ∷ more'' → IsFileOf (codes ".scr") protocol → IsFileName calls → AreWrong (conform ∷ rest) (Some word)
+pub wrong_third : (rest : List Word) (protocol calls word : Word) (more more' more'' : List Word) → rest ≡ protocol ∷ more
+    → more ≡ calls ∷ more' → more' ≡ word ∷ more'' → IsFileOf (codes ".scr") protocol → IsFileName calls
+    → AreWrong (conform ∷ rest) (Some word)
 wrong_third rest protocol calls word more more' more'' e e' e'' h h' =
     subst (λ (ws : List Word). AreWrong (conform ∷ ws) (Some word)) (sym (e ∙ ap (λ (z : List Word). protocol ∷ z) e'))
     (wrong_at (conform ∷ protocol ∷ calls ∷ []) more' word more'' e'' (begins_calls protocol calls h h') (λ b. filled (sym (calls_word b.1.0 protocol calls (word ∷ b.0) b.1.1).1)))
 
-pub both_files : (rest : List Word) (protocol calls : Word) (more more' : List Word) → rest ≡ protocol ∷ more → more ≡ calls ∷ more' → length more' ≡ 0 → IsFileOf (codes ".scr") protocol → IsFileName calls → AreProtocolAndCalls rest
+pub both_files : (rest : List Word) (protocol calls : Word) (more more' : List Word) → rest ≡ protocol ∷ more → more ≡ calls ∷ more'
+    → length more' ≡ 0 → IsFileOf (codes ".scr") protocol → IsFileName calls → AreProtocolAndCalls rest
 both_files rest protocol calls more more' e e' n h h' =
     record { protocol = protocol; calls = calls; two = e ∙ ap (λ (z : List Word). protocol ∷ z) (e' ∙ ap (λ (z : List Word). calls ∷ z) (empty_is more' n)); scribble = h; named = h' }
 
-pub wrong_folder : (rest : List Word) (word : Word) (more : List Word) → rest ≡ word ∷ more → (IsFileName word → ⊥) → AreWrong (translate ∷ out ∷ rest) (Some word)
+pub wrong_folder : (rest : List Word) (word : Word) (more : List Word) → rest ≡ word ∷ more → (IsFileName word → ⊥)
+    → AreWrong (translate ∷ out ∷ rest) (Some word)
 wrong_folder rest word more e isnt = wrong_at (translate ∷ out ∷ []) rest word more e begins_out (λ b. isnt (folder_word b.1.0 word b.0 b.1.1))
 
 -- words that don't begin with the option don't with other words at their end
-still_plain : (before : List Word) (word : Word) (after more : List Word) → ((r : List Word) → before ++ word ∷ after ≡ out ∷ r → ⊥) → (r : List Word) → before ++ word ∷ more ≡ out ∷ r → ⊥
+still_plain : (before : List Word) (word : Word) (after more : List Word) → ((r : List Word) → before ++ word ∷ after ≡ out ∷ r → ⊥)
+    → (r : List Word) → before ++ word ∷ more ≡ out ∷ r → ⊥
 still_plain [] word after more plain r e = plain after (ap (λ (w : Word). w ∷ after) (head_is e))
 still_plain (b ∷ bs) word after more plain r e = plain (bs ++ word ∷ after) (ap (λ (w : Word). w ∷ (bs ++ word ∷ after)) (head_is e))
 
-pub wrong_file : (folder : Option Word) (files : List Word) (word : Word) → IfSome folder IsFileName → (folder ≡ None → (r : List Word) → files ≡ out ∷ r → ⊥)
+pub wrong_file : (folder : Option Word) (files : List Word) (word : Word) → IfSome folder IsFileName
+    → (folder ≡ None → (r : List Word) → files ≡ out ∷ r → ⊥)
     → IsFirstOther (IsFileOf (codes ".scr")) files (Some word) → AreWrong (translate ∷ (out_words folder ++ files)) (Some word)
 wrong_file folder files word name plain (before, after, is, each, isnt) = record {
   before = translate ∷ (out_words folder ++ before);
@@ -475,10 +494,12 @@ wrong_source files word (before, after, is, each, isnt) = record {
       let split : ((check ∷ before) ++ word ∷ []) ++ more ≡ check ∷ (before ++ word ∷ more) = append_assoc (check ∷ before) (word ∷ []) more in
       All-mid IsSourceName before word more (check_files command (before ++ word ∷ more) (subst (IsCommand command) split k)).1
 
-pub wrong_class_folder : (rest : List Word) (word : Word) (more : List Word) → rest ≡ word ∷ more → (IsFileName word → ⊥) → AreWrong (compile ∷ out ∷ rest) (Some word)
+pub wrong_class_folder : (rest : List Word) (word : Word) (more : List Word) → rest ≡ word ∷ more → (IsFileName word → ⊥)
+    → AreWrong (compile ∷ out ∷ rest) (Some word)
 wrong_class_folder rest word more e isnt = wrong_at (compile ∷ out ∷ []) rest word more e begins_class_out (λ b. isnt (class_folder_word b.1.0 word b.0 b.1.1))
 
-pub wrong_class_source : (folder : Option Word) (files : List Word) (word : Word) → IfSome folder IsFileName → (folder ≡ None → (r : List Word) → files ≡ out ∷ r → ⊥)
+pub wrong_class_source : (folder : Option Word) (files : List Word) (word : Word) → IfSome folder IsFileName
+    → (folder ≡ None → (r : List Word) → files ≡ out ∷ r → ⊥)
     → IsFirstOther IsSourceName files (Some word) → AreWrong (compile ∷ (out_words folder ++ files)) (Some word)
 wrong_class_source folder files word name plain (before, after, is, each, isnt) = record {
   before = compile ∷ (out_words folder ++ before);
@@ -499,7 +520,8 @@ wrong_class_source folder files word name plain (before, after, is, each, isnt) 
 have_kinds : (files : List Word) → AreSourceNames files → HaveKinds files
 have_kinds files (some, each) k d lt = (each k d lt).1
 
-pub kinds_of_classes : (words : List Word) (folder : Option Word) (files : List Word) → IsCommand (Compile folder files) words → HaveKinds files
+pub kinds_of_classes : (words : List Word) (folder : Option Word) (files : List Word) → IsCommand (Compile folder files) words
+    → HaveKinds files
 kinds_of_classes words folder files (r, e, (behind, name, are)) = have_kinds files are
 
 pub kinds_of : (words files : List Word) → IsCommand (Check files) words → HaveKinds files
@@ -508,10 +530,12 @@ kinds_of words files (r, e, (behind, are)) = have_kinds files are
 pub kinds_of_run : (words : List Word) (asked : Asked) (files : List Word) → IsCommand (Run asked files) words → HaveKinds files
 kinds_of_run words asked files (r, e, (options, behind, how, are)) = have_kinds files are
 
-pub protocols_of : (words files : List Word) (folder : Option Word) → IsCommand (Translate folder files) words → All (IsFileOf (codes ".scr")) files
+pub protocols_of : (words files : List Word) (folder : Option Word) → IsCommand (Translate folder files) words
+    → All (IsFileOf (codes ".scr")) files
 protocols_of words files folder (r, e, (behind, name, are)) = are.1
 
-pub protocol_of_two : (words files : List Word) (first : Word) → IsCommand (Conform files) words → first ≡ get_or files 0 first → EndsWith (codes ".scr") first
+pub protocol_of_two : (words files : List Word) (first : Word) → IsCommand (Conform files) words → first ≡ get_or files 0 first
+    → EndsWith (codes ".scr") first
 protocol_of_two words files first (r, e, (behind, are)) is =
     subst (EndsWith (codes ".scr")) (sym (is ∙ ap (λ (z : List Word). get_or z 0 first) are.two)) are.scribble.1
 
@@ -522,24 +546,28 @@ wrong_is_none words (Some word) command h is =
     h.wrong (h.after, (command, subst (IsCommand command) (h.stands ∙ sym (append_assoc h.before (word ∷ []) h.after)) is))
 
 -- words are one command at most, where `run` is
-pub same_translate : (command : Command) (folder : Option Word) (files rest : List Word) → IsBehind (Translate folder files) rest → IsCommand command (translate ∷ rest)
+pub same_translate : (command : Command) (folder : Option Word) (files rest : List Word) → IsBehind (Translate folder files) rest
+    → IsCommand command (translate ∷ rest)
     → Translate folder files ≡ command
 same_translate command folder files rest (e, name, each) is =
     let (d, g, same, (e', name', each')) = is_translate command rest is in
     let (one, other) = same_folder (AreFilesOf (codes ".scr")) no_file folder d files g (sym e ∙ e') each each' in
     (λ i. Translate (one i) (other i)) ∙ sym same
 
-pub same_compile : (command : Command) (folder : Option Word) (files rest : List Word) → IsBehind (Compile folder files) rest → IsCommand command (compile ∷ rest)
+pub same_compile : (command : Command) (folder : Option Word) (files rest : List Word) → IsBehind (Compile folder files) rest
+    → IsCommand command (compile ∷ rest)
     → Compile folder files ≡ command
 same_compile command folder files rest (e, name, each) is =
     let (d, g, same, (e', name', each')) = is_compile command rest is in
     let (one, other) = same_folder AreSourceNames no_source folder d files g (sym e ∙ e') each each' in
     (λ i. Compile (one i) (other i)) ∙ sym same
 
-pub same_conform : (command : Command) (files rest : List Word) → IsBehind (Conform files) rest → IsCommand command (conform ∷ rest) → Conform files ≡ command
+pub same_conform : (command : Command) (files rest : List Word) → IsBehind (Conform files) rest → IsCommand command (conform ∷ rest)
+    → Conform files ≡ command
 same_conform command files rest (e, two) is = let (g, same, (e', two')) = is_conform command rest is in ap Conform (sym e ∙ e') ∙ sym same
 
-pub same_check : (command : Command) (files rest : List Word) → IsBehind (Check files) rest → IsCommand command (check ∷ rest) → Check files ≡ command
+pub same_check : (command : Command) (files rest : List Word) → IsBehind (Check files) rest → IsCommand command (check ∷ rest)
+    → Check files ≡ command
 same_check command files rest (e, each) is = let (g, same, (e', each')) = is_check command rest is in ap Check (sym e ∙ e') ∙ sym same
 
 -- ---- the end of a file's name
@@ -563,7 +591,8 @@ source_of_kind kind word h = (h.0, (kind, h.1))
 
 -- it ends in none but these
 pub other_kinds : (r : Bool) (word : Word) → (IsFileOf (codes ".scr") word → ⊥) → (IsFileOf (codes ".protocol") word → ⊥)
-    → (r ≡ true → IsFileOf (codes ".java") word) × (IsFileOf (codes ".java") word → r ≡ true) → (r ≡ true → IsSourceName word) × (IsSourceName word → r ≡ true)
+    → (r ≡ true → IsFileOf (codes ".java") word) × (IsFileOf (codes ".java") word → r ≡ true)
+    → (r ≡ true → IsSourceName word) × (IsSourceName word → r ≡ true)
 other_kinds r word no_protocol no_states java = (λ t. source_of_kind Java word (java.0 t), by_kind) where
   by_kind : IsSourceName word → r ≡ true
   by_kind (name, (Scribble, ends)) = absurd (no_protocol (name, ends))
@@ -574,7 +603,8 @@ pub refuted : {P : Type 0} → (P → false ≡ true) → P → ⊥
 refuted f p = let e : false ≡ true = f p in cc
 
 -- a word's bytes don't begin with "-", and whether they end with the suffix tells whether it is the name of such a file
-pub file_is : (r : Bool) (word suffix bytes : List ℕ) → bytes ≡ word → 1 ≤ length bytes → (get_or bytes 0 0 ≡ 45 → ⊥) → r ≡ ends_with eqb bytes suffix → (r ≡ true → IsFileOf suffix word) × (IsFileOf suffix word → r ≡ true)
+pub file_is : (r : Bool) (word suffix bytes : List ℕ) → bytes ≡ word → 1 ≤ length bytes → (get_or bytes 0 0 ≡ 45 → ⊥)
+    → r ≡ ends_with eqb bytes suffix → (r ≡ true → IsFileOf suffix word) × (IsFileOf suffix word → r ≡ true)
 file_is r word suffix [] e above isnt is = absurd (omega arith)
 file_is r word suffix (b ∷ bs) e above isnt is = (
   λ t. subst (IsFileOf suffix) e (isnt, ends_is (b ∷ bs) suffix (sym is ∙ t)),
@@ -596,18 +626,21 @@ pass_all p [] h = refl
 pass_all p (c ∷ cs) (first, rest) = rw first (pass_all p cs rest)
 
 -- whether all bytes pass tells whether they all pass
-pub passes_is : (r : Bool) (p : ℕ → Bool) (bytes : List ℕ) → r ≡ list_all p bytes → (r ≡ true → AllPasses p bytes) × (AllPasses p bytes → r ≡ true)
+pub passes_is : (r : Bool) (p : ℕ → Bool) (bytes : List ℕ) → r ≡ list_all p bytes
+    → (r ≡ true → AllPasses p bytes) × (AllPasses p bytes → r ≡ true)
 passes_is r p bytes e = (λ t. all_pass p bytes (sym e ∙ t), λ h. e ∙ pass_all p bytes h)
 
 -- ---- words in the code
 
 -- words, cut at one of them
-pub at_index : (words : List Word) (i : ℕ) (word : Word) → i < length words → word ≡ get_or words i word → words ≡ take i words ++ word ∷ drop (suc i) words
+pub at_index : (words : List Word) (i : ℕ) (word : Word) → i < length words → word ≡ get_or words i word
+    → words ≡ take i words ++ word ∷ drop (suc i) words
 at_index words i word within is =
     sym (take-append-drop i words) ∙ ap (λ (z : List Word). take i words ++ z) (drop-cons words i word within ∙ ap (λ (z : Word). z ∷ drop (suc i) words) (sym is))
 
 -- an option of a folder, seen through a reference
-pub named_folder : (folder : Option (Bor Word)) → IfSome folder (λ f. IsFileName f.now) → IfSome (option_map (λ f. f.now) folder) IsFileName
+pub named_folder : (folder : Option (Bor Word)) → IfSome folder (λ f. IsFileName f.now)
+    → IfSome (option_map (λ f. f.now) folder) IsFileName
 named_folder None h = tt
 named_folder (Some f) h = h
 

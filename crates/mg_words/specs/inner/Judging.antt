@@ -7,11 +7,11 @@ use Rattle.mg_words.specs.declared.words.Command.{Command as Found}
 use Rattle.mg_words.specs.declared.words.Command.TheVariants as found
 use Rattle.mg_words.specs.declared.words.Judged.{Judged}
 use Rattle.mg_words.specs.declared.words.Judged.TheVariants as judged
-use Rattle.mg_words.specs.declared.words.Options.{Options}
-use Rattle.mg_words.specs.declared.words.Named.{Named}
-use Rattle.mg_words.specs.declared.words.Named.TheVariants as named
-use Rattle.mg_words.specs.declared.words.Step.{Step}
-use Rattle.mg_words.specs.declared.words.Step.TheVariants as step
+use Rattle.mg_words.specs.declared.runs.Options.{Options}
+use Rattle.mg_words.specs.declared.runs.Named.{Named}
+use Rattle.mg_words.specs.declared.runs.Named.TheVariants as named
+use Rattle.mg_words.specs.declared.runs.Step.{Step}
+use Rattle.mg_words.specs.declared.runs.Step.TheVariants as step
 
 -- what a run is asked for
 abbrev pub asked_of : Kept → Asked
