@@ -10,7 +10,7 @@ use Rattle.mg_top.specs.declared.status.Status.TheVariants as statuses
 use Rattle.mg_top.specs.declared.delivery.Action.{Action}
 use Rattle.mg_top.specs.declared.delivery.Action.TheVariants.{Say}
 use Rattle.mg_top.specs.declared.delivery.Delivery.{Delivery}
-use Rattle.mg_top.specs.Words.{Word, Command, Check, Run, files_of, IsCommand, IsFileOf}
+use Rattle.mg_words.specs.Words.{Word, Command, Check, Run, files_of, IsCommand, IsFileOf}
 use Rattle.mg_top.specs.Lines.{run_line, read_line, memory_line}
 use Rattle.mg_top.specs.Commands.{Yields, prints, checked, not_run}
 use Rattle.mg_read.specs.First.{Judged, with_earlier}

@@ -21,7 +21,7 @@ use Rattle.mg_top.specs.declared.status.Status.TheVariants as statuses
 use Rattle.mg_top.specs.declared.delivery.Action.{Action}
 use Rattle.mg_top.specs.declared.delivery.Action.TheVariants.{Print, Say}
 use Rattle.mg_top.specs.declared.delivery.Delivery.{Delivery}
-use Rattle.mg_top.specs.Words.{Word, Conform}
+use Rattle.mg_words.specs.Words.{Word, Conform}
 use Rattle.mg_sources.specs.Faults.{fault_line}
 use Rattle.mg_top.specs.Lines.{ended, not_offered_line}
 use Rattle.mg_sources.specs.Files.{source_of}

@@ -16,7 +16,7 @@ use Rattle.mg_top.specs.declared.status.Status.{Status}
 use Rattle.mg_top.specs.declared.status.Status.TheVariants as statuses
 use Rattle.mg_top.specs.declared.delivery.Action.{Action}
 use Rattle.mg_top.specs.declared.delivery.Action.TheVariants.{Write, Print, Say}
-use Rattle.mg_top.specs.Words.{Word}
+use Rattle.mg_words.specs.Words.{Word}
 use Rattle.mg_top.specs.Files.{Output}
 use Rattle.mg_top.specs.Lines.{write_line}
 use Rattle.mg_top.specs.Outside.{Outside, Stream}

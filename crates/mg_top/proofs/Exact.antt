@@ -22,7 +22,7 @@ use Rattle.scr_tree.specs.Traces.{Trace}
 use Rattle.mg_calls.specs.Calls.{CallAt}
 use Rattle.mg_calls.proofs.Laws.{one_list, no_bad}
 use Rattle.std.proofs.lemmas.List.{map-append}
-use Rattle.mg_top.specs.Words.{Word, Command, Translate, Conform, Check, Compile, Run}
+use Rattle.mg_words.specs.Words.{Word, Command, Translate, Conform, Check, Compile, Run}
 use Rattle.mg_top.specs.Lines.{run_line, not_offered_line}
 use Rattle.mg_sources.specs.Files.{Source, source_of, sources}
 use Rattle.mg_top.specs.Conformance.{calls_of, Conforms, complete, unfinished, not_offered, Lists, IsNoList, bad_line}

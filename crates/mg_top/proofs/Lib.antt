@@ -1,4 +1,3 @@
-pub mod WordsLemmas
 pub mod DeliveryLaws
 pub mod SourceLemmas
 pub mod ReadingLemmas

@@ -6,7 +6,7 @@ use Rattle.mg_top.specs.declared.status.Status.{Status}
 use Rattle.mg_top.specs.declared.status.Status.TheVariants as statuses
 use Rattle.mg_top.specs.declared.delivery.Action.{Action}
 use Rattle.mg_top.specs.declared.delivery.Action.TheVariants.{Write, Print, Say}
-use Rattle.mg_top.specs.Words.{Word, Command, files_of, IsCommand, AreWrong}
+use Rattle.mg_words.specs.Words.{Word, Command, files_of, IsCommand, AreWrong}
 use Rattle.mg_top.specs.Files.{Output}
 use Rattle.mg_top.specs.Lines.{words_line, read_line, not_offered_line, memory_line}
 use Rattle.mg_top.specs.Outside.{Outside, IsRead}
@@ -14,7 +14,7 @@ use Rattle.mg_top.specs.Delivery.{AreDone, Delivers}
 use Rattle.mg_top.specs.Commands.{Yields}
 use Rattle.mg_top.specs.Ending.{AreRead, after_read, MayRead, IsUnread, IsDue, wrong, unread, yielded, starved, mute, Ends}
 use Rattle.mg_top.specs.Promises.{IsUnlessStopped, IsYielded, Carries, MayWrite, IsSmooth, held, Promises}
-use Rattle.mg_top.proofs.WordsLemmas.{wrong_is_none, same_command}
+use Rattle.mg_words.proofs.WordsLemmas.{wrong_is_none, same_command}
 use Rattle.mg_top.proofs.Exact.{one_status, proper, SaysRefusal, refusal_says}
 use Rattle.mg_top.proofs.DeliveryLaws as laws
 

@@ -7,7 +7,7 @@ use Rattle.mg_io.specs.Outside.{Files}
 use Rattle.mg_text.specs.Row.{Row}
 use Rattle.mg_top.specs.declared.reading.Unread.{Unread}
 use Rattle.mg_top.specs.declared.reading.Unread.TheVariants as unread
-use Rattle.mg_top.specs.Words.{Word}
+use Rattle.mg_words.specs.Words.{Word}
 use Rattle.mg_top.specs.Outside.{Stream, Outside, outside, IsRead}
 use Rattle.mg_top.specs.Ending.{AreRead}
 use Rattle.mg_top.specs.inner.Preparing.{AreContents}

@@ -6,7 +6,7 @@ use Rattle.mg_read.specs.First.{Judged, clean, later}
 use Rattle.scr_tree.specs.Tree.{LocalTree}
 use Rattle.mg_top.specs.declared.delivery.Action.{Action}
 use Rattle.mg_top.specs.declared.delivery.Action.TheVariants as acts
-use Rattle.mg_top.specs.Words.{Word, IsFileOf}
+use Rattle.mg_words.specs.Words.{Word, IsFileOf}
 use Rattle.mg_sources.specs.Files.{Source, Scribble, source_of, sources_from, HaveKinds}
 use Rattle.mg_sources.specs.Reading.{Part, Protocol, States, Classes}
 use Rattle.mg_sources.specs.Sources.{IsRefused}

@@ -1,5 +1,5 @@
 -- What each command gives: what it does about the contents that were read of its files, in their order, and the status that it then has.
-use Rattle.std.specs.Prelude.{◌≡◌, ℕ, List, [], ◌∷◌, ◌++◌, Option}
+use Rattle.std.specs.Prelude.{◌≡◌, ℕ, List, [], ◌∷◌, ◌++◌, Option, Some, None, if◌then◌else◌}
 use Rattle.scr_tree.specs.Tree.{LocalTree}
 use Rattle.mg_calls.specs.Calls.{CallAt}
 use Rattle.jv_core.specs.Tree as Core
@@ -9,15 +9,20 @@ use Rattle.mg_accepted.specs.Accepted as accepted
 use Rattle.mg_compile.specs.declared.files.ClassFile.{ClassFile}
 use Rattle.mg_compile.specs.Compiled.{AreCompiled}
 use Rattle.mg_compile.specs.Compiled as compiling
-use Rattle.mg_run.specs.declared.RunFault.{RunFault}
-use Rattle.mg_run.specs.Running.{Shows, Refused as RunRefused}
+use Rattle.vm_model.specs.Runs.{printed}
+use Rattle.mg_runs.specs.declared.ran.Stand.{Stand}
+use Rattle.mg_runs.specs.declared.ran.Stand.TheVariants as stands
+use Rattle.mg_runs.specs.Lines.{ran_line}
+use Rattle.mg_runs.specs.Trace.{trace}
+use Rattle.mg_runs.specs.Commanded.{Course, IsRun}
+use Rattle.mg_runs.specs.Commanded as running
 use Rattle.mg_top.specs.declared.status.Status.{Status}
 use Rattle.mg_top.specs.declared.status.Status.TheVariants.{Done, Refused}
+use Rattle.mg_top.specs.declared.status.Status.TheVariants as statuses
 use Rattle.mg_top.specs.declared.delivery.Action.{Action}
 use Rattle.mg_top.specs.declared.delivery.Action.TheVariants.{Print, Say}
-use Rattle.mg_top.specs.Words.{Word, Command, Translate, Conform, Check, Compile, Run}
-use Rattle.mg_top.specs.Lines.{run_line, ran_line}
-use Rattle.mg_sources.specs.Files.{Source, sources}
+use Rattle.mg_words.specs.Words.{Word, Asked, limit_of, Command, Translate, Conform, Check, Compile, Run}
+use Rattle.mg_sources.specs.Files.{Source, source_of, sources}
 use Rattle.mg_sources.specs.Reading.{Protocol, Reads}
 use Rattle.mg_sources.specs.Sources.{IsRefused, Refusal}
 use Rattle.mg_top.specs.Writing.{classes_written}
@@ -50,22 +55,40 @@ pub data CompileGives (folder : Option Word) (files : List Source) : List Action
   compiled : (written : List ClassFile) → AreCompiled files written → CompileGives folder files (classes_written folder written) Done
   not_compiled : {line : List ℕ} → compiling.Refusal files line → CompileGives folder files (Say line ∷ []) Refused
 
--- the class of a file
-pub data RunGives (class : Word) (file : Source) : List Action → Status → Type 0 where
-  ran : {printed : List ℕ} {n : ℕ} → Shows class file.bytes printed n → RunGives class file (prints printed ++ Say (ran_line n) ∷ []) Done
-  not_run : {fault : RunFault} → RunRefused class file.bytes fault → RunGives class file (Say (run_line class file.name fault) ∷ []) Refused
+-- the class files are written where a folder is named
+abbrev pub kept_in : Option Word → List ClassFile → List Action
+kept_in None written = []
+kept_in (Some folder) written = classes_written (Some folder) written
 
-abbrev pub ConformYields : List Source → List Action → Status → Type 0
-ConformYields (protocol ∷ calls ∷ []) actions status = ConformGives protocol calls actions status
-ConformYields _ actions status = ⊥
+-- the trace, where it is asked for, and the line of the run
+abbrev pub run_said : Asked → Course → List ℕ
+run_said asked r = (if asked.traced then trace r.core r.events else []) ++ ran_line r.count r.stand
 
-abbrev pub RunYields : Word → List Source → List Action → Status → Type 0
-RunYields class (file ∷ []) actions status = RunGives class file actions status
-RunYields class _ actions status = ⊥
+-- the status of a run
+abbrev pub status_of : Stand → Status
+status_of stands.Done = statuses.Done
+status_of stands.Zero = statuses.Zero
+status_of stands.Null = statuses.Broken
+status_of (stands.Mismatch peer found) = statuses.Mismatch
+status_of (stands.NoPeer peer) = statuses.Mismatch
+status_of (stands.Waits peer) = statuses.Waits
+status_of stands.Bound = statuses.Bound
 
-abbrev pub Yields : Command → List (List ℕ) → List Action → Status → Type 0
-Yields (Translate folder files) contents actions status = TranslateGives folder (sources files contents) actions status
-Yields (Conform files) contents actions status = ConformYields (sources files contents) actions status
-Yields (Check files) contents actions status = CheckGives (sources files contents) actions status
-Yields (Compile folder files) contents actions status = CompileGives folder (sources files contents) actions status
-Yields (Run class files) contents actions status = RunYields class (sources files contents) actions status
+pub data RunGives (asked : Asked) (files : List Source) : List Action → Status → Type 0 where
+  ran : (r : Course) → IsRun files asked.class (limit_of asked) r →
+      RunGives asked files (kept_in asked.folder r.written ++ (prints (printed r.events) ++ Say (run_said asked r) ∷ [])) (status_of r.stand)
+  not_run : {line : List ℕ} → running.Refusal files asked.class line → RunGives asked files (Say line ∷ []) Refused
+
+-- A command gives this: one case a command.
+pub data Yields : Command → List (List ℕ) → List Action → Status → Type 0 where
+  translate : {folder : Option Word} {files : List Word} {contents : List (List ℕ)} {actions : List Action} {status : Status} →
+      TranslateGives folder (sources files contents) actions status → Yields (Translate folder files) contents actions status
+  conform : {protocol calls : Word} {bytes listed : List ℕ} {actions : List Action} {status : Status} →
+      ConformGives (source_of 0 protocol bytes) (source_of 1 calls listed) actions status →
+      Yields (Conform (protocol ∷ calls ∷ [])) (bytes ∷ listed ∷ []) actions status
+  check : {files : List Word} {contents : List (List ℕ)} {actions : List Action} {status : Status} →
+      CheckGives (sources files contents) actions status → Yields (Check files) contents actions status
+  compile : {folder : Option Word} {files : List Word} {contents : List (List ℕ)} {actions : List Action} {status : Status} →
+      CompileGives folder (sources files contents) actions status → Yields (Compile folder files) contents actions status
+  run : {asked : Asked} {files : List Word} {contents : List (List ℕ)} {actions : List Action} {status : Status} →
+      RunGives asked (sources files contents) actions status → Yields (Run asked files) contents actions status

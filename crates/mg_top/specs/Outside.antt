@@ -2,7 +2,7 @@
 use Rattle.std.specs.Prelude.{◌≡◌, ℕ, List, take, Option, Some, IfSome}
 use Rattle.std.specs.FinMap as map
 use Rattle.mg_io.specs.Outside.{Files}
-use Rattle.mg_top.specs.Words.{Word}
+use Rattle.mg_words.specs.Words.{Word}
 
 -- a sink: its bytes, where it tells them, and how many calls failed
 pub record Stream : Type 0 where

@@ -11,7 +11,7 @@ use Rattle.stm_gen.specs.Agreement.{Agrees}
 use Rattle.stm_api.specs.Api.{ApiText, IsApi}
 use Rattle.mg_top.specs.declared.delivery.Action.{Action}
 use Rattle.mg_top.specs.declared.delivery.Action.TheVariants.{Write}
-use Rattle.mg_top.specs.Words.{Word}
+use Rattle.mg_words.specs.Words.{Word}
 use Rattle.mg_sources.specs.Files.{Source}
 use Rattle.mg_sources.specs.Reading.{Protocol, Reads}
 use Rattle.mg_sources.specs.Sources.{SharesRole}

@@ -4,7 +4,7 @@ ghost use Rattle.std.specs.Prelude.{◌≡◌, ◌<◌, ◌^◌, length, IfOk};
 ghost use Rattle.jv_core.specs.Core.{tree_of};
 ghost use Rattle.use_check.specs.Verdict.{AreAnswer};
 ghost use Rattle.mg_sources.specs.Files.{HaveKinds};
-ghost use Rattle.mg_top.specs.Words.{Check};
+ghost use Rattle.mg_words.specs.Words.{Check};
 ghost use Rattle.mg_top.specs.Commands.{Yields, prints};
 ghost use Rattle.mg_top.specs.inner.Preparing.{IsReported};
 

@@ -2,7 +2,7 @@
 
 ghost use Rattle.std.specs.Prelude.{◌≡◌, ◌<◌, ◌^◌, ◌++◌, length, IfOk, OnOk, option_map};
 ghost use Rattle.mg_sources.specs.Files.{HaveKinds};
-ghost use Rattle.mg_top.specs.Words.{Compile};
+ghost use Rattle.mg_words.specs.Words.{Compile};
 ghost use Rattle.mg_top.specs.Writing.{classes_written};
 ghost use Rattle.mg_top.specs.Commands.{Yields};
 

@@ -5,7 +5,7 @@ ghost use Rattle.scr_tree.specs.Local.{tree_of};
 ghost use Rattle.mg_calls.specs.Answer.{call_of as call_at};
 ghost use Rattle.scr_trace.specs.Walking.{call_said};
 ghost use Rattle.mg_sources.specs.Files.{EndsWith};
-ghost use Rattle.mg_top.specs.Words.{Conform};
+ghost use Rattle.mg_words.specs.Words.{Conform};
 ghost use Rattle.mg_top.specs.Commands.{Yields};
 ghost use Rattle.mg_top.specs.inner.Preparing.{IsAnswered, IsListRefusal};
 

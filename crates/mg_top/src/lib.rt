@@ -12,7 +12,6 @@ mod run;
 mod status;
 mod top;
 mod translate;
-mod words;
 
 pub use status::Status;
 pub use top::mungo;

@@ -26,7 +26,7 @@ pub enum Status {
     Waits,
     /// The bound on instructions was reached.
     Bound,
-    /// A class file is broken.
+    /// A null stood where an object must.
     Broken,
 }
 

@@ -1,11 +1,11 @@
 //! The top call: the words are judged, the files read, all output is made, and then delivered.
 
 ghost use Rattle.std.specs.Prelude.{◌≡◌, ◌<◌, ◌^◌, length, IfOk};
-ghost use Rattle.mg_top.specs.Words.{files_of};
+ghost use Rattle.mg_words.specs.Words.{files_of};
 ghost use Rattle.mg_top.specs.Outside.{Stream, outside, stream};
 ghost use Rattle.mg_top.specs.Commands.{Yields};
 ghost use Rattle.mg_top.specs.Promises.{Promises};
-ghost use Rattle.mg_top.specs.inner.Judging.{command_of, IsKnown};
+ghost use Rattle.mg_words.specs.inner.Judging.{command_of, IsKnown};
 ghost use Rattle.mg_top.specs.inner.Preparing.{IsPrepared};
 
 use crate::check::check;
@@ -15,10 +15,10 @@ use crate::delivery::{Delivery, deliver, starve};
 use crate::reading::{Unread, read_all};
 use crate::run::run;
 use crate::translate::translate;
-use crate::words::{Command, Judged, judge};
 use crate::{Status, lines};
 use mg_io::{Folder, Sink};
 use mg_text::{Bytes, Memory, Text};
+use mg_words::{Command, Judged, judge};
 use std::alloc::Global;
 
 /// Runs the command that the words are, with the folder's files. What it says goes to `out`, and
@@ -30,7 +30,9 @@ use std::alloc::Global;
 /// `check F..` tells what the least tables of the files' program have, where some tables solve it.
 /// `compile [--out D] F..` writes the class files of the files' program, into the folder D where one
 /// is named.
-/// `run --main C F` compiles the class C of F and runs its `main`; what it prints goes to `out`.
+/// `run [--steps N] [--trace] [--out D] --main C F..` compiles the files' program and runs the `main`
+/// of its class C from the bytes of its class files, at most N instructions (1,000,000 where none is
+/// named); what it prints goes to `out`, its trace where it is asked for and its line to `err`.
 pub fn mungo<F: Folder, O: Sink, E: Sink>(
     alloc: Global,
     words: &[Text],
@@ -93,6 +95,6 @@ fn carry_out(alloc: Global, command: &Command<'_>, contents: &[Bytes]) -> Result
         ),
         Command::Check { files } => check(alloc, files, contents),
         Command::Compile { folder, files } => compile(alloc, folder, files, contents),
-        Command::Run { class, files } => run(alloc, class, &files[0], contents[0].as_slice()),
+        Command::Run { asked, files } => run(alloc, &asked, files, contents),
     }
 }

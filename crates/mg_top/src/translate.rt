@@ -5,7 +5,7 @@ ghost use Rattle.std.specs.Prelude.{◌≡◌, ◌<◌, ◌^◌, ◌++◌, All, 
 ghost use Rattle.scr_tree.specs.Local.{tree_of};
 ghost use Rattle.mg_sources.specs.Files.{sources};
 ghost use Rattle.mg_sources.specs.Parts.{part_of};
-ghost use Rattle.mg_top.specs.Words.{IsFileOf, Translate};
+ghost use Rattle.mg_words.specs.Words.{IsFileOf, Translate};
 ghost use Rattle.mg_top.specs.Writing.{in_folder};
 ghost use Rattle.mg_top.specs.Translation.{IsTypestateFile, api_written};
 ghost use Rattle.mg_top.specs.Commands.{Yields};

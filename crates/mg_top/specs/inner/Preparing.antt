@@ -13,16 +13,13 @@ use Rattle.mg_top.specs.Commands.{prints}
 use Rattle.mg_top.specs.Conformance.{Conforms}
 use Rattle.jv_core.specs.Tree as Core
 use Rattle.use_check.specs.Report.{IsReport}
-use Rattle.mg_run.specs.declared.RunFault.{RunFault}
-use Rattle.mg_run.specs.declared.RunFault.TheVariants as run_faults
 use Rattle.mg_top.specs.declared.status.Status.{Status}
 use Rattle.mg_top.specs.declared.status.Status.TheVariants as statuses
 use Rattle.mg_top.specs.declared.reading.Unread.{Unread}
 use Rattle.mg_top.specs.declared.reading.Unread.TheVariants as unread
-use Rattle.mg_top.specs.Words.{Word}
+use Rattle.mg_words.specs.Words.{Word}
 use Rattle.mg_top.specs.declared.delivery.Action.TheVariants as acts
 use Rattle.mg_sources.specs.Faults.{Fault, fault_line}
-use Rattle.mg_top.specs.Lines.{run_line}
 use Rattle.mg_sources.specs.Files.{Source}
 use Rattle.mg_sources.specs.Reading.{Part, Protocol, States, Classes}
 use Rattle.mg_sources.specs.Sources.{Refusal}
@@ -62,12 +59,6 @@ abbrev pub AreWritten : Option Word → List Source → Result (Row Action) Stop
 AreWritten folder sources (Ok writes) = AreTranslated folder sources writes.items
 AreWritten folder sources (Err (stops.Refused line)) = Refusal sources line
 AreWritten folder sources (Err stops.Memory) = Unit {0}
-
--- a line says why a class isn't run
-pub record IsRunRefusal (class file : Word) (fault : RunFault) (actions : List Action) (status : Status) : Type 0 where
-  pub proper : fault ≢ run_faults.Memory
-  pub says : actions ≡ acts.Say (run_line class file fault) ∷ []
-  pub refuses : status ≡ statuses.Refused
 
 -- a line says why a file of calls is refused
 abbrev pub list_fault : CallsFault → Fault

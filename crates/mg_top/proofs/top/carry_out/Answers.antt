@@ -1,8 +1,8 @@
 use Rattle.std.proofs.Common.{option_map, subst}
-use Rattle.mg_top.specs.declared.words.Command.{Command}
-use Rattle.mg_top.specs.Words.{IsCommand}
-use Rattle.mg_top.specs.inner.Judging.{command_of}
-use Rattle.mg_top.proofs.WordsLemmas.{kinds_of, kinds_of_classes, protocols_of, protocol_of_two}
+use Rattle.mg_words.specs.declared.words.Command.{Command}
+use Rattle.mg_words.specs.Words.{IsCommand}
+use Rattle.mg_words.specs.inner.Judging.{command_of}
+use Rattle.mg_words.proofs.WordsLemmas.{kinds_of, kinds_of_classes, protocols_of, protocol_of_two}
 use Rattle.mg_top.proofs.top.carry_out.Goals as goal
 
 pub translate-requires-clause-scribble : goal.translate-requires-clause-scribble

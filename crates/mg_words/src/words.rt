@@ -1,0 +1,233 @@
+//! The words of the command line.
+//! They are judged from left to right, so that the first that can't follow is known.
+
+ghost use Rattle.std.specs.Prelude.{◌≡◌, ◌∷◌, ◌++◌, List, codes, IfSome, None, option_map};
+ghost use Rattle.mg_words.specs.Words.{Word, IsFileName, out_words, files_of};
+ghost use Rattle.mg_words.specs.inner.Judging.{IsJudged, command_of};
+
+use crate::names::{is_file, is_file_name, is_word, other_file, other_source};
+use crate::runs::judge_run;
+use mg_text::Text;
+
+/// What a run is asked for.
+#[derive(Clone, Copy)]
+pub struct Asked<'a> {
+    /// The class whose `main` is run.
+    pub class: &'a Text,
+    /// The most instructions that it takes, where the number is named: from 1 to 20,000,000.
+    pub steps: Option<u32>,
+    /// Whether its trace is told.
+    pub traced: bool,
+    /// Where class files are written.
+    pub folder: Option<&'a Text>,
+}
+
+/// A command, with the words that it is about.
+#[derive(Clone, Copy)]
+pub enum Command<'a> {
+    /// `translate`, a folder where `--out` names one, and the files.
+    Translate {
+        folder: Option<&'a Text>,
+        files: &'a [Text],
+    },
+    /// `conform`, the file of a protocol and that of the calls.
+    Conform {
+        files: &'a [Text],
+    },
+    /// `check`, and the files.
+    Check {
+        files: &'a [Text],
+    },
+    /// `compile`, a folder where `--out` names one, and the files.
+    Compile {
+        folder: Option<&'a Text>,
+        files: &'a [Text],
+    },
+    /// `run`, what is asked for, and the files.
+    Run {
+        asked: Asked<'a>,
+        files: &'a [Text],
+    },
+}
+
+impl<'a> Command<'a> {
+    /// The files that it reads.
+    pub fn files(&self) -> &'a [Text]
+        ensures { result.now ≡ files_of (command_of self.now) }
+    {
+        match *self {
+            Command::Translate { files, .. } => files,
+            Command::Conform { files } => files,
+            Command::Check { files } => files,
+            Command::Compile { files, .. } => files,
+            Command::Run { files, .. } => files,
+        }
+    }
+}
+
+/// What the words are.
+pub enum Judged<'a> {
+    /// This command.
+    Known(Command<'a>),
+    /// No command: because of this word, or because words are lacking at the end.
+    Wrong(Option<&'a Text>),
+}
+
+/// Tells which command the words are, or the first word that can't follow those before it.
+pub fn judge(words: &[Text]) -> Judged<'_>
+    ensures { IsJudged words.now result }
+{
+    match words.split_first() {
+        None => Judged::Wrong(None),
+        Some((command, rest)) => {
+            if is_word(command, "translate") {
+                judge_translate(rest)
+            } else if is_word(command, "conform") {
+                judge_conform(rest)
+            } else if is_word(command, "check") {
+                judge_check(rest)
+            } else if is_word(command, "compile") {
+                judge_compile(rest)
+            } else if is_word(command, "run") {
+                judge_run(rest)
+            } else {
+                Judged::Wrong(Some(command))
+            }
+        }
+    }
+}
+
+// The same of the words behind `translate`.
+fn judge_translate(words: &[Text]) -> Judged<'_>
+    ensures { IsJudged (codes "translate" ∷ words.now) result }
+{
+    match words.split_first() {
+        None => Judged::Wrong(None),
+        Some((option, rest)) => {
+            if is_word(option, "--out") {
+                judge_folder(rest)
+            } else {
+                judge_files(None, words)
+            }
+        }
+    }
+}
+
+// The same of the words behind `translate --out`.
+fn judge_folder(words: &[Text]) -> Judged<'_>
+    ensures { IsJudged (codes "translate" ∷ codes "--out" ∷ words.now) result }
+{
+    match words.split_first() {
+        None => Judged::Wrong(None),
+        Some((folder, rest)) => {
+            if is_file_name(folder) {
+                judge_files(Some(folder), rest)
+            } else {
+                Judged::Wrong(Some(folder))
+            }
+        }
+    }
+}
+
+// The same of the words behind the options of `translate`, which are its files.
+fn judge_files<'a>(folder: Option<&'a Text>, files: &'a [Text]) -> Judged<'a>
+    requires name { IfSome folder (λ f. IsFileName f.now) }
+    requires option { folder ≡ None → (rest : List Word) → files.now ≡ codes "--out" ∷ rest → ⊥ }
+    ensures { IsJudged (codes "translate"
+        ∷ (out_words (option_map (λ f. f.now) folder.entry) ++ files.now)) result }
+{
+    if let Some(word) = other_file(files, b".scr") {
+        return Judged::Wrong(Some(word));
+    }
+    if files.is_empty() {
+        return Judged::Wrong(None);
+    }
+    Judged::Known(Command::Translate { folder, files })
+}
+
+// The same of the words behind `conform`.
+fn judge_conform(words: &[Text]) -> Judged<'_>
+    ensures { IsJudged (codes "conform" ∷ words.now) result }
+{
+    match words.split_first() {
+        None => Judged::Wrong(None),
+        Some((protocol, rest)) => {
+            if !is_file(protocol, b".scr") {
+                return Judged::Wrong(Some(protocol));
+            }
+            match rest.split_first() {
+                None => Judged::Wrong(None),
+                Some((calls, surplus)) => {
+                    if !is_file_name(calls) {
+                        return Judged::Wrong(Some(calls));
+                    }
+                    match surplus.split_first() {
+                        None => Judged::Known(Command::Conform { files: words }),
+                        Some((word, _)) => Judged::Wrong(Some(word)),
+                    }
+                }
+            }
+        }
+    }
+}
+
+// The same of the words behind `check`, which are its files.
+fn judge_check(files: &[Text]) -> Judged<'_>
+    ensures { IsJudged (codes "check" ∷ files.now) result }
+{
+    if let Some(word) = other_source(files) {
+        return Judged::Wrong(Some(word));
+    }
+    if files.is_empty() {
+        return Judged::Wrong(None);
+    }
+    Judged::Known(Command::Check { files })
+}
+
+// The same of the words behind `compile`.
+fn judge_compile(words: &[Text]) -> Judged<'_>
+    ensures { IsJudged (codes "compile" ∷ words.now) result }
+{
+    match words.split_first() {
+        None => Judged::Wrong(None),
+        Some((option, rest)) => {
+            if is_word(option, "--out") {
+                judge_class_folder(rest)
+            } else {
+                judge_sources(None, words)
+            }
+        }
+    }
+}
+
+// The same of the words behind `compile --out`.
+fn judge_class_folder(words: &[Text]) -> Judged<'_>
+    ensures { IsJudged (codes "compile" ∷ codes "--out" ∷ words.now) result }
+{
+    match words.split_first() {
+        None => Judged::Wrong(None),
+        Some((folder, rest)) => {
+            if is_file_name(folder) {
+                judge_sources(Some(folder), rest)
+            } else {
+                Judged::Wrong(Some(folder))
+            }
+        }
+    }
+}
+
+// The same of the words behind the options of `compile`, which are its files.
+fn judge_sources<'a>(folder: Option<&'a Text>, files: &'a [Text]) -> Judged<'a>
+    requires name { IfSome folder (λ f. IsFileName f.now) }
+    requires option { folder ≡ None → (rest : List Word) → files.now ≡ codes "--out" ∷ rest → ⊥ }
+    ensures { IsJudged (codes "compile"
+        ∷ (out_words (option_map (λ f. f.now) folder.entry) ++ files.now)) result }
+{
+    if let Some(word) = other_source(files) {
+        return Judged::Wrong(Some(word));
+    }
+    if files.is_empty() {
+        return Judged::Wrong(None);
+    }
+    Judged::Known(Command::Compile { folder, files })
+}
