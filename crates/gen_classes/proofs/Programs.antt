@@ -16,15 +16,19 @@ use Rattle.gen_rules.specs.Symbolic.{Instr}
 use Rattle.gen_rules.specs.Members.{method_descriptor}
 use Rattle.gen_rules.specs.Frames.{max_stack, max_locals}
 use Rattle.gen_rules.specs.Templates.{IsCode}
-use Rattle.gen_rules.specs.Classes.{Compiled, access_of, class_file, class_files, AreClasses}
-use Rattle.gen_rules.specs.Limits.{Excess, parts_in, first_in_parts, first_in_classes, or_else, IsFirstExcess}
+use Rattle.gen_rules.specs.Classes.{Compiled, compiled, access_of, code_in_file, class_file, class_files, AreClasses, Emits}
+use Rattle.gen_rules.specs.Limits.{Excess, parts_in, first_in_parts, first_in_classes, or_else, IsFirstExcess, exceeded_by_code}
+use Rattle.gen_rules.specs.inner.Generating.{generated}
 use Rattle.gen_rules.specs.inner.Files.{generated_method, generated_class, generated_classes, classes_of, excess_of}
-use Rattle.gen_rules.proofs.Generates.{only_generated}
+use Rattle.gen_rules.proofs.Generates.{generated_is, only_generated}
 use Rattle.gen_rules.proofs.Files.{files_are, excess_is, only_excess}
 use Rattle.gen_members.specs.declared.faults.GenFault.{GenFault}
+use Rattle.cls_tree.specs.declared.class.Const.{Const}
+use Rattle.gen_pool.specs.Made.{IsMade}
+use Rattle.gen_members.specs.Parts.{excess_at}
 use Rattle.gen_members.specs.Told.{Tells}
 use Rattle.gen_members.proofs.Filing.{told_on}
-use Rattle.gen_classes.specs.First.{TellsFirst}
+use Rattle.gen_classes.specs.First.{TellsFirst, IsExcessOfCode, TellsCode}
 
 -- what is found at a number among images
 pub ruleset found_here = (slice_get-map, get_or_from_slice_get, get_or_past)
@@ -136,3 +140,30 @@ module _ (p : Program) (ks : List CoreClass) (are : map class_of ks ≡ p.classe
   files_fine done past l =
       let e = subst (λ cs. AreLeft p n cs done) (none_left past) l in
       subst (IsFirstExcess p) e.judged (excess_is p)
+
+-- The code of a method alone.
+module _ (p : Program) (m : Method) (pool : List Const) where
+  pub emitted_by : (made : Compiled) (c : file.Code) (left : List Const) → made ≡ generated_method p m → IsMade c left (code_in_file made pool) →
+      Emits p m pool c left
+  emitted_by made c left e is = record {
+    code = generated p m;
+    is_code = generated_is p m;
+    made_is = is.value ∙ ap (λ x. (code_in_file x pool).0) e;
+    left_is = is.left ∙ ap (λ x. (code_in_file x pool).1) e;
+  }
+
+  pub fine_by : (made : Compiled) → made ≡ generated_method p m → exceeded_by_code made pool ≡ None → IsExcessOfCode p m pool None
+  fine_by made e none = record {
+    code = generated p m;
+    is_code = generated_is p m;
+    is = ap (excess_at m.place (text_at p m.name)) (sym none ∙ ap (λ x. exceeded_by_code x pool) e);
+  }
+
+  pub told_by : (made : Compiled) (fault : GenFault) → made ≡ generated_method p m →
+      Tells (excess_at made.place made.told_as (exceeded_by_code made pool)) fault → TellsCode p m pool fault
+  told_by made fault e tells excess is =
+      subst (λ x. Tells x fault)
+      (ap (λ x. excess_at x.place x.told_as (exceeded_by_code x pool)) e
+      ∙ ap (λ code. excess_at m.place (text_at p m.name) (exceeded_by_code (compiled p m code) pool)) (sym (only_generated p m is.code is.is_code))
+      ∙ sym is.is)
+      tells

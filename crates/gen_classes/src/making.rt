@@ -33,7 +33,7 @@ fn access_of(kind: MethodKind) -> u16
 }
 
 /// A method with its code.
-fn method_making<'a>(
+pub(crate) fn method_making<'a>(
     alloc: Global,
     core: &'a Core,
     method: &'a CoreMethod,

@@ -3,7 +3,7 @@
 ghost use Rattle.std.specs.Prelude.{◌≡◌, IfOk, OnOk};
 ghost use Rattle.jv_core.specs.Core.{tree_of};
 ghost use Rattle.gen_code.specs.View.{instrs_of};
-ghost use Rattle.gen_pool.specs.Made.{IsMade};
+ghost use Rattle.gen_pool.specs.Made.{IsMade, IsFrontOf};
 ghost use Rattle.gen_layout.specs.Laid.{laid};
 ghost use Rattle.gen_layout.specs.Kept.{laid_of, IsOneMore};
 
@@ -45,13 +45,15 @@ impl Laid {
 /// that are new, and lays the instructions out.
 /// # Errors
 /// Want of memory, and code of 2^64 bytes or more.
+#[tactic(auto, using(gen_pool::proofs::Fronts::fronts))]
 pub fn lay_out(
     alloc: Global,
     core: &Core,
     instrs: &[Symbolic<'_>],
     pool: &mut Pool,
 ) -> Result<Laid, Memory>
-    ensures { IfOk result (λ l. IsMade (laid_of l) pool.new (laid 0 (instrs_of (tree_of core.now) instrs.now) pool.old)) }
+    ensures made { IfOk result (λ l. IsMade (laid_of l) pool.new (laid 0 (instrs_of (tree_of core.now) instrs.now) pool.old)) }
+    ensures kept { IsFrontOf pool.old pool.new }
 {
     let mut laid = Laid {
         numbers: Vec::new(alloc),

@@ -6,8 +6,8 @@ use Rattle.cls_tree.specs.Layout.{code_bytes}
 use Rattle.cls_tree.specs.Emitted.{utf8}
 use Rattle.jv_core.specs.Tree.{Class, Program}
 use Rattle.gen_rules.specs.Assembled.{assembled}
-use Rattle.gen_rules.specs.Classes.{Compiled, method_in_file}
-use Rattle.gen_rules.specs.Limits.{OfMethod, exceeded, exceeded_by}
+use Rattle.gen_rules.specs.Classes.{Compiled, code_in_file, method_in_file}
+use Rattle.gen_rules.specs.Limits.{OfMethod, exceeded, exceeded_by, exceeded_by_code}
 use Rattle.gen_pool.specs.Made.{IsMade}
 use Rattle.gen_layout.specs.Laid.{Laid, laid, finals}
 use Rattle.gen_layout.proofs.Assembling.{pool_is, code_is, size_is, as_many}
@@ -61,3 +61,36 @@ module _ (c : Compiled) (pool p1 p2 p3 p4 : List Const) (n d k : ℕ) (l : Laid)
   -- each instruction has a number and a place
   pub many : (length l.numbers ≡ length c.code) × (length l.starts ≡ length c.code)
   many = subst (λ x. (length x.numbers ≡ length c.code) × (length x.starts ≡ length c.code)) (sym laid_here) (as_many 0 c.code before)
+
+abbrev pub code_with : Compiled → (name : ℕ) → List file.Instr → file.Code
+code_with c k is = record { name = k; max_stack = c.max_stack; max_locals = c.max_locals; instrs = is; attributes = [] }
+
+-- the steps of a code alone: the text `Code`, and the code
+module _ (c : Compiled) (pool p1 p2 : List Const) (k : ℕ) (l : Laid) (code : IsMade k p1 (utf8 (codes "Code") pool))
+    (lay : IsMade l p2 (laid 0 c.code p1)) where
+  abbrev named : List Const
+  named = (utf8 (codes "Code") pool).1
+
+  laid_alone : l ≡ (laid 0 c.code named).0
+  laid_alone = lay.value ∙ ap (λ q. (laid 0 c.code q).0) code.left
+
+  pool_alone : p2 ≡ (code_in_file c pool).1
+  pool_alone = lay.left ∙ ap (λ q. (laid 0 c.code q).1) code.left ∙ pool_is c.code named
+
+  pub code_made : IsMade (code_with c k (finals_of c l)) p2 (code_in_file c pool)
+  code_made = record {
+    value =
+        ap (λ x. code_with c x (finals_of c l)) code.value
+        ∙ ap (code_with c (utf8 (codes "Code") pool).0) (ap (finals_of c) laid_alone ∙ code_is c.code named);
+    left = pool_alone;
+  }
+
+  -- what is judged
+  pub judged_alone : (old : ℕ) → old ≡ length pool → exceeded l.end c.max_locals p2 (drop old p2) ≡ exceeded_by_code c pool
+  judged_alone old o =
+      ap (λ x. exceeded x c.max_locals p2 (drop old p2)) (ap (λ x. x.end) laid_alone ∙ size_is c.code named)
+      ∙ ap₂ (λ q m. exceeded (length (code_bytes (assembled c.code named).0)) c.max_locals q (drop m q)) pool_alone o
+
+  -- each instruction has a number and a place
+  pub many_alone : (length l.numbers ≡ length c.code) × (length l.starts ≡ length c.code)
+  many_alone = subst (λ x. (length x.numbers ≡ length c.code) × (length x.starts ≡ length c.code)) (sym laid_alone) (as_many 0 c.code named)

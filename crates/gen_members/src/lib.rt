@@ -10,4 +10,4 @@ mod members;
 pub use classes::class_file;
 pub use faults::GenFault;
 pub use heads::{fields, header};
-pub use members::{Making, method};
+pub use members::{Making, code, method};

@@ -6,12 +6,12 @@ ghost use Rattle.cls_tree.specs.Tree as file;
 ghost use Rattle.jv_core.specs.Core.{tree_of};
 ghost use Rattle.jv_core.specs.Tree.{Program, Class as CoreClass};
 ghost use Rattle.gen_code.specs.View.{instrs_of};
-ghost use Rattle.gen_rules.specs.Classes.{method_in_file};
-ghost use Rattle.gen_rules.specs.Limits.{OfMethod, exceeded_by};
-ghost use Rattle.gen_pool.specs.Made.{IsMade};
+ghost use Rattle.gen_rules.specs.Classes.{code_in_file, method_in_file};
+ghost use Rattle.gen_rules.specs.Limits.{OfMethod, exceeded_by, exceeded_by_code};
+ghost use Rattle.gen_pool.specs.Made.{IsMade, IsFrontOf};
 ghost use Rattle.gen_layout.specs.Laid.{finals};
 ghost use Rattle.gen_members.specs.Told.{Tells};
-ghost use Rattle.gen_members.specs.Parts.{compiled_of, part_excess};
+ghost use Rattle.gen_members.specs.Parts.{compiled_of, part_excess, excess_at};
 
 use crate::faults::{GenFault, Telling, judge};
 use cls_tree::{Attr, Code, Member};
@@ -92,6 +92,34 @@ fn with_code(
         descriptor: short(descriptor)?,
         attributes: list_of_one(alloc, Attr::Code(code))?,
     })
+}
+
+/// The code of a method alone, as it stands in a class file. What it needs in the pool is made before
+/// its sizes are judged. Also after a fault the pool holds its old entries first.
+#[tactic(auto, using(gen_pool::proofs::Fronts::fronts))]
+pub fn code(
+    alloc: Global,
+    core: &Core,
+    making: &Making<'_>,
+    pool: &mut Pool,
+) -> Result<Code, GenFault>
+    ensures made { IfOk result (λ c. IsMade (code_of c) pool.new (code_in_file (compiled_of (tree_of core.now) making.now) pool.old)) }
+    ensures fine { OnOk result (exceeded_by_code (compiled_of (tree_of core.now) making.now) pool.old ≡ None) }
+    ensures fault { IfErr result (λ e. Tells (excess_at making.now.place making.now.told_as.now
+        (exceeded_by_code (compiled_of (tree_of core.now) making.now) pool.old)) e) }
+    ensures kept { IsFrontOf pool.old pool.new }
+{
+    let instrs = making.instrs.as_slice();
+    let old = pool.len();
+    let name = pool.utf8("Code")?;
+    let laid = lay_out(alloc, core, instrs, pool)?;
+    let telling = Telling {
+        place: making.place,
+        name: making.told_as,
+    };
+    judge(alloc, telling, laid.end, making.max_locals, pool, old)?;
+    let code = code_in_file(alloc, making, name, &laid)?;
+    Ok(code)
 }
 
 /// A method of a class file. What it needs in the pool is made before its sizes are judged.

@@ -1,5 +1,5 @@
 -- What a step made, and the pool that it left.
-use Rattle.std.specs.Prelude.{◌≡◌, List, length, position, None}
+use Rattle.std.specs.Prelude.{◌≡◌, ◌++◌, List, length, position, None}
 use Rattle.cls_tree.specs.declared.class.Const.{Const}
 use Rattle.cls_tree.specs.Emitted.{same_const}
 
@@ -12,3 +12,8 @@ pub record IsMade {A : Type 0} (a : A) (pool : List Const) (made : A × List Con
 pub record IsFull (entry : Const) (pool : List Const) : Type 0 where
   pub is_new : position (same_const entry) pool ≡ None
   pub has_most : length pool ≡ 65534
+
+-- the larger pool holds the entries of the other one first
+pub record IsFrontOf (pool larger : List Const) : Type 0 where
+  pub more : List Const
+  pub is : larger ≡ pool ++ more

@@ -5,7 +5,7 @@ ghost use Rattle.std.specs.Prelude.{◌≡◌, [], ◌≤◌, ◌⊎◌, IfOk, O
 ghost use Rattle.std.specs.Bool.{Decides};
 ghost use Rattle.cls_tree.specs.Emitted.{number_of, utf8};
 ghost use Rattle.gen_pool.specs.Keys.{const_of};
-ghost use Rattle.gen_pool.specs.Made.{IsMade, IsFull};
+ghost use Rattle.gen_pool.specs.Made.{IsMade, IsFull, IsFrontOf};
 
 use crate::key::{Key, const_of, key_of};
 use cls_tree::Const;
@@ -80,9 +80,11 @@ impl Pool {
     }
 
     /// The number of a constant, which is appended if it is new. There is no limit.
+    #[tactic(auto, using(crate::proofs::Fronts::fronts))]
     pub fn number_of(&mut self, key: Key) -> Result<usize, Memory>
         ensures made { IfOk result (λ n. IsMade n self.new (number_of (const_of key) self.old)) }
         ensures unchanged { OnErr result (self.new ≡ self.old) }
+        ensures kept { IsFrontOf self.old self.new }
     {
         let (index, _) = self.keys.insert_full(key)?;
         let len = self.keys.len();
@@ -119,8 +121,10 @@ impl Pool {
     }
 
     /// The number of a text, which is appended if it is new.
+    #[tactic(auto, using(crate::proofs::Fronts::fronts))]
     pub fn utf8(&mut self, text: &str) -> Result<usize, Memory>
-        ensures { IfOk result (λ n. IsMade n self.new (utf8 text.now self.old)) }
+        ensures made { IfOk result (λ n. IsMade n self.new (utf8 text.now self.old)) }
+        ensures kept { IsFrontOf self.old self.new }
     {
         let text = String::from_str(*self.keys.allocator(), text)?;
         self.number_of(Key::Utf8(text))

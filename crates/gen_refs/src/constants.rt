@@ -5,7 +5,7 @@ ghost use Rattle.jv_core.specs.Core.{tree_of};
 ghost use Rattle.jv_core.specs.View.{field_of};
 ghost use Rattle.gen_rules.specs.Members.{field_reference, method_reference};
 ghost use Rattle.gen_code.specs.View.{operand_of, built_in_of};
-ghost use Rattle.gen_pool.specs.Made.{IsMade};
+ghost use Rattle.gen_pool.specs.Made.{IsMade, IsFrontOf};
 ghost use Rattle.gen_refs.specs.Constants.{constant_of, field_of_reference, method_of_reference};
 
 use crate::descriptors::{field_descriptor, method_descriptor};
@@ -28,6 +28,7 @@ fn field_at(core: &Core, class: u32, field: u32) -> Option<&CoreField>
 }
 
 /// The number of a field of the program.
+#[tactic(auto, using(gen_pool::proofs::Fronts::fronts))]
 fn field_constant(
     alloc: Global,
     core: &Core,
@@ -35,7 +36,8 @@ fn field_constant(
     field: u32,
     pool: &mut Pool,
 ) -> Result<usize, Memory>
-    ensures { IfOk result (λ n. IsMade n pool.new (field_of_reference (field_reference (tree_of core.now) class field) pool.old)) }
+    ensures made { IfOk result (λ n. IsMade n pool.new (field_of_reference (field_reference (tree_of core.now) class field) pool.old)) }
+    ensures kept { IsFrontOf pool.old pool.new }
 {
     let class_name = class_name(core, class);
     let Some(field) = field_at(core, class, field) else {
@@ -51,14 +53,15 @@ fn field_constant(
 }
 
 /// The number of a method of the program.
-#[tactic(auto, using(crate::proofs::Found::found))]
+#[tactic(auto, using(crate::proofs::Found::found, gen_pool::proofs::Fronts::fronts))]
 fn method_constant(
     alloc: Global,
     core: &Core,
     number: u32,
     pool: &mut Pool,
 ) -> Result<usize, Memory>
-    ensures { IfOk result (λ n. IsMade n pool.new (method_of_reference (method_reference (tree_of core.now) number) pool.old)) }
+    ensures made { IfOk result (λ n. IsMade n pool.new (method_of_reference (method_reference (tree_of core.now) number) pool.old)) }
+    ensures kept { IsFrontOf pool.old pool.new }
 {
     let Some(method) = core.methods().get(number as usize) else {
         return method_const(pool, "", "", "");
@@ -75,7 +78,8 @@ fn method_constant(
 
 /// The number of a member of a built-in class.
 fn built_in_constant(core: &Core, member: BuiltIn, pool: &mut Pool) -> Result<usize, Memory>
-    ensures { IfOk result (λ n. IsMade n pool.new (constant_of (built_in_of (tree_of core.now) member) pool.old)) }
+    ensures made { IfOk result (λ n. IsMade n pool.new (constant_of (built_in_of (tree_of core.now) member) pool.old)) }
+    ensures kept { IsFrontOf pool.old pool.new }
 {
     match member {
         BuiltIn::Init => method_const(pool, "java/lang/Object", "<init>", "()V"),
@@ -121,13 +125,15 @@ fn built_in_constant(core: &Core, member: BuiltIn, pool: &mut Pool) -> Result<us
 
 /// The number of the constant of an instruction, which is appended to the pool where it is new; 0
 /// where the instruction has none.
+#[tactic(auto, using(gen_pool::proofs::Fronts::fronts))]
 pub fn constant(
     alloc: Global,
     core: &Core,
     operand: &Operand<'_>,
     pool: &mut Pool,
 ) -> Result<usize, Memory>
-    ensures { IfOk result (λ n. IsMade n pool.new (constant_of (operand_of (tree_of core.now) operand.now) pool.old)) }
+    ensures made { IfOk result (λ n. IsMade n pool.new (constant_of (operand_of (tree_of core.now) operand.now) pool.old)) }
+    ensures kept { IsFrontOf pool.old pool.new }
 {
     match operand {
         Operand::Int(number) => int_const(pool, *number),

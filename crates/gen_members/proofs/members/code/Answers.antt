@@ -1,0 +1,53 @@
+use Rattle.std.proofs.Common.{ap, ◌∙◌, sym, subst}
+use Rattle.std.proofs.lemmas.List.{length-map}
+use Rattle.std.proofs.lemmas.Result.{err_from_is_err_and}
+use Rattle.jv_core.specs.Core.{tree_of}
+use Rattle.gen_code.specs.View.{instr_of, instrs_of}
+use Rattle.gen_pool.specs.Made.{IsMade}
+use Rattle.gen_layout.specs.Kept.{laid_of}
+use Rattle.gen_layout.specs.Laid.{laid}
+use Rattle.gen_members.specs.Told.{Tells}
+use Rattle.gen_members.specs.Parts.{compiled_of, excess_at}
+use Rattle.gen_members.proofs.Stages.{code_made, judged_alone, many_alone}
+use Rattle.gen_members.proofs.members.code.Goals as goal
+
+pub code_in_file-requires-clause-numbers : goal.code_in_file-requires-clause-numbers
+code_in_file-requires-clause-numbers c =
+    let p = tree_of c.args.core.now in
+    let lay = subst (λ is. IsMade (laid_of c.in_ok-laid.laid) c.lay_out.new.pool (laid 0 (instrs_of p is) c.utf8-2.new.self)) c.as_slice-instrs.ensures.items
+    c.in_ok-laid.ensures.made in
+    (many_alone (compiled_of p c.args.making.now) c.args.pool.now _ _ _ _ c.in_ok-name.ensures.made lay).0
+    ∙ length-map c.args.making.now.instrs.items (instr_of p)
+
+pub code_in_file-requires-clause-starts : goal.code_in_file-requires-clause-starts
+code_in_file-requires-clause-starts c =
+    let p = tree_of c.args.core.now in
+    let lay = subst (λ is. IsMade (laid_of c.in_ok-laid.laid) c.lay_out.new.pool (laid 0 (instrs_of p is) c.utf8-2.new.self)) c.as_slice-instrs.ensures.items
+    c.in_ok-laid.ensures.made in
+    (many_alone (compiled_of p c.args.making.now) c.args.pool.now _ _ _ _ c.in_ok-name.ensures.made lay).1
+    ∙ length-map c.args.making.now.instrs.items (instr_of p)
+
+pub returns-clause-made : goal.returns-clause-made
+returns-clause-made c =
+    let p = tree_of c.args.core.now in
+    let lay = subst (λ is. IsMade (laid_of c.in_ok-laid.laid) c.lay_out.new.pool (laid 0 (instrs_of p is) c.utf8-2.new.self)) c.as_slice-instrs.ensures.items
+    c.in_ok-laid.ensures.made in
+    rw (c.in_ok-code.ensures p) (code_made (compiled_of p c.args.making.now) c.args.pool.now _ _ _ _ c.in_ok-name.ensures.made lay)
+
+pub returns-clause-fine : goal.returns-clause-fine
+returns-clause-fine c =
+    let p = tree_of c.args.core.now in
+    let lay = subst (λ is. IsMade (laid_of c.in_ok-laid.laid) c.lay_out.new.pool (laid 0 (instrs_of p is) c.utf8-2.new.self)) c.as_slice-instrs.ensures.items
+    c.in_ok-laid.ensures.made in
+    sym (judged_alone (compiled_of p c.args.making.now) c.args.pool.now _ _ _ _ c.in_ok-name.ensures.made lay c.len-old.result c.len-old.ensures)
+    ∙ c.in_ok-judge.ensures.fine
+
+pub returns-in_err-judge-clause-fault : goal.returns-in_err-judge-clause-fault
+returns-in_err-judge-clause-fault c =
+    let p = tree_of c.args.core.now in
+    let m = compiled_of p c.args.making.now in
+    let lay = subst (λ is. IsMade (laid_of c.in_ok-laid.laid) c.lay_out.new.pool (laid 0 (instrs_of p is) c.utf8-2.new.self)) c.as_slice-instrs.ensures.items
+    c.in_ok-laid.ensures.made in
+    let e = err_from_is_err_and c.from_residual-in_err-judge.result c.from_residual-in_err-judge.ensures.1 in
+    rw (e.1, e.2) (subst (λ x. Tells (excess_at m.place m.told_as x) c.in_err-judge.field-0.0)
+    (judged_alone m c.args.pool.now _ _ _ _ c.in_ok-name.ensures.made lay c.len-old.result c.len-old.ensures) c.in_err-judge.ensures.fault)
