@@ -71,7 +71,6 @@ status_of stands.Zero = statuses.Zero
 status_of stands.Null = statuses.Broken
 status_of (stands.Mismatch peer found) = statuses.Mismatch
 status_of (stands.NoPeer peer) = statuses.Mismatch
-status_of (stands.Waits peer) = statuses.Waits
 status_of stands.Bound = statuses.Bound
 
 pub data RunGives (asked : Asked) (files : List Source) : List Action → Status → Type 0 where
