@@ -1,5 +1,5 @@
 -- What the functions of the commands answer.
-use Rattle.std.proofs.Common.{◌≡◌, ◌≢◌, ℕ, List, [], ◌∷◌, ◌++◌, All, codes, inl, inr, Option, None, refl, sym, ap, ◌∙◌, subst}
+use Rattle.std.proofs.Common.{◌≡◌, ℕ, List, [], ◌∷◌, ◌++◌, All, codes, inl, inr, Option, None, refl, sym, ap, ◌∙◌, subst, append_assoc}
 use Rattle.std.specs.Prelude.{IfOk, Result, Ok, Err}
 use Rattle.mg_text.specs.declared.memory.Memory.{Memory}
 use Rattle.mg_top.specs.declared.status.Status.{Status}
@@ -56,8 +56,15 @@ report_given files contents core (Ok d) a k =
     (subst (λ (z : Status). Yields (Check files) contents (prints k.text) z) (sym k.done) (commands.check (checked core a k.report)))
 report_given files contents core (Err e) a k = tt
 
+-- a text, words and the end of a line are put behind what stands there
+pub line_put : (result last third second first given before text words : List ℕ) → result ≡ last → last ≡ third ++ 10 ∷ [] → third ≡ second ++ words → second ≡ first ++ text → first ≡ given → given ≡ before
+    → result ≡ before ++ ((text ++ words) ++ 10 ∷ [])
+line_put result last third second first given before text words e d c b a g =
+    e ∙ d ∙ ap (λ (z : List ℕ). z ++ 10 ∷ []) (c ∙ ap (λ (z : List ℕ). z ++ words) (b ∙ ap (λ (z : List ℕ). z ++ text) (a ∙ g)) ∙ append_assoc before text words)
+    ∙ append_assoc before (text ++ words) (10 ∷ [])
+
 -- what is done about a run, by what it shows
-abbrev shown_so : Asked → List ClassFile → (text trace : List ℕ) → (count : ℕ) → Stand → List Action
+abbrev pub shown_so : Asked → List ClassFile → (text trace : List ℕ) → (count : ℕ) → Stand → List Action
 shown_so asked written text trace count stand = kept_in asked.folder written ++ (prints text ++ Say (trace ++ ran_line count stand) ∷ [])
 
 shown_same : (asked : Asked) (r : Course) (shown : Ran) → Shows r asked.traced shown

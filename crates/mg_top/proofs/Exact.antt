@@ -1,5 +1,5 @@
 -- Each command gives one thing of the same contents, and no status of the delivery's own.
-use Rattle.std.proofs.Common.{◌≡◌, ℕ, ◌⊎◌, inl, inr, List, [], ◌∷◌, refl, sym, ap, ◌∙◌, subst, arith}
+use Rattle.std.proofs.Common.{◌≡◌, ℕ, ◌⊎◌, inl, inr, Option, List, [], ◌∷◌, refl, sym, ap, ◌∙◌, subst, arith}
 use Rattle.mg_read.proofs.Judging.{no_both}
 use Rattle.mg_text.specs.Call.{Call}
 use Rattle.scr_tree.specs.Tree.{LocalTree}
