@@ -1,131 +1,133 @@
--- Which words are a command, and which can't follow.
-use Rattle.std.proofs.Common.{◌≡◌, ◌≢◌, ℕ, ◌<◌, ◌≤◌, ◌⊎◌, inl, inr, List, [], ◌∷◌, ◌++◌, All, length, get_or, take, drop, take-append-drop, drop-cons, zero, suc, Option, Some, None, Bool, true, false, ◌&&◌, eqb, codes, refl, sym, ap, ◌∙◌, subst, arith, append_assoc, Bor}
+-- Which words are a command, and which can't follow: of each command but `run`.
+use Rattle.std.proofs.Common.{◌≡◌, ℕ, ◌<◌, ◌≤◌, ◌⊎◌, inl, inr, List, [], ◌∷◌, ◌++◌, All, length, get_or, take, drop, take-append-drop, drop-cons, ◌-◌, zero, suc, Option, Some, None, Bool, true, false, ◌&&◌, eqb, codes, refl, sym, ap, ◌∙◌, subst, arith, append_assoc, length-append, Bor}
 use Rattle.std.specs.Prelude.{IfSome, option_map}
+use Rattle.std.proofs.lemmas.Slice.Eq.{bytes_eq-Decides}
+use Rattle.std.proofs.lemmas.List.{drop_at}
 use Rattle.std.specs.List.{ends_with, list_all}
 use Rattle.mg_read.specs.Passes.{AllPasses}
 use Rattle.scr_tree.specs.Words.{reserved}
 use Rattle.mg_sources.specs.Files.{EndsWith, Kind, Scribble, Typestates, Java, suffix_of, HaveKinds}
-use Rattle.mg_words.specs.Words.{Word, Command, Translate, Conform, Check, Compile, Run, AreProtocolAndCalls, IsFileName, IsFileOf, IsSourceName, AreSourceNames, AreFilesOf, IsClassName, out_words, IsCommand, AreCommand, CanBegin, AreOutside, AreWrong}
-use Rattle.mg_sources.proofs.Endings.{ends_is, is_ends}
+use Rattle.mg_words.specs.Words.{Word, Command, Translate, Conform, Check, Compile, Run, Asked, AreProtocolAndCalls, IsFileName, IsFileOf, IsSourceName, AreSourceNames, AreFilesOf, IsClassName, out_words, verb, IsBehind, IsCommand, AreCommand, CanBegin, AreWrong}
 use Rattle.mg_words.specs.inner.Judging.{IsFirstOther}
 
-abbrev translate : Word
+abbrev pub translate : Word
 translate = codes "translate"
 
-abbrev out : Word
+abbrev pub out : Word
 out = codes "--out"
 
-abbrev conform : Word
+abbrev pub conform : Word
 conform = codes "conform"
 
-abbrev check : Word
+abbrev pub check : Word
 check = codes "check"
 
-abbrev compile : Word
+abbrev pub compile : Word
 compile = codes "compile"
 
-abbrev run : Word
+abbrev pub run : Word
 run = codes "run"
 
-abbrev main : Word
-main = codes "--main"
-
-abbrev some_source : Word
+abbrev pub some_source : Word
 some_source = codes "P.scr"
 
-abbrev some_java : Word
-some_java = codes "P.java"
-
-abbrev some_class : Word
+abbrev pub some_class : Word
 some_class = codes "C"
 
 -- ---- lists of words
 
-head_is : {x y : Word} {xs ys : List Word} → ◌≡◌ {A = List Word} (x ∷ xs) (y ∷ ys) → x ≡ y
+pub head_is : {x y : Word} {xs ys : List Word} → ◌≡◌ {A = List Word} (x ∷ xs) (y ∷ ys) → x ≡ y
 head_is e = cc
 
-tail_is : {x y : Word} {xs ys : List Word} → ◌≡◌ {A = List Word} (x ∷ xs) (y ∷ ys) → xs ≡ ys
+pub tail_is : {x y : Word} {xs ys : List Word} → ◌≡◌ {A = List Word} (x ∷ xs) (y ∷ ys) → xs ≡ ys
 tail_is e = cc
 
-filled : {P : Type 0} {x : Word} {xs : List Word} → ◌≡◌ {A = List Word} [] (x ∷ xs) → P
+pub filled : {P : Type 0} {x : Word} {xs : List Word} → ◌≡◌ {A = List Word} [] (x ∷ xs) → P
 filled e = absurd cc
 
 pub empty_is : (xs : List Word) → length xs ≡ 0 → xs ≡ []
 empty_is [] e = refl
 empty_is (x ∷ xs) e = absurd (omega (arith, e))
 
-apart : {P : Type 0} → translate ≡ run → P
-apart e = absurd cc
+pub nothing_behind : (xs : List Word) → xs ++ [] ≡ xs
+nothing_behind [] = refl
+nothing_behind (x ∷ xs) = ap (λ (z : List Word). x ∷ z) (nothing_behind xs)
 
-apart_first : {P : Type 0} → translate ≡ conform → P
-apart_first e = absurd cc
+translate_conform : {P : Type 0} → translate ≡ conform → P
+translate_conform e = absurd (omega (arith, ap length e))
 
-apart_last : {P : Type 0} → conform ≡ run → P
-apart_last e = absurd cc
+translate_check : {P : Type 0} → translate ≡ check → P
+translate_check e = absurd (omega (arith, ap length e))
 
-no_check : {P : Type 0} → translate ≡ check → P
-no_check e = absurd cc
+translate_compile : {P : Type 0} → translate ≡ compile → P
+translate_compile e = absurd (omega (arith, ap length e))
 
-no_check_calls : {P : Type 0} → conform ≡ check → P
-no_check_calls e = absurd cc
+translate_run : {P : Type 0} → translate ≡ run → P
+translate_run e = absurd (omega (arith, ap length e))
 
-no_check_run : {P : Type 0} → check ≡ run → P
-no_check_run e = absurd cc
+conform_check : {P : Type 0} → conform ≡ check → P
+conform_check e = absurd (omega (arith, ap length e))
 
-no_compile : {P : Type 0} → translate ≡ compile → P
-no_compile e = absurd cc
+conform_compile : {P : Type 0} → conform ≡ compile → P
+conform_compile e = absurd (omega (arith, ap (λ (w : Word). get_or w 2 0) e))
 
-no_compile_calls : {P : Type 0} → conform ≡ compile → P
-no_compile_calls e = absurd cc
+conform_run : {P : Type 0} → conform ≡ run → P
+conform_run e = absurd (omega (arith, ap length e))
 
-no_compile_check : {P : Type 0} → check ≡ compile → P
-no_compile_check e = absurd cc
+check_compile : {P : Type 0} → check ≡ compile → P
+check_compile e = absurd (omega (arith, ap length e))
 
-no_compile_run : {P : Type 0} → compile ≡ run → P
-no_compile_run e = absurd cc
+check_run : {P : Type 0} → check ≡ run → P
+check_run e = absurd (omega (arith, ap length e))
+
+compile_run : {P : Type 0} → compile ≡ run → P
+compile_run e = absurd (omega (arith, ap length e))
 
 -- all of one word, and of some words and one more
-All-one : (P : Word → Type 0) (x : Word) → P x → All P (x ∷ [])
+pub All-one : {A : Type 0} (P : A → Type 0) (x : A) → P x → All P (x ∷ [])
 All-one P x h zero d lt = h
 All-one P x h (suc k) d lt = absurd (omega arith)
 
-All-first : (P : Word → Type 0) (x : Word) (xs : List Word) → All P (x ∷ xs) → P x
+pub All-first : {A : Type 0} (P : A → Type 0) (x : A) (xs : List A) → All P (x ∷ xs) → P x
 All-first P x xs h = h zero x (omega arith)
 
-All-rest : (P : Word → Type 0) (x : Word) (xs : List Word) → All P (x ∷ xs) → All P xs
+pub All-rest : {A : Type 0} (P : A → Type 0) (x : A) (xs : List A) → All P (x ∷ xs) → All P xs
 All-rest P x xs h k d lt = h (suc k) d (omega arith)
 
-All-cons : (P : Word → Type 0) (x : Word) (xs : List Word) → P x → All P xs → All P (x ∷ xs)
+pub All-cons : {A : Type 0} (P : A → Type 0) (x : A) (xs : List A) → P x → All P xs → All P (x ∷ xs)
 All-cons P x xs h hs zero d lt = h
 All-cons P x xs h hs (suc k) d lt = hs k d (omega arith)
 
-pub All-push : (P : Word → Type 0) (xs : List Word) (x : Word) → All P xs → P x → All P (xs ++ x ∷ [])
+pub All-push : {A : Type 0} (P : A → Type 0) (xs : List A) (x : A) → All P xs → P x → All P (xs ++ x ∷ [])
 All-push P [] x hs h = All-one P x h
 All-push P (y ∷ ys) x hs h = All-cons P y (ys ++ x ∷ []) (All-first P y ys hs) (All-push P ys x (All-rest P y ys hs) h)
 
-All-mid : (P : Word → Type 0) (xs : List Word) (x : Word) (more : List Word) → All P (xs ++ x ∷ more) → P x
+pub All-mid : {A : Type 0} (P : A → Type 0) (xs : List A) (x : A) (more : List A) → All P (xs ++ x ∷ more) → P x
 All-mid P [] x more h = All-first P x more h
 All-mid P (y ∷ ys) x more h = All-mid P ys x more (All-rest P y (ys ++ x ∷ more) h)
 
+pub none_yet : {A : Type 0} (P : A → Type 0) → All P []
+none_yet P k d lt = absurd (omega arith)
+
 -- ---- what can begin a command
 
-named : IsFileOf (codes ".scr") some_source
+pub named : IsFileOf (codes ".scr") some_source
 named = (λ e. cc, (codes "P", refl))
 
-named_java : IsFileOf (codes ".java") some_java
-named_java = (λ e. cc, (codes "P", refl))
+pub source_named : IsSourceName some_source
+source_named = (named.0, (Scribble, named.1))
 
 free : reserved some_class ≡ None
 unfolding reserved
 free = refl
 
-classed : IsClassName some_class
+pub classed : IsClassName some_class
 classed = (refl, (refl, tt), omega arith, free)
 
-is_name : IsFileName some_class
+pub is_name : IsFileName some_class
 is_name = λ e. cc
 
-pushed_filled : (xs : List Word) (x : Word) → xs ++ x ∷ [] ≡ [] → ⊥
+pub pushed_filled : (xs : List Word) (x : Word) → xs ++ x ∷ [] ≡ [] → ⊥
 pushed_filled [] x e = cc
 pushed_filled (y ∷ ys) x e = cc
 
@@ -137,17 +139,18 @@ begins_files folder before name each = (
   (
     Translate folder (before ++ some_source ∷ []),
     (
-      ap (λ (z : List Word). translate ∷ z) (append_assoc (out_words folder) before (some_source ∷ [])),
-      name,
-      (pushed_filled before some_source, All-push (IsFileOf (codes ".scr")) before some_source each named),
+      (out_words folder ++ before) ++ some_source ∷ [],
+      refl,
+      (
+        append_assoc (out_words folder) before (some_source ∷ []),
+        name,
+        (pushed_filled before some_source, All-push (IsFileOf (codes ".scr")) before some_source each named),
+      ),
     ),
   ),
 )
 
-none_yet : (P : Word → Type 0) → All P []
-none_yet P k d lt = absurd (omega arith)
-
-begins_empty : CanBegin AreCommand []
+pub begins_empty : CanBegin AreCommand []
 begins_empty = let b = begins_files None [] tt (none_yet _) in (translate ∷ b.0, b.1)
 
 begins_translate : CanBegin AreCommand (translate ∷ [])
@@ -156,8 +159,15 @@ begins_translate = begins_files None [] tt (none_yet _)
 begins_out : CanBegin AreCommand (translate ∷ out ∷ [])
 begins_out = let b = begins_files (Some some_class) [] is_name (none_yet _) in (some_class ∷ b.0, b.1)
 
-begins_calls : (protocol calls : Word) → IsFileOf (codes ".scr") protocol → IsFileName calls → CanBegin AreCommand (conform ∷ protocol ∷ calls ∷ [])
-begins_calls protocol calls h h' = ([], (Conform (protocol ∷ calls ∷ []), (refl, record { protocol = protocol; calls = calls; two = refl; scribble = h; named = h' })))
+begins_calls : (protocol calls : Word) → IsFileOf (codes ".scr") protocol → IsFileName calls
+    → CanBegin AreCommand (conform ∷ protocol ∷ calls ∷ [])
+begins_calls protocol calls h h' = (
+  [],
+  (
+    Conform (protocol ∷ calls ∷ []),
+    (protocol ∷ calls ∷ [], refl, (refl, record { protocol = protocol; calls = calls; two = refl; scribble = h; named = h' })),
+  ),
+)
 
 begins_protocol : (protocol : Word) → IsFileOf (codes ".scr") protocol → CanBegin AreCommand (conform ∷ protocol ∷ [])
 begins_protocol protocol h = let b = begins_calls protocol some_class h is_name in (some_class ∷ b.0, b.1)
@@ -165,12 +175,14 @@ begins_protocol protocol h = let b = begins_calls protocol some_class h is_name 
 begins_conform : CanBegin AreCommand (conform ∷ [])
 begins_conform = let b = begins_protocol some_source named in (some_source ∷ b.0, b.1)
 
-source_named : IsSourceName some_source
-source_named = (named.0, (Scribble, named.1))
-
 begins_sources : (before : List Word) → All IsSourceName before → CanBegin AreCommand (check ∷ before)
-begins_sources before each =
-    (some_source ∷ [], (Check (before ++ some_source ∷ []), (refl, pushed_filled before some_source, All-push IsSourceName before some_source each source_named)))
+begins_sources before each = (
+  some_source ∷ [],
+  (
+    Check (before ++ some_source ∷ []),
+    (before ++ some_source ∷ [], refl, (refl, (pushed_filled before some_source, All-push IsSourceName before some_source each source_named))),
+  ),
+)
 
 begins_check : CanBegin AreCommand (check ∷ [])
 begins_check = begins_sources [] (none_yet _)
@@ -183,9 +195,13 @@ begins_classes folder before name each = (
   (
     Compile folder (before ++ some_source ∷ []),
     (
-      ap (λ (z : List Word). compile ∷ z) (append_assoc (out_words folder) before (some_source ∷ [])),
-      name,
-      (pushed_filled before some_source, All-push IsSourceName before some_source each source_named),
+      (out_words folder ++ before) ++ some_source ∷ [],
+      refl,
+      (
+        append_assoc (out_words folder) before (some_source ∷ []),
+        name,
+        (pushed_filled before some_source, All-push IsSourceName before some_source each source_named),
+      ),
     ),
   ),
 )
@@ -196,189 +212,151 @@ begins_compile = begins_classes None [] tt (none_yet _)
 begins_class_out : CanBegin AreCommand (compile ∷ out ∷ [])
 begins_class_out = let b = begins_classes (Some some_class) [] is_name (none_yet _) in (some_class ∷ b.0, b.1)
 
-begins_java : (class file : Word) → IsClassName class → IsFileOf (codes ".java") file → CanBegin AreCommand (run ∷ main ∷ class ∷ file ∷ [])
-begins_java class file h h' = ([], (Run class (file ∷ []), (refl, h, (file, refl, h'))))
-
-begins_class : (class : Word) → IsClassName class → CanBegin AreCommand (run ∷ main ∷ class ∷ [])
-begins_class class h = (some_java ∷ [], (Run class (some_java ∷ []), (refl, h, (some_java, refl, named_java))))
-
-begins_main : CanBegin AreCommand (run ∷ main ∷ [])
-begins_main = let b = begins_class some_class classed in (some_class ∷ b.0, b.1)
-
-begins_run : CanBegin AreCommand (run ∷ [])
-begins_run = let b = begins_main in (main ∷ b.0, b.1)
-
 -- ---- what words of a command are
 
-first_word : (command : Command) (w : Word) (more : List Word) → IsCommand command (w ∷ more) → (w ≡ translate) ⊎ (w ≡ conform) ⊎ (w ≡ check) ⊎ (w ≡ compile) ⊎ (w ≡ run)
-first_word (Translate folder files) w more (e, h, k) = inl (head_is e)
-first_word (Conform files) w more (e, h) = inr (inl (head_is e))
-first_word (Check files) w more (e, h, k) = inr (inr (inl (head_is e)))
-first_word (Compile folder files) w more (e, h, k) = inr (inr (inr (inl (head_is e))))
-first_word (Run class files) w more (e, h, k) = inr (inr (inr (inr (head_is e))))
-
--- the option isn't a file
-no_file : {P : Type 0} (files rest : List Word) → out ∷ rest ≡ files → AreFilesOf (codes ".scr") files → P
-no_file files rest e (_, each) =
-    let first : IsFileOf (codes ".scr") out = All-first (IsFileOf (codes ".scr")) out rest (subst (All (IsFileOf (codes ".scr"))) (sym e) each) in absurd (first.0 refl)
-
--- what stands behind the options are files
-translate_files : (command : Command) (folder : Option Word) (rest : List Word) → (folder ≡ None → (r : List Word) → rest ≡ out ∷ r → ⊥)
-    → IsCommand command (translate ∷ (out_words folder ++ rest)) → AreFilesOf (codes ".scr") rest
-translate_files (Translate None files) None rest plain (e, h, each) = subst (AreFilesOf (codes ".scr")) (sym (tail_is e)) each
-translate_files (Translate (Some d) files) None rest plain (e, h, each) = absurd (plain refl (d ∷ files) (tail_is e))
-translate_files (Translate None files) (Some f) rest plain (e, h, each) = no_file files (f ∷ rest) (tail_is e) each
-translate_files (Translate (Some d) files) (Some f) rest plain (e, h, each) = subst (AreFilesOf (codes ".scr")) (sym (tail_is (tail_is (tail_is e)))) each
-translate_files (Conform files) folder rest plain (e, h) = apart_first (head_is e)
-translate_files (Check files) folder rest plain (e, h, k) = no_check (head_is e)
-translate_files (Compile d files) folder rest plain (e, h, k) = no_compile (head_is e)
-translate_files (Run class files) folder rest plain (e, h, k) = apart (head_is e)
-
--- what stands behind "--out" is a folder
-folder_word : (command : Command) (f : Word) (rest : List Word) → IsCommand command (translate ∷ out ∷ f ∷ rest) → IsFileName f
-folder_word (Translate None files) f rest (e, h, each) = no_file files (f ∷ rest) (tail_is e) each
-folder_word (Translate (Some d) files) f rest (e, h, each) = subst IsFileName (sym (head_is (tail_is (tail_is e)))) h
-folder_word (Conform files) f rest (e, h) = apart_first (head_is e)
-folder_word (Check files) f rest (e, h, k) = no_check (head_is e)
-folder_word (Compile d files) f rest (e, h, k) = no_compile (head_is e)
-folder_word (Run class files) f rest (e, h, k) = apart (head_is e)
-
-out_is_none : (command : Command) → IsCommand command (translate ∷ out ∷ []) → ⊥
-out_is_none (Translate None files) (e, h, each) = no_file files [] (tail_is e) each
-out_is_none (Translate (Some d) files) (e, h, each) = filled (tail_is (tail_is e))
-out_is_none (Conform files) (e, h) = apart_first (head_is e)
-out_is_none (Check files) (e, h, k) = no_check (head_is e)
-out_is_none (Compile d files) (e, h, k) = no_compile (head_is e)
-out_is_none (Run class files) (e, h, k) = apart (head_is e)
-
-main_word : (command : Command) (o : Word) (more : List Word) → IsCommand command (run ∷ o ∷ more) → o ≡ main
-main_word (Translate folder files) o more (e, h, k) = apart (sym (head_is e))
-main_word (Conform files) o more (e, h) = apart_last (sym (head_is e))
-main_word (Check files) o more (e, h, k) = no_check_run (sym (head_is e))
-main_word (Compile d files) o more (e, h, k) = no_compile_run (sym (head_is e))
-main_word (Run class files) o more (e, h, k) = head_is (tail_is e)
-
-class_word : (command : Command) (o c : Word) (more : List Word) → IsCommand command (run ∷ o ∷ c ∷ more) → IsClassName c
-class_word (Translate folder files) o c more (e, h, k) = apart (sym (head_is e))
-class_word (Conform files) o c more (e, h) = apart_last (sym (head_is e))
-class_word (Check files) o c more (e, h, k) = no_check_run (sym (head_is e))
-class_word (Compile d files) o c more (e, h, k) = no_compile_run (sym (head_is e))
-class_word (Run class files) o c more (e, h, f) = subst IsClassName (sym (head_is (tail_is (tail_is e)))) h
-
-java_word : (command : Command) (o c f : Word) (more : List Word) → IsCommand command (run ∷ o ∷ c ∷ f ∷ more) → IsFileOf (codes ".java") f × (more ≡ [])
-java_word (Translate folder files) o c f more (e, h, k) = apart (sym (head_is e))
-java_word (Conform files) o c f more (e, h) = apart_last (sym (head_is e))
-java_word (Check files) o c f more (e, h, k) = no_check_run (sym (head_is e))
-java_word (Compile d files) o c f more (e, h, k) = no_compile_run (sym (head_is e))
-java_word (Run class files) o c f more (e, h, (file, one, java)) =
-    let rest : ◌≡◌ {A = List Word} (f ∷ more) (file ∷ []) = tail_is (tail_is (tail_is e)) ∙ one in
-    (subst (IsFileOf (codes ".java")) (sym (head_is rest)) java, tail_is rest)
+-- its first word is one of the verbs
+first_word : (command : Command)
+    → (verb command ≡ translate) ⊎ (verb command ≡ conform) ⊎ (verb command ≡ check) ⊎ (verb command ≡ compile) ⊎ (verb command ≡ run)
+first_word (Translate folder files) = inl refl
+first_word (Conform files) = inr (inl refl)
+first_word (Check files) = inr (inr (inl refl))
+first_word (Compile folder files) = inr (inr (inr (inl refl)))
+first_word (Run asked files) = inr (inr (inr (inr refl)))
 
 none_is_none : (command : Command) → IsCommand command [] → ⊥
-none_is_none (Translate folder files) (e, h, k) = filled e
-none_is_none (Conform files) (e, h) = filled e
-none_is_none (Check files) (e, h, k) = filled e
-none_is_none (Compile d files) (e, h, k) = filled e
-none_is_none (Run class files) (e, h, k) = filled e
+none_is_none command (rest, e, b) = filled e
 
-run_is_none : (command : Command) → IsCommand command (run ∷ []) → ⊥
-run_is_none (Translate folder files) (e, h, k) = apart (sym (head_is e))
-run_is_none (Conform files) (e, h) = apart_last (sym (head_is e))
-run_is_none (Check files) (e, h, k) = no_check_run (sym (head_is e))
-run_is_none (Compile d files) (e, h, k) = no_compile_run (sym (head_is e))
-run_is_none (Run class files) (e, h, k) = filled (tail_is e)
+-- and tells the command
+pub is_translate : (command : Command) (rest : List Word) → IsCommand command (translate ∷ rest)
+    → (folder : Option Word) × (files : List Word) × (command ≡ Translate folder files) × IsBehind (Translate folder files) rest
+is_translate (Translate folder files) rest (r, e, b) = (folder, files, refl, subst (IsBehind (Translate folder files)) (sym (tail_is e)) b)
+is_translate (Conform files) rest (r, e, b) = translate_conform (head_is e)
+is_translate (Check files) rest (r, e, b) = translate_check (head_is e)
+is_translate (Compile folder files) rest (r, e, b) = translate_compile (head_is e)
+is_translate (Run asked files) rest (r, e, b) = translate_run (head_is e)
 
-main_is_none : (command : Command) → IsCommand command (run ∷ main ∷ []) → ⊥
-main_is_none (Translate folder files) (e, h, k) = apart (sym (head_is e))
-main_is_none (Conform files) (e, h) = apart_last (sym (head_is e))
-main_is_none (Check files) (e, h, k) = no_check_run (sym (head_is e))
-main_is_none (Compile d files) (e, h, k) = no_compile_run (sym (head_is e))
-main_is_none (Run class files) (e, h, k) = filled (tail_is (tail_is e))
+pub is_conform : (command : Command) (rest : List Word) → IsCommand command (conform ∷ rest)
+    → (files : List Word) × (command ≡ Conform files) × IsBehind (Conform files) rest
+is_conform (Translate folder files) rest (r, e, b) = translate_conform (sym (head_is e))
+is_conform (Conform files) rest (r, e, b) = (files, refl, subst (IsBehind (Conform files)) (sym (tail_is e)) b)
+is_conform (Check files) rest (r, e, b) = conform_check (head_is e)
+is_conform (Compile folder files) rest (r, e, b) = conform_compile (head_is e)
+is_conform (Run asked files) rest (r, e, b) = conform_run (head_is e)
 
-class_is_none : (class : Word) (command : Command) → IsCommand command (run ∷ main ∷ class ∷ []) → ⊥
-class_is_none class (Translate folder files) (e, h, k) = apart (sym (head_is e))
-class_is_none class (Conform files) (e, h) = apart_last (sym (head_is e))
-class_is_none class (Check files) (e, h, k) = no_check_run (sym (head_is e))
-class_is_none class (Compile d files) (e, h, k) = no_compile_run (sym (head_is e))
-class_is_none class (Run other files) (e, h, (file, one, java)) = filled (tail_is (tail_is (tail_is e)) ∙ one)
+pub is_check : (command : Command) (rest : List Word) → IsCommand command (check ∷ rest)
+    → (files : List Word) × (command ≡ Check files) × IsBehind (Check files) rest
+is_check (Translate folder files) rest (r, e, b) = translate_check (sym (head_is e))
+is_check (Conform files) rest (r, e, b) = conform_check (sym (head_is e))
+is_check (Check files) rest (r, e, b) = (files, refl, subst (IsBehind (Check files)) (sym (tail_is e)) b)
+is_check (Compile folder files) rest (r, e, b) = check_compile (head_is e)
+is_check (Run asked files) rest (r, e, b) = check_run (head_is e)
+
+pub is_compile : (command : Command) (rest : List Word) → IsCommand command (compile ∷ rest)
+    → (folder : Option Word) × (files : List Word) × (command ≡ Compile folder files) × IsBehind (Compile folder files) rest
+is_compile (Translate folder files) rest (r, e, b) = translate_compile (sym (head_is e))
+is_compile (Conform files) rest (r, e, b) = conform_compile (sym (head_is e))
+is_compile (Check files) rest (r, e, b) = check_compile (sym (head_is e))
+is_compile (Compile folder files) rest (r, e, b) = (folder, files, refl, subst (IsBehind (Compile folder files)) (sym (tail_is e)) b)
+is_compile (Run asked files) rest (r, e, b) = compile_run (head_is e)
+
+pub is_run : (command : Command) (rest : List Word) → IsCommand command (run ∷ rest)
+    → (asked : Asked) × (files : List Word) × (command ≡ Run asked files) × IsBehind (Run asked files) rest
+is_run (Translate folder files) rest (r, e, b) = translate_run (sym (head_is e))
+is_run (Conform files) rest (r, e, b) = conform_run (sym (head_is e))
+is_run (Check files) rest (r, e, b) = check_run (sym (head_is e))
+is_run (Compile folder files) rest (r, e, b) = compile_run (sym (head_is e))
+is_run (Run asked files) rest (r, e, b) = (asked, files, refl, subst (IsBehind (Run asked files)) (sym (tail_is e)) b)
+
+-- the option isn't a file
+no_file : (rest : List Word) → AreFilesOf (codes ".scr") (out ∷ rest) → ⊥
+no_file rest (_, each) = let first : IsFileOf (codes ".scr") out = All-first (IsFileOf (codes ".scr")) out rest each in first.0 refl
+
+pub no_source : (rest : List Word) → AreSourceNames (out ∷ rest) → ⊥
+no_source rest (_, each) = let first : IsSourceName out = All-first IsSourceName out rest each in first.0 refl
+
+-- what stands behind the option of a folder, or where it isn't, are the files
+files_behind : (Q : List Word → Type 0) → ((r : List Word) → Q (out ∷ r) → ⊥)
+    → (d : Option Word) (files : List Word) (folder : Option Word) (rest : List Word)
+    → (folder ≡ None → (r : List Word) → rest ≡ out ∷ r → ⊥) → out_words folder ++ rest ≡ out_words d ++ files → Q files → Q rest
+files_behind Q never None files None rest plain e q = subst Q (sym e) q
+files_behind Q never (Some d) files None rest plain e q = absurd (plain refl (d ∷ files) e)
+files_behind Q never None files (Some f) rest plain e q = absurd (never (f ∷ rest) (subst Q (sym e) q))
+files_behind Q never (Some d) files (Some f) rest plain e q = subst Q (sym (tail_is (tail_is e))) q
+
+-- behind "--out" stands a folder
+folder_behind : (Q : List Word → Type 0) → ((r : List Word) → Q (out ∷ r) → ⊥)
+    → (d : Option Word) (files : List Word) (f : Word) (rest : List Word)
+    → out ∷ f ∷ rest ≡ out_words d ++ files → IfSome d IsFileName → Q files → IsFileName f
+folder_behind Q never None files f rest e name q = absurd (never (f ∷ rest) (subst Q (sym e) q))
+folder_behind Q never (Some d) files f rest e name q = subst IsFileName (sym (head_is (tail_is e))) name
+
+folder_lacks : (Q : List Word → Type 0) → ((r : List Word) → Q (out ∷ r) → ⊥) → (d : Option Word) (files : List Word)
+    → out ∷ [] ≡ out_words d ++ files → Q files → ⊥
+folder_lacks Q never None files e q = never [] (subst Q (sym e) q)
+folder_lacks Q never (Some d) files e q = filled (tail_is e)
+
+-- the folder and the files are known by the words
+same_folder : (Q : List Word → Type 0) → ((r : List Word) → Q (out ∷ r) → ⊥) → (c d : Option Word) (f g : List Word)
+    → out_words c ++ f ≡ out_words d ++ g → Q f → Q g → (c ≡ d) × (f ≡ g)
+same_folder Q never None None f g e q q' = (refl, e)
+same_folder Q never None (Some d) f g e q q' = absurd (never (d ∷ g) (subst Q e q))
+same_folder Q never (Some c) None f g e q q' = absurd (never (c ∷ f) (subst Q (sym e) q'))
+same_folder Q never (Some c) (Some d) f g e q q' = (ap Some (head_is (tail_is e)), tail_is (tail_is e))
+
+translate_files : (command : Command) (folder : Option Word) (rest : List Word) → (folder ≡ None → (r : List Word) → rest ≡ out ∷ r → ⊥)
+    → IsCommand command (translate ∷ (out_words folder ++ rest)) → AreFilesOf (codes ".scr") rest
+translate_files command folder rest plain is =
+    let (d, files, same, (e, name, each)) = is_translate command (out_words folder ++ rest) is in
+    files_behind (AreFilesOf (codes ".scr")) no_file d files folder rest plain e each
+
+folder_word : (command : Command) (f : Word) (rest : List Word) → IsCommand command (translate ∷ out ∷ f ∷ rest) → IsFileName f
+folder_word command f rest is =
+    let (d, files, same, (e, name, each)) = is_translate command (out ∷ f ∷ rest) is in folder_behind (AreFilesOf (codes ".scr")) no_file d files f rest e name each
+
+out_is_none : (command : Command) → IsCommand command (translate ∷ out ∷ []) → ⊥
+out_is_none command is =
+    let (d, files, same, (e, name, each)) = is_translate command (out ∷ []) is in folder_lacks (AreFilesOf (codes ".scr")) no_file d files e each
 
 protocol_word : (command : Command) (p : Word) (more : List Word) → IsCommand command (conform ∷ p ∷ more) → IsFileOf (codes ".scr") p
-protocol_word (Translate folder files) p more (e, h, k) = apart_first (sym (head_is e))
-protocol_word (Conform files) p more (e, h) = subst (IsFileOf (codes ".scr")) (sym (head_is (tail_is e ∙ h.two))) h.scribble
-protocol_word (Check files) p more (e, h, k) = no_check_calls (head_is e)
-protocol_word (Compile d files) p more (e, h, k) = no_compile_calls (head_is e)
-protocol_word (Run class files) p more (e, h, k) = apart_last (head_is e)
+protocol_word command p more is =
+    let (files, same, (e, h)) = is_conform command (p ∷ more) is in subst (IsFileOf (codes ".scr")) (sym (head_is (e ∙ h.two))) h.scribble
 
 calls_word : (command : Command) (p c : Word) (more : List Word) → IsCommand command (conform ∷ p ∷ c ∷ more) → IsFileName c × (more ≡ [])
-calls_word (Translate folder files) p c more (e, h, k) = apart_first (sym (head_is e))
-calls_word (Conform files) p c more (e, h) = let two = tail_is e ∙ h.two in (subst IsFileName (sym (head_is (tail_is two))) h.named, tail_is (tail_is two))
-calls_word (Check files) p c more (e, h, k) = no_check_calls (head_is e)
-calls_word (Compile d files) p c more (e, h, k) = no_compile_calls (head_is e)
-calls_word (Run class files) p c more (e, h, k) = apart_last (head_is e)
+calls_word command p c more is =
+    let (files, same, (e, h)) = is_conform command (p ∷ c ∷ more) is in
+    let two = e ∙ h.two in
+    (subst IsFileName (sym (head_is (tail_is two))) h.named, tail_is (tail_is two))
 
 conform_is_none : (command : Command) → IsCommand command (conform ∷ []) → ⊥
-conform_is_none (Translate folder files) (e, h, k) = apart_first (sym (head_is e))
-conform_is_none (Conform files) (e, h) = filled (tail_is e ∙ h.two)
-conform_is_none (Check files) (e, h, k) = no_check_calls (head_is e)
-conform_is_none (Compile d files) (e, h, k) = no_compile_calls (head_is e)
-conform_is_none (Run class files) (e, h, k) = apart_last (head_is e)
+conform_is_none command is = let (files, same, (e, h)) = is_conform command [] is in filled (e ∙ h.two)
 
 protocol_is_none : (protocol : Word) (command : Command) → IsCommand command (conform ∷ protocol ∷ []) → ⊥
-protocol_is_none protocol (Translate folder files) (e, h, k) = apart_first (sym (head_is e))
-protocol_is_none protocol (Conform files) (e, h) = filled (tail_is (tail_is e ∙ h.two))
-protocol_is_none protocol (Check files) (e, h, k) = no_check_calls (head_is e)
-protocol_is_none protocol (Compile d files) (e, h, k) = no_compile_calls (head_is e)
-protocol_is_none protocol (Run class files) (e, h, k) = apart_last (head_is e)
+protocol_is_none protocol command is = let (files, same, (e, h)) = is_conform command (protocol ∷ []) is in filled (tail_is (e ∙ h.two))
 
 -- what stands behind "check" are sources
-check_files : (command : Command) (rest : List Word) → IsCommand command (check ∷ rest) → (rest ≢ []) × All IsSourceName rest
-check_files (Translate folder files) rest (e, h, k) = no_check (sym (head_is e))
-check_files (Conform files) rest (e, h) = no_check_calls (sym (head_is e))
-check_files (Check files) rest (e, h, each) = (λ r. h (sym (tail_is e) ∙ r), subst (All IsSourceName) (sym (tail_is e)) each)
-check_files (Compile d files) rest (e, h, k) = no_compile_check (head_is e)
-check_files (Run class files) rest (e, h, k) = no_check_run (head_is e)
-
--- the option isn't a source
-no_source : {P : Type 0} (files rest : List Word) → out ∷ rest ≡ files → AreSourceNames files → P
-no_source files rest e (_, each) = let first : IsSourceName out = All-first IsSourceName out rest (subst (All IsSourceName) (sym e) each) in absurd (first.0 refl)
+check_files : (command : Command) (rest : List Word) → IsCommand command (check ∷ rest) → AreSourceNames rest
+check_files command rest is = let (files, same, (e, each)) = is_check command rest is in subst AreSourceNames (sym e) each
 
 -- what stands behind the options of "compile" are sources
 compile_files : (command : Command) (folder : Option Word) (rest : List Word) → (folder ≡ None → (r : List Word) → rest ≡ out ∷ r → ⊥)
     → IsCommand command (compile ∷ (out_words folder ++ rest)) → AreSourceNames rest
-compile_files (Translate d files) folder rest plain (e, h, k) = no_compile (sym (head_is e))
-compile_files (Conform files) folder rest plain (e, h) = no_compile_calls (sym (head_is e))
-compile_files (Check files) folder rest plain (e, h, k) = no_compile_check (sym (head_is e))
-compile_files (Compile None files) None rest plain (e, h, each) = subst AreSourceNames (sym (tail_is e)) each
-compile_files (Compile (Some d) files) None rest plain (e, h, each) = absurd (plain refl (d ∷ files) (tail_is e))
-compile_files (Compile None files) (Some f) rest plain (e, h, each) = no_source files (f ∷ rest) (tail_is e) each
-compile_files (Compile (Some d) files) (Some f) rest plain (e, h, each) = subst AreSourceNames (sym (tail_is (tail_is (tail_is e)))) each
-compile_files (Run class files) folder rest plain (e, h, k) = no_compile_run (head_is e)
+compile_files command folder rest plain is =
+    let (d, files, same, (e, name, each)) = is_compile command (out_words folder ++ rest) is in files_behind AreSourceNames no_source d files folder rest plain e each
 
--- what stands behind "compile --out" is a folder
 class_folder_word : (command : Command) (f : Word) (rest : List Word) → IsCommand command (compile ∷ out ∷ f ∷ rest) → IsFileName f
-class_folder_word (Translate d files) f rest (e, h, k) = no_compile (sym (head_is e))
-class_folder_word (Conform files) f rest (e, h) = no_compile_calls (sym (head_is e))
-class_folder_word (Check files) f rest (e, h, k) = no_compile_check (sym (head_is e))
-class_folder_word (Compile None files) f rest (e, h, each) = no_source files (f ∷ rest) (tail_is e) each
-class_folder_word (Compile (Some d) files) f rest (e, h, each) = subst IsFileName (sym (head_is (tail_is (tail_is e)))) h
-class_folder_word (Run class files) f rest (e, h, k) = no_compile_run (head_is e)
+class_folder_word command f rest is =
+    let (d, files, same, (e, name, each)) = is_compile command (out ∷ f ∷ rest) is in folder_behind AreSourceNames no_source d files f rest e name each
 
 class_out_is_none : (command : Command) → IsCommand command (compile ∷ out ∷ []) → ⊥
-class_out_is_none (Translate d files) (e, h, k) = no_compile (sym (head_is e))
-class_out_is_none (Conform files) (e, h) = no_compile_calls (sym (head_is e))
-class_out_is_none (Check files) (e, h, k) = no_compile_check (sym (head_is e))
-class_out_is_none (Compile None files) (e, h, each) = no_source files [] (tail_is e) each
-class_out_is_none (Compile (Some d) files) (e, h, each) = filled (tail_is (tail_is e))
-class_out_is_none (Run class files) (e, h, k) = no_compile_run (head_is e)
+class_out_is_none command is =
+    let (d, files, same, (e, name, each)) = is_compile command (out ∷ []) is in folder_lacks AreSourceNames no_source d files e each
 
 -- ---- what is judged: where words are lacking, and where one can't follow
 
-few : (words rest : List Word) → length rest ≡ 0 → CanBegin AreCommand words → ((command : Command) → IsCommand command words → ⊥) → AreWrong (words ++ rest) None
+pub few : (words rest : List Word) → length rest ≡ 0 → CanBegin AreCommand words → ((command : Command) → IsCommand command words → ⊥)
+    → AreWrong (words ++ rest) None
 few words rest e can isnt =
-    subst (λ (ws : List Word). AreWrong ws None) (sym (ap (λ (z : List Word). words ++ z) (empty_is rest e) ∙ nothing words)) (can, λ k. isnt k.0 k.1) where
-      nothing : (xs : List Word) → xs ++ [] ≡ xs
-      nothing [] = refl
-      nothing (x ∷ xs) = ap (λ (z : List Word). x ∷ z) (nothing xs)
+    subst (λ (ws : List Word). AreWrong ws None) (sym (ap (λ (z : List Word). words ++ z) (empty_is rest e) ∙ nothing_behind words)) (can, λ k. isnt k.0 k.1)
 
 pub few_none : (rest : List Word) → length rest ≡ 0 → AreWrong rest None
 few_none rest e = few [] rest e begins_empty none_is_none
@@ -392,7 +370,8 @@ few_translate rest e = few (translate ∷ []) rest e begins_translate (λ comman
 pub few_out : (rest : List Word) → length rest ≡ 0 → AreWrong (translate ∷ out ∷ rest) None
 few_out rest e = few (translate ∷ out ∷ []) rest e begins_out out_is_none
 
-pub few_files : (folder : Option Word) (files : List Word) → IfSome folder IsFileName → length files ≡ 0 → AreWrong (translate ∷ (out_words folder ++ files)) None
+pub few_files : (folder : Option Word) (files : List Word) → IfSome folder IsFileName → length files ≡ 0
+    → AreWrong (translate ∷ (out_words folder ++ files)) None
 few_files folder files name e =
     subst (λ (z : List Word). AreWrong (translate ∷ (out_words folder ++ z)) None) (sym (empty_is files e)) (
       begins_files folder [] name (none_yet _),
@@ -402,7 +381,8 @@ few_files folder files name e =
 pub few_conform : (rest : List Word) → length rest ≡ 0 → AreWrong (conform ∷ rest) None
 few_conform rest e = few (conform ∷ []) rest e begins_conform conform_is_none
 
-pub few_protocol : (rest : List Word) (protocol : Word) (more : List Word) → rest ≡ protocol ∷ more → IsFileOf (codes ".scr") protocol → length more ≡ 0 → AreWrong (conform ∷ rest) None
+pub few_protocol : (rest : List Word) (protocol : Word) (more : List Word) → rest ≡ protocol ∷ more → IsFileOf (codes ".scr") protocol
+    → length more ≡ 0 → AreWrong (conform ∷ rest) None
 few_protocol rest protocol more is h e =
     subst (λ (z : List Word). AreWrong (conform ∷ z) None) (sym is) (few (conform ∷ protocol ∷ []) more e (begins_protocol protocol h) (protocol_is_none protocol))
 
@@ -418,65 +398,73 @@ few_compile rest e = few (compile ∷ []) rest e begins_compile (λ command. no_
 pub few_class_out : (rest : List Word) → length rest ≡ 0 → AreWrong (compile ∷ out ∷ rest) None
 few_class_out rest e = few (compile ∷ out ∷ []) rest e begins_class_out class_out_is_none
 
-pub few_sources : (folder : Option Word) (files : List Word) → IfSome folder IsFileName → length files ≡ 0 → AreWrong (compile ∷ (out_words folder ++ files)) None
+pub few_sources : (folder : Option Word) (files : List Word) → IfSome folder IsFileName → length files ≡ 0
+    → AreWrong (compile ∷ (out_words folder ++ files)) None
 few_sources folder files name e =
     subst (λ (z : List Word). AreWrong (compile ∷ (out_words folder ++ z)) None) (sym (empty_is files e)) (
       begins_classes folder [] name (none_yet _),
       λ k. no_sources k.0 folder k.1,
     )
 
-pub few_run : (rest : List Word) → length rest ≡ 0 → AreWrong (run ∷ rest) None
-few_run rest e = few (run ∷ []) rest e begins_run run_is_none
-
-pub few_main : (rest : List Word) → length rest ≡ 0 → AreWrong (run ∷ main ∷ rest) None
-few_main rest e = few (run ∷ main ∷ []) rest e begins_main main_is_none
-
-pub few_class : (class : Word) (rest : List Word) → IsClassName class → length rest ≡ 0 → AreWrong (run ∷ main ∷ class ∷ rest) None
-few_class class rest h e = few (run ∷ main ∷ class ∷ []) rest e (begins_class class h) (class_is_none class)
-
 -- the word behind words that can begin a command is the first wrong one, where the words can't begin one with it
-first_wrong : (before : List Word) (word : Word) (more : List Word) → CanBegin AreCommand before → (CanBegin AreCommand (before ++ word ∷ []) → ⊥) → AreWrong (before ++ word ∷ more) (Some word)
+pub first_wrong : (before : List Word) (word : Word) (more : List Word) → CanBegin AreCommand before
+    → (CanBegin AreCommand (before ++ word ∷ []) → ⊥) → AreWrong (before ++ word ∷ more) (Some word)
 first_wrong before word more can cannot = record { before = before; after = more; stands = refl; begins = can; wrong = cannot }
 
 -- the same of words that are told by their first and the rest
-wrong_at : (before rest : List Word) (word : Word) (more : List Word) → rest ≡ word ∷ more → CanBegin AreCommand before → (CanBegin AreCommand (before ++ word ∷ []) → ⊥) → AreWrong (before ++ rest) (Some word)
+pub wrong_at : (before rest : List Word) (word : Word) (more : List Word) → rest ≡ word ∷ more → CanBegin AreCommand before
+    → (CanBegin AreCommand (before ++ word ∷ []) → ⊥) → AreWrong (before ++ rest) (Some word)
 wrong_at before rest word more e can cannot = subst (λ (ws : List Word). AreWrong (before ++ ws) (Some word)) (sym e) (first_wrong before word more can cannot)
 
-pub wrong_command : (rest : List Word) (word : Word) (more : List Word) → rest ≡ word ∷ more → (word ≡ translate → ⊥) → (word ≡ conform → ⊥) → (word ≡ check → ⊥) → (word ≡ compile → ⊥) → (word ≡ run → ⊥) → AreWrong rest (Some word)
-wrong_command rest word more e is_no_translate is_no_conform is_no_check is_no_compile is_no_run = wrong_at [] rest word more e begins_empty (λ b. neither (first_word b.1.0 word b.0 b.1.1)) where
-  neither : (word ≡ translate) ⊎ (word ≡ conform) ⊎ (word ≡ check) ⊎ (word ≡ compile) ⊎ (word ≡ run) → ⊥
-  neither (inl h) = is_no_translate h
-  neither (inr (inl h)) = is_no_conform h
-  neither (inr (inr (inl h))) = is_no_check h
-  neither (inr (inr (inr (inl h)))) = is_no_compile h
-  neither (inr (inr (inr (inr h)))) = is_no_run h
+pub wrong_command : (rest : List Word) (word : Word) (more : List Word) → rest ≡ word ∷ more → (word ≡ translate → ⊥)
+    → (word ≡ conform → ⊥)
+    → (word ≡ check → ⊥) → (word ≡ compile → ⊥) → (word ≡ run → ⊥) → AreWrong rest (Some word)
+wrong_command rest word more e is_no_translate is_no_conform is_no_check is_no_compile is_no_run =
+    wrong_at [] rest word more e begins_empty (λ b. cannot b.0 b.1.0 b.1.1) where
+      neither : (word ≡ translate) ⊎ (word ≡ conform) ⊎ (word ≡ check) ⊎ (word ≡ compile) ⊎ (word ≡ run) → ⊥
+      neither (inl h) = is_no_translate h
+      neither (inr (inl h)) = is_no_conform h
+      neither (inr (inr (inl h))) = is_no_check h
+      neither (inr (inr (inr (inl h)))) = is_no_compile h
+      neither (inr (inr (inr (inr h)))) = is_no_run h
 
-pub wrong_protocol : (rest : List Word) (word : Word) (more : List Word) → rest ≡ word ∷ more → (IsFileOf (codes ".scr") word → ⊥) → AreWrong (conform ∷ rest) (Some word)
+      cannot : (after : List Word) (command : Command) → IsCommand command (word ∷ after) → ⊥
+      cannot after command (r, is, behind) = neither (subst (λ (w : Word). (w ≡ translate) ⊎ (w ≡ conform) ⊎ (w ≡ check) ⊎ (w ≡ compile) ⊎ (w ≡ run)) (sym (head_is is)) (first_word command))
+
+pub wrong_protocol : (rest : List Word) (word : Word) (more : List Word) → rest ≡ word ∷ more → (IsFileOf (codes ".scr") word → ⊥)
+    → AreWrong (conform ∷ rest) (Some word)
 wrong_protocol rest word more e isnt = wrong_at (conform ∷ []) rest word more e begins_conform (λ b. isnt (protocol_word b.1.0 word b.0 b.1.1))
 
-pub wrong_calls : (rest : List Word) (protocol word : Word) (more more' : List Word) → rest ≡ protocol ∷ more → more ≡ word ∷ more' → IsFileOf (codes ".scr") protocol → (IsFileName word → ⊥) → AreWrong (conform ∷ rest) (Some word)
+pub wrong_calls : (rest : List Word) (protocol word : Word) (more more' : List Word) → rest ≡ protocol ∷ more → more ≡ word ∷ more'
+    → IsFileOf (codes ".scr") protocol → (IsFileName word → ⊥) → AreWrong (conform ∷ rest) (Some word)
 wrong_calls rest protocol word more more' e e' h isnt =
     subst (λ (ws : List Word). AreWrong (conform ∷ ws) (Some word)) (sym e)
     (wrong_at (conform ∷ protocol ∷ []) more word more' e' (begins_protocol protocol h) (λ b. isnt (calls_word b.1.0 protocol word b.0 b.1.1).0))
 
-pub wrong_third : (rest : List Word) (protocol calls word : Word) (more more' more'' : List Word) → rest ≡ protocol ∷ more → more ≡ calls ∷ more' → more' ≡ word ∷ more'' → IsFileOf (codes ".scr") protocol → IsFileName calls → AreWrong (conform ∷ rest) (Some word)
+pub wrong_third : (rest : List Word) (protocol calls word : Word) (more more' more'' : List Word) → rest ≡ protocol ∷ more
+    → more ≡ calls ∷ more' → more' ≡ word ∷ more'' → IsFileOf (codes ".scr") protocol → IsFileName calls
+    → AreWrong (conform ∷ rest) (Some word)
 wrong_third rest protocol calls word more more' more'' e e' e'' h h' =
     subst (λ (ws : List Word). AreWrong (conform ∷ ws) (Some word)) (sym (e ∙ ap (λ (z : List Word). protocol ∷ z) e'))
     (wrong_at (conform ∷ protocol ∷ calls ∷ []) more' word more'' e'' (begins_calls protocol calls h h') (λ b. filled (sym (calls_word b.1.0 protocol calls (word ∷ b.0) b.1.1).1)))
 
-pub both_files : (rest : List Word) (protocol calls : Word) (more more' : List Word) → rest ≡ protocol ∷ more → more ≡ calls ∷ more' → length more' ≡ 0 → IsFileOf (codes ".scr") protocol → IsFileName calls → AreProtocolAndCalls rest
+pub both_files : (rest : List Word) (protocol calls : Word) (more more' : List Word) → rest ≡ protocol ∷ more → more ≡ calls ∷ more'
+    → length more' ≡ 0 → IsFileOf (codes ".scr") protocol → IsFileName calls → AreProtocolAndCalls rest
 both_files rest protocol calls more more' e e' n h h' =
     record { protocol = protocol; calls = calls; two = e ∙ ap (λ (z : List Word). protocol ∷ z) (e' ∙ ap (λ (z : List Word). calls ∷ z) (empty_is more' n)); scribble = h; named = h' }
 
-pub wrong_folder : (rest : List Word) (word : Word) (more : List Word) → rest ≡ word ∷ more → (IsFileName word → ⊥) → AreWrong (translate ∷ out ∷ rest) (Some word)
+pub wrong_folder : (rest : List Word) (word : Word) (more : List Word) → rest ≡ word ∷ more → (IsFileName word → ⊥)
+    → AreWrong (translate ∷ out ∷ rest) (Some word)
 wrong_folder rest word more e isnt = wrong_at (translate ∷ out ∷ []) rest word more e begins_out (λ b. isnt (folder_word b.1.0 word b.0 b.1.1))
 
 -- words that don't begin with the option don't with other words at their end
-still_plain : (before : List Word) (word : Word) (after more : List Word) → ((r : List Word) → before ++ word ∷ after ≡ out ∷ r → ⊥) → (r : List Word) → before ++ word ∷ more ≡ out ∷ r → ⊥
+still_plain : (before : List Word) (word : Word) (after more : List Word) → ((r : List Word) → before ++ word ∷ after ≡ out ∷ r → ⊥)
+    → (r : List Word) → before ++ word ∷ more ≡ out ∷ r → ⊥
 still_plain [] word after more plain r e = plain after (ap (λ (w : Word). w ∷ after) (head_is e))
 still_plain (b ∷ bs) word after more plain r e = plain (bs ++ word ∷ after) (ap (λ (w : Word). w ∷ (bs ++ word ∷ after)) (head_is e))
 
-pub wrong_file : (folder : Option Word) (files : List Word) (word : Word) → IfSome folder IsFileName → (folder ≡ None → (r : List Word) → files ≡ out ∷ r → ⊥)
+pub wrong_file : (folder : Option Word) (files : List Word) (word : Word) → IfSome folder IsFileName
+    → (folder ≡ None → (r : List Word) → files ≡ out ∷ r → ⊥)
     → IsFirstOther (IsFileOf (codes ".scr")) files (Some word) → AreWrong (translate ∷ (out_words folder ++ files)) (Some word)
 wrong_file folder files word name plain (before, after, is, each, isnt) = record {
   before = translate ∷ (out_words folder ++ before);
@@ -506,10 +494,12 @@ wrong_source files word (before, after, is, each, isnt) = record {
       let split : ((check ∷ before) ++ word ∷ []) ++ more ≡ check ∷ (before ++ word ∷ more) = append_assoc (check ∷ before) (word ∷ []) more in
       All-mid IsSourceName before word more (check_files command (before ++ word ∷ more) (subst (IsCommand command) split k)).1
 
-pub wrong_class_folder : (rest : List Word) (word : Word) (more : List Word) → rest ≡ word ∷ more → (IsFileName word → ⊥) → AreWrong (compile ∷ out ∷ rest) (Some word)
+pub wrong_class_folder : (rest : List Word) (word : Word) (more : List Word) → rest ≡ word ∷ more → (IsFileName word → ⊥)
+    → AreWrong (compile ∷ out ∷ rest) (Some word)
 wrong_class_folder rest word more e isnt = wrong_at (compile ∷ out ∷ []) rest word more e begins_class_out (λ b. isnt (class_folder_word b.1.0 word b.0 b.1.1))
 
-pub wrong_class_source : (folder : Option Word) (files : List Word) (word : Word) → IfSome folder IsFileName → (folder ≡ None → (r : List Word) → files ≡ out ∷ r → ⊥)
+pub wrong_class_source : (folder : Option Word) (files : List Word) (word : Word) → IfSome folder IsFileName
+    → (folder ≡ None → (r : List Word) → files ≡ out ∷ r → ⊥)
     → IsFirstOther IsSourceName files (Some word) → AreWrong (compile ∷ (out_words folder ++ files)) (Some word)
 wrong_class_source folder files word name plain (before, after, is, each, isnt) = record {
   before = compile ∷ (out_words folder ++ before);
@@ -527,36 +517,27 @@ wrong_class_source folder files word name plain (before, after, is, each, isnt) 
       All-mid IsSourceName before word more (compile_files command folder (before ++ word ∷ more) still there).1
 
 -- the names of files of a program tell of which kinds they are
-pub kinds_of_classes : (words : List Word) (folder : Option Word) (files : List Word) → IsCommand (Compile folder files) words → HaveKinds files
-kinds_of_classes words folder files (e, name, some, each) k d lt = (each k d lt).1
+have_kinds : (files : List Word) → AreSourceNames files → HaveKinds files
+have_kinds files (some, each) k d lt = (each k d lt).1
+
+pub kinds_of_classes : (words : List Word) (folder : Option Word) (files : List Word) → IsCommand (Compile folder files) words
+    → HaveKinds files
+kinds_of_classes words folder files (r, e, (behind, name, are)) = have_kinds files are
 
 pub kinds_of : (words files : List Word) → IsCommand (Check files) words → HaveKinds files
-kinds_of words files (e, some, each) k d lt = (each k d lt).1
+kinds_of words files (r, e, (behind, are)) = have_kinds files are
 
--- all files of translate are local protocols by their names, and so is the first of conform
-pub protocols_of : (words files : List Word) (folder : Option Word) → IsCommand (Translate folder files) words → All (IsFileOf (codes ".scr")) files
-protocols_of words files folder (e, _, are) = are.1
+pub kinds_of_run : (words : List Word) (asked : Asked) (files : List Word) → IsCommand (Run asked files) words → HaveKinds files
+kinds_of_run words asked files (r, e, (options, behind, how, are)) = have_kinds files are
 
-pub protocol_of_two : (words files : List Word) (first : Word) → IsCommand (Conform files) words → first ≡ get_or files 0 first → EndsWith (codes ".scr") first
-protocol_of_two words files first (e, are) is =
+pub protocols_of : (words files : List Word) (folder : Option Word) → IsCommand (Translate folder files) words
+    → All (IsFileOf (codes ".scr")) files
+protocols_of words files folder (r, e, (behind, name, are)) = are.1
+
+pub protocol_of_two : (words files : List Word) (first : Word) → IsCommand (Conform files) words → first ≡ get_or files 0 first
+    → EndsWith (codes ".scr") first
+protocol_of_two words files first (r, e, (behind, are)) is =
     subst (EndsWith (codes ".scr")) (sym (is ∙ ap (λ (z : List Word). get_or z 0 first) are.two)) are.scribble.1
-
-pub wrong_main : (rest : List Word) (word : Word) (more : List Word) → rest ≡ word ∷ more → (word ≡ main → ⊥) → AreWrong (run ∷ rest) (Some word)
-wrong_main rest word more e isnt = wrong_at (run ∷ []) rest word more e begins_run (λ b. isnt (main_word b.1.0 word b.0 b.1.1))
-
-pub wrong_class : (rest : List Word) (word : Word) (more : List Word) → rest ≡ word ∷ more → (IsClassName word → ⊥) → AreWrong (run ∷ main ∷ rest) (Some word)
-wrong_class rest word more e isnt = wrong_at (run ∷ main ∷ []) rest word more e begins_main (λ b. isnt (class_word b.1.0 main word b.0 b.1.1))
-
-pub wrong_java : (class : Word) (rest : List Word) (word : Word) (more : List Word) → IsClassName class → rest ≡ word ∷ more → (IsFileOf (codes ".java") word → ⊥) → AreWrong (run ∷ main ∷ class ∷ rest) (Some word)
-wrong_java class rest word more h e isnt =
-    wrong_at (run ∷ main ∷ class ∷ []) rest word more e (begins_class class h) (λ b. isnt (java_word b.1.0 main class word b.0 b.1.1).0)
-
-pub wrong_surplus : (class : Word) (rest : List Word) (file word : Word) (more more' : List Word) → IsClassName class → rest ≡ file ∷ more → more ≡ word ∷ more' → IsFileOf (codes ".java") file → AreWrong (run ∷ main ∷ class ∷ rest) (Some word)
-wrong_surplus class rest file word more more' h e e' h' =
-    subst (λ (ws : List Word). AreWrong (run ∷ main ∷ class ∷ ws) (Some word)) (sym e)
-    (wrong_at (run ∷ main ∷ class ∷ file ∷ []) more word more' e' (begins_java class file h h') (λ b. filled (sym (java_word b.1.0 main class file (word ∷ b.0) b.1.1).1)))
-
--- ---- a command is one thing
 
 -- words that are a command aren't wrong
 pub wrong_is_none : (words : List Word) (word : Option Word) (command : Command) → AreWrong words word → IsCommand command words → ⊥
@@ -564,47 +545,45 @@ wrong_is_none words None command h is = h.1 (command, is)
 wrong_is_none words (Some word) command h is =
     h.wrong (h.after, (command, subst (IsCommand command) (h.stands ∙ sym (append_assoc h.before (word ∷ []) h.after)) is))
 
--- words are one command at most
-pub same_command : (words : List Word) (a b : Command) → IsCommand a words → IsCommand b words → a ≡ b
-same_command words (Translate None f) (Translate None g) (e, h, k) (e', h', k') = ap (Translate None) (tail_is (sym e ∙ e'))
-same_command words (Translate None f) (Translate (Some d) g) (e, h, each) (e', h', each') = no_file f (d ∷ g) (tail_is (sym e' ∙ e)) each
-same_command words (Translate (Some c) f) (Translate None g) (e, h, each) (e', h', each') = no_file g (c ∷ f) (tail_is (sym e ∙ e')) each'
-same_command words (Translate (Some c) f) (Translate (Some d) g) (e, h, k) (e', h', k') =
-    let rest = tail_is (tail_is (sym e ∙ e')) in
-    (λ i. Translate (Some (head_is rest i)) (tail_is rest i))
-same_command words (Translate c f) (Conform g) (e, h, k) (e', h') = apart_first (head_is (sym e ∙ e'))
-same_command words (Compile None f) (Compile None g) (e, h, k) (e', h', k') = ap (Compile None) (tail_is (sym e ∙ e'))
-same_command words (Compile None f) (Compile (Some d) g) (e, h, each) (e', h', each') = no_source f (d ∷ g) (tail_is (sym e' ∙ e)) each
-same_command words (Compile (Some c) f) (Compile None g) (e, h, each) (e', h', each') = no_source g (c ∷ f) (tail_is (sym e ∙ e')) each'
-same_command words (Compile (Some c) f) (Compile (Some d) g) (e, h, k) (e', h', k') =
-    let rest = tail_is (tail_is (sym e ∙ e')) in
-    (λ i. Compile (Some (head_is rest i)) (tail_is rest i))
-same_command words (Compile c f) (Translate d g) (e, h, k) (e', h', k') = no_compile (sym (head_is (sym e ∙ e')))
-same_command words (Compile c f) (Conform g) (e, h, k) (e', h') = no_compile_calls (sym (head_is (sym e ∙ e')))
-same_command words (Compile c f) (Check g) (e, h, k) (e', h', k') = no_compile_check (sym (head_is (sym e ∙ e')))
-same_command words (Compile c f) (Run d g) (e, h, k) (e', h', k') = no_compile_run (head_is (sym e ∙ e'))
-same_command words (Translate c f) (Compile d g) (e, h, k) (e', h', k') = no_compile (head_is (sym e ∙ e'))
-same_command words (Conform f) (Compile d g) (e, h) (e', h', k') = no_compile_calls (head_is (sym e ∙ e'))
-same_command words (Check f) (Compile d g) (e, h, k) (e', h', k') = no_compile_check (head_is (sym e ∙ e'))
-same_command words (Run c f) (Compile d g) (e, h, k) (e', h', k') = no_compile_run (sym (head_is (sym e ∙ e')))
-same_command words (Translate c f) (Check g) (e, h, k) (e', h', k') = no_check (head_is (sym e ∙ e'))
-same_command words (Conform f) (Translate d g) (e, h) (e', h', k') = apart_first (sym (head_is (sym e ∙ e')))
-same_command words (Conform f) (Conform g) (e, h) (e', h') = ap Conform (tail_is (sym e ∙ e'))
-same_command words (Conform f) (Check g) (e, h) (e', h', k') = no_check_calls (head_is (sym e ∙ e'))
-same_command words (Conform f) (Run d g) (e, h) (e', h', k') = apart_last (head_is (sym e ∙ e'))
-same_command words (Check f) (Translate d g) (e, h, k) (e', h', k') = no_check (sym (head_is (sym e ∙ e')))
-same_command words (Check f) (Conform g) (e, h, k) (e', h') = no_check_calls (sym (head_is (sym e ∙ e')))
-same_command words (Check f) (Check g) (e, h, k) (e', h', k') = ap Check (tail_is (sym e ∙ e'))
-same_command words (Check f) (Run d g) (e, h, k) (e', h', k') = no_check_run (head_is (sym e ∙ e'))
-same_command words (Run c f) (Check g) (e, h, k) (e', h', k') = no_check_run (sym (head_is (sym e ∙ e')))
-same_command words (Run c f) (Conform g) (e, h, k) (e', h') = apart_last (sym (head_is (sym e ∙ e')))
-same_command words (Translate c f) (Run d g) (e, h, k) (e', h', k') = apart (head_is (sym e ∙ e'))
-same_command words (Run c f) (Translate d g) (e, h, k) (e', h', k') = apart (sym (head_is (sym e ∙ e')))
-same_command words (Run c f) (Run d g) (e, h, k) (e', h', k') =
-    let rest = tail_is (tail_is (sym e ∙ e')) in
-    (λ i. Run (head_is rest i) (tail_is rest i))
+-- words are one command at most, where `run` is
+pub same_translate : (command : Command) (folder : Option Word) (files rest : List Word) → IsBehind (Translate folder files) rest
+    → IsCommand command (translate ∷ rest)
+    → Translate folder files ≡ command
+same_translate command folder files rest (e, name, each) is =
+    let (d, g, same, (e', name', each')) = is_translate command rest is in
+    let (one, other) = same_folder (AreFilesOf (codes ".scr")) no_file folder d files g (sym e ∙ e') each each' in
+    (λ i. Translate (one i) (other i)) ∙ sym same
+
+pub same_compile : (command : Command) (folder : Option Word) (files rest : List Word) → IsBehind (Compile folder files) rest
+    → IsCommand command (compile ∷ rest)
+    → Compile folder files ≡ command
+same_compile command folder files rest (e, name, each) is =
+    let (d, g, same, (e', name', each')) = is_compile command rest is in
+    let (one, other) = same_folder AreSourceNames no_source folder d files g (sym e ∙ e') each each' in
+    (λ i. Compile (one i) (other i)) ∙ sym same
+
+pub same_conform : (command : Command) (files rest : List Word) → IsBehind (Conform files) rest → IsCommand command (conform ∷ rest)
+    → Conform files ≡ command
+same_conform command files rest (e, two) is = let (g, same, (e', two')) = is_conform command rest is in ap Conform (sym e ∙ e') ∙ sym same
+
+pub same_check : (command : Command) (files rest : List Word) → IsBehind (Check files) rest → IsCommand command (check ∷ rest)
+    → Check files ≡ command
+same_check command files rest (e, each) is = let (g, same, (e', each')) = is_check command rest is in ap Check (sym e ∙ e') ∙ sym same
 
 -- ---- the end of a file's name
+
+-- what ends with these bytes has something in front of them
+pub ends_is : (word suffix : List ℕ) → ends_with eqb word suffix ≡ true → EndsWith suffix word
+ends_is word suffix h =
+    let k : ℕ = length word - length suffix in
+    let tail : suffix ≡ drop k word = (bytes_eq-Decides suffix (drop k word)).0 h in
+    (take k word, sym (take-append-drop k word) ∙ ap (λ (z : List ℕ). take k word ++ z) (sym tail))
+
+pub is_ends : (word suffix : List ℕ) → EndsWith suffix word → ends_with eqb word suffix ≡ true
+is_ends word suffix (front, e) =
+    let at : length front ≡ length word - length suffix = omega (arith, ap length e, length-append front suffix) in
+    let tail : drop (length word - length suffix) word ≡ suffix = rw e (drop_at front suffix _ (at ∙ ap (λ (z : Word). length z - length suffix) e)) in
+    (bytes_eq-Decides suffix (drop (length word - length suffix) word)).1 (sym tail)
 
 -- the name of a file is one of a program's, by its ending
 pub source_of_kind : (kind : Kind) (word : Word) → IsFileOf (suffix_of kind) word → IsSourceName word
@@ -612,7 +591,8 @@ source_of_kind kind word h = (h.0, (kind, h.1))
 
 -- it ends in none but these
 pub other_kinds : (r : Bool) (word : Word) → (IsFileOf (codes ".scr") word → ⊥) → (IsFileOf (codes ".protocol") word → ⊥)
-    → (r ≡ true → IsFileOf (codes ".java") word) × (IsFileOf (codes ".java") word → r ≡ true) → (r ≡ true → IsSourceName word) × (IsSourceName word → r ≡ true)
+    → (r ≡ true → IsFileOf (codes ".java") word) × (IsFileOf (codes ".java") word → r ≡ true)
+    → (r ≡ true → IsSourceName word) × (IsSourceName word → r ≡ true)
 other_kinds r word no_protocol no_states java = (λ t. source_of_kind Java word (java.0 t), by_kind) where
   by_kind : IsSourceName word → r ≡ true
   by_kind (name, (Scribble, ends)) = absurd (no_protocol (name, ends))
@@ -623,7 +603,8 @@ pub refuted : {P : Type 0} → (P → false ≡ true) → P → ⊥
 refuted f p = let e : false ≡ true = f p in cc
 
 -- a word's bytes don't begin with "-", and whether they end with the suffix tells whether it is the name of such a file
-pub file_is : (r : Bool) (word suffix bytes : List ℕ) → bytes ≡ word → 1 ≤ length bytes → (get_or bytes 0 0 ≡ 45 → ⊥) → r ≡ ends_with eqb bytes suffix → (r ≡ true → IsFileOf suffix word) × (IsFileOf suffix word → r ≡ true)
+pub file_is : (r : Bool) (word suffix bytes : List ℕ) → bytes ≡ word → 1 ≤ length bytes → (get_or bytes 0 0 ≡ 45 → ⊥)
+    → r ≡ ends_with eqb bytes suffix → (r ≡ true → IsFileOf suffix word) × (IsFileOf suffix word → r ≡ true)
 file_is r word suffix [] e above isnt is = absurd (omega arith)
 file_is r word suffix (b ∷ bs) e above isnt is = (
   λ t. subst (IsFileOf suffix) e (isnt, ends_is (b ∷ bs) suffix (sym is ∙ t)),
@@ -645,18 +626,21 @@ pass_all p [] h = refl
 pass_all p (c ∷ cs) (first, rest) = rw first (pass_all p cs rest)
 
 -- whether all bytes pass tells whether they all pass
-pub passes_is : (r : Bool) (p : ℕ → Bool) (bytes : List ℕ) → r ≡ list_all p bytes → (r ≡ true → AllPasses p bytes) × (AllPasses p bytes → r ≡ true)
+pub passes_is : (r : Bool) (p : ℕ → Bool) (bytes : List ℕ) → r ≡ list_all p bytes
+    → (r ≡ true → AllPasses p bytes) × (AllPasses p bytes → r ≡ true)
 passes_is r p bytes e = (λ t. all_pass p bytes (sym e ∙ t), λ h. e ∙ pass_all p bytes h)
 
 -- ---- words in the code
 
 -- words, cut at one of them
-pub at_index : (words : List Word) (i : ℕ) (word : Word) → i < length words → word ≡ get_or words i word → words ≡ take i words ++ word ∷ drop (suc i) words
+pub at_index : (words : List Word) (i : ℕ) (word : Word) → i < length words → word ≡ get_or words i word
+    → words ≡ take i words ++ word ∷ drop (suc i) words
 at_index words i word within is =
     sym (take-append-drop i words) ∙ ap (λ (z : List Word). take i words ++ z) (drop-cons words i word within ∙ ap (λ (z : Word). z ∷ drop (suc i) words) (sym is))
 
 -- an option of a folder, seen through a reference
-pub named_folder : (folder : Option (Bor Word)) → IfSome folder (λ f. IsFileName f.now) → IfSome (option_map (λ f. f.now) folder) IsFileName
+pub named_folder : (folder : Option (Bor Word)) → IfSome folder (λ f. IsFileName f.now)
+    → IfSome (option_map (λ f. f.now) folder) IsFileName
 named_folder None h = tt
 named_folder (Some f) h = h
 

@@ -1,5 +1,5 @@
 -- The words of the command line: the lists of words that are commands, and the first word that can't follow.
-use Rattle.std.specs.Prelude.{◌≡◌, ◌≢◌, ◌≤◌, ℕ, List, [], ◌∷◌, ◌++◌, All, length, flat_map, IsPermutation, Bool, Option, Some, None, IfSome, unwrap_or, codes, if◌then◌else◌}
+use Rattle.std.specs.Prelude.{◌≡◌, ◌≢◌, ◌≤◌, ℕ, List, [], ◌∷◌, ◌++◌, All, length, flat_map, filter, filter_map, Bool, true, false, Option, Some, None, IfSome, unwrap_or, option_to_list, codes, if◌then◌else◌, ⊤}
 use Rattle.std.specs.Fmt.{decimal}
 use Rattle.mg_read.specs.Letters.{is_name_byte}
 use Rattle.mg_read.specs.Passes.{AllPasses}
@@ -93,32 +93,68 @@ option_words (Steps n) = codes "--steps" ∷ decimal n ∷ []
 option_words Trace = codes "--trace" ∷ []
 option_words (Out folder) = codes "--out" ∷ folder ∷ []
 
--- those that are asked for, in one order
-abbrev pub options_of : Asked → List RunOption
-options_of asked =
-    Main asked.class
-    ∷ (elim asked.steps [ None ↦ [] | Some n ↦ Steps n ∷ [] ] ++ (if asked.traced then Trace ∷ [] else [])
-    ++ elim asked.folder [ None ↦ [] | Some folder ↦ Out folder ∷ [] ])
+-- what an option may name
+abbrev pub IsOption : RunOption → Type 0
+IsOption (Main class) = IsClassName class
+IsOption (Steps n) = (1 ≤ n) × (n ≤ 20000000)
+IsOption Trace = ⊤
+IsOption (Out folder) = IsFileName folder
 
--- These words are the options that are asked for, in any order.
+-- the class, the number and the folder that an option names
+abbrev pub class_in : RunOption → Option Word
+class_in (Main class) = Some class
+class_in (Steps n) = None
+class_in Trace = None
+class_in (Out folder) = None
+
+abbrev pub steps_in : RunOption → Option ℕ
+steps_in (Main class) = None
+steps_in (Steps n) = Some n
+steps_in Trace = None
+steps_in (Out folder) = None
+
+abbrev pub folder_in : RunOption → Option Word
+folder_in (Main class) = None
+folder_in (Steps n) = None
+folder_in Trace = None
+folder_in (Out folder) = Some folder
+
+abbrev pub is_trace : RunOption → Bool
+is_trace (Main class) = false
+is_trace (Steps n) = false
+is_trace Trace = true
+is_trace (Out folder) = false
+
+-- These words are options, in any order and each once, that name what is asked for: one class, at most one number, whether the trace is
+-- told, and at most one folder.
 pub record AreOptions (asked : Asked) (words : List Word) : Type 0 where
   pub order : List RunOption
-  pub shuffled : IsPermutation (options_of asked) order
   pub written : words ≡ flat_map option_words order
-  pub class : IsClassName asked.class
-  pub steps : IfSome asked.steps (λ n. (1 ≤ n) × (n ≤ 20000000))
-  pub folder : IfSome asked.folder IsFileName
+  pub right : All IsOption order
+  pub class : filter_map class_in order ≡ asked.class ∷ []
+  pub steps : filter_map steps_in order ≡ option_to_list asked.steps
+  pub traced : filter is_trace order ≡ (if asked.traced then Trace ∷ [] else [])
+  pub folder : filter_map folder_in order ≡ option_to_list asked.folder
+
+-- the first word of a command
+abbrev pub verb : Command → Word
+verb (Translate folder files) = codes "translate"
+verb (Conform files) = codes "conform"
+verb (Check files) = codes "check"
+verb (Compile folder files) = codes "compile"
+verb (Run asked files) = codes "run"
+
+-- the words behind the first: options and then files
+abbrev pub IsBehind : Command → List Word → Type 0
+IsBehind (Translate folder files) rest = (rest ≡ out_words folder ++ files) × IfSome folder IsFileName × AreFilesOf (codes ".scr") files
+IsBehind (Conform files) rest = (rest ≡ files) × AreProtocolAndCalls files
+IsBehind (Check files) rest = (rest ≡ files) × AreSourceNames files
+IsBehind (Compile folder files) rest = (rest ≡ out_words folder ++ files) × IfSome folder IsFileName × AreSourceNames files
+IsBehind (Run asked files) rest = (options : List Word) × (rest ≡ options ++ files) × AreOptions asked options × AreSourceNames files
 
 -- these words are this command
 abbrev pub IsCommand : Command → List Word → Type 0
-IsCommand (Translate folder files) words =
-    (words ≡ codes "translate" ∷ (out_words folder ++ files)) × IfSome folder IsFileName × AreFilesOf (codes ".scr") files
-IsCommand (Conform files) words = (words ≡ codes "conform" ∷ files) × AreProtocolAndCalls files
-IsCommand (Check files) words = (words ≡ codes "check" ∷ files) × AreSourceNames files
-IsCommand (Compile folder files) words =
-    (words ≡ codes "compile" ∷ (out_words folder ++ files)) × IfSome folder IsFileName × AreSourceNames files
-IsCommand (Run asked files) words =
-    (options : List Word) × (words ≡ codes "run" ∷ (options ++ files)) × AreOptions asked options × AreSourceNames files
+IsCommand command words = (rest : List Word) × (words ≡ verb command ∷ rest) × IsBehind command rest
 
 -- these words are a command
 abbrev pub AreCommand : List Word → Type 0

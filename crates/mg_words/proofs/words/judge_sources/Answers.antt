@@ -1,4 +1,4 @@
-use Rattle.std.proofs.Common.{◌≡◌, List, Option, Some, None, option_map, sym, ◌∙◌, eqb-true, length}
+use Rattle.std.proofs.Common.{option_map, sym, ◌∙◌, eqb-true, length}
 use Rattle.mg_words.proofs.WordsLemmas.{few_sources, wrong_class_source, named_folder, no_folder}
 use Rattle.mg_words.proofs.words.judge_sources.Goals as goal
 

@@ -2,7 +2,7 @@ use Rattle.std.proofs.Common.{All, take, drop, suc, sym, subst, arith, ◌∙◌
 use Rattle.std.proofs.lemmas.List.{take_more, take_all}
 use Rattle.mg_words.specs.Words.{Word, IsSourceName}
 use Rattle.mg_words.proofs.WordsLemmas.{All-push, refuted, at_index}
-use Rattle.mg_words.proofs.words.other_source.Goals as goal
+use Rattle.mg_words.proofs.names.other_source.Goals as goal
 
 pub loop-word-init : goal.loop-word-init
 loop-word-init c = λ k d lt. absurd (omega arith)

@@ -1,7 +1,7 @@
 use Rattle.std.proofs.Common.{refl}
 use Rattle.mg_sources.specs.Files.{Scribble, Typestates}
 use Rattle.mg_words.proofs.WordsLemmas.{source_of_kind, other_kinds, refuted}
-use Rattle.mg_words.proofs.words.is_source_name.Goals as goal
+use Rattle.mg_words.proofs.names.is_source_name.Goals as goal
 
 pub returns-then-is_file : goal.returns-then-is_file
 returns-then-is_file c = (λ t. source_of_kind Scribble c.args.word.now (c.if-is_file.ensures.0 refl), λ h. refl)

@@ -1,6 +1,6 @@
 use Rattle.std.proofs.Common.{◌∙◌}
 use Rattle.mg_words.proofs.WordsLemmas.{file_is}
-use Rattle.mg_words.proofs.words.is_file.Goals as goal
+use Rattle.mg_words.proofs.names.is_file.Goals as goal
 
 pub returns-then-first-ne45 : goal.returns-then-first-ne45
 returns-then-first-ne45 c =
