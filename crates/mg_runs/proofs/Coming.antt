@@ -14,43 +14,23 @@ use Rattle.vm_model.specs.Start.{IsStart}
 use Rattle.mg_runs.proofs.Steps.{steps_more}
 use Rattle.mg_runs.specs.declared.ran.Stand.{Stand}
 use Rattle.mg_runs.specs.declared.ran.Stand.TheVariants as stands
-use Rattle.mg_runs.specs.Trace.{Known, unknown, known_more, known_from, known_in, line_of, object_of, event_line, lines_from, trace}
 use Rattle.mg_runs.specs.Runs.{alone, ComesTo}
 use Rattle.vm_machine.specs.Doing.{waits_in}
-use Rattle.mg_runs.specs.declared.trace.Trace.{Trace}
-use Rattle.mg_runs.specs.declared.objects.Tracked.{Tracked}
+use Rattle.mg_trace.specs.Trace.{trace}
+use Rattle.mg_trace.specs.Kept.{Traces}
+use Rattle.mg_trace.specs.declared.trace.Trace.{Trace}
 use Rattle.mg_runs.specs.declared.going.Showing.{Showing}
-use Rattle.mg_runs.specs.inner.Tracing.{known_at, AreKnown, TracesIf, IsShowing}
+use Rattle.mg_runs.specs.inner.Tracing.{TracesIf, IsShowing}
 use Rattle.mg_runs.specs.inner.Going.{told, Came, Went, IsStandOf, NotBad, NeverBad}
 
--- the lines of events behind others
-pub lines_append : (p : Core.Program) (before es fs : List Event) → lines_from p before (es ++ fs) ≡ lines_from p before es ++ lines_from p (before ++ es) fs
-lines_append p before [] fs = ap (λ (b : List Event). lines_from p b fs) (sym (append-nil before))
-lines_append p before (e ∷ es) fs =
-    ap (λ (l : List ℕ). event_line p before e ++ l)
-    (lines_append p (before ++ e ∷ []) es fs
-    ∙ ap (λ (b : List Event). lines_from p (before ++ e ∷ []) es ++ lines_from p b fs) (append_assoc before (e ∷ []) es))
-    ∙ sym (append_assoc (event_line p before e) (lines_from p (before ++ e ∷ []) es) (lines_from p (before ++ e ∷ es) fs))
-
--- one event more
-pub trace_more : (p : Core.Program) (events : List Event) (e : Event) → trace p (events ++ e ∷ []) ≡ trace p events ++ event_line p events e
-trace_more p events e = lines_append p [] events (e ∷ []) ∙ ap (λ (l : List ℕ). trace p events ++ l) (append-nil (event_line p events e))
-
--- what is known of an object behind one event more
-known_behind : (k : Known) (events : List Event) (e : Event) (o : ℕ) → known_from k (events ++ e ∷ []) o ≡ known_more o (known_from k events o) e
-known_behind k [] e o = refl
-known_behind k (x ∷ events) e o = known_behind (known_more o k x) events e o
-
-pub known_next : (events : List Event) (e : Event) (o : ℕ) → known_in (events ++ e ∷ []) o ≡ known_more o (known_in events o) e
-known_next events e o = known_behind unknown events e o
-
 -- nothing was traced, or all of it
-pub told_all : (p : Core.Program) (traced : Bool) (events : List Event) (o : Option Trace) (t : Trace) → o ≡ Some t → TracesIf p events traced o →
-    string_bytes t.lines ≡ told p traced events
-told_all p true events (Some x) t e h = ap (λ (z : Option Trace). elim z [ None ↦ [] | Some y ↦ string_bytes y.lines ]) (sym e) ∙ h.lines
-told_all p true events None t e h = absurd h
-told_all p false events (Some x) t e h = absurd h
-told_all p false events None t e h = absurd cc
+pub told_all : (p : Core.Program) (traced : Bool) (events : List Event) (o : Option Trace) (t : Trace) (text : List ℕ) → o ≡ Some t →
+    TracesIf p events traced o → ((p : Core.Program) (events : List Event) → Traces p events t → text ≡ trace p events) → text ≡ told p traced events
+told_all p true events (Some x) t text e h says =
+    says p events (subst (λ (y : Trace). Traces p events y) (ap (λ (z : Option Trace). elim z [ None ↦ x | Some y ↦ y ]) e) h)
+told_all p true events None t text e h says = absurd h
+told_all p false events (Some x) t text e h says = absurd h
+told_all p false events None t text e h says = absurd cc
 
 pub told_nothing : (p : Core.Program) (traced : Bool) (events : List Event) (o : Option Trace) → o ≡ None → TracesIf p events traced o →
     [] ≡ told p traced events
@@ -122,16 +102,3 @@ waits_is (Stops ending) from h = absurd cc
 
 pub waits_not : (s : Stepped) → waits_in s ≡ None → (from : ℕ) → s ≢ Waits from
 waits_not s h from e = let no : ◌≡◌ {A = Option ℕ} None (Some from) = sym h ∙ ap waits_in e in cc
-
--- what is kept of each object behind one event more
-pub are_known_more : (before after : List Tracked) (events : List Event) (e : Event) → AreKnown before events →
-    ((o : ℕ) → known_at after o ≡ known_more o (known_at before o) e) → AreKnown after (events ++ e ∷ [])
-are_known_more before after events e h more =
-    record { each = λ o. more o ∙ ap (λ (k : Known). known_more o k e) (h.each o) ∙ sym (known_next events e o) }
-
--- the lines of one event more
-pub traced_more : (p : Core.Program) (objects : List Tracked) (events : List Event) (e : Event) (old new : List ℕ) → AreKnown objects events →
-    old ≡ trace p events → new ≡ old ++ line_of p (known_at objects (object_of e)) e → new ≡ trace p (events ++ e ∷ [])
-traced_more p objects events e old new known h line =
-    line ∙ ap (λ (l : List ℕ). l ++ line_of p (known_at objects (object_of e)) e) h
-    ∙ ap (λ (k : Known). trace p events ++ line_of p k e) (known.each (object_of e)) ∙ sym (trace_more p events e)

@@ -6,5 +6,4 @@ pub mod Reading
 pub mod Shown
 pub mod Coming
 pub mod Apart
-pub mod Tracks
 pub mod Naming

@@ -1,5 +1,4 @@
 pub mod Lines
-pub mod Trace
 pub mod Runs
 pub mod Meant
 pub mod Commanded

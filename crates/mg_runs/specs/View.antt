@@ -6,7 +6,7 @@ use Rattle.mg_sources.specs.Files.{Source}
 use Rattle.mg_sources.specs.declared.stop.Stop.{Stop}
 use Rattle.mg_sources.specs.declared.stop.Stop.TheVariants as stops
 use Rattle.mg_runs.specs.declared.ran.Ran.{Ran}
-use Rattle.mg_runs.specs.Trace.{trace}
+use Rattle.mg_trace.specs.Trace.{trace}
 use Rattle.mg_runs.specs.Commanded.{Course, IsRun, Refusal}
 
 -- the class files of a run, how many instructions it took and how it stands, what it printed, and its trace where it is asked for

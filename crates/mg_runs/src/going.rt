@@ -14,9 +14,9 @@ ghost use Rattle.mg_runs.specs.inner.Going.{Went, IsStandOf, NotBad, NeverBad, t
 ghost use Rattle.mg_runs.specs.inner.Tracing.{IsShowing};
 
 use crate::ran::Stand;
-use crate::trace::Trace;
 use jv_core::Core;
 use mg_text::{Bytes, Ending, Event, List, Memory, Text};
+use mg_trace::Trace;
 use std::alloc::Global;
 use vm_machine::{Machine, Stepped};
 use vm_model::{Linked, Ports};
@@ -47,7 +47,7 @@ pub(crate) fn go(
 {
     let mut machine = Machine::start(alloc, linked, class)?;
     let mut ports = alone(alloc)?;
-    let mut shows = Showing::new(alloc, core, traced);
+    let mut shows = Showing::new(alloc, core, traced)?;
     for taken in 0..limit {
         match machine.step(alloc, linked, &mut ports, 0)? {
             Stepped::Went(event) => shows.add(event)?,
@@ -106,18 +106,18 @@ struct Showing<'a> {
 
 impl<'a> Showing<'a> {
     // Nothing yet.
-    fn new(alloc: Global, core: &'a Core, traced: bool) -> Showing<'a>
-        ensures { IsShowing (tree_of core.now) traced [] result }
+    fn new(alloc: Global, core: &'a Core, traced: bool) -> Result<Showing<'a>, Memory>
+        ensures { IfOk result (IsShowing (tree_of core.now) traced []) }
     {
         let trace = if traced {
-            Some(Trace::new(alloc, core))
+            Some(Trace::new(alloc, core)?)
         } else {
             None
         };
-        Showing {
+        Ok(Showing {
             printed: Bytes::new(alloc),
             trace,
-        }
+        })
     }
 
     // What a step showed more.

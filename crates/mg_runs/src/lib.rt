@@ -3,13 +3,9 @@
 #![tactic(auto)]
 
 mod going;
-mod lines;
 mod loading;
-mod objects;
 mod ran;
-mod results;
 mod running;
-mod trace;
 
 pub use ran::{Ran, Stand};
 pub use running::run_class;

@@ -2,7 +2,7 @@
 
 ghost use Rattle.std.specs.Prelude.{◌≡◌, ◌≢◌, ◌<◌, ◌^◌, ◌↔◌, ◌&&◌, ℕ, List as Seq, IsTrue, IfOk, OnOk, None, length, nat_eq};
 ghost use Rattle.jv_core.specs.Core.{tree_of};
-ghost use Rattle.jv_core.specs.Lookup.{is_main};
+ghost use Rattle.jv_core.specs.Lookup.{class_numbered, is_main};
 ghost use Rattle.jv_core.specs.Meaning.{main_in, main_of};
 ghost use Rattle.jv_core.specs.View.{method_of};
 ghost use Rattle.mg_sources.specs.Files.{HaveKinds, sources};
@@ -17,9 +17,9 @@ ghost use Rattle.mg_runs.specs.inner.Going.{IsRunOf};
 use crate::going::go;
 use crate::loading::load_back;
 use crate::ran::Ran;
-use crate::results::class_named;
 use gen_held::written_cores_are_held;
 use gen_links::files_link;
+use gen_refs::name_text;
 use gen_sound::plain_mains_run;
 use jv_core::{Core, CoreMethod, MethodKind};
 use jv_kept::core_is_kept;
@@ -122,6 +122,15 @@ fn has_main(core: &Core, class: &str) -> bool
         Some(number) => has_main_in(core, number),
         None => false,
     }
+}
+
+// The number of the first class of this name.
+fn class_named(core: &Core, name: &str) -> Option<usize>
+    ensures { result ≡ class_numbered (tree_of core.now) name.now }
+{
+    core.classes()
+        .iter()
+        .position(|own| name_text(core, own.name) == name)
 }
 
 // Whether the class of this number has a `main`.

@@ -16,7 +16,7 @@ use Rattle.vm_model.specs.Runs.{Runs, printed}
 use Rattle.mg_runs.specs.declared.ran.Stand.{Stand}
 use Rattle.mg_runs.specs.declared.ran.Stand.TheVariants as stands
 use Rattle.mg_runs.specs.Runs.{alone, ComesTo}
-use Rattle.mg_runs.specs.Trace.{trace}
+use Rattle.mg_trace.specs.Trace.{trace}
 use Rattle.mg_runs.specs.declared.going.Showing.{Showing}
 use Rattle.mg_runs.specs.inner.Tracing.{IsShowing}
 use Rattle.mg_runs.specs.inner.Loading.{IsLoaded}

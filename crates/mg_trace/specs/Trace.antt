@@ -1,5 +1,5 @@
--- The lines that tell the events of a run: one for each but a text that is printed.
-use Rattle.std.specs.Prelude.{◌==◌, ◌&&◌, ℕ, ℤ, pos, negsuc, List, [], ◌∷◌, ◌++◌, Bool, true, false, Option, Some, None, slice_get, option_and_then, codes, nat_eq, if◌then◌else◌}
+-- The lines that tell the events of a run from the `main` of a class: one for each event but a text that is printed.
+use Rattle.std.specs.Prelude.{◌==◌, ℕ, ℤ, pos, negsuc, List, [], ◌∷◌, ◌++◌, Bool, true, false, Option, Some, None, slice_get, option_and_then, flat_map, codes, if◌then◌else◌}
 use Rattle.std.specs.Ordering.{int_eq}
 use Rattle.std.specs.Fmt.{decimal, signed_decimal}
 use Rattle.std.specs.Str.{bytes_eq}
@@ -10,8 +10,8 @@ use Rattle.mg_text.specs.declared.event.Carried.{Carried}
 use Rattle.mg_text.specs.declared.event.Carried.TheVariants as carried
 use Rattle.jv_core.specs.declared.program.CoreType.{CoreType}
 use Rattle.jv_core.specs.declared.program.CoreType.TheVariants as types
-use Rattle.jv_core.specs.Tree.{Method, Program}
-use Rattle.jv_core.specs.Lookup.{text_at, class_numbered}
+use Rattle.jv_core.specs.Tree.{Class, Method, Program}
+use Rattle.jv_core.specs.Lookup.{text_at}
 
 -- What the events so far tell of an object: the class of which it was made, and the method that it entered last.
 pub record Known : Type 0 where
@@ -33,13 +33,23 @@ known_from k (event ∷ events) o = known_from (known_more o k event) events o
 abbrev pub known_in : List Event → (object : ℕ) → Known
 known_in = known_from unknown
 
--- the result of the first method of this class and name
-abbrev pub result_in : Program → (class : ℕ) → Name → List Method → Option CoreType
-result_in p c name [] = None
-result_in p c name (m ∷ ms) = if nat_eq m.class c && bytes_eq (text_at p m.name) name then Some m.result else result_in p c name ms
+-- the methods of these numbers
+abbrev pub methods_of : Program → (methods : List ℕ) → List Method
+methods_of p ns = flat_map (λ n. elim (slice_get p.methods n) [ None ↦ [] | Some m ↦ m ∷ [] ]) ns
 
+-- the result of the first of these methods that has this name
+abbrev pub result_in : Program → List Method → Name → Option CoreType
+result_in p [] name = None
+result_in p (m ∷ ms) name = if bytes_eq (text_at p m.name) name then Some m.result else result_in p ms name
+
+-- the first of these classes that has this name
+abbrev pub class_in : Program → List Class → Name → Option Class
+class_in p [] name = None
+class_in p (c ∷ cs) name = if bytes_eq (text_at p c.name) name then Some c else class_in p cs name
+
+-- the result of the method of this name, of the class of this name; of two the first counts
 abbrev pub result_named : Program → (class method : Name) → Option CoreType
-result_named p class method = option_and_then (λ c. result_in p c method p.methods) (class_numbered p class)
+result_named p class method = option_and_then (λ c. result_in p (methods_of p c.methods) method) (class_in p p.classes class)
 
 abbrev pub truth_text : Bool → List ℕ
 truth_text true = codes "true"
@@ -47,7 +57,9 @@ truth_text false = codes "false"
 
 -- the constant of an enum at a position
 abbrev pub label_text : Program → (enum : ℕ) → ℤ → List ℕ
-label_text p e (pos n) = elim (option_and_then (λ enum. slice_get enum.constants n) (slice_get p.enums e)) [ None ↦ [] | Some name ↦ text_at p name ]
+label_text p e (pos n) =
+    elim (option_and_then (λ enum. slice_get enum.constants n) (slice_get p.enums e))
+    [ None ↦ [] | Some name ↦ text_at p name ]
 label_text p e (negsuc n) = []
 
 -- an answer in words, behind a blank: a number, a truth value, or the constant of an enum
@@ -68,17 +80,13 @@ carried_words (carried.Text text) = codes " " ++ text
 abbrev pub object_words : (class : Name) → (object : ℕ) → List ℕ
 object_words class o = class ++ codes "#" ++ decimal o
 
--- an object of a class left a method, with its answer
-abbrev pub leave_words : Program → (class : Name) → (object : ℕ) → (method : Name) → Option ℤ → List ℕ
-leave_words p class o method answer =
-    codes "leave " ++ object_words class o ++ codes " " ++ method ++ answer_words p (result_named p class method) answer
-
--- an event in words, where this is known of its object
+-- An event in words, where this is known of its object. An object leaves the method that it entered last.
 abbrev pub event_words : Program → Known → Event → List ℕ
 event_words p k (seen.Print text) = []
 event_words p k (seen.Made o class) = codes "made " ++ object_words class o
 event_words p k (seen.Enter o method) = codes "enter " ++ object_words k.class o ++ codes " " ++ method
-event_words p k (seen.Leave o answer) = leave_words p k.class o k.method answer
+event_words p k (seen.Leave o answer) =
+    codes "leave " ++ object_words k.class o ++ codes " " ++ k.method ++ answer_words p (result_named p k.class k.method) answer
 event_words p k (seen.Send peer label payload) = codes "send " ++ peer ++ codes " " ++ label ++ carried_words payload
 event_words p k (seen.Look peer label) = codes "look " ++ peer ++ codes " " ++ label
 event_words p k (seen.Take peer label payload) = codes "take " ++ peer ++ codes " " ++ label ++ carried_words payload

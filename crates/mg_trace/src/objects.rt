@@ -1,8 +1,8 @@
 //! What the events of a run tell of its objects.
 
 ghost use Rattle.std.specs.Prelude.{◌≡◌, ◌<◌, ℕ, List as Seq, IfOk, OnOk, length};
-ghost use Rattle.mg_runs.specs.Trace.{known_more, unknown};
-ghost use Rattle.mg_runs.specs.inner.Tracing.{known_at, known_of};
+ghost use Rattle.mg_trace.specs.Trace.{known_more, unknown};
+ghost use Rattle.mg_trace.specs.Kept.{known_at, known_of};
 
 use mg_text::{Event, Memory, Text};
 use std::alloc::Global;

@@ -3,30 +3,32 @@
 ghost use Rattle.std.specs.Prelude.{◌≡◌, ◌++◌, ◌∷◌, [], ℕ, List as Seq, Some, OnOk, string_bytes, codes};
 ghost use Rattle.mg_text.specs.declared.event.Event.{Event as Seen};
 ghost use Rattle.jv_core.specs.Core.{tree_of};
-ghost use Rattle.mg_runs.specs.Trace.{line_of, event_words, object_of, object_words, leave_words, answer_words, carried_words, truth_text, label_text};
-ghost use Rattle.mg_runs.specs.inner.Tracing.{known_at};
+ghost use Rattle.mg_trace.specs.Trace.{line_of, event_words, object_of, object_words, answer_words, carried_words, truth_text, label_text};
+ghost use Rattle.mg_trace.specs.Kept.{known_at};
+ghost use Rattle.mg_trace.specs.inner.Tabled.{AreResults};
 
+use crate::names::name_text;
 use crate::objects::{Tracked, known};
-use crate::results::result_named;
-use gen_refs::name_text;
+use crate::results::Results;
 use jv_core::{Core, CoreType};
 use mg_text::{Carried, Event, Memory, Text};
 
 /// Appends the line of an event. A text that is printed has none.
 pub(crate) fn push_line(
     core: &Core,
+    results: &Results,
     objects: &[Tracked],
     event: &Event,
     lines: &mut String,
 ) -> Result<(), Memory>
-    ensures { OnOk result (string_bytes lines.new ≡ string_bytes lines.old
+    ensures { AreResults (tree_of core.now) results.now → OnOk result (string_bytes lines.new ≡ string_bytes lines.old
         ++ line_of (tree_of core.now) (known_at objects.now (object_of event.now)) event.now) }
 {
     if let Event::Print(_) = event {
         return Ok(());
     }
     lines.push_str("main ")?;
-    push_event(core, objects, event, lines)?;
+    push_event(core, results, objects, event, lines)?;
     lines.push_str("\n")?;
     Ok(())
 }
@@ -34,11 +36,12 @@ pub(crate) fn push_line(
 // Appends an event in words.
 fn push_event(
     core: &Core,
+    results: &Results,
     objects: &[Tracked],
     event: &Event,
     lines: &mut String,
 ) -> Result<(), Memory>
-    ensures { OnOk result (string_bytes lines.new ≡ string_bytes lines.old
+    ensures { AreResults (tree_of core.now) results.now → OnOk result (string_bytes lines.new ≡ string_bytes lines.old
         ++ event_words (tree_of core.now) (known_at objects.now (object_of event.now)) event.now) }
 {
     match event {
@@ -46,11 +49,12 @@ fn push_event(
         Event::Made { object, class } => push_made(*object, class.as_str(), lines),
         Event::Enter { object, method } => {
             let (class, _) = known(objects, *object);
-            push_enter(class, *object, method.as_str(), lines)
+            push_call("enter ", class, *object, method.as_str(), lines)
         }
         Event::Leave { object, answer } => {
             let (class, method) = known(objects, *object);
-            push_leave(core, class, *object, method, *answer, lines)
+            push_call("leave ", class, *object, method, lines)?;
+            push_answer(core, results.find(class, method), *answer, lines)
         }
         Event::Send {
             peer,
@@ -76,34 +80,22 @@ fn push_made(object: u32, class: &str, lines: &mut String) -> Result<(), Memory>
     push_object(class, object, lines)
 }
 
-// Appends that an object of a class entered a method.
-fn push_enter(class: &str, object: u32, method: &str, lines: &mut String) -> Result<(), Memory>
-    ensures { OnOk result (string_bytes lines.new ≡ string_bytes lines.old ++ (codes "enter " ++ object_words class.now object ++ codes " " ++ method.now)) }
+// Appends what an object of a class does with a method.
+fn push_call(
+    what: &str,
+    class: &str,
+    object: u32,
+    method: &str,
+    lines: &mut String,
+) -> Result<(), Memory>
+    ensures { OnOk result (string_bytes lines.new ≡ string_bytes lines.old
+        ++ (what.now ++ object_words class.now object ++ codes " " ++ method.now)) }
 {
-    lines.push_str("enter ")?;
+    lines.push_str(what)?;
     push_object(class, object, lines)?;
     lines.push_str(" ")?;
     lines.push_str(method)?;
     Ok(())
-}
-
-// Appends that an object of a class left a method, with its answer.
-fn push_leave(
-    core: &Core,
-    class: &str,
-    object: u32,
-    method: &str,
-    answer: Option<i32>,
-    lines: &mut String,
-) -> Result<(), Memory>
-    ensures { OnOk result (string_bytes lines.new ≡ string_bytes lines.old
-        ++ leave_words (tree_of core.now) class.now object method.now answer) }
-{
-    lines.push_str("leave ")?;
-    push_object(class, object, lines)?;
-    lines.push_str(" ")?;
-    lines.push_str(method)?;
-    push_answer(core, result_named(core, class, method), answer, lines)
 }
 
 // Appends an object, by its class and its number.
