@@ -31,7 +31,8 @@ read_number : {E : Type 0} (word : Word) (r : Result ℕ E) (n : ℕ) → Starts
 read_number {E} word r n starts parsed is small =
     let read = parse_plain own {E = E} 32 word (Ok n) (subst (ParsesUnsigned 32 10 word) is parsed) (no_plus word starts) in
     let ((digits, some, below), value) = read in
-    let back : decimal (digits_value 10 word) ≡ word = decimal-digits_value own word digits some (λ z. absurd (no_zero word starts z)) (omega arith) in
+    let back : decimal (digits_value 10 word) ≡ word =
+    decimal-digits_value own word digits some (λ z. absurd (no_zero word starts z)) (omega arith) in
     let named : word ≡ decimal n = sym back ∙ ap decimal (sym value) in
     (named, positive n word starts named, small)
 
@@ -46,7 +47,9 @@ no_number word isnt n low high e = isnt (subst StartsNumber (sym e) starts) wher
   some = decimal_nonempty n (omega arith)
 
   starts : StartsNumber (decimal n)
-  starts = starts_with (decimal n) some (first_decimal n (omega arith) (omega arith)) (digit_at (decimal n) 0 (digits_decimal own n (omega arith)) some).1
+  starts =
+      starts_with (decimal n) some (first_decimal n (omega arith) (omega arith))
+      (digit_at (decimal n) 0 (digits_decimal own n (omega arith)) some).1
 
 -- a word that is read as no number, or as a larger one
 no_steps : {E : Type 0} (word : Word) (r : Result ℕ E) → ParsesUnsigned 32 10 word r → ((n : ℕ) → r ≡ Ok n → n ≤ 20000000 → ⊥)
@@ -60,18 +63,21 @@ not_started bytes text word e e' isnt = no_number word (λ h. isnt (subst Starts
 
 pub not_read : {E : Type 0} (text word : Word) (r : Result ℕ E) (x : E) → text ≡ word → ParsesUnsigned 32 10 text r → r ≡ Err x
     → IsSteps word None
-not_read {E} text word r x e parsed is = no_steps {E = E} word r (subst (λ (w : Word). ParsesUnsigned 32 10 w r) e parsed) (λ n ok small. absurd (never n (sym is ∙ ok))) where
-  never : (n : ℕ) → ◌≡◌ {A = Result ℕ E} (Err x) (Ok n) → ⊥
-  never n e = cc
+not_read {E} text word r x e parsed is =
+    no_steps {E = E} word r (subst (λ (w : Word). ParsesUnsigned 32 10 w r) e parsed) (λ n ok small. absurd (never n (sym is ∙ ok))) where
+      never : (n : ℕ) → ◌≡◌ {A = Result ℕ E} (Err x) (Ok n) → ⊥
+      never n e = cc
 
 pub too_many : {E : Type 0} (text word : Word) (r : Result ℕ E) (m : ℕ) → text ≡ word → ParsesUnsigned 32 10 text r → r ≡ Ok m
     → 20000000 < m → IsSteps word None
-too_many {E} text word r m e parsed is large = no_steps {E = E} word r (subst (λ (w : Word). ParsesUnsigned 32 10 w r) e parsed) (λ n ok small. absurd (never n (sym is ∙ ok) small)) where
-  same : (n : ℕ) → ◌≡◌ {A = Result ℕ E} (Ok m) (Ok n) → m ≡ n
-  same n e = cc
+too_many {E} text word r m e parsed is large =
+    no_steps {E = E} word r (subst (λ (w : Word). ParsesUnsigned 32 10 w r) e parsed)
+    (λ n ok small. absurd (never n (sym is ∙ ok) small)) where
+      same : (n : ℕ) → ◌≡◌ {A = Result ℕ E} (Ok m) (Ok n) → m ≡ n
+      same n e = cc
 
-  never : (n : ℕ) → ◌≡◌ {A = Result ℕ E} (Ok m) (Ok n) → n ≤ 20000000 → ⊥
-  never n e small = let k : m ≡ n = same n e in absurd (omega arith)
+      never : (n : ℕ) → ◌≡◌ {A = Result ℕ E} (Ok m) (Ok n) → n ≤ 20000000 → ⊥
+      never n e small = let k : m ≡ n = same n e in absurd (omega arith)
 
 pub read_steps : {E : Type 0} (bytes text word : Word) (r : Result ℕ E) (m : ℕ) → bytes ≡ text → text ≡ word → StartsNumber bytes
     → ParsesUnsigned 32 10 text r → r ≡ Ok m → m ≤ 20000000

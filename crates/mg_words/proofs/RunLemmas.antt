@@ -17,6 +17,9 @@ use Rattle.mg_words.proofs.WordsLemmas.{run, head_is, tail_is, filled, empty_is,
 
 -- ---- options and their words
 
+abbrev words_of : List RunOption → List Word
+words_of = flat_map option_words
+
 -- which option it is
 abbrev pub kind_of : RunOption → Named
 kind_of (Main class) = named.Main
@@ -95,12 +98,13 @@ no_option x rest files e (_, each) = go x (subst (All IsSourceName) (sym e) each
   go (Out v) h = (All-first IsSourceName (codes "--out") (v ∷ rest) h).0 refl
 
 no_word : (option : Named) (rest files : List Word) → word_of option ∷ rest ≡ files → AreSourceNames files → ⊥
-no_word option rest files e (_, each) = go option (All-first IsSourceName (word_of option) rest (subst (All IsSourceName) (sym e) each)) where
-  go : (o : Named) → IsSourceName (word_of o) → ⊥
-  go named.Main h = h.0 refl
-  go named.Steps h = h.0 refl
-  go named.Trace h = h.0 refl
-  go named.Out h = h.0 refl
+no_word option rest files e (_, each) =
+    go option (All-first IsSourceName (word_of option) rest (subst (All IsSourceName) (sym e) each)) where
+      go : (o : Named) → IsSourceName (word_of o) → ⊥
+      go named.Main h = h.0 refl
+      go named.Steps h = h.0 refl
+      go named.Trace h = h.0 refl
+      go named.Out h = h.0 refl
 
 -- ---- options behind options
 
@@ -108,16 +112,18 @@ no_word option rest files e (_, each) = go option (All-first IsSourceName (word_
 record Left (o : List RunOption) (rest : List Word) (order : List RunOption) (files : List Word) : Type 0 where
   more : List RunOption
   all : order ≡ o ++ more
-  words : rest ≡ flat_map option_words more ++ files
+  words : rest ≡ words_of more ++ files
 
 left_of : (o order : List RunOption) (rest files : List Word) → All IsOption o → All IsOption order → AreSourceNames files
-    → flat_map option_words o ++ rest ≡ flat_map option_words order ++ files → Left o rest order files
+    → words_of o ++ rest ≡ words_of order ++ files → Left o rest order files
 left_of [] order rest files right right' are e = record { more = order; all = refl; words = e }
-left_of (x ∷ xs) [] rest files right right' are e = absurd (no_option x (flat_map option_words xs ++ rest) files (sym (append_assoc (option_words x) (flat_map option_words xs) rest) ∙ e) are)
+left_of (x ∷ xs) [] rest files right right' are e =
+    absurd (no_option x (words_of xs ++ rest) files (sym (append_assoc (option_words x) (words_of xs) rest) ∙ e) are)
 left_of (x ∷ xs) (y ∷ ys) rest files right right' are e =
-    let e' : option_words x ++ (flat_map option_words xs ++ rest) ≡ option_words y ++ (flat_map option_words ys ++ files) =
-    sym (append_assoc (option_words x) (flat_map option_words xs) rest) ∙ e ∙ append_assoc (option_words y) (flat_map option_words ys) files in
-    let (one, others) = same_option x y (flat_map option_words xs ++ rest) (flat_map option_words ys ++ files) (All-first IsOption x xs right) (All-first IsOption y ys right') e' in
+    let e' : option_words x ++ (words_of xs ++ rest) ≡ option_words y ++ (words_of ys ++ files) =
+    sym (append_assoc (option_words x) (words_of xs) rest) ∙ e ∙ append_assoc (option_words y) (words_of ys) files in
+    let (one, others) =
+    same_option x y (words_of xs ++ rest) (words_of ys ++ files) (All-first IsOption x xs right) (All-first IsOption y ys right') e' in
     let left = left_of xs ys rest files (All-rest IsOption x xs right) (All-rest IsOption y ys right') are others in
     record { more = left.more; all = (λ i. sym one i ∷ left.all i); words = left.words }
 
@@ -127,7 +133,7 @@ record Goes (o : List RunOption) (rest : List Word) (command : Command) : Type 0
   files : List Word
   more : List RunOption
   same : command ≡ Run asked files
-  words : rest ≡ flat_map option_words more ++ files
+  words : rest ≡ words_of more ++ files
   sources : AreSourceNames files
   right : All IsOption (o ++ more)
   class : filter_map class_in (o ++ more) ≡ asked.class ∷ []
@@ -136,9 +142,9 @@ record Goes (o : List RunOption) (rest : List Word) (command : Command) : Type 0
   folder : filter_map folder_in (o ++ more) ≡ option_to_list asked.folder
 
 goes_on : (o : List RunOption) (rest : List Word) (command : Command) → All IsOption o
-    → IsCommand command (run ∷ (flat_map option_words o ++ rest)) → Goes o rest command
+    → IsCommand command (run ∷ (words_of o ++ rest)) → Goes o rest command
 goes_on o rest command right is =
-    let (asked, files, same, (options, e, how, are)) = is_run command (flat_map option_words o ++ rest) is in
+    let (asked, files, same, (options, e, how, are)) = is_run command (words_of o ++ rest) is in
     let left = left_of o how.order rest files right how.right are (e ∙ ap (λ (z : List Word). z ++ files) how.written) in
     record {
       asked = asked;
@@ -225,7 +231,8 @@ two_values None b c rest h e = let never : ⊥ = cc in never
 two_values (Some x) None c rest h e = let never : ⊥ = cc in never
 two_values (Some x) (Some y) c rest h e = let k = ap length e in absurd (omega (arith, k))
 
-named_twice : {A : Type 0} (f : RunOption → Option A) (o : List RunOption) (x : RunOption) (more : List RunOption) (a b : Option A) (c : A) → filter_map f o ≡ option_to_list a
+named_twice : {A : Type 0} (f : RunOption → Option A) (o : List RunOption) (x : RunOption) (more : List RunOption) (a b : Option A) (c : A)
+    → filter_map f o ≡ option_to_list a
     → is_some a ≡ true → filter_map f (x ∷ more) ≡ c ∷ filter_map f more → filter_map f (o ++ x ∷ more) ≡ option_to_list b → ⊥
 named_twice f o x more a b c was some here all =
     two_values a b c (filter_map f more) some ((λ i. sym was i ++ sym here i) ∙ sym (filter_map-append f o (x ∷ more)) ∙ all)
@@ -235,8 +242,10 @@ twice : (o : List RunOption) (g : Given) (x : RunOption) (more : List RunOption)
     → filter_map class_in (o ++ x ∷ more) ≡ asked.class ∷ [] → filter_map steps_in (o ++ x ∷ more) ≡ option_to_list asked.steps
     → filter is_trace (o ++ x ∷ more) ≡ (if asked.traced then Trace ∷ [] else [])
     → filter_map folder_in (o ++ x ∷ more) ≡ option_to_list asked.folder → ⊥
-twice o g (Main v) more asked h given class steps traced folder = named_twice class_in o (Main v) more g.class (Some asked.class) v h.class given refl class
-twice o g (Steps v) more asked h given class steps traced folder = named_twice steps_in o (Steps v) more g.steps asked.steps v h.steps given refl steps
+twice o g (Main v) more asked h given class steps traced folder =
+    named_twice class_in o (Main v) more g.class (Some asked.class) v h.class given refl class
+twice o g (Steps v) more asked h given class steps traced folder =
+    named_twice steps_in o (Steps v) more g.steps asked.steps v h.steps given refl steps
 twice o g Trace more asked h given class steps traced folder =
     let one : filter is_trace o ≡ Trace ∷ [] = h.traced ∙ ap (λ (b : Bool). if b then Trace ∷ [] else []) given in
     let both : Trace ∷ Trace ∷ filter is_trace more ≡ (if asked.traced then Trace ∷ [] else []) =
@@ -245,7 +254,8 @@ twice o g Trace more asked h given class steps traced folder =
       too_many : (t : Bool) (a : List RunOption) → ◌≡◌ {A = List RunOption} (Trace ∷ Trace ∷ a) (if t then Trace ∷ [] else []) → ⊥
       too_many true a e = cc
       too_many false a e = cc
-twice o g (Out v) more asked h given class steps traced folder = named_twice folder_in o (Out v) more g.folder asked.folder v h.folder given refl folder
+twice o g (Out v) more asked h given class steps traced folder =
+    named_twice folder_in o (Out v) more g.folder asked.folder v h.folder given refl folder
 
 -- ---- what can begin `run`
 
@@ -254,12 +264,12 @@ asked_from g class = record { class = class; steps = g.steps; traced = g.traced;
 
 pub runnable : (o : List RunOption) (g : Given) (class : Word) (files : List Word) → AreGiven o g → g.class ≡ Some class → files ≢ []
     → All IsSourceName files
-    → IsCommand (Run (asked_from g class) files) (run ∷ (flat_map option_words o ++ files))
+    → IsCommand (Run (asked_from g class) files) (run ∷ (words_of o ++ files))
 runnable o g class files h is some each = (
-  flat_map option_words o ++ files,
+  words_of o ++ files,
   refl,
   (
-    flat_map option_words o,
+    words_of o,
     refl,
     record {
       order = o;
@@ -277,44 +287,48 @@ runnable o g class files h is some each = (
 -- options and files can be followed by a file
 begins_run : (o : List RunOption) (g : Given) (class : Word) (files : List Word) → AreGiven o g → g.class ≡ Some class
     → All IsSourceName files
-    → CanBegin AreCommand (run ∷ (flat_map option_words o ++ files))
+    → CanBegin AreCommand (run ∷ (words_of o ++ files))
 begins_run o g class files h is each = (
   some_source ∷ [],
   (
     Run (asked_from g class) (files ++ some_source ∷ []),
-    subst (IsCommand (Run (asked_from g class) (files ++ some_source ∷ []))) (ap (λ (z : List Word). run ∷ z) (sym (append_assoc (flat_map option_words o) files (some_source ∷ []))))
+    subst (IsCommand (Run (asked_from g class) (files ++ some_source ∷ [])))
+        (ap (λ (z : List Word). run ∷ z) (sym (append_assoc (words_of o) files (some_source ∷ []))))
         (runnable o g class (files ++ some_source ∷ []) h is (pushed_filled files some_source) (All-push IsSourceName files some_source each source_named)),
   ),
 )
 
-flat_push : (o : List RunOption) (x : RunOption) → flat_map option_words (o ++ x ∷ []) ≡ flat_map option_words o ++ option_words x
-flat_push o x = flat_map-append option_words o (x ∷ []) ∙ ap (λ (z : List Word). flat_map option_words o ++ z) (nothing_behind (option_words x))
+flat_push : (o : List RunOption) (x : RunOption) → words_of (o ++ x ∷ []) ≡ words_of o ++ option_words x
+flat_push o x = flat_map-append option_words o (x ∷ []) ∙ ap (λ (z : List Word). words_of o ++ z) (nothing_behind (option_words x))
 
 -- what can begin with more words can with fewer
 begins_sooner : (ws more : List Word) → CanBegin AreCommand (run ∷ (ws ++ more)) → CanBegin AreCommand (run ∷ ws)
-begins_sooner ws more (rest, (command, is)) = (more ++ rest, (command, subst (IsCommand command) (ap (λ (z : List Word). run ∷ z) (append_assoc ws more rest)) is))
+begins_sooner ws more (rest, (command, is)) =
+    (more ++ rest, (command, subst (IsCommand command) (ap (λ (z : List Word). run ∷ z) (append_assoc ws more rest)) is))
 
-pub begins_options : (o : List RunOption) (g : Given) → AreGiven o g → CanBegin AreCommand (run ∷ flat_map option_words o)
+pub begins_options : (o : List RunOption) (g : Given) → AreGiven o g → CanBegin AreCommand (run ∷ words_of o)
 begins_options o g h = go g.class refl where
-  go : (class : Option Word) → g.class ≡ class → CanBegin AreCommand (run ∷ flat_map option_words o)
-  go (Some class) e = begins_sooner (flat_map option_words o) [] (begins_run o g class [] h e (none_yet IsSourceName))
+  go : (class : Option Word) → g.class ≡ class → CanBegin AreCommand (run ∷ words_of o)
+  go (Some class) e = begins_sooner (words_of o) [] (begins_run o g class [] h e (none_yet IsSourceName))
   go None e =
       let h' = given_more o g (Main some_class) h classed (ap is_some e) in
-      let b : CanBegin AreCommand (run ∷ (flat_map option_words (o ++ Main some_class ∷ []) ++ [])) = begins_run (o ++ Main some_class ∷ []) (with_more (Main some_class) g) some_class [] h' refl (none_yet IsSourceName) in
-      begins_sooner (flat_map option_words o) (option_words (Main some_class)) (subst (λ (z : List Word). CanBegin AreCommand (run ∷ z)) (nothing_behind (flat_map option_words (o ++ Main some_class ∷ [])) ∙ flat_push o (Main some_class)) b)
+      let b : CanBegin AreCommand (run ∷ (words_of (o ++ Main some_class ∷ []) ++ [])) =
+      begins_run (o ++ Main some_class ∷ []) (with_more (Main some_class) g) some_class [] h' refl (none_yet IsSourceName) in
+      begins_sooner (words_of o) (option_words (Main some_class))
+      (subst (λ (z : List Word). CanBegin AreCommand (run ∷ z)) (nothing_behind (words_of (o ++ Main some_class ∷ [])) ∙ flat_push o (Main some_class)) b)
 
 -- an option that wasn't named yet can follow
 begins_by : (o : List RunOption) (g : Given) (x : RunOption) (word : Word) (values : List Word) → AreGiven o g → IsOption x
     → is_given g (kind_of x) ≡ false
-    → option_words x ≡ word ∷ values → CanBegin AreCommand (run ∷ (flat_map option_words o ++ word ∷ []))
+    → option_words x ≡ word ∷ values → CanBegin AreCommand (run ∷ (words_of o ++ word ∷ []))
 begins_by o g x word values h is new e =
     let b = begins_options (o ++ x ∷ []) (with_more x g) (given_more o g x h is new) in
-    let same : flat_map option_words (o ++ x ∷ []) ≡ (flat_map option_words o ++ word ∷ []) ++ values =
-    flat_push o x ∙ ap (λ (z : List Word). flat_map option_words o ++ z) e ∙ sym (append_assoc (flat_map option_words o) (word ∷ []) values) in
-    begins_sooner (flat_map option_words o ++ word ∷ []) values (subst (λ (z : List Word). CanBegin AreCommand (run ∷ z)) same b)
+    let same : words_of (o ++ x ∷ []) ≡ (words_of o ++ word ∷ []) ++ values =
+    flat_push o x ∙ ap (λ (z : List Word). words_of o ++ z) e ∙ sym (append_assoc (words_of o) (word ∷ []) values) in
+    begins_sooner (words_of o ++ word ∷ []) values (subst (λ (z : List Word). CanBegin AreCommand (run ∷ z)) same b)
 
 begins_word : (o : List RunOption) (g : Given) (option : Named) → AreGiven o g → is_given g option ≡ false
-    → CanBegin AreCommand (run ∷ (flat_map option_words o ++ word_of option ∷ []))
+    → CanBegin AreCommand (run ∷ (words_of o ++ word_of option ∷ []))
 begins_word o g named.Main h new = begins_by o g (Main some_class) (codes "--main") (some_class ∷ []) h classed new refl
 begins_word o g named.Steps h new = begins_by o g (Steps 1) (codes "--steps") (decimal 1 ∷ []) h (omega arith, omega arith) new refl
 begins_word o g named.Trace h new = begins_by o g Trace (codes "--trace") [] h tt new refl
@@ -323,32 +337,37 @@ begins_word o g named.Out h new = begins_by o g (Out some_class) (codes "--out")
 -- the same of a word of the code
 begins_named : (o : List RunOption) (g : Given) (option : Named) (word : Word) → AreGiven o g → is_given g option ≡ false
     → word ≡ word_of option
-    → CanBegin AreCommand (run ∷ (flat_map option_words o ++ word ∷ []))
-begins_named o g option word h new is = subst (λ (w : Word). CanBegin AreCommand (run ∷ (flat_map option_words o ++ w ∷ []))) (sym is) (begins_word o g option h new)
+    → CanBegin AreCommand (run ∷ (words_of o ++ word ∷ []))
+begins_named o g option word h new is =
+    subst (λ (w : Word). CanBegin AreCommand (run ∷ (words_of o ++ w ∷ []))) (sym is) (begins_word o g option h new)
 
 -- ---- the first word that can't follow
 
 split : (o : List RunOption) (word : Word) (more : List Word)
-    → ((run ∷ flat_map option_words o) ++ word ∷ []) ++ more ≡ run ∷ (flat_map option_words o ++ word ∷ more)
-split o word more = ap (λ (z : List Word). run ∷ z) (append_assoc (flat_map option_words o) (word ∷ []) more)
+    → ((run ∷ words_of o) ++ word ∷ []) ++ more ≡ run ∷ (words_of o ++ word ∷ more)
+split o word more = ap (λ (z : List Word). run ∷ z) (append_assoc (words_of o) (word ∷ []) more)
 
 -- an option that was named before
 pub wrong_again : (o : List RunOption) (g : Given) (option : Named) (word : Word) (rest : List Word) → AreGiven o g
     → is_given g option ≡ true → word ≡ word_of option
-    → AreWrong (run ∷ (flat_map option_words o ++ word ∷ rest)) (Some word)
-wrong_again o g option word rest h given is = first_wrong (run ∷ flat_map option_words o) word rest (begins_options o g h) (λ b. cannot b.0 b.1.0 b.1.1) where
-  cannot : (more : List Word) (command : Command) → IsCommand command (((run ∷ flat_map option_words o) ++ word ∷ []) ++ more) → ⊥
-  cannot more command k =
-      let goes = goes_on o (word ∷ more) command h.right (subst (IsCommand command) (split o word more) k) in
-      let start : word_of option ∷ more ≡ flat_map option_words goes.more ++ goes.files = ap (λ (w : Word). w ∷ more) (sym is) ∙ goes.words in
-      by goes.more goes.files goes.asked start goes.sources goes.class goes.steps goes.traced goes.folder where
-        by : (more' : List RunOption) (files : List Word) (asked : Asked) → word_of option ∷ more ≡ flat_map option_words more' ++ files → AreSourceNames files
-            → filter_map class_in (o ++ more') ≡ asked.class ∷ [] → filter_map steps_in (o ++ more') ≡ option_to_list asked.steps
-            → filter is_trace (o ++ more') ≡ (if asked.traced then Trace ∷ [] else []) → filter_map folder_in (o ++ more') ≡ option_to_list asked.folder → ⊥
-        by [] files asked e are class steps traced folder = no_word option more files e are
-        by (x ∷ xs) files asked e are class steps traced folder =
-            let kind : option ≡ kind_of x = same_kind option x more (flat_map option_words xs ++ files) (e ∙ append_assoc (option_words x) (flat_map option_words xs) files) in
-            twice o g x xs asked h (sym (ap (is_given g) kind) ∙ given) class steps traced folder
+    → AreWrong (run ∷ (words_of o ++ word ∷ rest)) (Some word)
+wrong_again o g option word rest h given is =
+    first_wrong (run ∷ words_of o) word rest (begins_options o g h) (λ b. cannot b.0 b.1.0 b.1.1) where
+      cannot : (more : List Word) (command : Command) → IsCommand command (((run ∷ words_of o) ++ word ∷ []) ++ more) → ⊥
+      cannot more command k =
+          let goes = goes_on o (word ∷ more) command h.right (subst (IsCommand command) (split o word more) k) in
+          let start : word_of option ∷ more ≡ words_of goes.more ++ goes.files = ap (λ (w : Word). w ∷ more) (sym is) ∙ goes.words in
+          by goes.more goes.files goes.asked start goes.sources goes.class goes.steps goes.traced goes.folder where
+            by : (more' : List RunOption) (files : List Word) (asked : Asked) → word_of option ∷ more ≡ words_of more' ++ files
+                → AreSourceNames files
+                → filter_map class_in (o ++ more') ≡ asked.class ∷ [] → filter_map steps_in (o ++ more') ≡ option_to_list asked.steps
+                → filter is_trace (o ++ more') ≡ (if asked.traced then Trace ∷ [] else [])
+                → filter_map folder_in (o ++ more') ≡ option_to_list asked.folder → ⊥
+            by [] files asked e are class steps traced folder = no_word option more files e are
+            by (x ∷ xs) files asked e are class steps traced folder =
+                let kind : option ≡ kind_of x =
+                same_kind option x more (words_of xs ++ files) (e ∙ append_assoc (option_words x) (words_of xs) files) in
+                twice o g x xs asked h (sym (ap (is_given g) kind) ∙ given) class steps traced folder
 
 -- the option whose word and value these are
 full_option : (option : Named) (x : RunOption) (value : Word) (more r : List Word) → option ≢ named.Trace
@@ -362,29 +381,30 @@ full_option option (Out v) value more r other e = λ i. sym (head_is e) i ∷ sy
 -- a value that its option can't have
 pub wrong_value : (o : List RunOption) (g : Given) (option : Named) (word value : Word) (rest : List Word) → AreGiven o g
     → is_given g option ≡ false → word ≡ word_of option
-    → option ≢ named.Trace → IsNoValue option value → AreWrong (run ∷ (flat_map option_words o ++ word ∷ value ∷ rest)) (Some value)
+    → option ≢ named.Trace → IsNoValue option value → AreWrong (run ∷ (words_of o ++ word ∷ value ∷ rest)) (Some value)
 wrong_value o g option word value rest h new is other isnt =
-    subst (λ (z : List Word). AreWrong (run ∷ z) (Some value)) (append_assoc (flat_map option_words o) (word ∷ []) (value ∷ rest))
-    (first_wrong (run ∷ (flat_map option_words o ++ word ∷ [])) value rest (begins_named o g option word h new is) (λ b. cannot b.0 b.1.0 b.1.1)) where
-      by : (more : List Word) (more' : List RunOption) (files : List Word) → word_of option ∷ value ∷ more ≡ flat_map option_words more' ++ files → AreSourceNames files
+    subst (λ (z : List Word). AreWrong (run ∷ z) (Some value)) (append_assoc (words_of o) (word ∷ []) (value ∷ rest))
+    (first_wrong (run ∷ (words_of o ++ word ∷ [])) value rest (begins_named o g option word h new is) (λ b. cannot b.0 b.1.0 b.1.1)) where
+      by : (more : List Word) (more' : List RunOption) (files : List Word) → word_of option ∷ value ∷ more ≡ words_of more' ++ files
+          → AreSourceNames files
           → All IsOption (o ++ more') → ⊥
       by more [] files e are right = no_word option (value ∷ more) files e are
       by more (x ∷ xs) files e are right =
-          let e' = e ∙ append_assoc (option_words x) (flat_map option_words xs) files in
-          isnt x (full_option option x value more (flat_map option_words xs ++ files) other e') (All-mid IsOption o x xs right)
+          let e' = e ∙ append_assoc (option_words x) (words_of xs) files in
+          isnt x (full_option option x value more (words_of xs ++ files) other e') (All-mid IsOption o x xs right)
 
-      cannot : (more : List Word) (command : Command) → IsCommand command (((run ∷ (flat_map option_words o ++ word ∷ [])) ++ value ∷ []) ++ more) → ⊥
+      cannot : (more : List Word) (command : Command) → IsCommand command (((run ∷ (words_of o ++ word ∷ [])) ++ value ∷ []) ++ more) → ⊥
       cannot more command k =
-          let same : ((run ∷ (flat_map option_words o ++ word ∷ [])) ++ value ∷ []) ++ more ≡ run ∷ (flat_map option_words o ++ word ∷ value ∷ more) =
-          append_assoc (run ∷ (flat_map option_words o ++ word ∷ [])) (value ∷ []) more
-          ∙ ap (λ (z : List Word). run ∷ z) (append_assoc (flat_map option_words o) (word ∷ []) (value ∷ more)) in
+          let same : ((run ∷ (words_of o ++ word ∷ [])) ++ value ∷ []) ++ more ≡ run ∷ (words_of o ++ word ∷ value ∷ more) =
+          append_assoc (run ∷ (words_of o ++ word ∷ [])) (value ∷ []) more
+          ∙ ap (λ (z : List Word). run ∷ z) (append_assoc (words_of o) (word ∷ []) (value ∷ more)) in
           let goes = goes_on o (word ∷ value ∷ more) command h.right (subst (IsCommand command) same k) in
           by more goes.more goes.files (ap (λ (w : Word). w ∷ value ∷ more) (sym is) ∙ goes.words) goes.sources goes.right
 
 -- a value is lacking
 few_value : (o : List RunOption) (g : Given) (option : Named) (word : Word) → AreGiven o g → is_given g option ≡ false
     → word ≡ word_of option → option ≢ named.Trace
-    → AreWrong (run ∷ (flat_map option_words o ++ word ∷ [])) None
+    → AreWrong (run ∷ (words_of o ++ word ∷ [])) None
 few_value o g option word h new is other = (begins_named o g option word h new is, λ k. cannot k.0 k.1) where
   short : (x : RunOption) (r : List Word) → word_of option ∷ [] ≡ option_words x ++ r → ⊥
   short (Main v) r e = filled (tail_is e)
@@ -392,30 +412,31 @@ few_value o g option word h new is other = (begins_named o g option word h new i
   short Trace r e = other (same_kind option Trace [] r e)
   short (Out v) r e = filled (tail_is e)
 
-  by : (more' : List RunOption) (files : List Word) → word_of option ∷ [] ≡ flat_map option_words more' ++ files → AreSourceNames files → ⊥
+  by : (more' : List RunOption) (files : List Word) → word_of option ∷ [] ≡ words_of more' ++ files → AreSourceNames files → ⊥
   by [] files e are = no_word option [] files e are
-  by (x ∷ xs) files e are = short x (flat_map option_words xs ++ files) (e ∙ append_assoc (option_words x) (flat_map option_words xs) files)
+  by (x ∷ xs) files e are = short x (words_of xs ++ files) (e ∙ append_assoc (option_words x) (words_of xs) files)
 
-  cannot : (command : Command) → IsCommand command (run ∷ (flat_map option_words o ++ word ∷ [])) → ⊥
+  cannot : (command : Command) → IsCommand command (run ∷ (words_of o ++ word ∷ [])) → ⊥
   cannot command k =
       let goes = goes_on o (word ∷ []) command h.right k in
       by goes.more goes.files (ap (λ (w : Word). w ∷ []) (sym is) ∙ goes.words) goes.sources
 
 -- files are lacking
-few_more : (o : List RunOption) (g : Given) → AreGiven o g → AreWrong (run ∷ (flat_map option_words o ++ [])) None
-few_more o g h = (subst (λ (z : List Word). CanBegin AreCommand (run ∷ z)) (sym (nothing_behind (flat_map option_words o))) (begins_options o g h), λ k. cannot k.0 k.1) where
-  short : (x : RunOption) (r : List Word) → [] ≡ option_words x ++ r → ⊥
-  short (Main v) r e = filled e
-  short (Steps v) r e = filled e
-  short Trace r e = filled e
-  short (Out v) r e = filled e
+few_more : (o : List RunOption) (g : Given) → AreGiven o g → AreWrong (run ∷ (words_of o ++ [])) None
+few_more o g h =
+    (subst (λ (z : List Word). CanBegin AreCommand (run ∷ z)) (sym (nothing_behind (words_of o))) (begins_options o g h), λ k. cannot k.0 k.1) where
+      short : (x : RunOption) (r : List Word) → [] ≡ option_words x ++ r → ⊥
+      short (Main v) r e = filled e
+      short (Steps v) r e = filled e
+      short Trace r e = filled e
+      short (Out v) r e = filled e
 
-  by : (more' : List RunOption) (files : List Word) → [] ≡ flat_map option_words more' ++ files → AreSourceNames files → ⊥
-  by [] files e are = are.0 (sym e)
-  by (x ∷ xs) files e are = short x (flat_map option_words xs ++ files) (e ∙ append_assoc (option_words x) (flat_map option_words xs) files)
+      by : (more' : List RunOption) (files : List Word) → [] ≡ words_of more' ++ files → AreSourceNames files → ⊥
+      by [] files e are = are.0 (sym e)
+      by (x ∷ xs) files e are = short x (words_of xs ++ files) (e ∙ append_assoc (option_words x) (words_of xs) files)
 
-  cannot : (command : Command) → IsCommand command (run ∷ (flat_map option_words o ++ [])) → ⊥
-  cannot command k = let goes = goes_on o [] command h.right k in by goes.more goes.files goes.words goes.sources
+      cannot : (command : Command) → IsCommand command (run ∷ (words_of o ++ [])) → ⊥
+      cannot command k = let goes = goes_on o [] command h.right k in by goes.more goes.files goes.words goes.sources
 
 -- what an option begins with
 option_first : (x : RunOption) (word : Word) (more r : List Word) → word ∷ more ≡ option_words x ++ r → word ≡ word_of (kind_of x)
@@ -432,16 +453,17 @@ no_start (Out v) files r plain e = plain named.Out (v ∷ r) e
 
 -- a file, where the class is lacking
 lacks_class : (o : List RunOption) (g : Given) (word : Word) (rest : List Word) → AreGiven o g → g.class ≡ None → IsPlain (word ∷ rest)
-    → AreWrong (run ∷ (flat_map option_words o ++ word ∷ rest)) (Some word)
-lacks_class o g word rest h none plain = first_wrong (run ∷ flat_map option_words o) word rest (begins_options o g h) (λ b. cannot b.0 b.1.0 b.1.1) where
-  by : (more : List Word) (more' : List RunOption) (files : List Word) (class : Word) → word ∷ more ≡ flat_map option_words more' ++ files
+    → AreWrong (run ∷ (words_of o ++ word ∷ rest)) (Some word)
+lacks_class o g word rest h none plain = first_wrong (run ∷ words_of o) word rest (begins_options o g h) (λ b. cannot b.0 b.1.0 b.1.1) where
+  by : (more : List Word) (more' : List RunOption) (files : List Word) (class : Word) → word ∷ more ≡ words_of more' ++ files
       → filter_map class_in (o ++ more') ≡ class ∷ [] → ⊥
-  by more [] files class e one = filled (sym (h.class ∙ ap option_to_list none) ∙ ap (λ (z : List RunOption). filter_map class_in z) (sym (at_end o)) ∙ one)
+  by more [] files class e one =
+      filled (sym (h.class ∙ ap option_to_list none) ∙ ap (λ (z : List RunOption). filter_map class_in z) (sym (at_end o)) ∙ one)
   by more (x ∷ xs) files class e one =
-      let start = option_first x word more (flat_map option_words xs ++ files) (e ∙ append_assoc (option_words x) (flat_map option_words xs) files) in
+      let start = option_first x word more (words_of xs ++ files) (e ∙ append_assoc (option_words x) (words_of xs) files) in
       plain (kind_of x) rest (ap (λ (w : Word). w ∷ rest) start)
 
-  cannot : (more : List Word) (command : Command) → IsCommand command (((run ∷ flat_map option_words o) ++ word ∷ []) ++ more) → ⊥
+  cannot : (more : List Word) (command : Command) → IsCommand command (((run ∷ words_of o) ++ word ∷ []) ++ more) → ⊥
   cannot more command k =
       let goes = goes_on o (word ∷ more) command h.right (subst (IsCommand command) (split o word more) k) in
       by more goes.more goes.files goes.asked.class goes.words goes.class
@@ -449,26 +471,29 @@ lacks_class o g word rest h none plain = first_wrong (run ∷ flat_map option_wo
 plain_still : (before : List Word) (word : Word) (after more : List Word) → IsPlain (before ++ word ∷ after)
     → IsPlain (before ++ word ∷ more)
 plain_still [] word after more plain = λ option rest e. plain option after (ap (λ (w : Word). w ∷ after) (head_is e))
-plain_still (b ∷ bs) word after more plain = λ option rest e. plain option (bs ++ word ∷ after) (ap (λ (w : Word). w ∷ (bs ++ word ∷ after)) (head_is e))
+plain_still (b ∷ bs) word after more plain =
+    λ option rest e. plain option (bs ++ word ∷ after) (ap (λ (w : Word). w ∷ (bs ++ word ∷ after)) (head_is e))
 
 -- a word that is no file of a program
 wrong_run_file : (o : List RunOption) (g : Given) (class : Word) (files : List Word) (word : Word) → AreGiven o g → g.class ≡ Some class
     → IsPlain files
-    → IsFirstOther IsSourceName files (Some word) → AreWrong (run ∷ (flat_map option_words o ++ files)) (Some word)
+    → IsFirstOther IsSourceName files (Some word) → AreWrong (run ∷ (words_of o ++ files)) (Some word)
 wrong_run_file o g class files word h is plain (before, after, stands, each, isnt) =
-    subst (λ (z : List Word). AreWrong (run ∷ z) (Some word)) (append_assoc (flat_map option_words o) before (word ∷ after) ∙ ap (λ (z : List Word). flat_map option_words o ++ z) (sym stands))
-    (first_wrong (run ∷ (flat_map option_words o ++ before)) word after (begins_run o g class before h is each) (λ b. cannot b.0 b.1.0 b.1.1)) where
-      by : (more : List Word) (more' : List RunOption) (files' : List Word) → before ++ word ∷ more ≡ flat_map option_words more' ++ files' → AreSourceNames files' → ⊥
+    subst (λ (z : List Word). AreWrong (run ∷ z) (Some word))
+    (append_assoc (words_of o) before (word ∷ after) ∙ ap (λ (z : List Word). words_of o ++ z) (sym stands))
+    (first_wrong (run ∷ (words_of o ++ before)) word after (begins_run o g class before h is each) (λ b. cannot b.0 b.1.0 b.1.1)) where
+      by : (more : List Word) (more' : List RunOption) (files' : List Word) → before ++ word ∷ more ≡ words_of more' ++ files'
+          → AreSourceNames files' → ⊥
       by more [] files' e are = isnt (All-mid IsSourceName before word more (subst (All IsSourceName) (sym e) are.1))
       by more (x ∷ xs) files' e are =
-          no_start x (before ++ word ∷ more) (flat_map option_words xs ++ files') (plain_still before word after more (subst IsPlain stands plain))
-          (e ∙ append_assoc (option_words x) (flat_map option_words xs) files')
+          no_start x (before ++ word ∷ more) (words_of xs ++ files') (plain_still before word after more (subst IsPlain stands plain))
+          (e ∙ append_assoc (option_words x) (words_of xs) files')
 
-      cannot : (more : List Word) (command : Command) → IsCommand command (((run ∷ (flat_map option_words o ++ before)) ++ word ∷ []) ++ more) → ⊥
+      cannot : (more : List Word) (command : Command) → IsCommand command (((run ∷ (words_of o ++ before)) ++ word ∷ []) ++ more) → ⊥
       cannot more command k =
-          let same : ((run ∷ (flat_map option_words o ++ before)) ++ word ∷ []) ++ more ≡ run ∷ (flat_map option_words o ++ (before ++ word ∷ more)) =
-          append_assoc (run ∷ (flat_map option_words o ++ before)) (word ∷ []) more
-          ∙ ap (λ (z : List Word). run ∷ z) (append_assoc (flat_map option_words o) before (word ∷ more)) in
+          let same : ((run ∷ (words_of o ++ before)) ++ word ∷ []) ++ more ≡ run ∷ (words_of o ++ (before ++ word ∷ more)) =
+          append_assoc (run ∷ (words_of o ++ before)) (word ∷ []) more
+          ∙ ap (λ (z : List Word). run ∷ z) (append_assoc (words_of o) before (word ∷ more)) in
           let goes = goes_on o (before ++ word ∷ more) command h.right (subst (IsCommand command) same k) in
           by more goes.more goes.files goes.words goes.sources
 
@@ -493,22 +518,27 @@ same_run : (command : Command) (asked : Asked) (files rest : List Word) → IsBe
     → IsCommand command (run ∷ rest) → Run asked files ≡ command
 same_run command asked files rest (options, e, how, are) is =
     let o = how.order in
-    let goes = goes_on o files command how.right (subst (λ (z : List Word). IsCommand command (run ∷ z)) (e ∙ ap (λ (z : List Word). z ++ files) how.written) is) in
+    let goes =
+    goes_on o files command how.right
+    (subst (λ (z : List Word). IsCommand command (run ∷ z)) (e ∙ ap (λ (z : List Word). z ++ files) how.written) is) in
     go goes.asked goes.files goes.more goes.same goes.words goes.class goes.steps goes.traced goes.folder where
-      go : (asked' : Asked) (files' : List Word) (more : List RunOption) → command ≡ Run asked' files' → files ≡ flat_map option_words more ++ files'
-          → filter_map class_in (how.order ++ more) ≡ asked'.class ∷ [] → filter_map steps_in (how.order ++ more) ≡ option_to_list asked'.steps
-          → filter is_trace (how.order ++ more) ≡ (if asked'.traced then Trace ∷ [] else []) → filter_map folder_in (how.order ++ more) ≡ option_to_list asked'.folder
+      go : (asked' : Asked) (files' : List Word) (more : List RunOption) → command ≡ Run asked' files' → files ≡ words_of more ++ files'
+          → filter_map class_in (how.order ++ more) ≡ asked'.class ∷ []
+          → filter_map steps_in (how.order ++ more) ≡ option_to_list asked'.steps
+          → filter is_trace (how.order ++ more) ≡ (if asked'.traced then Trace ∷ [] else [])
+          → filter_map folder_in (how.order ++ more) ≡ option_to_list asked'.folder
           → Run asked files ≡ command
       go asked' files' [] same words class steps traced folder =
           let end = at_end how.order in
-          let one : ◌≡◌ {A = List Word} (asked.class ∷ []) (asked'.class ∷ []) = sym how.class ∙ ap (λ (z : List RunOption). filter_map class_in z) (sym end) ∙ class in
+          let one : ◌≡◌ {A = List Word} (asked.class ∷ []) (asked'.class ∷ []) =
+          sym how.class ∙ ap (λ (z : List RunOption). filter_map class_in z) (sym end) ∙ class in
           let all : asked ≡ asked' = same_asked asked asked' (head_is one)
           (same_value asked.steps asked'.steps (sym how.steps ∙ ap (λ (z : List RunOption). filter_map steps_in z) (sym end) ∙ steps))
           (same_traced asked.traced asked'.traced (sym how.traced ∙ ap (λ (z : List RunOption). filter is_trace z) (sym end) ∙ traced))
           (same_value asked.folder asked'.folder (sym how.folder ∙ ap (λ (z : List RunOption). filter_map folder_in z) (sym end) ∙ folder)) in
           (λ i. Run (all i) (words i)) ∙ sym same
       go asked' files' (x ∷ xs) same words class steps traced folder =
-          absurd (no_option x (flat_map option_words xs ++ files') files (sym (append_assoc (option_words x) (flat_map option_words xs) files') ∙ sym words) are)
+          absurd (no_option x (words_of xs ++ files') files (sym (append_assoc (option_words x) (words_of xs) files') ∙ sym words) are)
 
 -- ---- words in the code
 
@@ -519,22 +549,26 @@ pub again_at : (words : List Word) (g : Given) (rest : List Word) (option : Name
     → AreRead words g rest → rest ≡ word ∷ behind
     → word ≡ word_of option → is_given g option ≡ true → AreWrong (run ∷ words) (Some word)
 again_at words g rest option word behind (o, e, h) is name given =
-    subst (λ (z : List Word). AreWrong (run ∷ z) (Some word)) (sym (e ∙ ap (λ (z : List Word). flat_map option_words o ++ z) is)) (wrong_again o g option word behind h given name)
+    subst (λ (z : List Word). AreWrong (run ∷ z) (Some word)) (sym (e ∙ ap (λ (z : List Word). words_of o ++ z) is))
+    (wrong_again o g option word behind h given name)
 
 pub more_at : (words : List Word) (g : Given) (rest : List Word) (option : Named) (word : Word) (behind : List Word) (more : Options) (left : Bor (List Word)) → AreRead words g rest
     → rest ≡ word ∷ behind → word ≡ word_of option → is_given g option ≡ false → IsStep g option behind (step.More more left)
     → AreRead words (given_of more) left.now
 more_at words g rest option word behind more left (o, e, h) is name new (full, spelled, right, same) = (
   o ++ full ∷ [],
-  e ∙ ap (λ (z : List Word). flat_map option_words o ++ z) (is ∙ ap (λ (w : Word). w ∷ behind) name ∙ spelled) ∙ sym (append_assoc (flat_map option_words o) (option_words full) left.now)
+  e ∙ ap (λ (z : List Word). words_of o ++ z) (is ∙ ap (λ (w : Word). w ∷ behind) name ∙ spelled) ∙ sym
+      (append_assoc (words_of o) (option_words full) left.now)
       ∙ ap (λ (z : List Word). z ++ left.now) (sym (flat_push o full)),
-  subst (AreGiven (o ++ full ∷ [])) (sym same) (given_more o g full h right (sym (ap (is_given g) (same_kind option full behind left.now spelled)) ∙ new)),
+  subst (AreGiven (o ++ full ∷ [])) (sym same)
+      (given_more o g full h right (sym (ap (is_given g) (same_kind option full behind left.now spelled)) ∙ new)),
 )
 
 pub shorter_at : (g : Given) (rest : List Word) (option : Named) (word : Word) (behind : List Word) (more : Options) (left : Bor (List Word)) → rest ≡ word ∷ behind
     → IsStep g option behind (step.More more left) → length left.now < length rest
 shorter_at g rest option word behind more left is (full, spelled, right, same) = go full (ap length spelled) (ap length is) where
-  go : (x : RunOption) → length (word_of option ∷ behind) ≡ length (option_words x ++ left.now) → length rest ≡ length (word ∷ behind) → length left.now < length rest
+  go : (x : RunOption) → length (word_of option ∷ behind) ≡ length (option_words x ++ left.now) → length rest ≡ length (word ∷ behind)
+      → length left.now < length rest
   go (Main v) e e' = omega arith
   go (Steps v) e e' = omega arith
   go Trace e e' = omega arith
@@ -544,15 +578,18 @@ pub stuck_at : (words : List Word) (g : Given) (rest : List Word) (option : Name
     → rest ≡ word ∷ behind → word ≡ word_of option → is_given g option ≡ false → IsStep g option behind (step.Stuck wrong)
     → AreWrong (run ∷ words) (option_map (λ w. w.now) wrong)
 stuck_at words g rest option word behind None (o, e, h) is name new (other, none) =
-    subst (λ (z : List Word). AreWrong (run ∷ z) None) (sym (e ∙ ap (λ (z : List Word). flat_map option_words o ++ z) (is ∙ ap (λ (z : List Word). word ∷ z) none)))
+    subst (λ (z : List Word). AreWrong (run ∷ z) None)
+    (sym (e ∙ ap (λ (z : List Word). words_of o ++ z) (is ∙ ap (λ (z : List Word). word ∷ z) none)))
     (few_value o g option word h new name other)
 stuck_at words g rest option word behind (Some value) (o, e, h) is name new (other, after, stands, isnt) =
-    subst (λ (z : List Word). AreWrong (run ∷ z) (Some value.now)) (sym (e ∙ ap (λ (z : List Word). flat_map option_words o ++ z) (is ∙ ap (λ (z : List Word). word ∷ z) stands)))
+    subst (λ (z : List Word). AreWrong (run ∷ z) (Some value.now))
+    (sym (e ∙ ap (λ (z : List Word). words_of o ++ z) (is ∙ ap (λ (z : List Word). word ∷ z) stands)))
     (wrong_value o g option word value.now after h new name other isnt)
 
 pub end_at : (words : List Word) (g : Given) (rest : List Word) → AreRead words g rest → length rest ≡ 0 → AreWrong (run ∷ words) None
 end_at words g rest (o, e, h) none =
-    subst (λ (z : List Word). AreWrong (run ∷ z) None) (sym (e ∙ ap (λ (z : List Word). flat_map option_words o ++ z) (empty_is rest none))) (few_more o g h)
+    subst (λ (z : List Word). AreWrong (run ∷ z) None) (sym (e ∙ ap (λ (z : List Word). words_of o ++ z) (empty_is rest none)))
+    (few_more o g h)
 
 pub files_at : (words : List Word) (g : Given) (rest : List Word) (result : Judged) → AreRead words g rest → IsRunnable g rest result
     → IsJudged (run ∷ words) result
@@ -564,17 +601,17 @@ plain_at rest word behind is isnt = λ option more e. isnt option (head_is (sym 
 
 -- the files of a run
 lacks_class_at : (g : Given) (files : List Word) (word : Word) (rest : List Word) → files ≡ word ∷ rest → IsPlain files → g.class ≡ None
-    → (o : List RunOption) → AreGiven o g → AreWrong (run ∷ (flat_map option_words o ++ files)) (Some word)
-lacks_class_at g files word rest is plain none = λ o h. subst (λ (z : List Word). AreWrong (run ∷ (flat_map option_words o ++ z)) (Some word)) (sym is)
+    → (o : List RunOption) → AreGiven o g → AreWrong (run ∷ (words_of o ++ files)) (Some word)
+lacks_class_at g files word rest is plain none = λ o h. subst (λ (z : List Word). AreWrong (run ∷ (words_of o ++ z)) (Some word)) (sym is)
     (lacks_class o g word rest h none (subst IsPlain is plain))
 
 pub wrong_file_at : (g : Given) (class : Word) (files : List Word) (word : Word) → g.class ≡ Some class → IsPlain files
     → IsFirstOther IsSourceName files (Some word)
-    → (o : List RunOption) → AreGiven o g → AreWrong (run ∷ (flat_map option_words o ++ files)) (Some word)
+    → (o : List RunOption) → AreGiven o g → AreWrong (run ∷ (words_of o ++ files)) (Some word)
 wrong_file_at g class files word is plain other = λ o h. wrong_run_file o g class files word h is plain other
 
 pub runnable_at : (g : Given) (class : Word) (files : List Word) → g.class ≡ Some class → 0 < length files → All IsSourceName files
-    → (o : List RunOption) → AreGiven o g → IsCommand (Run (asked_from g class) files) (run ∷ (flat_map option_words o ++ files))
+    → (o : List RunOption) → AreGiven o g → IsCommand (Run (asked_from g class) files) (run ∷ (words_of o ++ files))
 runnable_at g class files is some each = λ o h. runnable o g class files h is (some_filled files some) each where
   some_filled : (fs : List Word) → 0 < length fs → fs ≢ []
   some_filled [] lt = absurd (omega arith)
@@ -646,7 +683,8 @@ first_at (w ∷ ws) (Some f) e some = (w, ws, refl, e)
 
 pub lacks_class_first : (g : Given) (files : List Word) (found : Option (Bor Word)) → option_copied found ≡ slice_get files 0
     → 0 < length files → IsPlain files → g.class ≡ None
-    → (o : List RunOption) → AreGiven o g → AreWrong (run ∷ (flat_map option_words o ++ files)) (option_map (λ w. w.now) found)
+    → (o : List RunOption) → AreGiven o g → AreWrong (run ∷ (words_of o ++ files)) (option_map (λ w. w.now) found)
 lacks_class_first g files found e some plain none =
     let (word, rest, is, same) = first_at files found e some in
-    λ o h. subst (λ (r : Option Word). AreWrong (run ∷ (flat_map option_words o ++ files)) r) (sym same) (lacks_class_at g files word rest is plain none o h)
+    λ o h. subst (λ (r : Option Word). AreWrong (run ∷ (words_of o ++ files)) r) (sym same)
+    (lacks_class_at g files word rest is plain none o h)
