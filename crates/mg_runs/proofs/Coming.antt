@@ -1,5 +1,6 @@
 -- How far a run has come, and what it has shown.
-use Rattle.std.proofs.Common.{◌≡◌, ◌≢◌, ℕ, suc, ◌+◌, ◌≤◌, List, [], ◌∷◌, ◌++◌, Bool, true, false, Option, Some, None, refl, sym, ap, ◌∙◌, subst, arith, get_or, append_assoc, append-nil, string_bytes}
+use Rattle.std.proofs.Common.{◌≡◌, ℕ, ◌+◌, ◌≤◌, List, [], ◌∷◌, ◌++◌, Bool, true, false, Option, Some, None, Result, Ok, Err, refl, sym, ap, ◌∙◌, subst, append-nil}
+use Rattle.std.specs.Prelude.{OnOk}
 use Rattle.mg_text.specs.Call.{Name}
 use Rattle.mg_text.specs.declared.event.Event.{Event}
 use Rattle.mg_text.specs.declared.event.Ending.{Ending}
@@ -11,11 +12,12 @@ use Rattle.vm_model.specs.Machine.{Machine, Stepped, Waits, Stops, noted, none}
 use Rattle.vm_model.specs.Machine as machine
 use Rattle.vm_model.specs.Step.{step}
 use Rattle.vm_model.specs.Start.{IsStart}
-use Rattle.mg_runs.proofs.Steps.{steps_more}
+use Rattle.vm_model.specs.Runs.{event_text, printed}
+use Rattle.mg_runs.proofs.Steps.{steps_more, printed-append}
+use Rattle.mg_runs.proofs.Quiet.{never_waits}
 use Rattle.mg_runs.specs.declared.ran.Stand.{Stand}
 use Rattle.mg_runs.specs.declared.ran.Stand.TheVariants as stands
 use Rattle.mg_runs.specs.Runs.{alone, ComesTo}
-use Rattle.vm_machine.specs.Doing.{waits_in}
 use Rattle.mg_trace.specs.Trace.{trace}
 use Rattle.mg_trace.specs.Kept.{Traces}
 use Rattle.mg_trace.specs.declared.trace.Trace.{Trace}
@@ -39,6 +41,22 @@ told_nothing p true events None e h = absurd h
 told_nothing p false events (Some x) e h = absurd h
 told_nothing p false events None e h = refl
 
+on_ok : {A E : Type 0} (r : Result A E) (P Q : Type 0) → (P → Q) → OnOk r P → OnOk r Q
+on_ok (Ok a) P Q f h = f h
+on_ok (Err e) P Q f h = tt
+
+-- one event more
+pub showing_more : {A E : Type 0} (p : Core.Program) (traced : Bool) (events : List Event) (event : Option Event) (e : Event) (old new : Showing)
+    (r : Result A E) → event ≡ Some e → IsShowing p traced events old → new.printed ≡ old.printed ++ event_text e →
+    OnOk r (TracesIf p (events ++ e ∷ []) traced new.trace) → OnOk r (IsShowing p traced (events ++ noted event) new)
+showing_more p traced events event e old new r is h more told =
+    let shown : new.printed ≡ printed (events ++ e ∷ []) =
+    more ∙ ap (λ (l : List ℕ). l ++ event_text e) h.shown ∙ ap (λ (l : List ℕ). printed events ++ l) (sym (append-nil (event_text e)))
+    ∙ sym (printed-append events (e ∷ [])) in
+    subst (λ (o : Option Event). OnOk r (IsShowing p traced (events ++ noted o) new)) (sym is)
+    (on_ok r (TracesIf p (events ++ e ∷ []) traced new.trace) (IsShowing p traced (events ++ e ∷ []) new)
+    (λ t. record { shown = shown; traces = t }) told)
+
 module _ (core : Core.Program) (p : Program) (class : Name) (traced : Bool) where
   pub came_start : (m : Machine) → IsStart p class m → (shows : Showing) → IsShowing core traced [] shows → Came core p class traced 0 shows m (no_messages alone)
   came_start m starts shows h = record { start = m; starts = starts; events = []; leads = none; showing = h }
@@ -55,14 +73,15 @@ module _ (core : Core.Program) (p : Program) (class : Name) (traced : Bool) wher
   }
 
   -- what is left of a run: this was printed and told, by what is kept
-  pub went : (limit k count : ℕ) (shows : Showing) (m : Machine) (q : Messages) (c : Came core p class traced k shows m q) (stand : Stand)
-      (shown lines : List ℕ) → ComesTo (step p 0) limit c.start (no_messages alone) count c.events stand → shown ≡ shows.printed →
-      lines ≡ told core traced c.events → Went core p class limit traced count stand shown lines
-  went limit k count shows m q c stand shown lines comes is are = record {
+  pub went : (limit k count instructions : ℕ) (shows : Showing) (m : Machine) (q : Messages) (c : Came core p class traced k shows m q) (stand said : Stand)
+      (shown lines : List ℕ) → ComesTo (step p 0) limit c.start (no_messages alone) count c.events stand → instructions ≡ count → said ≡ stand →
+      shown ≡ shows.printed → lines ≡ told core traced c.events → Went core p class limit traced instructions said shown lines
+  went limit k count instructions shows m q c stand said shown lines comes counted stands is are = record {
     start = c.start;
     starts = c.starts;
     events = c.events;
-    comes = comes;
+    comes = subst (λ (n : ℕ). ComesTo (step p 0) limit c.start (no_messages alone) n c.events said) (sym counted)
+        (subst (λ (s : Stand). ComesTo (step p 0) limit c.start (no_messages alone) count c.events s) (sym stands) comes);
     shown_is = is ∙ c.showing.shown;
     lines_are = are;
   }
@@ -82,23 +101,15 @@ module _ (core : Core.Program) (p : Program) (class : Name) (traced : Bool) wher
         (record { steps = k; last = m; messages = q; leads = c.leads; stops = h ∙ (λ j. Stops (endings.NoPeer (sym i j))); counted = refl }, le)
     came_ends e t h i le = absurd i
 
-    pub came_waits : (from : ℕ) (peer : Name) → step p 0 m q ≡ Waits from → peer ≡ get_or alone from [] → k ≤ limit →
-        ComesTo (step p 0) limit c.start (no_messages alone) k c.events (stands.Waits peer)
-    came_waits from peer h is le = (from, is, record { machine = m; messages = q; steps = c.leads; does = h }, le)
+    -- as many instructions were taken as may be
+    pub came_bound : k ≡ limit → ComesTo (step p 0) limit c.start (no_messages alone) k c.events stands.Bound
+    came_bound full = (record { machine = m; messages = q; steps = c.leads }, full)
 
-    pub came_bound : k ≡ limit → ((from : ℕ) → step p 0 m q ≢ Waits from) → ComesTo (step p 0) limit c.start (no_messages alone) k c.events stands.Bound
-    came_bound full never = (step p 0 m q, record { machine = m; messages = q; steps = c.leads; does = refl }, never, full)
+    -- no step waits
+    pub came_never_waits : (from : ℕ) → step p 0 m q ≡ Waits from → ⊥
+    came_never_waits from h = never_waits p c.start m k c.events q from c.leads h
 
     -- an ending of such a run isn't that the code is wrong
     pub came_not_bad : NeverBad p class → (ending : Ending) → step p 0 m q ≡ Stops ending → NotBad ending
     came_not_bad never ending h =
         never c.start c.starts (k + 1) c.events ending (record { steps = k; last = m; messages = q; leads = c.leads; stops = h; counted = refl })
-
--- where a step waits for a message, or doesn't
-pub waits_is : (s : Stepped) (from : ℕ) → waits_in s ≡ Some from → s ≡ Waits from
-waits_is (machine.Went m q e) from h = absurd cc
-waits_is (Waits peer) from h = ap (λ (o : Option ℕ). elim o [ None ↦ Waits 0 | Some n ↦ Waits n ]) h
-waits_is (Stops ending) from h = absurd cc
-
-pub waits_not : (s : Stepped) → waits_in s ≡ None → (from : ℕ) → s ≢ Waits from
-waits_not s h from e = let no : ◌≡◌ {A = Option ℕ} None (Some from) = sym h ∙ ap waits_in e in cc

@@ -1,5 +1,6 @@
 pub mod Steps
 pub mod One
+pub mod Quiet
 pub mod Alone
 pub mod Sound
 pub mod Reading

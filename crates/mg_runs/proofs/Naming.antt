@@ -1,12 +1,12 @@
 -- Methods and classes by their names.
-use Rattle.std.proofs.Common.{◌≡◌, ◌≢◌, ◌↔◌, ◌&&◌, ◌||◌, ◌<◌, ◌+◌, IsTrue, ℕ, suc, Bool, true, false, if◌then◌else◌, not, cond, List, [], ◌∷◌, length, map, Option, Some, None, nat_lt, nat_eq, refl, sym, ap, ◌∙◌, subst, arith}
+use Rattle.std.proofs.Common.{◌≡◌, ◌≢◌, ◌↔◌, ◌&&◌, ◌||◌, ◌+◌, IsTrue, ℕ, suc, Bool, true, false, not, cond, List, [], ◌∷◌, length, map, Option, Some, None, nat_lt, nat_eq, refl, sym, ap, ◌∙◌, subst}
 use Rattle.std.proofs.lemmas.List.{length-map}
 use Rattle.std.specs.List.{position, position_or_len, list_any}
-use Rattle.std.specs.Str.{bytes_eq}
 use Rattle.mg_text.specs.Call.{Name}
 use Rattle.jv_core.specs.Tree.{Method, Program}
-use Rattle.jv_core.specs.Lookup.{is_main}
-use Rattle.jv_core.specs.Meaning.{main_in}
+use Rattle.jv_core.specs.Lookup.{is_main, class_numbered}
+use Rattle.jv_core.specs.Meaning.{main_in, main_of}
+use Rattle.std.specs.Prelude.{option_and_then}
 
 module _ {A B : Type 0} (f : A → B) (p : B → Bool) where
   prefix-map : (xs : List A) → position_or_len p (map f xs) ≡ position_or_len (λ x. p (f x)) xs
@@ -48,3 +48,26 @@ no_main p class n (m ∷ ms) h = go (is_main_of class m) refl (no_main p class (
 pub has_main_is : (p : Program) (class : ℕ) (ms : List Method) (b : Bool) → b ≡ list_any (is_main_of class) ms → IsTrue b ↔ (main_in p class 0 ms ≢ None)
 has_main_is p class ms true h = ((λ _. some_main p class 0 ms (sym h)), (λ _. refl))
 has_main_is p class ms false h = ((λ no. absurd (let h = no in cc)), (λ has. absurd (has (no_main p class 0 ms (sym h)))))
+
+-- the class of a name has a `main` where that of its number has one, and where there is no such class there is none
+pub main_of_class : (p : Program) (name : Name) (class : ℕ) (b : Bool) → class_numbered p name ≡ Some class →
+    IsTrue b ↔ (main_in p class 0 p.methods ≢ None) → IsTrue b ↔ (main_of p name ≢ None)
+main_of_class p name class b is h =
+    let same : main_of p name ≡ main_in p class 0 p.methods = ap (option_and_then (λ c. main_in p c 0 p.methods)) is in
+    ((λ yes none. h.0 yes (sym same ∙ none)), (λ has. h.1 (λ none. has (same ∙ none))))
+
+pub no_class : (p : Program) (name : Name) → class_numbered p name ≡ None → IsTrue false ↔ (main_of p name ≢ None)
+no_class p name is =
+    let same : main_of p name ≡ None = ap (option_and_then (λ c. main_in p c 0 p.methods)) is in
+    ((λ no. absurd (let h = no in cc)), (λ has. absurd (has same)))
+
+-- what a test for a `main` tells of the class
+pub a_main : (p : Program) (word class : Name) (b : Bool) → word ≡ class → IsTrue b ↔ (main_of p word ≢ None) → b ≡ true → main_of p class ≢ None
+a_main p word class b same h is = subst (λ (w : Name). main_of p w ≢ None) same (h.0 is)
+
+pub not_main : (p : Program) (word class : Name) (b : Bool) → word ≡ class → IsTrue b ↔ (main_of p word ≢ None) → b ≡ false → main_of p class ≡ None
+not_main p word class b same h is = subst (λ (w : Name). main_of p w ≡ None) same (go (main_of p word) (λ isnt. h.1 isnt))
+  where
+    go : {A : Type 0} (o : Option A) → (o ≢ None → IsTrue b) → o ≡ None
+    go None has = refl
+    go (Some x) has = absurd (let no = sym is ∙ has (λ (e : Some x ≡ None). cc) in cc)

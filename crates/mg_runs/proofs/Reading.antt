@@ -1,5 +1,5 @@
 -- Reading class files back, one after another.
-use Rattle.std.proofs.Common.{◌≡◌, ℕ, zero, suc, ◌+◌, ◌<◌, ◌≤◌, List, [], ◌∷◌, ◌++◌, length, get_or, drop, map, refl, sym, ap, ◌∙◌, subst, append_assoc, append-nil, arith}
+use Rattle.std.proofs.Common.{◌≡◌, ℕ, zero, suc, ◌+◌, ◌<◌, ◌≤◌, List, [], ◌∷◌, ◌++◌, length, get_or, drop, map, sym, ap, ◌∙◌, subst, append_assoc, append-nil, arith}
 use Rattle.std.proofs.lemmas.List.{at_drop_all, map-append}
 use Rattle.cls_tree.specs.Tree.{Class as File}
 use Rattle.cls_tree.specs.View.{class_of as file_of}
@@ -50,5 +50,5 @@ module _ (files : List ClassFile) where
   pub read_all : (i : ℕ) (done : List KeptFile) → length files ≤ i → ReadSoFar i done → AreSpelled (map bytes_of files) (map file_of done)
   read_all i done past l =
       let none : AreSpelled (map bytes_of (drop i files)) []
-          = subst (λ (z : List (List ℕ)). AreSpelled z []) (sym (at_drop_all (map bytes_of) files i past)) tt in
+      = subst (λ (z : List (List ℕ)). AreSpelled z []) (sym (at_drop_all (map bytes_of) files i past)) tt in
       subst (AreSpelled (map bytes_of files)) (append-nil (map file_of done)) (l.goes [] none)

@@ -1,20 +1,9 @@
 -- What running a class answers.
-use Rattle.std.proofs.Common.{◌≡◌, ◌≢◌, ℕ, List, [], Bool, Some, None, Result, Ok, Err, map, length, refl, sym, ap, ◌∙◌, subst}
+use Rattle.std.proofs.Common.{◌≡◌, ◌≢◌, ℕ, List, [], Bool, None, Err, map, length, refl, sym, ap, ◌∙◌}
 use Rattle.mg_text.specs.Call.{Name}
-use Rattle.mg_text.specs.Row.{Row}
 use Rattle.jv_core.specs.Tree as Core
-use Rattle.jv_core.specs.Meaning.{main_of, cmean}
-use Rattle.jv_mean.specs.Values.{Ended}
+use Rattle.jv_core.specs.Meaning.{main_of}
 use Rattle.jv_meaning.specs.Meaning.{mean}
-use Rattle.jv_rules.specs.Shape.{IsShaped}
-use Rattle.jv_shaped.specs.Laws.{SpelledIsShaped}
-use Rattle.jv_whole.specs.Laws.{TypesAreEnough}
-use Rattle.mg_program.specs.Program.{HaveCore}
-use Rattle.mg_program.proofs.Grammatical.{shaped}
-use Rattle.mg_compile.proofs.Ready.{well_typed}
-use Rattle.vm_model.specs.Messages.{no_messages}
-use Rattle.vm_model.specs.Step.{step}
-use Rattle.vm_model.specs.Program.{Program}
 use Rattle.mg_sources.specs.Files.{Source, sources}
 use Rattle.mg_sources.specs.Faults.{fault_line}
 use Rattle.mg_sources.specs.View.{IsStop}
@@ -30,21 +19,30 @@ use Rattle.mg_runs.specs.declared.ran.Ran.{Ran}
 use Rattle.mg_runs.specs.Lines.{no_main_line}
 use Rattle.mg_runs.specs.Commanded.{unaccepted, no_main, too_large}
 use Rattle.mg_runs.specs.View.{IsOfRun, IsRunning}
-use Rattle.mg_runs.specs.inner.Loading.{IsLoaded}
 use Rattle.mg_runs.specs.inner.Going.{Went, IsRunOf}
-use Rattle.mg_runs.specs.Runs.{alone}
-use Rattle.mg_runs.specs.Meant.{DoesAsMeant}
+use Rattle.mg_runs.specs.inner.Loading.{IsLoaded}
+use Rattle.mg_runs.specs.Laws.{RunsAreMeant}
+use Rattle.mg_runs.proofs.Sound.{alone_as_meant}
+use Rattle.mg_program.specs.Program.{HaveCore}
+use Rattle.vm_model.specs.Program.{Program}
 
--- what the sources mean is what the core means
-meant_alike : TypesAreEnough → SpelledIsShaped → (files : List Source) (class : Name) (core : Core.Program) (h : HaveCore files core) →
-    cmean core class [] ≡ mean h.program.files class []
-meant_alike enough law files class core h =
-    λ i budget. sym ((enough h.program core (well_typed files h.program h.are) (subst IsShaped h.are.is (shaped law h.are.are.spell)) h.stands class [] budget).same) i
+-- the run of class files
+pub run_of : RunsAreMeant → (files : List Source) (core : Core.Program) (written : List ClassFile) (have : HaveCore files core) → AreClassFiles core written →
+    (class : Name) → main_of core class ≢ None → (program : Program) → IsLoaded (map (λ f. f.bytes) written) program → (limit : ℕ) (traced : Bool) (ran : Ran) →
+    ran.files.items ≡ written → Went core program class limit traced ran.instructions ran.stand ran.printed ran.trace →
+    IsRunOf core written class limit traced (mean have.program.files class []) ran
+run_of law files core written have made class main program loaded limit traced ran is w = record {
+  files = is;
+  program = program;
+  loaded = loaded;
+  went = w;
+  runs = alone_as_meant law files core written have made class main program loaded w.start w.starts;
+}
 
 module _ (files : List Source) (class : Name) (limit : ℕ) (traced : Bool) where
-  pub shown : TypesAreEnough → SpelledIsShaped → (core : Core.Program) (written : List ClassFile) (ran : Ran) → AreAccepted files core → main_of core class ≢ None →
-      AreClassFiles core written → IsRunOf core written class limit traced ran → IsOfRun files class limit traced ran
-  shown enough law core written ran a main made r =
+  pub shown : (core : Core.Program) (written : List ClassFile) (ran : Ran) (a : AreAccepted files core) → main_of core class ≢ None →
+      AreClassFiles core written → IsRunOf core written class limit traced (mean a.have.program.files class []) ran → IsOfRun files class limit traced ran
+  shown core written ran a main made r =
       let (read, spelled, links) = r.loaded in
       let w = r.went in
       record {
@@ -54,7 +52,7 @@ module _ (files : List Source) (class : Name) (limit : ℕ) (traced : Bool) wher
           has_main = main;
           class_files = made;
           performs = record { files = read; read = spelled; program = r.program; links = links; start = w.start; starts = w.starts; comes = w.comes };
-          meant = subst (λ (f : ℕ → Ended). DoesAsMeant (step r.program 0) w.start (no_messages alone) f) (meant_alike enough law files class core a.have) r.meant;
+          meant = r.runs;
         };
         shows = record { written = r.files; count = refl; stand = refl; printed_is = w.shown_is; trace_is = w.lines_are };
       }

@@ -1,8 +1,7 @@
--- The class files of a core are read back and linked to the expected program, and no run of it ends because its code is wrong.
-use Rattle.std.proofs.Common.{◌≡◌, ◌≢◌, ℕ, suc, List, [], ◌∷◌, map, Option, Some, None, refl, sym, ap, ap₂, ◌∙◌, subst}
+-- The class files of a core are read back and linked to the expected program, and its runs do what the sources mean.
+use Rattle.std.proofs.Common.{◌≡◌, ◌≢◌, ℕ, List, [], ◌∷◌, map, Option, Some, None, refl, sym, ap, ap₂, ◌∙◌, subst}
 use Rattle.std.specs.Prelude.{option_and_then}
 use Rattle.mg_text.specs.Call.{Name}
-use Rattle.mg_text.specs.declared.event.Event.{Event}
 use Rattle.mg_text.specs.declared.event.Ending.{Ending}
 use Rattle.mg_text.specs.declared.event.Ending.TheVariants as endings
 use Rattle.cls_tree.specs.Tree.{Class as File}
@@ -10,29 +9,42 @@ use Rattle.cls_bytes.proofs.Whole.{one_spelled}
 use Rattle.jv_core.specs.Tree.{Class, Program}
 use Rattle.jv_core.specs.Conditions.{IsCore}
 use Rattle.jv_core.specs.Lookup.{class_numbered}
-use Rattle.jv_core.specs.Meaning.{main_of, main_in, cmean}
+use Rattle.jv_core.specs.Meaning.{Code, main_of, main_in, cmean}
+use Rattle.jv_mean.specs.Values as values
+use Rattle.jv_mean.specs.Values.{Ended, Finish, Inputs}
+use Rattle.jv_meaning.specs.Meaning.{mean}
+use Rattle.jv_rules.specs.Shape.{IsShaped}
+use Rattle.jv_shaped.specs.Laws.{SpelledIsShaped}
+use Rattle.jv_kept.specs.Laws.{CoreIsKept}
+use Rattle.jv_whole.specs.Laws.{TypesAreEnough}
 use Rattle.jv_sound.proofs.Sound.{main_at}
 use Rattle.vm_model.specs.Program as machine
 use Rattle.vm_model.specs.Links.{Flaw, Links, least, flaws, linked}
 use Rattle.vm_load.specs.Faults.{IsRefused}
 use Rattle.vm_load.specs.declared.fault.LoadFault.{LoadFault}
 use Rattle.vm_load.specs.declared.fault.LoadFault.TheVariants as load_faults
-use Rattle.vm_model.specs.Messages.{no_messages}
+use Rattle.vm_model.specs.Messages.{Messages, no_messages}
 use Rattle.vm_model.specs.Machine.{Machine}
 use Rattle.vm_model.specs.Start.{IsStart}
 use Rattle.vm_model.specs.Step.{step}
-use Rattle.vm_model.specs.Runs.{Runs}
 use Rattle.vm_machine.specs.Main as vm
 use Rattle.gen_rules.specs.Classes.{class_files}
 use Rattle.gen_rules.specs.Linked.{linked_program}
 use Rattle.gen_links.specs.Files.{HasPlainNames, CoresLink}
+use Rattle.gen_held.specs.Laws.{WrittenCoresAreHeld}
 use Rattle.gen_sound.specs.Laws.{Agrees, finish_of}
+use Rattle.gen_sound.specs.Related.{Holds}
 use Rattle.gen_sound.specs.PlainMains.{HasMain, MainsAgree}
 use Rattle.gen_sound.proofs.Starting.{main_stands}
+use Rattle.mg_sources.specs.Files.{Source}
+use Rattle.mg_program.specs.Program.{HaveCore}
+use Rattle.mg_program.proofs.Grammatical.{shaped}
+use Rattle.mg_compile.proofs.Ready.{is_core, is_held, well_typed}
 use Rattle.mg_compile.specs.declared.files.ClassFile.{ClassFile}
 use Rattle.mg_compile.specs.Files.{HoldClasses, AreClassFiles}
 use Rattle.mg_runs.specs.Runs.{alone, AreSpelled}
-use Rattle.mg_runs.specs.Meant.{DoesAsMeant}
+use Rattle.mg_runs.specs.Meant.{RunsAsMeant}
+use Rattle.mg_runs.specs.Laws.{WrittenClassesLink, RunsAreMeant}
 use Rattle.mg_runs.specs.inner.Loading.{HaveFiles, IsLoaded}
 use Rattle.mg_runs.specs.inner.Going.{NotBad, NeverBad}
 use Rattle.mg_runs.proofs.Alone.{holds_nothing}
@@ -77,9 +89,9 @@ refused_never (load_faults.NoCode name) cs right isnt h = refused_not (flaws cs)
 refused_never load_faults.Memory cs right isnt h = isnt refl
 
 -- agreement of the compiler's law, said of the budgets' meanings
-agreeing : (p : Program) (class : Name) (program : machine.Program) (start : Machine) → Agrees p class program [] 0 start (no_messages alone) →
-    DoesAsMeant (step program 0) start (no_messages alone) (cmean p class [])
-agreeing p class program start h = record {
+agreeing : (p : Program) (class : Name) (program : machine.Program) (inputs : Inputs) (me : ℕ) (q : Messages) (start : Machine) →
+    Agrees p class program inputs me start q → RunsAsMeant (step program me) start q (cmean p class inputs)
+agreeing p class program inputs me q start h = record {
   ended = λ count events ending runs. let e = h.ended count events ending runs in (e.finish, e.is, (e.means).is);
   waiting = λ count events m messages from steps waits.
       let w = h.waiting count events m messages from steps waits in (w.peer, w.named, (w.means).is);
@@ -92,30 +104,30 @@ agreeing p class program start h = record {
   spent = λ budget events means.
       let g = h.spent budget events (record { is = means }) in
       record { count = g.count; machine = g.machine; messages = g.messages; steps = g.steps; enough = g.enough };
-  right = λ budget wrong. h.right budget (cmean p class [] budget).events
-      (record { is = λ i. record { events = (cmean p class [] budget).events; finish = wrong i } });
+  right = λ budget wrong. h.right budget (cmean p class inputs budget).events
+      (record { is = λ i. record { events = (cmean p class inputs budget).events; finish = wrong i } });
 }
 
 module _ (p : Program) (core : IsCore p) (plain : HasPlainNames p) (written : List ClassFile) (made : AreClassFiles p written) (law : CoresLink) where
-  expected : Links (class_files p p.classes made.are.all) (linked_program p made.are.all)
-  expected = law.link p core plain made.are.all made.are.compiled
-
   -- the class files link
-  pub classes_link : Links made.classes (linked_program p made.are.all)
-  classes_link = subst (λ (z : List File). Links z (linked_program p made.are.all)) (sym made.are.files_are) expected
+  classes_link : Links made.classes (linked_program p made.are.all)
+  classes_link =
+      let expected : Links (class_files p p.classes made.are.all) (linked_program p made.are.all)
+      = law.link p core plain made.are.all made.are.compiled in
+      subst (λ (z : List File). Links z (linked_program p made.are.all)) (sym made.are.files_are) expected
 
-  -- what is loaded of their bytes is the expected program
-  pub loaded_is : (program : machine.Program) → IsLoaded (bytes_of written) program → program ≡ linked_program p made.are.all
-  loaded_is program (files, read, links) =
-      let same : files ≡ made.classes = one_spelled_list (bytes_of written) files made.classes read (held_spelled p p.classes made.classes written made.hold) in
+  -- what these bytes are read as and link to is the expected program
+  linked_is : (read : List File) (program : machine.Program) → AreSpelled (bytes_of written) read → Links read program → program ≡ linked_program p made.are.all
+  linked_is read program spelled links =
+      let same : read ≡ made.classes = one_spelled_list (bytes_of written) read made.classes spelled (held_spelled p p.classes made.classes written made.hold) in
       links.program ∙ ap linked same ∙ sym classes_link.program
 
   -- ---- the `main` of a class
 
-  pub main_found : (class : Name) → main_of p class ≢ None → HasMain p class
+  main_found : (class : Name) → main_of p class ≢ None → HasMain p class
   main_found class isnt = by_class (class_numbered p class) refl
     where
-      found : (c : ℕ) → class_numbered p class ≡ Some c → (o : Option _) → main_in p c 0 p.methods ≡ o → HasMain p class
+      found : (c : ℕ) → class_numbered p class ≡ Some c → (o : Option (values.Method ℕ Code)) → main_in p c 0 p.methods ≡ o → HasMain p class
       found c at None e = absurd (isnt (ap (option_and_then (λ k. main_in p k 0 p.methods)) at ∙ e))
       found c at (Some r) e =
           let i = main_at p core c [] p.methods r refl e in
@@ -131,35 +143,69 @@ module _ (p : Program) (core : IsCore p) (plain : HasPlainNames p) (written : Li
       by_class (Some c) e = found c e (main_in p c 0 p.methods) refl
 
   -- the linked program has it too
-  pub main_linked : (class : Name) → HasMain p class → (program : machine.Program) → IsLoaded (bytes_of written) program → vm.HasMain program class
-  main_linked class h program loaded =
+  main_linked : (class : Name) → HasMain p class → (program : machine.Program) → program ≡ linked_program p made.are.all → vm.HasMain program class
+  main_linked class h program same =
       let s = main_stands p core plain made.are.all made.are.compiled class h.number h.method h.at h.is in
-      subst (λ (z : machine.Program). vm.HasMain z class) (sym (loaded_is program loaded)) (record { class = s.class; method = s.method; is = s.main })
+      subst (λ (z : machine.Program). vm.HasMain z class) (sym same) (record { class = s.class; method = s.method; is = s.main })
 
-  not_bad : (ending : Ending) (f : _) → finish_of ending ≡ Some f → NotBad ending
-  not_bad endings.Done f e = tt
-  not_bad endings.Zero f e = tt
-  not_bad endings.Null f e = tt
-  not_bad (endings.Mismatch peer found) f e = tt
-  not_bad (endings.NoPeer peer) f e = tt
-  not_bad (endings.Bad kind) f e = absurd cc
+  -- the machine does what the core means
+  as_meant : MainsAgree → (class : Name) → HasMain p class → (program : machine.Program) → program ≡ linked_program p made.are.all →
+      (inputs : Inputs) (me : ℕ) (q : Messages) → Holds inputs q me [] → (start : Machine) → IsStart program class start →
+      RunsAsMeant (step program me) start q (cmean p class inputs)
+  as_meant agree class h program same inputs me q holds start starts =
+      subst (λ (z : machine.Program). RunsAsMeant (step z me) start q (cmean p class inputs)) (sym same)
+      (agreeing p class (linked_program p made.are.all) inputs me q start
+      (agree p core plain made.are.all made.are.compiled class h inputs me q holds start
+      (subst (λ (z : machine.Program). IsStart z class start) same starts)))
+
+-- what the core means is what the sources mean
+meant_alike : TypesAreEnough → SpelledIsShaped → (files : List Source) (class : Name) (core : Program) (h : HaveCore files core) (inputs : Inputs) →
+    cmean core class inputs ≡ mean h.program.files class inputs
+meant_alike enough law files class core h inputs = λ i budget. sym
+    ((enough h.program core (well_typed files h.program h.are) (subst IsShaped h.are.is (shaped law h.are.are.spell)) h.stands class inputs budget).same) i
+
+-- ---- the laws
+
+pub classes_link_law : SpelledIsShaped → CoreIsKept → WrittenCoresAreHeld → CoresLink → WrittenClassesLink
+classes_link_law law kept held link files core written have made =
+    let can = is_held held files core have in
+    (made.classes, held_spelled core core.classes made.classes written made.hold, classes_link core (is_core law kept files core have) can.plain written made link)
+
+pub runs_law : SpelledIsShaped → CoreIsKept → WrittenCoresAreHeld → CoresLink → MainsAgree → TypesAreEnough → RunsAreMeant
+runs_law law kept held link agree enough files core written have made class main read program spelled links =
+    let is = is_core law kept files core have in
+    let can = is_held held files core have in
+    let same = linked_is core is can.plain written made link read program spelled links in
+    let found = main_found core is can.plain written made link class main in (
+      main_linked core is can.plain written made link class found program same,
+      λ inputs me q holds start starts.
+          subst (λ (f : ℕ → Ended). RunsAsMeant (step program me) start q f) (meant_alike enough law files class core have inputs)
+          (as_meant core is can.plain written made link agree class found program same inputs me q holds start starts),
+    )
+
+-- ---- runs alone
+
+not_bad : (ending : Ending) (f : Finish) → finish_of ending ≡ Some f → NotBad ending
+not_bad endings.Done f e = tt
+not_bad endings.Zero f e = tt
+not_bad endings.Null f e = tt
+not_bad (endings.Mismatch peer found) f e = tt
+not_bad (endings.NoPeer peer) f e = tt
+not_bad (endings.Bad which) f e = absurd cc
+
+module _ (law : RunsAreMeant) (files : List Source) (core : Program) (written : List ClassFile) (have : HaveCore files core) (made : AreClassFiles core written)
+    (class : Name) (main : main_of core class ≢ None) (program : machine.Program) (loaded : IsLoaded (bytes_of written) program) where
+  pub has_main : vm.HasMain program class
+  has_main = let (read, spelled, links) = loaded in (law files core written have made class main read program spelled links).0
+
+  pub alone_as_meant : (start : Machine) → IsStart program class start →
+      RunsAsMeant (step program 0) start (no_messages alone) (mean have.program.files class [])
+  alone_as_meant start starts =
+      let (read, spelled, links) = loaded in
+      (law files core written have made class main read program spelled links).1 [] 0 (no_messages alone) holds_nothing start starts
 
   -- no run ends because the code is wrong
-  pub never_bad : MainsAgree → (class : Name) → HasMain p class → (program : machine.Program) → IsLoaded (bytes_of written) program →
-      NeverBad program class
-  never_bad agree class h program loaded start starts count events ending runs =
-      let same = loaded_is program loaded in
-      let agrees = agree p core plain made.are.all made.are.compiled class h [] 0 (no_messages alone) holds_nothing start
-      (subst (λ (z : machine.Program). IsStart z class start) same starts) in
-      let meant = agrees.ended count events ending
-      (subst (λ (z : machine.Program). Runs (step z 0) start (no_messages alone) count events ending) same runs) in
-      not_bad ending meant.finish meant.is
-
-  -- the machine does what the core means, where no message comes from anybody
-  pub as_meant : MainsAgree → (class : Name) → HasMain p class → (program : machine.Program) → IsLoaded (bytes_of written) program →
-      (start : Machine) → IsStart program class start → DoesAsMeant (step program 0) start (no_messages alone) (cmean p class [])
-  as_meant agree class h program loaded start starts =
-      subst (λ (z : machine.Program). DoesAsMeant (step z 0) start (no_messages alone) (cmean p class [])) (sym (loaded_is program loaded))
-      (agreeing p class (linked_program p made.are.all) start
-      (agree p core plain made.are.all made.are.compiled class h [] 0 (no_messages alone) holds_nothing start
-      (subst (λ (z : machine.Program). IsStart z class start) (loaded_is program loaded) starts)))
+  pub never_bad : NeverBad program class
+  never_bad start starts count events ending runs =
+      let (finish, is, means) = (alone_as_meant start starts).ended count events ending runs in
+      not_bad ending finish is

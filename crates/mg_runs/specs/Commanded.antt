@@ -17,7 +17,7 @@ use Rattle.mg_runs.specs.Lines.{no_main_line}
 use Rattle.vm_model.specs.Messages.{no_messages}
 use Rattle.vm_model.specs.Step.{step}
 use Rattle.mg_runs.specs.Runs.{alone, Performs}
-use Rattle.mg_runs.specs.Meant.{DoesAsMeant}
+use Rattle.mg_runs.specs.Meant.{RunsAsMeant}
 
 -- the course of a run: the program, its class files, and to what it came after how many instructions, with which events
 pub record Course : Type 0 where
@@ -34,7 +34,7 @@ pub record IsRun (files : List Source) (class : Name) (limit : ℕ) (r : Course)
   pub has_main : main_of r.core class ≢ None
   pub class_files : AreClassFiles r.core r.written
   pub performs : Performs (map (λ f. f.bytes) r.written) class limit r.count r.events r.stand
-  pub meant : DoesAsMeant (step performs.program 0) performs.start (no_messages alone) (mean accepted.have.program.files class [])
+  pub meant : RunsAsMeant (step performs.program 0) performs.start (no_messages alone) (mean accepted.have.program.files class [])
 
 -- The first refusal of these files, with its line.
 pub data Refusal (files : List Source) (class : Name) (line : List ℕ) : Type 0 where

@@ -1,6 +1,7 @@
 pub mod Lines
 pub mod Runs
 pub mod Meant
+pub mod Laws
 pub mod Commanded
 pub mod View
 pub mod inner

@@ -12,7 +12,6 @@ stand_words stands.Zero = codes "zero divisor"
 stand_words stands.Null = codes "null"
 stand_words (stands.Mismatch peer found) = codes "mismatch " ++ peer ++ codes " " ++ found
 stand_words (stands.NoPeer peer) = codes "no peer " ++ peer
-stand_words (stands.Waits peer) = codes "waits " ++ peer
 stand_words stands.Bound = codes "bound"
 
 -- how the run of `main` went

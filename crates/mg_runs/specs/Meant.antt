@@ -40,7 +40,7 @@ module _ (step : Machine → Messages → Stepped) (start : Machine) (q : Messag
     pub enough : least ≤ count
 
   -- What so many instructions show is meant with one more as the budget; and what is meant with any budget is what the machine shows.
-  pub record DoesAsMeant : Type 0 where
+  pub record RunsAsMeant : Type 0 where
     -- the machine has ended
     pub ended : (count : ℕ) (events : List Event) (ending : Ending) → Runs step start q count events ending →
         (finish : Finish) × (finish_of ending ≡ Some finish) × Means (suc count) events finish

@@ -1,5 +1,5 @@
 -- The run of the `main` of a class alone, over the bytes of class files.
-use Rattle.std.specs.Prelude.{◌≡◌, ◌≢◌, ◌≤◌, ℕ, List, [], ◌∷◌, get_or, codes}
+use Rattle.std.specs.Prelude.{◌≡◌, ◌≤◌, ℕ, List, [], ◌∷◌, codes}
 use Rattle.mg_text.specs.Call.{Name}
 use Rattle.mg_text.specs.declared.event.Event.{Event}
 use Rattle.mg_text.specs.declared.event.Ending.TheVariants as endings
@@ -8,7 +8,7 @@ use Rattle.cls_bytes.specs.Spelling.{ClassSpells}
 use Rattle.vm_model.specs.Program.{Program}
 use Rattle.vm_model.specs.Messages.{Messages, no_messages}
 use Rattle.vm_model.specs.Links.{Links}
-use Rattle.vm_model.specs.Machine.{Machine, Stepped, Waits, Steps}
+use Rattle.vm_model.specs.Machine.{Machine, Stepped, Steps}
 use Rattle.vm_model.specs.Step.{step}
 use Rattle.vm_model.specs.Start.{IsStart}
 use Rattle.vm_model.specs.Runs.{Runs}
@@ -19,25 +19,22 @@ use Rattle.mg_runs.specs.declared.ran.Stand.TheVariants as stands
 abbrev pub alone : List Name
 alone = codes "main" ∷ []
 
-module _ (step : Machine → Messages → Stepped) (limit : ℕ) (start : Machine) (q : Messages) where
-  -- so many instructions, with these events, lead to where the next does this
-  pub record Reaches (count : ℕ) (events : List Event) (next : Stepped) : Type 0 where
-    pub machine : Machine
-    pub messages : Messages
-    pub steps : Steps step start q count events machine messages
-    pub does : step machine messages ≡ next
+-- so many instructions, with these events, lead on to some machine
+pub record Goes (step : Machine → Messages → Stepped) (start : Machine) (q : Messages) (count : ℕ) (events : List Event) : Type 0 where
+  pub machine : Machine
+  pub messages : Messages
+  pub steps : Steps step start q count events machine messages
 
-  -- The run has ended, and the instruction that ended it is counted; it waits for a message; or it took as many instructions as it may
-  -- take, and neither has ended nor waits.
+module _ (step : Machine → Messages → Stepped) (limit : ℕ) (start : Machine) (q : Messages) where
+  -- The run has ended, and the instruction that ended it is counted; or it took as many instructions as it may take, and none of them
+  -- ended it. It never waits for a message: that needs another role, and there is none (proofs/Quiet.antt).
   abbrev pub ComesTo : (count : ℕ) → List Event → Stand → Type 0
   ComesTo count events stands.Done = Runs step start q count events endings.Done × (count ≤ limit)
   ComesTo count events stands.Zero = Runs step start q count events endings.Zero × (count ≤ limit)
   ComesTo count events stands.Null = Runs step start q count events endings.Null × (count ≤ limit)
   ComesTo count events (stands.Mismatch peer found) = Runs step start q count events (endings.Mismatch peer found) × (count ≤ limit)
   ComesTo count events (stands.NoPeer peer) = Runs step start q count events (endings.NoPeer peer) × (count ≤ limit)
-  ComesTo count events (stands.Waits peer) =
-      (from : ℕ) × (peer ≡ get_or q.roles from []) × Reaches count events (Waits from) × (count ≤ limit)
-  ComesTo count events stands.Bound = (next : Stepped) × Reaches count events next × ((from : ℕ) → next ≢ Waits from) × (count ≡ limit)
+  ComesTo count events stands.Bound = Goes step start q count events × (count ≡ limit)
 
 -- the bytes spell these class files
 abbrev pub AreSpelled : List (List ℕ) → List File → Type 0

@@ -1,17 +1,18 @@
 //! The run of a linked program from the `main` of a class, step by step, with what it shows.
 //! No other role takes part in it.
 
-ghost use Rattle.std.specs.Prelude.{◌≡◌, ◌++◌, [], Bool, List as Seq, IfOk, OnOk, get_or};
+ghost use Rattle.std.specs.Prelude.{◌≡◌, ◌++◌, ◌∷◌, [], Bool, List as Seq, IfOk, OnOk};
 ghost use Rattle.mg_text.specs.declared.event.Event.{Event as Seen};
 ghost use Rattle.jv_core.specs.Tree.{Program};
 ghost use Rattle.vm_model.specs.View.{classes_of};
 ghost use Rattle.vm_model.specs.Messages.{no_messages};
 ghost use Rattle.vm_model.specs.Machine.{noted};
+ghost use Rattle.vm_model.specs.Runs.{event_text};
 ghost use Rattle.vm_machine.specs.Main.{HasMain};
 ghost use Rattle.jv_core.specs.Core.{tree_of};
 ghost use Rattle.mg_runs.specs.Runs.{alone};
 ghost use Rattle.mg_runs.specs.inner.Going.{Went, IsStandOf, NotBad, NeverBad, told};
-ghost use Rattle.mg_runs.specs.inner.Tracing.{IsShowing};
+ghost use Rattle.mg_runs.specs.inner.Tracing.{IsShowing, TracesIf};
 
 use crate::ran::Stand;
 use jv_core::Core;
@@ -51,34 +52,24 @@ pub(crate) fn go(
     for taken in 0..limit {
         match machine.step(alloc, linked, &mut ports, 0)? {
             Stepped::Went(event) => shows.add(event)?,
-            Stepped::Waits(peer) => return Ok(shows.gone(alloc, taken as u64, waiting(alloc, peer)?)),
-            Stepped::Ended(ending) => return Ok(shows.gone(alloc, taken as u64 + 1, stand_of(ending))),
+            Stepped::Waits(_) => unreachable!(),
+            Stepped::Ended(ending) => {
+                let stand = stand_of(ending);
+                return Ok(shows.gone(alloc, u64::from(taken) + 1, stand));
+            }
         }
     }
-    let stand = match machine.waits(linked, &ports, 0) {
-        Some(peer) => waiting(alloc, peer)?,
-        None => Stand::Bound,
-    };
-    Ok(shows.gone(alloc, limit as u64, stand))
+    Ok(shows.gone(alloc, u64::from(limit), Stand::Bound))
 }
 
 // The one role, and no message on its way.
 fn alone(alloc: Global) -> Result<Ports, Memory>
     ensures { IfOk result (λ p. p ≡ no_messages alone) }
 {
+    let name = Text::of(alloc, "main")?;
     let mut roles = List::new(alloc);
-    roles.push(Text::of(alloc, "main")?)?;
+    roles.push(name)?;
     Ports::new(alloc, roles.as_slice())
-}
-
-// How a run stands that waits for a message from the role of this number.
-fn waiting(alloc: Global, peer: u32) -> Result<Stand, Memory>
-    ensures { IfOk result (λ s. s ≡ Stand.Waits (get_or alone peer [])) }
-{
-    let name = if peer == 0 { "main" } else { "" };
-    Ok(Stand::Waits {
-        peer: Text::of(alloc, name)?,
-    })
 }
 
 // How a run stands that has ended, not because its code is wrong.
@@ -93,6 +84,31 @@ fn stand_of(ending: Ending) -> Stand
         Ending::Mismatch(peer, found) => Stand::Mismatch { peer, found },
         Ending::NoPeer(peer) => Stand::NoPeer { peer },
         Ending::Bad(_) => unreachable!(),
+    }
+}
+
+// Appends what an event prints, with a line feed.
+fn print(printed: &mut Bytes, event: &Event) -> Result<(), Memory>
+    ensures { OnOk result (printed.new ≡ printed.old ++ event_text event.now) }
+{
+    match event {
+        Event::Print(text) => {
+            printed.extend(text.as_str().as_bytes())?;
+            printed.extend(b"\n")?;
+            Ok(())
+        }
+        _ => Ok(()),
+    }
+}
+
+// Appends the line of an event, where the lines are asked for.
+fn tell(trace: &mut Option<Trace<'_>>, event: Event) -> Result<(), Memory>
+    ensures { (p : Program) (traced : Bool) (events : Seq Seen) → TracesIf p events traced trace.old
+        → OnOk result (TracesIf p (events ++ event ∷ []) traced trace.new) }
+{
+    match trace {
+        Some(trace) => trace.add(event),
+        None => Ok(()),
     }
 }
 
@@ -128,14 +144,8 @@ impl<'a> Showing<'a> {
         let Some(event) = event else {
             return Ok(());
         };
-        if let Event::Print(text) = &event {
-            self.printed.extend(text.as_str().as_bytes())?;
-            self.printed.extend(b"\n")?;
-        }
-        match &mut self.trace {
-            Some(trace) => trace.add(event),
-            None => Ok(()),
-        }
+        print(&mut self.printed, &event)?;
+        tell(&mut self.trace, event)
     }
 
     // All of it, with how the run stands.

@@ -3,9 +3,12 @@
 #![tactic(auto)]
 
 mod going;
+mod laws;
 mod loading;
+mod mains;
 mod ran;
 mod running;
 
+pub use laws::{runs_are_meant, written_classes_link};
 pub use ran::{Ran, Stand};
 pub use running::run_class;

@@ -9,13 +9,10 @@ ghost use Rattle.mg_compile.specs.View.{IsOfFiles};
 ghost use Rattle.mg_runs.specs.Runs.{AreSpelled};
 ghost use Rattle.mg_runs.specs.inner.Loading.{HaveFiles, IsLoaded};
 
+use crate::laws::written_classes_link;
 use cls_bytes::{ClassFault, read_class};
 use cls_tree::Class;
-use gen_held::written_cores_are_held;
-use gen_links::files_link;
 use jv_core::Core;
-use jv_kept::core_is_kept;
-use jv_shaped::spelled_is_shaped;
 use mg_compile::ClassFile;
 use mg_text::{List, Memory};
 use std::alloc::Global;
@@ -28,10 +25,7 @@ pub(crate) fn load_back(alloc: Global, core: &Core, files: &[ClassFile]) -> Resu
     requires made { AreClassFiles (tree_of core.now) files.now }
     ensures { IfOk result (λ l. IsLoaded (map (λ f. f.bytes) files.now) (classes_of l.classes.items)) }
 {
-    spelled_is_shaped();
-    core_is_kept();
-    written_cores_are_held();
-    files_link();
+    written_classes_link();
     let classes = read_all(alloc, files)?;
     match load(alloc, classes.as_slice()) {
         Ok(linked) => Ok(linked),

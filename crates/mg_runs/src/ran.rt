@@ -17,8 +17,6 @@ pub enum Stand {
     Mismatch { peer: Text, found: Text },
     /// No other role of the run has this name.
     NoPeer { peer: Text },
-    /// It waits for a message from a peer.
-    Waits { peer: Text },
     /// It took as many instructions as it may take, and goes on.
     Bound,
 }

@@ -1,11 +1,11 @@
 //! From the files of a command to the run of a class.
 
-ghost use Rattle.std.specs.Prelude.{◌≡◌, ◌≢◌, ◌<◌, ◌^◌, ◌↔◌, ◌&&◌, ℕ, List as Seq, IsTrue, IfOk, OnOk, None, length, nat_eq};
+ghost use Rattle.std.specs.Prelude.{◌≡◌, ◌≢◌, ◌<◌, ◌^◌, ℕ, [], List as Seq, IfOk, OnOk, None, length};
 ghost use Rattle.jv_core.specs.Core.{tree_of};
-ghost use Rattle.jv_core.specs.Lookup.{class_numbered, is_main};
-ghost use Rattle.jv_core.specs.Meaning.{main_in, main_of};
-ghost use Rattle.jv_core.specs.View.{method_of};
-ghost use Rattle.mg_sources.specs.Files.{HaveKinds, sources};
+ghost use Rattle.jv_core.specs.Meaning.{main_of};
+ghost use Rattle.jv_meaning.specs.Meaning.{mean};
+ghost use Rattle.mg_program.specs.Program.{HaveCore};
+ghost use Rattle.mg_sources.specs.Files.{HaveKinds, Source, sources};
 ghost use Rattle.mg_sources.specs.View.{IsStop};
 ghost use Rattle.mg_runs.specs.Lines.{no_main_line};
 ghost use Rattle.mg_compile.specs.Files.{AreClassFiles};
@@ -15,16 +15,11 @@ ghost use Rattle.mg_runs.specs.View.{IsRunning, IsThatRun};
 ghost use Rattle.mg_runs.specs.inner.Going.{IsRunOf};
 
 use crate::going::go;
+use crate::laws::runs_are_meant;
 use crate::loading::load_back;
+use crate::mains::has_main;
 use crate::ran::Ran;
-use gen_held::written_cores_are_held;
-use gen_links::files_link;
-use gen_refs::name_text;
-use gen_sound::plain_mains_run;
-use jv_core::{Core, CoreMethod, MethodKind};
-use jv_kept::core_is_kept;
-use jv_shaped::spelled_is_shaped;
-use jv_whole::types_are_enough;
+use jv_core::Core;
 use mg_accepted::accept;
 use mg_compile::{ClassFile, class_files};
 use mg_sources::Stop;
@@ -74,14 +69,14 @@ fn ran_class(
     requires kinds { HaveKinds names.now }
     ensures { IsRunning (sources names.now contents.now) class.now limit traced result }
 {
-    spelled_is_shaped();
-    types_are_enough();
     let program = accept(alloc, names, contents)?;
-    if !has_main(&program.core, class.as_str()) {
+    let found = has_main(&program.core, class.as_str());
+    if !found {
         return Err(no_main(alloc, class));
     }
     let files = class_files(alloc, names, &program.core)?;
-    Ok(run_files(alloc, &program.core, files, class, limit, traced)?)
+    let ran = run_files(alloc, &program.core, files, class, limit, traced)?;
+    Ok(ran)
 }
 
 // The run of the class of this name, of the class files of a program.
@@ -96,13 +91,10 @@ fn run_files(
     requires files { IsOfFiles (tree_of core.now) }
     requires made { AreClassFiles (tree_of core.now) files.items }
     requires main { main_of (tree_of core.now) class.now ≢ None }
-    ensures { IfOk result (IsRunOf (tree_of core.now) files.items class.now limit traced) }
+    ensures { (sources : Seq Source) (have : HaveCore sources (tree_of core.now))
+        → IfOk result (IsRunOf (tree_of core.now) files.items class.now limit traced (mean have.program.files class.now [])) }
 {
-    spelled_is_shaped();
-    core_is_kept();
-    written_cores_are_held();
-    files_link();
-    plain_mains_run();
+    runs_are_meant();
     let linked = load_back(alloc, core, files.as_slice())?;
     let went = go(alloc, core, &linked, class.as_str(), limit, traced)?;
     Ok(Ran {
@@ -112,39 +104,6 @@ fn run_files(
         printed: went.printed,
         trace: went.trace,
     })
-}
-
-// Whether the class of this name has a `main`.
-fn has_main(core: &Core, class: &str) -> bool
-    ensures { IsTrue result ↔ (main_of (tree_of core.now) class.now ≢ None) }
-{
-    match class_named(core, class) {
-        Some(number) => has_main_in(core, number),
-        None => false,
-    }
-}
-
-// The number of the first class of this name.
-fn class_named(core: &Core, name: &str) -> Option<usize>
-    ensures { result ≡ class_numbered (tree_of core.now) name.now }
-{
-    core.classes()
-        .iter()
-        .position(|own| name_text(core, own.name) == name)
-}
-
-// Whether the class of this number has a `main`.
-fn has_main_in(core: &Core, class: usize) -> bool
-    ensures { IsTrue result ↔ (main_in (tree_of core.now) class 0 (tree_of core.now).methods ≢ None) }
-{
-    core.methods().iter().any(|method| is_main_of(method, class))
-}
-
-// Whether a method is a `main` of the class of this number.
-fn is_main_of(method: &CoreMethod, class: usize) -> bool
-    ensures { result ≡ (nat_eq (method_of method.now).class class && is_main (method_of method.now).kind) }
-{
-    method.class as usize == class && method.kind == MethodKind::Main
 }
 
 // The refusal of a class without a `main`.

@@ -3,7 +3,7 @@ use Rattle.std.specs.Prelude.{◌≡◌, ℕ, List, [], map, Bool, if◌then◌e
 use Rattle.mg_text.specs.Call.{Name}
 use Rattle.mg_text.specs.declared.event.Event.{Event}
 use Rattle.jv_core.specs.Tree as Core
-use Rattle.jv_core.specs.Meaning.{cmean}
+use Rattle.jv_mean.specs.Values.{Ended}
 use Rattle.mg_compile.specs.declared.files.ClassFile.{ClassFile}
 use Rattle.vm_model.specs.Program.{Program}
 use Rattle.vm_model.specs.Messages.{Messages, no_messages}
@@ -21,7 +21,7 @@ use Rattle.mg_runs.specs.declared.going.Showing.{Showing}
 use Rattle.mg_runs.specs.inner.Tracing.{IsShowing}
 use Rattle.mg_runs.specs.inner.Loading.{IsLoaded}
 use Rattle.mg_runs.specs.declared.ran.Ran.{Ran}
-use Rattle.mg_runs.specs.Meant.{DoesAsMeant}
+use Rattle.mg_runs.specs.Meant.{RunsAsMeant}
 
 -- what is told of these events
 abbrev pub told : Core.Program → (traced : Bool) → List Event → List ℕ
@@ -55,7 +55,7 @@ IsStandOf _ _ = ⊥
 
 -- it isn't that the code is wrong
 abbrev pub NotBad : Ending → Type 0
-NotBad (endings.Bad kind) = ⊥
+NotBad (endings.Bad which) = ⊥
 NotBad _ = Unit {0}
 
 -- no run from `main` of the class of this name ends because its code is wrong
@@ -63,10 +63,11 @@ abbrev pub NeverBad : Program → Name → Type 0
 NeverBad p class = (start : Machine) → IsStart p class start → (count : ℕ) (events : List Event) (ending : Ending) →
     Runs (step p 0) start (no_messages alone) count events ending → NotBad ending
 
--- the class files of a core, the run of them, and that it does what the core means
-pub record IsRunOf (core : Core.Program) (written : List ClassFile) (class : Name) (limit : ℕ) (traced : Bool) (ran : Ran) : Type 0 where
+-- the class files of a core, the run of them, and that it does what is meant
+pub record IsRunOf (core : Core.Program) (written : List ClassFile) (class : Name) (limit : ℕ) (traced : Bool) (meant : (budget : ℕ) → Ended) (ran : Ran) :
+    Type 0 where
   pub files : ran.files.items ≡ written
   pub program : Program
   pub loaded : IsLoaded (map (λ f. f.bytes) written) program
   pub went : Went core program class limit traced ran.instructions ran.stand ran.printed ran.trace
-  pub meant : DoesAsMeant (step program 0) went.start (no_messages alone) (cmean core class [])
+  pub runs : RunsAsMeant (step program 0) went.start (no_messages alone) meant

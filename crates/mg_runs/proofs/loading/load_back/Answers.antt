@@ -1,12 +1,11 @@
-use Rattle.std.proofs.Common.{List, map, ap, sym, subst}
+use Rattle.std.proofs.Common.{List, map, ap, subst, ◌∙◌}
 use Rattle.cls_tree.specs.Tree.{Class as File}
 use Rattle.cls_tree.specs.View.{class_of as file_of}
 use Rattle.jv_core.specs.Core.{tree_of}
 use Rattle.vm_model.specs.Links.{Links}
 use Rattle.vm_model.specs.View.{classes_of}
 use Rattle.vm_load.specs.Faults.{IsRefused}
-use Rattle.mg_compile.proofs.Ready.{is_core, is_held}
-use Rattle.mg_runs.proofs.Sound.{have_files, held_spelled, one_spelled_list, classes_link, refused_never}
+use Rattle.mg_runs.proofs.Sound.{have_files, one_spelled_list, refused_never}
 use Rattle.mg_runs.proofs.loading.load_back.Goals as goal
 
 pub read_all-requires : goal.read_all-requires
@@ -14,15 +13,11 @@ read_all-requires c = have_files (tree_of c.args.core.now) c.args.files.now c.re
 
 pub unreachable-requires : goal.unreachable-requires
 unreachable-requires c =
-    let p = tree_of c.args.core.now in
-    let (files, have) = c.requires.files in
-    let core = is_core c.spelled_is_shaped.ensures c.core_is_kept.ensures files p have in
-    let held = is_held c.written_cores_are_held.ensures files p have in
-    let made = c.requires.made in
-    let same = one_spelled_list _ (map file_of c.in_ok-classes.classes.items) made.classes c.in_ok-classes.ensures
-    (held_spelled p p.classes made.classes c.args.files.now made.hold) in
-    refused_never c.in-Err.fault made.classes (classes_link p core held.plain c.args.files.now made c.files_link.ensures.cores).right c.in_default.not-Memory
-    (subst (IsRefused c.in-Err.fault) same (subst (IsRefused c.in-Err.fault) (ap (map file_of) c.as_slice.ensures.items) c.in-Err.ensures.refused))
+    let (sources, have) = c.requires.files in
+    let (read, spelled, links) = c.written_classes_link.ensures sources (tree_of c.args.core.now) c.args.files.now have c.requires.made in
+    let same = one_spelled_list _ (map file_of c.in_ok-classes.classes.items) read c.in_ok-classes.ensures spelled in
+    refused_never c.in-Err.fault read links.right c.in_default.not-Memory
+    (subst (IsRefused c.in-Err.fault) (ap (map file_of) c.as_slice.ensures.items ∙ same) c.in-Err.ensures.refused)
 
 pub returns-in-Ok : goal.returns-in-Ok
 returns-in-Ok c = (

@@ -1,0 +1,69 @@
+//! The `main` of a class, by the class's name.
+
+ghost use Rattle.std.specs.Prelude.{◌≡◌, ◌≢◌, ◌↔◌, ◌&&◌, IsTrue, None, nat_eq};
+ghost use Rattle.std.specs.List.{position, list_any};
+ghost use Rattle.std.specs.Str.{bytes_eq};
+ghost use Rattle.jv_core.specs.Core.{tree_of};
+ghost use Rattle.jv_core.specs.Lookup.{class_numbered, is_main, text_at};
+ghost use Rattle.jv_core.specs.Meaning.{main_in, main_of};
+ghost use Rattle.jv_core.specs.View.{class_of, method_of};
+
+use gen_refs::name_text;
+use jv_core::{Core, CoreClass, CoreMethod, MethodKind};
+
+/// Whether the class of this name has a `main`.
+pub(crate) fn has_main(core: &Core, class: &str) -> bool
+    ensures { IsTrue result ↔ (main_of (tree_of core.now) class.now ≢ None) }
+{
+    match class_named(core, class) {
+        Some(number) => has_main_in(core, number),
+        None => false,
+    }
+}
+
+// The number of the first class of this name.
+fn class_named(core: &Core, name: &str) -> Option<usize>
+    ensures { result ≡ class_numbered (tree_of core.now) name.now }
+{
+    class_place(core, core.classes(), name)
+}
+
+// The place of the first class of this name.
+fn class_place(core: &Core, classes: &[CoreClass], name: &str) -> Option<usize>
+    ensures { result ≡ position (λ c. bytes_eq (text_at (tree_of core.now) (class_of c).name) name.now) classes.now }
+{
+    classes
+        .iter()
+        .position(|own| name_text(core, own.name) == name)
+}
+
+// Whether the class of this number has a `main`.
+fn has_main_in(core: &Core, class: usize) -> bool
+    ensures { IsTrue result ↔ (main_in (tree_of core.now) class 0 (tree_of core.now).methods ≢ None) }
+{
+    some_main(core.methods(), class)
+}
+
+// Whether some method is a `main` of the class of this number.
+fn some_main(methods: &[CoreMethod], class: usize) -> bool
+    ensures { result ≡ list_any (λ m. nat_eq (method_of m).class class && is_main (method_of m).kind) methods.now }
+{
+    methods.iter().any(|method| is_main_of(method, class))
+}
+
+// Whether a method is a `main` of the class of this number.
+fn is_main_of(method: &CoreMethod, class: usize) -> bool
+    ensures { result ≡ (nat_eq (method_of method.now).class class && is_main (method_of method.now).kind) }
+{
+    method.class as usize == class && is_main_kind(method.kind)
+}
+
+// Whether methods of this kind are a `main`.
+fn is_main_kind(kind: MethodKind) -> bool
+    ensures { result ≡ is_main kind }
+{
+    match kind {
+        MethodKind::Main => true,
+        _ => false,
+    }
+}
