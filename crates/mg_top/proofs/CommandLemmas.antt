@@ -1,18 +1,23 @@
 -- What the functions of the commands answer.
-use Rattle.std.proofs.Common.{◌≡◌, ◌≢◌, ℕ, List, [], ◌∷◌, ◌++◌, All, codes, inl, inr, Option, None, refl, sym, ap, ◌∙◌, subst}
+use Rattle.std.proofs.Common.{◌≡◌, ℕ, List, [], ◌∷◌, ◌++◌, All, codes, inl, inr, Option, None, refl, sym, ap, ◌∙◌, subst, append_assoc}
 use Rattle.std.specs.Prelude.{IfOk, Result, Ok, Err}
 use Rattle.mg_text.specs.declared.memory.Memory.{Memory}
-use Rattle.mg_run.specs.declared.RunFault.{RunFault}
-use Rattle.mg_run.specs.declared.RunFault.TheVariants as run_faults
-use Rattle.mg_run.specs.Running.{Refused as RunRefused, IsRun}
 use Rattle.mg_top.specs.declared.status.Status.{Status}
 use Rattle.mg_top.specs.declared.status.Status.TheVariants as statuses
 use Rattle.mg_top.specs.declared.delivery.Action.{Action}
 use Rattle.mg_top.specs.declared.delivery.Action.TheVariants.{Say}
 use Rattle.mg_top.specs.declared.delivery.Delivery.{Delivery}
-use Rattle.mg_words.specs.Words.{Word, Command, Check, Run, files_of, IsCommand, IsFileOf}
-use Rattle.mg_top.specs.Lines.{run_line, read_line, memory_line}
-use Rattle.mg_top.specs.Commands.{Yields, prints, checked, not_run}
+use Rattle.mg_words.specs.Words.{Word, Asked, limit_of, Command, Check, Run, files_of, IsCommand, IsFileOf}
+use Rattle.mg_top.specs.Lines.{read_line, memory_line}
+use Rattle.mg_compile.specs.declared.files.ClassFile.{ClassFile}
+use Rattle.vm_model.specs.Runs.{printed}
+use Rattle.mg_runs.specs.declared.ran.Ran.{Ran}
+use Rattle.mg_runs.specs.declared.ran.Stand.{Stand}
+use Rattle.mg_runs.specs.Lines.{ran_line}
+use Rattle.mg_runs.specs.Commanded.{Course, IsRun}
+use Rattle.mg_runs.specs.View.{Shows, IsOfRun}
+use Rattle.mg_top.specs.Commands.{Yields, prints, kept_in, run_said, status_of, checked, ran}
+use Rattle.mg_top.specs.Commands as commands
 use Rattle.mg_read.specs.First.{Judged, with_earlier}
 use Rattle.mg_text.specs.Row.{Row}
 use Rattle.mg_sources.specs.Files.{Source, sources}
@@ -28,7 +33,7 @@ use Rattle.use_check.specs.Report.{IsReport}
 use Rattle.mg_top.specs.Translation.{AreTranslated}
 use Rattle.mg_top.specs.Outside.{Outside}
 use Rattle.mg_top.specs.Ending.{AreRead, after_read, IsUnread, IsDue, unread, yielded, starved, mute}
-use Rattle.mg_top.specs.inner.Preparing.{IsRunRefusal, IsReported, IsPrepared, IsLeft, AreWritten, EachIsWritten, locals_in}
+use Rattle.mg_top.specs.inner.Preparing.{IsReported, IsPrepared, IsLeft, AreWritten, EachIsWritten, locals_in}
 use Rattle.mg_top.proofs.SourceLemmas.{translated}
 
 -- a delivery of these actions with this status
@@ -37,22 +42,6 @@ pub gives : (command : Command) (contents : List (List ℕ)) (actions : List Act
 gives command contents actions status (Ok d) a s y =
     subst (λ (z : List Action). Yields command contents z d.status) (sym a) (subst (λ (z : Status). Yields command contents actions z) (sym s) y)
 gives command contents actions status (Err e) a s y = tt
-
--- a fault that isn't want of memory is a refusal
-refused_by : (class : Word) (bytes : List ℕ) (fault : RunFault) → IsRun class bytes (Err fault) → fault ≢ run_faults.Memory → RunRefused class bytes fault
-refused_by class bytes (run_faults.Unread fault) h isnt = h
-refused_by class bytes (run_faults.Unsupported place) h isnt = h
-refused_by class bytes run_faults.NoMain h isnt = h
-refused_by class bytes (run_faults.CodeTooLong place) h isnt = h
-refused_by class bytes (run_faults.TextTooLong place) h isnt = h
-refused_by class bytes run_faults.Memory h isnt = absurd (isnt refl)
-
-pub refusal_given : (class file : Word) (bytes : List ℕ) (fault : RunFault) (r : Result Delivery Memory) → IsRun class bytes (Err fault) → IfOk r (λ d. IsRunRefusal class file fault d.actions.items d.status)
-    → IfOk r (λ d. Yields (Run class (file ∷ [])) (bytes ∷ []) d.actions.items d.status)
-refusal_given class file bytes fault (Ok d) h k =
-    subst (λ (z : List Action). Yields (Run class (file ∷ [])) (bytes ∷ []) z d.status) (sym k.says)
-    (subst (λ (z : Status). Yields (Run class (file ∷ [])) (bytes ∷ []) (Say (run_line class file fault) ∷ []) z) (sym k.refuses) (not_run (refused_by class bytes fault h k.proper)))
-refusal_given class file bytes fault (Err e) h k = tt
 
 pub reported : (core : Core.Program) (text given : List ℕ) (r : Result Delivery Memory) → given ≡ text → IsReport core text
     → IfOk r (λ d. d.actions.items ≡ prints given) → IfOk r (λ d. d.status ≡ statuses.Done) → IfOk r (λ d. IsReported core d.actions.items d.status)
@@ -64,8 +53,34 @@ pub report_given : (files : List Word) (contents : List (List ℕ)) (core : Core
     → IfOk r (λ d. IsReported core d.actions.items d.status) → IfOk r (λ d. Yields (Check files) contents d.actions.items d.status)
 report_given files contents core (Ok d) a k =
     subst (λ (z : List Action). Yields (Check files) contents z d.status) (sym k.says)
-    (subst (λ (z : Status). Yields (Check files) contents (prints k.text) z) (sym k.done) (checked core a k.report))
+    (subst (λ (z : Status). Yields (Check files) contents (prints k.text) z) (sym k.done) (commands.check (checked core a k.report)))
 report_given files contents core (Err e) a k = tt
+
+-- a text, words and the end of a line are put behind what stands there
+pub line_put : (result last third second first given before text words : List ℕ) → result ≡ last → last ≡ third ++ 10 ∷ [] → third ≡ second ++ words → second ≡ first ++ text → first ≡ given → given ≡ before
+    → result ≡ before ++ ((text ++ words) ++ 10 ∷ [])
+line_put result last third second first given before text words e d c b a g =
+    e ∙ d ∙ ap (λ (z : List ℕ). z ++ 10 ∷ []) (c ∙ ap (λ (z : List ℕ). z ++ words) (b ∙ ap (λ (z : List ℕ). z ++ text) (a ∙ g)) ∙ append_assoc before text words)
+    ∙ append_assoc before (text ++ words) (10 ∷ [])
+
+-- what is done about a run, by what it shows
+abbrev pub shown_so : Asked → List ClassFile → (text trace : List ℕ) → (count : ℕ) → Stand → List Action
+shown_so asked written text trace count stand = kept_in asked.folder written ++ (prints text ++ Say (trace ++ ran_line count stand) ∷ [])
+
+shown_same : (asked : Asked) (r : Course) (shown : Ran) → Shows r asked.traced shown
+    → shown_so asked shown.files.items shown.printed shown.trace shown.instructions shown.stand ≡ kept_in asked.folder r.written ++ (prints (printed r.events) ++ Say (run_said asked r) ∷ [])
+shown_same asked r shown h = λ i. shown_so asked (h.written i) (h.printed_is i) (h.trace_is i) (h.count i) (h.stand i)
+
+-- the class files of a run, what it printed, its trace and its line
+pub run_given : (asked : Asked) (files : List Word) (contents : List (List ℕ)) (limit : ℕ) (shown : Ran) (r : Result Delivery Memory) → limit ≡ limit_of asked
+    → IsOfRun (sources files contents) asked.class limit asked.traced shown
+    → IfOk r (λ d. d.actions.items ≡ shown_so asked shown.files.items shown.printed shown.trace shown.instructions shown.stand)
+    → IfOk r (λ d. d.status ≡ status_of shown.stand) → IfOk r (λ d. Yields (Run asked files) contents d.actions.items d.status)
+run_given asked files contents limit shown r e h actions status =
+    gives (Run asked files) contents (shown_so asked shown.files.items shown.printed shown.trace shown.instructions shown.stand) (status_of shown.stand) r actions status
+    (subst (λ (z : Status). Yields (Run asked files) contents (shown_so asked shown.files.items shown.printed shown.trace shown.instructions shown.stand) z) (ap status_of (sym h.shows.stand))
+    (subst (λ (z : List Action). Yields (Run asked files) contents z (status_of h.run.stand)) (sym (shown_same asked h.run shown h.shows))
+    (commands.run (ran h.run (subst (λ (z : ℕ). IsRun (sources files contents) asked.class z h.run) e h.is)))))
 
 -- ---- what is due
 

@@ -28,6 +28,7 @@ use Rattle.mg_sources.specs.Files.{source_of}
 use Rattle.mg_sources.specs.Reading.{Protocol, Reads}
 use Rattle.mg_top.specs.Conformance.{calls_of, Conforms, complete, unfinished, not_offered, IsNoList, too_large, bad_line}
 use Rattle.mg_top.specs.Commands.{Yields, conforms, no_calls}
+use Rattle.mg_top.specs.Commands as commands
 use Rattle.mg_sources.proofs.PartLemmas.{same_at}
 use Rattle.mg_top.specs.inner.Preparing.{IsAnswered, IsListRefusal, list_fault}
 
@@ -108,7 +109,8 @@ pub followed : (protocol calls : Word) (bytes listed : List ℕ) (local : LocalT
     → IfOk r (λ d. IsAnswered local (map call_of slice) d.actions.items d.status) → IfOk r (λ d. Yields (Conform (protocol ∷ calls ∷ [])) (bytes ∷ listed ∷ []) d.actions.items d.status)
 followed protocol calls bytes listed local list slice (Ok d) only items same read e h =
     subst (λ (z : List Action). Yields (Conform (protocol ∷ calls ∷ [])) (bytes ∷ listed ∷ []) z d.status) (sym h.says)
-    (conforms local (map call_of items.items) only (record { size = read.0; listed = read.1 }) (subst (λ (z : List CallLine). Conforms local (map call_of z) h.text d.status) (e ∙ sym same) h.conforms))
+    (commands.conform (conforms local (map call_of items.items) only (record { size = read.0; listed = read.1 })
+    (subst (λ (z : List CallLine). Conforms local (map call_of z) h.text d.status) (e ∙ sym same) h.conforms)))
 followed protocol calls bytes listed local list slice (Err x) only items same read e h = tt
 
 refused_list : (name : Word) (listed : List ℕ) (fault : CallsFault) → fault ≢ faults.Memory → IsRead 1 listed (Err fault) → IsNoList (source_of 1 name listed) (fault_line name (list_fault fault))
@@ -121,5 +123,6 @@ pub list_refused : (protocol calls : Word) (bytes listed : List ℕ) (local : Lo
     → IfOk r (λ d. IsListRefusal calls fault d.actions.items d.status) → IfOk r (λ d. Yields (Conform (protocol ∷ calls ∷ [])) (bytes ∷ listed ∷ []) d.actions.items d.status)
 list_refused protocol calls bytes listed local fault (Ok d) only read h =
     subst (λ (z : List Action). Yields (Conform (protocol ∷ calls ∷ [])) (bytes ∷ listed ∷ []) z d.status) (sym h.says)
-    (subst (λ (z : Status). Yields (Conform (protocol ∷ calls ∷ [])) (bytes ∷ listed ∷ []) (Say (fault_line calls (list_fault fault)) ∷ []) z) (sym h.refuses) (no_calls local only (refused_list calls listed fault h.proper read)))
+    (subst (λ (z : Status). Yields (Conform (protocol ∷ calls ∷ [])) (bytes ∷ listed ∷ []) (Say (fault_line calls (list_fault fault)) ∷ []) z) (sym h.refuses)
+    (commands.conform (no_calls local only (refused_list calls listed fault h.proper read))))
 list_refused protocol calls bytes listed local fault (Err x) only read h = tt

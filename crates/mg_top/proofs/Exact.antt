@@ -1,40 +1,35 @@
 -- Each command gives one thing of the same contents, and no status of the delivery's own.
-use Rattle.std.proofs.Common.{◌≡◌, ℕ, ◌⊎◌, inl, inr, Option, Some, List, [], ◌∷◌, refl, sym, ap, ◌∙◌, subst, arith}
+use Rattle.std.proofs.Common.{◌≡◌, ℕ, ◌⊎◌, inl, inr, Option, List, [], ◌∷◌, refl, sym, ap, ◌∙◌, subst, arith}
 use Rattle.mg_read.proofs.Judging.{no_both}
-use Rattle.jv_tree.specs.Source.{File as Tree}
-use Rattle.jv_read.specs.Outcome.{Read, read}
-use Rattle.jv_read.proofs.Unique as reading
-use Rattle.gen_class.specs.Sizes.{IsCodeTooLong, IsTextTooLong}
-use Rattle.mg_run.specs.Plain.{Printer, IsPlain}
-use Rattle.mg_run.specs.declared.RunFault.{RunFault}
-use Rattle.mg_run.proofs.Found.{one_source}
-use Rattle.mg_run.specs.Running.{IsSource, Shows, Refused as RunRefused, unread, unsupported, no_main, code_too_long, text_too_long}
-use Rattle.mg_top.specs.declared.status.Status.{Status}
-use Rattle.mg_top.specs.declared.status.Status.TheVariants as statuses
-use Rattle.mg_top.specs.declared.delivery.Action.{Action}
-use Rattle.mg_top.specs.declared.delivery.Action.TheVariants.{Print, Say}
 use Rattle.mg_text.specs.Call.{Call}
 use Rattle.scr_tree.specs.Tree.{LocalTree}
-use Rattle.mg_accepted.specs.Accepted as accepted
-use Rattle.mg_accepted.proofs.Apart.{not_refused as not_unmet}
 use Rattle.scr_tree.specs.Meaning.{protocol_of}
 use Rattle.scr_tree.specs.Traces.{Trace}
 use Rattle.mg_calls.specs.Calls.{CallAt}
 use Rattle.mg_calls.proofs.Laws.{one_list, no_bad}
 use Rattle.std.proofs.lemmas.List.{map-append}
-use Rattle.mg_words.specs.Words.{Word, Command, Translate, Conform, Check, Compile, Run}
-use Rattle.mg_top.specs.Lines.{run_line, not_offered_line}
-use Rattle.mg_sources.specs.Files.{Source, source_of, sources}
+use Rattle.mg_words.specs.Words.{Word, Asked, limit_of, Command}
+use Rattle.mg_top.specs.declared.status.Status.{Status}
+use Rattle.mg_top.specs.declared.status.Status.TheVariants as statuses
+use Rattle.mg_top.specs.declared.delivery.Action.{Action}
+use Rattle.mg_top.specs.declared.delivery.Action.TheVariants.{Print, Say}
+use Rattle.mg_top.specs.Lines.{not_offered_line}
+use Rattle.mg_sources.specs.Files.{Source}
 use Rattle.mg_top.specs.Conformance.{calls_of, Conforms, complete, unfinished, not_offered, Lists, IsNoList, bad_line}
 use Rattle.mg_top.specs.Conformance as conformance
 use Rattle.mg_sources.specs.Reading.{Protocol, Reads}
 use Rattle.mg_sources.specs.Sources.{Refusal, refused, same_role}
 use Rattle.mg_sources.proofs.OneKind.{one_part}
 use Rattle.mg_sources.proofs.PartLemmas.{not_refused}
-use Rattle.mg_top.specs.Translation.{AreTranslated}
+use Rattle.mg_accepted.proofs.Apart.{not_refused as not_unmet}
 use Rattle.mg_compile.proofs.Apart.{not_refused as not_exceeded}
+use Rattle.mg_runs.specs.declared.ran.Stand.{Stand}
+use Rattle.mg_runs.specs.declared.ran.Stand.TheVariants as stands
+use Rattle.mg_runs.proofs.Apart.{not_refused as not_halted, one_stand}
+use Rattle.mg_top.specs.Translation.{AreTranslated}
 use Rattle.mg_top.specs.Commands.{TranslateGives, translated, not_translated, ConformGives, conforms, no_protocol, no_calls, CheckGives, checked, not_checked}
-use Rattle.mg_top.specs.Commands.{CompileGives, compiled, not_compiled, RunGives, ran, not_run, ConformYields, RunYields, Yields}
+use Rattle.mg_top.specs.Commands.{CompileGives, compiled, not_compiled, RunGives, ran, not_run, status_of, Yields}
+use Rattle.mg_top.specs.Commands as commands
 use Rattle.mg_top.specs.Promises.{IsYielded}
 use Rattle.mg_top.proofs.SourceLemmas.{none_refused_of_translated}
 
@@ -42,23 +37,6 @@ use Rattle.mg_top.proofs.SourceLemmas.{none_refused_of_translated}
 not_both : (folder : Option Word) (files : List Source) (actions : List Action) (line : List ℕ) → AreTranslated folder files actions → Refusal files line → ⊥
 not_both folder files actions line t (refused h) = no_both (none_refused_of_translated t.each) h
 not_both folder files actions line t (same_role nobody h) = no_both t.apart h
-
--- a class that was run isn't refused
-never_taken : (class : Word) (content : List ℕ) (fault : RunFault) (printer : Printer) → IsSource content printer → printer.name ≡ class → (IsCodeTooLong class printer.texts → ⊥) → (IsTextTooLong printer.texts → ⊥)
-    → RunRefused class content fault → ⊥
-never_taken class content fault printer source named code text (unread reason answer says o) =
-    reading.no_file reason source.tree (says ∙ ap Some (reading.one_outcome 0 content answer (Read source.tree) o (read source.tree source.spelled)))
-never_taken class content fault printer source named code text (unsupported tree spelled none) =
-    none printer (subst (λ (t : Tree). IsPlain t printer) (reading.one_file 0 content source.tree tree source.spelled spelled) source.plain)
-never_taken class content fault printer source named code text (no_main other is isnt) =
-    isnt (ap (λ (p : Printer). p.name) (one_source content other printer is source) ∙ named)
-never_taken class content fault printer source named code text (code_too_long other is same long) =
-    code (subst (λ (p : Printer). IsCodeTooLong class p.texts) (one_source content other printer is source) long)
-never_taken class content fault printer source named code text (text_too_long other is same short long) =
-    text (subst (λ (p : Printer). IsTextTooLong p.texts) (one_source content other printer is source) long)
-
-not_shown : (class : Word) (bytes printed : List ℕ) (n : ℕ) (fault : RunFault) → Shows class bytes printed n → RunRefused class bytes fault → ⊥
-not_shown class bytes printed n fault h = never_taken class bytes fault h.printer h.source h.named h.short_code h.short_texts
 
 -- ---- one status, command by command
 
@@ -80,11 +58,11 @@ compile_status {files = files} (compiled written h) (not_compiled {line = line} 
 compile_status {files = files} (not_compiled {line = line} r) (compiled written h) = absurd (not_exceeded files written line h r)
 compile_status (not_compiled r) (not_compiled q) = refl
 
-run_status : {class : Word} {file : Source} {xa xb : List Action} {m n : Status} → RunGives class file xa m → RunGives class file xb n → m ≡ n
-run_status (ran s) (ran t) = refl
-run_status {class = class} {file = file} (ran {printed = printed} {n = n} s) (not_run {fault = fault} r) = absurd (not_shown class file.bytes printed n fault s r)
-run_status {class = class} {file = file} (not_run {fault = fault} r) (ran {printed = printed} {n = n} s) = absurd (not_shown class file.bytes printed n fault s r)
-run_status (not_run r) (not_run q) = refl
+run_status : {asked : Asked} {files : List Source} {xa xb : List Action} {m n : Status} → RunGives asked files xa m → RunGives asked files xb n → m ≡ n
+run_status {asked = asked} {files = files} (ran r h) (ran s k) = ap status_of (one_stand files asked.class (limit_of asked) r s h k)
+run_status {asked = asked} {files = files} (ran r h) (not_run {line = line} q) = absurd (not_halted files asked.class (limit_of asked) r line h q)
+run_status {asked = asked} {files = files} (not_run {line = line} q) (ran r h) = absurd (not_halted files asked.class (limit_of asked) r line h q)
+run_status (not_run q) (not_run p) = refl
 
 -- the command conform
 
@@ -137,95 +115,78 @@ conform_status {calls = calls} (no_calls {line = line} local' o' r) (conforms lo
 conform_status (no_calls local o r) (no_protocol q) = refl
 conform_status (no_calls local o r) (no_calls local' o' q) = refl
 
-conform_yields : (files : List Source) {xa xb : List Action} {m n : Status} → ConformYields files xa m → ConformYields files xb n → m ≡ n
-conform_yields [] y z = absurd y
-conform_yields (p ∷ []) y z = absurd y
-conform_yields (p ∷ c ∷ []) y z = conform_status y z
-conform_yields (p ∷ c ∷ d ∷ more) y z = absurd y
-
-run_yields : (class : Word) (files : List Source) {xa xb : List Action} {m n : Status} → RunYields class files xa m → RunYields class files xb n → m ≡ n
-run_yields class [] y z = absurd y
-run_yields class (f ∷ []) y z = run_status y z
-run_yields class (f ∷ g ∷ more) y z = absurd y
-
-status_of : (command : Command) {contents : List (List ℕ)} {xa xb : List Action} {m n : Status} → Yields command contents xa m → Yields command contents xb n → m ≡ n
-status_of (Translate folder files) y z = translate_status y z
-status_of (Conform files) {contents = contents} y z = conform_yields (sources files contents) y z
-status_of (Check files) y z = check_status y z
-status_of (Compile folder files) y z = compile_status y z
-status_of (Run class files) {contents = contents} y z = run_yields class (sources files contents) y z
-
 pub one_status : {command : Command} {contents : List (List ℕ)} {xa xb : List Action} {m n : Status} → Yields command contents xa m → Yields command contents xb n → m ≡ n
-one_status {command = command} y z = status_of command y z
+one_status (commands.translate y) (commands.translate z) = translate_status y z
+one_status (commands.conform y) (commands.conform z) = conform_status y z
+one_status (commands.check y) (commands.check z) = check_status y z
+one_status (commands.compile y) (commands.compile z) = compile_status y z
+one_status (commands.run y) (commands.run z) = run_status y z
 
 -- ---- the statuses that a command may have
 
--- a command is done or refused
-abbrev IsOutcome : Status → Type 0
-IsOutcome status = (status ≡ statuses.Done) ⊎ (status ≡ statuses.Refused)
+done_proper : IsYielded statuses.Done
+done_proper = (λ e. cc, λ e. cc, λ e. cc, λ e. cc)
 
-outcome_proper : (status : Status) → IsOutcome status → IsYielded status
-outcome_proper status (inl e) = (λ f. let no : statuses.Done ≡ statuses.Words = sym e ∙ f in cc, λ f. let no : statuses.Done ≡ statuses.ReadFault = sym e ∙ f in cc,
-    λ f. let no : statuses.Done ≡ statuses.WriteFault = sym e ∙ f in cc, λ f. let no : statuses.Done ≡ statuses.Memory = sym e ∙ f in cc)
-outcome_proper status (inr e) = (λ f. let no : statuses.Refused ≡ statuses.Words = sym e ∙ f in cc, λ f. let no : statuses.Refused ≡ statuses.ReadFault = sym e ∙ f in cc,
-    λ f. let no : statuses.Refused ≡ statuses.WriteFault = sym e ∙ f in cc, λ f. let no : statuses.Refused ≡ statuses.Memory = sym e ∙ f in cc)
+refused_proper : IsYielded statuses.Refused
+refused_proper = (λ e. cc, λ e. cc, λ e. cc, λ e. cc)
 
-conform_outcome : (files : List Source) {actions : List Action} {status : Status} → ConformYields files actions status → IsOutcome status
-conform_outcome [] y = absurd y
-conform_outcome (p ∷ []) y = absurd y
-conform_outcome (p ∷ k ∷ []) (conforms local list o l c) = answered_status c
-conform_outcome (p ∷ k ∷ []) (no_protocol r) = inr refl
-conform_outcome (p ∷ k ∷ []) (no_calls local o r) = inr refl
-conform_outcome (p ∷ k ∷ d ∷ more) y = absurd y
+stand_proper : (stand : Stand) → IsYielded (status_of stand)
+stand_proper stands.Done = done_proper
+stand_proper stands.Zero = (λ e. cc, λ e. cc, λ e. cc, λ e. cc)
+stand_proper stands.Null = (λ e. cc, λ e. cc, λ e. cc, λ e. cc)
+stand_proper (stands.Mismatch peer found) = (λ e. cc, λ e. cc, λ e. cc, λ e. cc)
+stand_proper (stands.NoPeer peer) = (λ e. cc, λ e. cc, λ e. cc, λ e. cc)
+stand_proper stands.Bound = (λ e. cc, λ e. cc, λ e. cc, λ e. cc)
 
-run_outcome : (class : Word) (files : List Source) {actions : List Action} {status : Status} → RunYields class files actions status → IsOutcome status
-run_outcome class [] y = absurd y
-run_outcome class (f ∷ []) (ran s) = inl refl
-run_outcome class (f ∷ []) (not_run r) = inr refl
-run_outcome class (f ∷ g ∷ more) y = absurd y
-
-outcome : (command : Command) {contents : List (List ℕ)} {actions : List Action} {status : Status} → Yields command contents actions status → IsOutcome status
-outcome (Translate folder files) (translated t) = inl refl
-outcome (Translate folder files) (not_translated r) = inr refl
-outcome (Conform files) {contents = contents} y = conform_outcome (sources files contents) y
-outcome (Check files) (checked core a r) = inl refl
-outcome (Check files) (not_checked r) = inr refl
-outcome (Compile folder files) (compiled written h) = inl refl
-outcome (Compile folder files) (not_compiled r) = inr refl
-outcome (Run class files) {contents = contents} y = run_outcome class (sources files contents) y
+answer_proper : {local : LocalTree} {calls : List CallAt} {text : List ℕ} {status : Status} → Conforms local calls text status → IsYielded status
+answer_proper (complete h) = done_proper
+answer_proper (unfinished h isnt) = done_proper
+answer_proper (not_offered front call rest split before isnt) = refused_proper
 
 pub proper : {command : Command} {contents : List (List ℕ)} {actions : List Action} {status : Status} → Yields command contents actions status → IsYielded status
-proper {command = command} {status = status} y = outcome_proper status (outcome command y)
+proper (commands.translate (translated t)) = done_proper
+proper (commands.translate (not_translated r)) = refused_proper
+proper (commands.conform (conforms local list o l c)) = answer_proper c
+proper (commands.conform (no_protocol r)) = refused_proper
+proper (commands.conform (no_calls local o r)) = refused_proper
+proper (commands.check (checked core a r)) = done_proper
+proper (commands.check (not_checked r)) = refused_proper
+proper (commands.compile (compiled written h)) = done_proper
+proper (commands.compile (not_compiled r)) = refused_proper
+proper (commands.run (ran r h)) = stand_proper r.stand
+proper (commands.run (not_run r)) = refused_proper
+
+-- ---- what is said of a refusal
 
 -- a refusal is a line on standard error, or that of a call that isn't offered
 abbrev pub SaysRefusal : List Action → Type 0
 SaysRefusal actions = ((line : List ℕ) × (actions ≡ Say line ∷ [])) ⊎ ((n : ℕ) × (actions ≡ Print (not_offered_line n) ∷ []))
 
-conform_says : (files : List Source) {actions : List Action} {status : Status} → ConformYields files actions status → status ≡ statuses.Refused → SaysRefusal actions
-conform_says [] y e = absurd y
-conform_says (p ∷ []) y e = absurd y
-conform_says (p ∷ k ∷ []) (conforms local list o l (complete h)) e = absurd cc
-conform_says (p ∷ k ∷ []) (conforms local list o l (unfinished h isnt)) e = absurd cc
-conform_says (p ∷ k ∷ []) (conforms local list o l (not_offered front call rest split before isnt)) e = inr (call.line, refl)
-conform_says (p ∷ k ∷ []) (no_protocol {line = line} r) e = inl (line, refl)
-conform_says (p ∷ k ∷ []) (no_calls {line = line} local o r) e = inl (line, refl)
-conform_says (p ∷ k ∷ d ∷ more) y e = absurd y
+-- no run stands as one that is refused
+never_refused : (stand : Stand) → status_of stand ≡ statuses.Refused → ⊥
+never_refused stands.Done e = cc
+never_refused stands.Zero e = cc
+never_refused stands.Null e = cc
+never_refused (stands.Mismatch peer found) e = cc
+never_refused (stands.NoPeer peer) e = cc
+never_refused stands.Bound e = cc
 
-run_says : (class : Word) (files : List Source) {actions : List Action} {status : Status} → RunYields class files actions status → status ≡ statuses.Refused → SaysRefusal actions
-run_says class [] y e = absurd y
-run_says class (f ∷ []) (ran s) e = absurd cc
-run_says class (f ∷ []) (not_run {fault = fault} r) e = inl (run_line class f.name fault, refl)
-run_says class (f ∷ g ∷ more) y e = absurd y
+answer_says : {local : LocalTree} {calls : List CallAt} {text : List ℕ} {status : Status} → Conforms local calls text status → status ≡ statuses.Refused →
+    SaysRefusal (Print text ∷ [])
+answer_says (complete h) e = absurd cc
+answer_says (unfinished h isnt) e = absurd cc
+answer_says (not_offered front call rest split before isnt) e = inr (call.line, refl)
 
-says : (command : Command) {contents : List (List ℕ)} {actions : List Action} {status : Status} → Yields command contents actions status → status ≡ statuses.Refused → SaysRefusal actions
-says (Translate folder files) (translated t) e = absurd cc
-says (Translate folder files) (not_translated {line = line} r) e = inl (line, refl)
-says (Conform files) {contents = contents} y e = conform_says (sources files contents) y e
-says (Check files) (checked core a r) e = absurd cc
-says (Check files) (not_checked {line = line} r) e = inl (line, refl)
-says (Compile folder files) (compiled written h) e = absurd cc
-says (Compile folder files) (not_compiled {line = line} r) e = inl (line, refl)
-says (Run class files) {contents = contents} y e = run_says class (sources files contents) y e
-
-pub refusal_says : {command : Command} {contents : List (List ℕ)} {actions : List Action} {status : Status} → Yields command contents actions status → status ≡ statuses.Refused → SaysRefusal actions
-refusal_says {command = command} y e = says command y e
+pub refusal_says : {command : Command} {contents : List (List ℕ)} {actions : List Action} {status : Status} → Yields command contents actions status →
+    status ≡ statuses.Refused → SaysRefusal actions
+refusal_says (commands.translate (translated t)) e = absurd cc
+refusal_says (commands.translate (not_translated {line = line} r)) e = inl (line, refl)
+refusal_says (commands.conform (conforms local list o l c)) e = answer_says c e
+refusal_says (commands.conform (no_protocol {line = line} r)) e = inl (line, refl)
+refusal_says (commands.conform (no_calls {line = line} local o r)) e = inl (line, refl)
+refusal_says (commands.check (checked core a r)) e = absurd cc
+refusal_says (commands.check (not_checked {line = line} r)) e = inl (line, refl)
+refusal_says (commands.compile (compiled written h)) e = absurd cc
+refusal_says (commands.compile (not_compiled {line = line} r)) e = inl (line, refl)
+refusal_says (commands.run (ran r h)) e = absurd (never_refused r.stand e)
+refusal_says (commands.run (not_run {line = line} r)) e = inl (line, refl)

@@ -14,7 +14,8 @@ use Rattle.mg_top.specs.Delivery.{AreDone, Delivers}
 use Rattle.mg_top.specs.Commands.{Yields}
 use Rattle.mg_top.specs.Ending.{AreRead, after_read, MayRead, IsUnread, IsDue, wrong, unread, yielded, starved, mute, Ends}
 use Rattle.mg_top.specs.Promises.{IsUnlessStopped, IsYielded, Carries, MayWrite, IsSmooth, held, Promises}
-use Rattle.mg_words.proofs.WordsLemmas.{wrong_is_none, same_command}
+use Rattle.mg_words.proofs.WordsLemmas.{wrong_is_none}
+use Rattle.mg_words.proofs.RunLemmas.{same_command}
 use Rattle.mg_top.proofs.Exact.{one_status, proper, SaysRefusal, refusal_says}
 use Rattle.mg_top.proofs.DeliveryLaws as laws
 

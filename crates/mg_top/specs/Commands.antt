@@ -13,7 +13,7 @@ use Rattle.vm_model.specs.Runs.{printed}
 use Rattle.mg_runs.specs.declared.ran.Stand.{Stand}
 use Rattle.mg_runs.specs.declared.ran.Stand.TheVariants as stands
 use Rattle.mg_runs.specs.Lines.{ran_line}
-use Rattle.mg_runs.specs.Trace.{trace}
+use Rattle.mg_trace.specs.Trace.{trace}
 use Rattle.mg_runs.specs.Commanded.{Course, IsRun}
 use Rattle.mg_runs.specs.Commanded as running
 use Rattle.mg_top.specs.declared.status.Status.{Status}
@@ -71,7 +71,6 @@ status_of stands.Zero = statuses.Zero
 status_of stands.Null = statuses.Broken
 status_of (stands.Mismatch peer found) = statuses.Mismatch
 status_of (stands.NoPeer peer) = statuses.Mismatch
-status_of (stands.Waits peer) = statuses.Waits
 status_of stands.Bound = statuses.Bound
 
 pub data RunGives (asked : Asked) (files : List Source) : List Action → Status → Type 0 where

@@ -121,10 +121,6 @@ fn push_stand(stand: &Stand, said: &mut String) -> Result<(), Memory>
             said.push_str("no peer ")?;
             said.push_str(peer.as_str())?;
         }
-        Stand::Waits { peer } => {
-            said.push_str("waits ")?;
-            said.push_str(peer.as_str())?;
-        }
         Stand::Bound => said.push_str("bound")?,
     }
     Ok(())
@@ -139,7 +135,6 @@ fn status_of(stand: &Stand) -> Status
         Stand::Zero => Status::Zero,
         Stand::Null => Status::Broken,
         Stand::Mismatch { .. } | Stand::NoPeer { .. } => Status::Mismatch,
-        Stand::Waits { .. } => Status::Waits,
         Stand::Bound => Status::Bound,
     }
 }

@@ -3,12 +3,13 @@
 ghost use Rattle.std.specs.Prelude.{◌≡◌};
 ghost use Rattle.mg_top.specs.Numbers.{number_of};
 
-/// How a run of the program ended.
+/// How a run of the program ended. The last five come of `run` alone, where its program was run.
 #[derive(Clone, Copy, Debug, PartialEq, Eq)]
 pub enum Status {
-    /// The command was carried out.
+    /// The command was carried out; of `run`, `main` returned.
     Done,
-    /// A file was refused; one line on standard error says which, where and why.
+    /// Something was refused; one line on standard error says which file, where and why, or that a
+    /// class has no `main`. Of `conform` also: a call isn't offered, which standard output says.
     Refused,
     /// The words are no command.
     Words,
@@ -18,13 +19,14 @@ pub enum Status {
     WriteFault,
     /// Want of memory.
     Memory,
-    /// A role divided by zero.
+    /// A divisor was zero.
     Zero,
-    /// A role took a message that isn't the next one, or spoke to a role that isn't there.
+    /// The next message wasn't the one that was taken or the program refused it, or no other role
+    /// has the name that was spoken to.
     Mismatch,
-    /// A role waits for a message.
+    /// A role waits for a message. With `--main` none ever does, since there is no other role.
     Waits,
-    /// The bound on instructions was reached.
+    /// It took as many instructions as it may take, and goes on.
     Bound,
     /// A null stood where an object must.
     Broken,

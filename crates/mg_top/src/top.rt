@@ -22,17 +22,20 @@ use mg_words::{Command, Judged, judge};
 use std::alloc::Global;
 
 /// Runs the command that the words are, with the folder's files. What it says goes to `out`, and
-/// the line of a fault to `err`; the status says how it ended.
+/// the line of a fault to `err`; the status says how it ended. Files are read first, then all is made,
+/// and only then are files written, and after them `out` and `err`, each in one piece.
 ///
 /// `translate [--out D] F..` reads the local protocols in the files and writes the typestates of
-/// their roles, into the folder D where one is named.
+/// their roles and the classes by which programs play them, into the folder D where one is named.
 /// `conform F CALLS` tells whether the calls of the second file follow the protocol of the first.
 /// `check F..` tells what the least tables of the files' program have, where some tables solve it.
 /// `compile [--out D] F..` writes the class files of the files' program, into the folder D where one
 /// is named.
-/// `run [--steps N] [--trace] [--out D] --main C F..` compiles the files' program and runs the `main`
-/// of its class C from the bytes of its class files, at most N instructions (1,000,000 where none is
-/// named); what it prints goes to `out`, its trace where it is asked for and its line to `err`.
+/// `run [--steps N] [--trace] [--out D] --main C F..` makes the same class files, writes them where a
+/// folder D is named, reads their bytes back and runs the `main` of the class C, with no other role:
+/// at most N instructions, N from 1 to 20,000,000, or 1,000,000 where none is named. What it prints
+/// goes to `out`. To `err` goes its trace where it is asked for, and then the line
+/// `main: K instructions, ENDING` with how many it took and how it stands.
 pub fn mungo<F: Folder, O: Sink, E: Sink>(
     alloc: Global,
     words: &[Text],

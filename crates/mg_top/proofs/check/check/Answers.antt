@@ -1,5 +1,5 @@
 use Rattle.jv_core.specs.Core.{tree_of}
-use Rattle.mg_top.specs.Commands.{not_checked}
+use Rattle.mg_top.specs.Commands.{check, not_checked}
 use Rattle.mg_top.proofs.CommandLemmas.{gives, report_given}
 use Rattle.mg_top.proofs.check.check.Goals as goal
 
@@ -10,4 +10,4 @@ returns-in-Ok c =
 pub returns-in-Err-Refused : goal.returns-in-Err-Refused
 returns-in-Err-Refused c =
     let h = rw c.in-Err-Refused.field-0-is at c.in-Err-Refused.ensures in
-    gives _ _ _ _ c.said.result c.said.ensures.actions c.said.ensures.status (not_checked h.answered)
+    gives _ _ _ _ c.said.result c.said.ensures.actions c.said.ensures.status (check (not_checked h.answered))

@@ -1,13 +1,13 @@
-use Rattle.mg_top.specs.Commands.{compiled, not_compiled}
+use Rattle.mg_top.specs.Commands.{compile, compiled, not_compiled}
 use Rattle.mg_top.proofs.CommandLemmas.{gives}
 use Rattle.mg_top.proofs.compile.compile.Goals as goal
 
 pub returns-in-Ok : goal.returns-in-Ok
 returns-in-Ok c =
     gives _ _ _ _ c.write_files.result c.write_files.ensures.actions c.write_files.ensures.status
-    (compiled c.as_slice.result.now (rw c.as_slice.ensures.items c.in-Ok.ensures.answered))
+    (compile (compiled c.as_slice.result.now (rw c.as_slice.ensures.items c.in-Ok.ensures.answered)))
 
 pub returns-in-Err-Refused : goal.returns-in-Err-Refused
 returns-in-Err-Refused c =
     let h = rw c.in-Err-Refused.field-0-is at c.in-Err-Refused.ensures in
-    gives _ _ _ _ c.said.result c.said.ensures.actions c.said.ensures.status (not_compiled h.answered)
+    gives _ _ _ _ c.said.result c.said.ensures.actions c.said.ensures.status (compile (not_compiled h.answered))

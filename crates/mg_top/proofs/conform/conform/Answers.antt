@@ -1,6 +1,6 @@
 use Rattle.std.proofs.Common.{refl}
 use Rattle.scr_tree.specs.Local.{tree_of}
-use Rattle.mg_top.specs.Commands.{no_protocol}
+use Rattle.mg_top.specs.Commands.{conform, no_protocol}
 use Rattle.mg_top.proofs.CommandLemmas.{gives}
 use Rattle.mg_top.proofs.ConformLemmas.{followed, list_refused}
 use Rattle.mg_top.proofs.conform.conform.Goals as goal
@@ -8,7 +8,7 @@ use Rattle.mg_top.proofs.conform.conform.Goals as goal
 pub returns-in-Err-Refused : goal.returns-in-Err-Refused
 returns-in-Err-Refused c =
     let h = rw c.in-Err-Refused.field-0-is at c.in-Err-Refused.ensures in
-    gives _ _ _ _ c.said.result c.said.ensures.actions c.said.ensures.status (no_protocol h)
+    gives _ _ _ _ c.said.result c.said.ensures.actions c.said.ensures.status (conform (no_protocol h))
 
 pub returns-in-Ok-read_calls : goal.returns-in-Ok-read_calls
 returns-in-Ok-read_calls c =

@@ -1,8 +1,8 @@
 use Rattle.std.proofs.Common.{option_map, subst}
 use Rattle.mg_words.specs.declared.words.Command.{Command}
 use Rattle.mg_words.specs.Words.{IsCommand}
-use Rattle.mg_words.specs.inner.Judging.{command_of}
-use Rattle.mg_words.proofs.WordsLemmas.{kinds_of, kinds_of_classes, protocols_of, protocol_of_two}
+use Rattle.mg_words.specs.inner.Judging.{command_of, asked_of}
+use Rattle.mg_words.proofs.WordsLemmas.{kinds_of, kinds_of_classes, kinds_of_run, protocols_of, protocol_of_two}
 use Rattle.mg_top.proofs.top.carry_out.Goals as goal
 
 pub translate-requires-clause-scribble : goal.translate-requires-clause-scribble
@@ -26,3 +26,8 @@ compile-requires-clause-kinds c =
     let known = c.requires.known in
     kinds_of_classes known.0 (option_map (λ w. w.now) c.in-Compile.folder) c.in-Compile.files.now
     (subst (λ (z : Command). IsCommand (command_of z) known.0) c.in-Compile.is known.1)
+
+pub run-requires-clause-kinds : goal.run-requires-clause-kinds
+run-requires-clause-kinds c =
+    let known = c.requires.known in
+    kinds_of_run known.0 (asked_of c.in-Run.asked) c.in-Run.files.now (subst (λ (z : Command). IsCommand (command_of z) known.0) c.in-Run.is known.1)
