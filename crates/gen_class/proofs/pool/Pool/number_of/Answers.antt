@@ -1,7 +1,0 @@
-use Rattle.std.proofs.Common.{◌+◌, map, ap, ◌∙◌, add-one}
-use Rattle.gen_class.specs.Keys.{const_of}
-use Rattle.gen_class.proofs.Numbered.{numbered}
-use Rattle.gen_class.proofs.pool.Pool.number_of.Goals as goal
-
-pub returns-clause-made : goal.returns-clause-made
-returns-clause-made c = rw (← c.self.view_is, numbered) (record { value = ap (λ n. n + 1) c.in_ok-index.ensures.index ∙ add-one _; left = ap (map const_of) c.in_ok-index.ensures.keys })

@@ -1,4 +1,0 @@
-pub mod Plain
-pub mod Running
-pub mod Steps
-pub mod inner

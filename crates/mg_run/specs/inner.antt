@@ -1,2 +1,0 @@
-pub mod Plainly
-pub mod Coming
