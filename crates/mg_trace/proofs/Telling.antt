@@ -59,9 +59,9 @@ traces_more p events e t objects now lines same line h more = record {
   results = h.results;
   objects = are_known_more t.objects.items now.items events e h.objects more;
   lines = traced_more p t.objects.items events e (string_bytes t.lines) (string_bytes lines) h.objects h.lines
-    (line (subst (λ (z : Program). AreResults z t.results) (sym h.core) h.results)
-    ∙ ap (λ (z : Program). string_bytes t.lines ++ line_of z (known_at objects (object_of e)) e) h.core
-    ∙ ap (λ (os : List Tracked). string_bytes t.lines ++ line_of p (known_at os (object_of e)) e) same);
+      (line (subst (λ (z : Program). AreResults z t.results) (sym h.core) h.results)
+      ∙ ap (λ (z : Program). string_bytes t.lines ++ line_of z (known_at objects (object_of e)) e) h.core
+      ∙ ap (λ (os : List Tracked). string_bytes t.lines ++ line_of p (known_at os (object_of e)) e) same);
 }
 
 -- the words of an object that left a method

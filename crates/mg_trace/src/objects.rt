@@ -50,12 +50,7 @@ pub(crate) fn note(alloc: Global, objects: &mut Vec<Tracked>, event: Event) -> R
 }
 
 // An object of a class was made.
-fn made(
-    alloc: Global,
-    objects: &mut Vec<Tracked>,
-    object: u32,
-    class: Text,
-) -> Result<(), Memory>
+fn made(alloc: Global, objects: &mut Vec<Tracked>, object: u32, class: Text) -> Result<(), Memory>
     ensures { OnOk result ((o : ℕ) → known_at objects.new.items o ≡ known_more o (known_at objects.old.items o) (Event.Made object class)) }
 {
     pad(alloc, objects, object)?;
