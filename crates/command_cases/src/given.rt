@@ -27,7 +27,10 @@ pub fn are_clear(head: &str) -> bool {
 
 // Whether a line may begin with this word.
 fn is_clear(word: &str) -> bool {
-    matches!(word, "mungo" | "with" | "shows" | "folder" | "out" | "err")
+    matches!(
+        word,
+        "mungo" | "with" | "shows" | "bytes" | "folder" | "out" | "err"
+    )
 }
 
 /// Words with one blank between each two.

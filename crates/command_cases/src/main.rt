@@ -10,6 +10,7 @@
 //! err fails 0                   the same of standard error
 //! folder fails 4                and of the folder, whose reads and writes are counted together
 //! shows a.txt                   files whose contents are told afterwards
+//! bytes A.class                 files whose bytes are told afterwards, in hexadecimal digits
 //! ```
 #![tactic(auto)]
 
@@ -23,11 +24,13 @@ use std::alloc::Global;
 use std::rt::Files;
 
 /// The files of cases, in the order in which they are answered.
-const FILES: [&str; 6] = [
+const FILES: [&str; 8] = [
     "translate.txt",
     "conform.txt",
     "check.txt",
     "refused.txt",
+    "compile.txt",
+    "limits.txt",
     "run.txt",
     "words.txt",
 ];

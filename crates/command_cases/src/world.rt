@@ -92,7 +92,9 @@ impl World {
     // What the command leaves.
     fn answer(mut self, alloc: Global, head: &str) -> Result<String, Memory> {
         let status = self.run(alloc, head)?;
-        self.told(alloc, status, line_of(head, "shows "))
+        let mut told = self.told(alloc, status, line_of(head, "shows "))?;
+        self.tell_bytes(&mut told, line_of(head, "bytes "))?;
+        Ok(told)
     }
 
     fn run(&mut self, alloc: Global, head: &str) -> Result<Status, Memory> {
@@ -112,6 +114,31 @@ impl World {
         }
         Ok(told)
     }
+
+    // Tells the bytes of the files of these names that are there.
+    fn tell_bytes(&self, told: &mut String, names: &str) -> Result<(), AllocError> {
+        for name in names.split(' ') {
+            if let Some(bytes) = self.folder.content(name) {
+                write!(told, "\n>>> {name}")?;
+                tell_digits(told, bytes)?;
+            }
+        }
+        Ok(())
+    }
+}
+
+/// How many bytes are told in a line.
+const IN_A_LINE: usize = 32;
+
+// Tells bytes by two hexadecimal digits each.
+fn tell_digits(told: &mut String, bytes: &[u8]) -> Result<(), AllocError> {
+    for piece in bytes.chunks(IN_A_LINE) {
+        told.push_str("\n")?;
+        for byte in piece {
+            write!(told, "{byte:02x}")?;
+        }
+    }
+    Ok(())
 }
 
 // Tells a file, or that there is none. A file with no name isn't told.
