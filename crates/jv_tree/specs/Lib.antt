@@ -1,6 +1,3 @@
-pub mod Tree
-pub mod Values
-pub mod Meaning
 pub mod Source
 pub mod Depth
 pub mod View

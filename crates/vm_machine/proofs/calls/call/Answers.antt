@@ -21,6 +21,7 @@ returns-in-Some-clause-ok c =
       act_wrong p q m me (Call (calling_of c.args.calling) c.args.class c.args.method) c.in-Some.kind
           (sym c.in-Some.is ∙ c.wrong.ensures ∙ ap (λ (n : Needs). wrong p n m) same),
       refl,
+      refl,
     )
 
 pub returns-clause-ok : goal.returns-clause-ok

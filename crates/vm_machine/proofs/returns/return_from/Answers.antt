@@ -19,7 +19,7 @@ returns-in-Some-clause-ok c =
     rw (c.method_at-method.ensures) at c.result_type-answer.ensures in
     let checked : c.check.result ≡ wrong p (needs p m (Return (option_map sort_of c.args.sort))) m =
     c.check.ensures ∙ ap (λ (t : Option FieldType). wrong p (return_needs p m (option_map sort_of c.args.sort) t) m) same in
-    λ me q. (act_wrong p q m me (Return (option_map sort_of c.args.sort)) c.in-Some.kind (sym c.in-Some.is ∙ checked), refl)
+    λ me q. (act_wrong p q m me (Return (option_map sort_of c.args.sort)) c.in-Some.kind (sym c.in-Some.is ∙ checked), refl, refl)
 
 pub returns-in-None-clause-ok : goal.returns-in-None-clause-ok
 returns-in-None-clause-ok c =

@@ -10,6 +10,7 @@ returns-in-Some-clause-ok c = (
   act_wrong (classes_of c.args.linked.now.classes.items) c.args.ports.now (state_of c.args.state.now)
       c.args.me _ c.in-Some.kind (sym c.in-Some.is ∙ c.check_built.ensures),
   refl,
+  refl,
 )
 
 pub returns-in-Init-clause-ok : goal.returns-in-Init-clause-ok

@@ -11,6 +11,7 @@ returns-in-Some-clause-ok c = λ me q. (
   act_wrong (classes_of c.args.linked.now.classes.items) q (state_of c.args.state.now) me (actions.Make c.args.class)
       c.in-Some.kind (sym c.in-Some.is ∙ c.check.ensures),
   refl,
+  refl,
 )
 
 pub returns-clause-ok : goal.returns-clause-ok

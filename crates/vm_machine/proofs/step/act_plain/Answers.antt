@@ -10,6 +10,7 @@ returns-in-Some-clause-ok c = λ me q. (
   act_wrong (classes_of c.args.linked.now.classes.items) q (state_of c.args.state.now) me _
       c.in-Some.kind (sym c.in-Some.is ∙ c.check_plain.ensures),
   refl,
+  refl,
 )
 
 pub returns-in-Push-clause-ok : goal.returns-in-Push-clause-ok

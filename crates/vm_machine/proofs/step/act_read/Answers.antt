@@ -15,6 +15,7 @@ returns-in-Some-clause-ok c = λ me q. (
       (taking (classes_of c.args.linked.now.classes.items) (state_of c.args.state.now) (w ∷ []) 1) (state_of c.args.state.now))
       c.object.ensures),
   refl,
+  refl,
 )
 
 pub returns-clause-ok : goal.returns-clause-ok

@@ -22,6 +22,7 @@ returns-in-Some-clause-ok c = λ me q. (
       (Typed (Named (class_name (classes_of c.args.linked.now.classes.items) c.args.class)) ∷ w ∷ []) 0)
       (state_of c.args.state.now)) (c.field_want-value.ensures ∙ ap type_in c.field_at.ensures)),
   refl,
+  refl,
 )
 
 pub returns-clause-ok : goal.returns-clause-ok
