@@ -1,9 +1,9 @@
 -- Files that are refused aren't accepted.
 use Rattle.std.proofs.Common.{◌≡◌, ℕ, List, Bool, Option, Some, None, slice_get, sym, ap, ◌∙◌, subst}
 use Rattle.jv_core.specs.Tree as Core
-use Rattle.use_flow.specs.declared.demand.Demand.{Demand}
-use Rattle.use_flow.specs.Tables.{Solves}
-use Rattle.use_flow.proofs.Laws.{least_solve}
+use Rattle.use_rules.specs.declared.demand.Demand.{Demand}
+use Rattle.use_rules.specs.Tables.{Solves}
+use Rattle.use_rules.proofs.Laws.{least_solve}
 use Rattle.use_flow.proofs.Reached.{reached_same}
 use Rattle.use_check.specs.Verdict.{IsAccepted, FailsFirst}
 use Rattle.mg_sources.specs.Files.{Source}

@@ -4,7 +4,7 @@ use Rattle.std.specs.Prelude.{OnOk}
 use Rattle.jv_core.specs.Core.{tree_of}
 use Rattle.jv_core.specs.Tree as Core
 use Rattle.use_flow.specs.View.{tables_of, reached_of}
-use Rattle.use_flow.specs.declared.demand.Demand.{Demand}
+use Rattle.use_rules.specs.declared.demand.Demand.{Demand}
 use Rattle.use_check.specs.declared.verdict.CheckFault.{CheckFault}
 use Rattle.use_check.specs.declared.verdict.CheckFault.TheVariants as faults
 use Rattle.use_check.specs.Verdict.{FailsFirst}

@@ -1,7 +1,7 @@
 -- Which files are accepted, and the first refusal of those that aren't.
 use Rattle.std.specs.Prelude.{◌≡◌, ℕ, List}
 use Rattle.jv_core.specs.Tree as Core
-use Rattle.use_flow.specs.declared.demand.Demand.{Demand}
+use Rattle.use_rules.specs.declared.demand.Demand.{Demand}
 use Rattle.use_check.specs.Verdict.{IsAccepted, FailsFirst}
 use Rattle.mg_sources.specs.Files.{Source}
 use Rattle.mg_program.specs.Program.{HaveCore}

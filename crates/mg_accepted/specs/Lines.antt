@@ -1,10 +1,10 @@
 -- The line of a demand that fails.
 use Rattle.std.specs.Prelude.{ℕ, Bool, true, false, List, ◌++◌, codes, if◌then◌else◌}
 use Rattle.jv_core.specs.Tree as Core
-use Rattle.use_flow.specs.declared.demand.Demand.{Demand}
-use Rattle.use_flow.specs.declared.demand.DemandKind.{DemandKind}
-use Rattle.use_flow.specs.declared.demand.DemandKind.TheVariants as demands
-use Rattle.use_flow.specs.Keys.{typestate_of}
+use Rattle.use_rules.specs.declared.demand.Demand.{Demand}
+use Rattle.use_rules.specs.declared.demand.DemandKind.{DemandKind}
+use Rattle.use_rules.specs.declared.demand.DemandKind.TheVariants as demands
+use Rattle.use_rules.specs.Keys.{typestate_of}
 use Rattle.use_check.specs.Report.{element_text}
 use Rattle.mg_sources.specs.Faults.{fault_at, fault_line}
 use Rattle.mg_sources.specs.Files.{Source}

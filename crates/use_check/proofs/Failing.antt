@@ -2,17 +2,17 @@
 use Rattle.std.proofs.Common.{◌≡◌, ℕ, ◌+◌, ◌<◌, ◌≤◌, List, [], ◌∷◌, ◌++◌, length, get_or, drop, Some, None, slice_get, flat_map, Contains, refl, sym, ap, subst, ◌∙◌}
 use Rattle.std.proofs.lemmas.List.{at_drop_more, at_drop_all, get_or_default}
 use Rattle.jv_core.specs.Tree.{Program}
-use Rattle.use_flow.specs.declared.demand.Demand.{Demand}
-use Rattle.use_flow.specs.declared.demand.DemandKind.{DemandKind}
-use Rattle.use_flow.specs.declared.demand.DemandKind.TheVariants as demands
+use Rattle.use_rules.specs.declared.demand.Demand.{Demand}
+use Rattle.use_rules.specs.declared.demand.DemandKind.{DemandKind}
+use Rattle.use_rules.specs.declared.demand.DemandKind.TheVariants as demands
 use Rattle.use_flow.specs.declared.held.Tables as held
 use Rattle.use_flow.specs.declared.out.Flow as kept_flow
-use Rattle.use_flow.specs.declared.key.Context.{Context}
-use Rattle.use_flow.specs.declared.key.Context.TheVariants.{Plain}
-use Rattle.use_flow.specs.State.{Log}
-use Rattle.use_flow.specs.Tables.{flow_of, all_failed, Solves, Least}
+use Rattle.use_rules.specs.declared.key.Context.{Context}
+use Rattle.use_rules.specs.declared.key.Context.TheVariants.{Plain}
+use Rattle.use_rules.specs.State.{Log}
+use Rattle.use_rules.specs.Tables.{flow_of, all_failed, Solves, Least}
 use Rattle.use_flow.specs.View.{tables_of, reached_of, contexts_of, log_of, AreFor}
-use Rattle.use_flow.proofs.Laws.{least_solve}
+use Rattle.use_rules.proofs.Laws.{least_solve}
 use Rattle.use_flow.proofs.Reached.{reached_same}
 use Rattle.use_check.specs.declared.verdict.CheckFault.TheVariants as faults
 use Rattle.use_check.specs.Verdict.{AreAnswer, IsAccepted, FailsFirst}

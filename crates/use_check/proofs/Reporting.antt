@@ -4,9 +4,9 @@ use Rattle.std.proofs.lemmas.Bool.{false≢true}
 use Rattle.mg_text.specs.Call.{Name}
 use Rattle.mg_sets.specs.Sets.{has, members, members_from}
 use Rattle.jv_core.specs.Tree.{Program}
-use Rattle.use_flow.specs.declared.key.TableKey.{TableKey}
+use Rattle.use_rules.specs.declared.key.TableKey.{TableKey}
 use Rattle.use_flow.specs.declared.held.Tables as held
-use Rattle.use_flow.specs.Tables.{Least}
+use Rattle.use_rules.specs.Tables.{Least}
 use Rattle.use_flow.specs.View.{tables_of, reached_of}
 use Rattle.use_flow.proofs.Reached.{reached_same}
 use Rattle.use_check.specs.Report.{lines, report_text, IsReport, OneReport}

@@ -2,7 +2,7 @@
 use Rattle.std.proofs.Common.{◌≡◌, [], ◌∷◌, refl, arith}
 use Rattle.std.specs.Fmt.{decimal}
 use Rattle.std.proofs.lemmas.Fmt.{decimal_digit}
-use Rattle.use_flow.proofs.Examples.{fails}
+use Rattle.use_rules.proofs.Examples.{fails}
 use Rattle.use_check.specs.Computed.{ReportsOfExamples}
 
 pub reports : ReportsOfExamples

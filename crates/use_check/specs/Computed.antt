@@ -1,8 +1,8 @@
 -- The texts of reports of worked programs with given tables, and the demands that fail there.
 use Rattle.std.specs.Prelude.{◌≡◌, ◌++◌, [], codes}
-use Rattle.use_flow.specs.Computed.{Fails}
-use Rattle.use_flow.specs.examples.Main.{reached, kept, kept_tables}
-use Rattle.use_flow.specs.examples.Holder.{both_reached, holder_tables, is_tested, swaps, swap_tables}
+use Rattle.use_rules.specs.Computed.{Fails}
+use Rattle.use_rules.specs.examples.Main.{reached, kept, kept_tables}
+use Rattle.use_rules.specs.examples.Holder.{both_reached, holder_tables, is_tested, swaps, swap_tables}
 use Rattle.use_check.specs.Report.{report_text}
 use Rattle.use_check.specs.examples.Nodes.{nodes, nodes_reached, nodes_tables}
 use Rattle.use_check.specs.examples.Files.{files, unclosed, files_reached, files_tables, unclosed_fails}

@@ -1,9 +1,9 @@
 -- What a fault says of a program.
 use Rattle.std.specs.Prelude.{◌≡◌}
 use Rattle.jv_core.specs.Tree.{Program}
-use Rattle.use_flow.specs.declared.demand.Demand.{Demand}
-use Rattle.use_flow.specs.declared.demand.DemandKind.{DemandKind}
-use Rattle.use_flow.specs.declared.demand.DemandKind.TheVariants as demands
+use Rattle.use_rules.specs.declared.demand.Demand.{Demand}
+use Rattle.use_rules.specs.declared.demand.DemandKind.{DemandKind}
+use Rattle.use_rules.specs.declared.demand.DemandKind.TheVariants as demands
 use Rattle.use_check.specs.declared.verdict.CheckFault.{CheckFault}
 use Rattle.use_check.specs.declared.verdict.CheckFault.TheVariants as faults
 use Rattle.use_check.specs.Verdict.{FailsFirst}

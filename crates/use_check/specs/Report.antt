@@ -11,15 +11,15 @@ use Rattle.jv_core.specs.declared.program.MethodKind.{MethodKind}
 use Rattle.jv_core.specs.declared.program.MethodKind.TheVariants as kinds
 use Rattle.jv_core.specs.Tree.{Class, Field, Slot, Loop, Method, Program}
 use Rattle.jv_core.specs.Lookup.{text_at}
-use Rattle.use_flow.specs.declared.element.Element.{Element}
-use Rattle.use_flow.specs.declared.element.Element.TheVariants as elements
-use Rattle.use_flow.specs.declared.key.Context.{Context}
-use Rattle.use_flow.specs.declared.key.Context.TheVariants as contexts
-use Rattle.use_flow.specs.declared.key.TableKey.{TableKey}
-use Rattle.use_flow.specs.declared.key.TableKey.TheVariants as keys
-use Rattle.use_flow.specs.Elements.{element_at}
-use Rattle.use_flow.specs.Keys.{Tables, AreReached, typestate_of, reached_states, contexts_in, method_in, class_in}
-use Rattle.use_flow.specs.Tables.{Least}
+use Rattle.use_rules.specs.declared.element.Element.{Element}
+use Rattle.use_rules.specs.declared.element.Element.TheVariants as elements
+use Rattle.use_rules.specs.declared.key.Context.{Context}
+use Rattle.use_rules.specs.declared.key.Context.TheVariants as contexts
+use Rattle.use_rules.specs.declared.key.TableKey.{TableKey}
+use Rattle.use_rules.specs.declared.key.TableKey.TheVariants as keys
+use Rattle.use_rules.specs.Elements.{element_at}
+use Rattle.use_rules.specs.Keys.{Tables, AreReached, typestate_of, reached_states, contexts_in, method_in, class_in}
+use Rattle.use_rules.specs.Tables.{Least}
 
 -- the name of a state
 abbrev pub state_text : Typestate → (state : ℕ) → Name

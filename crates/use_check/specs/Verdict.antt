@@ -1,10 +1,10 @@
 -- Which programs are accepted, and which demand is named where one is not.
 use Rattle.std.specs.Prelude.{◌≡◌, List, Bool, Some, slice_get}
 use Rattle.jv_core.specs.Tree.{Program}
-use Rattle.use_flow.specs.declared.demand.Demand.{Demand}
+use Rattle.use_rules.specs.declared.demand.Demand.{Demand}
 use Rattle.use_flow.specs.declared.held.Tables as held
-use Rattle.use_flow.specs.Keys.{Tables, AreReached}
-use Rattle.use_flow.specs.Tables.{all_failed, Solves, Least}
+use Rattle.use_rules.specs.Keys.{Tables, AreReached}
+use Rattle.use_rules.specs.Tables.{all_failed, Solves, Least}
 use Rattle.use_flow.specs.View.{tables_of, reached_of, AreFor}
 
 -- tables that are the least of a program, and solve it

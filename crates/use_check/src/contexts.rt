@@ -5,7 +5,7 @@ ghost use Rattle.std.specs.Prelude.{◌≡◌, ◌++◌, ◌+◌, map, take, IfO
 ghost use Rattle.std.specs.Fmt.{decimal};
 ghost use Rattle.std.specs.List.{flat_map};
 ghost use Rattle.jv_core.specs.View.{method_of, slot_of, loop_of};
-ghost use Rattle.use_flow.specs.Keys.{method_in};
+ghost use Rattle.use_rules.specs.Keys.{method_in};
 ghost use Rattle.use_flow.specs.inner.Fields.{key_in};
 ghost use Rattle.use_check.specs.Report.{is_instance, is_helper, class_text, where_text, context_text, param_lines, result_line, own_fields, field_lines, front_of, param_line};
 ghost use Rattle.use_check.specs.Report.{helper_lines, helper_lines_of, slot_line, head_fields, head_lines, loop_lines, named_lines, method_lines, context_lines, in_order};

@@ -6,7 +6,7 @@ ghost use Rattle.std.specs.List.{flat_map};
 ghost use Rattle.mg_sets.specs.Sets.{members};
 ghost use Rattle.jv_core.specs.View.{field_of};
 ghost use Rattle.jv_core.specs.Lookup.{text_at};
-ghost use Rattle.use_flow.specs.Keys.{typestate_of};
+ghost use Rattle.use_rules.specs.Keys.{typestate_of};
 ghost use Rattle.use_flow.specs.inner.Fields.{key_in};
 ghost use Rattle.use_flow.specs.inner.Followed.{typestate_or_end};
 ghost use Rattle.use_check.specs.Report.{state_text, member_text, set_text, table_text, variable_line, field_lines};

@@ -3,7 +3,7 @@
 
 ghost use Rattle.std.specs.Prelude.{◌≡◌, IfOk, IfErr, slice_get};
 ghost use Rattle.jv_core.specs.Core.{tree_of};
-ghost use Rattle.use_flow.specs.Tables.{all_failed};
+ghost use Rattle.use_rules.specs.Tables.{all_failed};
 ghost use Rattle.use_flow.specs.View.{tables_of, reached_of, contexts_of, AreFor};
 ghost use Rattle.use_check.specs.Verdict.{AreAnswer, AnswerOf, IsAccepted};
 ghost use Rattle.use_check.specs.Faults.{IsFault, fault_of};

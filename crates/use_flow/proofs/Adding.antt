@@ -14,9 +14,9 @@ use Rattle.jv_core.specs.Tree.{Field, Method, Program}
 use Rattle.jv_core.specs.View.{class_of, field_of, loop_of, method_of}
 use Rattle.use_flow.specs.declared.classed.Entry.{Entry}
 use Rattle.use_flow.specs.declared.fields.FieldTable.{FieldTable}
-use Rattle.use_flow.specs.declared.key.Context.{Context}
-use Rattle.use_flow.specs.declared.key.TableKey.TheVariants as keys
-use Rattle.use_flow.specs.Keys.{class_in}
+use Rattle.use_rules.specs.declared.key.Context.{Context}
+use Rattle.use_rules.specs.declared.key.TableKey.TheVariants as keys
+use Rattle.use_rules.specs.Keys.{class_in}
 use Rattle.use_flow.specs.inner.Fields.{key_in}
 use Rattle.use_flow.specs.inner.Listing.{listed_from, entry_if, field_entry, field_entries, state_entry, class_entries, method_entries, param_entry, slot_entry, loop_entries, entries_at}
 use Rattle.use_flow.proofs.Rests.{append_nil}

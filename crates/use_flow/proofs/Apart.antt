@@ -13,9 +13,9 @@ use Rattle.jv_core.specs.declared.program.MethodKind.{MethodKind}
 use Rattle.jv_core.specs.declared.program.MethodKind.TheVariants as kinds
 use Rattle.jv_core.specs.Lookup.{text_at}
 use Rattle.jv_core.specs.Tree.{Class, Method, Program}
-use Rattle.use_flow.specs.declared.key.Context.{Context}
-use Rattle.use_flow.specs.declared.key.Context.TheVariants as contexts
-use Rattle.use_flow.specs.Keys.{contexts_from, contexts_in, contexts_of, in_states, method_in, offering_states, reached_states, same_context, typestate_of}
+use Rattle.use_rules.specs.declared.key.Context.{Context}
+use Rattle.use_rules.specs.declared.key.Context.TheVariants as contexts
+use Rattle.use_rules.specs.Keys.{contexts_from, contexts_in, contexts_of, in_states, method_in, offering_states, reached_states, same_context, typestate_of}
 use Rattle.use_flow.specs.inner.Holding.{AreApart}
 use Rattle.use_flow.proofs.Keyed.{context_eq}
 use Rattle.use_flow.proofs.Listing.{every_append}

@@ -13,9 +13,9 @@ use Rattle.jv_core.specs.Tree.{Expr, Not, Neg, Binary, Equals, Concat, Protocol,
 use Rattle.jv_core.specs.View.{expr_of, exprs_of, kind_of}
 use Rattle.jv_core.proofs.ViewLaws.{expr_of-is, kind-Neg, kind-Not, kind-Binary, kind-Equals, kind-Concat, kind-Protocol, kind-Helper, kind-Static, views}
 use Rattle.use_flow.specs.declared.evaluated.Value.{Value}
-use Rattle.use_flow.specs.Elements.{Set}
-use Rattle.use_flow.specs.State.{Now, Log}
-use Rattle.use_flow.specs.Flow.{Evaluated, NullTest, null_test, alike}
+use Rattle.use_rules.specs.Elements.{Set}
+use Rattle.use_rules.specs.State.{Now, Log}
+use Rattle.use_rules.specs.Flow.{Evaluated, NullTest, null_test, alike}
 use Rattle.use_flow.specs.inner.Followed.{Followed, eval}
 use Rattle.use_flow.specs.inner.Values.{evaluated_of, settled, parted, both_ways, both_with, either_with, opposite, null_tested, called_protocol, called_helper, called_static}
 use Rattle.use_flow.proofs.Following.{operands_from, conjunction_from, disjunction_from, binary_tests, binary_other}

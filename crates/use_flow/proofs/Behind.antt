@@ -8,12 +8,12 @@ use Rattle.mg_text.specs.declared.place.Place.{Place}
 use Rattle.ts_tree.specs.declared.parts.To.{To}
 use Rattle.ts_tree.specs.Typestate.{Typestate, Target}
 use Rattle.jv_core.specs.Lookup.{text_at}
-use Rattle.use_flow.specs.declared.demand.Demand.{Demand}
-use Rattle.use_flow.specs.Elements.{Set, target_at}
-use Rattle.use_flow.specs.Keys.{typestate_of}
-use Rattle.use_flow.specs.Flow as rules
-use Rattle.use_flow.specs.Flow.{is_end}
-use Rattle.use_flow.specs.State.{Out, Log}
+use Rattle.use_rules.specs.declared.demand.Demand.{Demand}
+use Rattle.use_rules.specs.Elements.{Set, target_at}
+use Rattle.use_rules.specs.Keys.{typestate_of}
+use Rattle.use_rules.specs.Flow as rules
+use Rattle.use_rules.specs.Flow.{is_end}
+use Rattle.use_rules.specs.State.{Out, Log}
 use Rattle.use_flow.specs.inner.Calling.{which_of}
 use Rattle.use_flow.specs.inner.Ending.{followed, fields_left, leaves_fields, left}
 use Rattle.use_flow.specs.inner.Followed.{Followed, own_fields, open_fields, to_states, left_open, result_out}

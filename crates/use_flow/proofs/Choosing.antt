@@ -20,14 +20,14 @@ use Rattle.use_flow.specs.declared.evaluated.Arguments.{Arguments}
 use Rattle.use_flow.specs.declared.evaluated.Value.{Value}
 use Rattle.use_flow.specs.declared.switches.Branches.{Branches}
 use Rattle.use_flow.specs.declared.switches.Labels.{Labels}
-use Rattle.use_flow.specs.Elements.{Set, none, union, targets, targets_by}
-use Rattle.use_flow.specs.Flow.{Evaluated, alike, after, placed, all_labels, is_label, is_default}
-use Rattle.use_flow.specs.State.{Now, Log, Argued, joined, joined_sets}
+use Rattle.use_rules.specs.Elements.{Set, none, union, targets, targets_by}
+use Rattle.use_rules.specs.Flow.{Evaluated, alike, after, placed, all_labels, is_label, is_default}
+use Rattle.use_rules.specs.State.{Now, Log, Argued, joined, joined_sets}
 use Rattle.use_flow.specs.inner.Followed.{Followed, eval, eval_all, variable_at, width_of}
 use Rattle.use_flow.specs.inner.Simple.{constants_of, type_dropped}
 use Rattle.use_flow.specs.inner.Switching.{Called, spread, with_any, gathered, branched, variables, note_one, noted, uncased_by, label_now, known_set, uncased, entry_of, by_constants, switched, led_by, led_set, call_in, called_switch, plain_switch}
 use Rattle.use_flow.specs.inner.Values.{yes_of, no_of, evaluated_of, argued_of, protocol_call}
-use Rattle.use_flow.proofs.Meeting.{joined-self, union-self, sets-self}
+use Rattle.use_rules.proofs.Meeting.{joined-self, union-self, sets-self}
 use Rattle.use_flow.proofs.Jumping.{joined-assoc, joined-none}
 
 pub group_of-is : (g : CoreGroup) → group_of g ≡ record { labels = (out-CoreGroup g).labels.items; body = stmts_of (map stmt_of (out-CoreGroup g).body.items); end = (out-CoreGroup g).end }

@@ -8,9 +8,9 @@ use Rattle.mg_text.specs.declared.place.Place.{Place}
 use Rattle.mg_sets.specs.Sets.{has}
 use Rattle.use_flow.specs.declared.jumps.Jumps.{Jumps}
 use Rattle.use_flow.specs.declared.course.Course.{Course}
-use Rattle.use_flow.specs.Elements.{Set, marked, none}
-use Rattle.use_flow.specs.Flow.{flow}
-use Rattle.use_flow.specs.State.{Now, Log, Leads, same_lead, Jump, Flow, joined, leaving}
+use Rattle.use_rules.specs.Elements.{Set, marked, none}
+use Rattle.use_rules.specs.Flow.{flow}
+use Rattle.use_rules.specs.State.{Now, Log, Leads, same_lead, Jump, Flow, joined, leaving}
 use Rattle.use_flow.specs.View.{log_of}
 use Rattle.use_flow.specs.inner.Followed.{Followed}
 use Rattle.use_flow.specs.inner.Jumping.{held}

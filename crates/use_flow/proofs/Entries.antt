@@ -11,10 +11,10 @@ use Rattle.ts_tree.specs.Reachable.{MarksReachable}
 use Rattle.jv_core.specs.declared.program.CoreMethod.{CoreMethod}
 use Rattle.jv_core.specs.Tree.{Program}
 use Rattle.jv_core.specs.View.{method_of}
-use Rattle.use_flow.specs.declared.key.Context.{Context}
-use Rattle.use_flow.specs.declared.key.Context.TheVariants as contexts
-use Rattle.use_flow.specs.Keys.{AreReached, contexts_of, contexts_from, in_states, offering_states}
-use Rattle.use_flow.specs.View.{AreProper}
+use Rattle.use_rules.specs.declared.key.Context.{Context}
+use Rattle.use_rules.specs.declared.key.Context.TheVariants as contexts
+use Rattle.use_rules.specs.Keys.{AreReached, contexts_of, contexts_from, in_states, offering_states}
+use Rattle.use_rules.specs.Keys.{AreProper}
 use Rattle.use_flow.specs.inner.Entering.{entered_from}
 use Rattle.use_flow.proofs.Rests.{append_nil}
 

@@ -6,13 +6,13 @@ use Rattle.jv_core.specs.Tree.{Method, Program, Stmts}
 use Rattle.use_flow.specs.declared.course.Course.{Course}
 use Rattle.use_flow.specs.declared.held.Tables as held
 use Rattle.use_flow.specs.declared.jumps.Jumps.{Jumps}
-use Rattle.use_flow.specs.declared.key.Context.{Context}
-use Rattle.use_flow.specs.Elements.{Set}
-use Rattle.use_flow.specs.Flow as rules
-use Rattle.use_flow.specs.Flow.{declared_here}
-use Rattle.use_flow.specs.Keys.{method_in, contexts_in}
-use Rattle.use_flow.specs.State.{Now, Log}
-use Rattle.use_flow.specs.Tables.{quiet, flow_of}
+use Rattle.use_rules.specs.declared.key.Context.{Context}
+use Rattle.use_rules.specs.Elements.{Set}
+use Rattle.use_rules.specs.Flow as rules
+use Rattle.use_rules.specs.Flow.{declared_here}
+use Rattle.use_rules.specs.Keys.{method_in, contexts_in}
+use Rattle.use_rules.specs.State.{Now, Log}
+use Rattle.use_rules.specs.Tables.{quiet, flow_of}
 use Rattle.use_flow.specs.View.{contexts_of, reached_of, tables_of, log_of, AreFor}
 use Rattle.use_flow.specs.inner.Ending.{left}
 use Rattle.use_flow.specs.inner.Followed.{Followed}

@@ -14,9 +14,9 @@ use Rattle.jv_core.proofs.ViewLaws.{views}
 use Rattle.use_flow.specs.declared.evaluated.Ways.TheVariants as ways
 use Rattle.use_flow.specs.declared.evaluated.Value.{Value}
 use Rattle.use_flow.specs.declared.evaluated.Arguments.{Arguments}
-use Rattle.use_flow.specs.Elements.{Set}
-use Rattle.use_flow.specs.State.{Now, Log, Argued, joined}
-use Rattle.use_flow.specs.Flow.{Evaluated, NullTest, null_test, alike}
+use Rattle.use_rules.specs.Elements.{Set}
+use Rattle.use_rules.specs.State.{Now, Log, Argued, joined}
+use Rattle.use_rules.specs.Flow.{Evaluated, NullTest, null_test, alike}
 use Rattle.use_flow.specs.inner.Followed.{Followed, eval, eval_all, width_of}
 use Rattle.use_flow.proofs.Rests.{append_nil}
 use Rattle.use_flow.specs.inner.Values.{yes_of, no_of, evaluated_of, argued_of, settled, parted, both_ways, both_with, either_with, turned, behind, null_tested, operands, conjunction, disjunction, called, widths_of}

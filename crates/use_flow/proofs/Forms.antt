@@ -15,9 +15,9 @@ use Rattle.jv_core.specs.View.{expr_of, stmt_of, stmts_of, group_of, groups_of, 
 use Rattle.jv_core.proofs.ViewLaws.{stmt_of-is, stmt-Block, stmt-Empty, stmt-Local, stmt-Assign, stmt-If-None, stmt-If-Some, stmt-While, stmt-Do, stmt-Switch, stmt-Break, stmt-Continue, stmt-Return, stmt-Print, stmt-Eval}
 use Rattle.use_flow.specs.declared.course.Course.{Course}
 use Rattle.use_flow.specs.declared.jumps.Jumps.{Jumps}
-use Rattle.use_flow.specs.Elements.{Set}
-use Rattle.use_flow.specs.State.{Now, Log, Flow, leaving, BehindSwitch, BehindLoop, GoesOn}
-use Rattle.use_flow.specs.Flow.{flow, declared_here, all_labels}
+use Rattle.use_rules.specs.Elements.{Set}
+use Rattle.use_rules.specs.State.{Now, Log, Flow, leaving, BehindSwitch, BehindLoop, GoesOn}
+use Rattle.use_rules.specs.Flow.{flow, declared_here, all_labels}
 use Rattle.use_flow.specs.View.{log_of}
 use Rattle.use_flow.specs.inner.Ending.{left}
 use Rattle.use_flow.specs.inner.Followed.{Followed, eval, loop_scope}

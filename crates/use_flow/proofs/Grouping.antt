@@ -8,8 +8,8 @@ use Rattle.jv_core.specs.Tree.{Groups, NoGroup}
 use Rattle.jv_core.specs.View.{stmt_of, stmts_of, group_of, groups_of, OneGroup}
 use Rattle.use_flow.specs.declared.course.Course.{Course}
 use Rattle.use_flow.specs.declared.jumps.Jumps.{Jumps}
-use Rattle.use_flow.specs.Flow.{flow, declared_here}
-use Rattle.use_flow.specs.State.{Now, Log, Leads, BehindSwitch, same_lead, Jump, Flow, joined, caught}
+use Rattle.use_rules.specs.Flow.{flow, declared_here}
+use Rattle.use_rules.specs.State.{Now, Log, Leads, BehindSwitch, same_lead, Jump, Flow, joined, caught}
 use Rattle.use_flow.specs.View.{log_of}
 use Rattle.use_flow.specs.inner.Followed.{Followed}
 use Rattle.use_flow.specs.inner.Jumping.{held}
@@ -18,7 +18,7 @@ use Rattle.use_flow.specs.inner.Stepping.{Follows, both_flows, steps}
 use Rattle.use_flow.specs.inner.Switching.{follow, entry_of, group_flow, switch_flow}
 use Rattle.use_flow.proofs.Choosing.{group_of-is}
 use Rattle.use_flow.proofs.Jumping.{joined-none, held_more}
-use Rattle.use_flow.proofs.Orders.{same_is, caught_passing}
+use Rattle.use_rules.proofs.Orders.{same_is, caught_passing}
 use Rattle.use_flow.proofs.Rests.{append_nil}
 use Rattle.use_flow.proofs.Stepping.{follows_as}
 

@@ -4,10 +4,10 @@ use Rattle.std.specs.Prelude.{slice_set, slice_index_or, option_and_then}
 use Rattle.std.proofs.lemmas.List.{at_drop_more, at_drop_all}
 use Rattle.jv_core.specs.declared.program.CoreType.{CoreType}
 use Rattle.jv_core.specs.Lookup.{slot_type}
-use Rattle.use_flow.specs.declared.key.TableKey.TheVariants as keys
-use Rattle.use_flow.specs.Elements.{Set}
-use Rattle.use_flow.specs.Keys.{class_in}
-use Rattle.use_flow.specs.State.{Out}
+use Rattle.use_rules.specs.declared.key.TableKey.TheVariants as keys
+use Rattle.use_rules.specs.Elements.{Set}
+use Rattle.use_rules.specs.Keys.{class_in}
+use Rattle.use_rules.specs.State.{Out}
 use Rattle.use_flow.specs.View.{tables_of}
 use Rattle.use_flow.specs.inner.Followed.{Followed, here, slot_class, slot_heads, slots_at}
 use Rattle.use_flow.proofs.Rests.{append_nil}

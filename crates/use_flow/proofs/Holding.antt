@@ -11,14 +11,15 @@ use Rattle.ts_tree.specs.declared.parts.To.TheVariants as tos
 use Rattle.jv_core.specs.Tree.{Program}
 use Rattle.use_flow.specs.declared.classed.Entry.{Entry}
 use Rattle.use_flow.specs.declared.held.Tables as held
-use Rattle.use_flow.specs.declared.key.Context.{Context}
-use Rattle.use_flow.specs.declared.key.TableKey.{TableKey}
-use Rattle.use_flow.specs.declared.key.TableKey.TheVariants as keys
-use Rattle.use_flow.specs.Elements.{Set, none}
-use Rattle.use_flow.specs.Keys.{AreReached, contexts_in}
-use Rattle.use_flow.specs.Shapes.{class_at}
-use Rattle.use_flow.specs.Start.{starting, start_in, start_of}
-use Rattle.use_flow.specs.View.{same_key, numbered, reached_of, contexts_of, tables_of, AreFor, AreProper}
+use Rattle.use_rules.specs.declared.key.Context.{Context}
+use Rattle.use_rules.specs.declared.key.TableKey.{TableKey}
+use Rattle.use_rules.specs.declared.key.TableKey.TheVariants as keys
+use Rattle.use_rules.specs.Elements.{Set, none}
+use Rattle.use_rules.specs.Keys.{AreReached, contexts_in}
+use Rattle.use_rules.specs.Shapes.{class_at}
+use Rattle.use_rules.specs.Start.{starting, start_in, start_of}
+use Rattle.use_flow.specs.View.{same_key, numbered, reached_of, contexts_of, tables_of, AreFor}
+use Rattle.use_rules.specs.Keys.{AreProper}
 use Rattle.use_flow.specs.inner.Holding.{AreApart, WithEntry, AreHeld}
 use Rattle.use_flow.specs.inner.Listing.{entries_in}
 use Rattle.use_flow.proofs.Apart.{contexts_apart}

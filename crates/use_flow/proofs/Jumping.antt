@@ -3,10 +3,10 @@ use Rattle.std.proofs.Common.{◌≡◌, ℕ, zero, suc, ◌+◌, ◌<◌, ◌�
 use Rattle.std.specs.Prelude.{if◌then◌else◌, ◌||◌, nat_eq, slice_set, slice_index_or}
 use Rattle.std.proofs.lemmas.Bool.{false≢true, eq-eqb}
 use lib.Dec.{eqb-zero-suc, eqb-suc-zero, eqb-suc-suc}
-use Rattle.use_flow.specs.Elements.{Set, union}
+use Rattle.use_rules.specs.Elements.{Set, union}
 use Rattle.use_flow.specs.inner.Jumping.{HasRoom, put_now}
-use Rattle.use_flow.specs.State.{Now, joined_sets, joined, Leads, BehindSwitch, BehindLoop, GoesOn, same_lead, Jump, caught, passing}
-use Rattle.use_flow.proofs.Orders.{same_is, caught_passing}
+use Rattle.use_rules.specs.State.{Now, joined_sets, joined, Leads, BehindSwitch, BehindLoop, GoesOn, same_lead, Jump, caught, passing}
+use Rattle.use_rules.proofs.Orders.{same_is, caught_passing}
 use Rattle.use_flow.proofs.Taken.{union-assoc}
 
 sets-assoc : (a b c : List Set) → joined_sets (joined_sets a b) c ≡ joined_sets a (joined_sets b c)

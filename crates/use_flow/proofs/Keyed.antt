@@ -1,13 +1,13 @@
 -- Keys and contexts are found by their numbers.
 use Rattle.std.proofs.Common.{◌≡◌, ◌+◌, Bool, cond, not, List, [], ◌∷◌, position, refl, ap, ◌∙◌}
 use Rattle.std.specs.List.{position_or_len}
-use Rattle.use_flow.specs.declared.key.Context.{Context}
-use Rattle.use_flow.specs.declared.key.Context.TheVariants as contexts
-use Rattle.use_flow.specs.declared.key.TableKey.{TableKey}
-use Rattle.use_flow.specs.declared.key.TableKey.TheVariants as keys
+use Rattle.use_rules.specs.declared.key.Context.{Context}
+use Rattle.use_rules.specs.declared.key.Context.TheVariants as contexts
+use Rattle.use_rules.specs.declared.key.TableKey.{TableKey}
+use Rattle.use_rules.specs.declared.key.TableKey.TheVariants as keys
 use Rattle.use_flow.specs.contracts.key.TableKeyPartialEq.TheImpl as table_key
 use Rattle.use_flow.specs.contracts.key.ContextPartialEq.TheImpl as context_key
-use Rattle.use_flow.specs.Keys.{same_context}
+use Rattle.use_rules.specs.Keys.{same_context}
 use Rattle.use_flow.specs.View.{same_key}
 
 abbrev pub key_eq : TableKey → TableKey → Bool

@@ -1,8 +1,8 @@
 -- What the rules say of an element, by tests on its number.
 use Rattle.std.proofs.Common.{◌≡◌, ◌≢◌, ℕ, zero, suc, ◌-◌, ◌<◌, ◌≤◌, [], ◌∷◌, Some, None, refl, ap, arith}
-use Rattle.use_flow.specs.declared.demand.DemandKind.{DemandKind}
-use Rattle.use_flow.specs.declared.element.Element.TheVariants as elements
-use Rattle.use_flow.specs.Elements.{as_value, left_behind, not_null, only_null, if_moved, if_state, element_at}
+use Rattle.use_rules.specs.declared.demand.DemandKind.{DemandKind}
+use Rattle.use_rules.specs.declared.element.Element.TheVariants as elements
+use Rattle.use_rules.specs.Elements.{as_value, left_behind, not_null, only_null, if_moved, if_state, element_at}
 
 pub as_value_other : (e : ℕ) → e ≢ 1 → as_value e ≡ e ∷ []
 as_value_other zero n = refl

@@ -1,10 +1,3 @@
-pub mod Examples
-mod Members
-mod Orders
-mod Rules
-mod Values
-mod Steps
-pub mod Laws
 pub mod Keyed
 pub mod Rests
 pub mod Leading
@@ -15,7 +8,6 @@ pub mod Scenes
 pub mod Seeking
 pub mod Turns
 pub mod Taken
-pub mod Meeting
 pub mod Entries
 pub mod Reached
 pub mod Heading

@@ -12,11 +12,11 @@ use Rattle.jv_core.specs.declared.program.MethodKind.TheVariants as kinds
 use Rattle.jv_core.specs.Tree.{Class, Field, Loop, Method, Program, Slot}
 use Rattle.jv_core.specs.Lookup.{slot_type, field_type, param_types}
 use Rattle.use_flow.specs.declared.classed.Entry.{Entry}
-use Rattle.use_flow.specs.declared.key.Context.{Context}
-use Rattle.use_flow.specs.declared.key.TableKey.{TableKey}
-use Rattle.use_flow.specs.declared.key.TableKey.TheVariants as keys
-use Rattle.use_flow.specs.Keys.{class_in, contexts_in, method_in, typestate_of}
-use Rattle.use_flow.specs.Shapes.{class_at, field_class, is_helper, is_instance, is_state, method_at, variable_class_at}
+use Rattle.use_rules.specs.declared.key.Context.{Context}
+use Rattle.use_rules.specs.declared.key.TableKey.{TableKey}
+use Rattle.use_rules.specs.declared.key.TableKey.TheVariants as keys
+use Rattle.use_rules.specs.Keys.{class_in, contexts_in, method_in, typestate_of}
+use Rattle.use_rules.specs.Shapes.{class_at, field_class, is_helper, is_instance, is_state, method_at, variable_class_at}
 use Rattle.use_flow.specs.inner.Listing.{listed_from, entry_if, field_entry, field_entries, fields_of, state_entry, class_entries, by_classes}
 use Rattle.use_flow.specs.inner.Listing.{method_entries, by_methods, param_entry, param_entries, slot_entry, scope_entries, head_key, head_entries, loop_entries, loops_entries}
 use Rattle.use_flow.specs.inner.Listing.{context_entries, entries_at, by_contexts, entries_in}

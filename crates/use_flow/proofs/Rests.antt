@@ -5,10 +5,10 @@ use Rattle.std.proofs.lemmas.List.{at_drop_more, at_drop_all}
 use Rattle.mg_text.specs.Call.{Name}
 use Rattle.mg_text.specs.declared.place.Place.{Place}
 use Rattle.mg_sets.specs.Sets.{has}
-use Rattle.use_flow.specs.declared.demand.DemandKind.{DemandKind}
-use Rattle.use_flow.specs.declared.demand.Demand.{Demand}
-use Rattle.use_flow.specs.Elements.{Set, marked, leads_from}
-use Rattle.use_flow.specs.State.{judged_from}
+use Rattle.use_rules.specs.declared.demand.DemandKind.{DemandKind}
+use Rattle.use_rules.specs.declared.demand.Demand.{Demand}
+use Rattle.use_rules.specs.Elements.{Set, marked, leads_from}
+use Rattle.use_rules.specs.State.{judged_from}
 use Rattle.use_flow.specs.inner.Mappings.{blamed}
 
 pub append_nil : {A : Type 0} (a : List A) → a ++ [] ≡ a

@@ -1,8 +1,8 @@
 -- What a turn of a loop over the sets of variables does.
 use Rattle.std.proofs.Common.{◌≡◌, ℕ, zero, suc, ◌+◌, ◌<◌, ◌≤◌, List, [], ◌∷◌, ◌++◌, length, take, refl, sym, ap, ◌∙◌, subst, arith, add-one}
 use Rattle.std.specs.Prelude.{slice_set, slice_index_or}
-use Rattle.use_flow.specs.Elements.{Set, union}
-use Rattle.use_flow.specs.State.{joined_sets}
+use Rattle.use_rules.specs.Elements.{Set, union}
+use Rattle.use_rules.specs.State.{joined_sets}
 
 -- the sets before the i-th
 pub take_next : (i : ℕ) (s : List Set) (x : Set) → i < length s → slice_index_or s i x ≡ x → take (i + 1) s ≡ take i s ++ x ∷ []

@@ -9,7 +9,7 @@ use Rattle.ts_tree.specs.declared.parts.To.{To}
 use Rattle.ts_tree.specs.Typestate.{Method, Target, Typestate}
 use Rattle.ts_tree.specs.Calls.{offered}
 use Rattle.ts_tree.proofs.Searches.{by_label-drop, by_label-past, offered_in-drop, offered_in-past}
-use Rattle.use_flow.specs.Elements.{Set, marked, element_of, along, leads_by, target_at, unless_called, unless_offered, states_in, offering_from}
+use Rattle.use_rules.specs.Elements.{Set, marked, element_of, along, leads_by, target_at, unless_called, unless_offered, states_in, offering_from}
 use Rattle.use_flow.proofs.Rests.{append_nil}
 
 -- the branch at i leads to its place, and then those after it

@@ -6,12 +6,12 @@ use Rattle.mg_text.specs.declared.place.Place.{Place}
 use Rattle.jv_core.specs.declared.tree.CoreVar.{CoreVar}
 use Rattle.jv_core.specs.Tree.{Expr}
 use Rattle.use_flow.specs.declared.evaluated.Value.{Value}
-use Rattle.use_flow.specs.declared.demand.Demand.{Demand}
-use Rattle.use_flow.specs.declared.demand.DemandKind.TheVariants as demands
+use Rattle.use_rules.specs.declared.demand.Demand.{Demand}
+use Rattle.use_rules.specs.declared.demand.DemandKind.TheVariants as demands
 use Rattle.use_flow.specs.declared.elements.Rule.TheVariants as judging
-use Rattle.use_flow.specs.Elements.{Set, if_state}
-use Rattle.use_flow.specs.State.{Now, Out, Log, Jump, joined, judged}
-use Rattle.use_flow.specs.Flow.{Evaluated, flow, placed}
+use Rattle.use_rules.specs.Elements.{Set, if_state}
+use Rattle.use_rules.specs.State.{Now, Out, Log, Jump, joined, judged}
+use Rattle.use_rules.specs.Flow.{Evaluated, flow, placed}
 use Rattle.use_flow.specs.inner.Ending.{answer_of, left}
 use Rattle.use_flow.specs.inner.Followed.{Followed, eval, width_of, variable_at, variable_width, judged_variable, left_open, without}
 use Rattle.use_flow.specs.inner.Simple.{exit, slot_width, placed_flow, declared, local, overwritten, assigned, printed_flow, printed, dropped_flow, returned_flow, returned}

@@ -1,7 +1,7 @@
 -- What a turn of a loop over parameters and other variables does.
 use Rattle.std.proofs.Common.{◌≡◌, ℕ, zero, suc, ◌+◌, ◌<◌, ◌≤◌, List, [], ◌∷◌, ◌++◌, length, get_or, drop, map, replicate, refl, sym, ap, ◌∙◌, append_assoc, arith}
 use Rattle.jv_core.specs.declared.program.CoreSlot.{CoreSlot}
-use Rattle.use_flow.specs.Elements.{Set}
+use Rattle.use_rules.specs.Elements.{Set}
 use Rattle.use_flow.specs.inner.Followed.{Followed}
 use Rattle.use_flow.specs.inner.Starting.{param_set, params_from}
 use Rattle.use_flow.proofs.Rests.{append_nil}

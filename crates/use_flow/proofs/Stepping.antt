@@ -10,9 +10,9 @@ use Rattle.jv_core.specs.View.{stmt_of, stmts_of, before}
 use Rattle.use_flow.specs.declared.jumps.Aside.{Aside}
 use Rattle.use_flow.specs.declared.jumps.Jumps.{Jumps}
 use Rattle.use_flow.specs.declared.course.Course.{Course}
-use Rattle.use_flow.specs.Elements.{Set}
-use Rattle.use_flow.specs.State.{Now, Log, Leads, BehindLoop, GoesOn, same_lead, Jump, Flow, joined, caught, passing}
-use Rattle.use_flow.specs.Flow.{Evaluated, flow, declared_here}
+use Rattle.use_rules.specs.Elements.{Set}
+use Rattle.use_rules.specs.State.{Now, Log, Leads, BehindLoop, GoesOn, same_lead, Jump, Flow, joined, caught, passing}
+use Rattle.use_rules.specs.Flow.{Evaluated, flow, declared_here}
 use Rattle.use_flow.specs.View.{log_of}
 use Rattle.use_flow.specs.inner.Followed.{Followed, eval, heads, at_head}
 use Rattle.use_flow.specs.inner.Jumping.{held}

@@ -8,11 +8,11 @@ use Rattle.jv_core.specs.declared.program.CoreType.{CoreType}
 use Rattle.jv_core.specs.View.{slot_of}
 use Rattle.jv_core.specs.Tree.{Method}
 use Rattle.jv_core.specs.Lookup.{param_types}
-use Rattle.use_flow.specs.declared.key.Context.TheVariants as contexts
-use Rattle.use_flow.specs.declared.key.TableKey.TheVariants as keys
-use Rattle.use_flow.specs.Elements.{Set, union}
-use Rattle.use_flow.specs.Keys.{class_in, number_of}
-use Rattle.use_flow.specs.State.{Out}
+use Rattle.use_rules.specs.declared.key.Context.TheVariants as contexts
+use Rattle.use_rules.specs.declared.key.TableKey.TheVariants as keys
+use Rattle.use_rules.specs.Elements.{Set, union}
+use Rattle.use_rules.specs.Keys.{class_in, number_of}
+use Rattle.use_rules.specs.State.{Out}
 use Rattle.use_flow.specs.inner.Followed.{Followed, param_outs, state_outs, result_in, state_results}
 use Rattle.use_flow.proofs.Rests.{append_nil}
 

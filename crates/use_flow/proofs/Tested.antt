@@ -4,7 +4,7 @@ use Rattle.std.proofs.lemmas.Bool.{false≢true}
 use Rattle.jv_core.specs.Tree.{Expr, Null, Variable}
 use Rattle.std.proofs.lemmas.Grind.{common_steps}
 use Rattle.jv_core.proofs.ViewLaws.{views}
-use Rattle.use_flow.specs.Flow.{tested}
+use Rattle.use_rules.specs.Flow.{tested}
 use Rattle.use_flow.specs.inner.Values.{variable_in, is_null}
 
 pub ruleset seen = (common_steps, views)

@@ -4,10 +4,10 @@ use Rattle.std.specs.Prelude.{slice_set, slice_index_or}
 use Rattle.std.proofs.lemmas.List.{at_drop_more, at_drop_all}
 use Rattle.jv_core.specs.declared.program.CoreField.{CoreField}
 use Rattle.jv_core.specs.View.{field_of}
-use Rattle.use_flow.specs.declared.key.TableKey.{TableKey}
-use Rattle.use_flow.specs.Elements.{Set}
-use Rattle.use_flow.specs.Keys.{class_in}
-use Rattle.use_flow.specs.State.{Out}
+use Rattle.use_rules.specs.declared.key.TableKey.{TableKey}
+use Rattle.use_rules.specs.Elements.{Set}
+use Rattle.use_rules.specs.Keys.{class_in}
+use Rattle.use_rules.specs.State.{Out}
 use Rattle.use_flow.specs.View.{tables_of}
 use Rattle.use_flow.specs.inner.Followed.{Followed, field_outs_from, with_fields_from}
 use Rattle.use_flow.proofs.Rests.{append_nil}

@@ -2,7 +2,7 @@
 use Rattle.std.proofs.Common.{◌≡◌, ◌<◌, ◌≤◌, Bool, true, false, [], ◌∷◌, length, refl, ap, ◌∙◌, arith}
 use Rattle.std.specs.Prelude.{◌||◌}
 use Rattle.mg_sets.specs.Sets.{join}
-use Rattle.use_flow.specs.Elements.{Set, union}
+use Rattle.use_rules.specs.Elements.{Set, union}
 
 or_turned : (a b : Bool) → (a || b) ≡ (b || a)
 or_turned true true = refl

@@ -1,13 +1,2 @@
-pub mod Elements
-pub mod Keys
-pub mod State
-pub mod Flow
-pub mod Tables
 pub mod inner
-pub mod examples
-pub mod Computed
-pub mod Laws
-pub mod Shapes
-pub mod Start
-pub mod Fits
 pub mod View

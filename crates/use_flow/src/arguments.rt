@@ -5,8 +5,8 @@ ghost use Rattle.std.specs.Prelude.{◌≡◌, ◌++◌, [], length, map, option
 ghost use Rattle.jv_core.specs.Core.{tree_of};
 ghost use Rattle.jv_core.specs.View.{method_of};
 ghost use Rattle.jv_core.specs.Lookup.{param_types};
-ghost use Rattle.use_flow.specs.Keys.{number_of};
-ghost use Rattle.use_flow.specs.declared.key.Context.TheVariants as contexts;
+ghost use Rattle.use_rules.specs.Keys.{number_of};
+ghost use Rattle.use_rules.specs.declared.key.Context.TheVariants as contexts;
 ghost use Rattle.use_flow.specs.inner.Fields.{outs_in};
 ghost use Rattle.use_flow.specs.inner.Followed.{seen, param_outs, state_outs, result_in, state_results};
 

@@ -4,8 +4,8 @@
 ghost use Rattle.std.specs.Prelude.{◌≡◌, ◌++◌, map, option_map, is_some, slice_set, true, IfOk, OnOk};
 ghost use Rattle.ts_tree.specs.Calls.{offered, offered_in, by_label};
 ghost use Rattle.ts_tree.specs.View.{method_of, target_of};
-ghost use Rattle.use_flow.specs.Elements.{begin, image, along, element_of, marked, target_at, unless_called, offering};
-ghost use Rattle.use_flow.specs.State.{judged};
+ghost use Rattle.use_rules.specs.Elements.{begin, image, along, element_of, marked, target_at, unless_called, offering};
+ghost use Rattle.use_rules.specs.State.{judged};
 ghost use Rattle.use_flow.specs.inner.Calling.{which_of};
 ghost use Rattle.use_flow.specs.inner.Followed.{typestate_or_end};
 ghost use Rattle.use_flow.specs.inner.Mappings.{title_in};

@@ -4,7 +4,7 @@
 ghost use Rattle.std.specs.Prelude.{◌≡◌, Some, IfOk};
 ghost use Rattle.jv_core.specs.View.{method_of};
 ghost use Rattle.jv_core.specs.Lookup.{text_at};
-ghost use Rattle.use_flow.specs.Elements.{targets};
+ghost use Rattle.use_rules.specs.Elements.{targets};
 ghost use Rattle.use_flow.specs.View.{log_of};
 ghost use Rattle.use_flow.specs.inner.Followed.{seen};
 ghost use Rattle.use_flow.specs.inner.Values.{evaluated_of, protocol_call, static_call, helper_call};

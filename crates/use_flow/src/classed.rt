@@ -6,7 +6,7 @@ ghost use Rattle.ts_tree.specs.View.{state_of};
 ghost use Rattle.jv_core.specs.Core.{tree_of};
 ghost use Rattle.jv_core.specs.Lookup.{slot_type};
 ghost use Rattle.jv_core.specs.View.{class_of, field_of, loop_of, method_of};
-ghost use Rattle.use_flow.specs.Keys.{class_in};
+ghost use Rattle.use_rules.specs.Keys.{class_in};
 ghost use Rattle.use_flow.specs.inner.Fields.{key_in};
 ghost use Rattle.use_flow.specs.inner.Listing as listing;
 

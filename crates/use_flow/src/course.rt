@@ -3,9 +3,9 @@
 
 ghost use Rattle.std.specs.Prelude.{◌≡◌, ◌≤◌, List, length, drop, take, reverse, nat_eq, IfOk, OnOk};
 ghost use Rattle.std.specs.List.{list_any};
-ghost use Rattle.use_flow.specs.Elements.{marked, none};
-ghost use Rattle.use_flow.specs.State.{Jump, leaving};
-ghost use Rattle.use_flow.specs.Flow.{flow};
+ghost use Rattle.use_rules.specs.Elements.{marked, none};
+ghost use Rattle.use_rules.specs.State.{Jump, leaving};
+ghost use Rattle.use_rules.specs.Flow.{flow};
 ghost use Rattle.use_flow.specs.View.{log_of};
 ghost use Rattle.use_flow.specs.inner.Followed.{seen, loop_scope};
 ghost use Rattle.use_flow.specs.inner.Jumping.{lead_of};

@@ -2,8 +2,8 @@
 //! Each is a loop over the members of a set.
 
 ghost use Rattle.std.specs.Prelude.{◌≡◌, ◌++◌, slice_set, true, IfOk, OnOk};
-ghost use Rattle.use_flow.specs.Elements.{element_at, if_state, image, marked, none};
-ghost use Rattle.use_flow.specs.State.{judged};
+ghost use Rattle.use_rules.specs.Elements.{element_at, if_state, image, marked, none};
+ghost use Rattle.use_rules.specs.State.{judged};
 ghost use Rattle.use_flow.specs.inner.Mappings.{mapping_of, rule_of, listed, blamed, title_in};
 
 use crate::{Demand, DemandKind, Element};

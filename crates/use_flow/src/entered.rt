@@ -8,8 +8,9 @@ ghost use Rattle.ts_tree.specs.Reachable.{MarksReachable};
 ghost use Rattle.jv_core.specs.Core.{tree_of};
 ghost use Rattle.jv_core.specs.View.{method_of};
 ghost use Rattle.jv_core.specs.Lookup.{text_at};
-ghost use Rattle.use_flow.specs.Keys.{AreReached, contexts_in, contexts_of, in_states, offering_states, reached_states, typestate_of};
-ghost use Rattle.use_flow.specs.View.{AreContexts, AreProper};
+ghost use Rattle.use_rules.specs.Keys.{AreReached, contexts_in, contexts_of, in_states, offering_states, reached_states, typestate_of};
+ghost use Rattle.use_rules.specs.Keys.{AreProper};
+ghost use Rattle.use_flow.specs.View.{AreContexts};
 ghost use Rattle.use_flow.specs.inner.Entering.{set_or_none, entered_from};
 ghost use Rattle.use_flow.specs.inner.Followed.{typestate_or_end};
 

@@ -2,8 +2,8 @@
 //! Only a condition flows on in two ways; where both are alike they are kept once.
 
 ghost use Rattle.std.specs.Prelude.{◌≡◌, [], ◌∷◌, Some, None, IfOk};
-ghost use Rattle.use_flow.specs.Elements.{marked, none};
-ghost use Rattle.use_flow.specs.State.{joined};
+ghost use Rattle.use_rules.specs.Elements.{marked, none};
+ghost use Rattle.use_rules.specs.State.{joined};
 ghost use Rattle.use_flow.specs.inner.Values.{yes_of, no_of};
 
 use crate::elements::{empty_set, mark};
@@ -43,7 +43,7 @@ pub(crate) struct NullTest {
 
 impl Ways {
     // What flows on behind an expression whose truth doesn't matter.
-    #[tactic(auto, using(crate::proofs::Meeting::meeting))]
+    #[tactic(auto, using(use_rules::proofs::Meeting::meeting))]
     pub(crate) fn after(self) -> Result<Option<Sets>, Memory>
         ensures { IfOk result (λ n. n ≡ joined (yes_of self) (no_of self)) }
     {

@@ -5,7 +5,7 @@ ghost use Rattle.std.specs.Prelude.{◌≡◌, ◌++◌, ◌∷◌, [], map, opt
 ghost use Rattle.std.specs.List.{list_any};
 ghost use Rattle.jv_core.specs.View.{field_of};
 ghost use Rattle.ts_tree.specs.View.{target_of};
-ghost use Rattle.use_flow.specs.Flow.{is_end};
+ghost use Rattle.use_rules.specs.Flow.{is_end};
 ghost use Rattle.use_flow.specs.inner.Calling.{which_of};
 ghost use Rattle.use_flow.specs.inner.Fields.{outs_in};
 ghost use Rattle.use_flow.specs.inner.Followed.{seen, left_open, without, to_states, open_fields};

@@ -3,8 +3,8 @@
 
 ghost use Rattle.std.specs.Prelude.{◌≡◌, Some, [], map, IfOk};
 ghost use Rattle.jv_core.specs.View.{expr_of, exprs_of};
-ghost use Rattle.use_flow.specs.Flow.{alike};
-ghost use Rattle.use_flow.specs.State.{Log};
+ghost use Rattle.use_rules.specs.Flow.{alike};
+ghost use Rattle.use_rules.specs.State.{Log};
 ghost use Rattle.use_flow.specs.View.{log_of};
 ghost use Rattle.use_flow.specs.inner.Followed.{seen, eval, eval_all, width_of};
 ghost use Rattle.use_flow.specs.inner.Values.{evaluated_of, argued_of, test_of, called_protocol, called_static, called_helper, null_tested, read, settled, parted, both_ways, both_with, either_with, opposite, behind};

@@ -4,7 +4,7 @@
 ghost use Rattle.std.specs.Prelude.{◌≡◌, [], None, map, IfOk};
 ghost use Rattle.jv_core.specs.Core.{tree_of};
 ghost use Rattle.jv_core.specs.Numbering.{numbers_from};
-ghost use Rattle.use_flow.specs.Tables.{quiet, flow_of};
+ghost use Rattle.use_rules.specs.Tables.{quiet, flow_of};
 ghost use Rattle.use_flow.specs.View.{tables_of, reached_of, log_of, AreFor};
 ghost use Rattle.use_flow.specs.inner.Followed.{seen};
 ghost use Rattle.use_flow.specs.inner.Jumping.{held};

@@ -5,11 +5,11 @@ ghost use Rattle.std.specs.Prelude.{◌≡◌, ◌≢◌, ◌<◌, ◌≤◌, le
 ghost use Rattle.std.specs.Bool.{OnFalse, OnTrue};
 ghost use Rattle.mg_sets.specs.Sets.{join, members, Grows};
 ghost use Rattle.jv_core.specs.Core.{tree_of};
-ghost use Rattle.use_flow.specs.declared.key.TableKey.{TableKey};
+ghost use Rattle.use_rules.specs.declared.key.TableKey.{TableKey};
 ghost use Rattle.ts_tree.specs.Calls.{initial};
-ghost use Rattle.use_flow.specs.Shapes.{elements_in};
-ghost use Rattle.use_flow.specs.Start.{start_in, start_of, starting};
-ghost use Rattle.use_flow.specs.Keys.{number_of, reached_states, typestate_of};
+ghost use Rattle.use_rules.specs.Shapes.{elements_in};
+ghost use Rattle.use_rules.specs.Start.{start_in, start_of, starting};
+ghost use Rattle.use_rules.specs.Keys.{number_of, reached_states, typestate_of};
 ghost use Rattle.use_flow.specs.inner.Entering.{set_or_none};
 ghost use Rattle.use_flow.specs.inner.Holding.{AreApart, AreHeld, WithEntry};
 ghost use Rattle.use_flow.specs.View.{same_key, tables_of, contexts_of, reached_of, lacks, HasKey, AreFor, IsKept};

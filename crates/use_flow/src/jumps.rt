@@ -2,7 +2,7 @@
 //! What jumps to one place is joined as it comes.
 
 ghost use Rattle.std.specs.Prelude.{◌≡◌, ◌≤◌, ℕ, None, length, slice_index_or, if◌then◌else◌, ◌||◌, OnOk};
-ghost use Rattle.use_flow.specs.State.{Leads, BehindLoop, GoesOn, same_lead, joined};
+ghost use Rattle.use_rules.specs.State.{Leads, BehindLoop, GoesOn, same_lead, joined};
 ghost use Rattle.use_flow.specs.inner.Jumping.{HasRoom, held, lead_of, put_now};
 
 use crate::sets::{Sets, meet};

@@ -3,7 +3,7 @@
 
 ghost use Rattle.std.specs.Prelude.{◌≡◌, option_map};
 ghost use Rattle.jv_core.specs.View.{expr_of};
-ghost use Rattle.use_flow.specs.Flow.{tested, null_test};
+ghost use Rattle.use_rules.specs.Flow.{tested, null_test};
 ghost use Rattle.use_flow.specs.inner.Values.{test_of, variable_in, is_null};
 
 use crate::evaluated::NullTest;

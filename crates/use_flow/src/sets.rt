@@ -2,8 +2,8 @@
 //! Slots come first, and the own fields behind them; a variable that has no objects has an empty set.
 
 ghost use Rattle.std.specs.Prelude.{◌≡◌, ◌<◌, ◌++◌, [], ◌∷◌, length, slice_set, slice_index_or, IfOk, OnOk};
-ghost use Rattle.use_flow.specs.Elements.{union};
-ghost use Rattle.use_flow.specs.State.{joined, joined_sets};
+ghost use Rattle.use_rules.specs.Elements.{union};
+ghost use Rattle.use_rules.specs.State.{joined, joined_sets};
 
 use crate::elements::copy_set;
 use mg_sets::StateSet;

@@ -3,8 +3,8 @@
 
 ghost use Rattle.std.specs.Prelude.{◌≡◌, List, Some, None, [], reverse, IfOk, OnOk};
 ghost use Rattle.jv_core.specs.View.{expr_of};
-ghost use Rattle.use_flow.specs.Flow.{placed, flow};
-ghost use Rattle.use_flow.specs.State.{Jump};
+ghost use Rattle.use_rules.specs.Flow.{placed, flow};
+ghost use Rattle.use_rules.specs.State.{Jump};
 ghost use Rattle.use_flow.specs.View.{log_of};
 ghost use Rattle.use_flow.specs.inner.Ending.{left};
 ghost use Rattle.use_flow.specs.inner.Followed.{seen};

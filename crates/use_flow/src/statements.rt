@@ -4,7 +4,7 @@
 ghost use Rattle.std.specs.Prelude.{◌≡◌, ◌++◌, Some, None, map, reverse, IfOk};
 ghost use Rattle.jv_core.specs.View.{stmt_of, stmts_of, group_of, groups_of, expr_of};
 ghost use Rattle.use_flow.specs.View.{log_of};
-ghost use Rattle.use_flow.specs.Flow.{declared_here};
+ghost use Rattle.use_rules.specs.Flow.{declared_here};
 ghost use Rattle.use_flow.specs.inner.Followed.{seen};
 ghost use Rattle.use_flow.specs.inner.Simple.{exit};
 ghost use Rattle.use_flow.specs.inner.Stepping.{Follows, scope_of, step, steps, local_in, declared_by, item, while_flow, do_flow};

@@ -4,7 +4,7 @@
 ghost use Rattle.std.specs.Prelude.{◌≡◌, map, option_map, option_and_then, slice_get};
 ghost use Rattle.jv_core.specs.Lookup.{variable_type};
 ghost use Rattle.jv_core.specs.View.{expr_of};
-ghost use Rattle.use_flow.specs.Keys.{method_in};
+ghost use Rattle.use_rules.specs.Keys.{method_in};
 ghost use Rattle.use_flow.specs.inner.Followed.{seen};
 ghost use Rattle.use_flow.specs.inner.Simple.{type_dropped, constants_of};
 

@@ -2,8 +2,8 @@
 //! A variable that isn't there has no elements.
 
 ghost use Rattle.std.specs.Prelude.{◌≡◌, ◌++◌, slice_set, slice_index_or, [], IfOk, OnOk};
-ghost use Rattle.use_flow.specs.Elements.{image, as_value, left_behind};
-ghost use Rattle.use_flow.specs.State.{asks};
+ghost use Rattle.use_rules.specs.Elements.{image, as_value, left_behind};
+ghost use Rattle.use_rules.specs.State.{asks};
 ghost use Rattle.use_flow.specs.View.{log_of};
 ghost use Rattle.use_flow.specs.inner.Followed.{seen, variable_at, variable_width, judged_variable};
 ghost use Rattle.use_flow.specs.inner.Mappings.{mapping_of};

@@ -4,27 +4,28 @@ use Rattle.std.proofs.lemmas.Bool.{false≢true}
 use Rattle.std.proofs.lemmas.List.{get_or_default}
 use Rattle.mg_sets.specs.Sets.{has, join, IsSubset}
 use Rattle.jv_core.specs.Tree.{Program}
-use Rattle.use_flow.specs.declared.key.Context.{Context}
-use Rattle.use_flow.specs.declared.key.TableKey.{TableKey}
-use Rattle.use_flow.specs.declared.key.TableKey.TheVariants as keys
+use Rattle.use_rules.specs.declared.key.Context.{Context}
+use Rattle.use_rules.specs.declared.key.TableKey.{TableKey}
+use Rattle.use_rules.specs.declared.key.TableKey.TheVariants as keys
 use Rattle.use_flow.specs.declared.held.Tables as held
 use Rattle.use_flow.specs.declared.out.Out as kept_out
 use Rattle.use_flow.specs.declared.out.Flow as kept_flow
-use Rattle.use_flow.specs.Keys.{Tables, AreReached, contexts_in}
-use Rattle.use_flow.specs.State.{Out, Log}
-use Rattle.use_flow.specs.Tables.{flow_of, all_outs, Closed, Least}
-use Rattle.use_flow.specs.Laws.{AreWithin, Takes}
-use Rattle.use_flow.specs.Shapes.{elements_in, class_at}
-use Rattle.use_flow.specs.Start.{start_of}
-use Rattle.use_flow.specs.Fits.{IsFit, OutFits}
+use Rattle.use_rules.specs.Keys.{Tables, AreReached, contexts_in}
+use Rattle.use_rules.specs.State.{Out, Log}
+use Rattle.use_rules.specs.Tables.{flow_of, all_outs, Closed, Least}
+use Rattle.use_rules.specs.Laws.{AreWithin, Takes}
+use Rattle.use_rules.specs.Shapes.{elements_in, class_at}
+use Rattle.use_rules.specs.Start.{start_of}
+use Rattle.use_rules.specs.Fits.{IsFit, OutFits}
 use Rattle.use_flow.specs.View.{same_key, out_of, log_of, tables_of, reached_of, contexts_of, lacks, HasKey, AreFor, IsKept, AreContexts}
-use Rattle.use_flow.proofs.Laws.{grows}
-use Rattle.use_infer.specs.inner.Growing.{AreTaken, AllTaken, Lower, IsBelow, Grown}
+use Rattle.use_rules.proofs.Laws.{grows}
+use Rattle.use_rules.specs.inner.Growing.{AreTaken, AllTaken, Lower}
+use Rattle.use_infer.specs.inner.Growing.{IsBelow, Grown}
 use Rattle.use_flow.proofs.Grown.{length-join, has-join}
 use Rattle.use_flow.proofs.Reached.{reached_same}
-use Rattle.use_infer.proofs.Keys.{key_cases, join_right, join_cases, flat_has, flat_from, map_has, map_from}
-use Rattle.use_infer.proofs.Starting.{start_lower}
-use Rattle.use_infer.proofs.Due.{core_outs_fit}
+use Rattle.use_rules.proofs.Keys.{key_cases, join_right, join_cases, flat_has, flat_from, map_has, map_from}
+use Rattle.use_rules.proofs.Starting.{start_lower}
+use Rattle.use_rules.proofs.Due.{core_outs_fit}
 use Rattle.jv_core.specs.Conditions.{IsCore}
 
 some_inj : (c d : ℕ) → Some c ≡ Some d → c ≡ d

@@ -3,9 +3,10 @@
 
 ghost use Rattle.std.specs.Prelude.{◌≡◌, false, true, Contains, IfOk, OnOk};
 ghost use Rattle.jv_core.specs.Core.{tree_of};
-ghost use Rattle.use_flow.specs.Tables.{flow_of, Least};
+ghost use Rattle.use_rules.specs.Tables.{flow_of, Least};
 ghost use Rattle.use_flow.specs.View.{tables_of, reached_of, contexts_of, AreFor};
-ghost use Rattle.use_infer.specs.inner.Growing.{AreTaken, AllTaken, IsBelow, Grown};
+ghost use Rattle.use_rules.specs.inner.Growing.{AreTaken, AllTaken};
+ghost use Rattle.use_infer.specs.inner.Growing.{IsBelow, Grown};
 
 use jv_core::Core;
 use mg_text::Memory;

@@ -2,7 +2,7 @@
 use Rattle.std.specs.Prelude.{◌≡◌, ℕ, List, Option, Some, None, Result, Ok, Err}
 use Rattle.jv_core.specs.Core.{tree_of}
 use Rattle.jv_core.specs.Tree as Core
-use Rattle.use_flow.specs.declared.demand.Demand.{Demand}
+use Rattle.use_rules.specs.declared.demand.Demand.{Demand}
 use Rattle.use_check.specs.declared.verdict.CheckFault.{CheckFault}
 use Rattle.use_check.specs.declared.verdict.CheckFault.TheVariants as faults
 use Rattle.use_check.specs.Verdict.{AreAnswer, FailsFirst}

@@ -12,12 +12,12 @@ use Rattle.jv_core.specs.declared.program.CoreType.TheVariants as types
 use Rattle.jv_core.specs.declared.program.MethodKind.TheVariants as kinds
 use Rattle.jv_core.specs.Tree.{Expr, Int, Truth, Text, Variable, Constant, Binary, Protocol, New, NoExpr}
 use Rattle.jv_core.specs.Tree.{Stmt, Stmts, Block, Assign, If, Do, Switch, Break, Continue, Return, Print, Eval, NoStmt, Then, Declare, NoGroup, Group, Method, Program}
-use Rattle.use_flow.specs.declared.demand.DemandKind.TheVariants as demands
-use Rattle.use_flow.specs.declared.demand.Demand.{Demand}
-use Rattle.use_flow.specs.declared.element.Element.TheVariants as elements
-use Rattle.use_flow.specs.declared.key.TableKey.TheVariants as keys
-use Rattle.use_flow.specs.Keys.{Tables}
-use Rattle.use_flow.specs.examples.Counter.{at, var_at}
+use Rattle.use_rules.specs.declared.demand.DemandKind.TheVariants as demands
+use Rattle.use_rules.specs.declared.demand.Demand.{Demand}
+use Rattle.use_rules.specs.declared.element.Element.TheVariants as elements
+use Rattle.use_rules.specs.declared.key.TableKey.TheVariants as keys
+use Rattle.use_rules.specs.Keys.{Tables}
+use Rattle.use_rules.specs.examples.Counter.{at, var_at}
 
 abbrev q : Place
 q = at 1 1 1

@@ -11,10 +11,10 @@ use Rattle.jv_core.specs.declared.program.CoreType.TheVariants as types
 use Rattle.jv_core.specs.declared.program.MethodKind.TheVariants as kinds
 use Rattle.jv_core.specs.Tree.{Expr, Int, Text, Null, Variable, Binary, Protocol, New, Exprs, NoExpr, Argument}
 use Rattle.jv_core.specs.Tree.{Stmt, Block, Assign, If, While, Print, Eval, NoStmt, Then, Declare, Method, Program}
-use Rattle.use_flow.specs.declared.key.TableKey.TheVariants as keys
-use Rattle.use_flow.specs.Elements.{Set}
-use Rattle.use_flow.specs.Keys.{Tables}
-use Rattle.use_flow.specs.examples.Counter.{at, var_at}
+use Rattle.use_rules.specs.declared.key.TableKey.TheVariants as keys
+use Rattle.use_rules.specs.Elements.{Set}
+use Rattle.use_rules.specs.Keys.{Tables}
+use Rattle.use_rules.specs.examples.Counter.{at, var_at}
 
 abbrev q : Place
 q = at 0 1 1

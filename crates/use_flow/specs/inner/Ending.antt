@@ -6,9 +6,9 @@ use Rattle.mg_text.specs.declared.place.Place.{Place}
 use Rattle.ts_tree.specs.declared.parts.To.{To}
 use Rattle.jv_core.specs.Lookup.{text_at}
 use Rattle.jv_core.specs.Tree.{Expr}
-use Rattle.use_flow.specs.Elements.{Set}
-use Rattle.use_flow.specs.State.{Now, Log, sends, asks}
-use Rattle.use_flow.specs.Flow as rules
+use Rattle.use_rules.specs.Elements.{Set}
+use Rattle.use_rules.specs.State.{Now, Log, sends, asks}
+use Rattle.use_rules.specs.Flow as rules
 use Rattle.use_flow.specs.inner.Followed.{Followed, own_fields, open_fields, to_states}
 
 abbrev pub followed : Followed → (class state : ℕ) → Option Name → List To

@@ -3,8 +3,8 @@ use Rattle.std.specs.Prelude.{ℕ, Bool, List, [], Option, Some, None}
 use Rattle.mg_text.specs.Call.{Name}
 use Rattle.mg_sets.specs.Sets.{members_from}
 use Rattle.ts_tree.specs.Typestate.{Typestate}
-use Rattle.use_flow.specs.declared.key.Context.{Context}
-use Rattle.use_flow.specs.Keys.{in_states, offering_states}
+use Rattle.use_rules.specs.declared.key.Context.{Context}
+use Rattle.use_rules.specs.Keys.{in_states, offering_states}
 
 abbrev pub set_or_none : Option (List Bool) → List Bool
 set_or_none None = []

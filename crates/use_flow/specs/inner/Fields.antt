@@ -1,11 +1,11 @@
 -- The tables of fields, by the names that the code has for them, and what flows into tables as the code keeps it.
 use Rattle.std.specs.Prelude.{ℕ, ◌+◌, List, map}
-use Rattle.use_flow.specs.declared.key.TableKey.{TableKey}
-use Rattle.use_flow.specs.declared.key.TableKey.TheVariants as keys
+use Rattle.use_rules.specs.declared.key.TableKey.{TableKey}
+use Rattle.use_rules.specs.declared.key.TableKey.TheVariants as keys
 use Rattle.use_flow.specs.declared.fields.FieldTable.{FieldTable}
 use Rattle.use_flow.specs.declared.fields.FieldTable.TheVariants as tables
 use Rattle.use_flow.specs.declared.out.Out as out
-use Rattle.use_flow.specs.State.{Out}
+use Rattle.use_rules.specs.State.{Out}
 use Rattle.use_flow.specs.View.{out_of}
 
 -- the table of a field; at the head of a loop fields stand behind the slots

@@ -10,16 +10,16 @@ use Rattle.jv_core.specs.Tree.{Expr, Exprs, Field, Method, Program}
 use Rattle.jv_core.specs.View.{method_of}
 use Rattle.jv_core.specs.Lookup.{slot_type}
 use Rattle.jv_core.specs.Core.{tree_of}
-use Rattle.use_flow.specs.declared.demand.Demand.{Demand}
+use Rattle.use_rules.specs.declared.demand.Demand.{Demand}
 use Rattle.use_flow.specs.declared.elements.Rule.{Rule}
-use Rattle.use_flow.specs.declared.key.Context.{Context}
-use Rattle.use_flow.specs.declared.key.TableKey.{TableKey}
+use Rattle.use_rules.specs.declared.key.Context.{Context}
+use Rattle.use_rules.specs.declared.key.TableKey.{TableKey}
 use Rattle.use_flow.specs.declared.held.Tables as held
 use Rattle.use_flow.specs.declared.scene.Scene.{Scene}
-use Rattle.use_flow.specs.Elements.{Set}
-use Rattle.use_flow.specs.Keys.{at_end, class_in}
-use Rattle.use_flow.specs.State.{Now, Out, Log, Argued}
-use Rattle.use_flow.specs.Flow as rules
+use Rattle.use_rules.specs.Elements.{Set}
+use Rattle.use_rules.specs.Keys.{at_end, class_in}
+use Rattle.use_rules.specs.State.{Now, Out, Log, Argued}
+use Rattle.use_rules.specs.Flow as rules
 use Rattle.use_flow.specs.View.{contexts_of, tables_of}
 use Rattle.use_flow.specs.inner.Mappings.{rule_of}
 

@@ -3,11 +3,11 @@ use Rattle.std.specs.Prelude.{◌≡◌, ◌<◌, ℕ, false, List, [], ◌∷�
 use Rattle.std.specs.List.{AllByRecursion}
 use Rattle.jv_core.specs.Tree.{Program}
 use Rattle.use_flow.specs.declared.classed.Entry.{Entry}
-use Rattle.use_flow.specs.declared.key.Context.{Context}
-use Rattle.use_flow.specs.declared.key.TableKey.{TableKey}
-use Rattle.use_flow.specs.Elements.{Set}
-use Rattle.use_flow.specs.Keys.{same_context}
-use Rattle.use_flow.specs.Start.{start_in}
+use Rattle.use_rules.specs.declared.key.Context.{Context}
+use Rattle.use_rules.specs.declared.key.TableKey.{TableKey}
+use Rattle.use_rules.specs.Elements.{Set}
+use Rattle.use_rules.specs.Keys.{same_context}
+use Rattle.use_rules.specs.Start.{start_in}
 
 -- no context stands twice
 abbrev pub AreApart : List Context → Type 0

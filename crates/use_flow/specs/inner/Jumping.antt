@@ -3,7 +3,7 @@ use Rattle.std.specs.Prelude.{◌≡◌, ◌≤◌, ℕ, List, None, length, sli
 use Rattle.use_flow.specs.declared.jumps.Lead.{Lead}
 use Rattle.use_flow.specs.declared.jumps.Lead.TheVariants as leads
 use Rattle.use_flow.specs.declared.jumps.Jumps.{Jumps}
-use Rattle.use_flow.specs.State.{Now, Leads, BehindSwitch, BehindLoop, GoesOn}
+use Rattle.use_rules.specs.State.{Now, Leads, BehindSwitch, BehindLoop, GoesOn}
 
 abbrev pub lead_of : Lead → Leads
 lead_of leads.BehindSwitch = BehindSwitch

@@ -5,11 +5,11 @@ use Rattle.jv_core.specs.declared.program.CoreType.{CoreType}
 use Rattle.jv_core.specs.declared.program.MethodKind.TheVariants as kinds
 use Rattle.jv_core.specs.Tree.{Class, Field, Loop, Method, Program}
 use Rattle.jv_core.specs.Lookup.{slot_type, param_types}
-use Rattle.use_flow.specs.declared.key.Context.{Context}
-use Rattle.use_flow.specs.declared.key.TableKey.{TableKey}
-use Rattle.use_flow.specs.declared.key.TableKey.TheVariants as keys
+use Rattle.use_rules.specs.declared.key.Context.{Context}
+use Rattle.use_rules.specs.declared.key.TableKey.{TableKey}
+use Rattle.use_rules.specs.declared.key.TableKey.TheVariants as keys
 use Rattle.use_flow.specs.declared.classed.Entry.{Entry}
-use Rattle.use_flow.specs.Keys.{class_in, method_in, typestate_of}
+use Rattle.use_rules.specs.Keys.{class_in, method_in, typestate_of}
 
 -- what stands for each item, by its place
 abbrev pub listed_from : {A B : Type 0} → (ℕ → A → List B) → (place : ℕ) → List A → List B

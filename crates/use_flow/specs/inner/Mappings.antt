@@ -6,12 +6,12 @@ use Rattle.use_flow.specs.declared.elements.Rule.{Rule}
 use Rattle.use_flow.specs.declared.elements.Rule.TheVariants as rules
 use Rattle.use_flow.specs.declared.elements.Title.{Title}
 use Rattle.use_flow.specs.declared.elements.Title.TheVariants as titles
-use Rattle.use_flow.specs.declared.demand.DemandKind.{DemandKind}
-use Rattle.use_flow.specs.declared.demand.DemandKind.TheVariants as demands
-use Rattle.use_flow.specs.declared.demand.Demand.{Demand}
+use Rattle.use_rules.specs.declared.demand.DemandKind.{DemandKind}
+use Rattle.use_rules.specs.declared.demand.DemandKind.TheVariants as demands
+use Rattle.use_rules.specs.declared.demand.Demand.{Demand}
 use Rattle.mg_text.specs.Call.{Name}
 use Rattle.mg_text.specs.declared.place.Place.{Place}
-use Rattle.use_flow.specs.Elements.{as_value, left_behind, not_null, only_null, if_moved, if_state, element_at}
+use Rattle.use_rules.specs.Elements.{as_value, left_behind, not_null, only_null, if_moved, if_state, element_at}
 
 abbrev pub mapping_of : Mapping → ℕ → List ℕ
 mapping_of mappings.AsValue = as_value

@@ -6,10 +6,10 @@ use Rattle.jv_core.specs.declared.program.CoreType.{CoreType}
 use Rattle.jv_core.specs.declared.program.CoreType.TheVariants as types
 use Rattle.jv_core.specs.Tree.{Expr}
 use Rattle.use_flow.specs.declared.elements.Rule.TheVariants as judging
-use Rattle.use_flow.specs.declared.demand.DemandKind.TheVariants as demands
-use Rattle.use_flow.specs.Elements.{Set, if_state}
-use Rattle.use_flow.specs.State.{Now, Log, asks, with_set, Flow, judged}
-use Rattle.use_flow.specs.Flow as rules
+use Rattle.use_rules.specs.declared.demand.DemandKind.TheVariants as demands
+use Rattle.use_rules.specs.Elements.{Set, if_state}
+use Rattle.use_rules.specs.State.{Now, Log, asks, with_set, Flow, judged}
+use Rattle.use_rules.specs.Flow as rules
 use Rattle.use_flow.specs.inner.Ending.{answer_of, left}
 use Rattle.use_flow.specs.inner.Followed.{Followed, eval, width_of, variable_at, variable_width, class_or_none, judged_variable}
 

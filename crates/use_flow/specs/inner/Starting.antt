@@ -1,11 +1,11 @@
 -- Where a context begins, as the code says it.
 use Rattle.std.specs.Prelude.{ℕ, List, [], Some, None}
 use Rattle.jv_core.specs.declared.program.CoreType.{CoreType}
-use Rattle.use_flow.specs.declared.key.TableKey.TheVariants as keys
-use Rattle.use_flow.specs.Elements.{Set}
-use Rattle.use_flow.specs.Keys.{class_in}
-use Rattle.use_flow.specs.State.{Log}
-use Rattle.use_flow.specs.Flow as rules
+use Rattle.use_rules.specs.declared.key.TableKey.TheVariants as keys
+use Rattle.use_rules.specs.Elements.{Set}
+use Rattle.use_rules.specs.Keys.{class_in}
+use Rattle.use_rules.specs.State.{Log}
+use Rattle.use_rules.specs.Flow as rules
 use Rattle.use_flow.specs.View.{tables_of}
 use Rattle.use_flow.specs.inner.Followed.{Followed, here}
 

@@ -4,9 +4,9 @@ use Rattle.mg_text.specs.declared.place.Place.{Place}
 use Rattle.jv_core.specs.Tree.{Expr, Stmt, Local, Stmts}
 use Rattle.use_flow.specs.declared.jumps.Jumps.{Jumps}
 use Rattle.use_flow.specs.declared.course.Course.{Course}
-use Rattle.use_flow.specs.Elements.{Set}
-use Rattle.use_flow.specs.State.{Now, Log, Leads, BehindLoop, GoesOn, Jump, Flow, joined, caught, passing, leaving}
-use Rattle.use_flow.specs.Flow as rules
+use Rattle.use_rules.specs.Elements.{Set}
+use Rattle.use_rules.specs.State.{Now, Log, Leads, BehindLoop, GoesOn, Jump, Flow, joined, caught, passing, leaving}
+use Rattle.use_rules.specs.Flow as rules
 use Rattle.use_flow.specs.View.{tables_of, log_of}
 use Rattle.use_flow.specs.inner.Followed.{Followed, eval, heads, at_head}
 use Rattle.use_flow.specs.inner.Jumping.{held}

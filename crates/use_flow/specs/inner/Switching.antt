@@ -11,11 +11,11 @@ use Rattle.jv_core.specs.Lookup.{text_at}
 use Rattle.use_flow.specs.declared.switches.Branches.{Branches}
 use Rattle.use_flow.specs.declared.switches.Labels.{Labels}
 use Rattle.use_flow.specs.declared.switches.Sprouts.{Sprouts}
-use Rattle.use_flow.specs.Elements.{Set, union, image, along, targets, targets_by}
-use Rattle.use_flow.specs.State.{Now, Log, Flow, BehindSwitch, joined, caught, passing}
-use Rattle.use_flow.specs.Flow as rules
-use Rattle.use_flow.specs.Flow.{placed, declared_here}
-use Rattle.use_flow.specs.Keys.{typestate_of}
+use Rattle.use_rules.specs.Elements.{Set, union, image, along, targets, targets_by}
+use Rattle.use_rules.specs.State.{Now, Log, Flow, BehindSwitch, joined, caught, passing}
+use Rattle.use_rules.specs.Flow as rules
+use Rattle.use_rules.specs.Flow.{placed, declared_here}
+use Rattle.use_rules.specs.Keys.{typestate_of}
 use Rattle.use_flow.specs.View.{tables_of}
 use Rattle.use_flow.specs.inner.Followed.{Followed, eval, eval_all, variable_width}
 use Rattle.use_flow.specs.inner.Simple.{exit, constants_of, type_dropped}

@@ -11,9 +11,9 @@ use Rattle.use_flow.specs.declared.evaluated.Ways.TheVariants as ways
 use Rattle.use_flow.specs.declared.evaluated.Value.{Value}
 use Rattle.use_flow.specs.declared.evaluated.Arguments.{Arguments}
 use Rattle.use_flow.specs.declared.evaluated.NullTest.{NullTest}
-use Rattle.use_flow.specs.Elements.{Set, targets}
-use Rattle.use_flow.specs.State.{Now, Log, Argued, joined}
-use Rattle.use_flow.specs.Flow as rules
+use Rattle.use_rules.specs.Elements.{Set, targets}
+use Rattle.use_rules.specs.State.{Now, Log, Argued, joined}
+use Rattle.use_rules.specs.Flow as rules
 use Rattle.use_flow.specs.View.{tables_of}
 use Rattle.use_flow.specs.inner.Followed.{Followed, eval, eval_all}
 

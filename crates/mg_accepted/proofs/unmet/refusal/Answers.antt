@@ -1,7 +1,7 @@
 use Rattle.std.proofs.Common.{Option, sym, ap, ◌∙◌, subst}
 use Rattle.std.specs.Prelude.{option_map}
 use Rattle.jv_core.specs.Core.{tree_of}
-use Rattle.use_flow.specs.declared.demand.Demand.{Demand}
+use Rattle.use_rules.specs.declared.demand.Demand.{Demand}
 use Rattle.mg_accepted.specs.inner.Answers.{IsRefusal}
 use Rattle.mg_accepted.proofs.unmet.refusal.Goals as goal
 

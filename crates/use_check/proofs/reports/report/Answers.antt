@@ -1,8 +1,8 @@
 use Rattle.std.proofs.Common.{◌≡◌, ◌++◌, List, ℕ, ap, ◌∙◌}
 use Rattle.mg_sets.specs.Sets.{members}
 use Rattle.jv_core.specs.Core.{tree_of}
-use Rattle.use_flow.specs.declared.key.Context.{Context}
-use Rattle.use_flow.specs.Keys.{contexts_in}
+use Rattle.use_rules.specs.declared.key.Context.{Context}
+use Rattle.use_rules.specs.Keys.{contexts_in}
 use Rattle.use_flow.specs.View.{reached_of, tables_of}
 use Rattle.use_infer.proofs.Taking.{same_contexts}
 use Rattle.use_check.specs.Report.{Usages, class_lines, context_lines, in_order, report_text}

@@ -1,6 +1,6 @@
 use Rattle.std.proofs.Common.{◌≡◌, drop, flat_map}
 use Rattle.jv_core.specs.Core.{tree_of}
-use Rattle.use_flow.specs.Tables.{flow_of, all_failed}
+use Rattle.use_rules.specs.Tables.{flow_of, all_failed}
 use Rattle.use_flow.specs.View.{tables_of, reached_of}
 use Rattle.use_check.proofs.verdict.first_in.Given as goal
 

@@ -1,6 +1,6 @@
 use Rattle.std.proofs.Common.{ℕ, List, arith, refl, sym, ◌∙◌}
 use Rattle.std.specs.Prelude.{option_map}
-use Rattle.use_flow.specs.Elements.{along}
+use Rattle.use_rules.specs.Elements.{along}
 use Rattle.use_flow.specs.inner.Calling.{which_of}
 use Rattle.use_flow.specs.inner.Followed.{typestate_or_end}
 use Rattle.use_flow.proofs.Rests.{image_skip, image_take}

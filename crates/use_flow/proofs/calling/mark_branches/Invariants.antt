@@ -1,5 +1,5 @@
 use Rattle.std.proofs.Common.{◌≡◌, drop, map}
-use Rattle.use_flow.specs.Elements.{element_of, marked}
+use Rattle.use_rules.specs.Elements.{element_of, marked}
 use Rattle.use_flow.proofs.calling.mark_branches.Given as goal
 
 abbrev pub invariant-loop-branch : goal.invariant-loop-branch

@@ -1,6 +1,6 @@
 use Rattle.std.proofs.Common.{◌++◌, map, ap, ◌∙◌, arith}
 use Rattle.jv_core.specs.View.{field_of}
-use Rattle.use_flow.specs.declared.key.TableKey.TheVariants as keys
+use Rattle.use_rules.specs.declared.key.TableKey.TheVariants as keys
 use Rattle.use_flow.specs.inner.Listing.{field_entries}
 use Rattle.use_flow.proofs.Adding.{state_listed}
 use Rattle.use_flow.proofs.classed.add_states.Goals as goal

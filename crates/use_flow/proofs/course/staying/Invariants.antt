@@ -1,5 +1,5 @@
 use Rattle.std.proofs.Common.{◌≡◌, drop}
-use Rattle.use_flow.specs.Elements.{marked, none}
+use Rattle.use_rules.specs.Elements.{marked, none}
 use Rattle.use_flow.proofs.course.staying.Given as goal
 
 abbrev pub invariant-loop-slot : goal.invariant-loop-slot

@@ -1,5 +1,5 @@
 use Rattle.std.proofs.Common.{◌≡◌, drop}
-use Rattle.use_flow.specs.Elements.{image, leads_from, marked}
+use Rattle.use_rules.specs.Elements.{image, leads_from, marked}
 use Rattle.use_flow.specs.inner.Mappings.{mapping_of}
 use Rattle.use_flow.proofs.elements.image.Given as goal
 

@@ -1,5 +1,5 @@
 use Rattle.std.proofs.Common.{◌≡◌, ◌++◌, drop}
-use Rattle.use_flow.specs.State.{judged, judged_from}
+use Rattle.use_rules.specs.State.{judged, judged_from}
 use Rattle.use_flow.specs.inner.Mappings.{rule_of, title_in}
 use Rattle.use_flow.proofs.elements.judge.Given as goal
 

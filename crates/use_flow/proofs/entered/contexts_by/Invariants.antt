@@ -1,7 +1,7 @@
 use Rattle.std.proofs.Common.{◌≡◌, ◌++◌, drop, map}
 use Rattle.jv_core.specs.Core.{tree_of}
 use Rattle.jv_core.specs.View.{method_of}
-use Rattle.use_flow.specs.Keys.{contexts_from, contexts_in}
+use Rattle.use_rules.specs.Keys.{contexts_from, contexts_in}
 use Rattle.use_flow.proofs.entered.contexts_by.Given as goal
 
 abbrev pub invariant-loop-place : goal.invariant-loop-place

@@ -1,6 +1,6 @@
 use Rattle.std.proofs.Common.{◌≡◌, drop, map}
 use Rattle.std.specs.List.{list_any}
-use Rattle.use_flow.specs.Flow.{is_end}
+use Rattle.use_rules.specs.Flow.{is_end}
 use Rattle.use_flow.proofs.exits.branch_ends.Given as goal
 
 abbrev pub invariant-loop-branch : goal.invariant-loop-branch

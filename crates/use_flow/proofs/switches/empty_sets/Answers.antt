@@ -1,6 +1,6 @@
 use Rattle.std.proofs.Common.{◌∷◌, ◌++◌, [], ap, ◌∙◌}
 use Rattle.mg_text.specs.declared.names.Name.{Name}
-use Rattle.use_flow.specs.Elements.{none}
+use Rattle.use_rules.specs.Elements.{none}
 use Rattle.use_flow.proofs.Choosing.{mapped_any, mapped_all}
 use Rattle.use_flow.proofs.switches.empty_sets.Goals as goal
 

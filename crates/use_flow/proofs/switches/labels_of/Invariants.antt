@@ -1,7 +1,7 @@
 use Rattle.std.proofs.Common.{◌≡◌, false, drop, map}
 use Rattle.jv_core.specs.View.{group_of, groups_of}
-use Rattle.use_flow.specs.Elements.{none}
-use Rattle.use_flow.specs.Flow.{all_labels}
+use Rattle.use_rules.specs.Elements.{none}
+use Rattle.use_rules.specs.Flow.{all_labels}
 use Rattle.use_flow.specs.inner.Switching.{noted}
 use Rattle.use_flow.proofs.switches.labels_of.Given as goal
 

@@ -1,8 +1,8 @@
 use Rattle.std.proofs.Common.{◌≡◌, true, false, get_or, rules, subst}
 use Rattle.std.proofs.lemmas.List.{get_or_default}
 use Rattle.jv_core.specs.Core.{tree_of}
-use Rattle.use_flow.specs.declared.key.Context.{Context}
-use Rattle.use_flow.specs.declared.key.Context.TheVariants.{Plain}
+use Rattle.use_rules.specs.declared.key.Context.{Context}
+use Rattle.use_rules.specs.declared.key.Context.TheVariants.{Plain}
 use Rattle.use_infer.specs.inner.Growing.{Grown}
 use Rattle.use_infer.proofs.Taking.{following_none, is_known, following_same, following_more, all_followed}
 use Rattle.use_infer.proofs.rounds.round.Goals as goal

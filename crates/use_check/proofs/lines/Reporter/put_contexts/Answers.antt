@@ -1,7 +1,7 @@
 use Rattle.std.proofs.Common.{◌<◌, ◌≤◌, ◌++◌, ℕ, List, length, get_or, refl, ap, ◌∙◌, arith, string_bytes}
 use Rattle.std.proofs.lemmas.List.{get_or_default}
-use Rattle.use_flow.specs.declared.key.Context.{Context}
-use Rattle.use_flow.specs.declared.key.Context.TheVariants.{Plain}
+use Rattle.use_rules.specs.declared.key.Context.{Context}
+use Rattle.use_rules.specs.declared.key.Context.TheVariants.{Plain}
 use Rattle.use_flow.proofs.Turns.{one, last}
 use Rattle.use_check.specs.Report.{context_lines, in_order}
 use Rattle.use_check.specs.inner.Reported.{seen}

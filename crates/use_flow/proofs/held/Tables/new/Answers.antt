@@ -1,6 +1,6 @@
 use Rattle.std.proofs.Common.{sym, ap, ◌∙◌, subst}
 use Rattle.jv_core.specs.Core.{tree_of}
-use Rattle.use_flow.specs.Keys.{contexts_in}
+use Rattle.use_rules.specs.Keys.{contexts_in}
 use Rattle.use_flow.specs.inner.Holding.{AreApart}
 use Rattle.use_flow.specs.inner.Listing.{entries_in}
 use Rattle.use_flow.proofs.Holding.{tables_made, tables_start}

@@ -1,5 +1,5 @@
 use Rattle.std.proofs.Common.{◌∙◌}
-use Rattle.use_flow.specs.State.{GoesOn}
+use Rattle.use_rules.specs.State.{GoesOn}
 use Rattle.use_flow.proofs.jumps.Jumps.set_aside.Goals as goal
 
 pub returns-clause-going_on : goal.returns-clause-going_on

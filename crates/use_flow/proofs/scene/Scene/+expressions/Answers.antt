@@ -1,7 +1,7 @@
 use Rattle.std.proofs.Common.{option_map, sym, ap, ◌∙◌}
 use Rattle.jv_core.specs.declared.tree.CoreExpr.{CoreExpr}
 use Rattle.jv_core.specs.View.{expr_of}
-use Rattle.use_flow.specs.Flow.{null_test}
+use Rattle.use_rules.specs.Flow.{null_test}
 use Rattle.std.proofs.lemmas.Result.{IfOk-weaker}
 use Rattle.use_flow.specs.View.{log_of}
 use Rattle.use_flow.specs.inner.Followed.{seen}

@@ -3,8 +3,8 @@ use Rattle.std.specs.Prelude.{option_map}
 use Rattle.std.proofs.lemmas.Result.{IfOk-weaker}
 use Rattle.jv_core.specs.declared.tree.CoreStmtKind.TheVariants as S
 use Rattle.jv_core.specs.View.{expr_of, stmt_of, stmts_of, group_of, groups_of}
-use Rattle.use_flow.specs.Flow.{declared_here}
-use Rattle.use_flow.specs.State.{joined}
+use Rattle.use_rules.specs.Flow.{declared_here}
+use Rattle.use_rules.specs.State.{joined}
 use Rattle.use_flow.specs.View.{log_of}
 use Rattle.use_flow.specs.inner.Followed.{seen, eval}
 use Rattle.use_flow.specs.inner.Ending.{left}

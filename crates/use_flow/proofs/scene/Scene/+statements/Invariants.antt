@@ -1,6 +1,6 @@
 use Rattle.std.proofs.Common.{◌+◌, ◌*◌, ◌++◌, None, drop, map, reverse}
 use Rattle.jv_core.specs.View.{stmt_of, stmts_of, group_of, groups_of}
-use Rattle.use_flow.specs.Flow.{declared_here}
+use Rattle.use_rules.specs.Flow.{declared_here}
 use Rattle.use_flow.specs.View.{log_of}
 use Rattle.use_flow.specs.inner.Followed.{seen}
 use Rattle.use_flow.specs.inner.Stepping.{steps}

@@ -1,6 +1,6 @@
 use Rattle.std.proofs.Common.{◌≡◌, length, map, arith}
 use Rattle.jv_core.specs.View.{group_of, groups_of}
-use Rattle.use_flow.specs.Flow.{all_labels}
+use Rattle.use_rules.specs.Flow.{all_labels}
 use Rattle.use_flow.specs.inner.Followed.{seen}
 use Rattle.use_flow.proofs.Choosing.{rest_chosen, past_chosen}
 use Rattle.use_flow.proofs.scene.Scene.choose.Goals as goal

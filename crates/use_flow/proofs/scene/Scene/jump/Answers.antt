@@ -1,6 +1,6 @@
 use Rattle.std.proofs.Common.{Some, reverse, refl, ap, ◌∙◌}
-use Rattle.use_flow.specs.Flow.{flow}
-use Rattle.use_flow.specs.State.{leaving}
+use Rattle.use_rules.specs.Flow.{flow}
+use Rattle.use_rules.specs.State.{leaving}
 use Rattle.use_flow.specs.View.{log_of}
 use Rattle.use_flow.specs.inner.Followed.{seen}
 use Rattle.use_flow.specs.inner.Jumping.{lead_of}

@@ -1,6 +1,6 @@
 use Rattle.std.proofs.Common.{◌≡◌, drop}
 use Rattle.jv_core.specs.View.{method_of}
-use Rattle.use_flow.specs.Elements.{union}
+use Rattle.use_rules.specs.Elements.{union}
 use Rattle.use_flow.specs.inner.Followed.{seen, state_results}
 use Rattle.use_flow.proofs.scene.Scene.results_of.Given as goal
 

@@ -1,5 +1,5 @@
 use Rattle.std.proofs.Common.{◌≡◌, drop}
-use Rattle.use_flow.specs.State.{joined}
+use Rattle.use_rules.specs.State.{joined}
 use Rattle.use_flow.specs.inner.Switching.{spread, with_any, uncased_by}
 use Rattle.use_flow.proofs.switches.Branches.rest.Given as goal
 

@@ -1,5 +1,5 @@
 use Rattle.std.proofs.Common.{◌≡◌, drop}
-use Rattle.use_flow.specs.State.{joined}
+use Rattle.use_rules.specs.State.{joined}
 use Rattle.use_flow.specs.inner.Followed.{Followed}
 use Rattle.use_flow.specs.inner.Switching.{with_any, rest_of, nows_of, entry_of}
 use Rattle.use_flow.proofs.switches.Sprouts.entry.Given as goal

@@ -1,0 +1,55 @@
+use Rattle.std.proofs.Common.{◌≡◌, ℕ, ◌<◌, ◌++◌, length, map, sym, ap, ap₂, ◌∙◌, subst}
+use Rattle.vm_model.specs.Machine.{noted}
+use Rattle.vm_model.specs.View.{classes_of}
+use Rattle.vm_world_law.specs.World as model
+use Rattle.vm_world.specs.Seen.{Seen}
+use Rattle.vm_world.specs.View.{roles_of, events_of, turned_of}
+use Rattle.vm_world.proofs.Turning.{turned_world, turned_answer, roles_same, many, on_err_of}
+use Rattle.vm_world.proofs.world.World.turn.Goals as goal
+
+pub returns-in_err-taken-clause-err : goal.returns-in_err-taken-clause-err
+returns-in_err-taken-clause-err c =
+    let lt : c.args.role < length c.self.inside.roles.items =
+    subst (λ k. c.args.role < k) (many c.self.inside.roles.items)
+    (subst (λ (s : Seen). c.args.role < length s.world.roles) (sym c.self.view_is) c.requires.number) in
+    let roles = roles_same c.self.inside.roles.items c.args.role c.index_mut.result.now lt c.index_mut.ensures.value c.take_turn.new.role c.in_err-taken.ensures.err in
+    let events = ap events_of c.reserve.ensures.items in
+    on_err_of _
+    (ap (λ l. record {
+      program = classes_of c.self.inside.linked.classes.items;
+      world = record { roles = l; messages = c.take_turn.new.ports; events = events_of c.reserve.new.self.items };
+    }) roles
+    ∙ ap (λ q. record {
+      program = classes_of c.self.inside.linked.classes.items;
+      world = record { roles = roles_of c.self.inside.roles.items; messages = q; events = events_of c.reserve.new.self.items };
+    }) c.in_err-taken.ensures.err_ports
+    ∙ ap (λ es. record {
+      program = classes_of c.self.inside.linked.classes.items;
+      world = record { roles = roles_of c.self.inside.roles.items; messages = c.self.inside.ports; events = es };
+    }) events
+    ∙ c.self.view_is)
+
+pub returns-clause-ok : goal.returns-clause-ok
+returns-clause-ok c =
+    let lt : c.args.role < length c.self.inside.roles.items =
+    subst (λ k. c.args.role < k) (many c.self.inside.roles.items)
+    (subst (λ (s : Seen). c.args.role < length s.world.roles) (sym c.self.view_is) c.requires.number) in
+    ap (λ es. record {
+      roles = roles_of (Rattle.std.proofs.Common.set c.self.inside.roles.items c.args.role c.take_turn.new.role);
+      messages = c.take_turn.new.ports;
+      events = es;
+    }) (c.note.ensures ∙ ap (λ l. events_of l ++ map (model.of_role c.args.role) (noted c.in_ok-taken.taken.event)) c.reserve.ensures.items)
+    ∙ turned_world c.self.inside.roles.items c.args.role c.index_mut.result.now lt c.index_mut.ensures.value
+    (classes_of c.self.inside.linked.classes.items) c.self.inside.ports c.take_turn.new.ports (events_of c.self.inside.events.items)
+    c.take_turn.new.role c.in_ok-taken.taken.event (turned_of c.in_ok-taken.taken.turned) c.in_ok-taken.ensures.ok
+    ∙ ap (λ (s : Seen). model.turn s.program s.world c.args.role) c.self.view_is
+
+pub returns-clause-turned : goal.returns-clause-turned
+returns-clause-turned c =
+    let lt : c.args.role < length c.self.inside.roles.items =
+    subst (λ k. c.args.role < k) (many c.self.inside.roles.items)
+    (subst (λ (s : Seen). c.args.role < length s.world.roles) (sym c.self.view_is) c.requires.number) in
+    turned_answer c.self.inside.roles.items c.args.role c.index_mut.result.now lt c.index_mut.ensures.value
+    (classes_of c.self.inside.linked.classes.items) c.self.inside.ports c.take_turn.new.ports (events_of c.self.inside.events.items)
+    c.take_turn.new.role c.in_ok-taken.taken.event (turned_of c.in_ok-taken.taken.turned) c.in_ok-taken.ensures.ok
+    ∙ ap (λ (s : Seen). model.turned s.program s.world c.args.role) c.self.view_is

@@ -1,0 +1,117 @@
+//! A role: its machine, or how it ended, and how many of its instructions were counted.
+//! A turn of it is one step.
+
+ghost use Rattle.std.specs.Prelude.{◌≡◌, ◌<◌, ◌^◌, IfOk, OnErr};
+ghost use Rattle.vm_model.specs.View.{classes_of};
+ghost use Rattle.vm_world.specs.Outcome.{outcome};
+ghost use Rattle.vm_world.specs.View.{role_of, state_of, turned_of};
+
+use mg_text::{Ending, Event, Memory, Text};
+use std::alloc::Global;
+use vm_machine::{Machine, Stepped};
+use vm_model::{Linked, Ports};
+
+/// A role runs, or has ended.
+#[derive(Drop)]
+pub(crate) enum State {
+    Runs(Machine),
+    Over(Ending),
+}
+
+/// Where a role stands, and how many of its instructions were counted.
+#[derive(Drop)]
+pub(crate) struct Role {
+    pub state: State,
+    pub count: u64,
+}
+
+/// An event, and the number of the role of which it is seen.
+#[derive(Debug, Drop)]
+pub struct RoleEvent {
+    pub role: u32,
+    pub event: Event,
+}
+
+/// What a turn did.
+#[derive(Debug, Drop)]
+pub enum Turned {
+    /// The role took an instruction.
+    Went,
+    /// It waits for a message from this role, and nothing has changed.
+    Waits(u32),
+    /// It ended so, now or before.
+    Ended(Ending),
+}
+
+/// What a turn did, and what was seen of it.
+#[derive(Drop)]
+pub(crate) struct Taken {
+    pub turned: Turned,
+    pub event: Option<Event>,
+}
+
+/// The same ending once more.
+pub(crate) fn copy_of(ending: &Ending) -> Result<Ending, Memory>
+    ensures { IfOk result (λ e. e ≡ ending.now) }
+{
+    let copy = match ending {
+        Ending::Done => Ending::Done,
+        Ending::Zero => Ending::Zero,
+        Ending::Null => Ending::Null,
+        Ending::Mismatch(peer, found) => {
+            let peer = peer.copy()?;
+            let found = found.copy()?;
+            Ending::Mismatch(peer, found)
+        }
+        Ending::NoPeer(peer) => Ending::NoPeer(peer.copy()?),
+        Ending::Bad(kind) => Ending::Bad(*kind),
+    };
+    Ok(copy)
+}
+
+/// A turn of a role. After an error nothing has changed.
+pub(crate) fn take_turn(
+    role: &mut Role,
+    alloc: Global,
+    linked: &Linked,
+    ports: &mut Ports,
+    me: u32,
+) -> Result<Taken, Memory>
+    requires { role.old.count < 2 ^ 32 }
+    ensures ok { IfOk result (λ t. record { role = role_of role.new; messages = ports.new; event = t.event; turned = turned_of t.turned }
+        ≡ outcome (classes_of linked.now.classes.items) me (role_of role.old) ports.old) }
+    ensures err { OnErr result (role_of role.new ≡ role_of role.old) }
+    ensures err_ports { OnErr result (ports.new ≡ ports.old) }
+{
+    match &mut role.state {
+        State::Over(ending) => {
+            let ending = copy_of(ending)?;
+            Ok(Taken {
+                turned: Turned::Ended(ending),
+                event: None,
+            })
+        }
+        State::Runs(machine) => match machine.step(alloc, linked, ports, me)? {
+            Stepped::Went(event) => {
+                role.count += 1;
+                Ok(Taken {
+                    turned: Turned::Went,
+                    event,
+                })
+            }
+            Stepped::Waits(peer) => Ok(Taken {
+                turned: Turned::Waits(peer),
+                event: None,
+            }),
+            Stepped::Ended(ending) => {
+                let copy = copy_of(&ending)?;
+                role.state = State::Over(ending);
+                role.count += 1;
+                Ok(Taken {
+                    turned: Turned::Ended(copy),
+                    event: None,
+                })
+            }
+        },
+    }
+}

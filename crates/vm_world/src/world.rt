@@ -1,0 +1,215 @@
+//! The world as other crates see it.
+//! A turn is one step of a role's machine; whoever waits or has ended changes nothing.
+
+ghost use Rattle.std.specs.Prelude.{◌≡◌, ◌<◌, ◌^◌, ◌-◌, ◌++◌, ◌↔◌, [], length, map, option_map, slice_get, IsTrue, IfOk, OnErr, IfSome};
+ghost use Rattle.std.specs.List.{IsDistinct, AllByRecursion};
+ghost use Rattle.std.specs.Str.{bytes_eq};
+ghost use Rattle.vm_model.specs.View.{classes_of};
+ghost use Rattle.vm_machine.specs.Main.{HasMain};
+ghost use Rattle.vm_world_law.specs.World as model;
+ghost use Rattle.vm_world_law.specs.Turns.{over_in};
+ghost use Rattle.vm_world.specs.Resting.{GoesOn};
+ghost use Rattle.vm_world.specs.View.{roles_of, mains_of, event_of, events_of, ending_in, turned_of};
+ghost use Rattle.vm_model.specs.Machine.{noted};
+
+use crate::role::{Role, RoleEvent, State, Taken, Turned, take_turn};
+use mg_text::{Ending, Event, List, Memory, Text};
+use std::alloc::Global;
+use std::marker::Model;
+use vm_machine::Machine;
+use vm_model::{Linked, Ports};
+
+/// A role and the class whose `main` it runs.
+#[derive(Debug, Drop)]
+pub struct RoleMain {
+    pub role: Text,
+    pub class: Text,
+}
+
+/// Roles that run one program, the messages on their way, and the events of all roles in their order.
+#[derive(Drop)]
+pub struct World {
+    linked: Linked,
+    ports: Ports,
+    roles: Vec<Role>,
+    events: List<RoleEvent>,
+}
+
+impl Model for World {
+    ghost use Rattle.std.specs.Prelude.{◌<◌, ◌^◌, length};
+    ghost use Rattle.vm_model.specs.View.{classes_of};
+    ghost use Rattle.vm_world.specs.Seen.{Seen};
+    ghost use Rattle.vm_world.specs.View.{roles_of, events_of};
+
+    ghost Value = { Seen };
+
+    ghost view = { λ w. record {
+      program = classes_of w.linked.classes.items;
+      world = record { roles = roles_of w.roles.items; messages = w.ports; events = events_of w.events.items };
+    } };
+
+    ghost invariant = { λ w. length w.roles.items < 2 ^ 32 };
+}
+
+/// The machines of these roles, each at its `main`.
+fn begun(alloc: Global, linked: &Linked, mains: &[RoleMain]) -> Result<Vec<Role>, Memory>
+    requires { AllByRecursion (λ m. HasMain (classes_of linked.now.classes.items) m.class) mains.now }
+    ensures many { IfOk result (λ roles. length roles.items ≡ length mains.now) }
+    ensures begun { IfOk result (λ roles. model.StartAt (classes_of linked.now.classes.items) (mains_of mains.now) (roles_of roles.items)) }
+{
+    let mut roles = Vec::new(alloc);
+    for main in mains {
+        let machine = Machine::start(alloc, linked, main.class.as_str())?;
+        roles.push(Role {
+            state: State::Runs(machine),
+            count: 0,
+        })?;
+    }
+    Ok(roles)
+}
+
+/// The names of these roles.
+fn names_of(alloc: Global, mains: &[RoleMain]) -> Result<List<Text>, Memory>
+    ensures { IfOk result (λ names. names.items ≡ map (λ m. m.role) mains.now) }
+{
+    let mut names = List::new(alloc);
+    for main in mains {
+        names.push(main.role.copy()?)?;
+    }
+    Ok(names)
+}
+
+/// Keeps an event of a role, for which there is room.
+fn note(events: &mut List<RoleEvent>, role: u32, event: Option<Event>)
+    requires { 0 < events.old.spare }
+    ensures { events_of events.new.items ≡ events_of events.old.items ++ map (model.of_role role) (noted event) }
+{
+    match event {
+        Some(event) => events.add(RoleEvent { role, event }),
+        None => {}
+    }
+}
+
+impl World {
+    /// The world of these roles before the first turn: each at the `main` of its class, and no
+    /// message on its way.
+    ///
+    /// # Errors
+    /// `Memory` only.
+    pub fn new(alloc: Global, linked: Linked, mains: &[RoleMain]) -> Result<World, Memory>
+        requires distinct { IsDistinct bytes_eq (map (λ m. m.role) mains.now) }
+        requires mains { AllByRecursion (λ m. HasMain (classes_of linked.classes.items) m.class) mains.now }
+        ensures program { IfOk result (λ w. w.program ≡ classes_of linked.classes.items) }
+        ensures begun { IfOk result (λ w. model.IsBegun w.program (mains_of mains.now) w.world) }
+    {
+        let names = names_of(alloc, mains)?;
+        let ports = Ports::new(alloc, names.as_slice())?;
+        let roles = begun(alloc, &linked, mains)?;
+        Ok(World {
+            linked,
+            ports,
+            roles,
+            events: List::new(alloc),
+        })
+    }
+
+    /// A turn of a role.
+    ///
+    /// # Errors
+    /// `Memory` only, and then nothing has changed.
+    pub fn turn(&mut self, alloc: Global, role: u32) -> Result<Turned, Memory>
+        requires number { role < length self.old.world.roles }
+        requires count { IfSome (slice_get self.old.world.roles role) (λ r. r.count < 2 ^ 32 - 1) }
+        ensures program { self.new.program ≡ self.old.program }
+        ensures ok { IfOk result (λ t. self.new.world ≡ model.turn self.old.program self.old.world role) }
+        ensures turned { IfOk result (λ t. Some (turned_of t) ≡ model.turned self.old.program self.old.world role) }
+        ensures err { OnErr result (self.new ≡ self.old) }
+    {
+        self.events.reserve(1)?;
+        let taken = take_turn(
+            &mut self.roles[role as usize],
+            alloc,
+            &self.linked,
+            &mut self.ports,
+            role,
+        )?;
+        let Taken { turned, event } = taken;
+        note(&mut self.events, role, event);
+        Ok(turned)
+    }
+
+    /// The role for whose message the next instruction of a role waits, where that hasn't ended.
+    pub fn waits(&self, role: u32) -> Option<u32>
+        requires { role < length self.now.world.roles }
+        ensures { result ≡ model.waits self.now.program self.now.world role }
+    {
+        match &self.roles[role as usize].state {
+            State::Runs(machine) => machine.waits(&self.linked, &self.ports, role),
+            State::Over(_ending) => None,
+        }
+    }
+
+    /// Whether the next instruction of a role goes on or ends it.
+    fn goes_on(&self, role: u32) -> bool
+        requires { role < length self.now.world.roles }
+        ensures { GoesOn self.now.program self.now.world role result }
+    {
+        if self.is_over(role) {
+            return false;
+        }
+        match self.waits(role) {
+            Some(_peer) => false,
+            None => true,
+        }
+    }
+
+    /// Whether every role has ended, or waits for a message.
+    pub fn at_rest(&self) -> bool
+        ensures { IsTrue result ↔ model.Rests self.now.program self.now.world }
+    {
+        let count = self.roles.len() as u32;
+        for role in 0..count {
+            if self.goes_on(role) {
+                return false;
+            }
+        }
+        true
+    }
+
+    /// The events of all roles, in their order.
+    pub fn events(&self) -> &List<RoleEvent>
+        ensures { map event_of result.now.items ≡ self.now.world.events }
+    {
+        &self.events
+    }
+
+    /// How many instructions of a role were counted.
+    pub fn steps(&self, role: u32) -> u64
+        requires { role < length self.now.world.roles }
+        ensures { Some result ≡ option_map (λ r. r.count) (slice_get self.now.world.roles role) }
+    {
+        self.roles[role as usize].count
+    }
+
+    /// Whether a role has ended.
+    pub(crate) fn is_over(&self, role: u32) -> bool
+        requires { role < length self.now.world.roles }
+        ensures { result ≡ over_in self.now.world role }
+    {
+        match &self.roles[role as usize].state {
+            State::Runs(_machine) => false,
+            State::Over(_ending) => true,
+        }
+    }
+
+    /// How a role ended, where it has.
+    pub fn ending(&self, role: u32) -> Option<&Ending>
+        requires { role < length self.now.world.roles }
+        ensures { Some (option_map (λ e. e.now) result) ≡ option_map ending_in (slice_get self.now.world.roles role) }
+    {
+        match &self.roles[role as usize].state {
+            State::Runs(_machine) => None,
+            State::Over(ending) => Some(ending),
+        }
+    }
+}
