@@ -1,5 +1,6 @@
 package mungo.lib;
 
+import java.io.BufferedOutputStream;
 import java.io.DataInputStream;
 import java.io.DataOutputStream;
 import java.io.EOFException;
@@ -14,9 +15,11 @@ import java.nio.charset.StandardCharsets;
 import java.util.ArrayDeque;
 import java.util.ArrayList;
 import java.util.Deque;
+import java.util.HashSet;
 import java.util.LinkedHashMap;
 import java.util.List;
 import java.util.Map;
+import java.util.Set;
 import java.util.TreeMap;
 
 /**
@@ -409,7 +412,7 @@ public final class Session {
                 return false;
             }
             socket.setTcpNoDelay(true);
-            line.out = new DataOutputStream(new java.io.BufferedOutputStream(socket.getOutputStream()));
+            line.out = new DataOutputStream(new BufferedOutputStream(socket.getOutputStream()));
             FLOOR.notifyAll();
             return true;
         }
@@ -519,9 +522,10 @@ public final class Session {
     /** Runs the roles of the words R=C, each by the `main` of its class C: one over sockets, several in memory. */
     public static void main(String[] words) throws Exception {
         Map<Role, Method> mains = new LinkedHashMap<>();
+        Set<String> names = new HashSet<>();
         for (String word : words) {
             int equals = word.indexOf('=');
-            if (equals < 1) {
+            if (equals < 1 || !names.add(word.substring(0, equals))) {
                 System.err.println("usage: java mungo.lib.Session ROLE=CLASS ..");
                 System.exit(2);
             }
@@ -553,7 +557,7 @@ public final class Session {
 
     private static Method mainOf(String name) {
         try {
-            Method main = Class.forName(name).getMethod("main", String[].class);
+            Method main = Class.forName(name).getDeclaredMethod("main", String[].class);
             main.setAccessible(true);
             return main;
         } catch (ReflectiveOperationException none) {
