@@ -1,6 +1,6 @@
 -- Calls that follow the typestates do so at each moment: what is seen up to it is allowed, as all that is seen is.
-use Rattle.std.proofs.Common.{◌≡◌, ℕ, List, [], ◌∷◌, ◌++◌, Option, Some, None, refl, sym, ap, ◌∙◌, subst, inl, inr, ⊎_elim, Contains}
-use Rattle.std.specs.Prelude.{◌⊎◌, IfSome, IsSome, option_and_then}
+use Rattle.std.proofs.Common.{◌≡◌, ℕ, List, [], ◌∷◌, ◌++◌, Option, Some, None, refl, sym, ap, ◌∙◌, subst}
+use Rattle.std.specs.Prelude.{IfSome, IsSome, option_and_then}
 use Rattle.std.specs.List.{AllByRecursion}
 use Rattle.std.proofs.lemmas.Grind.{flat_map-append}
 use Rattle.std.proofs.lemmas.List.Elements.{Contains-append_left}
@@ -74,12 +74,13 @@ record Between (t : Typestate) (from to : To) (xs ys : List Call) : Type 0 where
 
 between : (t : Typestate) (from to : To) (xs ys : List Call) → led t from (xs ++ ys) ≡ Some to → Between t from to xs ys
 between t from to [] ys h = record { middle = from; first = refl; then_on = h }
-between t from to (c ∷ xs) ys h = go (next_from t from c) refl h
+between t from to (c ∷ xs) ys h = go (next_from t from c) refl h (λ q. between t q to xs ys)
   where
-    go : (o : Option To) → next_from t from c ≡ o → option_and_then (λ q. led t q (xs ++ ys)) o ≡ Some to → Between t from to (c ∷ xs) ys
-    go None e h = absurd (some_none h)
-    go (Some q) e h =
-        let b = between t q to xs ys h in
+    go : (o : Option To) → next_from t from c ≡ o → option_and_then (λ q. led t q (xs ++ ys)) o ≡ Some to →
+        ((q : To) → led t q (xs ++ ys) ≡ Some to → Between t q to xs ys) → Between t from to (c ∷ xs) ys
+    go None e h rest = absurd (some_none h)
+    go (Some q) e h rest =
+        let b = rest q h in
         record { middle = b.middle; first = ap (option_and_then (λ q. led t q xs)) e ∙ b.first; then_on = b.then_on }
 
 -- where a call leads on its method is offered
@@ -90,7 +91,7 @@ leads_offers t (tos.State q) to c more h = go (offered t q c.method) refl h
     go : (o : Option _) → offered t q c.method ≡ o → option_and_then (λ to'. led t to' more) (option_and_then (λ m. led_by m.target c.answer) o) ≡ Some to →
         IsSome (offered t q c.method)
     go None e h = absurd (some_none h)
-    go (Some m) e h = subst IsSome (sym e) tt
+    go (Some m) e h = subst (λ o. IsSome o) (sym e) refl
 
 offers_here : (t : Typestate) (from to : To) (m : Name) (more : List Call) (at_the_end : Option Name) → OpenHere m more at_the_end →
     led t from more ≡ Some to → IfSome at_the_end (Offers t to) → Offers t from m
