@@ -3,7 +3,7 @@ use Rattle.std.proofs.Common.{◌≡◌, List, length, ap, ◌∙◌, subst}
 use Rattle.jv_rules.specs.Faults.{IsWellTyped}
 use Rattle.jv_rules.specs.Program.{Program}
 use Rattle.jv_rules.specs.Shape.{IsShaped}
-use Rattle.jv_names.proofs.Main.{mains_are_the_same}
+use Rattle.jv_names.specs.Laws.{MainsAreTheSame}
 use Rattle.jv_shaped.specs.Laws.{SpelledIsShaped}
 use Rattle.use_meant_law.specs.Laws.{SourcesKeepTypestates}
 use Rattle.mg_sources.specs.Files.{Source}
@@ -19,9 +19,9 @@ well_typed files program h = record {
   methods = h.methods;
 }
 
-pub accepted_keep_typestates : SpelledIsShaped → SourcesKeepTypestates → AcceptedKeepTypestates
-accepted_keep_typestates law kept files core accepted class has =
+pub accepted_keep : SpelledIsShaped → MainsAreTheSame → SourcesKeepTypestates → AcceptedKeepTypestates
+accepted_keep law mains kept files core accepted class has =
     let have = accepted.have in
     let some = accepted.solved in
     kept have.program core (well_typed files have.program have.are) (subst IsShaped have.are.is (shaped law have.are.are.spell)) have.stands
-    some.reached some.are some.tables some.solves class (λ none. has ((mains_are_the_same have.program core have.stands class).none_there none))
+    some.reached some.are some.tables some.solves class (λ none. has ((mains have.program core have.stands class).none_there none))

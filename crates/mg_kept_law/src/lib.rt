@@ -4,6 +4,7 @@
 
 ghost use Rattle.mg_kept_law.specs.Laws.{AcceptedKeepTypestates};
 
+use jv_names::mains_are_the_same;
 use jv_shaped::spelled_is_shaped;
 use use_meant_law::sources_keep_typestates;
 
@@ -14,5 +15,6 @@ pub fn accepted_keep_typestates()
     ensures { AcceptedKeepTypestates }
 {
     spelled_is_shaped();
+    mains_are_the_same();
     sources_keep_typestates();
 }
