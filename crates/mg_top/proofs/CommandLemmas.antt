@@ -1,5 +1,5 @@
 -- What the functions of the commands answer.
-use Rattle.std.proofs.Common.{◌≡◌, ℕ, List, [], ◌∷◌, ◌++◌, All, codes, inl, inr, Option, None, refl, sym, ap, ◌∙◌, subst, append_assoc}
+use Rattle.std.proofs.Common.{◌≡◌, ℕ, Bool, map, List, [], ◌∷◌, ◌++◌, All, codes, inl, inr, Option, None, refl, sym, ap, ◌∙◌, subst, append_assoc}
 use Rattle.std.specs.Prelude.{IfOk, Result, Ok, Err}
 use Rattle.mg_text.specs.declared.memory.Memory.{Memory}
 use Rattle.mg_top.specs.declared.status.Status.{Status}
@@ -7,16 +7,17 @@ use Rattle.mg_top.specs.declared.status.Status.TheVariants as statuses
 use Rattle.mg_top.specs.declared.delivery.Action.{Action}
 use Rattle.mg_top.specs.declared.delivery.Action.TheVariants.{Say}
 use Rattle.mg_top.specs.declared.delivery.Delivery.{Delivery}
-use Rattle.mg_words.specs.Words.{Word, Asked, limit_of, Command, Check, Run, files_of, IsCommand, IsFileOf}
+use Rattle.mg_words.specs.Words.{Word, Asked, limit_of, order_of, are_named, Command, Check, Run, files_of, IsCommand, IsFileOf}
 use Rattle.mg_top.specs.Lines.{read_line, memory_line}
 use Rattle.mg_compile.specs.declared.files.ClassFile.{ClassFile}
-use Rattle.vm_model.specs.Runs.{printed}
+use Rattle.vm_world_law.specs.declared.role.RoleMain.{RoleMain}
+use Rattle.vm_world_law.specs.declared.stand.Stand.{Stand}
+use Rattle.vm_world_law.specs.Turns.{stands_in}
 use Rattle.mg_runs.specs.declared.ran.Ran.{Ran}
-use Rattle.mg_runs.specs.declared.ran.Stand.{Stand}
-use Rattle.mg_runs.specs.Lines.{ran_line}
-use Rattle.mg_runs.specs.Commanded.{Course, IsRun}
+use Rattle.mg_runs.specs.Lines.{role_lines}
+use Rattle.mg_runs.specs.Headline.{Course, IsRun}
 use Rattle.mg_runs.specs.View.{Shows, IsOfRun}
-use Rattle.mg_top.specs.Commands.{Yields, prints, kept_in, run_said, status_of, checked, ran}
+use Rattle.mg_top.specs.Commands.{Yields, prints, kept_in, mains_in, run_said, run_printed, status_of, checked, ran}
 use Rattle.mg_top.specs.Commands as commands
 use Rattle.mg_read.specs.First.{Judged, with_earlier}
 use Rattle.mg_text.specs.Row.{Row}
@@ -64,23 +65,39 @@ line_put result last third second first given before text words e d c b a g =
     ∙ append_assoc before (text ++ words) (10 ∷ [])
 
 -- what is done about a run, by what it shows
-abbrev pub shown_so : Asked → List ClassFile → (text trace : List ℕ) → (count : ℕ) → Stand → List Action
-shown_so asked written text trace count stand = kept_in asked.folder written ++ (prints text ++ Say (trace ++ ran_line count stand) ∷ [])
+abbrev pub shown_so : Asked → List ClassFile → (text trace : List ℕ) → (names : List Word) (counts : List ℕ) → List Stand → List Action
+shown_so asked written text trace names counts all = kept_in asked.folder written ++ (prints text ++ Say (trace ++ role_lines names counts all) ∷ [])
 
-shown_same : (asked : Asked) (r : Course) (shown : Ran) → Shows r asked.traced shown
-    → shown_so asked shown.files.items shown.printed shown.trace shown.instructions shown.stand ≡ kept_in asked.folder r.written ++ (prints (printed r.events) ++ Say (run_said asked r) ∷ [])
-shown_same asked r shown h = λ i. shown_so asked (h.written i) (h.printed_is i) (h.trace_is i) (h.count i) (h.stand i)
+abbrev pub shown_by : Asked → Ran → List Action
+shown_by asked shown = shown_so asked shown.files.items shown.printed shown.trace
+    (map (λ r. r.role) shown.roles.items) (map (λ r. r.instructions) shown.roles.items) (map (λ r. r.stand) shown.roles.items)
 
--- the class files of a run, what it printed, its trace and its line
-pub run_given : (asked : Asked) (files : List Word) (contents : List (List ℕ)) (limit : ℕ) (shown : Ran) (r : Result Delivery Memory) → limit ≡ limit_of asked
-    → IsOfRun (sources files contents) asked.class limit asked.traced shown
-    → IfOk r (λ d. d.actions.items ≡ shown_so asked shown.files.items shown.printed shown.trace shown.instructions shown.stand)
-    → IfOk r (λ d. d.status ≡ status_of shown.stand) → IfOk r (λ d. Yields (Run asked files) contents d.actions.items d.status)
-run_given asked files contents limit shown r e h actions status =
-    gives (Run asked files) contents (shown_so asked shown.files.items shown.printed shown.trace shown.instructions shown.stand) (status_of shown.stand) r actions status
-    (subst (λ (z : Status). Yields (Run asked files) contents (shown_so asked shown.files.items shown.printed shown.trace shown.instructions shown.stand) z) (ap status_of (sym h.shows.stand))
-    (subst (λ (z : List Action). Yields (Run asked files) contents z (status_of h.run.stand)) (sym (shown_same asked h.run shown h.shows))
-    (commands.run (ran h.run (subst (λ (z : ℕ). IsRun (sources files contents) asked.class z h.run) e h.is)))))
+shown_same : (asked : Asked) (r : Course) (shown : Ran) → Shows (mains_in asked) (are_named asked) asked.traced r shown
+    → shown_by asked shown ≡ kept_in asked.folder r.written ++ (prints (run_printed asked r) ++ Say (run_said asked r) ∷ [])
+shown_same asked r shown h = λ i. shown_so asked (h.written i) (h.printed_is i) (h.trace_is i) (h.names i) (h.counts i) (h.stands i)
+
+-- a run of what is asked for
+run_asked : (asked : Asked) (files : List Source) (mains : List RoleMain) (order : List ℕ) (limit : ℕ) (named : Bool) (shown : Ran)
+    → mains ≡ mains_in asked → order ≡ order_of asked → limit ≡ limit_of asked → named ≡ are_named asked
+    → IsOfRun files mains order limit named asked.traced shown → IsOfRun files (mains_in asked) (order_of asked) (limit_of asked) (are_named asked) asked.traced shown
+run_asked asked files mains order limit named shown m o l n h =
+    subst (λ (z : Bool). IsOfRun files (mains_in asked) (order_of asked) (limit_of asked) z asked.traced shown) n
+    (subst (λ (z : ℕ). IsOfRun files (mains_in asked) (order_of asked) z named asked.traced shown) l
+    (subst (λ (z : List ℕ). IsOfRun files (mains_in asked) z limit named asked.traced shown) o
+    (subst (λ (z : List RoleMain). IsOfRun files z order limit named asked.traced shown) m h)))
+
+-- the class files of a run, what it printed, its trace and the lines of its roles
+pub run_given : (asked : Asked) (files : List Word) (contents : List (List ℕ)) (mains : List RoleMain) (order : List ℕ) (limit : ℕ) (named : Bool) (shown : Ran)
+    (r : Result Delivery Memory) → mains ≡ mains_in asked → order ≡ order_of asked → limit ≡ limit_of asked → named ≡ are_named asked
+    → IsOfRun (sources files contents) mains order limit named asked.traced shown → IfOk r (λ d. d.actions.items ≡ shown_by asked shown)
+    → IfOk r (λ d. d.status ≡ status_of (map (λ r. r.stand) shown.roles.items)) → IfOk r (λ d. Yields (Run asked files) contents d.actions.items d.status)
+run_given asked files contents mains order limit named shown r m o l n given actions status =
+    let h : IsOfRun (sources files contents) (mains_in asked) (order_of asked) (limit_of asked) (are_named asked) asked.traced shown =
+        run_asked asked (sources files contents) mains order limit named shown m o l n given in
+    gives (Run asked files) contents (shown_by asked shown) (status_of (map (λ r. r.stand) shown.roles.items)) r actions status
+    (subst (λ (z : Status). Yields (Run asked files) contents (shown_by asked shown) z) (ap status_of (sym h.shows.stands))
+    (subst (λ (z : List Action). Yields (Run asked files) contents z (status_of (stands_in h.run.program h.run.last))) (sym (shown_same asked h.run shown h.shows))
+    (commands.run (ran h.run h.is))))
 
 -- ---- what is due
 
