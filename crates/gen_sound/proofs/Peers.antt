@@ -16,7 +16,7 @@ use Rattle.jv_mean.specs.Messages.{taken, takes_from}
 use Rattle.vm_model.specs.Messages.{Messages, or_nothing, sent_by, on_way, with_list, sending, role_named}
 use Rattle.vm_model.specs.Step.{other_role}
 use Rattle.jv_sound.proofs.Lists.{some_is}
-use Rattle.gen_sound.specs.Related.{PeerHolds, Holds}
+use Rattle.world_meant_law.specs.Meant.{PeerHolds, Holds}
 use Rattle.gen_sound.specs.Related as related
 use Rattle.gen_sound.proofs.Rows.{set_here, set_there}
 

@@ -36,7 +36,8 @@ use Rattle.gen_rules.specs.Frames.{max_stack, left_by}
 use Rattle.jv_sound.proofs.Worlds.{World, AllFit}
 use Rattle.jv_sound.proofs.Worlds as worlds
 use Rattle.gen_sound.specs.Following.{Moment, Stopped, Follows}
-use Rattle.gen_sound.specs.Related.{Running, moment, flat, flat_given, PeerHolds, Holds, RunsCode}
+use Rattle.gen_sound.specs.Related.{Running, moment, flat, flat_given, RunsCode}
+use Rattle.world_meant_law.specs.Meant.{PeerHolds, Holds}
 use Rattle.gen_sound.specs.Related as related
 use Rattle.gen_sound.specs.Arriving.{Arrives}
 use Rattle.gen_sound.proofs.Steps.{stays, lead_of}

@@ -5,6 +5,10 @@
 ghost use Rattle.vm_world_law.specs.Laws.{BegunIsFresh, LongerListsDoNoHarm, OrderIsFree, RolesRunAlone, StepsDoOne, TurnsDeliver, TurnsSwap};
 ghost use Rattle.vm_world_law.specs.Turns.{OneRun, OrdersAgree, RestIsNoBound, RunsStop, StillRoundsRest, TurnsCount};
 
+mod stand;
+
+pub use stand::Stand;
+
 /// A step looks at and changes the lists of its role alone: it looks at the front of one list to
 /// it, or appends to one list from it, or does neither.
 pub fn steps_do_one()
