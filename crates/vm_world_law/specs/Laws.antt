@@ -103,10 +103,13 @@ pub record SameForAll (v w : World) : Type 0 where
   pub messages : v.messages ≡ w.messages
 
 -- Two lists of turns after which the world rests come to the same, and what a role shows under any turns is a prefix of what it shows there.
-abbrev pub OrderIsFree : Type 0
-OrderIsFree = (p : Program) (w : World) → IsFresh w → (resting other : List ℕ) → Rests p (turns p w resting) →
+abbrev pub OrderIsFreeFrom : Program → World → Type 0
+OrderIsFreeFrom p w = (resting other : List ℕ) → Rests p (turns p w resting) →
     EventsBegin (turns p w other) (turns p w resting)
     × (Rests p (turns p w other) → SameForAll (turns p w other) (turns p w resting))
+
+abbrev pub OrderIsFree : Type 0
+OrderIsFree = (p : Program) (w : World) → IsFresh w → OrderIsFreeFrom p w
 
 -- where a role waits for a message, the turn of another doesn't send it
 abbrev pub SendsNone : Program → World → (sender waiting : ℕ) → Type 0
