@@ -25,7 +25,7 @@ use vm_world_law::{RoleEvent, RoleMain, Turned};
 pub struct World {
     linked: Linked,
     ports: Ports,
-    roles: Vec<Role>,
+    pub(crate) roles: Vec<Role>,
     events: List<RoleEvent>,
 }
 
