@@ -1,2 +1,3 @@
+pub mod Mains
 pub mod Loading
 pub mod Going
