@@ -6,10 +6,12 @@ use Rattle.scr_tree.specs.Tree.{LocalTree}
 use Rattle.scr_tree.specs.Meaning.{protocol_of}
 use Rattle.stm_gen.specs.Numbered.{typestate_of}
 use Rattle.stm_gen.specs.Agreement.{Agrees}
+use Rattle.jv_mean.specs.Values.{Inputs}
 use Rattle.jv_meaning.specs.Calls.{Follows, Finished}
 use Rattle.jv_meaning.specs.Meaning.{mean}
 use Rattle.jv_rules.specs.Program.{Program as Sources}
 use Rattle.jv_core.specs.Tree as Core
+use Rattle.use_meant_law.specs.Laws.{KeepsTo}
 use Rattle.mg_sources.specs.Files.{Source}
 use Rattle.mg_sources.specs.Reading.{Protocol, Reads}
 use Rattle.mg_accepted.specs.Accepted.{AreAccepted}
@@ -19,7 +21,7 @@ use Rattle.vm_model.specs.Program.{Program}
 use Rattle.vm_model.specs.Machine.{Machine}
 use Rattle.vm_model.specs.Start.{IsStart}
 use Rattle.vm_world_law.specs.declared.role.RoleMain.{RoleMain}
-use Rattle.vm_world_law.specs.World.{Role, World, turns, IsBegun}
+use Rattle.vm_world_law.specs.World.{Over, Role, World, turns, IsBegun, events_of}
 use Rattle.vm_world_law.specs.Turns as turning
 use Rattle.vm_world_law.specs.Laws.{Delivers, OrderIsFreeFrom}
 use Rattle.world_meant_law.specs.Worlds.{IsMeant, DoesAsMeant}
@@ -47,6 +49,26 @@ abbrev pub DoAsMeant : Sources → List RoleMain → Program → Type 0
 DoAsMeant sources mains program = (r : ℕ) (main : RoleMain) → slice_get mains r ≡ Some main → (start : Machine) → IsStart program main.class start →
     DoesAsMeant program r start (mean sources.files main.class)
 
+-- A role at a moment keeps to the typestates of its sources.
+pub record Keeps (sources : Sources) (w : World) (r : ℕ) (role : Role) : Type 0 where
+  -- no null was dereferenced
+  pub no_null : role.state ≢ Over endings.Null
+  -- the calls of each object that it made are a path of its class's typestate; the last may still be open
+  pub follows : Follows sources.files sources.typestates (events_of r w.events)
+  -- where it returned it has left every object at its end
+  pub finished : role.state ≡ Over endings.Done → Finished sources.files sources.typestates (events_of r w.events)
+
+-- Each role does.
+abbrev pub EachKeeps : Sources → List RoleMain → World → Type 0
+EachKeeps sources mains w = (r : ℕ) (main : RoleMain) (role : Role) → slice_get mains r ≡ Some main → slice_get w.roles r ≡ Some role →
+    Keeps sources w r role
+
+-- No meaning of the class of a role dereferences a null or goes wrong, whatever the others send and whatever the budget, and each keeps to
+-- the typestates.
+abbrev pub MeaningsKeep : Sources → List RoleMain → Type 0
+MeaningsKeep sources mains = (r : ℕ) (main : RoleMain) → slice_get mains r ≡ Some main → (inputs : Inputs) (budget : ℕ) →
+    KeepsTo sources (mean sources.files main.class inputs budget)
+
 -- The typestate of each protocol of these files allows exactly the traces of the protocol, and ends exactly where it is complete.
 abbrev pub ProtocolsAgree : List Source → Type 0
 ProtocolsAgree files = (source : Source) (local : LocalTree) → Contains files source → Reads source (Protocol local) →
@@ -67,6 +89,9 @@ pub record IsRun (files : List Source) (mains : List RoleMain) (order : List ℕ
   -- after every list of turns each role did what is meant, on the messages that were sent to it
   pub meant : (taken : List ℕ) → AreMeant accepted.have.program mains run.program (turns run.program run.first taken)
   pub does : DoAsMeant accepted.have.program mains run.program
+  -- and keeps to the typestates: no null is dereferenced, the calls of each object are a path, and a role that returns leaves each at its end
+  pub keep : (taken : List ℕ) → EachKeeps accepted.have.program mains (turns run.program run.first taken)
+  pub meanings : MeaningsKeep accepted.have.program mains
   -- turn orders don't matter: those that come to rest come to the same, and others show a part of it
   pub orders : OrderIsFreeFrom run.program run.first
   -- the typestates of the protocols allow exactly the protocols' traces

@@ -19,10 +19,11 @@ use Rattle.world_meant_law.specs.Meant.{Holds, RunsAsMeant}
 use Rattle.gen_rules.specs.Linked.{linked_program}
 use Rattle.mg_sources.specs.Files.{Source}
 use Rattle.mg_program.specs.Program.{HaveCore}
+use Rattle.mg_accepted.specs.Accepted.{AreAccepted}
 use Rattle.mg_compile.specs.declared.files.ClassFile.{ClassFile}
 use Rattle.mg_compile.specs.Files.{AreClassFiles}
 use Rattle.mg_runs.specs.Runs.{AreSpelled, IsLoaded, HaveMains}
-use Rattle.mg_runs.specs.Headline.{AreMeant, DoAsMeant, ProtocolsAgree}
+use Rattle.mg_runs.specs.Headline.{AreMeant, DoAsMeant, EachKeeps, MeaningsKeep, ProtocolsAgree}
 
 -- The bytes of these class files are read back, and what is read links to the program that is expected of the core.
 abbrev pub WrittenClassesLink : Type 0
@@ -45,6 +46,12 @@ RolesAreMeant = (files : List Source) (core : Core.Program) (written : List Clas
     (mains : List RoleMain) → HaveMains core mains → (program : Program) → IsLoaded (map (λ f. f.bytes) written) program →
     DoAsMeant have.program mains program
     × ((first : World) → IsBegun program mains first → (taken : List ℕ) → AreMeant have.program mains program (turns program first taken))
+
+-- Roles of accepted files keep to the typestates, wherever they did what is meant.
+abbrev pub RolesKeep : Type 0
+RolesKeep = (files : List Source) (core : Core.Program) (accepted : AreAccepted files core) (mains : List RoleMain) → HaveMains core mains →
+    MeaningsKeep accepted.have.program mains
+    × ((program : Program) (w : World) → AreMeant accepted.have.program mains program w → EachKeeps accepted.have.program mains w)
 
 -- What is said of protocols holds of those of all files.
 abbrev pub AllProtocolsAgree : Type 0

@@ -1,7 +1,7 @@
 //! What holds of the class files of sources, also of those whose usages aren't right.
 //! There is no running code here; each function carries a law.
 
-ghost use Rattle.mg_runs.specs.Laws.{AllProtocolsAgree, RolesAreMeant, RunsAreMeant, WrittenClassesLink};
+ghost use Rattle.mg_runs.specs.Laws.{AllProtocolsAgree, RolesAreMeant, RolesKeep, RunsAreMeant, WrittenClassesLink};
 
 use gen_held::written_cores_are_held;
 use gen_links::files_link;
@@ -9,6 +9,7 @@ use gen_sound::plain_mains_run;
 use jv_kept::core_is_kept;
 use jv_shaped::spelled_is_shaped;
 use jv_whole::types_are_enough;
+use mg_kept_law::accepted_keep_typestates;
 use vm_world_law::{begun_is_fresh, turns_deliver};
 use world_meant_law::worlds_are_meant;
 
@@ -47,6 +48,15 @@ pub fn roles_are_meant()
     begun_is_fresh();
     turns_deliver();
     worlds_are_meant();
+}
+
+/// Roles of accepted files keep to the typestates, at each moment at which they did what is meant: no
+/// null was dereferenced, the calls of each object are a path of its class's typestate, and a role
+/// that returned has left every object at its end.
+pub fn roles_keep()
+    ensures { RolesKeep }
+{
+    accepted_keep_typestates();
 }
 
 /// The typestate of each protocol that a file spells allows exactly the protocol's traces.

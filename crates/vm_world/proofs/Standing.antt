@@ -11,7 +11,7 @@ use Rattle.vm_world_law.specs.declared.stand.Stand.{Stand}
 use Rattle.vm_world_law.specs.declared.stand.Stand.TheVariants as stands
 use Rattle.vm_world_law.specs.World.{State, Runs, Over, Role, World, waits, waits_at}
 use Rattle.vm_world_law.specs.Turns.{stand_of, stands_from, stands_in, waiting_for}
-use Rattle.vm_world_law.proofs.Lists.{some_is}
+use Rattle.vm_world_law.proofs.Lists.{some_is, got_within}
 use Rattle.vm_world_law.proofs.Peers.{waits_within}
 use Rattle.vm_world.specs.declared.stand.RoleRan.{RoleRan}
 use Rattle.vm_world.specs.View.{ending_in}
@@ -97,9 +97,9 @@ module _ (p : Program) (w : World) where
   taken_all (suc k) (x ∷ xs) le = ap (λ l. x ∷ l) (taken_all k xs (omega (arith, le)))
 
   -- one role more
-  pub ran_more : (k : ℕ) (old new : List RoleRan) (ran : RoleRan) → k < length w.roles → new ≡ old ++ ran ∷ [] →
+  pub ran_more : (k : ℕ) (old new : List RoleRan) (ran : RoleRan) → new ≡ old ++ ran ∷ [] →
       Some ran.instructions ≡ option_map (λ r. r.count) (slice_get w.roles k) → Some ran.stand ≡ stand_at p w k → RanSoFar k old → RanSoFar (k + 1) new
-  ran_more k old new ran lt grown count stand h = go (slice_get w.roles k) refl
+  ran_more k old new ran grown count stand h = go (slice_get w.roles k) refl
     where
       none : slice_get w.roles k ≡ None → RanSoFar (k + 1) new
       none at = absurd (let no : Some ran.instructions ≡ None = count ∙ ap (option_map (λ r. r.count)) at in cc)
@@ -107,6 +107,7 @@ module _ (p : Program) (w : World) where
       go : (o : Option Role) → slice_get w.roles k ≡ o → RanSoFar (k + 1) new
       go None at = none at
       go (Some role) at =
+          let lt : k < length w.roles = got_within w.roles k role at in
           let taken : take (k + 1) w.roles ≡ take k w.roles ++ role ∷ [] =
           take_more w.roles k role lt ∙ ap (λ (x : Role). take k w.roles ++ x ∷ []) (get_or_from_slice_get w.roles k role role at) in
           let same_count : ran.instructions ≡ role.count = some_is (count ∙ ap (option_map (λ (r : Role). r.count)) at) in
@@ -118,7 +119,8 @@ module _ (p : Program) (w : World) where
                 ∙ sym (map-append (λ (r : Role). r.count) (take k w.roles) (role ∷ [])) ∙ ap (map (λ (r : Role). r.count)) (sym taken);
             stands = ap (map (λ (r : RoleRan). r.stand)) grown ∙ map-append (λ (r : RoleRan). r.stand) old (ran ∷ [])
                 ∙ ap (λ l. l ++ ran.stand ∷ []) h.stands ∙ ap (λ s. stands_from p w 0 (take k w.roles) ++ s ∷ []) same_stand
-                ∙ ap (λ n. stands_from p w 0 (take k w.roles) ++ stand_of p w n role.state ∷ []) (sym long)
+                ∙ ap (λ n. stands_from p w 0 (take k w.roles) ++ stand_of p w n role.state ∷ [])
+                (let e : k ≡ 0 + length (take k w.roles) = omega (arith, long) in e)
                 ∙ sym (stands_more 0 (take k w.roles) role) ∙ ap (stands_from p w 0) (sym taken);
           }
 

@@ -1,14 +1,21 @@
 -- For private clauses: a run of the class files of a core, and what is shown of it.
-use Rattle.std.specs.Prelude.{◌≡◌, ◌<◌, ℕ, List, length, map, Bool, Some, slice_get, Contains}
+use Rattle.std.specs.Prelude.{◌≡◌, ◌<◌, ℕ, List, [], length, map, Bool, Some, slice_get, Contains, if◌then◌else◌}
+use Rattle.mg_text.specs.Call.{Name}
 use Rattle.jv_core.specs.Tree as Core
 use Rattle.mg_compile.specs.declared.files.ClassFile.{ClassFile}
 use Rattle.vm_model.specs.Program.{Program}
+use Rattle.vm_world_law.specs.declared.role.RoleEvent.{RoleEvent}
 use Rattle.vm_world_law.specs.declared.role.RoleMain.{RoleMain}
 use Rattle.vm_world_law.specs.World.{World, IsBegun}
 use Rattle.vm_world_law.specs.Turns as turning
+use Rattle.mg_trace.specs.Trace.{trace}
 use Rattle.mg_runs.specs.declared.ran.Ran.{Ran}
 use Rattle.mg_runs.specs.Runs.{IsLoaded}
 use Rattle.mg_runs.specs.View.{Shows}
+
+-- what is told of these events, where that is asked for
+abbrev pub told : Core.Program → (names : List Name) → List RoleEvent → (traced : Bool) → List ℕ
+told core names events traced = if traced then trace core names events else []
 
 -- the order names roles of the run, and each of them
 pub record IsOrder (order : List ℕ) (mains : List RoleMain) : Type 0 where
