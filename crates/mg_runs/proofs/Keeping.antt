@@ -1,9 +1,10 @@
 -- Roles of accepted files keep to the typestates, at each moment.
 use Rattle.std.proofs.Common.{◌≡◌, ◌≢◌, ℕ, suc, List, [], Option, Some, None, slice_get, refl, sym, ap, ◌∙◌, subst, append-nil}
 use Rattle.mg_text.specs.declared.event.Event.{Event}
+use Rattle.mg_text.specs.declared.event.Ending.{Ending}
 use Rattle.mg_text.specs.declared.event.Ending.TheVariants as endings
 use Rattle.jv_mean.specs.Alike.{Prefix}
-use Rattle.jv_mean.specs.Values.{Finish, Done, Null, Ended, Inputs}
+use Rattle.jv_mean.specs.Values.{Finish, Wait, Ended, Inputs}
 use Rattle.jv_meaning.specs.Calls.{Follows, Finished}
 use Rattle.jv_meaning.specs.Meaning.{mean}
 use Rattle.jv_rules.specs.Program.{Program as Sources}
@@ -29,7 +30,7 @@ module _ (meant : (budget : ℕ) → Ended) (count : ℕ) (events : List Event) 
   -- whatever a role shows, its events so far are meant
   front : (stand : Stand) → Shows meant count events stand → Prefix events (meant (suc count)).events
   front (stands.Ended ending) h = whole h.0 h.2
-  front (stands.Waits peer) h = whole _ h
+  front (stands.Waits peer) h = whole (Wait peer) h
   front stands.Bound h = h
 
 module _ (sources : Sources) (program : Program) (w : World) (r : ℕ) (role : Role) (meant : Inputs → ℕ → Ended)
@@ -37,7 +38,7 @@ module _ (sources : Sources) (program : Program) (w : World) (r : ℕ) (role : R
   run : KeepsTo sources (meant (inputs_of w r) (suc role.count))
   run = keeps (inputs_of w r) (suc role.count)
 
-  ended : (ending : _) → role.state ≡ Over ending → Shows (meant (inputs_of w r)) role.count (events_of r w.events) (stands.Ended ending)
+  ended : (ending : Ending) → role.state ≡ Over ending → Shows (meant (inputs_of w r)) role.count (events_of r w.events) (stands.Ended ending)
   ended ending at = subst (λ (s : State). Shows (meant (inputs_of w r)) role.count (events_of r w.events) (stand_of program w r s)) at is.shows
 
   role_keeps : Keeps sources w r role
