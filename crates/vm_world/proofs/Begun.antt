@@ -3,12 +3,12 @@ use Rattle.std.proofs.Common.{◌≡◌, ◌<◌, ◌+◌, take, get_or, ℕ, Li
 use Rattle.vm_model.specs.Program.{Program}
 use Rattle.vm_model.specs.Machine.{Machine}
 use Rattle.vm_model.specs.Start.{IsStart}
-use Rattle.vm_world_law.specs.World.{Runs, Role, RoleMain, StartAt}
-use Rattle.vm_world.specs.declared.world.RoleMain.{RoleMain as Main}
+use Rattle.vm_world_law.specs.declared.role.RoleMain.{RoleMain}
+use Rattle.vm_world_law.specs.World.{Runs, Role, StartAt}
 use Rattle.std.proofs.lemmas.List.{take_more, map-append}
 use Rattle.vm_world.specs.declared.role.Role.{Role as Kept}
 use Rattle.vm_world.specs.declared.role.State.TheVariants as states
-use Rattle.vm_world.specs.View.{main_of, mains_of, role_of, roles_of}
+use Rattle.vm_world.specs.View.{role_of, roles_of}
 
 -- one role more
 pub start_more : (p : Program) (mains : List RoleMain) (roles : List Role) (main : RoleMain) (m : Machine) → StartAt p mains roles → IsStart p main.class m →
@@ -18,20 +18,15 @@ start_more p [] (role ∷ roles) main m h start = absurd h
 start_more p (x ∷ mains) [] main m h start = absurd h
 start_more p (x ∷ mains) (role ∷ roles) main m h start = (h.0, start_more p mains roles main m h.1 start)
 
-pub same_names : (mains : List Main) → map (λ main. main.role) (mains_of mains) ≡ map (λ m. m.role) mains
-same_names [] = refl
-same_names (main ∷ mains) = ap (λ l. main.role ∷ l) (same_names mains)
-
 -- the next role of the list begins
-pub next_begun : (p : Program) (mains : List Main) (roles new : List Kept) (k : ℕ) (main : Main) (m : Machine) → k < length mains → main ≡ get_or mains k main →
-    StartAt p (mains_of (take k mains)) (roles_of roles) → IsStart p main.class m → new ≡ roles ++ record { state = states.Runs m; count = 0 } ∷ [] →
-    StartAt p (mains_of (take (k + 1) mains)) (roles_of new)
+pub next_begun : (p : Program) (mains : List RoleMain) (roles new : List Kept) (k : ℕ) (main : RoleMain) (m : Machine) → k < length mains → main ≡ get_or mains k main →
+    StartAt p (take k mains) (roles_of roles) → IsStart p main.class m → new ≡ roles ++ record { state = states.Runs m; count = 0 } ∷ [] →
+    StartAt p (take (k + 1) mains) (roles_of new)
 next_begun p mains roles new k main m lt is h start added =
-    let taken : mains_of (take (k + 1) mains) ≡ mains_of (take k mains) ++ main_of main ∷ [] =
-    ap mains_of (take_more mains k main lt) ∙ map-append main_of (take k mains) (get_or mains k main ∷ [])
-    ∙ ap (λ (x : Main). mains_of (take k mains) ++ main_of x ∷ []) (sym is) in
+    let taken : take (k + 1) mains ≡ take k mains ++ main ∷ [] =
+    take_more mains k main lt ∙ ap (λ (x : RoleMain). take k mains ++ x ∷ []) (sym is) in
     let grown : roles_of new ≡ roles_of roles ++ record { state = Runs m; count = 0 } ∷ [] =
     ap roles_of added ∙ map-append role_of roles (record { state = states.Runs m; count = 0 } ∷ []) in
     subst (λ l. StartAt p l (roles_of new)) (sym taken)
-    (subst (λ l. StartAt p (mains_of (take k mains) ++ main_of main ∷ []) l) (sym grown)
-    (start_more p (mains_of (take k mains)) (roles_of roles) (main_of main) m h start))
+    (subst (λ l. StartAt p (take k mains ++ main ∷ []) l) (sym grown)
+    (start_more p (take k mains) (roles_of roles) main m h start))

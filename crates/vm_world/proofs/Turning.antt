@@ -7,6 +7,8 @@ use Rattle.vm_model.specs.Program.{Program}
 use Rattle.vm_model.specs.Messages.{Messages}
 use Rattle.vm_model.specs.Machine.{Machine, Stepped, Went, Waits, Stops, noted}
 use Rattle.vm_model.specs.Step.{step}
+use Rattle.vm_world_law.specs.declared.role.RoleEvent.{RoleEvent}
+use Rattle.vm_world_law.specs.declared.role.Turned.{Turned}
 use Rattle.vm_world_law.specs.World as model
 use Rattle.vm_world_law.specs.World.{State, Runs, Over, World, of_role, turn, turn_in, stepped, turned, turned_in}
 use Rattle.vm_world.specs.declared.role.Role.{Role}
@@ -73,7 +75,7 @@ module _ (roles : List Role) (i : ℕ) (old : Role) (lt : i < length roles) (is 
   roles_same new same = map-set role_of roles i new ∙ ap (λ x. set (roles_of roles) i x) same ∙ set_same (roles_of roles) i (role_of old) role_there
 
   -- the world behind the turn
-  pub turned_world : (p : Program) (q q' : Messages) (events : List model.RoleEvent) (new : Role) (e : Option Event) (t : model.Turned) →
+  pub turned_world : (p : Program) (q q' : Messages) (events : List RoleEvent) (new : Role) (e : Option Event) (t : Turned) →
       ◌≡◌ {A = Outcome} (record { role = role_of new; messages = q'; event = e; turned = t }) (outcome p i (role_of old) q) →
       ◌≡◌ {A = World} (record { roles = roles_of (set roles i new); messages = q'; events = events ++ map (of_role i) (noted e) })
       (turn p (record { roles = roles_of roles; messages = q; events = events }) i)
@@ -83,7 +85,7 @@ module _ (roles : List Role) (i : ℕ) (old : Role) (lt : i < length roles) (is 
       ∙ ap (with_outcome (record { roles = roles_of roles; messages = q; events = events }) i) out
       ∙ sym (turn_is p (record { roles = roles_of roles; messages = q; events = events }) i (role_of old) role_there)
 
-  pub turned_answer : (p : Program) (q q' : Messages) (events : List model.RoleEvent) (new : Role) (e : Option Event) (t : model.Turned) →
+  pub turned_answer : (p : Program) (q q' : Messages) (events : List RoleEvent) (new : Role) (e : Option Event) (t : Turned) →
       ◌≡◌ {A = Outcome} (record { role = role_of new; messages = q'; event = e; turned = t }) (outcome p i (role_of old) q) →
       Some t ≡ turned p (record { roles = roles_of roles; messages = q; events = events }) i
   turned_answer p q q' events new e t out =

@@ -5,10 +5,6 @@ use Rattle.vm_world_law.specs.World as model
 use Rattle.vm_world.specs.declared.role.State.{State}
 use Rattle.vm_world.specs.declared.role.State.TheVariants as states
 use Rattle.vm_world.specs.declared.role.Role.{Role}
-use Rattle.vm_world.specs.declared.role.Turned.{Turned}
-use Rattle.vm_world.specs.declared.role.Turned.TheVariants as turned
-use Rattle.vm_world.specs.declared.role.RoleEvent.{RoleEvent}
-use Rattle.vm_world.specs.declared.world.RoleMain.{RoleMain}
 
 abbrev pub state_of : State → model.State
 state_of (states.Runs machine) = model.Runs machine
@@ -19,23 +15,6 @@ role_of role = record { state = state_of role.state; count = role.count }
 
 abbrev pub roles_of : List Role → List model.Role
 roles_of roles = map role_of roles
-
-abbrev pub event_of : RoleEvent → model.RoleEvent
-event_of e = record { role = e.role; event = e.event }
-
-abbrev pub events_of : List RoleEvent → List model.RoleEvent
-events_of events = map event_of events
-
-abbrev pub turned_of : Turned → model.Turned
-turned_of turned.Went = model.Goes
-turned_of (turned.Waits peer) = model.Waiting peer
-turned_of (turned.Ended ending) = model.Ended ending
-
-abbrev pub main_of : RoleMain → model.RoleMain
-main_of main = record { role = main.role; class = main.class }
-
-abbrev pub mains_of : List RoleMain → List model.RoleMain
-mains_of mains = map main_of mains
 
 -- the ending of a role that has ended
 abbrev pub ending_of : model.State → Option Ending

@@ -4,12 +4,13 @@
 ghost use Rattle.std.specs.Prelude.{◌≡◌, ◌<◌, ◌^◌, IfOk, OnErr};
 ghost use Rattle.vm_model.specs.View.{classes_of};
 ghost use Rattle.vm_world.specs.Outcome.{outcome};
-ghost use Rattle.vm_world.specs.View.{role_of, state_of, turned_of};
+ghost use Rattle.vm_world.specs.View.{role_of, state_of};
 
 use mg_text::{Ending, Event, Memory, Text};
 use std::alloc::Global;
 use vm_machine::{Machine, Stepped};
 use vm_model::{Linked, Ports};
+use vm_world_law::Turned;
 
 /// A role runs, or has ended.
 #[derive(Drop)]
@@ -23,24 +24,6 @@ pub(crate) enum State {
 pub(crate) struct Role {
     pub state: State,
     pub count: u64,
-}
-
-/// An event, and the number of the role of which it is seen.
-#[derive(Debug, Drop)]
-pub struct RoleEvent {
-    pub role: u32,
-    pub event: Event,
-}
-
-/// What a turn did.
-#[derive(Debug, Drop)]
-pub enum Turned {
-    /// The role took an instruction.
-    Went,
-    /// It waits for a message from this role, and nothing has changed.
-    Waits(u32),
-    /// It ended so, now or before.
-    Ended(Ending),
 }
 
 /// What a turn did, and what was seen of it.
@@ -78,7 +61,7 @@ pub(crate) fn take_turn(
     me: u32,
 ) -> Result<Taken, Memory>
     requires { role.old.count < 2 ^ 32 }
-    ensures ok { IfOk result (λ t. record { role = role_of role.new; messages = ports.new; event = t.event; turned = turned_of t.turned }
+    ensures ok { IfOk result (λ t. record { role = role_of role.new; messages = ports.new; event = t.event; turned = t.turned }
         ≡ outcome (classes_of linked.now.classes.items) me (role_of role.old) ports.old) }
     ensures err { OnErr result (role_of role.new ≡ role_of role.old) }
     ensures err_ports { OnErr result (ports.new ≡ ports.old) }

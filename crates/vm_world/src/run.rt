@@ -5,10 +5,10 @@
 ghost use Rattle.std.specs.Prelude.{◌≡◌, ◌<◌, ◌^◌, ◌-◌, ◌+◌, ◌%◌, ℕ, Contains, length, slice_get, IfOk, IfSome};
 ghost use Rattle.vm_world_law.specs.Turns.{counted, Advances, IsRun};
 
-use crate::role::Turned;
 use crate::world::World;
 use mg_text::Memory;
 use std::alloc::Global;
+use vm_world_law::Turned;
 
 /// The place that follows in a cycle.
 fn following(place: usize, count: usize) -> usize

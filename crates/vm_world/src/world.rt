@@ -9,29 +9,23 @@ ghost use Rattle.vm_machine.specs.Main.{HasMain};
 ghost use Rattle.vm_world_law.specs.World as model;
 ghost use Rattle.vm_world_law.specs.Turns.{over_in};
 ghost use Rattle.vm_world.specs.Resting.{GoesOn};
-ghost use Rattle.vm_world.specs.View.{roles_of, mains_of, event_of, events_of, ending_in, turned_of};
+ghost use Rattle.vm_world.specs.View.{roles_of, ending_in};
 ghost use Rattle.vm_model.specs.Machine.{noted};
 
-use crate::role::{Role, RoleEvent, State, Taken, Turned, take_turn};
+use crate::role::{Role, State, Taken, take_turn};
 use mg_text::{Ending, Event, List, Memory, Text};
 use std::alloc::Global;
 use std::marker::Model;
 use vm_machine::Machine;
 use vm_model::{Linked, Ports};
-
-/// A role and the class whose `main` it runs.
-#[derive(Debug, Drop)]
-pub struct RoleMain {
-    pub role: Text,
-    pub class: Text,
-}
+use vm_world_law::{RoleEvent, RoleMain, Turned};
 
 /// Roles that run one program, the messages on their way, and the events of all roles in their order.
 #[derive(Drop)]
 pub struct World {
     linked: Linked,
     ports: Ports,
-    roles: Vec<Role>,
+    pub(crate) roles: Vec<Role>,
     events: List<RoleEvent>,
 }
 
@@ -39,13 +33,13 @@ impl Model for World {
     ghost use Rattle.std.specs.Prelude.{◌<◌, ◌^◌, length};
     ghost use Rattle.vm_model.specs.View.{classes_of};
     ghost use Rattle.vm_world.specs.Seen.{Seen};
-    ghost use Rattle.vm_world.specs.View.{roles_of, events_of};
+    ghost use Rattle.vm_world.specs.View.{roles_of};
 
     ghost Value = { Seen };
 
     ghost view = { λ w. record {
       program = classes_of w.linked.classes.items;
-      world = record { roles = roles_of w.roles.items; messages = w.ports; events = events_of w.events.items };
+      world = record { roles = roles_of w.roles.items; messages = w.ports; events = w.events.items };
     } };
 
     ghost invariant = { λ w. length w.roles.items < 2 ^ 32 };
@@ -55,7 +49,7 @@ impl Model for World {
 fn begun(alloc: Global, linked: &Linked, mains: &[RoleMain]) -> Result<Vec<Role>, Memory>
     requires { AllByRecursion (λ m. HasMain (classes_of linked.now.classes.items) m.class) mains.now }
     ensures many { IfOk result (λ roles. length roles.items ≡ length mains.now) }
-    ensures begun { IfOk result (λ roles. model.StartAt (classes_of linked.now.classes.items) (mains_of mains.now) (roles_of roles.items)) }
+    ensures begun { IfOk result (λ roles. model.StartAt (classes_of linked.now.classes.items) mains.now (roles_of roles.items)) }
 {
     let mut roles = Vec::new(alloc);
     for main in mains {
@@ -82,7 +76,7 @@ fn names_of(alloc: Global, mains: &[RoleMain]) -> Result<List<Text>, Memory>
 /// Keeps an event of a role, for which there is room.
 fn note(events: &mut List<RoleEvent>, role: u32, event: Option<Event>)
     requires { 0 < events.old.spare }
-    ensures { events_of events.new.items ≡ events_of events.old.items ++ map (model.of_role role) (noted event) }
+    ensures { events.new.items ≡ events.old.items ++ map (model.of_role role) (noted event) }
 {
     match event {
         Some(event) => events.add(RoleEvent { role, event }),
@@ -100,7 +94,7 @@ impl World {
         requires distinct { IsDistinct bytes_eq (map (λ m. m.role) mains.now) }
         requires mains { AllByRecursion (λ m. HasMain (classes_of linked.classes.items) m.class) mains.now }
         ensures program { IfOk result (λ w. w.program ≡ classes_of linked.classes.items) }
-        ensures begun { IfOk result (λ w. model.IsBegun w.program (mains_of mains.now) w.world) }
+        ensures begun { IfOk result (λ w. model.IsBegun w.program mains.now w.world) }
     {
         let names = names_of(alloc, mains)?;
         let ports = Ports::new(alloc, names.as_slice())?;
@@ -122,7 +116,7 @@ impl World {
         requires count { IfSome (slice_get self.old.world.roles role) (λ r. r.count < 2 ^ 32 - 1) }
         ensures program { self.new.program ≡ self.old.program }
         ensures ok { IfOk result (λ t. self.new.world ≡ model.turn self.old.program self.old.world role) }
-        ensures turned { IfOk result (λ t. Some (turned_of t) ≡ model.turned self.old.program self.old.world role) }
+        ensures turned { IfOk result (λ t. Some t ≡ model.turned self.old.program self.old.world role) }
         ensures err { OnErr result (self.new ≡ self.old) }
     {
         self.events.reserve(1)?;
@@ -178,7 +172,7 @@ impl World {
 
     /// The events of all roles, in their order.
     pub fn events(&self) -> &List<RoleEvent>
-        ensures { map event_of result.now.items ≡ self.now.world.events }
+        ensures { result.now.items ≡ self.now.world.events }
     {
         &self.events
     }

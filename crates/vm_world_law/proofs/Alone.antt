@@ -12,7 +12,7 @@ use Rattle.vm_model.specs.Messages.{Messages, on_way}
 use Rattle.vm_model.specs.Machine.{Machine, Stepped, Went, Waits, Stops, Steps, none, more, noted}
 use Rattle.vm_model.specs.Runs as whole
 use Rattle.vm_model.specs.Step.{step}
-use Rattle.vm_world_law.specs.World.{State, Runs, Over, Role, RoleEvent, World, of_role, turn, turns, turn_at, turn_in, stepped, IsFresh, events_of, sent, took}
+use Rattle.vm_world_law.specs.World.{State, Runs, Over, Role, World, of_role, turn, turns, turn_at, turn_in, stepped, IsFresh, events_of, sent, took}
 use Rattle.vm_world_law.specs.Laws.{Delivers, Begin, Arrives, ComesAlone, Longer}
 use Rattle.vm_world_law.proofs.Lists.{some_is, set_here, set_there, set_long, got_within}
 use Rattle.vm_world_law.proofs.Ways.{IsSquare, none_square, none_on_way}

@@ -7,7 +7,8 @@ use Rattle.vm_model.specs.Program.{Program}
 use Rattle.vm_model.specs.Messages.{Messages, or_nothing, no_messages}
 use Rattle.vm_model.specs.Machine.{Machine}
 use Rattle.vm_model.specs.Start.{IsStart}
-use Rattle.vm_world_law.specs.World.{Runs, Role, RoleMain, StartAt}
+use Rattle.vm_world_law.specs.declared.role.RoleMain.{RoleMain}
+use Rattle.vm_world_law.specs.World.{Runs, Role, StartAt}
 use Rattle.vm_world_law.specs.Laws.{BegunIsFresh}
 use Rattle.vm_world_law.proofs.Lists.{some_is}
 

@@ -11,7 +11,8 @@ use Rattle.mg_text.specs.declared.event.Event.TheVariants as seen
 use Rattle.mg_text.specs.declared.event.Sent.{Sent}
 use Rattle.vm_model.specs.Messages.{or_nothing}
 use Rattle.vm_model.specs.Machine.{noted}
-use Rattle.vm_world_law.specs.World.{RoleEvent, of_role, events_of, message_to, message_from, sent_to, taken_from}
+use Rattle.vm_world_law.specs.declared.role.RoleEvent.{RoleEvent}
+use Rattle.vm_world_law.specs.World.{of_role, events_of, message_to, message_from, sent_to, taken_from}
 use Rattle.vm_world_law.proofs.Lists.{named_there}
 use Rattle.vm_world_law.proofs.Moves.{IsStill}
 

@@ -4,7 +4,9 @@ use Rattle.std.proofs.lemmas.Bool.Decides.{leb_tells}
 use Rattle.vm_model.specs.Program.{Program}
 use Rattle.vm_model.specs.Machine.{Machine, Stepped, Went, Waits, Stops}
 use Rattle.vm_model.specs.Step.{step}
-use Rattle.vm_world_law.specs.World.{State, Runs, Over, Role, World, Turned, Goes, Waiting, Ended, turn, turns, turn_at, turn_in, stepped, turned, turned_at, turned_in, turned_by, IsStill, Rests}
+use Rattle.vm_world_law.specs.declared.role.Turned.{Turned}
+use Rattle.vm_world_law.specs.declared.role.Turned.TheVariants as answers
+use Rattle.vm_world_law.specs.World.{State, Runs, Over, Role, World, turn, turns, turn_at, turn_in, stepped, turned, turned_at, turned_in, turned_by, IsStill, Rests}
 use Rattle.vm_world_law.specs.Turns.{is_over, over_at, over_in, Advances, role_of_turn, first_turns, all_counts, counted, StopsAt, IsRun, StillAt}
 use Rattle.vm_world_law.proofs.Lists.{some_is}
 use Rattle.vm_world_law.proofs.Turns.{one_turn_more, still_rounds_rest}
@@ -34,15 +36,15 @@ module _ (p : Program) (w : World) (r : ℕ) where
       go (Some role) at = by_state role role.state refl (h role at)
 
   -- a turn that waited
-  pub waited : (peer : ℕ) → Some (Waiting peer) ≡ turned p w r → Advances p w r (turn p w r) false
+  pub waited : (peer : ℕ) → Some (answers.Waits peer) ≡ turned p w r → Advances p w r (turn p w r) false
   waited peer is = let h : StillAt p w r = (λ role at. go role at) in (h, still_turn h)
     where
-      by_step : (m : Machine) (out : Stepped) → step p r m w.messages ≡ out → Waiting peer ≡ turned_by out → IsStill p w r (Runs m)
+      by_step : (m : Machine) (out : Stepped) → step p r m w.messages ≡ out → answers.Waits peer ≡ turned_by out → IsStill p w r (Runs m)
       by_step m (Went n q e) at is = absurd (cc is)
       by_step m (Waits from) at is = (from, at)
       by_step m (Stops ending) at is = absurd (cc is)
 
-      by_state : (state : State) → Waiting peer ≡ turned_in p w r state → IsStill p w r state
+      by_state : (state : State) → answers.Waits peer ≡ turned_in p w r state → IsStill p w r state
       by_state (Runs m) is = by_step m (step p r m w.messages) refl is
       by_state (Over ending) is = tt
 
@@ -61,29 +63,29 @@ module _ (p : Program) (w : World) (r : ℕ) where
   there None at is = absurd (cc is)
   there (Some role) at is = (role, at, some_is is)
 
-  pub went : Some Goes ≡ turned p w r → Advances p w r (turn p w r) true
+  pub went : Some answers.Went ≡ turned p w r → Advances p w r (turn p w r) true
   went is = let h = there (slice_get w.roles r) refl is in counted_so h.0 h.1 (λ still. by_state h.0.state h.2 still)
     where
-      by_step : (m : Machine) (out : Stepped) → step p r m w.messages ≡ out → Goes ≡ turned_by out → IsStill p w r (Runs m) → ⊥
+      by_step : (m : Machine) (out : Stepped) → step p r m w.messages ≡ out → answers.Went ≡ turned_by out → IsStill p w r (Runs m) → ⊥
       by_step m (Went n q e) at is still = absurd (let e : ◌≡◌ {A = Stepped} _ _ = sym at ∙ still.1 in cc)
       by_step m (Waits from) at is still = absurd (cc is)
       by_step m (Stops ending) at is still = absurd (cc is)
 
-      by_state : (state : State) → Goes ≡ turned_in p w r state → IsStill p w r state → ⊥
+      by_state : (state : State) → answers.Went ≡ turned_in p w r state → IsStill p w r state → ⊥
       by_state (Runs m) is still = by_step m (step p r m w.messages) refl is still
       by_state (Over ending) is still = absurd (cc is)
 
-  pub ended_now : (ending : _) → over_in w r ≡ false → Some (Ended ending) ≡ turned p w r → Advances p w r (turn p w r) true
+  pub ended_now : (ending : _) → over_in w r ≡ false → Some (answers.Ended ending) ≡ turned p w r → Advances p w r (turn p w r) true
   ended_now ending running is =
       let h = there (slice_get w.roles r) refl is in
       counted_so h.0 h.1 (λ still. by_state h.0.state (ap over_at (sym h.1) ∙ running) h.2 still)
     where
-      by_step : (m : Machine) (out : Stepped) → step p r m w.messages ≡ out → Ended ending ≡ turned_by out → IsStill p w r (Runs m) → ⊥
+      by_step : (m : Machine) (out : Stepped) → step p r m w.messages ≡ out → answers.Ended ending ≡ turned_by out → IsStill p w r (Runs m) → ⊥
       by_step m (Went n q e) at is still = absurd (cc is)
       by_step m (Waits from) at is still = absurd (cc is)
       by_step m (Stops x) at is still = absurd (let e : ◌≡◌ {A = Stepped} _ _ = sym at ∙ still.1 in cc)
 
-      by_state : (state : State) → is_over state ≡ false → Ended ending ≡ turned_in p w r state → IsStill p w r state → ⊥
+      by_state : (state : State) → is_over state ≡ false → answers.Ended ending ≡ turned_in p w r state → IsStill p w r state → ⊥
       by_state (Runs m) running is still = by_step m (step p r m w.messages) refl is still
       by_state (Over x) running is still = absurd (cc running)
 

@@ -10,7 +10,8 @@ use Rattle.vm_model.specs.Messages.{Messages, or_nothing, on_way}
 use Rattle.vm_model.specs.Machine.{Machine, Stepped, Went, Waits, Stops, noted}
 use Rattle.vm_model.specs.Step.{step}
 use Rattle.vm_world_law.specs.World.{State, Runs, Over, Role, World, turn, turns, turn_at, turn_in, stepped, IsFresh, events_of, sent, sent_to, message_to, name_of, IsStill, Rests}
-use Rattle.vm_world_law.specs.Turns.{first_turns, Stand, stand_of, stands_from, OrdersAgree}
+use Rattle.vm_world_law.specs.declared.stand.Stand.{Stand}
+use Rattle.vm_world_law.specs.Turns.{first_turns, stand_of, stands_from, OrdersAgree}
 use Rattle.vm_world_law.specs.Laws.{Prefix, Begin, Left, Arrives, ComesAlone, Longer, EventsBegin, SameForAll}
 use Rattle.vm_world_law.proofs.Lists.{get_within, replicate_there}
 use Rattle.vm_world_law.proofs.Moves.{GoesAlike, step_alike}

@@ -6,7 +6,7 @@ use Rattle.vm_model.specs.Program.{Program}
 use Rattle.vm_model.specs.Machine.{Machine, Stepped, Went, Waits, Stops}
 use Rattle.vm_model.specs.Step.{step}
 use Rattle.vm_world_law.specs.World.{State, Runs, Over, Role, World, turn, turns, turn_at, turn_in, stepped, IsStill, Rests}
-use Rattle.vm_world_law.specs.Turns.{role_of_turn, first_turns, all_counts, counted, StopsAt, IsRun, stands, is_bound, StillAt, TurnsCount, RunsStop}
+use Rattle.vm_world_law.specs.Turns.{role_of_turn, first_turns, all_counts, counted, StopsAt, IsRun, stands_in, is_bound, StillAt, TurnsCount, RunsStop}
 use Rattle.vm_world_law.proofs.Lists.{some_is, set_long}
 use Rattle.vm_world_law.proofs.Turns.{one_turn_more, still_rounds_rest, rest_is_no_bound}
 
@@ -136,8 +136,8 @@ module _ (p : Program) (first : World) (order : List ℕ) (limit : ℕ) where
             let next : counted (after (suc k)) ≡ suc (counted (after k)) = ap counted (one_turn_more p first order k) ∙ more in
             fewer (counting_reached k idle h not) (omega (arith, next, count))
 
-    not_stopped : (f k : ℕ) → counted (after k) + suc f ≡ limit → list_any is_bound (stands p (after k)) ≡ true → StopsAt p limit (after k) → ⊥
-    not_stopped f k count is (inl rests) = absurd (let e : list_any is_bound (stands p (after k)) ≡ false = (rest_is_no_bound p (after k)).0 rests in cc)
+    not_stopped : (f k : ℕ) → counted (after k) + suc f ≡ limit → list_any is_bound (stands_in p (after k)) ≡ true → StopsAt p limit (after k) → ⊥
+    not_stopped f k count is (inl rests) = absurd (let e : list_any is_bound (stands_in p (after k)) ≡ false = (rest_is_no_bound p (after k)).0 rests in cc)
     not_stopped f k count is (inr same) = absurd (omega (arith, count, same))
 
     -- with so many instructions to go, and so many turns that may still be still
@@ -145,10 +145,10 @@ module _ (p : Program) (first : World) (order : List ℕ) (limit : ℕ) where
         Reached k idle → idle ≤ k → idle + g ≡ length order → counted (after k) + suc f ≡ limit → Found
     inner f fewer zero k idle h within left count = found k idle h (inl (all_still k idle h (omega (arith, left)) within))
     inner f fewer (suc g) k idle h within left count =
-        go (list_any is_bound (stands p (after k))) refl
+        go (list_any is_bound (stands_in p (after k))) refl
         (λ h' c. inner f fewer g (suc k) (suc idle) h' (omega (arith, within)) (omega (arith, left)) c)
       where
-        go : (b : Bool) → list_any is_bound (stands p (after k)) ≡ b → (Reached (suc k) (suc idle) → counted (after (suc k)) + suc f ≡ limit → Found) → Found
+        go : (b : Bool) → list_any is_bound (stands_in p (after k)) ≡ b → (Reached (suc k) (suc idle) → counted (after (suc k)) + suc f ≡ limit → Found) → Found
         go false is again = found k idle h (inl ((rest_is_no_bound p (after k)).1 is))
         go true is again = take_one f k idle h (not_stopped f k count is) count again (λ h' c. fewer (suc k) h' c)
 

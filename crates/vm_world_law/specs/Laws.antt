@@ -9,8 +9,9 @@ use Rattle.vm_model.specs.Runs as whole
 use Rattle.vm_model.specs.Start.{IsStart}
 use Rattle.vm_model.specs.Step.{step}
 use Rattle.mg_text.specs.Call.{Name}
+use Rattle.vm_world_law.specs.declared.role.RoleMain.{RoleMain}
 use Rattle.vm_world_law.specs.Doing.{DoesOne}
-use Rattle.vm_world_law.specs.World.{State, Runs, Over, Role, World, RoleMain, turn, turns, IsFresh, IsBegun, name_of, events_of, sent, took, waits, Rests}
+use Rattle.vm_world_law.specs.World.{State, Runs, Over, Role, World, turn, turns, IsFresh, IsBegun, name_of, events_of, sent, took, waits, Rests}
 
 -- A step looks at and changes the lists of its role alone.
 abbrev pub StepsDoOne : Type 0
@@ -103,10 +104,13 @@ pub record SameForAll (v w : World) : Type 0 where
   pub messages : v.messages ≡ w.messages
 
 -- Two lists of turns after which the world rests come to the same, and what a role shows under any turns is a prefix of what it shows there.
-abbrev pub OrderIsFree : Type 0
-OrderIsFree = (p : Program) (w : World) → IsFresh w → (resting other : List ℕ) → Rests p (turns p w resting) →
+abbrev pub OrderIsFreeFrom : Program → World → Type 0
+OrderIsFreeFrom p w = (resting other : List ℕ) → Rests p (turns p w resting) →
     EventsBegin (turns p w other) (turns p w resting)
     × (Rests p (turns p w other) → SameForAll (turns p w other) (turns p w resting))
+
+abbrev pub OrderIsFree : Type 0
+OrderIsFree = (p : Program) (w : World) → IsFresh w → OrderIsFreeFrom p w
 
 -- where a role waits for a message, the turn of another doesn't send it
 abbrev pub SendsNone : Program → World → (sender waiting : ℕ) → Type 0

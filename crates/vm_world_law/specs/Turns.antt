@@ -5,6 +5,8 @@ use Rattle.mg_text.specs.Call.{Name}
 use Rattle.mg_text.specs.declared.event.Ending.{Ending}
 use Rattle.mg_text.specs.declared.event.Ending.TheVariants as endings
 use Rattle.vm_model.specs.Program.{Program}
+use Rattle.vm_world_law.specs.declared.stand.Stand.{Stand}
+use Rattle.vm_world_law.specs.declared.stand.Stand.TheVariants as stands
 use Rattle.vm_world_law.specs.World.{State, Runs, Over, Role, World, turn, turns, waits_in, name_of, IsFresh, IsStill, Rests}
 use Rattle.vm_world_law.specs.Laws.{SameForAll}
 
@@ -36,53 +38,55 @@ pub record IsRun (p : Program) (first : World) (order : List ℕ) (limit : ℕ) 
   pub stops : StopsAt p limit w
   pub no_sooner : (k : ℕ) → k < taken → StopsAt p limit (turns p first (first_turns order k)) → ⊥
 
--- How a role stands at the end of a run.
-pub data Stand : Type 0 where
-  Ended : Ending → Stand
-  -- for a message of the role of this name
-  Waiting : Name → Stand
-  Bound : Stand
+-- How a role stands.
 
 abbrev pub waiting_for : World → Option ℕ → Stand
-waiting_for w None = Bound
-waiting_for w (Some peer) = Waiting (name_of w peer)
+waiting_for w None = stands.Bound
+waiting_for w (Some peer) = stands.Waits (name_of w peer)
 
 abbrev pub stand_of : Program → World → (r : ℕ) → State → Stand
-stand_of p w r (Over ending) = Ended ending
+stand_of p w r (Over ending) = stands.Ended ending
 stand_of p w r (Runs m) = waiting_for w (waits_in p w r (Runs m))
 
 abbrev pub stands_from : Program → World → (r : ℕ) → List Role → List Stand
 stands_from p w r [] = []
 stands_from p w r (role ∷ roles) = stand_of p w r role.state ∷ stands_from p w (suc r) roles
 
-abbrev pub stands : Program → World → List Stand
-stands p w = stands_from p w 0 w.roles
+abbrev pub stands_in : Program → World → List Stand
+stands_in p w = stands_from p w 0 w.roles
 
 abbrev pub is_bound : Stand → Bool
-is_bound Bound = true
+is_bound stands.Bound = true
 is_bound _ = false
 
 abbrev pub is_waiting : Stand → Bool
-is_waiting (Waiting peer) = true
+is_waiting (stands.Waits peer) = true
 is_waiting _ = false
 
 abbrev pub is_zero : Stand → Bool
-is_zero (Ended endings.Zero) = true
+is_zero (stands.Ended endings.Zero) = true
 is_zero _ = false
+
+-- it ended at a null, or because its code is wrong
+abbrev pub is_broken : Stand → Bool
+is_broken (stands.Ended endings.Null) = true
+is_broken (stands.Ended (endings.Bad which)) = true
+is_broken _ = false
 
 -- it ended at a message, or without the peer
 abbrev pub is_mismatch : Stand → Bool
-is_mismatch (Ended (endings.Mismatch peer found)) = true
-is_mismatch (Ended (endings.NoPeer peer)) = true
+is_mismatch (stands.Ended (endings.Mismatch peer found)) = true
+is_mismatch (stands.Ended (endings.NoPeer peer)) = true
 is_mismatch _ = false
 
 -- The status of a run, by how the roles stand: the first that applies. A role that neither ended nor waits is there only where the run stopped at its limit.
 abbrev pub status_of : List Stand → ℕ
-status_of stands =
-    if list_any is_bound stands then 9
-    else if list_any is_zero stands then 6
-    else if list_any is_mismatch stands then 7
-    else if list_any is_waiting stands then 8
+status_of all =
+    if list_any is_bound all then 9
+    else if list_any is_broken all then 10
+    else if list_any is_zero all then 6
+    else if list_any is_mismatch all then 7
+    else if list_any is_waiting all then 8
     else 0
 
 -- Laws.
@@ -122,7 +126,7 @@ RunsStop = (p : Program) (first : World) (order : List ℕ) → ((r : ℕ) → r
 -- Two runs, in whatever orders and with whatever limits, that end at rest come to the same, and their roles stand alike.
 abbrev pub OrdersAgree : Type 0
 OrdersAgree = (p : Program) (first : World) → IsFresh first → (order other : List ℕ) (limit bound : ℕ) (v w : World) → IsRun p first order limit v →
-    IsRun p first other bound w → Rests p v → Rests p w → SameForAll v w × (stands p v ≡ stands p w)
+    IsRun p first other bound w → Rests p v → Rests p w → SameForAll v w × (stands_in p v ≡ stands_in p w)
 
 -- there is one run
 abbrev pub OneRun : Type 0
@@ -135,4 +139,4 @@ StillRoundsRest = (p : Program) (w : World) (order : List ℕ) → ((r : ℕ) �
 
 -- a world rests where no role stands at the bound
 abbrev pub RestIsNoBound : Type 0
-RestIsNoBound = (p : Program) (w : World) → (Rests p w → list_any is_bound (stands p w) ≡ false) × (list_any is_bound (stands p w) ≡ false → Rests p w)
+RestIsNoBound = (p : Program) (w : World) → (Rests p w → list_any is_bound (stands_in p w) ≡ false) × (list_any is_bound (stands_in p w) ≡ false → Rests p w)

@@ -1,9 +1,16 @@
 //! Roles that take turns, each with its machine, over the lists of messages between them.
-//! There is no running code here; each function carries a law, for every list of turns.
+//! There is no running code here; each function carries a law, for every list of turns. The types
+//! are those that definitions and code share.
 #![tactic(auto)]
+
+mod role;
+mod stand;
 
 ghost use Rattle.vm_world_law.specs.Laws.{BegunIsFresh, LongerListsDoNoHarm, OrderIsFree, RolesRunAlone, StepsDoOne, TurnsDeliver, TurnsSwap};
 ghost use Rattle.vm_world_law.specs.Turns.{OneRun, OrdersAgree, RestIsNoBound, RunsStop, StillRoundsRest, TurnsCount};
+
+pub use role::{RoleEvent, RoleMain, Turned};
+pub use stand::Stand;
 
 /// A step looks at and changes the lists of its role alone: it looks at the front of one list to
 /// it, or appends to one list from it, or does neither.

@@ -3,7 +3,7 @@ use Rattle.vm_model.specs.Machine.{noted}
 use Rattle.vm_model.specs.View.{classes_of}
 use Rattle.vm_world_law.specs.World as model
 use Rattle.vm_world.specs.Seen.{Seen}
-use Rattle.vm_world.specs.View.{roles_of, events_of, turned_of}
+use Rattle.vm_world.specs.View.{roles_of}
 use Rattle.vm_world.proofs.Turning.{turned_world, turned_answer, roles_same, many, on_err_of}
 use Rattle.vm_world.proofs.world.World.turn.Goals as goal
 
@@ -13,15 +13,15 @@ returns-in_err-taken-clause-err c =
     subst (λ k. c.args.role < k) (many c.self.inside.roles.items)
     (subst (λ (s : Seen). c.args.role < length s.world.roles) (sym c.self.view_is) c.requires.number) in
     let roles = roles_same c.self.inside.roles.items c.args.role c.index_mut.result.now lt c.index_mut.ensures.value c.take_turn.new.role c.in_err-taken.ensures.err in
-    let events = ap events_of c.reserve.ensures.items in
+    let events = c.reserve.ensures.items in
     on_err_of _
     (ap (λ l. record {
       program = classes_of c.self.inside.linked.classes.items;
-      world = record { roles = l; messages = c.take_turn.new.ports; events = events_of c.reserve.new.self.items };
+      world = record { roles = l; messages = c.take_turn.new.ports; events = c.reserve.new.self.items };
     }) roles
     ∙ ap (λ q. record {
       program = classes_of c.self.inside.linked.classes.items;
-      world = record { roles = roles_of c.self.inside.roles.items; messages = q; events = events_of c.reserve.new.self.items };
+      world = record { roles = roles_of c.self.inside.roles.items; messages = q; events = c.reserve.new.self.items };
     }) c.in_err-taken.ensures.err_ports
     ∙ ap (λ es. record {
       program = classes_of c.self.inside.linked.classes.items;
@@ -38,10 +38,10 @@ returns-clause-ok c =
       roles = roles_of (Rattle.std.proofs.Common.set c.self.inside.roles.items c.args.role c.take_turn.new.role);
       messages = c.take_turn.new.ports;
       events = es;
-    }) (c.note.ensures ∙ ap (λ l. events_of l ++ map (model.of_role c.args.role) (noted c.in_ok-taken.taken.event)) c.reserve.ensures.items)
+    }) (c.note.ensures ∙ ap (λ l. l ++ map (model.of_role c.args.role) (noted c.in_ok-taken.taken.event)) c.reserve.ensures.items)
     ∙ turned_world c.self.inside.roles.items c.args.role c.index_mut.result.now lt c.index_mut.ensures.value
-    (classes_of c.self.inside.linked.classes.items) c.self.inside.ports c.take_turn.new.ports (events_of c.self.inside.events.items)
-    c.take_turn.new.role c.in_ok-taken.taken.event (turned_of c.in_ok-taken.taken.turned) c.in_ok-taken.ensures.ok
+    (classes_of c.self.inside.linked.classes.items) c.self.inside.ports c.take_turn.new.ports c.self.inside.events.items
+    c.take_turn.new.role c.in_ok-taken.taken.event c.in_ok-taken.taken.turned c.in_ok-taken.ensures.ok
     ∙ ap (λ (s : Seen). model.turn s.program s.world c.args.role) c.self.view_is
 
 pub returns-clause-turned : goal.returns-clause-turned
@@ -50,6 +50,6 @@ returns-clause-turned c =
     subst (λ k. c.args.role < k) (many c.self.inside.roles.items)
     (subst (λ (s : Seen). c.args.role < length s.world.roles) (sym c.self.view_is) c.requires.number) in
     turned_answer c.self.inside.roles.items c.args.role c.index_mut.result.now lt c.index_mut.ensures.value
-    (classes_of c.self.inside.linked.classes.items) c.self.inside.ports c.take_turn.new.ports (events_of c.self.inside.events.items)
-    c.take_turn.new.role c.in_ok-taken.taken.event (turned_of c.in_ok-taken.taken.turned) c.in_ok-taken.ensures.ok
+    (classes_of c.self.inside.linked.classes.items) c.self.inside.ports c.take_turn.new.ports c.self.inside.events.items
+    c.take_turn.new.role c.in_ok-taken.taken.event c.in_ok-taken.taken.turned c.in_ok-taken.ensures.ok
     ∙ ap (λ (s : Seen). model.turned s.program s.world c.args.role) c.self.view_is
