@@ -1,7 +1,8 @@
 -- The lines of one event more.
-use Rattle.std.proofs.Common.{◌≡◌, ◌==◌, ℕ, ℤ, List, [], ◌∷◌, ◌++◌, Bool, true, false, if◌then◌else◌, Option, codes, refl, sym, ap, ◌∙◌, append_assoc, append-nil}
+use Rattle.std.proofs.Common.{◌≡◌, ◌==◌, ◌<◌, ◌+◌, take, length, get_or, ℕ, ℤ, List, [], ◌∷◌, ◌++◌, Bool, true, false, if◌then◌else◌, Option, codes, refl, sym, ap, ◌∙◌, append_assoc, append-nil}
 use Rattle.std.specs.Prelude.{Vec}
 use Rattle.std.specs.Global.{Global}
+use Rattle.std.proofs.lemmas.List.{take_more}
 use Rattle.mg_text.specs.Call.{Name}
 use Rattle.mg_text.specs.declared.event.Event.{Event}
 use Rattle.mg_text.specs.declared.event.Event.TheVariants as seen
@@ -35,6 +36,11 @@ known_behind : (k : Known) (events : List Event) (e : Event) (o : ℕ) →
     known_from k (events ++ e ∷ []) o ≡ known_more o (known_from k events o) e
 known_behind k [] e o = refl
 known_behind k (x ∷ events) e o = known_behind (known_more o k x) events e o
+
+-- the events up to the next
+pub up_to_next : (events : List RoleEvent) (k : ℕ) (e : RoleEvent) → k < length events → e ≡ get_or events k e →
+    take (k + 1) events ≡ take k events ++ e ∷ []
+up_to_next events k e within is = take_more events k e within ∙ ap (λ x. take k events ++ x ∷ []) (sym is)
 
 -- nothing is kept at first
 pub none_known : AreKnown [] []

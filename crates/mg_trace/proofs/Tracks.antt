@@ -1,5 +1,5 @@
 -- What is kept of the objects of each role.
-use Rattle.std.proofs.Common.{◌≡◌, ◌==◌, ◌<◌, ◌+◌, ℕ, List, [], ◌∷◌, ◌++◌, Option, Bool, true, false, if◌then◌else◌, Decides, length, get_or, refl, sym, ap, ◌∙◌, subst}
+use Rattle.std.proofs.Common.{◌≡◌, ◌==◌, ◌<◌, ◌+◌, ◌-◌, take, vec_len, ℕ, List, [], ◌∷◌, ◌++◌, Option, Bool, true, false, if◌then◌else◌, Decides, length, get_or, refl, sym, ap, ◌∙◌}
 use Rattle.std.specs.Prelude.{Vec, MatchOption, slice_set}
 use Rattle.std.specs.Borrow.{Bor}
 use Rattle.std.specs.Global.{Global}
@@ -35,6 +35,13 @@ known_is = image_is known_of unknown
 abbrev now : Bor Name → Name
 now method = method.now
 
+-- an object was made
+pub known_new : (name : Bor Name) (calls : Vec (Bor Name) Global) (class : Name) → name.now ≡ class → calls.items ≡ [] →
+    known_of (record { class = name; calls = calls }) ≡ record { class = class; calls = [] }
+known_new name calls class is none =
+    ap (λ (l : List (Bor Name)). record { class = name.now; calls = calls_of now l }) none
+    ∙ ap (λ (x : Name). record { class = x; calls = [] }) is
+
 -- an object entered a method
 pub known_entered : (t : Tracked) (calls : Vec (Bor Name) Global) (method : Bor Name) (k : Known) → known_of t ≡ k →
     calls.items ≡ t.calls.items ++ method ∷ [] → known_of (record t { calls = calls }) ≡ record { class = k.class; calls = method.now ∷ k.calls }
@@ -45,10 +52,11 @@ known_entered t calls method k known is =
 -- an object left the method that it entered last
 pub known_left : (t : Tracked) (calls : Vec (Bor Name) Global) (method : Option (Bor Name)) (k : Known) → known_of t ≡ k →
     t.calls.items ≡ calls.items ++ option_to_list method →
-    MatchOption method ((length t.calls.items ≡ 0) × (length calls.items ≡ 0)) (λ m. length calls.items + 1 ≡ length t.calls.items) →
+    MatchOption method ((vec_len t.calls ≡ 0) × (vec_len calls ≡ 0)) (λ m. vec_len calls + 1 ≡ vec_len t.calls) →
+    calls.items ≡ take (vec_len t.calls - 1) t.calls.items →
     known_of (record t { calls = calls }) ≡ record { class = k.class; calls = other_calls k.calls }
-known_left t calls method k known is cases =
-    ap (λ (l : List Name). record { class = t.class.now; calls = l }) (popped now t.calls.items calls.items method is cases)
+known_left t calls method k known is cases rest =
+    ap (λ (l : List Name). record { class = t.class.now; calls = l }) (popped now t.calls.items calls.items method (vec_len t.calls) (vec_len calls) is cases rest)
     ∙ ap (λ (x : Known). record { class = x.class; calls = other_calls x.calls }) known
 
 abbrev items : Vec Tracked Global → List Tracked
