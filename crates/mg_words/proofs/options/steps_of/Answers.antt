@@ -1,7 +1,7 @@
 use Rattle.std.proofs.Common.{refl}
 use Rattle.mg_words.proofs.WordsLemmas.{refuted}
 use Rattle.mg_words.proofs.NumberLemmas.{not_started, not_read, too_many, read_steps}
-use Rattle.mg_words.proofs.runs.steps_of.Goals as goal
+use Rattle.mg_words.proofs.options.steps_of.Goals as goal
 
 pub returns-then-not-starts_number : goal.returns-then-not-starts_number
 returns-then-not-starts_number c = not_started _ _ c.args.word.now c.as_bytes.ensures.value c.as_str-text.ensures (refuted c.if-not-starts_number.ensures.1)
