@@ -15,9 +15,10 @@ use Rattle.vm_world_law.specs.declared.stand.Stand.{Stand}
 use Rattle.vm_world_law.specs.Turns.{stands_in}
 use Rattle.mg_runs.specs.declared.ran.Ran.{Ran}
 use Rattle.mg_runs.specs.Lines.{role_lines}
+use Rattle.mg_runs.specs.Runs.{names_of}
 use Rattle.mg_runs.specs.Headline.{Course, IsRun}
 use Rattle.mg_runs.specs.View.{Shows, IsOfRun}
-use Rattle.mg_top.specs.Commands.{Yields, prints, kept_in, mains_in, run_said, run_printed, status_of, checked, ran}
+use Rattle.mg_top.specs.Commands.{Yields, prints, kept_in, role_mains_of, run_said, run_printed, status_of, checked, ran}
 use Rattle.mg_top.specs.Commands as commands
 use Rattle.mg_read.specs.First.{Judged, with_earlier}
 use Rattle.mg_text.specs.Row.{Row}
@@ -70,31 +71,35 @@ shown_so asked written text trace names counts all = kept_in asked.folder writte
 
 abbrev pub shown_by : Asked → Ran → List Action
 shown_by asked shown = shown_so asked shown.files.items shown.printed shown.trace
-    (map (λ r. r.role) shown.roles.items) (map (λ r. r.instructions) shown.roles.items) (map (λ r. r.stand) shown.roles.items)
+    (names_of (role_mains_of asked)) (map (λ r. r.instructions) shown.roles.items) (map (λ r. r.stand) shown.roles.items)
 
-shown_same : (asked : Asked) (r : Course) (shown : Ran) → Shows (mains_in asked) (are_named asked) asked.traced r shown
+shown_same : (asked : Asked) (r : Course) (shown : Ran) → Shows (role_mains_of asked) (are_named asked) asked.traced r shown
     → shown_by asked shown ≡ kept_in asked.folder r.written ++ (prints (run_printed asked r) ++ Say (run_said asked r) ∷ [])
-shown_same asked r shown h = λ i. shown_so asked (h.written i) (h.printed_is i) (h.trace_is i) (h.names i) (h.counts i) (h.stands i)
+shown_same asked r shown h = λ i. shown_so asked (h.written i) (h.printed_is i) (h.trace_is i) (names_of (role_mains_of asked)) (h.counts i) (h.stands i)
 
 -- a run of what is asked for
 run_asked : (asked : Asked) (files : List Source) (mains : List RoleMain) (order : List ℕ) (limit : ℕ) (named : Bool) (shown : Ran)
-    → mains ≡ mains_in asked → order ≡ order_of asked → limit ≡ limit_of asked → named ≡ are_named asked
-    → IsOfRun files mains order limit named asked.traced shown → IsOfRun files (mains_in asked) (order_of asked) (limit_of asked) (are_named asked) asked.traced shown
+    → mains ≡ role_mains_of asked → order ≡ order_of asked → limit ≡ limit_of asked → named ≡ are_named asked
+    → IsOfRun files mains order limit named asked.traced shown → IsOfRun files (role_mains_of asked) (order_of asked) (limit_of asked) (are_named asked) asked.traced shown
 run_asked asked files mains order limit named shown m o l n h =
-    subst (λ (z : Bool). IsOfRun files (mains_in asked) (order_of asked) (limit_of asked) z asked.traced shown) n
-    (subst (λ (z : ℕ). IsOfRun files (mains_in asked) (order_of asked) z named asked.traced shown) l
-    (subst (λ (z : List ℕ). IsOfRun files (mains_in asked) z limit named asked.traced shown) o
+    subst (λ (z : Bool). IsOfRun files (role_mains_of asked) (order_of asked) (limit_of asked) z asked.traced shown) n
+    (subst (λ (z : ℕ). IsOfRun files (role_mains_of asked) (order_of asked) z named asked.traced shown) l
+    (subst (λ (z : List ℕ). IsOfRun files (role_mains_of asked) z limit named asked.traced shown) o
     (subst (λ (z : List RoleMain). IsOfRun files z order limit named asked.traced shown) m h)))
 
 -- the class files of a run, what it printed, its trace and the lines of its roles
 pub run_given : (asked : Asked) (files : List Word) (contents : List (List ℕ)) (mains : List RoleMain) (order : List ℕ) (limit : ℕ) (named : Bool) (shown : Ran)
-    (r : Result Delivery Memory) → mains ≡ mains_in asked → order ≡ order_of asked → limit ≡ limit_of asked → named ≡ are_named asked
-    → IsOfRun (sources files contents) mains order limit named asked.traced shown → IfOk r (λ d. d.actions.items ≡ shown_by asked shown)
+    (r : Result Delivery Memory) → mains ≡ role_mains_of asked → order ≡ order_of asked → limit ≡ limit_of asked → named ≡ are_named asked
+    → IsOfRun (sources files contents) mains order limit named asked.traced shown
+    → IfOk r (λ d. d.actions.items ≡ shown_so asked shown.files.items shown.printed shown.trace (names_of mains)
+        (map (λ r. r.instructions) shown.roles.items) (map (λ r. r.stand) shown.roles.items))
     → IfOk r (λ d. d.status ≡ status_of (map (λ r. r.stand) shown.roles.items)) → IfOk r (λ d. Yields (Run asked files) contents d.actions.items d.status)
 run_given asked files contents mains order limit named shown r m o l n given actions status =
-    let h : IsOfRun (sources files contents) (mains_in asked) (order_of asked) (limit_of asked) (are_named asked) asked.traced shown =
+    let h : IsOfRun (sources files contents) (role_mains_of asked) (order_of asked) (limit_of asked) (are_named asked) asked.traced shown =
         run_asked asked (sources files contents) mains order limit named shown m o l n given in
-    gives (Run asked files) contents (shown_by asked shown) (status_of (map (λ r. r.stand) shown.roles.items)) r actions status
+    gives (Run asked files) contents (shown_by asked shown) (status_of (map (λ r. r.stand) shown.roles.items)) r
+    (subst (λ (z : List RoleMain). IfOk r (λ d. d.actions.items ≡ shown_so asked shown.files.items shown.printed shown.trace (names_of z)
+        (map (λ r. r.instructions) shown.roles.items) (map (λ r. r.stand) shown.roles.items))) m actions) status
     (subst (λ (z : Status). Yields (Run asked files) contents (shown_by asked shown) z) (ap status_of (sym h.shows.stands))
     (subst (λ (z : List Action). Yields (Run asked files) contents z (status_of (stands_in h.run.program h.run.last))) (sym (shown_same asked h.run shown h.shows))
     (commands.run (ran h.run h.is))))

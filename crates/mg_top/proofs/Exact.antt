@@ -30,7 +30,7 @@ use Rattle.vm_world_law.specs.Turns.{stands_in, is_bound, is_broken, is_zero, is
 use Rattle.mg_runs.proofs.Apart.{not_refused as not_halted, one_stand, none_broken}
 use Rattle.mg_top.specs.Translation.{AreTranslated}
 use Rattle.mg_top.specs.Commands.{TranslateGives, translated, not_translated, ConformGives, conforms, no_protocol, no_calls, CheckGives, checked, not_checked}
-use Rattle.mg_top.specs.Commands.{CompileGives, compiled, not_compiled, RunGives, ran, not_run, mains_in, status_of, Yields}
+use Rattle.mg_top.specs.Commands.{CompileGives, compiled, not_compiled, RunGives, ran, not_run, role_mains_of, status_of, Yields}
 use Rattle.mg_top.specs.Commands as commands
 use Rattle.mg_top.specs.Promises.{IsYielded}
 use Rattle.mg_top.proofs.SourceLemmas.{none_refused_of_translated}
@@ -61,9 +61,9 @@ compile_status {files = files} (not_compiled {line = line} r) (compiled written 
 compile_status (not_compiled r) (not_compiled q) = refl
 
 run_status : {asked : Asked} {files : List Source} {xa xb : List Action} {m n : Status} → RunGives asked files xa m → RunGives asked files xb n → m ≡ n
-run_status {asked = asked} {files = files} (ran r h) (ran s k) = ap status_of (one_stand files (mains_in asked) (order_of asked) (limit_of asked) r s h k)
-run_status {asked = asked} {files = files} (ran r h) (not_run {line = line} q) = absurd (not_halted files (mains_in asked) (order_of asked) (limit_of asked) r line h q)
-run_status {asked = asked} {files = files} (not_run {line = line} q) (ran r h) = absurd (not_halted files (mains_in asked) (order_of asked) (limit_of asked) r line h q)
+run_status {asked = asked} {files = files} (ran r h) (ran s k) = ap status_of (one_stand files (role_mains_of asked) (order_of asked) (limit_of asked) r s h k)
+run_status {asked = asked} {files = files} (ran r h) (not_run {line = line} q) = absurd (not_halted files (role_mains_of asked) (order_of asked) (limit_of asked) r line h q)
+run_status {asked = asked} {files = files} (not_run {line = line} q) (ran r h) = absurd (not_halted files (role_mains_of asked) (order_of asked) (limit_of asked) r line h q)
 run_status (not_run q) (not_run p) = refl
 
 -- the command conform
@@ -234,5 +234,5 @@ never_broken (commands.compile (not_compiled r)) e = absurd cc
 never_broken (commands.run {asked = asked} {files = files} {contents = contents} (ran r h)) e =
     let all : List Stand = stands_in r.program r.last in
     tests_whole (list_any is_bound all) (list_any is_broken all) (list_any is_zero all) (list_any is_mismatch all) (list_any is_waiting all)
-    (none_broken _ (mains_in asked) (order_of asked) (limit_of asked) r h) e
+    (none_broken _ (role_mains_of asked) (order_of asked) (limit_of asked) r h) e
 never_broken (commands.run (not_run r)) e = absurd cc

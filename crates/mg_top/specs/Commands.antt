@@ -63,21 +63,21 @@ kept_in None written = []
 kept_in (Some folder) written = classes_written (Some folder) written
 
 -- the roles of a run, each with the class whose `main` it runs
-abbrev pub main_of : RoleClass → RoleMain
-main_of main = record { role = main.role; class = main.class }
+abbrev pub role_main_of : RoleClass → RoleMain
+role_main_of main = record { role = main.role; class = main.class }
 
-abbrev pub mains_in : Asked → List RoleMain
-mains_in asked = map main_of (mains_of asked)
+abbrev pub role_mains_of : Asked → List RoleMain
+role_mains_of asked = map role_main_of (mains_of asked)
 
 -- the trace, where it is asked for, and a line for each role in the order of the words
 abbrev pub run_said : Asked → Course → List ℕ
 run_said asked r =
-    (if asked.traced then trace r.core (names_of (mains_in asked)) r.last.events else [])
-    ++ role_lines (names_of (mains_in asked)) (map (λ role. role.count) r.last.roles) (stands_in r.program r.last)
+    (if asked.traced then trace r.core (names_of (role_mains_of asked)) r.last.events else [])
+    ++ role_lines (names_of (role_mains_of asked)) (map (λ role. role.count) r.last.roles) (stands_in r.program r.last)
 
 -- what is printed, in the order of the events, behind the role's name where roles are named
 abbrev pub run_printed : Asked → Course → List ℕ
-run_printed asked r = printed (are_named asked) (names_of (mains_in asked)) r.last.events
+run_printed asked r = printed (are_named asked) (names_of (role_mains_of asked)) r.last.events
 
 -- The status of a run, by how its roles stand: the first that applies.
 abbrev pub status_of : List Stand → Status
@@ -90,10 +90,10 @@ status_of all =
     else statuses.Done
 
 pub data RunGives (asked : Asked) (files : List Source) : List Action → Status → Type 0 where
-  ran : (r : Course) → IsRun files (mains_in asked) (order_of asked) (limit_of asked) r →
+  ran : (r : Course) → IsRun files (role_mains_of asked) (order_of asked) (limit_of asked) r →
       RunGives asked files (kept_in asked.folder r.written ++ (prints (run_printed asked r) ++ Say (run_said asked r) ∷ []))
       (status_of (stands_in r.program r.last))
-  not_run : {line : List ℕ} → running.Refusal files (mains_in asked) line → RunGives asked files (Say line ∷ []) Refused
+  not_run : {line : List ℕ} → running.Refusal files (role_mains_of asked) line → RunGives asked files (Say line ∷ []) Refused
 
 -- A command gives this: one case a command.
 pub data Yields : Command → List (List ℕ) → List Action → Status → Type 0 where

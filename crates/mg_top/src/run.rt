@@ -6,20 +6,21 @@ ghost use Rattle.std.specs.List.{list_any};
 ghost use Rattle.vm_world_law.specs.Turns.{is_bound, is_broken, is_zero, is_mismatch, is_waiting};
 ghost use Rattle.mg_sources.specs.Files.{HaveKinds};
 ghost use Rattle.mg_runs.specs.Lines.{kind_word, stand_words, role_line, role_lines};
+ghost use Rattle.mg_runs.specs.Runs.{names_of};
 ghost use Rattle.mg_words.specs.Words.{Run, limit_of};
-ghost use Rattle.mg_top.specs.Commands.{Yields, kept_in, mains_in, prints, status_of};
+ghost use Rattle.mg_top.specs.Commands.{Yields, kept_in, role_mains_of, prints, status_of};
 ghost use Rattle.mg_words.specs.inner.Judging.{asked_of, IsAsked};
 
 use crate::Status;
 use crate::compile::add_classes;
 use crate::delivery::{Action, Delivery};
 use mg_compile::ClassFile;
-use mg_runs::{Ran, RoleRan, run_roles};
+use mg_runs::{Ran, run_roles};
 use mg_sources::Stop;
 use mg_text::{BadKind, Bytes, Ending, List, Memory, Text};
 use mg_words::Asked;
 use std::alloc::Global;
-use vm_world_law::{RoleMain, Stand};
+use vm_world::{RoleMain, RoleRan, Stand};
 
 // The most instructions that a run takes where no number is named.
 const STEPS: u32 = 1_000_000;
@@ -51,7 +52,7 @@ pub fn run(
         named,
         asked.traced,
     ) {
-        Ok(ran) => show(alloc, asked, ran),
+        Ok(ran) => show(alloc, asked, mains.as_slice(), ran),
         Err(Stop::Refused(line)) => Delivery::said(alloc, line, Status::Refused),
         Err(Stop::Memory) => Err(Memory),
     }
@@ -60,7 +61,7 @@ pub fn run(
 // The roles of the run, each with the class whose `main` it runs.
 fn mains_of(alloc: Global, asked: &Asked<'_>) -> Result<List<RoleMain>, Memory>
     requires { IsAsked (asked_of asked.now) }
-    ensures { IfOk result (λ l. l.items ≡ mains_in (asked_of asked.now)) }
+    ensures { IfOk result (λ l. l.items ≡ role_mains_of (asked_of asked.now)) }
 {
     let classes = asked.mains(alloc)?;
     let mut mains = List::new(alloc);
@@ -84,9 +85,14 @@ fn limit_of(asked: &Asked<'_>) -> u32
 
 // What is done about a run: its class files are written where a folder is named, then it is put
 // what was printed, and then its trace and the lines of its roles. An empty text isn't put.
-fn show(alloc: Global, asked: &Asked<'_>, ran: Ran) -> Result<Delivery, Memory>
+fn show(
+    alloc: Global,
+    asked: &Asked<'_>,
+    mains: &[RoleMain],
+    ran: Ran,
+) -> Result<Delivery, Memory>
     ensures actions { IfOk result (λ d. d.actions.items ≡ kept_in (asked_of asked.now).folder ran.files.items
-        ++ (prints ran.printed ++ Action.Say (ran.trace ++ role_lines (map (λ r. r.role) ran.roles.items)
+        ++ (prints ran.printed ++ Action.Say (ran.trace ++ role_lines (names_of mains.now)
         (map (λ r. r.instructions) ran.roles.items) (map (λ r. r.stand) ran.roles.items)) ∷ [])) }
     ensures status { IfOk result (λ d. d.status ≡ status_of (map (λ r. r.stand) ran.roles.items)) }
 {
@@ -96,7 +102,7 @@ fn show(alloc: Global, asked: &Asked<'_>, ran: Ran) -> Result<Delivery, Memory>
         printed,
         trace,
     } = ran;
-    let said = said_of(alloc, &trace, roles.as_slice())?;
+    let said = said_of(alloc, &trace, mains, roles.as_slice())?;
     let mut actions = List::new(alloc);
     keep(alloc, asked.folder, files.as_slice(), &mut actions)?;
     if !printed.is_empty() {
@@ -125,23 +131,45 @@ fn keep(
 }
 
 // The trace of a run, and a line for each of its roles.
-fn said_of(alloc: Global, trace: &Text, roles: &[RoleRan]) -> Result<Text, Memory>
-    ensures { IfOk result (λ t. t ≡ trace.now ++ role_lines (map (λ r. r.role) roles.now)
+fn said_of(
+    alloc: Global,
+    trace: &Text,
+    mains: &[RoleMain],
+    roles: &[RoleRan],
+) -> Result<Text, Memory>
+    ensures { IfOk result (λ t. t ≡ trace.now ++ role_lines (names_of mains.now)
         (map (λ r. r.instructions) roles.now) (map (λ r. r.stand) roles.now)) }
 {
     let mut said = String::from_str(alloc, trace.as_str())?;
-    for role in roles {
-        push_role(role, &mut said)?;
-    }
+    push_roles(mains, roles, &mut said)?;
     Ok(Text::from_string(said))
 }
 
+// Appends a line for each role.
+fn push_roles(mains: &[RoleMain], roles: &[RoleRan], said: &mut String) -> Result<(), Memory>
+    ensures { OnOk result (string_bytes said.new ≡ string_bytes said.old ++ role_lines (names_of mains.now)
+        (map (λ r. r.instructions) roles.now) (map (λ r. r.stand) roles.now)) }
+{
+    let mut named = mains;
+    let mut rest = roles;
+    while let Some((main, others)) = named.split_first() {
+        let Some((role, behind)) = rest.split_first() else {
+            return Ok(());
+        };
+        push_role(main.role.as_str(), role, said)?;
+        named = others;
+        rest = behind;
+    }
+    Ok(())
+}
+
 // Appends the line of a role.
-fn push_role(role: &RoleRan, said: &mut String) -> Result<(), Memory>
-    ensures { OnOk result (string_bytes said.new ≡ string_bytes said.old ++ role_line role.now.role role.now.instructions role.now.stand) }
+fn push_role(name: &str, role: &RoleRan, said: &mut String) -> Result<(), Memory>
+    ensures { OnOk result (string_bytes said.new ≡ string_bytes said.old
+        ++ role_line name.now role.now.instructions role.now.stand) }
 {
     let instructions = role.instructions;
-    said.push_str(role.role.as_str())?;
+    said.push_str(name)?;
     write!(said, ": {instructions} instructions, ")?;
     push_stand(&role.stand, said)?;
     said.push_str("\n")?;
