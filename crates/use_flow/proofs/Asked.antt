@@ -1,5 +1,5 @@
 -- The keys of the tables that a context reads are those that the rules ask for.
-use Rattle.std.proofs.Common.{◌≡◌, ℕ, zero, suc, ◌+◌, ◌-◌, ◌<◌, ◌≤◌, Bool, true, false, List, [], ◌∷◌, ◌++◌, length, map, Option, Some, None, slice_get, nat_eq, refl, sym, ap, ◌∙◌, arith, if◌then◌else◌, add-one, append_assoc, ◌&&◌}
+use Rattle.std.proofs.Common.{◌≡◌, ℕ, zero, suc, ◌+◌, ◌-◌, Bool, true, false, List, [], ◌∷◌, ◌++◌, length, map, Option, Some, None, slice_get, nat_eq, refl, sym, ap, ◌∙◌, arith, if◌then◌else◌, add-one, append_assoc, ◌&&◌}
 use Rattle.std.specs.Prelude.{slice_index_or, option_map, option_and_then}
 use Rattle.std.specs.List.{list_any, flat_map}
 use Rattle.std.proofs.lemmas.List.{map-append}
@@ -22,9 +22,8 @@ use Rattle.use_flow.specs.Runs.{starts_from, starts_in}
 use Rattle.use_flow.specs.View as view
 use Rattle.use_flow.specs.View.{AreFor, reached_of}
 use Rattle.use_flow.specs.inner.Listing.{listed_from, entry_if, field_entries, field_entry, fields_of, head_entries, head_key, param_entries, param_entry, scope_entries, slot_entry}
-use Rattle.use_flow.specs.inner.Reading.{class_run, enter_entries, enter_of, leave_entries, leave_entry, leave_of, loop_entries, loop_entry, read_entries, result_entries, result_entry, rising, run_entries, state_entries}
+use Rattle.use_flow.specs.inner.Reading.{class_run, enter_entries, leave_entries, leave_entry, leave_of, loop_entries, loop_entry, read_entries, result_entries, result_entry, rising, run_entries, state_entries}
 use Rattle.use_flow.proofs.Ascending.{chosen, chosen-rising, Stands}
-use Rattle.use_flow.proofs.Rests.{append_nil}
 
 abbrev pub keys_in : List Entry → List TableKey
 keys_in es = map (λ e. e.key) es

@@ -1,17 +1,16 @@
 -- What a context reads, part by part.
-use Rattle.std.proofs.Common.{◌≡◌, ℕ, zero, suc, ◌+◌, ◌-◌, ◌<◌, ◌≤◌, Bool, true, false, List, [], ◌∷◌, ◌++◌, length, get_or, drop, map, Option, Some, None, slice_get, nat_eq, refl, sym, ap, ◌∙◌, arith, if◌then◌else◌, add-one, append_assoc}
-use Rattle.std.proofs.lemmas.List.{at_drop_more, at_drop_all}
+use Rattle.std.proofs.Common.{◌≡◌, ℕ, zero, suc, ◌+◌, ◌-◌, ◌<◌, ◌≤◌, List, [], ◌∷◌, ◌++◌, length, get_or, drop, map, Option, Some, None, refl, sym, ap, ◌∙◌, arith, add-one, append_assoc}
 use Rattle.use_flow.proofs.Rests.{append_nil}
 use Rattle.use_flow.proofs.Turns.{one, last}
 use Rattle.jv_core.specs.Tree.{Program}
 use Rattle.jv_core.specs.declared.program.CoreLoop.{CoreLoop}
-use Rattle.jv_core.specs.Tree.{Loop, Method}
+use Rattle.jv_core.specs.Tree.{Method}
 use Rattle.jv_core.specs.View.{loop_of}
 use Rattle.use_rules.specs.declared.key.TableKey.{TableKey}
 use Rattle.use_rules.specs.declared.key.TableKey.TheVariants as keys
 use Rattle.use_flow.specs.declared.classed.Entry.{Entry}
 use Rattle.use_flow.specs.inner.Listing.{listed_from, entry_if}
-use Rattle.use_flow.specs.inner.Reading.{run_entries, run_of, class_run, result_entry, result_entries, leave_entry, leave_entries, loop_entry, loop_entries}
+use Rattle.use_flow.specs.inner.Reading.{run_entries, class_run, result_entry, leave_entry, loop_entry}
 
 -- Turns of loops.
 

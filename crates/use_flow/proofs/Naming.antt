@@ -7,7 +7,7 @@ use Rattle.jv_core.specs.declared.tree.CoreExpr.{CoreExpr}
 use Rattle.jv_core.specs.declared.tree.CoreStmt.{CoreStmt}
 use Rattle.jv_core.specs.declared.tree.CoreGroup.{CoreGroup, out-CoreGroup, fold_out-CoreGroup}
 use Rattle.jv_core.specs.Tree.{Stmt, Block, Empty, Local, Assign, If, IfElse, While, Do, Switch, Break, Continue, Return, Print, Eval}
-use Rattle.jv_core.specs.Tree.{Stmts, Groups}
+use Rattle.jv_core.specs.Tree.{Stmts}
 use Rattle.jv_core.specs.View.{expr_of, exprs_of, stmt_of, stmts_of, group_of, groups_of, before, OneGroup, stmt_layer, group_layer, placed_stmt_layer}
 use Rattle.jv_core.proofs.ViewLaws.{views}
 use Rattle.use_rules.specs.Reads.{calls_in, calls_in_all, named_in, named_in_all, named_in_groups}

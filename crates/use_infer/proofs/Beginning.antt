@@ -1,5 +1,5 @@
 -- Where the work begins, all contexts wait; where none waits, the tables are the least.
-use Rattle.std.proofs.Common.{◌≡◌, ℕ, zero, suc, ◌+◌, ◌<◌, ◌≤◌, Bool, true, false, List, [], ◌∷◌, length, replicate, get_or, Option, Some, None, slice_get, Contains, refl, sym, ap, subst, ◌∙◌, arith, ⊎_elim}
+use Rattle.std.proofs.Common.{◌≡◌, ℕ, zero, suc, ◌+◌, ◌<◌, ◌≤◌, Bool, true, false, List, [], length, replicate, get_or, Option, Some, None, slice_get, refl, sym, ap, subst, ◌∙◌, arith}
 use Rattle.std.proofs.lemmas.Bool.{false≢true}
 use Rattle.std.proofs.lemmas.Option.{slice_get-get_or, slice_get_within}
 use Rattle.mg_sets.specs.Sets.{has}
@@ -19,8 +19,7 @@ use Rattle.use_flow.specs.View.{tables_of, reached_of, contexts_of, AreFor}
 use Rattle.use_flow.proofs.Reached.{reached_same}
 use Rattle.use_infer.specs.Bound.{width_at, costs, once, keys_read, most_follows}
 use Rattle.use_infer.specs.inner.Widths.{widths_read}
-use Rattle.use_infer.specs.inner.Growing.{IsBelow}
-use Rattle.use_infer.specs.inner.Waiting.{left, potential, Waiting}
+use Rattle.use_infer.specs.inner.Waiting.{left, Waiting}
 use Rattle.use_infer.proofs.Taking.{start_below, least_of}
 use Rattle.use_infer.proofs.Counting.{widths_most}
 use Rattle.use_infer.proofs.Waiting.{potential_most, missing_most}

@@ -1,6 +1,6 @@
 -- How many times contexts are still followed, as tables grow and contexts wait.
-use Rattle.std.proofs.Common.{◌≡◌, ℕ, zero, suc, ◌+◌, ◌<◌, ◌≤◌, Bool, true, false, List, [], ◌∷◌, length, set, replicate, Option, Some, None, slice_get, refl, sym, ap, subst, ◌∙◌, arith, inl, inr, ⊎_elim, length-set}
-use Rattle.std.specs.Prelude.{slice_set, if◌then◌else◌}
+use Rattle.std.proofs.Common.{◌≡◌, ℕ, zero, suc, ◌+◌, ◌<◌, ◌≤◌, Bool, true, false, List, [], ◌∷◌, length, Some, None, slice_get, refl, sym, ap, subst, ◌∙◌, arith, inl, inr, ⊎_elim, length-set}
+use Rattle.std.specs.Prelude.{slice_set}
 use Rattle.std.proofs.lemmas.Bool.{false≢true, cases_eq, cases_lt}
 use Rattle.std.proofs.lemmas.List.{get_or-set_other, get_or-set_same, get_or_past}
 use Rattle.mg_sets.specs.Sets.{has}
@@ -8,12 +8,10 @@ use Rattle.mg_sets.proofs.Missing.{missing}
 use Rattle.jv_core.specs.Tree.{Program}
 use Rattle.use_rules.specs.declared.key.Context.{Context}
 use Rattle.use_rules.specs.declared.key.TableKey.{TableKey}
-use Rattle.use_rules.specs.Keys.{Tables, contexts_in}
+use Rattle.use_rules.specs.Keys.{Tables}
 use Rattle.use_rules.specs.Reads.{reads}
-use Rattle.use_rules.specs.Start.{start_of}
 use Rattle.use_rules.specs.inner.Order.{Mem}
-use Rattle.use_rules.specs.Shapes.{class_at, elements_in}
-use Rattle.use_infer.specs.Bound.{width_at, most_follows}
+use Rattle.use_infer.specs.Bound.{width_at}
 use Rattle.use_infer.specs.inner.Widths.{widths, widths_read}
 use Rattle.use_infer.specs.inner.Waiting.{lack, one_if, potential}
 

@@ -1,5 +1,5 @@
 -- The tables that a context reads, in the order in which the code lists them, each with the class of its objects.
-use Rattle.std.specs.Prelude.{ℕ, zero, suc, ◌+◌, ◌-◌, Bool, List, [], ◌∷◌, ◌++◌, Option, Some, None, slice_get, slice_index_or}
+use Rattle.std.specs.Prelude.{ℕ, zero, suc, ◌+◌, ◌-◌, List, [], ◌∷◌, ◌++◌, Option, Some, None, slice_get, slice_index_or}
 use Rattle.std.specs.Ordering.{nat_cmp}
 use Rattle.std.specs.BTreeSet.{insert_key}
 use Rattle.jv_core.specs.declared.program.MethodKind.TheVariants as kinds
@@ -7,7 +7,6 @@ use Rattle.jv_core.specs.Tree.{Loop, Method, Program}
 use Rattle.jv_core.specs.Lookup.{param_types}
 use Rattle.use_rules.specs.declared.key.Context.{Context}
 use Rattle.use_rules.specs.declared.key.Context.TheVariants as contexts
-use Rattle.use_rules.specs.declared.key.TableKey.{TableKey}
 use Rattle.use_rules.specs.declared.key.TableKey.TheVariants as keys
 use Rattle.use_rules.specs.Reads.{named_in_all, result_class}
 use Rattle.use_flow.specs.declared.classed.Entry.{Entry}
