@@ -16,7 +16,7 @@ use Rattle.mg_top.specs.declared.status.Status.TheVariants as statuses
 use Rattle.mg_top.specs.declared.delivery.Action.{Action}
 use Rattle.mg_top.specs.declared.delivery.Action.TheVariants.{Print, Say}
 use Rattle.mg_top.specs.Lines.{not_offered_line}
-use Rattle.mg_sources.specs.Files.{Source}
+use Rattle.mg_sources.specs.Files.{Source, sources}
 use Rattle.mg_top.specs.Conformance.{calls_of, Conforms, complete, unfinished, not_offered, Lists, IsNoList, bad_line}
 use Rattle.mg_top.specs.Conformance as conformance
 use Rattle.mg_sources.specs.Reading.{Protocol, Reads}
@@ -27,7 +27,10 @@ use Rattle.mg_accepted.proofs.Apart.{not_refused as not_unmet}
 use Rattle.mg_compile.proofs.Apart.{not_refused as not_exceeded}
 use Rattle.vm_world_law.specs.declared.stand.Stand.{Stand}
 use Rattle.vm_world_law.specs.Turns.{stands_in, is_bound, is_broken, is_zero, is_mismatch, is_waiting}
-use Rattle.mg_runs.proofs.Apart.{not_refused as not_halted, one_stand, none_broken}
+use Rattle.mg_runs.proofs.Apart.{not_refused as not_halted, one_of_run}
+use Rattle.mg_top.proofs.Unbroken.{none_broken}
+use Rattle.mg_runs.specs.Headline.{Course, IsRun}
+use Rattle.vm_world_law.specs.declared.role.RoleMain.{RoleMain}
 use Rattle.mg_top.specs.Translation.{AreTranslated}
 use Rattle.mg_top.specs.Commands.{TranslateGives, translated, not_translated, ConformGives, conforms, no_protocol, no_calls, CheckGives, checked, not_checked}
 use Rattle.mg_top.specs.Commands.{CompileGives, compiled, not_compiled, RunGives, ran, not_run, role_mains_of, status_of, Yields}
@@ -59,6 +62,13 @@ compile_status (compiled written h) (compiled written' h') = refl
 compile_status {files = files} (compiled written h) (not_compiled {line = line} r) = absurd (not_exceeded files written line h r)
 compile_status {files = files} (not_compiled {line = line} r) (compiled written h) = absurd (not_exceeded files written line h r)
 compile_status (not_compiled r) (not_compiled q) = refl
+
+-- the roles of one run stand in one way
+one_stand : (files : List Source) (mains : List RoleMain) (order : List ℕ) (limit : ℕ) (r s : Course) → IsRun files mains order limit r →
+    IsRun files mains order limit s → stands_in r.program r.last ≡ stands_in s.program s.last
+one_stand files mains order limit r s h k =
+    let same = one_of_run files mains order limit r s h k in
+    λ i. stands_in (same.program i) (same.last i)
 
 run_status : {asked : Asked} {files : List Source} {xa xb : List Action} {m n : Status} → RunGives asked files xa m → RunGives asked files xb n → m ≡ n
 run_status {asked = asked} {files = files} (ran r h) (ran s k) = ap status_of (one_stand files (role_mains_of asked) (order_of asked) (limit_of asked) r s h k)
@@ -234,5 +244,5 @@ never_broken (commands.compile (not_compiled r)) e = absurd cc
 never_broken (commands.run {asked = asked} {files = files} {contents = contents} (ran r h)) e =
     let all : List Stand = stands_in r.program r.last in
     tests_whole (list_any is_bound all) (list_any is_broken all) (list_any is_zero all) (list_any is_mismatch all) (list_any is_waiting all)
-    (none_broken _ (role_mains_of asked) (order_of asked) (limit_of asked) r h) e
+    (none_broken (sources files contents) (role_mains_of asked) (order_of asked) (limit_of asked) r h) e
 never_broken (commands.run (not_run r)) e = absurd cc
