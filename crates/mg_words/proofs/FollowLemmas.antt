@@ -162,7 +162,7 @@ fits_follow (Steps n) a (is, free) = ap (λ (z : Option ℕ). not (is_some z)) f
 fits_follow Trace a (is, new) = ap not new
 fits_follow (Out v) a (is, free) = ap (λ (z : Option Word). not (is_some z)) free
 
-both_true : (a b : Bool) → (a && b) ≡ true → (a ≡ true) × (b ≡ true)
+pub both_true : (a b : Bool) → (a && b) ≡ true → (a ≡ true) × (b ≡ true)
 both_true true b e = (refl, e)
 both_true false b e = absurd cc
 
@@ -170,21 +170,21 @@ pub not_true : (t : Bool) → not t ≡ true → t ≡ false
 not_true true e = absurd cc
 not_true false e = refl
 
-none_there : {A : Type 0} (a : Option A) → not (is_some a) ≡ true → a ≡ None
+pub none_there : {A : Type 0} (a : Option A) → not (is_some a) ≡ true → a ≡ None
 none_there None e = refl
 none_there (Some x) e = absurd cc
 
-no_roles : (roles : Roles) → is_empty roles ≡ true → roles ≡ Several []
+pub no_roles : (roles : Roles) → is_empty roles ≡ true → roles ≡ Several []
 no_roles (Alone c) e = absurd cc
 no_roles (Several []) e = refl
 no_roles (Several (r ∷ rs)) e = absurd cc
 
 free_role : (o : List RunOption) (roles : Roles) (order : Option (List Word)) → AreRolesSoFar roles order o
-    → filter_map order_in o ≡ option_to_list order → All IsOption o → length (filter_map role_in o) < 2 ^ 62 → is_open roles order ≡ true
+    → filter_map order_in o ≡ option_to_list order → All IsOption o → length (filter_map role_in o) < 2 ^ 63 → is_open roles order ≡ true
     → (name : Word) × IsName name × IsNewRole roles name × IfSome order (λ names. Contains names name)
 free_role o (Alone c) order h was right few e = absurd cc
 free_role o (Several rs) None (classes, named, apart, each) was right few e =
-    let short : length (role_names rs) < 2 ^ 62 = omega (arith, length-map rs (λ (r : RoleClass). r.role), ap length named) in
+    let short : length (role_names rs) < 2 ^ 63 = omega (arith, length-map rs (λ (r : RoleClass). r.role), ap length named) in
     let (name, is, new) = free_name (role_names rs) short in
     (name, is, new, tt)
 free_role o (Several rs) (Some names) (classes, named, apart, each) was right few e =
@@ -201,7 +201,7 @@ free_order o (Several rs) order h right e = (
   All-there some_class (role_names rs) (role_names rs) (All-itself (role_names rs)),
 )
 
-pub follows : (o : List RunOption) (a : Asked) (option : Named) → AreGiven o a → length (filter_map role_in o) < 2 ^ 62
+pub follows : (o : List RunOption) (a : Asked) (option : Named) → AreGiven o a → length (filter_map role_in o) < 2 ^ 63
     → can_follow a option ≡ true → CanFollow a option
 follows o a named.Main h few e =
     let both = both_true (is_empty a.roles) (not (is_some a.order)) e in

@@ -12,12 +12,10 @@ use Rattle.scr_tree.specs.Words.{IsName}
 use Rattle.mg_words.specs.declared.options.Named.{Named}
 use Rattle.mg_words.specs.declared.options.Named.TheVariants as named
 use Rattle.mg_words.specs.Words.{Word, RoleClass, Roles, Alone, Several, role_names, Asked, RunOption, Main, Role, Order, Steps, Trace, Out, option_words, IsOption, class_in, role_in, order_in, steps_in, is_trace, folder_in, IsOrder, AreRoles, AreOptions, IsFileName, IsSourceName, AreSourceNames}
-use Rattle.mg_words.specs.inner.Judging.{names_in, has_name, NamesEach, AreRolesSoFar, AreGiven, word_of, kind_of, IsNewRole, AreAllNamed, IsNew, Fits, lacks_role, is_open, has_none, is_empty, is_several, can_follow, are_whole, roles_more, with_more, nothing}
+use Rattle.mg_words.specs.inner.Judging.{role_read, names_in, has_name, NamesEach, AreRolesSoFar, AreGiven, word_of, kind_of, IsNewRole, AreAllNamed, IsNew, Fits, lacks_role, is_open, has_none, is_empty, is_several, can_follow, are_whole, roles_more, with_more, unasked}
 use Rattle.mg_words.proofs.WordsLemmas.{head_is, tail_is, filled, nothing_behind, All-first, All-rest, All-cons, All-push, All-mid, none_yet, some_class, classed, is_name}
+use Rattle.mg_words.proofs.RoleLemmas.{words_of, role_in_word}
 use Rattle.mg_words.proofs.NameLemmas.{names_joined, there, here, in_none, is_has, have_all, all_have, lacking, never_both, All-itself, All-there, All-front, names_push, names_on, distinct_push, before_differs, free_name}
-
-abbrev pub words_of : List RunOption → List Word
-words_of = flat_map option_words
 
 -- ---- an option is known by its word
 
@@ -66,6 +64,9 @@ pub same_kind : (option : Named) (x : RunOption) (ws rest : List Word)
     → ◌≡◌ {A = List Word} (word_of option ∷ ws) (option_words x ++ rest) → option ≡ kind_of x
 same_kind option x ws rest e = same_word option (kind_of x) (head_is (e ∙ ap (λ (z : List Word). z ++ rest) (begins_with x)))
 
+same_role : (v w : RoleClass) → IsName v.role → IsName w.role → v.role ++ 61 ∷ v.class ≡ w.role ++ 61 ∷ w.class → v ≡ w
+same_role v w h k e = sym (role_in_word v h) ∙ ap role_read e ∙ role_in_word w k
+
 same_number : (n m : ℕ) → n ≤ 20000000 → m ≤ 20000000 → decimal n ≡ decimal m → n ≡ m
 same_number n m h k e = decimal_injective n m (omega arith) (omega arith) e
 
@@ -113,12 +114,12 @@ at_end {A = A} (y ∷ ys) = ap (λ (z : List A). y ∷ z) (at_end ys)
 
 -- options that are all ask for this
 pub record AreAll (options : List RunOption) (asked : Asked) : Type 0 where
-  right : All IsOption options
-  roles : AreRoles asked.roles asked.order options
-  order : filter_map order_in options ≡ option_to_list asked.order
-  steps : filter_map steps_in options ≡ option_to_list asked.steps
-  traced : filter is_trace options ≡ (if asked.traced then Trace ∷ [] else [])
-  folder : filter_map folder_in options ≡ option_to_list asked.folder
+  pub right : All IsOption options
+  pub roles : AreRoles asked.roles asked.order options
+  pub order : filter_map order_in options ≡ option_to_list asked.order
+  pub steps : filter_map steps_in options ≡ option_to_list asked.steps
+  pub traced : filter is_trace options ≡ (if asked.traced then Trace ∷ [] else [])
+  pub folder : filter_map folder_in options ≡ option_to_list asked.folder
 
 kept : {A : Type 0} (f : RunOption → Option A) (o : List RunOption) (x : RunOption) (xs : List A) → filter_map f o ≡ xs
     → filter_map f (x ∷ []) ≡ [] → filter_map f (o ++ x ∷ []) ≡ xs
@@ -229,7 +230,7 @@ given_more o a (Out v) h (is, free) = record {
   folder = first_named folder_in o (Out v) a.folder v h.folder free refl;
 }
 
-pub none_given : AreGiven [] nothing
+pub none_given : AreGiven [] unasked
 none_given = record { right = none_yet IsOption; roles = (refl, refl, none_distinct, tt); order = refl; steps = refl; traced = refl; folder = refl } where
   none_distinct : IsDistinct bytes_eq []
   none_distinct = IsDistinct-from_apart bytes_eq [] (λ i k d less within. absurd (omega arith))
@@ -279,9 +280,9 @@ alone_first o more c was none = filled (sym (front_none class_in o more none) �
 main_new : (o more : List RunOption) (v : Word) (roles all : Roles) (order total : Option (List Word)) → AreRolesSoFar roles order o
     → filter_map order_in o ≡ option_to_list order → AreRoles all total (o ++ Main v ∷ more)
     → filter_map order_in (o ++ Main v ∷ more) ≡ option_to_list total → (roles ≡ Several []) × (order ≡ None)
-main_new o more v roles (Several rs) order total h was (classes, _) orders =
+main_new o more v roles (Several rs) order total h was (classes, named, some, distinct, is) orders =
     absurd (filled_mid (filter_map class_in o) v (filter_map class_in more) (at_place class_in o (Main v) more v [] refl classes))
-main_new o more v (Alone c) (Alone d) order total h was (classes, _) orders =
+main_new o more v (Alone c) (Alone d) order total h was (classes, none, free) orders =
     let twice : filter_map class_in o ++ v ∷ filter_map class_in more ≡ d ∷ [] = at_place class_in o (Main v) more v (d ∷ []) refl classes in
     let k = ap length (ap (λ (z : List Word). z ++ v ∷ filter_map class_in more) (sym h.0) ∙ twice) in
     absurd (omega (arith, k))
@@ -309,7 +310,7 @@ role_new : (o more : List RunOption) (r : RoleClass) (roles all : Roles) (order 
     → IsNewRole roles r.role × IfSome order (λ names. Contains names r.role)
 role_new o more r roles (Alone d) order total h was (classes, none, free) orders =
     absurd (filled_mid (filter_map role_in o) r (filter_map role_in more) (at_place role_in o (Role r) more r [] refl none))
-role_new o more r (Alone c) (Several rs) order total h was (classes, _) orders = absurd (alone_first o (Role r ∷ more) c h.0 classes)
+role_new o more r (Alone c) (Several rs) order total h was (classes, named, some, distinct, is) orders = absurd (alone_first o (Role r ∷ more) c h.0 classes)
 role_new o more r (Several before) (Several rs) order total h was (classes, named, some, distinct, is) orders =
     (before_differs (role_names before) r.role (role_names (filter_map role_in more)) (subst (IsDistinct bytes_eq) spelled distinct), wanted order refl) where
       spelled : role_names rs ≡ role_names before ++ r.role ∷ role_names (filter_map role_in more)
@@ -334,7 +335,7 @@ order_new o more names roles (Alone d) order total h was (classes, none, free) o
     absurd (never (sym one.1 ∙ free)) where
       never : ◌≡◌ {A = Option (List Word)} (Some names) None → ⊥
       never e = cc
-order_new o more names (Alone c) (Several rs) order total h was (classes, _) orders = absurd (alone_first o (Order names ∷ more) c h.0 classes)
+order_new o more names (Alone c) (Several rs) order total h was (classes, named, some, distinct, is) orders = absurd (alone_first o (Order names ∷ more) c h.0 classes)
 order_new o more names (Several before) (Several rs) order total h was (classes, named, some, distinct, is) orders =
     let one = only_one order_in o (Order names) more names order total was refl orders in
     (All-front (Contains names) (role_names before) (role_names (filter_map role_in more))

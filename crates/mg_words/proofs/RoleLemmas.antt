@@ -7,6 +7,7 @@ use Rattle.std.specs.Str.{bytes_eq}
 use Rattle.std.proofs.lemmas.Fmt.{first_decimal}
 use Rattle.std.proofs.lemmas.List.{drop_at}
 use Rattle.std.proofs.lemmas.List.Sums.{split_at_first, position_or_len_is, passes_at_first}
+use Rattle.std.proofs.lemmas.Bool.{cases_lt}
 use Rattle.std.proofs.lemmas.Slice.Eq.{bytes_eq-Decides}
 use Rattle.mg_read.specs.Passes.{StartsWith}
 use Rattle.scr_tree.specs.Words.{IsName, is_name_start}
@@ -14,7 +15,9 @@ use Rattle.mg_words.specs.Words.{Word, RoleClass, RunOption, Main, Role, Order, 
 use Rattle.mg_words.specs.inner.Judging.{role_read, roles_at, roles_in}
 use Rattle.mg_words.proofs.WordsLemmas.{All-first, All-rest}
 use Rattle.mg_words.proofs.NameLemmas.{none_of, starts_no_option, starts_on, starts_joined, never_both}
-use Rattle.mg_words.proofs.OptionLemmas.{words_of}
+
+abbrev pub words_of : List RunOption → List Word
+words_of = flat_map option_words
 
 -- ---- a role and its class in one word
 
@@ -57,16 +60,13 @@ drop_past (suc n) [] h = refl
 drop_past zero (x ∷ xs) h = absurd (omega arith)
 drop_past (suc n) (x ∷ xs) h = drop_past n xs (omega arith)
 
-below : (m n : ℕ) → (m < n) ⊎ (n ≤ m)
-below m n = omega arith
-
 starts_none : (xs : List ℕ) → xs ≡ [] → StartsWith is_name_start xs → ⊥
 starts_none xs e h = let none : StartsWith is_name_start [] = subst (StartsWith is_name_start) e h in none
 
 -- where a class is named, the word is the role, "=" and the class
 pub word_of_role : (word : Word) → StartsWith is_name_start (role_read word).class
     → word ≡ (role_read word).role ++ 61 ∷ (role_read word).class
-word_of_role word h = go (below (position_or_len (λ c. eqb c 61) word) (length word)) where
+word_of_role word h = go (cases_lt (position_or_len (λ c. eqb c 61) word) (length word)) where
   go : (position_or_len (λ c. eqb c 61) word < length word) ⊎ (length word ≤ position_or_len (λ c. eqb c 61) word)
       → word ≡ before_first (λ c. eqb c 61) word ++ 61 ∷ after_first (λ c. eqb c 61) word
   go (inl lt) =
@@ -128,8 +128,8 @@ roles_in_words (Out v ∷ xs) right =
     passed v (words_of xs) (filter_map role_in xs) (λ e. subst IsFileName e (All-first IsOption (Out v) xs right) refl)
     (roles_in_words xs (All-rest IsOption (Out v) xs right))
 
--- options name no more roles than they have words
-pub few_roles : (o : List RunOption) → length (filter_map role_in o) ≤ length (words_of o)
+-- each role that options name takes two words
+pub few_roles : (o : List RunOption) → length (filter_map role_in o) + length (filter_map role_in o) ≤ length (words_of o)
 few_roles [] = omega arith
 few_roles (Main v ∷ xs) = let k = few_roles xs in omega arith
 few_roles (Role r ∷ xs) = let k = few_roles xs in omega arith

@@ -10,7 +10,8 @@ use Rattle.mg_words.specs.Words.{Word, RoleClass, Roles, Alone, Several, role_na
 use Rattle.mg_words.specs.inner.Judging.{IsFirstOther, has_name, AreGiven, word_of, kind_of, IsPlain, IsNewRole, Fits, IsNoValue, can_follow, are_whole, roles_more, with_more}
 use Rattle.mg_words.proofs.WordsLemmas.{run, head_is, tail_is, filled, nothing_behind, All-first, All-rest, All-push, All-mid, none_yet, some_source, source_named, some_class, classed, pushed_filled, is_run, first_wrong, same_translate, same_conform, same_check, same_compile}
 use Rattle.mg_words.proofs.NameLemmas.{here, one_of, in_none, has_is, is_has, have_all, never_both, All-itself, names_push}
-use Rattle.mg_words.proofs.OptionLemmas.{words_of, AreAll, values_of, begins_with, same_kind, same_option, no_word, no_option, at_end, given_more, must_fit}
+use Rattle.mg_words.proofs.RoleLemmas.{words_of}
+use Rattle.mg_words.proofs.OptionLemmas.{AreAll, values_of, begins_with, same_kind, same_option, no_word, no_option, at_end, given_more, must_fit}
 use Rattle.mg_words.proofs.FollowLemmas.{order_right, whole_all, all_given, all_whole, given_one, CanFollow, fits_follow}
 
 -- ---- options behind options
@@ -106,7 +107,7 @@ begins_run o a files w each = (
   ),
 )
 
-flat_push : (o : List RunOption) (x : RunOption) → words_of (o ++ x ∷ []) ≡ words_of o ++ option_words x
+pub flat_push : (o : List RunOption) (x : RunOption) → words_of (o ++ x ∷ []) ≡ words_of o ++ option_words x
 flat_push o x = flat_map-append option_words o (x ∷ []) ∙ ap (λ (z : List Word). words_of o ++ z) (nothing_behind (option_words x))
 
 -- what can begin with more words can with fewer
@@ -128,7 +129,7 @@ all_by : (P : Word → Type 0) (names : List Word) → ((n : Word) → Contains 
 all_by P names h k d lt = h (get_or names k d) (Contains-get_or names k d lt)
 
 -- the role of this name, with some class
-role_of : Word → RoleClass
+abbrev role_of : Word → RoleClass
 role_of name = record { role = name; class = some_class }
 
 -- this name is known to be among the roles, so the others are what is left
@@ -148,14 +149,12 @@ with_it rs n ns m (inl h) =
 with_it rs n ns m (inr h) = inr h
 
 it_is : (rs : List RoleClass) (n : Word) → Contains (role_names (rs ++ role_of n ∷ [])) n
-unfolding role_of
 it_is rs n =
     subst (λ (z : List Word). Contains z n) (sym (names_push rs (role_of n))) (Contains-append_right (role_names rs) (n ∷ []) n (here n []))
 
 -- a role that an order names can follow where it wasn't named yet
 wanted_fits : (a : Asked) (rs : List RoleClass) (names : List Word) (n : Word) → a.roles ≡ Several rs → a.order ≡ Some names → IsName n
     → Contains names n → (Contains (role_names rs) n → ⊥) → Fits (Role (role_of n)) a
-unfolding role_of
 wanted_fits a rs names n is ordered name wanted new =
     ((name, classed), (subst (λ (z : Roles). IsNewRole z n) (sym is) new, subst (λ (z : Option (List Word)). IfSome z (λ names. Contains names n)) (sym ordered) wanted))
 

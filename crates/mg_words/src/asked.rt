@@ -48,12 +48,23 @@ impl Asked<'_> {
     ///
     /// # Errors
     /// `Memory` only.
+    #[tactic(auto, using(crate::proofs::LawLemmas::laws))]
     pub fn mains(&self, alloc: Global) -> Result<List<RoleClass>, Memory>
         requires { IsAsked (asked_of self.now) }
         ensures items { IfOk result (λ l. role_classes_of l.items ≡ mains_of (asked_of self.now)) }
         ensures distinct { IsDistinct bytes_eq (role_names (mains_of (asked_of self.now))) }
         ensures some { mains_of (asked_of self.now) ≢ [] }
         ensures few { IfOk result (λ l. length (mains_of (asked_of self.now)) < 2 ^ 32) }
+    {
+        let mains = self.roles(alloc)?;
+        // A list says how many items it has at most.
+        let _few = mains.len();
+        Ok(mains)
+    }
+
+    // The same, with no law of it.
+    fn roles(&self, alloc: Global) -> Result<List<RoleClass>, Memory>
+        ensures { IfOk result (λ l. role_classes_of l.items ≡ mains_of (asked_of self.now)) }
     {
         match self.class {
             Some(class) => one_main(alloc, class),
@@ -66,6 +77,7 @@ impl Asked<'_> {
     ///
     /// # Errors
     /// `Memory` only.
+    #[tactic(auto, using(crate::proofs::LawLemmas::laws))]
     pub fn order(&self, alloc: Global) -> Result<Vec<u32>, Memory>
         requires { IsAsked (asked_of self.now) }
         ensures items { IfOk result (λ v. v.items ≡ order_of (asked_of self.now)) }
@@ -82,7 +94,8 @@ impl Asked<'_> {
     // The names of the roles, in the order of the words.
     fn names(&self, alloc: Global) -> Result<Names, Memory>
         requires { IsAsked (asked_of self.now) }
-        ensures { IfOk result (λ n. n ≡ role_names (mains_of (asked_of self.now))) }
+        ensures items { IfOk result (λ n. n ≡ role_names (mains_of (asked_of self.now))) }
+        ensures few { IfOk result (λ n. length n < 2 ^ 32) }
     {
         match self.class {
             Some(_) => name_of_one(alloc),
@@ -123,7 +136,8 @@ fn roles_of(alloc: Global, words: &[Text]) -> Result<List<RoleClass>, Memory>
 
 // The name of a role that runs alone.
 fn name_of_one(alloc: Global) -> Result<Names, Memory>
-    ensures { IfOk result (λ n. n ≡ codes "main" ∷ []) }
+    ensures items { IfOk result (λ n. n ≡ codes "main" ∷ []) }
+    ensures few { IfOk result (λ n. length n < 2 ^ 32) }
 {
     let mut names = Names::new(alloc);
     names.add(ALONE)?;
@@ -133,7 +147,8 @@ fn name_of_one(alloc: Global) -> Result<Names, Memory>
 // The names of the roles that these words name, all of which differ.
 fn names_of_roles(alloc: Global, words: &[Text]) -> Result<Names, Memory>
     requires { IsDistinct bytes_eq (role_names (roles_in words.now)) }
-    ensures { IfOk result (λ n. n ≡ role_names (roles_in words.now)) }
+    ensures items { IfOk result (λ n. n ≡ role_names (roles_in words.now)) }
+    ensures few { IfOk result (λ n. length n < 2 ^ 32) }
 {
     let mut names = Names::new(alloc);
     let mut left = words;

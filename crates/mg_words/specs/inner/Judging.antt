@@ -108,6 +108,10 @@ abbrev pub StartsNumber : Word → Type 0
 StartsNumber [] = ⊥
 StartsNumber (c ∷ cs) = (49 ≤ c) × (c ≤ 57)
 
+-- nothing is asked for
+abbrev pub unasked : Asked
+unasked = record { roles = Several []; order = None; steps = None; traced = false; folder = None }
+
 -- what options ask for of roles so far, where more may follow: an order names each role so far
 abbrev pub NamesEach : Option (List Word) → List RoleClass → Type 0
 NamesEach order roles = IfSome order (λ names. All (Contains names) (role_names roles))
