@@ -177,7 +177,7 @@ stuck_at words given rest option word behind (Some value) h small is name (can, 
     subst (λ (z : List Word). AreWrong (run ∷ z) (Some value.now))
     (sym (h.stand ∙ ap (λ (z : List Word). words_of h.options ++ z) (is ∙ ap (λ (z : List Word). word ∷ z) stands)))
     (wrong_value h.options (asked_of given) option word value.now after h.asks
-     (follows h.options (asked_of given) option h.asks (few_so_far words given rest h small) can) name other isnt)
+    (follows h.options (asked_of given) option h.asks (few_so_far words given rest h small) can) name other isnt)
 
 pub end_at : (words : List Word) (given : Kept) (rest : List Word) → AreRead words given rest → length rest ≡ 0 → AreWrong (run ∷ words) None
 end_at words given rest h none =
@@ -209,7 +209,7 @@ lacks_first asked files found e some plain lacks =
     let (word, rest, is, same) = first_at files found e some in
     λ o h. subst (λ (r : Option Word). AreWrong (run ∷ (words_of o ++ files)) r) (sym same)
     (subst (λ (z : List Word). AreWrong (run ∷ (words_of o ++ z)) (Some word)) (sym is)
-     (lacks_role o asked word rest h lacks (subst IsPlain is plain)))
+    (lacks_role o asked word rest h lacks (subst IsPlain is plain)))
 
 pub wrong_file_at : (asked : Asked) (files : List Word) (word : Word) → are_whole asked.roles asked.order ≡ true → IsPlain files
     → IsFirstOther IsSourceName files (Some word)
@@ -351,14 +351,16 @@ pub order_value : (given more : Kept) (value : Word) → All IsName (names_in va
     → ((rs : List RoleClass) → asked_with rs more ≡ with_more (Order (names_in value)) (asked_with rs given))
     → IsWith given named.Order value (Some more)
 order_value given more value names each can same =
-    let free = free_named (asked_of given) can in
-    (
+    let free = free_named (asked_of given) can in (
       Order (names_in value),
       record {
         spelled = ap (λ (w : Word). codes "--order" ∷ w ∷ []) (sym (join_with_byte-slice_split 44 value));
         right = (some_names value, names);
-        new = (named_all (option_map (λ w. w.now) given.class) (roles_in given.words.now) (names_in value) free.0
-            (all_have (names_in value) (role_names (roles_in given.words.now)) each), free.1);
+        new = (
+          named_all (option_map (λ w. w.now) given.class) (roles_in given.words.now) (names_in value) free.0
+              (all_have (names_in value) (role_names (roles_in given.words.now)) each),
+          free.1,
+        );
       },
       same (roles_in given.words.now ++ []) ∙ ap (λ (z : List RoleClass). with_more (Order (names_in value)) (asked_with z given)) (at_end (roles_in given.words.now)),
     )
@@ -368,7 +370,7 @@ pub order_lacks : (given : Kept) (value : Word) → list_all (has_name (names_in
 order_lacks given value miss = no_order_value given value (λ fits.
     never_both (list_all (has_name (names_in value)) (role_names (roles_in given.words.now)))
     (have_all (names_in value) (role_names (roles_in given.words.now))
-     (all_named (option_map (λ w. w.now) given.class) (roles_in given.words.now) (names_in value) fits.1.0)) miss)
+    (all_named (option_map (λ w. w.now) given.class) (roles_in given.words.now) (names_in value) fits.1.0)) miss)
 
 pub no_order : (given : Kept) (value : Word) → (All IsName (names_in value) → ⊥) → IsNoValue (asked_of given) named.Order value
 no_order given value isnt = no_order_value given value (λ fits. isnt fits.0.1)
@@ -401,8 +403,10 @@ role_value given value role class alone new wanted = (
   record {
     spelled = ap (λ (w : Word). codes "--role" ∷ w ∷ []) (word_of_role value class.starts);
     right = (role, class);
-    new = (new_role (option_map (λ w. w.now) given.class) (roles_in given.words.now) (role_read value).role alone new,
-        wanted_is (asked_of given).order (role_read value).role wanted);
+    new = (
+      new_role (option_map (λ w. w.now) given.class) (roles_in given.words.now) (role_read value).role alone new,
+      wanted_is (asked_of given).order (role_read value).role wanted,
+    );
   },
   (λ i. record {
     roles = more_roles (option_map (λ w. w.now) given.class) (roles_in given.words.now) (role_read value) i;

@@ -88,9 +88,11 @@ each_at : (roles : Roles) (order : Option (List Word)) (o : List RunOption) → 
     → Contains (order_among (role_names (mains_in roles)) order) n
 each_at roles None o h n lt =
     let e : length (role_names (mains_in roles)) ≡ length (mains_in roles) = names_length (mains_in roles) in
-    let l : n < length (role_names (mains_in roles)) = omega arith in
-    (n, omega (arith, length-range_with_len 0 (length (role_names (mains_in roles)))),
-     get_or-range_with_len 0 (length (role_names (mains_in roles))) n n l ∙ zero_add n) where
+    let l : n < length (role_names (mains_in roles)) = omega arith in (
+      n,
+      omega (arith, length-range_with_len 0 (length (role_names (mains_in roles)))),
+      get_or-range_with_len 0 (length (role_names (mains_in roles))) n n l ∙ zero_add n,
+    ) where
       zero_add : (m : ℕ) → 0 + m ≡ m
       zero_add m = omega arith
 each_at (Alone c) (Some names) o (classes, none, free) n lt = absurd (never free) where
@@ -135,8 +137,7 @@ names_pushed names new all roles rest r name apart so is same added few =
     let spelled : names ++ r.role ∷ role_names rest ≡ all = ap (λ (z : List RoleClass). names ++ role_names z) (sym is) ∙ so in
     let fresh : position (bytes_eq name) names ≡ None = new_text names name (λ k.
     before_differs names r.role (role_names rest) (subst (IsDistinct bytes_eq) (sym spelled) apart) (subst (Contains names) same k)) in
-    let now : new ≡ names ++ name ∷ [] = added ∙ ap (λ (z : Option ℕ). if is_some z then names else names ++ name ∷ []) fresh in
-    (
+    let now : new ≡ names ++ name ∷ [] = added ∙ ap (λ (z : Option ℕ). if is_some z then names else names ++ name ∷ []) fresh in (
       ap (λ (z : List Word). z ++ role_names rest) now ∙ append_assoc names (name ∷ []) (role_names rest)
           ∙ ap (λ (w : Word). names ++ w ∷ role_names rest) same ∙ spelled,
       omega (arith, ap length now, length-append names (name ∷ [])),
@@ -160,5 +161,3 @@ range_pushed items new n so added =
     let e : 0 + n ≡ n = omega arith in
     let one : suc n ≡ n + 1 = omega arith in
     added ∙ (λ i. so i ++ sym e i ∷ []) ∙ sym (range_more 0 n) ∙ ap (range_with_len 0) one
-
-pub ruleset laws = (distinct_mains, some_mains, order_below, order_each)

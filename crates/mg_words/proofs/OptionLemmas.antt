@@ -337,9 +337,11 @@ order_new o more names roles (Alone d) order total h was (classes, none, free) o
       never e = cc
 order_new o more names (Alone c) (Several rs) order total h was (classes, named, some, distinct, is) orders = absurd (alone_first o (Order names ∷ more) c h.0 classes)
 order_new o more names (Several before) (Several rs) order total h was (classes, named, some, distinct, is) orders =
-    let one = only_one order_in o (Order names) more names order total was refl orders in
-    (All-front (Contains names) (role_names before) (role_names (filter_map role_in more))
-     (subst (All (Contains names)) spelled (each_of total names (role_names rs) is one.1)), one.0) where
+    let one = only_one order_in o (Order names) more names order total was refl orders in (
+      All-front (Contains names) (role_names before) (role_names (filter_map role_in more))
+          (subst (All (Contains names)) spelled (each_of total names (role_names rs) is one.1)),
+      one.0,
+    ) where
       spelled : role_names rs ≡ role_names before ++ role_names (filter_map role_in more)
       spelled =
           ap role_names (sym named ∙ filter_map-append role_in o (Order names ∷ more))

@@ -110,9 +110,9 @@ roles_in_words (Main v ∷ xs) right =
 roles_in_words (Role r ∷ xs) right =
     let is = All-first IsOption (Role r) xs right in
     (λ i. role_in_word r is.0 i ∷
-        passed (r.role ++ 61 ∷ r.class) (words_of xs) (filter_map role_in xs)
-        (name_no_role (r.role ++ 61 ∷ r.class) (starts_on r.role (61 ∷ r.class) is.0.starts))
-        (roles_in_words xs (All-rest IsOption (Role r) xs right)) i)
+    passed (r.role ++ 61 ∷ r.class) (words_of xs) (filter_map role_in xs)
+    (name_no_role (r.role ++ 61 ∷ r.class) (starts_on r.role (61 ∷ r.class) is.0.starts))
+    (roles_in_words xs (All-rest IsOption (Role r) xs right)) i)
 roles_in_words (Order names ∷ xs) right =
     let is = All-first IsOption (Order names) xs right in
     passed (join_with_byte 44 names) (words_of xs) (filter_map role_in xs)

@@ -176,8 +176,8 @@ begins_named (n ∷ ns) o a rs names h is ordered named wanted each = elim (deci
       (λ m k. fewer rs n ns m (has_is (role_names rs) n e) (each m k))
   | inr e ↦ begins_before o (Role (role_of n)) (begins_named ns (o ++ Role (role_of n) ∷ []) (with_more (Role (role_of n)) a) (rs ++ role_of n ∷ []) names
       (given_more o a (Role (role_of n)) h
-       (wanted_fits a rs names n is ordered (All-first IsName n ns named) (All-first (Contains names) n ns wanted)
-        (λ k. never_both (has_name (role_names rs) n) (is_has (role_names rs) n k) e)))
+      (wanted_fits a rs names n is ordered (All-first IsName n ns named) (All-first (Contains names) n ns wanted)
+      (λ k. never_both (has_name (role_names rs) n) (is_has (role_names rs) n k) e)))
       (ap (λ (z : Roles). roles_more z (role_of n)) is) ordered (All-rest IsName n ns named) (All-rest (Contains names) n ns wanted)
       (λ m k. fewer (rs ++ role_of n ∷ []) n ns m (it_is rs n) (with_it rs n ns m (each m k))))
 ]

@@ -48,7 +48,6 @@ impl Asked<'_> {
     ///
     /// # Errors
     /// `Memory` only.
-    #[tactic(auto, using(crate::proofs::LawLemmas::laws))]
     pub fn mains(&self, alloc: Global) -> Result<List<RoleClass>, Memory>
         requires { IsAsked (asked_of self.now) }
         ensures items { IfOk result (λ l. role_classes_of l.items ≡ mains_of (asked_of self.now)) }
@@ -77,7 +76,6 @@ impl Asked<'_> {
     ///
     /// # Errors
     /// `Memory` only.
-    #[tactic(auto, using(crate::proofs::LawLemmas::laws))]
     pub fn order(&self, alloc: Global) -> Result<Vec<u32>, Memory>
         requires { IsAsked (asked_of self.now) }
         ensures items { IfOk result (λ v. v.items ≡ order_of (asked_of self.now)) }

@@ -132,7 +132,9 @@ fn can_follow(asked: &Asked<'_>, option: Named) -> bool
     ensures { result ≡ can_follow (asked_of asked.now) option }
 {
     match option {
-        Named::Main => asked.class.is_none() && asked.order.is_none() && next_role(asked.words).is_none(),
+        Named::Main => asked.class.is_none()
+            && asked.order.is_none()
+            && next_role(asked.words).is_none(),
         Named::Role => asked.class.is_none() && lacks_role(asked),
         Named::Order => asked.class.is_none() && asked.order.is_none(),
         Named::Steps => asked.steps.is_none(),

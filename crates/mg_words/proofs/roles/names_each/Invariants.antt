@@ -5,7 +5,7 @@ use Rattle.mg_words.specs.inner.Judging.{roles_in, names_in, has_name}
 use Rattle.mg_words.proofs.roles.names_each.Given as goal
 
 abbrev pub invariant-loop-named : goal.invariant-loop-named
-invariant-loop-named l = 
+invariant-loop-named l =
     list_all (has_name (names_in l.word)) (role_names (roles_in l.words))
     ≡ list_all (has_name (names_in l.word)) (role_names (roles_in l.left))
 

@@ -5,7 +5,7 @@ use Rattle.mg_words.specs.inner.Judging.{roles_in, names_in, names_left, has_nam
 use Rattle.mg_words.proofs.roles.names_only.Given as goal
 
 abbrev pub invariant-loop-left : goal.invariant-loop-left
-invariant-loop-left l = 
+invariant-loop-left l =
     list_all (has_name (role_names (roles_in l.words))) (names_in l.word)
     ≡ list_all (has_name (role_names (roles_in l.words))) (names_left (option_map (λ w. w.now) l.left))
 
