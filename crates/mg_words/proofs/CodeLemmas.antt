@@ -1,10 +1,8 @@
 -- What the code finds as it goes over words: names, roles, and what one more option asks for.
-use Rattle.std.proofs.Common.{◌≡◌, ◌≢◌, ℕ, zero, suc, ◌<◌, ◌≤◌, ◌+◌, ◌-◌, ◌^◌, ◌⊎◌, inl, inr, List, [], ◌∷◌, ◌++◌, All, length, get_or, take, Option, Some, None, Bool, true, false, ◌&&◌, ◌||◌, ◌==◌, not, eqb, lit<, codes, refl, sym, ap, ◌∙◌, subst, arith, append_assoc, length-append, Bor}
+use Rattle.std.proofs.Common.{◌≡◌, ◌≢◌, ℕ, ◌<◌, ◌-◌, ◌^◌, List, [], ◌∷◌, ◌++◌, All, length, take, Option, Some, None, true, false, ◌==◌, not, eqb, lit<, codes, refl, sym, ap, ◌∙◌, subst, arith, append_assoc, length-append, Bor}
 use Rattle.std.specs.Option.{option_copied}
-use Rattle.std.specs.Prelude.{Contains, IfSome, is_some, slice_get, option_map, option_to_list, flat_map, filter_map}
-use Rattle.std.specs.Fmt.{decimal}
-use Rattle.std.specs.List.{join_with_byte, list_any, list_all, slice_split, position_or_len}
-use Rattle.std.specs.Str.{bytes_eq}
+use Rattle.std.specs.Prelude.{Contains, IfSome, is_some, slice_get, option_map, filter_map}
+use Rattle.std.specs.List.{list_all, position_or_len}
 use Rattle.std.proofs.lemmas.List.Elements.{filter_map-append}
 use Rattle.std.proofs.lemmas.List.Splits.{join_with_byte-slice_split, length-slice_split, slice_split_first, slice_split_none}
 use Rattle.std.proofs.lemmas.List.Sums.{fails_before_first}
@@ -14,78 +12,65 @@ use Rattle.mg_words.specs.declared.asked.Asked.{Asked as Kept}
 use Rattle.mg_words.specs.declared.options.Named.{Named}
 use Rattle.mg_words.specs.declared.options.Named.TheVariants as named
 use Rattle.mg_words.specs.declared.options.Step.TheVariants as step
-use Rattle.mg_words.specs.declared.words.Judged.{Judged}
-use Rattle.mg_words.specs.Words.{Word, RoleClass, Roles, Alone, Several, role_names, Command, Run, Asked, RunOption, Main, Role, Order, Steps, Trace, Out, option_words, IsOption, role_in, IsFileName, IsSourceName, AreOptions, IsCommand, AreWrong}
-use Rattle.mg_words.specs.inner.Judging.{role_read, roles_at, roles_in, names_in, names_left, has_name, roles_with, asked_with, asked_of, IsAsked, IsFirstOther, AreGiven, AreRead, word_of, kind_of, IsPlain, IsNewRole, AreAllNamed, IsNew, Fits, is_wanted, has_none, is_empty, is_several, can_follow, are_whole, roles_more, with_more, IsRead, IsMore, IsNoValue, IsWith, IsStep, IsSteps, IsRunnable, IsJudged, unasked}
-use Rattle.mg_words.proofs.WordsLemmas.{run, head_is, tail_is, filled, empty_is, is_run, nothing_behind, All-first, All-rest, All-cons}
+use Rattle.mg_words.specs.Words.{Word, RoleClass, Several, role_names, Run, Asked, RunOption, Main, Role, Order, Steps, Trace, Out, option_words, IsOption, role_in, IsFileName, IsSourceName, IsCommand, AreWrong}
+use Rattle.mg_words.specs.inner.Judging.{role_read, roles_in, names_in, names_left, has_name, roles_with, asked_with, asked_of, IsFirstOther, AreGiven, AreRead, word_of, kind_of, IsPlain, IsNewRole, AreAllNamed, Fits, is_wanted, is_empty, is_several, can_follow, are_whole, roles_more, with_more, IsMore, IsNoValue, IsWith, IsStep, IsSteps, unasked}
+use Rattle.mg_words.proofs.WordsLemmas.{run, head_is, tail_is, filled, empty_is, All-first, All-rest, All-cons}
 use Rattle.mg_words.proofs.NameLemmas.{has_is, is_has, have_all, all_have, never_both, names_joined, hasnt}
-use Rattle.mg_words.proofs.OptionLemmas.{same_kind, begins_with, values_of, at_end, given_more, none_given}
-use Rattle.mg_words.proofs.FollowLemmas.{follows, fits_follow, whole_all, both_true, no_roles, none_there}
+use Rattle.mg_words.proofs.OptionLemmas.{same_kind, at_end, given_more, none_given}
+use Rattle.mg_words.proofs.FollowLemmas.{follows, whole_all, both_true, no_roles, none_there}
 use Rattle.mg_words.proofs.RoleLemmas.{words_of, role_in_word, word_of_role, roles_in_words, few_roles}
 use Rattle.mg_words.proofs.RunLemmas.{wrong_option, wrong_value, few_value, few_more, lacks_role, wrong_run_file, runnable, flat_push}
 
 -- ---- going over names
 
 -- the first name of a word, and those behind its ","
-pub first_split : (bs : List ℕ) (r : Option (Bor (List ℕ) × Bor (List ℕ))) (name behind : Bor (List ℕ)) → IsSplitOnceResult 44 bs r → r ≡ Some (name, behind)
-    → names_in bs ≡ name.now ∷ names_in behind.now
+pub first_split : (bs : List ℕ) (r : Option (Bor (List ℕ) × Bor (List ℕ))) (name behind : Bor (List ℕ)) → IsSplitOnceResult 44 bs r
+    → r ≡ Some (name, behind) → names_in bs ≡ name.now ∷ names_in behind.now
 first_split bs r name behind h is =
     let (within, front, back) = split_once_first 44 bs (Some (name, behind)) (subst (IsSplitOnceResult 44 bs) is h) (lit< tt) in
     slice_split_first (λ b. eqb b 44) bs 0 within ∙ (λ i. sym front i ∷ names_in (sym back i))
 
 pub first_whole : (bs : List ℕ) (r : Option (Bor (List ℕ) × Bor (List ℕ))) → IsSplitOnceResult 44 bs r → r ≡ None → names_in bs ≡ bs ∷ []
 first_whole bs r h is =
-    let past : position_or_len (λ b. eqb b 44) bs ≡ length bs = split_once_first 44 bs None (subst (IsSplitOnceResult 44 bs) is h) (lit< tt) in
+    let past : position_or_len (λ b. eqb b 44) bs ≡ length bs =
+    split_once_first 44 bs None (subst (IsSplitOnceResult 44 bs) is h) (lit< tt) in
     slice_split_none (λ b. eqb b 44) bs (λ k d lt. fails_before_first (λ b. eqb b 44) bs k d (omega arith))
 
-pub has_hit : (all left : List Word) (name y : Word) (ys : List Word) → has_name all name ≡ has_name left name → left ≡ y ∷ ys
-    → bytes_eq name y ≡ true → true ≡ has_name all name
-has_hit all left name y ys same is hit = sym (same ∙ ap (λ (z : List Word). has_name z name) is ∙ ap (λ (b : Bool). b || has_name ys name) hit)
+-- what is left of a word, told by its first name
+left_is : (left : Option (Bor Word)) (text : Bor Word) (name : Word) (rest : List Word) → left ≡ Some text → names_in text.now ≡ name ∷ rest
+    → names_left left ≡ name ∷ rest
+left_is left text name rest is e = ap (λ (z : Option (Bor Word)). names_left z) is ∙ e
 
-pub has_step : (all left : List Word) (name y : Word) (ys : List Word) → has_name all name ≡ has_name left name → left ≡ y ∷ ys
-    → bytes_eq name y ≡ false → has_name all name ≡ has_name ys name
-has_step all left name y ys same is miss = same ∙ ap (λ (z : List Word). has_name z name) is ∙ ap (λ (b : Bool). b || has_name ys name) miss
-
-pub has_end : (all left : List Word) (name : Word) → has_name all name ≡ has_name left name → left ≡ [] → false ≡ has_name all name
-has_end all left name same is = sym (same ∙ ap (λ (z : List Word). has_name z name) is)
-
-pub all_miss : (p : Word → Bool) (all left : List Word) (y : Word) (ys : List Word) → list_all p all ≡ list_all p left → left ≡ y ∷ ys
-    → p y ≡ false → false ≡ list_all p all
-all_miss p all left y ys same is miss = sym (same ∙ ap (list_all p) is ∙ ap (λ (b : Bool). b && list_all p ys) miss)
-
-pub all_step : (p : Word → Bool) (all left : List Word) (y : Word) (ys : List Word) → list_all p all ≡ list_all p left → left ≡ y ∷ ys
-    → p y ≡ true → list_all p all ≡ list_all p ys
-all_step p all left y ys same is hit = same ∙ ap (list_all p) is ∙ ap (λ (b : Bool). b && list_all p ys) hit
-
-pub all_end : (p : Word → Bool) (all left : List Word) → list_all p all ≡ list_all p left → left ≡ [] → true ≡ list_all p all
-all_end p all left same is = sym (same ∙ ap (list_all p) is)
-
-pub not_names : (all left : List Word) (name : Word) (rest : List Word) → (All IsName all → All IsName left) → left ≡ name ∷ rest
+pub not_names : (all : List Word) (left : Option (Bor Word)) (text : Bor Word) (name : Word) (rest : List Word)
+    → (All IsName all → All IsName (names_left left)) → left ≡ Some text → names_in text.now ≡ name ∷ rest
     → (IsName name → ⊥) → (false ≡ true → All IsName all) × (All IsName all → false ≡ true)
-not_names all left name rest f e isnt =
-    (λ t. absurd (no t), λ h. absurd (isnt (All-first IsName name rest (subst (All IsName) e (f h))))) where
+not_names all left text name rest f is e isnt =
+    let first = λ (h : All IsName all). All-first IsName name rest (subst (All IsName) (left_is left text name rest is e) (f h)) in
+    (λ t. absurd (no t), λ h. absurd (isnt (first h))) where
       no : false ≡ true → ⊥
       no t = cc
 
-pub names_kept : (all left : List Word) (name : Word) (rest : List Word) → (All IsName all → All IsName left) × (All IsName left → All IsName all)
-    → left ≡ name ∷ rest → IsName name → (All IsName all → All IsName rest) × (All IsName rest → All IsName all)
-names_kept all left name rest (f, g) e is = (
-  λ h. All-rest IsName name rest (subst (All IsName) e (f h)),
-  λ h. g (subst (All IsName) (sym e) (All-cons IsName name rest is h)),
-)
+pub names_kept : (all : List Word) (left : Option (Bor Word)) (text : Bor Word) (name : Word) (rest : List Word)
+    → (All IsName all → All IsName (names_left left))
+    × (All IsName (names_left left) → All IsName all)
+    → left ≡ Some text → names_in text.now ≡ name ∷ rest → IsName name
+    → (All IsName all → All IsName rest) × (All IsName rest → All IsName all)
+names_kept all left text name rest (f, g) is e named =
+    let same = left_is left text name rest is e in (
+      λ h. All-rest IsName name rest (subst (All IsName) same (f h)),
+      λ h. g (subst (All IsName) (sym same) (All-cons IsName name rest named h)),
+    )
 
 -- ---- one more option
 
 -- what is asked for so far: where options were read, the roles are those of their words
-pub roles_kept : (o : List RunOption) (given : Kept) → given.words.now ≡ words_of o → All IsOption o → roles_in given.words.now ≡ filter_map role_in o
+roles_kept : (o : List RunOption) (given : Kept) → given.words.now ≡ words_of o → All IsOption o
+    → roles_in given.words.now ≡ filter_map role_in o
 roles_kept o given kept right = ap roles_in kept ∙ roles_in_words o right
 
 more_roles : (c : Option Word) (rs : List RoleClass) (r : RoleClass) → roles_with c (rs ++ r ∷ []) ≡ roles_more (roles_with c rs) r
 more_roles None rs r = refl
 more_roles (Some c) rs r = refl
-
-pub asked_of_run : (words : List Word) (asked : Asked) (files : List Word) → IsCommand (Run asked files) words → IsAsked asked
-asked_of_run words asked files (rest, e, (options, behind, how, are)) = (options, how)
 
 started : (words : List Word) (given : Kept) → given.words.now ≡ [] → asked_of given ≡ unasked → AreRead words given words
 started words given none is = record { options = []; stand = refl; kept = none; asks = subst (AreGiven []) (sym is) none_given }
@@ -109,8 +94,9 @@ front words begin left e =
       take_front (x ∷ xs) b = ap (λ (z : List Word). x ∷ z) (take_front xs b)
 
 -- the words of one more option are read
-pub more_at : (words : List Word) (given : Kept) (rest : List Word) (option : Named) (word : Word) (behind : List Word) (more next : Kept) (left : List Word) → AreRead words given rest
-    → rest ≡ word ∷ behind → word ≡ word_of option → IsMore given option behind more left
+pub more_at : (words : List Word) (given : Kept) (rest : List Word) (option : Named) (word : Word) (behind : List Word)
+    → (more next : Kept) (left : List Word) → AreRead words given rest → rest ≡ word ∷ behind → word ≡ word_of option
+    → IsMore given option behind more left
     → next.words.now ≡ take (length words - length left) words → ((rs : List RoleClass) → asked_with rs next ≡ asked_with rs more)
     → AreRead words next left
 more_at words given rest option word behind more next left h is name (full, read, asks) kept same = record {
@@ -141,18 +127,6 @@ more_at words given rest option word behind more next left h is name (full, read
   all : asked_of next ≡ with_more full (asked_of given)
   all = same (roles_in next.words.now) ∙ ap (λ (z : List RoleClass). asked_with z more) named_so ∙ asks
 
-pub shorter_at : (given : Kept) (rest : List Word) (option : Named) (word : Word) (behind : List Word) (more : Kept) (left : List Word)
-    → rest ≡ word ∷ behind → IsMore given option behind more left → length left < length rest
-shorter_at given rest option word behind more left is (full, read, asks) = go full (ap length read.spelled) (ap length is) where
-  go : (x : RunOption) → length (word_of option ∷ behind) ≡ length (option_words x ++ left) → length rest ≡ length (word ∷ behind)
-      → length left < length rest
-  go (Main v) e e' = omega arith
-  go (Role v) e e' = omega arith
-  go (Order v) e e' = omega arith
-  go (Steps v) e e' = omega arith
-  go Trace e e' = omega arith
-  go (Out v) e e' = omega arith
-
 few_so_far : (words : List Word) (given : Kept) (rest : List Word) (h : AreRead words given rest) → length words < 2 ^ 64
     → length (filter_map role_in h.options) < 2 ^ 63
 few_so_far words given rest h small =
@@ -160,38 +134,34 @@ few_so_far words given rest h small =
     omega (arith, ap length h.stand, length-append (words_of h.options) rest)
 
 -- an option that can't follow
-pub barred_at : (words : List Word) (given : Kept) (rest : List Word) (option : Named) (word : Word) (behind : List Word) → AreRead words given rest
-    → rest ≡ word ∷ behind → word ≡ word_of option → can_follow (asked_of given) option ≡ false → AreWrong (run ∷ words) (Some word)
+pub barred_at : (words : List Word) (given : Kept) (rest : List Word) (option : Named) (word : Word) (behind : List Word)
+    → AreRead words given rest → rest ≡ word ∷ behind → word ≡ word_of option → can_follow (asked_of given) option ≡ false
+    → AreWrong (run ∷ words) (Some word)
 barred_at words given rest option word behind h is name barred =
     subst (λ (z : List Word). AreWrong (run ∷ z) (Some word)) (sym (h.stand ∙ ap (λ (z : List Word). words_of h.options ++ z) is))
     (wrong_option h.options (asked_of given) option word behind h.asks barred name)
 
-pub stuck_at : (words : List Word) (given : Kept) (rest : List Word) (option : Named) (word : Word) (behind : List Word) (wrong : Option (Bor Word)) → AreRead words given rest
-    → length words < 2 ^ 64 → rest ≡ word ∷ behind → word ≡ word_of option → IsStep given option behind (step.Stuck wrong)
+pub stuck_at : (words : List Word) (given : Kept) (rest : List Word) (option : Named) (word : Word) (behind : List Word)
+    → (wrong : Option (Bor Word)) → AreRead words given rest → length words < 2 ^ 64 → rest ≡ word ∷ behind
+    → word ≡ word_of option → IsStep given option behind (step.Stuck wrong)
     → AreWrong (run ∷ words) (option_map (λ w. w.now) wrong)
 stuck_at words given rest option word behind None h small is name (can, other, none) =
     subst (λ (z : List Word). AreWrong (run ∷ z) None)
     (sym (h.stand ∙ ap (λ (z : List Word). words_of h.options ++ z) (is ∙ ap (λ (z : List Word). word ∷ z) none)))
-    (few_value h.options (asked_of given) option word h.asks (follows h.options (asked_of given) option h.asks (few_so_far words given rest h small) can) name other)
+    (few_value h.options (asked_of given) option word h.asks
+    (follows h.options (asked_of given) option h.asks (few_so_far words given rest h small) can) name other)
 stuck_at words given rest option word behind (Some value) h small is name (can, other, (after, stands, isnt)) =
     subst (λ (z : List Word). AreWrong (run ∷ z) (Some value.now))
     (sym (h.stand ∙ ap (λ (z : List Word). words_of h.options ++ z) (is ∙ ap (λ (z : List Word). word ∷ z) stands)))
     (wrong_value h.options (asked_of given) option word value.now after h.asks
     (follows h.options (asked_of given) option h.asks (few_so_far words given rest h small) can) name other isnt)
 
-pub end_at : (words : List Word) (given : Kept) (rest : List Word) → AreRead words given rest → length rest ≡ 0 → AreWrong (run ∷ words) None
+pub end_at : (words : List Word) (given : Kept) (rest : List Word) → AreRead words given rest → length rest ≡ 0
+    → AreWrong (run ∷ words) None
 end_at words given rest h none =
-    subst (λ (z : List Word). AreWrong (run ∷ z) None) (sym (h.stand ∙ ap (λ (z : List Word). words_of h.options ++ z) (empty_is rest none)))
+    subst (λ (z : List Word). AreWrong (run ∷ z) None)
+    (sym (h.stand ∙ ap (λ (z : List Word). words_of h.options ++ z) (empty_is rest none)))
     (few_more h.options (asked_of given) h.asks)
-
-pub files_at : (words : List Word) (given : Kept) (rest : List Word) (result : Judged) → AreRead words given rest
-    → IsRunnable (asked_of given) rest result → IsJudged (run ∷ words) result
-files_at words given rest result h runs =
-    subst (λ (z : List Word). IsJudged (run ∷ z) result) (sym h.stand) (runs h.options h.asks)
-
-pub plain_at : (rest : List Word) (word : Word) (behind : List Word) → rest ≡ word ∷ behind
-    → ((option : Named) → word ≡ word_of option → ⊥) → IsPlain rest
-plain_at rest word behind is isnt = λ option more e. isnt option (head_is (sym is ∙ e))
 
 -- ---- the files of a run
 
@@ -229,31 +199,6 @@ runnable_at asked files whole some each = λ o h. runnable o asked files (whole_
 other_kind : (x : RunOption) (option : Named) (value : Word) → option_words x ≡ word_of option ∷ value ∷ [] → kind_of x ≡ option
 other_kind x option value e = sym (same_kind option x (value ∷ []) [] (sym e ∙ sym (at_end (option_words x))))
 
--- what an option of this kind and value is
-main_is : (x : RunOption) (value : Word) → option_words x ≡ codes "--main" ∷ value ∷ [] → x ≡ Main value
-main_is (Main v) value e = ap Main (head_is (tail_is e))
-main_is (Role v) value e = let k = other_kind (Role v) named.Main value e in absurd cc
-main_is (Order v) value e = let k = other_kind (Order v) named.Main value e in absurd cc
-main_is (Steps v) value e = let k = other_kind (Steps v) named.Main value e in absurd cc
-main_is Trace value e = let k = other_kind Trace named.Main value e in absurd cc
-main_is (Out v) value e = let k = other_kind (Out v) named.Main value e in absurd cc
-
-out_is : (x : RunOption) (value : Word) → option_words x ≡ codes "--out" ∷ value ∷ [] → x ≡ Out value
-out_is (Main v) value e = let k = other_kind (Main v) named.Out value e in absurd cc
-out_is (Role v) value e = let k = other_kind (Role v) named.Out value e in absurd cc
-out_is (Order v) value e = let k = other_kind (Order v) named.Out value e in absurd cc
-out_is (Steps v) value e = let k = other_kind (Steps v) named.Out value e in absurd cc
-out_is Trace value e = let k = other_kind Trace named.Out value e in absurd cc
-out_is (Out v) value e = ap Out (head_is (tail_is e))
-
-steps_is : (x : RunOption) (value : Word) → option_words x ≡ codes "--steps" ∷ value ∷ [] → (n : ℕ) × (x ≡ Steps n) × (value ≡ decimal n)
-steps_is (Main v) value e = let k = other_kind (Main v) named.Steps value e in absurd cc
-steps_is (Role v) value e = let k = other_kind (Role v) named.Steps value e in absurd cc
-steps_is (Order v) value e = let k = other_kind (Order v) named.Steps value e in absurd cc
-steps_is (Steps v) value e = (v, refl, sym (head_is (tail_is e)))
-steps_is Trace value e = let k = other_kind Trace named.Steps value e in absurd cc
-steps_is (Out v) value e = let k = other_kind (Out v) named.Steps value e in absurd cc
-
 order_is : (x : RunOption) (value : Word) → option_words x ≡ codes "--order" ∷ value ∷ [] → IsOption x → x ≡ Order (names_in value)
 order_is (Main v) value e h = let k = other_kind (Main v) named.Order value e in absurd cc
 order_is (Role v) value e h = let k = other_kind (Role v) named.Order value e in absurd cc
@@ -275,22 +220,12 @@ no_value : (given : Kept) (option : Named) (value : Word) (full : RunOption)
     → IsNoValue (asked_of given) option value
 no_value given option value full is isnt x e fits = isnt (subst (λ (z : RunOption). Fits z (asked_of given)) (is x e fits.0) fits)
 
-pub no_class_value : (given : Kept) (value : Word) → (IsName value → ⊥) → IsNoValue (asked_of given) named.Main value
-no_class_value given value isnt = no_value given named.Main value (Main value) (λ x e h. main_is x value e) (λ fits. isnt fits.0)
-
-pub no_folder_value : (given : Kept) (value : Word) → (IsFileName value → ⊥) → IsNoValue (asked_of given) named.Out value
-no_folder_value given value isnt = no_value given named.Out value (Out value) (λ x e h. out_is x value e) (λ fits. isnt fits.0)
-
-pub no_steps_value : (given : Kept) (value : Word) → IsSteps value None → IsNoValue (asked_of given) named.Steps value
-no_steps_value given value isnt x e fits =
-    let (n, is, spelled) = steps_is x value e in
-    let range = subst IsOption is fits.0 in
-    isnt n range.0 range.1 spelled
-
-pub no_order_value : (given : Kept) (value : Word) → (Fits (Order (names_in value)) (asked_of given) → ⊥) → IsNoValue (asked_of given) named.Order value
+no_order_value : (given : Kept) (value : Word) → (Fits (Order (names_in value)) (asked_of given) → ⊥)
+    → IsNoValue (asked_of given) named.Order value
 no_order_value given value isnt = no_value given named.Order value (Order (names_in value)) (λ x e h. order_is x value e h) isnt
 
-pub no_role_value : (given : Kept) (value : Word) → (Fits (Role (role_read value)) (asked_of given) → ⊥) → IsNoValue (asked_of given) named.Role value
+no_role_value : (given : Kept) (value : Word) → (Fits (Role (role_read value)) (asked_of given) → ⊥)
+    → IsNoValue (asked_of given) named.Role value
 no_role_value given value isnt = no_value given named.Role value (Role (role_read value)) (λ x e h. role_is x value e h) isnt
 
 -- where an option of the kind can follow, what is to be named is free
@@ -314,7 +249,8 @@ pub steps_value : (given more : Kept) (value : Word) (n : ℕ) → IsSteps value
 steps_value given more value n (e, low, high) can same = (
   Steps n,
   record { spelled = ap (λ (w : Word). codes "--steps" ∷ w ∷ []) e; right = (low, high); new = none_there (asked_of given).steps can },
-  same (roles_in given.words.now ++ []) ∙ ap (λ (z : List RoleClass). with_more (Steps n) (asked_with z given)) (at_end (roles_in given.words.now)),
+  same (roles_in given.words.now ++ [])
+      ∙ ap (λ (z : List RoleClass). with_more (Steps n) (asked_with z given)) (at_end (roles_in given.words.now)),
 )
 
 pub folder_value : (given more : Kept) (value : Word) → IsFileName value → can_follow (asked_of given) named.Out ≡ true
@@ -322,15 +258,8 @@ pub folder_value : (given more : Kept) (value : Word) → IsFileName value → c
 folder_value given more value h can same = (
   Out value,
   record { spelled = refl; right = h; new = none_there (asked_of given).folder can },
-  same (roles_in given.words.now ++ []) ∙ ap (λ (z : List RoleClass). with_more (Out value) (asked_with z given)) (at_end (roles_in given.words.now)),
-)
-
-pub trace_more : (given more : Kept) (words : List Word) → given.traced ≡ false
-    → ((rs : List RoleClass) → asked_with rs more ≡ with_more Trace (asked_with rs given)) → IsMore given named.Trace words more words
-trace_more given more words new same = (
-  Trace,
-  record { spelled = refl; right = tt; new = new },
-  same (roles_in given.words.now ++ []) ∙ ap (λ (z : List RoleClass). with_more Trace (asked_with z given)) (at_end (roles_in given.words.now)),
+  same (roles_in given.words.now ++ [])
+      ∙ ap (λ (z : List RoleClass). with_more (Out value) (asked_with z given)) (at_end (roles_in given.words.now)),
 )
 
 -- names that a word names are some
@@ -342,38 +271,10 @@ named_all : (c : Option Word) (rs : List RoleClass) (names : List Word) → is_s
 named_all None rs names several h = h
 named_all (Some c) rs names several h = absurd cc
 
-all_named : (c : Option Word) (rs : List RoleClass) (names : List Word) → AreAllNamed (roles_with c rs) names → All (Contains names) (role_names rs)
+all_named : (c : Option Word) (rs : List RoleClass) (names : List Word) → AreAllNamed (roles_with c rs) names
+    → All (Contains names) (role_names rs)
 all_named None rs names h = h
 all_named (Some c) rs names h = absurd h
-
-pub order_value : (given more : Kept) (value : Word) → All IsName (names_in value)
-    → list_all (has_name (names_in value)) (role_names (roles_in given.words.now)) ≡ true → can_follow (asked_of given) named.Order ≡ true
-    → ((rs : List RoleClass) → asked_with rs more ≡ with_more (Order (names_in value)) (asked_with rs given))
-    → IsWith given named.Order value (Some more)
-order_value given more value names each can same =
-    let free = free_named (asked_of given) can in (
-      Order (names_in value),
-      record {
-        spelled = ap (λ (w : Word). codes "--order" ∷ w ∷ []) (sym (join_with_byte-slice_split 44 value));
-        right = (some_names value, names);
-        new = (
-          named_all (option_map (λ w. w.now) given.class) (roles_in given.words.now) (names_in value) free.0
-              (all_have (names_in value) (role_names (roles_in given.words.now)) each),
-          free.1,
-        );
-      },
-      same (roles_in given.words.now ++ []) ∙ ap (λ (z : List RoleClass). with_more (Order (names_in value)) (asked_with z given)) (at_end (roles_in given.words.now)),
-    )
-
-pub order_lacks : (given : Kept) (value : Word) → list_all (has_name (names_in value)) (role_names (roles_in given.words.now)) ≡ false
-    → IsNoValue (asked_of given) named.Order value
-order_lacks given value miss = no_order_value given value (λ fits.
-    never_both (list_all (has_name (names_in value)) (role_names (roles_in given.words.now)))
-    (have_all (names_in value) (role_names (roles_in given.words.now))
-    (all_named (option_map (λ w. w.now) given.class) (roles_in given.words.now) (names_in value) fits.1.0)) miss)
-
-pub no_order : (given : Kept) (value : Word) → (All IsName (names_in value) → ⊥) → IsNoValue (asked_of given) named.Order value
-no_order given value isnt = no_order_value given value (λ fits. isnt fits.0.1)
 
 wanted_is : (order : Option (List Word)) (name : Word) → is_wanted order name ≡ true → IfSome order (λ names. Contains names name)
 wanted_is None name e = tt
@@ -393,12 +294,62 @@ role_is_new : (c : Option Word) (rs : List RoleClass) (name : Word) → IsNewRol
 role_is_new None rs name h = (refl, hasnt (role_names rs) name h)
 role_is_new (Some c) rs name h = absurd h
 
-pub role_value : (given : Kept) (value : Word) → IsName (role_read value).role → IsName (role_read value).class
+-- ---- an order: its names, as the code has the word
+
+pub no_order : (given : Kept) (value word : Word) → word ≡ value → (All IsName (names_in word) → ⊥)
+    → IsNoValue (asked_of given) named.Order value
+no_order given value word e isnt =
+    no_order_value given value (λ fits. isnt (subst (λ (z : Word). All IsName (names_in z)) (sym e) fits.0.1))
+
+lacks_role_at : (given : Kept) (value : Word) → list_all (has_name (names_in value)) (role_names (roles_in given.words.now)) ≡ false
+    → IsNoValue (asked_of given) named.Order value
+lacks_role_at given value miss = no_order_value given value (λ fits.
+    never_both (list_all (has_name (names_in value)) (role_names (roles_in given.words.now)))
+    (have_all (names_in value) (role_names (roles_in given.words.now))
+    (all_named (option_map (λ w. w.now) given.class) (roles_in given.words.now) (names_in value) fits.1.0)) miss)
+
+pub order_lacks : (given : Kept) (value word : Word) → word ≡ value
+    → list_all (has_name (names_in word)) (role_names (roles_in given.words.now)) ≡ false → IsNoValue (asked_of given) named.Order value
+order_lacks given value word e miss =
+    lacks_role_at given value
+    (ap (λ (z : Word). list_all (has_name (names_in z)) (role_names (roles_in given.words.now))) (sym e) ∙ miss)
+
+order_at : (given more : Kept) (value : Word) → All IsName (names_in value)
+    → list_all (has_name (names_in value)) (role_names (roles_in given.words.now)) ≡ true → can_follow (asked_of given) named.Order ≡ true
+    → ((rs : List RoleClass) → asked_with rs more ≡ with_more (Order (names_in value)) (asked_with rs given))
+    → IsWith given named.Order value (Some more)
+order_at given more value names each can same =
+    let free = free_named (asked_of given) can in (
+      Order (names_in value),
+      record {
+        spelled = ap (λ (w : Word). codes "--order" ∷ w ∷ []) (sym (join_with_byte-slice_split 44 value));
+        right = (some_names value, names);
+        new = (
+          named_all (option_map (λ w. w.now) given.class) (roles_in given.words.now) (names_in value) free.0
+              (all_have (names_in value) (role_names (roles_in given.words.now)) each),
+          free.1,
+        );
+      },
+      same (roles_in given.words.now ++ [])
+          ∙ ap (λ (z : List RoleClass). with_more (Order (names_in value)) (asked_with z given)) (at_end (roles_in given.words.now)),
+    )
+
+pub order_value : (given more : Kept) (value word : Word) → word ≡ value → All IsName (names_in word)
+    → list_all (has_name (names_in word)) (role_names (roles_in given.words.now)) ≡ true → can_follow (asked_of given) named.Order ≡ true
+    → ((rs : List RoleClass) → asked_with rs more ≡ with_more (Order (names_in value)) (asked_with rs given))
+    → IsWith given named.Order value (Some more)
+order_value given more value word e names each can same =
+    order_at given more value (subst (λ (z : Word). All IsName (names_in z)) e names)
+    (ap (λ (z : Word). list_all (has_name (names_in z)) (role_names (roles_in given.words.now))) (sym e) ∙ each) can same
+
+-- ---- a role and its class, as the code has them of the word
+
+role_at : (given : Kept) (value : Word) → IsName (role_read value).role → IsName (role_read value).class
     → is_some (option_map (λ w. w.now) given.class) ≡ false
     → has_name (role_names (roles_in given.words.now)) (role_read value).role ≡ false
     → is_wanted (asked_of given).order (role_read value).role ≡ true
     → IsWith given named.Role value (Some given)
-role_value given value role class alone new wanted = (
+role_at given value role class alone new wanted = (
   Role (role_read value),
   record {
     spelled = ap (λ (w : Word). codes "--role" ∷ w ∷ []) (word_of_role value class.starts);
@@ -417,25 +368,41 @@ role_value given value role class alone new wanted = (
   }),
 )
 
-pub no_role_name : (given : Kept) (value : Word) → (IsName (role_read value).role → ⊥) → IsNoValue (asked_of given) named.Role value
-no_role_name given value isnt = no_role_value given value (λ fits. isnt fits.0.0)
+pub role_value : (given : Kept) (value : Word) (r : RoleClass) → r ≡ role_read value → IsName r.role → IsName r.class
+    → is_some (option_map (λ w. w.now) given.class) ≡ false → has_name (role_names (roles_in given.words.now)) r.role ≡ false
+    → is_wanted (asked_of given).order r.role ≡ true → IsWith given named.Role value (Some given)
+role_value given value r e role class alone new wanted =
+    role_at given value (subst (λ (z : RoleClass). IsName z.role) e role) (subst (λ (z : RoleClass). IsName z.class) e class) alone
+    (subst (λ (z : RoleClass). has_name (role_names (roles_in given.words.now)) z.role ≡ false) e new)
+    (subst (λ (z : RoleClass). is_wanted (asked_of given).order z.role ≡ true) e wanted)
 
-pub no_role_class : (given : Kept) (value : Word) → (IsName (role_read value).class → ⊥) → IsNoValue (asked_of given) named.Role value
-no_role_class given value isnt = no_role_value given value (λ fits. isnt fits.0.1)
+-- a role that can't be named, where the one of the word is told not to fit
+role_fits : (given : Kept) (value : Word) (r : RoleClass) → r ≡ role_read value → (Fits (Role r) (asked_of given) → ⊥)
+    → IsNoValue (asked_of given) named.Role value
+role_fits given value r e isnt =
+    no_role_value given value (λ fits. isnt (subst (λ (z : RoleClass). Fits (Role z) (asked_of given)) (sym e) fits))
 
-pub not_alone : (given : Kept) (value : Word) → is_some (option_map (λ w. w.now) given.class) ≡ true → IsNoValue (asked_of given) named.Role value
-not_alone given value is = no_role_value given value (λ fits.
+pub no_role_name : (given : Kept) (value : Word) (r : RoleClass) → r ≡ role_read value → (IsName r.role → ⊥)
+    → IsNoValue (asked_of given) named.Role value
+no_role_name given value r e isnt = role_fits given value r e (λ fits. isnt fits.0.0)
+
+pub no_role_class : (given : Kept) (value : Word) (r : RoleClass) → r ≡ role_read value → (IsName r.class → ⊥)
+    → IsNoValue (asked_of given) named.Role value
+no_role_class given value r e isnt = role_fits given value r e (λ fits. isnt fits.0.1)
+
+pub not_alone : (given : Kept) (value : Word) (r : RoleClass) → r ≡ role_read value
+    → is_some (option_map (λ w. w.now) given.class) ≡ true → IsNoValue (asked_of given) named.Role value
+not_alone given value r e is = role_fits given value r e (λ fits.
     never_both (is_some (option_map (λ w. w.now) given.class)) is
-    (role_is_new (option_map (λ w. w.now) given.class) (roles_in given.words.now) (role_read value).role fits.1.0).0)
+    (role_is_new (option_map (λ w. w.now) given.class) (roles_in given.words.now) r.role fits.1.0).0)
 
-pub named_before : (given : Kept) (value : Word) → has_name (role_names (roles_in given.words.now)) (role_read value).role ≡ true
-    → IsNoValue (asked_of given) named.Role value
-named_before given value is = no_role_value given value (λ fits.
-    never_both (has_name (role_names (roles_in given.words.now)) (role_read value).role) is
-    (role_is_new (option_map (λ w. w.now) given.class) (roles_in given.words.now) (role_read value).role fits.1.0).1)
+pub named_before : (given : Kept) (value : Word) (r : RoleClass) → r ≡ role_read value
+    → has_name (role_names (roles_in given.words.now)) r.role ≡ true → IsNoValue (asked_of given) named.Role value
+named_before given value r e is = role_fits given value r e (λ fits.
+    never_both (has_name (role_names (roles_in given.words.now)) r.role) is
+    (role_is_new (option_map (λ w. w.now) given.class) (roles_in given.words.now) r.role fits.1.0).1)
 
-pub not_wanted : (given : Kept) (value : Word) → is_wanted (asked_of given).order (role_read value).role ≡ false
-    → IsNoValue (asked_of given) named.Role value
-not_wanted given value is = no_role_value given value (λ fits.
-    never_both (is_wanted (asked_of given).order (role_read value).role)
-    (is_it_wanted (asked_of given).order (role_read value).role fits.1.1) is)
+pub not_wanted : (given : Kept) (value : Word) (r : RoleClass) → r ≡ role_read value
+    → is_wanted (asked_of given).order r.role ≡ false → IsNoValue (asked_of given) named.Role value
+not_wanted given value r e is = role_fits given value r e (λ fits.
+    never_both (is_wanted (asked_of given).order r.role) (is_it_wanted (asked_of given).order r.role fits.1.1) is)

@@ -1,6 +1,6 @@
 -- What holds of the roles and of the order of what a run is asked for, and what the code finds of them.
-use Rattle.std.proofs.Common.{◌≡◌, ◌≢◌, ℕ, zero, suc, ◌<◌, ◌≤◌, ◌+◌, ◌^◌, ◌⊎◌, inl, inr, List, [], ◌∷◌, ◌++◌, All, length, get_or, map, Option, Some, None, Bool, true, false, codes, refl, sym, ap, ◌∙◌, subst, arith, cond, ltb, lt-ltb, append_assoc, length-append, Bor}
-use Rattle.std.specs.Prelude.{Contains, IfSome, option_map, is_some, if◌then◌else◌, position, filter_map}
+use Rattle.std.proofs.Common.{◌≡◌, ◌≢◌, ℕ, zero, suc, ◌<◌, ◌+◌, ◌^◌, ◌⊎◌, inl, inr, List, [], ◌∷◌, ◌++◌, All, length, get_or, Option, Some, None, Bool, true, false, codes, refl, sym, ap, ◌∙◌, subst, arith, cond, ltb, lt-ltb, append_assoc, length-append}
+use Rattle.std.specs.Prelude.{Contains, is_some, if◌then◌else◌, position, filter_map}
 use Rattle.std.specs.List.{IsDistinct, range_with_len, position_or_len, cons_option}
 use Rattle.std.specs.Str.{bytes_eq}
 use Rattle.std.proofs.lemmas.List.{length-map, map-append}
@@ -9,14 +9,17 @@ use Rattle.std.proofs.lemmas.List.FromFn.{length-range_with_len, get_or-range_wi
 use Rattle.std.proofs.lemmas.Map.Keys.{IsDistinct-from_apart, apart_from_distinct}
 use Rattle.std.proofs.lemmas.List.Quantifiers.{position-Some}
 use Rattle.mg_text.specs.Interned.{with_text}
-use Rattle.mg_words.specs.Words.{Word, RoleClass, Roles, Alone, Several, Asked, mains_in, mains_of, role_names, order_among, order_of, RunOption, IsOrder, AreRoles}
+use Rattle.mg_words.specs.Words.{Word, RoleClass, Roles, Alone, Several, Asked, Run, IsCommand, mains_in, mains_of, role_names, order_among, order_of, RunOption, AreRoles}
 use Rattle.mg_words.specs.declared.asked.RoleClass.{RoleClass as Kept}
-use Rattle.mg_words.specs.declared.asked.Asked.{Asked as KeptAsked}
-use Rattle.mg_words.specs.inner.Judging.{IsAsked, asked_of, roles_with, roles_in, role_class_of, role_classes_of}
-use Rattle.mg_words.proofs.WordsLemmas.{All-first, All-rest, All-cons, none_yet}
-use Rattle.mg_words.proofs.NameLemmas.{there, here, in_none, one_of, same_name, name_same, never_both, before_differs}
+use Rattle.mg_words.specs.inner.Judging.{IsAsked, role_class_of, role_classes_of}
+use Rattle.mg_words.proofs.WordsLemmas.{All-cons, none_yet}
+use Rattle.mg_words.proofs.NameLemmas.{in_none, one_of, same_name, name_same, never_both, before_differs}
 
-roles_apart : (roles : Roles) (order : Option (List Word)) (o : List RunOption) → AreRoles roles order o → IsDistinct bytes_eq (role_names (mains_in roles))
+pub asked_of_run : (words : List Word) (asked : Asked) (files : List Word) → IsCommand (Run asked files) words → IsAsked asked
+asked_of_run words asked files (rest, e, (options, behind, how, are)) = (options, how)
+
+roles_apart : (roles : Roles) (order : Option (List Word)) (o : List RunOption) → AreRoles roles order o
+    → IsDistinct bytes_eq (role_names (mains_in roles))
 roles_apart (Alone c) order o h = IsDistinct-from_apart bytes_eq (codes "main" ∷ []) (λ i j d less within. absurd (omega arith))
 roles_apart (Several rs) order o (classes, named, some, apart, is) = apart
 
@@ -41,7 +44,8 @@ below_length [] roles n e = none_yet (λ (k : ℕ). k < n)
 below_length (x ∷ xs) roles n e = go (below_length xs roles n e) (position (bytes_eq x) roles) refl where
   go : All (λ k. k < n) (filter_map (λ name. position (bytes_eq name) roles) xs) → (found : Option ℕ) → position (bytes_eq x) roles ≡ found
       → All (λ k. k < n) (cons_option (position (bytes_eq x) roles) (filter_map (λ name. position (bytes_eq name) roles) xs))
-  go h None is = subst (λ (z : Option ℕ). All (λ k. k < n) (cons_option z (filter_map (λ name. position (bytes_eq name) roles) xs))) (sym is) h
+  go h None is =
+      subst (λ (z : Option ℕ). All (λ k. k < n) (cons_option z (filter_map (λ name. position (bytes_eq name) roles) xs))) (sym is) h
   go h (Some k) is =
       let low : k < length roles = (position-Some (bytes_eq x) roles k x is).0 in
       let lower : k < n = omega arith in
@@ -61,19 +65,23 @@ order_below asked = go asked.order where
   go (Some names) = below_length names (role_names (mains_of asked)) (length (mains_of asked)) (sym (names_length (mains_of asked)))
 
 -- the number of the name at a place of names that differ is that place
-place_is : (roles : List Word) (n : ℕ) (d : Word) → IsDistinct bytes_eq roles → n < length roles → position (bytes_eq (get_or roles n d)) roles ≡ Some n
+place_is : (roles : List Word) (n : ℕ) (d : Word) → IsDistinct bytes_eq roles → n < length roles
+    → position (bytes_eq (get_or roles n d)) roles ≡ Some n
 place_is roles n d apart lt =
-    let place : position_or_len (bytes_eq (get_or roles n d)) roles ≡ n = position_or_len_is (bytes_eq (get_or roles n d)) roles n d (omega arith)
+    let place : position_or_len (bytes_eq (get_or roles n d)) roles ≡ n =
+    position_or_len_is (bytes_eq (get_or roles n d)) roles n d (omega arith)
     (λ k less. other (get_or roles k d) (get_or roles n d) (apart_from_distinct bytes_eq roles k n d apart less lt))
     (λ within. name_same (get_or roles n d) (get_or roles n d) refl) in
-    (λ i. cond (ltb (place i) (length roles)) (Some (place i)) None) ∙ ap (λ (b : Bool). cond b (Some n) None) (lt-ltb n (length roles) lt) where
+    (λ i. cond (ltb (place i) (length roles)) (Some (place i)) None)
+    ∙ ap (λ (b : Bool). cond b (Some n) None) (lt-ltb n (length roles) lt) where
       other : (a b : Word) → bytes_eq a b ≡ false → bytes_eq b a ≡ false
       other a b h = go (bytes_eq b a) refl where
         go : (t : Bool) → bytes_eq b a ≡ t → bytes_eq b a ≡ false
         go true e = never_both (bytes_eq a b) (name_same a b (sym (same_name b a e))) h
         go false e = e
 
-mapped : (f : Word → Option ℕ) (names : List Word) (name : Word) (n : ℕ) → Contains names name → f name ≡ Some n → Contains (filter_map f names) n
+mapped : (f : Word → Option ℕ) (names : List Word) (name : Word) (n : ℕ) → Contains names name → f name ≡ Some n
+    → Contains (filter_map f names) n
 mapped f [] name n h is = absurd (in_none name h)
 mapped f (x ∷ xs) name n h is = go (λ k. mapped f xs name n k is) (one_of x xs name h) where
   with_found : (found : Option ℕ) → Contains (filter_map f xs) n → Contains (cons_option found (filter_map f xs)) n
@@ -106,19 +114,6 @@ each_at (Several rs) (Some names) o (classes, named, some, apart, is) n lt =
 pub order_each : (asked : Asked) → IsAsked asked → (n : ℕ) → n < length (mains_of asked) → Contains (order_of asked) n
 order_each asked (words, how) = each_at asked.roles asked.order how.options how.roles
 
-pub few_mains : (items : List Kept) (mains : List RoleClass) → role_classes_of items ≡ mains → length items < 2 ^ 32 → length mains < 2 ^ 32
-few_mains items mains e few = omega (arith, ap length e, length-map items role_class_of)
-
--- what the code reads the roles off
-pub mains_read : (a : KeptAsked) → a.class ≡ None → mains_of (asked_of a) ≡ roles_in a.words.now
-mains_read a e = ap (λ (z : Option (Bor Word)). mains_in (roles_with (option_map (λ w. w.now) z) (roles_in a.words.now))) e
-
-pub main_alone : (a : KeptAsked) (class : Bor Word) → a.class ≡ Some class → mains_of (asked_of a) ≡ record { role = codes "main"; class = class.now } ∷ []
-main_alone a class e = ap (λ (z : Option (Bor Word)). mains_in (roles_with (option_map (λ w. w.now) z) (roles_in a.words.now))) e
-
-pub read_apart : (a : KeptAsked) → a.class ≡ None → IsAsked (asked_of a) → IsDistinct bytes_eq (role_names (roles_in a.words.now))
-read_apart a e h = subst (λ (z : List RoleClass). IsDistinct bytes_eq (role_names z)) (mains_read a e) (distinct_mains (asked_of a) h)
-
 -- ---- what the code collects
 
 -- a text that the table hasn't is added at its end
@@ -143,10 +138,12 @@ names_pushed names new all roles rest r name apart so is same added few =
       omega (arith, ap length now, length-append names (name ∷ [])),
     )
 
-pub roles_pushed : (items new : List Kept) (item : Kept) (left rest all : List RoleClass) (r : RoleClass) → role_classes_of items ++ left ≡ all
-    → left ≡ r ∷ rest → new ≡ items ++ item ∷ [] → role_class_of item ≡ r → role_classes_of new ++ rest ≡ all
+pub roles_pushed : (items new : List Kept) (item : Kept) (left rest all : List RoleClass) (r : RoleClass)
+    → role_classes_of items ++ left ≡ all → left ≡ r ∷ rest → new ≡ items ++ item ∷ [] → role_class_of item ≡ r
+    → role_classes_of new ++ rest ≡ all
 roles_pushed items new item left rest all r so is added same =
-    ap (λ (z : List Kept). role_classes_of z ++ rest) added ∙ ap (λ (z : List RoleClass). z ++ rest) (map-append role_class_of items (item ∷ []))
+    ap (λ (z : List Kept). role_classes_of z ++ rest) added
+    ∙ ap (λ (z : List RoleClass). z ++ rest) (map-append role_class_of items (item ∷ []))
     ∙ append_assoc (role_classes_of items) (role_class_of item ∷ []) rest
     ∙ ap (λ (z : RoleClass). role_classes_of items ++ z ∷ rest) same ∙ ap (λ (z : List RoleClass). role_classes_of items ++ z) (sym is) ∙ so
 

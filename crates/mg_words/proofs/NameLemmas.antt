@@ -1,16 +1,16 @@
 -- Names, and lists of them: those that a word names with "," between, those that have a name, and one that none has.
-use Rattle.std.proofs.Common.{◌≡◌, ◌≢◌, ℕ, zero, suc, ◌<◌, ◌≤◌, ◌+◌, ◌^◌, ◌⊎◌, inl, inr, List, [], ◌∷◌, ◌++◌, All, length, get_or, map, Option, Some, None, Bool, true, false, ◌&&◌, ◌||◌, not, eqb, eqb-true, codes, refl, sym, ap, ◌∙◌, subst, arith, append_assoc, length-append}
-use Rattle.std.specs.Prelude.{Contains, IfSome}
+use Rattle.std.proofs.Common.{◌≡◌, ◌≢◌, ℕ, zero, suc, ◌<◌, ◌≤◌, ◌^◌, ◌⊎◌, inl, inr, List, [], ◌∷◌, ◌++◌, All, length, get_or, map, None, Bool, true, false, ◌&&◌, ◌||◌, eqb, eqb-true, refl, sym, ap, ◌∙◌, subst, arith, length-append}
+use Rattle.std.specs.Prelude.{Contains}
 use Rattle.std.specs.Fmt.{decimal}
-use Rattle.std.specs.List.{IsDistinct, join_with_byte, slice_split, list_any, list_all, range_with_len}
+use Rattle.std.specs.List.{IsDistinct, join_with_byte, list_all, range_with_len}
 use Rattle.std.specs.Str.{bytes_eq}
 use Rattle.std.specs.Str.Parse.{AllDigits, digits_value}
 use Rattle.std.specs.Cmp.Lexicographic.{nat_list_eq_equiv}
 use Rattle.std.proofs.lemmas.Slice.Eq.{bytes_eq-Decides}
-use Rattle.std.proofs.lemmas.List.{map-append, length-map}
+use Rattle.std.proofs.lemmas.List.{map-append}
 use Rattle.std.proofs.lemmas.List.FromFn.{length-map-range_with_len, get_or-map-range_with_len}
 use Rattle.std.proofs.lemmas.List.Splits.{slice_split_none, slice_split_at}
-use Rattle.std.proofs.lemmas.List.Elements.{All-contains, Contains-append_left, Contains-append_right, Contains-push_cases}
+use Rattle.std.proofs.lemmas.List.Elements.{All-contains}
 use Rattle.std.proofs.lemmas.Map.Keys.{IsDistinct-push, IsDistinct-from_apart, apart_from_distinct}
 use Rattle.std.proofs.lemmas.Map.Made.{length-le_from_is_member}
 use Rattle.std.proofs.lemmas.Fmt.{decimal_injective, digits_decimal, length-decimal-le}
@@ -19,7 +19,7 @@ use Rattle.mg_read.specs.Passes.{AllPasses, StartsWith}
 use Rattle.scr_tree.specs.Words.{IsName, reserved, is_name_start, is_name_byte}
 use Rattle.mg_words.specs.Words.{Word, RoleClass, role_names}
 use Rattle.mg_words.specs.inner.Judging.{names_in, has_name}
-use Rattle.mg_words.proofs.WordsLemmas.{head_is, tail_is, All-first, All-rest, All-cons, All-push, none_yet, some_class, classed}
+use Rattle.mg_words.proofs.WordsLemmas.{All-first, All-rest, All-cons, none_yet}
 
 -- ---- the bytes of a name
 
@@ -205,7 +205,8 @@ own = numerals_by_value (AllDigits 10) tells_digits
 digit_passes : (c : ℕ) → 48 ≤ c → c ≤ 57 → is_name_byte c ≡ true
 digit_passes c low high = grind (arith, low, high)
 
-digits_pass : (bytes : List ℕ) → ((k : ℕ) → k < length bytes → (48 ≤ get_or bytes k 0) × (get_or bytes k 0 ≤ 57)) → AllPasses is_name_byte bytes
+digits_pass : (bytes : List ℕ) → ((k : ℕ) → k < length bytes → (48 ≤ get_or bytes k 0) × (get_or bytes k 0 ≤ 57))
+    → AllPasses is_name_byte bytes
 digits_pass [] h = tt
 digits_pass (c ∷ cs) h =
     let first = h 0 (omega arith) in

@@ -1,10 +1,10 @@
 //! What a run is asked for, read off the words of its options.
 
-ghost use Rattle.std.specs.Prelude.{◌≡◌, ◌≢◌, ◌<◌, ◌^◌, ℕ, [], ◌∷◌, codes, All, Contains, length, map, IfOk};
+ghost use Rattle.std.specs.Prelude.{◌≡◌, ◌≢◌, ◌<◌, ◌^◌, ℕ, [], ◌∷◌, codes, All, Contains, length, IfOk};
 ghost use Rattle.std.specs.List.{IsDistinct, range_with_len};
 ghost use Rattle.std.specs.Str.{bytes_eq};
 ghost use Rattle.mg_words.specs.Words.{Alone, mains_in, mains_of, role_names, order_of, order_among, are_named};
-ghost use Rattle.mg_words.specs.inner.Judging.{asked_of, role_class_of, role_classes_of, roles_in, names_in, IsAsked};
+ghost use Rattle.mg_words.specs.inner.Judging.{asked_of, role_classes_of, roles_in, names_in, IsAsked};
 
 use crate::roles::{first_name, next_role};
 use mg_text::{List, Memory, Names, Text};

@@ -1,6 +1,6 @@
 //! The options of a run, one after the other: which can follow those before it, and what is asked for with it.
 
-ghost use Rattle.std.specs.Prelude.{◌≡◌, ◌≢◌, ◌↔◌, ◌∷◌, IsTrue, true, All, codes, is_some, option_map};
+ghost use Rattle.std.specs.Prelude.{◌≡◌, ◌≢◌, ◌↔◌, IsTrue, true, All, is_some, option_map};
 ghost use Rattle.mg_words.specs.Words.{role_names};
 ghost use Rattle.scr_tree.specs.Words.{IsName};
 ghost use Rattle.mg_words.specs.inner.Judging.{asked_of, IsSteps, StartsNumber, IsNamed, IsStep, IsWith, can_follow, are_whole, lacks_role, is_wanted, names_in, roles_in};

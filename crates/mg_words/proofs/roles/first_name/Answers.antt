@@ -1,4 +1,3 @@
-use Rattle.std.proofs.Common.{lit<}
 use Rattle.mg_words.proofs.CodeLemmas.{first_split, first_whole}
 use Rattle.mg_words.proofs.roles.first_name.Goals as goal
 
