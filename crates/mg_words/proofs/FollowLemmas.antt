@@ -1,17 +1,16 @@
 -- Which option can follow others, and when options can be all: what the code tests says just that.
-use Rattle.std.proofs.Common.{◌≡◌, ◌≢◌, ℕ, zero, suc, ◌<◌, ◌≤◌, ◌^◌, ◌⊎◌, inl, inr, List, [], ◌∷◌, ◌++◌, All, length, get_or, map, Option, Some, None, Bool, true, false, ◌&&◌, not, refl, sym, ap, ◌∙◌, subst, arith}
-use Rattle.std.specs.Prelude.{Contains, IfSome, is_some, option_to_list, filter, filter_map, if◌then◌else◌}
-use Rattle.std.specs.List.{IsDistinct, list_all}
-use Rattle.std.specs.Str.{bytes_eq}
+use Rattle.std.proofs.Common.{◌≡◌, ◌≢◌, ℕ, ◌<◌, ◌^◌, List, [], ◌∷◌, All, length, Option, Some, None, Bool, true, false, ◌&&◌, not, refl, sym, ap, ◌∙◌, subst, arith}
+use Rattle.std.specs.Prelude.{Contains, IfSome, is_some, option_to_list, filter_map, if◌then◌else◌}
+use Rattle.std.specs.List.{list_all}
 use Rattle.std.proofs.lemmas.List.{length-map}
 use Rattle.std.proofs.lemmas.List.Elements.{All-contains, All-map}
 use Rattle.scr_tree.specs.Words.{IsName}
 use Rattle.mg_words.specs.declared.options.Named.{Named}
 use Rattle.mg_words.specs.declared.options.Named.TheVariants as named
-use Rattle.mg_words.specs.Words.{Word, RoleClass, Roles, Alone, Several, role_names, Asked, RunOption, Main, Role, Order, Steps, Trace, Out, IsOption, class_in, role_in, order_in, steps_in, is_trace, folder_in, IsOrder, AreRoles}
-use Rattle.mg_words.specs.inner.Judging.{has_name, NamesEach, AreRolesSoFar, AreGiven, kind_of, IsNewRole, AreAllNamed, IsNew, Fits, is_open, has_none, is_empty, is_several, can_follow, are_whole}
+use Rattle.mg_words.specs.Words.{Word, RoleClass, Roles, Alone, Several, role_names, Asked, RunOption, Main, Role, Order, Steps, Trace, Out, IsOption, role_in, order_in, IsOrder, AreRoles}
+use Rattle.mg_words.specs.inner.Judging.{has_name, NamesEach, AreRolesSoFar, AreGiven, kind_of, IsNewRole, AreAllNamed, Fits, is_open, has_none, is_empty, is_several, can_follow, are_whole}
 use Rattle.mg_words.proofs.WordsLemmas.{filled, All-first, All-rest, All-cons, none_yet, some_class, classed, is_name}
-use Rattle.mg_words.proofs.NameLemmas.{in_none, has_is, is_has, have_all, all_have, lacking, never_both, All-itself, All-there, free_name}
+use Rattle.mg_words.proofs.NameLemmas.{in_none, have_all, all_have, lacking, All-itself, All-there, free_name}
 use Rattle.mg_words.proofs.OptionLemmas.{AreAll}
 
 pub first_is : {A : Type 0} {x y : A} {xs ys : List A} → ◌≡◌ {A = List A} (x ∷ xs) (y ∷ ys) → x ≡ y
@@ -162,7 +161,7 @@ fits_follow (Steps n) a (is, free) = ap (λ (z : Option ℕ). not (is_some z)) f
 fits_follow Trace a (is, new) = ap not new
 fits_follow (Out v) a (is, free) = ap (λ (z : Option Word). not (is_some z)) free
 
-both_true : (a b : Bool) → (a && b) ≡ true → (a ≡ true) × (b ≡ true)
+pub both_true : (a b : Bool) → (a && b) ≡ true → (a ≡ true) × (b ≡ true)
 both_true true b e = (refl, e)
 both_true false b e = absurd cc
 
@@ -170,21 +169,21 @@ pub not_true : (t : Bool) → not t ≡ true → t ≡ false
 not_true true e = absurd cc
 not_true false e = refl
 
-none_there : {A : Type 0} (a : Option A) → not (is_some a) ≡ true → a ≡ None
+pub none_there : {A : Type 0} (a : Option A) → not (is_some a) ≡ true → a ≡ None
 none_there None e = refl
 none_there (Some x) e = absurd cc
 
-no_roles : (roles : Roles) → is_empty roles ≡ true → roles ≡ Several []
+pub no_roles : (roles : Roles) → is_empty roles ≡ true → roles ≡ Several []
 no_roles (Alone c) e = absurd cc
 no_roles (Several []) e = refl
 no_roles (Several (r ∷ rs)) e = absurd cc
 
 free_role : (o : List RunOption) (roles : Roles) (order : Option (List Word)) → AreRolesSoFar roles order o
-    → filter_map order_in o ≡ option_to_list order → All IsOption o → length (filter_map role_in o) < 2 ^ 62 → is_open roles order ≡ true
+    → filter_map order_in o ≡ option_to_list order → All IsOption o → length (filter_map role_in o) < 2 ^ 63 → is_open roles order ≡ true
     → (name : Word) × IsName name × IsNewRole roles name × IfSome order (λ names. Contains names name)
 free_role o (Alone c) order h was right few e = absurd cc
 free_role o (Several rs) None (classes, named, apart, each) was right few e =
-    let short : length (role_names rs) < 2 ^ 62 = omega (arith, length-map rs (λ (r : RoleClass). r.role), ap length named) in
+    let short : length (role_names rs) < 2 ^ 63 = omega (arith, length-map rs (λ (r : RoleClass). r.role), ap length named) in
     let (name, is, new) = free_name (role_names rs) short in
     (name, is, new, tt)
 free_role o (Several rs) (Some names) (classes, named, apart, each) was right few e =
@@ -201,7 +200,7 @@ free_order o (Several rs) order h right e = (
   All-there some_class (role_names rs) (role_names rs) (All-itself (role_names rs)),
 )
 
-pub follows : (o : List RunOption) (a : Asked) (option : Named) → AreGiven o a → length (filter_map role_in o) < 2 ^ 62
+pub follows : (o : List RunOption) (a : Asked) (option : Named) → AreGiven o a → length (filter_map role_in o) < 2 ^ 63
     → can_follow a option ≡ true → CanFollow a option
 follows o a named.Main h few e =
     let both = both_true (is_empty a.roles) (not (is_some a.order)) e in

@@ -1,16 +1,16 @@
 -- Names, and lists of them: those that a word names with "," between, those that have a name, and one that none has.
-use Rattle.std.proofs.Common.{◌≡◌, ◌≢◌, ℕ, zero, suc, ◌<◌, ◌≤◌, ◌+◌, ◌^◌, ◌⊎◌, inl, inr, List, [], ◌∷◌, ◌++◌, All, length, get_or, map, Option, Some, None, Bool, true, false, ◌&&◌, ◌||◌, not, eqb, eqb-true, codes, refl, sym, ap, ◌∙◌, subst, arith, append_assoc, length-append}
-use Rattle.std.specs.Prelude.{Contains, IfSome}
+use Rattle.std.proofs.Common.{◌≡◌, ◌≢◌, ℕ, zero, suc, ◌<◌, ◌≤◌, ◌^◌, ◌⊎◌, inl, inr, List, [], ◌∷◌, ◌++◌, All, length, get_or, map, None, Bool, true, false, ◌&&◌, ◌||◌, eqb, eqb-true, refl, sym, ap, ◌∙◌, subst, arith, length-append}
+use Rattle.std.specs.Prelude.{Contains}
 use Rattle.std.specs.Fmt.{decimal}
-use Rattle.std.specs.List.{IsDistinct, join_with_byte, slice_split, list_any, list_all, range_with_len}
+use Rattle.std.specs.List.{IsDistinct, join_with_byte, list_all, range_with_len}
 use Rattle.std.specs.Str.{bytes_eq}
 use Rattle.std.specs.Str.Parse.{AllDigits, digits_value}
 use Rattle.std.specs.Cmp.Lexicographic.{nat_list_eq_equiv}
 use Rattle.std.proofs.lemmas.Slice.Eq.{bytes_eq-Decides}
-use Rattle.std.proofs.lemmas.List.{map-append, length-map}
+use Rattle.std.proofs.lemmas.List.{map-append}
 use Rattle.std.proofs.lemmas.List.FromFn.{length-map-range_with_len, get_or-map-range_with_len}
 use Rattle.std.proofs.lemmas.List.Splits.{slice_split_none, slice_split_at}
-use Rattle.std.proofs.lemmas.List.Elements.{All-contains, Contains-append_left, Contains-append_right, Contains-push_cases}
+use Rattle.std.proofs.lemmas.List.Elements.{All-contains}
 use Rattle.std.proofs.lemmas.Map.Keys.{IsDistinct-push, IsDistinct-from_apart, apart_from_distinct}
 use Rattle.std.proofs.lemmas.Map.Made.{length-le_from_is_member}
 use Rattle.std.proofs.lemmas.Fmt.{decimal_injective, digits_decimal, length-decimal-le}
@@ -19,7 +19,7 @@ use Rattle.mg_read.specs.Passes.{AllPasses, StartsWith}
 use Rattle.scr_tree.specs.Words.{IsName, reserved, is_name_start, is_name_byte}
 use Rattle.mg_words.specs.Words.{Word, RoleClass, role_names}
 use Rattle.mg_words.specs.inner.Judging.{names_in, has_name}
-use Rattle.mg_words.proofs.WordsLemmas.{head_is, tail_is, All-first, All-rest, All-cons, All-push, none_yet, some_class, classed}
+use Rattle.mg_words.proofs.WordsLemmas.{All-first, All-rest, All-cons, none_yet}
 
 -- ---- the bytes of a name
 
@@ -80,10 +80,10 @@ one_of y ys x (suc k, lt, e) = inr (k, omega arith, e)
 pub in_none : (x : Word) → Contains [] x → ⊥
 in_none x (k, lt, e) = absurd (omega arith)
 
-same_name : (x y : Word) → bytes_eq x y ≡ true → x ≡ y
+pub same_name : (x y : Word) → bytes_eq x y ≡ true → x ≡ y
 same_name x y h = (bytes_eq-Decides x y).0 h
 
-name_same : (x y : Word) → x ≡ y → bytes_eq x y ≡ true
+pub name_same : (x y : Word) → x ≡ y → bytes_eq x y ≡ true
 name_same x y e = (bytes_eq-Decides x y).1 e
 
 or_true : (a b : Bool) → (a || b) ≡ true → (a ≡ true) ⊎ (b ≡ true)
@@ -106,17 +106,17 @@ never_both b e k = let no : true ≡ false = sym e ∙ k in absurd cc
 
 pub has_is : (names : List Word) (name : Word) → has_name names name ≡ true → Contains names name
 has_is [] name h = absurd cc
-has_is (y ∷ ys) name h = go (or_true (bytes_eq name y) (has_name ys name) h) where
-  go : (bytes_eq name y ≡ true) ⊎ (has_name ys name ≡ true) → Contains (y ∷ ys) name
-  go (inl e) = subst (λ (z : Word). Contains (y ∷ ys) z) (sym (same_name name y e)) (here y ys)
-  go (inr e) = there y ys (has_is ys name e)
+has_is (y ∷ ys) name h = go (has_is ys name) (or_true (bytes_eq name y) (has_name ys name) h) where
+  go : (has_name ys name ≡ true → Contains ys name) → (bytes_eq name y ≡ true) ⊎ (has_name ys name ≡ true) → Contains (y ∷ ys) name
+  go later (inl e) = subst (λ (z : Word). Contains (y ∷ ys) z) (sym (same_name name y e)) (here y ys)
+  go later (inr e) = there y ys (later e)
 
 pub is_has : (names : List Word) (name : Word) → Contains names name → has_name names name ≡ true
 is_has [] name h = absurd (in_none name h)
-is_has (y ∷ ys) name h = go (one_of y ys name h) where
-  go : (y ≡ name) ⊎ Contains ys name → has_name (y ∷ ys) name ≡ true
-  go (inl e) = ap (λ (z : Bool). z || has_name ys name) (name_same name y (sym e))
-  go (inr k) = true_or (bytes_eq name y) (has_name ys name) (is_has ys name k)
+is_has (y ∷ ys) name h = go (is_has ys name) (one_of y ys name h) where
+  go : (Contains ys name → has_name ys name ≡ true) → (y ≡ name) ⊎ Contains ys name → has_name (y ∷ ys) name ≡ true
+  go later (inl e) = ap (λ (z : Bool). z || has_name ys name) (name_same name y (sym e))
+  go later (inr k) = true_or (bytes_eq name y) (has_name ys name) (later k)
 
 pub hasnt : (names : List Word) (name : Word) → (Contains names name → ⊥) → has_name names name ≡ false
 hasnt names name none = go (has_name names name) refl where
@@ -140,12 +140,13 @@ have_all names (x ∷ xs) h =
 pub lacking : (names wanted : List Word) → list_all (has_name names) wanted ≡ false
     → (name : Word) × Contains wanted name × (Contains names name → ⊥)
 lacking names [] h = absurd cc
-lacking names (x ∷ xs) h = go (has_name names x) refl where
-  go : (t : Bool) → has_name names x ≡ t → (name : Word) × Contains (x ∷ xs) name × (Contains names name → ⊥)
-  go true e =
-      let (name, there_it, not_it) = lacking names xs (ap (λ (z : Bool). z && list_all (has_name names) xs) (sym e) ∙ h) in
+lacking names (x ∷ xs) h = go (lacking names xs) (has_name names x) refl where
+  go : (list_all (has_name names) xs ≡ false → (name : Word) × Contains xs name × (Contains names name → ⊥)) → (t : Bool)
+      → has_name names x ≡ t → (name : Word) × Contains (x ∷ xs) name × (Contains names name → ⊥)
+  go later true e =
+      let (name, there_it, not_it) = later (ap (λ (z : Bool). z && list_all (has_name names) xs) (sym e) ∙ h) in
       (name, there x xs there_it, not_it)
-  go false e = (x, here x xs, λ k. never_both (has_name names x) (is_has names x k) e)
+  go later false e = (x, here x xs, λ k. never_both (has_name names x) (is_has names x k) e)
 
 -- each of a longer list is in it, and in a still longer one
 pub All-there : (y : Word) (ys xs : List Word) → All (Contains ys) xs → All (Contains (y ∷ ys)) xs
@@ -204,7 +205,8 @@ own = numerals_by_value (AllDigits 10) tells_digits
 digit_passes : (c : ℕ) → 48 ≤ c → c ≤ 57 → is_name_byte c ≡ true
 digit_passes c low high = grind (arith, low, high)
 
-digits_pass : (bytes : List ℕ) → ((k : ℕ) → k < length bytes → (48 ≤ get_or bytes k 0) × (get_or bytes k 0 ≤ 57)) → AllPasses is_name_byte bytes
+digits_pass : (bytes : List ℕ) → ((k : ℕ) → k < length bytes → (48 ≤ get_or bytes k 0) × (get_or bytes k 0 ≤ 57))
+    → AllPasses is_name_byte bytes
 digits_pass [] h = tt
 digits_pass (c ∷ cs) h =
     let first = h 0 (omega arith) in
@@ -214,7 +216,7 @@ free_number : (n : ℕ) → reserved (numbered n) ≡ None
 unfolding reserved
 free_number n = refl
 
-numbered_name : (n : ℕ) → n < 2 ^ 63 → IsName (numbered n)
+numbered_name : (n : ℕ) → n < 2 ^ 64 → IsName (numbered n)
 numbered_name n small = record {
   starts = refl;
   bytes = (refl, digits_pass (decimal n) (λ k lt. digit_at (decimal n) k (digits_decimal own n (omega arith)) lt));
@@ -225,7 +227,7 @@ numbered_name n small = record {
 tail_of : (a b : List ℕ) → ◌≡◌ {A = Word} (82 ∷ a) (82 ∷ b) → a ≡ b
 tail_of a b e = cc
 
-numbered_apart : (m n : ℕ) → m < n → n < 2 ^ 63 → bytes_eq (numbered m) (numbered n) ≡ false
+numbered_apart : (m n : ℕ) → m < n → n < 2 ^ 64 → bytes_eq (numbered m) (numbered n) ≡ false
 numbered_apart m n less small = go (bytes_eq (numbered m) (numbered n)) refl where
   go : (t : Bool) → bytes_eq (numbered m) (numbered n) ≡ t → bytes_eq (numbered m) (numbered n) ≡ false
   go true e =
@@ -246,14 +248,14 @@ row_at : (n i : ℕ) (d : Word) → i < n → get_or (row n) i d ≡ numbered i
 unfolding row
 row_at n i d lt = get_or-map-range_with_len numbered 0 n i i d lt (omega arith)
 
-row_differs : (n : ℕ) → n < 2 ^ 63 → IsDistinct bytes_eq (row n)
+row_differs : (n : ℕ) → n < 2 ^ 64 → IsDistinct bytes_eq (row n)
 row_differs n small = IsDistinct-from_apart bytes_eq (row n) (λ i j d less within.
     let l : j < n = omega (arith, row_length n) in
     let m : i < n = omega arith in
     (λ z. bytes_eq (row_at n i d m z) (row_at n j d l z)) ∙ numbered_apart i j less (omega arith))
 
 -- some name is none of these
-pub free_name : (roles : List Word) → length roles < 2 ^ 62 → (name : Word) × IsName name × (Contains roles name → ⊥)
+pub free_name : (roles : List Word) → length roles < 2 ^ 63 → (name : Word) × IsName name × (Contains roles name → ⊥)
 free_name roles few = go (list_all (has_name roles) (row n)) refl where
   n : ℕ
   n = suc (length roles)

@@ -1,23 +1,20 @@
 -- The options of a run: their words tell them apart, and each that can follow others is one that fits what is asked for.
-use Rattle.std.proofs.Common.{◌≡◌, ◌≢◌, ℕ, zero, suc, ◌<◌, ◌≤◌, ◌⊎◌, inl, inr, List, [], ◌∷◌, ◌++◌, All, length, get_or, map, Option, Some, None, Bool, true, false, ◌&&◌, ◌||◌, not, ◌==◌, codes, refl, sym, ap, ◌∙◌, subst, arith, append_assoc, length-append}
-use Rattle.std.specs.Prelude.{Contains, IfSome, is_some, option_to_list, flat_map, filter, filter_map, if◌then◌else◌}
+use Rattle.std.proofs.Common.{◌≡◌, ℕ, ◌≤◌, List, [], ◌∷◌, ◌++◌, All, length, get_or, Option, Some, None, Bool, true, false, ◌==◌, refl, sym, ap, ◌∙◌, subst, arith}
+use Rattle.std.specs.Prelude.{Contains, IfSome, option_to_list, filter, filter_map, if◌then◌else◌}
 use Rattle.std.specs.Fmt.{decimal}
-use Rattle.std.specs.List.{IsDistinct, join_with_byte, list_all}
+use Rattle.std.specs.List.{IsDistinct, join_with_byte}
 use Rattle.std.specs.Str.{bytes_eq}
 use Rattle.std.proofs.lemmas.Fmt.{decimal_injective}
-use Rattle.std.proofs.lemmas.Grind.{flat_map-append}
-use Rattle.std.proofs.lemmas.List.Elements.{filter_map-append, filter-append, All-contains, Contains-append_right}
+use Rattle.std.proofs.lemmas.List.Elements.{filter_map-append, filter-append}
 use Rattle.std.proofs.lemmas.Map.Keys.{IsDistinct-from_apart}
 use Rattle.scr_tree.specs.Words.{IsName}
 use Rattle.mg_words.specs.declared.options.Named.{Named}
 use Rattle.mg_words.specs.declared.options.Named.TheVariants as named
-use Rattle.mg_words.specs.Words.{Word, RoleClass, Roles, Alone, Several, role_names, Asked, RunOption, Main, Role, Order, Steps, Trace, Out, option_words, IsOption, class_in, role_in, order_in, steps_in, is_trace, folder_in, IsOrder, AreRoles, AreOptions, IsFileName, IsSourceName, AreSourceNames}
-use Rattle.mg_words.specs.inner.Judging.{names_in, has_name, NamesEach, AreRolesSoFar, AreGiven, word_of, kind_of, IsNewRole, AreAllNamed, IsNew, Fits, lacks_role, is_open, has_none, is_empty, is_several, can_follow, are_whole, roles_more, with_more, nothing}
-use Rattle.mg_words.proofs.WordsLemmas.{head_is, tail_is, filled, nothing_behind, All-first, All-rest, All-cons, All-push, All-mid, none_yet, some_class, classed, is_name}
-use Rattle.mg_words.proofs.NameLemmas.{names_joined, there, here, in_none, is_has, have_all, all_have, lacking, never_both, All-itself, All-there, All-front, names_push, names_on, distinct_push, before_differs, free_name}
-
-abbrev pub words_of : List RunOption → List Word
-words_of = flat_map option_words
+use Rattle.mg_words.specs.Words.{Word, RoleClass, Roles, Alone, Several, role_names, Asked, RunOption, Main, Role, Order, Steps, Trace, Out, option_words, IsOption, class_in, role_in, order_in, steps_in, is_trace, folder_in, IsOrder, AreRoles, IsSourceName, AreSourceNames}
+use Rattle.mg_words.specs.inner.Judging.{role_read, names_in, NamesEach, AreRolesSoFar, AreGiven, word_of, kind_of, IsNewRole, AreAllNamed, Fits, roles_more, with_more, unasked}
+use Rattle.mg_words.proofs.WordsLemmas.{head_is, tail_is, filled, All-first, All-push, All-mid, none_yet}
+use Rattle.mg_words.proofs.RoleLemmas.{role_in_word}
+use Rattle.mg_words.proofs.NameLemmas.{names_joined, All-front, names_push, names_on, distinct_push, before_differs}
 
 -- ---- an option is known by its word
 
@@ -66,6 +63,9 @@ pub same_kind : (option : Named) (x : RunOption) (ws rest : List Word)
     → ◌≡◌ {A = List Word} (word_of option ∷ ws) (option_words x ++ rest) → option ≡ kind_of x
 same_kind option x ws rest e = same_word option (kind_of x) (head_is (e ∙ ap (λ (z : List Word). z ++ rest) (begins_with x)))
 
+same_role : (v w : RoleClass) → IsName v.role → IsName w.role → v.role ++ 61 ∷ v.class ≡ w.role ++ 61 ∷ w.class → v ≡ w
+same_role v w h k e = sym (role_in_word v h) ∙ ap role_read e ∙ role_in_word w k
+
 same_number : (n m : ℕ) → n ≤ 20000000 → m ≤ 20000000 → decimal n ≡ decimal m → n ≡ m
 same_number n m h k e = decimal_injective n m (omega arith) (omega arith) e
 
@@ -113,12 +113,12 @@ at_end {A = A} (y ∷ ys) = ap (λ (z : List A). y ∷ z) (at_end ys)
 
 -- options that are all ask for this
 pub record AreAll (options : List RunOption) (asked : Asked) : Type 0 where
-  right : All IsOption options
-  roles : AreRoles asked.roles asked.order options
-  order : filter_map order_in options ≡ option_to_list asked.order
-  steps : filter_map steps_in options ≡ option_to_list asked.steps
-  traced : filter is_trace options ≡ (if asked.traced then Trace ∷ [] else [])
-  folder : filter_map folder_in options ≡ option_to_list asked.folder
+  pub right : All IsOption options
+  pub roles : AreRoles asked.roles asked.order options
+  pub order : filter_map order_in options ≡ option_to_list asked.order
+  pub steps : filter_map steps_in options ≡ option_to_list asked.steps
+  pub traced : filter is_trace options ≡ (if asked.traced then Trace ∷ [] else [])
+  pub folder : filter_map folder_in options ≡ option_to_list asked.folder
 
 kept : {A : Type 0} (f : RunOption → Option A) (o : List RunOption) (x : RunOption) (xs : List A) → filter_map f o ≡ xs
     → filter_map f (x ∷ []) ≡ [] → filter_map f (o ++ x ∷ []) ≡ xs
@@ -229,8 +229,15 @@ given_more o a (Out v) h (is, free) = record {
   folder = first_named folder_in o (Out v) a.folder v h.folder free refl;
 }
 
-pub none_given : AreGiven [] nothing
-none_given = record { right = none_yet IsOption; roles = (refl, refl, none_distinct, tt); order = refl; steps = refl; traced = refl; folder = refl } where
+pub none_given : AreGiven [] unasked
+none_given = record {
+  right = none_yet IsOption;
+  roles = (refl, refl, none_distinct, tt);
+  order = refl;
+  steps = refl;
+  traced = refl;
+  folder = refl;
+} where
   none_distinct : IsDistinct bytes_eq []
   none_distinct = IsDistinct-from_apart bytes_eq [] (λ i k d less within. absurd (omega arith))
 
@@ -243,7 +250,8 @@ filled_mid (x ∷ xs) y ys e = let never : ⊥ = cc in never
 -- what an option names stands in its place
 at_place : {A : Type 0} (f : RunOption → Option A) (o : List RunOption) (x : RunOption) (more : List RunOption) (y : A) (all : List A)
     → filter_map f (x ∷ more) ≡ y ∷ filter_map f more → filter_map f (o ++ x ∷ more) ≡ all → filter_map f o ++ y ∷ filter_map f more ≡ all
-at_place f o x more y all here_it total = ap (λ (z : List _). filter_map f o ++ z) (sym here_it) ∙ sym (filter_map-append f o (x ∷ more)) ∙ total
+at_place f o x more y all here_it total =
+    ap (λ (z : List _). filter_map f o ++ z) (sym here_it) ∙ sym (filter_map-append f o (x ∷ more)) ∙ total
 
 -- of at most one there is one, it is that one, and none stands before it
 one_there : {A : Type 0} (a b : Option A) (c : A) (rest : List A) → option_to_list a ++ c ∷ rest ≡ option_to_list b
@@ -279,10 +287,11 @@ alone_first o more c was none = filled (sym (front_none class_in o more none) �
 main_new : (o more : List RunOption) (v : Word) (roles all : Roles) (order total : Option (List Word)) → AreRolesSoFar roles order o
     → filter_map order_in o ≡ option_to_list order → AreRoles all total (o ++ Main v ∷ more)
     → filter_map order_in (o ++ Main v ∷ more) ≡ option_to_list total → (roles ≡ Several []) × (order ≡ None)
-main_new o more v roles (Several rs) order total h was (classes, _) orders =
+main_new o more v roles (Several rs) order total h was (classes, named, some, distinct, is) orders =
     absurd (filled_mid (filter_map class_in o) v (filter_map class_in more) (at_place class_in o (Main v) more v [] refl classes))
-main_new o more v (Alone c) (Alone d) order total h was (classes, _) orders =
-    let twice : filter_map class_in o ++ v ∷ filter_map class_in more ≡ d ∷ [] = at_place class_in o (Main v) more v (d ∷ []) refl classes in
+main_new o more v (Alone c) (Alone d) order total h was (classes, none, free) orders =
+    let twice : filter_map class_in o ++ v ∷ filter_map class_in more ≡ d ∷ [] =
+    at_place class_in o (Main v) more v (d ∷ []) refl classes in
     let k = ap length (ap (λ (z : List Word). z ++ v ∷ filter_map class_in more) (sym h.0) ∙ twice) in
     absurd (omega (arith, k))
 main_new o more v (Several rs) (Alone d) order total h was (classes, none, free) orders = (
@@ -294,12 +303,14 @@ main_new o more v (Several rs) (Alone d) order total h was (classes, none, free)
 order_is : (o more : List RunOption) (order total : Option (List Word)) (names : List Word) → filter_map order_in o ≡ option_to_list order
     → order ≡ Some names → filter_map order_in (o ++ more) ≡ option_to_list total → total ≡ Some names
 order_is o more order total names was is orders =
-    go total (ap (λ (z : List (List Word)). z ++ filter_map order_in more) (sym (was ∙ ap option_to_list is)) ∙ sym (filter_map-append order_in o more) ∙ orders) where
+    go total (ap (λ (z : List (List Word)). z ++ filter_map order_in more) (sym (was ∙ ap option_to_list is))
+    ∙ sym (filter_map-append order_in o more) ∙ orders) where
       go : (t : Option (List Word)) → names ∷ filter_map order_in more ≡ option_to_list t → t ≡ Some names
       go None e = absurd cc
       go (Some n) e = cc
 
-each_of : (total : Option (List Word)) (names roles : List Word) → IfSome total (IsOrder roles) → total ≡ Some names → All (Contains names) roles
+each_of : (total : Option (List Word)) (names roles : List Word) → IfSome total (IsOrder roles) → total ≡ Some names
+    → All (Contains names) roles
 each_of total names roles h is = (subst (λ (z : Option (List Word)). IfSome z (IsOrder roles)) is h).each
 
 -- a role that is named is new, and wanted by an order before it
@@ -309,23 +320,28 @@ role_new : (o more : List RunOption) (r : RoleClass) (roles all : Roles) (order 
     → IsNewRole roles r.role × IfSome order (λ names. Contains names r.role)
 role_new o more r roles (Alone d) order total h was (classes, none, free) orders =
     absurd (filled_mid (filter_map role_in o) r (filter_map role_in more) (at_place role_in o (Role r) more r [] refl none))
-role_new o more r (Alone c) (Several rs) order total h was (classes, _) orders = absurd (alone_first o (Role r ∷ more) c h.0 classes)
-role_new o more r (Several before) (Several rs) order total h was (classes, named, some, distinct, is) orders =
-    (before_differs (role_names before) r.role (role_names (filter_map role_in more)) (subst (IsDistinct bytes_eq) spelled distinct), wanted order refl) where
-      spelled : role_names rs ≡ role_names before ++ r.role ∷ role_names (filter_map role_in more)
-      spelled =
-          ap role_names (sym named ∙ sym (at_place role_in o (Role r) more r (filter_map role_in (o ++ Role r ∷ more)) refl refl))
-          ∙ names_on (filter_map role_in o) (r ∷ filter_map role_in more)
-          ∙ ap (λ (z : List RoleClass). role_names z ++ r.role ∷ role_names (filter_map role_in more)) h.1
+role_new o more r (Alone c) (Several rs) order total h was (classes, named, some, distinct, is) orders =
+    absurd (alone_first o (Role r ∷ more) c h.0 classes)
+role_new o more r (Several before) (Several rs) order total h was (classes, named, some, distinct, is) orders = (
+  before_differs (role_names before) r.role (role_names (filter_map role_in more)) (subst (IsDistinct bytes_eq) spelled distinct),
+  wanted order refl,
+) where
+  spelled : role_names rs ≡ role_names before ++ r.role ∷ role_names (filter_map role_in more)
+  spelled =
+      ap role_names (sym named ∙ sym (at_place role_in o (Role r) more r (filter_map role_in (o ++ Role r ∷ more)) refl refl))
+      ∙ names_on (filter_map role_in o) (r ∷ filter_map role_in more)
+      ∙ ap (λ (z : List RoleClass). role_names z ++ r.role ∷ role_names (filter_map role_in more)) h.1
 
-      wanted : (t : Option (List Word)) → order ≡ t → IfSome t (λ names. Contains names r.role)
-      wanted None e = tt
-      wanted (Some names) e =
-          All-mid (Contains names) (role_names before) r.role (role_names (filter_map role_in more))
-          (subst (All (Contains names)) spelled (each_of total names (role_names rs) is (order_is o (Role r ∷ more) order total names was e orders)))
+  wanted : (t : Option (List Word)) → order ≡ t → IfSome t (λ names. Contains names r.role)
+  wanted None e = tt
+  wanted (Some names) e =
+      All-mid (Contains names) (role_names before) r.role (role_names (filter_map role_in more))
+      (subst (All (Contains names)) spelled
+      (each_of total names (role_names rs) is (order_is o (Role r ∷ more) order total names was e orders)))
 
 -- an order that is named is the first, and names each role before it
-order_new : (o more : List RunOption) (names : List Word) (roles all : Roles) (order total : Option (List Word)) → AreRolesSoFar roles order o
+order_new : (o more : List RunOption) (names : List Word) (roles all : Roles) (order total : Option (List Word))
+    → AreRolesSoFar roles order o
     → filter_map order_in o ≡ option_to_list order → AreRoles all total (o ++ Order names ∷ more)
     → filter_map order_in (o ++ Order names ∷ more) ≡ option_to_list total
     → AreAllNamed roles names × (order ≡ None)
@@ -334,11 +350,14 @@ order_new o more names roles (Alone d) order total h was (classes, none, free) o
     absurd (never (sym one.1 ∙ free)) where
       never : ◌≡◌ {A = Option (List Word)} (Some names) None → ⊥
       never e = cc
-order_new o more names (Alone c) (Several rs) order total h was (classes, _) orders = absurd (alone_first o (Order names ∷ more) c h.0 classes)
+order_new o more names (Alone c) (Several rs) order total h was (classes, named, some, distinct, is) orders =
+    absurd (alone_first o (Order names ∷ more) c h.0 classes)
 order_new o more names (Several before) (Several rs) order total h was (classes, named, some, distinct, is) orders =
-    let one = only_one order_in o (Order names) more names order total was refl orders in
-    (All-front (Contains names) (role_names before) (role_names (filter_map role_in more))
-     (subst (All (Contains names)) spelled (each_of total names (role_names rs) is one.1)), one.0) where
+    let one = only_one order_in o (Order names) more names order total was refl orders in (
+      All-front (Contains names) (role_names before) (role_names (filter_map role_in more))
+          (subst (All (Contains names)) spelled (each_of total names (role_names rs) is one.1)),
+      one.0,
+    ) where
       spelled : role_names rs ≡ role_names before ++ role_names (filter_map role_in more)
       spelled =
           ap role_names (sym named ∙ filter_map-append role_in o (Order names ∷ more))
@@ -350,7 +369,8 @@ trace_new : (o more : List RunOption) (t all : Bool) → filter is_trace o ≡ (
 trace_new o more false all was total = refl
 trace_new o more true all was total =
     absurd (too_many all (filter is_trace more)
-    (ap (λ (z : List RunOption). z ++ Trace ∷ filter is_trace more) (sym was) ∙ sym (filter-append is_trace o (Trace ∷ more)) ∙ total)) where
+    (ap (λ (z : List RunOption). z ++ Trace ∷ filter is_trace more) (sym was)
+    ∙ sym (filter-append is_trace o (Trace ∷ more)) ∙ total)) where
       too_many : (s : Bool) (rest : List RunOption) → ◌≡◌ {A = List RunOption} (Trace ∷ Trace ∷ rest) (if s then Trace ∷ [] else []) → ⊥
       too_many true rest e = cc
       too_many false rest e = cc
@@ -361,8 +381,10 @@ must_fit o a (Main v) more asked h w =
     (All-mid IsOption o (Main v) more w.right, main_new o more v a.roles asked.roles a.order asked.order h.roles h.order w.roles w.order)
 must_fit o a (Role r) more asked h w =
     (All-mid IsOption o (Role r) more w.right, role_new o more r a.roles asked.roles a.order asked.order h.roles h.order w.roles w.order)
-must_fit o a (Order names) more asked h w =
-    (All-mid IsOption o (Order names) more w.right, order_new o more names a.roles asked.roles a.order asked.order h.roles h.order w.roles w.order)
+must_fit o a (Order names) more asked h w = (
+  All-mid IsOption o (Order names) more w.right,
+  order_new o more names a.roles asked.roles a.order asked.order h.roles h.order w.roles w.order,
+)
 must_fit o a (Steps n) more asked h w =
     (All-mid IsOption o (Steps n) more w.right, (only_one steps_in o (Steps n) more n a.steps asked.steps h.steps refl w.steps).0)
 must_fit o a Trace more asked h w =

@@ -1,5 +1,5 @@
 -- The roles that the words of options name, and the role and the class that a word names.
-use Rattle.std.proofs.Common.{◌≡◌, ◌≢◌, ℕ, zero, suc, ◌<◌, ◌≤◌, ◌+◌, ◌⊎◌, inl, inr, List, [], ◌∷◌, ◌++◌, All, length, get_or, take, drop, Option, Some, None, Bool, true, false, eqb, eqb-true, codes, refl, sym, ap, ◌∙◌, subst, arith, append_assoc, length-append, add-one}
+use Rattle.std.proofs.Common.{◌≡◌, ℕ, zero, suc, ◌<◌, ◌≤◌, ◌+◌, ◌⊎◌, inl, inr, List, [], ◌∷◌, ◌++◌, All, length, get_or, take, drop, Bool, true, false, eqb, eqb-true, codes, refl, sym, ap, ◌∙◌, subst, arith, append_assoc, length-append}
 use Rattle.std.specs.Prelude.{flat_map, filter_map, if◌then◌else◌}
 use Rattle.std.specs.Fmt.{decimal}
 use Rattle.std.specs.List.{before_first, after_first, position_or_len, join_with_byte}
@@ -7,14 +7,17 @@ use Rattle.std.specs.Str.{bytes_eq}
 use Rattle.std.proofs.lemmas.Fmt.{first_decimal}
 use Rattle.std.proofs.lemmas.List.{drop_at}
 use Rattle.std.proofs.lemmas.List.Sums.{split_at_first, position_or_len_is, passes_at_first}
+use Rattle.std.proofs.lemmas.Bool.{cases_lt}
 use Rattle.std.proofs.lemmas.Slice.Eq.{bytes_eq-Decides}
 use Rattle.mg_read.specs.Passes.{StartsWith}
 use Rattle.scr_tree.specs.Words.{IsName, is_name_start}
 use Rattle.mg_words.specs.Words.{Word, RoleClass, RunOption, Main, Role, Order, Steps, Trace, Out, option_words, IsOption, role_in, IsFileName}
 use Rattle.mg_words.specs.inner.Judging.{role_read, roles_at, roles_in}
 use Rattle.mg_words.proofs.WordsLemmas.{All-first, All-rest}
-use Rattle.mg_words.proofs.NameLemmas.{none_of, starts_no_option, starts_on, starts_joined, never_both}
-use Rattle.mg_words.proofs.OptionLemmas.{words_of}
+use Rattle.mg_words.proofs.NameLemmas.{none_of, starts_no_option, starts_on, starts_joined}
+
+abbrev pub words_of : List RunOption → List Word
+words_of = flat_map option_words
 
 -- ---- a role and its class in one word
 
@@ -57,16 +60,13 @@ drop_past (suc n) [] h = refl
 drop_past zero (x ∷ xs) h = absurd (omega arith)
 drop_past (suc n) (x ∷ xs) h = drop_past n xs (omega arith)
 
-below : (m n : ℕ) → (m < n) ⊎ (n ≤ m)
-below m n = omega arith
-
 starts_none : (xs : List ℕ) → xs ≡ [] → StartsWith is_name_start xs → ⊥
 starts_none xs e h = let none : StartsWith is_name_start [] = subst (StartsWith is_name_start) e h in none
 
 -- where a class is named, the word is the role, "=" and the class
 pub word_of_role : (word : Word) → StartsWith is_name_start (role_read word).class
     → word ≡ (role_read word).role ++ 61 ∷ (role_read word).class
-word_of_role word h = go (below (position_or_len (λ c. eqb c 61) word) (length word)) where
+word_of_role word h = go (cases_lt (position_or_len (λ c. eqb c 61) word) (length word)) where
   go : (position_or_len (λ c. eqb c 61) word < length word) ⊎ (length word ≤ position_or_len (λ c. eqb c 61) word)
       → word ≡ before_first (λ c. eqb c 61) word ++ 61 ∷ after_first (λ c. eqb c 61) word
   go (inl lt) =
@@ -110,9 +110,9 @@ roles_in_words (Main v ∷ xs) right =
 roles_in_words (Role r ∷ xs) right =
     let is = All-first IsOption (Role r) xs right in
     (λ i. role_in_word r is.0 i ∷
-        passed (r.role ++ 61 ∷ r.class) (words_of xs) (filter_map role_in xs)
-        (name_no_role (r.role ++ 61 ∷ r.class) (starts_on r.role (61 ∷ r.class) is.0.starts))
-        (roles_in_words xs (All-rest IsOption (Role r) xs right)) i)
+    passed (r.role ++ 61 ∷ r.class) (words_of xs) (filter_map role_in xs)
+    (name_no_role (r.role ++ 61 ∷ r.class) (starts_on r.role (61 ∷ r.class) is.0.starts))
+    (roles_in_words xs (All-rest IsOption (Role r) xs right)) i)
 roles_in_words (Order names ∷ xs) right =
     let is = All-first IsOption (Order names) xs right in
     passed (join_with_byte 44 names) (words_of xs) (filter_map role_in xs)
@@ -128,8 +128,8 @@ roles_in_words (Out v ∷ xs) right =
     passed v (words_of xs) (filter_map role_in xs) (λ e. subst IsFileName e (All-first IsOption (Out v) xs right) refl)
     (roles_in_words xs (All-rest IsOption (Out v) xs right))
 
--- options name no more roles than they have words
-pub few_roles : (o : List RunOption) → length (filter_map role_in o) ≤ length (words_of o)
+-- each role that options name takes two words
+pub few_roles : (o : List RunOption) → length (filter_map role_in o) + length (filter_map role_in o) ≤ length (words_of o)
 few_roles [] = omega arith
 few_roles (Main v ∷ xs) = let k = few_roles xs in omega arith
 few_roles (Role r ∷ xs) = let k = few_roles xs in omega arith

@@ -1,16 +1,17 @@
 -- The words of `run`: what options were read, which can follow, and which can't.
-use Rattle.std.proofs.Common.{◌≡◌, ◌≢◌, ℕ, ◌<◌, ◌≤◌, ◌^◌, ◌⊎◌, inl, inr, List, [], ◌∷◌, ◌++◌, All, length, get_or, Option, Some, None, Bool, true, false, codes, refl, sym, ap, ◌∙◌, subst, arith, append_assoc, length-append}
-use Rattle.std.specs.Prelude.{Contains, IfSome, option_to_list, flat_map, filter, filter_map, if◌then◌else◌}
+use Rattle.std.proofs.Common.{◌≡◌, ◌≢◌, ◌⊎◌, inl, inr, List, [], ◌∷◌, ◌++◌, All, get_or, Option, Some, None, Bool, true, false, refl, sym, ap, ◌∙◌, subst, append_assoc}
+use Rattle.std.specs.Prelude.{Contains, IfSome, option_to_list}
 use Rattle.std.proofs.lemmas.Grind.{flat_map-append}
 use Rattle.std.proofs.lemmas.List.Elements.{Contains-get_or, Contains-append_left, Contains-append_right}
 use Rattle.scr_tree.specs.Words.{IsName}
 use Rattle.mg_words.specs.declared.options.Named.{Named}
 use Rattle.mg_words.specs.declared.options.Named.TheVariants as named
-use Rattle.mg_words.specs.Words.{Word, RoleClass, Roles, Alone, Several, role_names, Command, Translate, Conform, Check, Compile, Run, Asked, RunOption, Main, Role, Order, Steps, Trace, Out, option_words, IsOption, role_in, order_in, steps_in, folder_in, is_trace, IsFileName, IsSourceName, AreSourceNames, AreOptions, IsBehind, IsCommand, AreCommand, CanBegin, AreWrong}
+use Rattle.mg_words.specs.Words.{Word, RoleClass, Roles, Alone, Several, role_names, Command, Translate, Conform, Check, Compile, Run, Asked, RunOption, Main, Role, Order, Steps, Trace, Out, option_words, IsOption, IsSourceName, AreSourceNames, AreOptions, IsBehind, IsCommand, AreCommand, CanBegin, AreWrong}
 use Rattle.mg_words.specs.inner.Judging.{IsFirstOther, has_name, AreGiven, word_of, kind_of, IsPlain, IsNewRole, Fits, IsNoValue, can_follow, are_whole, roles_more, with_more}
 use Rattle.mg_words.proofs.WordsLemmas.{run, head_is, tail_is, filled, nothing_behind, All-first, All-rest, All-push, All-mid, none_yet, some_source, source_named, some_class, classed, pushed_filled, is_run, first_wrong, same_translate, same_conform, same_check, same_compile}
 use Rattle.mg_words.proofs.NameLemmas.{here, one_of, in_none, has_is, is_has, have_all, never_both, All-itself, names_push}
-use Rattle.mg_words.proofs.OptionLemmas.{words_of, AreAll, values_of, begins_with, same_kind, same_option, no_word, no_option, at_end, given_more, must_fit}
+use Rattle.mg_words.proofs.RoleLemmas.{words_of}
+use Rattle.mg_words.proofs.OptionLemmas.{AreAll, values_of, begins_with, same_kind, same_option, no_word, no_option, at_end, given_more, must_fit}
 use Rattle.mg_words.proofs.FollowLemmas.{order_right, whole_all, all_given, all_whole, given_one, CanFollow, fits_follow}
 
 -- ---- options behind options
@@ -102,11 +103,12 @@ begins_run o a files w each = (
     Run a (files ++ some_source ∷ []),
     subst (IsCommand (Run a (files ++ some_source ∷ [])))
         (ap (λ (z : List Word). run ∷ z) (sym (append_assoc (words_of o) files (some_source ∷ []))))
-        (runnable o a (files ++ some_source ∷ []) w (pushed_filled files some_source) (All-push IsSourceName files some_source each source_named)),
+        (runnable o a (files ++ some_source ∷ []) w (pushed_filled files some_source)
+        (All-push IsSourceName files some_source each source_named)),
   ),
 )
 
-flat_push : (o : List RunOption) (x : RunOption) → words_of (o ++ x ∷ []) ≡ words_of o ++ option_words x
+pub flat_push : (o : List RunOption) (x : RunOption) → words_of (o ++ x ∷ []) ≡ words_of o ++ option_words x
 flat_push o x = flat_map-append option_words o (x ∷ []) ∙ ap (λ (z : List Word). words_of o ++ z) (nothing_behind (option_words x))
 
 -- what can begin with more words can with fewer
@@ -117,8 +119,10 @@ begins_sooner ws more (rest, (command, is)) =
 begins_all : (o : List RunOption) (a : Asked) → AreAll o a → CanBegin AreCommand (run ∷ words_of o)
 begins_all o a w = begins_sooner (words_of o) [] (begins_run o a [] w (none_yet IsSourceName))
 
-begins_before : (o : List RunOption) (x : RunOption) → CanBegin AreCommand (run ∷ words_of (o ++ x ∷ [])) → CanBegin AreCommand (run ∷ words_of o)
-begins_before o x b = begins_sooner (words_of o) (option_words x) (subst (λ (z : List Word). CanBegin AreCommand (run ∷ z)) (flat_push o x) b)
+begins_before : (o : List RunOption) (x : RunOption) → CanBegin AreCommand (run ∷ words_of (o ++ x ∷ []))
+    → CanBegin AreCommand (run ∷ words_of o)
+begins_before o x b =
+    begins_sooner (words_of o) (option_words x) (subst (λ (z : List Word). CanBegin AreCommand (run ∷ z)) (flat_push o x) b)
 
 decided : (t : Bool) → (t ≡ true) ⊎ (t ≡ false)
 decided true = inl refl
@@ -128,7 +132,7 @@ all_by : (P : Word → Type 0) (names : List Word) → ((n : Word) → Contains 
 all_by P names h k d lt = h (get_or names k d) (Contains-get_or names k d lt)
 
 -- the role of this name, with some class
-role_of : Word → RoleClass
+abbrev role_of : Word → RoleClass
 role_of name = record { role = name; class = some_class }
 
 -- this name is known to be among the roles, so the others are what is left
@@ -148,16 +152,19 @@ with_it rs n ns m (inl h) =
 with_it rs n ns m (inr h) = inr h
 
 it_is : (rs : List RoleClass) (n : Word) → Contains (role_names (rs ++ role_of n ∷ [])) n
-unfolding role_of
 it_is rs n =
     subst (λ (z : List Word). Contains z n) (sym (names_push rs (role_of n))) (Contains-append_right (role_names rs) (n ∷ []) n (here n []))
 
 -- a role that an order names can follow where it wasn't named yet
 wanted_fits : (a : Asked) (rs : List RoleClass) (names : List Word) (n : Word) → a.roles ≡ Several rs → a.order ≡ Some names → IsName n
     → Contains names n → (Contains (role_names rs) n → ⊥) → Fits (Role (role_of n)) a
-unfolding role_of
-wanted_fits a rs names n is ordered name wanted new =
-    ((name, classed), (subst (λ (z : Roles). IsNewRole z n) (sym is) new, subst (λ (z : Option (List Word)). IfSome z (λ names. Contains names n)) (sym ordered) wanted))
+wanted_fits a rs names n is ordered name wanted new = (
+  (name, classed),
+  (
+    subst (λ (z : Roles). IsNewRole z n) (sym is) new,
+    subst (λ (z : Option (List Word)). IfSome z (λ names. Contains names n)) (sym ordered) wanted,
+  ),
+)
 
 -- the roles that an order names and that weren't named yet can follow
 begins_named : (todo : List Word) (o : List RunOption) (a : Asked) (rs : List RoleClass) (names : List Word) → AreGiven o a
@@ -175,10 +182,11 @@ begins_named [] o a rs names h is ordered named wanted each = begins_all o a (wh
 begins_named (n ∷ ns) o a rs names h is ordered named wanted each = elim (decided (has_name (role_names rs) n)) [
   | inl e ↦ begins_named ns o a rs names h is ordered (All-rest IsName n ns named) (All-rest (Contains names) n ns wanted)
       (λ m k. fewer rs n ns m (has_is (role_names rs) n e) (each m k))
-  | inr e ↦ begins_before o (Role (role_of n)) (begins_named ns (o ++ Role (role_of n) ∷ []) (with_more (Role (role_of n)) a) (rs ++ role_of n ∷ []) names
+  | inr e ↦ begins_before o (Role (role_of n))
+      (begins_named ns (o ++ Role (role_of n) ∷ []) (with_more (Role (role_of n)) a) (rs ++ role_of n ∷ []) names
       (given_more o a (Role (role_of n)) h
-       (wanted_fits a rs names n is ordered (All-first IsName n ns named) (All-first (Contains names) n ns wanted)
-        (λ k. never_both (has_name (role_names rs) n) (is_has (role_names rs) n k) e)))
+      (wanted_fits a rs names n is ordered (All-first IsName n ns named) (All-first (Contains names) n ns wanted)
+      (λ k. never_both (has_name (role_names rs) n) (is_has (role_names rs) n k) e)))
       (ap (λ (z : Roles). roles_more z (role_of n)) is) ordered (All-rest IsName n ns named) (All-rest (Contains names) n ns wanted)
       (λ m k. fewer (rs ++ role_of n ∷ []) n ns m (it_is rs n) (with_it rs n ns m (each m k))))
 ]
@@ -190,7 +198,8 @@ begins_options o a h = go (decided (are_whole a.roles a.order)) where
   lacks (Alone c) order is ordered e = absurd cc
   lacks (Several []) None is ordered e =
       begins_before o (Main some_class) (begins_all (o ++ Main some_class ∷ []) (with_more (Main some_class) a)
-      (whole_all (o ++ Main some_class ∷ []) (with_more (Main some_class) a) (given_more o a (Main some_class) h (classed, (is, ordered))) refl))
+      (whole_all (o ++ Main some_class ∷ []) (with_more (Main some_class) a)
+      (given_more o a (Main some_class) h (classed, (is, ordered))) refl))
   lacks (Several (r ∷ rs)) None is ordered e = absurd cc
   lacks (Several rs) (Some names) is ordered e =
       let right = order_right o names h.right (h.order ∙ ap option_to_list ordered) in
@@ -293,15 +302,18 @@ few_value o a option word h can is other = (begins_word o a option word h can is
 
 -- files are lacking
 pub few_more : (o : List RunOption) (a : Asked) → AreGiven o a → AreWrong (run ∷ (words_of o ++ [])) None
-few_more o a h =
-    (subst (λ (z : List Word). CanBegin AreCommand (run ∷ z)) (sym (nothing_behind (words_of o))) (begins_options o a h), λ k. cannot k.0 k.1) where
-      by : (more' : List RunOption) (files : List Word) → [] ≡ words_of more' ++ files → AreSourceNames files → ⊥
-      by [] files e are = are.0 (sym e)
-      by (x ∷ xs) files e are =
-          filled (e ∙ append_assoc (option_words x) (words_of xs) files ∙ ap (λ (z : List Word). z ++ (words_of xs ++ files)) (begins_with x))
+few_more o a h = (
+  subst (λ (z : List Word). CanBegin AreCommand (run ∷ z)) (sym (nothing_behind (words_of o))) (begins_options o a h),
+  λ k. cannot k.0 k.1,
+) where
+  by : (more' : List RunOption) (files : List Word) → [] ≡ words_of more' ++ files → AreSourceNames files → ⊥
+  by [] files e are = are.0 (sym e)
+  by (x ∷ xs) files e are =
+      filled (e ∙ append_assoc (option_words x) (words_of xs) files
+      ∙ ap (λ (z : List Word). z ++ (words_of xs ++ files)) (begins_with x))
 
-      cannot : (command : Command) → IsCommand command (run ∷ (words_of o ++ [])) → ⊥
-      cannot command k = let goes = goes_on o [] command h.right k in by goes.more goes.files goes.words goes.sources
+  cannot : (command : Command) → IsCommand command (run ∷ (words_of o ++ [])) → ⊥
+  cannot command k = let goes = goes_on o [] command h.right k in by goes.more goes.files goes.words goes.sources
 
 -- what an option begins with
 option_first : (x : RunOption) (word : Word) (more r : List Word) → word ∷ more ≡ option_words x ++ r → word ≡ word_of (kind_of x)

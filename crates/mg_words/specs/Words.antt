@@ -19,8 +19,8 @@ pub data Roles : Type 0 where
   Alone : (class : Word) → Roles
   Several : (roles : List RoleClass) → Roles
 
--- what a run is asked for: its roles, the order in which they take turns, at most how many instructions it takes, whether its trace is told,
--- and the folder for class files
+-- what a run is asked for: its roles, the order in which they take turns, at most how many instructions it takes, whether its trace is
+-- told, and the folder for class files
 pub record Asked : Type 0 where
   pub roles : Roles
   pub order : Option (List Word)
@@ -170,11 +170,13 @@ pub record IsOrder (roles names : List Word) : Type 0 where
   pub only : All (Contains roles) names
   pub each : All (Contains names) roles
 
--- One class was named, and neither a role nor an order; or no class, and one role or more, all of other names, and an order of them or none.
+-- One class was named, and neither a role nor an order; or no class, but one role or more, no two of one name, and where there is an order
+-- it names only these roles, and each.
 abbrev pub AreRoles : Roles → Option (List Word) → List RunOption → Type 0
 AreRoles (Alone class) order options = (filter_map class_in options ≡ class ∷ []) × (filter_map role_in options ≡ []) × (order ≡ None)
 AreRoles (Several roles) order options =
-    (filter_map class_in options ≡ []) × (filter_map role_in options ≡ roles) × (roles ≢ []) × IsDistinct bytes_eq (role_names roles) × IfSome order (IsOrder (role_names roles))
+    (filter_map class_in options ≡ []) × (filter_map role_in options ≡ roles) × (roles ≢ []) × IsDistinct bytes_eq (role_names roles)
+    × IfSome order (IsOrder (role_names roles))
 
 -- These words are options, in any order and each once but for those of roles, that name what is asked for.
 pub record AreOptions (asked : Asked) (words : List Word) : Type 0 where

@@ -1,10 +1,10 @@
 //! What a run is asked for, read off the words of its options.
 
-ghost use Rattle.std.specs.Prelude.{◌≡◌, ◌≢◌, ◌<◌, ◌^◌, ℕ, [], ◌∷◌, codes, All, Contains, length, map, IfOk};
+ghost use Rattle.std.specs.Prelude.{◌≡◌, ◌≢◌, ◌<◌, ◌^◌, ℕ, [], ◌∷◌, codes, All, Contains, length, IfOk};
 ghost use Rattle.std.specs.List.{IsDistinct, range_with_len};
 ghost use Rattle.std.specs.Str.{bytes_eq};
 ghost use Rattle.mg_words.specs.Words.{Alone, mains_in, mains_of, role_names, order_of, order_among, are_named};
-ghost use Rattle.mg_words.specs.inner.Judging.{asked_of, role_class_of, role_classes_of, roles_in, names_in, IsAsked};
+ghost use Rattle.mg_words.specs.inner.Judging.{asked_of, role_classes_of, roles_in, names_in, IsAsked};
 
 use crate::roles::{first_name, next_role};
 use mg_text::{List, Memory, Names, Text};
@@ -55,6 +55,16 @@ impl Asked<'_> {
         ensures some { mains_of (asked_of self.now) ≢ [] }
         ensures few { IfOk result (λ l. length (mains_of (asked_of self.now)) < 2 ^ 32) }
     {
+        let mains = self.roles(alloc)?;
+        // A list says how many items it has at most.
+        let _few = mains.len();
+        Ok(mains)
+    }
+
+    // The same, with no law of it.
+    fn roles(&self, alloc: Global) -> Result<List<RoleClass>, Memory>
+        ensures { IfOk result (λ l. role_classes_of l.items ≡ mains_of (asked_of self.now)) }
+    {
         match self.class {
             Some(class) => one_main(alloc, class),
             None => roles_of(alloc, self.words),
@@ -82,7 +92,8 @@ impl Asked<'_> {
     // The names of the roles, in the order of the words.
     fn names(&self, alloc: Global) -> Result<Names, Memory>
         requires { IsAsked (asked_of self.now) }
-        ensures { IfOk result (λ n. n ≡ role_names (mains_of (asked_of self.now))) }
+        ensures items { IfOk result (λ n. n ≡ role_names (mains_of (asked_of self.now))) }
+        ensures few { IfOk result (λ n. length n < 2 ^ 32) }
     {
         match self.class {
             Some(_) => name_of_one(alloc),
@@ -123,7 +134,8 @@ fn roles_of(alloc: Global, words: &[Text]) -> Result<List<RoleClass>, Memory>
 
 // The name of a role that runs alone.
 fn name_of_one(alloc: Global) -> Result<Names, Memory>
-    ensures { IfOk result (λ n. n ≡ codes "main" ∷ []) }
+    ensures items { IfOk result (λ n. n ≡ codes "main" ∷ []) }
+    ensures few { IfOk result (λ n. length n < 2 ^ 32) }
 {
     let mut names = Names::new(alloc);
     names.add(ALONE)?;
@@ -133,7 +145,8 @@ fn name_of_one(alloc: Global) -> Result<Names, Memory>
 // The names of the roles that these words name, all of which differ.
 fn names_of_roles(alloc: Global, words: &[Text]) -> Result<Names, Memory>
     requires { IsDistinct bytes_eq (role_names (roles_in words.now)) }
-    ensures { IfOk result (λ n. n ≡ role_names (roles_in words.now)) }
+    ensures items { IfOk result (λ n. n ≡ role_names (roles_in words.now)) }
+    ensures few { IfOk result (λ n. length n < 2 ^ 32) }
 {
     let mut names = Names::new(alloc);
     let mut left = words;

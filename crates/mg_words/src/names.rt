@@ -1,6 +1,6 @@
 //! What a word may name: a file, a folder, a class or a role.
 
-ghost use Rattle.std.specs.Prelude.{◌≡◌, ◌↔◌, IsTrue, Option, option_map};
+ghost use Rattle.std.specs.Prelude.{◌≡◌, ◌↔◌, IsTrue, option_map};
 ghost use Rattle.std.specs.List.{list_all};
 ghost use Rattle.scr_tree.specs.Words.{IsName};
 ghost use Rattle.scr_lex.specs.Pieces.{StartsName, AllPasses, is_name_start, is_name_byte};

@@ -1,6 +1,6 @@
 //! The options of a run, one after the other: which can follow those before it, and what is asked for with it.
 
-ghost use Rattle.std.specs.Prelude.{◌≡◌, ◌≢◌, ◌↔◌, ◌∷◌, IsTrue, true, All, codes};
+ghost use Rattle.std.specs.Prelude.{◌≡◌, ◌≢◌, ◌↔◌, IsTrue, true, All, is_some, option_map};
 ghost use Rattle.mg_words.specs.Words.{role_names};
 ghost use Rattle.scr_tree.specs.Words.{IsName};
 ghost use Rattle.mg_words.specs.inner.Judging.{asked_of, IsSteps, StartsNumber, IsNamed, IsStep, IsWith, can_follow, are_whole, lacks_role, is_wanted, names_in, roles_in};
@@ -132,7 +132,9 @@ fn can_follow(asked: &Asked<'_>, option: Named) -> bool
     ensures { result ≡ can_follow (asked_of asked.now) option }
 {
     match option {
-        Named::Main => asked.class.is_none() && asked.order.is_none() && next_role(asked.words).is_none(),
+        Named::Main => asked.class.is_none()
+            && asked.order.is_none()
+            && next_role(asked.words).is_none(),
         Named::Role => asked.class.is_none() && lacks_role(asked),
         Named::Order => asked.class.is_none() && asked.order.is_none(),
         Named::Steps => asked.steps.is_none(),
@@ -186,13 +188,29 @@ fn with_role<'a>(asked: Asked<'a>, value: &'a Text) -> Option<Asked<'a>>
     ensures { IsWith asked.entry named.Role value.now result }
 {
     let named = role_of(value);
-    if asked.class.is_some() || !is_name(named.role) || !is_name(named.class) {
+    if is_alone(&asked) {
         return None;
     }
-    if has_role(asked.words, named.role) || !is_wanted(&asked, named.role) {
+    if !is_name(named.role) {
+        return None;
+    }
+    if !is_name(named.class) {
+        return None;
+    }
+    if has_role(asked.words, named.role) {
+        return None;
+    }
+    if !is_wanted(&asked, named.role) {
         return None;
     }
     Some(asked)
+}
+
+// Whether a class was named that runs alone.
+fn is_alone(asked: &Asked<'_>) -> bool
+    ensures { result ≡ is_some (option_map (λ w. w.now) asked.now.class) }
+{
+    asked.class.is_some()
 }
 
 // Whether there is no order, or it names this role.
@@ -211,7 +229,10 @@ fn with_order<'a>(asked: Asked<'a>, value: &'a Text) -> Option<Asked<'a>>
     ensures { IsWith asked.entry named.Order value.now result }
 {
     let word = value.as_str();
-    if !are_names(word) || !names_each(word, asked.words) {
+    if !are_names(word) {
+        return None;
+    }
+    if !names_each(word, asked.words) {
         return None;
     }
     Some(Asked {

@@ -1,7 +1,7 @@
 //! The roles and the names that words name: `R=C`, and `A,B,..`.
 //! Nothing is kept of them but the words, which are gone over again.
 
-ghost use Rattle.std.specs.Prelude.{◌≡◌, [], ◌∷◌, ◌++◌, ◌<◌, length, MatchOption, option_map, ⊤};
+ghost use Rattle.std.specs.Prelude.{◌≡◌, [], ◌∷◌, ◌<◌, length, MatchOption};
 ghost use Rattle.std.specs.List.{list_all};
 ghost use Rattle.mg_words.specs.Words.{role_names};
 ghost use Rattle.mg_words.specs.inner.Judging.{role_read, role_word_of, roles_in, names_in, names_left, has_name};
@@ -53,7 +53,7 @@ pub fn has_role(words: &[Text], name: &str) -> bool
 {
     let mut left = words;
     while let Some((named, behind)) = next_role(left) {
-        if named.role == name {
+        if name == named.role {
             return true;
         }
         left = behind;
@@ -63,8 +63,7 @@ pub fn has_role(words: &[Text], name: &str) -> bool
 
 /// The first name of a word, and what stands behind its `,`, if there is one.
 pub fn first_name(word: &str) -> (&str, Option<&str>)
-    ensures names { names_in word.now ≡ result.0.now ∷ names_left (option_map (λ w. w.now) result.1) }
-    ensures shorter { MatchOption result.1 ⊤ (λ w. length w.now < length word.now) }
+    ensures { names_in word.now ≡ result.0.now ∷ names_left result.1 }
 {
     match word.split_once(',') {
         Some((name, behind)) => (name, Some(behind)),
@@ -79,7 +78,7 @@ pub fn names_it(word: &str, name: &str) -> bool
     let mut left = Some(word);
     while let Some(text) = left {
         let (first, behind) = first_name(text);
-        if first == name {
+        if name == first {
             return true;
         }
         left = behind;

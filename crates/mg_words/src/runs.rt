@@ -13,6 +13,7 @@ use mg_text::Text;
 pub fn judge_run(words: &[Text]) -> Judged<'_>
     ensures { IsJudged (codes "run" ∷ words.now) result }
 {
+    let count = words.len();
     let mut asked = Asked {
         steps: None,
         traced: false,
@@ -29,7 +30,7 @@ pub fn judge_run(words: &[Text]) -> Judged<'_>
         match read_option(asked, option, behind) {
             Step::More(more, left) => {
                 asked = Asked {
-                    words: &words[..words.len() - left.len()],
+                    words: &words[..count - left.len()],
                     ..more
                 };
                 rest = left;

@@ -1,9 +1,9 @@
 -- What judging the words may answer.
+use Rattle.std.specs.Borrow.{Bor}
 use Rattle.std.specs.Fmt.{decimal}
-use Rattle.std.specs.Prelude.{◌≡◌, ◌≢◌, ◌≤◌, ℕ, List, [], ◌∷◌, ◌++◌, All, Contains, map, flat_map, filter, filter_map, Bool, true, false, ◌&&◌, ◌||◌, not, ◌==◌, Option, Some, None, IfSome, is_some, option_map, option_to_list, codes, if◌then◌else◌}
+use Rattle.std.specs.Prelude.{◌≡◌, ◌≢◌, ◌≤◌, ℕ, List, [], ◌∷◌, ◌++◌, All, Contains, map, flat_map, filter, filter_map, Bool, true, false, ◌&&◌, not, ◌==◌, Option, Some, None, IfSome, is_some, option_map, option_to_list, codes, if◌then◌else◌}
 use Rattle.std.specs.List.{IsDistinct, list_any, list_all, slice_split, before_first, after_first}
 use Rattle.std.specs.Str.{bytes_eq}
-use Rattle.scr_tree.specs.Words.{IsName}
 use Rattle.mg_words.specs.declared.asked.Asked.{Asked as Kept}
 use Rattle.mg_words.specs.declared.asked.RoleClass.{RoleClass as KeptRole}
 use Rattle.mg_words.specs.Words.{Word, RoleClass, Roles, Alone, Several, role_names, Asked, Command, Translate, Conform, Check, Compile, Run, IsCommand, AreWrong, RunOption, Main, Role, Order, Steps, Trace, Out, option_words, IsOption, class_in, role_in, order_in, steps_in, is_trace, folder_in, AreOptions}
@@ -35,10 +35,10 @@ roles_in (word ∷ rest) = roles_at word rest ++ roles_in rest
 abbrev pub names_in : Word → List Word
 names_in = slice_split (λ b. b == 44)
 
--- the same of what is left of a word
-abbrev pub names_left : Option Word → List Word
+-- the same of what is left of a word, if anything is
+abbrev pub names_left : Option (Bor Word) → List Word
 names_left None = []
-names_left (Some word) = names_in word
+names_left (Some word) = names_in word.now
 
 abbrev pub has_name : List Word → Word → Bool
 has_name names name = list_any (bytes_eq name) names
@@ -108,6 +108,10 @@ abbrev pub StartsNumber : Word → Type 0
 StartsNumber [] = ⊥
 StartsNumber (c ∷ cs) = (49 ≤ c) × (c ≤ 57)
 
+-- nothing is asked for
+abbrev pub unasked : Asked
+unasked = record { roles = Several []; order = None; steps = None; traced = false; folder = None }
+
 -- what options ask for of roles so far, where more may follow: an order names each role so far
 abbrev pub NamesEach : Option (List Word) → List RoleClass → Type 0
 NamesEach order roles = IfSome order (λ names. All (Contains names) (role_names roles))
@@ -116,7 +120,8 @@ abbrev pub AreRolesSoFar : Roles → Option (List Word) → List RunOption → T
 AreRolesSoFar (Alone class) order options =
     (filter_map class_in options ≡ class ∷ []) × (filter_map role_in options ≡ []) × (order ≡ None)
 AreRolesSoFar (Several roles) order options =
-    (filter_map class_in options ≡ []) × (filter_map role_in options ≡ roles) × IsDistinct bytes_eq (role_names roles) × NamesEach order roles
+    (filter_map class_in options ≡ []) × (filter_map role_in options ≡ roles) × IsDistinct bytes_eq (role_names roles)
+    × NamesEach order roles
 
 -- these options ask for this so far
 pub record AreGiven (options : List RunOption) (asked : Asked) : Type 0 where

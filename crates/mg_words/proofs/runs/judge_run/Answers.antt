@@ -1,0 +1,24 @@
+use Rattle.std.proofs.Common.{refl, arith}
+use Rattle.mg_words.proofs.CodeLemmas.{begun, more_at, stuck_at, barred_at, end_at}
+use Rattle.mg_words.proofs.runs.judge_run.Goals as goal
+
+pub loop-word-init : goal.loop-word-init
+loop-word-init c = begun c.args.words.now _ refl refl refl refl refl refl
+
+pub loop-word-preserved : goal.loop-word-preserved
+loop-word-preserved c =
+    more_at c.args.words.now c.loop-word.asked _ _ _ _ c.in-More.more _ c.in-More.left.now c.loop-word.invariant
+    c.in-Some.ensures.cases.0 c.in-Some-option_named.ensures c.in-More.ensures refl (λ rs. refl)
+
+pub returns-in-Stuck : goal.returns-in-Stuck
+returns-in-Stuck c =
+    stuck_at c.args.words.now c.loop-word.asked _ _ _ _ _ c.loop-word.invariant (omega arith) c.in-Some.ensures.cases.0
+    c.in-Some-option_named.ensures c.in-Stuck.ensures
+
+pub returns-in-Barred : goal.returns-in-Barred
+returns-in-Barred c =
+    barred_at c.args.words.now c.loop-word.asked _ _ _ _ c.loop-word.invariant c.in-Some.ensures.cases.0
+    c.in-Some-option_named.ensures c.in-Barred.ensures
+
+pub returns : goal.returns
+returns c = end_at c.args.words.now c.loop-word.asked _ c.loop-word.invariant (rw c.in_default.is at c.split_first.ensures.cases)
