@@ -5,7 +5,7 @@ use cases::File;
 use jv_core::Core;
 use mg_text::Memory;
 use std::alloc::{AllocError, Global};
-use use_flow::{Context, Flow, Tables, contexts, flow};
+use use_flow::{Context, Flow, Follows, Tables, contexts, flow, reads};
 use use_infer::infer;
 
 /// A line for each context, in their order.
@@ -31,12 +31,45 @@ pub(crate) fn shown(alloc: Global, files: &[File<'_>], core: &Core) -> Result<St
         if name.as_str() == asked {
             write!(text, "context {asked}, at first:")?;
             let start = Tables::new(alloc, core)?;
-            put_flow(&mut text, &flow(alloc, core, &start, *context)?)?;
+            let mut follows = Follows::new();
+            put_flow(
+                &mut text,
+                &flow(alloc, core, &start, *context, &mut follows)?,
+            )?;
             text.push_str("\nat the end:")?;
-            let least = infer(alloc, core)?;
-            put_flow(&mut text, &flow(alloc, core, &least, *context)?)?;
+            let least = infer(alloc, core, &mut follows)?;
+            put_flow(
+                &mut text,
+                &flow(alloc, core, &least, *context, &mut follows)?,
+            )?;
         }
     }
+    Ok(text)
+}
+
+/// A line for each key that the context reads which the last file names.
+pub(crate) fn keys_read(alloc: Global, files: &[File<'_>], core: &Core) -> Result<String, Memory> {
+    let asked = files.last().map_or("", |f| f.text);
+    let mut text = String::from_str(alloc, "reads:")?;
+    for context in contexts(alloc, core)?.as_slice() {
+        let mut name = String::new(alloc);
+        put_context(&mut name, *context)?;
+        if name.as_str() == asked {
+            for key in reads(alloc, core, *context)?.as_slice() {
+                text.push('\n')?;
+                put_key(&mut text, *key)?;
+            }
+        }
+    }
+    Ok(text)
+}
+
+/// How many times contexts are followed until the tables are the least.
+pub(crate) fn counted(alloc: Global, core: &Core) -> Result<String, Memory> {
+    let mut follows = Follows::new();
+    let _least = infer(alloc, core, &mut follows)?;
+    let mut text = String::new(alloc);
+    write!(text, "{} follows", follows.count())?;
     Ok(text)
 }
 

@@ -4,7 +4,7 @@ use jv_core::Core;
 use mg_sets::StateSet;
 use mg_text::Memory;
 use std::alloc::{AllocError, Global};
-use use_flow::{TableKey, Tables};
+use use_flow::{Follows, TableKey, Tables};
 use use_infer::infer;
 
 // Keys of a program whose context 3 is a method that is given an object and a number and gives the
@@ -44,7 +44,7 @@ pub(crate) fn held(alloc: Global, core: &Core) -> Result<String, Memory> {
     let start = Tables::new(alloc, core)?;
     put_held(&mut text, &start)?;
     text.push_str("\nat the end:")?;
-    let least = infer(alloc, core)?;
+    let least = infer(alloc, core, &mut Follows::new())?;
     put_held(&mut text, &least)?;
     Ok(text)
 }

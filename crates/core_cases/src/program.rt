@@ -36,6 +36,8 @@ fn answer_of(
         "contexts.txt" => flows::all_contexts(alloc, core),
         "flows.txt" => flows::shown(alloc, files, core),
         "tables.txt" => keys::held(alloc, core),
+        "reads.txt" => flows::keys_read(alloc, files, core),
+        "follows.txt" => flows::counted(alloc, core),
         _ if asked.starts_with("used_") => used::told(alloc, files, core),
         _ => Ok(String::from_str(alloc, "fine")?),
     }

@@ -11,7 +11,7 @@ ghost use Rattle.use_check.specs.Faults.{IsFault, fault_of};
 use jv_core::Core;
 use mg_text::Memory;
 use std::alloc::Global;
-use use_flow::{Context, Demand, DemandKind, Flow, Tables, contexts, flow};
+use use_flow::{Context, Demand, DemandKind, Flow, Follows, Tables, contexts, flow};
 use use_infer::infer;
 
 /// The usages of an accepted program: its least tables, under which no demand fails.
@@ -73,13 +73,14 @@ fn first_in(
     core: &Core,
     tables: &Tables,
     contexts: &[Context],
+    follows: &mut Follows,
 ) -> Result<Option<Demand>, Memory>
     requires made { AreFor (tree_of core.now) tables.now }
     requires known { contexts.now ≡ contexts_of tables.now }
     ensures { IfOk result (λ d. d ≡ slice_get (all_failed (tree_of core.now) (reached_of tables.now) (tables_of tables.now)) 0) }
 {
     for context in contexts {
-        let met = flow(alloc, core, tables, *context)?;
+        let met = flow(alloc, core, tables, *context, follows)?;
         if let Some(demand) = first_failed(met) {
             return Ok(Some(demand));
         }
@@ -97,9 +98,10 @@ pub fn check(alloc: Global, core: &Core) -> Result<Accepted, CheckFault>
     ensures complete { IsAccepted (tree_of core.now) → IfErr result (λ e. e ≡ CheckFault.Memory) }
     ensures fault { IfErr result (λ e. IsFault (tree_of core.now) e) }
 {
-    let tables = infer(alloc, core)?;
+    let mut follows = Follows::new();
+    let tables = infer(alloc, core, &mut follows)?;
     let all = contexts(alloc, core)?;
-    if let Some(demand) = first_in(alloc, core, &tables, all.as_slice())? {
+    if let Some(demand) = first_in(alloc, core, &tables, all.as_slice(), &mut follows)? {
         return Err(fault_of(demand));
     }
     Ok(Accepted { tables })

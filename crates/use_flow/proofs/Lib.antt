@@ -29,3 +29,8 @@ pub mod Adding
 pub mod Listing
 pub mod Apart
 pub mod Holding
+pub mod Naming
+pub mod Ascending
+pub mod Running
+pub mod Asking
+pub mod Asked

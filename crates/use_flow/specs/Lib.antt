@@ -1,2 +1,5 @@
-pub mod inner
 pub mod View
+pub mod Counting
+pub mod Runs
+pub mod Read
+pub mod inner

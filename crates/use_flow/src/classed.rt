@@ -29,7 +29,11 @@ pub(crate) struct Entry {
 
 // Appends a table, where it has objects.
 #[tactic(auto, using(crate::proofs::Scenes::scenes))]
-fn add(entries: &mut List<Entry>, key: TableKey, class: Option<u32>) -> Result<(), Memory>
+pub(crate) fn add(
+    entries: &mut List<Entry>,
+    key: TableKey,
+    class: Option<u32>,
+) -> Result<(), Memory>
     ensures { OnOk result (entries.new.items ≡ entries.old.items ++ listing.entry_if key class) }
 {
     if let Some(class) = class {
@@ -56,7 +60,7 @@ fn add_fields(
 
 // Appends the tables of the fields of a class.
 #[tactic(auto, using(crate::proofs::Scenes::scenes))]
-fn add_fields_of(
+pub(crate) fn add_fields_of(
     core: &Core,
     entries: &mut List<Entry>,
     table: FieldTable,
@@ -157,7 +161,11 @@ fn add_methods(core: &Core, entries: &mut List<Entry>) -> Result<(), Memory>
 
 // Appends the tables of the parameters of a context.
 #[tactic(auto, using(crate::proofs::Adding::params))]
-fn add_params(entries: &mut List<Entry>, context: u32, params: &[CoreSlot]) -> Result<(), Memory>
+pub(crate) fn add_params(
+    entries: &mut List<Entry>,
+    context: u32,
+    params: &[CoreSlot],
+) -> Result<(), Memory>
     ensures { OnOk result (entries.new.items ≡ entries.old.items ++ listing.param_entries context (map (λ s. s.ty) params.now)) }
 {
     for place in 0..params.len() {
@@ -184,7 +192,7 @@ fn slot_class(method: &CoreMethod, slot: u32) -> Option<u32>
 
 // Appends the tables of the slots in scope at the head of a loop.
 #[tactic(auto, using(crate::proofs::Adding::slots))]
-fn add_scope(
+pub(crate) fn add_scope(
     entries: &mut List<Entry>,
     method: &CoreMethod,
     context: u32,
@@ -207,7 +215,7 @@ fn add_scope(
 
 // Appends the tables of the own fields at the head of a loop.
 #[tactic(auto, using(crate::proofs::Adding::parts))]
-fn add_head(
+pub(crate) fn add_head(
     core: &Core,
     entries: &mut List<Entry>,
     method: &CoreMethod,

@@ -114,7 +114,7 @@ fn add_protocol(
 }
 
 // Appends the contexts of a method.
-fn add_contexts(
+pub(crate) fn add_contexts(
     core: &Core,
     reached: &[StateSet],
     contexts: &mut List<Context>,

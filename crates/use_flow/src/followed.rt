@@ -5,6 +5,7 @@ ghost use Rattle.std.specs.Prelude.{◌≡◌, [], None, map, IfOk};
 ghost use Rattle.jv_core.specs.Core.{tree_of};
 ghost use Rattle.jv_core.specs.Numbering.{numbers_from};
 ghost use Rattle.use_rules.specs.Tables.{quiet, flow_of};
+ghost use Rattle.use_flow.specs.Counting.{IsOneMore};
 ghost use Rattle.use_flow.specs.View.{tables_of, reached_of, log_of, AreFor};
 ghost use Rattle.use_flow.specs.inner.Followed.{seen};
 ghost use Rattle.use_flow.specs.inner.Jumping.{held};
@@ -16,17 +17,34 @@ use crate::elements::empty_set;
 use crate::jumps::Jumps;
 use crate::scene::Scene;
 use crate::types::method_in;
-use crate::{Context, Flow, Tables};
+use crate::{Context, Flow, Follows, Tables};
 use jv_core::Core;
 use mg_text::{List, Memory};
 use std::alloc::Global;
 
 /// What flows out of a context, and which of its demands fail, in order, by what the tables hold.
+/// Also where the answer is an error, one more context was followed.
 ///
 /// # Errors
 /// `Memory` only.
+pub fn flow(
+    alloc: Global,
+    core: &Core,
+    tables: &Tables,
+    context: Context,
+    follows: &mut Follows,
+) -> Result<Flow, Memory>
+    requires { AreFor (tree_of core.now) tables.now }
+    ensures flows { IfOk result (λ f. log_of f ≡ flow_of (tree_of core.now) (reached_of tables.now) (tables_of tables.now) context) }
+    ensures counts { IsOneMore follows.old follows.new }
+{
+    follows.raise();
+    follow(alloc, core, tables, context)
+}
+
+// What flows out of a context, and what fails in it.
 #[tactic(auto, using(crate::proofs::Flowing::flowing))]
-pub fn flow(alloc: Global, core: &Core, tables: &Tables, context: Context) -> Result<Flow, Memory>
+fn follow(alloc: Global, core: &Core, tables: &Tables, context: Context) -> Result<Flow, Memory>
     requires { AreFor (tree_of core.now) tables.now }
     ensures { IfOk result (λ f. log_of f ≡ flow_of (tree_of core.now) (reached_of tables.now) (tables_of tables.now) context) }
 {

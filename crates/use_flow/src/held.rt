@@ -12,12 +12,14 @@ ghost use Rattle.use_rules.specs.Start.{start_in, start_of, starting};
 ghost use Rattle.use_rules.specs.Keys.{number_of, reached_states, typestate_of};
 ghost use Rattle.use_flow.specs.inner.Entering.{set_or_none};
 ghost use Rattle.use_flow.specs.inner.Holding.{AreApart, AreHeld, WithEntry};
+ghost use Rattle.use_flow.specs.Runs.{starts_of, starts_in};
 ghost use Rattle.use_flow.specs.View.{same_key, tables_of, contexts_of, reached_of, lacks, HasKey, AreFor, IsKept};
 
 use crate::classed::{Entry, entries_of};
 use crate::elements::{copy_set, empty_set, mark};
 use crate::entered::{contexts_by, reached_in, reached_sets};
 use crate::fields::number;
+use crate::runs::{Runs, runs_by};
 use crate::scene::typestate_of;
 use crate::{Context, TableKey};
 use indexmap::IndexSet;
@@ -174,9 +176,16 @@ impl Tables {
         Ok(tables)
     }
 
-    // The number of a key's set.
+    /// How many sets there are.
+    pub fn count(&self) -> usize
+        ensures { result ≡ length self.now.sets.items }
+    {
+        self.sets.len()
+    }
+
+    /// The number of a key's set, if the tables have the key.
     #[tactic(auto, using(crate::proofs::Keyed::keyed))]
-    fn number_of(&self, key: TableKey) -> Option<usize>
+    pub fn number_of(&self, key: TableKey) -> Option<usize>
         ensures { result ≡ position (same_key key) self.now.keys.keys }
     {
         self.keys.get_index_of(&key)
@@ -191,6 +200,16 @@ impl Tables {
             Some(index) => number(index),
             None => Ok(0),
         }
+    }
+
+    /// Where the contexts of each method begin.
+    ///
+    /// # Errors
+    /// `Memory` only.
+    pub fn runs(&self, alloc: Global, core: &Core) -> Result<Runs, Memory>
+        ensures { IfOk result (λ r. starts_of r ≡ starts_in (tree_of core.now) (reached_of self.now)) }
+    {
+        runs_by(alloc, core, self.reached.as_slice())
     }
 
     // A copy of the set of a key, empty where there is none.

@@ -1,0 +1,2 @@
+autocmd BufNewFile,BufRead *.scr setfiletype scribble
+autocmd BufNewFile,BufRead *.protocol setfiletype typestate
