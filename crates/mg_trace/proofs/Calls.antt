@@ -1,5 +1,5 @@
 -- The calls of an object that weren't left, in a row whose last was entered last.
-use Rattle.std.proofs.Common.{◌≡◌, ◌-◌, ◌+◌, ℕ, suc, List, [], ◌∷◌, ◌++◌, map, length, Option, None, Some, refl, sym, ap, ◌∙◌, arith}
+use Rattle.std.proofs.Common.{◌≡◌, ◌-◌, ◌+◌, take, ℕ, suc, List, [], ◌∷◌, ◌++◌, map, length, Option, None, Some, refl, sym, ap, ◌∙◌, arith}
 use Rattle.std.specs.Prelude.{MatchOption, reverse, slice_get}
 use Rattle.std.specs.Option.{option_to_list}
 use Rattle.std.proofs.lemmas.List.{map-append, reverse-append}
@@ -37,9 +37,10 @@ module _ {A : Type 0} (f : A → Name) where
       ∙ sym (ap (λ l. last_call (calls_of l)) h.is ∙ ap last_call (call_more h.front h.last))
 
   -- the row without it
-  pub popped : (xs ys : List A) (o : Option A) → xs ≡ ys ++ option_to_list o →
-      MatchOption o ((length xs ≡ 0) × (length ys ≡ 0)) (λ x. length ys + 1 ≡ length xs) → calls_of ys ≡ other_calls (calls_of xs)
-  popped xs ys (Some x) is h = sym (ap (λ l. other_calls (calls_of l)) is ∙ ap other_calls (call_more ys x))
-  popped [] [] None is h = refl
-  popped (x ∷ xs) ys None is h = absurd (omega (arith, h.0))
-  popped xs (y ∷ ys) None is h = absurd (omega (arith, h.1))
+  pub popped : (xs ys : List A) (o : Option A) (n m : ℕ) → xs ≡ ys ++ option_to_list o →
+      MatchOption o ((n ≡ 0) × (m ≡ 0)) (λ x. m + 1 ≡ n) → ys ≡ take (n - 1) xs → calls_of ys ≡ other_calls (calls_of xs)
+  popped xs ys (Some x) n m is h rest = sym (ap (λ l. other_calls (calls_of l)) is ∙ ap other_calls (call_more ys x))
+  popped xs ys None n m is h rest =
+      let less : n - 1 ≡ 0 = omega (arith, h.0) in
+      let none : ys ≡ [] = rest ∙ ap (λ k. take k xs) less in
+      ap calls_of none ∙ sym (ap (λ l. other_calls (calls_of l)) (is ∙ ap (λ l. l ++ []) none))

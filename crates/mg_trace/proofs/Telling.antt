@@ -1,7 +1,8 @@
 -- The lines of one event more.
-use Rattle.std.proofs.Common.{◌≡◌, ◌==◌, ℕ, ℤ, List, [], ◌∷◌, ◌++◌, Bool, true, false, if◌then◌else◌, Option, codes, refl, sym, ap, ◌∙◌, append_assoc, append-nil}
+use Rattle.std.proofs.Common.{◌≡◌, ◌==◌, ◌<◌, ◌+◌, take, length, get_or, ℕ, ℤ, List, [], ◌∷◌, ◌++◌, Bool, true, false, if◌then◌else◌, Option, codes, refl, sym, ap, ◌∙◌, append_assoc, append-nil}
 use Rattle.std.specs.Prelude.{Vec}
 use Rattle.std.specs.Global.{Global}
+use Rattle.std.proofs.lemmas.List.{take_more}
 use Rattle.mg_text.specs.Call.{Name}
 use Rattle.mg_text.specs.declared.event.Event.{Event}
 use Rattle.mg_text.specs.declared.event.Event.TheVariants as seen
@@ -36,6 +37,11 @@ known_behind : (k : Known) (events : List Event) (e : Event) (o : ℕ) →
 known_behind k [] e o = refl
 known_behind k (x ∷ events) e o = known_behind (known_more o k x) events e o
 
+-- the events up to the next
+pub up_to_next : (events : List RoleEvent) (k : ℕ) (e : RoleEvent) → k < length events → e ≡ get_or events k e →
+    take (k + 1) events ≡ take k events ++ e ∷ []
+up_to_next events k e within is = take_more events k e within ∙ ap (λ x. take k events ++ x ∷ []) (sym is)
+
 -- nothing is kept at first
 pub none_known : AreKnown [] []
 none_known = record { each = λ r o. refl }
@@ -59,8 +65,9 @@ are_known_same before after events h same = record { each = λ r o. ap (λ l. kn
 
 -- the lines of one event more
 pub traced_more : (p : Program) (names : List Name) (roles : List (Vec Tracked Global)) (events : List RoleEvent) (e : RoleEvent)
-    (name : Name) (objects : List Tracked) (old new : List ℕ) → AreKnown roles events → name ≡ name_at names e.role → objects ≡ objects_at roles e.role →
-    old ≡ trace p names events → new ≡ old ++ line_of p name (known_at objects (object_of e.event)) e.event → new ≡ trace p names (events ++ e ∷ [])
+    (name : Name) (objects : List Tracked) (old new : List ℕ) → AreKnown roles events → name ≡ name_at names e.role →
+    objects ≡ objects_at roles e.role → old ≡ trace p names events →
+    new ≡ old ++ line_of p name (known_at objects (object_of e.event)) e.event → new ≡ trace p names (events ++ e ∷ [])
 traced_more p names roles events e name objects old new known named own h line =
     line
     ∙ ap (λ l. l ++ line_of p name (known_at objects (object_of e.event)) e.event) h
@@ -85,4 +92,5 @@ left p objects event o answer is class method class_is method_is kind kind_is ol
     ∙ ap (λ (e : Event). old ++ event_words p (known_at objects (object_of e)) e) (sym is)
   where
     words : (class method : Name) → List ℕ
-    words class method = (codes "leave " ++ object_words class o ++ codes " " ++ method) ++ answer_words p (result_named p class method) answer
+    words class method =
+        (codes "leave " ++ object_words class o ++ codes " " ++ method) ++ answer_words p (result_named p class method) answer

@@ -1,6 +1,5 @@
 use Rattle.std.proofs.Common.{◌∷◌, ◌∙◌, ap}
 use Rattle.mg_text.specs.Call.{Name}
-use Rattle.mg_trace.specs.Trace.{Known}
 use Rattle.mg_trace.specs.inner.Kept.{known_at}
 use Rattle.mg_trace.proofs.Tracks.{known_changed, known_is, known_entered}
 use Rattle.mg_trace.proofs.objects.entered.Goals as goal
