@@ -88,8 +88,9 @@ fn ran_roles(
     roles_keep();
     protocols_agree();
     let program = accept(alloc, names, contents)?;
-    if let Some(number) = first_without(&program.core, mains) {
-        return Err(no_main(alloc, &mains[number].class));
+    match first_without(&program.core, mains) {
+        Some(number) => return Err(no_main(alloc, &mains[number].class)),
+        None => {}
     }
     let files = class_files(alloc, names, &program.core)?;
     let ran = run_files(
