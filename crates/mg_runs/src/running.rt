@@ -61,9 +61,7 @@ pub fn run_roles(
     // Files that are refused aren't run.
     ensures refused { (line : Seq ℕ) → Refusal (sources names.now contents.now) mains.now line → OnOk result ⊥ }
 {
-    ran_roles(
-        alloc, names, contents, mains, order, limit, named, traced,
-    )
+    ran_roles(alloc, names, contents, mains, order, limit, named, traced)
 }
 
 // The same, without what follows from its being one answer.
