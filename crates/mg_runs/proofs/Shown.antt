@@ -64,13 +64,12 @@ module _ (files : List Source) (mains : List RoleMain) (order : List ℕ) (limit
   run_unaccepted (stops.Refused line) h = unaccepted h
   run_unaccepted stops.Memory h = tt
 
-  pub run_no_main : (core : Core.Program) (number : ℕ) (main : RoleMain) (stop : Stop) → AreAccepted files core → (w : IsWithout core mains number) →
-      main ≡ get_or mains number main → IsStop (no_main_line main.class) stop → IsRunning files mains order limit named traced (Err stop)
-  run_no_main core number main (stops.Refused line) a w there is =
-      let same : w.main ≡ main = sym (get_or_from_slice_get mains number w.main main w.is) ∙ sym there in
+  pub run_no_main : (core : Core.Program) (number : ℕ) (main : RoleMain) (stop : Stop) → AreAccepted files core → IsWithout core mains number →
+      IsStop (no_main_line (get_or mains number main).class) stop → IsRunning files mains order limit named traced (Err stop)
+  run_no_main core number main (stops.Refused line) a w is =
       no_main core (take number mains) w.main (drop (suc number) mains) a (parts_at mains number w.main w.is) w.front w.none
-      (is ∙ ap (λ (m : RoleMain). no_main_line m.class) (sym same))
-  run_no_main core number main stops.Memory a w there is = tt
+      (is ∙ ap (λ (m : RoleMain). no_main_line m.class) (get_or_from_slice_get mains number w.main main w.is))
+  run_no_main core number main stops.Memory a w is = tt
 
 pub run_exceeded : (names contents : List (List ℕ)) (mains : List RoleMain) (order : List ℕ) (limit : ℕ) (named traced : Bool) (core : Core.Program)
     (stop : Stop) → length names ≡ length contents → AreAccepted (sources names contents) core → HaveMains core mains →

@@ -8,7 +8,7 @@ pub returns-in-Some : goal.returns-in-Some
 returns-in-Some c =
     let files = sources c.args.names.now c.args.contents.now in
     run_no_main files c.args.mains.now c.args.order.now c.args.limit c.args.named c.args.traced (tree_of c.in_ok-program.program.core) c.in-Some.number
-    c.index-mains-number.result c.no_main.result c.in_ok-program.ensures.answered.files_are c.in-Some.ensures c.index-mains-number.is c.no_main.ensures
+    _ c.no_main.result c.in_ok-program.ensures.answered.files_are c.in-Some.ensures c.no_main.ensures
 
 pub returns-in_err-files : goal.returns-in_err-files
 returns-in_err-files c =
