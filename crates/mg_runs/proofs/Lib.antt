@@ -6,4 +6,3 @@ pub mod Protocols
 pub mod Shown
 pub mod Apart
 pub mod Naming
-pub mod Mains

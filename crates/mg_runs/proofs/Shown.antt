@@ -1,5 +1,6 @@
 -- What running roles answers.
-use Rattle.std.proofs.Common.{◌≡◌, ◌≢◌, ◌<◌, ℕ, zero, suc, List, [], ◌∷◌, ◌++◌, Bool, None, Some, Err, map, length, take, drop, slice_get, refl, sym, ap, ◌∙◌, arith}
+use Rattle.std.proofs.Common.{◌≡◌, ◌≢◌, ◌<◌, ℕ, zero, suc, List, [], ◌∷◌, ◌++◌, Bool, None, Some, Err, map, length, take, drop, get_or, slice_get, refl, sym, ap, ◌∙◌, arith}
+use Rattle.std.proofs.lemmas.Option.{get_or_from_slice_get}
 use Rattle.jv_core.specs.Tree as Core
 use Rattle.jv_core.specs.Meaning.{main_of}
 use Rattle.vm_world_law.specs.declared.role.RoleMain.{RoleMain}
@@ -63,12 +64,12 @@ module _ (files : List Source) (mains : List RoleMain) (order : List ℕ) (limit
   run_unaccepted (stops.Refused line) h = unaccepted h
   run_unaccepted stops.Memory h = tt
 
-  pub run_no_main : (core : Core.Program) (number : ℕ) (main : RoleMain) (stop : Stop) → AreAccepted files core → (w : IsWithout core mains number) →
-      w.main ≡ main → IsStop (no_main_line main.class) stop → IsRunning files mains order limit named traced (Err stop)
-  run_no_main core number main (stops.Refused line) a w same is =
+  pub run_no_main : (core : Core.Program) (number : ℕ) (main : RoleMain) (stop : Stop) → AreAccepted files core → IsWithout core mains number →
+      IsStop (no_main_line (get_or mains number main).class) stop → IsRunning files mains order limit named traced (Err stop)
+  run_no_main core number main (stops.Refused line) a w is =
       no_main core (take number mains) w.main (drop (suc number) mains) a (parts_at mains number w.main w.is) w.front w.none
-      (is ∙ ap (λ (m : RoleMain). no_main_line m.class) (sym same))
-  run_no_main core number main stops.Memory a w same is = tt
+      (is ∙ ap (λ (m : RoleMain). no_main_line m.class) (get_or_from_slice_get mains number w.main main w.is))
+  run_no_main core number main stops.Memory a w is = tt
 
 pub run_exceeded : (names contents : List (List ℕ)) (mains : List RoleMain) (order : List ℕ) (limit : ℕ) (named traced : Bool) (core : Core.Program)
     (stop : Stop) → length names ≡ length contents → AreAccepted (sources names contents) core → HaveMains core mains →

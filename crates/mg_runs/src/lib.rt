@@ -9,7 +9,9 @@ mod mains;
 mod ran;
 mod running;
 
-pub use laws::{protocols_agree, roles_are_meant, roles_keep, runs_are_meant, written_classes_link};
+pub use laws::{
+    protocols_agree, roles_are_meant, roles_keep, runs_are_meant, written_classes_link,
+};
 pub use ran::Ran;
 pub use running::run_roles;
 pub use vm_world::{RoleMain, RoleRan, Stand};

@@ -61,9 +61,7 @@ pub fn run_roles(
     // Files that are refused aren't run.
     ensures refused { (line : Seq ℕ) → Refusal (sources names.now contents.now) mains.now line → OnOk result ⊥ }
 {
-    ran_roles(
-        alloc, names, contents, mains, order, limit, named, traced,
-    )
+    ran_roles(alloc, names, contents, mains, order, limit, named, traced)
 }
 
 // The same, without what follows from its being one answer.
@@ -88,8 +86,9 @@ fn ran_roles(
     roles_keep();
     protocols_agree();
     let program = accept(alloc, names, contents)?;
-    if let Some(number) = first_without(&program.core, mains) {
-        return Err(no_main(alloc, &mains[number].class));
+    match first_without(&program.core, mains) {
+        Some(number) => return Err(no_main(alloc, &mains[number].class)),
+        None => {}
     }
     let files = class_files(alloc, names, &program.core)?;
     let ran = run_files(

@@ -1,17 +1,10 @@
 -- What stands at a place among images of a list, or else this.
-use Rattle.std.proofs.Common.{◌≡◌, ◌<◌, ℕ, zero, suc, List, [], ◌∷◌, ◌++◌, map, length, get_or, refl, ap, arith}
+use Rattle.std.proofs.Common.{◌≡◌, ◌<◌, ℕ, zero, suc, List, [], ◌∷◌, map, length, get_or, refl, ap, arith}
 use Rattle.std.specs.Prelude.{slice_set}
 
 module _ {A B : Type 0} (f : A → B) (d : B) where
   abbrev pub image : List A → ℕ → B
   image xs i = get_or (map f xs) i d
-
-  -- one more, whose image is what stands elsewhere
-  pub pushed : (xs : List A) (x : A) → f x ≡ d → (i : ℕ) → image (xs ++ x ∷ []) i ≡ image xs i
-  pushed [] x is zero = is
-  pushed [] x is (suc i) = refl
-  pushed (y ∷ xs) x is zero = refl
-  pushed (y ∷ xs) x is (suc i) = pushed xs x is i
 
   -- what was put at a place, and what stands at others
   pub here : (xs : List A) (i : ℕ) (x : A) → i < length xs → image (slice_set xs i x) i ≡ f x

@@ -65,8 +65,9 @@ are_known_same before after events h same = record { each = λ r o. ap (λ l. kn
 
 -- the lines of one event more
 pub traced_more : (p : Program) (names : List Name) (roles : List (Vec Tracked Global)) (events : List RoleEvent) (e : RoleEvent)
-    (name : Name) (objects : List Tracked) (old new : List ℕ) → AreKnown roles events → name ≡ name_at names e.role → objects ≡ objects_at roles e.role →
-    old ≡ trace p names events → new ≡ old ++ line_of p name (known_at objects (object_of e.event)) e.event → new ≡ trace p names (events ++ e ∷ [])
+    (name : Name) (objects : List Tracked) (old new : List ℕ) → AreKnown roles events → name ≡ name_at names e.role →
+    objects ≡ objects_at roles e.role → old ≡ trace p names events →
+    new ≡ old ++ line_of p name (known_at objects (object_of e.event)) e.event → new ≡ trace p names (events ++ e ∷ [])
 traced_more p names roles events e name objects old new known named own h line =
     line
     ∙ ap (λ l. l ++ line_of p name (known_at objects (object_of e.event)) e.event) h
@@ -91,4 +92,5 @@ left p objects event o answer is class method class_is method_is kind kind_is ol
     ∙ ap (λ (e : Event). old ++ event_words p (known_at objects (object_of e)) e) (sym is)
   where
     words : (class method : Name) → List ℕ
-    words class method = (codes "leave " ++ object_words class o ++ codes " " ++ method) ++ answer_words p (result_named p class method) answer
+    words class method =
+        (codes "leave " ++ object_words class o ++ codes " " ++ method) ++ answer_words p (result_named p class method) answer

@@ -11,7 +11,7 @@ use Rattle.mg_trace.specs.declared.objects.Tracked.{Tracked}
 use Rattle.mg_trace.specs.Trace.{Known, unknown, other_calls, known_more}
 use Rattle.mg_trace.specs.inner.Kept.{known_of, known_at, objects_at, KeepsMore, KeepMore}
 use Rattle.mg_trace.proofs.Calls.{calls_of, call_more, popped}
-use Rattle.mg_trace.proofs.Images.{pushed, here, there, image_is}
+use Rattle.mg_trace.proofs.Images.{here, there, image_is}
 
 differ : (i o : ℕ) → Decides false (i ≡ o) → i ≡ o → ⊥
 differ i o d e = let no : false ≡ true = d.1 e in absurd cc
@@ -29,7 +29,8 @@ known_changed old objects i within same t f is o = go (i == o) (Decides-eqb i o)
     go false d = there known_of unknown objects i o t (differ i o d) ∙ same o
 
 -- what is kept of an object that is there
-pub known_is : (objects : List Tracked) (i : ℕ) (t : Tracked) → i < length objects → t ≡ get_or objects i t → known_of t ≡ known_at objects i
+pub known_is : (objects : List Tracked) (i : ℕ) (t : Tracked) → i < length objects → t ≡ get_or objects i t →
+    known_of t ≡ known_at objects i
 known_is = image_is known_of unknown
 
 abbrev now : Bor Name → Name
@@ -44,7 +45,8 @@ known_new name calls class is none =
 
 -- an object entered a method
 pub known_entered : (t : Tracked) (calls : Vec (Bor Name) Global) (method : Bor Name) (k : Known) → known_of t ≡ k →
-    calls.items ≡ t.calls.items ++ method ∷ [] → known_of (record t { calls = calls }) ≡ record { class = k.class; calls = method.now ∷ k.calls }
+    calls.items ≡ t.calls.items ++ method ∷ [] →
+    known_of (record t { calls = calls }) ≡ record { class = k.class; calls = method.now ∷ k.calls }
 known_entered t calls method k known is =
     ap (λ (l : List Name). record { class = t.class.now; calls = l }) (ap (calls_of now) is ∙ call_more now t.calls.items method)
     ∙ ap (λ (x : Known). record { class = x.class; calls = method.now ∷ x.calls }) known
@@ -56,7 +58,8 @@ pub known_left : (t : Tracked) (calls : Vec (Bor Name) Global) (method : Option 
     calls.items ≡ take (vec_len t.calls - 1) t.calls.items →
     known_of (record t { calls = calls }) ≡ record { class = k.class; calls = other_calls k.calls }
 known_left t calls method k known is cases rest =
-    ap (λ (l : List Name). record { class = t.class.now; calls = l }) (popped now t.calls.items calls.items method (vec_len t.calls) (vec_len calls) is cases rest)
+    ap (λ (l : List Name). record { class = t.class.now; calls = l })
+    (popped now t.calls.items calls.items method (vec_len t.calls) (vec_len calls) is cases rest)
     ∙ ap (λ (x : Known). record { class = x.class; calls = other_calls x.calls }) known
 
 abbrev items : Vec Tracked Global → List Tracked
@@ -79,18 +82,3 @@ role_changed roles e within before after is more r o = go (e.role == r) (Decides
         ∙ more o
         ∙ ap (λ l. known_more o (known_at l o) e.event) (was ∙ ap (objects_at roles) (d.0 refl))
     go false d = ap (λ l. known_at l o) (there items [] roles e.role r after (differ e.role r d))
-
--- the objects of a role that is there
-pub objects_are : (roles : List (Vec Tracked Global)) (r : ℕ) (objects : Vec Tracked Global) → r < length roles →
-    objects ≡ get_or roles r objects → objects.items ≡ objects_at roles r
-objects_are = image_is items []
-
--- a role more, without objects
-pub role_pushed : (roles : List (Vec Tracked Global)) (objects : Vec Tracked Global) → objects.items ≡ [] → (r : ℕ) →
-    objects_at (roles ++ objects ∷ []) r ≡ objects_at roles r
-role_pushed = pushed items []
-
--- an object more, of which nothing is known
-pub known_pushed : (objects : List Tracked) (t : Tracked) → known_of t ≡ unknown → (o : ℕ) →
-    known_at (objects ++ t ∷ []) o ≡ known_at objects o
-known_pushed = pushed known_of unknown

@@ -16,7 +16,8 @@ use Rattle.vm_model.specs.Step.{truth_text}
 use Rattle.vm_world_law.specs.declared.role.RoleEvent.{RoleEvent}
 use Rattle.vm_world_law.specs.World.{events_of}
 
--- What the events so far of one role tell of an object: the class of which it was made, and the methods that it entered and hasn't left, the last entered first.
+-- What the events so far of one role tell of an object: the class of which it was made, and the methods that it entered and hasn't left,
+-- the last entered first.
 pub record Known : Type 0 where
   pub class : Name
   pub calls : List Name
@@ -97,7 +98,8 @@ event_words p k (seen.Print text) = []
 event_words p k (seen.Made o class) = codes "made " ++ object_words class o
 event_words p k (seen.Enter o method) = codes "enter " ++ object_words k.class o ++ codes " " ++ method
 event_words p k (seen.Leave o answer) =
-    codes "leave " ++ object_words k.class o ++ codes " " ++ last_call k.calls ++ answer_words p (result_named p k.class (last_call k.calls)) answer
+    codes "leave " ++ object_words k.class o ++ codes " " ++ last_call k.calls
+    ++ answer_words p (result_named p k.class (last_call k.calls)) answer
 event_words p k (seen.Send peer label payload) = codes "send " ++ peer ++ codes " " ++ label ++ carried_words payload
 event_words p k (seen.Look peer label) = codes "look " ++ peer ++ codes " " ++ label
 event_words p k (seen.Take peer label payload) = codes "take " ++ peer ++ codes " " ++ label ++ carried_words payload
