@@ -13,7 +13,7 @@ use Rattle.mg_runs.specs.Laws.{AllProtocolsAgree}
 
 -- a protocol that is read is valid
 valid_read : (source : Source) (local : LocalTree) → Reads source (Protocol local) → ∥ IsValid local ∥₁
-valid_read source local (protocol kind (scribble.found {w = w} spells none)) = merely (faultless w none (can_be_written source.number source.bytes w spells))
+valid_read source local (protocol kind (scribble.found {w = w} spells fine)) = merely (faultless w fine (can_be_written source.number source.bytes w spells))
 
 pub protocols_agree : AllProtocolsAgree
 protocols_agree files source local among reads = generated_agrees local (valid_read source local reads)
