@@ -39,6 +39,7 @@ pub fn run(
     ensures { IfOk result (λ d. Yields (Run (asked_of asked.now) names.now) contents.now d.actions.items d.status) }
 {
     let mains = mains_of(alloc, asked)?;
+    let roles = mains.as_slice();
     let order = asked.order(alloc)?;
     let limit = limit_of(asked);
     let named = asked.is_named();
@@ -46,13 +47,13 @@ pub fn run(
         alloc,
         names,
         contents,
-        mains.as_slice(),
+        roles,
         order.as_slice(),
         limit,
         named,
         asked.traced,
     ) {
-        Ok(ran) => show(alloc, asked, mains.as_slice(), ran),
+        Ok(ran) => show(alloc, asked, roles, ran),
         Err(Stop::Refused(line)) => Delivery::said(alloc, line, Status::Refused),
         Err(Stop::Memory) => Err(Memory),
     }
@@ -85,12 +86,7 @@ fn limit_of(asked: &Asked<'_>) -> u32
 
 // What is done about a run: its class files are written where a folder is named, then it is put
 // what was printed, and then its trace and the lines of its roles. An empty text isn't put.
-fn show(
-    alloc: Global,
-    asked: &Asked<'_>,
-    mains: &[RoleMain],
-    ran: Ran,
-) -> Result<Delivery, Memory>
+fn show(alloc: Global, asked: &Asked<'_>, mains: &[RoleMain], ran: Ran) -> Result<Delivery, Memory>
     ensures actions { IfOk result (λ d. d.actions.items ≡ kept_in (asked_of asked.now).folder ran.files.items
         ++ (prints ran.printed ++ Action.Say (ran.trace ++ role_lines (names_of mains.now)
         (map (λ r. r.instructions) ran.roles.items) (map (λ r. r.stand) ran.roles.items)) ∷ [])) }
@@ -257,46 +253,124 @@ fn status_of(roles: &[RoleRan]) -> Status
 
 // Whether a role is at the bound.
 fn any_bound(roles: &[RoleRan]) -> bool
-    ensures { result ≡ list_any is_bound (map (λ r. r.stand) roles.now) }
+    ensures { result ≡ list_any (λ r. is_bound r.stand) roles.now }
 {
-    roles.iter().any(|role| matches!(role.stand, Stand::Bound))
+    roles.iter().any(|role| is_bound(&role.stand))
 }
 
 // Whether a role ended at a null, or because its code is wrong.
 fn any_broken(roles: &[RoleRan]) -> bool
-    ensures { result ≡ list_any is_broken (map (λ r. r.stand) roles.now) }
+    ensures { result ≡ list_any (λ r. is_broken r.stand) roles.now }
 {
-    roles
-        .iter()
-        .any(|role| matches!(role.stand, Stand::Ended(Ending::Null | Ending::Bad(_))))
+    roles.iter().any(|role| is_broken(&role.stand))
 }
 
 // Whether a role ended at a zero divisor.
 fn any_zero(roles: &[RoleRan]) -> bool
-    ensures { result ≡ list_any is_zero (map (λ r. r.stand) roles.now) }
+    ensures { result ≡ list_any (λ r. is_zero r.stand) roles.now }
 {
-    roles
-        .iter()
-        .any(|role| matches!(role.stand, Stand::Ended(Ending::Zero)))
+    roles.iter().any(|role| is_zero(&role.stand))
 }
 
 // Whether a role ended at a message, or without its peer.
 fn any_mismatch(roles: &[RoleRan]) -> bool
-    ensures { result ≡ list_any is_mismatch (map (λ r. r.stand) roles.now) }
+    ensures { result ≡ list_any (λ r. is_mismatch r.stand) roles.now }
 {
-    roles.iter().any(|role| {
-        matches!(
-            role.stand,
-            Stand::Ended(Ending::Mismatch(_, _) | Ending::NoPeer(_))
-        )
-    })
+    roles.iter().any(|role| is_mismatch(&role.stand))
 }
 
 // Whether a role waits.
 fn any_waiting(roles: &[RoleRan]) -> bool
-    ensures { result ≡ list_any is_waiting (map (λ r. r.stand) roles.now) }
+    ensures { result ≡ list_any (λ r. is_waiting r.stand) roles.now }
 {
-    roles
-        .iter()
-        .any(|role| matches!(role.stand, Stand::Waits(_)))
+    roles.iter().any(|role| is_waiting(&role.stand))
+}
+
+fn is_bound(stand: &Stand) -> bool
+    ensures { result ≡ is_bound stand.now }
+{
+    match stand {
+        Stand::Ended(_) => false,
+        Stand::Waits(_) => false,
+        Stand::Bound => true,
+    }
+}
+
+fn is_waiting(stand: &Stand) -> bool
+    ensures { result ≡ is_waiting stand.now }
+{
+    match stand {
+        Stand::Ended(_) => false,
+        Stand::Waits(_) => true,
+        Stand::Bound => false,
+    }
+}
+
+fn is_broken(stand: &Stand) -> bool
+    ensures { result ≡ is_broken stand.now }
+{
+    match stand {
+        Stand::Ended(ending) => ends_broken(ending),
+        Stand::Waits(_) => false,
+        Stand::Bound => false,
+    }
+}
+
+fn ends_broken(ending: &Ending) -> bool
+    ensures { result ≡ is_broken (Stand.Ended ending.now) }
+{
+    match ending {
+        Ending::Done => false,
+        Ending::Zero => false,
+        Ending::Null => true,
+        Ending::Mismatch(_, _) => false,
+        Ending::NoPeer(_) => false,
+        Ending::Bad(_) => true,
+    }
+}
+
+fn is_zero(stand: &Stand) -> bool
+    ensures { result ≡ is_zero stand.now }
+{
+    match stand {
+        Stand::Ended(ending) => ends_zero(ending),
+        Stand::Waits(_) => false,
+        Stand::Bound => false,
+    }
+}
+
+fn ends_zero(ending: &Ending) -> bool
+    ensures { result ≡ is_zero (Stand.Ended ending.now) }
+{
+    match ending {
+        Ending::Done => false,
+        Ending::Zero => true,
+        Ending::Null => false,
+        Ending::Mismatch(_, _) => false,
+        Ending::NoPeer(_) => false,
+        Ending::Bad(_) => false,
+    }
+}
+
+fn is_mismatch(stand: &Stand) -> bool
+    ensures { result ≡ is_mismatch stand.now }
+{
+    match stand {
+        Stand::Ended(ending) => ends_mismatch(ending),
+        Stand::Waits(_) => false,
+        Stand::Bound => false,
+    }
+}
+
+fn ends_mismatch(ending: &Ending) -> bool
+    ensures { result ≡ is_mismatch (Stand.Ended ending.now) }
+{
+    match ending {
+        Ending::Done => false,
+        Ending::Zero => false,
+        Ending::Null => false,
+        Ending::Mismatch(_, _) => true,
+        Ending::NoPeer(_) => true,
+        Ending::Bad(_) => false,
+    }
 }
