@@ -24,7 +24,7 @@ use std::alloc::Global;
 use std::rt::Files;
 
 /// The files of cases, in the order in which they are answered.
-const FILES: [&str; 8] = [
+const FILES: [&str; 9] = [
     "translate.txt",
     "conform.txt",
     "check.txt",
@@ -32,6 +32,7 @@ const FILES: [&str; 8] = [
     "compile.txt",
     "limits.txt",
     "run.txt",
+    "roles.txt",
     "words.txt",
 ];
 

@@ -48,7 +48,8 @@ use Rattle.jv_sound.proofs.Objects.{Heap, Owned, owned_more, there, object_is, b
 use Rattle.jv_sound.proofs.Expressions.{CallsWell, This, method_ok, eval_good, args_good, session_usable}
 use Rattle.gen_sound.specs.Following.{Moment, Comes, Follows}
 use Rattle.gen_sound.specs.Arriving.{Arrives}
-use Rattle.gen_sound.specs.Related.{Running, moment, flat, Laid, LaidObject, Holds, RunsCode}
+use Rattle.gen_sound.specs.Related.{Running, moment, flat, Laid, LaidObject, RunsCode}
+use Rattle.world_meant_law.specs.Meant.{Holds}
 use Rattle.gen_sound.specs.Plain.{IsPlain, ArePlainArgs}
 use Rattle.gen_sound.proofs.Steps.{stays, ClosedBefore, follows_later, follows_then}
 use Rattle.gen_sound.proofs.Forms.{Does, does_value, Value_at, value_closed, arrives_later, next_place}

@@ -32,7 +32,8 @@ use Rattle.gen_rules.specs.Frames.{max_stack}
 use Rattle.jv_sound.proofs.Worlds.{World, Fits}
 use Rattle.jv_sound.proofs.Worlds as worlds
 use Rattle.gen_sound.specs.Following.{Moment, Leads, Follows}
-use Rattle.gen_sound.specs.Related.{Running, flat, Holds, RunsCode, action_of}
+use Rattle.gen_sound.specs.Related.{Running, flat, RunsCode, action_of}
+use Rattle.world_meant_law.specs.Meant.{Holds}
 use Rattle.gen_sound.specs.Arriving.{Arrives, Jumps}
 use Rattle.gen_sound.proofs.Steps.{stays}
 use Rattle.gen_sound.proofs.Ints.{lt_not_le, le_not_lt, not_not}

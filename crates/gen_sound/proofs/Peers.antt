@@ -16,8 +16,8 @@ use Rattle.jv_mean.specs.Messages.{taken, takes_from}
 use Rattle.vm_model.specs.Messages.{Messages, or_nothing, sent_by, on_way, with_list, sending, role_named}
 use Rattle.vm_model.specs.Step.{other_role}
 use Rattle.jv_sound.proofs.Lists.{some_is}
-use Rattle.gen_sound.specs.Related.{PeerHolds, Holds}
-use Rattle.gen_sound.specs.Related as related
+use Rattle.world_meant_law.specs.Meant.{PeerHolds, Holds}
+use Rattle.world_meant_law.specs.Meant as meaning
 use Rattle.gen_sound.proofs.Rows.{set_here, set_there}
 
 -- What was taken.
@@ -104,10 +104,10 @@ one_name q a b i e f =
 still_held : (inputs : Inputs) (q r : Messages) (me : ℕ) (es : List Event) (e : Event) → r.roles ≡ q.roles →
     ((from : ℕ) → from ≢ me → on_way r from me ≡ on_way q from me) → ((peer : Name) → takes_from peer e ≡ false) →
     (peer : Name) → PeerHolds inputs q me es peer → PeerHolds inputs r me (es ++ e ∷ []) peer
-still_held inputs q r me es e roles ways no_take peer (related.unknown a b) =
-    related.unknown a (ap (λ names. other_role me (position (bytes_eq peer) names)) roles ∙ b)
-still_held inputs q r me es e roles ways no_take peer (related.known sent from a b c) =
-    related.known sent from a (ap (λ names. other_role me (position (bytes_eq peer) names)) roles ∙ b)
+still_held inputs q r me es e roles ways no_take peer (meaning.unknown a b) =
+    meaning.unknown a (ap (λ names. other_role me (position (bytes_eq peer) names)) roles ∙ b)
+still_held inputs q r me es e roles ways no_take peer (meaning.known sent from a b c) =
+    meaning.known sent from a (ap (λ names. other_role me (position (bytes_eq peer) names)) roles ∙ b)
     (ways from (other_is me (role_named q peer) from b).apart ∙ c ∙ ap (λ k. drop k sent) (sym (taken_still peer es e (no_take peer))))
 
 -- an event that takes nothing, where no list changes
@@ -131,18 +131,18 @@ pub took_holds : (inputs : Inputs) (q : Messages) (me from : ℕ) (peer label : 
 took_holds inputs q me from peer label payload x more es named way h = record { peers = λ name. go name (bytes_eq name peer) refl (h.peers name) }
   where
     go : (name : Name) (b : Bool) → bytes_eq name peer ≡ b → PeerHolds inputs q me es name → PeerHolds inputs (with_list q from me more) me (es ++ seen.Take peer label payload ∷ []) name
-    go name b is (related.unknown a k) = related.unknown a k
-    go name true is (related.known sent other a k c) =
+    go name b is (meaning.unknown a k) = meaning.unknown a k
+    go name true is (meaning.known sent other a k c) =
         let same : name ≡ peer = (bytes_eq-Decides name peer).0 is in
         let number : other ≡ from = some_is (sym k ∙ ap (λ n. other_role me (role_named q n)) same ∙ named) in
-        related.known sent other a k
+        meaning.known sent other a k
         (ap (λ i. on_way (with_list q from me more) i me) number ∙ now_on_way q from me more x more way
         ∙ sym (ap (λ i. drop i sent) (taken_next name es (seen.Take peer label payload) is)
         ∙ drop_next (taken name es) sent x more (sym c ∙ ap (λ i. on_way q i me) number ∙ way)))
-    go name false is (related.known sent other a k c) =
+    go name false is (meaning.known sent other a k c) =
         let there = other_is me (role_named q name) other k in
         let here = other_is me (role_named q peer) from named in
         let apart : other ≢ from = (λ g. absurd (true≢false (sym ((bytes_eq-Decides name peer).1
         (one_name q name peer from (there.is ∙ ap (λ i. Some i) g) here.is)) ∙ is))) in
-        related.known sent other a k
+        meaning.known sent other a k
         (still_on_way q other from me me more apart ∙ c ∙ ap (λ i. drop i sent) (sym (taken_still name es (seen.Take peer label payload) is)))

@@ -24,10 +24,9 @@ use Rattle.gen_rules.specs.Linked.{outlines_of, linked_program}
 use Rattle.gen_links.specs.Files.{HasPlainNames}
 use Rattle.jv_sound.proofs.Sound.{never_wrong}
 use Rattle.gen_sound.specs.Following.{Moment, Stopped, EndsAlike}
-use Rattle.gen_sound.specs.Related.{Holds}
+use Rattle.world_meant_law.specs.Meant.{finish_of, Holds, Means, EndsSo, RunsAsMeant}
 use Rattle.gen_sound.specs.Plain.{ArePlain}
 use Rattle.gen_sound.specs.Begun.{outermost, begun}
-use Rattle.gen_sound.specs.Laws.{finish_of, Means, RunsTo, Agrees}
 use Rattle.gen_sound.specs.PlainMains.{DoesAsMeant, StandsAs, LinkedCodeRuns, PlainMainsRun, PlainMainsAgree, MainsAgree}
 use Rattle.gen_sound.proofs.Agreeing.{further_is, ended_so, waits_so, goes_so}
 use Rattle.gen_sound.proofs.Bodies
@@ -91,7 +90,7 @@ module _ (p : Program) (name : Name) (program : linked.Program) (inputs : Inputs
   same_ended r events f e g = ap₂ (λ x y. record { events = x; finish = y }) e g
 
   stopped_runs : (events : List Event) (e : Ending) → Stopped (step program me) c events (Stops e) →
-      RunsTo p name program inputs me start q events e
+      EndsSo (step program me) start q events e
   stopped_runs events e h = record {
     count = h.comes.count + 1;
     runs = record {
@@ -106,7 +105,7 @@ module _ (p : Program) (name : Name) (program : linked.Program) (inputs : Inputs
   }
 
   runs_to : (budget : ℕ) (events : List Event) (e : Ending) (f : Finish) → finish_of e ≡ Some f →
-      EndsAlike (step program me) (suc budget) c f events → RunsTo p name program inputs me start q events e
+      EndsAlike (step program me) (suc budget) c f events → EndsSo (step program me) start q events e
   runs_to budget events endings.Done f is h =
       stopped_runs events endings.Done (subst (λ f. EndsAlike (step program me) (suc budget) c f events) (finish_is (sym is)) h)
   runs_to budget events endings.Zero f is h =
@@ -119,22 +118,22 @@ module _ (p : Program) (name : Name) (program : linked.Program) (inputs : Inputs
       stopped_runs events (endings.NoPeer x) (subst (λ f. EndsAlike (step program me) (suc budget) c f events) (finish_is (sym is)) h)
   runs_to budget events (endings.Bad x) f is h = absurd (cc)
 
-  as_meant : (budget : ℕ) (events : List Event) (f : Finish) → Means p name program inputs me start q budget events f →
+  as_meant : (budget : ℕ) (events : List Event) (f : Finish) → Means (cmean p name inputs) budget events f →
       EndsAlike (step program me) (suc budget) c f events
-  as_meant budget events f h = subst (λ r. EndsAlike (step program me) (suc budget) c r.finish r.events) h.is (meant budget)
+  as_meant budget events f h = subst (λ r. EndsAlike (step program me) (suc budget) c r.finish r.events) h (meant budget)
 
-  pub agrees : Agrees p name program inputs me start q
+  pub agrees : RunsAsMeant (step program me) start q (cmean p name inputs)
   agrees = record {
     ended = λ count events ending runs.
         let r = cmean p name inputs (suc count) in
         let so = ended_so (step program me) start q (suc (suc count)) r.finish r.events events ending count (omega arith) (meant (suc count))
         (fine (suc count)) runs in
-        record { finish = r.finish; is = so.is; means = record { is = same_ended r events r.finish so.events_are refl } };
+        (r.finish, so.is, same_ended r events r.finish so.events_are refl);
     waiting = λ count events m messages from steps waits.
         let r = cmean p name inputs (suc count) in
         let so = waits_so (step program me) start q (suc (suc count)) r.finish r.events events count from m messages (omega arith)
         (meant (suc count)) (fine (suc count)) steps waits in
-        record { peer = so.peer; named = so.named; means = record { is = same_ended r events (Wait so.peer) so.events_are so.finish } };
+        (so.peer, so.named, same_ended r events (Wait so.peer) so.events_are so.finish);
     going = λ count events m messages steps.
         let r = cmean p name inputs (suc count) in
         goes_so (step program me) start q (suc (suc count)) r.finish r.events events count m messages (omega arith) (meant (suc count))
@@ -162,7 +161,7 @@ module _ (p : Program) (name : Name) (program : linked.Program) (inputs : Inputs
               (further_is (step program me) c h.moment h.comes refl ∙ h.events_are) h.comes.steps;
           enough = h.enough;
         };
-    right = λ budget events means. fine budget (ap (λ r. r.finish) means.is);
+    right = fine;
   }
 
 pub plain_mains_agree : PlainMainsAgree

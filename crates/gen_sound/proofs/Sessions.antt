@@ -36,8 +36,9 @@ use Rattle.gen_rules.specs.Frames.{max_stack, left_by}
 use Rattle.jv_sound.proofs.Worlds.{World, AllFit}
 use Rattle.jv_sound.proofs.Worlds as worlds
 use Rattle.gen_sound.specs.Following.{Moment, Stopped, Follows}
-use Rattle.gen_sound.specs.Related.{Running, moment, flat, flat_given, PeerHolds, Holds, RunsCode}
-use Rattle.gen_sound.specs.Related as related
+use Rattle.gen_sound.specs.Related.{Running, moment, flat, flat_given, RunsCode}
+use Rattle.world_meant_law.specs.Meant.{PeerHolds, Holds}
+use Rattle.world_meant_law.specs.Meant as meaning
 use Rattle.gen_sound.specs.Arriving.{Arrives}
 use Rattle.gen_sound.proofs.Steps.{stays, lead_of}
 use Rattle.gen_sound.proofs.Taking.{step_takes}
@@ -111,11 +112,11 @@ module _ (p : Program) (ok : IsCore p) (os : List Outline) (program : linked.Pro
       step program me (A place (st ++ args) s q).machine q
       ≡ machine.sends q (A place (st ++ args) s q).machine me st peer label payload → Holds inputs q me s.events →
       PeerHolds inputs q me s.events peer → F (V (place + 1) st) (A place (st ++ args) s q) (sends inputs peer label payload s)
-  sends_go place st args peer label payload s q is holds (related.unknown a b) =
+  sends_go place st args peer label payload s q is holds (meaning.unknown a b) =
       let c : Moment = A place (st ++ args) s q in
       subst (λ o. F (V (place + 1) st) c (and_then (there_or (NoPeer peer) o s) (after_send peer label payload))) (sym a)
       (stopped c _ (is ∙ ap (machine.sends_to q c.machine me st peer (record { label = label; payload = payload })) b))
-  sends_go place st args peer label payload s q is holds (related.known sent to a b w) =
+  sends_go place st args peer label payload s q is holds (meaning.known sent to a b w) =
       let c : Moment = A place (st ++ args) s q in
       let message : Sent = record { label = label; payload = payload } in
       let event = seen.Send peer label payload in
@@ -144,7 +145,7 @@ module _ (p : Program) (ok : IsCore p) (os : List Outline) (program : linked.Pro
       ((from : ℕ) → with_list_of from [] ≡ vm.Waits from) → PeerHolds inputs q me s.events peer →
       ((from : ℕ) (x : Sent) (more : List Sent) → other_role me (role_named q peer) ≡ Some from → on_way q from me ≡ x ∷ more →
       step program me c.machine q ≡ with_list_of from (x ∷ more) → F R c (go x s)) → F R c (next_is peer go s)
-  next_goes R c peer s q go from_to with_list_of messages events is no_peer some empty (related.unknown a b) k =
+  next_goes R c peer s q go from_to with_list_of messages events is no_peer some empty (meaning.unknown a b) k =
       subst (λ o. F R c (and_then (and_then (there_or (NoPeer peer) o s)
       (λ ms. happened >>= λ events. there_or (Wait peer) (slice_get ms (taken peer events)))) go)) (sym a)
       (record {
@@ -153,7 +154,7 @@ module _ (p : Program) (ok : IsCore p) (os : List Outline) (program : linked.Pro
         events_are = events;
         stops = ap (step program me c.machine) messages ∙ is ∙ ap from_to b ∙ no_peer;
       })
-  next_goes R c peer s q go from_to with_list_of messages events is no_peer some empty (related.known sent from a b w) k =
+  next_goes R c peer s q go from_to with_list_of messages events is no_peer some empty (meaning.known sent from a b w) k =
       subst (λ o. F R c (and_then (and_then (there_or (NoPeer peer) o s)
       (λ ms. happened >>= λ events. there_or (Wait peer) (slice_get ms (taken peer events)))) go)) (sym a)
       (by (dropped sent (taken peer s.events)))
@@ -226,10 +227,10 @@ module _ (p : Program) (ok : IsCore p) (os : List Outline) (program : linked.Pro
   refuses_go : (place : ℕ) (st args : List Held) (peer label : Name) (s : Shared) (q : Messages) →
       step program me (A place (st ++ args) s q).machine q ≡ machine.refuses_from peer label (other_role me (role_named q peer)) →
       PeerHolds inputs q me s.events peer → F (V (place + 1) st) (A place (st ++ args) s q) (refuses inputs peer label s)
-  refuses_go place st args peer label s q is (related.unknown a b) =
+  refuses_go place st args peer label s q is (meaning.unknown a b) =
       subst (λ o. F (V (place + 1) st) (A place (st ++ args) s q) (and_then (there_or (NoPeer peer) o s) (λ ms. stop (Mismatch peer label))))
       (sym a) (stopped (A place (st ++ args) s q) _ (is ∙ ap (machine.refuses_from peer label) b))
-  refuses_go place st args peer label s q is (related.known sent to a b w) =
+  refuses_go place st args peer label s q is (meaning.known sent to a b w) =
       subst (λ o. F (V (place + 1) st) (A place (st ++ args) s q) (and_then (there_or (NoPeer peer) o s) (λ ms. stop (Mismatch peer label))))
       (sym a) (stopped (A place (st ++ args) s q) _ (is ∙ ap (machine.refuses_from peer label) b))
 

@@ -5,4 +5,3 @@ pub mod Standing
 pub mod Plain
 pub mod Begun
 pub mod PlainMains
-pub mod Laws

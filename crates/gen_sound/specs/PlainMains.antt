@@ -16,10 +16,10 @@ use Rattle.gen_rules.specs.Classes.{Compiled, compiled, IsCompiled}
 use Rattle.gen_rules.specs.Linked.{outlines_of, linked_program}
 use Rattle.gen_links.specs.Files.{HasPlainNames}
 use Rattle.gen_sound.specs.Following.{Moment, EndsAlike}
-use Rattle.gen_sound.specs.Related.{Running, Holds, RunsCode}
+use Rattle.gen_sound.specs.Related.{Running, RunsCode}
+use Rattle.world_meant_law.specs.Meant.{Holds, RunsAsMeant}
 use Rattle.gen_sound.specs.Plain.{ArePlain}
 use Rattle.gen_sound.specs.Begun.{begun}
-use Rattle.gen_sound.specs.Laws.{Agrees}
 
 -- The machine that begins with the code of this `main` does what `main` means with a budget: it ends so, waits so, or has
 -- these events and goes on for at least as many steps.
@@ -65,14 +65,14 @@ PlainMainsRun = (p : Program) → IsCore p → HasPlainNames p → (all : List (
     IsStart (linked_program p all) class start → (budget : ℕ) →
     DoesAsMeant me (linked_program p all) budget (begun start q) (cmean p class inputs budget)
 
--- The whole law (`Simulates`) for these classes: the run and the meaning agree, both ways.
+-- The whole law for these classes: the run and the meaning agree, both ways.
 abbrev pub PlainMainsAgree : Type 0
 PlainMainsAgree = (p : Program) → IsCore p → HasPlainNames p → (all : List (List Compiled)) → IsCompiled p all →
     (class : Name) → HasPlainMain p class → (inputs : Inputs) (me : ℕ) (q : Messages) → Holds inputs q me [] → (start : Machine) →
-    IsStart (linked_program p all) class start → Agrees p class (linked_program p all) inputs me start q
+    IsStart (linked_program p all) class start → RunsAsMeant (step (linked_program p all) me) start q (cmean p class inputs)
 
 -- So they agree for each class with a `main`: in a core all methods are plain, where each may be called.
 abbrev pub MainsAgree : Type 0
 MainsAgree = (p : Program) → IsCore p → HasPlainNames p → (all : List (List Compiled)) → IsCompiled p all →
     (class : Name) → HasMain p class → (inputs : Inputs) (me : ℕ) (q : Messages) → Holds inputs q me [] → (start : Machine) →
-    IsStart (linked_program p all) class start → Agrees p class (linked_program p all) inputs me start q
+    IsStart (linked_program p all) class start → RunsAsMeant (step (linked_program p all) me) start q (cmean p class inputs)

@@ -1,19 +1,15 @@
 -- How the state of a meaning lies in the machine.
-use Rattle.std.specs.Prelude.{◌≡◌, ◌+◌, ℕ, pos, List, [], ◌∷◌, length, drop, map, Option, Some, None, unwrap_or}
+use Rattle.std.specs.Prelude.{◌≡◌, ◌+◌, ℕ, pos, List, [], ◌∷◌, length, map, Option, Some, None, unwrap_or}
 use Rattle.std.specs.Prelude.{slice_get}
-use Rattle.mg_text.specs.Call.{Name}
-use Rattle.mg_text.specs.declared.event.Event.{Event}
-use Rattle.mg_text.specs.declared.event.Sent.{Sent}
-use Rattle.jv_mean.specs.Values.{Value, Int, Truth, Text, Null, Object, Constant, Row, Instance, Shared, Inputs}
-use Rattle.jv_mean.specs.Messages.{messages_of, taken}
+use Rattle.jv_mean.specs.Values.{Value, Int, Truth, Text, Null, Object, Constant, Row, Instance, Shared}
 use Rattle.jv_core.specs.Tree.{Program}
 use Rattle.jv_core.specs.Lookup.{class_numbered}
 use Rattle.vm_model.specs.declared.value.Value.{Value as Held}
 use Rattle.vm_model.specs.declared.value.Value.TheVariants as held
 use Rattle.vm_model.specs.Machine as machine
 use Rattle.vm_model.specs.Machine.{Frame}
-use Rattle.vm_model.specs.Messages.{Messages, on_way, role_named}
-use Rattle.vm_model.specs.Step.{truth, other_role}
+use Rattle.vm_model.specs.Messages.{Messages}
+use Rattle.vm_model.specs.Step.{truth}
 use Rattle.vm_model.specs.Program as linked
 use Rattle.vm_model.specs.Links.{Outline}
 use Rattle.vm_model.specs.Actions.{Action, action}
@@ -55,18 +51,6 @@ Laid first (e ∷ row) locals = (slice_get locals (first + length row) ≡ Some 
 abbrev pub LaidObject : Option ℕ → List (Option Held) → Type 0
 LaidObject None locals = Unit {0}
 LaidObject (Some o) locals = slice_get locals 0 ≡ Some (Some (held.Object o))
-
--- Messages.
-
--- a name of no other role of the run, or another role, whose messages on their way are those that it sent and that weren't taken
-pub data PeerHolds (inputs : Inputs) (q : Messages) (me : ℕ) (events : List Event) (peer : Name) : Type 0 where
-  unknown : messages_of inputs peer ≡ None → other_role me (role_named q peer) ≡ None → PeerHolds inputs q me events peer
-  known : (sent : List Sent) (from : ℕ) → messages_of inputs peer ≡ Some sent → other_role me (role_named q peer) ≡ Some from →
-      on_way q from me ≡ drop (taken peer events) sent → PeerHolds inputs q me events peer
-
--- the lists hold the inputs, but for what was taken
-pub record Holds (inputs : Inputs) (q : Messages) (me : ℕ) (events : List Event) : Type 0 where
-  pub peers : (peer : Name) → PeerHolds inputs q me events peer
 
 -- Moments.
 

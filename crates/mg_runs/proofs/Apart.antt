@@ -1,111 +1,104 @@
--- Files have one run of a class, and files that are refused have none.
-use Rattle.std.proofs.Common.{◌≡◌, ℕ, List, [], Bool, map, Some, None, Result, Ok, Err, if◌then◌else◌, sym, ap, ◌∙◌, subst}
+-- Files have one run of these roles, and files that are refused have none.
+use Rattle.std.proofs.Common.{◌≡◌, ◌≢◌, ℕ, List, [], ◌∷◌, ◌++◌, Bool, map, Some, None, Result, Ok, Err, if◌then◌else◌, refl, sym, ap, ap₂, ◌∙◌, subst}
 use Rattle.std.specs.Prelude.{OnOk}
-use Rattle.mg_text.specs.Call.{Name}
-use Rattle.mg_text.specs.declared.event.Event.{Event}
-use Rattle.vm_model.specs.Program.{Program, class_at}
-use Rattle.vm_model.specs.Links.{linked}
-use Rattle.vm_model.specs.Machine.{Machine}
-use Rattle.vm_model.specs.Messages.{no_messages}
-use Rattle.vm_model.specs.Start.{IsStart, main_in, started}
-use Rattle.vm_model.specs.Step.{step}
-use Rattle.vm_model.specs.Runs.{printed}
-use Rattle.mg_trace.specs.Trace.{trace}
+use Rattle.std.specs.List.{AllByRecursion}
+use Rattle.cls_tree.specs.Tree.{Class as File}
+use Rattle.vm_model.specs.Program.{Program}
+use Rattle.vm_model.specs.Links.{Links, linked}
 use Rattle.jv_core.specs.Tree as Core
 use Rattle.jv_core.specs.Meaning.{main_of}
 use Rattle.gen_rules.specs.Limits.{IsFirstExcess}
+use Rattle.vm_world_law.specs.declared.role.RoleMain.{RoleMain}
+use Rattle.vm_world_law.specs.World.{World, IsBegun}
+use Rattle.vm_world_law.specs.Turns as turning
+use Rattle.vm_world_law.specs.Turns.{stands_in}
+use Rattle.vm_world_law.proofs.Turns.{one_run}
+use Rattle.vm_world_law.proofs.Once.{begun_once}
+use Rattle.mg_trace.specs.Trace.{trace, printed}
 use Rattle.mg_sources.specs.Files.{Source}
+use Rattle.mg_sources.specs.declared.stop.Stop.{Stop}
+use Rattle.mg_sources.specs.declared.stop.Stop.TheVariants as stops
 use Rattle.mg_program.proofs.Apart.{one_core}
 use Rattle.mg_accepted.proofs.Apart as accepted
 use Rattle.mg_compile.specs.declared.files.ClassFile.{ClassFile}
 use Rattle.mg_compile.specs.Files.{AreClassFiles}
 use Rattle.mg_compile.proofs.Apart.{one_list, not_exceeded}
-use Rattle.mg_runs.specs.declared.ran.Stand.{Stand}
-use Rattle.mg_runs.specs.Runs.{alone, ComesTo, Performs}
-use Rattle.mg_runs.proofs.One.{SameCourse, one_course}
-use Rattle.mg_runs.proofs.Sound.{one_spelled_list}
-use Rattle.mg_sources.specs.declared.stop.Stop.{Stop}
-use Rattle.mg_sources.specs.declared.stop.Stop.TheVariants as stops
 use Rattle.mg_runs.specs.declared.ran.Ran.{Ran}
+use Rattle.mg_runs.specs.Runs.{AreSpelled, IsLoaded, HaveMains, names_of}
+use Rattle.mg_runs.specs.Headline.{Course, IsRun}
 use Rattle.mg_runs.specs.View.{Shows, IsRunning, IsThatRun}
-use Rattle.mg_runs.specs.Commanded.{Course, IsRun, Refusal, unaccepted, no_main, too_large}
+use Rattle.mg_runs.specs.Commanded.{Refusal, unaccepted, no_main, too_large}
+use Rattle.mg_runs.proofs.Sound.{one_spelled_list}
+
+-- a class that has no `main` isn't among those that have one
+lacks_none : (core : Core.Program) (front : List RoleMain) (main : RoleMain) (rest : List RoleMain) → HaveMains core (front ++ main ∷ rest) →
+    main_of core main.class ≢ None
+lacks_none core [] main rest h = h.0
+lacks_none core (x ∷ front) main rest h = lacks_none core front main rest h.1
 
 -- files that are refused aren't run
-pub not_refused : (files : List Source) (class : Name) (limit : ℕ) (r : Course) (line : List ℕ) → IsRun files class limit r → Refusal files class line → ⊥
-not_refused files class limit r line h (unaccepted refused) = accepted.not_refused files r.core line h.accepted refused
-not_refused files class limit r line h (no_main core a none said) =
+pub not_refused : (files : List Source) (mains : List RoleMain) (order : List ℕ) (limit : ℕ) (r : Course) (line : List ℕ) →
+    IsRun files mains order limit r → Refusal files mains line → ⊥
+not_refused files mains order limit r line h (unaccepted refused) = accepted.not_refused files r.core line h.accepted refused
+not_refused files mains order limit r line h (no_main core front main rest a is have none said) =
     let same : core ≡ r.core = one_core files core r.core a.have h.accepted.have in
-    h.has_main (subst (λ (z : Core.Program). main_of z class ≡ None) same none)
-not_refused files class limit r line h (too_large core e a main first said) =
+    lacks_none r.core front main rest (subst (HaveMains r.core) is h.have_mains) (subst (λ (z : Core.Program). main_of z main.class ≡ None) same none)
+not_refused files mains order limit r line h (too_large core e a have first said) =
     let same : core ≡ r.core = one_core files core r.core a.have h.accepted.have in
     not_exceeded r.core e h.class_files.fine (subst (λ (z : Core.Program). IsFirstExcess z (Some e)) same first)
 
-some_same : (a b : ℕ) → Some a ≡ Some b → a ≡ b
-some_same a b h = cc
-
--- a run begins at one machine
-one_start : (p : Program) (name : Name) (m n : Machine) → IsStart p name m → IsStart p name n → m ≡ n
-one_start p name m n a b =
-    let class : a.class ≡ b.class = some_same a.class b.class (sym a.main.has_class ∙ b.main.has_class) in
-    let method : a.method ≡ b.method =
-    some_same a.method b.method (sym a.main.has_main ∙ ap (λ c. main_in (class_at p c)) class ∙ b.main.has_main) in
-    a.machine ∙ ap (λ c. started p c a.method) class ∙ ap (λ k. started p b.class k) method ∙ sym b.machine
-
--- the same bytes have one course
-one_performed : (bytes : List (List ℕ)) (class : Name) (limit k l : ℕ) (es fs : List Event) (a b : Stand) → Performs bytes class limit k es a →
-    (g : Performs bytes class limit l fs b) → SameCourse (step g.program 0) limit g.start (no_messages alone) k l es fs a b
-one_performed bytes class limit k l es fs a b h g =
-    let files : h.files ≡ g.files = one_spelled_list bytes h.files g.files h.read g.read in
-    let program : h.program ≡ g.program = h.links.program ∙ ap linked files ∙ sym g.links.program in
-    let start : h.start ≡ g.start = one_start g.program class h.start g.start (subst (λ (z : Program). IsStart z class h.start) program h.starts) g.starts in
-    let comes : ComesTo (step g.program 0) limit g.start (no_messages alone) k es a
-    = subst (λ (z : Machine). ComesTo (step g.program 0) limit z (no_messages alone) k es a) start
-    (subst (λ (z : Program). ComesTo (step z 0) limit h.start (no_messages alone) k es a) program h.comes) in
-    one_course (step g.program 0) limit g.start (no_messages alone) k l es fs a b comes g.comes
+-- bytes are loaded as one program
+one_loaded : (bytes : List (List ℕ)) (p q : Program) → IsLoaded bytes p → IsLoaded bytes q → p ≡ q
+one_loaded bytes p q (read, spelled, links) (read', spelled', links') =
+    let files : read ≡ read' = one_spelled_list bytes read read' spelled spelled' in
+    links.program ∙ ap linked files ∙ sym links'.program
 
 -- two runs of the same files
 pub record SameRun (a b : Course) : Type 0 where
   pub core : a.core ≡ b.core
   pub written : a.written ≡ b.written
-  pub count : a.count ≡ b.count
-  pub events : a.events ≡ b.events
-  pub stand : a.stand ≡ b.stand
+  pub program : a.program ≡ b.program
+  pub last : a.last ≡ b.last
 
-pub one_of_run : (files : List Source) (class : Name) (limit : ℕ) (a b : Course) → IsRun files class limit a → IsRun files class limit b → SameRun a b
-one_of_run files class limit a b h g =
+pub one_of_run : (files : List Source) (mains : List RoleMain) (order : List ℕ) (limit : ℕ) (a b : Course) → IsRun files mains order limit a →
+    IsRun files mains order limit b → SameRun a b
+one_of_run files mains order limit a b h g =
     let core : a.core ≡ b.core = one_core files a.core b.core h.accepted.have g.accepted.have in
     let written : a.written ≡ b.written
     = one_list b.core a.written b.written (subst (λ (z : Core.Program). AreClassFiles z a.written) core h.class_files) g.class_files in
-    let moved = subst (λ (z : List ClassFile). Performs (map (λ f. f.bytes) z) class limit a.count a.events a.stand) written h.performs in
-    let same = one_performed (map (λ f. f.bytes) b.written) class limit a.count b.count a.events b.events a.stand b.stand moved g.performs in
-    record { core = core; written = written; count = same.count; events = same.events; stand = same.stand }
-
--- the stand of a run of files is that of every run
-pub one_stand : (files : List Source) (class : Name) (limit : ℕ) (a b : Course) → IsRun files class limit a → IsRun files class limit b → a.stand ≡ b.stand
-one_stand files class limit a b h g = (one_of_run files class limit a b h g).stand
+    let program : a.program ≡ b.program
+    = one_loaded (map (λ f. f.bytes) b.written) a.program b.program
+    (subst (λ (z : List ClassFile). IsLoaded (map (λ f. f.bytes) z) a.program) written h.loaded) g.loaded in
+    let first : a.first ≡ b.first
+    = begun_once b.program mains a.first b.first (subst (λ (z : Program). IsBegun z mains a.first) program h.begins) g.begins in
+    let last : a.last ≡ b.last
+    = one_run b.program b.first order limit a.last b.last
+    (subst (λ (w : World). turning.IsRun b.program w order limit a.last) first
+    (subst (λ (z : Program). turning.IsRun z a.first order limit a.last) program h.runs)) g.runs in
+    record { core = core; written = written; program = program; last = last }
 
 -- ---- what is answered
 
 -- what one run shows, every run of the same files shows
-shows_same : (files : List Source) (class : Name) (limit : ℕ) (traced : Bool) (a b : Course) (ran : Ran) → IsRun files class limit a →
-    IsRun files class limit b → Shows a traced ran → Shows b traced ran
-shows_same files class limit traced a b ran h g s =
-    let same = one_of_run files class limit a b h g in
+shows_same : (files : List Source) (mains : List RoleMain) (order : List ℕ) (limit : ℕ) (named traced : Bool) (a b : Course) (ran : Ran) →
+    IsRun files mains order limit a → IsRun files mains order limit b → Shows mains named traced a ran → Shows mains named traced b ran
+shows_same files mains order limit named traced a b ran h g s =
+    let same = one_of_run files mains order limit a b h g in
     record {
       written = s.written ∙ same.written;
-      count = s.count ∙ same.count;
-      stand = s.stand ∙ same.stand;
-      printed_is = s.printed_is ∙ ap printed same.events;
-      trace_is = s.trace_is ∙ (λ i. if traced then trace (same.core i) (same.events i) else []);
+      counts = s.counts ∙ ap (λ (w : World). map (λ r. r.count) w.roles) same.last;
+      stands = s.stands ∙ (λ i. stands_in (same.program i) (same.last i));
+      printed_is = s.printed_is ∙ ap (λ (w : World). printed named (names_of mains) w.events) same.last;
+      trace_is = s.trace_is ∙ (λ i. if traced then trace (same.core i) (names_of mains) (same.last i).events else []);
     }
 
-pub only_run : (files : List Source) (class : Name) (limit : ℕ) (traced : Bool) (result : Result Ran Stop) → IsRunning files class limit traced result →
-    (run : Course) → IsRun files class limit run → IsThatRun run traced result
-only_run files class limit traced (Ok ran) h run is = shows_same files class limit traced h.run run ran h.is is h.shows
-only_run files class limit traced (Err (stops.Refused line)) h run is = not_refused files class limit run line is h
-only_run files class limit traced (Err stops.Memory) h run is = tt
+pub only_run : (files : List Source) (mains : List RoleMain) (order : List ℕ) (limit : ℕ) (named traced : Bool) (result : Result Ran Stop) →
+    IsRunning files mains order limit named traced result → (run : Course) → IsRun files mains order limit run → IsThatRun mains named traced run result
+only_run files mains order limit named traced (Ok ran) h run is = shows_same files mains order limit named traced h.run run ran h.is is h.shows
+only_run files mains order limit named traced (Err (stops.Refused line)) h run is = not_refused files mains order limit run line is h
+only_run files mains order limit named traced (Err stops.Memory) h run is = tt
 
-pub refused_run : (files : List Source) (class : Name) (limit : ℕ) (traced : Bool) (result : Result Ran Stop) → IsRunning files class limit traced result →
-    (line : List ℕ) → Refusal files class line → OnOk result ⊥
-refused_run files class limit traced (Ok ran) h line refused = not_refused files class limit h.run line h.is refused
-refused_run files class limit traced (Err stop) h line refused = tt
+pub refused_run : (files : List Source) (mains : List RoleMain) (order : List ℕ) (limit : ℕ) (named traced : Bool) (result : Result Ran Stop) →
+    IsRunning files mains order limit named traced result → (line : List ℕ) → Refusal files mains line → OnOk result ⊥
+refused_run files mains order limit named traced (Ok ran) h line refused = not_refused files mains order limit h.run line h.is refused
+refused_run files mains order limit named traced (Err stop) h line refused = tt

@@ -1,10 +1,8 @@
-pub mod Steps
-pub mod One
-pub mod Quiet
-pub mod Alone
 pub mod Sound
 pub mod Reading
+pub mod Roles
+pub mod Keeping
+pub mod Protocols
 pub mod Shown
-pub mod Coming
 pub mod Apart
 pub mod Naming

@@ -60,14 +60,3 @@ pub no_class : (p : Program) (name : Name) → class_numbered p name ≡ None �
 no_class p name is =
     let same : main_of p name ≡ None = ap (option_and_then (λ c. main_in p c 0 p.methods)) is in
     ((λ no. absurd (let h = no in cc)), (λ has. absurd (has same)))
-
--- what a test for a `main` tells of the class
-pub a_main : (p : Program) (word class : Name) (b : Bool) → word ≡ class → IsTrue b ↔ (main_of p word ≢ None) → b ≡ true → main_of p class ≢ None
-a_main p word class b same h is = subst (λ (w : Name). main_of p w ≢ None) same (h.0 is)
-
-pub not_main : (p : Program) (word class : Name) (b : Bool) → word ≡ class → IsTrue b ↔ (main_of p word ≢ None) → b ≡ false → main_of p class ≡ None
-not_main p word class b same h is = subst (λ (w : Name). main_of p w ≡ None) same (go (main_of p word) (λ isnt. h.1 isnt))
-  where
-    go : {A : Type 0} (o : Option A) → (o ≢ None → IsTrue b) → o ≡ None
-    go None has = refl
-    go (Some x) has = absurd (let no = sym is ∙ has (λ (e : Some x ≡ None). cc) in cc)

@@ -1,9 +1,8 @@
 -- The class files of a core are read back and linked to the expected program, and its runs do what the sources mean.
 use Rattle.std.proofs.Common.{◌≡◌, ◌≢◌, ℕ, List, [], ◌∷◌, map, Option, Some, None, refl, sym, ap, ap₂, ◌∙◌, subst}
 use Rattle.std.specs.Prelude.{option_and_then}
+use Rattle.std.specs.List.{AllByRecursion}
 use Rattle.mg_text.specs.Call.{Name}
-use Rattle.mg_text.specs.declared.event.Ending.{Ending}
-use Rattle.mg_text.specs.declared.event.Ending.TheVariants as endings
 use Rattle.cls_tree.specs.Tree.{Class as File}
 use Rattle.cls_bytes.proofs.Whole.{one_spelled}
 use Rattle.jv_core.specs.Tree.{Class, Program}
@@ -11,7 +10,7 @@ use Rattle.jv_core.specs.Conditions.{IsCore}
 use Rattle.jv_core.specs.Lookup.{class_numbered}
 use Rattle.jv_core.specs.Meaning.{Code, main_of, main_in, cmean}
 use Rattle.jv_mean.specs.Values as values
-use Rattle.jv_mean.specs.Values.{Ended, Finish, Inputs}
+use Rattle.jv_mean.specs.Values.{Ended, Inputs}
 use Rattle.jv_meaning.specs.Meaning.{mean}
 use Rattle.jv_rules.specs.Shape.{IsShaped}
 use Rattle.jv_shaped.specs.Laws.{SpelledIsShaped}
@@ -23,7 +22,7 @@ use Rattle.vm_model.specs.Links.{Flaw, Links, least, flaws, linked}
 use Rattle.vm_load.specs.Faults.{IsRefused}
 use Rattle.vm_load.specs.declared.fault.LoadFault.{LoadFault}
 use Rattle.vm_load.specs.declared.fault.LoadFault.TheVariants as load_faults
-use Rattle.vm_model.specs.Messages.{Messages, no_messages}
+use Rattle.vm_model.specs.Messages.{Messages}
 use Rattle.vm_model.specs.Machine.{Machine}
 use Rattle.vm_model.specs.Start.{IsStart}
 use Rattle.vm_model.specs.Step.{step}
@@ -32,8 +31,6 @@ use Rattle.gen_rules.specs.Classes.{class_files}
 use Rattle.gen_rules.specs.Linked.{linked_program}
 use Rattle.gen_links.specs.Files.{HasPlainNames, CoresLink}
 use Rattle.gen_held.specs.Laws.{WrittenCoresAreHeld}
-use Rattle.gen_sound.specs.Laws.{Agrees, finish_of}
-use Rattle.gen_sound.specs.Related.{Holds}
 use Rattle.gen_sound.specs.PlainMains.{HasMain, MainsAgree}
 use Rattle.gen_sound.proofs.Starting.{main_stands}
 use Rattle.mg_sources.specs.Files.{Source}
@@ -42,12 +39,12 @@ use Rattle.mg_program.proofs.Grammatical.{shaped}
 use Rattle.mg_compile.proofs.Ready.{is_core, is_held, well_typed}
 use Rattle.mg_compile.specs.declared.files.ClassFile.{ClassFile}
 use Rattle.mg_compile.specs.Files.{HoldClasses, AreClassFiles}
-use Rattle.mg_runs.specs.Runs.{alone, AreSpelled}
-use Rattle.mg_runs.specs.Meant.{RunsAsMeant}
+use Rattle.vm_world_law.specs.declared.role.RoleMain.{RoleMain}
+use Rattle.world_meant_law.specs.Meant.{Holds, RunsAsMeant}
+use Rattle.world_meant_law.specs.Worlds.{DoesAsMeant}
+use Rattle.mg_runs.specs.Runs.{AreSpelled, IsLoaded, HaveMains}
 use Rattle.mg_runs.specs.Laws.{WrittenClassesLink, RunsAreMeant}
-use Rattle.mg_runs.specs.inner.Loading.{HaveFiles, IsLoaded}
-use Rattle.mg_runs.specs.inner.Going.{NotBad, NeverBad}
-use Rattle.mg_runs.proofs.Alone.{holds_nothing}
+use Rattle.mg_runs.specs.inner.Loading.{HaveFiles}
 
 -- ---- reading back
 
@@ -87,26 +84,6 @@ refused_never (load_faults.UnknownMember name) cs right isnt h = refused_not (fl
 refused_never (load_faults.BadDescriptor name) cs right isnt h = refused_not (flaws cs) _ right h
 refused_never (load_faults.NoCode name) cs right isnt h = refused_not (flaws cs) _ right h
 refused_never load_faults.Memory cs right isnt h = isnt refl
-
--- agreement of the compiler's law, said of the budgets' meanings
-agreeing : (p : Program) (class : Name) (program : machine.Program) (inputs : Inputs) (me : ℕ) (q : Messages) (start : Machine) →
-    Agrees p class program inputs me start q → RunsAsMeant (step program me) start q (cmean p class inputs)
-agreeing p class program inputs me q start h = record {
-  ended = λ count events ending runs. let e = h.ended count events ending runs in (e.finish, e.is, (e.means).is);
-  waiting = λ count events m messages from steps waits.
-      let w = h.waiting count events m messages from steps waits in (w.peer, w.named, (w.means).is);
-  going = h.going;
-  ends = λ budget events ending finish is means.
-      let r = h.ends budget events ending finish is (record { is = means }) in record { count = r.count; runs = r.runs };
-  waits = λ budget events peer means.
-      let w = h.waits budget events peer (record { is = means }) in
-      record { count = w.count; machine = w.machine; messages = w.messages; steps = w.steps; from = w.from; named = w.named; waits = w.waits };
-  spent = λ budget events means.
-      let g = h.spent budget events (record { is = means }) in
-      record { count = g.count; machine = g.machine; messages = g.messages; steps = g.steps; enough = g.enough };
-  right = λ budget wrong. h.right budget (cmean p class inputs budget).events
-      (record { is = λ i. record { events = (cmean p class inputs budget).events; finish = wrong i } });
-}
 
 module _ (p : Program) (core : IsCore p) (plain : HasPlainNames p) (written : List ClassFile) (made : AreClassFiles p written) (law : CoresLink) where
   -- the class files link
@@ -154,9 +131,8 @@ module _ (p : Program) (core : IsCore p) (plain : HasPlainNames p) (written : Li
       RunsAsMeant (step program me) start q (cmean p class inputs)
   as_meant agree class h program same inputs me q holds start starts =
       subst (λ (z : machine.Program). RunsAsMeant (step z me) start q (cmean p class inputs)) (sym same)
-      (agreeing p class (linked_program p made.are.all) inputs me q start
       (agree p core plain made.are.all made.are.compiled class h inputs me q holds start
-      (subst (λ (z : machine.Program). IsStart z class start) same starts)))
+      (subst (λ (z : machine.Program). IsStart z class start) same starts))
 
 -- what the core means is what the sources mean
 meant_alike : TypesAreEnough → SpelledIsShaped → (files : List Source) (class : Name) (core : Program) (h : HaveCore files core) (inputs : Inputs) →
@@ -183,29 +159,19 @@ runs_law law kept held link agree enough files core written have made class main
           (as_meant core is can.plain written made link agree class found program same inputs me q holds start starts),
     )
 
--- ---- runs alone
-
-not_bad : (ending : Ending) (f : Finish) → finish_of ending ≡ Some f → NotBad ending
-not_bad endings.Done f e = tt
-not_bad endings.Zero f e = tt
-not_bad endings.Null f e = tt
-not_bad (endings.Mismatch peer found) f e = tt
-not_bad (endings.NoPeer peer) f e = tt
-not_bad (endings.Bad which) f e = absurd cc
+-- ---- the `main`s of roles
 
 module _ (law : RunsAreMeant) (files : List Source) (core : Program) (written : List ClassFile) (have : HaveCore files core) (made : AreClassFiles core written)
-    (class : Name) (main : main_of core class ≢ None) (program : machine.Program) (loaded : IsLoaded (bytes_of written) program) where
-  pub has_main : vm.HasMain program class
-  has_main = let (read, spelled, links) = loaded in (law files core written have made class main read program spelled links).0
+    (program : machine.Program) (loaded : IsLoaded (bytes_of written) program) where
+  pub has_main : (class : Name) → main_of core class ≢ None → vm.HasMain program class
+  has_main class main = let (read, spelled, links) = loaded in (law files core written have made class main read program spelled links).0
 
-  pub alone_as_meant : (start : Machine) → IsStart program class start →
-      RunsAsMeant (step program 0) start (no_messages alone) (mean have.program.files class [])
-  alone_as_meant start starts =
+  pub have_mains : (mains : List RoleMain) → HaveMains core mains → AllByRecursion (λ m. vm.HasMain program m.class) mains
+  have_mains [] h = tt
+  have_mains (main ∷ mains) h = (has_main main.class h.0, have_mains mains h.1)
+
+  pub does_as_meant : (class : Name) → main_of core class ≢ None → (me : ℕ) (start : Machine) → IsStart program class start →
+      DoesAsMeant program me start (mean have.program.files class)
+  does_as_meant class main me start starts inputs q holds =
       let (read, spelled, links) = loaded in
-      (law files core written have made class main read program spelled links).1 [] 0 (no_messages alone) holds_nothing start starts
-
-  -- no run ends because the code is wrong
-  pub never_bad : NeverBad program class
-  never_bad start starts count events ending runs =
-      let (finish, is, means) = (alone_as_meant start starts).ended count events ending runs in
-      not_bad ending finish is
+      (law files core written have made class main read program spelled links).1 inputs me q holds start starts

@@ -13,14 +13,17 @@ use Rattle.vm_model.specs.Messages.{Messages}
 use Rattle.vm_model.specs.Start.{IsStart}
 use Rattle.vm_model.specs.Step.{step}
 use Rattle.vm_machine.specs.Main.{HasMain}
+use Rattle.vm_world_law.specs.declared.role.RoleMain.{RoleMain}
+use Rattle.vm_world_law.specs.World.{World, turns, IsBegun}
+use Rattle.world_meant_law.specs.Meant.{Holds, RunsAsMeant}
 use Rattle.gen_rules.specs.Linked.{linked_program}
-use Rattle.gen_sound.specs.Related.{Holds}
 use Rattle.mg_sources.specs.Files.{Source}
 use Rattle.mg_program.specs.Program.{HaveCore}
+use Rattle.mg_accepted.specs.Accepted.{AreAccepted}
 use Rattle.mg_compile.specs.declared.files.ClassFile.{ClassFile}
 use Rattle.mg_compile.specs.Files.{AreClassFiles}
-use Rattle.mg_runs.specs.Runs.{AreSpelled}
-use Rattle.mg_runs.specs.Meant.{RunsAsMeant}
+use Rattle.mg_runs.specs.Runs.{AreSpelled, IsLoaded, HaveMains}
+use Rattle.mg_runs.specs.Headline.{AreMeant, DoAsMeant, EachKeeps, MeaningsKeep, ProtocolsAgree}
 
 -- The bytes of these class files are read back, and what is read links to the program that is expected of the core.
 abbrev pub WrittenClassesLink : Type 0
@@ -35,3 +38,21 @@ RunsAreMeant = (files : List Source) (core : Core.Program) (written : List Class
     Links read program →
     HasMain program class × ((inputs : Inputs) (me : ℕ) (q : Messages) → Holds inputs q me [] → (start : Machine) → IsStart program class start →
     RunsAsMeant (step program me) start q (mean have.program.files class inputs))
+
+-- So whatever roles run them: the machine of each does what is meant, and after every list of turns each did what is meant on the messages
+-- that were sent to it.
+abbrev pub RolesAreMeant : Type 0
+RolesAreMeant = (files : List Source) (core : Core.Program) (written : List ClassFile) (have : HaveCore files core) → AreClassFiles core written →
+    (mains : List RoleMain) → HaveMains core mains → (program : Program) → IsLoaded (map (λ f. f.bytes) written) program →
+    DoAsMeant have.program mains program
+    × ((first : World) → IsBegun program mains first → (taken : List ℕ) → AreMeant have.program mains program (turns program first taken))
+
+-- Roles of accepted files keep to the typestates, wherever they did what is meant.
+abbrev pub RolesKeep : Type 0
+RolesKeep = (files : List Source) (core : Core.Program) (accepted : AreAccepted files core) (mains : List RoleMain) → HaveMains core mains →
+    MeaningsKeep accepted.have.program mains
+    × ((program : Program) (w : World) → AreMeant accepted.have.program mains program w → EachKeeps accepted.have.program mains w)
+
+-- What is said of protocols holds of those of all files.
+abbrev pub AllProtocolsAgree : Type 0
+AllProtocolsAgree = (files : List Source) → ProtocolsAgree files

@@ -1,6 +1,6 @@
 pub mod Lines
 pub mod Runs
-pub mod Meant
+pub mod Headline
 pub mod Laws
 pub mod Commanded
 pub mod View

@@ -1,3 +1,3 @@
-pub mod Tracing
+pub mod Mains
 pub mod Loading
 pub mod Going

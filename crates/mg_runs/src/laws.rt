@@ -1,7 +1,7 @@
 //! What holds of the class files of sources, also of those whose usages aren't right.
 //! There is no running code here; each function carries a law.
 
-ghost use Rattle.mg_runs.specs.Laws.{RunsAreMeant, WrittenClassesLink};
+ghost use Rattle.mg_runs.specs.Laws.{AllProtocolsAgree, RolesAreMeant, RolesKeep, RunsAreMeant, WrittenClassesLink};
 
 use gen_held::written_cores_are_held;
 use gen_links::files_link;
@@ -9,6 +9,9 @@ use gen_sound::plain_mains_run;
 use jv_kept::core_is_kept;
 use jv_shaped::spelled_is_shaped;
 use jv_whole::types_are_enough;
+use mg_kept_law::accepted_keep_typestates;
+use vm_world_law::{begun_is_fresh, turns_deliver};
+use world_meant_law::worlds_are_meant;
 
 /// The bytes of the class files that are written of the core of some files are read back, and what
 /// is read links to the program that is expected of the core.
@@ -33,3 +36,30 @@ pub fn runs_are_meant()
     plain_mains_run();
     types_are_enough();
 }
+
+/// Whatever roles run these classes, the machine of each does what is meant, and after every list
+/// of turns each did what is meant on the messages that were sent to it: where it ended so does the
+/// meaning, where it waits the meaning waits, and what it has shown so far is meant. What a role
+/// took from another is a prefix of what that sent to it.
+pub fn roles_are_meant()
+    ensures { RolesAreMeant }
+{
+    runs_are_meant();
+    begun_is_fresh();
+    turns_deliver();
+    worlds_are_meant();
+}
+
+/// Roles of accepted files keep to the typestates, at each moment at which they did what is meant: no
+/// null was dereferenced, the calls of each object are a path of its class's typestate, and a role
+/// that returned has left every object at its end.
+pub fn roles_keep()
+    ensures { RolesKeep }
+{
+    accepted_keep_typestates();
+}
+
+/// The typestate of each protocol that a file spells allows exactly the protocol's traces.
+pub fn protocols_agree()
+    ensures { AllProtocolsAgree }
+{}

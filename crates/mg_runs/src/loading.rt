@@ -6,8 +6,8 @@ ghost use Rattle.jv_core.specs.Core.{tree_of};
 ghost use Rattle.vm_model.specs.View.{classes_of};
 ghost use Rattle.mg_compile.specs.Files.{AreClassFiles};
 ghost use Rattle.mg_compile.specs.View.{IsOfFiles};
-ghost use Rattle.mg_runs.specs.Runs.{AreSpelled};
-ghost use Rattle.mg_runs.specs.inner.Loading.{HaveFiles, IsLoaded};
+ghost use Rattle.mg_runs.specs.Runs.{AreSpelled, IsLoaded};
+ghost use Rattle.mg_runs.specs.inner.Loading.{HaveFiles};
 
 use crate::laws::written_classes_link;
 use cls_bytes::{ClassFault, read_class};

@@ -1,4 +1,4 @@
-//! The `main` of a class, by the class's name.
+//! The `main` of a class, by the class's name, and the first role that has none.
 
 ghost use Rattle.std.specs.Prelude.{◌≡◌, ◌≢◌, ◌↔◌, ◌&&◌, IsTrue, None, nat_eq};
 ghost use Rattle.std.specs.List.{position, list_any};
@@ -7,12 +7,26 @@ ghost use Rattle.jv_core.specs.Core.{tree_of};
 ghost use Rattle.jv_core.specs.Lookup.{class_numbered, is_main, text_at};
 ghost use Rattle.jv_core.specs.Meaning.{main_in, main_of};
 ghost use Rattle.jv_core.specs.View.{class_of, method_of};
+ghost use Rattle.mg_runs.specs.inner.Mains.{IsFirstWithout};
 
 use gen_refs::name_text;
 use jv_core::{Core, CoreClass, CoreMethod, MethodKind};
+use vm_world::RoleMain;
 
-/// Whether the class of this name has a `main`.
-pub(crate) fn has_main(core: &Core, class: &str) -> bool
+/// The number of the first role whose class has no `main`.
+pub(crate) fn first_without(core: &Core, mains: &[RoleMain]) -> Option<usize>
+    ensures { IsFirstWithout (tree_of core.now) mains.now result }
+{
+    for number in 0..mains.len() {
+        if !has_main(core, mains[number].class.as_str()) {
+            return Some(number);
+        }
+    }
+    None
+}
+
+// Whether the class of this name has a `main`.
+fn has_main(core: &Core, class: &str) -> bool
     ensures { IsTrue result ↔ (main_of (tree_of core.now) class.now ≢ None) }
 {
     match class_named(core, class) {

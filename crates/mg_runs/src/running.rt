@@ -1,109 +1,170 @@
-//! From the files of a command to the run of a class.
+//! From the files of a command to the run of its roles.
 
-ghost use Rattle.std.specs.Prelude.{◌≡◌, ◌≢◌, ◌<◌, ◌^◌, ℕ, [], List as Seq, IfOk, OnOk, None, length};
+ghost use Rattle.std.specs.Prelude.{◌≡◌, ◌<◌, ◌^◌, ℕ, List as Seq, IfOk, OnOk, Contains, length, map, slice_get, Some};
+ghost use Rattle.std.specs.List.{IsDistinct};
+ghost use Rattle.std.specs.Str.{bytes_eq};
 ghost use Rattle.jv_core.specs.Core.{tree_of};
-ghost use Rattle.jv_core.specs.Meaning.{main_of};
-ghost use Rattle.jv_meaning.specs.Meaning.{mean};
-ghost use Rattle.mg_program.specs.Program.{HaveCore};
-ghost use Rattle.mg_sources.specs.Files.{HaveKinds, Source, sources};
+ghost use Rattle.mg_sources.specs.Files.{HaveKinds, sources};
 ghost use Rattle.mg_sources.specs.View.{IsStop};
-ghost use Rattle.mg_runs.specs.Lines.{no_main_line};
 ghost use Rattle.mg_compile.specs.Files.{AreClassFiles};
 ghost use Rattle.mg_compile.specs.View.{IsOfFiles};
-ghost use Rattle.mg_runs.specs.Commanded.{Course, IsRun, Refusal};
+ghost use Rattle.mg_runs.specs.Commanded.{Refusal};
+ghost use Rattle.mg_runs.specs.Headline.{Course, IsRun};
+ghost use Rattle.mg_runs.specs.Lines.{no_main_line};
+ghost use Rattle.mg_runs.specs.Runs.{HaveMains, names_of};
 ghost use Rattle.mg_runs.specs.View.{IsRunning, IsThatRun};
-ghost use Rattle.mg_runs.specs.inner.Going.{IsRunOf};
+ghost use Rattle.mg_runs.specs.inner.Going.{IsOrder, IsRunOf, told};
 
-use crate::going::go;
-use crate::laws::runs_are_meant;
+use crate::laws::{protocols_agree, roles_are_meant, roles_keep, runs_are_meant};
 use crate::loading::load_back;
-use crate::mains::has_main;
+use crate::mains::first_without;
 use crate::ran::Ran;
 use jv_core::Core;
 use mg_accepted::accept;
 use mg_compile::{ClassFile, class_files};
 use mg_sources::Stop;
 use mg_text::{Bytes, List, Memory, Text};
+use mg_trace::{printed, trace};
 use std::alloc::Global;
+use vm_world::{RoleEvent, RoleMain, World};
 
-/// Runs `static void main(String[])` of the class of this name, of the program that these files
-/// are: at most `limit` instructions, with no other role. The class files of the program are
-/// written to bytes, read back, linked and run.
+/// Runs these roles, each from `static void main(String[])` of its class, of the program that these
+/// files are. They take turns in this order of their numbers, repeated as a cycle, until each has
+/// ended or waits, or `limit` instructions were counted. The class files of the program are written
+/// to bytes, read back, linked and run. Where `named`, each printed text stands behind the name of
+/// its role; where `traced`, the lines of the other events are told.
 ///
 /// # Errors
-/// `Refused` with the line of the first refusal of the program; else where no class of this name
-/// has a `main`; else of the first size that is too large in a class file. `Memory` where memory is
+/// `Refused` with the line of the first refusal of the program; else of the first role whose class
+/// has no `main`; else of the first size that is too large in a class file. `Memory` where memory is
 /// wanted.
-pub fn run_class(
+pub fn run_roles(
     alloc: Global,
     names: &[Text],
     contents: &[Bytes],
-    class: &Text,
+    mains: &[RoleMain],
+    order: &[u32],
     limit: u32,
+    named: bool,
     traced: bool,
 ) -> Result<Ran, Stop>
     requires same { length names.now ≡ length contents.now }
     requires count { length contents.now < 2 ^ 32 }
     requires kinds { HaveKinds names.now }
-    // What is answered is a run of the class, or the line of the first refusal.
-    ensures answered { IsRunning (sources names.now contents.now) class.now limit traced result }
+    requires roles { IsDistinct bytes_eq (map (λ m. m.role) mains.now) }
+    requires numbers { (i : ℕ) (r : ℕ) → slice_get order.now i ≡ Some r → r < length mains.now }
+    requires order { (r : ℕ) → r < length mains.now → Contains order.now r }
+    // What is answered is a run of the roles, or the line of the first refusal.
+    ensures answered { IsRunning (sources names.now contents.now) mains.now order.now limit named traced result }
     // Each run of these files is the one that is answered, unless memory runs out.
-    ensures only { (run : Course) → IsRun (sources names.now contents.now) class.now limit run → IsThatRun run traced result }
+    ensures only { (run : Course) → IsRun (sources names.now contents.now) mains.now order.now limit run → IsThatRun mains.now named traced run result }
     // Files that are refused aren't run.
-    ensures refused { (line : Seq ℕ) → Refusal (sources names.now contents.now) class.now line → OnOk result ⊥ }
+    ensures refused { (line : Seq ℕ) → Refusal (sources names.now contents.now) mains.now line → OnOk result ⊥ }
 {
-    ran_class(alloc, names, contents, class, limit, traced)
+    ran_roles(alloc, names, contents, mains, order, limit, named, traced)
 }
 
 // The same, without what follows from its being one answer.
-fn ran_class(
+fn ran_roles(
     alloc: Global,
     names: &[Text],
     contents: &[Bytes],
-    class: &Text,
+    mains: &[RoleMain],
+    order: &[u32],
     limit: u32,
+    named: bool,
     traced: bool,
 ) -> Result<Ran, Stop>
     requires same { length names.now ≡ length contents.now }
     requires count { length contents.now < 2 ^ 32 }
     requires kinds { HaveKinds names.now }
-    ensures { IsRunning (sources names.now contents.now) class.now limit traced result }
+    requires roles { IsDistinct bytes_eq (map (λ m. m.role) mains.now) }
+    requires order { IsOrder order.now mains.now }
+    ensures { IsRunning (sources names.now contents.now) mains.now order.now limit named traced result }
 {
+    roles_are_meant();
+    roles_keep();
+    protocols_agree();
     let program = accept(alloc, names, contents)?;
-    let found = has_main(&program.core, class.as_str());
-    if !found {
-        return Err(no_main(alloc, class));
+    match first_without(&program.core, mains) {
+        Some(number) => return Err(no_main(alloc, &mains[number].class)),
+        None => {}
     }
     let files = class_files(alloc, names, &program.core)?;
-    let ran = run_files(alloc, &program.core, files, class, limit, traced)?;
+    let ran = run_files(
+        alloc,
+        &program.core,
+        files,
+        mains,
+        order,
+        limit,
+        named,
+        traced,
+    )?;
     Ok(ran)
 }
 
-// The run of the class of this name, of the class files of a program.
+// The run of these roles, of the class files of a program.
 fn run_files(
     alloc: Global,
     core: &Core,
     files: List<ClassFile>,
-    class: &Text,
+    mains: &[RoleMain],
+    order: &[u32],
     limit: u32,
+    named: bool,
     traced: bool,
 ) -> Result<Ran, Memory>
     requires files { IsOfFiles (tree_of core.now) }
     requires made { AreClassFiles (tree_of core.now) files.items }
-    requires main { main_of (tree_of core.now) class.now ≢ None }
-    ensures { (sources : Seq Source) (have : HaveCore sources (tree_of core.now))
-        → IfOk result (IsRunOf (tree_of core.now) files.items class.now limit traced (mean have.program.files class.now [])) }
+    requires mains { HaveMains (tree_of core.now) mains.now }
+    requires roles { IsDistinct bytes_eq (map (λ m. m.role) mains.now) }
+    requires order { IsOrder order.now mains.now }
+    ensures { IfOk result (IsRunOf (tree_of core.now) files.items mains.now order.now limit named traced) }
 {
     runs_are_meant();
     let linked = load_back(alloc, core, files.as_slice())?;
-    let went = go(alloc, core, &linked, class.as_str(), limit, traced)?;
+    let mut world = World::new(alloc, linked, mains)?;
+    world.run(alloc, order, limit)?;
+    let roles = world.roles_ran(alloc, mains)?;
+    let names = role_names(alloc, mains)?;
+    let events = world.events().as_slice();
+    let printed = printed(alloc, names.as_slice(), named, events)?;
+    let trace = told(alloc, core, names.as_slice(), events, traced)?;
     Ok(Ran {
         files,
-        instructions: went.instructions,
-        stand: went.stand,
-        printed: went.printed,
-        trace: went.trace,
+        roles,
+        printed,
+        trace,
     })
+}
+
+// The names of the roles.
+fn role_names(alloc: Global, mains: &[RoleMain]) -> Result<List<Text>, Memory>
+    ensures { IfOk result (λ names. names.items ≡ names_of mains.now) }
+{
+    let mut names = List::new(alloc);
+    for main in mains {
+        names.push(main.role.copy()?)?;
+    }
+    Ok(names)
+}
+
+// The trace of these events, where it is asked for.
+fn told(
+    alloc: Global,
+    core: &Core,
+    names: &[Text],
+    events: &[RoleEvent],
+    traced: bool,
+) -> Result<Text, Memory>
+    ensures { IfOk result (λ t. t ≡ told (tree_of core.now) names.now events.now traced) }
+{
+    if traced {
+        trace(alloc, core, names, events)
+    } else {
+        Ok(Text::from_string(String::new(alloc)))
+    }
 }
 
 // The refusal of a class without a `main`.

@@ -1,22 +1,27 @@
 -- What the functions of the commands answer.
-use Rattle.std.proofs.Common.{◌≡◌, ℕ, List, [], ◌∷◌, ◌++◌, All, codes, inl, inr, Option, None, refl, sym, ap, ◌∙◌, subst, append_assoc}
-use Rattle.std.specs.Prelude.{IfOk, Result, Ok, Err}
+use Rattle.std.proofs.Common.{◌≡◌, ℕ, Bool, map, List, [], ◌∷◌, ◌++◌, All, codes, inl, inr, Option, None, refl, sym, ap, ◌∙◌, subst, append_assoc}
+use Rattle.std.specs.Prelude.{IfOk, Result, Ok, Err, if◌then◌else◌}
 use Rattle.mg_text.specs.declared.memory.Memory.{Memory}
 use Rattle.mg_top.specs.declared.status.Status.{Status}
 use Rattle.mg_top.specs.declared.status.Status.TheVariants as statuses
 use Rattle.mg_top.specs.declared.delivery.Action.{Action}
 use Rattle.mg_top.specs.declared.delivery.Action.TheVariants.{Say}
 use Rattle.mg_top.specs.declared.delivery.Delivery.{Delivery}
-use Rattle.mg_words.specs.Words.{Word, Asked, limit_of, Command, Check, Run, files_of, IsCommand, IsFileOf}
+use Rattle.mg_words.specs.Words.{Word, Asked, limit_of, order_of, are_named, Command, Check, Run, files_of, IsCommand, IsFileOf}
 use Rattle.mg_top.specs.Lines.{read_line, memory_line}
 use Rattle.mg_compile.specs.declared.files.ClassFile.{ClassFile}
-use Rattle.vm_model.specs.Runs.{printed}
+use Rattle.vm_world_law.specs.declared.role.RoleMain.{RoleMain}
+use Rattle.vm_world_law.specs.declared.stand.Stand.{Stand}
+use Rattle.vm_world_law.specs.Turns.{stands_in, is_bound, is_broken, is_zero, is_mismatch, is_waiting}
+use Rattle.vm_world.specs.declared.stand.RoleRan.{RoleRan}
+use Rattle.std.specs.List.{list_any}
+use Rattle.mg_runs.proofs.Naming.{any-map}
 use Rattle.mg_runs.specs.declared.ran.Ran.{Ran}
-use Rattle.mg_runs.specs.declared.ran.Stand.{Stand}
-use Rattle.mg_runs.specs.Lines.{ran_line}
-use Rattle.mg_runs.specs.Commanded.{Course, IsRun}
+use Rattle.mg_runs.specs.Lines.{role_lines}
+use Rattle.mg_runs.specs.Runs.{names_of}
+use Rattle.mg_runs.specs.Headline.{Course, IsRun}
 use Rattle.mg_runs.specs.View.{Shows, IsOfRun}
-use Rattle.mg_top.specs.Commands.{Yields, prints, kept_in, run_said, status_of, checked, ran}
+use Rattle.mg_top.specs.Commands.{Yields, prints, kept_in, role_mains_of, run_said, run_printed, status_of, checked, ran}
 use Rattle.mg_top.specs.Commands as commands
 use Rattle.mg_read.specs.First.{Judged, with_earlier}
 use Rattle.mg_text.specs.Row.{Row}
@@ -63,24 +68,71 @@ line_put result last third second first given before text words e d c b a g =
     e ∙ d ∙ ap (λ (z : List ℕ). z ++ 10 ∷ []) (c ∙ ap (λ (z : List ℕ). z ++ words) (b ∙ ap (λ (z : List ℕ). z ++ text) (a ∙ g)) ∙ append_assoc before text words)
     ∙ append_assoc before (text ++ words) (10 ∷ [])
 
+-- a name, a text of three parts, words and the end of a line are put behind what stands there
+pub role_put : (result third second first before name a d e words : List ℕ) → result ≡ third ++ 10 ∷ [] → third ≡ second ++ words →
+    second ≡ first ++ ((a ++ d) ++ e) → first ≡ before ++ name → result ≡ before ++ (((((name ++ a) ++ d) ++ e) ++ words) ++ 10 ∷ [])
+role_put result third second first before name a d e words four three two one =
+    let inner : name ++ ((a ++ d) ++ e) ≡ ((name ++ a) ++ d) ++ e
+    = ap (λ (z : List ℕ). name ++ z) (append_assoc a d e) ∙ sym (append_assoc name a (d ++ e)) ∙ sym (append_assoc (name ++ a) d e) in
+    let whole : (before ++ name) ++ ((a ++ d) ++ e) ≡ before ++ (((name ++ a) ++ d) ++ e)
+    = append_assoc before name ((a ++ d) ++ e) ∙ ap (λ (z : List ℕ). before ++ z) inner in
+    four ∙ ap (λ (z : List ℕ). z ++ 10 ∷ []) (three ∙ ap (λ (z : List ℕ). z ++ words) (two ∙ ap (λ (z : List ℕ). z ++ ((a ++ d) ++ e)) one ∙ whole)
+    ∙ append_assoc before (((name ++ a) ++ d) ++ e) words) ∙ append_assoc before ((((name ++ a) ++ d) ++ e) ++ words) (10 ∷ [])
+
+-- the status of a run, by the answers of its tests
+abbrev pub by_tests : (bound broken zero mismatch waiting : Bool) → Status
+by_tests b k z m w =
+    if b then statuses.Bound else if k then statuses.Broken else if z then statuses.Zero else if m then statuses.Mismatch
+    else if w then statuses.Waits else statuses.Done
+
+any_stand : (test : Stand → Bool) (b : Bool) (roles : List RoleRan) → b ≡ list_any (λ r. test r.stand) roles → b ≡ list_any test (map (λ r. r.stand) roles)
+any_stand test b roles e = e ∙ sym (any-map (λ (r : RoleRan). r.stand) test roles)
+
+pub status_by : (roles : List RoleRan) (b k z m w : Bool) → b ≡ list_any (λ r. is_bound r.stand) roles → k ≡ list_any (λ r. is_broken r.stand) roles →
+    z ≡ list_any (λ r. is_zero r.stand) roles → m ≡ list_any (λ r. is_mismatch r.stand) roles → w ≡ list_any (λ r. is_waiting r.stand) roles →
+    by_tests b k z m w ≡ status_of (map (λ r. r.stand) roles)
+status_by roles b k z m w eb ek ez em ew = λ i.
+    by_tests (any_stand is_bound b roles eb i) (any_stand is_broken k roles ek i) (any_stand is_zero z roles ez i) (any_stand is_mismatch m roles em i)
+    (any_stand is_waiting w roles ew i)
+
 -- what is done about a run, by what it shows
-abbrev pub shown_so : Asked → List ClassFile → (text trace : List ℕ) → (count : ℕ) → Stand → List Action
-shown_so asked written text trace count stand = kept_in asked.folder written ++ (prints text ++ Say (trace ++ ran_line count stand) ∷ [])
+abbrev pub shown_so : Asked → List ClassFile → (text trace : List ℕ) → (names : List Word) (counts : List ℕ) → List Stand → List Action
+shown_so asked written text trace names counts all = kept_in asked.folder written ++ (prints text ++ Say (trace ++ role_lines names counts all) ∷ [])
 
-shown_same : (asked : Asked) (r : Course) (shown : Ran) → Shows r asked.traced shown
-    → shown_so asked shown.files.items shown.printed shown.trace shown.instructions shown.stand ≡ kept_in asked.folder r.written ++ (prints (printed r.events) ++ Say (run_said asked r) ∷ [])
-shown_same asked r shown h = λ i. shown_so asked (h.written i) (h.printed_is i) (h.trace_is i) (h.count i) (h.stand i)
+abbrev pub shown_by : Asked → Ran → List Action
+shown_by asked shown = shown_so asked shown.files.items shown.printed shown.trace
+    (names_of (role_mains_of asked)) (map (λ r. r.instructions) shown.roles.items) (map (λ r. r.stand) shown.roles.items)
 
--- the class files of a run, what it printed, its trace and its line
-pub run_given : (asked : Asked) (files : List Word) (contents : List (List ℕ)) (limit : ℕ) (shown : Ran) (r : Result Delivery Memory) → limit ≡ limit_of asked
-    → IsOfRun (sources files contents) asked.class limit asked.traced shown
-    → IfOk r (λ d. d.actions.items ≡ shown_so asked shown.files.items shown.printed shown.trace shown.instructions shown.stand)
-    → IfOk r (λ d. d.status ≡ status_of shown.stand) → IfOk r (λ d. Yields (Run asked files) contents d.actions.items d.status)
-run_given asked files contents limit shown r e h actions status =
-    gives (Run asked files) contents (shown_so asked shown.files.items shown.printed shown.trace shown.instructions shown.stand) (status_of shown.stand) r actions status
-    (subst (λ (z : Status). Yields (Run asked files) contents (shown_so asked shown.files.items shown.printed shown.trace shown.instructions shown.stand) z) (ap status_of (sym h.shows.stand))
-    (subst (λ (z : List Action). Yields (Run asked files) contents z (status_of h.run.stand)) (sym (shown_same asked h.run shown h.shows))
-    (commands.run (ran h.run (subst (λ (z : ℕ). IsRun (sources files contents) asked.class z h.run) e h.is)))))
+shown_same : (asked : Asked) (r : Course) (shown : Ran) → Shows (role_mains_of asked) (are_named asked) asked.traced r shown
+    → shown_by asked shown ≡ kept_in asked.folder r.written ++ (prints (run_printed asked r) ++ Say (run_said asked r) ∷ [])
+shown_same asked r shown h = λ i. shown_so asked (h.written i) (h.printed_is i) (h.trace_is i) (names_of (role_mains_of asked)) (h.counts i) (h.stands i)
+
+-- a run of what is asked for
+run_asked : (asked : Asked) (files : List Source) (mains : List RoleMain) (order : List ℕ) (limit : ℕ) (named : Bool) (shown : Ran)
+    → mains ≡ role_mains_of asked → order ≡ order_of asked → limit ≡ limit_of asked → named ≡ are_named asked
+    → IsOfRun files mains order limit named asked.traced shown → IsOfRun files (role_mains_of asked) (order_of asked) (limit_of asked) (are_named asked) asked.traced shown
+run_asked asked files mains order limit named shown m o l n h =
+    subst (λ (z : Bool). IsOfRun files (role_mains_of asked) (order_of asked) (limit_of asked) z asked.traced shown) n
+    (subst (λ (z : ℕ). IsOfRun files (role_mains_of asked) (order_of asked) z named asked.traced shown) l
+    (subst (λ (z : List ℕ). IsOfRun files (role_mains_of asked) z limit named asked.traced shown) o
+    (subst (λ (z : List RoleMain). IsOfRun files z order limit named asked.traced shown) m h)))
+
+-- the class files of a run, what it printed, its trace and the lines of its roles
+pub run_given : (asked : Asked) (files : List Word) (contents : List (List ℕ)) (mains : List RoleMain) (order : List ℕ) (limit : ℕ) (named : Bool) (shown : Ran)
+    (r : Result Delivery Memory) → mains ≡ role_mains_of asked → order ≡ order_of asked → limit ≡ limit_of asked → named ≡ are_named asked
+    → IsOfRun (sources files contents) mains order limit named asked.traced shown
+    → IfOk r (λ d. d.actions.items ≡ shown_so asked shown.files.items shown.printed shown.trace (names_of mains)
+    (map (λ r. r.instructions) shown.roles.items) (map (λ r. r.stand) shown.roles.items))
+    → IfOk r (λ d. d.status ≡ status_of (map (λ r. r.stand) shown.roles.items)) → IfOk r (λ d. Yields (Run asked files) contents d.actions.items d.status)
+run_given asked files contents mains order limit named shown r m o l n given actions status =
+    let h : IsOfRun (sources files contents) (role_mains_of asked) (order_of asked) (limit_of asked) (are_named asked) asked.traced shown =
+    run_asked asked (sources files contents) mains order limit named shown m o l n given in
+    gives (Run asked files) contents (shown_by asked shown) (status_of (map (λ r. r.stand) shown.roles.items)) r
+    (subst (λ (z : List RoleMain). IfOk r (λ d. d.actions.items ≡ shown_so asked shown.files.items shown.printed shown.trace (names_of z)
+    (map (λ r. r.instructions) shown.roles.items) (map (λ r. r.stand) shown.roles.items))) m actions) status
+    (subst (λ (z : Status). Yields (Run asked files) contents (shown_by asked shown) z) (ap status_of (sym h.shows.stands))
+    (subst (λ (z : List Action). Yields (Run asked files) contents z (status_of (stands_in h.run.program h.run.last))) (sym (shown_same asked h.run shown h.shows))
+    (commands.run (ran h.run h.is))))
 
 -- ---- what is due
 

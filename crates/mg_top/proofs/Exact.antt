@@ -1,5 +1,5 @@
 -- Each command gives one thing of the same contents, and no status of the delivery's own.
-use Rattle.std.proofs.Common.{◌≡◌, ℕ, ◌⊎◌, inl, inr, Option, List, [], ◌∷◌, refl, sym, ap, ◌∙◌, subst, arith}
+use Rattle.std.proofs.Common.{◌≡◌, ◌≢◌, ℕ, Bool, true, false, ◌⊎◌, inl, inr, Option, List, [], ◌∷◌, refl, sym, ap, ◌∙◌, subst, arith}
 use Rattle.mg_read.proofs.Judging.{no_both}
 use Rattle.mg_text.specs.Call.{Call}
 use Rattle.scr_tree.specs.Tree.{LocalTree}
@@ -8,13 +8,15 @@ use Rattle.scr_tree.specs.Traces.{Trace}
 use Rattle.mg_calls.specs.Calls.{CallAt}
 use Rattle.mg_calls.proofs.Laws.{one_list, no_bad}
 use Rattle.std.proofs.lemmas.List.{map-append}
-use Rattle.mg_words.specs.Words.{Word, Asked, limit_of, Command}
+use Rattle.std.specs.Prelude.{if◌then◌else◌}
+use Rattle.std.specs.List.{list_any}
+use Rattle.mg_words.specs.Words.{Word, Asked, limit_of, order_of, Command}
 use Rattle.mg_top.specs.declared.status.Status.{Status}
 use Rattle.mg_top.specs.declared.status.Status.TheVariants as statuses
 use Rattle.mg_top.specs.declared.delivery.Action.{Action}
 use Rattle.mg_top.specs.declared.delivery.Action.TheVariants.{Print, Say}
 use Rattle.mg_top.specs.Lines.{not_offered_line}
-use Rattle.mg_sources.specs.Files.{Source}
+use Rattle.mg_sources.specs.Files.{Source, sources}
 use Rattle.mg_top.specs.Conformance.{calls_of, Conforms, complete, unfinished, not_offered, Lists, IsNoList, bad_line}
 use Rattle.mg_top.specs.Conformance as conformance
 use Rattle.mg_sources.specs.Reading.{Protocol, Reads}
@@ -23,12 +25,15 @@ use Rattle.mg_sources.proofs.OneKind.{one_part}
 use Rattle.mg_sources.proofs.PartLemmas.{not_refused}
 use Rattle.mg_accepted.proofs.Apart.{not_refused as not_unmet}
 use Rattle.mg_compile.proofs.Apart.{not_refused as not_exceeded}
-use Rattle.mg_runs.specs.declared.ran.Stand.{Stand}
-use Rattle.mg_runs.specs.declared.ran.Stand.TheVariants as stands
-use Rattle.mg_runs.proofs.Apart.{not_refused as not_halted, one_stand}
+use Rattle.vm_world_law.specs.declared.stand.Stand.{Stand}
+use Rattle.vm_world_law.specs.Turns.{stands_in, is_bound, is_broken, is_zero, is_mismatch, is_waiting}
+use Rattle.mg_runs.proofs.Apart.{not_refused as not_halted, one_of_run}
+use Rattle.mg_top.proofs.Unbroken.{none_broken}
+use Rattle.mg_runs.specs.Headline.{Course, IsRun}
+use Rattle.vm_world_law.specs.declared.role.RoleMain.{RoleMain}
 use Rattle.mg_top.specs.Translation.{AreTranslated}
 use Rattle.mg_top.specs.Commands.{TranslateGives, translated, not_translated, ConformGives, conforms, no_protocol, no_calls, CheckGives, checked, not_checked}
-use Rattle.mg_top.specs.Commands.{CompileGives, compiled, not_compiled, RunGives, ran, not_run, status_of, Yields}
+use Rattle.mg_top.specs.Commands.{CompileGives, compiled, not_compiled, RunGives, ran, not_run, role_mains_of, status_of, Yields}
 use Rattle.mg_top.specs.Commands as commands
 use Rattle.mg_top.specs.Promises.{IsYielded}
 use Rattle.mg_top.proofs.SourceLemmas.{none_refused_of_translated}
@@ -58,10 +63,17 @@ compile_status {files = files} (compiled written h) (not_compiled {line = line} 
 compile_status {files = files} (not_compiled {line = line} r) (compiled written h) = absurd (not_exceeded files written line h r)
 compile_status (not_compiled r) (not_compiled q) = refl
 
+-- the roles of one run stand in one way
+one_stand : (files : List Source) (mains : List RoleMain) (order : List ℕ) (limit : ℕ) (r s : Course) → IsRun files mains order limit r →
+    IsRun files mains order limit s → stands_in r.program r.last ≡ stands_in s.program s.last
+one_stand files mains order limit r s h k =
+    let same = one_of_run files mains order limit r s h k in
+    λ i. stands_in (same.program i) (same.last i)
+
 run_status : {asked : Asked} {files : List Source} {xa xb : List Action} {m n : Status} → RunGives asked files xa m → RunGives asked files xb n → m ≡ n
-run_status {asked = asked} {files = files} (ran r h) (ran s k) = ap status_of (one_stand files asked.class (limit_of asked) r s h k)
-run_status {asked = asked} {files = files} (ran r h) (not_run {line = line} q) = absurd (not_halted files asked.class (limit_of asked) r line h q)
-run_status {asked = asked} {files = files} (not_run {line = line} q) (ran r h) = absurd (not_halted files asked.class (limit_of asked) r line h q)
+run_status {asked = asked} {files = files} (ran r h) (ran s k) = ap status_of (one_stand files (role_mains_of asked) (order_of asked) (limit_of asked) r s h k)
+run_status {asked = asked} {files = files} (ran r h) (not_run {line = line} q) = absurd (not_halted files (role_mains_of asked) (order_of asked) (limit_of asked) r line h q)
+run_status {asked = asked} {files = files} (not_run {line = line} q) (ran r h) = absurd (not_halted files (role_mains_of asked) (order_of asked) (limit_of asked) r line h q)
 run_status (not_run q) (not_run p) = refl
 
 -- the command conform
@@ -130,13 +142,22 @@ done_proper = (λ e. cc, λ e. cc, λ e. cc, λ e. cc)
 refused_proper : IsYielded statuses.Refused
 refused_proper = (λ e. cc, λ e. cc, λ e. cc, λ e. cc)
 
-stand_proper : (stand : Stand) → IsYielded (status_of stand)
-stand_proper stands.Done = done_proper
-stand_proper stands.Zero = (λ e. cc, λ e. cc, λ e. cc, λ e. cc)
-stand_proper stands.Null = (λ e. cc, λ e. cc, λ e. cc, λ e. cc)
-stand_proper (stands.Mismatch peer found) = (λ e. cc, λ e. cc, λ e. cc, λ e. cc)
-stand_proper (stands.NoPeer peer) = (λ e. cc, λ e. cc, λ e. cc, λ e. cc)
-stand_proper stands.Bound = (λ e. cc, λ e. cc, λ e. cc, λ e. cc)
+-- the status of a run, by the answers of its tests
+abbrev by_tests : (bound broken zero mismatch waiting : Bool) → Status
+by_tests b k z m w =
+    if b then statuses.Bound else if k then statuses.Broken else if z then statuses.Zero else if m then statuses.Mismatch
+    else if w then statuses.Waits else statuses.Done
+
+tests_proper : (b k z m w : Bool) → IsYielded (by_tests b k z m w)
+tests_proper true k z m w = (λ e. cc, λ e. cc, λ e. cc, λ e. cc)
+tests_proper false true z m w = (λ e. cc, λ e. cc, λ e. cc, λ e. cc)
+tests_proper false false true m w = (λ e. cc, λ e. cc, λ e. cc, λ e. cc)
+tests_proper false false false true w = (λ e. cc, λ e. cc, λ e. cc, λ e. cc)
+tests_proper false false false false true = (λ e. cc, λ e. cc, λ e. cc, λ e. cc)
+tests_proper false false false false false = done_proper
+
+stands_proper : (all : List Stand) → IsYielded (status_of all)
+stands_proper all = tests_proper (list_any is_bound all) (list_any is_broken all) (list_any is_zero all) (list_any is_mismatch all) (list_any is_waiting all)
 
 answer_proper : {local : LocalTree} {calls : List CallAt} {text : List ℕ} {status : Status} → Conforms local calls text status → IsYielded status
 answer_proper (complete h) = done_proper
@@ -153,7 +174,7 @@ proper (commands.check (checked core a r)) = done_proper
 proper (commands.check (not_checked r)) = refused_proper
 proper (commands.compile (compiled written h)) = done_proper
 proper (commands.compile (not_compiled r)) = refused_proper
-proper (commands.run (ran r h)) = stand_proper r.stand
+proper (commands.run (ran r h)) = stands_proper (stands_in r.program r.last)
 proper (commands.run (not_run r)) = refused_proper
 
 -- ---- what is said of a refusal
@@ -163,13 +184,16 @@ abbrev pub SaysRefusal : List Action → Type 0
 SaysRefusal actions = ((line : List ℕ) × (actions ≡ Say line ∷ [])) ⊎ ((n : ℕ) × (actions ≡ Print (not_offered_line n) ∷ []))
 
 -- no run stands as one that is refused
-never_refused : (stand : Stand) → status_of stand ≡ statuses.Refused → ⊥
-never_refused stands.Done e = cc
-never_refused stands.Zero e = cc
-never_refused stands.Null e = cc
-never_refused (stands.Mismatch peer found) e = cc
-never_refused (stands.NoPeer peer) e = cc
-never_refused stands.Bound e = cc
+tests_run : (b k z m w : Bool) → by_tests b k z m w ≡ statuses.Refused → ⊥
+tests_run true k z m w e = cc
+tests_run false true z m w e = cc
+tests_run false false true m w e = cc
+tests_run false false false true w e = cc
+tests_run false false false false true e = cc
+tests_run false false false false false e = cc
+
+never_refused : (all : List Stand) → status_of all ≡ statuses.Refused → ⊥
+never_refused all = tests_run (list_any is_bound all) (list_any is_broken all) (list_any is_zero all) (list_any is_mismatch all) (list_any is_waiting all)
 
 answer_says : {local : LocalTree} {calls : List CallAt} {text : List ℕ} {status : Status} → Conforms local calls text status → status ≡ statuses.Refused →
     SaysRefusal (Print text ∷ [])
@@ -188,5 +212,37 @@ refusal_says (commands.check (checked core a r)) e = absurd cc
 refusal_says (commands.check (not_checked {line = line} r)) e = inl (line, refl)
 refusal_says (commands.compile (compiled written h)) e = absurd cc
 refusal_says (commands.compile (not_compiled {line = line} r)) e = inl (line, refl)
-refusal_says (commands.run (ran r h)) e = absurd (never_refused r.stand e)
+refusal_says (commands.run (ran r h)) e = absurd (never_refused (stands_in r.program r.last) e)
 refusal_says (commands.run (not_run {line = line} r)) e = inl (line, refl)
+
+-- ---- no command is broken
+
+tests_whole : (b k z m w : Bool) → k ≡ false → by_tests b k z m w ≡ statuses.Broken → ⊥
+tests_whole true k z m w h e = cc
+tests_whole false true z m w h e = cc
+tests_whole false false true m w h e = cc
+tests_whole false false false true w h e = cc
+tests_whole false false false false true h e = cc
+tests_whole false false false false false h e = cc
+
+answer_whole : {local : LocalTree} {calls : List CallAt} {text : List ℕ} {status : Status} → Conforms local calls text status → status ≢ statuses.Broken
+answer_whole (complete h) e = absurd cc
+answer_whole (unfinished h isnt) e = absurd cc
+answer_whole (not_offered front call rest split before isnt) e = absurd cc
+
+pub never_broken : {command : Command} {contents : List (List ℕ)} {actions : List Action} {status : Status} → Yields command contents actions status →
+    status ≢ statuses.Broken
+never_broken (commands.translate (translated t)) e = absurd cc
+never_broken (commands.translate (not_translated r)) e = absurd cc
+never_broken (commands.conform (conforms local list o l c)) e = answer_whole c e
+never_broken (commands.conform (no_protocol r)) e = absurd cc
+never_broken (commands.conform (no_calls local o r)) e = absurd cc
+never_broken (commands.check (checked core a r)) e = absurd cc
+never_broken (commands.check (not_checked r)) e = absurd cc
+never_broken (commands.compile (compiled written h)) e = absurd cc
+never_broken (commands.compile (not_compiled r)) e = absurd cc
+never_broken (commands.run {asked = asked} {files = files} {contents = contents} (ran r h)) e =
+    let all : List Stand = stands_in r.program r.last in
+    tests_whole (list_any is_bound all) (list_any is_broken all) (list_any is_zero all) (list_any is_mismatch all) (list_any is_waiting all)
+    (none_broken (sources files contents) (role_mains_of asked) (order_of asked) (limit_of asked) r h) e
+never_broken (commands.run (not_run r)) e = absurd cc

@@ -17,6 +17,7 @@ use Rattle.mg_top.specs.Promises.{IsUnlessStopped, IsYielded, Carries, MayWrite,
 use Rattle.mg_words.proofs.WordsLemmas.{wrong_is_none}
 use Rattle.mg_words.proofs.RunLemmas.{same_command}
 use Rattle.mg_top.proofs.Exact.{one_status, proper, SaysRefusal, refusal_says}
+use Rattle.mg_top.proofs.Exact.{never_broken as none_is_broken}
 use Rattle.mg_top.proofs.DeliveryLaws as laws
 
 -- ---- what is read of files that are told is one thing
@@ -95,6 +96,13 @@ module _ (words : List Word) (before : Outside) where
       (actions, record { command = command; contents = contents; is = is; read = read; yields = subst (λ (s : Status). Yields command contents actions s) (sym whole.0) y }, whole.1)
   only starved d (a, b, c, e) = absurd (e (laws.is_whole d c e).0)
   only (mute other may) d (a, b, c, e) = absurd (e (laws.is_whole d c e).0)
+
+  broken_yielded : {status : Status} → status ≡ statuses.Broken → IsYielded status
+  broken_yielded {status = status} e = subst (λ (s : Status). IsYielded s) (sym e) (λ h. cc, λ h. cc, λ h. cc, λ h. cc)
+
+  never_broken : {actions : List Action} {meant status : Status} {at after : Outside} → IsDue words before actions meant at → Delivers actions meant at status after →
+      status ≢ statuses.Broken
+  never_broken due d e = none_is_broken (only due d (broken_yielded e)).1.yields e
 
   abbrev OneLine : Outside → Type 0
   OneLine after = ((line : List ℕ) × AreDone (Say line ∷ []) before after) ⊎ ((n : ℕ) × AreDone (Print (not_offered_line n) ∷ []) before after)
@@ -239,6 +247,7 @@ promised words before status after h = record {
   only = only words before h.due h.delivered;
   where_yielded = where_yielded words before h.due h.delivered;
   refused_only = refused_only words before h.due h.delivered;
+  never_broken = never_broken words before h.due h.delivered;
   write_only = write_only words before h.due h.delivered;
   write_where = write_where words before h.due h.delivered;
   put_where = put_where words before h.due h.delivered;

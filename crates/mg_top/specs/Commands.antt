@@ -1,5 +1,6 @@
 -- What each command gives: what it does about the contents that were read of its files, in their order, and the status that it then has.
-use Rattle.std.specs.Prelude.{◌≡◌, ℕ, List, [], ◌∷◌, ◌++◌, Option, Some, None, if◌then◌else◌}
+use Rattle.std.specs.Prelude.{◌≡◌, ℕ, List, [], ◌∷◌, ◌++◌, map, Option, Some, None, if◌then◌else◌}
+use Rattle.std.specs.List.{list_any}
 use Rattle.scr_tree.specs.Tree.{LocalTree}
 use Rattle.mg_calls.specs.Calls.{CallAt}
 use Rattle.jv_core.specs.Tree as Core
@@ -9,19 +10,20 @@ use Rattle.mg_accepted.specs.Accepted as accepted
 use Rattle.mg_compile.specs.declared.files.ClassFile.{ClassFile}
 use Rattle.mg_compile.specs.Compiled.{AreCompiled}
 use Rattle.mg_compile.specs.Compiled as compiling
-use Rattle.vm_model.specs.Runs.{printed}
-use Rattle.mg_runs.specs.declared.ran.Stand.{Stand}
-use Rattle.mg_runs.specs.declared.ran.Stand.TheVariants as stands
-use Rattle.mg_runs.specs.Lines.{ran_line}
-use Rattle.mg_trace.specs.Trace.{trace}
-use Rattle.mg_runs.specs.Commanded.{Course, IsRun}
+use Rattle.vm_world_law.specs.declared.role.RoleMain.{RoleMain}
+use Rattle.vm_world_law.specs.declared.stand.Stand.{Stand}
+use Rattle.vm_world_law.specs.Turns.{stands_in, is_bound, is_broken, is_zero, is_mismatch, is_waiting}
+use Rattle.mg_trace.specs.Trace.{trace, printed}
+use Rattle.mg_runs.specs.Lines.{role_lines}
+use Rattle.mg_runs.specs.Runs.{names_of}
+use Rattle.mg_runs.specs.Headline.{Course, IsRun}
 use Rattle.mg_runs.specs.Commanded as running
 use Rattle.mg_top.specs.declared.status.Status.{Status}
 use Rattle.mg_top.specs.declared.status.Status.TheVariants.{Done, Refused}
 use Rattle.mg_top.specs.declared.status.Status.TheVariants as statuses
 use Rattle.mg_top.specs.declared.delivery.Action.{Action}
 use Rattle.mg_top.specs.declared.delivery.Action.TheVariants.{Print, Say}
-use Rattle.mg_words.specs.Words.{Word, Asked, limit_of, Command, Translate, Conform, Check, Compile, Run}
+use Rattle.mg_words.specs.Words.{Word, RoleClass, Asked, limit_of, mains_of, order_of, are_named, Command, Translate, Conform, Check, Compile, Run}
 use Rattle.mg_sources.specs.Files.{Source, source_of, sources}
 use Rattle.mg_sources.specs.Reading.{Protocol, Reads}
 use Rattle.mg_sources.specs.Sources.{IsRefused, Refusal}
@@ -60,23 +62,38 @@ abbrev pub kept_in : Option Word → List ClassFile → List Action
 kept_in None written = []
 kept_in (Some folder) written = classes_written (Some folder) written
 
--- the trace, where it is asked for, and the line of the run
-abbrev pub run_said : Asked → Course → List ℕ
-run_said asked r = (if asked.traced then trace r.core r.events else []) ++ ran_line r.count r.stand
+-- the roles of a run, each with the class whose `main` it runs
+abbrev pub role_main_of : RoleClass → RoleMain
+role_main_of main = record { role = main.role; class = main.class }
 
--- the status of a run
-abbrev pub status_of : Stand → Status
-status_of stands.Done = statuses.Done
-status_of stands.Zero = statuses.Zero
-status_of stands.Null = statuses.Broken
-status_of (stands.Mismatch peer found) = statuses.Mismatch
-status_of (stands.NoPeer peer) = statuses.Mismatch
-status_of stands.Bound = statuses.Bound
+abbrev pub role_mains_of : Asked → List RoleMain
+role_mains_of asked = map role_main_of (mains_of asked)
+
+-- the trace, where it is asked for, and a line for each role in the order of the words
+abbrev pub run_said : Asked → Course → List ℕ
+run_said asked r =
+    (if asked.traced then trace r.core (names_of (role_mains_of asked)) r.last.events else [])
+    ++ role_lines (names_of (role_mains_of asked)) (map (λ role. role.count) r.last.roles) (stands_in r.program r.last)
+
+-- what is printed, in the order of the events, behind the role's name where roles are named
+abbrev pub run_printed : Asked → Course → List ℕ
+run_printed asked r = printed (are_named asked) (names_of (role_mains_of asked)) r.last.events
+
+-- The status of a run, by how its roles stand: the first that applies.
+abbrev pub status_of : List Stand → Status
+status_of all =
+    if list_any is_bound all then statuses.Bound
+    else if list_any is_broken all then statuses.Broken
+    else if list_any is_zero all then statuses.Zero
+    else if list_any is_mismatch all then statuses.Mismatch
+    else if list_any is_waiting all then statuses.Waits
+    else statuses.Done
 
 pub data RunGives (asked : Asked) (files : List Source) : List Action → Status → Type 0 where
-  ran : (r : Course) → IsRun files asked.class (limit_of asked) r →
-      RunGives asked files (kept_in asked.folder r.written ++ (prints (printed r.events) ++ Say (run_said asked r) ∷ [])) (status_of r.stand)
-  not_run : {line : List ℕ} → running.Refusal files asked.class line → RunGives asked files (Say line ∷ []) Refused
+  ran : (r : Course) → IsRun files (role_mains_of asked) (order_of asked) (limit_of asked) r →
+      RunGives asked files (kept_in asked.folder r.written ++ (prints (run_printed asked r) ++ Say (run_said asked r) ∷ []))
+      (status_of (stands_in r.program r.last))
+  not_run : {line : List ℕ} → running.Refusal files (role_mains_of asked) line → RunGives asked files (Say line ∷ []) Refused
 
 -- A command gives this: one case a command.
 pub data Yields : Command → List (List ℕ) → List Action → Status → Type 0 where

@@ -66,6 +66,8 @@ pub record Promises (words : List Word) (before : Outside) (status : Status) (af
       after.failed_reads ≡ before.failed_reads → IsUnlessStopped meant status
   -- after Refused one line was put on standard error, or on standard output that of a call that isn't offered, and nothing else was done
   pub refused_only : status ≡ statuses.Refused → ((line : List ℕ) × AreDone (Say line ∷ []) before after) ⊎ ((n : ℕ) × AreDone (Print (not_offered_line n) ∷ []) before after)
+  -- no command meets a null, or code that is wrong
+  pub never_broken : status ≢ statuses.Broken
   -- WriteFault comes exactly where a write of a file that the command writes failed, or a put on standard output or standard error did
   pub write_only : status ≡ statuses.WriteFault → ((name : Word) × MayWrite words before name × (after.failed_writes ≡ before.failed_writes ++ name ∷ []))
       ⊎ Rose before.out.faults after.out.faults ⊎ Rose before.err.faults after.err.faults

@@ -1,43 +1,77 @@
-//! The command `run`: the class files of a program are run from the `main` of a class.
+//! The command `run`: the class files of a program are run by one or several roles, each from the
+//! `main` of a class.
 
-ghost use Rattle.std.specs.Prelude.{◌≡◌, ◌++◌, ◌∷◌, ◌<◌, ◌^◌, [], length, IfOk, OnOk, option_map, string_bytes};
+ghost use Rattle.std.specs.Prelude.{◌≡◌, ◌++◌, ◌∷◌, ◌<◌, ◌^◌, [], length, map, IfOk, OnOk, option_map, string_bytes};
+ghost use Rattle.std.specs.List.{list_any};
+ghost use Rattle.vm_world_law.specs.Turns.{is_bound, is_broken, is_zero, is_mismatch, is_waiting};
 ghost use Rattle.mg_sources.specs.Files.{HaveKinds};
-ghost use Rattle.mg_runs.specs.Lines.{stand_words, ran_line};
+ghost use Rattle.mg_runs.specs.Lines.{kind_word, stand_words, role_line, role_lines};
+ghost use Rattle.mg_runs.specs.Runs.{names_of};
 ghost use Rattle.mg_words.specs.Words.{Run, limit_of};
-ghost use Rattle.mg_top.specs.Commands.{Yields, kept_in, prints, status_of};
-ghost use Rattle.mg_words.specs.inner.Judging.{asked_of};
+ghost use Rattle.mg_top.specs.Commands.{Yields, kept_in, role_mains_of, prints, status_of};
+ghost use Rattle.mg_words.specs.inner.Judging.{asked_of, IsAsked};
 
 use crate::Status;
 use crate::compile::add_classes;
 use crate::delivery::{Action, Delivery};
 use mg_compile::ClassFile;
-use mg_runs::{Ran, Stand, run_class};
+use mg_runs::{Ran, run_roles};
 use mg_sources::Stop;
-use mg_text::{Bytes, List, Memory, Text};
+use mg_text::{BadKind, Bytes, Ending, List, Memory, Text};
 use mg_words::Asked;
 use std::alloc::Global;
+use vm_world::{RoleMain, RoleRan, Stand};
 
 // The most instructions that a run takes where no number is named.
 const STEPS: u32 = 1_000_000;
 
-/// What the run of a class shows, or the first refusal.
+/// What the run of the roles shows, or the first refusal.
 pub fn run(
     alloc: Global,
     asked: &Asked<'_>,
     names: &[Text],
     contents: &[Bytes],
 ) -> Result<Delivery, Memory>
+    requires asked { IsAsked (asked_of asked.now) }
     requires same { length names.now ≡ length contents.now }
     requires count { length contents.now < 2 ^ 32 }
     requires kinds { HaveKinds names.now }
     ensures { IfOk result (λ d. Yields (Run (asked_of asked.now) names.now) contents.now d.actions.items d.status) }
 {
+    let mains = mains_of(alloc, asked)?;
+    let roles = mains.as_slice();
+    let order = asked.order(alloc)?;
     let limit = limit_of(asked);
-    match run_class(alloc, names, contents, asked.class, limit, asked.traced) {
-        Ok(ran) => show(alloc, asked, ran),
+    let named = asked.is_named();
+    match run_roles(
+        alloc,
+        names,
+        contents,
+        roles,
+        order.as_slice(),
+        limit,
+        named,
+        asked.traced,
+    ) {
+        Ok(ran) => show(alloc, asked, roles, ran),
         Err(Stop::Refused(line)) => Delivery::said(alloc, line, Status::Refused),
         Err(Stop::Memory) => Err(Memory),
     }
+}
+
+// The roles of the run, each with the class whose `main` it runs.
+fn mains_of(alloc: Global, asked: &Asked<'_>) -> Result<List<RoleMain>, Memory>
+    requires { IsAsked (asked_of asked.now) }
+    ensures { IfOk result (λ l. l.items ≡ role_mains_of (asked_of asked.now)) }
+{
+    let classes = asked.mains(alloc)?;
+    let mut mains = List::new(alloc);
+    for main in classes.as_slice() {
+        let role = main.role.copy()?;
+        let class = main.class.copy()?;
+        mains.push(RoleMain { role, class })?;
+    }
+    Ok(mains)
 }
 
 // How many instructions the run may take.
@@ -51,20 +85,20 @@ fn limit_of(asked: &Asked<'_>) -> u32
 }
 
 // What is done about a run: its class files are written where a folder is named, then it is put
-// what was printed, and then its trace and its line. An empty text isn't put.
-fn show(alloc: Global, asked: &Asked<'_>, ran: Ran) -> Result<Delivery, Memory>
+// what was printed, and then its trace and the lines of its roles. An empty text isn't put.
+fn show(alloc: Global, asked: &Asked<'_>, mains: &[RoleMain], ran: Ran) -> Result<Delivery, Memory>
     ensures actions { IfOk result (λ d. d.actions.items ≡ kept_in (asked_of asked.now).folder ran.files.items
-        ++ (prints ran.printed ++ Action.Say (ran.trace ++ ran_line ran.instructions ran.stand) ∷ [])) }
-    ensures status { IfOk result (λ d. d.status ≡ status_of ran.stand) }
+        ++ (prints ran.printed ++ Action.Say (ran.trace ++ role_lines (names_of mains.now)
+        (map (λ r. r.instructions) ran.roles.items) (map (λ r. r.stand) ran.roles.items)) ∷ [])) }
+    ensures status { IfOk result (λ d. d.status ≡ status_of (map (λ r. r.stand) ran.roles.items)) }
 {
     let Ran {
         files,
-        instructions,
-        stand,
+        roles,
         printed,
         trace,
     } = ran;
-    let said = said_of(alloc, &trace, instructions, &stand)?;
+    let said = said_of(alloc, &trace, mains, roles.as_slice())?;
     let mut actions = List::new(alloc);
     keep(alloc, asked.folder, files.as_slice(), &mut actions)?;
     if !printed.is_empty() {
@@ -73,7 +107,7 @@ fn show(alloc: Global, asked: &Asked<'_>, ran: Ran) -> Result<Delivery, Memory>
     actions.push(Action::Say(said))?;
     Ok(Delivery {
         actions,
-        status: status_of(&stand),
+        status: status_of(roles.as_slice()),
     })
 }
 
@@ -92,49 +126,251 @@ fn keep(
     }
 }
 
-// The trace of a run, and its line.
-fn said_of(alloc: Global, trace: &Text, instructions: u64, stand: &Stand) -> Result<Text, Memory>
-    ensures { IfOk result (λ t. t ≡ trace.now ++ ran_line instructions stand.now) }
+// The trace of a run, and a line for each of its roles.
+fn said_of(
+    alloc: Global,
+    trace: &Text,
+    mains: &[RoleMain],
+    roles: &[RoleRan],
+) -> Result<Text, Memory>
+    ensures { IfOk result (λ t. t ≡ trace.now ++ role_lines (names_of mains.now)
+        (map (λ r. r.instructions) roles.now) (map (λ r. r.stand) roles.now)) }
 {
     let mut said = String::from_str(alloc, trace.as_str())?;
-    write!(said, "main: {instructions} instructions, ")?;
-    push_stand(stand, &mut said)?;
-    said.push_str("\n")?;
+    push_roles(mains, roles, &mut said)?;
     Ok(Text::from_string(said))
 }
 
-// Appends how a run stands, in words.
-fn push_stand(stand: &Stand, said: &mut String) -> Result<(), Memory>
-    ensures { OnOk result (string_bytes said.new ≡ string_bytes said.old ++ stand_words stand.now) }
+// Appends a line for each role.
+fn push_roles(mains: &[RoleMain], roles: &[RoleRan], said: &mut String) -> Result<(), Memory>
+    ensures { OnOk result (string_bytes said.new ≡ string_bytes said.old ++ role_lines (names_of mains.now)
+        (map (λ r. r.instructions) roles.now) (map (λ r. r.stand) roles.now)) }
 {
-    match stand {
-        Stand::Done => said.push_str("done")?,
-        Stand::Zero => said.push_str("zero divisor")?,
-        Stand::Null => said.push_str("null")?,
-        Stand::Mismatch { peer, found } => {
-            said.push_str("mismatch ")?;
-            said.push_str(peer.as_str())?;
-            said.push_str(" ")?;
-            said.push_str(found.as_str())?;
-        }
-        Stand::NoPeer { peer } => {
-            said.push_str("no peer ")?;
-            said.push_str(peer.as_str())?;
-        }
-        Stand::Bound => said.push_str("bound")?,
+    let mut named = mains;
+    let mut rest = roles;
+    while let Some((main, others)) = named.split_first() {
+        let Some((role, behind)) = rest.split_first() else {
+            return Ok(());
+        };
+        push_role(main.role.as_str(), role, said)?;
+        named = others;
+        rest = behind;
     }
     Ok(())
 }
 
-// The status of a run that stands so.
-fn status_of(stand: &Stand) -> Status
-    ensures { result ≡ status_of stand.now }
+// Appends the line of a role.
+fn push_role(name: &str, role: &RoleRan, said: &mut String) -> Result<(), Memory>
+    ensures { OnOk result (string_bytes said.new ≡ string_bytes said.old
+        ++ role_line name.now role.now.instructions role.now.stand) }
+{
+    let instructions = role.instructions;
+    said.push_str(name)?;
+    write!(said, ": {instructions} instructions, ")?;
+    push_stand(&role.stand, said)?;
+    said.push_str("\n")?;
+    Ok(())
+}
+
+// Appends how a role stands, in words.
+fn push_stand(stand: &Stand, said: &mut String) -> Result<(), Memory>
+    ensures { OnOk result (string_bytes said.new ≡ string_bytes said.old ++ stand_words stand.now) }
 {
     match stand {
-        Stand::Done => Status::Done,
-        Stand::Zero => Status::Zero,
-        Stand::Null => Status::Broken,
-        Stand::Mismatch { .. } | Stand::NoPeer { .. } => Status::Mismatch,
-        Stand::Bound => Status::Bound,
+        Stand::Ended(ending) => push_ending(ending, said),
+        Stand::Waits(peer) => push_words(said, "waits ", peer),
+        Stand::Bound => {
+            said.push_str("bound")?;
+            Ok(())
+        }
+    }
+}
+
+// Appends how a role ended, in words.
+fn push_ending(ending: &Ending, said: &mut String) -> Result<(), Memory>
+    ensures { OnOk result (string_bytes said.new ≡ string_bytes said.old ++ stand_words (Stand.Ended ending.now)) }
+{
+    match ending {
+        Ending::Done => said.push_str("done")?,
+        Ending::Zero => said.push_str("zero divisor")?,
+        Ending::Null => said.push_str("null")?,
+        Ending::Mismatch(peer, found) => {
+            push_words(said, "mismatch ", peer)?;
+            said.push_str(" ")?;
+            said.push_str(found.as_str())?;
+        }
+        Ending::NoPeer(peer) => push_words(said, "no peer ", peer)?,
+        Ending::Bad(kind) => {
+            said.push_str("bad ")?;
+            said.push_str(kind_word(*kind))?;
+        }
+    }
+    Ok(())
+}
+
+// Appends words, and the name behind them.
+fn push_words(said: &mut String, words: &str, name: &Text) -> Result<(), Memory>
+    ensures { OnOk result (string_bytes said.new ≡ string_bytes said.old ++ (words.now ++ name.now)) }
+{
+    said.push_str(words)?;
+    said.push_str(name.as_str())?;
+    Ok(())
+}
+
+// What is wrong with code, in a word.
+fn kind_word(kind: BadKind) -> &'static str
+    ensures { result.now ≡ kind_word kind }
+{
+    match kind {
+        BadKind::FellOff => "FellOff",
+        BadKind::Underflow => "Underflow",
+        BadKind::Kind => "Kind",
+        BadKind::Local => "Local",
+        BadKind::Member => "Member",
+        BadKind::Return => "Return",
+        BadKind::Overflow => "Overflow",
+    }
+}
+
+// The status of a run whose roles stand so: the first that applies.
+fn status_of(roles: &[RoleRan]) -> Status
+    ensures { result ≡ status_of (map (λ r. r.stand) roles.now) }
+{
+    if any_bound(roles) {
+        Status::Bound
+    } else if any_broken(roles) {
+        Status::Broken
+    } else if any_zero(roles) {
+        Status::Zero
+    } else if any_mismatch(roles) {
+        Status::Mismatch
+    } else if any_waiting(roles) {
+        Status::Waits
+    } else {
+        Status::Done
+    }
+}
+
+// Whether a role is at the bound.
+fn any_bound(roles: &[RoleRan]) -> bool
+    ensures { result ≡ list_any (λ r. is_bound r.stand) roles.now }
+{
+    roles.iter().any(|role| is_bound(&role.stand))
+}
+
+// Whether a role ended at a null, or because its code is wrong.
+fn any_broken(roles: &[RoleRan]) -> bool
+    ensures { result ≡ list_any (λ r. is_broken r.stand) roles.now }
+{
+    roles.iter().any(|role| is_broken(&role.stand))
+}
+
+// Whether a role ended at a zero divisor.
+fn any_zero(roles: &[RoleRan]) -> bool
+    ensures { result ≡ list_any (λ r. is_zero r.stand) roles.now }
+{
+    roles.iter().any(|role| is_zero(&role.stand))
+}
+
+// Whether a role ended at a message, or without its peer.
+fn any_mismatch(roles: &[RoleRan]) -> bool
+    ensures { result ≡ list_any (λ r. is_mismatch r.stand) roles.now }
+{
+    roles.iter().any(|role| is_mismatch(&role.stand))
+}
+
+// Whether a role waits.
+fn any_waiting(roles: &[RoleRan]) -> bool
+    ensures { result ≡ list_any (λ r. is_waiting r.stand) roles.now }
+{
+    roles.iter().any(|role| is_waiting(&role.stand))
+}
+
+fn is_bound(stand: &Stand) -> bool
+    ensures { result ≡ is_bound stand.now }
+{
+    match stand {
+        Stand::Ended(_) => false,
+        Stand::Waits(_) => false,
+        Stand::Bound => true,
+    }
+}
+
+fn is_waiting(stand: &Stand) -> bool
+    ensures { result ≡ is_waiting stand.now }
+{
+    match stand {
+        Stand::Ended(_) => false,
+        Stand::Waits(_) => true,
+        Stand::Bound => false,
+    }
+}
+
+fn is_broken(stand: &Stand) -> bool
+    ensures { result ≡ is_broken stand.now }
+{
+    match stand {
+        Stand::Ended(ending) => ends_broken(ending),
+        Stand::Waits(_) => false,
+        Stand::Bound => false,
+    }
+}
+
+fn ends_broken(ending: &Ending) -> bool
+    ensures { result ≡ is_broken (Stand.Ended ending.now) }
+{
+    match ending {
+        Ending::Done => false,
+        Ending::Zero => false,
+        Ending::Null => true,
+        Ending::Mismatch(_, _) => false,
+        Ending::NoPeer(_) => false,
+        Ending::Bad(_) => true,
+    }
+}
+
+fn is_zero(stand: &Stand) -> bool
+    ensures { result ≡ is_zero stand.now }
+{
+    match stand {
+        Stand::Ended(ending) => ends_zero(ending),
+        Stand::Waits(_) => false,
+        Stand::Bound => false,
+    }
+}
+
+fn ends_zero(ending: &Ending) -> bool
+    ensures { result ≡ is_zero (Stand.Ended ending.now) }
+{
+    match ending {
+        Ending::Done => false,
+        Ending::Zero => true,
+        Ending::Null => false,
+        Ending::Mismatch(_, _) => false,
+        Ending::NoPeer(_) => false,
+        Ending::Bad(_) => false,
+    }
+}
+
+fn is_mismatch(stand: &Stand) -> bool
+    ensures { result ≡ is_mismatch stand.now }
+{
+    match stand {
+        Stand::Ended(ending) => ends_mismatch(ending),
+        Stand::Waits(_) => false,
+        Stand::Bound => false,
+    }
+}
+
+fn ends_mismatch(ending: &Ending) -> bool
+    ensures { result ≡ is_mismatch (Stand.Ended ending.now) }
+{
+    match ending {
+        Ending::Done => false,
+        Ending::Zero => false,
+        Ending::Null => false,
+        Ending::Mismatch(_, _) => true,
+        Ending::NoPeer(_) => true,
+        Ending::Bad(_) => false,
     }
 }

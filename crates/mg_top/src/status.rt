@@ -3,10 +3,11 @@
 ghost use Rattle.std.specs.Prelude.{◌≡◌};
 ghost use Rattle.mg_top.specs.Numbers.{number_of};
 
-/// How a run of the program ended. The last five come of `run` alone, where its program was run.
+/// How a run of the program ended. The five from `Zero` on come where a program was run: the first
+/// that applies of `Bound`, `Broken`, `Zero`, `Mismatch`, `Waits` and `Done`.
 #[derive(Clone, Copy, Debug, PartialEq, Eq)]
 pub enum Status {
-    /// The command was carried out; of `run`, `main` returned.
+    /// The command was carried out; of `run`, the `main` of each role returned.
     Done,
     /// Something was refused; one line on standard error says which file, where and why, or that a
     /// class has no `main`. Of `conform` also: a call isn't offered, which standard output says.
@@ -19,16 +20,17 @@ pub enum Status {
     WriteFault,
     /// Want of memory.
     Memory,
-    /// A divisor was zero.
+    /// A role's divisor was zero.
     Zero,
-    /// The next message wasn't the one that was taken or the program refused it, or no other role
-    /// has the name that was spoken to.
+    /// The next message of a role wasn't the one that was taken or the program refused it, or no
+    /// other role has the name that was spoken to.
     Mismatch,
-    /// A role waits for a message. With `--main` none ever does, since there is no other role.
+    /// A role waits for a message, and no other goes on. With `--main` none ever waits.
     Waits,
-    /// It took as many instructions as it may take, and goes on.
+    /// The roles took as many instructions as they may take, and one goes on.
     Bound,
-    /// A null stood where an object must.
+    /// A null stood where an object must, or code is wrong. No command answers it: a program that is
+    /// accepted meets no null, and its own code is right.
     Broken,
 }
 

@@ -31,11 +31,15 @@ use std::alloc::Global;
 /// `check F..` tells what the least tables of the files' program have, where some tables solve it.
 /// `compile [--out D] F..` writes the class files of the files' program, into the folder D where one
 /// is named.
-/// `run [--steps N] [--trace] [--out D] --main C F..` makes the same class files, writes them where a
-/// folder D is named, reads their bytes back and runs the `main` of the class C, with no other role:
-/// at most N instructions, N from 1 to 20,000,000, or 1,000,000 where none is named. What it prints
-/// goes to `out`. To `err` goes its trace where it is asked for, and then the line
-/// `main: K instructions, ENDING` with how many it took and how it stands.
+/// `run [--steps N] [--order A,B,..] [--trace] [--out D] (--main C | --role R=C ..) F..` makes the same
+/// class files, writes them where a folder D is named, reads their bytes back and runs them: the
+/// `main` of the class C as the one role `main`, or for each `--role R=C` that of the class C as the
+/// role R. The roles take turns in the order of the words, or in the order A,B,.. where it is named,
+/// again and again, one instruction a turn, and send messages to each other; the run stops where each
+/// role has ended or waits for a message, or where they took N instructions in all, N from 1 to
+/// 20,000,000, or 1,000,000 where none is named. What they print goes to `out` in the order in which
+/// they printed it, behind `R: ` where roles are named. To `err` goes the trace where it is asked for,
+/// and then for each role the line `R: K instructions, ENDING` with how many it took and how it stands.
 pub fn mungo<F: Folder, O: Sink, E: Sink>(
     alloc: Global,
     words: &[Text],

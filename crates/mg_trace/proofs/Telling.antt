@@ -1,72 +1,84 @@
 -- The lines of one event more.
-use Rattle.std.proofs.Common.{◌≡◌, ℕ, ℤ, List, [], ◌∷◌, ◌++◌, Option, String, string_bytes, codes, refl, sym, ap, ◌∙◌, subst, append_assoc, append-nil}
+use Rattle.std.proofs.Common.{◌≡◌, ◌==◌, ◌<◌, ◌+◌, take, length, get_or, ℕ, ℤ, List, [], ◌∷◌, ◌++◌, Bool, true, false, if◌then◌else◌, Option, codes, refl, sym, ap, ◌∙◌, append_assoc, append-nil}
 use Rattle.std.specs.Prelude.{Vec}
 use Rattle.std.specs.Global.{Global}
+use Rattle.std.proofs.lemmas.List.{take_more}
 use Rattle.mg_text.specs.Call.{Name}
 use Rattle.mg_text.specs.declared.event.Event.{Event}
 use Rattle.mg_text.specs.declared.event.Event.TheVariants as seen
 use Rattle.jv_core.specs.declared.program.CoreType.{CoreType}
-use Rattle.jv_core.specs.Core.{tree_of}
 use Rattle.jv_core.specs.Tree.{Program}
-use Rattle.mg_trace.specs.Trace.{Known, unknown, known_more, known_from, result_named, answer_words, object_words, event_words, line_of, object_of, event_line, lines_from, trace}
+use Rattle.vm_world_law.specs.declared.role.RoleEvent.{RoleEvent}
+use Rattle.vm_world_law.specs.World.{events_of}
+use Rattle.vm_world_law.proofs.Events.{events-append}
+use Rattle.mg_trace.specs.Trace.{Known, unknown, last_call, known_more, known_from, known_in, result_named, answer_words, object_words, event_words, line_of, name_at, object_of, event_line, lines_from, trace}
 use Rattle.mg_trace.specs.declared.objects.Tracked.{Tracked}
-use Rattle.mg_trace.specs.declared.trace.Trace.{Trace}
-use Rattle.mg_trace.specs.inner.Tabled.{AreResults}
-use Rattle.mg_trace.specs.Kept.{known_at, AreKnown, Traces}
+use Rattle.mg_trace.specs.inner.Kept.{known_at, objects_at, AreKnown, KeepMore}
 
 -- the lines of events behind others
-lines_append : (p : Program) (before es fs : List Event) →
-    lines_from p before (es ++ fs) ≡ lines_from p before es ++ lines_from p (before ++ es) fs
-lines_append p before [] fs = ap (λ (b : List Event). lines_from p b fs) (sym (append-nil before))
-lines_append p before (e ∷ es) fs =
-    ap (λ (l : List ℕ). event_line p before e ++ l)
-    (lines_append p (before ++ e ∷ []) es fs
-    ∙ ap (λ (b : List Event). lines_from p (before ++ e ∷ []) es ++ lines_from p b fs) (append_assoc before (e ∷ []) es))
-    ∙ sym (append_assoc (event_line p before e) (lines_from p (before ++ e ∷ []) es) (lines_from p (before ++ e ∷ es) fs))
+lines_append : (p : Program) (names : List Name) (before es fs : List RoleEvent) →
+    lines_from p names before (es ++ fs) ≡ lines_from p names before es ++ lines_from p names (before ++ es) fs
+lines_append p names before [] fs = ap (λ b. lines_from p names b fs) (sym (append-nil before))
+lines_append p names before (e ∷ es) fs =
+    ap (λ l. event_line p names before e ++ l)
+    (lines_append p names (before ++ e ∷ []) es fs
+    ∙ ap (λ b. lines_from p names (before ++ e ∷ []) es ++ lines_from p names b fs) (append_assoc before (e ∷ []) es))
+    ∙ sym (append_assoc (event_line p names before e) (lines_from p names (before ++ e ∷ []) es) (lines_from p names (before ++ e ∷ es) fs))
 
 -- one event more
-trace_more : (p : Program) (events : List Event) (e : Event) → trace p (events ++ e ∷ []) ≡ trace p events ++ event_line p events e
-trace_more p events e = lines_append p [] events (e ∷ []) ∙ ap (λ (l : List ℕ). trace p events ++ l) (append-nil (event_line p events e))
+trace_more : (p : Program) (names : List Name) (events : List RoleEvent) (e : RoleEvent) →
+    trace p names (events ++ e ∷ []) ≡ trace p names events ++ event_line p names events e
+trace_more p names events e =
+    lines_append p names [] events (e ∷ []) ∙ ap (λ l. trace p names events ++ l) (append-nil (event_line p names events e))
 
--- what is known of an object behind one event more
+-- what is known of an object behind one event more of its role
 known_behind : (k : Known) (events : List Event) (e : Event) (o : ℕ) →
     known_from k (events ++ e ∷ []) o ≡ known_more o (known_from k events o) e
 known_behind k [] e o = refl
 known_behind k (x ∷ events) e o = known_behind (known_more o k x) events e o
 
+-- the events up to the next
+pub up_to_next : (events : List RoleEvent) (k : ℕ) (e : RoleEvent) → k < length events → e ≡ get_or events k e →
+    take (k + 1) events ≡ take k events ++ e ∷ []
+up_to_next events k e within is = take_more events k e within ∙ ap (λ x. take k events ++ x ∷ []) (sym is)
+
+-- nothing is kept at first
+pub none_known : AreKnown [] []
+none_known = record { each = λ r o. refl }
+
 -- what is kept of each object behind one event more
-pub are_known_more : (before after : List Tracked) (events : List Event) (e : Event) → AreKnown before events →
-    ((o : ℕ) → known_at after o ≡ known_more o (known_at before o) e) → AreKnown after (events ++ e ∷ [])
+pub are_known_more : (before after : List (Vec Tracked Global)) (events : List RoleEvent) (e : RoleEvent) → AreKnown before events →
+    KeepMore before after e → AreKnown after (events ++ e ∷ [])
 are_known_more before after events e h more =
-    record { each = λ o. more o ∙ ap (λ (k : Known). known_more o k e) (h.each o) ∙ sym (known_behind unknown events e o) }
+    record { each = λ r o. more r o ∙ go r o (e.role == r) ∙ ap (λ es. known_in es o) (sym (events-append r events (e ∷ []))) }
+  where
+    go : (r o : ℕ) (b : Bool) →
+        (if b then known_more o (known_at (objects_at before r) o) e.event else known_at (objects_at before r) o)
+        ≡ known_in (events_of r events ++ (if b then e.event ∷ [] else [])) o
+    go r o true = ap (λ k. known_more o k e.event) (h.each r o) ∙ sym (known_behind unknown (events_of r events) e.event o)
+    go r o false = h.each r o ∙ ap (λ es. known_in es o) (sym (append-nil (events_of r events)))
+
+-- room for a role changes nothing
+pub are_known_same : (before after : List (Vec Tracked Global)) (events : List RoleEvent) → AreKnown before events →
+    ((r : ℕ) → objects_at after r ≡ objects_at before r) → AreKnown after events
+are_known_same before after events h same = record { each = λ r o. ap (λ l. known_at l o) (same r) ∙ h.each r o }
 
 -- the lines of one event more
-pub traced_more : (p : Program) (objects : List Tracked) (events : List Event) (e : Event) (old new : List ℕ) → AreKnown objects events →
-    old ≡ trace p events → new ≡ old ++ line_of p (known_at objects (object_of e)) e → new ≡ trace p (events ++ e ∷ [])
-traced_more p objects events e old new known h line =
-    line ∙ ap (λ (l : List ℕ). l ++ line_of p (known_at objects (object_of e)) e) h
-    ∙ ap (λ (k : Known). trace p events ++ line_of p k e) (known.each (object_of e)) ∙ sym (trace_more p events e)
-
--- one event more, and what is kept behind it
-pub traces_more : (p : Program) (events : List Event) (e : Event) (t : Trace) (objects : List Tracked) (now : Vec Tracked Global)
-    (lines : String Global) → objects ≡ t.objects.items →
-    (AreResults (tree_of t.core.now) t.results →
-    string_bytes lines ≡ string_bytes t.lines ++ line_of (tree_of t.core.now) (known_at objects (object_of e)) e) →
-    Traces p events t → ((o : ℕ) → known_at now.items o ≡ known_more o (known_at t.objects.items o) e) →
-    Traces p (events ++ e ∷ []) (record t { objects = now; lines = lines })
-traces_more p events e t objects now lines same line h more = record {
-  core = h.core;
-  results = h.results;
-  objects = are_known_more t.objects.items now.items events e h.objects more;
-  lines = traced_more p t.objects.items events e (string_bytes t.lines) (string_bytes lines) h.objects h.lines
-      (line (subst (λ (z : Program). AreResults z t.results) (sym h.core) h.results)
-      ∙ ap (λ (z : Program). string_bytes t.lines ++ line_of z (known_at objects (object_of e)) e) h.core
-      ∙ ap (λ (os : List Tracked). string_bytes t.lines ++ line_of p (known_at os (object_of e)) e) same);
-}
+pub traced_more : (p : Program) (names : List Name) (roles : List (Vec Tracked Global)) (events : List RoleEvent) (e : RoleEvent)
+    (name : Name) (objects : List Tracked) (old new : List ℕ) → AreKnown roles events → name ≡ name_at names e.role →
+    objects ≡ objects_at roles e.role → old ≡ trace p names events →
+    new ≡ old ++ line_of p name (known_at objects (object_of e.event)) e.event → new ≡ trace p names (events ++ e ∷ [])
+traced_more p names roles events e name objects old new known named own h line =
+    line
+    ∙ ap (λ l. l ++ line_of p name (known_at objects (object_of e.event)) e.event) h
+    ∙ ap (λ n. trace p names events ++ line_of p n (known_at objects (object_of e.event)) e.event) named
+    ∙ ap (λ os. trace p names events ++ line_of p (name_at names e.role) (known_at os (object_of e.event)) e.event) own
+    ∙ ap (λ k. trace p names events ++ line_of p (name_at names e.role) k e.event) (known.each e.role (object_of e.event))
+    ∙ sym (trace_more p names events e)
 
 -- the words of an object that left a method
 pub left : (p : Program) (objects : List Tracked) (event : Event) (o : ℕ) (answer : Option ℤ) → event ≡ seen.Leave o answer →
-    (class method : Name) → class ≡ (known_at objects o).class → method ≡ (known_at objects o).method →
+    (class method : Name) → class ≡ (known_at objects o).class → method ≡ last_call (known_at objects o).calls →
     (kind : Option CoreType) → kind ≡ result_named p class method → (old mid new : List ℕ) →
     mid ≡ old ++ (codes "leave " ++ object_words class o ++ codes " " ++ method) → new ≡ mid ++ answer_words p kind answer →
     new ≡ old ++ event_words p (known_at objects (object_of event)) event
@@ -75,8 +87,10 @@ left p objects event o answer is class method class_is method_is kind kind_is ol
     ∙ append_assoc old (codes "leave " ++ object_words class o ++ codes " " ++ method) (answer_words p kind answer)
     ∙ ap (λ (k : Option CoreType). old ++ ((codes "leave " ++ object_words class o ++ codes " " ++ method) ++ answer_words p k answer))
     kind_is
-    ∙ ap (λ (k : Known). old ++ event_words p k (seen.Leave o answer)) known_is
+    ∙ ap (λ (c : Name). old ++ words c method) class_is
+    ∙ ap (λ (m : Name). old ++ words (known_at objects o).class m) method_is
     ∙ ap (λ (e : Event). old ++ event_words p (known_at objects (object_of e)) e) (sym is)
   where
-    known_is : ◌≡◌ {A = Known} (record { class = class; method = method }) (known_at objects o)
-    known_is j = record { class = class_is j; method = method_is j }
+    words : (class method : Name) → List ℕ
+    words class method =
+        (codes "leave " ++ object_words class o ++ codes " " ++ method) ++ answer_words p (result_named p class method) answer

@@ -1,3 +1,3 @@
 pub mod Trace
-pub mod Kept
+pub mod Computed
 pub mod inner

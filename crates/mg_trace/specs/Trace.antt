@@ -1,5 +1,5 @@
--- The lines that tell the events of a run from the `main` of a class: one for each event but a text that is printed.
-use Rattle.std.specs.Prelude.{◌==◌, ℕ, ℤ, pos, negsuc, List, [], ◌∷◌, ◌++◌, Bool, true, false, Option, Some, None, slice_get, option_and_then, flat_map, codes, if◌then◌else◌}
+-- The texts of a run: the lines that tell its events, one for each event but a text that is printed, and what it prints.
+use Rattle.std.specs.Prelude.{◌==◌, ℕ, ℤ, pos, negsuc, List, [], ◌∷◌, ◌++◌, Bool, not, Option, Some, None, get_or, slice_get, option_and_then, flat_map, codes, if◌then◌else◌}
 use Rattle.std.specs.Ordering.{int_eq}
 use Rattle.std.specs.Fmt.{decimal, signed_decimal}
 use Rattle.std.specs.Str.{bytes_eq}
@@ -12,18 +12,34 @@ use Rattle.jv_core.specs.declared.program.CoreType.{CoreType}
 use Rattle.jv_core.specs.declared.program.CoreType.TheVariants as types
 use Rattle.jv_core.specs.Tree.{Class, Method, Program}
 use Rattle.jv_core.specs.Lookup.{text_at}
+use Rattle.vm_model.specs.Step.{truth_text}
+use Rattle.vm_world_law.specs.declared.role.RoleEvent.{RoleEvent}
+use Rattle.vm_world_law.specs.World.{events_of}
 
--- What the events so far tell of an object: the class of which it was made, and the method that it entered last.
+-- What the events so far of one role tell of an object: the class of which it was made, and the methods that it entered and hasn't left,
+-- the last entered first.
 pub record Known : Type 0 where
   pub class : Name
-  pub method : Name
+  pub calls : List Name
 
 abbrev pub unknown : Known
-unknown = record { class = []; method = [] }
+unknown = record { class = []; calls = [] }
 
+-- the method that is left next
+abbrev pub last_call : List Name → Name
+last_call [] = []
+last_call (method ∷ calls) = method
+
+-- those that are left after it
+abbrev pub other_calls : List Name → List Name
+other_calls [] = []
+other_calls (method ∷ calls) = calls
+
+-- what an event tells more of the object of a number
 abbrev pub known_more : ℕ → Known → Event → Known
-known_more o k (seen.Made n class) = if n == o then record { class = class; method = [] } else k
-known_more o k (seen.Enter n method) = if n == o then record k { method = method } else k
+known_more o k (seen.Made n class) = if n == o then record { class = class; calls = [] } else k
+known_more o k (seen.Enter n method) = if n == o then record k { calls = method ∷ k.calls } else k
+known_more o k (seen.Leave n answer) = if n == o then record k { calls = other_calls k.calls } else k
 known_more o k _ = k
 
 abbrev pub known_from : Known → List Event → (object : ℕ) → Known
@@ -51,10 +67,6 @@ class_in p (c ∷ cs) name = if bytes_eq (text_at p c.name) name then Some c els
 abbrev pub result_named : Program → (class method : Name) → Option CoreType
 result_named p class method = option_and_then (λ c. result_in p (methods_of p c.methods) method) (class_in p p.classes class)
 
-abbrev pub truth_text : Bool → List ℕ
-truth_text true = codes "true"
-truth_text false = codes "false"
-
 -- the constant of an enum at a position
 abbrev pub label_text : Program → (enum : ℕ) → ℤ → List ℕ
 label_text p e (pos n) =
@@ -65,7 +77,7 @@ label_text p e (negsuc n) = []
 -- an answer in words, behind a blank: a number, a truth value, or the constant of an enum
 abbrev pub answer_words : Program → Option CoreType → Option ℤ → List ℕ
 answer_words p (Some types.Int) (Some n) = codes " " ++ signed_decimal n
-answer_words p (Some types.Boolean) (Some n) = codes " " ++ (if int_eq n (pos 0) then truth_text false else truth_text true)
+answer_words p (Some types.Boolean) (Some n) = codes " " ++ truth_text (not (int_eq n (pos 0)))
 answer_words p (Some (types.Enum e)) (Some n) = codes " " ++ label_text p e n
 answer_words p type answer = []
 
@@ -80,13 +92,14 @@ carried_words (carried.Text text) = codes " " ++ text
 abbrev pub object_words : (class : Name) → (object : ℕ) → List ℕ
 object_words class o = class ++ codes "#" ++ decimal o
 
--- An event in words, where this is known of its object. An object leaves the method that it entered last.
+-- An event in words, where this is known of its object. An object leaves the method that it entered last of those that it hasn't left.
 abbrev pub event_words : Program → Known → Event → List ℕ
 event_words p k (seen.Print text) = []
 event_words p k (seen.Made o class) = codes "made " ++ object_words class o
 event_words p k (seen.Enter o method) = codes "enter " ++ object_words k.class o ++ codes " " ++ method
 event_words p k (seen.Leave o answer) =
-    codes "leave " ++ object_words k.class o ++ codes " " ++ k.method ++ answer_words p (result_named p k.class k.method) answer
+    codes "leave " ++ object_words k.class o ++ codes " " ++ last_call k.calls
+    ++ answer_words p (result_named p k.class (last_call k.calls)) answer
 event_words p k (seen.Send peer label payload) = codes "send " ++ peer ++ codes " " ++ label ++ carried_words payload
 event_words p k (seen.Look peer label) = codes "look " ++ peer ++ codes " " ++ label
 event_words p k (seen.Take peer label payload) = codes "take " ++ peer ++ codes " " ++ label ++ carried_words payload
@@ -98,20 +111,33 @@ object_of (seen.Enter o method) = o
 object_of (seen.Leave o answer) = o
 object_of _ = 0
 
--- the line of an event, where this is known of its object; a text that is printed has none
-abbrev pub line_of : Program → Known → Event → List ℕ
-line_of p k (seen.Print text) = []
-line_of p k event = codes "main " ++ event_words p k event ++ 10 ∷ []
+-- the line of an event of the role of this name, where this is known of its object; a text that is printed has none
+abbrev pub line_of : Program → (role : Name) → Known → Event → List ℕ
+line_of p name k (seen.Print text) = []
+line_of p name k event = name ++ codes " " ++ event_words p k event ++ 10 ∷ []
 
--- the line of an event behind these events
-abbrev pub event_line : Program → (before : List Event) → Event → List ℕ
-event_line p before event = line_of p (known_in before (object_of event)) event
+-- the name of the role of a number
+abbrev pub name_at : (names : List Name) → (role : ℕ) → Name
+name_at names r = get_or names r []
+
+-- The line of an event behind these events. Of its object the earlier events of its role tell: each role numbers its objects.
+abbrev pub event_line : Program → (names : List Name) → (before : List RoleEvent) → RoleEvent → List ℕ
+event_line p names before e = line_of p (name_at names e.role) (known_in (events_of e.role before) (object_of e.event)) e.event
 
 -- the lines of these events behind others
-abbrev pub lines_from : Program → (before : List Event) → List Event → List ℕ
-lines_from p before [] = []
-lines_from p before (event ∷ events) = event_line p before event ++ lines_from p (before ++ event ∷ []) events
+abbrev pub lines_from : Program → (names : List Name) → (before : List RoleEvent) → List RoleEvent → List ℕ
+lines_from p names before [] = []
+lines_from p names before (e ∷ events) = event_line p names before e ++ lines_from p names (before ++ e ∷ []) events
 
--- the trace of a run
-abbrev pub trace : Program → List Event → List ℕ
-trace p events = lines_from p [] events
+-- the trace of a run of roles with these names
+abbrev pub trace : Program → (names : List Name) → List RoleEvent → List ℕ
+trace p names events = lines_from p names [] events
+
+-- the line that a text prints, behind the name of its role where that is asked for; other events print nothing
+abbrev pub printed_line : (named : Bool) → (role : Name) → Event → List ℕ
+printed_line named name (seen.Print text) = (if named then name ++ codes ": " else []) ++ text ++ 10 ∷ []
+printed_line named name _ = []
+
+-- what a run prints, in the order of its events
+abbrev pub printed : (named : Bool) → (names : List Name) → List RoleEvent → List ℕ
+printed named names events = flat_map (λ e. printed_line named (name_at names e.role) e.event) events

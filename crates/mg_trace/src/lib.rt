@@ -1,11 +1,21 @@
-//! The lines that tell the events of a run from the `main` of a class: one for each event, but a
-//! text that is printed has none.
+//! The texts of a run of roles: the lines that tell its events, one for each event but a text that is
+//! printed, and what it prints.
 #![tactic(auto)]
 
 mod lines;
 mod names;
 mod objects;
+mod printing;
 mod results;
-mod trace;
+mod roles;
+mod tracing;
 
-pub use trace::Trace;
+ghost use Rattle.mg_trace.specs.Computed.{AreWorked};
+
+pub use printing::printed;
+pub use tracing::trace;
+
+/// The texts of worked runs are computed. The function carries a law.
+pub fn runs_are_told()
+    ensures { AreWorked }
+{}

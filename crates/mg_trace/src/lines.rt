@@ -3,8 +3,9 @@
 ghost use Rattle.std.specs.Prelude.{◌≡◌, ◌++◌, ◌∷◌, [], ℕ, List as Seq, Some, OnOk, string_bytes, codes};
 ghost use Rattle.mg_text.specs.declared.event.Event.{Event as Seen};
 ghost use Rattle.jv_core.specs.Core.{tree_of};
-ghost use Rattle.mg_trace.specs.Trace.{line_of, event_words, object_of, object_words, answer_words, carried_words, truth_text, label_text};
-ghost use Rattle.mg_trace.specs.Kept.{known_at};
+ghost use Rattle.mg_trace.specs.Trace.{line_of, event_words, object_of, object_words, answer_words, carried_words, label_text};
+ghost use Rattle.vm_model.specs.Step.{truth_text};
+ghost use Rattle.mg_trace.specs.inner.Kept.{known_at};
 ghost use Rattle.mg_trace.specs.inner.Tabled.{AreResults};
 
 use crate::names::name_text;
@@ -13,21 +14,23 @@ use crate::results::Results;
 use jv_core::{Core, CoreType};
 use mg_text::{Carried, Event, Memory, Text};
 
-/// Appends the line of an event. A text that is printed has none.
+/// Appends the line of an event of the role of this name. A text that is printed has none.
 pub(crate) fn push_line(
     core: &Core,
     results: &Results,
+    name: &str,
     objects: &[Tracked],
     event: &Event,
     lines: &mut String,
 ) -> Result<(), Memory>
     ensures { AreResults (tree_of core.now) results.now → OnOk result (string_bytes lines.new ≡ string_bytes lines.old
-        ++ line_of (tree_of core.now) (known_at objects.now (object_of event.now)) event.now) }
+        ++ line_of (tree_of core.now) name.now (known_at objects.now (object_of event.now)) event.now) }
 {
     if let Event::Print(_) = event {
         return Ok(());
     }
-    lines.push_str("main ")?;
+    lines.push_str(name)?;
+    lines.push_str(" ")?;
     push_event(core, results, objects, event, lines)?;
     lines.push_str("\n")?;
     Ok(())

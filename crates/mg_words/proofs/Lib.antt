@@ -1,3 +1,9 @@
 pub mod WordsLemmas
+pub mod NameLemmas
+pub mod RoleLemmas
+pub mod OptionLemmas
+pub mod FollowLemmas
 pub mod RunLemmas
 pub mod NumberLemmas
+pub mod CodeLemmas
+pub mod LawLemmas

@@ -5,9 +5,9 @@ use Rattle.std.proofs.lemmas.Slice.Eq.{bytes_eq-Decides}
 use Rattle.std.proofs.lemmas.List.{drop_at}
 use Rattle.std.specs.List.{ends_with, list_all}
 use Rattle.mg_read.specs.Passes.{AllPasses}
-use Rattle.scr_tree.specs.Words.{reserved}
+use Rattle.scr_tree.specs.Words.{reserved, IsName}
 use Rattle.mg_sources.specs.Files.{EndsWith, Kind, Scribble, Typestates, Java, suffix_of, HaveKinds}
-use Rattle.mg_words.specs.Words.{Word, Command, Translate, Conform, Check, Compile, Run, Asked, AreProtocolAndCalls, IsFileName, IsFileOf, IsSourceName, AreSourceNames, AreFilesOf, IsClassName, out_words, verb, IsBehind, IsCommand, AreCommand, CanBegin, AreWrong}
+use Rattle.mg_words.specs.Words.{Word, Command, Translate, Conform, Check, Compile, Run, Asked, AreProtocolAndCalls, IsFileName, IsFileOf, IsSourceName, AreSourceNames, AreFilesOf, out_words, verb, IsBehind, IsCommand, AreCommand, CanBegin, AreWrong}
 use Rattle.mg_words.specs.inner.Judging.{IsFirstOther}
 
 abbrev pub translate : Word
@@ -121,8 +121,8 @@ free : reserved some_class ≡ None
 unfolding reserved
 free = refl
 
-pub classed : IsClassName some_class
-classed = (refl, (refl, tt), omega arith, free)
+pub classed : IsName some_class
+classed = record { starts = refl; bytes = (refl, tt); short = omega arith; free = free }
 
 pub is_name : IsFileName some_class
 is_name = λ e. cc

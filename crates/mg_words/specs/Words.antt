@@ -1,19 +1,29 @@
 -- The words of the command line: the lists of words that are commands, and the first word that can't follow.
-use Rattle.std.specs.Prelude.{◌≡◌, ◌≢◌, ◌≤◌, ℕ, List, [], ◌∷◌, ◌++◌, All, length, flat_map, filter, filter_map, Bool, true, false, Option, Some, None, IfSome, unwrap_or, option_to_list, codes, if◌then◌else◌, ⊤}
+use Rattle.std.specs.Prelude.{◌≡◌, ◌≢◌, ◌≤◌, ℕ, List, [], ◌∷◌, ◌++◌, All, Contains, length, map, flat_map, filter, filter_map, position, Bool, true, false, Option, Some, None, IfSome, unwrap_or, option_to_list, codes, if◌then◌else◌, ⊤}
 use Rattle.std.specs.Fmt.{decimal}
-use Rattle.mg_read.specs.Letters.{is_name_byte}
-use Rattle.mg_read.specs.Passes.{AllPasses}
-use Rattle.scr_tree.specs.Words.{reserved}
-use Rattle.scr_lex.specs.Pieces.{StartsName}
+use Rattle.std.specs.List.{IsDistinct, join_with_byte, range_with_len}
+use Rattle.std.specs.Str.{bytes_eq}
+use Rattle.scr_tree.specs.Words.{IsName}
 use Rattle.mg_sources.specs.Files.{EndsWith, Kind, suffix_of}
 
 abbrev pub Word : Type 0
 Word = List ℕ
 
--- what a run is asked for: the class whose `main` is run, at most how many instructions it takes, whether its trace is told, and the folder
--- for class files
-pub record Asked : Type 0 where
+-- a role, and the class whose `main` it runs
+pub record RoleClass : Type 0 where
+  pub role : Word
   pub class : Word
+
+-- whose `main` is run: that of a class, with no other role, or those of several roles, in the order of the words
+pub data Roles : Type 0 where
+  Alone : (class : Word) → Roles
+  Several : (roles : List RoleClass) → Roles
+
+-- what a run is asked for: its roles, the order in which they take turns, at most how many instructions it takes, whether its trace is
+-- told, and the folder for class files
+pub record Asked : Type 0 where
+  pub roles : Roles
+  pub order : Option (List Word)
   pub steps : Option ℕ
   pub traced : Bool
   pub folder : Option Word
@@ -21,6 +31,33 @@ pub record Asked : Type 0 where
 -- where no number is named, a run takes at most a million instructions
 abbrev pub limit_of : Asked → ℕ
 limit_of asked = unwrap_or asked.steps 1000000
+
+-- the roles of a run, each with its class: the role of a class that runs with no other is named `main`
+abbrev pub mains_in : Roles → List RoleClass
+mains_in (Alone class) = record { role = codes "main"; class = class } ∷ []
+mains_in (Several roles) = roles
+
+abbrev pub mains_of : Asked → List RoleClass
+mains_of asked = mains_in asked.roles
+
+abbrev pub role_names : List RoleClass → List Word
+role_names mains = map (λ m. m.role) mains
+
+-- the numbers of the roles in the order of their turns: as they are named, or each once in the order of the words
+abbrev pub order_among : List Word → Option (List Word) → List ℕ
+order_among roles (Some names) = filter_map (λ name. position (bytes_eq name) roles) names
+order_among roles None = range_with_len 0 (length roles)
+
+abbrev pub order_of : Asked → List ℕ
+order_of asked = order_among (role_names (mains_of asked)) asked.order
+
+-- what is printed of several roles begins with the role
+abbrev pub are_several : Roles → Bool
+are_several (Alone class) = false
+are_several (Several roles) = true
+
+abbrev pub are_named : Asked → Bool
+are_named asked = are_several asked.roles
 
 pub data Command : Type 0 where
   -- write the typestates of these files' protocols, into a folder where one is named
@@ -31,7 +68,7 @@ pub data Command : Type 0 where
   Check : (files : List Word) → Command
   -- write the class files of these files' program, into a folder where one is named
   Compile : (folder : Option Word) → (files : List Word) → Command
-  -- run the `main` of a class of these files' program
+  -- run the `main`s of classes of these files' program
   Run : (asked : Asked) → (files : List Word) → Command
 
 -- the files that a command reads, in their order
@@ -71,10 +108,6 @@ pub record AreProtocolAndCalls (files : List Word) : Type 0 where
   pub scribble : IsFileOf (codes ".scr") protocol
   pub named : IsFileName calls
 
--- a name as Scribble has them, which is no reserved word
-abbrev pub IsClassName : Word → Type 0
-IsClassName word = StartsName word × AllPasses is_name_byte word × (length word ≤ 255) × (reserved word ≡ None)
-
 -- the option that names a folder
 abbrev pub out_words : Option Word → List Word
 out_words None = []
@@ -82,59 +115,79 @@ out_words (Some folder) = codes "--out" ∷ folder ∷ []
 
 -- The options of a run.
 pub data RunOption : Type 0 where
-  Main : Word → RunOption
-  Steps : ℕ → RunOption
+  Main : (class : Word) → RunOption
+  Role : (main : RoleClass) → RunOption
+  Order : (names : List Word) → RunOption
+  Steps : (n : ℕ) → RunOption
   Trace : RunOption
-  Out : Word → RunOption
+  Out : (folder : Word) → RunOption
 
+-- between a role and its class stands "=", between the names of an order ","
 abbrev pub option_words : RunOption → List Word
 option_words (Main class) = codes "--main" ∷ class ∷ []
+option_words (Role r) = codes "--role" ∷ (r.role ++ 61 ∷ r.class) ∷ []
+option_words (Order names) = codes "--order" ∷ join_with_byte 44 names ∷ []
 option_words (Steps n) = codes "--steps" ∷ decimal n ∷ []
 option_words Trace = codes "--trace" ∷ []
 option_words (Out folder) = codes "--out" ∷ folder ∷ []
 
--- what an option may name
+-- what an option may name: roles and classes have names as Scribble has them
 abbrev pub IsOption : RunOption → Type 0
-IsOption (Main class) = IsClassName class
+IsOption (Main class) = IsName class
+IsOption (Role r) = IsName r.role × IsName r.class
+IsOption (Order names) = (names ≢ []) × All IsName names
 IsOption (Steps n) = (1 ≤ n) × (n ≤ 20000000)
 IsOption Trace = ⊤
 IsOption (Out folder) = IsFileName folder
 
--- the class, the number and the folder that an option names
+-- the class, the role, the order, the number and the folder that an option names
 abbrev pub class_in : RunOption → Option Word
 class_in (Main class) = Some class
-class_in (Steps n) = None
-class_in Trace = None
-class_in (Out folder) = None
+class_in _ = None
+
+abbrev pub role_in : RunOption → Option RoleClass
+role_in (Role r) = Some r
+role_in _ = None
+
+abbrev pub order_in : RunOption → Option (List Word)
+order_in (Order names) = Some names
+order_in _ = None
 
 abbrev pub steps_in : RunOption → Option ℕ
-steps_in (Main class) = None
 steps_in (Steps n) = Some n
-steps_in Trace = None
-steps_in (Out folder) = None
+steps_in _ = None
 
 abbrev pub folder_in : RunOption → Option Word
-folder_in (Main class) = None
-folder_in (Steps n) = None
-folder_in Trace = None
 folder_in (Out folder) = Some folder
+folder_in _ = None
 
 abbrev pub is_trace : RunOption → Bool
-is_trace (Main class) = false
-is_trace (Steps n) = false
 is_trace Trace = true
-is_trace (Out folder) = false
+is_trace _ = false
 
--- These words are options, in any order and each once, that name what is asked for: one class, at most one number, whether the trace is
--- told, and at most one folder.
+-- an order names only these roles, and each of them at least once
+pub record IsOrder (roles names : List Word) : Type 0 where
+  pub only : All (Contains roles) names
+  pub each : All (Contains names) roles
+
+-- One class was named, and neither a role nor an order; or no class, but one role or more, no two of one name, and where there is an order
+-- it names only these roles, and each.
+abbrev pub AreRoles : Roles → Option (List Word) → List RunOption → Type 0
+AreRoles (Alone class) order options = (filter_map class_in options ≡ class ∷ []) × (filter_map role_in options ≡ []) × (order ≡ None)
+AreRoles (Several roles) order options =
+    (filter_map class_in options ≡ []) × (filter_map role_in options ≡ roles) × (roles ≢ []) × IsDistinct bytes_eq (role_names roles)
+    × IfSome order (IsOrder (role_names roles))
+
+-- These words are options, in any order and each once but for those of roles, that name what is asked for.
 pub record AreOptions (asked : Asked) (words : List Word) : Type 0 where
-  pub order : List RunOption
-  pub written : words ≡ flat_map option_words order
-  pub right : All IsOption order
-  pub class : filter_map class_in order ≡ asked.class ∷ []
-  pub steps : filter_map steps_in order ≡ option_to_list asked.steps
-  pub traced : filter is_trace order ≡ (if asked.traced then Trace ∷ [] else [])
-  pub folder : filter_map folder_in order ≡ option_to_list asked.folder
+  pub options : List RunOption
+  pub written : words ≡ flat_map option_words options
+  pub right : All IsOption options
+  pub roles : AreRoles asked.roles asked.order options
+  pub order : filter_map order_in options ≡ option_to_list asked.order
+  pub steps : filter_map steps_in options ≡ option_to_list asked.steps
+  pub traced : filter is_trace options ≡ (if asked.traced then Trace ∷ [] else [])
+  pub folder : filter_map folder_in options ≡ option_to_list asked.folder
 
 -- the first word of a command
 abbrev pub verb : Command → Word

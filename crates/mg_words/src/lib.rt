@@ -1,8 +1,12 @@
 //! The words of the command line: which command they are, or the first word that can't follow.
 #![tactic(auto)]
 
+mod asked;
 mod names;
+mod options;
+mod roles;
 mod runs;
 mod words;
 
-pub use words::{Asked, Command, Judged, judge};
+pub use asked::{Asked, RoleClass};
+pub use words::{Command, Judged, judge};

@@ -1,9 +1,10 @@
-//! What a word may name: a file, a folder, or a class.
+//! What a word may name: a file, a folder, a class or a role.
 
-ghost use Rattle.std.specs.Prelude.{◌≡◌, ◌↔◌, IsTrue, Option, option_map};
+ghost use Rattle.std.specs.Prelude.{◌≡◌, ◌↔◌, IsTrue, option_map};
 ghost use Rattle.std.specs.List.{list_all};
+ghost use Rattle.scr_tree.specs.Words.{IsName};
 ghost use Rattle.scr_lex.specs.Pieces.{StartsName, AllPasses, is_name_start, is_name_byte};
-ghost use Rattle.mg_words.specs.Words.{IsFileName, IsFileOf, IsSourceName, IsClassName};
+ghost use Rattle.mg_words.specs.Words.{IsFileName, IsFileOf, IsSourceName};
 ghost use Rattle.mg_words.specs.inner.Judging.{IsFirstOther};
 
 use mg_text::Text;
@@ -77,11 +78,11 @@ fn is_source_name(word: &Text) -> bool
     is_file(word, b".java")
 }
 
-/// Whether the word is a name as Scribble has them, and no reserved word.
-pub fn is_class_name(word: &Text) -> bool
-    ensures { IsTrue result ↔ IsClassName word.now }
+/// Whether the text is a name as Scribble has them, and no reserved word.
+pub fn is_name(text: &str) -> bool
+    ensures { IsTrue result ↔ IsName text.now }
 {
-    let bytes = word.as_str().as_bytes();
+    let bytes = text.as_bytes();
     if !starts_name(bytes) || !has_name_bytes(bytes) || NAME_LIMIT < bytes.len() {
         return false;
     }

@@ -5,22 +5,10 @@ ghost use Rattle.std.specs.Prelude.{◌≡◌, ◌∷◌, ◌++◌, List, codes,
 ghost use Rattle.mg_words.specs.Words.{Word, IsFileName, out_words, files_of};
 ghost use Rattle.mg_words.specs.inner.Judging.{IsJudged, command_of};
 
+use crate::asked::Asked;
 use crate::names::{is_file, is_file_name, is_word, other_file, other_source};
 use crate::runs::judge_run;
 use mg_text::Text;
-
-/// What a run is asked for.
-#[derive(Clone, Copy)]
-pub struct Asked<'a> {
-    /// The class whose `main` is run.
-    pub class: &'a Text,
-    /// The most instructions that it takes, where the number is named: from 1 to 20,000,000.
-    pub steps: Option<u32>,
-    /// Whether its trace is told.
-    pub traced: bool,
-    /// Where class files are written.
-    pub folder: Option<&'a Text>,
-}
 
 /// A command, with the words that it is about.
 #[derive(Clone, Copy)]

@@ -1,21 +1,79 @@
 -- What judging the words may answer.
+use Rattle.std.specs.Borrow.{Bor}
 use Rattle.std.specs.Fmt.{decimal}
-use Rattle.std.specs.Prelude.{◌≡◌, ◌≢◌, ◌≤◌, ℕ, List, [], ◌∷◌, ◌++◌, All, flat_map, filter, filter_map, Bool, true, Option, Some, None, is_some, option_map, option_to_list, codes, if◌then◌else◌}
-use Rattle.mg_words.specs.declared.words.Asked.{Asked as Kept}
-use Rattle.mg_words.specs.Words.{Word, Asked, Command, Translate, Conform, Check, Compile, Run, IsCommand, AreWrong, RunOption, Main, Steps, Trace, Out, option_words, IsOption, class_in, steps_in, is_trace, folder_in}
+use Rattle.std.specs.Prelude.{◌≡◌, ◌≢◌, ◌≤◌, ℕ, List, [], ◌∷◌, ◌++◌, All, Contains, map, flat_map, filter, filter_map, Bool, true, false, ◌&&◌, not, ◌==◌, Option, Some, None, IfSome, is_some, option_map, option_to_list, codes, if◌then◌else◌}
+use Rattle.std.specs.List.{IsDistinct, list_any, list_all, slice_split, before_first, after_first}
+use Rattle.std.specs.Str.{bytes_eq}
+use Rattle.mg_words.specs.declared.asked.Asked.{Asked as Kept}
+use Rattle.mg_words.specs.declared.asked.RoleClass.{RoleClass as KeptRole}
+use Rattle.mg_words.specs.Words.{Word, RoleClass, Roles, Alone, Several, role_names, Asked, Command, Translate, Conform, Check, Compile, Run, IsCommand, AreWrong, RunOption, Main, Role, Order, Steps, Trace, Out, option_words, IsOption, class_in, role_in, order_in, steps_in, is_trace, folder_in, AreOptions}
 use Rattle.mg_words.specs.declared.words.Command.{Command as Found}
 use Rattle.mg_words.specs.declared.words.Command.TheVariants as found
 use Rattle.mg_words.specs.declared.words.Judged.{Judged}
 use Rattle.mg_words.specs.declared.words.Judged.TheVariants as judged
-use Rattle.mg_words.specs.declared.runs.Options.{Options}
-use Rattle.mg_words.specs.declared.runs.Named.{Named}
-use Rattle.mg_words.specs.declared.runs.Named.TheVariants as named
-use Rattle.mg_words.specs.declared.runs.Step.{Step}
-use Rattle.mg_words.specs.declared.runs.Step.TheVariants as step
+use Rattle.mg_words.specs.declared.roles.RoleWord.{RoleWord}
+use Rattle.mg_words.specs.declared.options.Named.{Named}
+use Rattle.mg_words.specs.declared.options.Named.TheVariants as named
+use Rattle.mg_words.specs.declared.options.Step.{Step}
+use Rattle.mg_words.specs.declared.options.Step.TheVariants as step
+
+-- the role and the class that a word names, with the first "=" between them
+abbrev pub role_read : Word → RoleClass
+role_read word = record { role = before_first (λ b. b == 61) word; class = after_first (λ b. b == 61) word }
+
+-- the role that a word names together with the one behind it
+abbrev pub roles_at : Word → List Word → List RoleClass
+roles_at word [] = []
+roles_at word (value ∷ rest) = if bytes_eq word (codes "--role") then role_read value ∷ [] else []
+
+-- the roles that the words of options name
+abbrev pub roles_in : List Word → List RoleClass
+roles_in [] = []
+roles_in (word ∷ rest) = roles_at word rest ++ roles_in rest
+
+-- the names that a word names, with "," between them
+abbrev pub names_in : Word → List Word
+names_in = slice_split (λ b. b == 44)
+
+-- the same of what is left of a word, if anything is
+abbrev pub names_left : Option (Bor Word) → List Word
+names_left None = []
+names_left (Some word) = names_in word.now
+
+abbrev pub has_name : List Word → Word → Bool
+has_name names name = list_any (bytes_eq name) names
+
+-- the roles that run: those that were named, or that of a class
+abbrev pub roles_with : Option Word → List RoleClass → Roles
+roles_with None roles = Several roles
+roles_with (Some class) roles = Alone class
+
+-- what a run is asked for, where its words name these roles
+abbrev pub asked_with : List RoleClass → Kept → Asked
+asked_with roles a = record {
+  roles = roles_with (option_map (λ w. w.now) a.class) roles;
+  order = option_map (λ w. names_in w.now) a.order;
+  steps = a.steps;
+  traced = a.traced;
+  folder = option_map (λ w. w.now) a.folder;
+}
 
 -- what a run is asked for
 abbrev pub asked_of : Kept → Asked
-asked_of a = record { class = a.class.now; steps = a.steps; traced = a.traced; folder = option_map (λ w. w.now) a.folder }
+asked_of a = asked_with (roles_in a.words.now) a
+
+-- some words ask for this
+abbrev pub IsAsked : Asked → Type 0
+IsAsked asked = (words : List Word) × AreOptions asked words
+
+abbrev pub role_class_of : KeptRole → RoleClass
+role_class_of r = record { role = r.role; class = r.class }
+
+abbrev pub role_classes_of : List KeptRole → List RoleClass
+role_classes_of = map role_class_of
+
+abbrev pub role_word_of : RoleWord → RoleClass
+role_word_of r = record { role = r.role.now; class = r.class.now }
 
 -- the command that was found
 abbrev pub command_of : Found → Command
@@ -50,34 +108,54 @@ abbrev pub StartsNumber : Word → Type 0
 StartsNumber [] = ⊥
 StartsNumber (c ∷ cs) = (49 ≤ c) × (c ≤ 57)
 
--- what the options of a run name, so far
-pub record Given : Type 0 where
-  pub class : Option Word
-  pub steps : Option ℕ
-  pub traced : Bool
-  pub folder : Option Word
+-- nothing is asked for
+abbrev pub unasked : Asked
+unasked = record { roles = Several []; order = None; steps = None; traced = false; folder = None }
 
-abbrev pub given_of : Options → Given
-given_of o = record { class = option_map (λ w. w.now) o.class; steps = o.steps; traced = o.traced; folder = option_map (λ w. w.now) o.folder }
+-- what options ask for of roles so far, where more may follow: an order names each role so far
+abbrev pub NamesEach : Option (List Word) → List RoleClass → Type 0
+NamesEach order roles = IfSome order (λ names. All (Contains names) (role_names roles))
 
--- these options name this
-pub record AreGiven (order : List RunOption) (given : Given) : Type 0 where
-  pub right : All IsOption order
-  pub class : filter_map class_in order ≡ option_to_list given.class
-  pub steps : filter_map steps_in order ≡ option_to_list given.steps
-  pub traced : filter is_trace order ≡ (if given.traced then Trace ∷ [] else [])
-  pub folder : filter_map folder_in order ≡ option_to_list given.folder
+abbrev pub AreRolesSoFar : Roles → Option (List Word) → List RunOption → Type 0
+AreRolesSoFar (Alone class) order options =
+    (filter_map class_in options ≡ class ∷ []) × (filter_map role_in options ≡ []) × (order ≡ None)
+AreRolesSoFar (Several roles) order options =
+    (filter_map class_in options ≡ []) × (filter_map role_in options ≡ roles) × IsDistinct bytes_eq (role_names roles)
+    × NamesEach order roles
 
--- the words are such options, and the rest
-abbrev pub AreRead : List Word → Given → List Word → Type 0
-AreRead words given rest = (order : List RunOption) × (words ≡ flat_map option_words order ++ rest) × AreGiven order given
+-- these options ask for this so far
+pub record AreGiven (options : List RunOption) (asked : Asked) : Type 0 where
+  pub right : All IsOption options
+  pub roles : AreRolesSoFar asked.roles asked.order options
+  pub order : filter_map order_in options ≡ option_to_list asked.order
+  pub steps : filter_map steps_in options ≡ option_to_list asked.steps
+  pub traced : filter is_trace options ≡ (if asked.traced then Trace ∷ [] else [])
+  pub folder : filter_map folder_in options ≡ option_to_list asked.folder
+
+-- the words are options that ask for this, and the rest
+pub record AreRead (words : List Word) (given : Kept) (rest : List Word) : Type 0 where
+  pub options : List RunOption
+  pub stand : words ≡ flat_map option_words options ++ rest
+  pub kept : given.words.now ≡ flat_map option_words options
+  pub asks : AreGiven options (asked_of given)
 
 -- the word of an option
 abbrev pub word_of : Named → Word
 word_of named.Main = codes "--main"
+word_of named.Role = codes "--role"
+word_of named.Order = codes "--order"
 word_of named.Steps = codes "--steps"
 word_of named.Trace = codes "--trace"
 word_of named.Out = codes "--out"
+
+-- which option it is
+abbrev pub kind_of : RunOption → Named
+kind_of (Main class) = named.Main
+kind_of (Role r) = named.Role
+kind_of (Order names) = named.Order
+kind_of (Steps n) = named.Steps
+kind_of Trace = named.Trace
+kind_of (Out folder) = named.Out
 
 -- the option that a word is
 abbrev pub IsNamed : Word → Option Named → Type 0
@@ -88,39 +166,114 @@ IsNamed word None = (option : Named) → word ≡ word_of option → ⊥
 abbrev pub IsPlain : List Word → Type 0
 IsPlain words = (option : Named) (rest : List Word) → words ≡ word_of option ∷ rest → ⊥
 
--- an option was named before
-abbrev pub is_given : Given → Named → Bool
-is_given given named.Main = is_some given.class
-is_given given named.Steps = is_some given.steps
-is_given given named.Trace = given.traced
-is_given given named.Out = is_some given.folder
+-- no role of this name was named, and no class alone
+abbrev pub IsNewRole : Roles → Word → Type 0
+IsNewRole (Alone class) name = ⊥
+IsNewRole (Several roles) name = Contains (role_names roles) name → ⊥
 
--- what is named with one more option
-abbrev pub with_more : RunOption → Given → Given
-with_more (Main class) given = record { class = Some class; steps = given.steps; traced = given.traced; folder = given.folder }
-with_more (Steps n) given = record { class = given.class; steps = Some n; traced = given.traced; folder = given.folder }
-with_more Trace given = record { class = given.class; steps = given.steps; traced = true; folder = given.folder }
-with_more (Out folder) given = record { class = given.class; steps = given.steps; traced = given.traced; folder = Some folder }
+-- no class alone was named, and these names are those of each role so far
+abbrev pub AreAllNamed : Roles → List Word → Type 0
+AreAllNamed (Alone class) names = ⊥
+AreAllNamed (Several roles) names = All (Contains names) (role_names roles)
 
--- no option of this word has this value
-abbrev pub IsNoValue : Named → Word → Type 0
-IsNoValue option value = (full : RunOption) → option_words full ≡ word_of option ∷ value ∷ [] → IsOption full → ⊥
+-- this can be asked for too
+abbrev pub IsNew : RunOption → Asked → Type 0
+IsNew (Main class) asked = (asked.roles ≡ Several []) × (asked.order ≡ None)
+IsNew (Role r) asked = IsNewRole asked.roles r.role × IfSome asked.order (λ names. Contains names r.role)
+IsNew (Order names) asked = AreAllNamed asked.roles names × (asked.order ≡ None)
+IsNew (Steps n) asked = asked.steps ≡ None
+IsNew Trace asked = asked.traced ≡ false
+IsNew (Out folder) asked = asked.folder ≡ None
 
--- what is named with an option of this word and this value, if there is one
-abbrev pub IsWith : Given → Named → Word → Option Given → Type 0
-IsWith given option value (Some more) =
-    (full : RunOption) × (option_words full ≡ word_of option ∷ value ∷ []) × IsOption full × (more ≡ with_more full given)
-IsWith given option value None = IsNoValue option value
+-- this option can follow those that ask for this
+abbrev pub Fits : RunOption → Asked → Type 0
+Fits option asked = IsOption option × IsNew option asked
 
--- an option of this word was read, or its value is lacking, or can't be one
-abbrev pub IsStep : Given → Named → List Word → Step → Type 0
-IsStep given option words (step.More more rest) =
-    (full : RunOption) × (word_of option ∷ words ≡ option_words full ++ rest.now) × IsOption full × (given_of more ≡ with_more full given)
-IsStep given option words (step.Stuck None) = (option ≢ named.Trace) × (words ≡ [])
+-- a role of this name is wanted: an order, where there is one, names it
+abbrev pub is_wanted : Option (List Word) → Word → Bool
+is_wanted None name = true
+is_wanted (Some names) name = has_name names name
+
+-- some role may be named: an order, where there is one, names one that wasn't
+abbrev pub lacks_role : List Word → Option (List Word) → Bool
+lacks_role roles None = true
+lacks_role roles (Some names) = not (list_all (has_name roles) names)
+
+abbrev pub is_open : Roles → Option (List Word) → Bool
+is_open (Alone class) order = false
+is_open (Several roles) order = lacks_role (role_names roles) order
+
+abbrev pub has_none : List RoleClass → Bool
+has_none [] = true
+has_none (r ∷ rs) = false
+
+abbrev pub is_empty : Roles → Bool
+is_empty (Alone class) = false
+is_empty (Several roles) = has_none roles
+
+abbrev pub is_several : Roles → Bool
+is_several (Alone class) = false
+is_several (Several roles) = true
+
+-- whether an option of this word can follow: some such option fits
+abbrev pub can_follow : Asked → Named → Bool
+can_follow asked named.Main = is_empty asked.roles && not (is_some asked.order)
+can_follow asked named.Role = is_open asked.roles asked.order
+can_follow asked named.Order = is_several asked.roles && not (is_some asked.order)
+can_follow asked named.Steps = not (is_some asked.steps)
+can_follow asked named.Trace = not asked.traced
+can_follow asked named.Out = not (is_some asked.folder)
+
+-- whether the options can be all: a class was named, or a role, and each that an order names
+abbrev pub are_whole : Roles → Option (List Word) → Bool
+are_whole (Alone class) order = true
+are_whole (Several roles) None = not (has_none roles)
+are_whole (Several roles) (Some names) = list_all (has_name (role_names roles)) names
+
+-- what is asked for with one more option
+abbrev pub roles_more : Roles → RoleClass → Roles
+roles_more (Alone class) r = Alone class
+roles_more (Several roles) r = Several (roles ++ r ∷ [])
+
+abbrev pub with_more : RunOption → Asked → Asked
+with_more (Main class) asked = record asked { roles = Alone class }
+with_more (Role r) asked = record asked { roles = roles_more asked.roles r }
+with_more (Order names) asked = record asked { order = Some names }
+with_more (Steps n) asked = record asked { steps = Some n }
+with_more Trace asked = record asked { traced = true }
+with_more (Out folder) asked = record asked { folder = Some folder }
+
+-- the option and its value are these words, and it can follow
+pub record IsRead (full : RunOption) (asked : Asked) (option : Named) (words rest : List Word) : Type 0 where
+  pub spelled : word_of option ∷ words ≡ option_words full ++ rest
+  pub right : IsOption full
+  pub new : IsNew full asked
+
+-- with one more option of this word and these words behind it, what is asked for is this
+abbrev pub IsMore : Kept → Named → List Word → Kept → List Word → Type 0
+IsMore given option words more rest =
+    (full : RunOption) × IsRead full (asked_of given) option words rest
+    × (asked_with (roles_in given.words.now ++ filter_map role_in (full ∷ [])) more ≡ with_more full (asked_of given))
+
+-- no option of this word that can follow has this value
+abbrev pub IsNoValue : Asked → Named → Word → Type 0
+IsNoValue asked option value = (full : RunOption) → option_words full ≡ word_of option ∷ value ∷ [] → Fits full asked → ⊥
+
+-- what is asked for with an option of this word and this value, if it can follow
+abbrev pub IsWith : Kept → Named → Word → Option Kept → Type 0
+IsWith given option value (Some more) = IsMore given option (value ∷ []) more []
+IsWith given option value None = IsNoValue (asked_of given) option value
+
+-- an option of this word was read, or its value is lacking, or can't be one, or the option itself can't follow
+abbrev pub IsStep : Kept → Named → List Word → Step → Type 0
+IsStep given option words (step.More more rest) = IsMore given option words more rest.now
+IsStep given option words (step.Stuck None) = (can_follow (asked_of given) option ≡ true) × (option ≢ named.Trace) × (words ≡ [])
 IsStep given option words (step.Stuck (Some value)) =
-    (option ≢ named.Trace) × (rest : List Word) × (words ≡ value.now ∷ rest) × IsNoValue option value.now
+    (can_follow (asked_of given) option ≡ true) × (option ≢ named.Trace)
+    × ((rest : List Word) × (words ≡ value.now ∷ rest) × IsNoValue (asked_of given) option value.now)
+IsStep given option words step.Barred = can_follow (asked_of given) option ≡ false
 
--- what the words are, where these files stand behind options that name this
-abbrev pub IsRunnable : Given → List Word → Judged → Type 0
-IsRunnable given files result =
-    (order : List RunOption) → AreGiven order given → IsJudged (codes "run" ∷ (flat_map option_words order ++ files)) result
+-- what the words are, where these files stand behind options that ask for this
+abbrev pub IsRunnable : Asked → List Word → Judged → Type 0
+IsRunnable asked files result =
+    (options : List RunOption) → AreGiven options asked → IsJudged (codes "run" ∷ (flat_map option_words options ++ files)) result

@@ -1,5 +1,5 @@
 use Rattle.std.proofs.Common.{◌≡◌, ℕ, ◌+◌, length}
-use Rattle.mg_trace.specs.Kept.{known_at}
+use Rattle.mg_trace.specs.inner.Kept.{known_at}
 use Rattle.mg_trace.proofs.objects.pad.Given as goal
 
 abbrev pub invariant-loop : goal.invariant-loop

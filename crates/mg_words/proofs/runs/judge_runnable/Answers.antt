@@ -1,17 +1,18 @@
-use Rattle.std.proofs.Common.{ap}
-use Rattle.std.specs.Prelude.{option_map}
-use Rattle.mg_words.specs.inner.Judging.{given_of}
-use Rattle.mg_words.proofs.RunLemmas.{lacks_class_first, wrong_file_at, runnable_at}
+use Rattle.std.proofs.Common.{sym}
+use Rattle.mg_words.specs.inner.Judging.{asked_of}
+use Rattle.mg_words.proofs.CodeLemmas.{lacks_first, wrong_file_at, runnable_at}
 use Rattle.mg_words.proofs.runs.judge_runnable.Goals as goal
 
-pub returns-in_default : goal.returns-in_default
-returns-in_default c =
-    lacks_class_first (given_of c.args.options) c.args.files.now c.first.result c.first.ensures.value c.requires.some c.requires.plain (ap (option_map (λ w. w.now)) c.in_default.is)
+pub returns-then-not-is_whole : goal.returns-then-not-is_whole
+returns-then-not-is_whole c =
+    lacks_first (asked_of c.args.asked) c.args.files.now c.first.result c.first.ensures.value c.requires.some c.requires.plain
+    (sym c.if-not-is_whole.ensures)
 
-pub returns-in-Some-other_source : goal.returns-in-Some-other_source
-returns-in-Some-other_source c =
-    wrong_file_at (given_of c.args.options) c.in-Some.class.now c.args.files.now _ (ap (option_map (λ w. w.now)) c.in-Some.is) c.requires.plain c.in-Some-other_source.ensures
+pub returns-in-Some : goal.returns-in-Some
+returns-in-Some c =
+    wrong_file_at (asked_of c.args.asked) c.args.files.now c.in-Some.word.now (sym c.if-not-is_whole.ensures) c.requires.plain
+    c.in-Some.ensures
 
 pub returns : goal.returns
 returns c =
-    runnable_at (given_of c.args.options) c.in-Some.class.now c.args.files.now (ap (option_map (λ w. w.now)) c.in-Some.is) c.requires.some c.in_default-other_source.ensures
+    runnable_at (asked_of c.args.asked) c.args.files.now (sym c.if-not-is_whole.ensures) c.requires.some c.in_default.ensures

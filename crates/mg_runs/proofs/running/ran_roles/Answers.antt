@@ -1,0 +1,45 @@
+use Rattle.std.proofs.Common.{rules}
+use Rattle.std.proofs.lemmas.Result.{err_from_is_err_and}
+use Rattle.mg_sources.specs.Files.{sources}
+use Rattle.jv_core.specs.Core.{tree_of}
+use Rattle.vm_world_law.proofs.Lists.{got_within}
+use Rattle.mg_runs.proofs.Shown.{run_unaccepted, run_no_main, run_exceeded, shown}
+use Rattle.mg_runs.proofs.running.ran_roles.Goals as goal
+
+pub returns-in_err-program : goal.returns-in_err-program
+returns-in_err-program c =
+    let e = err_from_is_err_and c.from_residual.result c.from_residual.ensures.1 in
+    rw (e.1, e.2)
+    (run_unaccepted (sources c.args.names.now c.args.contents.now) c.args.mains.now c.args.order.now c.args.limit c.args.named c.args.traced _
+    c.in_err-program.ensures.answered)
+
+pub bounds-mains-number : goal.bounds-mains-number
+bounds-mains-number c = got_within c.args.mains.now c.in-Some.number c.in-Some.ensures.main c.in-Some.ensures.is
+
+pub offset_bounds-mains-number : goal.offset_bounds-mains-number
+offset_bounds-mains-number c = let within = bounds-mains-number c in search rules
+
+pub returns-in-Some : goal.returns-in-Some
+returns-in-Some c =
+    let files = sources c.args.names.now c.args.contents.now in
+    run_no_main files c.args.mains.now c.args.order.now c.args.limit c.args.named c.args.traced (tree_of c.in_ok-program.program.core) c.in-Some.number
+    _ c.no_main.result c.in_ok-program.ensures.answered.files_are c.in-Some.ensures c.no_main.ensures
+
+pub returns-in_err-files : goal.returns-in_err-files
+returns-in_err-files c =
+    let e = err_from_is_err_and c.from_residual-in_err-files.result c.from_residual-in_err-files.ensures.1 in
+    rw (e.1, e.2)
+    (run_exceeded c.args.names.now c.args.contents.now c.args.mains.now c.args.order.now c.args.limit c.args.named c.args.traced
+    (tree_of c.in_ok-program.program.core) _ c.requires.same c.in_ok-program.ensures.answered.files_are c.in-None.ensures c.in_err-files.ensures)
+
+pub returns-in_err-ran : goal.returns-in_err-ran
+returns-in_err-ran c =
+    let e = err_from_is_err_and c.from_residual-in_err-ran.result c.from_residual-in_err-ran.ensures.1 in
+    rw (e.1, e.2) tt
+
+pub returns : goal.returns
+returns c =
+    let files = sources c.args.names.now c.args.contents.now in
+    shown files c.args.mains.now c.args.order.now c.args.limit c.args.named c.args.traced c.roles_are_meant.ensures c.roles_keep.ensures
+    c.protocols_agree.ensures (tree_of c.in_ok-program.program.core) c.in_ok-files.files.items c.in_ok-ran.ran
+    c.in_ok-program.ensures.answered.files_are c.in-None.ensures c.in_ok-files.ensures c.in_ok-ran.ensures

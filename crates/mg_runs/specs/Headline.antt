@@ -1,0 +1,98 @@
+-- The headline: how several roles run the program that some files are. Each role's run of the class bytes has the events and the ending of the
+-- source's meaning on the messages that were sent to it, and keeps to the typestates.
+use Rattle.std.specs.Prelude.{◌≡◌, ◌≢◌, ℕ, List, map, Some, slice_get, Contains}
+use Rattle.mg_text.specs.declared.event.Ending.TheVariants as endings
+use Rattle.scr_tree.specs.Tree.{LocalTree}
+use Rattle.scr_tree.specs.Meaning.{protocol_of}
+use Rattle.stm_gen.specs.Numbered.{typestate_of}
+use Rattle.stm_gen.specs.Agreement.{Agrees}
+use Rattle.jv_mean.specs.Values.{Inputs}
+use Rattle.jv_meaning.specs.Calls.{Follows, Finished}
+use Rattle.jv_meaning.specs.Meaning.{mean}
+use Rattle.jv_rules.specs.Program.{Program as Sources}
+use Rattle.jv_core.specs.Tree as Core
+use Rattle.use_meant_law.specs.Laws.{KeepsTo}
+use Rattle.mg_sources.specs.Files.{Source}
+use Rattle.mg_sources.specs.Reading.{Protocol, Reads}
+use Rattle.mg_accepted.specs.Accepted.{AreAccepted}
+use Rattle.mg_compile.specs.declared.files.ClassFile.{ClassFile}
+use Rattle.mg_compile.specs.Files.{AreClassFiles}
+use Rattle.vm_model.specs.Program.{Program}
+use Rattle.vm_model.specs.Machine.{Machine}
+use Rattle.vm_model.specs.Start.{IsStart}
+use Rattle.vm_world_law.specs.declared.role.RoleMain.{RoleMain}
+use Rattle.vm_world_law.specs.World.{Over, Role, World, turns, IsBegun, events_of}
+use Rattle.vm_world_law.specs.Turns as turning
+use Rattle.vm_world_law.specs.Laws.{Delivers, OrderIsFreeFrom}
+use Rattle.world_meant_law.specs.Worlds.{IsMeant, DoesAsMeant}
+use Rattle.mg_runs.specs.Runs.{IsLoaded, HaveMains}
+
+-- the core of the program, its class files, the program that is linked of their bytes, and the world before the first turn and at the stop
+pub record Course : Type 0 where
+  pub core : Core.Program
+  pub written : List ClassFile
+  pub program : Program
+  pub first : World
+  pub last : World
+
+-- The roles at a moment, which run these sources.
+pub record AreMeant (sources : Sources) (mains : List RoleMain) (program : Program) (w : World) : Type 0 where
+  -- what a role took from another is a prefix of what that sent to it, and the list between them is the rest
+  pub delivers : Delivers w
+  -- each has the events and the ending or the wait of the meaning of its class, on the messages that were sent to it
+  pub each : (r : ℕ) (main : RoleMain) → slice_get mains r ≡ Some main →
+      (role : Role) × (slice_get w.roles r ≡ Some role) × IsMeant program (mean sources.files main.class) w r role
+
+-- The machine of each role, which begins at the `main` of its class, does all that is meant, and nothing else, on lists that hold what
+-- the others sent, whatever that is.
+abbrev pub DoAsMeant : Sources → List RoleMain → Program → Type 0
+DoAsMeant sources mains program = (r : ℕ) (main : RoleMain) → slice_get mains r ≡ Some main → (start : Machine) → IsStart program main.class start →
+    DoesAsMeant program r start (mean sources.files main.class)
+
+-- A role at a moment keeps to the typestates of its sources.
+pub record Keeps (sources : Sources) (w : World) (r : ℕ) (role : Role) : Type 0 where
+  -- no null was dereferenced
+  pub no_null : role.state ≢ Over endings.Null
+  -- the calls of each object that it made are a path of its class's typestate; the last may still be open
+  pub follows : Follows sources.files sources.typestates (events_of r w.events)
+  -- where it returned it has left every object at its end
+  pub finished : role.state ≡ Over endings.Done → Finished sources.files sources.typestates (events_of r w.events)
+
+-- Each role does.
+abbrev pub EachKeeps : Sources → List RoleMain → World → Type 0
+EachKeeps sources mains w = (r : ℕ) (main : RoleMain) (role : Role) → slice_get mains r ≡ Some main → slice_get w.roles r ≡ Some role →
+    Keeps sources w r role
+
+-- No meaning of the class of a role dereferences a null or goes wrong, whatever the others send and whatever the budget, and each keeps to
+-- the typestates.
+abbrev pub MeaningsKeep : Sources → List RoleMain → Type 0
+MeaningsKeep sources mains = (r : ℕ) (main : RoleMain) → slice_get mains r ≡ Some main → (inputs : Inputs) (budget : ℕ) →
+    KeepsTo sources (mean sources.files main.class inputs budget)
+
+-- The typestate of each protocol of these files allows exactly the traces of the protocol, and ends exactly where it is complete.
+abbrev pub ProtocolsAgree : List Source → Type 0
+ProtocolsAgree files = (source : Source) (local : LocalTree) → Contains files source → Reads source (Protocol local) →
+    Agrees local.me (protocol_of local) (typestate_of local)
+
+-- These files are an accepted program, and the run of these roles, in this order of turns, up to so many instructions, is this one.
+pub record IsRun (files : List Source) (mains : List RoleMain) (order : List ℕ) (limit : ℕ) (run : Course) : Type 0 where
+  -- the files are accepted
+  pub accepted : AreAccepted files run.core
+  pub have_mains : HaveMains run.core mains
+  -- the class bytes are those of the program, and they are read back and linked
+  pub class_files : AreClassFiles run.core run.written
+  pub loaded : IsLoaded (map (λ f. f.bytes) run.written) run.program
+  -- each role begins at the `main` of its class
+  pub begins : IsBegun run.program mains run.first
+  -- the turns are in this order, up to the first moment at which every role has ended or waits, or so many instructions were counted
+  pub runs : turning.IsRun run.program run.first order limit run.last
+  -- after every list of turns each role did what is meant, on the messages that were sent to it
+  pub meant : (taken : List ℕ) → AreMeant accepted.have.program mains run.program (turns run.program run.first taken)
+  pub does : DoAsMeant accepted.have.program mains run.program
+  -- and keeps to the typestates: no null is dereferenced, the calls of each object are a path, and a role that returns leaves each at its end
+  pub keep : (taken : List ℕ) → EachKeeps accepted.have.program mains (turns run.program run.first taken)
+  pub meanings : MeaningsKeep accepted.have.program mains
+  -- turn orders don't matter: those that come to rest come to the same, and others show a part of it
+  pub orders : OrderIsFreeFrom run.program run.first
+  -- the typestates of the protocols allow exactly the protocols' traces
+  pub protocols : ProtocolsAgree files
