@@ -10,7 +10,7 @@ mod ran;
 mod running;
 
 pub use laws::{
-    protocols_agree, roles_are_meant, roles_keep, runs_are_meant, written_classes_link,
+    protocols_agree, roles_are_meant, roles_keep, roles_play, runs_are_meant, written_classes_link,
 };
 pub use ran::Ran;
 pub use running::run_roles;

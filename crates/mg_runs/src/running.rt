@@ -15,7 +15,7 @@ ghost use Rattle.mg_runs.specs.Runs.{HaveMains, names_of};
 ghost use Rattle.mg_runs.specs.View.{IsRunning, IsThatRun};
 ghost use Rattle.mg_runs.specs.inner.Going.{IsOrder, IsRunOf, told};
 
-use crate::laws::{protocols_agree, roles_are_meant, roles_keep, runs_are_meant};
+use crate::laws::{protocols_agree, roles_are_meant, roles_keep, roles_play, runs_are_meant};
 use crate::loading::load_back;
 use crate::mains::first_without;
 use crate::ran::Ran;
@@ -84,6 +84,7 @@ fn ran_roles(
 {
     roles_are_meant();
     roles_keep();
+    roles_play();
     protocols_agree();
     let program = accept(alloc, names, contents)?;
     match first_without(&program.core, mains) {
