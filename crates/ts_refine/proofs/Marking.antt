@@ -1,6 +1,6 @@
 -- Numbers tell pairs apart, and marks by them tell which pairs were met.
 use Rattle.std.proofs.Common.{◌≡◌, ◌≢◌, ℕ, zero, suc, ◌+◌, ◌*◌, ◌^◌, ◌<◌, ◌≤◌, Bool, true, false, List, [], ◌∷◌, ◌++◌, length, get_or, map, replicate, Option, Some, None, option_map, option_and_then, if◌then◌else◌, refl, sym, ap, subst, ◌∙◌, arith, inl, inr, ◌⊎◌}
-use Rattle.std.specs.Prelude.{nat_lt, slice_get, slice_set, Contains}
+use Rattle.std.specs.Prelude.{nat_lt, slice_get, slice_set, Contains, IfSome}
 use Rattle.std.proofs.lemmas.Bool.{false≢true, cases_eq, cases_lt, ltb-true}
 use Rattle.std.proofs.lemmas.Option.{none-some, option_and_then_some, slice_get-get_or}
 use Rattle.std.proofs.lemmas.List.{get_or-set_same, get_or-set_other, get_or-replicate, get_or_past, length-append}
@@ -11,7 +11,7 @@ use Rattle.ts_tree.specs.declared.parts.To.TheVariants as tos
 use Rattle.ts_refine.specs.declared.verdict.Pair.{Pair}
 use Rattle.ts_refine.specs.declared.search.Met.{Met}
 use Rattle.ts_refine.specs.inner.Judging.{same_pair, holds}
-use Rattle.ts_refine.specs.inner.Marking.{place_number, number, AreMarked, AreRooted, IsSearch}
+use Rattle.ts_refine.specs.inner.Marking.{place_number, number, marked, AreMarked, AreRooted, IsSearch}
 use Rattle.ts_refine.proofs.Relating.{some_is}
 use Rattle.ts_refine.proofs.Closing.{same_pair-self, same_pair-sound}
 use Rattle.ts_refine.proofs.Seeking.{get-push}
@@ -160,6 +160,12 @@ search-past a b marks ms news m o s fine is of none = subst (IsSearch a b marks)
   marked = subst (AreMarked (number a b) marks) (sym (pairs-met ms m)) (marked-past (number a b) marks (map (λ (m : Met). m.pair) ms) m.pair s.marked (sym of ∙ none));
   rooted = rooted-more ms m s.rooted fine;
 })
+
+pub search-kept : (a b : ℕ) (marks news_marks : List Bool) (ms news : List Met) (m : Met) (o : Option ℕ) → IsSearch a b marks ms → (0 < length ms → m.parent < length ms) → news ≡ ms ++ m ∷ [] → o ≡ number a b m.pair → IfSome o (λ n. n < (a + 1) * (b + 1)) → news_marks ≡ marked marks o → IsSearch a b news_marks news
+search-kept a b marks news_marks ms news m o s fine is of bound e = subst (λ (z : List Bool). IsSearch a b z news) (sym e) (go o of bound) where
+  go : (o : Option ℕ) → o ≡ number a b m.pair → IfSome o (λ n. n < (a + 1) * (b + 1)) → IsSearch a b (marked marks o) news
+  go (Some i) of lt = search-more a b marks ms news m (Some i) i s fine is of refl (subst (λ w. i < w) (sym s.wide) lt)
+  go None of lt = search-past a b marks ms news m None s fine is of refl
 
 -- what is marked was met
 pub marked-is : (a b : ℕ) (marks : List Bool) (ms : List Met) (pair : Pair) (o : Option ℕ) (i : ℕ) → IsSearch a b marks ms → o ≡ number a b pair → o ≡ Some i → has marks i ≡ holds (map (λ (m : Met). m.pair) ms) pair

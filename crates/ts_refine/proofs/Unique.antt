@@ -19,7 +19,7 @@ use Rattle.ts_refine.proofs.Relating.{same_name, name_is, some_is, offered_at-is
 use Rattle.ts_refine.proofs.Ordering.{before-trans}
 
 -- ---- as many pairs
-without : ℕ → List Pair → List Pair
+abbrev without : ℕ → List Pair → List Pair
 without k [] = []
 without zero (y ∷ ys) = ys
 without (suc k) (y ∷ ys) = y ∷ without k ys
@@ -82,17 +82,17 @@ within (y ∷ names) x c =
 
 one_place : (names : List Name) (x y : Name) → Contains names x → Contains names y → place_of names x ≡ place_of names y → x ≡ y
 one_place [] x y c d e = absurd (omega (arith, c.1))
-one_place (z ∷ names) x y c d e = go (bytes_eq z x) refl (bytes_eq z y) refl e where
+one_place (z ∷ names) x y c d e = go (bytes_eq z x) refl (bytes_eq z y) refl e (one_place names x y) where
   left : (n : Name) → bytes_eq z n ≡ false → Contains (z ∷ names) n → Contains names n
   left n f c = elim (first_or_behind z names n c) [ inl is ↦ absurd (yes_no (sym (name_is z) ∙ ap (bytes_eq z) is ∙ f)) | inr more ↦ more ] where
     yes_no : true ≡ false → ⊥
     yes_no h = absurd cc
 
-  go : (s : Bool) → bytes_eq z x ≡ s → (t : Bool) → bytes_eq z y ≡ t → (if s then 0 else suc (place_of names x)) ≡ (if t then 0 else suc (place_of names y)) → x ≡ y
-  go true f true g e = sym (same_name z x f) ∙ same_name z y g
-  go true f false g e = absurd (omega (arith, e))
-  go false f true g e = absurd (omega (arith, e))
-  go false f false g e = one_place names x y (left x f c) (left y g d) (omega (arith, e))
+  go : (s : Bool) → bytes_eq z x ≡ s → (t : Bool) → bytes_eq z y ≡ t → (if s then 0 else suc (place_of names x)) ≡ (if t then 0 else suc (place_of names y)) → (Contains names x → Contains names y → place_of names x ≡ place_of names y → x ≡ y) → x ≡ y
+  go true f true g e rest = sym (same_name z x f) ∙ same_name z y g
+  go true f false g e rest = absurd (omega (arith, e))
+  go false f true g e rest = absurd (omega (arith, e))
+  go false f false g e rest = rest (left x f c) (left y g d) (omega (arith, e))
 
 -- the method of a reason is one of these
 abbrev IsAmong : List Name → Reason → Type 0

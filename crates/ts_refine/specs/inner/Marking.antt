@@ -1,5 +1,5 @@
 -- Pairs of places by numbers, and tables of marks by such numbers.
-use Rattle.std.specs.Prelude.{◌≡◌, ℕ, ◌+◌, ◌*◌, ◌^◌, ◌<◌, Bool, List, length, map, Option, Some, None, option_map, option_and_then, slice_get, nat_lt, if◌then◌else◌}
+use Rattle.std.specs.Prelude.{◌≡◌, ℕ, ◌+◌, ◌*◌, ◌^◌, ◌<◌, Bool, List, length, map, Option, Some, None, option_map, option_and_then, slice_get, slice_set, nat_lt, true, if◌then◌else◌}
 use Rattle.mg_sets.specs.Sets.{has}
 use Rattle.ts_tree.specs.declared.parts.To.{To}
 use Rattle.ts_tree.specs.declared.parts.To.TheVariants as tos
@@ -19,6 +19,11 @@ number a b pair = option_and_then (λ i. option_map (λ j. i * (b + 1) + j) (pla
 -- each pair of a number is marked where it is among these
 pub record AreMarked (slot : Pair → Option ℕ) (marks : List Bool) (pairs : List Pair) : Type 0 where
   pub each : (pair : Pair) (i : ℕ) → slot pair ≡ Some i → has marks i ≡ holds pairs pair
+
+-- the marks, with that of a number, if there is one
+abbrev pub marked : List Bool → Option ℕ → List Bool
+marked marks None = marks
+marked marks (Some n) = slice_set marks n true
 
 -- each but the first was met from an earlier one
 pub record AreRooted (ms : List Met) : Type 0 where
