@@ -1,0 +1,5 @@
+use Rattle.ts_refine.proofs.Offering.{stood}
+use Rattle.ts_refine.proofs.places.Places.place_in.Goals as goal
+
+pub returns-then-stands_at : goal.returns-then-stands_at
+returns-then-stands_at c = stood c.args.methods.now _ c.args.name.now c.stands_at.result c.requires c.stands_at.ensures c.if-stands_at.true
