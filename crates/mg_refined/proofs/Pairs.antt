@@ -1,7 +1,8 @@
 -- Two files of typestates spell two typestates.
 use Rattle.std.proofs.Common.{arith, ◌≡◌, ℕ, suc, ◌<◌, Bool, List, [], ◌∷◌, ◌++◌, length, map, codes, Option, Some, None, Result, Ok, Err, slice_get, refl, sym, ap, ◌∙◌, subst}
-use Rattle.std.specs.Prelude.{All, Contains}
+use Rattle.std.specs.Prelude.{All, Contains, IfOk}
 use Rattle.std.proofs.lemmas.List.Elements.{All-contains, All-weaker}
+use Rattle.mg_text.specs.declared.memory.Memory.{Memory}
 use Rattle.ts_tree.specs.Typestate.{Typestate}
 use Rattle.ts_tree.proofs.Leading.{here as first_of, behind as later_of}
 use Rattle.mg_sources.specs.Files.{Source, source_of, sources, EndsWith, Kind, Typestates, suffix_of, HaveKinds}
@@ -75,3 +76,18 @@ first_there parts a b e = ap (λ (ps : List Part). slice_get ps 0) e
 
 pub second_there : (parts : List Part) (a b : Typestate) → parts ≡ States a ∷ States b ∷ [] → slice_get parts 1 ≡ Some (States b)
 second_there parts a b e = ap (λ (ps : List Part). slice_get ps 1) e
+
+abbrev state_in : Typestate → Option Part → Typestate
+state_in d None = d
+state_in d (Some (Protocol local)) = d
+state_in d (Some (States t)) = t
+state_in d (Some (Classes file)) = d
+
+-- what is told of the typestates that stand there is told of these two
+pub told_same : (parts : List Part) (x y : Typestate) (r : Result Told Memory) → slice_get parts 0 ≡ Some (States x) → slice_get parts 1 ≡ Some (States y) → IfOk r (λ t. Tells x y t.text t.stands)
+    → IfOk r (λ t. (a b : Typestate) → parts ≡ States a ∷ States b ∷ [] → Tells a b t.text t.stands)
+told_same parts x y (Ok t) f s k = λ a b e.
+    let one : x ≡ a = ap (state_in x) (sym f ∙ first_there parts a b e) in
+    let two : y ≡ b = ap (state_in y) (sym s ∙ second_there parts a b e) in
+    subst (λ (b : Typestate). Tells a b t.text t.stands) two (subst (λ (a : Typestate). Tells a y t.text t.stands) one k)
+told_same parts x y (Err e) f s k = tt

@@ -3,7 +3,7 @@ use Rattle.std.proofs.Common.{◌≡◌, ◌≢◌, ℕ, zero, suc, ◌+◌, ◌
 use Rattle.std.specs.Prelude.{nat_lt, slice_get, slice_set, Contains, IfSome}
 use Rattle.std.proofs.lemmas.Bool.{false≢true, cases_eq, cases_lt, ltb-true}
 use Rattle.std.proofs.lemmas.Option.{none-some, option_and_then_some, slice_get-get_or}
-use Rattle.std.proofs.lemmas.List.{get_or-set_same, get_or-set_other, get_or-replicate, get_or_past, length-append}
+use Rattle.std.proofs.lemmas.List.{get_or-set_same, get_or-set_other, length-append}
 use Rattle.std.proofs.lemmas.Nat.{same_from_place}
 use Rattle.mg_sets.specs.Sets.{has}
 use Rattle.ts_tree.specs.declared.parts.To.{To}
@@ -17,7 +17,7 @@ use Rattle.ts_refine.proofs.Closing.{same_pair-self, same_pair-sound}
 use Rattle.ts_refine.proofs.Seeking.{get-push}
 
 -- ---- numbers
-if_some : {X : Type 0} (t : Bool) (x i : X) → (if t then Some x else None) ≡ Some i → (t ≡ true) × (x ≡ i)
+pub if_some : {X : Type 0} (t : Bool) (x i : X) → (if t then Some x else None) ≡ Some i → (t ≡ true) × (x ≡ i)
 if_some true x i h = (refl, some_is x i h)
 if_some false x i h = absurd (none-some i h)
 
@@ -92,25 +92,22 @@ not-true false h = refl
 apart-pair : (x y : Pair) → (x ≡ y → ⊥) → same_pair x y ≡ false
 apart-pair x y ne = not-true (same_pair x y) (λ t. ne (same_pair-sound x y t))
 
-pub blank-marked : (slot : Pair → Option ℕ) (n : ℕ) → AreMarked slot (replicate n false) []
-blank-marked slot n = record { each = λ pair i e. elim (cases_lt i n) [ inl lt ↦ get_or-replicate n i false false lt | inr past ↦ get_or_past (replicate n false) i false (omega (arith, past, length-replicate n)) ] } where
-  length-replicate : (n : ℕ) → length (replicate n false) ≡ n
-  length-replicate zero = refl
-  length-replicate (suc n) = ap suc (length-replicate n)
+pub blank-marked : (slot : Pair → Option ℕ) (is_marked : ℕ → Bool) → ((i : ℕ) → is_marked i ≡ false) → AreMarked slot is_marked []
+blank-marked slot is_marked blank = record { each = λ pair i e. blank i }
 
-pub marked-more : (slot : Pair → Option ℕ) → TellsApart slot → (marks : List Bool) (pairs : List Pair) (x : Pair) (i : ℕ) → AreMarked slot marks pairs → slot x ≡ Some i → i < length marks → AreMarked slot (slice_set marks i true) (pairs ++ x ∷ [])
-marked-more slot apart marks pairs x i m at lt = record { each = λ pair k e. elim (cases_eq k i) [
+pub marked-more : (slot : Pair → Option ℕ) → TellsApart slot → (before after : ℕ → Bool) (pairs : List Pair) (x : Pair) (i : ℕ) → AreMarked slot before pairs → slot x ≡ Some i → after i ≡ true → ((k : ℕ) → k ≢ i → after k ≡ before k) → AreMarked slot after (pairs ++ x ∷ [])
+marked-more slot apart before after pairs x i m at now kept = record { each = λ pair k e. elim (cases_eq k i) [
   | inl is ↦
-      ap (has (slice_set marks i true)) is ∙ get_or-set_same marks i true false lt
+      ap after is ∙ now
       ∙ sym (holds-push pairs x pair ∙ ap (λ (t : Bool). if holds pairs pair then true else t) (ap (same_pair x) (apart pair x i (e ∙ ap Some is) at) ∙ same_pair-self x) ∙ or_true (holds pairs pair))
   | inr ne ↦
-      get_or-set_other marks i k true false ne ∙ m.each pair k e
+      kept k ne ∙ m.each pair k e
       ∙ sym (holds-push pairs x pair ∙ ap (λ (t : Bool). if holds pairs pair then true else t) (apart-pair x pair (λ same. ne (some_is k i (sym e ∙ ap slot (sym same) ∙ at)))) ∙ or_false (holds pairs pair))
 ] }
 
-pub marked-past : (slot : Pair → Option ℕ) (marks : List Bool) (pairs : List Pair) (x : Pair) → AreMarked slot marks pairs → slot x ≡ None → AreMarked slot marks (pairs ++ x ∷ [])
-marked-past slot marks pairs x m none = record { each = λ pair k e.
-m.each pair k e
+pub marked-past : (slot : Pair → Option ℕ) (is_marked : ℕ → Bool) (pairs : List Pair) (x : Pair) → AreMarked slot is_marked pairs → slot x ≡ None → AreMarked slot is_marked (pairs ++ x ∷ [])
+marked-past slot is_marked pairs x m none = record { each = λ pair k e.
+    m.each pair k e
     ∙ sym (holds-push pairs x pair ∙ ap (λ (t : Bool). if holds pairs pair then true else t) (apart-pair x pair (λ same. none-some k (sym none ∙ ap slot same ∙ e))) ∙ or_false (holds pairs pair)) }
 
 -- ---- what was met
@@ -127,24 +124,31 @@ rooted-more ms m r fine = record { each = λ i n e some. elim (get-push ms m i n
 rooted-none : AreRooted []
 rooted-none = record { each = λ i m e some. absurd (none-some m e) }
 
+length-blank : (n : ℕ) → length (replicate n false) ≡ n
+length-blank zero = refl
+length-blank (suc n) = ap suc (length-blank n)
+
+blank-has : (n i : ℕ) → has (replicate n false) i ≡ false
+blank-has zero i = refl
+blank-has (suc n) zero = refl
+blank-has (suc n) (suc i) = blank-has n i
+
 pub search-blank : (a b : ℕ) (marks : List Bool) (ms : List Met) → a < 2 ^ 32 → b < 2 ^ 32 → marks ≡ replicate ((a + 1) * (b + 1)) false → ms ≡ [] → IsSearch a b marks ms
 search-blank a b marks ms h k e none = record {
   few_a = h;
   few_b = k;
-  wide = ap length e ∙ length-replicate ((a + 1) * (b + 1));
-  marked = subst (λ marks. AreMarked (number a b) marks (map (λ (m : Met). m.pair) ms)) (sym e) (subst (λ (ms : List Met). AreMarked (number a b) (replicate ((a + 1) * (b + 1)) false) (map (λ (m : Met). m.pair) ms)) (sym none) (blank-marked (number a b) ((a + 1) * (b + 1))));
+  wide = ap length e ∙ length-blank ((a + 1) * (b + 1));
+  marked = subst (λ (ms : List Met). AreMarked (number a b) (has marks) (map (λ (m : Met). m.pair) ms)) (sym none) (blank-marked (number a b) (has marks) (λ i. ap (λ (marks : List Bool). has marks i) e ∙ blank-has ((a + 1) * (b + 1)) i));
   rooted = subst AreRooted (sym none) rooted-none;
-} where
-  length-replicate : (n : ℕ) → length (replicate n false) ≡ n
-  length-replicate zero = refl
-  length-replicate (suc n) = ap suc (length-replicate n)
+}
 
 pub search-more : (a b : ℕ) (marks : List Bool) (ms news : List Met) (m : Met) (o : Option ℕ) (i : ℕ) → IsSearch a b marks ms → (0 < length ms → m.parent < length ms) → news ≡ ms ++ m ∷ [] → o ≡ number a b m.pair → o ≡ Some i → i < length marks → IsSearch a b (slice_set marks i true) news
 search-more a b marks ms news m o i s fine is of some lt = subst (IsSearch a b (slice_set marks i true)) (sym is) (record {
   few_a = s.few_a;
   few_b = s.few_b;
   wide = length-set marks i ∙ s.wide;
-  marked = subst (AreMarked (number a b) (slice_set marks i true)) (sym (pairs-met ms m)) (marked-more (number a b) (number_same a b) marks (map (λ (m : Met). m.pair) ms) m.pair i s.marked (sym of ∙ some) lt);
+  marked = subst (AreMarked (number a b) (has (slice_set marks i true))) (sym (pairs-met ms m)) (marked-more (number a b) (number_same a b) (has marks) (has (slice_set marks i true)) (map (λ (m : Met). m.pair) ms) m.pair i s.marked (sym of ∙ some)
+      (get_or-set_same marks i true false lt) (λ k ne. get_or-set_other marks i k true false ne));
   rooted = rooted-more ms m s.rooted fine;
 }) where
   length-set : (marks : List Bool) (i : ℕ) → length (slice_set marks i true) ≡ length marks
@@ -157,7 +161,7 @@ search-past a b marks ms news m o s fine is of none = subst (IsSearch a b marks)
   few_a = s.few_a;
   few_b = s.few_b;
   wide = s.wide;
-  marked = subst (AreMarked (number a b) marks) (sym (pairs-met ms m)) (marked-past (number a b) marks (map (λ (m : Met). m.pair) ms) m.pair s.marked (sym of ∙ none));
+  marked = subst (AreMarked (number a b) (has marks)) (sym (pairs-met ms m)) (marked-past (number a b) (has marks) (map (λ (m : Met). m.pair) ms) m.pair s.marked (sym of ∙ none));
   rooted = rooted-more ms m s.rooted fine;
 })
 
@@ -171,5 +175,5 @@ search-kept a b marks news_marks ms news m o s fine is of bound e = subst (λ (z
 pub marked-is : (a b : ℕ) (marks : List Bool) (ms : List Met) (pair : Pair) (o : Option ℕ) (i : ℕ) → IsSearch a b marks ms → o ≡ number a b pair → o ≡ Some i → has marks i ≡ holds (map (λ (m : Met). m.pair) ms) pair
 marked-is a b marks ms pair o i s of some = s.marked.each pair i (sym of ∙ some)
 
-pub parent-before : (ms : List Met) (i : ℕ) (d : Met) → AreRooted ms → i < length ms → 0 < i → (get_or ms i d).parent < i
-parent-before ms i d r lt some = r.each i (get_or ms i d) (slice_get-get_or ms i d lt) some
+pub parent-before : (ms : List Met) (i : ℕ) (m : Met) → AreRooted ms → i < length ms → 0 < i → m ≡ get_or ms i m → m.parent < i
+parent-before ms i m r lt some is = r.each i m (slice_get-get_or ms i m lt ∙ ap Some (sym is)) some

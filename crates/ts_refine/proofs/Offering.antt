@@ -11,22 +11,8 @@ use Rattle.ts_tree.specs.Calls.{offered_in}
 use Rattle.ts_tree.specs.Proper.{AreDistinct}
 use Rattle.ts_tree.specs.View.{method_of}
 use Rattle.ts_tree.proofs.Leading.{here, in_map}
-use Rattle.ts_refine.specs.declared.verdict.Pair.{Pair}
-use Rattle.ts_refine.specs.inner.Judging.{AreProper, stands_at, same_pair, holds, pair_stands_at}
+use Rattle.ts_refine.specs.inner.Judging.{AreProper, stands_at}
 use Rattle.ts_refine.proofs.Relating.{same_name, other_name}
-
--- a pair that stands somewhere is among them
-there-held : (ps : List Pair) (i : ℕ) (wanted : Pair) → pair_stands_at ps i wanted ≡ true → holds ps wanted ≡ true
-there-held [] zero wanted h = absurd (false≢true h)
-there-held [] (suc i) wanted h = absurd (false≢true h)
-there-held (p ∷ ps) zero wanted h = rw h refl
-there-held (p ∷ ps) (suc i) wanted h = go (same_pair p wanted) (there-held ps i wanted h) where
-  go : (t : Bool) → holds ps wanted ≡ true → (if t then true else holds ps wanted) ≡ true
-  go true e = refl
-  go false e = e
-
-pub held-there : (ps : List Pair) (i : ℕ) (wanted : Pair) (r : Bool) → r ≡ pair_stands_at ps i wanted → r ≡ true → true ≡ holds ps wanted
-held-there ps i wanted r is holds = sym (there-held ps i wanted (sym is ∙ holds))
 
 -- the first of a name from this place on
 from-here : (ms : List KeptMethod) (i : ℕ) (name : Name) → stands_at ms i name ≡ true → option_map method_of (slice_get ms i) ≡ offered_in (map method_of (drop i ms)) name

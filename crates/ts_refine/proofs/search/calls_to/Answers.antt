@@ -3,18 +3,18 @@ use Rattle.std.proofs.lemmas.Result.{IfOk-weaker}
 use Rattle.ts_refine.specs.Verdicts.{call_of}
 use Rattle.ts_refine.specs.inner.Keeping.{found_by, calls_at}
 use Rattle.ts_refine.proofs.Marking.{parent-before}
-use Rattle.ts_refine.proofs.Whole.{steps_back_at, back_ends}
+use Rattle.ts_refine.proofs.Whole.{steps_back, back_ends}
 use Rattle.ts_refine.proofs.search.calls_to.Goals as goal
 
 pub loop-at-smaller : goal.loop-at-smaller
-loop-at-smaller c = parent-before c.args.all.now c.loop-at.at _ c.requires.rooted c.loop-at.invariant.within c.loop-at-test.true
+loop-at-smaller c = parent-before c.args.all.now c.loop-at.at c.index-all-at.result c.requires.rooted c.loop-at.invariant.within c.loop-at-test.true c.index-all-at.is
 
 pub loop-at-preserved : goal.loop-at-preserved
 loop-at-preserved c =
-    let earlier = parent-before c.args.all.now c.loop-at.at _ c.requires.rooted c.loop-at.invariant.within c.loop-at-test.true in
+    let earlier = parent-before c.args.all.now c.loop-at.at c.index-all-at.result c.requires.rooted c.loop-at.invariant.within c.loop-at-test.true c.index-all-at.is in
     record {
       within = omega (arith, earlier, c.loop-at.invariant.within);
-      rest = steps_back_at c.args.all.now c.loop-at.at _ c.loop-at.calls.items c.push.new.self.items c.in_ok-call.call _ c.loop-at.invariant.within c.loop-at-test.true earlier c.in_ok-call.ensures c.in_ok-push.ensures.items c.loop-at.invariant.rest;
+      rest = steps_back c.args.all.now c.loop-at.at c.index-all-at.result c.loop-at.calls.items c.push.new.self.items c.in_ok-call.call _ c.loop-at.invariant.within c.loop-at-test.true c.index-all-at.is earlier c.in_ok-call.ensures c.in_ok-push.ensures.items c.loop-at.invariant.rest;
     }
 
 pub returns : goal.returns

@@ -17,4 +17,4 @@ mark-requires c = subst (λ w. IfSome c.number-number.result (λ n. n < w)) (sym
 pub invariant_of-self-2 : goal.invariant_of-self-2
 invariant_of-self-2 c =
     search-kept c.self.inside.a c.self.inside.b c.self.inside.marks c.mark.new.marks c.self.inside.met.items c.push.new.self.items c.args.met c.number-number.result c.self.invariant
-    (subst (λ (ms : List Met). 0 < length ms → c.args.met.parent < length ms) (sym c.self.view_is) c.requires) c.in_ok-push.ensures c.number-number.ensures.value c.number-number.ensures.bound c.mark.ensures
+    (subst (λ (ms : List Met). 0 < length ms → c.args.met.parent < length ms) (sym c.self.view_is) c.requires) c.in_ok-push.ensures.ok c.number-number.ensures.value c.number-number.ensures.bound c.mark.ensures
