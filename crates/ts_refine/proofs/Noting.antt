@@ -1,16 +1,15 @@
 -- Bits of words tell which pairs are in a list.
-use Rattle.std.proofs.Common.{◌≡◌, ◌≢◌, ℕ, zero, suc, ◌+◌, ◌*◌, ◌<◌, ◌⊎◌, Bool, true, false, List, [], ◌∷◌, ◌++◌, length, replicate, Option, Some, None, option_and_then, if◌then◌else◌, refl, sym, ap, subst, ◌∙◌, arith, inl, inr, ⊎_elim, length-set, take, drop, get_or}
-use Rattle.std.specs.Prelude.{◌/◌, ◌%◌, ◌^◌, nat_eq, nat_lt, slice_set}
+use Rattle.std.proofs.Common.{◌≡◌, ◌≢◌, ℕ, zero, suc, ◌<◌, true, false, List, [], ◌∷◌, ◌++◌, length, replicate, Option, Some, None, if◌then◌else◌, refl, sym, ap, subst, ◌∙◌, arith, ⊎_elim, length-set}
+use Rattle.std.specs.Prelude.{◌/◌, ◌%◌, nat_eq, nat_lt}
 use Rattle.std.specs.Int.{bit_at, w64}
 use Rattle.std.proofs.lemmas.Bool.{cases_eq}
-use Rattle.std.proofs.lemmas.Option.{none-some, option_and_then_some}
+use Rattle.std.proofs.lemmas.Option.{option_and_then_some}
 use Rattle.std.proofs.lemmas.List.{get_or-set_same, get_or-set_other}
 use Rattle.std.proofs.lemmas.Nat.Bits.{bit_at-zero, bit_at_set_same, bit_at_set_other}
 use Rattle.mg_sets.specs.Words.{word, bit}
 use Rattle.mg_sets.proofs.WordLaws.{with_bit}
 use Rattle.ts_refine.specs.declared.verdict.Pair.{Pair}
-use Rattle.ts_refine.specs.inner.Judging.{holds}
-use Rattle.ts_refine.specs.inner.Marking.{number, bit_number, AreMarked, AreKnown}
+use Rattle.ts_refine.specs.inner.Marking.{number, bit_number, AreMarked}
 use Rattle.ts_refine.proofs.Marking.{TellsApart, number_same, if_some, blank-marked, marked-more, marked-past}
 
 -- ---- one bit

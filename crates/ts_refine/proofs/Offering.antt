@@ -1,7 +1,6 @@
 -- Where a method of a name stands.
-use Rattle.std.proofs.Common.{◌≡◌, ◌≢◌, ℕ, zero, suc, ◌+◌, ◌<◌, ◌≤◌, Bool, true, false, List, [], ◌∷◌, length, drop, map, Option, Some, None, option_map, if◌then◌else◌, slice_get, refl, sym, ap, subst, ◌∙◌, arith}
+use Rattle.std.proofs.Common.{◌≡◌, ◌≢◌, ℕ, zero, suc, ◌+◌, ◌<◌, ◌≤◌, Bool, true, false, List, [], ◌∷◌, length, drop, map, None, option_map, slice_get, refl, sym, ap, subst, ◌∙◌, arith}
 use Rattle.std.specs.Prelude.{Contains}
-use Rattle.std.specs.Str.{bytes_eq}
 use Rattle.std.proofs.lemmas.Bool.{false≢true}
 use Rattle.std.proofs.lemmas.Option.{slice_get_past}
 use Rattle.mg_text.specs.Call.{Name}
@@ -10,7 +9,7 @@ use Rattle.ts_tree.specs.Typestate.{Method}
 use Rattle.ts_tree.specs.Calls.{offered_in}
 use Rattle.ts_tree.specs.Proper.{AreDistinct}
 use Rattle.ts_tree.specs.View.{method_of}
-use Rattle.ts_tree.proofs.Leading.{here, in_map}
+use Rattle.ts_tree.proofs.Leading.{here}
 use Rattle.ts_refine.specs.inner.Judging.{AreProper, stands_at}
 use Rattle.ts_refine.proofs.Relating.{same_name, other_name}
 

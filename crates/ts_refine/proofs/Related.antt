@@ -1,5 +1,5 @@
 -- The pairs that calls lead to are a relation.
-use Rattle.std.proofs.Common.{◌≡◌, List, [], ◌∷◌, ◌++◌, refl, ◌∙◌}
+use Rattle.std.proofs.Common.{List, [], ◌∷◌, ◌++◌, refl, ◌∙◌}
 use Rattle.mg_text.specs.Call.{Call}
 use Rattle.ts_tree.specs.Typestate.{Typestate}
 use Rattle.ts_tree.specs.Calls.{initial}

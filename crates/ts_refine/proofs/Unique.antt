@@ -1,9 +1,8 @@
 -- Two typestates have one verdict.
-use Rattle.std.proofs.Common.{◌≡◌, ◌≢◌, ℕ, zero, suc, ◌+◌, ◌*◌, ◌<◌, ◌≤◌, List, [], ◌∷◌, length, map, Option, Some, None, refl, sym, ap, subst, ◌∙◌, arith, inl, inr, ◌⊎◌, if◌then◌else◌, Bool, true, false}
+use Rattle.std.proofs.Common.{◌≡◌, ℕ, zero, suc, ◌<◌, ◌≤◌, List, [], ◌∷◌, length, Some, refl, sym, ap, subst, ◌∙◌, arith, inl, inr, ◌⊎◌, if◌then◌else◌, Bool, true, false}
 use Rattle.std.specs.Prelude.{Contains}
 use Rattle.std.specs.Str.{bytes_eq}
 use Rattle.std.proofs.Math.ListN.{length-map}
-use Rattle.std.proofs.lemmas.Option.{none-some}
 use Rattle.mg_text.specs.Call.{Name, Call}
 use Rattle.ts_tree.specs.declared.parts.To.{To}
 use Rattle.ts_tree.specs.Typestate.{Method, Typestate}
@@ -12,7 +11,7 @@ use Rattle.ts_tree.proofs.Leading.{here, behind, first_or_behind, in_map}
 use Rattle.ts_refine.specs.declared.verdict.Pair.{Pair}
 use Rattle.ts_refine.specs.declared.verdict.Reason.{Reason}
 use Rattle.ts_refine.specs.declared.verdict.Reason.TheVariants as reasons
-use Rattle.ts_refine.specs.Standing.{Reach, Fails, no_method, signature, labels, unfinished, offered_at}
+use Rattle.ts_refine.specs.Standing.{Fails, no_method, signature, labels, offered_at}
 use Rattle.ts_refine.specs.Orders.{methods_at, place_of, method_names, ComesBefore, answer_place, labels_in, IsEarlier, differs, goes_on, IsBefore, reason_place}
 use Rattle.ts_refine.specs.Verdicts.{AreApart, Stands, FailsFirst}
 use Rattle.ts_refine.proofs.Relating.{same_name, name_is, some_is, offered_at-is, offered_in-sound}

@@ -1,7 +1,6 @@
-use Rattle.std.proofs.Common.{◌≡◌, ◌<◌, List, length, sym, subst}
+use Rattle.std.proofs.Common.{◌<◌, List, length, sym, subst}
 use Rattle.std.specs.Prelude.{IfSome}
 use Rattle.ts_refine.specs.declared.search.Met.{Met}
-use Rattle.ts_refine.specs.inner.Marking.{IsSearch}
 use Rattle.ts_refine.proofs.Marking.{search-kept}
 use Rattle.ts_refine.proofs.search.Search.keep.Goals as goal
 
