@@ -1,4 +1,4 @@
-//! The method of a name in the list of a state, by a table of where it was found before.
+//! The method of a name in the list of a state, by a table of where names stand.
 //! What the table says is only tried: a name that doesn't stand there is looked for along the list.
 
 ghost use Rattle.std.specs.Prelude.{◌≡◌, ◌<◌, map, option_map, slice_get};
@@ -14,9 +14,10 @@ const SLOTS: usize = 0x8000;
 /// states of one typestate, and lies on the stack, so it takes no memory.
 #[derive(Drop)]
 pub(crate) struct Places {
-    slots: [usize; 0x8000],
+    slots: [u32; 0x8000],
     state: u32,
     near: usize,
+    is_noted: bool,
 }
 
 impl Places {
@@ -25,13 +26,15 @@ impl Places {
         Places {
             slots: [0; 0x8000],
             state: 0,
-            near: 0,
+            near: usize::MAX,
+            is_noted: false,
         }
     }
 
     // The lists that follow are those of this place; its first method is tried first.
     pub(crate) fn turn_to(&mut self, at: To) {
-        self.near = 0;
+        self.near = usize::MAX;
+        self.is_noted = false;
         self.state = match at {
             To::State(n) => n,
             To::End => 0,
@@ -48,35 +51,56 @@ impl Places {
         ensures { option_map (λ m. method_of m.now) result ≡ offered_in (map method_of methods.now) name.now }
     {
         let place = self.place_in(methods, name);
-        self.near = place.wrapping_add(1);
+        self.near = place;
         methods.get(place)
     }
 
-    // Where the method of this name stands, as the one that was found last lets expect; else where
+    // Where the method of this name stands: behind or before the one that was found last, or where
     // the table or the list tells. No method stands there where there is none of this name.
     fn place_in(&mut self, methods: &[Method], name: &str) -> usize
         requires { AreProper (map method_of methods.now) }
         ensures { option_map method_of (slice_get methods.now result) ≡ offered_in (map method_of methods.now) name.now }
     {
-        if stands_at(methods, self.near, name) {
-            return self.near;
+        let behind = self.near.wrapping_add(1);
+        if stands_at(methods, behind, name) {
+            return behind;
+        }
+        let before = self.near.wrapping_sub(1);
+        if stands_at(methods, before, name) {
+            return before;
         }
         self.place_known(methods, name)
     }
 
-    // The same by the table, or along the list, and then the table has it.
+    // The same by the table, which has the names of this list at least once before it is walked.
     fn place_known(&mut self, methods: &[Method], name: &str) -> usize
         requires { AreProper (map method_of methods.now) }
         ensures { option_map method_of (slice_get methods.now result) ≡ offered_in (map method_of methods.now) name.now }
     {
-        let slot = self.slot_of(name);
-        let known = self.slots[slot];
+        let known = self.slots[self.slot_of(name)] as usize;
         if stands_at(methods, known, name) {
             return known;
         }
-        let place = place_along(methods, name);
-        self.slots[slot] = place;
-        place
+        self.note(methods);
+        let noted = self.slots[self.slot_of(name)] as usize;
+        if stands_at(methods, noted, name) {
+            return noted;
+        }
+        place_along(methods, name)
+    }
+
+    // The table has where the methods of this list stand, but for those that share a slot.
+    fn note(&mut self, methods: &[Method]) {
+        if self.is_noted {
+            return;
+        }
+        self.is_noted = true;
+        let mut place: u32 = 0;
+        for method in methods {
+            let slot = self.slot_of(method.name.as_str());
+            self.slots[slot] = place;
+            place = place.wrapping_add(1);
+        }
     }
 
     // The slot for a name in this state.
