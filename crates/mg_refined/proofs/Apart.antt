@@ -1,12 +1,10 @@
 -- Of two files one thing is told, and of files that are refused nothing.
-use Rattle.std.proofs.Common.{◌≡◌, ℕ, Bool, true, false, List, [], ◌∷◌, length, Some, Result, Ok, Err, refl, sym, ap, ap₂, subst, ◌∙◌}
+use Rattle.std.proofs.Common.{◌≡◌, ℕ, Bool, List, [], ◌∷◌, Some, Result, Ok, Err, refl, ap, ap₂, subst}
 use Rattle.std.specs.Prelude.{OnOk}
 use Rattle.mg_text.specs.Call.{Call}
 use Rattle.mg_read.specs.First.{Judged, here, later}
 use Rattle.ts_tree.specs.Typestate.{Typestate}
-use Rattle.ts_refine.specs.declared.verdict.Pair.{Pair}
 use Rattle.ts_refine.specs.declared.verdict.Reason.{Reason}
-use Rattle.ts_refine.specs.Verdicts.{Stands, FailsFirst}
 use Rattle.ts_refine.proofs.Unique.{one_count, one_failure, not_both}
 use Rattle.mg_sources.specs.Files.{Source}
 use Rattle.mg_sources.specs.Reading.{Part, Protocol, States, Classes}

@@ -1,6 +1,6 @@
 -- Two files of typestates spell two typestates.
-use Rattle.std.proofs.Common.{arith, ◌≡◌, ℕ, suc, ◌<◌, Bool, List, [], ◌∷◌, ◌++◌, length, map, codes, Option, Some, None, Result, Ok, Err, slice_get, refl, sym, ap, ◌∙◌, subst}
-use Rattle.std.specs.Prelude.{All, Contains, IfOk}
+use Rattle.std.proofs.Common.{arith, ◌≡◌, ℕ, Bool, List, [], ◌∷◌, ◌++◌, length, codes, Option, Some, None, Result, Ok, Err, slice_get, refl, sym, ap, ◌∙◌, subst}
+use Rattle.std.specs.Prelude.{All, IfOk}
 use Rattle.std.proofs.lemmas.List.Elements.{All-contains, All-weaker}
 use Rattle.mg_text.specs.declared.memory.Memory.{Memory}
 use Rattle.ts_tree.specs.Typestate.{Typestate}
@@ -9,7 +9,6 @@ use Rattle.mg_sources.specs.Files.{Source, source_of, sources, EndsWith, Kind, T
 use Rattle.mg_sources.specs.Reading.{Part, Protocol, States, Classes, Reads}
 use Rattle.mg_sources.specs.Reading as reading
 use Rattle.mg_sources.specs.Parts.{EachSpells}
-use Rattle.mg_sources.specs.declared.stop.Stop.{Stop}
 use Rattle.mg_refined.specs.declared.refined.Told.{Told}
 use Rattle.mg_refined.specs.Refined.{Tells, AreJudged}
 

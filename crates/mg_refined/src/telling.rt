@@ -19,11 +19,7 @@ pub(crate) fn yes_text(alloc: Global, count: usize) -> Result<Text, Memory>
 }
 
 // The lines of a no: the calls, and then the reason.
-pub(crate) fn no_text(
-    alloc: Global,
-    calls: &[PathCall],
-    reason: &Reason,
-) -> Result<Text, Memory>
+pub(crate) fn no_text(alloc: Global, calls: &[PathCall], reason: &Reason) -> Result<Text, Memory>
     ensures { IfOk result (λ t. t ≡ told.no_text (map call_of calls.now) reason.now) }
 {
     let mut text = String::from_str(alloc, "no\n")?;

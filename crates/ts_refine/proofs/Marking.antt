@@ -96,19 +96,23 @@ pub blank-marked : (slot : Pair → Option ℕ) (is_marked : ℕ → Bool) → (
 blank-marked slot is_marked blank = record { each = λ pair i e. blank i }
 
 pub marked-more : (slot : Pair → Option ℕ) → TellsApart slot → (before after : ℕ → Bool) (pairs : List Pair) (x : Pair) (i : ℕ) → AreMarked slot before pairs → slot x ≡ Some i → after i ≡ true → ((k : ℕ) → k ≢ i → after k ≡ before k) → AreMarked slot after (pairs ++ x ∷ [])
-marked-more slot apart before after pairs x i m at now kept = record { each = λ pair k e. elim (cases_eq k i) [
-  | inl is ↦
-      ap after is ∙ now
-      ∙ sym (holds-push pairs x pair ∙ ap (λ (t : Bool). if holds pairs pair then true else t) (ap (same_pair x) (apart pair x i (e ∙ ap Some is) at) ∙ same_pair-self x) ∙ or_true (holds pairs pair))
-  | inr ne ↦
-      kept k ne ∙ m.each pair k e
-      ∙ sym (holds-push pairs x pair ∙ ap (λ (t : Bool). if holds pairs pair then true else t) (apart-pair x pair (λ same. ne (some_is k i (sym e ∙ ap slot (sym same) ∙ at)))) ∙ or_false (holds pairs pair))
-] }
+marked-more slot apart before after pairs x i m at now kept = record {
+  each = λ pair k e. elim (cases_eq k i) [
+    | inl is ↦
+        ap after is ∙ now
+        ∙ sym (holds-push pairs x pair ∙ ap (λ (t : Bool). if holds pairs pair then true else t) (ap (same_pair x) (apart pair x i (e ∙ ap Some is) at) ∙ same_pair-self x) ∙ or_true (holds pairs pair))
+    | inr ne ↦
+        kept k ne ∙ m.each pair k e
+        ∙ sym (holds-push pairs x pair ∙ ap (λ (t : Bool). if holds pairs pair then true else t) (apart-pair x pair (λ same. ne (some_is k i (sym e ∙ ap slot (sym same) ∙ at)))) ∙ or_false (holds pairs pair))
+  ];
+}
 
 pub marked-past : (slot : Pair → Option ℕ) (is_marked : ℕ → Bool) (pairs : List Pair) (x : Pair) → AreMarked slot is_marked pairs → slot x ≡ None → AreMarked slot is_marked (pairs ++ x ∷ [])
-marked-past slot is_marked pairs x m none = record { each = λ pair k e.
-    m.each pair k e
-    ∙ sym (holds-push pairs x pair ∙ ap (λ (t : Bool). if holds pairs pair then true else t) (apart-pair x pair (λ same. none-some k (sym none ∙ ap slot same ∙ e))) ∙ or_false (holds pairs pair)) }
+marked-past slot is_marked pairs x m none = record {
+  each = λ pair k e.
+      m.each pair k e
+      ∙ sym (holds-push pairs x pair ∙ ap (λ (t : Bool). if holds pairs pair then true else t) (apart-pair x pair (λ same. none-some k (sym none ∙ ap slot same ∙ e))) ∙ or_false (holds pairs pair));
+}
 
 -- ---- what was met
 pairs-met : (ms : List Met) (m : Met) → map (λ (m : Met). m.pair) (ms ++ m ∷ []) ≡ map (λ (m : Met). m.pair) ms ++ m.pair ∷ []
@@ -116,10 +120,12 @@ pairs-met [] m = refl
 pairs-met (x ∷ ms) m = ap (λ (ps : List Pair). x.pair ∷ ps) (pairs-met ms m)
 
 rooted-more : (ms : List Met) (m : Met) → AreRooted ms → (0 < length ms → m.parent < length ms) → AreRooted (ms ++ m ∷ [])
-rooted-more ms m r fine = record { each = λ i n e some. elim (get-push ms m i n e) [
-  | inl old ↦ r.each i n old some
-  | inr new ↦ subst (λ (n : Met). n.parent < i) new.1 (subst (λ k. m.parent < k) (sym new.0) (fine (subst (λ k. 0 < k) new.0 some)))
-] }
+rooted-more ms m r fine = record {
+  each = λ i n e some. elim (get-push ms m i n e) [
+    | inl old ↦ r.each i n old some
+    | inr new ↦ subst (λ (n : Met). n.parent < i) new.1 (subst (λ k. m.parent < k) (sym new.0) (fine (subst (λ k. 0 < k) new.0 some)))
+  ];
+}
 
 rooted-none : AreRooted []
 rooted-none = record { each = λ i m e some. absurd (none-some m e) }
