@@ -2,12 +2,13 @@
 //! `main` of a class.
 
 ghost use Rattle.std.specs.Prelude.{◌≡◌, ◌++◌, ◌∷◌, ◌<◌, ◌^◌, [], length, map, IfOk, OnOk, option_map, string_bytes};
-ghost use Rattle.std.specs.List.{list_any};
+ghost use Rattle.std.specs.List.{IsDistinct, list_any};
+ghost use Rattle.std.specs.Str.{bytes_eq};
 ghost use Rattle.vm_world_law.specs.Turns.{is_bound, is_broken, is_zero, is_mismatch, is_waiting};
 ghost use Rattle.mg_sources.specs.Files.{HaveKinds};
 ghost use Rattle.mg_runs.specs.Lines.{kind_word, stand_words, role_line, role_lines};
 ghost use Rattle.mg_runs.specs.Runs.{names_of};
-ghost use Rattle.mg_words.specs.Words.{Run, limit_of};
+ghost use Rattle.mg_words.specs.Words.{Run, limit_of, mains_of, role_names};
 ghost use Rattle.mg_top.specs.Commands.{Yields, kept_in, role_mains_of, prints, status_of};
 ghost use Rattle.mg_words.specs.inner.Judging.{asked_of, IsAsked};
 
@@ -62,7 +63,8 @@ pub fn run(
 // The roles of the run, each with the class whose `main` it runs.
 fn mains_of(alloc: Global, asked: &Asked<'_>) -> Result<List<RoleMain>, Memory>
     requires { IsAsked (asked_of asked.now) }
-    ensures { IfOk result (λ l. l.items ≡ role_mains_of (asked_of asked.now)) }
+    ensures items { IfOk result (λ l. l.items ≡ role_mains_of (asked_of asked.now)) }
+    ensures distinct { IsDistinct bytes_eq (role_names (mains_of (asked_of asked.now))) }
 {
     let classes = asked.mains(alloc)?;
     let mut mains = List::new(alloc);
