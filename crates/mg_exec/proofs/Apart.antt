@@ -1,6 +1,7 @@
 -- Class files have one run of these roles, and files that are refused have none.
 use Rattle.std.proofs.Common.{◌≡◌, ℕ, List, [], ◌∷◌, ◌++◌, Bool, Option, Some, None, Result, Ok, Err, map, if◌then◌else◌, sym, ap, ap₂, ◌∙◌, subst, refl}
 use Rattle.std.specs.Prelude.{OnOk}
+use Rattle.mg_read.proofs.Judging.{no_both}
 use Rattle.cls_tree.specs.Tree.{Class as File}
 use Rattle.cls_bytes.proofs.Whole.{one_spelled}
 use Rattle.vm_model.specs.Program.{Program}
@@ -20,8 +21,8 @@ use Rattle.mg_runs.specs.Runs.{names_of}
 use Rattle.mg_exec.specs.declared.ran.Ran.{Ran}
 use Rattle.mg_exec.specs.Files.{AreFiles}
 use Rattle.mg_exec.specs.Runs.{Course, IsProgram, HaveMains, IsRun, Refusal, unread, unlinked, no_main}
-use Rattle.mg_exec.specs.View.{Shows, IsThatRun}
-use Rattle.mg_exec.specs.inner.Going.{AreApart, IsRunningApart}
+use Rattle.mg_exec.specs.View.{Shows, IsRunning, IsThatRun}
+use Rattle.mg_exec.proofs.Reading.{none_refused}
 
 -- files are one list of classes
 one_files : (files : List Source) (as bs : List File) → AreFiles files as → AreFiles files bs → as ≡ bs
@@ -51,23 +52,23 @@ lacks_none program [] main rest h = h.0
 lacks_none program (x ∷ front) main rest h = lacks_none program front main rest h.1
 
 -- files that are refused aren't run
-pub not_refused : (files : List Source) (mains : List RoleMain) (order : List ℕ) (limit : ℕ) (r : Course) (line : List ℕ) → AreApart files →
+pub not_refused : (files : List Source) (mains : List RoleMain) (order : List ℕ) (limit : ℕ) (r : Course) (line : List ℕ) →
     IsRun files mains order limit r → Refusal files mains line → ⊥
-not_refused files mains order limit r line apart h (unread judged) = let (classes, are, links) = h.linked in apart line classes judged are
-not_refused files mains order limit r line apart h (unlinked classes flaw are is said) =
+not_refused files mains order limit r line h (unread judged) = let (classes, are, links) = h.linked in no_both (none_refused files classes are) judged
+not_refused files mains order limit r line h (unlinked classes flaw are is said) =
     let (others, those, links) = h.linked in
     let same : others ≡ classes = one_files files others classes those are in
     no_flaw (flaws classes) flaw (sym (ap flaws same) ∙ links.right) is
-not_refused files mains order limit r line apart h (no_main program front main rest is parts have none said) =
+not_refused files mains order limit r line h (no_main program front main rest is parts have none said) =
     let same : r.program ≡ program = one_program files r.program program h.linked is in
     none (subst (λ (z : Program). HasMain z main.class) same (lacks_none r.program front main rest (subst (HaveMains r.program) parts h.have_mains)))
 
 -- two runs of the same files
-record SameRun (a b : Course) : Type 0 where
-  program : a.program ≡ b.program
-  last : a.last ≡ b.last
+pub record SameRun (a b : Course) : Type 0 where
+  pub program : a.program ≡ b.program
+  pub last : a.last ≡ b.last
 
-one_course : (files : List Source) (mains : List RoleMain) (order : List ℕ) (limit : ℕ) (a b : Course) → IsRun files mains order limit a →
+pub one_course : (files : List Source) (mains : List RoleMain) (order : List ℕ) (limit : ℕ) (a b : Course) → IsRun files mains order limit a →
     IsRun files mains order limit b → SameRun a b
 one_course files mains order limit a b h g =
     let program : a.program ≡ b.program = one_program files a.program b.program h.linked g.linked in
@@ -92,15 +93,15 @@ shows_same files mains order limit named traced a b ran h g s =
     }
 
 pub only_run : (files : List Source) (mains : List RoleMain) (order : List ℕ) (limit : ℕ) (named traced : Bool) (result : Result Ran Stop) →
-    IsRunningApart files mains order limit named traced result → (run : Course) → IsRun files mains order limit run →
+    IsRunning files mains order limit named traced result → (run : Course) → IsRun files mains order limit run →
     IsThatRun mains named traced run result
 only_run files mains order limit named traced (Ok ran) h run is =
-    shows_same files mains order limit named traced h.answered.run run ran h.answered.is is h.answered.shows
-only_run files mains order limit named traced (Err (stops.Refused line)) h run is = not_refused files mains order limit run line h.apart is h.answered
+    shows_same files mains order limit named traced h.run run ran h.is is h.shows
+only_run files mains order limit named traced (Err (stops.Refused line)) h run is = not_refused files mains order limit run line is h
 only_run files mains order limit named traced (Err stops.Memory) h run is = tt
 
 pub refused_run : (files : List Source) (mains : List RoleMain) (order : List ℕ) (limit : ℕ) (named traced : Bool) (result : Result Ran Stop) →
-    IsRunningApart files mains order limit named traced result → (line : List ℕ) → Refusal files mains line → OnOk result ⊥
+    IsRunning files mains order limit named traced result → (line : List ℕ) → Refusal files mains line → OnOk result ⊥
 refused_run files mains order limit named traced (Ok ran) h line refused =
-    not_refused files mains order limit h.answered.run line h.apart h.answered.is refused
+    not_refused files mains order limit h.run line h.is refused
 refused_run files mains order limit named traced (Err stop) h line refused = tt

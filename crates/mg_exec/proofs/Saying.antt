@@ -43,9 +43,6 @@ theirs bytes (faults.Unsupported n) said h e = h
 theirs bytes (faults.Code f) said h e = h
 theirs bytes faults.Memory said h e = nothing_said said e
 
-pub not_memory : (fault : ClassFault) (said : Fault) → class_fault fault ≡ Some said → fault ≡ faults.Memory → ⊥
-not_memory fault said e is = nothing_said said (sym (ap class_fault is) ∙ e)
-
 -- ---- flaws
 
 -- a flaw of which something is said is that of the files
@@ -58,13 +55,9 @@ flaw_told (load_faults.NoCode name) cs flaw h e = h ∙ e
 flaw_told load_faults.Memory cs flaw h e = nothing_said flaw e
 
 -- its line was told
-flaw_lined : (said : Option Flaw) (line told : List ℕ) → Some told ≡ option_map flaw_line said → line ≡ told → IsUnlinkedBy said (stops.Refused line)
+pub flaw_lined : (said : Option Flaw) (line told : List ℕ) → Some told ≡ option_map flaw_line said → line ≡ told → IsUnlinkedBy said (stops.Refused line)
 flaw_lined (Some flaw) line told e is = (flaw, refl, is ∙ same told (flaw_line flaw) e)
   where
     same : (a b : List ℕ) → ◌≡◌ {A = Option (List ℕ)} (Some a) (Some b) → a ≡ b
     same a b e = cc
 flaw_lined None line told e is = nothing_said told (sym e)
-
-pub unlinked_told : (said : Option Flaw) (told line : List ℕ) → Some told ≡ option_map flaw_line said → line ≡ told →
-    IsUnlinkedBy said (stops.Refused line)
-unlinked_told said told line e is = flaw_lined said line told e is

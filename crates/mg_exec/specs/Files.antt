@@ -1,7 +1,8 @@
 -- Class files from outside: what is wrong with a file, and the line that is said of it.
-use Rattle.std.specs.Prelude.{◌≡◌, ◌<◌, ◌≤◌, ℕ, List, [], ◌∷◌, ◌++◌, length, codes, Option, Some, None}
+use Rattle.std.specs.Prelude.{◌≡◌, ◌<◌, ◌≤◌, ℕ, List, [], ◌∷◌, ◌++◌, length, All, codes, Option, Some, None}
 use Rattle.std.specs.Fmt.{decimal}
 use Rattle.cls_tree.specs.Tree.{Class as File}
+use Rattle.cls_tree.specs.Fits.{IsU1}
 use Rattle.cls_code.specs.declared.CodeFault.{CodeFault}
 use Rattle.cls_code.specs.declared.CodeFault.TheVariants as codes_of
 use Rattle.cls_bytes.specs.Spelling.{ClassSpells}
@@ -14,8 +15,9 @@ use Rattle.mg_sources.specs.Files.{Source}
 abbrev pub most_bytes : ℕ
 most_bytes = 16777216
 
--- a file isn't too large, and its bytes spell this class
+-- a file has bytes, which aren't too many and spell this class
 pub record IsFile (source : Source) (class : File) : Type 0 where
+  pub bytes : All IsU1 source.bytes
   pub small : length source.bytes ≤ most_bytes
   pub spells : ClassSpells source.bytes class
 

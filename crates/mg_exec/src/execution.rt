@@ -8,7 +8,7 @@ ghost use Rattle.mg_sources.specs.Files.{sources};
 ghost use Rattle.mg_runs.specs.Going.{IsOrder};
 ghost use Rattle.mg_exec.specs.Runs.{Course, HaveMains, IsRun, Refusal};
 ghost use Rattle.mg_exec.specs.View.{IsRunning, IsThatRun};
-ghost use Rattle.mg_exec.specs.inner.Going.{IsProgramOf, IsRunOf, IsRunningApart, told};
+ghost use Rattle.mg_exec.specs.inner.Going.{IsProgramOf, IsRunOf, told};
 
 use crate::linking::link;
 use crate::mains::first_without;
@@ -70,7 +70,7 @@ fn ran_roles(
     requires same { length names.now ≡ length contents.now }
     requires roles { IsDistinct bytes_eq (map (λ m. m.role) mains.now) }
     requires order { IsOrder order.now mains.now }
-    ensures { IsRunningApart (sources names.now contents.now) mains.now order.now limit named traced result }
+    ensures { IsRunning (sources names.now contents.now) mains.now order.now limit named traced result }
 {
     let linked = program(alloc, names, contents)?;
     match first_without(&linked, mains) {

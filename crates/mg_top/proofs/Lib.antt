@@ -3,6 +3,8 @@ pub mod SourceLemmas
 pub mod ReadingLemmas
 pub mod CommandLemmas
 pub mod ConformLemmas
+pub mod ExecLemmas
+pub mod RoleLemmas
 pub mod Unbroken
 pub mod Exact
 pub mod Promised

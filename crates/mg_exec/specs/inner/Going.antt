@@ -19,17 +19,7 @@ use Rattle.mg_exec.specs.declared.ran.Ran.{Ran}
 use Rattle.mg_exec.specs.Files.{AreFiles, IsRefused}
 use Rattle.mg_exec.specs.Lines.{flaw_line}
 use Rattle.mg_exec.specs.Runs.{IsProgram}
-use Rattle.mg_exec.specs.View.{Shows, IsRunning}
-
--- no files of which one is refused are classes
-abbrev pub AreApart : List Source → Type 0
-AreApart files = (line : List ℕ) (classes : List File) → Judged IsRefused files (Some line) → AreFiles files classes → ⊥
-
--- this is known, unless memory ran out
-abbrev pub Unless : {A : Type 0} → Result A Stop → Type 0 → Type 0
-Unless (Ok a) P = P
-Unless (Err (stops.Refused line)) P = P
-Unless (Err stops.Memory) P = Unit {0}
+use Rattle.mg_exec.specs.View.{Shows}
 
 -- why files are no program, with its line
 pub data IsNone (files : List Source) (line : List ℕ) : Type 0 where
@@ -37,14 +27,10 @@ pub data IsNone (files : List Source) (line : List ℕ) : Type 0 where
   unlinked : (classes : List File) (flaw : Flaw) → AreFiles files classes → IsUnlinked classes flaw → line ≡ flaw_line flaw → IsNone files line
 
 -- the program of files, or why there is none
-abbrev pub IsProgramIn : List Source → Result Linked Stop → Type 0
-IsProgramIn files (Ok linked) = IsProgram files (classes_of linked.classes.items)
-IsProgramIn files (Err (stops.Refused line)) = IsNone files line
-IsProgramIn files (Err stops.Memory) = Unit {0}
-
-pub record IsProgramOf (files : List Source) (result : Result Linked Stop) : Type 0 where
-  pub answered : IsProgramIn files result
-  pub apart : Unless result (AreApart files)
+abbrev pub IsProgramOf : List Source → Result Linked Stop → Type 0
+IsProgramOf files (Ok linked) = IsProgram files (classes_of linked.classes.items)
+IsProgramOf files (Err (stops.Refused line)) = IsNone files line
+IsProgramOf files (Err stops.Memory) = Unit {0}
 
 -- what is told of these events, where that is asked for
 abbrev pub told : (names : List Name) → List RoleEvent → (traced : Bool) → List ℕ
@@ -57,9 +43,3 @@ pub record IsRunOf (program : Program) (mains : List RoleMain) (order : List ℕ
   pub begins : IsBegun program mains first
   pub runs : turning.IsRun program first order limit last
   pub shows : Shows mains named traced (record { program = program; first = first; last = last }) ran
-
--- what running the roles of files answers
-pub record IsRunningApart (files : List Source) (mains : List RoleMain) (order : List ℕ) (limit : ℕ) (named traced : Bool) (result : Result Ran Stop) :
-    Type 0 where
-  pub answered : IsRunning files mains order limit named traced result
-  pub apart : Unless result (AreApart files)

@@ -1,5 +1,5 @@
 -- For private clauses: files that are read and linked.
-use Rattle.std.specs.Prelude.{◌≡◌, ℕ, List, map, Some, None, Result, Ok, Err}
+use Rattle.std.specs.Prelude.{◌≡◌, List, map, Some, Result, Ok, Err}
 use Rattle.mg_read.specs.First.{Judged}
 use Rattle.cls_tree.specs.Tree.{Class as File}
 use Rattle.cls_tree.specs.View.{class_of as file_of}
@@ -14,16 +14,16 @@ use Rattle.mg_sources.specs.declared.stop.Stop.TheVariants as stops
 use Rattle.mg_exec.specs.Files.{IsFile, AreFiles, IsRefused}
 use Rattle.mg_exec.specs.Lines.{flaw_line}
 
--- a file is this class and isn't refused, or it is refused and is none
+-- a file is this class, or is refused
 abbrev pub IsReadOf : Source → Result Class Stop → Type 0
-IsReadOf source (Ok class) = IsFile source (file_of class) × ((line : List ℕ) → IsRefused source line → ⊥)
-IsReadOf source (Err (stops.Refused line)) = IsRefused source line × ((class : File) → IsFile source class → ⊥)
+IsReadOf source (Ok class) = IsFile source (file_of class)
+IsReadOf source (Err (stops.Refused line)) = IsRefused source line
 IsReadOf source (Err stops.Memory) = Unit {0}
 
--- the same of files
+-- the same of files, of which the first may be refused
 abbrev pub AreReadOf : List Source → Result (Row Class) Stop → Type 0
-AreReadOf files (Ok classes) = AreFiles files (map file_of classes.items) × Judged IsRefused files None
-AreReadOf files (Err (stops.Refused line)) = Judged IsRefused files (Some line) × ((classes : List File) → AreFiles files classes → ⊥)
+AreReadOf files (Ok classes) = AreFiles files (map file_of classes.items)
+AreReadOf files (Err (stops.Refused line)) = Judged IsRefused files (Some line)
 AreReadOf files (Err stops.Memory) = Unit {0}
 
 -- the program of these classes, or the line of why there is none
