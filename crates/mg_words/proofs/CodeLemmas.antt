@@ -87,9 +87,9 @@ begun words given none class order steps traced folder = started words given non
   folder = option_map (λ w. w.now) (folder i);
 })
 
-pub begun_keeps : (k : Input) (given : Kept) → given.folder ≡ None → Keeps k (asked_of given)
-begun_keeps input.Sources given none = tt
-begun_keeps input.Classes given none = ap (option_map (λ w. w.now)) none
+pub begun_keeps : (k : Input) → Keeps k None
+begun_keeps input.Sources = tt
+begun_keeps input.Classes = refl
 
 front : (words begin left : List Word) → words ≡ begin ++ left → take (length words - length left) words ≡ begin
 front words begin left e =
@@ -152,7 +152,7 @@ module _ (ran : Input) where
 
   -- an option that can't follow
   pub barred_at : (words : List Word) (given : Kept) (rest : List Word) (option : Named) (word : Word) (behind : List Word)
-      → AreRead words given rest → Keeps ran (asked_of given) → rest ≡ word ∷ behind → word ≡ word_of option
+      → AreRead words given rest → Keeps ran (asked_of given).folder → rest ≡ word ∷ behind → word ≡ word_of option
       → can_follow (asked_of given) option ≡ false → AreWrong (run ∷ words) (Some word)
   barred_at words given rest option word behind h keeps is name barred =
       subst (λ (z : List Word). AreWrong (run ∷ z) (Some word)) (sym (h.stand ∙ ap (λ (z : List Word). words_of h.options ++ z) is))
@@ -160,30 +160,21 @@ module _ (ran : Input) where
 
   -- an option that may not stand
   pub never_at : (words : List Word) (given : Kept) (rest : List Word) (option : Named) (word : Word) (behind : List Word)
-      → AreRead words given rest → Keeps ran (asked_of given) → rest ≡ word ∷ behind → word ≡ word_of option
+      → AreRead words given rest → Keeps ran (asked_of given).folder → rest ≡ word ∷ behind → word ≡ word_of option
       → is_barred ran option ≡ true → AreWrong (run ∷ words) (Some word)
   never_at words given rest option word behind h keeps is name barred =
       subst (λ (z : List Word). AreWrong (run ∷ z) (Some word)) (sym (h.stand ∙ ap (λ (z : List Word). words_of h.options ++ z) is))
       (wrong_barred ran h.options (asked_of given) option word behind h.asks keeps barred name)
 
   -- an option that was read may stand
-  pub keeps_at : (given more next : Kept) (option : Named) (behind left : List Word) → Keeps ran (asked_of given)
-      → is_barred ran option ≡ false → IsMore given option behind more left
-      → ((rs : List RoleClass) → asked_with rs next ≡ asked_with rs more) → Keeps ran (asked_of next)
-  keeps_at given more next option behind left keeps free (full, read, asks) same = go ran free keeps where
-    kind : option ≡ kind_of full
-    kind = same_kind option full behind left read.spelled
-
-    folder : (asked_of next).folder ≡ (with_more full (asked_of given)).folder
-    folder = ap (λ (z : Asked). z.folder) (same []) ∙ ap (λ (z : Asked). z.folder) asks
-
-    go : (k : Input) → is_barred k option ≡ false → Keeps k (asked_of given) → Keeps k (asked_of next)
-    go input.Sources free keeps = tt
-    go input.Classes free keeps =
-        folder ∙ keeps_more input.Classes full (asked_of given) (sym (ap (is_barred input.Classes) kind) ∙ free) keeps
+  pub keeps_at : (given more : Kept) (option : Named) (behind left : List Word) → Keeps ran (asked_of given).folder
+      → is_barred ran option ≡ false → IsMore given option behind more left → Keeps ran (asked_of more).folder
+  keeps_at given more option behind left keeps free (full, read, asks) =
+      subst (Keeps ran) (sym (ap (λ (z : Asked). z.folder) asks))
+      (keeps_more ran full (asked_of given) (sym (ap (is_barred ran) (same_kind option full behind left read.spelled)) ∙ free) keeps)
 
   pub stuck_at : (words : List Word) (given : Kept) (rest : List Word) (option : Named) (word : Word) (behind : List Word)
-      → (wrong : Option (Bor Word)) → AreRead words given rest → Keeps ran (asked_of given) → is_barred ran option ≡ false
+      → (wrong : Option (Bor Word)) → AreRead words given rest → Keeps ran (asked_of given).folder → is_barred ran option ≡ false
       → length words < 2 ^ 64 → rest ≡ word ∷ behind → word ≡ word_of option → IsStep given option behind (step.Stuck wrong)
       → AreWrong (run ∷ words) (option_map (λ w. w.now) wrong)
   stuck_at words given rest option word behind None h keeps free small is name (can, other, none) =
@@ -197,7 +188,7 @@ module _ (ran : Input) where
       (wrong_value ran h.options (asked_of given) option word value.now after h.asks keeps free
       (follows h.options (asked_of given) option h.asks (few_so_far words given rest h small) can) name other isnt)
 
-  pub end_at : (words : List Word) (given : Kept) (rest : List Word) → AreRead words given rest → Keeps ran (asked_of given)
+  pub end_at : (words : List Word) (given : Kept) (rest : List Word) → AreRead words given rest → Keeps ran (asked_of given).folder
       → length rest ≡ 0 → AreWrong (run ∷ words) None
   end_at words given rest h keeps none =
       subst (λ (z : List Word). AreWrong (run ∷ z) None)
@@ -208,7 +199,7 @@ module _ (ran : Input) where
 
   pub lacks_first : (asked : Asked) (files : List Word) (found : Option (Bor Word)) → option_copied found ≡ slice_get files 0
       → 0 < length files → IsPlain files → are_whole asked.roles asked.order ≡ false
-      → (o : List RunOption) → AreGiven o asked → Keeps ran asked → AreWrong (run ∷ (words_of o ++ files)) (option_map (λ w. w.now) found)
+      → (o : List RunOption) → AreGiven o asked → Keeps ran asked.folder → AreWrong (run ∷ (words_of o ++ files)) (option_map (λ w. w.now) found)
   lacks_first asked files found e some plain lacks =
       let (word, rest, is, same) = first_at files found e some in
       λ o h keeps. subst (λ (r : Option Word). AreWrong (run ∷ (words_of o ++ files)) r) (sym same)
@@ -217,13 +208,13 @@ module _ (ran : Input) where
 
   pub wrong_file_at : (asked : Asked) (files : List Word) (word : Word) → are_whole asked.roles asked.order ≡ true → IsPlain files
       → IsFirstOther (IsFor ran) files (Some word)
-      → (o : List RunOption) → AreGiven o asked → Keeps ran asked → AreWrong (run ∷ (words_of o ++ files)) (Some word)
+      → (o : List RunOption) → AreGiven o asked → Keeps ran asked.folder → AreWrong (run ∷ (words_of o ++ files)) (Some word)
   wrong_file_at asked files word whole plain other =
       λ o h keeps. wrong_run_file ran o asked files word (whole_all o asked h whole) keeps plain other
 
   pub runnable_at : (asked : Asked) (files : List Word) (command : Command) → command ≡ made ran asked files
       → are_whole asked.roles asked.order ≡ true → 0 < length files → All (IsFor ran) files
-      → (o : List RunOption) → AreGiven o asked → Keeps ran asked → IsCommand command (run ∷ (words_of o ++ files))
+      → (o : List RunOption) → AreGiven o asked → Keeps ran asked.folder → IsCommand command (run ∷ (words_of o ++ files))
   runnable_at asked files command is whole some each =
       λ o h keeps. subst (λ (z : Command). IsCommand z (run ∷ (words_of o ++ files))) (sym is)
       (runnable ran o asked files (whole_all o asked h whole) keeps (some_filled files some, each)) where

@@ -401,7 +401,7 @@ must_fit o a (Out v) more asked h w =
 -- ---- what may stand where this is run
 
 -- an option that may stand leaves the folder
-pub keeps_more : (k : Input) (x : RunOption) (a : Asked) → is_barred k (kind_of x) ≡ false → Keeps k a → Keeps k (with_more x a)
+pub keeps_more : (k : Input) (x : RunOption) (a : Asked) → is_barred k (kind_of x) ≡ false → Keeps k a.folder → Keeps k (with_more x a).folder
 keeps_more input.Sources x a free h = tt
 keeps_more input.Classes (Main v) a free h = h
 keeps_more input.Classes (Role r) a free h = h
@@ -410,17 +410,17 @@ keeps_more input.Classes (Steps n) a free h = h
 keeps_more input.Classes Trace a free h = h
 keeps_more input.Classes (Out v) a free h = absurd (let e : true ≡ false = free in cc)
 
-pub keeps_main : (k : Input) (v : Word) (a : Asked) → Keeps k a → Keeps k (with_more (Main v) a)
+pub keeps_main : (k : Input) (v : Word) (a : Asked) → Keeps k a.folder → Keeps k (with_more (Main v) a).folder
 keeps_main input.Sources v a h = tt
 keeps_main input.Classes v a h = h
 
-pub keeps_role : (k : Input) (r : RoleClass) (a : Asked) → Keeps k a → Keeps k (with_more (Role r) a)
+pub keeps_role : (k : Input) (r : RoleClass) (a : Asked) → Keeps k a.folder → Keeps k (with_more (Role r) a).folder
 keeps_role input.Sources r a h = tt
 keeps_role input.Classes r a h = h
 
 -- and what may not stand isn't there
 pub not_barred : (k : Input) (o : List RunOption) (a : Asked) (x : RunOption) (more : List RunOption) (asked : Asked) → AreGiven o a
-    → AreAll (o ++ x ∷ more) asked → Keeps k asked → is_barred k (kind_of x) ≡ true → ⊥
+    → AreAll (o ++ x ∷ more) asked → Keeps k asked.folder → is_barred k (kind_of x) ≡ true → ⊥
 not_barred input.Sources o a x more asked h w keeps e = let no : false ≡ true = e in cc
 not_barred input.Classes o a (Main v) more asked h w keeps e = let no : false ≡ true = e in cc
 not_barred input.Classes o a (Role r) more asked h w keeps e = let no : false ≡ true = e in cc

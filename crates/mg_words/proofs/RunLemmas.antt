@@ -13,7 +13,7 @@ use Rattle.mg_words.specs.inner.Judging.{IsFirstOther, has_name, AreGiven, word_
 use Rattle.mg_words.proofs.WordsLemmas.{head_is, tail_is, filled, nothing_behind, All-first, All-rest, All-push, All-mid, none_yet, some_for, for_named, some_class, classed, pushed_filled, IsRunBehind, is_run, run_is, first_wrong, same_translate, same_conform, same_check, same_compile}
 use Rattle.mg_words.proofs.NameLemmas.{here, one_of, in_none, has_is, is_has, have_all, never_both, All-itself, names_push}
 use Rattle.mg_words.proofs.RoleLemmas.{words_of}
-use Rattle.mg_words.proofs.OptionLemmas.{AreAll, values_of, begins_with, same_kind, same_option, no_word, no_option, at_end, given_more, must_fit, keeps_more, not_barred}
+use Rattle.mg_words.proofs.OptionLemmas.{AreAll, values_of, begins_with, same_kind, same_option, no_word, no_option, at_end, given_more, must_fit, keeps_more, keeps_main, keeps_role, not_barred}
 use Rattle.mg_words.proofs.FollowLemmas.{order_right, whole_all, all_given, all_whole, given_one, CanFollow, fits_follow}
 
 -- ---- options behind options
@@ -45,7 +45,7 @@ record Goes (k : Input) (o : List RunOption) (rest : List Word) (command : Comma
   same : command ≡ made k asked files
   words : rest ≡ words_of more ++ files
   sources : AreFor k files
-  keeps : Keeps k asked
+  keeps : Keeps k asked.folder
   all : AreAll (o ++ more) asked
 
 pub all_of : (asked : Asked) (words : List Word) (how : AreOptions asked words) → AreAll how.options asked
@@ -57,6 +57,9 @@ all_of asked words how = record {
   traced = how.traced;
   folder = how.folder;
 }
+
+pub flat_push : (o : List RunOption) (x : RunOption) → words_of (o ++ x ∷ []) ≡ words_of o ++ option_words x
+flat_push o x = flat_map-append option_words o (x ∷ []) ∙ ap (λ (z : List Word). words_of o ++ z) (nothing_behind (option_words x))
 
 module _ (ran : Input) where
   abbrev run : Word
@@ -80,7 +83,7 @@ module _ (ran : Input) where
 
   -- ---- what can begin `run`
 
-  pub runnable : (o : List RunOption) (a : Asked) (files : List Word) → AreAll o a → Keeps ran a → AreFor ran files
+  pub runnable : (o : List RunOption) (a : Asked) (files : List Word) → AreAll o a → Keeps ran a.folder → AreFor ran files
       → IsCommand (made ran a files) (run ∷ (words_of o ++ files))
   runnable o a files w keeps are = run_is ran a files (words_of o ++ files) (
     words_of o,
@@ -100,7 +103,7 @@ module _ (ran : Input) where
   )
 
   -- options and files can be followed by a file
-  begins_run : (o : List RunOption) (a : Asked) (files : List Word) → AreAll o a → Keeps ran a → All (IsFor ran) files
+  begins_run : (o : List RunOption) (a : Asked) (files : List Word) → AreAll o a → Keeps ran a.folder → All (IsFor ran) files
       → CanBegin AreCommand (run ∷ (words_of o ++ files))
   begins_run o a files w keeps each = (
     some_for ran ∷ [],
@@ -113,15 +116,12 @@ module _ (ran : Input) where
     ),
   )
 
-  pub flat_push : (o : List RunOption) (x : RunOption) → words_of (o ++ x ∷ []) ≡ words_of o ++ option_words x
-  flat_push o x = flat_map-append option_words o (x ∷ []) ∙ ap (λ (z : List Word). words_of o ++ z) (nothing_behind (option_words x))
-
   -- what can begin with more words can with fewer
   begins_sooner : (ws more : List Word) → CanBegin AreCommand (run ∷ (ws ++ more)) → CanBegin AreCommand (run ∷ ws)
   begins_sooner ws more (rest, (command, is)) =
       (more ++ rest, (command, subst (IsCommand command) (ap (λ (z : List Word). run ∷ z) (append_assoc ws more rest)) is))
 
-  begins_all : (o : List RunOption) (a : Asked) → AreAll o a → Keeps ran a → CanBegin AreCommand (run ∷ words_of o)
+  begins_all : (o : List RunOption) (a : Asked) → AreAll o a → Keeps ran a.folder → CanBegin AreCommand (run ∷ words_of o)
   begins_all o a w keeps = begins_sooner (words_of o) [] (begins_run o a [] w keeps (none_yet (IsFor ran)))
 
   begins_before : (o : List RunOption) (x : RunOption) → CanBegin AreCommand (run ∷ words_of (o ++ x ∷ []))
@@ -174,7 +174,7 @@ module _ (ran : Input) where
   -- the roles that an order names and that weren't named yet can follow
   begins_named : (todo : List Word) (o : List RunOption) (a : Asked) (rs : List RoleClass) (names : List Word) → AreGiven o a
       → a.roles ≡ Several rs → a.order ≡ Some names → All IsName todo → All (Contains names) todo
-      → ((m : Word) → Contains names m → Contains (role_names rs) m ⊎ Contains todo m) → Keeps ran a → CanBegin AreCommand (run ∷ words_of o)
+      → ((m : Word) → Contains names m → Contains (role_names rs) m ⊎ Contains todo m) → Keeps ran a.folder → CanBegin AreCommand (run ∷ words_of o)
   begins_named [] o a rs names h is ordered named wanted each keeps = begins_all o a (whole_all o a h whole) keeps where
     found : (m : Word) → Contains (role_names rs) m ⊎ Contains [] m → Contains (role_names rs) m
     found m (inl k) = k
@@ -196,7 +196,7 @@ module _ (ran : Input) where
         (λ m k. fewer (rs ++ role_of n ∷ []) n ns m (it_is rs n) (with_it rs n ns m (each m k))) (keeps_role ran (role_of n) a keeps))
   ]
 
-  pub begins_options : (o : List RunOption) (a : Asked) → AreGiven o a → Keeps ran a → CanBegin AreCommand (run ∷ words_of o)
+  pub begins_options : (o : List RunOption) (a : Asked) → AreGiven o a → Keeps ran a.folder → CanBegin AreCommand (run ∷ words_of o)
   begins_options o a h keeps = go (decided (are_whole a.roles a.order)) where
     lacks : (roles : Roles) (order : Option (List Word)) → a.roles ≡ roles → a.order ≡ order → are_whole roles order ≡ false
         → CanBegin AreCommand (run ∷ words_of o)
@@ -215,7 +215,7 @@ module _ (ran : Input) where
     go (inr e) = lacks a.roles a.order refl refl e
 
   -- an option that fits can follow
-  begins_word : (o : List RunOption) (a : Asked) (option : Named) (word : Word) → AreGiven o a → Keeps ran a → is_barred ran option ≡ false
+  begins_word : (o : List RunOption) (a : Asked) (option : Named) (word : Word) → AreGiven o a → Keeps ran a.folder → is_barred ran option ≡ false
       → CanFollow a option → word ≡ word_of option → CanBegin AreCommand (run ∷ (words_of o ++ word ∷ []))
   begins_word o a option word h keeps free (x, kind, fits) is =
       let b =
@@ -233,7 +233,7 @@ module _ (ran : Input) where
   split o word more = ap (λ (z : List Word). run ∷ z) (append_assoc (words_of o) (word ∷ []) more)
 
   -- an option that can't follow
-  pub wrong_option : (o : List RunOption) (a : Asked) (option : Named) (word : Word) (rest : List Word) → AreGiven o a → Keeps ran a
+  pub wrong_option : (o : List RunOption) (a : Asked) (option : Named) (word : Word) (rest : List Word) → AreGiven o a → Keeps ran a.folder
       → can_follow a option ≡ false → word ≡ word_of option
       → AreWrong (run ∷ (words_of o ++ word ∷ rest)) (Some word)
   wrong_option o a option word rest h keeps barred is =
@@ -252,13 +252,13 @@ module _ (ran : Input) where
             by more goes.more goes.files goes.asked (ap (λ (w : Word). w ∷ more) (sym is) ∙ goes.words) goes.sources goes.all
 
   -- an option that may not stand where this is run
-  pub wrong_barred : (o : List RunOption) (a : Asked) (option : Named) (word : Word) (rest : List Word) → AreGiven o a → Keeps ran a
+  pub wrong_barred : (o : List RunOption) (a : Asked) (option : Named) (word : Word) (rest : List Word) → AreGiven o a → Keeps ran a.folder
       → is_barred ran option ≡ true → word ≡ word_of option
       → AreWrong (run ∷ (words_of o ++ word ∷ rest)) (Some word)
   wrong_barred o a option word rest h keeps barred is =
       first_wrong (run ∷ words_of o) word rest (begins_options o a h keeps) (λ b. cannot b.0 b.1.0 b.1.1) where
         by : (more : List Word) (more' : List RunOption) (files : List Word) (asked : Asked) → word_of option ∷ more ≡ words_of more' ++ files
-            → AreFor ran files → Keeps ran asked → AreAll (o ++ more') asked → ⊥
+            → AreFor ran files → Keeps ran asked.folder → AreAll (o ++ more') asked → ⊥
         by more [] files asked e are stays all = no_word ran option more files e are
         by more (x ∷ xs) files asked e are stays all =
             let kind : option ≡ kind_of x =
@@ -282,7 +282,7 @@ module _ (ran : Input) where
   full_option option (Out v) value more r other e = λ i. sym (head_is e) i ∷ sym (head_is (tail_is e)) i ∷ []
 
   -- a value that its option can't have
-  pub wrong_value : (o : List RunOption) (a : Asked) (option : Named) (word value : Word) (rest : List Word) → AreGiven o a → Keeps ran a
+  pub wrong_value : (o : List RunOption) (a : Asked) (option : Named) (word value : Word) (rest : List Word) → AreGiven o a → Keeps ran a.folder
       → is_barred ran option ≡ false → CanFollow a option → word ≡ word_of option
       → option ≢ named.Trace → IsNoValue a option value → AreWrong (run ∷ (words_of o ++ word ∷ value ∷ rest)) (Some value)
   wrong_value o a option word value rest h keeps free can is other isnt =
@@ -304,7 +304,7 @@ module _ (ran : Input) where
             by more goes.more goes.files goes.asked (ap (λ (w : Word). w ∷ value ∷ more) (sym is) ∙ goes.words) goes.sources goes.all
 
   -- a value is lacking
-  pub few_value : (o : List RunOption) (a : Asked) (option : Named) (word : Word) → AreGiven o a → Keeps ran a → is_barred ran option ≡ false
+  pub few_value : (o : List RunOption) (a : Asked) (option : Named) (word : Word) → AreGiven o a → Keeps ran a.folder → is_barred ran option ≡ false
       → CanFollow a option
       → word ≡ word_of option → option ≢ named.Trace
       → AreWrong (run ∷ (words_of o ++ word ∷ [])) None
@@ -327,7 +327,7 @@ module _ (ran : Input) where
         by goes.more goes.files (ap (λ (w : Word). w ∷ []) (sym is) ∙ goes.words) goes.sources
 
   -- files are lacking
-  pub few_more : (o : List RunOption) (a : Asked) → AreGiven o a → Keeps ran a → AreWrong (run ∷ (words_of o ++ [])) None
+  pub few_more : (o : List RunOption) (a : Asked) → AreGiven o a → Keeps ran a.folder → AreWrong (run ∷ (words_of o ++ [])) None
   few_more o a h keeps = (
     subst (λ (z : List Word). CanBegin AreCommand (run ∷ z)) (sym (nothing_behind (words_of o))) (begins_options o a h keeps),
     λ k. cannot k.0 k.1,
@@ -349,7 +349,7 @@ module _ (ran : Input) where
   no_start x files r plain e = plain (kind_of x) (values_of x ++ r) (e ∙ ap (λ (z : List Word). z ++ r) (begins_with x))
 
   -- a file, where a class or roles are lacking
-  pub lacks_role : (o : List RunOption) (a : Asked) (word : Word) (rest : List Word) → AreGiven o a → Keeps ran a → are_whole a.roles a.order ≡ false
+  pub lacks_role : (o : List RunOption) (a : Asked) (word : Word) (rest : List Word) → AreGiven o a → Keeps ran a.folder → are_whole a.roles a.order ≡ false
       → IsPlain (word ∷ rest)
       → AreWrong (run ∷ (words_of o ++ word ∷ rest)) (Some word)
   lacks_role o a word rest h keeps lacks plain = first_wrong (run ∷ words_of o) word rest (begins_options o a h keeps) (λ b. cannot b.0 b.1.0 b.1.1) where
@@ -375,7 +375,7 @@ module _ (ran : Input) where
       λ option rest e. plain option (bs ++ word ∷ after) (ap (λ (w : Word). w ∷ (bs ++ word ∷ after)) (head_is e))
 
   -- a word that is no file of a program
-  pub wrong_run_file : (o : List RunOption) (a : Asked) (files : List Word) (word : Word) → AreAll o a → Keeps ran a → IsPlain files
+  pub wrong_run_file : (o : List RunOption) (a : Asked) (files : List Word) (word : Word) → AreAll o a → Keeps ran a.folder → IsPlain files
       → IsFirstOther (IsFor ran) files (Some word) → AreWrong (run ∷ (words_of o ++ files)) (Some word)
   wrong_run_file o a files word w keeps plain (before, after, stands, each, isnt) =
       subst (λ (z : List Word). AreWrong (run ∷ z) (Some word))

@@ -138,13 +138,19 @@ pub source_named : IsSourceName some_source
 source_named = (named.0, (Scribble, named.1))
 
 -- a file for a run
+abbrev pub some_class_file : Word
+some_class_file = codes "C.class"
+
+class_named : IsFileOf (codes ".class") some_class_file
+class_named = (λ e. cc, (codes "C", refl))
+
 abbrev pub some_for : Input → Word
 some_for input.Sources = some_source
-some_for input.Classes = codes "C.class"
+some_for input.Classes = some_class_file
 
 pub for_named : (k : Input) → IsFor k (some_for k)
 for_named input.Sources = source_named
-for_named input.Classes = (λ e. cc, (codes "C", refl))
+for_named input.Classes = class_named
 
 free : reserved some_class ≡ None
 unfolding reserved
@@ -296,7 +302,7 @@ is_compile (Exec asked files) rest (r, e, b) = compile_exec (head_is e)
 
 -- what stands behind the word of a run
 abbrev pub IsRunBehind : Input → Asked → (files rest : List Word) → Type 0
-IsRunBehind k asked files rest = (options : List Word) × (rest ≡ options ++ files) × AreOptions asked options × Keeps k asked × AreFor k files
+IsRunBehind k asked files rest = (options : List Word) × (rest ≡ options ++ files) × AreOptions asked options × Keeps k asked.folder × AreFor k files
 
 pub is_run : (k : Input) (command : Command) (rest : List Word) → IsCommand command (verb_of k ∷ rest)
     → (asked : Asked) × (files : List Word) × (command ≡ made k asked files) × IsRunBehind k asked files rest

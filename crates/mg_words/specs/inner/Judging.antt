@@ -104,9 +104,9 @@ abbrev pub AreFor : Input → List Word → Type 0
 AreFor k files = (files ≢ []) × All (IsFor k) files
 
 -- no folder is named for class files that are there
-abbrev pub Keeps : Input → Asked → Type 0
-Keeps input.Sources asked = ⊤
-Keeps input.Classes asked = asked.folder ≡ None
+abbrev pub Keeps : Input → (folder : Option Word) → Type 0
+Keeps input.Sources folder = ⊤
+Keeps input.Classes folder = folder ≡ None
 
 -- some words are this command
 abbrev pub IsKnown : Command → Type 0
@@ -306,4 +306,4 @@ IsStep given option words step.Barred = can_follow (asked_of given) option ≡ f
 -- what the words are, where these files stand behind options that ask for this
 abbrev pub IsRunnable : Input → Asked → List Word → Judged → Type 0
 IsRunnable k asked files result =
-    (options : List RunOption) → AreGiven options asked → Keeps k asked → IsJudged (verb_of k ∷ (flat_map option_words options ++ files)) result
+    (options : List RunOption) → AreGiven options asked → Keeps k asked.folder → IsJudged (verb_of k ∷ (flat_map option_words options ++ files)) result

@@ -5,7 +5,7 @@ use Rattle.mg_words.proofs.runs.judge_run.Goals as goal
 pub loop-word-init : goal.loop-word-init
 loop-word-init c = record {
   read = begun c.args.words.now _ refl refl refl refl refl refl;
-  keeps = begun_keeps c.args.input _ refl;
+  keeps = begun_keeps c.args.input;
 }
 
 pub returns-then-is_barred : goal.returns-then-is_barred
@@ -17,8 +17,8 @@ pub loop-word-preserved : goal.loop-word-preserved
 loop-word-preserved c = record {
   read = more_at c.args.words.now c.loop-word.asked _ _ _ _ c.in-More.more _ c.in-More.left.now c.loop-word.invariant.read
       c.in-Some.ensures.cases.0 c.in-Some-option_named.ensures c.in-More.ensures refl (λ rs. refl);
-  keeps = keeps_at c.args.input c.loop-word.asked c.in-More.more _ _ _ c.in-More.left.now c.loop-word.invariant.keeps
-      (sym c.if-is_barred.ensures) c.in-More.ensures (λ rs. refl);
+  keeps = keeps_at c.args.input c.loop-word.asked c.in-More.more _ _ c.in-More.left.now c.loop-word.invariant.keeps
+      (sym c.if-is_barred.ensures) c.in-More.ensures;
 }
 
 pub returns-in-Stuck : goal.returns-in-Stuck

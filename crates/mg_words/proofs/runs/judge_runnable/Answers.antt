@@ -16,4 +16,4 @@ returns-in-Some c =
 pub returns : goal.returns
 returns c =
     runnable_at c.args.input (asked_of c.args.asked) c.args.files.now _ c.command.ensures (sym c.if-not-is_whole.ensures) c.requires.some
-    c.in-None.ensures
+    c.in_default.ensures
