@@ -22,23 +22,23 @@ use Rattle.mg_exec.specs.declared.ran.Ran.{Ran}
 use Rattle.mg_exec.specs.Files.{AreFiles}
 use Rattle.mg_exec.specs.Runs.{Course, IsProgram, HaveMains, IsRun, Refusal, unread, unlinked, no_main}
 use Rattle.mg_exec.specs.View.{Shows, IsRunning, IsThatRun}
-use Rattle.mg_exec.proofs.Reading.{none_refused}
+use Rattle.mg_exec.proofs.FilesRead.{none_refused}
 
 -- files are one list of classes
-one_files : (files : List Source) (as bs : List File) → AreFiles files as → AreFiles files bs → as ≡ bs
+one_files : (files : List Source) (cs bs : List File) → AreFiles files cs → AreFiles files bs → cs ≡ bs
 one_files [] [] [] h g = refl
 one_files [] [] (b ∷ bs) h g = absurd g
-one_files [] (a ∷ as) bs h g = absurd h
+one_files [] (c ∷ cs) bs h g = absurd h
 one_files (f ∷ fs) [] bs h g = absurd h
-one_files (f ∷ fs) (a ∷ as) [] h g = absurd g
-one_files (f ∷ fs) (a ∷ as) (b ∷ bs) (first, rest) (other, others) =
+one_files (f ∷ fs) (c ∷ cs) [] h g = absurd g
+one_files (f ∷ fs) (c ∷ cs) (b ∷ bs) (first, rest) (other, others) =
     ap₂ (λ y ys. y ∷ ys)
-    (one_spelled a b first.spells.file other.spells.file (sym first.spells.layout ∙ other.spells.layout)) (one_files fs as bs rest others)
+    (one_spelled c b first.spells.file other.spells.file (sym first.spells.layout ∙ other.spells.layout)) (one_files fs cs bs rest others)
 
 -- and one program
 one_program : (files : List Source) (p q : Program) → IsProgram files p → IsProgram files q → p ≡ q
-one_program files p q (as, are, links) (bs, others, links') =
-    let same : as ≡ bs = one_files files as bs are others in
+one_program files p q (cs, are, links) (bs, others, links') =
+    let same : cs ≡ bs = one_files files cs bs are others in
     links.program ∙ ap linked same ∙ sym links'.program
 
 -- what has no flaw isn't refused

@@ -1,4 +1,4 @@
 pub mod Saying
-pub mod Reading
+pub mod FilesRead
 pub mod Shown
 pub mod Apart

@@ -2,8 +2,7 @@
 use Rattle.std.proofs.Common.{◌≡◌, ℕ, List, [], Option, Some, None, Err, refl, sym, ap, ◌∙◌, subst}
 use Rattle.std.specs.Prelude.{option_map}
 use Rattle.cls_tree.specs.Tree.{Class as File}
-use Rattle.cls_code.specs.declared.CodeFault.{CodeFault}
-use Rattle.cls_code.specs.declared.CodeFault.TheVariants as codes_of
+use Rattle.cls_tree.specs.declared.class.Class.{Class}
 use Rattle.cls_bytes.specs.declared.ClassFault.{ClassFault}
 use Rattle.cls_bytes.specs.declared.ClassFault.TheVariants as faults
 use Rattle.cls_bytes.specs.Faults.{Fails}
@@ -29,7 +28,7 @@ refusal_told file fault said e (stops.Refused line) is = (fault, sym e, is)
 refusal_told file fault said e stops.Memory is = tt
 
 -- a fault of which something is said is one of the bytes, and not want of memory
-pub theirs : (bytes : List ℕ) (fault : ClassFault) (said : Fault) → IsTheirFault {A = File} bytes (Err fault) → class_fault fault ≡ Some said →
+pub theirs : (bytes : List ℕ) (fault : ClassFault) (said : Fault) → IsTheirFault {A = Class} bytes (Err fault) → class_fault fault ≡ Some said →
     Fails bytes fault
 theirs bytes (faults.BadMagic n) said h e = h
 theirs bytes (faults.Version n) said h e = h

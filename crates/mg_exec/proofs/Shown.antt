@@ -3,7 +3,7 @@ use Rattle.std.proofs.Common.{◌≡◌, ℕ, zero, suc, List, [], ◌∷◌, �
 use Rattle.std.proofs.lemmas.Option.{get_or_from_slice_get}
 use Rattle.cls_tree.specs.Tree.{Class as File}
 use Rattle.vm_model.specs.Program.{Program}
-use Rattle.vm_model.specs.declared.linked.Linked.{Linked}
+use Rattle.vm_model.specs.declared.program.Linked.{Linked}
 use Rattle.vm_world_law.specs.declared.role.RoleMain.{RoleMain}
 use Rattle.mg_sources.specs.Files.{Source}
 use Rattle.mg_sources.specs.View.{IsStop}

@@ -6,7 +6,7 @@ use Rattle.cls_tree.specs.Tree.{Class as File}
 use Rattle.vm_model.specs.Program.{Program}
 use Rattle.vm_model.specs.Links.{Flaw, IsUnlinked}
 use Rattle.vm_model.specs.View.{classes_of}
-use Rattle.vm_model.specs.declared.linked.Linked.{Linked}
+use Rattle.vm_model.specs.declared.program.Linked.{Linked}
 use Rattle.vm_world_law.specs.declared.role.RoleEvent.{RoleEvent}
 use Rattle.vm_world_law.specs.declared.role.RoleMain.{RoleMain}
 use Rattle.vm_world_law.specs.World.{World, IsBegun}

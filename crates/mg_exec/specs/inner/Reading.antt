@@ -7,7 +7,7 @@ use Rattle.cls_tree.specs.declared.class.Class.{Class}
 use Rattle.mg_text.specs.Row.{Row}
 use Rattle.vm_model.specs.Links.{Flaw, Links, IsUnlinked}
 use Rattle.vm_model.specs.View.{classes_of}
-use Rattle.vm_model.specs.declared.linked.Linked.{Linked}
+use Rattle.vm_model.specs.declared.program.Linked.{Linked}
 use Rattle.mg_sources.specs.Files.{Source}
 use Rattle.mg_sources.specs.declared.stop.Stop.{Stop}
 use Rattle.mg_sources.specs.declared.stop.Stop.TheVariants as stops

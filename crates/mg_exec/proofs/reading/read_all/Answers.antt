@@ -5,7 +5,7 @@ use Rattle.cls_tree.specs.declared.class.Class.{Class}
 use Rattle.mg_sources.specs.declared.stop.Stop.{Stop}
 use Rattle.mg_sources.specs.Files.{source_of, sources}
 use Rattle.mg_sources.proofs.PartLemmas.{source_is, source_within, sources_length}
-use Rattle.mg_exec.proofs.Reading.{ReadSoFar, read_start, read_more, read_stopped, read_end}
+use Rattle.mg_exec.proofs.FilesRead.{ReadSoFar, read_start, read_more, read_stopped, read_end}
 use Rattle.mg_exec.proofs.reading.read_all.Goals as goal
 
 abbrev failed : Stop → Result (Row Class) Stop

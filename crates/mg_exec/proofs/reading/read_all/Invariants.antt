@@ -1,5 +1,5 @@
 use Rattle.mg_sources.specs.Files.{sources}
-use Rattle.mg_exec.proofs.Reading.{ReadSoFar}
+use Rattle.mg_exec.proofs.FilesRead.{ReadSoFar}
 use Rattle.mg_exec.proofs.reading.read_all.Given as goal
 
 abbrev pub invariant-loop-number : goal.invariant-loop-number

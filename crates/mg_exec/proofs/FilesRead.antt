@@ -28,7 +28,7 @@ too_many n big small = omega (arith, big, small)
 
 -- a file that is a class isn't refused
 are_bytes : (bytes : List ℕ) → All IsU1 bytes → (i : ℕ) → get_or bytes i 0 < 256
-are_bytes [] h i = omega (arith, get_or_past [] i 0 (omega arith))
+are_bytes [] h i = omega (arith, get_or_past {X = ℕ} [] i 0 (omega arith))
 are_bytes (b ∷ bytes) h zero = h 0 0 (omega arith)
 are_bytes (b ∷ bytes) h (suc i) = are_bytes bytes (λ k d lt. h (suc k) d (omega arith)) i
 
@@ -62,7 +62,7 @@ read_right source class fits small spells = record { bytes = each source.bytes f
     each (b ∷ bytes) h (suc k) d lt = each bytes (λ i. h (suc i)) k d (omega arith)
 
 pub read_failed : (source : Source) (fault : ClassFault) (stop : Stop) → length source.bytes ≤ most_bytes →
-    IsTheirFault {A = File} source.bytes (Err fault) → IsRefusal source.name (class_fault fault) stop → IsReadOf source (Err stop)
+    IsTheirFault {A = Class} source.bytes (Err fault) → IsRefusal source.name (class_fault fault) stop → IsReadOf source (Err stop)
 read_failed source fault (stops.Refused line) small fails (said, e, is) = (said, field small (theirs source.bytes fault said fails e) e, is)
 read_failed source fault stops.Memory small fails is = tt
 
