@@ -4,6 +4,8 @@ pub mod ReadingLemmas
 pub mod RoleLemmas
 pub mod CommandLemmas
 pub mod ConformLemmas
+pub mod ExecLemmas
+pub mod RoleLemmas
 pub mod Unbroken
 pub mod Exact
 pub mod Promised

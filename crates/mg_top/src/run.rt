@@ -60,8 +60,8 @@ pub fn run(
     }
 }
 
-// The roles of the run, each with the class whose `main` it runs.
-fn mains_of(alloc: Global, asked: &Asked<'_>) -> Result<List<RoleMain>, Memory>
+/// The roles of the run, each with the class whose `main` it runs.
+pub(crate) fn mains_of(alloc: Global, asked: &Asked<'_>) -> Result<List<RoleMain>, Memory>
     requires { IsAsked (asked_of asked.now) }
     ensures items { IfOk result (λ l. l.items ≡ role_mains_of (asked_of asked.now)) }
     ensures distinct { IsDistinct bytes_eq (role_names (mains_of (asked_of asked.now))) }
@@ -76,8 +76,8 @@ fn mains_of(alloc: Global, asked: &Asked<'_>) -> Result<List<RoleMain>, Memory>
     Ok(mains)
 }
 
-// How many instructions the run may take.
-fn limit_of(asked: &Asked<'_>) -> u32
+/// How many instructions the run may take.
+pub(crate) fn limit_of(asked: &Asked<'_>) -> u32
     ensures { result ≡ limit_of (asked_of asked.now) }
 {
     match asked.steps {
@@ -128,8 +128,8 @@ fn keep(
     }
 }
 
-// The trace of a run, and a line for each of its roles.
-fn said_of(
+/// The trace of a run, and a line for each of its roles.
+pub(crate) fn said_of(
     alloc: Global,
     trace: &Text,
     mains: &[RoleMain],
@@ -234,8 +234,8 @@ fn kind_word(kind: BadKind) -> &'static str
     }
 }
 
-// The status of a run whose roles stand so: the first that applies.
-fn status_of(roles: &[RoleRan]) -> Status
+/// The status of a run whose roles stand so: the first that applies.
+pub(crate) fn status_of(roles: &[RoleRan]) -> Status
     ensures { result ≡ status_of (map (λ r. r.stand) roles.now) }
 {
     if any_bound(roles) {
