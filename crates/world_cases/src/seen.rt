@@ -52,6 +52,9 @@ impl Seen {
     /// Adds a line that tells of the role of this name.
     pub fn tell(&self, text: &mut String, role: &str) -> Result<(), AllocError> {
         let (steps, stand, count) = (self.steps, self.stand.as_str(), self.count);
-        writeln!(text, "{role}: {steps} instructions, {stand}, {count} events")
+        writeln!(
+            text,
+            "{role}: {steps} instructions, {stand}, {count} events"
+        )
     }
 }

@@ -23,7 +23,7 @@ struct BothSeen {
 
 /// What the roles of a case come to in the plain order, and whether they do under each of its lists.
 pub fn told(alloc: Global, classes: &[Class], given: &Given<'_>) -> Result<String, Unanswered> {
-    let plain = played(alloc, classes, given, Turns::plain())?;
+    let plain = played(alloc, classes, given, Turns::Plain)?;
     let mut text = String::new(alloc);
     plain.client.tell(&mut text, "C")?;
     plain.server.tell(&mut text, "S")?;
@@ -96,11 +96,12 @@ fn rests(alloc: Global, world: &mut World, mut turns: Turns) -> Result<bool, Mem
     requires { length world.old.world.roles ≡ 2 }
     ensures { length world.new.world.roles ≡ 2 }
 {
-    for _ in 0..MOST {
+    for number in 0..MOST {
         if world.at_rest() {
             return Ok(true);
         }
-        take_turn(alloc, world, turns.next())?;
+        let role = turns.role(number);
+        take_turn(alloc, world, role)?;
     }
     Ok(false)
 }
