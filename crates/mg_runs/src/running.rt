@@ -17,7 +17,7 @@ ghost use Rattle.mg_runs.specs.View.{IsRunning, IsThatRun};
 ghost use Rattle.mg_runs.specs.inner.Going.{IsRunOf, told};
 
 use crate::going::{Gone, go};
-use crate::laws::{protocols_agree, roles_are_meant, roles_keep, runs_are_meant};
+use crate::laws::{protocols_agree, roles_are_meant, roles_keep, roles_play, runs_are_meant};
 use crate::loading::load_back;
 use crate::mains::first_without;
 use crate::ran::Ran;
@@ -86,6 +86,7 @@ fn ran_roles(
 {
     roles_are_meant();
     roles_keep();
+    roles_play();
     protocols_agree();
     let program = accept(alloc, names, contents)?;
     match first_without(&program.core, mains) {

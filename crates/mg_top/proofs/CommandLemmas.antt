@@ -1,5 +1,5 @@
 -- What the functions of the commands answer.
-use Rattle.std.proofs.Common.{◌≡◌, ℕ, Bool, map, List, [], ◌∷◌, ◌++◌, All, codes, inl, inr, Option, None, refl, sym, ap, ◌∙◌, subst, append_assoc}
+use Rattle.std.proofs.Common.{◌≡◌, ℕ, Bool, map, List, [], ◌∷◌, ◌++◌, All, codes, inl, inr, Option, None, sym, ap, ◌∙◌, subst, append_assoc}
 use Rattle.std.specs.Prelude.{IfOk, Result, Ok, Err, if◌then◌else◌}
 use Rattle.mg_text.specs.declared.memory.Memory.{Memory}
 use Rattle.mg_top.specs.declared.status.Status.{Status}
@@ -19,7 +19,7 @@ use Rattle.mg_runs.proofs.Naming.{any-map}
 use Rattle.mg_runs.specs.declared.ran.Ran.{Ran}
 use Rattle.mg_runs.specs.Lines.{role_lines}
 use Rattle.mg_runs.specs.Runs.{names_of}
-use Rattle.mg_runs.specs.Headline.{Course, IsRun}
+use Rattle.mg_runs.specs.Headline.{Course}
 use Rattle.mg_runs.specs.View.{Shows, IsOfRun}
 use Rattle.mg_top.specs.Commands.{Yields, prints, kept_in, role_mains_of, run_said, run_printed, status_of, checked, ran}
 use Rattle.mg_top.specs.Commands as commands

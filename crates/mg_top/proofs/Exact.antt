@@ -19,7 +19,7 @@ use Rattle.mg_top.specs.Lines.{not_offered_line}
 use Rattle.mg_sources.specs.Files.{Source, sources}
 use Rattle.mg_top.specs.Conformance.{calls_of, Conforms, complete, unfinished, not_offered, Lists, IsNoList, bad_line}
 use Rattle.mg_top.specs.Conformance as conformance
-use Rattle.mg_sources.specs.Reading.{Protocol, Reads}
+use Rattle.mg_sources.specs.Reading.{Protocol}
 use Rattle.mg_sources.specs.Sources.{Refusal, refused, same_role}
 use Rattle.mg_sources.proofs.OneKind.{one_part}
 use Rattle.mg_sources.proofs.PartLemmas.{not_refused}

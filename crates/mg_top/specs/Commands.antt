@@ -1,5 +1,5 @@
 -- What each command gives: what it does about the contents that were read of its files, in their order, and the status that it then has.
-use Rattle.std.specs.Prelude.{◌≡◌, ℕ, List, [], ◌∷◌, ◌++◌, map, Option, Some, None, if◌then◌else◌}
+use Rattle.std.specs.Prelude.{ℕ, List, [], ◌∷◌, ◌++◌, map, Option, Some, None, if◌then◌else◌}
 use Rattle.std.specs.List.{list_any}
 use Rattle.scr_tree.specs.Tree.{LocalTree}
 use Rattle.mg_calls.specs.Calls.{CallAt}

@@ -25,6 +25,7 @@ use std::alloc::Global;
 
 // How much is read of a file of a protocol, a typestate, classes or calls, and of a class file.
 const SOURCE_LIMIT: usize = 1_048_577;
+
 const CLASS_LIMIT: usize = 16_777_217;
 
 /// Runs the command that the words are, with the folder's files. What it says goes to `out`, and

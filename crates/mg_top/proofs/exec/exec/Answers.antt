@@ -33,6 +33,7 @@ exec_roles-requires-clause-order c =
 pub returns-in-Err-Refused : goal.returns-in-Err-Refused
 returns-in-Err-Refused c =
     let h = rw c.in-Err-Refused.field-0-is at c.in-Err-Refused.ensures in
-    gives _ _ _ _ c.said.result c.said.ensures.actions c.said.ensures.status
+    let a = rw c.in-Err-Refused.field-0-is at c.said.ensures.actions in
+    gives _ _ _ _ c.said.result a c.said.ensures.status
     (exec (not_executed (subst (λ (z : List RoleMain). Refusal (sources c.args.names.now c.args.contents.now) z c.in-Err-Refused.line)
     (c.as_slice-roles.ensures.items ∙ c.in_ok-mains.ensures.items) h.answered)))

@@ -1,11 +1,7 @@
-use Rattle.std.proofs.Common.{◌∙◌, ap, subst}
+use Rattle.std.proofs.Common.{◌∙◌}
 use Rattle.mg_words.specs.inner.Judging.{asked_of}
-use Rattle.vm_world_law.specs.declared.role.RoleMain.{RoleMain}
-use Rattle.mg_sources.specs.Files.{sources}
-use Rattle.mg_runs.specs.Commanded.{Refusal}
-use Rattle.mg_top.specs.Commands.{run, not_run}
 use Rattle.mg_top.proofs.CommandLemmas.{gives, run_given}
-use Rattle.mg_top.proofs.RoleLemmas.{roles_distinct, numbers_below, each_numbered}
+use Rattle.mg_top.proofs.RoleLemmas.{roles_distinct, numbers_below, each_numbered, refusal_given}
 use Rattle.mg_top.proofs.run.run.Goals as goal
 
 pub returns-in-Ok : goal.returns-in-Ok
@@ -28,6 +24,6 @@ run_roles-requires-clause-order c =
 pub returns-in-Err-Refused : goal.returns-in-Err-Refused
 returns-in-Err-Refused c =
     let h = rw c.in-Err-Refused.field-0-is at c.in-Err-Refused.ensures in
-    gives _ _ _ _ c.said.result c.said.ensures.actions c.said.ensures.status
-    (run (not_run (subst (λ (z : List RoleMain). Refusal (sources c.args.names.now c.args.contents.now) z c.in-Err-Refused.line)
-    (c.as_slice-roles.ensures.items ∙ c.in_ok-mains.ensures.items) h.answered)))
+    let a = rw c.in-Err-Refused.field-0-is at c.said.ensures.actions in
+    gives _ _ _ _ c.said.result a c.said.ensures.status
+    (refusal_given (asked_of c.args.asked.now) c.args.names.now c.args.contents.now _ _ (c.as_slice-roles.ensures.items ∙ c.in_ok-mains.ensures.items) h.answered)
