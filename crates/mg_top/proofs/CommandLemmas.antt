@@ -169,8 +169,15 @@ pub unread_of : (words : List Word) (before : Outside) (command : Command) (name
     → IsCommand command words → names ≡ files_of command → limit ≡ read_limit command → names ≡ front ++ name ∷ rest → AreRead limit before.files front contents
     → IsUnread words before name
 unread_of words before command names name front rest contents limit is named most stands read =
-    record { command = command; is = is; front = front; rest = rest; stands = sym named ∙ stands; contents = contents;
-      read = subst (λ (n : ℕ). AreRead n before.files front contents) most read }
+    record {
+      command = command;
+      is = is;
+      front = front;
+      rest = rest;
+      stands = sym named ∙ stands;
+      contents = contents;
+      read = subst (λ (n : ℕ). AreRead n before.files front contents) most read;
+    }
 
 -- ---- the writes of translations
 
