@@ -92,12 +92,7 @@ fn world_of<R: Files>(
 }
 
 // The calls of a stream that fail.
-fn failing(
-    alloc: Global,
-    head: &str,
-    stream: &str,
-    turn: Turn<'_>,
-) -> Result<NumberList, Memory> {
+fn failing(alloc: Global, head: &str, stream: &str, turn: Turn<'_>) -> Result<NumberList, Memory> {
     if turn.stream == stream {
         return NumberList::of(alloc, &[turn.call]);
     }
