@@ -16,12 +16,8 @@ ghost use Rattle.mg_runs.specs.Runs.{HaveMains};
 ghost use Rattle.mg_runs.specs.View.{IsRunning, IsThatRun};
 ghost use Rattle.mg_runs.specs.inner.Going.{IsRunOf, told};
 
-<<<<<<< HEAD
-use crate::laws::{protocols_agree, roles_are_meant, roles_keep, roles_play, runs_are_meant};
-=======
 use crate::going::{Gone, go};
-use crate::laws::{protocols_agree, roles_are_meant, roles_keep, runs_are_meant};
->>>>>>> 4dfd6f6fa4ec40c588e030993eb1c278e245b0ec
+use crate::laws::{protocols_agree, roles_are_meant, roles_keep, roles_play, runs_are_meant};
 use crate::loading::load_back;
 use crate::mains::first_without;
 use crate::ran::Ran;
