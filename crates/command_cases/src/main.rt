@@ -16,6 +16,8 @@
 //! err fails 0                   the same of standard error
 //! folder fails 4                and of the folder, whose reads and writes are counted together
 //! each folder                   each call of the folder, of `out` or of `err` fails in turn
+//! each front A.class            of a file each front alone is there in turn, or each bit of it is
+//! each bit A.class              another
 //! shows a.txt                   files whose contents are told afterwards
 //! bytes A.class                 files whose bytes are told afterwards, in hexadecimal digits
 //! ```
@@ -23,6 +25,7 @@
 
 mod classes;
 mod given;
+mod torn;
 mod world;
 
 use crate::world::answer;

@@ -3,6 +3,7 @@
 
 use crate::classes::files_for;
 use crate::given::{are_clear, line_of, numbers_of, words_of};
+use crate::torn::{each_bit, each_front};
 use mg_io::{FileList, Folder, HostFolder, IoFault, MemFolder, MemSink, NumberList};
 use mg_text::Memory;
 use mg_top::{Status, mungo};
@@ -56,7 +57,8 @@ impl Turn<'_> {
 /// The most calls of a stream that are let fail in turn.
 const MOST_CALLS: u32 = 40;
 
-// What it leaves where each call of a stream fails in turn, and then where none fails.
+// What it leaves where each call of a stream fails in turn, and then where none fails; or how it
+// ends for each front of a file, and for each bit of it that is another.
 fn answer_each<R: Files>(
     alloc: Global,
     rt: &R,
@@ -64,6 +66,14 @@ fn answer_each<R: Files>(
     files: &str,
     stream: &str,
 ) -> Result<String, Memory> {
+    if let Some((what, name)) = stream.split_once(' ') {
+        let world = world_of(alloc, rt, head, files, Turn::NONE)?;
+        let words = words_of(alloc, line_of(head, "mungo "))?;
+        return match what {
+            "front" => each_front(alloc, words.as_slice(), &world.folder, name),
+            _ => each_bit(alloc, words.as_slice(), &world.folder, name),
+        };
+    }
     let whole = world_of(alloc, rt, head, files, Turn::NONE)?.answer(alloc, head)?;
     let mut told = String::new(alloc);
     for call in 0..MOST_CALLS {

@@ -122,12 +122,7 @@ fn run(
 }
 
 // The trace of these events, where it is asked for.
-fn told(
-    alloc: Global,
-    names: &[Text],
-    events: &[RoleEvent],
-    traced: bool,
-) -> Result<Text, Memory>
+fn told(alloc: Global, names: &[Text], events: &[RoleEvent], traced: bool) -> Result<Text, Memory>
     ensures { IfOk result (λ t. t ≡ told names.now events.now traced) }
 {
     if traced {

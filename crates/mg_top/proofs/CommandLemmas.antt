@@ -155,12 +155,15 @@ said_due words before at status line wanted (Ok d) a s e due left =
 said_due words before at status line wanted (Err e) a s is due left = left
 
 -- what a command gives is due
-pub given_due : (words : List Word) (before at : Outside) (command : Command) (names : List Word) (contents given : List (List ℕ)) (r : Result Delivery Memory) → IsCommand command words → names ≡ files_of command → AreRead (read_limit command) before.files names contents → given ≡ contents → at ≡ before
+pub given_due : (words : List Word) (before at : Outside) (command : Command) (names : List Word) (contents given : List (List ℕ)) (limit : ℕ) (r : Result Delivery Memory)
+    → IsCommand command words → names ≡ files_of command → limit ≡ read_limit command → AreRead limit before.files names contents → given ≡ contents → at ≡ before
     → IfOk r (λ d. Yields command given d.actions.items d.status) → IsPrepared words before r at
-given_due words before at command names contents given (Ok d) is named read e same y =
+given_due words before at command names contents given limit (Ok d) is named most read e same y =
+    let whole : AreRead (read_limit command) before.files names contents = subst (λ (n : ℕ). AreRead n before.files names contents) most read in
     subst (λ (z : Outside). IsDue words before d.actions.items d.status z) (sym same)
-    (yielded command contents is (subst (λ (z : List Word). AreRead (read_limit command) before.files z contents) named read) (subst (λ (z : List (List ℕ)). Yields command z d.actions.items d.status) e y))
-given_due words before at command names contents given (Err x) is named read e same y = inl same
+    (yielded command contents is (subst (λ (z : List Word). AreRead (read_limit command) before.files z contents) named whole)
+    (subst (λ (z : List (List ℕ)). Yields command z d.actions.items d.status) e y))
+given_due words before at command names contents given limit (Err x) is named most read e same y = inl same
 
 -- a file that couldn't be read is due
 pub unread_due : (words : List Word) (before at : Outside) (name : Word) → IsUnread words before name → at ≡ after_read before name → IsDue words before (Say (read_line name) ∷ []) statuses.ReadFault at
@@ -172,10 +175,19 @@ starved_due words before at (inl e) = subst (λ (z : Outside). IsDue words befor
 starved_due words before at (inr (name, may, e)) = subst (λ (z : Outside). IsDue words before (Say memory_line ∷ []) statuses.Memory z) (sym e) (mute name may)
 
 -- the file that a command couldn't read
-pub unread_of : (words : List Word) (before : Outside) (command : Command) (names : List Word) (name : Word) (front rest : List Word) (contents : List (List ℕ))
-    → IsCommand command words → names ≡ files_of command → names ≡ front ++ name ∷ rest → AreRead (read_limit command) before.files front contents → IsUnread words before name
-unread_of words before command names name front rest contents is named stands read =
-    record { command = command; is = is; front = front; rest = rest; stands = sym named ∙ stands; contents = contents; read = read }
+pub unread_of : (words : List Word) (before : Outside) (command : Command) (names : List Word) (name : Word) (front rest : List Word) (contents : List (List ℕ)) (limit : ℕ)
+    → IsCommand command words → names ≡ files_of command → limit ≡ read_limit command → names ≡ front ++ name ∷ rest → AreRead limit before.files front contents
+    → IsUnread words before name
+unread_of words before command names name front rest contents limit is named most stands read =
+    record {
+      command = command;
+      is = is;
+      front = front;
+      rest = rest;
+      stands = sym named ∙ stands;
+      contents = contents;
+      read = subst (λ (n : ℕ). AreRead n before.files front contents) most read;
+    }
 
 -- ---- the writes of translations
 

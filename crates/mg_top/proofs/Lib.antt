@@ -5,7 +5,6 @@ pub mod RoleLemmas
 pub mod CommandLemmas
 pub mod ConformLemmas
 pub mod ExecLemmas
-pub mod RoleLemmas
 pub mod Unbroken
 pub mod Exact
 pub mod Promised
