@@ -35,7 +35,7 @@ use std::alloc::Global;
 use std::rt::Files;
 
 /// The files of cases, in the order in which they are answered.
-const FILES: [&str; 11] = [
+const FILES: [&str; 12] = [
     "translate.txt",
     "conform.txt",
     "check.txt",
@@ -46,6 +46,7 @@ const FILES: [&str; 11] = [
     "roles.txt",
     "exec.txt",
     "faults.txt",
+    "refine.txt",
     "words.txt",
 ];
 

@@ -5,9 +5,9 @@ use Rattle.mg_text.specs.declared.memory.Memory.{Memory}
 use Rattle.mg_top.specs.declared.status.Status.{Status}
 use Rattle.mg_top.specs.declared.status.Status.TheVariants as statuses
 use Rattle.mg_top.specs.declared.delivery.Action.{Action}
-use Rattle.mg_top.specs.declared.delivery.Action.TheVariants.{Say}
+use Rattle.mg_top.specs.declared.delivery.Action.TheVariants.{Print, Say}
 use Rattle.mg_top.specs.declared.delivery.Delivery.{Delivery}
-use Rattle.mg_words.specs.Words.{Word, Asked, limit_of, order_of, are_named, Command, Check, Run, files_of, IsCommand, IsFileOf}
+use Rattle.mg_words.specs.Words.{Word, Asked, limit_of, order_of, are_named, Command, Check, Run, Refine, files_of, IsCommand, IsFileOf}
 use Rattle.mg_top.specs.Lines.{read_line, memory_line}
 use Rattle.mg_compile.specs.declared.files.ClassFile.{ClassFile}
 use Rattle.vm_world_law.specs.declared.role.RoleMain.{RoleMain}
@@ -21,7 +21,8 @@ use Rattle.mg_runs.specs.Lines.{role_lines}
 use Rattle.mg_runs.specs.Runs.{names_of}
 use Rattle.mg_runs.specs.Headline.{Course}
 use Rattle.mg_runs.specs.View.{Shows, IsOfRun}
-use Rattle.mg_top.specs.Commands.{Yields, prints, kept_in, role_mains_of, run_said, run_printed, status_of, checked, ran}
+use Rattle.mg_top.specs.Commands.{Yields, prints, kept_in, role_mains_of, run_said, run_printed, status_of, checked, ran, refined, refined_status}
+use Rattle.mg_refined.specs.Refined.{AreJudged}
 use Rattle.mg_top.specs.Commands as commands
 use Rattle.mg_read.specs.First.{Judged, with_earlier}
 use Rattle.mg_text.specs.Row.{Row}
@@ -60,6 +61,15 @@ report_given files contents core (Ok d) a k =
     subst (λ (z : List Action). Yields (Check files) contents z d.status) (sym k.says)
     (subst (λ (z : Status). Yields (Check files) contents (prints k.text) z) (sym k.done) (commands.check (checked core a k.report)))
 report_given files contents core (Err e) a k = tt
+
+-- what is told of two typestates
+pub told_given : (files : List Word) (contents : List (List ℕ)) (text given : List ℕ) (stands : Bool) (status : Status) (r : Result Delivery Memory) → given ≡ text
+    → status ≡ refined_status stands → AreJudged (sources files contents) text stands
+    → IfOk r (λ d. d.actions.items ≡ Print given ∷ []) → IfOk r (λ d. d.status ≡ status) → IfOk r (λ d. Yields (Refine files) contents d.actions.items d.status)
+told_given files contents text given stands status (Ok d) e f h a s =
+    subst (λ (z : List Action). Yields (Refine files) contents z d.status) (sym (a ∙ ap (λ (t : List ℕ). Print t ∷ []) e))
+    (subst (λ (z : Status). Yields (Refine files) contents (Print text ∷ []) z) (sym (s ∙ f)) (commands.refine (refined h)))
+told_given files contents text given stands status (Err x) e f h a s = tt
 
 -- a text, words and the end of a line are put behind what stands there
 pub line_put : (result last third second first given before text words : List ℕ) → result ≡ last → last ≡ third ++ 10 ∷ [] → third ≡ second ++ words → second ≡ first ++ text → first ≡ given → given ≡ before

@@ -17,6 +17,9 @@ use Rattle.mg_top.specs.Promises.{IsUnlessStopped, IsYielded, Carries, MayWrite,
 use Rattle.mg_words.proofs.WordsLemmas.{wrong_is_none}
 use Rattle.mg_words.proofs.RunLemmas.{same_command}
 use Rattle.mg_top.proofs.Exact.{one_status, proper, SaysRefusal, refusal_says, broken_command}
+use Rattle.mg_text.specs.Call.{Call}
+use Rattle.ts_refine.specs.declared.verdict.Reason.{Reason}
+use Rattle.mg_refined.specs.Refined.{no_text}
 use Rattle.mg_top.proofs.DeliveryLaws as laws
 
 -- ---- what is read of files that are told is one thing
@@ -108,10 +111,12 @@ module _ (words : List Word) (before : Outside) where
 
   abbrev OneLine : Outside → Type 0
   OneLine after = ((line : List ℕ) × AreDone (Say line ∷ []) before after) ⊎ ((n : ℕ) × AreDone (Print (not_offered_line n) ∷ []) before after)
+      ⊎ ((calls : List Call) × (reason : Reason) × AreDone (Print (no_text calls reason) ∷ []) before after)
 
   one_line : (actions : List Action) (after : Outside) → SaysRefusal actions → AreDone actions before after → OneLine after
   one_line actions after (inl (line, e)) d = inl (line, subst (λ (z : List Action). AreDone z before after) e d)
-  one_line actions after (inr (n, e)) d = inr (n, subst (λ (z : List Action). AreDone z before after) e d)
+  one_line actions after (inr (inl (n, e))) d = inr (inl (n, subst (λ (z : List Action). AreDone z before after) e d))
+  one_line actions after (inr (inr (calls, reason, e))) d = inr (inr (calls, reason, subst (λ (z : List Action). AreDone z before after) e d))
 
   refused_only : {actions : List Action} {meant status : Status} {at after : Outside} → IsDue words before actions meant at → Delivers actions meant at status after → status ≡ statuses.Refused → OneLine after
   refused_only {after = after} due d e =

@@ -2,6 +2,9 @@
 use Rattle.std.specs.Prelude.{◌≡◌, ◌≢◌, ◌<◌, Contains, ℕ, ◌⊎◌, List, [], ◌∷◌, ◌++◌, Option, Some, option_map}
 use Rattle.std.specs.FinMap as map
 use Rattle.mg_io.specs.Outside.{Files, Rose}
+use Rattle.mg_text.specs.Call.{Call}
+use Rattle.ts_refine.specs.declared.verdict.Reason.{Reason}
+use Rattle.mg_refined.specs.Refined.{no_text}
 use Rattle.mg_top.specs.declared.status.Status.{Status}
 use Rattle.mg_top.specs.declared.status.Status.TheVariants as statuses
 use Rattle.mg_top.specs.declared.delivery.Action.{Action}
@@ -64,8 +67,10 @@ pub record Promises (words : List Word) (before : Outside) (status : Status) (af
   -- it comes exactly where the command gives it
   pub where_yielded : (actions : List Action) (meant : Status) (m : Files) → before.files ≡ Some m → Carries words before actions meant →
       after.failed_reads ≡ before.failed_reads → IsUnlessStopped meant status
-  -- after Refused one line was put on standard error, or on standard output that of a call that isn't offered, and nothing else was done
+  -- after Refused one line was put on standard error, or on standard output that of a call that isn't offered, or the lines of a typestate
+  -- that doesn't stand for another, and nothing else was done
   pub refused_only : status ≡ statuses.Refused → ((line : List ℕ) × AreDone (Say line ∷ []) before after) ⊎ ((n : ℕ) × AreDone (Print (not_offered_line n) ∷ []) before after)
+      ⊎ ((calls : List Call) × (reason : Reason) × AreDone (Print (no_text calls reason) ∷ []) before after)
   -- no command meets a null, or code that is wrong, but the one that runs class files as they are
   pub broken_only : status ≡ statuses.Broken → (asked : Asked) × (files : List Word) × IsCommand (Exec asked files) words
   -- WriteFault comes exactly where a write of a file that the command writes failed, or a put on standard output or standard error did

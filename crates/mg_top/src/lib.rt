@@ -9,6 +9,7 @@ mod delivery;
 mod exec;
 mod lines;
 mod reading;
+mod refine;
 mod run;
 mod status;
 mod top;

@@ -41,6 +41,10 @@ pub enum Command<'a> {
         asked: Asked<'a>,
         files: &'a [Text],
     },
+    /// `refine`, and the files of two typestates.
+    Refine {
+        files: &'a [Text],
+    },
 }
 
 impl<'a> Command<'a> {
@@ -55,6 +59,7 @@ impl<'a> Command<'a> {
             Command::Compile { files, .. } => files,
             Command::Run { files, .. } => files,
             Command::Exec { files, .. } => files,
+            Command::Refine { files } => files,
         }
     }
 }
@@ -86,6 +91,8 @@ pub fn judge(words: &[Text]) -> Judged<'_>
                 judge_run(Input::Sources, rest)
             } else if is_word(command, "exec") {
                 judge_run(Input::Classes, rest)
+            } else if is_word(command, "refine") {
+                judge_refine(rest)
             } else {
                 Judged::Wrong(Some(command))
             }
@@ -159,6 +166,32 @@ fn judge_conform(words: &[Text]) -> Judged<'_>
                     }
                     match surplus.split_first() {
                         None => Judged::Known(Command::Conform { files: words }),
+                        Some((word, _)) => Judged::Wrong(Some(word)),
+                    }
+                }
+            }
+        }
+    }
+}
+
+// The same of the words behind `refine`.
+fn judge_refine(words: &[Text]) -> Judged<'_>
+    ensures { IsJudged (codes "refine" ∷ words.now) result }
+{
+    match words.split_first() {
+        None => Judged::Wrong(None),
+        Some((first, rest)) => {
+            if !is_file(first, b".protocol") {
+                return Judged::Wrong(Some(first));
+            }
+            match rest.split_first() {
+                None => Judged::Wrong(None),
+                Some((second, surplus)) => {
+                    if !is_file(second, b".protocol") {
+                        return Judged::Wrong(Some(second));
+                    }
+                    match surplus.split_first() {
+                        None => Judged::Known(Command::Refine { files: words }),
                         Some((word, _)) => Judged::Wrong(Some(word)),
                     }
                 }

@@ -108,10 +108,10 @@ fn paired(
     }
     push_shown(&mut text, "all", check_relation(a, b, pairs))?;
     if let [_, rest @ ..] = pairs {
-        push_shown(&mut text, "without the first", check_relation(a, b, rest))?;
+        push_shown(&mut text, "\nwithout the first", check_relation(a, b, rest))?;
     }
     if let [front @ .., _] = pairs {
-        push_shown(&mut text, "without the last", check_relation(a, b, front))?;
+        push_shown(&mut text, "\nwithout the last", check_relation(a, b, front))?;
     }
     Ok(text)
 }
@@ -135,10 +135,10 @@ fn place_name(t: &Typestate, at: To) -> &str {
     }
 }
 
-// The line that tells whether some pairs show it.
+// What tells whether some pairs show it.
 fn push_shown(text: &mut String, which: &str, shown: bool) -> Result<(), Memory> {
     text.push_str(which)?;
-    text.push_str(if shown { ": shown\n" } else { ": not shown\n" })?;
+    text.push_str(if shown { ": shown" } else { ": not shown" })?;
     Ok(())
 }
 
