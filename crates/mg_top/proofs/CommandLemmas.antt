@@ -1,13 +1,13 @@
 -- What the functions of the commands answer.
-use Rattle.std.proofs.Common.{◌≡◌, ℕ, Bool, map, List, [], ◌∷◌, ◌++◌, All, codes, inl, inr, Option, None, refl, sym, ap, ◌∙◌, subst, append_assoc}
+use Rattle.std.proofs.Common.{◌≡◌, ℕ, Bool, map, List, [], ◌∷◌, ◌++◌, All, codes, inl, inr, Option, None, sym, ap, ◌∙◌, subst, append_assoc}
 use Rattle.std.specs.Prelude.{IfOk, Result, Ok, Err, if◌then◌else◌}
 use Rattle.mg_text.specs.declared.memory.Memory.{Memory}
 use Rattle.mg_top.specs.declared.status.Status.{Status}
 use Rattle.mg_top.specs.declared.status.Status.TheVariants as statuses
 use Rattle.mg_top.specs.declared.delivery.Action.{Action}
-use Rattle.mg_top.specs.declared.delivery.Action.TheVariants.{Say}
+use Rattle.mg_top.specs.declared.delivery.Action.TheVariants.{Print, Say}
 use Rattle.mg_top.specs.declared.delivery.Delivery.{Delivery}
-use Rattle.mg_words.specs.Words.{Word, Asked, limit_of, order_of, are_named, Command, Check, Run, files_of, IsCommand, IsFileOf}
+use Rattle.mg_words.specs.Words.{Word, Asked, limit_of, order_of, are_named, Command, Check, Run, Refine, files_of, IsCommand, IsFileOf}
 use Rattle.mg_top.specs.Lines.{read_line, memory_line}
 use Rattle.mg_compile.specs.declared.files.ClassFile.{ClassFile}
 use Rattle.vm_world_law.specs.declared.role.RoleMain.{RoleMain}
@@ -19,9 +19,10 @@ use Rattle.mg_runs.proofs.Naming.{any-map}
 use Rattle.mg_runs.specs.declared.ran.Ran.{Ran}
 use Rattle.mg_runs.specs.Lines.{role_lines}
 use Rattle.mg_runs.specs.Runs.{names_of}
-use Rattle.mg_runs.specs.Headline.{Course, IsRun}
+use Rattle.mg_runs.specs.Headline.{Course}
 use Rattle.mg_runs.specs.View.{Shows, IsOfRun}
-use Rattle.mg_top.specs.Commands.{Yields, prints, kept_in, role_mains_of, run_said, run_printed, status_of, checked, ran}
+use Rattle.mg_top.specs.Commands.{Yields, prints, kept_in, role_mains_of, run_said, run_printed, status_of, checked, ran, refined, refined_status}
+use Rattle.mg_refined.specs.Refined.{AreJudged}
 use Rattle.mg_top.specs.Commands as commands
 use Rattle.mg_read.specs.First.{Judged, with_earlier}
 use Rattle.mg_text.specs.Row.{Row}
@@ -37,7 +38,7 @@ use Rattle.mg_accepted.specs.Accepted.{AreAccepted}
 use Rattle.use_check.specs.Report.{IsReport}
 use Rattle.mg_top.specs.Translation.{AreTranslated}
 use Rattle.mg_top.specs.Outside.{Outside}
-use Rattle.mg_top.specs.Ending.{AreRead, after_read, IsUnread, IsDue, unread, yielded, starved, mute}
+use Rattle.mg_top.specs.Ending.{read_limit, AreRead, after_read, IsUnread, IsDue, unread, yielded, starved, mute}
 use Rattle.mg_top.specs.inner.Preparing.{IsReported, IsPrepared, IsLeft, AreWritten, EachIsWritten, locals_in}
 use Rattle.mg_top.proofs.SourceLemmas.{translated}
 
@@ -60,6 +61,15 @@ report_given files contents core (Ok d) a k =
     subst (λ (z : List Action). Yields (Check files) contents z d.status) (sym k.says)
     (subst (λ (z : Status). Yields (Check files) contents (prints k.text) z) (sym k.done) (commands.check (checked core a k.report)))
 report_given files contents core (Err e) a k = tt
+
+-- what is told of two typestates
+pub told_given : (files : List Word) (contents : List (List ℕ)) (text given : List ℕ) (stands : Bool) (status : Status) (r : Result Delivery Memory) → given ≡ text
+    → status ≡ refined_status stands → AreJudged (sources files contents) text stands
+    → IfOk r (λ d. d.actions.items ≡ Print given ∷ []) → IfOk r (λ d. d.status ≡ status) → IfOk r (λ d. Yields (Refine files) contents d.actions.items d.status)
+told_given files contents text given stands status (Ok d) e f h a s =
+    subst (λ (z : List Action). Yields (Refine files) contents z d.status) (sym (a ∙ ap (λ (t : List ℕ). Print t ∷ []) e))
+    (subst (λ (z : Status). Yields (Refine files) contents (Print text ∷ []) z) (sym (s ∙ f)) (commands.refine (refined h)))
+told_given files contents text given stands status (Err x) e f h a s = tt
 
 -- a text, words and the end of a line are put behind what stands there
 pub line_put : (result last third second first given before text words : List ℕ) → result ≡ last → last ≡ third ++ 10 ∷ [] → third ≡ second ++ words → second ≡ first ++ text → first ≡ given → given ≡ before
@@ -145,12 +155,15 @@ said_due words before at status line wanted (Ok d) a s e due left =
 said_due words before at status line wanted (Err e) a s is due left = left
 
 -- what a command gives is due
-pub given_due : (words : List Word) (before at : Outside) (command : Command) (names : List Word) (contents given : List (List ℕ)) (r : Result Delivery Memory) → IsCommand command words → names ≡ files_of command → AreRead before.files names contents → given ≡ contents → at ≡ before
+pub given_due : (words : List Word) (before at : Outside) (command : Command) (names : List Word) (contents given : List (List ℕ)) (limit : ℕ) (r : Result Delivery Memory)
+    → IsCommand command words → names ≡ files_of command → limit ≡ read_limit command → AreRead limit before.files names contents → given ≡ contents → at ≡ before
     → IfOk r (λ d. Yields command given d.actions.items d.status) → IsPrepared words before r at
-given_due words before at command names contents given (Ok d) is named read e same y =
+given_due words before at command names contents given limit (Ok d) is named most read e same y =
+    let whole : AreRead (read_limit command) before.files names contents = subst (λ (n : ℕ). AreRead n before.files names contents) most read in
     subst (λ (z : Outside). IsDue words before d.actions.items d.status z) (sym same)
-    (yielded command contents is (subst (λ (z : List Word). AreRead before.files z contents) named read) (subst (λ (z : List (List ℕ)). Yields command z d.actions.items d.status) e y))
-given_due words before at command names contents given (Err x) is named read e same y = inl same
+    (yielded command contents is (subst (λ (z : List Word). AreRead (read_limit command) before.files z contents) named whole)
+    (subst (λ (z : List (List ℕ)). Yields command z d.actions.items d.status) e y))
+given_due words before at command names contents given limit (Err x) is named most read e same y = inl same
 
 -- a file that couldn't be read is due
 pub unread_due : (words : List Word) (before at : Outside) (name : Word) → IsUnread words before name → at ≡ after_read before name → IsDue words before (Say (read_line name) ∷ []) statuses.ReadFault at
@@ -162,10 +175,19 @@ starved_due words before at (inl e) = subst (λ (z : Outside). IsDue words befor
 starved_due words before at (inr (name, may, e)) = subst (λ (z : Outside). IsDue words before (Say memory_line ∷ []) statuses.Memory z) (sym e) (mute name may)
 
 -- the file that a command couldn't read
-pub unread_of : (words : List Word) (before : Outside) (command : Command) (names : List Word) (name : Word) (front rest : List Word) (contents : List (List ℕ))
-    → IsCommand command words → names ≡ files_of command → names ≡ front ++ name ∷ rest → AreRead before.files front contents → IsUnread words before name
-unread_of words before command names name front rest contents is named stands read =
-    record { command = command; is = is; front = front; rest = rest; stands = sym named ∙ stands; contents = contents; read = read }
+pub unread_of : (words : List Word) (before : Outside) (command : Command) (names : List Word) (name : Word) (front rest : List Word) (contents : List (List ℕ)) (limit : ℕ)
+    → IsCommand command words → names ≡ files_of command → limit ≡ read_limit command → names ≡ front ++ name ∷ rest → AreRead limit before.files front contents
+    → IsUnread words before name
+unread_of words before command names name front rest contents limit is named most stands read =
+    record {
+      command = command;
+      is = is;
+      front = front;
+      rest = rest;
+      stands = sym named ∙ stands;
+      contents = contents;
+      read = subst (λ (n : ℕ). AreRead n before.files front contents) most read;
+    }
 
 -- ---- the writes of translations
 

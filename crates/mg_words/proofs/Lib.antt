@@ -1,4 +1,5 @@
 pub mod WordsLemmas
+pub mod RefineLemmas
 pub mod NameLemmas
 pub mod RoleLemmas
 pub mod OptionLemmas

@@ -7,7 +7,7 @@ ghost use Rattle.mg_words.specs.inner.Judging.{IsJudged, command_of};
 
 use crate::asked::Asked;
 use crate::names::{is_file, is_file_name, is_word, other_file, other_source};
-use crate::runs::judge_run;
+use crate::runs::{Input, judge_run};
 use mg_text::Text;
 
 /// A command, with the words that it is about.
@@ -36,6 +36,15 @@ pub enum Command<'a> {
         asked: Asked<'a>,
         files: &'a [Text],
     },
+    /// `exec`, what is asked for, which names no folder, and the class files.
+    Exec {
+        asked: Asked<'a>,
+        files: &'a [Text],
+    },
+    /// `refine`, and the files of two typestates.
+    Refine {
+        files: &'a [Text],
+    },
 }
 
 impl<'a> Command<'a> {
@@ -49,6 +58,8 @@ impl<'a> Command<'a> {
             Command::Check { files } => files,
             Command::Compile { files, .. } => files,
             Command::Run { files, .. } => files,
+            Command::Exec { files, .. } => files,
+            Command::Refine { files } => files,
         }
     }
 }
@@ -77,7 +88,11 @@ pub fn judge(words: &[Text]) -> Judged<'_>
             } else if is_word(command, "compile") {
                 judge_compile(rest)
             } else if is_word(command, "run") {
-                judge_run(rest)
+                judge_run(Input::Sources, rest)
+            } else if is_word(command, "exec") {
+                judge_run(Input::Classes, rest)
+            } else if is_word(command, "refine") {
+                judge_refine(rest)
             } else {
                 Judged::Wrong(Some(command))
             }
@@ -151,6 +166,32 @@ fn judge_conform(words: &[Text]) -> Judged<'_>
                     }
                     match surplus.split_first() {
                         None => Judged::Known(Command::Conform { files: words }),
+                        Some((word, _)) => Judged::Wrong(Some(word)),
+                    }
+                }
+            }
+        }
+    }
+}
+
+// The same of the words behind `refine`.
+fn judge_refine(words: &[Text]) -> Judged<'_>
+    ensures { IsJudged (codes "refine" ∷ words.now) result }
+{
+    match words.split_first() {
+        None => Judged::Wrong(None),
+        Some((first, rest)) => {
+            if !is_file(first, b".protocol") {
+                return Judged::Wrong(Some(first));
+            }
+            match rest.split_first() {
+                None => Judged::Wrong(None),
+                Some((second, surplus)) => {
+                    if !is_file(second, b".protocol") {
+                        return Judged::Wrong(Some(second));
+                    }
+                    match surplus.split_first() {
+                        None => Judged::Known(Command::Refine { files: words }),
                         Some((word, _)) => Judged::Wrong(Some(word)),
                     }
                 }

@@ -1,8 +1,10 @@
-use Rattle.std.proofs.Common.{option_map, subst}
+use Rattle.std.proofs.Common.{◌≡◌, ◌∙◌, length, option_map, subst, sym}
 use Rattle.mg_words.specs.declared.words.Command.{Command}
-use Rattle.mg_words.specs.Words.{IsCommand}
+use Rattle.mg_words.specs.Words.{files_of, IsCommand}
 use Rattle.mg_words.specs.inner.Judging.{command_of, asked_of}
+use Rattle.mg_words.proofs.LawLemmas.{asked_of_run, asked_of_exec}
 use Rattle.mg_words.proofs.WordsLemmas.{kinds_of, kinds_of_classes, kinds_of_run, protocols_of, protocol_of_two}
+use Rattle.mg_words.proofs.RefineLemmas.{two_files, kinds_of_two}
 use Rattle.mg_top.proofs.top.carry_out.Goals as goal
 
 pub translate-requires-clause-scribble : goal.translate-requires-clause-scribble
@@ -31,3 +33,30 @@ pub run-requires-clause-kinds : goal.run-requires-clause-kinds
 run-requires-clause-kinds c =
     let known = c.requires.known in
     kinds_of_run known.0 (asked_of c.in-Run.asked) c.in-Run.files.now (subst (λ (z : Command). IsCommand (command_of z) known.0) c.in-Run.is known.1)
+
+pub run-requires-clause-asked : goal.run-requires-clause-asked
+run-requires-clause-asked c =
+    let known = c.requires.known in
+    asked_of_run known.0 (asked_of c.in-Run.asked) c.in-Run.files.now (subst (λ (z : Command). IsCommand (command_of z) known.0) c.in-Run.is known.1)
+
+pub exec-requires-clause-asked : goal.exec-requires-clause-asked
+exec-requires-clause-asked c =
+    let known = c.requires.known in
+    asked_of_exec known.0 (asked_of c.in-Exec.asked) c.in-Exec.files.now
+    (subst (λ (z : Command). IsCommand (command_of z) known.0) c.in-Exec.is known.1)
+
+pub refine-requires-clause-two : goal.refine-requires-clause-two
+refine-requires-clause-two c =
+    let known = c.requires.known in
+    two_files known.0 c.in-Refine.files.now (subst (λ (z : Command). IsCommand (command_of z) known.0) c.in-Refine.is known.1)
+
+pub refine-requires-clause-same : goal.refine-requires-clause-same
+refine-requires-clause-same c =
+    let known = c.requires.known in
+    sym (subst (λ (z : Command). length (files_of (command_of z)) ≡ length c.args.contents.now) c.in-Refine.is c.requires.same)
+    ∙ two_files known.0 c.in-Refine.files.now (subst (λ (z : Command). IsCommand (command_of z) known.0) c.in-Refine.is known.1)
+
+pub refine-requires-clause-kinds : goal.refine-requires-clause-kinds
+refine-requires-clause-kinds c =
+    let known = c.requires.known in
+    kinds_of_two known.0 c.in-Refine.files.now (subst (λ (z : Command). IsCommand (command_of z) known.0) c.in-Refine.is known.1)

@@ -1,0 +1,98 @@
+//! From the files of a case to the class files of its program, which are read back.
+
+ghost use Rattle.std.specs.Prelude.{IsTrue};
+ghost use Rattle.mg_sources.specs.Files.{EndsWith, Kind, suffix_of};
+
+use crate::given::Given;
+use crate::unanswered::Unanswered;
+use cases::{File, files_of};
+use cls_bytes::{ClassFault, read_class};
+use cls_tree::Class;
+use mg_compile::{ClassFile, compile};
+use mg_sources::Stop;
+use mg_text::{Bytes, List, Text};
+use std::alloc::{AllocError, Global};
+use std::fs;
+use std::rt::Files;
+
+/// The classes of the program that the files of a case are, as their class files are read.
+pub fn classes_of<R: Files + AllocGlobal>(
+    alloc: Global,
+    rt: &R,
+    given: &Given<'_>,
+) -> Result<List<Class>, Unanswered> {
+    let text = text_of(alloc, rt, given)?;
+    let files = files_of(alloc, text.as_str())?;
+    let written = compiled(alloc, files.as_slice())?;
+    read_back(alloc, written.as_slice())
+}
+
+// The files of a case, each begun by a line that has its name.
+fn text_of<R: Files + AllocGlobal>(
+    alloc: Global,
+    rt: &R,
+    given: &Given<'_>,
+) -> Result<String, Unanswered> {
+    let mut text = String::new(alloc);
+    for name in given.here.split_ascii_whitespace() {
+        let Ok(file) = fs::read_to_string(rt, name) else {
+            return Err(Unanswered::Form);
+        };
+        begin(&mut text)?;
+        write!(text, "{name}\n{}", file.as_str())?;
+    }
+    if !given.files.is_empty() {
+        begin(&mut text)?;
+        text.push_str(given.files)?;
+    }
+    Ok(text)
+}
+
+// Begins the line of a file's name.
+fn begin(text: &mut String) -> Result<(), AllocError> {
+    if !text.is_empty() {
+        text.push('\n')?;
+    }
+    text.push_str(">>> ")
+}
+
+// The class files of the program that these files are.
+fn compiled(alloc: Global, files: &[File<'_>]) -> Result<List<ClassFile>, Stop> {
+    let mut names = List::new(alloc);
+    let mut contents = List::new(alloc);
+    for file in files {
+        if !has_kind(file.name) {
+            continue;
+        }
+        names.push(Text::of(alloc, file.name)?)?;
+        contents.push(Bytes::of(alloc, file.text.as_bytes())?)?;
+    }
+    compile(alloc, names.as_slice(), contents.as_slice())
+}
+
+// Whether the name of a file tells of which kind it is.
+fn has_kind(name: &str) -> bool
+    ensures { IsTrue result → (kind : Kind) × EndsWith (suffix_of kind) name.now }
+{
+    let name = name.as_bytes();
+    if name.ends_with(b".scr") {
+        return true;
+    }
+    if name.ends_with(b".protocol") {
+        return true;
+    }
+    name.ends_with(b".java")
+}
+
+// The classes that the bytes of class files spell.
+fn read_back(alloc: Global, files: &[ClassFile]) -> Result<List<Class>, Unanswered> {
+    let mut classes = List::new(alloc);
+    for file in files {
+        match read_class(alloc, file.bytes.as_slice()) {
+            Ok(class) => classes.push(class)?,
+            Err(ClassFault::Memory) => return Err(Unanswered::Memory),
+            Err(_) => return Err(Unanswered::Form),
+        }
+    }
+    Ok(classes)
+}

@@ -1,0 +1,119 @@
+//! Worlds of two roles, each from its beginning up to rest.
+
+ghost use Rattle.std.specs.Prelude.{◌≡◌, ◌<◌, length, IfOk};
+
+use crate::given::Given;
+use crate::seen::{Seen, seen_of};
+use crate::turns::Turns;
+use crate::unanswered::Unanswered;
+use cls_tree::Class;
+use mg_text::{Memory, Text};
+use std::alloc::Global;
+use vm_load::{LoadFault, load};
+use vm_machine::has_main;
+use vm_model::Linked;
+use vm_world::{RoleMain, World};
+
+/// What is seen of both roles.
+#[derive(PartialEq, Eq, Drop)]
+struct BothSeen {
+    client: Seen,
+    server: Seen,
+}
+
+/// What the roles of a case come to in the plain order, and whether they do under each of its lists.
+pub fn told(alloc: Global, classes: &[Class], given: &Given<'_>) -> Result<String, Unanswered> {
+    let plain = played(alloc, classes, given, Turns::Plain)?;
+    let mut text = String::new(alloc);
+    plain.client.tell(&mut text, "C")?;
+    plain.server.tell(&mut text, "S")?;
+    let (first, last) = given.seeds;
+    let mut lists = 0u64;
+    for seed in first..=last {
+        if played(alloc, classes, given, Turns::drawn(seed))? != plain {
+            write!(text, "the list of {seed} comes to something else")?;
+            return Ok(text);
+        }
+        lists = lists.saturating_add(1);
+    }
+    write!(text, "{lists} lists of turns come to the same")?;
+    Ok(text)
+}
+
+// What is seen of both roles once the world rests.
+fn played(
+    alloc: Global,
+    classes: &[Class],
+    given: &Given<'_>,
+    turns: Turns,
+) -> Result<BothSeen, Unanswered> {
+    let mut world = begun(alloc, classes, given)?;
+    if !rests(alloc, &mut world, turns)? {
+        return Err(Unanswered::Restless);
+    }
+    let client = seen_of(alloc, &world, 0)?;
+    let server = seen_of(alloc, &world, 1)?;
+    Ok(BothSeen { client, server })
+}
+
+// The world before the first turn.
+fn begun(alloc: Global, classes: &[Class], given: &Given<'_>) -> Result<World, Unanswered>
+    ensures { IfOk result (λ w. length w.world.roles ≡ 2) }
+{
+    let linked = linked(alloc, classes)?;
+    if has_main(&linked, given.client) && has_main(&linked, given.server) {
+        let client = main_of(alloc, "C", given.client)?;
+        let server = main_of(alloc, "S", given.server)?;
+        let mains = [client, server];
+        return Ok(World::new(alloc, linked, mains.as_slice())?);
+    }
+    Err(Unanswered::Form)
+}
+
+fn linked(alloc: Global, classes: &[Class]) -> Result<Linked, Unanswered> {
+    match load(alloc, classes) {
+        Ok(linked) => Ok(linked),
+        Err(LoadFault::Memory) => Err(Unanswered::Memory),
+        Err(_) => Err(Unanswered::Form),
+    }
+}
+
+// A role and the class whose `main` it runs.
+fn main_of(alloc: Global, role: &str, class: &str) -> Result<RoleMain, Memory>
+    ensures role { IfOk result (λ m. m.role ≡ role.now) }
+    ensures class { IfOk result (λ m. m.class ≡ class.now) }
+{
+    let role = Text::of(alloc, role)?;
+    let class = Text::of(alloc, class)?;
+    Ok(RoleMain { role, class })
+}
+
+/// How many turns are taken at most.
+const MOST: u32 = 1_000_000;
+
+// Takes turns up to the first moment at which the world rests. Answers whether it does.
+fn rests(alloc: Global, world: &mut World, mut turns: Turns) -> Result<bool, Memory>
+    requires { length world.old.world.roles ≡ 2 }
+    ensures { length world.new.world.roles ≡ 2 }
+{
+    for number in 0..MOST {
+        if world.at_rest() {
+            return Ok(true);
+        }
+        let role = turns.role(number);
+        take_turn(alloc, world, role)?;
+    }
+    Ok(false)
+}
+
+// A turn of a role, of which not too many instructions were counted.
+fn take_turn(alloc: Global, world: &mut World, role: u32) -> Result<(), Memory>
+    requires roles { length world.old.world.roles ≡ 2 }
+    requires role { role < 2 }
+    ensures { length world.new.world.roles ≡ 2 }
+{
+    if world.steps(role) < u64::from(MOST) {
+        let _turned = world.turn(alloc, role)?;
+    }
+    Ok(())
+}
