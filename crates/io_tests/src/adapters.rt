@@ -137,16 +137,17 @@ fn a_sink_in_memory_fails_as_listed(rt: HostRuntime) -> Result<(), Fail> {
     Ok(())
 }
 
-/// A writer that takes at most three bytes at a time, and none past `room`.
+/// A writer that takes at most `width` bytes at a time, and none past `room`.
 #[derive(Drop)]
 struct Narrow {
     taken: Vec<u8>,
+    width: usize,
     room: usize,
 }
 
 impl io::Write for Narrow {
     fn write(&mut self, bytes: &[u8]) -> io::Result<usize> {
-        let n = bytes.len().min(3).min(self.room);
+        let n = bytes.len().min(self.width).min(self.room);
         self.taken.extend_from_slice(&bytes[..n])?;
         self.room -= n;
         Ok(n)
@@ -163,11 +164,83 @@ const NARROW: [(&str, bool); 3] = [("abcdefg", true), ("hij", false), ("", true)
 fn a_stream_takes_a_piece_bit_by_bit_or_fails(rt: HostRuntime) -> Result<(), Fail> {
     let mut narrow = Narrow {
         taken: Vec::new(rt.alloc()),
+        width: 3,
         room: 9,
     };
     let mut sink = HostSink::new(&mut narrow);
     assert!(rt; takes(&mut sink, NARROW.as_slice()));
     assert_eq!(rt; sink.faults(), 1);
     assert_eq!(rt; narrow.taken.as_slice(), b"abcdefghi".as_slice());
+    Ok(())
+}
+
+// How many bytes stand in the large file, and in the large piece.
+const LARGE: usize = 300_000;
+
+#[test]
+fn a_large_file_is_kept_whole_and_then_replaced(rt: HostRuntime) -> Result<(), Fail> {
+    let alloc = rt.alloc();
+    let text = vec![in alloc; b'x'; LARGE]?;
+    let mut folder = HostFolder::new(alloc, &rt);
+    let written = folder.write(alloc, "mg_io_large_file", text.as_slice());
+    assert!(rt; written.is_ok());
+    match folder.read(alloc, "mg_io_large_file", 1_048_577) {
+        Ok(bytes) => assert!(rt; bytes.as_slice() == text.as_slice()),
+        Err(_) => assert!(rt; false),
+    }
+    match folder.read(alloc, "mg_io_large_file", 100_000) {
+        Ok(bytes) => assert_eq!(rt; bytes.len(), 100_000),
+        Err(_) => assert!(rt; false),
+    }
+    assert!(rt; writes(alloc, &mut folder, "mg_io_large_file", "short", true));
+    assert!(rt; reads(alloc, &mut folder, "mg_io_large_file", 9, Some("short")));
+    fs::remove_file(&rt, "mg_io_large_file")?;
+    Ok(())
+}
+
+// Whether a large piece is put whole over a writer that takes so many bytes at a time.
+fn takes_large(alloc: Global, width: usize) -> Result<bool, Fail> {
+    let text = vec![in alloc; b'x'; LARGE]?;
+    let mut narrow = Narrow {
+        taken: Vec::new(alloc),
+        width,
+        room: LARGE,
+    };
+    let mut sink = HostSink::new(&mut narrow);
+    let is_put = sink.put(text.as_slice()).is_ok() && sink.faults() == 0;
+    Ok(is_put && narrow.taken.as_slice() == text.as_slice())
+}
+
+#[test]
+fn a_stream_takes_a_large_piece(rt: HostRuntime) -> Result<(), Fail> {
+    assert!(rt; takes_large(rt.alloc(), LARGE)?);
+    assert!(rt; takes_large(rt.alloc(), 1_000)?);
+    Ok(())
+}
+
+/// A writer that takes all bytes, and can't be flushed.
+#[derive(Drop)]
+struct Stuck {
+    taken: usize,
+}
+
+impl io::Write for Stuck {
+    fn write(&mut self, bytes: &[u8]) -> io::Result<usize> {
+        self.taken = self.taken.saturating_add(bytes.len());
+        Ok(bytes.len())
+    }
+
+    fn flush(&mut self) -> io::Result<()> {
+        Err(io::Error::from(io::ErrorKind::BrokenPipe))
+    }
+}
+
+#[test]
+fn a_stream_that_can_t_be_flushed_fails(rt: HostRuntime) -> Result<(), Fail> {
+    let mut stuck = Stuck { taken: 0 };
+    let mut sink = HostSink::new(&mut stuck);
+    assert!(rt; sink.put(b"ab") == Err(IoFault::Failed));
+    assert_eq!(rt; sink.faults(), 1);
+    assert_eq!(rt; stuck.taken, 2);
     Ok(())
 }

@@ -1,14 +1,18 @@
 //! The real files.
 //! The adapter tells no content; the names that failed are kept.
 
-ghost use Rattle.std.specs.Prelude.{◌≡◌, ◌≤◌, [], length, IfOk};
+ghost use Rattle.std.specs.Prelude.{◌≡◌, ◌≤◌, ◌<◌, ◌++◌, [], length, take, IfOk, IfSome, IsErr, IsErrOf};
+ghost use Rattle.std.specs.Io.KnownBytes.{Appends};
+ghost use Rattle.mg_io.specs.Outside.{name_if_failed};
 
-use crate::front::read_front;
+use crate::front::{Tried, read_front};
+use crate::refusal::answered;
 use crate::whole::write_whole;
 use crate::{Folder, IoFault};
 use mg_text::{Bytes, List, Text};
 use std::alloc::Global;
 use std::fs;
+use std::io::{self, Read, Write};
 use std::marker::Model;
 use std::rt::Files;
 
@@ -77,11 +81,29 @@ impl<'a, R: Files> Folder for HostFolder<'a, R> {
     fn write(&mut self, alloc: Global, name: &str, bytes: &[u8]) -> Result<(), IoFault> {
         let kept = Text::of(alloc, name)?;
         self.failed_writes.reserve(1)?;
-        if write_file(self.rt, name, bytes) {
-            return Ok(());
+        write_noted(self.rt, &mut self.failed_writes, kept, name, bytes)
+    }
+}
+
+/// Writes a file, and notes the name where that failed. There is room for it, so no memory is taken.
+fn write_noted<R: Files>(
+    rt: &R,
+    failed: &mut List<Text>,
+    kept: Text,
+    name: &str,
+    bytes: &[u8],
+) -> Result<(), IoFault>
+    requires room { 0 < failed.old.spare }
+    requires kept { kept ≡ name.now }
+    ensures memory { IsErrOf result IoFault.Memory → ⊥ }
+    ensures failed { failed.new.items ≡ failed.old.items ++ name_if_failed result name.now }
+{
+    match write_file(rt, name, bytes) {
+        Ok(_file) => Ok(()),
+        Err(_) => {
+            failed.add(kept);
+            Err(IoFault::Failed)
         }
-        self.failed_writes.add(kept);
-        Err(IoFault::Failed)
     }
 }
 
@@ -89,16 +111,42 @@ impl<'a, R: Files> Folder for HostFolder<'a, R> {
 fn read_file<R: Files>(alloc: Global, rt: &R, name: &str, limit: usize) -> Result<Bytes, IoFault>
     ensures { IfOk result (λ bytes. length bytes ≤ limit) }
 {
-    match fs::open(rt, name) {
-        Ok(mut file) => read_front(alloc, &mut file, limit),
-        Err(_) => Err(IoFault::Failed),
-    }
+    read_opened(alloc, fs::open(rt, name), limit)
 }
 
-/// Makes a file hold these bytes. Answers whether the system took them all.
-fn write_file<R: Files>(rt: &R, name: &str, bytes: &[u8]) -> bool {
-    match fs::create(rt, name) {
-        Ok(mut file) => write_whole(&mut file, bytes),
-        Err(_) => false,
+/// The same of a file that was to be opened.
+fn read_opened<F: Read + Drop>(
+    alloc: Global,
+    opened: io::Result<F>,
+    limit: usize,
+) -> Result<Bytes, IoFault>
+    ensures limit { IfOk result (λ bytes. length bytes ≤ limit) }
+    ensures content { IfOk opened
+        (λ file. IfOk result (λ bytes. IfSome (F.remaining file) (λ all. bytes ≡ take limit all))) }
+    ensures refused { IsErr opened → IsErrOf result IoFault.Failed }
+{
+    let mut tried = Tried::new(answered(opened)?);
+    read_front(alloc, &mut tried, limit)
+}
+
+/// Makes a file hold these bytes, and answers it. `Failed` where the system didn't take them all.
+fn write_file<R: Files>(rt: &R, name: &str, bytes: &[u8]) -> Result<R::File, IoFault>
+    ensures { IsErrOf result IoFault.Memory → ⊥ }
+{
+    write_opened(fs::create(rt, name), bytes)
+}
+
+/// Hands these bytes to a file that was to be made, and answers it where it took them all.
+fn write_opened<F: Write + Drop>(opened: io::Result<F>, bytes: &[u8]) -> Result<F, IoFault>
+    ensures handed { IfOk opened
+        (λ made. IfOk result (λ file. Appends (F.contents made) (F.contents file) bytes.now)) }
+    ensures refused { IsErr opened → IsErrOf result IoFault.Failed }
+    ensures memory { IsErrOf result IoFault.Memory → ⊥ }
+{
+    let mut file = answered(opened)?;
+    if write_whole(&mut file, bytes) {
+        Ok(file)
+    } else {
+        Err(IoFault::Failed)
     }
 }

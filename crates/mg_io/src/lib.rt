@@ -11,6 +11,7 @@ mod host_sink;
 mod mem_folder;
 mod mem_sink;
 mod number_list;
+mod refusal;
 mod sink;
 mod whole;
 

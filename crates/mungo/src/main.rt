@@ -2,8 +2,10 @@
 //! go to the top call, and the number of its status is the exit status.
 #![tactic(auto)]
 
-ghost use Rattle.std.specs.Prelude.{◌≡◌};
+ghost use Rattle.std.specs.Prelude.{◌≡◌, ◌≢◌, map, drop, IfOk, string_bytes};
+ghost use Rattle.std.specs.IoError.{error_kind};
 ghost use Rattle.std.specs.Process.{exit_status};
+ghost use Rattle.std.specs.Vec.Iter.{into_iter_items};
 ghost use Rattle.mg_top.specs.Numbers.{number_of};
 ghost use Rattle.mg_top.specs.Outside.{outside, stream};
 ghost use Rattle.mg_top.specs.Promises.{Promises};
@@ -14,8 +16,9 @@ use mg_text::{List, Memory, Text};
 use mg_top::{Status, mungo};
 use std::alloc::Global;
 use std::env::{self, Args};
-use std::io::{self, ErrorKind};
+use std::io::{self, ErrorKind, Stderr, Stdout};
 use std::process::ExitCode;
+use std::rt::Files;
 
 fn main(rt: HostRuntime) -> ExitCode {
     let words = match env::args(&rt) {
@@ -25,12 +28,23 @@ fn main(rt: HostRuntime) -> ExitCode {
         },
         Err(error) => return exit_code(refused(&error)),
     };
-    let mut folder = HostFolder::new(rt.alloc(), &rt);
-    let mut out = HostSink::new(rt.stdout());
-    let mut err = HostSink::new(rt.stderr());
-    ended(
-        rt.alloc(),
-        words.as_slice(),
+    let out = HostSink::new(rt.stdout());
+    let err = HostSink::new(rt.stderr());
+    hosted(&rt, words.as_slice(), out, err)
+}
+
+// Runs the command over the host's files and streams, each of which stands in its place by its type.
+fn hosted<R: Files + AllocGlobal>(
+    rt: &R,
+    words: &[Text],
+    mut out: HostSink<Stdout>,
+    mut err: HostSink<Stderr>,
+) -> ExitCode {
+    let alloc = rt.alloc();
+    let mut folder = HostFolder::new(alloc, rt);
+    ended::<HostFolder<R>, HostSink<Stdout>, HostSink<Stderr>>(
+        alloc,
+        words,
         &mut folder,
         &mut out,
         &mut err,
@@ -57,16 +71,29 @@ fn ended<F: Folder, O: Sink, E: Sink>(
 }
 
 // The words behind the program's name.
-fn words_of(alloc: Global, args: Args) -> Result<List<Text>, Memory> {
+fn words_of(alloc: Global, mut args: Args) -> Result<List<Text>, Memory>
+    ensures { IfOk result (λ l. l.items ≡ map string_bytes (drop 1 (into_iter_items args))) }
+{
+    let _name = args.next();
+    rest_of(alloc, args)
+}
+
+// All of these words.
+fn rest_of(alloc: Global, args: Args) -> Result<List<Text>, Memory>
+    ensures { IfOk result (λ l. l.items ≡ map string_bytes (into_iter_items args)) }
+{
     let mut words = List::new(alloc);
-    for word in args.skip(1) {
+    for word in args {
         words.push(Text::from_string(word))?;
     }
     Ok(words)
 }
 
 // Words that can't be had are no command, where memory doesn't lack: one of them isn't UTF-8.
-fn refused(error: &io::Error) -> Status {
+fn refused(error: &io::Error) -> Status
+    ensures memory { error_kind error.now ≡ ErrorKind.OutOfMemory → result ≡ Status.Memory }
+    ensures words { error_kind error.now ≢ ErrorKind.OutOfMemory → result ≡ Status.Words }
+{
     if error.kind() == ErrorKind::OutOfMemory {
         Status::Memory
     } else {
