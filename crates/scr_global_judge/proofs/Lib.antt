@@ -1,0 +1,6 @@
+pub mod Pairs
+pub mod Alike
+pub mod OutlineSteps
+pub mod RoleSteps
+pub mod RoleWalk
+pub mod Numbers
