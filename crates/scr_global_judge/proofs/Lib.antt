@@ -4,3 +4,6 @@ pub mod OutlineSteps
 pub mod RoleSteps
 pub mod RoleWalk
 pub mod Numbers
+pub mod Over
+pub mod OneFault
+pub mod Faultless

@@ -3,24 +3,33 @@
 ghost use Rattle.std.specs.Prelude.{◌≡◌, None, IfOk, codes};
 ghost use Rattle.mg_read.specs.First.{FirstOf};
 ghost use Rattle.scr_tree.specs.View.{statements as local_statements};
-ghost use Rattle.scr_judge.specs.Fault.{fault_of};
 ghost use Rattle.scr_judge.specs.inner.View.{named_of};
 ghost use Rattle.scr_global_tree.specs.Faults.{IsFault, Of};
 ghost use Rattle.scr_global_tree.specs.View.{statements};
 ghost use Rattle.scr_global_tree.specs.Written.{written_of};
+ghost use Rattle.scr_global_judge.specs.Fault.{fault_of};
 ghost use Rattle.scr_global_judge.specs.inner.Outline.{outlined};
 
 use crate::outline::outline_all;
 use crate::roles::{find_peer_is_self, find_unknown_role};
-use mg_text::{Memory, Text};
-use scr_global_tree::WrittenGlobal;
+use mg_text::{Memory, Place, Text};
+use scr_global_tree::{GlobalCondition, WrittenGlobal};
 use scr_judge::{
-    Fault, Named, find_branch_start, find_duplicate_name, find_duplicate_rec, find_mixed_choice,
+    Named, find_branch_start, find_duplicate_name, find_duplicate_rec, find_mixed_choice,
     find_payload_count, find_same_label, find_unguarded, find_unknown_rec, find_unknown_type,
     find_unreachable, listed_roles, with_name,
 };
-use scr_tree::{Condition, Statement};
+use scr_tree::Statement;
 use std::alloc::Global;
+
+/// The condition that a file doesn't meet, with the place and the name of what is at fault. The
+/// name is empty where nothing is named.
+#[derive(Debug, Drop)]
+pub struct Fault {
+    pub condition: GlobalCondition,
+    pub place: Place,
+    pub name: Text,
+}
 
 /// The first fault of a file of this number: of the conditions that don't hold the one of the
 /// lowest number, at its first place in the text. The only error is want of memory.
@@ -34,18 +43,18 @@ pub fn first_fault(
     let outline = outline_all(alloc, None, written.body.as_slice())?;
     let me = Text::of(alloc, "_")?;
     let conditions = [
-        Condition::DuplicateName,
-        Condition::UnknownRole,
-        Condition::PeerIsSelf,
-        Condition::UnknownType,
-        Condition::PayloadCount,
-        Condition::UnknownRec,
-        Condition::DuplicateRec,
-        Condition::Unguarded,
-        Condition::Unreachable,
-        Condition::BranchStart,
-        Condition::MixedChoice,
-        Condition::SameLabel,
+        GlobalCondition::DuplicateName,
+        GlobalCondition::UnknownRole,
+        GlobalCondition::PeerIsSelf,
+        GlobalCondition::UnknownType,
+        GlobalCondition::PayloadCount,
+        GlobalCondition::UnknownRec,
+        GlobalCondition::DuplicateRec,
+        GlobalCondition::Unguarded,
+        GlobalCondition::Unreachable,
+        GlobalCondition::BranchStart,
+        GlobalCondition::MixedChoice,
+        GlobalCondition::SameLabel,
     ];
     first_of(alloc, conditions.as_slice(), file, written, &me, outline.as_slice())
 }
@@ -53,7 +62,7 @@ pub fn first_fault(
 // The first culprit of the first of some conditions that has one.
 fn first_of(
     alloc: Global,
-    conditions: &[Condition],
+    conditions: &[GlobalCondition],
     file: u32,
     written: &WrittenGlobal,
     me: &Text,
@@ -81,7 +90,7 @@ fn first_of(
 // The first culprit of one condition.
 fn judge(
     alloc: Global,
-    condition: Condition,
+    condition: GlobalCondition,
     file: u32,
     written: &WrittenGlobal,
     me: &Text,
@@ -96,32 +105,29 @@ fn judge(
     let carries = written.carries.as_slice();
     let body = written.body.as_slice();
     match condition {
-        Condition::DuplicateName => {
+        GlobalCondition::DuplicateName => {
             let culprit = find_duplicate_name(alloc, types, roles)?;
             with_name(alloc, culprit)
         }
-        Condition::UnknownRole => {
+        GlobalCondition::UnknownRole => {
             let listed = listed_roles(alloc, roles)?;
             with_name(alloc, find_unknown_role(&listed, body))
         }
-        Condition::PeerIsSelf => with_name(alloc, find_peer_is_self(body)),
-        Condition::UnknownType => {
+        GlobalCondition::PeerIsSelf => with_name(alloc, find_peer_is_self(body)),
+        GlobalCondition::UnknownType => {
             let culprit = find_unknown_type(alloc, types, carries)?;
             with_name(alloc, culprit)
         }
-        Condition::PayloadCount => with_name(alloc, find_payload_count(carries)),
-        Condition::UnknownRec => with_name(alloc, find_unknown_rec(outline)),
-        Condition::DuplicateRec => with_name(alloc, find_duplicate_rec(outline)),
-        Condition::Unguarded => with_name(alloc, find_unguarded(outline)),
-        Condition::Unreachable => with_name(alloc, find_unreachable(outline)),
-        Condition::BranchStart => with_name(alloc, find_branch_start(outline)),
-        Condition::MixedChoice => with_name(alloc, find_mixed_choice(me, outline)),
-        Condition::SameLabel => {
+        GlobalCondition::PayloadCount => with_name(alloc, find_payload_count(carries)),
+        GlobalCondition::UnknownRec => with_name(alloc, find_unknown_rec(outline)),
+        GlobalCondition::DuplicateRec => with_name(alloc, find_duplicate_rec(outline)),
+        GlobalCondition::Unguarded => with_name(alloc, find_unguarded(outline)),
+        GlobalCondition::Unreachable => with_name(alloc, find_unreachable(outline)),
+        GlobalCondition::BranchStart => with_name(alloc, find_branch_start(outline)),
+        GlobalCondition::MixedChoice => with_name(alloc, find_mixed_choice(me, outline)),
+        GlobalCondition::SameLabel => {
             let culprit = find_same_label(alloc, me, outline)?;
             with_name(alloc, culprit)
         }
-        Condition::ReservedLabel => Ok(None),
-        Condition::NameClash => Ok(None),
-        Condition::TooManyStates => Ok(None),
     }
 }

@@ -4,7 +4,9 @@
 #![tactic(auto)]
 
 mod fault;
+mod laws;
 mod outline;
 mod roles;
 
-pub use fault::first_fault;
+pub use fault::{Fault, first_fault};
+pub use laws::{faultless_is_valid, one_fault};

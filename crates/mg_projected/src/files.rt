@@ -1,0 +1,96 @@
+//! From the bytes of a file to the texts of its roles' local protocols.
+
+ghost use Rattle.std.specs.Prelude.{◌≡◌, ◌++◌, Some, None, IfOk, Contains, codes};
+ghost use Rattle.scr_global_tree.specs.Global.{tree_of};
+ghost use Rattle.mg_projected.specs.Projected.{Answer, Outcome, answer_of, IsAnswered};
+ghost use Rattle.mg_projected.specs.inner.Stages.{FileStage, FilesStage, Stage};
+
+use crate::fault::ProjectedFault;
+use mg_text::{List, Memory, Text};
+use scr_global_read::{GlobalFault, read_global};
+use scr_global_tree::Global as GlobalProtocol;
+use scr_print::print_local;
+use scr_project::{ProjectFault, project};
+use std::alloc::Global;
+
+/// The file of a role: its name, and its text.
+#[derive(Debug, Drop)]
+pub struct RoleFile {
+    pub name: Text,
+    pub text: Text,
+}
+
+// The name of the file of a role.
+fn file_name(alloc: Global, role: &Text) -> Result<Text, Memory>
+    ensures { IfOk result (λ t. t ≡ role.now ++ codes ".scr") }
+{
+    let mut name = String::new(alloc);
+    name.push_str(role.as_str())?;
+    name.push_str(".scr")?;
+    Ok(Text::from_string(name))
+}
+
+// The file of a role.
+fn file_of(
+    alloc: Global,
+    global: &GlobalProtocol,
+    role: &Text,
+) -> Result<RoleFile, ProjectFault>
+    requires { Contains (tree_of global.now).roles role.now }
+    ensures { FileStage (tree_of global.now) role.now result }
+{
+    let local = project(alloc, global, role.as_str())?;
+    let text = print_local(alloc, &local)?;
+    let name = file_name(alloc, role)?;
+    Ok(RoleFile { name, text })
+}
+
+// The files of all roles, in their order, or why the first that has none has none.
+fn files_of(alloc: Global, global: &GlobalProtocol) -> Result<List<RoleFile>, ProjectFault>
+    ensures { FilesStage (tree_of global.now) (tree_of global.now).roles result }
+{
+    let mut files = List::new(alloc);
+    for role in global.roles().as_slice() {
+        let file = file_of(alloc, global, role)?;
+        files.push(file)?;
+    }
+    Ok(files)
+}
+
+// The files of a file's global protocol.
+fn projected_of(
+    alloc: Global,
+    file: u32,
+    bytes: &[u8],
+) -> Result<List<RoleFile>, ProjectedFault>
+    ensures { Stage file bytes.now result }
+{
+    match read_global(alloc, file, bytes) {
+        Ok(global) => match files_of(alloc, &global) {
+            Ok(files) => Ok(files),
+            Err(ProjectFault::Memory) => Err(ProjectedFault::Memory),
+            Err(fault) => Err(ProjectedFault::Unprojected(fault)),
+        },
+        Err(GlobalFault::Memory) => Err(ProjectedFault::Memory),
+        Err(fault) => Err(ProjectedFault::Unread(fault)),
+    }
+}
+
+/// The files of the roles of the global protocol that the bytes of a file spell, in the order of
+/// the header: `<R>.scr` with the text of what the role R does.
+///
+/// # Errors
+/// `Unread` with the fault of the bytes; `Unprojected` with the fault of the first role that has no
+/// local protocol; `Memory`.
+pub fn projected(
+    alloc: Global,
+    file: u32,
+    bytes: &[u8],
+) -> Result<List<RoleFile>, ProjectedFault>
+    // What is answered is what projecting the file gives.
+    ensures answered { (a : Answer) → answer_of result ≡ Some a → Outcome file bytes.now a }
+    // What projecting the file gives is answered, unless memory runs out.
+    ensures only { (a : Answer) → Outcome file bytes.now a → IsAnswered a result }
+{
+    projected_of(alloc, file, bytes)
+}
