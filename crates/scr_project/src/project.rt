@@ -1,13 +1,13 @@
 //! The local protocol of one role of a global protocol.
 
-ghost use Rattle.std.specs.Prelude.{◌≡◌, ◌⊎◌, [], Some, None, IfOk, Contains};
+ghost use Rattle.std.specs.Prelude.{◌≡◌, Some, IfOk, Contains};
 ghost use Rattle.std.specs.Option.{is_none};
 ghost use Rattle.scr_tree.specs.View.{statements};
 ghost use Rattle.scr_global.specs.Texts.{projected};
 ghost use Rattle.scr_global_tree.specs.Global.{tree_of};
 ghost use Rattle.scr_read.specs.Outcome.{fault_answer};
 ghost use Rattle.scr_project.specs.Outcome.{Answer, Outcome, answer_of, IsAnswered};
-ghost use Rattle.scr_project.specs.inner.Stages.{Stage};
+ghost use Rattle.scr_project.specs.inner.Stages.{Stage, IsUnprojected};
 
 use crate::fault::ProjectFault;
 use crate::names::Names;
@@ -46,7 +46,9 @@ fn unprojected(
     file: u32,
     role: &str,
     fault: ScrFault,
-) -> Result<Local, ProjectFault> {
+) -> Result<Local, ProjectFault>
+    ensures { IsUnprojected file role.now fault result }
+{
     if is_memory(&fault) {
         return Err(ProjectFault::Memory);
     }
