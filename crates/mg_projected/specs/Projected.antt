@@ -16,10 +16,10 @@ abbrev pub file_of : Name → LocalTree → RoleFile
 file_of role local = record { name = role ++ codes ".scr"; text = layout local }
 
 -- the files of these roles, in their order
-pub data AreFiles (g : GlobalTree) : List Name → List RoleFile → Type 0 where
-  none : AreFiles g [] []
-  file : {role : Name} {roles : List Name} {local : LocalTree} {files : List RoleFile} → projects.Outcome g role (projects.Protocol local) → AreFiles g roles files
-      → AreFiles g (role ∷ roles) (file_of role local ∷ files)
+abbrev pub AreFiles : GlobalTree → List Name → List RoleFile → Type 0
+AreFiles g [] files = files ≡ []
+AreFiles g (role ∷ roles) files =
+    (local : LocalTree) × (more : List RoleFile) × (files ≡ file_of role local ∷ more) × projects.Outcome g role (projects.Protocol local) × AreFiles g roles more
 
 -- an answer that is no protocol
 abbrev pub IsRefusal : projects.Answer → Type 0
@@ -27,10 +27,10 @@ IsRefusal (projects.Protocol local) = ⊥
 IsRefusal _ = Unit {0}
 
 -- why the first of these roles that has no local protocol has none
-pub data IsRefused (g : GlobalTree) : List Name → projects.Answer → Type 0 where
-  this : {role : Name} {roles : List Name} {a : projects.Answer} → projects.Outcome g role a → IsRefusal a → IsRefused g (role ∷ roles) a
-  later : {role : Name} {roles : List Name} {local : LocalTree} {a : projects.Answer} → projects.Outcome g role (projects.Protocol local) → IsRefused g roles a
-      → IsRefused g (role ∷ roles) a
+abbrev pub IsRefused : GlobalTree → List Name → projects.Answer → Type 0
+IsRefused g [] a = ⊥
+IsRefused g (role ∷ roles) a =
+    (projects.Outcome g role a × IsRefusal a) ⊎ ((local : LocalTree) × projects.Outcome g role (projects.Protocol local) × IsRefused g roles a)
 
 -- what is answered, want of memory aside
 pub data Answer : Type 0 where

@@ -1,52 +1,11 @@
--- Lists of statements and of branches, one behind another; what is found of them.
-use Rattle.std.proofs.Common.{◌≡◌, ℕ, max, List, [], ◌∷◌, ◌++◌, Bool, true, false, ◌||◌, Option, Some, None, refl, sym, ap, ◌∙◌, arith}
+-- What is found of lists of statements and of branches, one behind another.
+use Rattle.std.proofs.Common.{◌≡◌, ℕ, max, List, [], ◌∷◌, ◌++◌, length, Bool, true, false, ◌||◌, Option, Some, None, refl, sym, ap, ◌∙◌, arith}
 use Rattle.std.specs.Option.{option_or}
-use Rattle.mg_text.specs.Row.{Row}
-use Rattle.mg_text.specs.declared.place.Place.{Place}
-use Rattle.scr_tree.specs.declared.syntax.Statement.{Statement}
-use Rattle.scr_tree.specs.Tree.{Statements, Nothing, Says, Choice, Rec, Continue, Branches, NoBranch, Branch}
-use Rattle.scr_tree.specs.View.{front, statements, bodies}
-use Rattle.scr_tree.proofs.Behind.{each_front}
-use Rattle.scr_global.specs.Projecting.{both, mapped}
+use Rattle.scr_tree.specs.Tree.{Statements, Nothing, Branches, NoBranch}
+use Rattle.scr_global.specs.Projecting.{both}
 use Rattle.scr_global.specs.Texts.{behind}
-use Rattle.scr_project.specs.inner.Walk.{Found, FoundEach, nothing, no_branch, followed, followed_each, beside, as_branch}
-
-pub behind_nothing : (s : Statements) → behind s Nothing ≡ s
-behind_nothing Nothing = refl
-behind_nothing (Says m s) = ap (Says m) (behind_nothing s)
-behind_nothing (Choice p at bs s) = ap (Choice p at bs) (behind_nothing s)
-behind_nothing (Rec p name b s) = ap (Rec p name b) (behind_nothing s)
-behind_nothing (Continue p name s) = ap (Continue p name) (behind_nothing s)
-
-pub behind_both : (s t u : Statements) → behind (behind s t) u ≡ behind s (behind t u)
-behind_both Nothing t u = refl
-behind_both (Says m s) t u = ap (Says m) (behind_both s t u)
-behind_both (Choice p at bs s) t u = ap (Choice p at bs) (behind_both s t u)
-behind_both (Rec p name b s) t u = ap (Rec p name b) (behind_both s t u)
-behind_both (Continue p name s) t u = ap (Continue p name) (behind_both s t u)
-
-pub beside_none : (s : Branches) → beside s NoBranch ≡ s
-beside_none NoBranch = refl
-beside_none (Branch b s) = ap (Branch b) (beside_none s)
-
-pub beside_both : (s t u : Branches) → beside (beside s t) u ≡ beside s (beside t u)
-beside_both NoBranch t u = refl
-beside_both (Branch b s) t u = ap (Branch b) (beside_both s t u)
-
--- of the program's lists
-front-behind : (x : Statement) (a b : Statements) → behind (front x a) b ≡ front x (behind a b)
-front-behind x a b = each_front (λ f. behind (f a) b ≡ f (behind a b)) (λ m. refl) (λ p at bs. refl) (λ p name body. refl) (λ p name. refl) x
-
-pub statements-append : (xs ys : List Statement) → statements (xs ++ ys) ≡ behind (statements xs) (statements ys)
-statements-append [] ys = refl
-statements-append (x ∷ xs) ys = ap (front x) (statements-append xs ys) ∙ sym (front-behind x (statements xs) (statements ys))
-
-pub bodies-append : (xs ys : List (Row Statement)) → bodies (xs ++ ys) ≡ beside (bodies xs) (bodies ys)
-bodies-append [] ys = refl
-bodies-append (x ∷ xs) ys = ap (Branch (statements x.items)) (bodies-append xs ys)
-
-pub bodies-push : (xs : List (Row Statement)) (x : Row Statement) → bodies (xs ++ x ∷ []) ≡ beside (bodies xs) (Branch (statements x.items) NoBranch)
-bodies-push xs x = bodies-append xs (x ∷ [])
+use Rattle.scr_global_tree.proofs.Appends.{behind_nothing, behind_both, beside, beside_none, beside_both}
+use Rattle.scr_project.specs.inner.Walk.{Found, FoundEach, nothing, no_branch, followed, followed_each}
 
 -- ---- what is found
 
@@ -132,3 +91,7 @@ none_followed a = each_is refl (zero_max a.reach) refl (none_say a.says)
 
 pub each_both : (a b c : FoundEach) → followed_each (followed_each a b) c ≡ followed_each a (followed_each b c)
 each_both a b c = each_is (or_or a.named b.named c.named) (max_max a.reach b.reach c.reach) (option_both a.first b.first c.first) (say_both a.says b.says c.says)
+
+pub nothing_left : {X : Type 0} (xs : List X) → length xs ≡ 0 → xs ≡ []
+nothing_left [] e = refl
+nothing_left (x ∷ xs) e = absurd (omega (arith, e))

@@ -1,5 +1,5 @@
 -- How far statements lead says whether a `continue` in a rec names a rec opened outside it.
-use Rattle.std.proofs.Common.{◌≡◌, ℕ, suc, ◌+◌, ◌-◌, ◌<◌, ◌≤◌, max, nat_le, length, List, [], ◌∷◌, ◌++◌, Bool, true, false, ◌&&◌, if◌then◌else◌, refl, sym, ap, ◌∙◌, arith}
+use Rattle.std.proofs.Common.{◌≡◌, ℕ, suc, ◌+◌, ◌-◌, ◌<◌, ◌≤◌, max, nat_le, length, List, [], ◌∷◌, ◌++◌, Bool, true, false, ◌&&◌, ◌||◌, if◌then◌else◌, refl, sym, ap, ◌∙◌, arith}
 use Rattle.std.specs.Str.{bytes_eq}
 use Rattle.std.proofs.lemmas.Bool.Decides.{nat_tests}
 use Rattle.mg_text.specs.Call.{Name}
@@ -38,7 +38,7 @@ far_le name [] outer = none_le (far name outer) (far_positive name outer)
 far_le name (other ∷ inner) outer = go (bytes_eq other name) (far_le name inner outer)
   where
     go : (b : Bool) → is_among inner name ≡ nat_le (far name (inner ++ outer)) (length inner) →
-        (if b then true else is_among inner name) ≡ nat_le (if b then 1 else suc (far name (inner ++ outer))) (suc (length inner))
+        (b || is_among inner name) ≡ nat_le (if b then 1 else suc (far name (inner ++ outer))) (suc (length inner))
     go true h = one_le (length inner)
     go false h = h ∙ more_le (far name (inner ++ outer)) (length inner)
 

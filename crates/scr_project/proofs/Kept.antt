@@ -66,7 +66,7 @@ module _ (roles : List Name) (me : Name) where
   no_take true bs p more e = cc
   no_take false bs p more e = cc
 
-  IsListed : Name → Type 0
+  abbrev IsListed : Name → Type 0
   IsListed peer = IsName peer × Contains roles peer
 
   taken_listed : (names : List Name) (m : Message) (d : Direction) (p : Protocol) (more : Told) → IsListed m.peer →
@@ -76,34 +76,26 @@ module _ (roles : List Name) (me : Name) where
   taken_listed names m directions.From p more h e = h
 
   peer_listed : (names : List Name) (b : local.Statements) (more : Told) → Keeps names b → all_take (first_peer (spoken me b)) (protocol.Branch (spoken me b) more) ≡ true → IsListed (first_peer (spoken me b))
-  unfolding IsListed
   peer_listed names local.Nothing more h e = absurd cc
   peer_listed names (local.Says m rest) more h e = taken_listed names m m.direction (spoken me rest) more (h.1, h.2) e
   peer_listed names (local.Choice place at branches rest) more h e = absurd (no_take (bytes_eq at me) (spoken_each me branches) (spoken me rest) more e)
   peer_listed names (local.Rec place name body rest) more h e = absurd cc
   peer_listed names (local.Continue place name rest) more h e = absurd cc
 
+  merged_by : (names : List Name) (place : Place) (b : local.Statements) (more : local.Branches) (r s : local.Statements) → KeepEach names (local.Branch b more) → Keeps names r → (c d : Bool) →
+      tells_apart (first_peer (spoken me b)) (spoken_each me (local.Branch b more)) ≡ d →
+      (if c then Some (behind b r) else (if d then Some (local.Choice place (first_peer (spoken me b)) (local.Branch b more) r) else None)) ≡ Some s → Keeps names s
+  merged_by names place b more r s h k true d t e = subst (Keeps names) (some_is (behind b r) s e) (keeps_behind names b r h.0 k)
+  merged_by names place b more r s h k false true t e =
+      let takes = and_parts (all_take (first_peer (spoken me b)) (spoken_each me (local.Branch b more))) (all_differ (first_labels (spoken_each me (local.Branch b more)))) t in
+      let l = peer_listed names b (spoken_each me more) h.0 takes.0 in
+      subst (Keeps names) (some_is (local.Choice place (first_peer (spoken me b)) (local.Branch b more) r) s e) (l.0, l.1, tt, h, k)
+  merged_by names place b more r s h k false false t e = absurd (none_is_not s e)
+
   keeps_merged : (names : List Name) (place : Place) (bs : local.Branches) (r s : local.Statements) → KeepEach names bs → Keeps names r → merged_text me place bs r ≡ Some s → Keeps names s
   keeps_merged names place local.NoBranch r s h k e = absurd (none_is_not s e)
-  keeps_merged names place (local.Branch b more) r s h k e = first (all_same (spoken me b) (spoken_each me more)) e
-    where
-      peer : Name
-      peer = first_peer (spoken me b)
-
-      choice : local.Statements
-      choice = local.Choice place peer (local.Branch b more) r
-
-      second : (c : Bool) → tells_apart peer (spoken_each me (local.Branch b more)) ≡ c → (if c then Some choice else None) ≡ Some s → Keeps names s
-      unfolding choice peer IsListed
-      second true t e =
-          let takes = and_parts (all_take peer (spoken_each me (local.Branch b more))) (all_differ (first_labels (spoken_each me (local.Branch b more)))) t in
-          let l = peer_listed names b (spoken_each me more) h.0 takes.0 in
-          subst (Keeps names) (some_is choice s e) (l.0, l.1, tt, h, k)
-      second false t e = absurd (none_is_not s e)
-
-      first : (c : Bool) → (if c then Some (behind b r) else (if tells_apart peer (spoken_each me (local.Branch b more)) then Some choice else None)) ≡ Some s → Keeps names s
-      first true e = subst (Keeps names) (some_is (behind b r) s e) (keeps_behind names b r h.0 k)
-      first false e = second (tells_apart peer (spoken_each me (local.Branch b more))) refl e
+  keeps_merged names place (local.Branch b more) r s h k e =
+      merged_by names place b more r s h k (all_same (spoken me b) (spoken_each me more)) (tells_apart (first_peer (spoken me b)) (spoken_each me (local.Branch b more))) refl e
 
   each_kept : (branches : Branches) (bs : local.Branches) → HasBranches branches → projected_each me branches ≡ Some bs → HaveBranches bs
   each_kept NoBranch bs h e = absurd h
@@ -111,30 +103,36 @@ module _ (roles : List Name) (me : Name) where
       let p = both_some (λ b bs. Some (local.Branch b bs)) (projected me b) (projected_each me more) bs e in
       subst HaveBranches (some_is (local.Branch p.0 p.1) bs p.4) tt
 
+  chosen_kept : (names : List Name) (place : Place) (at : Name) (branches : Branches) (o : Option local.Branches) (q : Option local.Statements) (s : local.Statements) → IsName at → Contains roles at →
+      ((bs : local.Branches) → o ≡ Some bs → HaveBranches bs × KeepEach names bs) → ((r : local.Statements) → q ≡ Some r → Keeps names r) → (b : Bool) →
+      (if b then both (λ bs r. Some (local.Choice place at bs r)) o q else both (merged_text me place) o q) ≡ Some s → Keeps names s
+  chosen_kept names place at branches o q s is_name has each rest true e =
+      let p = both_some (λ bs r. Some (local.Choice place at bs r)) o q s e in
+      let k = each p.0 p.2 in
+      subst (Keeps names) (some_is (local.Choice place at p.0 p.1) s p.4) (is_name, has, k.0, k.1, rest p.1 p.3)
+  chosen_kept names place at branches o q s is_name has each rest false e =
+      let p = both_some (merged_text me place) o q s e in keeps_merged names place p.0 p.1 s (each p.0 p.2).1 (rest p.1 p.3) p.4
+
+  turned_kept : (names : List Name) (place : Place) (name : Name) (o q : Option local.Statements) (s : local.Statements) → IsName name → (Contains names name → ⊥) →
+      ((b : local.Statements) → o ≡ Some b → Keeps (name ∷ names) b) → ((r : local.Statements) → q ≡ Some r → Keeps names r) → (b : Bool) →
+      (if b then q else both (λ b r. Some (local.Rec place name b r)) o q) ≡ Some s → Keeps names s
+  turned_kept names place name o q s is_name new body rest true e = rest s e
+  turned_kept names place name o q s is_name new body rest false e =
+      let p = both_some (λ b r. Some (local.Rec place name b r)) o q s e in
+      subst (Keeps names) (some_is (local.Rec place name p.0 p.1) s p.4) (is_name, new, body p.0 p.2, rest p.1 p.3)
+
   mutual
     pub keeps : (names : List Name) (t : Statements) (s : local.Statements) → Sound roles names t → projected me t ≡ Some s → Keeps names s
     keeps names Nothing s h e = subst (Keeps names) (some_is local.Nothing s e) tt
     keeps names (Says m rest) s h e =
         let p = mapped_some (told_in (bytes_eq m.from me) (bytes_eq m.to me) m) (projected me rest) s e in
         subst (Keeps names) p.2 (keeps_told names m (bytes_eq m.from me) (bytes_eq m.to me) p.0 refl refl h.0 h.1 h.2 h.3 h.4 h.5 (keeps names rest p.0 h.6 p.1))
-    keeps names (Choice place at branches rest) s h e = chosen (bytes_eq at me) e
-      where
-        chosen : (b : Bool) → (if b then both (λ bs r. Some (local.Choice place at bs r)) (projected_each me branches) (projected me rest)
-            else both (merged_text me place) (projected_each me branches) (projected me rest)) ≡ Some s → Keeps names s
-        chosen true e =
-            let p = both_some (λ bs r. Some (local.Choice place at bs r)) (projected_each me branches) (projected me rest) s e in
-            subst (Keeps names) (some_is (local.Choice place at p.0 p.1) s p.4)
-            (h.0, h.1, each_kept branches p.0 h.2 p.2, keeps_each names branches p.0 h.3 p.2, keeps names rest p.1 h.4 p.3)
-        chosen false e =
-            let p = both_some (merged_text me place) (projected_each me branches) (projected me rest) s e in
-            keeps_merged names place p.0 p.1 s (keeps_each names branches p.0 h.3 p.2) (keeps names rest p.1 h.4 p.3) p.4
-    keeps names (Rec place name body rest) s h e = turned (is_nothing_to me name (said body)) e
-      where
-        turned : (b : Bool) → (if b then projected me rest else both (λ b r. Some (local.Rec place name b r)) (projected me body) (projected me rest)) ≡ Some s → Keeps names s
-        turned true e = keeps names rest s h.3 e
-        turned false e =
-            let p = both_some (λ b r. Some (local.Rec place name b r)) (projected me body) (projected me rest) s e in
-            subst (Keeps names) (some_is (local.Rec place name p.0 p.1) s p.4) (h.0, h.1, keeps (name ∷ names) body p.0 h.2 p.2, keeps names rest p.1 h.3 p.3)
+    keeps names (Choice place at branches rest) s h e =
+        chosen_kept names place at branches (projected_each me branches) (projected me rest) s h.0 h.1
+        (λ bs f. (each_kept branches bs h.2 f, keeps_each names branches bs h.3 f)) (λ r f. keeps names rest r h.4 f) (bytes_eq at me) e
+    keeps names (Rec place name body rest) s h e =
+        turned_kept names place name (projected me body) (projected me rest) s h.0 h.1
+        (λ b f. keeps (name ∷ names) body b h.2 f) (λ r f. keeps names rest r h.3 f) (is_nothing_to me name (said body)) e
     keeps names (Continue place name rest) s h e =
         let p = mapped_some (local.Continue place name) (projected me rest) s e in
         subst (Keeps names) p.2 (h.0, h.1, keeps names rest p.0 h.2 p.1)
@@ -169,30 +167,34 @@ module _ (roles : List Name) (me : Name) where
       go false true e = let same = ap valid.depth (some_is (local.Choice place (first_peer (spoken me b)) (local.Branch b more) r) s e) in omega arith
       go false false e = absurd (none_is_not s e)
 
+  chosen_depth : (place : Place) (at : Name) (o : Option local.Branches) (q : Option local.Statements) (s : local.Statements) (inner later : ℕ) →
+      ((bs : local.Branches) → o ≡ Some bs → valid.depth_in bs ≤ inner) → ((r : local.Statements) → q ≡ Some r → valid.depth r ≤ later) → (b : Bool) →
+      (if b then both (λ bs r. Some (local.Choice place at bs r)) o q else both (merged_text me place) o q) ≡ Some s → valid.depth s ≤ max (suc inner) later
+  chosen_depth place at o q s inner later each rest true e =
+      let p = both_some (λ bs r. Some (local.Choice place at bs r)) o q s e in
+      let h = each p.0 p.2 in let k = rest p.1 p.3 in let same = ap valid.depth (some_is (local.Choice place at p.0 p.1) s p.4) in omega arith
+  chosen_depth place at o q s inner later each rest false e =
+      let p = both_some (merged_text me place) o q s e in
+      let h = each p.0 p.2 in let k = rest p.1 p.3 in let whole = depth_merged place p.0 p.1 s p.4 in omega arith
+
+  turned_depth : (place : Place) (name : Name) (o q : Option local.Statements) (s : local.Statements) (inner later : ℕ) →
+      ((b : local.Statements) → o ≡ Some b → valid.depth b ≤ inner) → ((r : local.Statements) → q ≡ Some r → valid.depth r ≤ later) → (b : Bool) →
+      (if b then q else both (λ b r. Some (local.Rec place name b r)) o q) ≡ Some s → valid.depth s ≤ max (suc inner) later
+  turned_depth place name o q s inner later body rest true e = let k = rest s e in omega arith
+  turned_depth place name o q s inner later body rest false e =
+      let p = both_some (λ b r. Some (local.Rec place name b r)) o q s e in
+      let h = body p.0 p.2 in let k = rest p.1 p.3 in let same = ap valid.depth (some_is (local.Rec place name p.0 p.1) s p.4) in omega arith
+
   mutual
     pub no_deeper : (t : Statements) (s : local.Statements) → projected me t ≡ Some s → valid.depth s ≤ depth t
     no_deeper Nothing s e = let same = ap valid.depth (some_is local.Nothing s e) in omega arith
     no_deeper (Says m rest) s e =
         let p = mapped_some (told_in (bytes_eq m.from me) (bytes_eq m.to me) m) (projected me rest) s e in
         let h = no_deeper rest p.0 p.1 in let told = depth_told m (bytes_eq m.from me) (bytes_eq m.to me) p.0 in let same = ap valid.depth p.2 in omega arith
-    no_deeper (Choice place at branches rest) s e = chosen (bytes_eq at me) e
-      where
-        chosen : (b : Bool) → (if b then both (λ bs r. Some (local.Choice place at bs r)) (projected_each me branches) (projected me rest)
-            else both (merged_text me place) (projected_each me branches) (projected me rest)) ≡ Some s → valid.depth s ≤ max (suc (depth_in branches)) (depth rest)
-        chosen true e =
-            let p = both_some (λ bs r. Some (local.Choice place at bs r)) (projected_each me branches) (projected me rest) s e in
-            let inner = none_deeper branches p.0 p.2 in let later = no_deeper rest p.1 p.3 in let same = ap valid.depth (some_is (local.Choice place at p.0 p.1) s p.4) in omega arith
-        chosen false e =
-            let p = both_some (merged_text me place) (projected_each me branches) (projected me rest) s e in
-            let inner = none_deeper branches p.0 p.2 in let later = no_deeper rest p.1 p.3 in let whole = depth_merged place p.0 p.1 s p.4 in omega arith
-    no_deeper (Rec place name body rest) s e = turned (is_nothing_to me name (said body)) e
-      where
-        turned : (b : Bool) → (if b then projected me rest else both (λ b r. Some (local.Rec place name b r)) (projected me body) (projected me rest)) ≡ Some s →
-            valid.depth s ≤ max (suc (depth body)) (depth rest)
-        turned true e = let later = no_deeper rest s e in omega arith
-        turned false e =
-            let p = both_some (λ b r. Some (local.Rec place name b r)) (projected me body) (projected me rest) s e in
-            let inner = no_deeper body p.0 p.2 in let later = no_deeper rest p.1 p.3 in let same = ap valid.depth (some_is (local.Rec place name p.0 p.1) s p.4) in omega arith
+    no_deeper (Choice place at branches rest) s e =
+        chosen_depth place at (projected_each me branches) (projected me rest) s (depth_in branches) (depth rest) (none_deeper branches) (no_deeper rest) (bytes_eq at me) e
+    no_deeper (Rec place name body rest) s e =
+        turned_depth place name (projected me body) (projected me rest) s (depth body) (depth rest) (no_deeper body) (no_deeper rest) (is_nothing_to me name (said body)) e
     no_deeper (Continue place name rest) s e =
         let p = mapped_some (local.Continue place name) (projected me rest) s e in
         let h = no_deeper rest p.0 p.1 in let same = ap valid.depth p.2 in omega arith

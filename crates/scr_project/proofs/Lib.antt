@@ -5,3 +5,6 @@ pub mod Labels
 pub mod Merging
 pub mod Closed
 pub mod Steps
+pub mod Sound
+pub mod Kept
+pub mod Faults

@@ -17,8 +17,9 @@ use Rattle.scr_tree.proofs.ViewLemmas.{front-Message, front-Choice, front-Rec, f
 use Rattle.scr_judge.specs.inner.Seen.{Names, none, with_name}
 use Rattle.scr_global.specs.Projecting.{is_same, all_same, mapped, tells_apart, first_peer}
 use Rattle.scr_global.specs.Texts.{spoken, spoken_each, behind, merged_text}
+use Rattle.scr_project.proofs.Labels.{told_by, telling_is}
 use Rattle.scr_project.specs.inner.Merge.{agreed, telling, taken, first_taken, tells}
-use Rattle.scr_project.proofs.Behinds.{behind_nothing}
+use Rattle.scr_global_tree.proofs.Appends.{behind_nothing}
 
 -- ---- all the same
 
@@ -88,6 +89,22 @@ tells-step peer has bs i x within is =
 
 pub tells-past : (peer : Name) (has : Names) (bs : List (Row Statement)) (i : ℕ) → length bs ≤ i → tells peer has (bodies (drop i bs)) ≡ true
 tells-past peer has bs i h = ap (tells peer has) (bodies-past bs i h)
+
+-- the peer that tells, by the first message of the first branch
+pub peer_told : (me : Name) (bs : List (Row Statement)) (first : Row Statement) (rest : List (Row Statement)) (o : Option Said) (m : Said) (b : Bool) → bs ≡ first ∷ rest →
+    o ≡ first_taken (statements first.items) → o ≡ Some m → b ≡ tells m.peer none (bodies bs) → telling me (bodies bs) ≡ (if b then Some m.peer else None)
+peer_told me bs first rest o m b parts takes is told =
+    ap (λ (l : List (Row Statement)). telling me (bodies l)) parts
+    ∙ telling_is me (statements first.items) (bodies rest)
+    ∙ ap (told_by (Branch (statements first.items) (bodies rest))) (sym takes ∙ is)
+    ∙ ap (λ (z : Bool). if z then Some m.peer else None) (sym (told ∙ ap (λ (l : List (Row Statement)). tells m.peer none (bodies l)) parts))
+
+pub none_told : (me : Name) (bs : List (Row Statement)) (first : Row Statement) (rest : List (Row Statement)) (o : Option Said) → bs ≡ first ∷ rest → o ≡ first_taken (statements first.items) → o ≡ None →
+    telling me (bodies bs) ≡ None
+none_told me bs first rest o parts takes is =
+    ap (λ (l : List (Row Statement)). telling me (bodies l)) parts
+    ∙ telling_is me (statements first.items) (bodies rest)
+    ∙ ap (told_by (Branch (statements first.items) (bodies rest))) (sym takes ∙ is)
 
 pub ruleset merging = (common_steps, merged_agreed, merged_told, front-Choice)
 

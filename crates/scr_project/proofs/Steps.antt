@@ -18,7 +18,8 @@ use Rattle.scr_global_tree.specs.View.{front, statements, bodies, told}
 use Rattle.scr_global_tree.proofs.Behind.{each_front, statements-step, statements-past, bodies-step, bodies-past}
 use Rattle.scr_global_tree.proofs.ViewLemmas.{front-Message, front-Choice, front-Rec, front-Continue}
 use Rattle.scr_project.specs.inner.Walk.{Found, FoundEach, far, reached, reached_in, unmerged, unmerged_in, found, found_each, nothing, no_branch, followed, followed_each, as_branch, body_said, turned, chosen_says, chosen}
-use Rattle.scr_project.proofs.Behinds.{found_is, each_is, option_none, some_behind, behind_nothing, followed_nothing, nothing_followed, followed_both, followed_none, none_followed, each_both}
+use Rattle.scr_global_tree.proofs.Appends.{behind_nothing, beside}
+use Rattle.scr_project.proofs.Behinds.{found_is, each_is, option_none, some_behind, followed_nothing, nothing_followed, followed_both, followed_none, none_followed, each_both}
 use Rattle.scr_project.proofs.Closed.{rec_closed}
 
 -- ---- small laws
@@ -145,7 +146,7 @@ module _ (me : Name) where
       each-front b more = each_is refl refl refl (go (projected me b) (projected_each me more))
         where
           go : (o : Option local.Statements) (q : Option local.Branches) → both (λ b bs. Some (local.Branch b bs)) o q ≡
-              both (λ s t. Some (Rattle.scr_project.specs.inner.Walk.beside s t)) (mapped (λ b. local.Branch b local.NoBranch) o) q
+              both (λ s t. Some (beside s t)) (mapped (λ b. local.Branch b local.NoBranch) o) q
           go None q = refl
           go (Some s) None = refl
           go (Some s) (Some t) = refl

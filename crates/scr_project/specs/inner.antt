@@ -1,4 +1,3 @@
 pub mod Walk
 pub mod Merge
 pub mod View
-pub mod Stages

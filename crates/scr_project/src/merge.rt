@@ -69,7 +69,7 @@ fn telling_peer(
 ) -> Result<Option<Text>, Memory>
     ensures { IfOk result (λ p. p ≡ telling me.now (bodies branches.now)) }
 {
-    let Some(first) = branches.first() else {
+    let Some((first, _)) = branches.split_first() else {
         return Ok(None);
     };
     let Some(message) = first_taken(first.as_slice()) else {

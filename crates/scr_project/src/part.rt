@@ -5,7 +5,8 @@ ghost use Rattle.scr_tree.specs.View.{statements, bodies};
 ghost use Rattle.scr_tree.specs.Tree.{NoBranch, Branch};
 ghost use Rattle.scr_global.specs.Texts.{behind};
 ghost use Rattle.scr_global.specs.Projecting.{both, mapped};
-ghost use Rattle.scr_project.specs.inner.Walk.{nothing, no_branch, followed, followed_each, beside, as_branch};
+ghost use Rattle.scr_global_tree.proofs.Appends.{beside};
+ghost use Rattle.scr_project.specs.inner.Walk.{nothing, no_branch, followed, followed_each, as_branch};
 ghost use Rattle.scr_project.specs.inner.View.{says_of, say_of, found_of, each_of};
 
 use mg_text::{List, Memory, Place};
@@ -71,7 +72,7 @@ fn joined(
 }
 
 // One branch behind others, where all are there.
-fn with_branch(
+fn branches_with(
     branches: Option<List<List<Statement>>>,
     branch: Option<List<Statement>>,
 ) -> Result<Option<List<List<Statement>>>, Memory>
@@ -101,7 +102,7 @@ impl Part {
     }
 
     // What is found of these statements and those behind them.
-    pub(crate) fn then(self, next: Part) -> Result<Part, Memory>
+    pub(crate) fn followed_by(self, next: Part) -> Result<Part, Memory>
         ensures { IfOk result (λ p. found_of p ≡ followed (found_of self) (found_of next)) }
     {
         let Part {
@@ -134,7 +135,7 @@ impl Each {
     }
 
     // What is found of these branches and one more.
-    pub(crate) fn then(self, next: Part) -> Result<Each, Memory>
+    pub(crate) fn with_branch(self, next: Part) -> Result<Each, Memory>
         ensures { IfOk result (λ p. each_of p ≡ followed_each (each_of self) (as_branch (found_of next))) }
     {
         let Each {
@@ -143,7 +144,7 @@ impl Each {
             first,
             says,
         } = self;
-        let says = with_branch(says, next.says)?;
+        let says = branches_with(says, next.says)?;
         Ok(Each {
             named: named | next.named,
             reach: reach.max(next.reach),

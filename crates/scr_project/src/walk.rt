@@ -31,7 +31,7 @@ pub(crate) fn found_all(
     let mut part = Part::nothing(alloc);
     for statement in body {
         let next = found_at(alloc, me, around, statement)?;
-        part = part.then(next)?;
+        part = part.followed_by(next)?;
     }
     Ok(part)
 }
@@ -105,7 +105,7 @@ fn found_in(
     let mut each = Each::nothing(alloc);
     for branch in branches {
         let next = found_all(alloc, me, around, branch.as_slice())?;
-        each = each.then(next)?;
+        each = each.with_branch(next)?;
     }
     Ok(each)
 }

@@ -8,6 +8,7 @@ use Rattle.scr_tree.specs.Tree as local
 use Rattle.scr_global.specs.Tree.{Statements, Nothing, Says, Choice, Rec, Continue, Branches, NoBranch, Branch, said, said_each}
 use Rattle.scr_global.specs.Projecting.{both, mapped, is_named, are_named}
 use Rattle.scr_global.specs.Texts.{behind, merged_text, projected, projected_each}
+use Rattle.scr_global_tree.proofs.Appends.{beside}
 
 -- ---- how far a `continue` leads
 
@@ -95,10 +96,6 @@ followed a b = record {
 }
 
 -- some branches behind others
-abbrev pub beside : local.Branches → local.Branches → local.Branches
-beside local.NoBranch cs = cs
-beside (local.Branch b bs) cs = local.Branch b (beside bs cs)
-
 abbrev pub followed_each : FoundEach → FoundEach → FoundEach
 followed_each a b = record {
   named = a.named || b.named;
