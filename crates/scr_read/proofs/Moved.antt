@@ -38,3 +38,9 @@ parts_refused t w fault f s same first some says a answered =
     subst (IsRefused (parts t)) (some_is _ a (sym says ∙ answered))
     (refused (subst (λ (v : WrittenTree). IsFault v (Some (f.condition, culprit f.place f.name))) same
     (subst (λ (o : Option Fault). IsFault w (fault_of o)) some first)))
+
+pub parts_made : (t made : LocalTree) (w : WrittenTree) (fault : Option Fault) → w ≡ parts t → IsFault w (fault_of fault) → fault ≡ None → made ≡ local_of w → (made ≡ t) × IsFault (parts t) None
+parts_made t made w fault same first none e = (
+  e ∙ ap local_of same ∙ meant t,
+  subst (λ (v : WrittenTree). IsFault v None) same (subst (λ (f : Option Fault). IsFault w (fault_of f)) none first),
+)
