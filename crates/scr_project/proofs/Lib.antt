@@ -1,4 +1,3 @@
-pub mod Sets
 pub mod Behinds
 pub mod Sameness
 pub mod Labels
@@ -8,3 +7,7 @@ pub mod Steps
 pub mod Sound
 pub mod Kept
 pub mod Faults
+pub mod Early
+pub mod Premises
+pub mod Answered
+pub mod Promises

@@ -3,11 +3,14 @@
 #![tactic(auto)]
 
 mod fault;
+mod laws;
 mod merge;
 mod names;
 mod part;
+mod project;
 mod same;
-mod seen;
 mod walk;
 
 pub use fault::ProjectFault;
+pub use laws::{none_is_stuck, runs_are_followed};
+pub use project::project;

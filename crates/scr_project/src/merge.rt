@@ -13,7 +13,7 @@ ghost use Rattle.scr_project.specs.inner.View.{says_of};
 use crate::part::one;
 use crate::same::same_all;
 use mg_text::{List, Memory, Place, Text};
-use crate::seen::{add_name, no_names};
+use scr_judge::{add_name, no_names};
 use scr_tree::{Direction, Message, Statement};
 use std::alloc::Global;
 

@@ -1,5 +1,0 @@
-use Rattle.scr_project.proofs.Sets.{noted}
-use Rattle.scr_project.proofs.seen.add_name.Goals as goal
-
-pub returns-clause-names : goal.returns-clause-names
-returns-clause-names c = noted c.args.name c.args.names.now c.insert.new.self c.in_ok-new.ensures.updates
