@@ -29,7 +29,19 @@ pub fn are_clear(head: &str) -> bool {
 fn is_clear(word: &str) -> bool {
     matches!(
         word,
-        "mungo" | "with" | "shows" | "bytes" | "folder" | "out" | "err"
+        "mungo"
+            | "with"
+            | "first"
+            | "fills"
+            | "cuts"
+            | "sets"
+            | "grows"
+            | "shows"
+            | "bytes"
+            | "folder"
+            | "out"
+            | "err"
+            | "each"
     )
 }
 

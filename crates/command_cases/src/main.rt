@@ -6,14 +6,22 @@
 //! ```text
 //! mungo check A.java B.java     the words of the command
 //! with A.java                   files of these names that lie here are in the folder too
+//! first compile A.java          a command that runs before: of what is then in the folder, the files
+//!                               that are words of the case's own command are in it
+//! fills A.class 9               a file of so many bytes that are 0 is in it; of a file the first
+//! cuts A.class 4                bytes alone are; its bytes from a number on are these; it has this
+//! sets A.class 266 87 0         byte more
+//! grows A.class 0
 //! out fails 0 1                 calls of standard output that fail, counted from 0
 //! err fails 0                   the same of standard error
 //! folder fails 4                and of the folder, whose reads and writes are counted together
+//! each folder                   each call of the folder, of `out` or of `err` fails in turn
 //! shows a.txt                   files whose contents are told afterwards
 //! bytes A.class                 files whose bytes are told afterwards, in hexadecimal digits
 //! ```
 #![tactic(auto)]
 
+mod classes;
 mod given;
 mod world;
 
@@ -24,7 +32,7 @@ use std::alloc::Global;
 use std::rt::Files;
 
 /// The files of cases, in the order in which they are answered.
-const FILES: [&str; 9] = [
+const FILES: [&str; 11] = [
     "translate.txt",
     "conform.txt",
     "check.txt",
@@ -33,6 +41,8 @@ const FILES: [&str; 9] = [
     "limits.txt",
     "run.txt",
     "roles.txt",
+    "exec.txt",
+    "faults.txt",
     "words.txt",
 ];
 

@@ -1,8 +1,9 @@
 //! A folder and sinks in memory, in which a command is run, and what it leaves, as lines: its
 //! status, how often the folder was called, what was put on the sinks, and files.
 
+use crate::classes::files_for;
 use crate::given::{are_clear, line_of, numbers_of, words_of};
-use mg_io::{FileList, Folder, HostFolder, IoFault, MemFolder, MemSink};
+use mg_io::{FileList, Folder, HostFolder, IoFault, MemFolder, MemSink, NumberList};
 use mg_text::Memory;
 use mg_top::{Status, mungo};
 use std::alloc::{AllocError, Global};
@@ -26,20 +27,85 @@ pub fn answer<R: Files>(alloc: Global, rt: &R, given: &str) -> Result<String, Me
 
 // What it leaves, with these files, each begun by its name.
 fn answer_to<R: Files>(alloc: Global, rt: &R, head: &str, files: &str) -> Result<String, Memory> {
-    if are_clear(head) {
-        let world = world_of(alloc, rt, head, files)?;
-        world.answer(alloc, head)
-    } else {
-        Ok(String::from_str(alloc, "out of form")?)
+    if !are_clear(head) {
+        return Ok(String::from_str(alloc, "out of form")?);
+    }
+    match line_of(head, "each ") {
+        "" => {
+            let world = world_of(alloc, rt, head, files, Turn::NONE)?;
+            world.answer(alloc, head)
+        }
+        stream => answer_each(alloc, rt, head, files, stream),
     }
 }
 
+/// The call of a stream that fails beside those that a case lists.
+#[derive(Clone, Copy)]
+struct Turn<'a> {
+    stream: &'a str,
+    call: u32,
+}
+
+impl Turn<'_> {
+    const NONE: Turn<'static> = Turn {
+        stream: "",
+        call: 0,
+    };
+}
+
+/// The most calls of a stream that are let fail in turn.
+const MOST_CALLS: u32 = 40;
+
+// What it leaves where each call of a stream fails in turn, and then where none fails.
+fn answer_each<R: Files>(
+    alloc: Global,
+    rt: &R,
+    head: &str,
+    files: &str,
+    stream: &str,
+) -> Result<String, Memory> {
+    let whole = world_of(alloc, rt, head, files, Turn::NONE)?.answer(alloc, head)?;
+    let mut told = String::new(alloc);
+    for call in 0..MOST_CALLS {
+        let one = world_of(alloc, rt, head, files, Turn { stream, call })?.answer(alloc, head)?;
+        if one.as_str() == whole.as_str() {
+            break;
+        }
+        write!(told, "{stream} {call} fails: {one}\n")?;
+    }
+    write!(told, "none fails: {whole}")?;
+    Ok(told)
+}
+
 // The world in which it runs.
-fn world_of<R: Files>(alloc: Global, rt: &R, head: &str, files: &str) -> Result<World, Memory> {
-    let out = MemSink::new(alloc, numbers_of(alloc, line_of(head, "out fails "))?);
-    let err = MemSink::new(alloc, numbers_of(alloc, line_of(head, "err fails "))?);
-    let folder = folder_of(alloc, rt, head, files)?;
+fn world_of<R: Files>(
+    alloc: Global,
+    rt: &R,
+    head: &str,
+    files: &str,
+    turn: Turn<'_>,
+) -> Result<World, Memory> {
+    let out = MemSink::new(alloc, failing(alloc, head, "out", turn)?);
+    let err = MemSink::new(alloc, failing(alloc, head, "err", turn)?);
+    let folder = folder_of(alloc, rt, head, files, turn)?;
     Ok(World { folder, out, err })
+}
+
+// The calls of a stream that fail.
+fn failing(
+    alloc: Global,
+    head: &str,
+    stream: &str,
+    turn: Turn<'_>,
+) -> Result<NumberList, Memory> {
+    if turn.stream == stream {
+        return NumberList::of(alloc, &[turn.call]);
+    }
+    match stream {
+        "out" => numbers_of(alloc, line_of(head, "out fails ")),
+        "err" => numbers_of(alloc, line_of(head, "err fails ")),
+        _ => numbers_of(alloc, line_of(head, "folder fails ")),
+    }
 }
 
 fn folder_of<R: Files>(
@@ -47,12 +113,13 @@ fn folder_of<R: Files>(
     rt: &R,
     head: &str,
     files: &str,
+    turn: Turn<'_>,
 ) -> Result<MemFolder, Memory> {
-    let failing = numbers_of(alloc, line_of(head, "folder fails "))?;
     let mut kept = FileList::new(alloc);
     add_files(alloc, &mut kept, files)?;
     add_files_here(alloc, rt, &mut kept, line_of(head, "with "))?;
-    MemFolder::new(alloc, kept, failing)
+    let kept = files_for(alloc, head, kept)?;
+    MemFolder::new(alloc, kept, failing(alloc, head, "folder", turn)?)
 }
 
 // Adds files, each begun by a line that is its name.

@@ -28,7 +28,7 @@ module _ (meant : (budget : ℕ) → Ended) (count : ℕ) (events : List Event) 
   whole finish means = record { later = []; is = ap (λ (x : Ended). x.events) means ∙ sym (append-nil events) }
 
   -- whatever a role shows, its events so far are meant
-  front : (stand : Stand) → Shows meant count events stand → Prefix events (meant (suc count)).events
+  pub front : (stand : Stand) → Shows meant count events stand → Prefix events (meant (suc count)).events
   front (stands.Ended ending) h = whole h.0 h.2
   front (stands.Waits peer) h = whole (Wait peer) h
   front stands.Bound h = h

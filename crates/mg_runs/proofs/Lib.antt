@@ -2,6 +2,7 @@ pub mod Sound
 pub mod Reading
 pub mod Roles
 pub mod Keeping
+pub mod Playing
 pub mod Protocols
 pub mod Shown
 pub mod Apart

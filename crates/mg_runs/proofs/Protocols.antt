@@ -1,19 +1,7 @@
 -- The typestates of the protocols of files.
-use Rattle.std.proofs.Common.{List}
-use Rattle.std.proofs.lemmas.Grind.{merely}
-use Rattle.scr_tree.specs.Tree.{LocalTree}
-use Rattle.scr_tree.specs.Valid.{IsValid}
-use Rattle.scr_read.specs.Outcome as scribble
-use Rattle.scr_read.proofs.Named.{can_be_written}
-use Rattle.scr_judge.proofs.Faultless.{faultless}
 use Rattle.stm_acts.proofs.Held.{generated_agrees}
-use Rattle.mg_sources.specs.Files.{Source}
-use Rattle.mg_sources.specs.Reading.{Protocol, Reads, protocol}
+use Rattle.mg_acts_law.proofs.Read.{valid_read}
 use Rattle.mg_runs.specs.Laws.{AllProtocolsAgree}
-
--- a protocol that is read is valid
-valid_read : (source : Source) (local : LocalTree) → Reads source (Protocol local) → ∥ IsValid local ∥₁
-valid_read source local (protocol kind (scribble.found {w = w} spells fine)) = merely (faultless w fine (can_be_written source.number source.bytes w spells))
 
 pub protocols_agree : AllProtocolsAgree
 protocols_agree files source local among reads = generated_agrees local (valid_read source local reads)

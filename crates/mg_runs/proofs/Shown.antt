@@ -21,10 +21,11 @@ use Rattle.mg_runs.specs.Lines.{no_main_line}
 use Rattle.mg_runs.specs.Runs.{HaveMains}
 use Rattle.mg_runs.specs.Headline.{ProtocolsAgree}
 use Rattle.mg_runs.specs.Commanded.{unaccepted, no_main, too_large}
-use Rattle.mg_runs.specs.Laws.{RolesAreMeant, RolesKeep, AllProtocolsAgree}
+use Rattle.mg_runs.specs.Laws.{RolesAreMeant, RolesKeep, RolesPlay, AllProtocolsAgree}
 use Rattle.mg_runs.specs.View.{IsOfRun, IsRunning}
 use Rattle.mg_runs.specs.inner.Mains.{IsWithout}
 use Rattle.mg_runs.specs.inner.Going.{IsRunOf}
+use Rattle.mg_runs.proofs.Playing.{from_there}
 use Rattle.mg_runs.proofs.Roles.{any_order}
 
 -- a list is what stands before one of its items, the item, and the rest
@@ -35,10 +36,10 @@ parts_at (y ∷ xs) (suc k) x at = ap (λ l. y ∷ l) (parts_at xs k x at)
 
 module _ (files : List Source) (mains : List RoleMain) (order : List ℕ) (limit : ℕ) (named traced : Bool) where
   -- the run of class files is that of their files
-  pub shown : RolesAreMeant → RolesKeep → AllProtocolsAgree → (core : Core.Program) (written : List ClassFile) (ran : Ran) → AreAccepted files core →
+  pub shown : RolesAreMeant → RolesKeep → RolesPlay → AllProtocolsAgree → (core : Core.Program) (written : List ClassFile) (ran : Ran) → AreAccepted files core →
       HaveMains core mains → AreClassFiles core written → IsRunOf core written mains order limit named traced ran →
       IsOfRun files mains order limit named traced ran
-  shown law keep agree core written ran a have made r =
+  shown law keep play agree core written ran a have made r =
       let meant = law files core written a.have made mains have r.program r.loaded in
       let kept = keep files core a mains have in
       record {
@@ -54,6 +55,8 @@ module _ (files : List Source) (mains : List RoleMain) (order : List ℕ) (limit
           does = meant.0;
           keep = λ taken. kept.1 r.program (turns r.program r.first taken) (meant.1 r.first r.begins taken);
           meanings = kept.0;
+          parts = λ taken. play files core a mains have r.program (turns r.program r.first taken)
+              (from_there a.have.program mains r.program r.first (meant.1 r.first r.begins) taken);
           orders = any_order r.program mains r.first r.begins;
           protocols = agree files;
         };

@@ -1,13 +1,19 @@
 -- The headline: how several roles run the program that some files are. Each role's run of the class bytes has the events and the ending of the
 -- source's meaning on the messages that were sent to it, and keeps to the typestates.
-use Rattle.std.specs.Prelude.{◌≡◌, ◌≢◌, ℕ, List, map, Some, slice_get, Contains}
+use Rattle.std.specs.Prelude.{◌≡◌, ◌≢◌, ℕ, suc, List, map, Some, slice_get, Contains}
+use Rattle.mg_text.specs.Call.{Name}
+use Rattle.mg_text.specs.declared.event.Event.{Event}
+use Rattle.mg_text.specs.declared.event.Ending.{Ending}
 use Rattle.mg_text.specs.declared.event.Ending.TheVariants as endings
 use Rattle.scr_tree.specs.Tree.{LocalTree}
 use Rattle.scr_tree.specs.Meaning.{protocol_of}
 use Rattle.stm_gen.specs.Numbered.{typestate_of}
 use Rattle.stm_gen.specs.Agreement.{Agrees}
-use Rattle.jv_mean.specs.Values.{Inputs}
-use Rattle.jv_meaning.specs.Calls.{Follows, Finished}
+use Rattle.stm_acts.specs.Acts.{acts}
+use Rattle.stm_acts.specs.Played.{role_class, Plays, Refuses}
+use Rattle.jv_mean.specs.Seen.{IsMade, told, open_told}
+use Rattle.jv_mean.specs.Values.{Inputs, Ended}
+use Rattle.jv_meaning.specs.Calls.{calls, Follows, Finished}
 use Rattle.jv_meaning.specs.Meaning.{mean}
 use Rattle.jv_rules.specs.Program.{Program as Sources}
 use Rattle.jv_core.specs.Tree as Core
@@ -24,7 +30,7 @@ use Rattle.vm_world_law.specs.declared.role.RoleMain.{RoleMain}
 use Rattle.vm_world_law.specs.World.{Over, Role, World, turns, IsBegun, events_of}
 use Rattle.vm_world_law.specs.Turns as turning
 use Rattle.vm_world_law.specs.Laws.{Delivers, OrderIsFreeFrom}
-use Rattle.world_meant_law.specs.Worlds.{IsMeant, DoesAsMeant}
+use Rattle.world_meant_law.specs.Worlds.{inputs_of, IsMeant, DoesAsMeant}
 use Rattle.mg_runs.specs.Runs.{IsLoaded, HaveMains}
 
 -- the core of the program, its class files, the program that is linked of their bytes, and the world before the first turn and at the stop
@@ -69,6 +75,38 @@ abbrev pub MeaningsKeep : Sources → List RoleMain → Type 0
 MeaningsKeep sources mains = (r : ℕ) (main : RoleMain) → slice_get mains r ≡ Some main → (inputs : Inputs) (budget : ℕ) →
     KeepsTo sources (mean sources.files main.class inputs budget)
 
+-- Whatever turns follow, a role shows nothing more, and where it ends it ends as this mismatch.
+pub record StaysAt (program : Program) (w : World) (r : ℕ) (peer label : Name) : Type 0 where
+  pub shows_no_more : (more : List ℕ) → events_of r (turns program w more).events ≡ events_of r w.events
+  pub ends : (more : List ℕ) (role : Role) (ending : Ending) → slice_get (turns program w more).roles r ≡ Some role → role.state ≡ Over ending →
+      ending ≡ endings.Mismatch peer label
+
+-- What an object of the class of a protocol's role has done, by the events of its role so far.
+module _ (sources : Sources) (local : LocalTree) (o : ℕ) (events : List Event) where
+  -- its acts are steps of the protocol from its start: one for each call, in order, and at most one for a call that is still open
+  abbrev pub HasPlayed : Type 0
+  HasPlayed =
+      Plays local.me (protocol_of local) (calls sources.files (role_class local.me) o events) (open_told (told o events)) (acts o events)
+
+  -- behind such steps the open call has looked at a label of no branch, and there this meaning ends
+  abbrev pub HasRefused : (meant : Ended) → Type 0
+  HasRefused =
+      Refuses local.me (protocol_of local) (calls sources.files (role_class local.me) o events) (open_told (told o events)) (acts o events)
+      events
+
+-- One of these, in a role at a moment, where this is meant on what was sent to it. Where a label is refused the role stays.
+pub data DoesItsPart (sources : Sources) (local : LocalTree) (program : Program) (w : World) (r : ℕ) (meant : Ended) (o : ℕ) : Type 0 where
+  plays : HasPlayed sources local o (events_of r w.events) → DoesItsPart sources local program w r meant o
+  refuses : (refused : HasRefused sources local o (events_of r w.events) meant) → StaysAt program w r refused.peer refused.label →
+      DoesItsPart sources local program w r meant o
+
+-- In each role each object of the class that is generated of a protocol of these files does what the protocol says.
+abbrev pub ObjectsDoTheirPart : List Source → Sources → List RoleMain → Program → World → Type 0
+ObjectsDoTheirPart files sources mains program w = (r : ℕ) (main : RoleMain) (role : Role) → slice_get mains r ≡ Some main →
+    slice_get w.roles r ≡ Some role → (source : Source) (local : LocalTree) → Contains files source → Reads source (Protocol local) →
+    (o : ℕ) → IsMade (events_of r w.events) o (role_class local.me) →
+    DoesItsPart sources local program w r (mean sources.files main.class (inputs_of w r) (suc role.count)) o
+
 -- The typestate of each protocol of these files allows exactly the traces of the protocol, and ends exactly where it is complete.
 abbrev pub ProtocolsAgree : List Source → Type 0
 ProtocolsAgree files = (source : Source) (local : LocalTree) → Contains files source → Reads source (Protocol local) →
@@ -92,6 +130,8 @@ pub record IsRun (files : List Source) (mains : List RoleMain) (order : List ℕ
   -- and keeps to the typestates: no null is dereferenced, the calls of each object are a path, and a role that returns leaves each at its end
   pub keep : (taken : List ℕ) → EachKeeps accepted.have.program mains (turns run.program run.first taken)
   pub meanings : MeaningsKeep accepted.have.program mains
+  -- and its objects do their part: their acts are steps of the protocols that their classes are generated of
+  pub parts : (taken : List ℕ) → ObjectsDoTheirPart files accepted.have.program mains run.program (turns run.program run.first taken)
   -- turn orders don't matter: those that come to rest come to the same, and others show a part of it
   pub orders : OrderIsFreeFrom run.program run.first
   -- the typestates of the protocols allow exactly the protocols' traces

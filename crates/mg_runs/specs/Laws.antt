@@ -23,7 +23,7 @@ use Rattle.mg_accepted.specs.Accepted.{AreAccepted}
 use Rattle.mg_compile.specs.declared.files.ClassFile.{ClassFile}
 use Rattle.mg_compile.specs.Files.{AreClassFiles}
 use Rattle.mg_runs.specs.Runs.{AreSpelled, IsLoaded, HaveMains}
-use Rattle.mg_runs.specs.Headline.{AreMeant, DoAsMeant, EachKeeps, MeaningsKeep, ProtocolsAgree}
+use Rattle.mg_runs.specs.Headline.{AreMeant, DoAsMeant, EachKeeps, MeaningsKeep, ObjectsDoTheirPart, ProtocolsAgree}
 
 -- The bytes of these class files are read back, and what is read links to the program that is expected of the core.
 abbrev pub WrittenClassesLink : Type 0
@@ -52,6 +52,12 @@ abbrev pub RolesKeep : Type 0
 RolesKeep = (files : List Source) (core : Core.Program) (accepted : AreAccepted files core) (mains : List RoleMain) → HaveMains core mains →
     MeaningsKeep accepted.have.program mains
     × ((program : Program) (w : World) → AreMeant accepted.have.program mains program w → EachKeeps accepted.have.program mains w)
+
+-- Objects of generated classes do their part, wherever the roles did what is meant, and do it whatever turns follow.
+abbrev pub RolesPlay : Type 0
+RolesPlay = (files : List Source) (core : Core.Program) (accepted : AreAccepted files core) (mains : List RoleMain) → HaveMains core mains →
+    (program : Program) (w : World) → ((more : List ℕ) → AreMeant accepted.have.program mains program (turns program w more)) →
+    ObjectsDoTheirPart files accepted.have.program mains program w
 
 -- What is said of protocols holds of those of all files.
 abbrev pub AllProtocolsAgree : Type 0

@@ -4,4 +4,5 @@ pub mod Headline
 pub mod Laws
 pub mod Commanded
 pub mod View
+pub mod Going
 pub mod inner

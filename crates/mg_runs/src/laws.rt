@@ -1,7 +1,7 @@
 //! What holds of the class files of sources, also of those whose usages aren't right.
 //! There is no running code here; each function carries a law.
 
-ghost use Rattle.mg_runs.specs.Laws.{AllProtocolsAgree, RolesAreMeant, RolesKeep, RunsAreMeant, WrittenClassesLink};
+ghost use Rattle.mg_runs.specs.Laws.{AllProtocolsAgree, RolesAreMeant, RolesKeep, RolesPlay, RunsAreMeant, WrittenClassesLink};
 
 use gen_held::written_cores_are_held;
 use gen_links::files_link;
@@ -9,6 +9,7 @@ use gen_sound::plain_mains_run;
 use jv_kept::core_is_kept;
 use jv_shaped::spelled_is_shaped;
 use jv_whole::types_are_enough;
+use mg_acts_law::accepted_objects_play;
 use mg_kept_law::accepted_keep_typestates;
 use vm_world_law::{begun_is_fresh, turns_deliver};
 use world_meant_law::worlds_are_meant;
@@ -57,6 +58,16 @@ pub fn roles_keep()
     ensures { RolesKeep }
 {
     accepted_keep_typestates();
+}
+
+/// In roles of accepted files that do what is meant, also whatever turns follow, each object of the
+/// class that is generated of a protocol does what the protocol says: its acts are steps of the
+/// protocol, one for each call, in order, and at most one for a call that is still open; or the open
+/// call looked at a label of no branch, and the role shows nothing more.
+pub fn roles_play()
+    ensures { RolesPlay }
+{
+    accepted_objects_play();
 }
 
 /// The typestate of each protocol that a file spells allows exactly the protocol's traces.

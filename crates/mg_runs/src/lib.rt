@@ -3,15 +3,17 @@
 //! line.
 #![tactic(auto)]
 
+mod going;
 mod laws;
 mod loading;
 mod mains;
 mod ran;
 mod running;
 
+pub use going::{Gone, go};
 pub use laws::{
-    protocols_agree, roles_are_meant, roles_keep, runs_are_meant, written_classes_link,
+    protocols_agree, roles_are_meant, roles_keep, roles_play, runs_are_meant, written_classes_link,
 };
 pub use ran::Ran;
-pub use running::run_roles;
+pub use running::{no_main, run_roles};
 pub use vm_world::{RoleMain, RoleRan, Stand};

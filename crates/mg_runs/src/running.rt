@@ -11,11 +11,17 @@ ghost use Rattle.mg_compile.specs.View.{IsOfFiles};
 ghost use Rattle.mg_runs.specs.Commanded.{Refusal};
 ghost use Rattle.mg_runs.specs.Headline.{Course, IsRun};
 ghost use Rattle.mg_runs.specs.Lines.{no_main_line};
-ghost use Rattle.mg_runs.specs.Runs.{HaveMains, names_of};
+ghost use Rattle.mg_runs.specs.Going.{IsOrder};
+ghost use Rattle.mg_runs.specs.Runs.{HaveMains};
 ghost use Rattle.mg_runs.specs.View.{IsRunning, IsThatRun};
-ghost use Rattle.mg_runs.specs.inner.Going.{IsOrder, IsRunOf, told};
+ghost use Rattle.mg_runs.specs.inner.Going.{IsRunOf, told};
 
+<<<<<<< HEAD
+use crate::laws::{protocols_agree, roles_are_meant, roles_keep, roles_play, runs_are_meant};
+=======
+use crate::going::{Gone, go};
 use crate::laws::{protocols_agree, roles_are_meant, roles_keep, runs_are_meant};
+>>>>>>> 4dfd6f6fa4ec40c588e030993eb1c278e245b0ec
 use crate::loading::load_back;
 use crate::mains::first_without;
 use crate::ran::Ran;
@@ -24,9 +30,9 @@ use mg_accepted::accept;
 use mg_compile::{ClassFile, class_files};
 use mg_sources::Stop;
 use mg_text::{Bytes, List, Memory, Text};
-use mg_trace::{printed, trace};
+use mg_trace::trace;
 use std::alloc::Global;
-use vm_world::{RoleEvent, RoleMain, World};
+use vm_world::{RoleEvent, RoleMain};
 
 /// Runs these roles, each from `static void main(String[])` of its class, of the program that these
 /// files are. They take turns in this order of their numbers, repeated as a cycle, until each has
@@ -84,6 +90,7 @@ fn ran_roles(
 {
     roles_are_meant();
     roles_keep();
+    roles_play();
     protocols_agree();
     let program = accept(alloc, names, contents)?;
     match first_without(&program.core, mains) {
@@ -124,30 +131,21 @@ fn run_files(
 {
     runs_are_meant();
     let linked = load_back(alloc, core, files.as_slice())?;
-    let mut world = World::new(alloc, linked, mains)?;
-    world.run(alloc, order, limit)?;
-    let roles = world.roles_ran(alloc, mains)?;
-    let names = role_names(alloc, mains)?;
-    let events = world.events().as_slice();
-    let printed = printed(alloc, names.as_slice(), named, events)?;
-    let trace = told(alloc, core, names.as_slice(), events, traced)?;
+    let gone = go(alloc, linked, mains, order, limit, named)?;
+    let events = gone.world.events().as_slice();
+    let trace = told(alloc, core, gone.names.as_slice(), events, traced)?;
+    let Gone {
+        world: _world,
+        names: _names,
+        roles,
+        printed,
+    } = gone;
     Ok(Ran {
         files,
         roles,
         printed,
         trace,
     })
-}
-
-// The names of the roles.
-fn role_names(alloc: Global, mains: &[RoleMain]) -> Result<List<Text>, Memory>
-    ensures { IfOk result (λ names. names.items ≡ names_of mains.now) }
-{
-    let mut names = List::new(alloc);
-    for main in mains {
-        names.push(main.role.copy()?)?;
-    }
-    Ok(names)
 }
 
 // The trace of these events, where it is asked for.
@@ -167,8 +165,8 @@ fn told(
     }
 }
 
-// The refusal of a class without a `main`.
-fn no_main(alloc: Global, class: &Text) -> Stop
+/// The refusal of a class without a `main`, with its line, or want of memory.
+pub fn no_main(alloc: Global, class: &Text) -> Stop
     ensures { IsStop (no_main_line class.now) result }
 {
     match no_main_line(alloc, class) {

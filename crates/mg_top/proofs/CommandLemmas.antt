@@ -1,5 +1,5 @@
 -- What the functions of the commands answer.
-use Rattle.std.proofs.Common.{◌≡◌, ℕ, Bool, map, List, [], ◌∷◌, ◌++◌, All, codes, inl, inr, Option, None, refl, sym, ap, ◌∙◌, subst, append_assoc}
+use Rattle.std.proofs.Common.{◌≡◌, ℕ, Bool, map, List, [], ◌∷◌, ◌++◌, All, codes, inl, inr, Option, None, sym, ap, ◌∙◌, subst, append_assoc}
 use Rattle.std.specs.Prelude.{IfOk, Result, Ok, Err, if◌then◌else◌}
 use Rattle.mg_text.specs.declared.memory.Memory.{Memory}
 use Rattle.mg_top.specs.declared.status.Status.{Status}
@@ -19,7 +19,7 @@ use Rattle.mg_runs.proofs.Naming.{any-map}
 use Rattle.mg_runs.specs.declared.ran.Ran.{Ran}
 use Rattle.mg_runs.specs.Lines.{role_lines}
 use Rattle.mg_runs.specs.Runs.{names_of}
-use Rattle.mg_runs.specs.Headline.{Course, IsRun}
+use Rattle.mg_runs.specs.Headline.{Course}
 use Rattle.mg_runs.specs.View.{Shows, IsOfRun}
 use Rattle.mg_top.specs.Commands.{Yields, prints, kept_in, role_mains_of, run_said, run_printed, status_of, checked, ran}
 use Rattle.mg_top.specs.Commands as commands
@@ -37,7 +37,7 @@ use Rattle.mg_accepted.specs.Accepted.{AreAccepted}
 use Rattle.use_check.specs.Report.{IsReport}
 use Rattle.mg_top.specs.Translation.{AreTranslated}
 use Rattle.mg_top.specs.Outside.{Outside}
-use Rattle.mg_top.specs.Ending.{AreRead, after_read, IsUnread, IsDue, unread, yielded, starved, mute}
+use Rattle.mg_top.specs.Ending.{read_limit, AreRead, after_read, IsUnread, IsDue, unread, yielded, starved, mute}
 use Rattle.mg_top.specs.inner.Preparing.{IsReported, IsPrepared, IsLeft, AreWritten, EachIsWritten, locals_in}
 use Rattle.mg_top.proofs.SourceLemmas.{translated}
 
@@ -145,11 +145,11 @@ said_due words before at status line wanted (Ok d) a s e due left =
 said_due words before at status line wanted (Err e) a s is due left = left
 
 -- what a command gives is due
-pub given_due : (words : List Word) (before at : Outside) (command : Command) (names : List Word) (contents given : List (List ℕ)) (r : Result Delivery Memory) → IsCommand command words → names ≡ files_of command → AreRead before.files names contents → given ≡ contents → at ≡ before
+pub given_due : (words : List Word) (before at : Outside) (command : Command) (names : List Word) (contents given : List (List ℕ)) (r : Result Delivery Memory) → IsCommand command words → names ≡ files_of command → AreRead (read_limit command) before.files names contents → given ≡ contents → at ≡ before
     → IfOk r (λ d. Yields command given d.actions.items d.status) → IsPrepared words before r at
 given_due words before at command names contents given (Ok d) is named read e same y =
     subst (λ (z : Outside). IsDue words before d.actions.items d.status z) (sym same)
-    (yielded command contents is (subst (λ (z : List Word). AreRead before.files z contents) named read) (subst (λ (z : List (List ℕ)). Yields command z d.actions.items d.status) e y))
+    (yielded command contents is (subst (λ (z : List Word). AreRead (read_limit command) before.files z contents) named read) (subst (λ (z : List (List ℕ)). Yields command z d.actions.items d.status) e y))
 given_due words before at command names contents given (Err x) is named read e same y = inl same
 
 -- a file that couldn't be read is due
@@ -163,7 +163,7 @@ starved_due words before at (inr (name, may, e)) = subst (λ (z : Outside). IsDu
 
 -- the file that a command couldn't read
 pub unread_of : (words : List Word) (before : Outside) (command : Command) (names : List Word) (name : Word) (front rest : List Word) (contents : List (List ℕ))
-    → IsCommand command words → names ≡ files_of command → names ≡ front ++ name ∷ rest → AreRead before.files front contents → IsUnread words before name
+    → IsCommand command words → names ≡ files_of command → names ≡ front ++ name ∷ rest → AreRead (read_limit command) before.files front contents → IsUnread words before name
 unread_of words before command names name front rest contents is named stands read =
     record { command = command; is = is; front = front; rest = rest; stands = sym named ∙ stands; contents = contents; read = read }
 

@@ -10,7 +10,7 @@ use Rattle.mg_calls.proofs.Laws.{one_list, no_bad}
 use Rattle.std.proofs.lemmas.List.{map-append}
 use Rattle.std.specs.Prelude.{if◌then◌else◌}
 use Rattle.std.specs.List.{list_any}
-use Rattle.mg_words.specs.Words.{Word, Asked, limit_of, order_of, Command}
+use Rattle.mg_words.specs.Words.{Word, Asked, limit_of, order_of, Command, Exec}
 use Rattle.mg_top.specs.declared.status.Status.{Status}
 use Rattle.mg_top.specs.declared.status.Status.TheVariants as statuses
 use Rattle.mg_top.specs.declared.delivery.Action.{Action}
@@ -19,7 +19,7 @@ use Rattle.mg_top.specs.Lines.{not_offered_line}
 use Rattle.mg_sources.specs.Files.{Source, sources}
 use Rattle.mg_top.specs.Conformance.{calls_of, Conforms, complete, unfinished, not_offered, Lists, IsNoList, bad_line}
 use Rattle.mg_top.specs.Conformance as conformance
-use Rattle.mg_sources.specs.Reading.{Protocol, Reads}
+use Rattle.mg_sources.specs.Reading.{Protocol}
 use Rattle.mg_sources.specs.Sources.{Refusal, refused, same_role}
 use Rattle.mg_sources.proofs.OneKind.{one_part}
 use Rattle.mg_sources.proofs.PartLemmas.{not_refused}
@@ -30,10 +30,11 @@ use Rattle.vm_world_law.specs.Turns.{stands_in, is_bound, is_broken, is_zero, is
 use Rattle.mg_runs.proofs.Apart.{not_refused as not_halted, one_of_run}
 use Rattle.mg_top.proofs.Unbroken.{none_broken}
 use Rattle.mg_runs.specs.Headline.{Course, IsRun}
+use Rattle.mg_exec.proofs.Apart.{not_refused as not_stopped, one_course}
 use Rattle.vm_world_law.specs.declared.role.RoleMain.{RoleMain}
 use Rattle.mg_top.specs.Translation.{AreTranslated}
 use Rattle.mg_top.specs.Commands.{TranslateGives, translated, not_translated, ConformGives, conforms, no_protocol, no_calls, CheckGives, checked, not_checked}
-use Rattle.mg_top.specs.Commands.{CompileGives, compiled, not_compiled, RunGives, ran, not_run, role_mains_of, status_of, Yields}
+use Rattle.mg_top.specs.Commands.{CompileGives, compiled, not_compiled, RunGives, ran, not_run, ExecGives, executed, not_executed, role_mains_of, status_of, Yields}
 use Rattle.mg_top.specs.Commands as commands
 use Rattle.mg_top.specs.Promises.{IsYielded}
 use Rattle.mg_top.proofs.SourceLemmas.{none_refused_of_translated}
@@ -127,12 +128,24 @@ conform_status {calls = calls} (no_calls {line = line} local' o' r) (conforms lo
 conform_status (no_calls local o r) (no_protocol q) = refl
 conform_status (no_calls local o r) (no_calls local' o' q) = refl
 
+-- the same of class files
+exec_status : {asked : Asked} {files : List Source} {xa xb : List Action} {m n : Status} → ExecGives asked files xa m → ExecGives asked files xb n → m ≡ n
+exec_status {asked = asked} {files = files} (executed r h) (executed s k) =
+    let same = one_course files (role_mains_of asked) (order_of asked) (limit_of asked) r s h k in
+    ap status_of (λ i. stands_in (same.program i) (same.last i))
+exec_status {asked = asked} {files = files} (executed r h) (not_executed {line = line} q) =
+    absurd (not_stopped files (role_mains_of asked) (order_of asked) (limit_of asked) r line h q)
+exec_status {asked = asked} {files = files} (not_executed {line = line} q) (executed r h) =
+    absurd (not_stopped files (role_mains_of asked) (order_of asked) (limit_of asked) r line h q)
+exec_status (not_executed q) (not_executed p) = refl
+
 pub one_status : {command : Command} {contents : List (List ℕ)} {xa xb : List Action} {m n : Status} → Yields command contents xa m → Yields command contents xb n → m ≡ n
 one_status (commands.translate y) (commands.translate z) = translate_status y z
 one_status (commands.conform y) (commands.conform z) = conform_status y z
 one_status (commands.check y) (commands.check z) = check_status y z
 one_status (commands.compile y) (commands.compile z) = compile_status y z
 one_status (commands.run y) (commands.run z) = run_status y z
+one_status (commands.exec y) (commands.exec z) = exec_status y z
 
 -- ---- the statuses that a command may have
 
@@ -176,6 +189,8 @@ proper (commands.compile (compiled written h)) = done_proper
 proper (commands.compile (not_compiled r)) = refused_proper
 proper (commands.run (ran r h)) = stands_proper (stands_in r.program r.last)
 proper (commands.run (not_run r)) = refused_proper
+proper (commands.exec (executed r h)) = stands_proper (stands_in r.program r.last)
+proper (commands.exec (not_executed r)) = refused_proper
 
 -- ---- what is said of a refusal
 
@@ -214,8 +229,10 @@ refusal_says (commands.compile (compiled written h)) e = absurd cc
 refusal_says (commands.compile (not_compiled {line = line} r)) e = inl (line, refl)
 refusal_says (commands.run (ran r h)) e = absurd (never_refused (stands_in r.program r.last) e)
 refusal_says (commands.run (not_run {line = line} r)) e = inl (line, refl)
+refusal_says (commands.exec (executed r h)) e = absurd (never_refused (stands_in r.program r.last) e)
+refusal_says (commands.exec (not_executed {line = line} r)) e = inl (line, refl)
 
--- ---- no command is broken
+-- ---- no command is broken but that of class files
 
 tests_whole : (b k z m w : Bool) → k ≡ false → by_tests b k z m w ≡ statuses.Broken → ⊥
 tests_whole true k z m w h e = cc
@@ -230,19 +247,20 @@ answer_whole (complete h) e = absurd cc
 answer_whole (unfinished h isnt) e = absurd cc
 answer_whole (not_offered front call rest split before isnt) e = absurd cc
 
-pub never_broken : {command : Command} {contents : List (List ℕ)} {actions : List Action} {status : Status} → Yields command contents actions status →
-    status ≢ statuses.Broken
-never_broken (commands.translate (translated t)) e = absurd cc
-never_broken (commands.translate (not_translated r)) e = absurd cc
-never_broken (commands.conform (conforms local list o l c)) e = answer_whole c e
-never_broken (commands.conform (no_protocol r)) e = absurd cc
-never_broken (commands.conform (no_calls local o r)) e = absurd cc
-never_broken (commands.check (checked core a r)) e = absurd cc
-never_broken (commands.check (not_checked r)) e = absurd cc
-never_broken (commands.compile (compiled written h)) e = absurd cc
-never_broken (commands.compile (not_compiled r)) e = absurd cc
-never_broken (commands.run {asked = asked} {files = files} {contents = contents} (ran r h)) e =
+pub broken_command : {command : Command} {contents : List (List ℕ)} {actions : List Action} {status : Status} → Yields command contents actions status →
+    status ≡ statuses.Broken → (asked : Asked) × (files : List Word) × (command ≡ Exec asked files)
+broken_command (commands.translate (translated t)) e = absurd cc
+broken_command (commands.translate (not_translated r)) e = absurd cc
+broken_command (commands.conform (conforms local list o l c)) e = absurd (answer_whole c e)
+broken_command (commands.conform (no_protocol r)) e = absurd cc
+broken_command (commands.conform (no_calls local o r)) e = absurd cc
+broken_command (commands.check (checked core a r)) e = absurd cc
+broken_command (commands.check (not_checked r)) e = absurd cc
+broken_command (commands.compile (compiled written h)) e = absurd cc
+broken_command (commands.compile (not_compiled r)) e = absurd cc
+broken_command (commands.run {asked = asked} {files = files} {contents = contents} (ran r h)) e =
     let all : List Stand = stands_in r.program r.last in
-    tests_whole (list_any is_bound all) (list_any is_broken all) (list_any is_zero all) (list_any is_mismatch all) (list_any is_waiting all)
-    (none_broken (sources files contents) (role_mains_of asked) (order_of asked) (limit_of asked) r h) e
-never_broken (commands.run (not_run r)) e = absurd cc
+    absurd (tests_whole (list_any is_bound all) (list_any is_broken all) (list_any is_zero all) (list_any is_mismatch all) (list_any is_waiting all)
+    (none_broken (sources files contents) (role_mains_of asked) (order_of asked) (limit_of asked) r h) e)
+broken_command (commands.run (not_run r)) e = absurd cc
+broken_command (commands.exec {asked = asked} {files = files} y) e = (asked, files, refl)

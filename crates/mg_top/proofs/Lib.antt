@@ -1,8 +1,11 @@
 pub mod DeliveryLaws
 pub mod SourceLemmas
 pub mod ReadingLemmas
+pub mod RoleLemmas
 pub mod CommandLemmas
 pub mod ConformLemmas
+pub mod ExecLemmas
+pub mod RoleLemmas
 pub mod Unbroken
 pub mod Exact
 pub mod Promised

@@ -6,35 +6,34 @@ use Rattle.mg_top.specs.declared.status.Status.{Status}
 use Rattle.mg_top.specs.declared.status.Status.TheVariants as statuses
 use Rattle.mg_top.specs.declared.delivery.Action.{Action}
 use Rattle.mg_top.specs.declared.delivery.Action.TheVariants.{Write, Print, Say}
-use Rattle.mg_words.specs.Words.{Word, Command, files_of, IsCommand, AreWrong}
+use Rattle.mg_words.specs.Words.{Word, Asked, Command, Exec, files_of, IsCommand, AreWrong}
 use Rattle.mg_top.specs.Files.{Output}
 use Rattle.mg_top.specs.Lines.{words_line, read_line, not_offered_line, memory_line}
 use Rattle.mg_top.specs.Outside.{Outside, IsRead}
 use Rattle.mg_top.specs.Delivery.{AreDone, Delivers}
 use Rattle.mg_top.specs.Commands.{Yields}
-use Rattle.mg_top.specs.Ending.{AreRead, after_read, MayRead, IsUnread, IsDue, wrong, unread, yielded, starved, mute, Ends}
+use Rattle.mg_top.specs.Ending.{read_limit, AreRead, after_read, MayRead, IsUnread, IsDue, wrong, unread, yielded, starved, mute, Ends}
 use Rattle.mg_top.specs.Promises.{IsUnlessStopped, IsYielded, Carries, MayWrite, IsSmooth, held, Promises}
 use Rattle.mg_words.proofs.WordsLemmas.{wrong_is_none}
 use Rattle.mg_words.proofs.RunLemmas.{same_command}
-use Rattle.mg_top.proofs.Exact.{one_status, proper, SaysRefusal, refusal_says}
-use Rattle.mg_top.proofs.Exact.{never_broken as none_is_broken}
+use Rattle.mg_top.proofs.Exact.{one_status, proper, SaysRefusal, refusal_says, broken_command}
 use Rattle.mg_top.proofs.DeliveryLaws as laws
 
 -- ---- what is read of files that are told is one thing
 
-same_bytes : (m : Files) (name : Word) (x y : List ℕ) → IsRead (Some m) name x → IsRead (Some m) name y → x ≡ y
-same_bytes m name x y h k =
+same_bytes : (limit : ℕ) (m : Files) (name : Word) (x y : List ℕ) → IsRead limit (Some m) name x → IsRead limit (Some m) name y → x ≡ y
+same_bytes limit m name x y h k =
     let e : ◌≡◌ {A = Option (List ℕ)} (Some h.0) (Some k.0) = sym h.1 ∙ k.1 in
     let same : h.0 ≡ k.0 = cc in
-    h.2 ∙ ap (take 1048577) same ∙ sym k.2
+    h.2 ∙ ap (take limit) same ∙ sym k.2
 
-same_read : (m : Files) (names : List Word) (xs ys : List (List ℕ)) → AreRead (Some m) names xs → AreRead (Some m) names ys → xs ≡ ys
-same_read m [] [] [] h k = refl
-same_read m [] [] (y ∷ ys) h k = absurd k
-same_read m [] (x ∷ xs) ys h k = absurd h
-same_read m (n ∷ ns) [] ys h k = absurd h
-same_read m (n ∷ ns) (x ∷ xs) [] h k = absurd k
-same_read m (n ∷ ns) (x ∷ xs) (y ∷ ys) (h, hs) (k, ks) = (λ i. same_bytes m n x y h k i ∷ (same_read m ns xs ys hs ks) i)
+same_read : (limit : ℕ) (m : Files) (names : List Word) (xs ys : List (List ℕ)) → AreRead limit (Some m) names xs → AreRead limit (Some m) names ys → xs ≡ ys
+same_read limit m [] [] [] h k = refl
+same_read limit m [] [] (y ∷ ys) h k = absurd k
+same_read limit m [] (x ∷ xs) ys h k = absurd h
+same_read limit m (n ∷ ns) [] ys h k = absurd h
+same_read limit m (n ∷ ns) (x ∷ xs) [] h k = absurd k
+same_read limit m (n ∷ ns) (x ∷ xs) (y ∷ ys) (h, hs) (k, ks) = (λ i. same_bytes limit m n x y h k i ∷ (same_read limit m ns xs ys hs ks) i)
 
 longer : (xs : List Word) (x : Word) → xs ++ x ∷ [] ≡ xs → ⊥
 longer xs x e = omega (arith, ap length e, length-append xs (x ∷ []))
@@ -100,9 +99,12 @@ module _ (words : List Word) (before : Outside) where
   broken_yielded : {status : Status} → status ≡ statuses.Broken → IsYielded status
   broken_yielded {status = status} e = subst (λ (s : Status). IsYielded s) (sym e) (λ h. cc, λ h. cc, λ h. cc, λ h. cc)
 
-  never_broken : {actions : List Action} {meant status : Status} {at after : Outside} → IsDue words before actions meant at → Delivers actions meant at status after →
-      status ≢ statuses.Broken
-  never_broken due d e = none_is_broken (only due d (broken_yielded e)).1.yields e
+  broken_only : {actions : List Action} {meant status : Status} {at after : Outside} → IsDue words before actions meant at → Delivers actions meant at status after →
+      status ≡ statuses.Broken → (asked : Asked) × (files : List Word) × IsCommand (Exec asked files) words
+  broken_only due d e =
+      let c = (only due d (broken_yielded e)).1 in
+      let (asked, files, same) = broken_command c.yields e in
+      (asked, files, subst (λ (k : Command). IsCommand k words) same c.is)
 
   abbrev OneLine : Outside → Type 0
   OneLine after = ((line : List ℕ) × AreDone (Say line ∷ []) before after) ⊎ ((n : ℕ) × AreDone (Print (not_offered_line n) ∷ []) before after)
@@ -129,9 +131,10 @@ module _ (words : List Word) (before : Outside) where
   where_yielded (unread name may) d xs m files told c quiet = absurd (longer before.failed_reads name (sym (laws.reads_kept d) ∙ quiet))
   where_yielded {actions = actions} {meant = meant} {status = status} (yielded command contents is read y) d xs m files told c quiet =
       let same : command ≡ c.command = same_command words command c.command is c.is in
-      let mine : AreRead (Some files) (files_of c.command) contents = subst (λ (o : Option Files). AreRead o (files_of c.command) contents) told (subst (λ (k : Command). AreRead before.files (files_of k) contents) same read) in
-      let yours : AreRead (Some files) (files_of c.command) c.contents = subst (λ (o : Option Files). AreRead o (files_of c.command) c.contents) told c.read in
-      let contents_are : contents ≡ c.contents = same_read files (files_of c.command) contents c.contents mine yours in
+      let most : ℕ = read_limit c.command in
+      let mine : AreRead most (Some files) (files_of c.command) contents = subst (λ (o : Option Files). AreRead most o (files_of c.command) contents) told (subst (λ (k : Command). AreRead (read_limit k) before.files (files_of k) contents) same read) in
+      let yours : AreRead most (Some files) (files_of c.command) c.contents = subst (λ (o : Option Files). AreRead most o (files_of c.command) c.contents) told c.read in
+      let contents_are : contents ≡ c.contents = same_read most files (files_of c.command) contents c.contents mine yours in
       let mine' : Yields c.command c.contents actions meant = subst (λ (z : List (List ℕ)). Yields c.command z actions meant) contents_are (subst (λ (k : Command). Yields k contents actions meant) same y) in
       subst (λ (s : Status). IsUnlessStopped s status) (one_status mine' c.yields) (laws.stops d)
   where_yielded starved d xs m files told c quiet = to_memory (laws.stops d)
@@ -247,7 +250,7 @@ promised words before status after h = record {
   only = only words before h.due h.delivered;
   where_yielded = where_yielded words before h.due h.delivered;
   refused_only = refused_only words before h.due h.delivered;
-  never_broken = never_broken words before h.due h.delivered;
+  broken_only = broken_only words before h.due h.delivered;
   write_only = write_only words before h.due h.delivered;
   write_where = write_where words before h.due h.delivered;
   put_where = put_where words before h.due h.delivered;

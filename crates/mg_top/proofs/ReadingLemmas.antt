@@ -13,39 +13,39 @@ use Rattle.mg_top.specs.Ending.{AreRead}
 use Rattle.mg_top.specs.inner.Preparing.{AreContents}
 
 -- what a folder answered was read of the file
-is_front : (o : Option (List ℕ)) (bytes : List ℕ) → option_map (take 1048577) o ≡ Some bytes → (content : List ℕ) × (o ≡ Some content) × (bytes ≡ take 1048577 content)
-is_front None bytes e = absurd cc
-is_front (Some content) bytes e = (content, refl, let h : ◌≡◌ {A = Option (List ℕ)} (Some (take 1048577 content)) (Some bytes) = e in cc)
+is_front : (limit : ℕ) (o : Option (List ℕ)) (bytes : List ℕ) → option_map (take limit) o ≡ Some bytes → (content : List ℕ) × (o ≡ Some content) × (bytes ≡ take limit content)
+is_front limit None bytes e = absurd cc
+is_front limit (Some content) bytes e = (content, refl, let h : ◌≡◌ {A = Option (List ℕ)} (Some (take limit content)) (Some bytes) = e in cc)
 
-is_read : (files : Option Files) (name file : Word) (bytes : List ℕ) → name ≡ file → IfSome files (λ m. option_map (take 1048577) (map.get m name) ≡ Some bytes) → IsRead files file bytes
-is_read None name file bytes same h = tt
-is_read (Some m) name file bytes same h = is_front (map.get m file) bytes (ap (λ (n : Word). option_map (take 1048577) (map.get m n)) (sym same) ∙ h)
+is_read : (limit : ℕ) (files : Option Files) (name file : Word) (bytes : List ℕ) → name ≡ file → IfSome files (λ m. option_map (take limit) (map.get m name) ≡ Some bytes) → IsRead limit files file bytes
+is_read limit None name file bytes same h = tt
+is_read limit (Some m) name file bytes same h = is_front limit (map.get m file) bytes (ap (λ (n : Word). option_map (take limit) (map.get m n)) (sym same) ∙ h)
 
-read_push : (files : Option Files) (names : List Word) (contents : List (List ℕ)) (name : Word) (bytes : List ℕ) → AreRead files names contents → IsRead files name bytes → AreRead files (names ++ name ∷ []) (contents ++ bytes ∷ [])
-read_push files [] [] name bytes h k = (k, tt)
-read_push files [] (c ∷ cs) name bytes h k = absurd h
-read_push files (n ∷ ns) [] name bytes h k = absurd h
-read_push files (n ∷ ns) (c ∷ cs) name bytes (first, rest) k = (first, read_push files ns cs name bytes rest k)
+read_push : (limit : ℕ) (files : Option Files) (names : List Word) (contents : List (List ℕ)) (name : Word) (bytes : List ℕ) → AreRead limit files names contents → IsRead limit files name bytes → AreRead limit files (names ++ name ∷ []) (contents ++ bytes ∷ [])
+read_push limit files [] [] name bytes h k = (k, tt)
+read_push limit files [] (c ∷ cs) name bytes h k = absurd h
+read_push limit files (n ∷ ns) [] name bytes h k = absurd h
+read_push limit files (n ∷ ns) (c ∷ cs) name bytes (first, rest) k = (first, read_push limit files ns cs name bytes rest k)
 
 -- as many contents as names
-pub same_length : (files : Option Files) (names : List Word) (contents : List (List ℕ)) → AreRead files names contents → length names ≡ length contents
-same_length files [] [] h = refl
-same_length files [] (c ∷ cs) h = absurd h
-same_length files (n ∷ ns) [] h = absurd h
-same_length files (n ∷ ns) (c ∷ cs) (first, rest) = ap suc (same_length files ns cs rest)
+pub same_length : (limit : ℕ) (files : Option Files) (names : List Word) (contents : List (List ℕ)) → AreRead limit files names contents → length names ≡ length contents
+same_length limit files [] [] h = refl
+same_length limit files [] (c ∷ cs) h = absurd h
+same_length limit files (n ∷ ns) [] h = absurd h
+same_length limit files (n ∷ ns) (c ∷ cs) (first, rest) = ap suc (same_length limit files ns cs rest)
 
 -- one more was read
-pub read_more : (files files' : Option Files) (names : List Word) (i : ℕ) (name asked : Word) (bytes : List ℕ) (contents contents' : List (List ℕ)) → i < length names → name ≡ get_or names i name → asked ≡ name → files' ≡ files → contents' ≡ contents ++ bytes ∷ []
-    → AreRead files (take i names) contents → IfSome files' (λ m. option_map (take 1048577) (map.get m asked) ≡ Some bytes) → AreRead files (take (i + 1) names) contents'
-read_more files files' names i name asked bytes contents contents' within is as_asked same grown before h =
-    let told = subst (λ (f : Option Files). IfSome f (λ m. option_map (take 1048577) (map.get m asked) ≡ Some bytes)) same h in
+pub read_more : (limit : ℕ) (files files' : Option Files) (names : List Word) (i : ℕ) (name asked : Word) (bytes : List ℕ) (contents contents' : List (List ℕ)) → i < length names → name ≡ get_or names i name → asked ≡ name → files' ≡ files → contents' ≡ contents ++ bytes ∷ []
+    → AreRead limit files (take i names) contents → IfSome files' (λ m. option_map (take limit) (map.get m asked) ≡ Some bytes) → AreRead limit files (take (i + 1) names) contents'
+read_more limit files files' names i name asked bytes contents contents' within is as_asked same grown before h =
+    let told = subst (λ (f : Option Files). IfSome f (λ m. option_map (take limit) (map.get m asked) ≡ Some bytes)) same h in
     let names_are : take i names ++ name ∷ [] ≡ take (i + 1) names = ap (λ (z : Word). take i names ++ z ∷ []) is ∙ sym (take_more names i name within) in
-    subst (λ (z : List Word). AreRead files z contents') names_are
-    (subst (λ (z : List (List ℕ)). AreRead files (take i names ++ name ∷ []) z) (sym grown) (read_push files (take i names) contents name bytes before (is_read files asked name bytes as_asked told)))
+    subst (λ (z : List Word). AreRead limit files z contents') names_are
+    (subst (λ (z : List (List ℕ)). AreRead limit files (take i names ++ name ∷ []) z) (sym grown) (read_push limit files (take i names) contents name bytes before (is_read limit files asked name bytes as_asked told)))
 
 -- all was read
-pub read_all : (files : Option Files) (names : List Word) (i : ℕ) (contents : List (List ℕ)) → length names ≤ i → AreRead files (take i names) contents → AreRead files names contents
-read_all files names i contents end h = subst (λ (z : List Word). AreRead files z contents) (take_all i names end) h
+pub read_all : (limit : ℕ) (files : Option Files) (names : List Word) (i : ℕ) (contents : List (List ℕ)) → length names ≤ i → AreRead limit files (take i names) contents → AreRead limit files names contents
+read_all limit files names i contents end h = subst (λ (z : List Word). AreRead limit files z contents) (take_all i names end) h
 
 -- the name at an index, with those before it and those behind it
 pub split_at : (names : List Word) (i : ℕ) (name : Word) → i < length names → name ≡ get_or names i name → names ≡ take i names ++ name ∷ drop (i + 1) names
@@ -58,9 +58,9 @@ pub unchanged : (files files' : Option Files) (reads reads' writes writes' : Lis
 unchanged files files' reads reads' writes writes' o e f r w = λ i. outside (f i) (r i) (w i) o e
 
 -- memory lacked
-pub no_memory : (names : List Word) (before after : Outside) (answer : Result (Row (List ℕ)) Unread) → answer ≡ Err unread.Memory → after ≡ before → AreContents names before answer after
-no_memory names before after answer e same = subst (λ (z : Result (Row (List ℕ)) Unread). AreContents names before z after) (sym e) same
+pub no_memory : (limit : ℕ) (names : List Word) (before after : Outside) (answer : Result (Row (List ℕ)) Unread) → answer ≡ Err unread.Memory → after ≡ before → AreContents limit names before answer after
+no_memory limit names before after answer e same = subst (λ (z : Result (Row (List ℕ)) Unread). AreContents limit names before z after) (sym e) same
 
 -- nothing was read yet
-pub none_read : (files : Option Files) (contents : List (List ℕ)) → contents ≡ [] → AreRead files [] contents
-none_read files contents e = subst (AreRead files []) (sym e) tt
+pub none_read : (limit : ℕ) (files : Option Files) (contents : List (List ℕ)) → contents ≡ [] → AreRead limit files [] contents
+none_read limit files contents e = subst (AreRead limit files []) (sym e) tt

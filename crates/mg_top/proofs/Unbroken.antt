@@ -1,13 +1,11 @@
 -- No role of a run of accepted files ends at a null, or because its code is wrong.
-use Rattle.std.proofs.Common.{◌≡◌, ◌≢◌, ◌<◌, ℕ, zero, suc, Bool, true, false, List, [], ◌∷◌, length, Option, Some, None, slice_get, refl, sym, ap, ◌∙◌, subst}
+use Rattle.std.proofs.Common.{◌≡◌, ◌≢◌, ◌<◌, ℕ, suc, Bool, true, false, List, [], ◌∷◌, length, Option, Some, None, slice_get, refl, sym, ap, ◌∙◌, subst}
 use Rattle.std.specs.Prelude.{◌||◌}
 use Rattle.std.specs.List.{list_any}
-use Rattle.mg_text.specs.declared.event.Ending.{Ending}
 use Rattle.mg_text.specs.declared.event.Ending.TheVariants as endings
 use Rattle.mg_text.specs.declared.event.BadKind.{BadKind}
 use Rattle.vm_model.specs.Program.{Program}
 use Rattle.vm_world_law.specs.declared.role.RoleMain.{RoleMain}
-use Rattle.vm_world_law.specs.declared.stand.Stand.{Stand}
 use Rattle.vm_world_law.specs.World.{State, Runs, Over, Role, World, StartAt, turns, waits_in}
 use Rattle.vm_world_law.specs.Turns.{first_turns, waiting_for, stand_of, stands_from, stands_in, is_broken}
 use Rattle.vm_world_law.proofs.Lists.{got_within, get_within}

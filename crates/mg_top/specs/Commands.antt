@@ -1,5 +1,5 @@
 -- What each command gives: what it does about the contents that were read of its files, in their order, and the status that it then has.
-use Rattle.std.specs.Prelude.{◌≡◌, ℕ, List, [], ◌∷◌, ◌++◌, map, Option, Some, None, if◌then◌else◌}
+use Rattle.std.specs.Prelude.{ℕ, List, [], ◌∷◌, ◌++◌, map, Option, Some, None, if◌then◌else◌}
 use Rattle.std.specs.List.{list_any}
 use Rattle.scr_tree.specs.Tree.{LocalTree}
 use Rattle.mg_calls.specs.Calls.{CallAt}
@@ -13,17 +13,18 @@ use Rattle.mg_compile.specs.Compiled as compiling
 use Rattle.vm_world_law.specs.declared.role.RoleMain.{RoleMain}
 use Rattle.vm_world_law.specs.declared.stand.Stand.{Stand}
 use Rattle.vm_world_law.specs.Turns.{stands_in, is_bound, is_broken, is_zero, is_mismatch, is_waiting}
-use Rattle.mg_trace.specs.Trace.{trace, printed}
+use Rattle.mg_trace.specs.Trace.{trace, plain_trace, printed}
 use Rattle.mg_runs.specs.Lines.{role_lines}
 use Rattle.mg_runs.specs.Runs.{names_of}
 use Rattle.mg_runs.specs.Headline.{Course, IsRun}
 use Rattle.mg_runs.specs.Commanded as running
+use Rattle.mg_exec.specs.Runs as executing
 use Rattle.mg_top.specs.declared.status.Status.{Status}
 use Rattle.mg_top.specs.declared.status.Status.TheVariants.{Done, Refused}
 use Rattle.mg_top.specs.declared.status.Status.TheVariants as statuses
 use Rattle.mg_top.specs.declared.delivery.Action.{Action}
 use Rattle.mg_top.specs.declared.delivery.Action.TheVariants.{Print, Say}
-use Rattle.mg_words.specs.Words.{Word, RoleClass, Asked, limit_of, mains_of, order_of, are_named, Command, Translate, Conform, Check, Compile, Run}
+use Rattle.mg_words.specs.Words.{Word, RoleClass, Asked, limit_of, mains_of, order_of, are_named, Command, Translate, Conform, Check, Compile, Run, Exec}
 use Rattle.mg_sources.specs.Files.{Source, source_of, sources}
 use Rattle.mg_sources.specs.Reading.{Protocol, Reads}
 use Rattle.mg_sources.specs.Sources.{IsRefused, Refusal}
@@ -95,6 +96,20 @@ pub data RunGives (asked : Asked) (files : List Source) : List Action → Status
       (status_of (stands_in r.program r.last))
   not_run : {line : List ℕ} → running.Refusal files (role_mains_of asked) line → RunGives asked files (Say line ∷ []) Refused
 
+-- the same of class files as they are: no types of methods are known, so that an answer is told as a number
+abbrev pub exec_said : Asked → executing.Course → List ℕ
+exec_said asked r =
+    (if asked.traced then plain_trace (names_of (role_mains_of asked)) r.last.events else [])
+    ++ role_lines (names_of (role_mains_of asked)) (map (λ role. role.count) r.last.roles) (stands_in r.program r.last)
+
+abbrev pub exec_printed : Asked → executing.Course → List ℕ
+exec_printed asked r = printed (are_named asked) (names_of (role_mains_of asked)) r.last.events
+
+pub data ExecGives (asked : Asked) (files : List Source) : List Action → Status → Type 0 where
+  executed : (r : executing.Course) → executing.IsRun files (role_mains_of asked) (order_of asked) (limit_of asked) r →
+      ExecGives asked files (prints (exec_printed asked r) ++ Say (exec_said asked r) ∷ []) (status_of (stands_in r.program r.last))
+  not_executed : {line : List ℕ} → executing.Refusal files (role_mains_of asked) line → ExecGives asked files (Say line ∷ []) Refused
+
 -- A command gives this: one case a command.
 pub data Yields : Command → List (List ℕ) → List Action → Status → Type 0 where
   translate : {folder : Option Word} {files : List Word} {contents : List (List ℕ)} {actions : List Action} {status : Status} →
@@ -108,3 +123,5 @@ pub data Yields : Command → List (List ℕ) → List Action → Status → Typ
       CompileGives folder (sources files contents) actions status → Yields (Compile folder files) contents actions status
   run : {asked : Asked} {files : List Word} {contents : List (List ℕ)} {actions : List Action} {status : Status} →
       RunGives asked (sources files contents) actions status → Yields (Run asked files) contents actions status
+  exec : {asked : Asked} {files : List Word} {contents : List (List ℕ)} {actions : List Action} {status : Status} →
+      ExecGives asked (sources files contents) actions status → Yields (Exec asked files) contents actions status

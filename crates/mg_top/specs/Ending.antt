@@ -5,18 +5,27 @@ use Rattle.mg_top.specs.declared.status.Status.{Status}
 use Rattle.mg_top.specs.declared.status.Status.TheVariants as statuses
 use Rattle.mg_top.specs.declared.delivery.Action.{Action}
 use Rattle.mg_top.specs.declared.delivery.Action.TheVariants.{Say}
-use Rattle.mg_words.specs.Words.{Word, Command, files_of, IsCommand, AreWrong}
+use Rattle.mg_words.specs.Words.{Word, Command, Translate, Conform, Check, Compile, Run, Exec, files_of, IsCommand, AreWrong}
 use Rattle.mg_top.specs.Lines.{words_line, read_line, memory_line}
 use Rattle.mg_top.specs.Outside.{Outside, IsRead}
 use Rattle.mg_top.specs.Delivery.{Delivers}
 use Rattle.mg_top.specs.Commands.{Yields}
 
--- these contents were read of the files, in their order
-abbrev pub AreRead : Option Files → List Word → List (List ℕ) → Type 0
-AreRead files [] [] = Unit {0}
-AreRead files [] (bytes ∷ more) = ⊥
-AreRead files (name ∷ names) [] = ⊥
-AreRead files (name ∷ names) (bytes ∷ more) = IsRead files name bytes × AreRead files names more
+-- How many bytes of a file a command reads: one more than such a file may have.
+abbrev pub read_limit : Command → ℕ
+read_limit (Translate folder files) = 1048577
+read_limit (Conform files) = 1048577
+read_limit (Check files) = 1048577
+read_limit (Compile folder files) = 1048577
+read_limit (Run asked files) = 1048577
+read_limit (Exec asked files) = 16777217
+
+-- these contents were read of the files, in their order, of each at most so many bytes
+abbrev pub AreRead : (limit : ℕ) → Option Files → List Word → List (List ℕ) → Type 0
+AreRead limit files [] [] = Unit {0}
+AreRead limit files [] (bytes ∷ more) = ⊥
+AreRead limit files (name ∷ names) [] = ⊥
+AreRead limit files (name ∷ names) (bytes ∷ more) = IsRead limit files name bytes × AreRead limit files names more
 
 -- the outside after a read that failed
 abbrev pub after_read : Outside → Word → Outside
@@ -34,7 +43,7 @@ pub record IsUnread (words : List Word) (before : Outside) (name : Word) : Type 
   pub rest : List Word
   pub stands : files_of command ≡ front ++ name ∷ rest
   pub contents : List (List ℕ)
-  pub read : AreRead before.files front contents
+  pub read : AreRead (read_limit command) before.files front contents
 
 -- What is to be done, the status that is meant, and what stands outside then: nothing was written or put yet.
 pub data IsDue (words : List Word) (before : Outside) : List Action → Status → Outside → Type 0 where
@@ -44,7 +53,7 @@ pub data IsDue (words : List Word) (before : Outside) : List Action → Status �
   unread : (name : Word) → IsUnread words before name → IsDue words before (Say (read_line name) ∷ []) statuses.ReadFault (after_read before name)
   -- the command gives these
   yielded : {actions : List Action} {meant : Status} (command : Command) (contents : List (List ℕ)) → IsCommand command words →
-      AreRead before.files (files_of command) contents → Yields command contents actions meant → IsDue words before actions meant before
+      AreRead (read_limit command) before.files (files_of command) contents → Yields command contents actions meant → IsDue words before actions meant before
   -- memory lacks, or lacks to say that a file of the words can't be read
   starved : IsDue words before (Say memory_line ∷ []) statuses.Memory before
   mute : (name : Word) → IsUnread words before name → IsDue words before (Say memory_line ∷ []) statuses.Memory (after_read before name)

@@ -24,6 +24,7 @@ abbrev pub outside : Option Files → List Word → List Word → Stream → Str
 outside files failed_reads failed_writes out err =
     record { files = files; failed_reads = failed_reads; failed_writes = failed_writes; out = out; err = err }
 
--- These bytes were read of a file: where the files are told, the file is there, and they are its first 1,048,577 bytes, or all of it.
-abbrev pub IsRead : Option Files → Word → List ℕ → Type 0
-IsRead files file bytes = IfSome files (λ m. (content : List ℕ) × (map.get m file ≡ Some content) × (bytes ≡ take 1048577 content))
+-- These bytes were read of a file, of which at most so many are read: where the files are told, the file is there, and they are its first so many
+-- bytes, or all of it.
+abbrev pub IsRead : (limit : ℕ) → Option Files → Word → List ℕ → Type 0
+IsRead limit files file bytes = IfSome files (λ m. (content : List ℕ) × (map.get m file ≡ Some content) × (bytes ≡ take limit content))

@@ -6,13 +6,13 @@ use Rattle.mg_top.specs.declared.status.Status.{Status}
 use Rattle.mg_top.specs.declared.status.Status.TheVariants as statuses
 use Rattle.mg_top.specs.declared.delivery.Action.{Action}
 use Rattle.mg_top.specs.declared.delivery.Action.TheVariants.{Write, Print, Say}
-use Rattle.mg_words.specs.Words.{Word, Command, files_of, IsCommand, AreWrong}
+use Rattle.mg_words.specs.Words.{Word, Asked, Command, Exec, files_of, IsCommand, AreWrong}
 use Rattle.mg_top.specs.Files.{Output}
 use Rattle.mg_top.specs.Lines.{words_line, read_line, not_offered_line}
 use Rattle.mg_top.specs.Outside.{Outside}
 use Rattle.mg_top.specs.Delivery.{AreDone}
 use Rattle.mg_top.specs.Commands.{Yields}
-use Rattle.mg_top.specs.Ending.{AreRead, after_read, MayRead, IsUnread, Ends}
+use Rattle.mg_top.specs.Ending.{read_limit, AreRead, after_read, MayRead, IsUnread, Ends}
 
 -- the status is this one, unless an action failed or memory ran out
 abbrev pub IsUnlessStopped : Status → Status → Type 0
@@ -27,7 +27,7 @@ pub record Carries (words : List Word) (before : Outside) (actions : List Action
   pub command : Command
   pub contents : List (List ℕ)
   pub is : IsCommand command words
-  pub read : AreRead before.files (files_of command) contents
+  pub read : AreRead (read_limit command) before.files (files_of command) contents
   pub yields : Yields command contents actions meant
 
 -- the command writes a file of this name
@@ -66,8 +66,8 @@ pub record Promises (words : List Word) (before : Outside) (status : Status) (af
       after.failed_reads ≡ before.failed_reads → IsUnlessStopped meant status
   -- after Refused one line was put on standard error, or on standard output that of a call that isn't offered, and nothing else was done
   pub refused_only : status ≡ statuses.Refused → ((line : List ℕ) × AreDone (Say line ∷ []) before after) ⊎ ((n : ℕ) × AreDone (Print (not_offered_line n) ∷ []) before after)
-  -- no command meets a null, or code that is wrong
-  pub never_broken : status ≢ statuses.Broken
+  -- no command meets a null, or code that is wrong, but the one that runs class files as they are
+  pub broken_only : status ≡ statuses.Broken → (asked : Asked) × (files : List Word) × IsCommand (Exec asked files) words
   -- WriteFault comes exactly where a write of a file that the command writes failed, or a put on standard output or standard error did
   pub write_only : status ≡ statuses.WriteFault → ((name : Word) × MayWrite words before name × (after.failed_writes ≡ before.failed_writes ++ name ∷ []))
       ⊎ Rose before.out.faults after.out.faults ⊎ Rose before.err.faults after.err.faults

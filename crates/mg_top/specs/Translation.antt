@@ -1,5 +1,5 @@
 -- What translating Scribble files gives.
-use Rattle.std.specs.Prelude.{◌≡◌, map, List, [], ◌∷◌, ◌++◌, codes, Option, Some, None}
+use Rattle.std.specs.Prelude.{◌≡◌, map, List, [], ◌∷◌, ◌++◌, codes, Option, None}
 use Rattle.mg_read.specs.First.{Judged, with_earlier}
 use Rattle.scr_tree.specs.Tree.{LocalTree}
 use Rattle.scr_tree.specs.Meaning.{protocol_of}

@@ -6,6 +6,7 @@ mod check;
 mod compile;
 mod conform;
 mod delivery;
+mod exec;
 mod lines;
 mod reading;
 mod run;

@@ -8,9 +8,6 @@ use mg_io::{Folder, IoFault};
 use mg_text::{Bytes, List, Memory, Text};
 use std::alloc::Global;
 
-/// How much of a file is read: one byte more than a file may hold.
-const READ_LIMIT: usize = 1_048_577;
-
 /// Why the files couldn't be read.
 pub enum Unread<'a> {
     /// This one couldn't.
@@ -30,20 +27,22 @@ impl From<Memory> for Unread<'_> {
     }
 }
 
-/// Reads all files in their order, up to the first that can't be read.
+/// Reads all files in their order, of each at most so many bytes, up to the first that can't be
+/// read.
 pub fn read_all<'a, F: Folder>(
     alloc: Global,
     names: &'a [Text],
+    limit: usize,
     folder: &mut F,
 ) -> Result<List<Bytes>, Unread<'a>>
-    ensures { (o e : Stream) → AreContents names.now
+    ensures { (o e : Stream) → AreContents limit names.now
         (outside (F.files folder.old) (F.failed_reads folder.old) (F.failed_writes folder.old) o e)
         result
         (outside (F.files folder.new) (F.failed_reads folder.new) (F.failed_writes folder.new) o e) }
 {
     let mut contents = List::new(alloc);
     for name in names {
-        match folder.read(alloc, name.as_str(), READ_LIMIT) {
+        match folder.read(alloc, name.as_str(), limit) {
             Ok(bytes) => contents.push(bytes)?,
             Err(IoFault::Failed) => return Err(Unread::Failed(name)),
             Err(IoFault::Memory) => return Err(Unread::Memory),

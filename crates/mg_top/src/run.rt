@@ -2,12 +2,13 @@
 //! `main` of a class.
 
 ghost use Rattle.std.specs.Prelude.{◌≡◌, ◌++◌, ◌∷◌, ◌<◌, ◌^◌, [], length, map, IfOk, OnOk, option_map, string_bytes};
-ghost use Rattle.std.specs.List.{list_any};
+ghost use Rattle.std.specs.List.{IsDistinct, list_any};
+ghost use Rattle.std.specs.Str.{bytes_eq};
 ghost use Rattle.vm_world_law.specs.Turns.{is_bound, is_broken, is_zero, is_mismatch, is_waiting};
 ghost use Rattle.mg_sources.specs.Files.{HaveKinds};
 ghost use Rattle.mg_runs.specs.Lines.{kind_word, stand_words, role_line, role_lines};
 ghost use Rattle.mg_runs.specs.Runs.{names_of};
-ghost use Rattle.mg_words.specs.Words.{Run, limit_of};
+ghost use Rattle.mg_words.specs.Words.{Run, limit_of, mains_of, role_names};
 ghost use Rattle.mg_top.specs.Commands.{Yields, kept_in, role_mains_of, prints, status_of};
 ghost use Rattle.mg_words.specs.inner.Judging.{asked_of, IsAsked};
 
@@ -59,10 +60,11 @@ pub fn run(
     }
 }
 
-// The roles of the run, each with the class whose `main` it runs.
-fn mains_of(alloc: Global, asked: &Asked<'_>) -> Result<List<RoleMain>, Memory>
+/// The roles of the run, each with the class whose `main` it runs.
+pub(crate) fn mains_of(alloc: Global, asked: &Asked<'_>) -> Result<List<RoleMain>, Memory>
     requires { IsAsked (asked_of asked.now) }
-    ensures { IfOk result (λ l. l.items ≡ role_mains_of (asked_of asked.now)) }
+    ensures items { IfOk result (λ l. l.items ≡ role_mains_of (asked_of asked.now)) }
+    ensures distinct { IsDistinct bytes_eq (role_names (mains_of (asked_of asked.now))) }
 {
     let classes = asked.mains(alloc)?;
     let mut mains = List::new(alloc);
@@ -74,8 +76,8 @@ fn mains_of(alloc: Global, asked: &Asked<'_>) -> Result<List<RoleMain>, Memory>
     Ok(mains)
 }
 
-// How many instructions the run may take.
-fn limit_of(asked: &Asked<'_>) -> u32
+/// How many instructions the run may take.
+pub(crate) fn limit_of(asked: &Asked<'_>) -> u32
     ensures { result ≡ limit_of (asked_of asked.now) }
 {
     match asked.steps {
@@ -126,8 +128,8 @@ fn keep(
     }
 }
 
-// The trace of a run, and a line for each of its roles.
-fn said_of(
+/// The trace of a run, and a line for each of its roles.
+pub(crate) fn said_of(
     alloc: Global,
     trace: &Text,
     mains: &[RoleMain],
@@ -232,8 +234,8 @@ fn kind_word(kind: BadKind) -> &'static str
     }
 }
 
-// The status of a run whose roles stand so: the first that applies.
-fn status_of(roles: &[RoleRan]) -> Status
+/// The status of a run whose roles stand so: the first that applies.
+pub(crate) fn status_of(roles: &[RoleRan]) -> Status
     ensures { result ≡ status_of (map (λ r. r.stand) roles.now) }
 {
     if any_bound(roles) {

@@ -29,7 +29,7 @@ pub enum Status {
     Waits,
     /// The roles took as many instructions as they may take, and one goes on.
     Bound,
-    /// A null stood where an object must, or code is wrong. No command answers it: a program that is
+    /// A null stood where an object must, or code is wrong. `exec` alone answers it: a program that is
     /// accepted meets no null, and its own code is right.
     Broken,
 }

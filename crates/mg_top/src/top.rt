@@ -4,6 +4,7 @@ ghost use Rattle.std.specs.Prelude.{◌≡◌, ◌<◌, ◌^◌, length, IfOk};
 ghost use Rattle.mg_words.specs.Words.{files_of};
 ghost use Rattle.mg_top.specs.Outside.{Stream, outside, stream};
 ghost use Rattle.mg_top.specs.Commands.{Yields};
+ghost use Rattle.mg_top.specs.Ending.{read_limit};
 ghost use Rattle.mg_top.specs.Promises.{Promises};
 ghost use Rattle.mg_words.specs.inner.Judging.{command_of, IsKnown};
 ghost use Rattle.mg_top.specs.inner.Preparing.{IsPrepared};
@@ -12,6 +13,7 @@ use crate::check::check;
 use crate::compile::compile;
 use crate::conform::conform;
 use crate::delivery::{Delivery, deliver, starve};
+use crate::exec::exec;
 use crate::reading::{Unread, read_all};
 use crate::run::run;
 use crate::translate::translate;
@@ -20,6 +22,10 @@ use mg_io::{Folder, Sink};
 use mg_text::{Bytes, Memory, Text};
 use mg_words::{Command, Judged, judge};
 use std::alloc::Global;
+
+// How much is read of a file of a protocol, a typestate, classes or calls, and of a class file.
+const SOURCE_LIMIT: usize = 1_048_577;
+const CLASS_LIMIT: usize = 16_777_217;
 
 /// Runs the command that the words are, with the folder's files. What it says goes to `out`, and
 /// the line of a fault to `err`; the status says how it ended. Files are read first, then all is made,
@@ -40,6 +46,9 @@ use std::alloc::Global;
 /// 20,000,000, or 1,000,000 where none is named. What they print goes to `out` in the order in which
 /// they printed it, behind `R: ` where roles are named. To `err` goes the trace where it is asked for,
 /// and then for each role the line `R: K instructions, ENDING` with how many it took and how it stands.
+/// `exec [--steps N] [--order A,B,..] [--trace] (--main C | --role R=C ..) F..` runs class files as they
+/// are, in the same way: nothing is asked of how they were made, so that a role may also end at a null
+/// or because its code is wrong. What a method answered is told as a number in the trace.
 pub fn mungo<F: Folder, O: Sink, E: Sink>(
     alloc: Global,
     words: &[Text],
@@ -74,13 +83,27 @@ fn prepare<F: Folder>(alloc: Global, words: &[Text], folder: &mut F) -> Result<D
             return Delivery::said(alloc, line, Status::Words);
         }
     };
-    match read_all(alloc, command.files(), folder) {
+    match read_all(alloc, command.files(), read_limit(&command), folder) {
         Ok(contents) => carry_out(alloc, &command, contents.as_slice()),
         Err(Unread::Failed(name)) => {
             let line = lines::unread(alloc, name)?;
             Delivery::said(alloc, line, Status::ReadFault)
         }
         Err(Unread::Memory) => Err(Memory),
+    }
+}
+
+// How many bytes of a file a command reads: one more than such a file may have.
+fn read_limit(command: &Command<'_>) -> usize
+    ensures { result ≡ read_limit (command_of command.now) }
+{
+    match command {
+        Command::Translate { .. }
+        | Command::Conform { .. }
+        | Command::Check { .. }
+        | Command::Compile { .. }
+        | Command::Run { .. } => SOURCE_LIMIT,
+        Command::Exec { .. } => CLASS_LIMIT,
     }
 }
 
@@ -103,5 +126,6 @@ fn carry_out(alloc: Global, command: &Command<'_>, contents: &[Bytes]) -> Result
         Command::Check { files } => check(alloc, files, contents),
         Command::Compile { folder, files } => compile(alloc, folder, files, contents),
         Command::Run { asked, files } => run(alloc, &asked, files, contents),
+        Command::Exec { asked, files } => exec(alloc, &asked, files, contents),
     }
 }

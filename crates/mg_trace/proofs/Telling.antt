@@ -6,30 +6,28 @@ use Rattle.std.proofs.lemmas.List.{take_more}
 use Rattle.mg_text.specs.Call.{Name}
 use Rattle.mg_text.specs.declared.event.Event.{Event}
 use Rattle.mg_text.specs.declared.event.Event.TheVariants as seen
-use Rattle.jv_core.specs.declared.program.CoreType.{CoreType}
-use Rattle.jv_core.specs.Tree.{Program}
 use Rattle.vm_world_law.specs.declared.role.RoleEvent.{RoleEvent}
 use Rattle.vm_world_law.specs.World.{events_of}
 use Rattle.vm_world_law.proofs.Events.{events-append}
-use Rattle.mg_trace.specs.Trace.{Known, unknown, last_call, known_more, known_from, known_in, result_named, answer_words, object_words, event_words, line_of, name_at, object_of, event_line, lines_from, trace}
+use Rattle.mg_trace.specs.Trace.{Telling, Known, unknown, last_call, known_more, known_from, known_in, told_answer, object_words, event_words, line_of, name_at, object_of, event_line, lines_from}
 use Rattle.mg_trace.specs.declared.objects.Tracked.{Tracked}
 use Rattle.mg_trace.specs.inner.Kept.{known_at, objects_at, AreKnown, KeepMore}
 
 -- the lines of events behind others
-lines_append : (p : Program) (names : List Name) (before es fs : List RoleEvent) →
-    lines_from p names before (es ++ fs) ≡ lines_from p names before es ++ lines_from p names (before ++ es) fs
-lines_append p names before [] fs = ap (λ b. lines_from p names b fs) (sym (append-nil before))
-lines_append p names before (e ∷ es) fs =
-    ap (λ l. event_line p names before e ++ l)
-    (lines_append p names (before ++ e ∷ []) es fs
-    ∙ ap (λ b. lines_from p names (before ++ e ∷ []) es ++ lines_from p names b fs) (append_assoc before (e ∷ []) es))
-    ∙ sym (append_assoc (event_line p names before e) (lines_from p names (before ++ e ∷ []) es) (lines_from p names (before ++ e ∷ es) fs))
+lines_append : (t : Telling) (names : List Name) (before es fs : List RoleEvent) →
+    lines_from t names before (es ++ fs) ≡ lines_from t names before es ++ lines_from t names (before ++ es) fs
+lines_append t names before [] fs = ap (λ b. lines_from t names b fs) (sym (append-nil before))
+lines_append t names before (e ∷ es) fs =
+    ap (λ l. event_line t names before e ++ l)
+    (lines_append t names (before ++ e ∷ []) es fs
+    ∙ ap (λ b. lines_from t names (before ++ e ∷ []) es ++ lines_from t names b fs) (append_assoc before (e ∷ []) es))
+    ∙ sym (append_assoc (event_line t names before e) (lines_from t names (before ++ e ∷ []) es) (lines_from t names (before ++ e ∷ es) fs))
 
 -- one event more
-trace_more : (p : Program) (names : List Name) (events : List RoleEvent) (e : RoleEvent) →
-    trace p names (events ++ e ∷ []) ≡ trace p names events ++ event_line p names events e
-trace_more p names events e =
-    lines_append p names [] events (e ∷ []) ∙ ap (λ l. trace p names events ++ l) (append-nil (event_line p names events e))
+lines_more : (t : Telling) (names : List Name) (events : List RoleEvent) (e : RoleEvent) →
+    lines_from t names [] (events ++ e ∷ []) ≡ lines_from t names [] events ++ event_line t names events e
+lines_more t names events e =
+    lines_append t names [] events (e ∷ []) ∙ ap (λ l. lines_from t names [] events ++ l) (append-nil (event_line t names events e))
 
 -- what is known of an object behind one event more of its role
 known_behind : (k : Known) (events : List Event) (e : Event) (o : ℕ) →
@@ -64,33 +62,29 @@ pub are_known_same : (before after : List (Vec Tracked Global)) (events : List R
 are_known_same before after events h same = record { each = λ r o. ap (λ l. known_at l o) (same r) ∙ h.each r o }
 
 -- the lines of one event more
-pub traced_more : (p : Program) (names : List Name) (roles : List (Vec Tracked Global)) (events : List RoleEvent) (e : RoleEvent)
+pub told_more : (t : Telling) (names : List Name) (roles : List (Vec Tracked Global)) (events : List RoleEvent) (e : RoleEvent)
     (name : Name) (objects : List Tracked) (old new : List ℕ) → AreKnown roles events → name ≡ name_at names e.role →
-    objects ≡ objects_at roles e.role → old ≡ trace p names events →
-    new ≡ old ++ line_of p name (known_at objects (object_of e.event)) e.event → new ≡ trace p names (events ++ e ∷ [])
-traced_more p names roles events e name objects old new known named own h line =
+    objects ≡ objects_at roles e.role → old ≡ lines_from t names [] events →
+    new ≡ old ++ line_of t name (known_at objects (object_of e.event)) e.event → new ≡ lines_from t names [] (events ++ e ∷ [])
+told_more t names roles events e name objects old new known named own h line =
     line
-    ∙ ap (λ l. l ++ line_of p name (known_at objects (object_of e.event)) e.event) h
-    ∙ ap (λ n. trace p names events ++ line_of p n (known_at objects (object_of e.event)) e.event) named
-    ∙ ap (λ os. trace p names events ++ line_of p (name_at names e.role) (known_at os (object_of e.event)) e.event) own
-    ∙ ap (λ k. trace p names events ++ line_of p (name_at names e.role) k e.event) (known.each e.role (object_of e.event))
-    ∙ sym (trace_more p names events e)
+    ∙ ap (λ l. l ++ line_of t name (known_at objects (object_of e.event)) e.event) h
+    ∙ ap (λ n. lines_from t names [] events ++ line_of t n (known_at objects (object_of e.event)) e.event) named
+    ∙ ap (λ os. lines_from t names [] events ++ line_of t (name_at names e.role) (known_at os (object_of e.event)) e.event) own
+    ∙ ap (λ k. lines_from t names [] events ++ line_of t (name_at names e.role) k e.event) (known.each e.role (object_of e.event))
+    ∙ sym (lines_more t names events e)
 
 -- the words of an object that left a method
-pub left : (p : Program) (objects : List Tracked) (event : Event) (o : ℕ) (answer : Option ℤ) → event ≡ seen.Leave o answer →
-    (class method : Name) → class ≡ (known_at objects o).class → method ≡ last_call (known_at objects o).calls →
-    (kind : Option CoreType) → kind ≡ result_named p class method → (old mid new : List ℕ) →
-    mid ≡ old ++ (codes "leave " ++ object_words class o ++ codes " " ++ method) → new ≡ mid ++ answer_words p kind answer →
-    new ≡ old ++ event_words p (known_at objects (object_of event)) event
-left p objects event o answer is class method class_is method_is kind kind_is old mid new call line =
-    line ∙ ap (λ (l : List ℕ). l ++ answer_words p kind answer) call
-    ∙ append_assoc old (codes "leave " ++ object_words class o ++ codes " " ++ method) (answer_words p kind answer)
-    ∙ ap (λ (k : Option CoreType). old ++ ((codes "leave " ++ object_words class o ++ codes " " ++ method) ++ answer_words p k answer))
-    kind_is
+pub left : (t : Telling) (objects : List Tracked) (event : Event) (o : ℕ) (answer : Option ℤ) → event ≡ seen.Leave o answer →
+    (class method : Name) → class ≡ (known_at objects o).class → method ≡ last_call (known_at objects o).calls → (old mid new : List ℕ) →
+    mid ≡ old ++ (codes "leave " ++ object_words class o ++ codes " " ++ method) → new ≡ mid ++ told_answer t class method answer →
+    new ≡ old ++ event_words t (known_at objects (object_of event)) event
+left t objects event o answer is class method class_is method_is old mid new call line =
+    line ∙ ap (λ (l : List ℕ). l ++ told_answer t class method answer) call
+    ∙ append_assoc old (codes "leave " ++ object_words class o ++ codes " " ++ method) (told_answer t class method answer)
     ∙ ap (λ (c : Name). old ++ words c method) class_is
     ∙ ap (λ (m : Name). old ++ words (known_at objects o).class m) method_is
-    ∙ ap (λ (e : Event). old ++ event_words p (known_at objects (object_of e)) e) (sym is)
+    ∙ ap (λ (e : Event). old ++ event_words t (known_at objects (object_of e)) e) (sym is)
   where
     words : (class method : Name) → List ℕ
-    words class method =
-        (codes "leave " ++ object_words class o ++ codes " " ++ method) ++ answer_words p (result_named p class method) answer
+    words class method = (codes "leave " ++ object_words class o ++ codes " " ++ method) ++ told_answer t class method answer

@@ -81,6 +81,21 @@ answer_words p (Some types.Boolean) (Some n) = codes " " ++ truth_text (not (int
 answer_words p (Some (types.Enum e)) (Some n) = codes " " ++ label_text p e n
 answer_words p type answer = []
 
+-- an answer as the number that it is, behind a blank
+abbrev pub number_words : Option ℤ → List ℕ
+number_words None = []
+number_words (Some n) = codes " " ++ signed_decimal n
+
+-- Answers of methods are told by the types that those have in a program; or as numbers, where no types are known.
+pub data Telling : Type 0 where
+  ByTypes : (program : Program) → Telling
+  AsNumbers : Telling
+
+-- the answer of the method of this name, of the class of this name
+abbrev pub told_answer : Telling → (class method : Name) → Option ℤ → List ℕ
+told_answer (ByTypes p) class method answer = answer_words p (result_named p class method) answer
+told_answer AsNumbers class method answer = number_words answer
+
 -- what a message carries, behind a blank
 abbrev pub carried_words : Carried → List ℕ
 carried_words carried.Nothing = []
@@ -93,16 +108,15 @@ abbrev pub object_words : (class : Name) → (object : ℕ) → List ℕ
 object_words class o = class ++ codes "#" ++ decimal o
 
 -- An event in words, where this is known of its object. An object leaves the method that it entered last of those that it hasn't left.
-abbrev pub event_words : Program → Known → Event → List ℕ
-event_words p k (seen.Print text) = []
-event_words p k (seen.Made o class) = codes "made " ++ object_words class o
-event_words p k (seen.Enter o method) = codes "enter " ++ object_words k.class o ++ codes " " ++ method
-event_words p k (seen.Leave o answer) =
-    codes "leave " ++ object_words k.class o ++ codes " " ++ last_call k.calls
-    ++ answer_words p (result_named p k.class (last_call k.calls)) answer
-event_words p k (seen.Send peer label payload) = codes "send " ++ peer ++ codes " " ++ label ++ carried_words payload
-event_words p k (seen.Look peer label) = codes "look " ++ peer ++ codes " " ++ label
-event_words p k (seen.Take peer label payload) = codes "take " ++ peer ++ codes " " ++ label ++ carried_words payload
+abbrev pub event_words : Telling → Known → Event → List ℕ
+event_words t k (seen.Print text) = []
+event_words t k (seen.Made o class) = codes "made " ++ object_words class o
+event_words t k (seen.Enter o method) = codes "enter " ++ object_words k.class o ++ codes " " ++ method
+event_words t k (seen.Leave o answer) =
+    codes "leave " ++ object_words k.class o ++ codes " " ++ last_call k.calls ++ told_answer t k.class (last_call k.calls) answer
+event_words t k (seen.Send peer label payload) = codes "send " ++ peer ++ codes " " ++ label ++ carried_words payload
+event_words t k (seen.Look peer label) = codes "look " ++ peer ++ codes " " ++ label
+event_words t k (seen.Take peer label payload) = codes "take " ++ peer ++ codes " " ++ label ++ carried_words payload
 
 -- the object of an event, where it has one
 abbrev pub object_of : Event → ℕ
@@ -112,26 +126,30 @@ object_of (seen.Leave o answer) = o
 object_of _ = 0
 
 -- the line of an event of the role of this name, where this is known of its object; a text that is printed has none
-abbrev pub line_of : Program → (role : Name) → Known → Event → List ℕ
-line_of p name k (seen.Print text) = []
-line_of p name k event = name ++ codes " " ++ event_words p k event ++ 10 ∷ []
+abbrev pub line_of : Telling → (role : Name) → Known → Event → List ℕ
+line_of t name k (seen.Print text) = []
+line_of t name k event = name ++ codes " " ++ event_words t k event ++ 10 ∷ []
 
 -- the name of the role of a number
 abbrev pub name_at : (names : List Name) → (role : ℕ) → Name
 name_at names r = get_or names r []
 
 -- The line of an event behind these events. Of its object the earlier events of its role tell: each role numbers its objects.
-abbrev pub event_line : Program → (names : List Name) → (before : List RoleEvent) → RoleEvent → List ℕ
-event_line p names before e = line_of p (name_at names e.role) (known_in (events_of e.role before) (object_of e.event)) e.event
+abbrev pub event_line : Telling → (names : List Name) → (before : List RoleEvent) → RoleEvent → List ℕ
+event_line t names before e = line_of t (name_at names e.role) (known_in (events_of e.role before) (object_of e.event)) e.event
 
 -- the lines of these events behind others
-abbrev pub lines_from : Program → (names : List Name) → (before : List RoleEvent) → List RoleEvent → List ℕ
-lines_from p names before [] = []
-lines_from p names before (e ∷ events) = event_line p names before e ++ lines_from p names (before ++ e ∷ []) events
+abbrev pub lines_from : Telling → (names : List Name) → (before : List RoleEvent) → List RoleEvent → List ℕ
+lines_from t names before [] = []
+lines_from t names before (e ∷ events) = event_line t names before e ++ lines_from t names (before ++ e ∷ []) events
 
 -- the trace of a run of roles with these names
 abbrev pub trace : Program → (names : List Name) → List RoleEvent → List ℕ
-trace p names events = lines_from p names [] events
+trace p names events = lines_from (ByTypes p) names [] events
+
+-- the same where no types of methods are known
+abbrev pub plain_trace : (names : List Name) → List RoleEvent → List ℕ
+plain_trace names events = lines_from AsNumbers names [] events
 
 -- the line that a text prints, behind the name of its role where that is asked for; other events print nothing
 abbrev pub printed_line : (named : Bool) → (role : Name) → Event → List ℕ

@@ -13,7 +13,7 @@ mod tracing;
 ghost use Rattle.mg_trace.specs.Computed.{AreWorked};
 
 pub use printing::printed;
-pub use tracing::trace;
+pub use tracing::{plain_trace, trace};
 
 /// The texts of worked runs are computed. The function carries a law.
 pub fn runs_are_told()

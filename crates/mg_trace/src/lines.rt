@@ -3,49 +3,47 @@
 ghost use Rattle.std.specs.Prelude.{◌≡◌, ◌++◌, ◌∷◌, [], ℕ, List as Seq, Some, OnOk, string_bytes, codes};
 ghost use Rattle.mg_text.specs.declared.event.Event.{Event as Seen};
 ghost use Rattle.jv_core.specs.Core.{tree_of};
-ghost use Rattle.mg_trace.specs.Trace.{line_of, event_words, object_of, object_words, answer_words, carried_words, label_text};
+ghost use Rattle.mg_trace.specs.Trace.{line_of, event_words, object_of, object_words, told_answer, answer_words, number_words, carried_words, label_text};
 ghost use Rattle.vm_model.specs.Step.{truth_text};
 ghost use Rattle.mg_trace.specs.inner.Kept.{known_at};
-ghost use Rattle.mg_trace.specs.inner.Tabled.{AreResults};
+ghost use Rattle.mg_trace.specs.inner.Tabled.{AreTold, telling_of};
 
 use crate::names::name_text;
 use crate::objects::{Tracked, known};
-use crate::results::Results;
+use crate::results::Answers;
 use jv_core::{Core, CoreType};
 use mg_text::{Carried, Event, Memory, Text};
 
 /// Appends the line of an event of the role of this name. A text that is printed has none.
 pub(crate) fn push_line(
-    core: &Core,
-    results: &Results,
+    answers: Answers<'_>,
     name: &str,
     objects: &[Tracked],
     event: &Event,
     lines: &mut String,
 ) -> Result<(), Memory>
-    ensures { AreResults (tree_of core.now) results.now → OnOk result (string_bytes lines.new ≡ string_bytes lines.old
-        ++ line_of (tree_of core.now) name.now (known_at objects.now (object_of event.now)) event.now) }
+    ensures { AreTold answers.entry → OnOk result (string_bytes lines.new ≡ string_bytes lines.old
+        ++ line_of (telling_of answers.entry) name.now (known_at objects.now (object_of event.now)) event.now) }
 {
     if let Event::Print(_) = event {
         return Ok(());
     }
     lines.push_str(name)?;
     lines.push_str(" ")?;
-    push_event(core, results, objects, event, lines)?;
+    push_event(answers, objects, event, lines)?;
     lines.push_str("\n")?;
     Ok(())
 }
 
 // Appends an event in words.
 fn push_event(
-    core: &Core,
-    results: &Results,
+    answers: Answers<'_>,
     objects: &[Tracked],
     event: &Event,
     lines: &mut String,
 ) -> Result<(), Memory>
-    ensures { AreResults (tree_of core.now) results.now → OnOk result (string_bytes lines.new ≡ string_bytes lines.old
-        ++ event_words (tree_of core.now) (known_at objects.now (object_of event.now)) event.now) }
+    ensures { AreTold answers.entry → OnOk result (string_bytes lines.new ≡ string_bytes lines.old
+        ++ event_words (telling_of answers.entry) (known_at objects.now (object_of event.now)) event.now) }
 {
     match event {
         Event::Print(_) => Ok(()),
@@ -57,7 +55,7 @@ fn push_event(
         Event::Leave { object, answer } => {
             let (class, method) = known(objects, *object);
             push_call("leave ", class, *object, method, lines)?;
-            push_answer(core, results.find(class, method), *answer, lines)
+            push_told(answers, class, method, *answer, lines)
         }
         Event::Send {
             peer,
@@ -155,6 +153,35 @@ fn push_truth(truth: bool, lines: &mut String) -> Result<(), Memory>
         lines.push_str(" true")?;
     } else {
         lines.push_str(" false")?;
+    }
+    Ok(())
+}
+
+// Appends the answer of a method of a class, behind a blank.
+fn push_told(
+    answers: Answers<'_>,
+    class: &str,
+    method: &str,
+    answer: Option<i32>,
+    lines: &mut String,
+) -> Result<(), Memory>
+    ensures { AreTold answers.entry → OnOk result (string_bytes lines.new ≡ string_bytes lines.old
+        ++ told_answer (telling_of answers.entry) class.now method.now answer) }
+{
+    match answers {
+        Answers::ByTypes(core, results) => {
+            push_answer(core, results.find(class, method), answer, lines)
+        }
+        Answers::AsNumbers => push_number(answer, lines),
+    }
+}
+
+// Appends an answer as the number that it is, behind a blank.
+fn push_number(answer: Option<i32>, lines: &mut String) -> Result<(), Memory>
+    ensures { OnOk result (string_bytes lines.new ≡ string_bytes lines.old ++ number_words answer) }
+{
+    if let Some(answer) = answer {
+        write!(lines, " {answer}")?;
     }
     Ok(())
 }

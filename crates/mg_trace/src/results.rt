@@ -22,6 +22,15 @@ pub(crate) struct Results {
     by_class: HashMap<String, HashMap<String, CoreType>>,
 }
 
+/// How the answers of methods are told.
+#[derive(Clone, Copy)]
+pub(crate) enum Answers<'a> {
+    /// By the types that methods have in a program.
+    ByTypes(&'a Core, &'a Results),
+    /// As the numbers that they are.
+    AsNumbers,
+}
+
 impl Results {
     /// Those of this program.
     pub(crate) fn of(alloc: Global, core: &Core) -> Result<Results, Memory>

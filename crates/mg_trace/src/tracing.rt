@@ -1,12 +1,13 @@
 //! The trace of a run: the lines of its events.
 
-ghost use Rattle.std.specs.Prelude.{◌≡◌, IfOk};
+ghost use Rattle.std.specs.Prelude.{◌≡◌, [], IfOk};
 ghost use Rattle.jv_core.specs.Core.{tree_of};
-ghost use Rattle.mg_trace.specs.Trace.{trace};
+ghost use Rattle.mg_trace.specs.Trace.{trace, plain_trace, lines_from};
+ghost use Rattle.mg_trace.specs.inner.Tabled.{AreTold, telling_of};
 
 use crate::lines::push_line;
 use crate::names::role_name;
-use crate::results::Results;
+use crate::results::{Answers, Results};
 use crate::roles::{make_room, note_of_role, objects_of};
 use jv_core::Core;
 use mg_text::{Memory, Text};
@@ -28,13 +29,37 @@ pub fn trace(
     ensures { IfOk result (λ t. t ≡ trace (tree_of core.now) names.now events.now) }
 {
     let results = Results::of(alloc, core)?;
+    told(alloc, Answers::ByTypes(core, &results), names, events)
+}
+
+/// The same where no types of methods are known: what a method answered is told as the number that
+/// it is.
+///
+/// # Errors
+/// `Memory` only.
+pub fn plain_trace(alloc: Global, names: &[Text], events: &[RoleEvent]) -> Result<Text, Memory>
+    ensures { IfOk result (λ t. t ≡ plain_trace names.now events.now) }
+{
+    told(alloc, Answers::AsNumbers, names, events)
+}
+
+// The lines of these events, with answers told like this.
+fn told(
+    alloc: Global,
+    answers: Answers<'_>,
+    names: &[Text],
+    events: &[RoleEvent],
+) -> Result<Text, Memory>
+    requires { AreTold answers }
+    ensures { IfOk result (λ t. t ≡ lines_from (telling_of answers.entry) names.now [] events.now) }
+{
     let mut roles = Vec::new(alloc);
     let mut lines = String::new(alloc);
     for event in events {
         make_room(alloc, &mut roles, event.role)?;
         let name = role_name(names, event.role);
         let objects = objects_of(roles.as_slice(), event.role);
-        push_line(core, &results, name, objects, &event.event, &mut lines)?;
+        push_line(answers, name, objects, &event.event, &mut lines)?;
         note_of_role(alloc, &mut roles, event)?;
     }
     Ok(Text::from_string(lines))

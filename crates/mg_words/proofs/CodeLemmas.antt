@@ -9,17 +9,19 @@ use Rattle.std.proofs.lemmas.List.Sums.{fails_before_first}
 use Rattle.std.proofs.lemmas.Str.Pattern.{IsSplitOnceResult, split_once_first}
 use Rattle.scr_tree.specs.Words.{IsName}
 use Rattle.mg_words.specs.declared.asked.Asked.{Asked as Kept}
+use Rattle.mg_words.specs.declared.runs.Input.{Input}
+use Rattle.mg_words.specs.declared.runs.Input.TheVariants as input
 use Rattle.mg_words.specs.declared.options.Named.{Named}
 use Rattle.mg_words.specs.declared.options.Named.TheVariants as named
 use Rattle.mg_words.specs.declared.options.Step.TheVariants as step
-use Rattle.mg_words.specs.Words.{Word, RoleClass, Several, role_names, Run, Asked, RunOption, Main, Role, Order, Steps, Trace, Out, option_words, IsOption, role_in, IsFileName, IsSourceName, IsCommand, AreWrong}
-use Rattle.mg_words.specs.inner.Judging.{role_read, roles_in, names_in, names_left, has_name, roles_with, asked_with, asked_of, IsFirstOther, AreGiven, AreRead, word_of, kind_of, IsPlain, IsNewRole, AreAllNamed, Fits, is_wanted, is_empty, is_several, can_follow, are_whole, roles_more, with_more, IsMore, IsNoValue, IsWith, IsStep, IsSteps, unasked}
-use Rattle.mg_words.proofs.WordsLemmas.{run, head_is, tail_is, filled, empty_is, All-first, All-rest, All-cons}
+use Rattle.mg_words.specs.Words.{Word, RoleClass, Several, role_names, Asked, RunOption, Main, Role, Order, Steps, Trace, Out, option_words, IsOption, role_in, IsFileName, Command, IsCommand, AreWrong}
+use Rattle.mg_words.specs.inner.Judging.{role_read, roles_in, names_in, names_left, has_name, roles_with, asked_with, asked_of, IsFirstOther, AreGiven, AreRead, word_of, kind_of, IsPlain, IsNewRole, AreAllNamed, Fits, is_wanted, is_empty, is_several, can_follow, are_whole, roles_more, with_more, IsMore, IsNoValue, IsWith, IsStep, IsSteps, unasked, made, verb_of, IsFor, Keeps, is_barred}
+use Rattle.mg_words.proofs.WordsLemmas.{head_is, tail_is, filled, empty_is, All-first, All-rest, All-cons}
 use Rattle.mg_words.proofs.NameLemmas.{has_is, is_has, have_all, all_have, never_both, names_joined, hasnt}
-use Rattle.mg_words.proofs.OptionLemmas.{same_kind, at_end, given_more, none_given}
+use Rattle.mg_words.proofs.OptionLemmas.{same_kind, at_end, given_more, none_given, keeps_more}
 use Rattle.mg_words.proofs.FollowLemmas.{follows, whole_all, both_true, no_roles, none_there}
 use Rattle.mg_words.proofs.RoleLemmas.{words_of, role_in_word, word_of_role, roles_in_words, few_roles}
-use Rattle.mg_words.proofs.RunLemmas.{wrong_option, wrong_value, few_value, few_more, lacks_role, wrong_run_file, runnable, flat_push}
+use Rattle.mg_words.proofs.RunLemmas.{wrong_option, wrong_barred, wrong_value, few_value, few_more, lacks_role, wrong_run_file, runnable, flat_push}
 
 -- ---- going over names
 
@@ -85,6 +87,10 @@ begun words given none class order steps traced folder = started words given non
   folder = option_map (λ w. w.now) (folder i);
 })
 
+pub begun_keeps : (k : Input) → Keeps k None
+begun_keeps input.Sources = tt
+begun_keeps input.Classes = refl
+
 front : (words begin left : List Word) → words ≡ begin ++ left → take (length words - length left) words ≡ begin
 front words begin left e =
     let n : length words - length left ≡ length begin = omega (arith, ap length e, length-append begin left) in
@@ -133,38 +139,6 @@ few_so_far words given rest h small =
     let k = few_roles h.options in
     omega (arith, ap length h.stand, length-append (words_of h.options) rest)
 
--- an option that can't follow
-pub barred_at : (words : List Word) (given : Kept) (rest : List Word) (option : Named) (word : Word) (behind : List Word)
-    → AreRead words given rest → rest ≡ word ∷ behind → word ≡ word_of option → can_follow (asked_of given) option ≡ false
-    → AreWrong (run ∷ words) (Some word)
-barred_at words given rest option word behind h is name barred =
-    subst (λ (z : List Word). AreWrong (run ∷ z) (Some word)) (sym (h.stand ∙ ap (λ (z : List Word). words_of h.options ++ z) is))
-    (wrong_option h.options (asked_of given) option word behind h.asks barred name)
-
-pub stuck_at : (words : List Word) (given : Kept) (rest : List Word) (option : Named) (word : Word) (behind : List Word)
-    → (wrong : Option (Bor Word)) → AreRead words given rest → length words < 2 ^ 64 → rest ≡ word ∷ behind
-    → word ≡ word_of option → IsStep given option behind (step.Stuck wrong)
-    → AreWrong (run ∷ words) (option_map (λ w. w.now) wrong)
-stuck_at words given rest option word behind None h small is name (can, other, none) =
-    subst (λ (z : List Word). AreWrong (run ∷ z) None)
-    (sym (h.stand ∙ ap (λ (z : List Word). words_of h.options ++ z) (is ∙ ap (λ (z : List Word). word ∷ z) none)))
-    (few_value h.options (asked_of given) option word h.asks
-    (follows h.options (asked_of given) option h.asks (few_so_far words given rest h small) can) name other)
-stuck_at words given rest option word behind (Some value) h small is name (can, other, (after, stands, isnt)) =
-    subst (λ (z : List Word). AreWrong (run ∷ z) (Some value.now))
-    (sym (h.stand ∙ ap (λ (z : List Word). words_of h.options ++ z) (is ∙ ap (λ (z : List Word). word ∷ z) stands)))
-    (wrong_value h.options (asked_of given) option word value.now after h.asks
-    (follows h.options (asked_of given) option h.asks (few_so_far words given rest h small) can) name other isnt)
-
-pub end_at : (words : List Word) (given : Kept) (rest : List Word) → AreRead words given rest → length rest ≡ 0
-    → AreWrong (run ∷ words) None
-end_at words given rest h none =
-    subst (λ (z : List Word). AreWrong (run ∷ z) None)
-    (sym (h.stand ∙ ap (λ (z : List Word). words_of h.options ++ z) (empty_is rest none)))
-    (few_more h.options (asked_of given) h.asks)
-
--- ---- the files of a run
-
 -- the first of the files, where a class or roles are lacking
 first_at : (files : List Word) (found : Option (Bor Word)) → option_copied found ≡ slice_get files 0 → 0 < length files
     → (word : Word) × (rest : List Word) × (files ≡ word ∷ rest) × (option_map (λ w. w.now) found ≡ Some word)
@@ -172,26 +146,81 @@ first_at [] found e some = absurd (omega arith)
 first_at (w ∷ ws) None e some = absurd cc
 first_at (w ∷ ws) (Some f) e some = (w, ws, refl, e)
 
-pub lacks_first : (asked : Asked) (files : List Word) (found : Option (Bor Word)) → option_copied found ≡ slice_get files 0
-    → 0 < length files → IsPlain files → are_whole asked.roles asked.order ≡ false
-    → (o : List RunOption) → AreGiven o asked → AreWrong (run ∷ (words_of o ++ files)) (option_map (λ w. w.now) found)
-lacks_first asked files found e some plain lacks =
-    let (word, rest, is, same) = first_at files found e some in
-    λ o h. subst (λ (r : Option Word). AreWrong (run ∷ (words_of o ++ files)) r) (sym same)
-    (subst (λ (z : List Word). AreWrong (run ∷ (words_of o ++ z)) (Some word)) (sym is)
-    (lacks_role o asked word rest h lacks (subst IsPlain is plain)))
+module _ (ran : Input) where
+  abbrev run : Word
+  run = verb_of ran
 
-pub wrong_file_at : (asked : Asked) (files : List Word) (word : Word) → are_whole asked.roles asked.order ≡ true → IsPlain files
-    → IsFirstOther IsSourceName files (Some word)
-    → (o : List RunOption) → AreGiven o asked → AreWrong (run ∷ (words_of o ++ files)) (Some word)
-wrong_file_at asked files word whole plain other = λ o h. wrong_run_file o asked files word (whole_all o asked h whole) plain other
+  -- an option that can't follow
+  pub barred_at : (words : List Word) (given : Kept) (rest : List Word) (option : Named) (word : Word) (behind : List Word)
+      → AreRead words given rest → Keeps ran (asked_of given).folder → rest ≡ word ∷ behind → word ≡ word_of option
+      → can_follow (asked_of given) option ≡ false → AreWrong (run ∷ words) (Some word)
+  barred_at words given rest option word behind h keeps is name barred =
+      subst (λ (z : List Word). AreWrong (run ∷ z) (Some word)) (sym (h.stand ∙ ap (λ (z : List Word). words_of h.options ++ z) is))
+      (wrong_option ran h.options (asked_of given) option word behind h.asks keeps barred name)
 
-pub runnable_at : (asked : Asked) (files : List Word) → are_whole asked.roles asked.order ≡ true → 0 < length files → All IsSourceName files
-    → (o : List RunOption) → AreGiven o asked → IsCommand (Run asked files) (run ∷ (words_of o ++ files))
-runnable_at asked files whole some each = λ o h. runnable o asked files (whole_all o asked h whole) (some_filled files some) each where
-  some_filled : (fs : List Word) → 0 < length fs → fs ≢ []
-  some_filled [] lt = absurd (omega arith)
-  some_filled (f ∷ fs) lt = λ e. filled (sym e)
+  -- an option that may not stand
+  pub never_at : (words : List Word) (given : Kept) (rest : List Word) (option : Named) (word : Word) (behind : List Word)
+      → AreRead words given rest → Keeps ran (asked_of given).folder → rest ≡ word ∷ behind → word ≡ word_of option
+      → is_barred ran option ≡ true → AreWrong (run ∷ words) (Some word)
+  never_at words given rest option word behind h keeps is name barred =
+      subst (λ (z : List Word). AreWrong (run ∷ z) (Some word)) (sym (h.stand ∙ ap (λ (z : List Word). words_of h.options ++ z) is))
+      (wrong_barred ran h.options (asked_of given) option word behind h.asks keeps barred name)
+
+  -- an option that was read may stand
+  pub keeps_at : (given more : Kept) (option : Named) (behind left : List Word) → Keeps ran (asked_of given).folder
+      → is_barred ran option ≡ false → IsMore given option behind more left → Keeps ran (asked_of more).folder
+  keeps_at given more option behind left keeps free (full, read, asks) =
+      subst (Keeps ran) (sym (ap (λ (z : Asked). z.folder) asks))
+      (keeps_more ran full (asked_of given) (sym (ap (is_barred ran) (same_kind option full behind left read.spelled)) ∙ free) keeps)
+
+  pub stuck_at : (words : List Word) (given : Kept) (rest : List Word) (option : Named) (word : Word) (behind : List Word)
+      → (wrong : Option (Bor Word)) → AreRead words given rest → Keeps ran (asked_of given).folder → is_barred ran option ≡ false
+      → length words < 2 ^ 64 → rest ≡ word ∷ behind → word ≡ word_of option → IsStep given option behind (step.Stuck wrong)
+      → AreWrong (run ∷ words) (option_map (λ w. w.now) wrong)
+  stuck_at words given rest option word behind None h keeps free small is name (can, other, none) =
+      subst (λ (z : List Word). AreWrong (run ∷ z) None)
+      (sym (h.stand ∙ ap (λ (z : List Word). words_of h.options ++ z) (is ∙ ap (λ (z : List Word). word ∷ z) none)))
+      (few_value ran h.options (asked_of given) option word h.asks keeps free
+      (follows h.options (asked_of given) option h.asks (few_so_far words given rest h small) can) name other)
+  stuck_at words given rest option word behind (Some value) h keeps free small is name (can, other, (after, stands, isnt)) =
+      subst (λ (z : List Word). AreWrong (run ∷ z) (Some value.now))
+      (sym (h.stand ∙ ap (λ (z : List Word). words_of h.options ++ z) (is ∙ ap (λ (z : List Word). word ∷ z) stands)))
+      (wrong_value ran h.options (asked_of given) option word value.now after h.asks keeps free
+      (follows h.options (asked_of given) option h.asks (few_so_far words given rest h small) can) name other isnt)
+
+  pub end_at : (words : List Word) (given : Kept) (rest : List Word) → AreRead words given rest → Keeps ran (asked_of given).folder
+      → length rest ≡ 0 → AreWrong (run ∷ words) None
+  end_at words given rest h keeps none =
+      subst (λ (z : List Word). AreWrong (run ∷ z) None)
+      (sym (h.stand ∙ ap (λ (z : List Word). words_of h.options ++ z) (empty_is rest none)))
+      (few_more ran h.options (asked_of given) h.asks keeps)
+
+  -- ---- the files of a run
+
+  pub lacks_first : (asked : Asked) (files : List Word) (found : Option (Bor Word)) → option_copied found ≡ slice_get files 0
+      → 0 < length files → IsPlain files → are_whole asked.roles asked.order ≡ false
+      → (o : List RunOption) → AreGiven o asked → Keeps ran asked.folder → AreWrong (run ∷ (words_of o ++ files)) (option_map (λ w. w.now) found)
+  lacks_first asked files found e some plain lacks =
+      let (word, rest, is, same) = first_at files found e some in
+      λ o h keeps. subst (λ (r : Option Word). AreWrong (run ∷ (words_of o ++ files)) r) (sym same)
+      (subst (λ (z : List Word). AreWrong (run ∷ (words_of o ++ z)) (Some word)) (sym is)
+      (lacks_role ran o asked word rest h keeps lacks (subst IsPlain is plain)))
+
+  pub wrong_file_at : (asked : Asked) (files : List Word) (word : Word) → are_whole asked.roles asked.order ≡ true → IsPlain files
+      → IsFirstOther (IsFor ran) files (Some word)
+      → (o : List RunOption) → AreGiven o asked → Keeps ran asked.folder → AreWrong (run ∷ (words_of o ++ files)) (Some word)
+  wrong_file_at asked files word whole plain other =
+      λ o h keeps. wrong_run_file ran o asked files word (whole_all o asked h whole) keeps plain other
+
+  pub runnable_at : (asked : Asked) (files : List Word) (command : Command) → command ≡ made ran asked files
+      → are_whole asked.roles asked.order ≡ true → 0 < length files → All (IsFor ran) files
+      → (o : List RunOption) → AreGiven o asked → Keeps ran asked.folder → IsCommand command (run ∷ (words_of o ++ files))
+  runnable_at asked files command is whole some each =
+      λ o h keeps. subst (λ (z : Command). IsCommand z (run ∷ (words_of o ++ files))) (sym is)
+      (runnable ran o asked files (whole_all o asked h whole) keeps (some_filled files some, each)) where
+        some_filled : (fs : List Word) → 0 < length fs → fs ≢ []
+        some_filled [] lt = absurd (omega arith)
+        some_filled (f ∷ fs) lt = λ e. filled (sym e)
 
 -- ---- one option, with its value
 

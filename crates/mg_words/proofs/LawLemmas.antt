@@ -9,7 +9,7 @@ use Rattle.std.proofs.lemmas.List.FromFn.{length-range_with_len, get_or-range_wi
 use Rattle.std.proofs.lemmas.Map.Keys.{IsDistinct-from_apart, apart_from_distinct}
 use Rattle.std.proofs.lemmas.List.Quantifiers.{position-Some}
 use Rattle.mg_text.specs.Interned.{with_text}
-use Rattle.mg_words.specs.Words.{Word, RoleClass, Roles, Alone, Several, Asked, Run, IsCommand, mains_in, mains_of, role_names, order_among, order_of, RunOption, AreRoles}
+use Rattle.mg_words.specs.Words.{Word, RoleClass, Roles, Alone, Several, Asked, Run, Exec, IsCommand, mains_in, mains_of, role_names, order_among, order_of, RunOption, AreRoles}
 use Rattle.mg_words.specs.declared.asked.RoleClass.{RoleClass as Kept}
 use Rattle.mg_words.specs.inner.Judging.{IsAsked, role_class_of, role_classes_of}
 use Rattle.mg_words.proofs.WordsLemmas.{All-cons, none_yet}
@@ -17,6 +17,9 @@ use Rattle.mg_words.proofs.NameLemmas.{in_none, one_of, same_name, name_same, ne
 
 pub asked_of_run : (words : List Word) (asked : Asked) (files : List Word) → IsCommand (Run asked files) words → IsAsked asked
 asked_of_run words asked files (rest, e, (options, behind, how, are)) = (options, how)
+
+pub asked_of_exec : (words : List Word) (asked : Asked) (files : List Word) → IsCommand (Exec asked files) words → IsAsked asked
+asked_of_exec words asked files (rest, e, (options, behind, how, none, are)) = (options, how)
 
 roles_apart : (roles : Roles) (order : Option (List Word)) (o : List RunOption) → AreRoles roles order o
     → IsDistinct bytes_eq (role_names (mains_in roles))

@@ -8,10 +8,12 @@ use Rattle.std.proofs.lemmas.Fmt.{decimal_injective}
 use Rattle.std.proofs.lemmas.List.Elements.{filter_map-append, filter-append}
 use Rattle.std.proofs.lemmas.Map.Keys.{IsDistinct-from_apart}
 use Rattle.scr_tree.specs.Words.{IsName}
+use Rattle.mg_words.specs.declared.runs.Input.{Input}
+use Rattle.mg_words.specs.declared.runs.Input.TheVariants as input
 use Rattle.mg_words.specs.declared.options.Named.{Named}
 use Rattle.mg_words.specs.declared.options.Named.TheVariants as named
-use Rattle.mg_words.specs.Words.{Word, RoleClass, Roles, Alone, Several, role_names, Asked, RunOption, Main, Role, Order, Steps, Trace, Out, option_words, IsOption, class_in, role_in, order_in, steps_in, is_trace, folder_in, IsOrder, AreRoles, IsSourceName, AreSourceNames}
-use Rattle.mg_words.specs.inner.Judging.{role_read, names_in, NamesEach, AreRolesSoFar, AreGiven, word_of, kind_of, IsNewRole, AreAllNamed, Fits, roles_more, with_more, unasked}
+use Rattle.mg_words.specs.Words.{Word, RoleClass, Roles, Alone, Several, role_names, Asked, RunOption, Main, Role, Order, Steps, Trace, Out, option_words, IsOption, class_in, role_in, order_in, steps_in, is_trace, folder_in, IsOrder, AreRoles, IsFileName}
+use Rattle.mg_words.specs.inner.Judging.{role_read, names_in, NamesEach, AreRolesSoFar, AreGiven, word_of, kind_of, IsNewRole, AreAllNamed, Fits, roles_more, with_more, unasked, IsFor, AreFor, Keeps, is_barred}
 use Rattle.mg_words.proofs.WordsLemmas.{head_is, tail_is, filled, All-first, All-push, All-mid, none_yet}
 use Rattle.mg_words.proofs.RoleLemmas.{role_in_word}
 use Rattle.mg_words.proofs.NameLemmas.{names_joined, All-front, names_push, names_on, distinct_push, before_differs}
@@ -90,20 +92,24 @@ same_option x y r r' h k e =
     same_values x y r r' h k (same_kind (kind_of x) y (values_of x ++ r) r' start) e
 
 -- no file is named as an option
-pub no_word : (option : Named) (rest files : List Word) → word_of option ∷ rest ≡ files → AreSourceNames files → ⊥
-no_word option rest files e (_, each) =
-    go option (All-first IsSourceName (word_of option) rest (subst (All IsSourceName) (sym e) each)) where
-      go : (o : Named) → IsSourceName (word_of o) → ⊥
-      go named.Main h = h.0 refl
-      go named.Role h = h.0 refl
-      go named.Order h = h.0 refl
-      go named.Steps h = h.0 refl
-      go named.Trace h = h.0 refl
-      go named.Out h = h.0 refl
+for_file : (k : Input) (word : Word) → IsFor k word → IsFileName word
+for_file input.Sources word h = h.0
+for_file input.Classes word h = h.0
 
-pub no_option : (x : RunOption) (rest files : List Word) → option_words x ++ rest ≡ files → AreSourceNames files → ⊥
-no_option x rest files e are =
-    no_word (kind_of x) (values_of x ++ rest) files (ap (λ (z : List Word). z ++ rest) (sym (begins_with x)) ∙ e) are
+pub no_word : (k : Input) (option : Named) (rest files : List Word) → word_of option ∷ rest ≡ files → AreFor k files → ⊥
+no_word k option rest files e (_, each) =
+    go option (for_file k (word_of option) (All-first (IsFor k) (word_of option) rest (subst (All (IsFor k)) (sym e) each))) where
+      go : (o : Named) → IsFileName (word_of o) → ⊥
+      go named.Main h = h refl
+      go named.Role h = h refl
+      go named.Order h = h refl
+      go named.Steps h = h refl
+      go named.Trace h = h refl
+      go named.Out h = h refl
+
+pub no_option : (k : Input) (x : RunOption) (rest files : List Word) → option_words x ++ rest ≡ files → AreFor k files → ⊥
+no_option k x rest files e are =
+    no_word k (kind_of x) (values_of x ++ rest) files (ap (λ (z : List Word). z ++ rest) (sym (begins_with x)) ∙ e) are
 
 -- ---- what a list of options asks for
 
@@ -391,3 +397,36 @@ must_fit o a Trace more asked h w =
     (All-mid IsOption o Trace more w.right, trace_new o more a.traced asked.traced h.traced w.traced)
 must_fit o a (Out v) more asked h w =
     (All-mid IsOption o (Out v) more w.right, (only_one folder_in o (Out v) more v a.folder asked.folder h.folder refl w.folder).0)
+
+-- ---- what may stand where this is run
+
+-- an option that may stand leaves the folder
+pub keeps_more : (k : Input) (x : RunOption) (a : Asked) → is_barred k (kind_of x) ≡ false → Keeps k a.folder → Keeps k (with_more x a).folder
+keeps_more input.Sources x a free h = tt
+keeps_more input.Classes (Main v) a free h = h
+keeps_more input.Classes (Role r) a free h = h
+keeps_more input.Classes (Order names) a free h = h
+keeps_more input.Classes (Steps n) a free h = h
+keeps_more input.Classes Trace a free h = h
+keeps_more input.Classes (Out v) a free h = absurd (let e : true ≡ false = free in cc)
+
+pub keeps_main : (k : Input) (v : Word) (a : Asked) → Keeps k a.folder → Keeps k (with_more (Main v) a).folder
+keeps_main input.Sources v a h = tt
+keeps_main input.Classes v a h = h
+
+pub keeps_role : (k : Input) (r : RoleClass) (a : Asked) → Keeps k a.folder → Keeps k (with_more (Role r) a).folder
+keeps_role input.Sources r a h = tt
+keeps_role input.Classes r a h = h
+
+-- and what may not stand isn't there
+pub not_barred : (k : Input) (o : List RunOption) (a : Asked) (x : RunOption) (more : List RunOption) (asked : Asked) → AreGiven o a
+    → AreAll (o ++ x ∷ more) asked → Keeps k asked.folder → is_barred k (kind_of x) ≡ true → ⊥
+not_barred input.Sources o a x more asked h w keeps e = let no : false ≡ true = e in cc
+not_barred input.Classes o a (Main v) more asked h w keeps e = let no : false ≡ true = e in cc
+not_barred input.Classes o a (Role r) more asked h w keeps e = let no : false ≡ true = e in cc
+not_barred input.Classes o a (Order names) more asked h w keeps e = let no : false ≡ true = e in cc
+not_barred input.Classes o a (Steps n) more asked h w keeps e = let no : false ≡ true = e in cc
+not_barred input.Classes o a Trace more asked h w keeps e = let no : false ≡ true = e in cc
+not_barred input.Classes o a (Out v) more asked h w keeps e =
+    let one = only_one folder_in o (Out v) more v a.folder asked.folder h.folder refl w.folder in
+    let no : ◌≡◌ {A = Option Word} (Some v) None = sym one.1 ∙ keeps in cc

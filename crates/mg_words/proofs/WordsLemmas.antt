@@ -1,4 +1,4 @@
--- Which words are a command, and which can't follow: of each command but `run`.
+-- Which words are a command, and which can't follow: of each command but `run` and `exec`.
 use Rattle.std.proofs.Common.{◌≡◌, ℕ, ◌<◌, ◌≤◌, ◌⊎◌, inl, inr, List, [], ◌∷◌, ◌++◌, All, length, get_or, take, drop, take-append-drop, drop-cons, ◌-◌, zero, suc, Option, Some, None, Bool, true, false, ◌&&◌, eqb, codes, refl, sym, ap, ◌∙◌, subst, arith, append_assoc, length-append, Bor}
 use Rattle.std.specs.Prelude.{IfSome, option_map}
 use Rattle.std.proofs.lemmas.Slice.Eq.{bytes_eq-Decides}
@@ -7,8 +7,10 @@ use Rattle.std.specs.List.{ends_with, list_all}
 use Rattle.mg_read.specs.Passes.{AllPasses}
 use Rattle.scr_tree.specs.Words.{reserved, IsName}
 use Rattle.mg_sources.specs.Files.{EndsWith, Kind, Scribble, Typestates, Java, suffix_of, HaveKinds}
-use Rattle.mg_words.specs.Words.{Word, Command, Translate, Conform, Check, Compile, Run, Asked, AreProtocolAndCalls, IsFileName, IsFileOf, IsSourceName, AreSourceNames, AreFilesOf, out_words, verb, IsBehind, IsCommand, AreCommand, CanBegin, AreWrong}
-use Rattle.mg_words.specs.inner.Judging.{IsFirstOther}
+use Rattle.mg_words.specs.Words.{Word, Command, Translate, Conform, Check, Compile, Run, Exec, Asked, AreOptions, AreProtocolAndCalls, IsFileName, IsFileOf, IsSourceName, AreSourceNames, AreFilesOf, out_words, verb, IsBehind, IsCommand, AreCommand, CanBegin, AreWrong}
+use Rattle.mg_words.specs.declared.runs.Input.{Input}
+use Rattle.mg_words.specs.declared.runs.Input.TheVariants as input
+use Rattle.mg_words.specs.inner.Judging.{IsFirstOther, made, verb_of, IsFor, AreFor, Keeps}
 
 abbrev pub translate : Word
 translate = codes "translate"
@@ -27,6 +29,9 @@ compile = codes "compile"
 
 abbrev pub run : Word
 run = codes "run"
+
+abbrev pub exec : Word
+exec = codes "exec"
 
 abbrev pub some_source : Word
 some_source = codes "P.scr"
@@ -83,6 +88,21 @@ check_run e = absurd (omega (arith, ap length e))
 compile_run : {P : Type 0} → compile ≡ run → P
 compile_run e = absurd (omega (arith, ap length e))
 
+translate_exec : {P : Type 0} → translate ≡ exec → P
+translate_exec e = absurd (omega (arith, ap length e))
+
+conform_exec : {P : Type 0} → conform ≡ exec → P
+conform_exec e = absurd (omega (arith, ap length e))
+
+check_exec : {P : Type 0} → check ≡ exec → P
+check_exec e = absurd (omega (arith, ap length e))
+
+compile_exec : {P : Type 0} → compile ≡ exec → P
+compile_exec e = absurd (omega (arith, ap length e))
+
+run_exec : {P : Type 0} → run ≡ exec → P
+run_exec e = absurd (omega (arith, ap length e))
+
 -- all of one word, and of some words and one more
 pub All-one : {A : Type 0} (P : A → Type 0) (x : A) → P x → All P (x ∷ [])
 All-one P x h zero d lt = h
@@ -116,6 +136,21 @@ named = (λ e. cc, (codes "P", refl))
 
 pub source_named : IsSourceName some_source
 source_named = (named.0, (Scribble, named.1))
+
+-- a file for a run
+abbrev pub some_class_file : Word
+some_class_file = codes "C.class"
+
+class_named : IsFileOf (codes ".class") some_class_file
+class_named = (λ e. cc, (codes "C", refl))
+
+abbrev pub some_for : Input → Word
+some_for input.Sources = some_source
+some_for input.Classes = some_class_file
+
+pub for_named : (k : Input) → IsFor k (some_for k)
+for_named input.Sources = source_named
+for_named input.Classes = class_named
 
 free : reserved some_class ≡ None
 unfolding reserved
@@ -217,11 +252,13 @@ begins_class_out = let b = begins_classes (Some some_class) [] is_name (none_yet
 -- its first word is one of the verbs
 first_word : (command : Command)
     → (verb command ≡ translate) ⊎ (verb command ≡ conform) ⊎ (verb command ≡ check) ⊎ (verb command ≡ compile) ⊎ (verb command ≡ run)
+    ⊎ (verb command ≡ exec)
 first_word (Translate folder files) = inl refl
 first_word (Conform files) = inr (inl refl)
 first_word (Check files) = inr (inr (inl refl))
 first_word (Compile folder files) = inr (inr (inr (inl refl)))
-first_word (Run asked files) = inr (inr (inr (inr refl)))
+first_word (Run asked files) = inr (inr (inr (inr (inl refl))))
+first_word (Exec asked files) = inr (inr (inr (inr (inr refl))))
 
 none_is_none : (command : Command) → IsCommand command [] → ⊥
 none_is_none command (rest, e, b) = filled e
@@ -234,6 +271,7 @@ is_translate (Conform files) rest (r, e, b) = translate_conform (head_is e)
 is_translate (Check files) rest (r, e, b) = translate_check (head_is e)
 is_translate (Compile folder files) rest (r, e, b) = translate_compile (head_is e)
 is_translate (Run asked files) rest (r, e, b) = translate_run (head_is e)
+is_translate (Exec asked files) rest (r, e, b) = translate_exec (head_is e)
 
 pub is_conform : (command : Command) (rest : List Word) → IsCommand command (conform ∷ rest)
     → (files : List Word) × (command ≡ Conform files) × IsBehind (Conform files) rest
@@ -242,6 +280,7 @@ is_conform (Conform files) rest (r, e, b) = (files, refl, subst (IsBehind (Confo
 is_conform (Check files) rest (r, e, b) = conform_check (head_is e)
 is_conform (Compile folder files) rest (r, e, b) = conform_compile (head_is e)
 is_conform (Run asked files) rest (r, e, b) = conform_run (head_is e)
+is_conform (Exec asked files) rest (r, e, b) = conform_exec (head_is e)
 
 pub is_check : (command : Command) (rest : List Word) → IsCommand command (check ∷ rest)
     → (files : List Word) × (command ≡ Check files) × IsBehind (Check files) rest
@@ -250,6 +289,7 @@ is_check (Conform files) rest (r, e, b) = conform_check (sym (head_is e))
 is_check (Check files) rest (r, e, b) = (files, refl, subst (IsBehind (Check files)) (sym (tail_is e)) b)
 is_check (Compile folder files) rest (r, e, b) = check_compile (head_is e)
 is_check (Run asked files) rest (r, e, b) = check_run (head_is e)
+is_check (Exec asked files) rest (r, e, b) = check_exec (head_is e)
 
 pub is_compile : (command : Command) (rest : List Word) → IsCommand command (compile ∷ rest)
     → (folder : Option Word) × (files : List Word) × (command ≡ Compile folder files) × IsBehind (Compile folder files) rest
@@ -258,14 +298,31 @@ is_compile (Conform files) rest (r, e, b) = conform_compile (sym (head_is e))
 is_compile (Check files) rest (r, e, b) = check_compile (sym (head_is e))
 is_compile (Compile folder files) rest (r, e, b) = (folder, files, refl, subst (IsBehind (Compile folder files)) (sym (tail_is e)) b)
 is_compile (Run asked files) rest (r, e, b) = compile_run (head_is e)
+is_compile (Exec asked files) rest (r, e, b) = compile_exec (head_is e)
 
-pub is_run : (command : Command) (rest : List Word) → IsCommand command (run ∷ rest)
-    → (asked : Asked) × (files : List Word) × (command ≡ Run asked files) × IsBehind (Run asked files) rest
-is_run (Translate folder files) rest (r, e, b) = translate_run (sym (head_is e))
-is_run (Conform files) rest (r, e, b) = conform_run (sym (head_is e))
-is_run (Check files) rest (r, e, b) = check_run (sym (head_is e))
-is_run (Compile folder files) rest (r, e, b) = compile_run (sym (head_is e))
-is_run (Run asked files) rest (r, e, b) = (asked, files, refl, subst (IsBehind (Run asked files)) (sym (tail_is e)) b)
+-- what stands behind the word of a run
+abbrev pub IsRunBehind : Input → Asked → (files rest : List Word) → Type 0
+IsRunBehind k asked files rest = (options : List Word) × (rest ≡ options ++ files) × AreOptions asked options × Keeps k asked.folder × AreFor k files
+
+pub is_run : (k : Input) (command : Command) (rest : List Word) → IsCommand command (verb_of k ∷ rest)
+    → (asked : Asked) × (files : List Word) × (command ≡ made k asked files) × IsRunBehind k asked files rest
+is_run input.Sources (Translate folder files) rest (r, e, b) = translate_run (sym (head_is e))
+is_run input.Sources (Conform files) rest (r, e, b) = conform_run (sym (head_is e))
+is_run input.Sources (Check files) rest (r, e, b) = check_run (sym (head_is e))
+is_run input.Sources (Compile folder files) rest (r, e, b) = compile_run (sym (head_is e))
+is_run input.Sources (Run asked files) rest (r, e, (options, is, how, are)) = (asked, files, refl, (options, tail_is e ∙ is, how, tt, are))
+is_run input.Sources (Exec asked files) rest (r, e, b) = run_exec (head_is e)
+is_run input.Classes (Translate folder files) rest (r, e, b) = translate_exec (sym (head_is e))
+is_run input.Classes (Conform files) rest (r, e, b) = conform_exec (sym (head_is e))
+is_run input.Classes (Check files) rest (r, e, b) = check_exec (sym (head_is e))
+is_run input.Classes (Compile folder files) rest (r, e, b) = compile_exec (sym (head_is e))
+is_run input.Classes (Run asked files) rest (r, e, b) = run_exec (sym (head_is e))
+is_run input.Classes (Exec asked files) rest (r, e, (options, is, how, none, are)) = (asked, files, refl, (options, tail_is e ∙ is, how, none, are))
+
+-- and such words are that command
+pub run_is : (k : Input) (asked : Asked) (files rest : List Word) → IsRunBehind k asked files rest → IsCommand (made k asked files) (verb_of k ∷ rest)
+run_is input.Sources asked files rest (options, is, how, keeps, are) = (rest, refl, (options, is, how, are))
+run_is input.Classes asked files rest h = (rest, refl, h)
 
 -- the option isn't a file
 no_file : (rest : List Word) → AreFilesOf (codes ".scr") (out ∷ rest) → ⊥
@@ -418,18 +475,19 @@ wrong_at before rest word more e can cannot = subst (λ (ws : List Word). AreWro
 
 pub wrong_command : (rest : List Word) (word : Word) (more : List Word) → rest ≡ word ∷ more → (word ≡ translate → ⊥)
     → (word ≡ conform → ⊥)
-    → (word ≡ check → ⊥) → (word ≡ compile → ⊥) → (word ≡ run → ⊥) → AreWrong rest (Some word)
-wrong_command rest word more e is_no_translate is_no_conform is_no_check is_no_compile is_no_run =
+    → (word ≡ check → ⊥) → (word ≡ compile → ⊥) → (word ≡ run → ⊥) → (word ≡ exec → ⊥) → AreWrong rest (Some word)
+wrong_command rest word more e is_no_translate is_no_conform is_no_check is_no_compile is_no_run is_no_exec =
     wrong_at [] rest word more e begins_empty (λ b. cannot b.0 b.1.0 b.1.1) where
-      neither : (word ≡ translate) ⊎ (word ≡ conform) ⊎ (word ≡ check) ⊎ (word ≡ compile) ⊎ (word ≡ run) → ⊥
+      neither : (word ≡ translate) ⊎ (word ≡ conform) ⊎ (word ≡ check) ⊎ (word ≡ compile) ⊎ (word ≡ run) ⊎ (word ≡ exec) → ⊥
       neither (inl h) = is_no_translate h
       neither (inr (inl h)) = is_no_conform h
       neither (inr (inr (inl h))) = is_no_check h
       neither (inr (inr (inr (inl h)))) = is_no_compile h
-      neither (inr (inr (inr (inr h)))) = is_no_run h
+      neither (inr (inr (inr (inr (inl h))))) = is_no_run h
+      neither (inr (inr (inr (inr (inr h))))) = is_no_exec h
 
       cannot : (after : List Word) (command : Command) → IsCommand command (word ∷ after) → ⊥
-      cannot after command (r, is, behind) = neither (subst (λ (w : Word). (w ≡ translate) ⊎ (w ≡ conform) ⊎ (w ≡ check) ⊎ (w ≡ compile) ⊎ (w ≡ run)) (sym (head_is is)) (first_word command))
+      cannot after command (r, is, behind) = neither (subst (λ (w : Word). (w ≡ translate) ⊎ (w ≡ conform) ⊎ (w ≡ check) ⊎ (w ≡ compile) ⊎ (w ≡ run) ⊎ (w ≡ exec)) (sym (head_is is)) (first_word command))
 
 pub wrong_protocol : (rest : List Word) (word : Word) (more : List Word) → rest ≡ word ∷ more → (IsFileOf (codes ".scr") word → ⊥)
     → AreWrong (conform ∷ rest) (Some word)

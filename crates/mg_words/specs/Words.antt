@@ -70,6 +70,8 @@ pub data Command : Type 0 where
   Compile : (folder : Option Word) → (files : List Word) → Command
   -- run the `main`s of classes of these files' program
   Run : (asked : Asked) → (files : List Word) → Command
+  -- run the `main`s of the classes of these class files
+  Exec : (asked : Asked) → (files : List Word) → Command
 
 -- the files that a command reads, in their order
 abbrev pub files_of : Command → List Word
@@ -78,6 +80,7 @@ files_of (Conform files) = files
 files_of (Check files) = files
 files_of (Compile folder files) = files
 files_of (Run asked files) = files
+files_of (Exec asked files) = files
 
 -- no name of a file or folder is empty or begins with "-"
 abbrev pub IsFileName : Word → Type 0
@@ -196,6 +199,7 @@ verb (Conform files) = codes "conform"
 verb (Check files) = codes "check"
 verb (Compile folder files) = codes "compile"
 verb (Run asked files) = codes "run"
+verb (Exec asked files) = codes "exec"
 
 -- the words behind the first: options and then files
 abbrev pub IsBehind : Command → List Word → Type 0
@@ -204,6 +208,8 @@ IsBehind (Conform files) rest = (rest ≡ files) × AreProtocolAndCalls files
 IsBehind (Check files) rest = (rest ≡ files) × AreSourceNames files
 IsBehind (Compile folder files) rest = (rest ≡ out_words folder ++ files) × IfSome folder IsFileName × AreSourceNames files
 IsBehind (Run asked files) rest = (options : List Word) × (rest ≡ options ++ files) × AreOptions asked options × AreSourceNames files
+IsBehind (Exec asked files) rest =
+    (options : List Word) × (rest ≡ options ++ files) × AreOptions asked options × (asked.folder ≡ None) × AreFilesOf (codes ".class") files
 
 -- these words are this command
 abbrev pub IsCommand : Command → List Word → Type 0

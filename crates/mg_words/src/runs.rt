@@ -1,17 +1,25 @@
-//! The words behind `run`: options in any order, and then files.
+//! The words behind `run` and `exec`: options in any order, and then files.
 
-ghost use Rattle.std.specs.Prelude.{◌<◌, ◌∷◌, length, codes};
-ghost use Rattle.mg_words.specs.inner.Judging.{asked_of, IsJudged, IsRunnable, IsPlain};
+ghost use Rattle.std.specs.Prelude.{◌≡◌, ◌<◌, ◌∷◌, length, option_map};
+ghost use Rattle.mg_words.specs.inner.Judging.{asked_of, command_of, made, verb_of, IsFor, is_barred, IsFirstOther, IsJudged, IsRunnable, IsPlain};
 
 use crate::asked::Asked;
-use crate::names::other_source;
-use crate::options::{Step, is_whole, option_named, read_option};
+use crate::names::{other_file, other_source};
+use crate::options::{Named, Step, is_whole, option_named, read_option};
 use crate::words::{Command, Judged};
 use mg_text::Text;
 
-/// Tells which command the words behind `run` are, or the first that can't follow: options in any order, and then files.
-pub fn judge_run(words: &[Text]) -> Judged<'_>
-    ensures { IsJudged (codes "run" ∷ words.now) result }
+/// What is run: the program of sources, or class files as they are.
+#[derive(Clone, Copy)]
+pub enum Input {
+    Sources,
+    Classes,
+}
+
+/// Tells which command the words behind `run` or `exec` are, or the first that can't follow: options
+/// in any order, and then files.
+pub fn judge_run(input: Input, words: &[Text]) -> Judged<'_>
+    ensures { IsJudged (verb_of input ∷ words.now) result }
 {
     let count = words.len();
     let mut asked = Asked {
@@ -25,8 +33,11 @@ pub fn judge_run(words: &[Text]) -> Judged<'_>
     let mut rest = words;
     while let Some((word, behind)) = rest.split_first() {
         let Some(option) = option_named(word) else {
-            return judge_runnable(asked, rest);
+            return judge_runnable(input, asked, rest);
         };
+        if is_barred(input, option) {
+            return Judged::Wrong(Some(word));
+        }
         match read_option(asked, option, behind) {
             Step::More(more, left) => {
                 asked = Asked {
@@ -42,17 +53,50 @@ pub fn judge_run(words: &[Text]) -> Judged<'_>
     Judged::Wrong(None)
 }
 
+// Whether this option may not stand: class files that are there aren't written.
+fn is_barred(input: Input, option: Named) -> bool
+    ensures { result ≡ is_barred input option }
+{
+    match input {
+        Input::Sources => false,
+        Input::Classes => match option {
+            Named::Out => true,
+            _ => false,
+        },
+    }
+}
+
 // The same of the words behind the options, which are the files of the run.
-fn judge_runnable<'a>(asked: Asked<'a>, files: &'a [Text]) -> Judged<'a>
+fn judge_runnable<'a>(input: Input, asked: Asked<'a>, files: &'a [Text]) -> Judged<'a>
     requires some { 0 < length files.now }
     requires plain { IsPlain files.now }
-    ensures { IsRunnable (asked_of asked.entry) files.now result }
+    ensures { IsRunnable input (asked_of asked.entry) files.now result }
 {
     if !is_whole(&asked) {
         return Judged::Wrong(files.first());
     }
-    if let Some(word) = other_source(files) {
+    if let Some(word) = other_input(input, files) {
         return Judged::Wrong(Some(word));
     }
-    Judged::Known(Command::Run { asked, files })
+    Judged::Known(command(input, asked, files))
+}
+
+// The first word that is no name of a file that may be run.
+fn other_input(input: Input, files: &[Text]) -> Option<&Text>
+    ensures { IsFirstOther (IsFor input) files.now (option_map (λ w. w.now) result) }
+{
+    match input {
+        Input::Sources => other_source(files),
+        Input::Classes => other_file(files, b".class"),
+    }
+}
+
+// The command that runs these files.
+fn command<'a>(input: Input, asked: Asked<'a>, files: &'a [Text]) -> Command<'a>
+    ensures { command_of result ≡ made input (asked_of asked.entry) files.now }
+{
+    match input {
+        Input::Sources => Command::Run { asked, files },
+        Input::Classes => Command::Exec { asked, files },
+    }
 }

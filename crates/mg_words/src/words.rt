@@ -7,7 +7,7 @@ ghost use Rattle.mg_words.specs.inner.Judging.{IsJudged, command_of};
 
 use crate::asked::Asked;
 use crate::names::{is_file, is_file_name, is_word, other_file, other_source};
-use crate::runs::judge_run;
+use crate::runs::{Input, judge_run};
 use mg_text::Text;
 
 /// A command, with the words that it is about.
@@ -36,6 +36,11 @@ pub enum Command<'a> {
         asked: Asked<'a>,
         files: &'a [Text],
     },
+    /// `exec`, what is asked for, which names no folder, and the class files.
+    Exec {
+        asked: Asked<'a>,
+        files: &'a [Text],
+    },
 }
 
 impl<'a> Command<'a> {
@@ -49,6 +54,7 @@ impl<'a> Command<'a> {
             Command::Check { files } => files,
             Command::Compile { files, .. } => files,
             Command::Run { files, .. } => files,
+            Command::Exec { files, .. } => files,
         }
     }
 }
@@ -77,7 +83,9 @@ pub fn judge(words: &[Text]) -> Judged<'_>
             } else if is_word(command, "compile") {
                 judge_compile(rest)
             } else if is_word(command, "run") {
-                judge_run(rest)
+                judge_run(Input::Sources, rest)
+            } else if is_word(command, "exec") {
+                judge_run(Input::Classes, rest)
             } else {
                 Judged::Wrong(Some(command))
             }

@@ -1,5 +1,5 @@
 -- For private clauses: a run of the class files of a core, and what is shown of it.
-use Rattle.std.specs.Prelude.{◌≡◌, ◌<◌, ℕ, List, [], length, map, Bool, Some, slice_get, Contains, if◌then◌else◌}
+use Rattle.std.specs.Prelude.{ℕ, List, [], map, Bool, if◌then◌else◌}
 use Rattle.mg_text.specs.Call.{Name}
 use Rattle.jv_core.specs.Tree as Core
 use Rattle.mg_compile.specs.declared.files.ClassFile.{ClassFile}
@@ -16,11 +16,6 @@ use Rattle.mg_runs.specs.View.{Shows}
 -- what is told of these events, where that is asked for
 abbrev pub told : Core.Program → (names : List Name) → List RoleEvent → (traced : Bool) → List ℕ
 told core names events traced = if traced then trace core names events else []
-
--- the order names roles of the run, and each of them
-pub record IsOrder (order : List ℕ) (mains : List RoleMain) : Type 0 where
-  pub numbers : (i : ℕ) (r : ℕ) → slice_get order i ≡ Some r → r < length mains
-  pub named : (r : ℕ) → r < length mains → Contains order r
 
 -- a run of these class files, and what is shown of it
 pub record IsRunOf (core : Core.Program) (written : List ClassFile) (mains : List RoleMain) (order : List ℕ) (limit : ℕ) (named traced : Bool) (ran : Ran) :

@@ -84,12 +84,13 @@ pub record IsReported (core : Core.Program) (actions : List Action) (status : St
   pub done : status ≡ statuses.Done
   pub report : IsReport core text
 
--- what was read of the files, or which of them is the first that can't be read
-abbrev pub AreContents : List Word → Outside → Result (Row (List ℕ)) Unread → Outside → Type 0
-AreContents names before (Ok contents) after = AreRead before.files names contents.items × (after ≡ before)
-AreContents names before (Err (unread.Failed name)) after =
-    (front rest : List Word) × (contents : List (List ℕ)) × (names ≡ front ++ name.now ∷ rest) × AreRead before.files front contents × (after ≡ after_read before name.now)
-AreContents names before (Err unread.Memory) after = after ≡ before
+-- what was read of the files, of each at most so many bytes, or which of them is the first that can't be read
+abbrev pub AreContents : (limit : ℕ) → List Word → Outside → Result (Row (List ℕ)) Unread → Outside → Type 0
+AreContents limit names before (Ok contents) after = AreRead limit before.files names contents.items × (after ≡ before)
+AreContents limit names before (Err (unread.Failed name)) after =
+    (front rest : List Word) × (contents : List (List ℕ)) × (names ≡ front ++ name.now ∷ rest) × AreRead limit before.files front contents
+    × (after ≡ after_read before name.now)
+AreContents limit names before (Err unread.Memory) after = after ≡ before
 
 -- nothing was done, but a read may have failed
 abbrev pub IsLeft : List Word → Outside → Outside → Type 0

@@ -3,9 +3,12 @@ use Rattle.std.specs.Prelude.{◌≡◌, ℕ, List, String, Option, Some, None, 
 use Rattle.std.specs.HashMap.{HashMap, get_by_text}
 use Rattle.mg_text.specs.Call.{Name}
 use Rattle.jv_core.specs.declared.program.CoreType.{CoreType}
+use Rattle.jv_core.specs.Core.{tree_of}
 use Rattle.jv_core.specs.Tree.{Class, Program}
+use Rattle.mg_trace.specs.declared.results.Answers.{Answers}
+use Rattle.mg_trace.specs.declared.results.Answers.TheVariants as answers
 use Rattle.mg_trace.specs.declared.results.Results.{Results}
-use Rattle.mg_trace.specs.Trace.{methods_of, result_in, class_in}
+use Rattle.mg_trace.specs.Trace.{Telling, ByTypes, AsNumbers, methods_of, result_in, class_in}
 
 -- a table has of each name the result of the first of these methods that has it
 abbrev pub AreMethods : {A S : Type 0} → Program → (methods : List ℕ) → HashMap (String A) CoreType S → Type 0
@@ -27,3 +30,13 @@ AreResults p r = AreClasses p p.classes r.by_class
 -- what is found in such tables
 abbrev pub result_by : Results → (class method : Name) → Option CoreType
 result_by r class method = option_and_then (λ own. get_by_text own method) (get_by_text r.by_class class)
+
+-- how these answers are told
+abbrev pub telling_of : Answers → Telling
+telling_of (answers.ByTypes core results) = ByTypes (tree_of core.now)
+telling_of answers.AsNumbers = AsNumbers
+
+-- where by types, the results are those of the program
+abbrev pub AreTold : Answers → Type 0
+AreTold (answers.ByTypes core results) = AreResults (tree_of core.now) results.now
+AreTold answers.AsNumbers = Unit {0}

@@ -1,17 +1,19 @@
 -- What judging the words may answer.
 use Rattle.std.specs.Borrow.{Bor}
 use Rattle.std.specs.Fmt.{decimal}
-use Rattle.std.specs.Prelude.{◌≡◌, ◌≢◌, ◌≤◌, ℕ, List, [], ◌∷◌, ◌++◌, All, Contains, map, flat_map, filter, filter_map, Bool, true, false, ◌&&◌, not, ◌==◌, Option, Some, None, IfSome, is_some, option_map, option_to_list, codes, if◌then◌else◌}
+use Rattle.std.specs.Prelude.{◌≡◌, ◌≢◌, ◌≤◌, ℕ, List, [], ◌∷◌, ◌++◌, All, Contains, map, flat_map, filter, filter_map, Bool, true, false, ◌&&◌, not, ◌==◌, Option, Some, None, IfSome, is_some, option_map, option_to_list, codes, if◌then◌else◌, ⊤}
 use Rattle.std.specs.List.{IsDistinct, list_any, list_all, slice_split, before_first, after_first}
 use Rattle.std.specs.Str.{bytes_eq}
 use Rattle.mg_words.specs.declared.asked.Asked.{Asked as Kept}
 use Rattle.mg_words.specs.declared.asked.RoleClass.{RoleClass as KeptRole}
-use Rattle.mg_words.specs.Words.{Word, RoleClass, Roles, Alone, Several, role_names, Asked, Command, Translate, Conform, Check, Compile, Run, IsCommand, AreWrong, RunOption, Main, Role, Order, Steps, Trace, Out, option_words, IsOption, class_in, role_in, order_in, steps_in, is_trace, folder_in, AreOptions}
+use Rattle.mg_words.specs.Words.{Word, RoleClass, Roles, Alone, Several, role_names, Asked, Command, Translate, Conform, Check, Compile, Run, Exec, IsFileOf, IsSourceName, IsCommand, AreWrong, RunOption, Main, Role, Order, Steps, Trace, Out, option_words, IsOption, class_in, role_in, order_in, steps_in, is_trace, folder_in, AreOptions}
 use Rattle.mg_words.specs.declared.words.Command.{Command as Found}
 use Rattle.mg_words.specs.declared.words.Command.TheVariants as found
 use Rattle.mg_words.specs.declared.words.Judged.{Judged}
 use Rattle.mg_words.specs.declared.words.Judged.TheVariants as judged
 use Rattle.mg_words.specs.declared.roles.RoleWord.{RoleWord}
+use Rattle.mg_words.specs.declared.runs.Input.{Input}
+use Rattle.mg_words.specs.declared.runs.Input.TheVariants as input
 use Rattle.mg_words.specs.declared.options.Named.{Named}
 use Rattle.mg_words.specs.declared.options.Named.TheVariants as named
 use Rattle.mg_words.specs.declared.options.Step.{Step}
@@ -82,6 +84,29 @@ command_of (found.Conform files) = Conform files.now
 command_of (found.Check files) = Check files.now
 command_of (found.Compile folder files) = Compile (option_map (λ w. w.now) folder) files.now
 command_of (found.Run asked files) = Run (asked_of asked) files.now
+command_of (found.Exec asked files) = Exec (asked_of asked) files.now
+
+-- the command that runs this, with what is asked for
+abbrev pub made : Input → Asked → (files : List Word) → Command
+made input.Sources asked files = Run asked files
+made input.Classes asked files = Exec asked files
+
+abbrev pub verb_of : Input → Word
+verb_of input.Sources = codes "run"
+verb_of input.Classes = codes "exec"
+
+-- the name of a file that it may have
+abbrev pub IsFor : Input → Word → Type 0
+IsFor input.Sources word = IsSourceName word
+IsFor input.Classes word = IsFileOf (codes ".class") word
+
+abbrev pub AreFor : Input → List Word → Type 0
+AreFor k files = (files ≢ []) × All (IsFor k) files
+
+-- no folder is named for class files that are there
+abbrev pub Keeps : Input → (folder : Option Word) → Type 0
+Keeps input.Sources folder = ⊤
+Keeps input.Classes folder = folder ≡ None
 
 -- some words are this command
 abbrev pub IsKnown : Command → Type 0
@@ -161,6 +186,11 @@ kind_of (Out folder) = named.Out
 abbrev pub IsNamed : Word → Option Named → Type 0
 IsNamed word (Some option) = word ≡ word_of option
 IsNamed word None = (option : Named) → word ≡ word_of option → ⊥
+
+-- the option that may not stand where this is run
+abbrev pub is_barred : Input → Named → Bool
+is_barred input.Classes named.Out = true
+is_barred k option = false
 
 -- no option stands first
 abbrev pub IsPlain : List Word → Type 0
@@ -274,6 +304,6 @@ IsStep given option words (step.Stuck (Some value)) =
 IsStep given option words step.Barred = can_follow (asked_of given) option ≡ false
 
 -- what the words are, where these files stand behind options that ask for this
-abbrev pub IsRunnable : Asked → List Word → Judged → Type 0
-IsRunnable asked files result =
-    (options : List RunOption) → AreGiven options asked → IsJudged (codes "run" ∷ (flat_map option_words options ++ files)) result
+abbrev pub IsRunnable : Input → Asked → List Word → Judged → Type 0
+IsRunnable k asked files result =
+    (options : List RunOption) → AreGiven options asked → Keeps k asked.folder → IsJudged (verb_of k ∷ (flat_map option_words options ++ files)) result

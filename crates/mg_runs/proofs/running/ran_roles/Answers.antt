@@ -41,5 +41,5 @@ pub returns : goal.returns
 returns c =
     let files = sources c.args.names.now c.args.contents.now in
     shown files c.args.mains.now c.args.order.now c.args.limit c.args.named c.args.traced c.roles_are_meant.ensures c.roles_keep.ensures
-    c.protocols_agree.ensures (tree_of c.in_ok-program.program.core) c.in_ok-files.files.items c.in_ok-ran.ran
+    c.roles_play.ensures c.protocols_agree.ensures (tree_of c.in_ok-program.program.core) c.in_ok-files.files.items c.in_ok-ran.ran
     c.in_ok-program.ensures.answered.files_are c.in-None.ensures c.in_ok-files.ensures c.in_ok-ran.ensures

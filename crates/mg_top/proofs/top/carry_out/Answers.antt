@@ -2,6 +2,7 @@ use Rattle.std.proofs.Common.{option_map, subst}
 use Rattle.mg_words.specs.declared.words.Command.{Command}
 use Rattle.mg_words.specs.Words.{IsCommand}
 use Rattle.mg_words.specs.inner.Judging.{command_of, asked_of}
+use Rattle.mg_words.proofs.LawLemmas.{asked_of_run, asked_of_exec}
 use Rattle.mg_words.proofs.WordsLemmas.{kinds_of, kinds_of_classes, kinds_of_run, protocols_of, protocol_of_two}
 use Rattle.mg_top.proofs.top.carry_out.Goals as goal
 
@@ -31,3 +32,14 @@ pub run-requires-clause-kinds : goal.run-requires-clause-kinds
 run-requires-clause-kinds c =
     let known = c.requires.known in
     kinds_of_run known.0 (asked_of c.in-Run.asked) c.in-Run.files.now (subst (λ (z : Command). IsCommand (command_of z) known.0) c.in-Run.is known.1)
+
+pub run-requires-clause-asked : goal.run-requires-clause-asked
+run-requires-clause-asked c =
+    let known = c.requires.known in
+    asked_of_run known.0 (asked_of c.in-Run.asked) c.in-Run.files.now (subst (λ (z : Command). IsCommand (command_of z) known.0) c.in-Run.is known.1)
+
+pub exec-requires-clause-asked : goal.exec-requires-clause-asked
+exec-requires-clause-asked c =
+    let known = c.requires.known in
+    asked_of_exec known.0 (asked_of c.in-Exec.asked) c.in-Exec.files.now
+    (subst (λ (z : Command). IsCommand (command_of z) known.0) c.in-Exec.is known.1)

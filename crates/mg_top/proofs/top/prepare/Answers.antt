@@ -16,7 +16,7 @@ returns-in-Wrong g c = λ o e.
 pub carry_out-requires-clause-same : goal.carry_out-requires-clause-same
 carry_out-requires-clause-same g c =
     let read = c.in-Ok.ensures (stream None 0) (stream None 0) in
-    ap length (sym c.files.ensures) ∙ same_length _ c.files.result.now c.in-Ok.contents.items read.0 ∙ ap length (sym c.as_slice.ensures.items)
+    ap length (sym c.files.ensures) ∙ same_length _ _ c.files.result.now c.in-Ok.contents.items read.0 ∙ ap length (sym c.as_slice.ensures.items)
 
 pub returns-in_err-line-in-Err-Failed : goal.returns-in_err-line-in-Err-Failed
 returns-in_err-line-in-Err-Failed g c = λ o e.

@@ -1,0 +1,4 @@
+pub mod Saying
+pub mod FilesRead
+pub mod Shown
+pub mod Apart

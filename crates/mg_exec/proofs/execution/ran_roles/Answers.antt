@@ -1,0 +1,35 @@
+use Rattle.std.proofs.Common.{rules}
+use Rattle.std.proofs.lemmas.Result.{err_from_is_err_and}
+use Rattle.vm_world_law.proofs.Lists.{got_within}
+use Rattle.vm_model.specs.View.{classes_of}
+use Rattle.mg_sources.specs.Files.{sources}
+use Rattle.mg_exec.proofs.Shown.{run_none, run_no_main, run_shown}
+use Rattle.mg_exec.proofs.execution.ran_roles.Goals as goal
+
+pub returns-in_err-linked : goal.returns-in_err-linked
+returns-in_err-linked c =
+    let e = err_from_is_err_and c.from_residual.result c.from_residual.ensures.1 in
+    rw (e.1, e.2)
+    (run_none (sources c.args.names.now c.args.contents.now) c.args.mains.now c.args.order.now c.args.limit c.args.named c.args.traced _
+    c.in_err-linked.ensures)
+
+pub bounds-mains-number : goal.bounds-mains-number
+bounds-mains-number c = got_within c.args.mains.now c.in-Some.number c.in-Some.ensures.main c.in-Some.ensures.is
+
+pub offset_bounds-mains-number : goal.offset_bounds-mains-number
+offset_bounds-mains-number c = let within = bounds-mains-number c in search rules
+
+pub returns-in-Some : goal.returns-in-Some
+returns-in-Some c =
+    run_no_main (sources c.args.names.now c.args.contents.now) c.args.mains.now c.args.order.now c.args.limit c.args.named c.args.traced
+    (classes_of c.in_ok-linked.linked.classes.items) c.in-Some.number _ c.no_main.result c.in_ok-linked.ensures c.in-Some.ensures c.no_main.ensures
+
+pub returns-in_err-ran : goal.returns-in_err-ran
+returns-in_err-ran c =
+    let e = err_from_is_err_and c.from_residual-in_err-ran.result c.from_residual-in_err-ran.ensures.1 in
+    rw (e.1, e.2) tt
+
+pub returns : goal.returns
+returns c =
+    run_shown (sources c.args.names.now c.args.contents.now) c.args.mains.now c.args.order.now c.args.limit c.args.named c.args.traced
+    (classes_of c.in_ok-linked.linked.classes.items) c.in_ok-ran.ran c.in_ok-linked.ensures c.in-None.ensures c.in_ok-ran.ensures

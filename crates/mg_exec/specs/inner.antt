@@ -1,0 +1,4 @@
+pub mod Saying
+pub mod Reading
+pub mod Mains
+pub mod Going

@@ -1,0 +1,93 @@
+//! From the two files of a command to what is told of their typestates.
+
+ghost use Rattle.std.specs.Prelude.{◌≡◌, [], ◌∷◌, ℕ, Bool, All, Some, List as Seq, IfOk, OnOk, codes, length, map, slice_get};
+ghost use Rattle.ts_tree.specs.Typestate.{Typestate as States};
+ghost use Rattle.mg_sources.specs.Files.{EndsWith, sources};
+ghost use Rattle.mg_sources.specs.Reading.{States as ReadStates};
+ghost use Rattle.mg_sources.specs.Parts.{part_of};
+ghost use Rattle.mg_refined.specs.Refined.{Tells, AreJudged, Refusal};
+ghost use Rattle.mg_refined.specs.View.{IsAnswer, IsThat};
+
+use crate::telling::{no_text, yes_text};
+use mg_sources::{Part, Stop, read_parts};
+use mg_text::{Bytes, Memory, Text};
+use std::alloc::Global;
+use ts_refine::Verdict;
+use ts_tree::Typestate;
+
+/// What is told of two typestates: lines of text, and whether the first stands for the second.
+#[derive(Debug, Drop)]
+pub struct Told {
+    pub text: Text,
+    pub stands: bool,
+}
+
+/// What is told of the typestates that these two files are, in their order.
+///
+/// # Errors
+/// `Refused` with the line of the first file that its reader refuses; `Memory` where memory is
+/// wanted.
+pub fn refine(alloc: Global, names: &[Text], contents: &[Bytes]) -> Result<Told, Stop>
+    requires two { length names.now ≡ 2 }
+    requires same { length contents.now ≡ 2 }
+    requires kinds { All (EndsWith (codes ".protocol")) names.now }
+    // What is answered is told of the typestates that the files are, or is the line of their first refusal.
+    ensures answered { IsAnswer (sources names.now contents.now) result }
+    // Files of which this is to be told are answered by it, unless memory runs out.
+    ensures only { (text : Seq ℕ) (stands : Bool) → AreJudged (sources names.now contents.now) text stands → IsThat text stands result }
+    // Of files that are refused nothing is told.
+    ensures refused { (line : Seq ℕ) → Refusal (sources names.now contents.now) line → OnOk result ⊥ }
+{
+    refined(alloc, names, contents)
+}
+
+// The same, without what follows from its being one answer.
+fn refined(alloc: Global, names: &[Text], contents: &[Bytes]) -> Result<Told, Stop>
+    requires two { length names.now ≡ 2 }
+    requires same { length contents.now ≡ 2 }
+    requires kinds { All (EndsWith (codes ".protocol")) names.now }
+    ensures { IsAnswer (sources names.now contents.now) result }
+{
+    match read_parts(alloc, names, contents) {
+        Ok(parts) => {
+            let told = judged(alloc, parts.as_slice())?;
+            Ok(told)
+        }
+        Err(stop) => Err(stop),
+    }
+}
+
+// What is told of two parts that are typestates.
+fn judged(alloc: Global, parts: &[Part]) -> Result<Told, Memory>
+    requires { (a b : States) × (map part_of parts.now ≡ ReadStates a ∷ ReadStates b ∷ []) }
+    ensures { IfOk result (λ t. (a b : States) → map part_of parts.now ≡ ReadStates a ∷ ReadStates b ∷ [] → Tells a b t.text t.stands) }
+{
+    tell(alloc, typestate_at(parts, 0), typestate_at(parts, 1))
+}
+
+// The typestate that stands there.
+fn typestate_at(parts: &[Part], i: usize) -> &Typestate
+    requires { (t : States) × (slice_get (map part_of parts.now) i ≡ Some (ReadStates t)) }
+    ensures { slice_get (map part_of parts.now) i ≡ Some (ReadStates result.now) }
+{
+    match &parts[i] {
+        Part::States(typestate) => typestate,
+        _ => unreachable!(),
+    }
+}
+
+// What is told of two typestates.
+fn tell(alloc: Global, a: &Typestate, b: &Typestate) -> Result<Told, Memory>
+    ensures { IfOk result (λ t. Tells a.now b.now t.text t.stands) }
+{
+    match ts_refine::refine(alloc, a, b)? {
+        Verdict::Yes(pairs) => Ok(Told {
+            text: yes_text(alloc, pairs.len())?,
+            stands: true,
+        }),
+        Verdict::No { calls, reason } => Ok(Told {
+            text: no_text(alloc, calls.as_slice(), &reason)?,
+            stands: false,
+        }),
+    }
+}
