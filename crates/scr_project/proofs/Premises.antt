@@ -6,7 +6,7 @@ use Rattle.mg_text.specs.Call.{Name}
 use Rattle.mg_read.specs.First.{Clean}
 use Rattle.scr_tree.specs.Conditions.{UnknownRole, PeerIsSelf, UnknownRec, DuplicateRec}
 use Rattle.scr_tree.specs.Spots.{spots}
-use Rattle.scr_tree.specs.Tree.{Statements}
+use Rattle.scr_tree.specs.Tree.{LocalTree, Statements}
 use Rattle.scr_tree.specs.Valid.{AreDistinct, IsWritten}
 use Rattle.scr_global.specs.Texts.{projected}
 use Rattle.scr_global.proofs.Valid.{clean_is_valid}
@@ -56,3 +56,7 @@ module _ (g : GlobalTree) (me : Name) (s : Statements) (e : projected me g.body 
       differ = ∥∥₁_elim valid (clean_once DuplicateRec (spots [] s)) (λ v. (body_clean v).differ);
     };
   }
+
+-- parts that are those of the projection make it
+pub same_parts : (g : GlobalTree) (me : Name) (s : Statements) (t : LocalTree) → t.file ≡ g.file → t.name ≡ g.name → t.me ≡ me → t.roles ≡ g.roles → t.body ≡ s → t ≡ projection_of g me s
+same_parts g me s t file name role roles body = λ i. record { file = file i; name = name i; me = role i; roles = roles i; body = body i }
