@@ -11,3 +11,4 @@ pub mod Early
 pub mod Premises
 pub mod Answered
 pub mod Promises
+pub mod Made

@@ -1,11 +1,12 @@
 //! The local protocol of one role of a global protocol.
 
-ghost use Rattle.std.specs.Prelude.{◌≡◌, Some, IfOk, Contains};
+ghost use Rattle.std.specs.Prelude.{◌≡◌, Some, None, Err, IfOk, Contains};
 ghost use Rattle.std.specs.Option.{is_none};
 ghost use Rattle.scr_tree.specs.View.{statements};
 ghost use Rattle.scr_global.specs.Texts.{projected};
 ghost use Rattle.scr_global_tree.specs.Global.{tree_of};
 ghost use Rattle.scr_read.specs.Outcome.{fault_answer};
+ghost use Rattle.scr_project.specs.declared.fault.ProjectFault.TheVariants as faults;
 ghost use Rattle.scr_project.specs.Outcome.{Answer, Outcome, answer_of, IsAnswered};
 ghost use Rattle.scr_project.specs.inner.Stages.{Stage, IsUnprojected};
 
@@ -122,6 +123,8 @@ pub fn project(alloc: Global, global: &GlobalProtocol, role: &str) -> Result<Loc
     ensures answered { (a : Answer) → answer_of result ≡ Some a → Outcome (tree_of global.now) role.now a }
     // What projecting gives is answered, unless memory runs out.
     ensures only { (a : Answer) → Outcome (tree_of global.now) role.now a → IsAnswered a result }
+    // Nothing is answered only where memory ran out.
+    ensures nothing { answer_of result ≡ None → result ≡ Err faults.Memory }
 {
     project_of(alloc, global, role)
 }
