@@ -16,22 +16,22 @@ use Rattle.scr_tree.specs.Tree.{LocalTree, Statements, Nothing, Says, Choice, Re
 use Rattle.scr_tree.specs.Valid.{AreDistinct, AreWritten, AreWrittenIn, IsWritten, depth}
 use Rattle.scr_tree.specs.Written.{WrittenTree, role_name}
 use Rattle.scr_read.specs.Parts.{listed, parts}
-use Rattle.scr_read.proofs.Moved.{names_again}
+use Rattle.scr_read.proofs.Moved.{meant}
 use Rattle.scr_global.proofs.Names.{first_or_later, none_contained, first_in, later_in}
 use Rattle.scr_project.specs.Outcome.{open_conditions, IsOpenFault}
 use Rattle.scr_project.proofs.Kept.{Keeps, KeepEach}
 
-clean_append : {X C : Type 0} {At : X → C → Type 0} (xs ys : List X) → Clean At xs → Clean At ys → Clean At (xs ++ ys)
-clean_append [] ys h k = k
-clean_append (x ∷ xs) ys h k = (h.0, clean_append xs ys h.1 k)
+clean_append : {X C : Type 0} (At : X → C → Type 0) (xs ys : List X) → Clean At xs → Clean At ys → Clean At (xs ++ ys)
+clean_append At [] ys h k = k
+clean_append At (x ∷ xs) ys h k = (h.0, clean_append At xs ys h.1 k)
 
 -- ---- the statements
 
-record AreOnWay (names : List Name) (way : Way) : Type 0 where
+pub record AreOnWay (names : List Name) (way : Way) : Type 0 where
   pub names_of : (name : Name) → Contains way (Opens name) → Contains names name
   pub opens_of : (name : Name) → Contains names name → Contains way (Opens name)
 
-none_on_way : AreOnWay [] []
+pub none_on_way : AreOnWay [] []
 none_on_way = record { names_of = λ name c. absurd (none_contained (Opens name) c); opens_of = λ name c. absurd (none_contained name c) }
 
 module _ {names : List Name} {way : Way} (a : AreOnWay names way) where
@@ -65,10 +65,10 @@ module _ (roles : List Name) (me : Name) where
 
   with_more : (xs ys : List Spot) → AllClean xs → AllClean ys → AllClean (xs ++ ys)
   with_more xs ys h k = record {
-    listed = clean_append xs ys h.listed k.listed;
-    apart = clean_append xs ys h.apart k.apart;
-    known = clean_append xs ys h.known k.known;
-    differ = clean_append xs ys h.differ k.differ;
+    listed = clean_append (UnknownRole roles) xs ys h.listed k.listed;
+    apart = clean_append (PeerIsSelf me) xs ys h.apart k.apart;
+    known = clean_append UnknownRec xs ys h.known k.known;
+    differ = clean_append DuplicateRec xs ys h.differ k.differ;
   }
 
   with_one : (s : Spot) (xs : List Spot) → ((c : Culprit) → UnknownRole roles s c → ⊥) → ((c : Culprit) → PeerIsSelf me s c → ⊥) → ((c : Culprit) → UnknownRec s c → ⊥) →
@@ -107,6 +107,10 @@ module _ (roles : List Name) (me : Name) where
 
 -- ---- roles that differ
 
+in_push : (xs : List Entry) (y x : Entry) → Contains (xs ++ y ∷ []) x → Contains xs x ⊎ (y ≡ x)
+in_push [] y x c = ⊎_elim (λ e. inr e) (λ k. absurd (none_contained x k)) (first_or_later y [] x c)
+in_push (z ∷ xs) y x c = ⊎_elim (λ e. inl (first_in z xs x e)) (λ k. ⊎_elim (λ l. inl (later_in z xs x l)) (λ e. inr e) (in_push xs y x k)) (first_or_later z (xs ++ y ∷ []) x c)
+
 module _ (file : ℕ) where
   twice : (seen : List Entry) (before : List Name) (names : List Name) → ((r : Role) → Contains seen (lists r) → Contains before r.name) → ((name : Name) → Contains names name → Contains before name → ⊥) →
       AreDistinct names → Clean DuplicateName (behind seen (map lists (map (listed file) names)))
@@ -120,10 +124,6 @@ module _ (file : ℕ) where
       grown : (r : Role) → Contains (seen ++ lists (listed file name) ∷ []) (lists r) → Contains (name ∷ before) r.name
       grown r c = ⊎_elim (λ k. later_in name before r.name (from r k)) (λ (e : lists (listed file name) ≡ lists r). let f : listed file name ≡ r = cc e in first_in name before r.name (ap (λ (q : Role). q.name) f))
           (in_push seen (lists (listed file name)) (lists r) c)
-
-      in_push : (xs : List Entry) (y x : Entry) → Contains (xs ++ y ∷ []) x → Contains xs x ⊎ (y ≡ x)
-      in_push [] y x c = ⊎_elim (λ e. inr e) (λ k. absurd (none_contained x k)) (first_or_later y [] x c)
-      in_push (z ∷ xs) y x c = ⊎_elim (λ e. inl (first_in z xs x e)) (λ k. ⊎_elim (λ l. inl (later_in z xs x l)) (λ e. inr e) (in_push xs y x k)) (first_or_later z (xs ++ y ∷ []) x c)
 
 pub roles_clean : (file : ℕ) (names : List Name) → AreDistinct names → Clean DuplicateName (with_earlier (map lists (map (listed file) names)))
 roles_clean file names d = twice file [] [] names (λ r c. absurd (none_contained (lists r) c)) (λ name c k. none_contained name k) d
@@ -157,7 +157,7 @@ module _ (t : LocalTree) (h : AreEarlyClean t) where
 
   mentioned : Clean (UnknownMention (map role_name (map (listed t.file) t.roles))) (mentions (parts t))
   mentioned =
-      subst (λ (roles : List Name). Clean (UnknownMention roles) (mentions (parts t))) (sym (names_again t.file t.roles))
+      subst (λ (roles : List Name). Clean (UnknownMention roles) (mentions (parts t))) (sym (ap (λ (u : LocalTree). u.roles) (meant t)))
       ((λ c x. x.1 h.me_listed), mentions_clean t.roles (spots [] t.body) h.body.listed)
 
   -- what all conditions answer is what those answer that are asked

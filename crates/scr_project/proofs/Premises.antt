@@ -17,11 +17,11 @@ use Rattle.scr_project.proofs.Sound as sound
 use Rattle.scr_project.proofs.Kept.{Keeps, keeps, no_deeper}
 use Rattle.scr_project.proofs.Early.{AllClean, all_clean, are_written, none_on_way, AreEarlyClean}
 
-clean_once : {X C : Type 0} (At : X → C → Type 0) (xs : List X) (a b : Clean At xs) → a ≡ b
+pub clean_once : {X C : Type 0} (At : X → C → Type 0) (xs : List X) (a b : Clean At xs) → a ≡ b
 clean_once At [] a b = refl
 clean_once At (x ∷ xs) a b = λ i. ((λ c h. let p : a.0 c h ≡ b.0 c h = absurd (a.0 c h) in p i), clean_once At xs a.1 b.1 i)
 
-differ_once : (names : List Name) (a b : AreDistinct names) → a ≡ b
+pub differ_once : (names : List Name) (a b : AreDistinct names) → a ≡ b
 differ_once [] a b = refl
 differ_once (name ∷ names) a b = λ i. ((λ h. let p : a.0 h ≡ b.0 h = absurd (a.0 h) in p i), differ_once names a.1 b.1 i)
 

@@ -7,10 +7,10 @@ mod laws;
 mod merge;
 mod names;
 mod part;
-mod project;
+mod projection;
 mod same;
 mod walk;
 
 pub use fault::ProjectFault;
 pub use laws::{none_is_stuck, runs_are_followed};
-pub use project::project;
+pub use projection::project;

@@ -1,7 +1,6 @@
-use Rattle.std.proofs.Common.{◌≡◌, Bool, Some, None, if◌then◌else◌, Option, List, option_map, refl, sym, ap, ◌∙◌}
+use Rattle.std.proofs.Common.{Bool, Some, None, if◌then◌else◌, List, option_map, refl, sym, ap, ◌∙◌}
 use Rattle.mg_text.specs.Call.{Name}
 use Rattle.scr_tree.specs.View.{statements}
-use Rattle.scr_tree.specs.declared.syntax.Message.{Message}
 use Rattle.scr_tree.specs.declared.syntax.Statement.{Statement}
 use Rattle.scr_project.specs.inner.Merge.{first_taken}
 use Rattle.scr_project.proofs.Merging.{peer_told}

@@ -1,4 +1,4 @@
-use Rattle.std.proofs.Common.{◌≡◌, Some, sym, ap, ◌∙◌}
+use Rattle.std.proofs.Common.{Some, sym, ap, ◌∙◌}
 use Rattle.scr_tree.specs.Tree.{Statements, NoBranch, Branch}
 use Rattle.scr_tree.specs.View.{bodies}
 use Rattle.scr_global.specs.Projecting.{both, mapped}

@@ -1,4 +1,4 @@
-use Rattle.std.proofs.Common.{◌≡◌, List, sym, ap, ◌∙◌, arith}
+use Rattle.std.proofs.Common.{List, sym, ap, ◌∙◌, arith}
 use Rattle.scr_global_tree.specs.View.{statements}
 use Rattle.scr_global_tree.specs.declared.statement.GStatement.{GStatement}
 use Rattle.scr_project.specs.inner.Walk.{found}

@@ -1,6 +1,6 @@
 use Rattle.scr_global_tree.specs.Global.{tree_of}
 use Rattle.scr_project.proofs.Answered.{only_of}
-use Rattle.scr_project.proofs.project.project.Goals as goal
+use Rattle.scr_project.proofs.projection.project.Goals as goal
 
 pub returns-clause-answered : goal.returns-clause-answered
 returns-clause-answered c = c.project_of.ensures.right

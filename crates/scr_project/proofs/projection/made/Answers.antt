@@ -1,7 +1,7 @@
-use Rattle.std.proofs.Common.{refl}
+use Rattle.std.proofs.Common.{refl, rules}
 use Rattle.scr_tree.specs.View.{statements, written}
 use Rattle.scr_project.proofs.Made.{parts_written, made_of_parts, unmade_of_parts}
-use Rattle.scr_project.proofs.project.made.Goals as goal
+use Rattle.scr_project.proofs.projection.made.Goals as goal
 
 pub local_of-requires : goal.local_of-requires
 local_of-requires c =
