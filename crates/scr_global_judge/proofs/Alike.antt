@@ -80,22 +80,22 @@ quietly_to : {way : Way} {other : local_spots.Way} (name : Name) → Like way ot
 quietly_to name start q = absurd (quietly_start _ q refl)
 quietly_to name (past {way = way} s t f p l) q =
     let h = quietly_past _ q s way refl in control.past (subst IsTrue p h.0) (quietly_to name l h.1)
-quietly_to name (opens {way = way} {other = other} found l) q = go (bytes_eq found name) (bytes_eq-Decides found name)
+quietly_to name (opens {way = way} {other = other} found l) q = go (bytes_eq found name) (bytes_eq-Decides found name) (quietly_to name l)
   where
-    go : (b : Bool) → Decides b (found ≡ name) → control.Quietly name (local_spots.Opens found ∷ other)
-    go true d = subst (λ z. control.Quietly name (local_spots.Opens z ∷ other)) (sym (d.0 refl)) control.opened
-    go false d = control.opening (quietly_to name l (quietly_opened _ q found way refl (λ e. true≢false (sym (d.1 e)))))
+    go : (b : Bool) → Decides b (found ≡ name) → (Quietly name way → control.Quietly name other) → control.Quietly name (local_spots.Opens found ∷ other)
+    go true d inner = subst (λ z. control.Quietly name (local_spots.Opens z ∷ other)) (sym (d.0 refl)) control.opened
+    go false d inner = control.opening (inner (quietly_opened _ q found way refl (λ e. true≢false (sym (d.1 e)))))
 quietly_to name (enters {way = way} at earlier before e l) q = control.entering (quietly_to name l (quietly_in _ q at earlier way refl))
 
 quietly_from : {way : Way} {other : local_spots.Way} (name : Name) → Like way other → control.Quietly name other → Quietly name way
 quietly_from name start q = absurd (local_start _ q refl)
 quietly_from name (past {other = other} s t f p l) q =
     let h = quiet.quietly_past _ q t other refl in global_spots.past (subst IsTrue (sym p) h.0) (quietly_from name l h.1)
-quietly_from name (opens {way = way} {other = other} found l) q = go (bytes_eq found name) (bytes_eq-Decides found name)
+quietly_from name (opens {way = way} {other = other} found l) q = go (bytes_eq found name) (bytes_eq-Decides found name) (quietly_from name l)
   where
-    go : (b : Bool) → Decides b (found ≡ name) → Quietly name (Opens found ∷ way)
-    go true d = subst (λ z. Quietly name (Opens z ∷ way)) (sym (d.0 refl)) opened
-    go false d = opening (quietly_from name l (quiet.quietly_opened _ q found other refl (λ e. true≢false (sym (d.1 e)))))
+    go : (b : Bool) → Decides b (found ≡ name) → (control.Quietly name other → Quietly name way) → Quietly name (Opens found ∷ way)
+    go true d inner = subst (λ z. Quietly name (Opens z ∷ way)) (sym (d.0 refl)) opened
+    go false d inner = opening (inner (quiet.quietly_opened _ q found other refl (λ e. true≢false (sym (d.1 e)))))
 quietly_from name (enters {other = other} at earlier before e l) q = entering (quietly_from name l (quiet.quietly_in _ q [] before other refl))
 
 -- ---- the conditions

@@ -56,7 +56,8 @@ pub fn first_fault(
         GlobalCondition::MixedChoice,
         GlobalCondition::SameLabel,
     ];
-    first_of(alloc, conditions.as_slice(), file, written, &me, outline.as_slice())
+    let order = conditions.as_slice();
+    first_of(alloc, order, file, written, &me, outline.as_slice())
 }
 
 // The first culprit of the first of some conditions that has one.
