@@ -24,21 +24,18 @@ pub(crate) fn refusal(fault: Fault) -> GlobalFault
         name,
     } = fault;
     match condition {
-        GlobalGlobalCondition::DuplicateName => GlobalFault::DuplicateName { place, name },
-        GlobalGlobalCondition::UnknownRole => GlobalFault::UnknownRole { place, name },
-        GlobalGlobalCondition::PeerIsSelf => GlobalFault::PeerIsSelf { place },
-        GlobalGlobalCondition::UnknownType => GlobalFault::UnknownType { place, name },
-        GlobalGlobalCondition::PayloadCount => GlobalFault::PayloadCount { place },
-        GlobalGlobalCondition::UnknownRec => GlobalFault::UnknownRec { place, name },
-        GlobalGlobalCondition::DuplicateRec => GlobalFault::DuplicateRec { place, name },
-        GlobalGlobalCondition::Unguarded => GlobalFault::Unguarded { place, name },
-        GlobalGlobalCondition::Unreachable => GlobalFault::Unreachable { place },
-        GlobalGlobalCondition::BranchStart => GlobalFault::BranchStart { place },
-        GlobalGlobalCondition::MixedChoice => GlobalFault::MixedChoice { place },
-        GlobalGlobalCondition::SameLabel => GlobalFault::SameLabel { place, name },
-        GlobalGlobalCondition::ReservedLabel => GlobalFault::ReservedLabel { place, name },
-        GlobalGlobalCondition::NameClash => GlobalFault::NameClash { place, name },
-        GlobalGlobalCondition::TooManyStates => GlobalFault::TooManyStates { place },
+        GlobalCondition::DuplicateName => GlobalFault::DuplicateName { place, name },
+        GlobalCondition::UnknownRole => GlobalFault::UnknownRole { place, name },
+        GlobalCondition::PeerIsSelf => GlobalFault::PeerIsSelf { place },
+        GlobalCondition::UnknownType => GlobalFault::UnknownType { place, name },
+        GlobalCondition::PayloadCount => GlobalFault::PayloadCount { place },
+        GlobalCondition::UnknownRec => GlobalFault::UnknownRec { place, name },
+        GlobalCondition::DuplicateRec => GlobalFault::DuplicateRec { place, name },
+        GlobalCondition::Unguarded => GlobalFault::Unguarded { place, name },
+        GlobalCondition::Unreachable => GlobalFault::Unreachable { place },
+        GlobalCondition::BranchStart => GlobalFault::BranchStart { place },
+        GlobalCondition::MixedChoice => GlobalFault::MixedChoice { place },
+        GlobalCondition::SameLabel => GlobalFault::SameLabel { place, name },
     }
 }
 
