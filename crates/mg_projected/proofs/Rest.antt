@@ -34,11 +34,18 @@ is_refusal (project_faults.Unprojected place name fault) a e = refusals place na
 is_refusal project_faults.Memory a e = absurd (none_is_not a e)
 
 module _ (g : GlobalTree) (roles : List Name) (i : ℕ) (files : List RoleFile) (rest : Rest g roles i files) where
-  pub rest_end : length roles ≤ i → AreFiles g roles files
-  rest_end h =
+  pub rest_end : (rs : List Name) → rs ≡ roles → length rs ≤ i → AreFiles g roles files
+  rest_end rs same k =
+      let h = subst (λ (z : List Name). length z ≤ i) same k in
       subst (AreFiles g roles) (append-nil files) (rest.made [] (subst (λ (rs : List Name). AreFiles g rs []) (sym (at_drop_all (λ (rs : List Name). rs) roles i h)) refl))
 
-  module _ (role : Name) (within : i < length roles) (is : role ≡ get_or roles i role) where
+  module _ (rs : List Name) (same : rs ≡ roles) (role : Name) (inside : i < length rs) (found : role ≡ get_or rs i role) where
+    within : i < length roles
+    within = subst (λ (z : List Name). i < length z) same inside
+
+    is : role ≡ get_or roles i role
+    is = subst (λ (z : List Name). role ≡ get_or z i role) same found
+
     cut : drop i roles ≡ role ∷ drop (i + 1) roles
     cut = at_drop_more (λ (rs : List Name). rs) roles i role within ∙ ap (λ (r : Name). r ∷ drop (i + 1) roles) (sym is)
 

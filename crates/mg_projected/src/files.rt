@@ -2,7 +2,8 @@
 
 ghost use Rattle.std.specs.Prelude.{◌≡◌, ◌++◌, Some, None, IfOk, Contains, codes};
 ghost use Rattle.scr_global_tree.specs.Global.{tree_of};
-ghost use Rattle.mg_projected.specs.Projected.{Answer, Outcome, answer_of, IsAnswered};
+ghost use Rattle.scr_tree.specs.Local.{tree_of as local_of};
+ghost use Rattle.mg_projected.specs.Projected.{file_of, Answer, Outcome, answer_of, IsAnswered};
 ghost use Rattle.mg_projected.specs.inner.Stages.{FileStage, FilesStage, Stage};
 
 use crate::fault::ProjectedFault;
@@ -11,6 +12,7 @@ use scr_global_read::{GlobalFault, read_global};
 use scr_global_tree::Global as GlobalProtocol;
 use scr_print::print_local;
 use scr_project::{ProjectFault, project};
+use scr_tree::Local;
 use std::alloc::Global;
 
 /// The file of a role: its name, and its text.
@@ -30,6 +32,15 @@ fn file_name(alloc: Global, role: &Text) -> Result<Text, Memory>
     Ok(Text::from_string(name))
 }
 
+// The file of a role that does this.
+fn file_with(alloc: Global, role: &Text, local: &Local) -> Result<RoleFile, Memory>
+    ensures { IfOk result (λ f. f ≡ file_of role.now (local_of local.now)) }
+{
+    let text = print_local(alloc, local)?;
+    let name = file_name(alloc, role)?;
+    Ok(RoleFile { name, text })
+}
+
 // The file of a role.
 fn file_of(
     alloc: Global,
@@ -39,10 +50,10 @@ fn file_of(
     requires { Contains (tree_of global.now).roles role.now }
     ensures { FileStage (tree_of global.now) role.now result }
 {
-    let local = project(alloc, global, role.as_str())?;
-    let text = print_local(alloc, &local)?;
-    let name = file_name(alloc, role)?;
-    Ok(RoleFile { name, text })
+    match project(alloc, global, role.as_str()) {
+        Ok(local) => Ok(file_with(alloc, role, &local)?),
+        Err(fault) => Err(fault),
+    }
 }
 
 // The files of all roles, in their order, or why the first that has none has none.
@@ -51,8 +62,10 @@ fn files_of(alloc: Global, global: &GlobalProtocol) -> Result<List<RoleFile>, Pr
 {
     let mut files = List::new(alloc);
     for role in global.roles().as_slice() {
-        let file = file_of(alloc, global, role)?;
-        files.push(file)?;
+        match file_of(alloc, global, role) {
+            Ok(file) => files.push(file)?,
+            Err(fault) => return Err(fault),
+        }
     }
     Ok(files)
 }

@@ -1,17 +1,12 @@
-use Rattle.std.proofs.Common.{◌≡◌, Option, None, refl}
+use Rattle.std.proofs.Common.{refl, subst}
+use Rattle.mg_text.specs.Call.{Name}
+use Rattle.scr_global_tree.specs.Global.{tree_of as global_of}
 use Rattle.scr_tree.specs.Local.{tree_of}
 use Rattle.scr_project.specs.Outcome as projects
 use Rattle.mg_projected.proofs.files.file_of.Goals as goal
 
-pub returns : goal.returns
-returns c = (
-  tree_of c.in_ok-local.local,
-  c.in_ok-local.ensures.answered (projects.Protocol (tree_of c.in_ok-local.local)) refl,
-  (λ i. record { name = c.in_ok-name.ensures i; text = c.in_ok-text.ensures i }),
-)
-
-pub returns-in_err-local : goal.returns-in_err-local
-returns-in_err-local c = record {
-  right = c.in_err-local.ensures.answered;
-  answers = λ h. let e = c.in_err-local.ensures.nothing h in cc;
+pub returns-in-Err : goal.returns-in-Err
+returns-in-Err c = record {
+  right = λ a h. subst (λ (r : Name). projects.Outcome (global_of c.args.global.now) r a) c.as_str.ensures (c.in-Err.ensures.answered a h);
+  answers = λ h. let e = c.in-Err.ensures.nothing h in cc;
 }
