@@ -1,5 +1,5 @@
 -- What each step of projecting a file answers.
-use Rattle.std.proofs.Common.{◌≡◌, ◌≢◌, ℕ, List, Option, None, Some, Result, Ok, Err, refl, sym, ap, subst, ◌∙◌}
+use Rattle.std.proofs.Common.{◌≡◌, ◌≢◌, ◌⊎◌, ⊎_elim, ℕ, List, Option, None, Some, Result, Ok, Err, refl, sym, ap, subst, ◌∙◌}
 use Rattle.std.specs.Prelude.{option_map}
 use Rattle.mg_text.specs.Row.{Row}
 use Rattle.mg_read.proofs.Steps.{some_is, none_is_not}
@@ -11,9 +11,10 @@ use Rattle.scr_project.specs.declared.fault.ProjectFault.{ProjectFault}
 use Rattle.scr_project.specs.declared.fault.ProjectFault.TheVariants as project_faults
 use Rattle.scr_project.specs.Outcome as projects
 use Rattle.mg_projected.specs.declared.files.RoleFile.{RoleFile}
+use Rattle.mg_projected.specs.declared.fault.ProjectedFault.{ProjectedFault}
 use Rattle.mg_projected.specs.declared.fault.ProjectedFault.TheVariants as faults
 use Rattle.mg_projected.specs.Projected.{Answer, Files, Unread, Unprojected, Outcome, unread, unprojected, written, IsUnread, AreFiles, IsRefused}
-use Rattle.mg_projected.specs.inner.Stages.{Says, Stage}
+use Rattle.mg_projected.specs.inner.Stages.{Says, Stage, IsTold}
 
 -- a fault of reading says what is no protocol, or is want of memory
 pub record SaysUnread (fault : GlobalFault) : Type 0 where
@@ -72,3 +73,15 @@ module _ (file : ℕ) (bytes : List ℕ) where
         right = λ a k. subst (Outcome file bytes) (some_is (Unread b) a (sym (ap (option_map Unread) e) ∙ k)) (unread (h b e) ((says_unread fault).right b e));
         answers = λ k. absurd (none_is_not (Unread b) (sym k ∙ ap (option_map Unread) e));
       }
+
+  pub told_unprojected : (g : GlobalTree) (fault : ProjectFault) (r : ProjectedFault) → reads.Outcome file bytes (reads.Protocol g) → Says (IsRefused g g.roles) fault →
+      IsTold fault project_faults.Memory (faults.Unprojected fault) r → Stage file bytes (Err r)
+  told_unprojected g fault r h s t =
+      ⊎_elim (λ e. subst (λ (f : ProjectedFault). Stage file bytes (Err f)) (sym e) stage_memory)
+      (λ e. subst (λ (f : ProjectedFault). Stage file bytes (Err f)) (sym e.1) (stage_unprojected g fault h s e.0)) t
+
+  pub told_unread : (fault : GlobalFault) (r : ProjectedFault) → ((a : reads.Answer) → reads.fault_answer fault ≡ Some a → reads.Outcome file bytes a) →
+      IsTold fault global_faults.Memory (faults.Unread fault) r → Stage file bytes (Err r)
+  told_unread fault r h t =
+      ⊎_elim (λ e. subst (λ (f : ProjectedFault). Stage file bytes (Err f)) (sym e) stage_memory)
+      (λ e. subst (λ (f : ProjectedFault). Stage file bytes (Err f)) (sym e.1) (stage_unread fault h e.0)) t

@@ -4,7 +4,10 @@ ghost use Rattle.std.specs.Prelude.{◌≡◌, ◌++◌, Some, None, IfOk, Conta
 ghost use Rattle.scr_global_tree.specs.Global.{tree_of};
 ghost use Rattle.scr_tree.specs.Local.{tree_of as local_of};
 ghost use Rattle.mg_projected.specs.Projected.{file_of, Answer, Outcome, answer_of, IsAnswered};
-ghost use Rattle.mg_projected.specs.inner.Stages.{FileStage, FilesStage, Stage};
+ghost use Rattle.mg_projected.specs.inner.Stages.{FileStage, FilesStage, Stage, IsTold};
+ghost use Rattle.mg_projected.specs.declared.fault.ProjectedFault.TheVariants as faults;
+ghost use Rattle.scr_project.specs.declared.fault.ProjectFault.TheVariants as project_faults;
+ghost use Rattle.scr_global_read.specs.declared.fault.GlobalFault.TheVariants as global_faults;
 
 use crate::fault::ProjectedFault;
 use mg_text::{List, Memory, Text};
@@ -70,6 +73,26 @@ fn files_of(alloc: Global, global: &GlobalProtocol) -> Result<List<RoleFile>, Pr
     Ok(files)
 }
 
+// The fault of roles that have no files.
+fn unprojected(fault: ProjectFault) -> ProjectedFault
+    ensures { IsTold fault project_faults.Memory (faults.Unprojected fault) result }
+{
+    match fault {
+        ProjectFault::Memory => ProjectedFault::Memory,
+        _ => ProjectedFault::Unprojected(fault),
+    }
+}
+
+// The fault of a file that holds no global protocol.
+fn unread(fault: GlobalFault) -> ProjectedFault
+    ensures { IsTold fault global_faults.Memory (faults.Unread fault) result }
+{
+    match fault {
+        GlobalFault::Memory => ProjectedFault::Memory,
+        _ => ProjectedFault::Unread(fault),
+    }
+}
+
 // The files of a file's global protocol.
 fn projected_of(
     alloc: Global,
@@ -81,11 +104,9 @@ fn projected_of(
     match read_global(alloc, file, bytes) {
         Ok(global) => match files_of(alloc, &global) {
             Ok(files) => Ok(files),
-            Err(ProjectFault::Memory) => Err(ProjectedFault::Memory),
-            Err(fault) => Err(ProjectedFault::Unprojected(fault)),
+            Err(fault) => Err(unprojected(fault)),
         },
-        Err(GlobalFault::Memory) => Err(ProjectedFault::Memory),
-        Err(fault) => Err(ProjectedFault::Unread(fault)),
+        Err(fault) => Err(unread(fault)),
     }
 }
 

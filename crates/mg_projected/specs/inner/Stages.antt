@@ -1,5 +1,5 @@
 -- For private clauses: what a step answers.
-use Rattle.std.specs.Prelude.{◌≡◌, ℕ, List, Some, None, Result, Ok, Err}
+use Rattle.std.specs.Prelude.{◌≡◌, ◌≢◌, ◌⊎◌, ℕ, List, Some, None, Result, Ok, Err}
 use Rattle.mg_text.specs.Call.{Name}
 use Rattle.mg_text.specs.Row.{Row}
 use Rattle.scr_tree.specs.Tree.{LocalTree}
@@ -29,3 +29,7 @@ FilesStage g roles (Err fault) = Says (IsRefused g roles) fault
 pub record Stage (file : ℕ) (bytes : List ℕ) (result : Result (Row RoleFile) ProjectedFault) : Type 0 where
   pub right : (a : Answer) → answer_of result ≡ Some a → Outcome file bytes a
   pub answers : answer_of result ≡ None → result ≡ Err faults.Memory
+
+-- a fault is told, but for want of memory
+abbrev pub IsTold : {F : Type 0} → F → F → ProjectedFault → ProjectedFault → Type 0
+IsTold fault memory told result = (result ≡ faults.Memory) ⊎ ((fault ≢ memory) × (result ≡ told))

@@ -10,3 +10,11 @@ returns-in-Err c = record {
   right = λ a h. subst (λ (r : Name). projects.Outcome (global_of c.args.global.now) r a) c.as_str.ensures (c.in-Err.ensures.answered a h);
   answers = λ h. let e = c.in-Err.ensures.nothing h in cc;
 }
+
+pub returns-in_ok-file_with-in-Ok : goal.returns-in_ok-file_with-in-Ok
+returns-in_ok-file_with-in-Ok c = (
+  tree_of c.in-Ok.local,
+  subst (λ (r : Name). projects.Outcome (global_of c.args.global.now) r (projects.Protocol (tree_of c.in-Ok.local))) c.as_str.ensures
+      (c.in-Ok.ensures.answered (projects.Protocol (tree_of c.in-Ok.local)) refl),
+  c.in_ok-file_with-in-Ok.ensures,
+)

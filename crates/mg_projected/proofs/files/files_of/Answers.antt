@@ -11,4 +11,4 @@ loop-role-init c =
 pub returns : goal.returns
 returns c =
     let g = tree_of c.args.global.now in
-    rest_end g g.roles c.loop-role.role-index c.loop-role.files.items c.loop-role.invariant c.as_slice.result.now (c.as_slice.ensures.items ∙ c.roles.ensures) c.loop-role-test.false
+    rest_end g g.roles c.loop-role.role-index c.loop-role.files.items c.loop-role.invariant c.as_slice-role-items.result.now (c.as_slice-role-items.ensures.items ∙ c.roles.ensures) c.loop-role-test.false
