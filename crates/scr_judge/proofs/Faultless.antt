@@ -47,7 +47,7 @@ distinct : (seen : List Entry) (rs : List Role) → Clean DuplicateName (behind 
 distinct seen [] h = tt
 distinct seen (r ∷ rs) h = (clash (seen ++ lists r ∷ []) rs r (Contains-push seen (lists r)) h.1, distinct (seen ++ lists r ∷ []) rs h.1)
 
-roles_differ : (ds : List Declaration) (rs : List Role) → Clean DuplicateName (with_earlier (map declares ds ++ map lists rs)) → AreDistinct (map role_name rs)
+pub roles_differ : (ds : List Declaration) (rs : List Role) → Clean DuplicateName (with_earlier (map declares ds ++ map lists rs)) → AreDistinct (map role_name rs)
 roles_differ ds rs h =
     distinct (map declares ds) rs
     (clean_behind DuplicateName (with_earlier (map declares ds)) _ (subst (λ qs. Clean DuplicateName qs) (behind-append [] (map declares ds) (map lists rs)) h))

@@ -121,7 +121,7 @@ same_single me (spot (Enters at earlier ∷ way) (Choice p x bs rest)) c d a b =
 same_single me (spot (Enters at earlier ∷ way) (Rec p name body rest)) c d a b = absurd a
 same_single me (spot (Enters at earlier ∷ way) (Continue p name rest)) c d a b = absurd a
 
-one_of : (w : WrittenTree) (k : Condition) (r s : Option Culprit) → Of w k r → Of w k s → r ≡ s
+pub one_of : (w : WrittenTree) (k : Condition) (r s : Option Culprit) → Of w k r → Of w k s → r ≡ s
 one_of w conditions.DuplicateName r s = one_answer name_single
 one_of w conditions.UnknownRole r s = one_answer (mention_single (map role_name w.roles))
 one_of w conditions.PeerIsSelf r s = one_answer (self_single w.me.name)

@@ -11,18 +11,22 @@ ghost use Rattle.scr_judge.specs.inner.View.{culprit_of, told};
 use crate::culprit::Culprit;
 use crate::roles::find_listed_twice;
 use mg_text::Memory;
-use scr_tree::{Declaration, Written};
+use scr_tree::{Declaration, Role};
 use std::alloc::Global;
 use std::collections::HashMap;
 
 /// The first type name that is declared with a second class, or else the first role that is listed
 /// twice.
-pub fn find_duplicate_name(alloc: Global, written: &Written) -> Result<Option<Culprit<'_>>, Memory>
-    ensures { IfOk result (λ r. Judged DuplicateName (with_earlier (map declares written.now.types.items ++ map lists written.now.roles.items)) (culprit_of r)) }
+pub fn find_duplicate_name<'a>(
+    alloc: Global,
+    types: &'a [Declaration],
+    roles: &'a [Role],
+) -> Result<Option<Culprit<'a>>, Memory>
+    ensures { IfOk result (λ r. Judged DuplicateName (with_earlier (map declares types.now ++ map lists roles.now)) (culprit_of r)) }
 {
-    match find_declared_twice(alloc, written.types.as_slice())? {
+    match find_declared_twice(alloc, types)? {
         Some(culprit) => Ok(Some(culprit)),
-        None => find_listed_twice(alloc, written.roles.as_slice()),
+        None => find_listed_twice(alloc, roles),
     }
 }
 

@@ -93,9 +93,12 @@ fn judge(
 {
     let me = &written.me.name;
     let body = written.body.as_slice();
+    let types = written.types.as_slice();
+    let roles = written.roles.as_slice();
+    let carries = written.carries.as_slice();
     match condition {
         Condition::DuplicateName => {
-            let culprit = find_duplicate_name(alloc, written)?;
+            let culprit = find_duplicate_name(alloc, types, roles)?;
             with_name(alloc, culprit)
         }
         Condition::UnknownRole => {
@@ -104,10 +107,10 @@ fn judge(
         }
         Condition::PeerIsSelf => with_name(alloc, find_peer_is_self(me, body)),
         Condition::UnknownType => {
-            let culprit = find_unknown_type(alloc, written)?;
+            let culprit = find_unknown_type(alloc, types, carries)?;
             with_name(alloc, culprit)
         }
-        Condition::PayloadCount => with_name(alloc, find_payload_count(written)),
+        Condition::PayloadCount => with_name(alloc, find_payload_count(carries)),
         Condition::UnknownRec => with_name(alloc, find_unknown_rec(body)),
         Condition::DuplicateRec => with_name(alloc, find_duplicate_rec(body)),
         Condition::Unguarded => with_name(alloc, find_unguarded(body)),

@@ -19,5 +19,14 @@ mod states;
 mod truth;
 mod typed;
 
+pub use culprit::{Culprit, Named, culprit_unless, with_name};
+pub use declared::find_duplicate_name;
 pub use fault::{Fault, first_fault};
+pub use guards::find_unguarded;
+pub use labels::find_same_label;
 pub use laws::{faultless_is_valid, one_fault};
+pub use on_spot::{find_branch_start, find_duplicate_rec, find_mixed_choice, find_unknown_rec};
+pub use reached::find_unreachable;
+pub use roles::listed_roles;
+pub use seen::{add_name, no_names};
+pub use typed::{find_payload_count, find_unknown_type};

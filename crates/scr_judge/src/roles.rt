@@ -51,8 +51,8 @@ pub fn find_unknown_role(alloc: Global, written: &Written) -> Result<Option<Culp
     Ok(find_unknown_peer(&listed, written.body.as_slice()))
 }
 
-// The names of the roles.
-fn listed_roles(alloc: Global, roles: &[Role]) -> Result<HashSet<String>, Memory>
+/// The names of the roles.
+pub fn listed_roles(alloc: Global, roles: &[Role]) -> Result<HashSet<String>, Memory>
     ensures { IfOk result (λ s. (q : List ℕ) → IsTrue (contains_text s q) ↔ Contains (map role_name roles.now) q) }
 {
     let mut names = no_names(alloc);

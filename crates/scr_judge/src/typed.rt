@@ -15,30 +15,33 @@ use crate::declared::{class_beforehand, culprit_at};
 use crate::seen::{add_name, no_names};
 use crate::truth::{both, either};
 use mg_text::{Memory, Place, Text};
-use scr_tree::{Carries, Declaration, Written};
+use scr_tree::{Carries, Declaration};
 use std::alloc::Global;
 use std::collections::HashSet;
 
 /// The first declaration that isn't supported, or else the first type that a message carries and
 /// that isn't declared.
-pub fn find_unknown_type(alloc: Global, written: &Written) -> Result<Option<Culprit<'_>>, Memory>
-    ensures { IfOk result (λ r. Judged (UnknownType written.now.types.items) (map declared written.now.types.items ++ flat_map carried_by (map carries_of written.now.carries.items)) (culprit_of r)) }
+pub fn find_unknown_type<'a>(
+    alloc: Global,
+    types: &'a [Declaration],
+    carries: &'a [Carries],
+) -> Result<Option<Culprit<'a>>, Memory>
+    ensures { IfOk result (λ r. Judged (UnknownType types.now) (map declared types.now ++ flat_map carried_by (map carries_of carries.now)) (culprit_of r)) }
 {
-    let types = written.types.as_slice();
     match find_unsupported(types) {
         Some(culprit) => Ok(Some(culprit)),
         None => {
             let aliases = declared_names(alloc, types)?;
-            Ok(find_undeclared(&aliases, written.carries.as_slice()))
+            Ok(find_undeclared(&aliases, carries))
         }
     }
 }
 
 /// The first message with two or more payloads.
-pub fn find_payload_count(written: &Written) -> Option<Culprit<'_>>
-    ensures { Judged PayloadCount (map carries_of written.now.carries.items) (culprit_of result) }
+pub fn find_payload_count(carries: &[Carries]) -> Option<Culprit<'_>>
+    ensures { Judged PayloadCount (map carries_of carries.now) (culprit_of result) }
 {
-    find_many(written.carries.as_slice())
+    find_many(carries)
 }
 
 // The first declaration that isn't of Java or of one of the three classes.

@@ -20,7 +20,7 @@ others_up [] us rest b h = rw h refl
 others_up (n ∷ ns) us rest b (vs, ws, parts, (a, xs, e, (c, f)), more) = rw (parts, e, f)
     (ap (λ (l : List Name). n ∷ l) (others_up ns ws rest b more))
 
-types_up : (names : List Name) (us rest : List Tok) (b : Place) → AreTypes names us
+pub types_up : (names : List Name) (us rest : List Tok) (b : Place) → AreTypes names us
     → names_up (us ++ marked b marks.CloseParen ∷ rest) ≡ names
 types_up [] us rest b h = rw h refl
 types_up (n ∷ ns) us rest b (vs, ws, parts, (a, e), more) = rw (parts, e) (ap (λ (l : List Name). n ∷ l) (others_up ns ws rest b more))
@@ -35,7 +35,7 @@ others_quiet (n ∷ ns) us rest b (vs, ws, parts, (a, xs, e, (c, f)), more) =
     let stands = r.1 in
     (rw (parts, e, f, stands) r.0, rw (parts, e) refl)
 
-types_quiet : (names : List Name) (us rest : List Tok) (b : Place) → AreTypes names us
+pub types_quiet : (names : List Name) (us rest : List Tok) (b : Place) → AreTypes names us
     → carries_in (us ++ marked b marks.CloseParen ∷ rest) ≡ carries_in rest
 types_quiet [] us rest b h = rw h refl
 types_quiet (n ∷ ns) us rest b (vs, ws, parts, (a, e), more) =

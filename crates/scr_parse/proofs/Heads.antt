@@ -67,7 +67,7 @@ other_role_shorter = shorter other_role_at OtherOf Anything other_exact other_no
 
 -- ---- role { "," role }
 
-roles_sound : (ts : List Tok) (x : List Role × List Tok) → roles_at ts ≡ Some x → Takes (Listed marks.Comma IsRole x.0) ts x.1
+pub roles_sound : (ts : List Tok) (x : List Role × List Tok) → roles_at ts ≡ Some x → Takes (Listed marks.Comma IsRole x.0) ts x.1
 unfolding roles_at
 roles_sound ts x e =
     let s = bind_some (role_at ts) _ x e in
@@ -82,7 +82,7 @@ roles_sound ts x e =
           (one.front, more.2.front, refl, one.holds, more.2.holds);
     })
 
-roles_complete : (rs : List Role) (ts rest : List Tok) → is_at marks.Comma rest ≡ false → Listed marks.Comma IsRole rs ts
+pub roles_complete : (rs : List Role) (ts rest : List Tok) → is_at marks.Comma rest ≡ false → Listed marks.Comma IsRole rs ts
     → roles_at (ts ++ rest) ≡ Some (rs, rest)
 unfolding roles_at
 roles_complete [] ts rest stops h = absurd h

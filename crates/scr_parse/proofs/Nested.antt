@@ -45,7 +45,7 @@ direction_is ts x e =
           )
     ]
 
-payload_sound : (ts : List Tok) (x : List Name × List Tok) → payload_at ts ≡ Some x → Takes (AreTypes x.0) ts x.1
+pub payload_sound : (ts : List Tok) (x : List Name × List Tok) → payload_at ts ≡ Some x → Takes (AreTypes x.0) ts x.1
 unfolding payload_at
 payload_sound ts x e =
     elim (chosen (is_at marks.CloseParen ts) (Some ([], ts)) (names_at marks.Comma ts) (Some x) e) [
@@ -59,7 +59,7 @@ payload_sound ts x e =
     named_types [] us ts rest parts h = absurd h
     named_types (n ∷ ns) us ts rest parts h = record { front = us; parts = parts; holds = h }
 
-payload_complete : (names : List Name) (ts rest : List Tok) (b : Place) → AreTypes names ts
+pub payload_complete : (names : List Name) (ts rest : List Tok) (b : Place) → AreTypes names ts
     → payload_at (ts ++ marked b marks.CloseParen ∷ rest) ≡ Some (names, marked b marks.CloseParen ∷ rest)
 unfolding payload_at
 payload_complete [] ts rest b h = rw h refl

@@ -146,7 +146,7 @@ file_sound ts w e =
     })
 
 -- type declarations are no module line
-types_stop : (ds : List Declaration) (us rest : List Tok) (a : Place) → Each IsType ds us
+pub types_stop : (ds : List Declaration) (us rest : List Tok) (a : Place) → Each IsType ds us
     → is_at marks.Module (us ++ marked a marks.Local ∷ rest) ≡ false
 types_stop [] us rest a h = rw h refl
 types_stop (d ∷ ds) us rest a (vs, ws, parts, (b, c, e, f, g, h, i, j, k, source, starts), more) = rw (parts, starts) refl

@@ -30,9 +30,9 @@ fn direction_of(tokens: &[Token]) -> Result<(Direction, &[Token]), ParseFault>
     Ok((Direction::From, rest))
 }
 
-// [ name { "," name } ], up to ")"
+/// [ name { "," name } ], up to ")"
 #[tactic(auto, unfolding(crate::specs::inner::Reading::payload_at))]
-fn payload_of(alloc: Global, tokens: &[Token]) -> Result<(List<Text>, &[Token]), ParseFault>
+pub fn payload_of(alloc: Global, tokens: &[Token]) -> Result<(List<Text>, &[Token]), ParseFault>
     ensures { Gives (λ x. (x.0.items, toks x.1.now)) result (payload_at (toks tokens.now)) }
 {
     if is_mark(tokens, Mark::CloseParen) {

@@ -66,8 +66,8 @@ fn add_carried(
     }
 }
 
-// What the messages carry, in the order of the text.
-pub(crate) fn carries_of(alloc: Global, tokens: &[Token]) -> Result<List<Carries>, Memory>
+/// What the messages carry, in the order of the text.
+pub fn carries_of(alloc: Global, tokens: &[Token]) -> Result<List<Carries>, Memory>
     ensures { IfOk result (λ l. map carries_of l.items ≡ carries_in (toks tokens.now)) }
 {
     let mut found = List::new(alloc);

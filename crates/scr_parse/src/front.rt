@@ -13,8 +13,8 @@ use mg_text::{List, Place, Text};
 use scr_tree::{Mark, Token, TokenKind};
 use std::alloc::Global;
 
-// This mark: its place, and the tokens behind it.
-pub(crate) fn mark_of(tokens: &[Token], mark: Mark) -> Result<(Place, &[Token]), ParseFault>
+/// This mark: its place, and the tokens behind it.
+pub fn mark_of(tokens: &[Token], mark: Mark) -> Result<(Place, &[Token]), ParseFault>
     ensures { Gives (λ x. (x.0, toks x.1.now)) result (mark_at mark (toks tokens.now)) }
 {
     let Some((first, rest)) = tokens.split_first() else {
@@ -32,8 +32,8 @@ pub(crate) fn mark_of(tokens: &[Token], mark: Mark) -> Result<(Place, &[Token]),
     }
 }
 
-// A name: its place, its text, and the tokens behind it.
-pub(crate) fn name_of(tokens: &[Token]) -> Result<(Place, Text, &[Token]), ParseFault>
+/// A name: its place, its text, and the tokens behind it.
+pub fn name_of(tokens: &[Token]) -> Result<(Place, Text, &[Token]), ParseFault>
     ensures { Gives (λ x. ((x.0, x.1), toks x.2.now)) result (name_at (toks tokens.now)) }
 {
     let Some((first, rest)) = tokens.split_first() else {
@@ -58,8 +58,8 @@ pub(crate) fn quoted_of(tokens: &[Token]) -> Result<(Text, &[Token]), ParseFault
     }
 }
 
-// Whether this mark comes next.
-pub(crate) fn is_mark(tokens: &[Token], mark: Mark) -> bool
+/// Whether this mark comes next.
+pub fn is_mark(tokens: &[Token], mark: Mark) -> bool
     ensures { result ≡ is_at mark (toks tokens.now) }
 {
     let Some((first, _)) = tokens.split_first() else {

@@ -30,9 +30,9 @@ fn module_of(alloc: Global, tokens: &[Token]) -> Result<&[Token], ParseFault>
     Ok(rest)
 }
 
-// [ module ]: the tokens behind it.
+/// [ module ]: the tokens behind it.
 #[tactic(auto, unfolding(crate::specs::inner::Reading::after_module))]
-pub(crate) fn after_module(alloc: Global, tokens: &[Token]) -> Result<&[Token], ParseFault>
+pub fn after_module(alloc: Global, tokens: &[Token]) -> Result<&[Token], ParseFault>
     ensures { Gives (λ x. toks x.now) result (after_module (toks tokens.now)) }
 {
     if is_mark(tokens, Mark::Module) {
@@ -105,9 +105,9 @@ fn with_role(roles: List<Role>, role: Role) -> Result<List<Role>, ParseFault>
     Ok(roles)
 }
 
-// role { "," role }
+/// role { "," role }
 #[tactic(auto, unfolding(crate::specs::inner::Reading::roles_at))]
-fn roles_of(alloc: Global, tokens: &[Token]) -> Result<(List<Role>, &[Token]), ParseFault>
+pub fn roles_of(alloc: Global, tokens: &[Token]) -> Result<(List<Role>, &[Token]), ParseFault>
     ensures { Gives (λ x. (x.0.items, toks x.1.now)) result (roles_at (toks tokens.now)) }
 {
     let (first, rest) = role_of(tokens)?;

@@ -20,10 +20,13 @@ mod header;
 mod types;
 
 use crate::body::block_of;
-use crate::carries::carries_of;
+pub use crate::body::payload_of;
+pub use crate::carries::carries_of;
 pub use crate::fault::ParseFault;
-use crate::header::{Header, after_module, header_of, title_of};
-use crate::types::{Types, types_of};
+pub use crate::front::{is_mark, mark_of, name_of};
+use crate::header::{Header, header_of, title_of};
+pub use crate::header::{after_module, roles_of};
+pub use crate::types::{Types, types_of};
 use mg_text::List;
 use scr_tree::{Carries, Statement, Token, Written};
 use std::alloc::Global;

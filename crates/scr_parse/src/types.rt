@@ -19,7 +19,7 @@ use std::collections::HashMap;
 
 /// What is declared, and of each name the kind that its first declaration gives it.
 #[derive(Drop)]
-pub(crate) struct Types {
+pub struct Types {
     pub declared: List<Declaration>,
     pub kinds: HashMap<String, Payload>,
 }
@@ -66,8 +66,8 @@ fn type_of(tokens: &[Token]) -> Result<(Declaration, &[Token]), ParseFault>
     Ok((declaration, rest))
 }
 
-// { type }
-pub(crate) fn types_of(
+/// { type }
+pub fn types_of(
     alloc: Global,
     tokens: &[Token],
 ) -> Result<(List<Declaration>, &[Token]), ParseFault>
@@ -133,8 +133,8 @@ fn add_kind(
 }
 
 impl Types {
-    // The table of these declarations.
-    pub(crate) fn of(alloc: Global, declared: List<Declaration>) -> Result<Types, Memory>
+    /// The table of these declarations.
+    pub fn of(alloc: Global, declared: List<Declaration>) -> Result<Types, Memory>
         ensures { IfOk result (λ t. IsTable t × (t.declared.items ≡ declared.items)) }
     {
         let mut kinds = HashMap::new(alloc);
@@ -158,8 +158,8 @@ impl Types {
         }
     }
 
-    // The kind of what a message carries whose types these are.
-    pub(crate) fn kind_of(&self, types: &[Text]) -> Payload
+    /// The kind of what a message carries whose types these are.
+    pub fn kind_of(&self, types: &[Text]) -> Payload
         requires { IsTable self.now }
         ensures { result ≡ kind_of self.now.declared.items types.now }
     {

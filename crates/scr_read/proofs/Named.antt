@@ -21,12 +21,12 @@ use Rattle.scr_parse.specs.Grammar.{Behind, Before, Listed, IsRole, IsMyself, Is
 use Rattle.scr_read.specs.Spelling.{Spells}
 
 -- each name among tokens is one
-abbrev IsNamed : Tok → Type 0
+abbrev pub IsNamed : Tok → Type 0
 IsNamed (named place name) = IsName name
 IsNamed (quoted place name) = Unit {0}
 IsNamed (marked place mark) = Unit {0}
 
-abbrev AreNamed : List Tok → Type 0
+abbrev pub AreNamed : List Tok → Type 0
 AreNamed [] = Unit {0}
 AreNamed (t ∷ ts) = IsNamed t × AreNamed ts
 
@@ -34,11 +34,11 @@ named-append : (ts us : List Tok) → AreNamed ts → AreNamed us → AreNamed (
 named-append [] us h g = g
 named-append (t ∷ ts) us h g = (h.0, named-append ts us h.1 g)
 
-in_front : (ts us : List Tok) → AreNamed (ts ++ us) → AreNamed ts
+pub in_front : (ts us : List Tok) → AreNamed (ts ++ us) → AreNamed ts
 in_front [] us h = tt
 in_front (t ∷ ts) us h = (h.0, in_front ts us h.1)
 
-in_back : (ts us : List Tok) → AreNamed (ts ++ us) → AreNamed us
+pub in_back : (ts us : List Tok) → AreNamed (ts ++ us) → AreNamed us
 in_back [] us h = h
 in_back (t ∷ ts) us h = in_back ts us h.1
 
@@ -71,7 +71,7 @@ pieces_named place (sign c ∷ ps) bytes rest (after, e, may, cut) =
     named-append (sign_toks place (sign_of c)) (tokens_from tok_said (place_after place (spell (sign c))) ps)
     (sign_named place (sign_of c)) (pieces_named (place_after place (spell (sign c))) ps after rest cut)
 
-tokens_named : (file : ℕ) (ts : List Tok) (bytes : List ℕ) → AreTokens file ts bytes → AreNamed ts
+pub tokens_named : (file : ℕ) (ts : List Tok) (bytes : List ℕ) → AreTokens file ts bytes → AreNamed ts
 tokens_named file ts bytes h = subst AreNamed (sym h.tokens) (pieces_named (start_of file) h.pieces bytes [] h.cut)
 
 -- ---- roles
@@ -104,7 +104,7 @@ all-append : (xs ys : List Role) → AllByRecursion IsName (map role_name xs) �
 all-append [] ys h g = g
 all-append (x ∷ xs) ys h g = (h.0, all-append xs ys h.1 g)
 
-listed_written : (rs : List Role) (ts : List Tok) → Listed marks.Comma IsRole rs ts → AreNamed ts → AllByRecursion IsName (map role_name rs)
+pub listed_written : (rs : List Role) (ts : List Tok) → Listed marks.Comma IsRole rs ts → AreNamed ts → AllByRecursion IsName (map role_name rs)
 listed_written [] ts e h = absurd e
 listed_written (r ∷ rs) ts (us, vs, parts, one, more) h =
     let g = subst AreNamed parts h in
@@ -128,7 +128,7 @@ self_written me rs ts (a, b, earlier, later, us, vs, ws, e, listed, before, self
 -- ---- statements
 
 module _ (declared : List Declaration) where
-  between : (P : List Tok → Type 0) (ts : List Tok) → IsBraced P ts → AreNamed ts → (us : List Tok) × P us × AreNamed us
+  pub between : (P : List Tok → Type 0) (ts : List Tok) → IsBraced P ts → AreNamed ts → (us : List Tok) × P us × AreNamed us
   between P ts (a, b, us, e, h) named_all = let g = subst AreNamed e named_all in (us, h, in_front us (marked b marks.CloseBrace ∷ []) g.1)
 
   has : (bs : Branches) (cs : List Carries) (ts : List Tok) → AreBranches declared bs cs ts → HasBranches bs

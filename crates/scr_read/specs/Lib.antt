@@ -1,4 +1,5 @@
 pub mod Unsupported
 pub mod Spelling
 pub mod Outcome
+pub mod Parts
 pub mod inner

@@ -9,6 +9,7 @@ ghost use Rattle.scr_read.specs.Outcome.{Answer, Outcome, answer_of, IsAnswered}
 ghost use Rattle.scr_read.specs.inner.Stages.{Stage, IsProtocol};
 
 mod fault;
+mod parts;
 mod text;
 mod verdict;
 mod words;
@@ -17,6 +18,7 @@ use crate::text::written_of;
 use crate::verdict::{protocol_of, refusal};
 pub use fault::ScrFault;
 use mg_text::Place;
+pub use parts::local_of;
 use scr_judge::first_fault;
 pub use scr_tree::{Direction, Local, Message, Payload, Statement};
 use std::alloc::Global;

@@ -1,20 +1,17 @@
 use Rattle.std.proofs.Common.{Some, None, subst}
 use Rattle.std.proofs.lemmas.Result.{IfOk-weaker}
 use Rattle.mg_read.specs.First.{Judged, with_earlier}
-use Rattle.scr_judge.specs.inner.Listed.{DeclaredTwice, ListedTwice}
+use Rattle.scr_judge.specs.inner.Listed.{DeclaredTwice}
 use Rattle.scr_judge.specs.inner.View.{culprit_of}
 use Rattle.scr_judge.proofs.Earlier.{duplicate_name, duplicate_declaration}
 use Rattle.scr_judge.proofs.declared.find_duplicate_name.Goals as goal
 
 pub returns-in-Some : goal.returns-in-Some
 returns-in-Some c =
-    duplicate_declaration c.args.written.now.types.items c.args.written.now.roles.items _
-    (subst (λ ds. Judged DeclaredTwice (with_earlier ds) (culprit_of (Some c.in-Some.culprit))) c.as_slice.ensures.items
-    (subst (λ o. Judged DeclaredTwice (with_earlier c.as_slice.result.now) (culprit_of o)) c.in-Some.is c.in_ok-culprit.ensures))
+    duplicate_declaration c.args.types.now c.args.roles.now _
+    (subst (λ o. Judged DeclaredTwice (with_earlier c.args.types.now) (culprit_of o)) c.in-Some.is c.in_ok-culprit.ensures)
 
 pub returns-in-None : goal.returns-in-None
 returns-in-None c =
-    IfOk-weaker c.find_listed_twice.result _ _ (λ r j. duplicate_name c.args.written.now.types.items c.args.written.now.roles.items
-    (subst (λ ds. Judged DeclaredTwice (with_earlier ds) None) c.as_slice.ensures.items
-    (subst (λ o. Judged DeclaredTwice (with_earlier c.as_slice.result.now) (culprit_of o)) c.in-None.is c.in_ok-culprit.ensures))
-    (subst (λ rs. Judged ListedTwice (with_earlier rs) (culprit_of r)) c.as_slice-in-None.ensures.items j)) c.find_listed_twice.ensures
+    IfOk-weaker c.find_listed_twice.result _ _ (λ r j. duplicate_name c.args.types.now c.args.roles.now
+    (subst (λ o. Judged DeclaredTwice (with_earlier c.args.types.now) (culprit_of o)) c.in-None.is c.in_ok-culprit.ensures) j) c.find_listed_twice.ensures

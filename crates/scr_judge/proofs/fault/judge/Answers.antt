@@ -1,12 +1,17 @@
-use Rattle.std.proofs.Common.{[], ◌∷◌, subst}
+use Rattle.std.proofs.Common.{List, [], ◌∷◌, ◌++◌, map, subst}
+use Rattle.std.specs.List.{flat_map}
 use Rattle.std.proofs.lemmas.Result.{IfOk-weaker}
 use Rattle.mg_read.specs.First.{Judged, with_earlier}
 use Rattle.scr_tree.specs.Actions.{NameClash, actions}
 use Rattle.scr_tree.specs.Conditions as says
+use Rattle.scr_tree.specs.Listing.{DuplicateName, declares, lists, UnknownType, declared, carried_by, PayloadCount}
 use Rattle.scr_tree.specs.Spots.{spots}
 use Rattle.scr_tree.specs.States.{TooManyStates}
 use Rattle.scr_tree.specs.View.{statements}
-use Rattle.scr_tree.specs.Written.{written_of}
+use Rattle.scr_tree.specs.Written.{written_of, carries_of}
+use Rattle.scr_tree.specs.declared.written.Carries.{Carries as Carried}
+use Rattle.scr_tree.specs.declared.written.Declaration.{Declaration}
+use Rattle.scr_tree.specs.declared.written.Role.{Role}
 use Rattle.scr_tree.specs.declared.condition.Condition.TheVariants as conditions
 use Rattle.scr_judge.specs.inner.View.{culprit_of, named_of}
 use Rattle.scr_judge.proofs.Numbers.{arm, arm_named}
@@ -15,7 +20,10 @@ use Rattle.scr_judge.proofs.fault.judge.Goals as goal
 pub returns-in_ok-culprit-in-DuplicateName : goal.returns-in_ok-culprit-in-DuplicateName
 returns-in_ok-culprit-in-DuplicateName c =
     arm (written_of c.args.file c.args.written.now) c.args.condition conditions.DuplicateName _ c.with_name.result c.in-DuplicateName.is
-    c.in_ok-culprit-in-DuplicateName.ensures
+    (let found = culprit_of c.in_ok-culprit-in-DuplicateName.culprit in
+        subst (λ (rs : List Role). Judged DuplicateName (with_earlier (map declares c.args.written.now.types.items ++ map lists rs)) found) c.as_slice-roles.ensures.items
+        (subst (λ (ts : List Declaration). Judged DuplicateName (with_earlier (map declares ts ++ map lists c.as_slice-roles.result.now)) found) c.as_slice-types.ensures.items
+        c.in_ok-culprit-in-DuplicateName.ensures))
     c.with_name.ensures
 
 pub returns-in_ok-culprit-in-UnknownRole : goal.returns-in_ok-culprit-in-UnknownRole
@@ -33,13 +41,17 @@ returns-in-PeerIsSelf c =
 pub returns-in_ok-culprit-in-UnknownType : goal.returns-in_ok-culprit-in-UnknownType
 returns-in_ok-culprit-in-UnknownType c =
     arm (written_of c.args.file c.args.written.now) c.args.condition conditions.UnknownType _ c.with_name-in-UnknownType.result c.in-UnknownType.is
-    c.in_ok-culprit-in-UnknownType.ensures
+    (let found = culprit_of c.in_ok-culprit-in-UnknownType.culprit in
+        subst (λ (cs : List Carried). Judged (UnknownType c.args.written.now.types.items) (map declared c.args.written.now.types.items ++ flat_map carried_by (map carries_of cs)) found)
+        c.as_slice-carries.ensures.items
+        (subst (λ (ts : List Declaration). Judged (UnknownType ts) (map declared ts ++ flat_map carried_by (map carries_of c.as_slice-carries.result.now)) found) c.as_slice-types.ensures.items
+        c.in_ok-culprit-in-UnknownType.ensures))
     c.with_name-in-UnknownType.ensures
 
 pub returns-in-PayloadCount : goal.returns-in-PayloadCount
 returns-in-PayloadCount c =
     arm (written_of c.args.file c.args.written.now) c.args.condition conditions.PayloadCount _ c.with_name-in-PayloadCount.result c.in-PayloadCount.is
-    c.find_payload_count.ensures
+    (subst (λ (cs : List Carried). Judged PayloadCount (map carries_of cs) (culprit_of c.find_payload_count.result)) c.as_slice-carries.ensures.items c.find_payload_count.ensures)
     c.with_name-in-PayloadCount.ensures
 
 pub returns-in-UnknownRec : goal.returns-in-UnknownRec

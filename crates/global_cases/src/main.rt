@@ -1,0 +1,95 @@
+//! Cases of global protocols: that each is read, or its first fault; and what its roles do, or why
+//! one of them has no local protocol.
+//! Each file of cases has its kind of answer, and those that are not the wanted ones are printed.
+#![tactic(auto)]
+
+mod answer;
+
+use answer::{Answer, fault_text, plain};
+use cases::{Answers, CasesFault, tell};
+use mg_projected::{ProjectedFault, projected};
+use mg_text::Memory;
+use scr_global_read::read_global;
+use scr_project::ProjectFault;
+use scr_read::ScrFault;
+use std::alloc::Global;
+use std::env;
+
+struct Projecting;
+
+impl Answers for Projecting {
+    fn answer(&self, alloc: Global, file: &str, given: &[u8]) -> Result<String, Memory> {
+        match file {
+            "globals.txt" => judged(alloc, given),
+            "projections.txt" => files(alloc, given),
+            _ => plain(alloc, "a file of no kind"),
+        }
+    }
+}
+
+// That a protocol is read, or the fault.
+fn judged(alloc: Global, given: &[u8]) -> Result<String, Memory> {
+    match read_global(alloc, 0, given) {
+        Ok(_) => plain(alloc, "read"),
+        Err(fault) => fault_text(alloc, &fault),
+    }
+}
+
+// The files of the roles, or the fault.
+fn files(alloc: Global, given: &[u8]) -> Result<String, Memory> {
+    match projected(alloc, 0, given) {
+        Ok(files) => {
+            let mut answer = Answer::new(alloc);
+            for file in files.as_slice() {
+                answer.pair(file.name.as_str(), "\n")?;
+                answer.add(file.text.as_str())?;
+            }
+            Ok(answer.into_text())
+        }
+        Err(ProjectedFault::Unread(fault)) => fault_text(alloc, &fault),
+        Err(ProjectedFault::Unprojected(fault)) => unprojected(alloc, &fault),
+        Err(ProjectedFault::Memory) => Err(Memory),
+    }
+}
+
+// A fault of projecting as `LINE:COLUMN: KIND ROLE`, and the inner fault's kind.
+fn unprojected(alloc: Global, fault: &ProjectFault) -> Result<String, Memory> {
+    match fault {
+        ProjectFault::NotMergeable { place, name } => {
+            let mut answer = Answer::new(alloc);
+            answer.place(*place)?;
+            answer.pair(": NotMergeable ", name.as_str())?;
+            Ok(answer.into_text())
+        }
+        ProjectFault::Unprojected { place, name, fault } => {
+            let mut answer = Answer::new(alloc);
+            answer.place(*place)?;
+            answer.pair(": Unprojected ", name.as_str())?;
+            answer.pair(" ", kind(fault))?;
+            Ok(answer.into_text())
+        }
+        ProjectFault::Memory => Err(Memory),
+    }
+}
+
+// The kind of a fault that a projection may have.
+fn kind(fault: &ScrFault) -> &'static str {
+    match fault {
+        ScrFault::Unguarded { .. } => "Unguarded",
+        ScrFault::Unreachable { .. } => "Unreachable",
+        ScrFault::BranchStart { .. } => "BranchStart",
+        ScrFault::MixedChoice { .. } => "MixedChoice",
+        ScrFault::SameLabel { .. } => "SameLabel",
+        ScrFault::ReservedLabel { .. } => "ReservedLabel",
+        ScrFault::NameClash { .. } => "NameClash",
+        ScrFault::TooManyStates { .. } => "TooManyStates",
+        _ => "another",
+    }
+}
+
+fn main(rt: HostRuntime) -> Result<(), CasesFault> {
+    for file in env::args(&rt)?.skip(1) {
+        tell(&rt, &Projecting, file.as_str())?;
+    }
+    Ok(())
+}

@@ -1,0 +1,9 @@
+//! The files of a projected global protocol: for each of its roles, in their order, the text of the
+//! local protocol that says what the role does; or the first refusal.
+#![tactic(auto)]
+
+mod fault;
+mod files;
+
+pub use fault::ProjectedFault;
+pub use files::{RoleFile, projected};

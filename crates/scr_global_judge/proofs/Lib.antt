@@ -1,0 +1,9 @@
+pub mod Pairs
+pub mod Alike
+pub mod OutlineSteps
+pub mod RoleSteps
+pub mod RoleWalk
+pub mod Numbers
+pub mod Over
+pub mod OneFault
+pub mod Faultless

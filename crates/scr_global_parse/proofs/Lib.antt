@@ -1,0 +1,5 @@
+pub mod Views
+pub mod Nested
+pub mod Carried
+pub mod Whole
+pub mod Answered

@@ -1,0 +1,133 @@
+-- For private clauses: reading from left to right, where a global protocol differs from a local one. Each function gives a value and the tokens behind it.
+use Rattle.std.specs.Prelude.{ℕ, zero, suc, List, [], ◌∷◌, map, Option, Some, None, if◌then◌else◌}
+use Rattle.mg_text.specs.Call.{Name}
+use Rattle.mg_read.specs.Reader.{Reader, ◌>>=◌, all_of}
+use Rattle.mg_read.proofs.Loop.{with_front}
+use Rattle.scr_tree.specs.Tok.{Tok}
+use Rattle.scr_tree.specs.declared.token.Mark.TheVariants as marks
+use Rattle.scr_tree.specs.declared.written.Declaration.{Declaration}
+use Rattle.scr_tree.specs.declared.written.Role.{Role}
+use Rattle.scr_tree.specs.Written.{Carries, kind_of}
+use Rattle.scr_parse.specs.inner.Reading.{mark_at, name_at, is_at, after_module, types_at, roles_at, payload_at, not_closed, carries_in, if_last}
+use Rattle.scr_global.specs.Tree.{Told, Statements, Nothing, Says, Choice, Rec, Continue}
+use Rattle.scr_global_tree.specs.View.{branches_of}
+use Rattle.scr_global_tree.specs.Written.{WrittenTree}
+use Rattle.scr_global_parse.specs.inner.View.{joined}
+
+-- "global" "protocol" name
+unfoldable pub title_at : Reader Tok Name
+title_at ts = do
+  start ← mark_at marks.Global ts
+  protocol ← mark_at marks.Protocol start.1
+  name ← name_at protocol.1
+  Some (name.0.1, name.1)
+
+-- "(" roles ")"
+unfoldable pub header_at : Reader Tok (List Role)
+header_at ts = do
+  open_paren ← mark_at marks.OpenParen ts
+  roles ← roles_at open_paren.1
+  close_paren ← mark_at marks.CloseParen roles.1
+  Some (roles.0, close_paren.1)
+
+-- "from" name "to" name ";"
+unfoldable pub ends_at : Reader Tok (Name × Name)
+ends_at ts = do
+  from ← mark_at marks.From ts
+  sender ← name_at from.1
+  to ← mark_at marks.To sender.1
+  receiver ← name_at to.1
+  end ← mark_at marks.Semicolon receiver.1
+  Some ((sender.0.1, receiver.0.1), end.1)
+
+-- name "(" payload ")" ends
+unfoldable pub message_at : List Declaration → Reader Tok Told
+message_at declared ts = do
+  label ← name_at ts
+  open_paren ← mark_at marks.OpenParen label.1
+  types ← payload_at open_paren.1
+  close_paren ← mark_at marks.CloseParen types.1
+  ends ← ends_at close_paren.1
+  Some (record { place = label.0.0; from = ends.0.0; to = ends.0.1; label = label.0.1; payload = kind_of declared types.0 }, ends.1)
+
+-- "continue" name ";"
+unfoldable pub continue_at : Reader Tok Statements
+continue_at ts = do
+  start ← mark_at marks.Continue ts
+  name ← name_at start.1
+  end ← mark_at marks.Semicolon name.1
+  Some (Continue start.0 name.0.1 Nothing, end.1)
+
+-- In what follows f reads one statement.
+unfoldable pub block_with : Reader Tok Statements → Reader Tok (List Statements)
+block_with f ts = do
+  start ← mark_at marks.OpenBrace ts
+  inner ← all_of not_closed f start.1
+  end ← mark_at marks.CloseBrace inner.1
+  Some (inner.0, end.1)
+
+-- "or" block
+unfoldable pub other_with : Reader Tok Statements → Reader Tok (List Statements)
+other_with f ts = mark_at marks.Or ts >>= λ start. block_with f start.1
+
+-- block { "or" block }
+unfoldable pub branches_with : Reader Tok Statements → Reader Tok (List (List Statements))
+branches_with f ts = do
+  first ← block_with f ts
+  others ← with_front (first.0 ∷ []) (all_of (is_at marks.Or) (other_with f) first.1)
+  Some (others.0, others.1)
+
+-- "choice" "at" name branches
+unfoldable pub choice_with : Reader Tok Statements → Reader Tok Statements
+choice_with f ts = do
+  start ← mark_at marks.Choice ts
+  at ← mark_at marks.At start.1
+  name ← name_at at.1
+  inner ← branches_with f name.1
+  Some (Choice start.0 name.0.1 (branches_of (map joined inner.0)) Nothing, inner.1)
+
+-- "rec" name block
+unfoldable pub rec_with : Reader Tok Statements → Reader Tok Statements
+rec_with f ts = do
+  start ← mark_at marks.Rec ts
+  name ← name_at start.1
+  inner ← block_with f name.1
+  Some (Rec start.0 name.0.1 (joined inner.0) Nothing, inner.1)
+
+-- a message, alone
+unfoldable pub says_at : List Declaration → Reader Tok Statements
+says_at declared ts = message_at declared ts >>= λ m. Some (Says m.0 Nothing, m.1)
+
+unfoldable pub statement_with : List Declaration → Reader Tok Statements → Reader Tok Statements
+statement_with declared f ts =
+    if is_at marks.Choice ts then choice_with f ts
+    else (if is_at marks.Rec ts then rec_with f ts
+    else (if is_at marks.Continue ts then continue_at ts
+    else says_at declared ts))
+
+-- a statement in which statements stand at most so deep, itself counted
+unfoldable pub statement_at : List Declaration → ℕ → Reader Tok Statements
+statement_at declared zero ts = None
+statement_at declared (suc d) ts = statement_with declared (statement_at declared d) ts
+
+-- ---- the file
+
+-- block, and nothing behind it
+unfoldable pub only_block_at : List Declaration → List Tok → Option (List Statements)
+only_block_at declared ts = block_with (statement_at declared 200) ts >>= if_last
+
+-- the statements of a body, and what they carry
+unfoldable pub body_at : List Declaration → List Tok → Option (Statements × List Carries)
+body_at declared ts = do
+  body ← only_block_at declared ts
+  Some (joined body, carries_in ts)
+
+-- All of the tokens. The file's number is left at 0.
+unfoldable pub file_at : List Tok → Option WrittenTree
+file_at ts = do
+  rest ← after_module ts
+  types ← types_at rest
+  name ← title_at types.1
+  roles ← header_at name.1
+  body ← body_at types.0 roles.1
+  Some (record { file = 0; types = types.0; name = name.0; roles = roles.0; carries = body.1; body = body.0 })

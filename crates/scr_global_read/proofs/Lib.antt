@@ -1,0 +1,4 @@
+pub mod Sought
+pub mod Unique
+pub mod Named
+pub mod Staged

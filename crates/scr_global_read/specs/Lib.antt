@@ -1,0 +1,4 @@
+pub mod Unsupported
+pub mod Spelling
+pub mod Outcome
+pub mod inner

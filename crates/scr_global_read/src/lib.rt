@@ -1,0 +1,67 @@
+//! Reads the text of a Scribble global protocol.
+//! The answer is the protocol that the bytes spell, or the fault of the lowest number at its first place.
+#![tactic(auto)]
+
+ghost use Rattle.std.specs.Prelude.{◌≡◌, ◌≤◌, ℕ, List, length, Some};
+ghost use Rattle.scr_global_tree.specs.Written.{WrittenTree};
+ghost use Rattle.scr_global_read.specs.Spelling.{Spells};
+ghost use Rattle.scr_global_read.specs.Outcome.{Answer, Outcome, answer_of, IsAnswered};
+ghost use Rattle.scr_global_read.specs.inner.Stages.{Stage, IsProtocol};
+
+mod fault;
+mod text;
+mod verdict;
+mod words;
+
+use crate::text::written_of;
+use crate::verdict::{protocol_of, refusal};
+pub use fault::GlobalFault;
+use mg_text::Place;
+use scr_global_judge::first_fault;
+pub use scr_global_tree::{GStatement, Global};
+use std::alloc::Global as Allocator;
+
+/// Bytes that a file may hold.
+pub const MAX_BYTES: usize = 1_048_576;
+
+// The protocol of a file that isn't too large.
+fn judged_of(alloc: Allocator, file: u32, bytes: &[u8]) -> Result<Global, GlobalFault>
+    requires { length bytes.now ≤ 1048576 }
+    ensures { Stage file bytes.now (IsProtocol file bytes.now) result }
+{
+    let written = written_of(alloc, file, bytes)?;
+    match first_fault(alloc, file, &written)? {
+        Some(fault) => Err(refusal(fault)),
+        None => Ok(protocol_of(alloc, file, written)?),
+    }
+}
+
+// The protocol of a file.
+fn read_of(alloc: Allocator, file: u32, bytes: &[u8]) -> Result<Global, GlobalFault>
+    ensures { Stage file bytes.now (IsProtocol file bytes.now) result }
+{
+    if bytes.len() > MAX_BYTES {
+        let place = Place::start(file);
+        return Err(GlobalFault::TooLarge { place });
+    }
+    judged_of(alloc, file, bytes)
+}
+
+/// Reads the global protocol that the bytes of a file spell, with the place of each statement.
+///
+/// # Errors
+/// The fault of the lowest number that the file has, at its first place in the text, or `Memory`.
+pub fn read_global(alloc: Allocator, file: u32, bytes: &[u8]) -> Result<Global, GlobalFault>
+    // What is answered is what reading the bytes gives.
+    ensures answered { (a : Answer) → answer_of result ≡ Some a → Outcome file bytes.now a }
+    // What reading the bytes gives is answered, unless memory runs out.
+    ensures only { (a : Answer) → Outcome file bytes.now a → IsAnswered a result }
+{
+    read_of(alloc, file, bytes)
+}
+
+/// Reading the bytes of a file gives one answer at most, and they spell one file at most.
+pub fn one_reading()
+    ensures one_outcome { (file : ℕ) (bytes : List ℕ) (a b : Answer) → Outcome file bytes a → Outcome file bytes b → a ≡ b }
+    ensures one_file { (file : ℕ) (bytes : List ℕ) (w v : WrittenTree) → Spells file bytes w → Spells file bytes v → w ≡ v }
+{}

@@ -1,0 +1,71 @@
+//! From what is written in a file to its protocol, or to the condition that it doesn't meet.
+
+ghost use Rattle.std.specs.Prelude.{◌≡◌, Some, IfOk, map};
+ghost use Rattle.scr_global_tree.specs.Global.{tree_of};
+ghost use Rattle.scr_global_tree.specs.Valid.{IsValid};
+ghost use Rattle.scr_tree.specs.Written.{role_name};
+ghost use Rattle.scr_global_tree.specs.Written.{written_of, global_of};
+ghost use Rattle.scr_global_read.specs.Outcome.{Refused, told, fault_answer};
+
+use crate::fault::GlobalFault;
+use mg_text::{List, Memory, Text};
+use scr_global_judge::Fault;
+use scr_global_tree::{Global, GlobalCondition, WrittenGlobal};
+use scr_tree::Role;
+use std::alloc::Global as Allocator;
+
+// The fault of a file that doesn't meet a condition.
+pub(crate) fn refusal(fault: Fault) -> GlobalFault
+    ensures { fault_answer result ≡ Some (Refused fault.condition fault.place (told fault.condition fault.name)) }
+{
+    let Fault {
+        condition,
+        place,
+        name,
+    } = fault;
+    match condition {
+        GlobalCondition::DuplicateName => GlobalFault::DuplicateName { place, name },
+        GlobalCondition::UnknownRole => GlobalFault::UnknownRole { place, name },
+        GlobalCondition::PeerIsSelf => GlobalFault::PeerIsSelf { place },
+        GlobalCondition::UnknownType => GlobalFault::UnknownType { place, name },
+        GlobalCondition::PayloadCount => GlobalFault::PayloadCount { place },
+        GlobalCondition::UnknownRec => GlobalFault::UnknownRec { place, name },
+        GlobalCondition::DuplicateRec => GlobalFault::DuplicateRec { place, name },
+        GlobalCondition::Unguarded => GlobalFault::Unguarded { place, name },
+        GlobalCondition::Unreachable => GlobalFault::Unreachable { place },
+        GlobalCondition::BranchStart => GlobalFault::BranchStart { place },
+        GlobalCondition::MixedChoice => GlobalFault::MixedChoice { place },
+        GlobalCondition::SameLabel => GlobalFault::SameLabel { place, name },
+    }
+}
+
+// The names of roles.
+fn names_of(alloc: Allocator, roles: &[Role]) -> Result<List<Text>, Memory>
+    ensures { IfOk result (λ l. l.items ≡ map role_name roles.now) }
+{
+    let mut names = List::new(alloc);
+    for role in roles {
+        names.push(role.name.copy()?)?;
+    }
+    Ok(names)
+}
+
+// The protocol that is meant.
+pub(crate) fn protocol_of(
+    alloc: Allocator,
+    file: u32,
+    written: WrittenGlobal,
+) -> Result<Global, Memory>
+    requires { ∥ IsValid (global_of (written_of file written)) ∥₁ }
+    ensures { IfOk result (λ g. tree_of g ≡ global_of (written_of file written)) }
+{
+    let WrittenGlobal {
+        types: _,
+        name,
+        roles,
+        carries: _,
+        body,
+    } = written;
+    let roles = names_of(alloc, roles.as_slice())?;
+    Ok(Global::new(file, name, roles, body))
+}

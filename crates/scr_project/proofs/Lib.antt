@@ -1,0 +1,14 @@
+pub mod Behinds
+pub mod Sameness
+pub mod Labels
+pub mod Merging
+pub mod Closed
+pub mod Steps
+pub mod Sound
+pub mod Kept
+pub mod Faults
+pub mod Early
+pub mod Premises
+pub mod Answered
+pub mod Promises
+pub mod Made

@@ -1,0 +1,4 @@
+pub mod Walk
+pub mod Merge
+pub mod View
+pub mod Stages

@@ -1,0 +1,111 @@
+//! Whether two lists of statements say the same, places aside.
+
+ghost use Rattle.std.specs.Prelude.{◌≡◌};
+ghost use Rattle.scr_tree.specs.Meaning.{message_of};
+ghost use Rattle.scr_tree.specs.Tree.{Nothing};
+ghost use Rattle.scr_tree.specs.View.{front, statements, bodies};
+ghost use Rattle.scr_global.specs.Projecting.{is_same, are_same, same_message};
+ghost use Rattle.scr_global.specs.Texts.{spoken, spoken_each};
+ghost use Rattle.scr_project.specs.inner.Merge.{same_truth};
+
+use mg_text::{List, Text};
+use scr_tree::{Message, Statement};
+
+/// Whether two lists of statements of a role say the same.
+#[tactic(auto, using(crate::proofs::Sameness::all_steps))]
+#[cycle(same)]
+pub(crate) fn same_all(me: &Text, some: &[Statement], others: &[Statement]) -> bool
+    ensures { result ≡ is_same (spoken me.now (statements some.now)) (spoken me.now (statements others.now)) }
+{
+    let mut rest = others;
+    for statement in some {
+        let Some((other, after)) = rest.split_first() else {
+            return false;
+        };
+        if !same_at(me, statement, other) {
+            return false;
+        }
+        rest = after;
+    }
+    rest.is_empty()
+}
+
+#[tactic(auto, using(crate::proofs::Sameness::alone))]
+#[cycle(same)]
+fn same_at(me: &Text, some: &Statement, other: &Statement) -> bool
+    ensures { result ≡ is_same (spoken me.now (front some.now Nothing)) (spoken me.now (front other.now Nothing)) }
+{
+    match some {
+        Statement::Message(message) => match other {
+            Statement::Message(another) => is_same_message(message, another),
+            Statement::Choice { .. } => false,
+            Statement::Rec { .. } => false,
+            Statement::Continue { .. } => false,
+        },
+        Statement::Choice { at, branches, .. } => match other {
+            Statement::Choice {
+                at: another,
+                branches: others,
+                ..
+            } => {
+                let here = *at == *me;
+                let there = *another == *me;
+                same_truth(here, there) && same_in(me, branches.as_slice(), others.as_slice())
+            }
+            Statement::Message(_) => false,
+            Statement::Rec { .. } => false,
+            Statement::Continue { .. } => false,
+        },
+        Statement::Rec { name, body, .. } => match other {
+            Statement::Rec {
+                name: another,
+                body: others,
+                ..
+            } => *name == *another && same_all(me, body.as_slice(), others.as_slice()),
+            Statement::Message(_) => false,
+            Statement::Choice { .. } => false,
+            Statement::Continue { .. } => false,
+        },
+        Statement::Continue { name, .. } => match other {
+            Statement::Continue { name: another, .. } => *name == *another,
+            Statement::Message(_) => false,
+            Statement::Choice { .. } => false,
+            Statement::Rec { .. } => false,
+        },
+    }
+}
+
+#[tactic(auto, using(crate::proofs::Sameness::in_steps))]
+#[cycle(same)]
+fn same_in(me: &Text, some: &[List<Statement>], others: &[List<Statement>]) -> bool
+    ensures { result ≡ are_same (spoken_each me.now (bodies some.now)) (spoken_each me.now (bodies others.now)) }
+{
+    let mut rest = others;
+    for branch in some {
+        let Some((other, after)) = rest.split_first() else {
+            return false;
+        };
+        if !same_all(me, branch.as_slice(), other.as_slice()) {
+            return false;
+        }
+        rest = after;
+    }
+    rest.is_empty()
+}
+
+// Whether both hold, or neither does.
+fn same_truth(some: bool, other: bool) -> bool
+    ensures { result ≡ same_truth some other }
+{
+    if some { other } else { !other }
+}
+
+// Whether two messages differ in their places at most.
+fn is_same_message(some: &Message, other: &Message) -> bool
+    ensures { result ≡ same_message (message_of some.now) (message_of other.now) }
+{
+    some.direction == other.direction
+        && some.peer == other.peer
+        && some.label == other.label
+        && some.payload == other.payload
+}
