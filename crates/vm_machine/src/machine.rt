@@ -9,9 +9,11 @@ ghost use Rattle.vm_model.specs.Start.{IsStart, started, class_named, main_in, i
 ghost use Rattle.vm_model.specs.Step as model;
 ghost use Rattle.vm_machine.specs.State.{state_of};
 ghost use Rattle.vm_machine.specs.Doing.{Does, waits_in};
+ghost use Rattle.vm_machine.specs.Alone.{StepsAlone};
 ghost use Rattle.vm_machine.specs.Main.{HasMain};
 
 use crate::calls::unset;
+use crate::frequent::step_alone;
 use crate::program::{class_at, max_locals, method_at};
 use crate::state::{Frame, State};
 use crate::step::take_step;
@@ -143,6 +145,15 @@ impl Machine {
     {
         let state = start(alloc, linked, main)?;
         Ok(Machine { state })
+    }
+
+    /// Takes a step where it is a frequent one with which nothing is wrong: a step that tells
+    /// nothing and looks at no message. Nothing is allocated, and where it answers false nothing
+    /// has changed.
+    pub fn step_alone(&mut self, linked: &Linked) -> bool
+        ensures { StepsAlone (classes_of linked.now.classes.items) self.old self.new result }
+    {
+        step_alone(&mut self.state, linked)
     }
 
     /// Takes a step of the role `me`: the next instruction's tests in their order, and then what it

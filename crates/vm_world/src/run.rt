@@ -19,8 +19,8 @@ fn following(place: usize, count: usize) -> usize
 }
 
 impl World {
-    /// One turn, or none where the role has ended. The answer is whether an instruction was counted.
-    fn advance(&mut self, alloc: Global, role: u32) -> Result<bool, Memory>
+    /// One turn, or none where the role has ended, by the general tests.
+    fn advance_tested(&mut self, alloc: Global, role: u32) -> Result<bool, Memory>
         requires number { role < length self.old.world.roles }
         requires count { IfSome (slice_get self.old.world.roles role) (λ r. r.count < 2 ^ 32 - 1) }
         ensures program { self.new.program ≡ self.old.program }
@@ -34,6 +34,19 @@ impl World {
             Turned::Waits(_peer) => Ok(false),
             Turned::Ended(_ending) => Ok(true),
         }
+    }
+
+    /// One turn, or none where the role has ended. The answer is whether an instruction was counted.
+    fn advance(&mut self, alloc: Global, role: u32) -> Result<bool, Memory>
+        requires number { role < length self.old.world.roles }
+        requires count { IfSome (slice_get self.old.world.roles role) (λ r. r.count < 2 ^ 32 - 1) }
+        ensures program { self.new.program ≡ self.old.program }
+        ensures advances { IfOk result (λ b. Advances self.old.program self.old.world role self.new.world b) }
+    {
+        if self.turn_alone(role) {
+            return Ok(true);
+        }
+        self.advance_tested(alloc, role)
     }
 
     /// Takes turns in this order, repeated as a cycle, up to the first moment at which the world

@@ -2,6 +2,7 @@
 //! A turn is one step of a role's machine; whoever waits or has ended changes nothing.
 
 ghost use Rattle.std.specs.Prelude.{◌≡◌, ◌<◌, ◌^◌, ◌-◌, ◌++◌, ◌↔◌, [], length, map, option_map, slice_get, IsTrue, IfOk, OnErr, IfSome};
+ghost use Rattle.std.specs.Bool.{OnFalse, OnTrue};
 ghost use Rattle.std.specs.List.{IsDistinct, AllByRecursion};
 ghost use Rattle.std.specs.Str.{bytes_eq};
 ghost use Rattle.vm_model.specs.View.{classes_of};
@@ -12,7 +13,7 @@ ghost use Rattle.vm_world.specs.Resting.{GoesOn};
 ghost use Rattle.vm_world.specs.View.{roles_of, ending_in};
 ghost use Rattle.vm_model.specs.Machine.{noted};
 
-use crate::role::{Role, State, Taken, take_turn};
+use crate::role::{Role, State, Taken, take_turn, turn_alone};
 use mg_text::{Ending, Event, List, Memory, Text};
 use std::alloc::Global;
 use std::marker::Model;
@@ -130,6 +131,18 @@ impl World {
         let Taken { turned, event } = taken;
         note(&mut self.events, role, event);
         Ok(turned)
+    }
+
+    /// A turn of a role, where its step is a frequent one that tells nothing. Else nothing changes.
+    pub(crate) fn turn_alone(&mut self, role: u32) -> bool
+        requires number { role < length self.old.world.roles }
+        requires count { IfSome (slice_get self.old.world.roles role) (λ r. r.count < 2 ^ 32 - 1) }
+        ensures program { self.new.program ≡ self.old.program }
+        ensures yes { OnTrue result (self.new.world ≡ model.turn self.old.program self.old.world role) }
+        ensures went { OnTrue result (Some Turned.Went ≡ model.turned self.old.program self.old.world role) }
+        ensures no { OnFalse result (self.new ≡ self.old) }
+    {
+        turn_alone(&mut self.roles[role as usize], &self.linked)
     }
 
     /// The role for whose message the next instruction of a role waits, where that hasn't ended.

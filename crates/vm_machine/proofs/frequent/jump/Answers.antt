@@ -1,0 +1,7 @@
+use Rattle.vm_machine.proofs.Ready.{go_alone}
+use Rattle.std.proofs.Common.{arith, refl}
+use Rattle.vm_machine.specs.State.{state_of}
+use Rattle.vm_machine.proofs.frequent.jump.Goals as goal
+
+pub returns : goal.returns
+returns c = go_alone c.args.max (state_of c.args.state.now) _ c.args.target (omega arith) refl

@@ -1,0 +1,4 @@
+use Rattle.vm_machine.proofs.frequent.jump_on_both.Goals as goal
+
+pub returns : goal.returns
+returns c = ?

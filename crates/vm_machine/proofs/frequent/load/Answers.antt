@@ -1,0 +1,4 @@
+use Rattle.vm_machine.proofs.frequent.load.Goals as goal
+
+pub returns-in-Some : goal.returns-in-Some
+returns-in-Some c = ?
