@@ -1,16 +1,16 @@
 //! The frequent instructions where nothing is wrong with them, by the cells where they lie.
 //! What isn't right, needs memory or tells something is left to the general tests.
 
-ghost use Rattle.std.specs.Prelude.{◌≡◌, ◌+◌, ◌-◌, ◌<◌, ◌≤◌, ◌^◌, ◌++◌, ◌∷◌, [], length, slice_get, Some, None, IfSome};
+ghost use Rattle.std.specs.Prelude.{◌≡◌, ◌+◌, ◌-◌, ◌<◌, ◌≤◌, ◌^◌, ◌++◌, ◌∷◌, [], length, map, slice_get, Some, None, IfSome};
 ghost use Rattle.std.specs.Bool.{OnTrue, OnFalse};
 ghost use Rattle.vm_model.specs.declared.value.Value.TheVariants as values;
 ghost use Rattle.vm_model.specs.Actions as actions;
 ghost use Rattle.vm_model.specs.Tests.{below, misfit_sort, is_reference};
 ghost use Rattle.vm_model.specs.Step.{at_place, next};
-ghost use Rattle.vm_model.specs.View.{classes_of};
+ghost use Rattle.vm_model.specs.View.{classes_of, instr_of};
 ghost use Rattle.vm_machine.specs.State.{value_of, locals_of, state_of};
 ghost use Rattle.vm_machine.specs.Table.{sort_of, constant_of, operation_of, comparison_of, plain_of};
-ghost use Rattle.vm_machine.specs.Alone.{Alone, StepsAlone};
+ghost use Rattle.vm_machine.specs.Alone.{Alone, NextAlone, AllAlone};
 ghost use Rattle.vm_machine.specs.inner.Tops.{operands_of};
 
 use crate::action::{Action, Comparison, Constant, Operation, Plain, Sort, action_of};
@@ -20,7 +20,7 @@ use crate::operands::{int_at, int_of_local, operand, set_local, take_top};
 use crate::plain::{place_after, same_truth};
 use crate::program::method_at;
 use crate::state::{Cell, State};
-use vm_model::Linked;
+use vm_model::{Linked, LinkedInstr};
 
 /// How many operands there are.
 #[inline(always)]
@@ -384,18 +384,37 @@ fn act_alone(state: &mut State, max: usize, plain: Plain<'_>) -> bool
     }
 }
 
-/// Takes a step that stays in its frame, where nothing is wrong with it. Else nothing changes.
-pub(crate) fn step_alone(state: &mut State, linked: &Linked) -> bool
-    ensures { StepsAlone (classes_of linked.now.classes.items) (state_of state.old) (state_of state.new) result }
+/// Takes the next step of the method that runs, whose code this is, where it stays in its frame and
+/// nothing is wrong with it. Else nothing changes.
+#[inline(always)]
+fn next_alone(state: &mut State, max: usize, code: &[LinkedInstr]) -> bool
+    requires { length code.now < 2 ^ 32 }
+    ensures { NextAlone max (map instr_of code.now) (state_of state.old) (state_of state.new) result }
 {
-    let Some(method) = method_at(linked, state.frame.class, state.frame.method) else {
-        return false;
-    };
-    let Some(instr) = method.code.as_slice().get(state.frame.place as usize) else {
+    let Some(instr) = code.get(state.frame.place as usize) else {
         return false;
     };
     match action_of(instr) {
-        Some(Action::Plain(plain)) => act_alone(state, usize::from(method.max_stack), plain),
+        Some(Action::Plain(plain)) => act_alone(state, max, plain),
         _ => false,
     }
+}
+
+/// Takes steps that stay in their frame, at most so many, up to the first with which something is
+/// wrong, and answers how many they were.
+pub(crate) fn steps_alone(state: &mut State, linked: &Linked, most: u32) -> u32
+    ensures most { result ≤ most }
+    ensures steps { AllAlone (classes_of linked.now.classes.items) (state_of state.old) result (state_of state.new) }
+{
+    let Some(method) = method_at(linked, state.frame.class, state.frame.method) else {
+        return 0;
+    };
+    let max = usize::from(method.max_stack);
+    let code = method.code.as_slice();
+    for taken in 0..most {
+        if !next_alone(state, max, code) {
+            return taken;
+        }
+    }
+    most
 }

@@ -1,6 +1,5 @@
 -- What a turn of a role makes of the world.
-use Rattle.std.proofs.Common.{Result, Ok, Err, OnErr, ◌≡◌, ℕ, zero, suc, ◌+◌, add-one, Bool, true, false, ◌<◌, List, [], ◌∷◌, ◌++◌, length, map, set, get_or, slice_get, slice_set, Option, Some, None, refl, sym, ap, ◌∙◌, subst, arith}
-use Rattle.std.specs.Bool.{OnTrue, OnFalse}
+use Rattle.std.proofs.Common.{Result, Ok, Err, OnErr, ◌≡◌, ℕ, zero, suc, ◌<◌, List, [], ◌∷◌, ◌++◌, length, map, set, get_or, slice_get, slice_set, Option, Some, None, refl, sym, ap, ◌∙◌, subst, arith}
 use Rattle.std.proofs.lemmas.List.{map-set}
 use Rattle.std.proofs.lemmas.Option.{slice_get-map, slice_get-get_or}
 use Rattle.mg_text.specs.declared.event.Event.{Event}
@@ -10,8 +9,6 @@ use Rattle.vm_model.specs.Machine.{Machine, Stepped, Went, Waits, Stops, noted}
 use Rattle.vm_model.specs.Step.{step}
 use Rattle.vm_world_law.specs.declared.role.RoleEvent.{RoleEvent}
 use Rattle.vm_world_law.specs.declared.role.Turned.{Turned}
-use Rattle.vm_world_law.specs.declared.role.Turned.TheVariants as answers
-use Rattle.vm_machine.specs.Alone.{StepsAlone}
 use Rattle.vm_world_law.specs.World as model
 use Rattle.vm_world_law.specs.World.{State, Runs, Over, World, of_role, turn, turn_in, stepped, turned, turned_in}
 use Rattle.vm_world.specs.declared.role.Role.{Role}
@@ -103,34 +100,3 @@ many (role ∷ roles) = ap suc (many roles)
 pub on_err_of : {A E P : Type 0} (r : Result A E) → P → OnErr r P
 on_err_of (Ok a) h = tt
 on_err_of (Err e) h = h
-
--- Turns that are taken alone.
-
-pub when_true : {P : Type 0} (b : Bool) → b ≡ true → OnTrue b P → P
-when_true true e h = h
-when_true false e h = absurd (cc e)
-
-pub when_false : {P : Type 0} (b : Bool) → b ≡ false → OnFalse b P → P
-when_false false e h = h
-when_false true e h = absurd (cc e)
-
-pub on_true_by : {P Q : Type 0} (b : Bool) → (P → Q) → OnTrue b P → OnTrue b Q
-on_true_by true f h = f h
-on_true_by false f h = tt
-
-pub on_false_by : {P Q : Type 0} (b : Bool) → (P → Q) → OnFalse b P → OnFalse b Q
-on_false_by false f h = f h
-on_false_by true f h = tt
-
-module _ (p : Program) (m n : Machine) where
-  pub alone_goes : (count : ℕ) (b : Bool) → b ≡ true → StepsAlone p m n b → (me : ℕ) (q : Messages) →
-      ◌≡◌ {A = Outcome} (record { role = record { state = Runs n; count = count + 1 }; messages = q; event = None; turned = answers.Went })
-      (outcome_of count m q (step p me m q))
-  alone_goes count true e h me q =
-      ap (λ k. record { role = record { state = Runs n; count = k }; messages = q; event = None; turned = answers.Went }) (add-one count)
-      ∙ sym (ap (outcome_of count m q) (h me q))
-  alone_goes count false e h = absurd (cc e)
-
-  pub alone_stays : (b : Bool) → b ≡ false → StepsAlone p m n b → n ≡ m
-  alone_stays false e h = h
-  alone_stays true e h = absurd (cc e)

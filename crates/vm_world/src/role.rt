@@ -1,9 +1,8 @@
 //! A role: its machine, or how it ended, and how many of its instructions were counted.
 //! A turn of it is one step.
 
-ghost use Rattle.std.specs.Prelude.{◌≡◌, ℕ, ◌<◌, ◌^◌, None, IfOk, OnErr};
-ghost use Rattle.std.specs.Bool.{OnFalse, OnTrue};
-ghost use Rattle.vm_model.specs.Messages.{Messages};
+ghost use Rattle.std.specs.Prelude.{◌≡◌, ◌+◌, ◌<◌, ◌≤◌, ◌^◌, IfOk, OnErr};
+ghost use Rattle.vm_world.specs.Alone.{RoleAlone};
 ghost use Rattle.vm_model.specs.View.{classes_of};
 ghost use Rattle.vm_world.specs.Outcome.{outcome};
 ghost use Rattle.vm_world.specs.View.{role_of, state_of};
@@ -101,19 +100,18 @@ pub(crate) fn take_turn(
     }
 }
 
-/// A turn of a role, where its step is a frequent one that tells nothing. Else nothing changes.
-pub(crate) fn turn_alone(role: &mut Role, linked: &Linked) -> bool
-    requires { role.old.count < 2 ^ 32 }
-    ensures yes { OnTrue result ((me : ℕ) (q : Messages) → record { role = role_of role.new; messages = q; event = None; turned = Turned.Went }
-        ≡ outcome (classes_of linked.now.classes.items) me (role_of role.old) q) }
-    ensures no { OnFalse result (role_of role.new ≡ role_of role.old) }
+/// Turns of a role whose steps are frequent ones that tell nothing, at most so many. The answer is
+/// how many they were.
+#[inline(always)]
+pub(crate) fn turns_alone(role: &mut Role, linked: &Linked, most: u32) -> u32
+    requires { role.old.count + most < 2 ^ 32 }
+    ensures most { result ≤ most }
+    ensures turns { RoleAlone (classes_of linked.now.classes.items) (role_of role.old) result (role_of role.new) }
 {
     let State::Runs(machine) = &mut role.state else {
-        return false;
+        return 0;
     };
-    if !machine.step_alone(linked) {
-        return false;
-    }
-    role.count += 1;
-    true
+    let taken = machine.steps_alone(linked, most);
+    role.count += u64::from(taken);
+    taken
 }

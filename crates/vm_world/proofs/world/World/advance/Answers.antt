@@ -1,28 +1,22 @@
--- Where no turn was taken alone nothing has changed.
-use Rattle.std.proofs.Common.{◌≡◌, Bool, true, ◌<◌, ◌^◌, ◌-◌, length, slice_get, IfOk, IfSome, sym, subst}
-use Rattle.vm_world_law.specs.World.{World}
-use Rattle.vm_world_law.specs.Turns.{Advances}
-use Rattle.vm_world_law.proofs.Moments.{went}
-use Rattle.vm_world.specs.Seen.{Seen}
-use Rattle.vm_world.proofs.Turning.{when_true, when_false}
+use Rattle.std.proofs.Common.{◌≡◌, Some, sym, ap, ◌∙◌, subst, true, false}
+use Rattle.vm_world_law.specs.World.{World, turned}
+use Rattle.vm_world_law.specs.Turns.{Advances, over_in}
+use Rattle.vm_world_law.proofs.Moments.{went, ended_now}
+use Rattle.vm_world_law.specs.declared.role.Turned.{Turned}
+use Rattle.vm_world_law.specs.declared.role.Turned.TheVariants as answers
 use Rattle.vm_world.proofs.world.World.advance.Goals as goal
 
-pub returns-then-turn_alone-clause-advances : goal.returns-then-turn_alone-clause-advances
-returns-then-turn_alone-clause-advances c =
-    subst (λ (v : World). Advances c.args.self.now.program c.args.self.now.world c.args.role v true)
-    (sym (when_true c.turn_alone.result c.if-turn_alone.true c.turn_alone.ensures.yes))
-    (went c.args.self.now.program c.args.self.now.world c.args.role (when_true c.turn_alone.result c.if-turn_alone.true c.turn_alone.ensures.went))
+pub returns-in-Went-clause-advances : goal.returns-in-Went-clause-advances
+returns-in-Went-clause-advances c =
+    let is : Some answers.Went ≡ turned c.args.self.now.program c.args.self.now.world c.args.role =
+    ap (λ (t : Turned). Some t) (sym c.in-Went.is) ∙ c.in_ok-turn.ensures.turned in
+    subst (λ (v : World). Advances c.args.self.now.program c.args.self.now.world c.args.role v true) (sym c.in_ok-turn.ensures.ok)
+    (went c.args.self.now.program c.args.self.now.world c.args.role is)
 
-pub advance_tested-requires-clause-number : goal.advance_tested-requires-clause-number
-advance_tested-requires-clause-number c =
-    subst (λ (s : Seen). c.args.role < length s.world.roles) (sym (when_false c.turn_alone.result c.if-turn_alone.false c.turn_alone.ensures.no)) c.requires.number
-
-pub advance_tested-requires-clause-count : goal.advance_tested-requires-clause-count
-advance_tested-requires-clause-count c =
-    subst (λ (s : Seen). IfSome (slice_get s.world.roles c.args.role) (λ r. r.count < 2 ^ 32 - 1))
-    (sym (when_false c.turn_alone.result c.if-turn_alone.false c.turn_alone.ensures.no)) c.requires.count
-
-pub returns-clause-advances : goal.returns-clause-advances
-returns-clause-advances c =
-    subst (λ (s : Seen). IfOk c.advance_tested.result (λ (b : Bool). Advances s.program s.world c.args.role c.advance_tested.new.self.world b))
-    (when_false c.turn_alone.result c.if-turn_alone.false c.turn_alone.ensures.no) c.advance_tested.ensures.advances
+pub returns-in-Ended-clause-advances : goal.returns-in-Ended-clause-advances
+returns-in-Ended-clause-advances c =
+    let is : Some (answers.Ended c.in-Ended._ending) ≡ turned c.args.self.now.program c.args.self.now.world c.args.role =
+    ap (λ (t : Turned). Some t) (sym c.in-Ended.is) ∙ c.in_ok-turn.ensures.turned in
+    let running : over_in c.args.self.now.world c.args.role ≡ false = sym c.is_over.ensures ∙ c.if-is_over.false in
+    subst (λ (v : World). Advances c.args.self.now.program c.args.self.now.world c.args.role v true) (sym c.in_ok-turn.ensures.ok)
+    (ended_now c.args.self.now.program c.args.self.now.world c.args.role c.in-Ended._ending running is)
