@@ -165,7 +165,10 @@ fn store(state: &mut State, max: usize, sort: Sort, local: u8) -> bool
     ensures { Alone max (actions.Store (sort_of sort) local) (state_of state.old) (state_of state.new) result }
 {
     let count = depth(state);
-    if count < 1 || count - 1 > max || !is_of_sort(sort, operand(state, 0)) {
+    if count < 1 || count - 1 > max {
+        return false;
+    }
+    if !is_of_sort(sort, operand(state, 0)) {
         return false;
     }
     let local = usize::from(local);

@@ -1,5 +1,5 @@
 -- What turns that are taken alone make of the world.
-use Rattle.std.proofs.Common.{◌≡◌, ℕ, zero, suc, ◌+◌, ◌<◌, List, [], ◌∷◌, ◌++◌, length, map, set, get_or, slice_get, slice_set, Option, Some, None, true, refl, sym, ap, ◌∙◌, subst, add-zero, add-suc, append-nil}
+use Rattle.std.proofs.Common.{◌≡◌, ℕ, zero, suc, ◌+◌, ◌<◌, List, [], ◌∷◌, ◌++◌, length, map, set, get_or, slice_get, slice_set, Option, Some, None, true, refl, sym, ap, ◌∙◌, subst, add-zero, add-suc, append-nil, ◌≤◌, arith}
 use Rattle.std.proofs.lemmas.List.{map-set}
 use Rattle.mg_text.specs.declared.event.Ending.{Ending}
 use Rattle.vm_model.specs.Program.{Program}
@@ -14,7 +14,8 @@ use Rattle.vm_world_law.specs.Turns.{Advances}
 use Rattle.vm_world_law.proofs.Moments.{went}
 use Rattle.vm_world.specs.declared.role.Role.{Role}
 use Rattle.vm_world.specs.View.{role_of, roles_of}
-use Rattle.vm_world.specs.Alone.{StateAlone, RoleAlone, TurnsAlone}
+use Rattle.vm_world.specs.Seen.{Seen}
+use Rattle.vm_world.specs.Alone.{StateAlone, RoleAlone, TurnsAlone, Counts}
 use Rattle.vm_world.proofs.Turning.{set_same, role_there}
 
 get_set : {A : Type 0} (xs : List A) (i : ℕ) (x y : A) → slice_get xs i ≡ Some x → slice_get (slice_set xs i y) i ≡ Some y
@@ -84,3 +85,14 @@ turns_world p roles i old lt is q events new k h =
     let w : World = record { roles = roles_of roles; messages = q; events = events } in
     subst (λ l. TurnsAlone p w i k (record { roles = l; messages = q; events = events })) (sym (map-set role_of roles i new))
     (by_roles p w i k (role_of old) (role_of new) (role_there roles i old lt is) h)
+
+-- some turns that were taken alone count
+pub counts_some : (p : Program) (w v : World) (r k : ℕ) → 0 < k → TurnsAlone p w r k v → Counts p w r k v
+counts_some p w v r zero some h = absurd (omega (arith, some))
+counts_some p w v r (suc k) some h = h
+
+-- where none was nothing has changed
+pub none_taken : (before after : Seen) (r k : ℕ) → after.program ≡ before.program → TurnsAlone before.program before.world r k after.world → k ≤ 0 →
+    after ≡ before
+none_taken before after r zero same h none = λ i. record { program = same i; world = h i }
+none_taken before after r (suc k) same h none = absurd (omega (arith, none))

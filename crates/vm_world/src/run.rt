@@ -63,11 +63,8 @@ impl World {
         if taken > 0 {
             return Ok(taken);
         }
-        if self.advance(alloc, role)? {
-            Ok(1)
-        } else {
-            Ok(0)
-        }
+        let counted = self.advance(alloc, role)?;
+        if counted { Ok(1) } else { Ok(0) }
     }
 
     /// Takes turns in this order, repeated as a cycle, up to the first moment at which the world
