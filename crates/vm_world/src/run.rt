@@ -48,7 +48,7 @@ impl World {
         }
     }
 
-    /// Turns of a role, at most so many: several only where all but the last tell nothing. The answer
+    /// Turns of a role, at most so many: several only where none of them tells anything. The answer
     /// is how many instructions were counted, none where the role has ended or waits.
     #[inline(always)]
     fn take_turns(&mut self, alloc: Global, role: u32, most: u32) -> Result<u32, Memory>
