@@ -1,5 +1,5 @@
 -- What turns that are taken alone make of the world.
-use Rattle.std.proofs.Common.{◌≡◌, ℕ, zero, suc, ◌+◌, ◌<◌, List, [], ◌∷◌, ◌++◌, length, map, set, get_or, slice_get, slice_set, Option, Some, None, true, refl, sym, ap, ◌∙◌, subst, add-zero, add-suc, append-nil, ◌≤◌, arith}
+use Rattle.std.proofs.Common.{◌≡◌, ℕ, zero, suc, ◌+◌, ◌<◌, List, [], ◌∷◌, ◌++◌, length, map, set, get_or, slice_get, slice_set, Option, Some, None, true, refl, sym, ap, ◌∙◌, subst, add-zero, add-suc, append-nil, ◌≤◌, ◌-◌, ◌^◌, Bool, false, IfSome, arith}
 use Rattle.std.proofs.lemmas.List.{map-set}
 use Rattle.mg_text.specs.declared.event.Ending.{Ending}
 use Rattle.vm_model.specs.Program.{Program}
@@ -96,3 +96,19 @@ pub none_taken : (before after : Seen) (r k : ℕ) → after.program ≡ before.
     after ≡ before
 none_taken before after r zero same h none = λ i. record { program = same i; world = h i }
 none_taken before after r (suc k) same h none = absurd (omega (arith, none))
+
+-- a turn by the general tests, behind none that was taken alone
+pub counts_one : (before now : Seen) (r : ℕ) (v : World) (b : Bool) → now ≡ before → b ≡ true → Advances now.program now.world r v b →
+    Counts before.program before.world r 1 v
+counts_one before now r v true same e a =
+    (before.world, (refl, subst (λ (s : Seen). Advances s.program s.world r v true) same a))
+counts_one before now r v false same e a = absurd (cc e)
+
+pub counts_none : (before now : Seen) (r : ℕ) (v : World) (b : Bool) → now ≡ before → b ≡ false → Advances now.program now.world r v b →
+    Counts before.program before.world r 0 v
+counts_none before now r v false same e a = subst (λ (s : Seen). Advances s.program s.world r v false) same a
+counts_none before now r v true same e a = absurd (cc e)
+
+pub still_room : (o : Option model.Role) (most : ℕ) → 0 < most → IfSome o (λ r. r.count + most < 2 ^ 32) → IfSome o (λ r. r.count < 2 ^ 32 - 1)
+still_room None most some h = tt
+still_room (Some role) most some h = omega (arith, some, h)
