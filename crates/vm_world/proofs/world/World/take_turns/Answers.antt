@@ -33,8 +33,8 @@ returns-then-counted-clause-turns c =
     counts_one c.args.self.now c.turns_alone-taken.new.self c.args.role c.advance.new.self.world c.in_ok-counted.counted same c.if-counted.true
     c.in_ok-counted.ensures.advances
 
-pub returns-clause-turns : goal.returns-clause-turns
-returns-clause-turns c =
+pub returns-else-counted-clause-turns : goal.returns-else-counted-clause-turns
+returns-else-counted-clause-turns c =
     let same : c.turns_alone-taken.new.self ≡ c.args.self.now =
     none_taken c.args.self.now c.turns_alone-taken.new.self c.args.role c.turns_alone-taken.result c.turns_alone-taken.ensures.program
     c.turns_alone-taken.ensures.turns c.if-taken-gt0.false in
