@@ -29,9 +29,7 @@ pub(crate) fn client(alloc: Global, picks: &[u32]) -> Result<Bytes, Memory>
     for (at, pick) in picks.iter().enumerate() {
         push_round(&mut out, at + 1, *pick)?;
     }
-    out.push_str(
-        "        a.send_stopToB();\n        System.out.println(t);\n    }\n}\n",
-    )?;
+    out.push_str("        a.send_stopToB();\n        System.out.println(t);\n    }\n}\n")?;
     Bytes::of(alloc, out.as_bytes())
 }
 

@@ -35,9 +35,6 @@ pub(crate) fn protocol(
     for number in 0..n {
         push_branch(&mut out, there, back, number)?;
     }
-    write!(
-        out,
-        "            stop() {there};\n        }}\n    }}\n}}\n"
-    )?;
+    write!(out, "            stop() {there};\n        }}\n    }}\n}}\n")?;
     Bytes::of(alloc, out.as_bytes())
 }

@@ -75,69 +75,90 @@ module _ (max : ℕ) (m m' : Machine) where
   stays is = (ap (λ (n : Machine). n.frame.class) is, ap (λ (n : Machine). n.frame.method) is)
 
   pub push_alone : (v : Value) → length m.frame.operands + 1 ≤ max → m' ≡ next m (m.frame.operands ++ v ∷ []) → Alone max (Push v) m m' true
-  push_alone v room is = (stays is, λ p most me q.
-      push_is p q m me v (nothing_wrong (needs p m (Push v)) m (None ∷ []) (omega arith) refl (omega arith) refl refl (omega arith))
-      ∙ ap (λ n. Went n q None) (sym is))
+  push_alone v room is = (
+    stays is,
+    λ p most me q.
+        push_is p q m me v (nothing_wrong (needs p m (Push v)) m (None ∷ []) (omega arith) refl (omega arith) refl refl (omega arith))
+        ∙ ap (λ n. Went n q None) (sym is),
+  )
 
   pub load_alone : (sort : Sort) (local : ℕ) (v : Value) → slice_get m.frame.locals local ≡ Some (Some v) → misfit_sort sort v ≡ None →
       length m.frame.operands + 1 ≤ max → m' ≡ next m (m.frame.operands ++ v ∷ []) → Alone max (Load sort local) m m' true
-  load_alone sort local v holds fits room is = (stays is, λ p most me q.
-      load_is p q m me sort local
-      (nothing_wrong (needs p m (Load sort local)) m (misfit_local sort (slice_get m.frame.locals local) ∷ []) (omega arith)
-      (ap (λ o. some_of is_kind (misfit_local sort o ∷ [])) holds ∙ ap (λ o. some_of is_kind (o ∷ [])) fits)
-      (let w : local < length m.frame.locals = slice_get_within m.frame.locals local (Some v) holds in omega arith)
-      (ap (λ o. some_of is_member (misfit_local sort o ∷ [])) holds ∙ ap (λ o. some_of is_member (o ∷ [])) fits) refl (omega arith))
-      ∙ ap (pushed q m m.frame.operands) holds ∙ ap (λ n. Went n q None) (sym is))
+  load_alone sort local v holds fits room is = (
+    stays is,
+    λ p most me q.
+        load_is p q m me sort local
+        (nothing_wrong (needs p m (Load sort local)) m (misfit_local sort (slice_get m.frame.locals local) ∷ []) (omega arith)
+        (ap (λ o. some_of is_kind (misfit_local sort o ∷ [])) holds ∙ ap (λ o. some_of is_kind (o ∷ [])) fits)
+        (let w : local < length m.frame.locals = slice_get_within m.frame.locals local (Some v) holds in omega arith)
+        (ap (λ o. some_of is_member (misfit_local sort o ∷ [])) holds ∙ ap (λ o. some_of is_member (o ∷ [])) fits) refl (omega arith))
+        ∙ ap (pushed q m m.frame.operands) holds ∙ ap (λ n. Went n q None) (sym is),
+  )
 
   pub increase_alone : (local : ℕ) (by : ℤ) (x : ℤ) → Some x ≡ int_of_local (slice_get m.frame.locals local) → length m.frame.operands ≤ max →
       m' ≡ next (with_local m local (values.Int (wrap (x +ℤ by)))) m.frame.operands → Alone max (Increase local by) m m' true
-  increase_alone local by x int room is = (stays is, λ p most me q.
-      let holds : slice_get m.frame.locals local ≡ Some (Some (values.Int x)) = local_int_is (slice_get m.frame.locals local) x int in
-      increase_is p q m me local by
-      (nothing_wrong (needs p m (Increase local by)) m (misfit_local Number (slice_get m.frame.locals local) ∷ []) (omega arith)
-      (ap (λ o. some_of is_kind (misfit_local Number o ∷ [])) holds)
-      (let w : local < length m.frame.locals = slice_get_within m.frame.locals local (Some (values.Int x)) holds in omega arith)
-      (ap (λ o. some_of is_member (misfit_local Number o ∷ [])) holds) refl (omega arith))
-      ∙ ap (increased_by q m m.frame.operands local by) (sym int) ∙ ap (λ n. Went n q None) (sym is))
+  increase_alone local by x int room is = (
+    stays is,
+    λ p most me q.
+        let holds : slice_get m.frame.locals local ≡ Some (Some (values.Int x)) = local_int_is (slice_get m.frame.locals local) x int in
+        increase_is p q m me local by
+        (nothing_wrong (needs p m (Increase local by)) m (misfit_local Number (slice_get m.frame.locals local) ∷ []) (omega arith)
+        (ap (λ o. some_of is_kind (misfit_local Number o ∷ [])) holds)
+        (let w : local < length m.frame.locals = slice_get_within m.frame.locals local (Some (values.Int x)) holds in omega arith)
+        (ap (λ o. some_of is_member (misfit_local Number o ∷ [])) holds) refl (omega arith))
+        ∙ ap (increased_by q m m.frame.operands local by) (sym int) ∙ ap (λ n. Went n q None) (sym is),
+  )
 
   pub go_alone : (target : ℕ) → length m.frame.operands ≤ max → m' ≡ at_place m target m.frame.operands → Alone max (Go target) m m' true
-  go_alone target room is = (stays is, λ p most me q.
-      go_is p q m me target (nothing_wrong (needs p m (Go target)) m (None ∷ []) (omega arith) refl (omega arith) refl refl (omega arith))
-      ∙ ap (λ n. Went n q None) (sym is))
+  go_alone target room is = (
+    stays is,
+    λ p most me q.
+        go_is p q m me target (nothing_wrong (needs p m (Go target)) m (None ∷ []) (omega arith) refl (omega arith) refl refl (omega arith))
+        ∙ ap (λ n. Went n q None) (sym is),
+  )
 
   module _ (some : 1 ≤ length m.frame.operands) where
     pub store_alone : (sort : Sort) (local : ℕ) (v : Value) → at_top m.frame.operands 0 ≡ Some v → misfit_sort sort v ≡ None →
         local < length m.frame.locals → length m.frame.operands - 1 ≤ max → m' ≡ next (with_local m local v) (below 1 m.frame.operands) →
         Alone max (Store sort local) m m' true
-    store_alone sort local v top fits within room is = (stays is, λ p most me q.
-        store_is p q m me sort local
-        (nothing_wrong (needs p m (Store sort local)) m (None ∷ misfits p m.heap (model.Sorted sort ∷ []) (on_top 1 m.frame.operands)) some
-        (ap (λ l. some_of is_kind (None ∷ misfits p m.heap (model.Sorted sort ∷ []) l)) (top_one m.frame.operands v some top)
-        ∙ ap (λ o. some_of is_kind (None ∷ o ∷ [])) fits)
-        (omega arith)
-        (ap (λ l. some_of is_member (None ∷ misfits p m.heap (model.Sorted sort ∷ []) l)) (top_one m.frame.operands v some top)
-        ∙ ap (λ o. some_of is_member (None ∷ o ∷ [])) fits) refl (omega arith))
-        ∙ ap (stored_by q m local (below 1 m.frame.operands)) top ∙ ap (λ n. Went n q None) (sym is))
+    store_alone sort local v top fits within room is = (
+      stays is,
+      λ p most me q.
+          store_is p q m me sort local
+          (nothing_wrong (needs p m (Store sort local)) m (None ∷ misfits p m.heap (model.Sorted sort ∷ []) (on_top 1 m.frame.operands)) some
+          (ap (λ l. some_of is_kind (None ∷ misfits p m.heap (model.Sorted sort ∷ []) l)) (top_one m.frame.operands v some top)
+          ∙ ap (λ o. some_of is_kind (None ∷ o ∷ [])) fits)
+          (omega arith)
+          (ap (λ l. some_of is_member (None ∷ misfits p m.heap (model.Sorted sort ∷ []) l)) (top_one m.frame.operands v some top)
+          ∙ ap (λ o. some_of is_member (None ∷ o ∷ [])) fits) refl (omega arith))
+          ∙ ap (stored_by q m local (below 1 m.frame.operands)) top ∙ ap (λ n. Went n q None) (sym is),
+    )
 
     pub pop_alone : length m.frame.operands - 1 ≤ max → m' ≡ next m (below 1 m.frame.operands) → Alone max Pop m m' true
-    pop_alone room is = (stays is, λ p most me q.
-        let t : There m.frame.operands 0 = there m.frame.operands 0 some in
-        pop_is p q m me
-        (nothing_wrong (needs p m Pop) m (None ∷ misfits p m.heap (model.Any ∷ []) (on_top 1 m.frame.operands)) some
-        (ap (λ l. some_of is_kind (None ∷ misfits p m.heap (model.Any ∷ []) l)) (top_one m.frame.operands t.value some t.is))
-        (omega arith)
-        (ap (λ l. some_of is_member (None ∷ misfits p m.heap (model.Any ∷ []) l)) (top_one m.frame.operands t.value some t.is)) refl (omega arith))
-        ∙ ap (λ n. Went n q None) (sym is))
+    pop_alone room is = (
+      stays is,
+      λ p most me q.
+          let t : There m.frame.operands 0 = there m.frame.operands 0 some in
+          pop_is p q m me
+          (nothing_wrong (needs p m Pop) m (None ∷ misfits p m.heap (model.Any ∷ []) (on_top 1 m.frame.operands)) some
+          (ap (λ l. some_of is_kind (None ∷ misfits p m.heap (model.Any ∷ []) l)) (top_one m.frame.operands t.value some t.is))
+          (omega arith)
+          (ap (λ l. some_of is_member (None ∷ misfits p m.heap (model.Any ∷ []) l)) (top_one m.frame.operands t.value some t.is)) refl (omega arith))
+          ∙ ap (λ n. Went n q None) (sym is),
+    )
 
     pub double_alone : (v w : Value) → at_top m.frame.operands 0 ≡ Some v → w ≡ v → length m.frame.operands + 1 ≤ max →
         m' ≡ next m (m.frame.operands ++ w ∷ []) → Alone max Double m m' true
-    double_alone v w top same room is = (stays is, λ p most me q.
-        double_is p q m me
-        (nothing_wrong (needs p m Double) m (None ∷ misfits p m.heap (model.Any ∷ []) (on_top 1 m.frame.operands)) some
-        (ap (λ l. some_of is_kind (None ∷ misfits p m.heap (model.Any ∷ []) l)) (top_one m.frame.operands v some top))
-        (omega arith)
-        (ap (λ l. some_of is_member (None ∷ misfits p m.heap (model.Any ∷ []) l)) (top_one m.frame.operands v some top)) refl (omega arith))
-        ∙ doubles q m m' m.frame.operands v w top same is)
+    double_alone v w top same room is = (
+      stays is,
+      λ p most me q.
+          double_is p q m me
+          (nothing_wrong (needs p m Double) m (None ∷ misfits p m.heap (model.Any ∷ []) (on_top 1 m.frame.operands)) some
+          (ap (λ l. some_of is_kind (None ∷ misfits p m.heap (model.Any ∷ []) l)) (top_one m.frame.operands v some top))
+          (omega arith)
+          (ap (λ l. some_of is_member (None ∷ misfits p m.heap (model.Any ∷ []) l)) (top_one m.frame.operands v some top)) refl (omega arith))
+          ∙ doubles q m m' m.frame.operands v w top same is,
+    )
 
     module _ (x : ℤ) (int : Some x ≡ int_in (at_top m.frame.operands 0)) where
       found : (p : Program) (test : Option BadKind → Bool) → test None ≡ false →
@@ -149,45 +170,57 @@ module _ (max : ℕ) (m m' : Machine) where
 
       pub negate_alone : length m.frame.operands ≤ max → m' ≡ next m (below 1 m.frame.operands ++ values.Int (wrap (neg_ℤ x)) ∷ []) →
           Alone max Negate m m' true
-      negate_alone room is = (stays is, λ p most me q.
-          negate_is p q m me
-          (nothing_wrong (needs p m Negate) m (None ∷ misfits p m.heap (model.number ∷ []) (on_top 1 m.frame.operands)) some
-          (found p is_kind refl) (omega arith) (found p is_member refl) refl (omega arith))
-          ∙ ap (negates_by q m (below 1 m.frame.operands)) (sym int) ∙ ap (λ n. Went n q None) (sym is))
+      negate_alone room is = (
+        stays is,
+        λ p most me q.
+            negate_is p q m me
+            (nothing_wrong (needs p m Negate) m (None ∷ misfits p m.heap (model.number ∷ []) (on_top 1 m.frame.operands)) some
+            (found p is_kind refl) (omega arith) (found p is_member refl) refl (omega arith))
+            ∙ ap (negates_by q m (below 1 m.frame.operands)) (sym int) ∙ ap (λ n. Went n q None) (sym is),
+      )
 
       pub if_zero_alone : (comparison : Comparison) (target place : ℕ) → length m.frame.operands - 1 ≤ max →
           place ≡ (if compares comparison x (pos 0) then target else m.frame.place + 1) → m' ≡ at_place m place (below 1 m.frame.operands) →
           Alone max (IfZero comparison target) m m' true
-      if_zero_alone comparison target place room to is = (stays is, λ p most me q.
-          if_zero_is p q m me comparison target
-          (nothing_wrong (needs p m (IfZero comparison target)) m (None ∷ misfits p m.heap (model.number ∷ []) (on_top 1 m.frame.operands)) some
-          (found p is_kind refl) (omega arith) (found p is_member refl) refl (omega arith))
-          ∙ ap (on_zero_by q m comparison target (below 1 m.frame.operands)) (sym int)
-          ∙ ap (λ k. Went (at_place m k (below 1 m.frame.operands)) q None) (sym to) ∙ ap (λ n. Went n q None) (sym is))
+      if_zero_alone comparison target place room to is = (
+        stays is,
+        λ p most me q.
+            if_zero_is p q m me comparison target
+            (nothing_wrong (needs p m (IfZero comparison target)) m (None ∷ misfits p m.heap (model.number ∷ []) (on_top 1 m.frame.operands)) some
+            (found p is_kind refl) (omega arith) (found p is_member refl) refl (omega arith))
+            ∙ ap (on_zero_by q m comparison target (below 1 m.frame.operands)) (sym int)
+            ∙ ap (λ k. Went (at_place m k (below 1 m.frame.operands)) q None) (sym to) ∙ ap (λ n. Went n q None) (sym is),
+      )
 
       pub switch_alone : (default : ℕ) (low : ℤ) (targets : List ℕ) (place : ℕ) → length m.frame.operands - 1 ≤ max →
           place ≡ switched default low targets x → m' ≡ at_place m place (below 1 m.frame.operands) →
           Alone max (Switch default low targets) m m' true
-      switch_alone default low targets place room to is = (stays is, λ p most me q.
-          switch_is p q m me default low targets
-          (nothing_wrong (needs p m (Switch default low targets)) m (None ∷ misfits p m.heap (model.number ∷ []) (on_top 1 m.frame.operands)) some
-          (found p is_kind refl) (omega arith) (found p is_member refl) refl (omega arith))
-          ∙ ap (switches_by q m default low targets (below 1 m.frame.operands)) (sym int)
-          ∙ ap (λ k. Went (at_place m k (below 1 m.frame.operands)) q None) (sym to) ∙ ap (λ n. Went n q None) (sym is))
+      switch_alone default low targets place room to is = (
+        stays is,
+        λ p most me q.
+            switch_is p q m me default low targets
+            (nothing_wrong (needs p m (Switch default low targets)) m (None ∷ misfits p m.heap (model.number ∷ []) (on_top 1 m.frame.operands)) some
+            (found p is_kind refl) (omega arith) (found p is_member refl) refl (omega arith))
+            ∙ ap (switches_by q m default low targets (below 1 m.frame.operands)) (sym int)
+            ∙ ap (λ k. Went (at_place m k (below 1 m.frame.operands)) q None) (sym to) ∙ ap (λ n. Went n q None) (sym is),
+      )
 
     pub if_null_alone : (wanted : Bool) (target place : ℕ) (v : Value) → at_top m.frame.operands 0 ≡ Some v → misfit_sort Reference v ≡ None →
         length m.frame.operands - 1 ≤ max → place ≡ (if same_truth wanted (is_null v) then target else m.frame.place + 1) →
         m' ≡ at_place m place (below 1 m.frame.operands) → Alone max (IfNull wanted target) m m' true
-    if_null_alone wanted target place v top fits room to is = (stays is, λ p most me q.
-        if_null_is p q m me wanted target
-        (nothing_wrong (needs p m (IfNull wanted target)) m (None ∷ misfits p m.heap (model.Sorted Reference ∷ []) (on_top 1 m.frame.operands)) some
-        (ap (λ l. some_of is_kind (None ∷ misfits p m.heap (model.Sorted Reference ∷ []) l)) (top_one m.frame.operands v some top)
-        ∙ ap (λ o. some_of is_kind (None ∷ o ∷ [])) fits)
-        (omega arith)
-        (ap (λ l. some_of is_member (None ∷ misfits p m.heap (model.Sorted Reference ∷ []) l)) (top_one m.frame.operands v some top)
-        ∙ ap (λ o. some_of is_member (None ∷ o ∷ [])) fits) refl (omega arith))
-        ∙ ap (on_null_by q m wanted target (below 1 m.frame.operands)) top
-        ∙ ap (λ k. Went (at_place m k (below 1 m.frame.operands)) q None) (sym to) ∙ ap (λ n. Went n q None) (sym is))
+    if_null_alone wanted target place v top fits room to is = (
+      stays is,
+      λ p most me q.
+          if_null_is p q m me wanted target
+          (nothing_wrong (needs p m (IfNull wanted target)) m (None ∷ misfits p m.heap (model.Sorted Reference ∷ []) (on_top 1 m.frame.operands)) some
+          (ap (λ l. some_of is_kind (None ∷ misfits p m.heap (model.Sorted Reference ∷ []) l)) (top_one m.frame.operands v some top)
+          ∙ ap (λ o. some_of is_kind (None ∷ o ∷ [])) fits)
+          (omega arith)
+          (ap (λ l. some_of is_member (None ∷ misfits p m.heap (model.Sorted Reference ∷ []) l)) (top_one m.frame.operands v some top)
+          ∙ ap (λ o. some_of is_member (None ∷ o ∷ [])) fits) refl (omega arith))
+          ∙ ap (on_null_by q m wanted target (below 1 m.frame.operands)) top
+          ∙ ap (λ k. Went (at_place m k (below 1 m.frame.operands)) q None) (sym to) ∙ ap (λ n. Went n q None) (sym is),
+    )
 
   module _ (some : 2 ≤ length m.frame.operands) (x y : ℤ) (first : Some x ≡ int_in (at_top m.frame.operands 1))
       (second : Some y ≡ int_in (at_top m.frame.operands 0)) where
@@ -200,24 +233,30 @@ module _ (max : ℕ) (m m' : Machine) where
 
     pub compute_alone : (operation : Operation) (z : ℤ) → Some z ≡ computed operation x y → length m.frame.operands - 1 ≤ max →
         m' ≡ next m (below 2 m.frame.operands ++ values.Int z ∷ []) → Alone max (Compute operation) m m' true
-    compute_alone operation z made room is = (stays is, λ p most me q.
-        compute_is p q m me operation
-        (nothing_wrong (needs p m (Compute operation)) m (None ∷ misfits p m.heap (model.number ∷ model.number ∷ []) (on_top 2 m.frame.operands)) some
-        (found_two p is_kind refl) (omega arith) (found_two p is_member refl) refl (omega arith))
-        ∙ ap (λ o. computes_by q m operation (below 2 m.frame.operands) o (int_in (at_top m.frame.operands 0))) (sym first)
-        ∙ ap (computes_by q m operation (below 2 m.frame.operands) (Some x)) (sym second)
-        ∙ ap (computed_to q m (below 2 m.frame.operands)) (sym made) ∙ ap (λ n. Went n q None) (sym is))
+    compute_alone operation z made room is = (
+      stays is,
+      λ p most me q.
+          compute_is p q m me operation
+          (nothing_wrong (needs p m (Compute operation)) m (None ∷ misfits p m.heap (model.number ∷ model.number ∷ []) (on_top 2 m.frame.operands)) some
+          (found_two p is_kind refl) (omega arith) (found_two p is_member refl) refl (omega arith))
+          ∙ ap (λ o. computes_by q m operation (below 2 m.frame.operands) o (int_in (at_top m.frame.operands 0))) (sym first)
+          ∙ ap (computes_by q m operation (below 2 m.frame.operands) (Some x)) (sym second)
+          ∙ ap (computed_to q m (below 2 m.frame.operands)) (sym made) ∙ ap (λ n. Went n q None) (sym is),
+    )
 
     pub if_both_alone : (comparison : Comparison) (target place : ℕ) → length m.frame.operands - 2 ≤ max →
         place ≡ (if compares comparison x y then target else m.frame.place + 1) → m' ≡ at_place m place (below 2 m.frame.operands) →
         Alone max (IfBoth comparison target) m m' true
-    if_both_alone comparison target place room to is = (stays is, λ p most me q.
-        if_both_is p q m me comparison target
-        (nothing_wrong (needs p m (IfBoth comparison target)) m (None ∷ misfits p m.heap (model.number ∷ model.number ∷ []) (on_top 2 m.frame.operands)) some
-        (found_two p is_kind refl) (omega arith) (found_two p is_member refl) refl (omega arith))
-        ∙ ap (λ o. on_both_by q m comparison target (below 2 m.frame.operands) o (int_in (at_top m.frame.operands 0))) (sym first)
-        ∙ ap (on_both_by q m comparison target (below 2 m.frame.operands) (Some x)) (sym second)
-        ∙ ap (λ k. Went (at_place m k (below 2 m.frame.operands)) q None) (sym to) ∙ ap (λ n. Went n q None) (sym is))
+    if_both_alone comparison target place room to is = (
+      stays is,
+      λ p most me q.
+          if_both_is p q m me comparison target
+          (nothing_wrong (needs p m (IfBoth comparison target)) m (None ∷ misfits p m.heap (model.number ∷ model.number ∷ []) (on_top 2 m.frame.operands)) some
+          (found_two p is_kind refl) (omega arith) (found_two p is_member refl) refl (omega arith))
+          ∙ ap (λ o. on_both_by q m comparison target (below 2 m.frame.operands) o (int_in (at_top m.frame.operands 0))) (sym first)
+          ∙ ap (on_both_by q m comparison target (below 2 m.frame.operands) (Some x)) (sym second)
+          ∙ ap (λ k. Went (at_place m k (below 2 m.frame.operands)) q None) (sym to) ∙ ap (λ n. Went n q None) (sym is),
+    )
 
 pub when_true : {P : Type 0} (b : Bool) → b ≡ true → OnTrue b P → P
 when_true true e h = h
@@ -257,9 +296,10 @@ module _ (p : Program) (m n : Machine) (same : SameMethod m n) (method : MethodO
 
   pub more_alone : (k : Machine) (taken max : ℕ) (code : List Instr) (b : Bool) → b ≡ true → AllAlone p m taken n → NextAlone max code n k b →
       method.max_stack ≡ max → method.code ≡ code → AllAlone p m (taken + 1) k × SameMethod m k
-  more_alone k taken max code true e all (stays, one) room here =
-      (subst (λ j. AllAlone p m j k) (sym (add-one taken)) (n, (all, one p (ap max_stack_in runs ∙ room) (ap code_in runs ∙ here))),
-      (stays.0 ∙ same.0, stays.1 ∙ same.1))
+  more_alone k taken max code true e all (stays, one) room here = (
+    subst (λ j. AllAlone p m j k) (sym (add-one taken)) (n, (all, one p (ap max_stack_in runs ∙ room) (ap code_in runs ∙ here))),
+    (stays.0 ∙ same.0, stays.1 ∙ same.1),
+  )
   more_alone k taken max code false e all h room here = absurd (cc e)
 
 pub all_alone : (p : Program) (m n k : Machine) (taken max : ℕ) (code : List Instr) (b : Bool) → b ≡ false → AllAlone p m taken n → NextAlone max code n k b →

@@ -56,10 +56,14 @@ module _ (p : Program) (w : World) (r : ℕ) where
       ap (λ l. record { roles = l; messages = w.messages; events = w.events })
       (ap (slice_set w.roles r) (ap (λ x. running x (count + 0)) same ∙ ap (running m) (add-zero count))
       ∙ set_same w.roles r (running m count) at)
-  turns_of m count (suc k) n at (x, (all, one)) =
-      (with_role w r (running x (count + k)), (turns_of m count k x at all,
+  turns_of m count (suc k) n at (x, (all, one)) = (
+    with_role w r (running x (count + k)),
+    (
+      turns_of m count k x at all,
       subst (λ c. Advances p (with_role w r (running x (count + k))) r (with_role w r (running n c)) true) (sym (add-suc count k))
-      (one_turn (running m count) x n (count + k) at one)))
+          (one_turn (running m count) x n (count + k) at one),
+    ),
+  )
 
   by_states : (k : ℕ) (s t : State) (c d : ℕ) → slice_get w.roles r ≡ Some (record { state = s; count = c }) → StateAlone p k s t → d ≡ c + k →
       TurnsAlone p w r k (with_role w r (record { state = t; count = d }))
