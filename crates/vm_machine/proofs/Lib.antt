@@ -4,6 +4,7 @@ pub mod Ints
 pub mod Acts
 pub mod Cases
 pub mod Whole
+pub mod Ready
 pub mod Frames
 pub mod Places
 pub mod Mains

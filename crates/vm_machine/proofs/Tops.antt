@@ -25,7 +25,7 @@ operand_at cs k c h e =
 pub below_map : (n : ℕ) (cs : List Cell) → below n (values_of cs) ≡ values_of (take (length cs - n) cs)
 below_map n cs = ap (λ k. take (k - n) (values_of cs)) (length-map cs value_of) ∙ take-map value_of (length cs - n) cs
 
-put_last : (cs : List Cell) (e : ℕ) (c : Cell) → e < length cs → set (take (suc e) cs) e c ≡ take e cs ++ c ∷ []
+pub put_last : (cs : List Cell) (e : ℕ) (c : Cell) → e < length cs → set (take (suc e) cs) e c ≡ take e cs ++ c ∷ []
 put_last [] e c h = absurd (omega arith)
 put_last (x ∷ cs) zero c h = refl
 put_last (x ∷ cs) (suc e) c h = ap (λ l. x ∷ l) (put_last cs e c (omega arith))

@@ -1,6 +1,7 @@
 pub mod State
 pub mod Table
 pub mod Doing
+pub mod Alone
 pub mod Needing
 pub mod Main
 pub mod inner

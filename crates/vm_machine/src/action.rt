@@ -105,6 +105,7 @@ pub(crate) enum Action<'a> {
 }
 
 /// What an opcode without arguments does.
+#[inline(always)]
 fn plain_action<'a>(op: u8) -> Option<Action<'a>>
     ensures { option_map action_of result ≡ model.plain_action op }
 {
@@ -134,6 +135,7 @@ fn plain_action<'a>(op: u8) -> Option<Action<'a>>
 }
 
 /// What an opcode with an int does.
+#[inline(always)]
 fn int_action<'a>(op: u8, value: i32) -> Option<Action<'a>>
     ensures { option_map action_of result ≡ model.int_action op value }
 {
@@ -144,6 +146,7 @@ fn int_action<'a>(op: u8, value: i32) -> Option<Action<'a>>
 }
 
 /// What an opcode with a text does.
+#[inline(always)]
 fn text_action<'a>(op: u8, text: &'a Rc<Text>) -> Option<Action<'a>>
     ensures { option_map action_of result ≡ model.text_action op text.now.value }
 {
@@ -154,6 +157,7 @@ fn text_action<'a>(op: u8, text: &'a Rc<Text>) -> Option<Action<'a>>
 }
 
 /// What an opcode with a local does.
+#[inline(always)]
 fn local_action<'a>(op: u8, local: u8) -> Option<Action<'a>>
     ensures { option_map action_of result ≡ model.local_action op local }
 {
@@ -167,6 +171,7 @@ fn local_action<'a>(op: u8, local: u8) -> Option<Action<'a>>
 }
 
 /// What an opcode with a place does.
+#[inline(always)]
 fn jump_action<'a>(op: u8, target: u32) -> Option<Action<'a>>
     ensures { option_map action_of result ≡ model.jump_action op target }
 {
@@ -192,6 +197,7 @@ fn jump_action<'a>(op: u8, target: u32) -> Option<Action<'a>>
 }
 
 /// What an opcode with a field does.
+#[inline(always)]
 fn field_action<'a>(op: u8, class: u32, field: u32) -> Option<Action<'a>>
     ensures { option_map action_of result ≡ model.field_action op class field }
 {
@@ -204,6 +210,7 @@ fn field_action<'a>(op: u8, class: u32, field: u32) -> Option<Action<'a>>
 
 /// What an opcode with a method does. A protocol method is called by `invokevirtual`, one that no
 /// protocol names by `invokespecial`.
+#[inline(always)]
 fn method_action<'a>(op: u8, class: u32, method: u32) -> Option<Action<'a>>
     ensures { option_map action_of result ≡ model.method_action op class method }
 {
@@ -221,6 +228,7 @@ fn method_action<'a>(op: u8, class: u32, method: u32) -> Option<Action<'a>>
 }
 
 /// The opcode by which a member of a built-in class is used.
+#[inline(always)]
 fn built_op(built: Built) -> u8
     ensures { result ≡ model.built_op built }
 {
@@ -233,6 +241,7 @@ fn built_op(built: Built) -> u8
 }
 
 /// What an instruction does. An opcode with arguments of another form does nothing.
+#[inline(always)]
 pub(crate) fn action_of(instr: &LinkedInstr) -> Option<Action<'_>>
     ensures { option_map action_of result ≡ model.action instr.now.op (args_of instr.now.args) }
 {

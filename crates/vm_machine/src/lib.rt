@@ -6,6 +6,7 @@ mod action;
 mod arithmetic;
 mod built;
 mod calls;
+mod frequent;
 mod machine;
 mod needs;
 mod objects;

@@ -1,7 +1,7 @@
 //! The machine as other crates see it.
 //! It starts at a `main`, takes one step at a time, and says for whose message it waits.
 
-ghost use Rattle.std.specs.Prelude.{◌≡◌, ◌<◌, ◌↔◌, length, position, IsTrue, IfSome, IfOk, OnErr};
+ghost use Rattle.std.specs.Prelude.{◌≡◌, ◌<◌, ◌≤◌, ◌↔◌, length, position, IsTrue, IfSome, IfOk, OnErr};
 ghost use Rattle.std.specs.Str.{bytes_eq};
 ghost use Rattle.vm_model.specs.View.{method_of, classes_of};
 ghost use Rattle.vm_model.specs.Program as program;
@@ -9,9 +9,11 @@ ghost use Rattle.vm_model.specs.Start.{IsStart, started, class_named, main_in, i
 ghost use Rattle.vm_model.specs.Step as model;
 ghost use Rattle.vm_machine.specs.State.{state_of};
 ghost use Rattle.vm_machine.specs.Doing.{Does, waits_in};
+ghost use Rattle.vm_machine.specs.Alone.{AllAlone};
 ghost use Rattle.vm_machine.specs.Main.{HasMain};
 
 use crate::calls::unset;
+use crate::frequent::steps_alone;
 use crate::program::{class_at, max_locals, method_at};
 use crate::state::{Frame, State};
 use crate::step::take_step;
@@ -143,6 +145,15 @@ impl Machine {
     {
         let state = start(alloc, linked, main)?;
         Ok(Machine { state })
+    }
+
+    /// Takes frequent steps with which nothing is wrong, at most so many, and answers how many they
+    /// were: steps that stay in their frame, tell nothing and look at no message. Nothing is allocated.
+    pub fn steps_alone(&mut self, linked: &Linked, most: u32) -> u32
+        ensures most { result ≤ most }
+        ensures steps { AllAlone (classes_of linked.now.classes.items) self.old result self.new }
+    {
+        steps_alone(&mut self.state, linked, most)
     }
 
     /// Takes a step of the role `me`: the next instruction's tests in their order, and then what it

@@ -170,7 +170,7 @@ pub(crate) fn increase(state: &mut State, local: u8, by: &i8) -> Stepped
 }
 
 /// The target where the test holds, else the next instruction.
-fn place_after(state: &State, target: u32, test: bool) -> u32
+pub(crate) fn place_after(state: &State, target: u32, test: bool) -> u32
     requires { state.now.frame.place < 2 ^ 32 - 1 }
     ensures { result ≡ (if test then target else state.now.frame.place + 1) }
 {
@@ -211,7 +211,7 @@ pub(crate) fn jump_on_both(state: &mut State, comparison: Comparison, target: u3
     Stepped::Went(None)
 }
 
-fn same_truth(wanted: bool, truth: bool) -> bool
+pub(crate) fn same_truth(wanted: bool, truth: bool) -> bool
     ensures { result ≡ model.same_truth wanted truth }
 {
     if wanted { truth } else { !truth }

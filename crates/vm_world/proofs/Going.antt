@@ -1,11 +1,12 @@
 -- How far a run of several roles has come.
 use Rattle.std.proofs.Common.{◌≡◌, ◌⊎◌, inl, inr, ◌<◌, ◌≤◌, ◌+◌, ◌-◌, ◌*◌, ◌/◌, ◌%◌, ◌^◌, ℕ, zero, suc, List, length, get_or, Option, Some, None, slice_get, true, false, Contains, IfSome, refl, sym, ap, ◌∙◌, subst, arith, mod-eq_of_lt}
 use Rattle.std.proofs.lemmas.Nat.{mod_below}
-use Rattle.std.proofs.Math.Nat.{div-add-mod', mul-add-mod_self_right}
+use Rattle.std.proofs.Math.Nat.{add-mul, div-add-mod', mul-add-mod_self_right}
 use Rattle.vm_model.specs.Program.{Program}
 use Rattle.vm_world_law.specs.World.{Role, World, turn, Rests}
 use Rattle.vm_world_law.specs.Turns.{role_of_turn, counted, StopsAt, IsRun, StillAt}
 use Rattle.vm_world_law.specs.Turns.{Advances}
+use Rattle.vm_world.specs.Alone.{TurnsAlone, Counts}
 use Rattle.vm_world_law.proofs.Moments.{Moment, first_moment, idle_moment, count_moment, rest_moment, run_here, count_within}
 use Rattle.vm_world_law.proofs.Stopping.{turn_long}
 use Rattle.vm_world.specs.Seen.{Seen}
@@ -100,22 +101,62 @@ module _ (p : Program) (first : World) (order : List ℕ) (limit : ℕ) where
       (inl (rest_moment p first order limit h.since idle now.world h.moment (λ r lt. named r (subst (λ n. r < n) h.long lt)) enough))
 
   -- no role counted as much as may be counted
-  pub room : (now : Seen) (left idle next r : ℕ) → Going p first order limit now left idle next → 0 < left → limit < 2 ^ 32 →
-      IfSome (slice_get now.world.roles r) (λ role. role.count < 2 ^ 32 - 1)
-  room now left idle next r h pos fits = go (slice_get now.world.roles r) refl
+  pub room : (now : Seen) (left idle next r most : ℕ) → Going p first order limit now left idle next → most ≤ left → limit < 2 ^ 32 →
+      IfSome (slice_get now.world.roles r) (λ role. role.count + most < 2 ^ 32)
+  room now left idle next r most h within fits = go (slice_get now.world.roles r) refl
     where
-      go : (o : Option Role) → slice_get now.world.roles r ≡ o → IfSome o (λ role. role.count < 2 ^ 32 - 1)
+      go : (o : Option Role) → slice_get now.world.roles r ≡ o → IfSome o (λ role. role.count + most < 2 ^ 32)
       go None at = tt
-      go (Some role) at = let le = count_within now.world.roles r role at in omega (arith, le, h.left_is, pos, fits)
+      go (Some role) at = let le = count_within now.world.roles r role at in omega (arith, le, h.left_is, within, fits)
+
+  -- Turns that are taken alone.
+  module _ (now : Seen) (left idle next : ℕ) (h : Going p first order limit now left idle next) (more : idle < length order)
+      (role : ℕ) (at : role ≡ get_or order next 0) where
+    -- in an order of one role the next is the same
+    stays : length order ≡ 1 → next ≡ (next + 1) % length order
+    stays one =
+        let lt : next < 1 = subst (λ n. next < n) one (in_order now left idle next h more) in
+        let e : next ≡ (next + 1) % 1 = omega arith in
+        subst (λ n. next ≡ (next + 1) % n) (sym one) e
+
+    in_a_row : (k : ℕ) (after : Seen) → after.program ≡ now.program → TurnsAlone now.program now.world role (suc k) after.world → suc k ≤ left →
+        length order ≡ 1 → Going p first order limit after (left - suc k) 0 next
+    in_a_row zero after same (u, (t, a)) le one =
+        following_count now left idle next h more role at after next same
+        (subst (λ (w : World). Advances now.program w role after.world true) t a) (stays one) (omega (arith, le))
+    in_a_row (suc k) after same (u, (t, a)) le one =
+        let s : Seen = record { program = now.program; world = u } in
+        let some : 0 < length order = omega (arith, one) in
+        let fewer : left - suc k - 1 ≡ left - suc (suc k) = omega arith in
+        subst (λ n. Going p first order limit after n 0 next) fewer
+        (following_count s (left - suc k) 0 next (in_a_row k s refl t (omega (arith, le)) one) some role at after next same a (stays one) (omega (arith, le)))
+
+    -- as many as may be taken in a row
+    pub following_alone : (k most : ℕ) (after : Seen) (place : ℕ) → after.program ≡ now.program → Counts now.program now.world role k after.world →
+        0 < k → k ≤ most → most ≤ left → (length order ≡ 1) ⊎ (most ≡ 1) → place ≡ (next + 1) % length order →
+        Going p first order limit after (left - k) 0 place
+    following_alone zero most after place same t pos within fits alone is = absurd (omega (arith, pos))
+    following_alone (suc k) most after place same t pos within fits (inl one) is =
+        subst (λ n. Going p first order limit after (left - suc k) 0 n) (stays one ∙ sym is) (in_a_row k after same t (omega (arith, within, fits)) one)
+    following_alone (suc zero) most after place same (u, (t, a)) pos within fits (inr one) is =
+        following_count now left idle next h more role at after place same
+        (subst (λ (w : World). Advances now.program w role after.world true) t a) is (omega (arith, fits, one))
+    following_alone (suc (suc k)) most after place same t pos within fits (inr one) is = absurd (omega (arith, within, one))
+
+at_least : (k m : ℕ) → 0 < k → m ≤ k * m
+at_least zero m pos = absurd (omega (arith, pos))
+at_least (suc k) m pos = let e : suc k * m ≡ k * m + m = grind arith in omega (arith, e)
 
 -- what is left gets less
-pub fewer_left : (left idle n : ℕ) → 0 < left → idle ≤ n → (left - 1) * (n + 1) + (n - 0) < left * (n + 1) + (n - idle)
-fewer_left zero idle n pos le = absurd (omega (arith, pos))
-fewer_left (suc left) idle n pos le =
-    let e : suc left * (n + 1) ≡ left * (n + 1) + (n + 1) = grind arith in
-    let one : suc left - 1 ≡ left = omega arith in
-    let f : (suc left - 1) * (n + 1) ≡ left * (n + 1) = ap (λ k. k * (n + 1)) one in
+pub fewer_left : (left k idle n : ℕ) → 0 < k → k ≤ left → idle ≤ n → (left - k) * (n + 1) + (n - 0) < left * (n + 1) + (n - idle)
+fewer_left left k idle n pos within le =
+    let whole : left - k + k ≡ left = omega (arith, within) in
+    let e : left * (n + 1) ≡ (left - k) * (n + 1) + k * (n + 1) = sym (ap (λ j. j * (n + 1)) whole) ∙ add-mul (left - k) k (n + 1) in
+    let f : n + 1 ≤ k * (n + 1) = at_least k (n + 1) pos in
     omega (arith, e, f, le)
 
 pub fewer_idle : (left idle n : ℕ) → idle < n → left * (n + 1) + (n - (idle + 1)) < left * (n + 1) + (n - idle)
 fewer_idle left idle n lt = omega (arith, lt)
+
+pub zero_is : (k : ℕ) → k ≤ 0 → k ≡ 0
+zero_is k h = omega (arith, h)

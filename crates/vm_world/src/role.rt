@@ -1,7 +1,8 @@
 //! A role: its machine, or how it ended, and how many of its instructions were counted.
 //! A turn of it is one step.
 
-ghost use Rattle.std.specs.Prelude.{◌≡◌, ◌<◌, ◌^◌, IfOk, OnErr};
+ghost use Rattle.std.specs.Prelude.{◌≡◌, ◌+◌, ◌<◌, ◌≤◌, ◌^◌, IfOk, OnErr};
+ghost use Rattle.vm_world.specs.Alone.{RoleAlone};
 ghost use Rattle.vm_model.specs.View.{classes_of};
 ghost use Rattle.vm_world.specs.Outcome.{outcome};
 ghost use Rattle.vm_world.specs.View.{role_of, state_of};
@@ -97,4 +98,20 @@ pub(crate) fn take_turn(
             }
         },
     }
+}
+
+/// Turns of a role whose steps are frequent ones that tell nothing, at most so many. The answer is
+/// how many they were.
+#[inline(always)]
+pub(crate) fn turns_alone(role: &mut Role, linked: &Linked, most: u32) -> u32
+    requires { role.old.count + most < 2 ^ 32 }
+    ensures most { result ≤ most }
+    ensures turns { RoleAlone (classes_of linked.now.classes.items) (role_of role.old) result (role_of role.new) }
+{
+    let State::Runs(machine) = &mut role.state else {
+        return 0;
+    };
+    let taken = machine.steps_alone(linked, most);
+    role.count += u64::from(taken);
+    taken
 }

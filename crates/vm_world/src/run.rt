@@ -2,8 +2,9 @@
 //! It stops where the world rests, which a whole cycle of turns that change nothing shows, or where
 //! so many instructions were counted.
 
-ghost use Rattle.std.specs.Prelude.{◌≡◌, ◌<◌, ◌^◌, ◌-◌, ◌+◌, ◌%◌, ℕ, Contains, length, slice_get, IfOk, IfSome};
+ghost use Rattle.std.specs.Prelude.{◌≡◌, ◌⊎◌, ◌<◌, ◌≤◌, ◌^◌, ◌-◌, ◌+◌, ◌%◌, ℕ, Contains, length, slice_get, IfOk, IfSome};
 ghost use Rattle.vm_world_law.specs.Turns.{counted, Advances, IsRun};
+ghost use Rattle.vm_world.specs.Alone.{Counts};
 
 use crate::world::World;
 use mg_text::Memory;
@@ -16,6 +17,17 @@ fn following(place: usize, count: usize) -> usize
     ensures { result ≡ (place + 1) % count }
 {
     (place + 1) % count
+}
+
+/// How many turns in a row a role may take, in an order of so many: where it is alone all that are
+/// left.
+fn most_in_a_row(count: usize, left: u32) -> u32
+    requires { 0 < left }
+    ensures some { 0 < result }
+    ensures within { result ≤ left }
+    ensures alone { (count ≡ 1) ⊎ (result ≡ 1) }
+{
+    if count == 1 { left } else { 1 }
 }
 
 impl World {
@@ -36,6 +48,25 @@ impl World {
         }
     }
 
+    /// Turns of a role, at most so many: several only where none of them tells anything. The answer
+    /// is how many instructions were counted, none where the role has ended or waits.
+    #[inline(always)]
+    fn take_turns(&mut self, alloc: Global, role: u32, most: u32) -> Result<u32, Memory>
+        requires number { role < length self.old.world.roles }
+        requires some { 0 < most }
+        requires count { IfSome (slice_get self.old.world.roles role) (λ r. r.count + most < 2 ^ 32) }
+        ensures program { self.new.program ≡ self.old.program }
+        ensures most { IfOk result (λ k. k ≤ most) }
+        ensures turns { IfOk result (λ k. Counts self.old.program self.old.world role k self.new.world) }
+    {
+        let taken = self.turns_alone(role, most);
+        if taken > 0 {
+            return Ok(taken);
+        }
+        let counted = self.advance(alloc, role)?;
+        if counted { Ok(1) } else { Ok(0) }
+    }
+
     /// Takes turns in this order, repeated as a cycle, up to the first moment at which the world
     /// rests or `limit` instructions were counted.
     ///
@@ -54,9 +85,10 @@ impl World {
         while left > 0 && idle < order.len() {
             let role = order[next];
             next = following(next, order.len());
-            let counted = self.advance(alloc, role)?;
-            if counted {
-                left -= 1;
+            let most = most_in_a_row(order.len(), left);
+            let counted = self.take_turns(alloc, role, most)?;
+            if counted > 0 {
+                left -= counted;
                 idle = 0;
                 continue;
             }

@@ -1,18 +1,19 @@
 //! The world as other crates see it.
 //! A turn is one step of a role's machine; whoever waits or has ended changes nothing.
 
-ghost use Rattle.std.specs.Prelude.{◌≡◌, ◌<◌, ◌^◌, ◌-◌, ◌++◌, ◌↔◌, [], length, map, option_map, slice_get, IsTrue, IfOk, OnErr, IfSome};
+ghost use Rattle.std.specs.Prelude.{◌≡◌, ◌+◌, ◌<◌, ◌≤◌, ◌^◌, ◌-◌, ◌++◌, ◌↔◌, [], length, map, option_map, slice_get, IsTrue, IfOk, OnErr, IfSome};
 ghost use Rattle.std.specs.List.{IsDistinct, AllByRecursion};
 ghost use Rattle.std.specs.Str.{bytes_eq};
 ghost use Rattle.vm_model.specs.View.{classes_of};
 ghost use Rattle.vm_machine.specs.Main.{HasMain};
 ghost use Rattle.vm_world_law.specs.World as model;
 ghost use Rattle.vm_world_law.specs.Turns.{over_in};
+ghost use Rattle.vm_world.specs.Alone.{TurnsAlone};
 ghost use Rattle.vm_world.specs.Resting.{GoesOn};
 ghost use Rattle.vm_world.specs.View.{roles_of, ending_in};
 ghost use Rattle.vm_model.specs.Machine.{noted};
 
-use crate::role::{Role, State, Taken, take_turn};
+use crate::role::{Role, State, Taken, take_turn, turns_alone};
 use mg_text::{Ending, Event, List, Memory, Text};
 use std::alloc::Global;
 use std::marker::Model;
@@ -130,6 +131,19 @@ impl World {
         let Taken { turned, event } = taken;
         note(&mut self.events, role, event);
         Ok(turned)
+    }
+
+    /// Turns of a role whose steps are frequent ones that tell nothing, at most so many. The answer
+    /// is how many they were.
+    #[inline(always)]
+    pub(crate) fn turns_alone(&mut self, role: u32, most: u32) -> u32
+        requires number { role < length self.old.world.roles }
+        requires count { IfSome (slice_get self.old.world.roles role) (λ r. r.count + most < 2 ^ 32) }
+        ensures program { self.new.program ≡ self.old.program }
+        ensures most { result ≤ most }
+        ensures turns { TurnsAlone self.old.program self.old.world role result self.new.world }
+    {
+        turns_alone(&mut self.roles[role as usize], &self.linked, most)
     }
 
     /// The role for whose message the next instruction of a role waits, where that hasn't ended.
