@@ -1,10 +1,8 @@
 -- Files have one run of these roles, and files that are refused have none.
-use Rattle.std.proofs.Common.{◌≡◌, ◌≢◌, ℕ, List, [], ◌∷◌, ◌++◌, Bool, map, Some, None, Result, Ok, Err, if◌then◌else◌, refl, sym, ap, ap₂, ◌∙◌, subst}
+use Rattle.std.proofs.Common.{◌≡◌, ◌≢◌, ℕ, List, [], ◌∷◌, ◌++◌, Bool, map, Some, None, Result, Ok, Err, if◌then◌else◌, sym, ap, ◌∙◌, subst}
 use Rattle.std.specs.Prelude.{OnOk}
-use Rattle.std.specs.List.{AllByRecursion}
-use Rattle.cls_tree.specs.Tree.{Class as File}
 use Rattle.vm_model.specs.Program.{Program}
-use Rattle.vm_model.specs.Links.{Links, linked}
+use Rattle.vm_model.specs.Links.{linked}
 use Rattle.jv_core.specs.Tree as Core
 use Rattle.jv_core.specs.Meaning.{main_of}
 use Rattle.gen_rules.specs.Limits.{IsFirstExcess}
@@ -24,7 +22,7 @@ use Rattle.mg_compile.specs.declared.files.ClassFile.{ClassFile}
 use Rattle.mg_compile.specs.Files.{AreClassFiles}
 use Rattle.mg_compile.proofs.Apart.{one_list, not_exceeded}
 use Rattle.mg_runs.specs.declared.ran.Ran.{Ran}
-use Rattle.mg_runs.specs.Runs.{AreSpelled, IsLoaded, HaveMains, names_of}
+use Rattle.mg_runs.specs.Runs.{IsLoaded, HaveMains, names_of}
 use Rattle.mg_runs.specs.Headline.{Course, IsRun}
 use Rattle.mg_runs.specs.View.{Shows, IsRunning, IsThatRun}
 use Rattle.mg_runs.specs.Commanded.{Refusal, unaccepted, no_main, too_large}

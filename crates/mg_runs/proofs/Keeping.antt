@@ -1,21 +1,21 @@
 -- Roles of accepted files keep to the typestates, at each moment.
-use Rattle.std.proofs.Common.{◌≡◌, ◌≢◌, ℕ, suc, List, [], Option, Some, None, slice_get, refl, sym, ap, ◌∙◌, subst, append-nil}
+use Rattle.std.proofs.Common.{◌≡◌, ℕ, suc, List, [], sym, ap, ◌∙◌, subst, append-nil}
 use Rattle.mg_text.specs.declared.event.Event.{Event}
 use Rattle.mg_text.specs.declared.event.Ending.{Ending}
 use Rattle.mg_text.specs.declared.event.Ending.TheVariants as endings
 use Rattle.jv_mean.specs.Alike.{Prefix}
 use Rattle.jv_mean.specs.Values.{Finish, Wait, Ended, Inputs}
-use Rattle.jv_meaning.specs.Calls.{Follows, Finished}
+use Rattle.jv_meaning.specs.Calls.{Finished}
 use Rattle.jv_meaning.specs.Meaning.{mean}
 use Rattle.jv_rules.specs.Program.{Program as Sources}
 use Rattle.vm_model.specs.Program.{Program}
 use Rattle.vm_world_law.specs.declared.role.RoleMain.{RoleMain}
 use Rattle.vm_world_law.specs.declared.stand.Stand.{Stand}
 use Rattle.vm_world_law.specs.declared.stand.Stand.TheVariants as stands
-use Rattle.vm_world_law.specs.World.{State, Runs, Over, Role, World, events_of}
+use Rattle.vm_world_law.specs.World.{State, Over, Role, World, events_of}
 use Rattle.vm_world_law.specs.Turns.{stand_of}
 use Rattle.vm_world_law.proofs.Lists.{some_is}
-use Rattle.world_meant_law.specs.Meant.{finish_of, Means}
+use Rattle.world_meant_law.specs.Meant.{Means}
 use Rattle.world_meant_law.specs.Worlds.{inputs_of, Shows, IsMeant}
 use Rattle.use_meant_law.specs.Laws.{KeepsTo}
 use Rattle.mg_kept_law.specs.Laws.{AcceptedKeepTypestates}

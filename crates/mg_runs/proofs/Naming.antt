@@ -1,5 +1,5 @@
 -- Methods and classes by their names.
-use Rattle.std.proofs.Common.{◌≡◌, ◌≢◌, ◌↔◌, ◌&&◌, ◌||◌, ◌+◌, IsTrue, ℕ, suc, Bool, true, false, not, cond, List, [], ◌∷◌, length, map, Option, Some, None, nat_lt, nat_eq, refl, sym, ap, ◌∙◌, subst}
+use Rattle.std.proofs.Common.{◌≡◌, ◌≢◌, ◌↔◌, ◌&&◌, ◌||◌, ◌+◌, IsTrue, ℕ, suc, Bool, true, false, not, cond, List, [], ◌∷◌, length, map, Some, None, nat_lt, nat_eq, refl, sym, ap, ◌∙◌}
 use Rattle.std.proofs.lemmas.List.{length-map}
 use Rattle.std.specs.List.{position, position_or_len, list_any}
 use Rattle.mg_text.specs.Call.{Name}

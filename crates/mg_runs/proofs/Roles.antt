@@ -1,6 +1,5 @@
 -- Whatever roles run the classes: each does what is meant, and takes what was sent to it.
-use Rattle.std.proofs.Common.{◌≡◌, ◌≢◌, ◌<◌, ◌≤◌, ℕ, zero, suc, List, [], ◌∷◌, length, map, None, Some, Contains, slice_get, refl, sym, ap, ◌∙◌, subst, arith}
-use Rattle.std.specs.List.{AllByRecursion}
+use Rattle.std.proofs.Common.{◌≡◌, ◌≢◌, ◌<◌, ℕ, zero, suc, List, [], ◌∷◌, length, map, None, Some, slice_get, sym, ap, ◌∙◌, subst}
 use Rattle.jv_core.specs.Tree as Core
 use Rattle.jv_core.specs.Meaning.{main_of}
 use Rattle.jv_meaning.specs.Meaning.{mean}
@@ -8,13 +7,13 @@ use Rattle.vm_model.specs.Program.{Program}
 use Rattle.vm_model.specs.Messages.{no_messages}
 use Rattle.vm_world_law.specs.declared.role.RoleMain.{RoleMain}
 use Rattle.vm_world_law.specs.World.{Role, World, turns, IsBegun, IsFresh}
-use Rattle.vm_world_law.specs.Laws.{BegunIsFresh, TurnsDeliver, OrderIsFree, OrderIsFreeFrom}
+use Rattle.vm_world_law.specs.Laws.{BegunIsFresh, TurnsDeliver, OrderIsFreeFrom}
 use Rattle.vm_world_law.specs.Turns as turning
 use Rattle.vm_world_law.proofs.Lists.{got_within, get_within}
 use Rattle.vm_world_law.proofs.Alone.{kept_by}
 use Rattle.vm_world_law.proofs.Begun.{begun_is_fresh}
 use Rattle.vm_world_law.proofs.Order.{order_is_free}
-use Rattle.vm_world_law.proofs.Once.{begun_many, begun_counted, turns_long}
+use Rattle.vm_world_law.proofs.Once.{begun_many, turns_long}
 use Rattle.world_meant_law.specs.Worlds.{IsMeant, WorldsAreMeant}
 use Rattle.mg_sources.specs.Files.{Source}
 use Rattle.mg_program.specs.Program.{HaveCore}

@@ -1,8 +1,7 @@
 -- What running roles answers.
-use Rattle.std.proofs.Common.{◌≡◌, ◌≢◌, ◌<◌, ℕ, zero, suc, List, [], ◌∷◌, ◌++◌, Bool, None, Some, Err, map, length, take, drop, get_or, slice_get, refl, sym, ap, ◌∙◌, arith}
+use Rattle.std.proofs.Common.{◌≡◌, ℕ, zero, suc, List, [], ◌∷◌, ◌++◌, Bool, Some, Err, length, take, drop, get_or, slice_get, sym, ap, ◌∙◌}
 use Rattle.std.proofs.lemmas.Option.{get_or_from_slice_get}
 use Rattle.jv_core.specs.Tree as Core
-use Rattle.jv_core.specs.Meaning.{main_of}
 use Rattle.vm_world_law.specs.declared.role.RoleMain.{RoleMain}
 use Rattle.vm_world_law.specs.World.{turns}
 use Rattle.mg_sources.specs.Files.{Source, sources}
@@ -19,7 +18,6 @@ use Rattle.mg_compile.specs.inner.Answers.{AreGiven, excess_fault}
 use Rattle.mg_runs.specs.declared.ran.Ran.{Ran}
 use Rattle.mg_runs.specs.Lines.{no_main_line}
 use Rattle.mg_runs.specs.Runs.{HaveMains}
-use Rattle.mg_runs.specs.Headline.{ProtocolsAgree}
 use Rattle.mg_runs.specs.Commanded.{unaccepted, no_main, too_large}
 use Rattle.mg_runs.specs.Laws.{RolesAreMeant, RolesKeep, RolesPlay, AllProtocolsAgree}
 use Rattle.mg_runs.specs.View.{IsOfRun, IsRunning}
