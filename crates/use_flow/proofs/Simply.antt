@@ -3,13 +3,15 @@ use Rattle.std.proofs.Common.{◌≡◌, ℕ, List, [], ◌∷◌, ◌++◌, Opt
 use Rattle.std.specs.Prelude.{slice_set, codes}
 use Rattle.mg_text.specs.Call.{Name}
 use Rattle.mg_text.specs.declared.place.Place.{Place}
+use Rattle.ts_tree.specs.Typestate.{Typestate}
 use Rattle.jv_core.specs.declared.tree.CoreVar.{CoreVar}
 use Rattle.jv_core.specs.Tree.{Expr}
 use Rattle.use_flow.specs.declared.evaluated.Value.{Value}
 use Rattle.use_rules.specs.declared.demand.Demand.{Demand}
 use Rattle.use_rules.specs.declared.demand.DemandKind.TheVariants as demands
 use Rattle.use_flow.specs.declared.elements.Rule.TheVariants as judging
-use Rattle.use_rules.specs.Elements.{Set, if_state}
+use Rattle.use_rules.specs.Elements.{Set, if_open}
+use Rattle.use_rules.specs.Keys.{typestate_of}
 use Rattle.use_rules.specs.State.{Now, Out, Log, Jump, joined, judged}
 use Rattle.use_rules.specs.Flow.{Evaluated, flow, placed}
 use Rattle.use_flow.specs.inner.Ending.{answer_of, left}
@@ -54,12 +56,13 @@ module _ (s : Followed) (log : Log) (e : Expr) (la : Log) (n : Now) where
       flow n [] la ≡ printed s e sets log
   printed_is sets v ev en = ap (λ (y : Now). flow y [] la) en ∙ ap printed_flow ev
 
-  pub dropped_is : (q : Place) (c : ℕ) (sets : List Set) (v : Value) (ds' : List Demand) → evaluated_of v la ≡ eval s 0 e (Some sets) log →
-      n ≡ joined (yes_of v.ways) (no_of v.ways) → ds' ≡ la.failed ++ judged (if_state demands.LeftOpen) q (codes "value") c v.set →
+  pub dropped_is : (q : Place) (c : ℕ) (ts : Typestate) (sets : List Set) (v : Value) (ds' : List Demand) → ts ≡ typestate_of s.program c → evaluated_of v la ≡ eval s 0 e (Some sets) log →
+      n ≡ joined (yes_of v.ways) (no_of v.ways) → ds' ≡ la.failed ++ judged (if_open demands.LeftOpen ts) q (codes "value") c v.set →
       flow n [] (record { outs = la.outs; failed = ds' }) ≡ dropped_flow s q c (eval s 0 e (Some sets) log)
-  dropped_is q c sets v ds' ev en ed =
+  dropped_is q c ts sets v ds' et ev en ed =
       ap (λ (y : Now). flow y [] (record { outs = la.outs; failed = ds' })) en
-      ∙ ap (λ (y : List Demand). flow (joined (yes_of v.ways) (no_of v.ways)) [] (record { outs = la.outs; failed = y })) ed
+      ∙ ap (λ (y : List Demand). flow (joined (yes_of v.ways) (no_of v.ways)) [] (record { outs = la.outs; failed = y }))
+      (ed ∙ ap (λ (ts : Typestate). la.failed ++ judged (if_open demands.LeftOpen ts) q (codes "value") c v.set) et)
       ∙ ap (dropped_flow s q c) ev
 
   pub returned_is : (q : Place) (sc : List ℕ) (sets : List Set) (v : Value) (label : Option Name) (lb : Log) →
