@@ -5,6 +5,7 @@ use Rattle.std.proofs.lemmas.Grind.{flat_map-append}
 use Rattle.std.proofs.lemmas.List.{append-nil, take_all}
 use Rattle.ts_tree.specs.Typestate.{Method, State}
 use Rattle.ts_read.specs.Layout.{listed, line_feed, method_text, drop_line, entry_lines, lines}
+use Rattle.ts_read.specs.inner.Printing.{behind}
 
 module _ {X : Type 0} (f : X → List ℕ) where
   -- each text behind a comma and a space
@@ -35,10 +36,6 @@ module _ {X : Type 0} (f : X → List ℕ) where
       ∙ ap (λ t. t ++ behind_commas (take (length xs - 1) (drop 1 xs))) begun
       ∙ append_assoc old (f x) _
       ∙ ap (λ t. old ++ t) (sym (listed_first xs x h is))
-
--- each text on a line of its own, behind a comma
-abbrev pub behind : List (List ℕ) → List ℕ
-behind = flat_map (λ t. codes ",\n" ++ t)
 
 -- the first text, the others, and the end of the last line
 lines-cons : (t : List ℕ) (ts : List (List ℕ)) → lines (t ∷ ts) ≡ t ++ (behind ts ++ line_feed)

@@ -3,3 +3,4 @@ pub mod Signing
 pub mod Deciding
 pub mod Composing
 pub mod Building
+pub mod Printing

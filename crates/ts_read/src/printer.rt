@@ -5,7 +5,7 @@ ghost use Rattle.std.specs.Prelude.{◌≡◌, ◌++◌, OnOk, string_bytes, map
 ghost use Rattle.std.specs.List.{flat_map};
 ghost use Rattle.ts_tree.specs.View.{target_of, method_of, state_of};
 ghost use Rattle.ts_read.specs.Layout.{layout, listed, type_text, to_text, branch_text, target_text, method_text, drop_line, entry_lines, lines, state_text};
-ghost use Rattle.ts_read.proofs.Separated.{behind};
+ghost use Rattle.ts_read.specs.inner.Printing.{behind};
 
 use mg_text::Memory;
 use ts_tree::{Branch, Method, State, Target, To, TypeName, Typestate};
