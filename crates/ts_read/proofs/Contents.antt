@@ -109,7 +109,7 @@ not_left : (earlier : List WEntry) (seen : List Name) (p : Place) (c : Culprit) 
 not_left earlier seen p c k (is, offer n, among, same) = same
 not_left earlier seen p c k (is, drop_end q, among, same) = let no : false ≡ true = k.left q among in cc
 
-pub twice_judged : (earlier : List WEntry) (dropped : Bool) (seen : List Name) (es : List WrittenEntry) → Knows earlier dropped seen
+twice_judged : (earlier : List WEntry) (dropped : Bool) (seen : List Name) (es : List WrittenEntry) → Knows earlier dropped seen
     → Judged IsTwice (behind earlier (map wentry_of es)) (twice_in dropped seen es)
 twice_judged earlier dropped seen [] k = clean
 twice_judged earlier dropped seen (entries.Method m ∷ es) k =
