@@ -255,13 +255,13 @@ no_offer m p e = absurd cc
 once_entries : (earlier : List WEntry) (seen : List Naming) (ms : List WMethod) (p : Place) (b : Bool)
     → ((m : WMethod) → Contains earlier (offer m) → Contains (texts seen) m.name.text) → ((q : Place) → Contains earlier (drop_end q) → ⊥)
     → Clean IsRepeat (behind seen (map (λ (m : WMethod). m.name) ms)) → Clean IsTwice (behind earlier (map offer ms ++ drop_last p b))
-once_entries earlier seen [] p false met none h = tt
-once_entries earlier seen [] p true met none h = ((λ c g. left c g), tt)
+once_entries earlier seen [] p false met unmarked h = tt
+once_entries earlier seen [] p true met unmarked h = ((λ c g. left c g), tt)
   where
     left : (c : Culprit) → IsTwice (earlier, drop_end p) c → ⊥
     left c (is, offer m, among, same) = same
-    left c (is, drop_end q, among, same) = none q among
-once_entries earlier seen (m ∷ ms) p b met none h =
+    left c (is, drop_end q, among, same) = unmarked q among
+once_entries earlier seen (m ∷ ms) p b met unmarked h =
     ((λ c g. twice c g), once_entries (earlier ++ offer m ∷ []) (seen ++ m.name ∷ []) ms p b more still h.1)
   where
     twice : (c : Culprit) → IsTwice (earlier, offer m) c → ⊥
@@ -276,7 +276,7 @@ once_entries earlier seen (m ∷ ms) p b met none h =
         ])
 
     still : (q : Place) → Contains (earlier ++ offer m ∷ []) (drop_end q) → ⊥
-    still q g = elim (Contains-push_cases earlier (offer m) (drop_end q) g) [ inl old ↦ none q old | inr e ↦ no_offer m q e ]
+    still q g = elim (Contains-push_cases earlier (offer m) (drop_end q) g) [ inl old ↦ unmarked q old | inr e ↦ no_offer m q e ]
 
 once_ordered : (s : WState) → Clean IsTwice (with_earlier s.entries) → Clean IsTwice (with_earlier (ordered s))
 once_ordered s h =
