@@ -143,11 +143,7 @@ fn asked(rule: Rule, typestate: Option<&Typestate>, element: usize) -> Option<De
 
 // The demand that no state meets but one that is marked drop.
 #[tactic(auto, using(crate::proofs::Leading::leading))]
-fn open_asked(
-    kind: DemandKind,
-    typestate: Option<&Typestate>,
-    element: usize,
-) -> Option<DemandKind>
+fn open_asked(kind: DemandKind, typestate: Option<&Typestate>, element: usize) -> Option<DemandKind>
     ensures { result ≡ if_open kind (typestate_or_end (option_map (λ t. t.now) typestate.entry)) element }
 {
     if element < 3 {
