@@ -4,7 +4,7 @@ use Rattle.std.specs.Str.{bytes_eq}
 use Rattle.mg_text.specs.Call.{Name, Call}
 use Rattle.mg_text.specs.declared.event.Event.{Event}
 use Rattle.ts_tree.specs.Typestate.{Typestate}
-use Rattle.ts_tree.specs.Calls.{Path, Ends}
+use Rattle.ts_tree.specs.Calls.{Path, MayBeLeft}
 use Rattle.jv_mean.specs.Seen.{Results, Classes, told, calls_told}
 use Rattle.jv_mean.specs.Seen as seen
 use Rattle.jv_core.specs.declared.program.CoreType.{CoreType}
@@ -40,11 +40,11 @@ pub record IsPath (p : Program) (class : Name) (calls : List Call) (still_open :
   pub at : typestate_of p class ≡ Some typestate
   pub path : Path typestate calls still_open
 
--- calls that lead to its end
+-- calls after which an object of it may be left
 pub record IsWhole (p : Program) (class : Name) (calls : List Call) : Type 0 where
   pub typestate : Typestate
   pub at : typestate_of p class ≡ Some typestate
-  pub ends : Ends typestate calls
+  pub ends : MayBeLeft typestate calls
 
 abbrev pub classes_seen : Program → Classes
 classes_seen p = record { results = results_of p; path = IsPath p; ends = IsWhole p }

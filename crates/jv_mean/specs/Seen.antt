@@ -70,7 +70,7 @@ abbrev pub IsMade : List Event → (object : ℕ) → (class : Name) → Type 0
 IsMade events o c = Contains events (seen.Made o c)
 
 -- What a program says of its classes by their names: the enums that its methods give, the calls that lead along the class's
--- typestate, the last with a method that is still open, and the calls that lead to its end.
+-- typestate, the last with a method that is still open, and the calls after which an object may be left.
 pub record Classes : Type 1 where
   pub results : (class : Name) → Results
   pub path : (class : Name) → List Call → (still_open : Option Name) → Type 0
@@ -81,7 +81,8 @@ pub record Follows (p : Classes) (events : List Event) : Type 0 where
   pub alternate : (o : ℕ) (c : Name) → IsMade events o c → Alternates (told o events)
   pub path : (o : ℕ) (c : Name) → IsMade events o c → p.path c (calls_told (p.results c) (told o events)) (open_told (told o events))
 
--- no call is open, and the calls of each object that is made lead to the end of its class's typestate
+-- no call is open, and the calls of each object that is made lead to where it may be left: to the end of its class's typestate,
+-- or to a state that is marked drop
 pub record Finished (p : Classes) (events : List Event) : Type 0 where
   pub closed : (o : ℕ) → open_told (told o events) ≡ None
   pub ends : (o : ℕ) (c : Name) → IsMade events o c → p.ends c (calls_told (p.results c) (told o events))

@@ -5,7 +5,7 @@ use Rattle.mg_text.specs.declared.event.Event.{Event}
 use Rattle.ts_tree.specs.declared.parts.TypeName.{TypeName}
 use Rattle.ts_tree.specs.declared.parts.TypeName.TheVariants as types
 use Rattle.ts_tree.specs.Typestate.{Typestate}
-use Rattle.ts_tree.specs.Calls.{Path, Ends}
+use Rattle.ts_tree.specs.Calls.{Path, MayBeLeft}
 use Rattle.jv_tree.specs.Source.{Class}
 use Rattle.jv_mean.specs.Seen.{Results, Classes, told, calls_told}
 use Rattle.jv_mean.specs.Seen as seen
@@ -37,11 +37,11 @@ pub record IsPath (j : Sources) (typestates : List Typestate) (class : Name) (ca
   pub named : typestate_of j typestates class ≡ Some typestate
   pub path : Path typestate calls still_open
 
--- calls that lead to its end
+-- calls after which an object of it may be left
 pub record IsWhole (j : Sources) (typestates : List Typestate) (class : Name) (calls : List Call) : Type 0 where
   pub typestate : Typestate
   pub named : typestate_of j typestates class ≡ Some typestate
-  pub ends : Ends typestate calls
+  pub ends : MayBeLeft typestate calls
 
 abbrev pub classes_seen : Sources → List Typestate → Classes
 classes_seen j typestates = record { results = results_of j; path = IsPath j typestates; ends = IsWhole j typestates }

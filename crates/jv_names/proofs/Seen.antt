@@ -5,7 +5,7 @@ use Rattle.std.specs.Str.{bytes_eq}
 use Rattle.mg_text.specs.Call.{Name}
 use Rattle.ts_tree.specs.declared.parts.TypeName.{TypeName}
 use Rattle.ts_tree.specs.Typestate.{Typestate}
-use Rattle.ts_tree.specs.Calls.{Path, Ends}
+use Rattle.ts_tree.specs.Calls.{Path, MayBeLeft}
 use Rattle.jv_tree.specs.Source
 use Rattle.jv_mean.specs.Seen.{Results, Told, Enters, Leaves, told, next_answer, label_in, call_left, calls_told, open_told}
 use Rattle.jv_meaning.specs.Program.{classes_of, enum_named, method_named, typestate_named}
@@ -138,7 +138,7 @@ follows_the_same program core res events = record {
         record {
           typestate = p.typestate;
           named = typestate_same program core res c p.typestate p.at;
-          ends = subst (λ calls. Ends p.typestate calls) (calls_are program core res c p.typestate p.at (told o events)) p.ends;
+          ends = subst (λ calls. MayBeLeft p.typestate calls) (calls_are program core res c p.typestate p.at (told o events)) p.ends;
         };
   };
 }

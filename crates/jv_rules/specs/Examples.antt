@@ -51,7 +51,7 @@ abbrev pub offered : Name → List TypeName → protocols.Method
 offered name params = record { result = written.Void; name = name; params = params; target = protocols.One (tos.State 0) }
 
 abbrev pub one_state : Name → List protocols.Method → protocols.Typestate
-one_state name methods = record { name = name; states = record { name = codes "Live"; methods = methods } ∷ [] }
+one_state name methods = record { name = name; states = record { name = codes "Live"; methods = methods; drops = false } ∷ [] }
 
 abbrev pub counter_protocol : protocols.Typestate
 counter_protocol = one_state (codes "CounterProtocol") (offered (codes "tick") [] ∷ offered (codes "add") (written.Int ∷ []) ∷ offered (codes "stop") [] ∷ [])

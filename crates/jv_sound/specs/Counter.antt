@@ -1,5 +1,5 @@
 -- A resolved program that counts, and what it means.
-use Rattle.std.specs.Prelude.{◌≡◌, [], ◌∷◌, Some, None, pos, codes, Option, List}
+use Rattle.std.specs.Prelude.{◌≡◌, [], ◌∷◌, Some, None, pos, codes, Option, List, false}
 use Rattle.mg_text.specs.Call.{Name}
 use Rattle.mg_text.specs.Places.{start_of}
 use Rattle.mg_text.specs.declared.place.Place.{Place}
@@ -150,7 +150,7 @@ abbrev pub stop_call : Offered
 stop_call = record { result = written.Void; name = codes "stop"; params = []; target = One tos.End }
 
 abbrev pub live : State
-live = record { name = codes "Live"; methods = tick_call ∷ add_call ∷ stop_call ∷ [] }
+live = record { name = codes "Live"; methods = tick_call ∷ add_call ∷ stop_call ∷ []; drops = false }
 
 abbrev pub protocol : Typestate
 protocol = record { name = codes "CounterProtocol"; states = live ∷ [] }

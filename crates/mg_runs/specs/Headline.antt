@@ -61,7 +61,7 @@ pub record Keeps (sources : Sources) (w : World) (r : ℕ) (role : Role) : Type 
   pub no_null : role.state ≢ Over endings.Null
   -- the calls of each object that it made are a path of its class's typestate; the last may still be open
   pub follows : Follows sources.files sources.typestates (events_of r w.events)
-  -- where it returned it has left every object at its end
+  -- where it returned it has left every object at its end or at a state marked drop
   pub finished : role.state ≡ Over endings.Done → Finished sources.files sources.typestates (events_of r w.events)
 
 -- Each role does.
@@ -128,6 +128,7 @@ pub record IsRun (files : List Source) (mains : List RoleMain) (order : List ℕ
   pub meant : (taken : List ℕ) → AreMeant accepted.have.program mains run.program (turns run.program run.first taken)
   pub does : DoAsMeant accepted.have.program mains run.program
   -- and keeps to the typestates: no null is dereferenced, the calls of each object are a path, and a role that returns leaves each at its end
+  -- or at a state marked drop
   pub keep : (taken : List ℕ) → EachKeeps accepted.have.program mains (turns run.program run.first taken)
   pub meanings : MeaningsKeep accepted.have.program mains
   -- and its objects do their part: their acts are steps of the protocols that their classes are generated of

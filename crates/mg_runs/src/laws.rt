@@ -53,7 +53,7 @@ pub fn roles_are_meant()
 
 /// Roles of accepted files keep to the typestates, at each moment at which they did what is meant: no
 /// null was dereferenced, the calls of each object are a path of its class's typestate, and a role
-/// that returned has left every object at its end.
+/// that returned has left every object at its end or at a state marked drop.
 pub fn roles_keep()
     ensures { RolesKeep }
 {

@@ -40,6 +40,9 @@ fn shown(alloc: Global, typestate: &Typestate) -> Result<String, Memory> {
     for state in typestate.states.as_slice() {
         answer.add("\n")?;
         answer.add(state.name.as_str())?;
+        if state.drops {
+            answer.add(" drop")?;
+        }
         for method in state.methods.as_slice() {
             add_method(&mut answer, method)?;
         }

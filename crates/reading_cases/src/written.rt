@@ -1,12 +1,14 @@
-//! What is written in typestate files: states and methods with the places of their names.
+//! What is written in typestate files: states and their entries with the places of names.
 
 use crate::answer::{Answer, plain, told};
 use mg_read::ParseFault;
 use mg_text::Memory;
 use std::alloc::Global;
-use ts_parse::{Naming, WrittenMethod, WrittenTarget, WrittenTypestate, read_written, tokens};
+use ts_parse::{
+    Naming, WrittenEntry, WrittenMethod, WrittenTarget, WrittenTypestate, read_written, tokens,
+};
 
-/// A line for each state and each method of a file, or where its tokens begin no file.
+/// A line for each state and each entry of a file, or where its tokens begin no file.
 pub fn written(alloc: Global, given: &[u8]) -> Result<String, Memory> {
     if given.len() > 1000 {
         return plain(alloc, "too long");
@@ -41,8 +43,8 @@ fn shown(alloc: Global, file: &WrittenTypestate) -> Result<String, Memory> {
     for state in file.states.as_slice() {
         answer.add("\n")?;
         add_naming(&mut answer, &state.name)?;
-        for method in state.methods.as_slice() {
-            add_method(&mut answer, method)?;
+        for entry in state.entries.as_slice() {
+            add_entry(&mut answer, entry)?;
         }
     }
     Ok(answer.into_text())
@@ -52,6 +54,16 @@ fn add_naming(answer: &mut Answer, name: &Naming) -> Result<(), Memory> {
     answer.add(name.text.as_str())?;
     answer.add(" ")?;
     answer.place(name.place)
+}
+
+fn add_entry(answer: &mut Answer, entry: &WrittenEntry) -> Result<(), Memory> {
+    match entry {
+        WrittenEntry::Method(method) => add_method(answer, method),
+        WrittenEntry::DropEnd(place) => {
+            answer.add("\n  drop: end ")?;
+            answer.place(*place)
+        }
+    }
 }
 
 fn add_method(answer: &mut Answer, method: &WrittenMethod) -> Result<(), Memory> {

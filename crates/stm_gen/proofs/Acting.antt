@@ -319,7 +319,7 @@ state_offering me k (g ∷ gs) m o =
     ⊎_elim
     (λ f. (g, 0, refl, offering_of me g m (subst (λ (s : State). Contains s.methods m) (sym f) o.2)))
     (λ later. let r = state_offering me (suc k) gs m (o.0, later, o.2) in (r.0, suc r.1, r.2, r.3))
-    (first_or_later (record { name = state_name k; methods = methods_of me g }) (states_from me (suc k) gs) o.0 o.1)
+    (first_or_later (record { name = state_name k; methods = methods_of me g; drops = false }) (states_from me (suc k) gs) o.0 o.1)
 
 acted_at : (me : Name) (all : List Action) (ps : List Position) → StatesActed me all ps → (k : ℕ) (p : Position) → slice_get ps k ≡ Some p → AllActed me all (steps_at p)
 acted_at me all [] h k p e = cc

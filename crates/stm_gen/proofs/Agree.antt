@@ -1,5 +1,5 @@
 -- The typestate that is laid out allows exactly the calls of its protocol.
-use Rattle.std.proofs.Common.{◌≡◌, ℕ, zero, suc, List, [], ◌∷◌, map, Some, None, refl, sym, ap, ◌∙◌, subst, ◌⊎◌, ⊎_elim, arith}
+use Rattle.std.proofs.Common.{◌≡◌, ℕ, zero, suc, List, [], ◌∷◌, map, Some, None, refl, sym, ap, ◌∙◌, subst, ◌⊎◌, ⊎_elim, arith, false}
 use Rattle.std.specs.Prelude.{Option, IsSome, slice_get, option_and_then, Contains}
 use Rattle.std.specs.List.{AllByRecursion}
 use Rattle.std.proofs.lemmas.Option.{option_and_then_some}
@@ -53,7 +53,7 @@ some_inside e = cc
 
 state_there : (me : Name) (k : ℕ) (gs : List (List Edge)) (j : ℕ) (edges : List Edge) → slice_get gs j ≡ Some edges → (s : State) × (slice_get (states_from me k gs) j ≡ Some s) × (s.methods ≡ methods_of me edges)
 state_there me k [] j edges e = cc
-state_there me k (g ∷ gs) zero edges e = let f : g ≡ edges = cc e in (record { name = state_name k; methods = methods_of me g }, refl, ap (methods_of me) f)
+state_there me k (g ∷ gs) zero edges e = let f : g ≡ edges = cc e in (record { name = state_name k; methods = methods_of me g; drops = false }, refl, ap (methods_of me) f)
 state_there me k (g ∷ gs) (suc j) edges e = state_there me (suc k) gs j edges e
 
 -- no message is answered by a value of a named type
@@ -345,4 +345,4 @@ pub laid : (me : Name) (all : List Position) (k : ℕ) (ps : List Position) (gs 
 laid me all k [] [] h = tt
 laid me all k [] (g ∷ gs) h = absurd h
 laid me all k (p ∷ ps) [] h = absurd h
-laid me all k (p ∷ ps) (g ∷ gs) h = (record { name = refl; edges = g; steps = h.0; methods = refl }, laid me all (suc k) ps gs h.1)
+laid me all k (p ∷ ps) (g ∷ gs) h = (record { name = refl; edges = g; steps = h.0; methods = refl; drops = refl }, laid me all (suc k) ps gs h.1)

@@ -1,5 +1,5 @@
 -- The typestates of six protocols, by computation.
-use Rattle.std.proofs.Common.{◌≡◌, ℕ, List, [], ◌∷◌, refl, codes}
+use Rattle.std.proofs.Common.{◌≡◌, ℕ, List, [], ◌∷◌, refl, codes, false}
 use Rattle.std.specs.Fmt.{digits}
 use Rattle.mg_text.specs.Call.{Name}
 use Rattle.mg_text.specs.declared.place.Place.{Place}
@@ -32,7 +32,7 @@ abbrev answer : Name → ℕ → Answer
 answer label k = record { label = label; to = tos.State k }
 
 abbrev state : Name → List Method → State
-state name methods = record { name = name; methods = methods }
+state name methods = record { name = name; methods = methods; drops = false }
 
 module _ (p : Place) where
   abbrev to : Name → Name → Payload → Said

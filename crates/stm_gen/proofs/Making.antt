@@ -1,5 +1,5 @@
 -- The steps of the loops that make states and methods.
-use Rattle.std.proofs.Common.{◌≡◌, ℕ, zero, suc, ◌+◌, ◌<◌, ◌≤◌, List, [], ◌∷◌, ◌++◌, length, get_or, drop, map, refl, sym, ap, ◌∙◌, Some, None, arith, add-one, append_assoc, append-nil}
+use Rattle.std.proofs.Common.{◌≡◌, ℕ, zero, suc, ◌+◌, ◌<◌, ◌≤◌, List, [], ◌∷◌, ◌++◌, length, get_or, drop, map, refl, sym, ap, ◌∙◌, Some, None, arith, add-one, append_assoc, append-nil, false}
 use Rattle.std.specs.Prelude.{slice_get}
 use Rattle.std.proofs.lemmas.List.{at_drop_more, at_drop_all, map-append, reverse-append}
 use Rattle.std.proofs.lemmas.Grind.{common_steps}
@@ -20,7 +20,7 @@ use Rattle.stm_gen.specs.inner.States.{states_from}
 
 -- the states that are made, and those that are left, are all
 pub one_more : (me : Name) (w : Work) (cells : List Cell) (k : ℕ) (c : Cell) (made : List KeptState) (s : KeptState) (all : List State) →
-    k < length cells → Some c ≡ slice_get cells k → state_of s ≡ record { name = state_name k; methods = methods_of me (edges_of w c) } →
+    k < length cells → Some c ≡ slice_get cells k → state_of s ≡ record { name = state_name k; methods = methods_of me (edges_of w c); drops = false } →
     map state_of made ++ states_from me k (map (edges_of w) (drop k cells)) ≡ all →
     map state_of (made ++ s ∷ []) ++ states_from me (k + 1) (map (edges_of w) (drop (k + 1) cells)) ≡ all
 one_more me w cells k c made s all h there is before =

@@ -1,5 +1,5 @@
 -- The states that are laid out are those of a typestate.
-use Rattle.std.proofs.Common.{◌≡◌, ◌≢◌, ℕ, zero, suc, ◌+◌, ◌^◌, ◌<◌, ◌≤◌, List, [], ◌∷◌, length, get_or, drop, map, Some, None, refl, sym, ap, ◌∙◌, subst, inl, inr, ⊎_elim, arith}
+use Rattle.std.proofs.Common.{◌≡◌, ◌≢◌, ℕ, zero, suc, ◌+◌, ◌^◌, ◌<◌, ◌≤◌, List, [], ◌∷◌, length, get_or, drop, map, Some, None, refl, sym, ap, ◌∙◌, subst, inl, inr, ⊎_elim, arith, false}
 use Rattle.std.specs.Prelude.{Contains, codes, slice_get}
 use Rattle.std.specs.List.{AllByRecursion}
 use Rattle.std.proofs.lemmas.Fmt.{decimal_injective}
@@ -118,11 +118,11 @@ module _ (me : Name) where
       subst (λ bs. AreDistinct (map (λ b. b.label) bs)) (sym (branches-look me x xs n peer h.0.0 h.0.1))
       (λ c. let r = labelled n peer xs h.1 h.0.0 c in none_later (call_of me x.act) xs r.0 d.0 r.1 (ap (call_of me) h.0.1 ∙ sym (ap (call_of me) r.2)), labels_differ n peer xs h.1 d.1)
 
-  proper_state : (count k : ℕ) (edges : List Edge) → OneKind edges → AllDiffer (calls me edges) → AllWithin count edges → IsState count (record { name = state_name k; methods = methods_of me edges })
+  proper_state : (count k : ℕ) (edges : List Edge) → OneKind edges → AllDiffer (calls me edges) → AllWithin count edges → IsState count (record { name = state_name k; methods = methods_of me edges; drops = false })
   proper_state count k edges (messages h) d w = record { named = not_end k; methods = messages_differ edges h d; targets = message_targets count edges h w }
   proper_state count k [] (looks n peer h) d w = record { named = not_end k; methods = tt; targets = tt }
   proper_state count k (x ∷ xs) (looks n peer h) d w =
-      subst (λ ms. IsState count (record { name = state_name k; methods = ms })) (sym (methods-look me x xs n peer h.0.0 h.0.1))
+      subst (λ ms. IsState count (record { name = state_name k; methods = ms; drops = false })) (sym (methods-look me x xs n peer h.0.0 h.0.1))
       (record { named = not_end k; methods = (none_contained (label_call me n peer), tt); targets = ((branch_targets count n peer (x ∷ xs) h w, labels_differ n peer (x ∷ xs) h d), tt) })
 
   each_state : (all : List Position) (k : ℕ) (ps : List Position) (gs : List (List Edge)) → AreStates all ps gs → AllTold me ps → AllByRecursion (IsState (length all)) (states_from me k gs)

@@ -1,6 +1,6 @@
 -- A typestate of a local protocol: a state for each of its states, with a method for each step there, which leads to a state with the text that
 -- is reached. Where two states have the same text left it may be either; Numbered says which.
-use Rattle.std.specs.Prelude.{◌≡◌, ℕ, suc, List, [], ◌∷◌, ◌++◌, codes}
+use Rattle.std.specs.Prelude.{◌≡◌, ℕ, suc, List, [], ◌∷◌, ◌++◌, codes, false}
 use Rattle.std.specs.Fmt.{decimal}
 use Rattle.mg_text.specs.Call.{Name}
 use Rattle.scr_tree.specs.declared.syntax.Payload.{Payload}
@@ -90,12 +90,13 @@ methods_of me (edge ∷ edges) = methods_by me edge.act edge.to (methods_of me e
 abbrev pub state_name : ℕ → Name
 state_name k = codes "State" ++ decimal k
 
--- the state at a position: its methods are those of the steps there, in the order of the text
+-- the state at a position: its methods are those of the steps there, in the order of the text; it isn't marked drop
 pub record IsLaidState (me : Name) (all : List Position) (position : Position) (k : ℕ) (s : State) : Type 0 where
   pub name : s.name ≡ state_name k
   pub edges : List Edge
   pub steps : AreSteps all (steps_at position) edges
   pub methods : s.methods ≡ methods_of me edges
+  pub drops : s.drops ≡ false
 
 -- the states at positions, of which the first has this number
 abbrev pub AreLaid : Name → List Position → List Position → ℕ → List State → Type 0

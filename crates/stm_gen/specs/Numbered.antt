@@ -2,7 +2,7 @@
 -- choice, and one for each message that isn't the first of a branch of a choice at self. After a statement comes the state of what follows
 -- it: the first state of the next statement, what follows the choice or the rec around, or the end. `continue X` leads to the first state
 -- inside rec X. It is said of valid protocols; of another text it means nothing.
-use Rattle.std.specs.Prelude.{ℕ, suc, List, [], ◌∷◌, ◌++◌, if◌then◌else◌, codes}
+use Rattle.std.specs.Prelude.{ℕ, suc, List, [], ◌∷◌, ◌++◌, if◌then◌else◌, codes, false}
 use Rattle.std.specs.Str.{bytes_eq}
 use Rattle.mg_text.specs.Call.{Name}
 use Rattle.scr_tree.specs.Tree.{LocalTree}
@@ -82,7 +82,7 @@ asks me number n _ = []
 
 -- the state of this number
 abbrev pub state : ℕ → List Method → State
-state n methods = record { name = state_name n; methods = methods }
+state n methods = record { name = state_name n; methods = methods; drops = false }
 
 -- the states of these statements, in the order of the text
 abbrev mutual

@@ -1,6 +1,6 @@
 //! The states of a protocol's typestate.
 
-ghost use Rattle.std.specs.Prelude.{◌≡◌, ◌<◌, ◌^◌, IfOk, map, length};
+ghost use Rattle.std.specs.Prelude.{◌≡◌, ◌<◌, ◌^◌, IfOk, map, length, false};
 ghost use Rattle.scr_tree.specs.Local.{tree_of};
 ghost use Rattle.scr_trace.specs.inner.View.{cell_of, edges_of, graph_of_work, work_of};
 ghost use Rattle.ts_tree.specs.View.{state_of as kept_state};
@@ -39,11 +39,15 @@ fn state_of(
     number: u32,
     exits: &Exits<'_>,
 ) -> Result<State, Memory>
-    ensures { IfOk result (λ s. kept_state s ≡ record { name = state_name number; methods = methods_of (tree_of local.now).me (edges_of (work_of laid.now) (cell_of exits.now)) }) }
+    ensures { IfOk result (λ s. kept_state s ≡ record { name = state_name number; methods = methods_of (tree_of local.now).me (edges_of (work_of laid.now) (cell_of exits.now)); drops = false }) }
 {
     let name = state_name(alloc, number)?;
     let methods = methods_of(alloc, local, laid, exits)?;
-    Ok(State { name, methods })
+    Ok(State {
+        name,
+        methods,
+        drops: false,
+    })
 }
 
 // The name of the state of this number.

@@ -17,8 +17,8 @@ use Rattle.ts_parse.specs.declared.token.Mark.{Mark}
 use Rattle.ts_parse.specs.declared.token.Mark.TheVariants as marks
 use Rattle.ts_parse.specs.declared.written.WrittenBranch.{WrittenBranch}
 use Rattle.ts_parse.specs.Tok.{Tok, named, marked, reserved, sign_of, typestates, word_tok, sign_toks, tok_said, AreTokens}
-use Rattle.ts_parse.specs.Grammar.{Behind, Listed, type_named, param_named, IsParam, AreParams, IsBranch, IsTarget, IsMethod, AreMethods, IsState, IsSpelled}
-use Rattle.ts_parse.specs.Written.{WTarget, to_one, by_label, WMethod, WState, WFile}
+use Rattle.ts_parse.specs.Grammar.{Behind, Listed, type_named, param_named, IsParam, AreParams, IsBranch, IsTarget, IsMethod, IsEntry, AreEntries, IsState, IsSpelled}
+use Rattle.ts_parse.specs.Written.{WTarget, to_one, by_label, WMethod, WEntry, offer, drop_end, WState, WFile, methods_in}
 use Rattle.ts_read.specs.Layout.{type_text}
 use Rattle.ts_back.proofs.Told.{IsName}
 
@@ -46,7 +46,7 @@ pub record IsNamedMethod (m : WMethod) : Type 0 where
 
 pub record IsNamedState (s : WState) : Type 0 where
   pub name : IsName s.name.text
-  pub methods : AllByRecursion IsNamedMethod s.methods
+  pub methods : AllByRecursion IsNamedMethod (methods_in s.entries)
 
 pub record IsNamedFile (w : WFile) : Type 0 where
   pub name : IsName w.name
@@ -189,15 +189,31 @@ method_named m ts (a, b, c, d, text, us, vs, e, type, params, target) h =
       target = target_named m.target vs target (in_back us behind rest).1.1;
     }
 
-methods_named : (ms : List WMethod) (ts : List Tok) → AreMethods ms ts → AreNamed ts → AllByRecursion IsNamedMethod ms
-methods_named [] ts e h = tt
-methods_named (m ∷ ms) ts (us, vs, e, listed, last) h =
-    listed_named IsMethod IsNamedMethod method_named marks.Comma (m ∷ ms) us listed (in_front us vs (subst AreNamed e h))
+abbrev IsNamedEntry : WEntry → Type 0
+IsNamedEntry (offer m) = IsNamedMethod m
+IsNamedEntry (drop_end place) = Unit {0}
+
+entry_named : (e : WEntry) (ts : List Tok) → IsEntry e ts → AreNamed ts → IsNamedEntry e
+entry_named (offer m) ts e h = method_named m ts e h
+entry_named (drop_end place) ts e h = tt
+
+methods_named : (es : List WEntry) → AllByRecursion IsNamedEntry es → AllByRecursion IsNamedMethod (methods_in es)
+methods_named [] h = tt
+methods_named (offer m ∷ es) h = (h.0, methods_named es h.1)
+methods_named (drop_end place ∷ es) h = methods_named es h.1
+
+entries_named : (es : List WEntry) (ts : List Tok) → AreEntries es ts → AreNamed ts → AllByRecursion IsNamedEntry es
+entries_named [] ts e h = tt
+entries_named (x ∷ xs) ts (us, vs, e, listed, last) h =
+    listed_named IsEntry IsNamedEntry entry_named marks.Comma (x ∷ xs) us listed (in_front us vs (subst AreNamed e h))
 
 state_named : (s : WState) (ts : List Tok) → IsState s ts → AreNamed ts → IsNamedState s
-state_named s ts (a, b, c, us, e, methods) h =
+state_named s ts (a, b, c, us, e, entries) h =
     let n = subst AreNamed e h in
-    record { name = n.0; methods = methods_named s.methods us methods (in_front us (marked c marks.CloseBrace ∷ []) n.1.1.1) }
+    record {
+      name = n.0;
+      methods = methods_named s.entries (entries_named s.entries us entries (in_front us (marked c marks.CloseBrace ∷ []) n.1.1.1));
+    }
 
 pub file_named : (file : ℕ) (bytes : List ℕ) (w : WFile) (ts : List Tok) → AreTokens file ts bytes → IsSpelled w ts → IsNamedFile w
 file_named file bytes w ts cut s =

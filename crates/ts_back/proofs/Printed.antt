@@ -20,15 +20,15 @@ use Rattle.ts_parse.specs.declared.token.Mark.TheVariants as marks
 use Rattle.ts_parse.specs.declared.written.Naming.{Naming}
 use Rattle.ts_parse.specs.declared.written.WrittenBranch.{WrittenBranch}
 use Rattle.ts_parse.specs.Tok.{Tok, named, marked, AreTokens}
-use Rattle.ts_parse.specs.Grammar.{Listed, IsParam, AreParams, IsBranch, IsTarget, IsMethod, AreMethods, IsState, IsSpelled}
-use Rattle.ts_parse.specs.Written.{WTarget, to_one, by_label, WMethod, WState, WFile}
+use Rattle.ts_parse.specs.Grammar.{Listed, IsParam, AreParams, IsBranch, IsTarget, IsMethod, IsEntry, AreEntries, IsState, IsSpelled}
+use Rattle.ts_parse.specs.Written.{WTarget, to_one, by_label, WMethod, WEntry, offer, drop_end, WState, WFile, methods_in, has_drop}
 use Rattle.ts_read.specs.Conditions.{state_names, methods_of, leads_to, targets_of, texts, blamed, IsUnknown}
 use Rattle.ts_read.specs.Meaning.{place_named, state_numbered, branch_meant, target_meant, method_meant, state_meant, typestate_of}
-use Rattle.ts_read.specs.Layout.{line_feed, type_text, listed, name_of, to_text, branch_text, target_text, method_text, methods_text, state_text, layout}
+use Rattle.ts_read.specs.Layout.{line_feed, type_text, listed, name_of, to_text, branch_text, target_text, method_text, entry_lines, lines, state_text, layout}
 use Rattle.ts_read.proofs.Judges.{contained_in, true_false}
 use Rattle.ts_read.proofs.Found.{map_map}
-use Rattle.ts_back.proofs.Told.{Any, NoName, Told, nothing, convert, regroup, space_then, line_then, level_then, Front, sign_then, word_then, IsName, name_then, name_told, typestate_word, Both, both, Whole, whole}
-use Rattle.ts_back.proofs.Same.{Zip, SameBranch, SameTarget, SameMethod, SameState}
+use Rattle.ts_back.proofs.Told.{Any, NoName, Told, nothing, convert, regroup, space_then, line_then, level_then, Front, sign_then, word_then, IsName, name_then, name_told, typestate_word, drop_name, end_name, Both, both, Whole, whole}
+use Rattle.ts_back.proofs.Same.{Zip, SameBranch, SameTarget, SameMethod, LikeEntry, drop_last, ordered, SameState}
 use Rattle.ts_back.proofs.Named.{IsParamTyped, IsNamedBranch, IsNamedTarget, IsNamedMethod, IsNamedState, IsNamedFile}
 
 -- ---- lists
@@ -134,25 +134,25 @@ method_form m is ts (a, r, e, (p, s, f, (b, t, g, (us, vs, h, params, (c, w, i, 
   (a, b, c, d, type_text m.result, us, x, e ∙ on (f ∙ on (g ∙ on (h ∙ ap (λ z. us ++ z) (i ∙ on j)))), is.result.1, params, target),
 )
 
-abbrev Methods : List WMethod → List Tok → Type 0
-Methods ms ts = (ns : List WMethod) × Zip SameMethod ms ns × AreMethods ns ts
+abbrev Entries : List WEntry → List Tok → Type 0
+Entries es ts = (fs : List WEntry) × Zip LikeEntry es fs × AreEntries fs ts
 
-methods_form : (m : WMethod) (ms : List WMethod) (ts : List Tok) → Parts SameMethod IsMethod (m ∷ ms) ts → Methods (m ∷ ms) ts
-methods_form m ms ts (ns, zip, parts) = go ns zip parts
+entries_form : (e : WEntry) (es : List WEntry) (ts : List Tok) → Parts LikeEntry IsEntry (e ∷ es) ts → Entries (e ∷ es) ts
+entries_form e es ts (fs, zip, parts) = go fs zip parts
   where
-    go : (ns : List WMethod) → Zip SameMethod (m ∷ ms) ns → Listed marks.Comma IsMethod ns ts → Methods (m ∷ ms) ts
+    go : (fs : List WEntry) → Zip LikeEntry (e ∷ es) fs → Listed marks.Comma IsEntry fs ts → Entries (e ∷ es) ts
     go [] zip l = absurd zip
-    go (n ∷ more) zip l = (n ∷ more, zip, (ts, [], sym (append-nil ts), l, inl refl))
+    go (f ∷ more) zip l = (f ∷ more, zip, (ts, [], sym (append-nil ts), l, inl refl))
 
 state_form : (s : WState) (ts : List Tok)
     → Front (λ a. named a s.name.text)
     (Front (λ a. marked a marks.Equals)
-    (Front (λ a. marked a marks.OpenBrace) (Both (Methods s.methods) (Front (λ a. marked a marks.CloseBrace) (λ us. us ≡ []))))) ts
+    (Front (λ a. marked a marks.OpenBrace) (Both (Entries (ordered s)) (Front (λ a. marked a marks.CloseBrace) (λ us. us ≡ []))))) ts
     → Part SameState IsState s ts
-state_form s ts (p, r, e, (a, t, f, (b, u, g, (us, vs, h, (ns, zip, methods), (c, w, i, none))))) = (
-  record { name = record { place = p; text = s.name.text }; methods = ns },
-  record { name = refl; methods = zip },
-  (a, b, c, us, e ∙ on (f ∙ on (g ∙ on (h ∙ ap (λ z. us ++ z) (i ∙ on none)))), methods),
+state_form s ts (p, r, e, (a, t, f, (b, u, g, (us, vs, h, (ns, zip, entries), (c, w, i, none))))) = (
+  record { name = record { place = p; text = s.name.text }; entries = ns },
+  record { name = refl; entries = zip },
+  (a, b, c, us, e ∙ on (f ∙ on (g ∙ on (h ∙ ap (λ z. us ++ z) (i ∙ on none)))), entries),
 )
 
 abbrev States : List WState → List Tok → Type 0
@@ -218,42 +218,69 @@ module _ (names : List Name) (states : List State) where
       (sign_then 41 marks.CloseParen refl refl (omega arith)
       (sign_then 58 marks.Colon refl refl (omega arith) (space_then (target_told m.target is.target known))))))))))))
 
-  -- methods, each on a line of its own
-  lines_told : (m : WMethod) (ms : List WMethod) → CanMethod m → AllByRecursion CanMethod ms
-      → Told Any (Parts SameMethod IsMethod (m ∷ ms)) (methods_text states (map (method_meant names) (m ∷ ms)))
-  lines_told m [] h hs = convert (alone SameMethod IsMethod m) (line_end (method_told m h))
-  lines_told m (n ∷ ms) h hs =
-      let text = method_text states (method_meant names m) in
-      let rest = methods_text states (map (method_meant names) (n ∷ ms)) in
-      regroup (assoc4 text (codes ",") line_feed rest)
-      (convert (before SameMethod IsMethod m n ms)
-      (both (method_told m h) (λ bytes o. refl)
-      (sign_then 44 marks.Comma refl refl (omega arith) (line_then (lines_told n ms hs.0 hs.1)))))
+  -- ---- entries
 
-  methods_told : (ms : List WMethod) → AllByRecursion CanMethod ms
-      → Told Any (Methods ms) (methods_text states (map (method_meant names) ms))
-  methods_told [] h = convert (λ ts e. ([], tt, e)) nothing
-  methods_told (m ∷ ms) h = convert (methods_form m ms) (lines_told m ms h.0 h.1)
+  abbrev CanEntry : WEntry → Type 0
+  CanEntry (offer m) = CanMethod m
+  CanEntry (drop_end place) = Unit {0}
+
+  abbrev entry_text : WEntry → List ℕ
+  entry_text (offer m) = method_text states (method_meant names m)
+  entry_text (drop_end place) = codes "        drop: end"
+
+  entry_told : (e : WEntry) → CanEntry e → Told NoName (Part LikeEntry IsEntry e) (entry_text e)
+  entry_told (offer m) h = convert (λ ts g. (offer g.0, g.1, g.2)) (method_told m h)
+  entry_told (drop_end place) h =
+      level_then (level_then (convert form (name_then (codes "drop") drop_name (λ bytes o. refl)
+      (sign_then 58 marks.Colon refl refl (omega arith) (space_then (name_told (codes "end") end_name))))))
+    where
+      form : (ts : List Tok) → Front (λ a. named a (codes "drop"))
+          (Front (λ a. marked a marks.Colon) (λ us. (a : Place) × (us ≡ named a (codes "end") ∷ []))) ts → Part LikeEntry IsEntry (drop_end place) ts
+      form ts (p, us, e, (a, vs, f, (q, g))) = (drop_end p, tt, (a, q, e ∙ on (f ∙ on g)))
+
+  -- each on a line of its own
+  lines_told : (e : WEntry) (es : List WEntry) → CanEntry e → AllByRecursion CanEntry es
+      → Told Any (Parts LikeEntry IsEntry (e ∷ es)) (lines (map entry_text (e ∷ es)))
+  lines_told e [] h hs = convert (alone LikeEntry IsEntry e) (line_end (entry_told e h))
+  lines_told e (f ∷ es) h hs =
+      regroup (assoc4 (entry_text e) (codes ",") line_feed (lines (map entry_text (f ∷ es))))
+      (convert (before LikeEntry IsEntry e f es)
+      (both (entry_told e h) (λ bytes o. refl)
+      (sign_then 44 marks.Comma refl refl (omega arith) (line_then (lines_told f es hs.0 hs.1)))))
+
+  entries_told : (es : List WEntry) → AllByRecursion CanEntry es → Told Any (Entries es) (lines (map entry_text es))
+  entries_told [] h = convert (λ ts e. ([], tt, e)) nothing
+  entries_told (e ∷ es) h = convert (entries_form e es) (lines_told e es h.0 h.1)
+
+  -- the lines of a state are the texts of its entries
+  lines_are : (ms : List WMethod) (p : Place) (b : Bool)
+      → entry_lines states (map (method_meant names) ms) b ≡ map entry_text (map offer ms ++ drop_last p b)
+  lines_are [] p true = refl
+  lines_are [] p false = refl
+  lines_are (m ∷ ms) p b = ap (λ (ls : List (List ℕ)). method_text states (method_meant names m) ∷ ls) (lines_are ms p b)
 
   -- ---- states
 
   abbrev CanState : WState → Type 0
-  CanState s = IsNamedState s × AllByRecursion (λ (m : WMethod). AllByRecursion Known (leads_to m.target)) s.methods
+  CanState s = IsNamedState s × AllByRecursion (λ (m : WMethod). AllByRecursion Known (leads_to m.target)) (methods_in s.entries)
 
-  both_methods : (ms : List WMethod) → AllByRecursion IsNamedMethod ms
-      → AllByRecursion (λ (m : WMethod). AllByRecursion Known (leads_to m.target)) ms → AllByRecursion CanMethod ms
-  both_methods [] h g = tt
-  both_methods (m ∷ ms) h g = ((h.0, g.0), both_methods ms h.1 g.1)
+  both_methods : (ms : List WMethod) (p : Place) (b : Bool) → AllByRecursion IsNamedMethod ms
+      → AllByRecursion (λ (m : WMethod). AllByRecursion Known (leads_to m.target)) ms → AllByRecursion CanEntry (map offer ms ++ drop_last p b)
+  both_methods [] p true h g = (tt, tt)
+  both_methods [] p false h g = tt
+  both_methods (m ∷ ms) p b h g = ((h.0, g.0), both_methods ms p b h.1 g.1)
 
   state_told : (s : WState) → CanState s → Told Any (Part SameState IsState s) (state_text states (state_meant names s))
   state_told s (is, known) =
-      regroup (assoc7 (codes "    ") s.name.text (codes " = {") line_feed (methods_text states (map (method_meant names) s.methods))
-      (codes "    }") line_feed)
+      regroup (assoc7 (codes "    ") s.name.text (codes " = {") line_feed
+      (lines (entry_lines states (map (method_meant names) (methods_in s.entries)) (has_drop s.entries))) (codes "    }") line_feed
+      ∙ ap (λ (ls : List (List ℕ)). codes "    " ++ (s.name.text ++ (codes " = {" ++ (line_feed ++ (lines ls ++ (codes "    }" ++ line_feed))))))
+      (lines_are (methods_in s.entries) s.name.place (has_drop s.entries)))
       (level_then (convert (state_form s)
       (name_then s.name.text is.name (λ bytes o. refl) (space_then
       (sign_then 61 marks.Equals refl refl (omega arith) (space_then
       (sign_then 123 marks.OpenBrace refl refl (omega arith) (line_then
-      (both (methods_told s.methods (both_methods s.methods is.methods known)) (λ bytes o. tt)
+      (both (entries_told (ordered s) (both_methods (methods_in s.entries) s.name.place (has_drop s.entries) is.methods known)) (λ bytes o. tt)
       (level_then (sign_then 125 marks.CloseBrace refl refl (omega arith) (line_then nothing))))))))))))
 
   states_told : (ss : List WState) → AllByRecursion CanState ss
@@ -306,7 +333,7 @@ module _ (w : WFile) where
 
   both_states : (ss : List WState) → AllByRecursion IsNamedState ss
       → AllByRecursion (λ (s : WState). AllByRecursion
-      (λ (m : WMethod). AllByRecursion (Known names meant) (leads_to m.target)) s.methods) ss
+      (λ (m : WMethod). AllByRecursion (Known names meant) (leads_to m.target)) (methods_in s.entries)) ss
       → AllByRecursion (CanState names meant) ss
   both_states [] h g = tt
   both_states (s ∷ ss) h g = ((h.0, g.0), both_states ss h.1 g.1)
@@ -315,7 +342,7 @@ module _ (w : WFile) where
   can_print is h =
       let in_methods = all_flat (Known names meant) (λ (m : WMethod). leads_to m.target) (methods_of w) (all_known (targets_of w) h) in
       both_states w.states is.states (all_flat (λ (m : WMethod). AllByRecursion (Known names meant) (leads_to m.target))
-      (λ (s : WState). s.methods) w.states in_methods)
+      (λ (s : WState). methods_in s.entries) w.states in_methods)
 
   -- ---- the file
 

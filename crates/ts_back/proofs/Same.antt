@@ -1,7 +1,10 @@
 -- Files that are the same, places aside: they mean the same, and one has no fault where the other has none.
-use Rattle.std.proofs.Common.{◌≡◌, zero, suc, List, [], ◌∷◌, ◌++◌, map, Option, None, Contains, refl, sym, ap, ◌∙◌, subst, arith}
+use Rattle.std.proofs.Common.{◌≡◌, zero, suc, List, [], ◌∷◌, ◌++◌, map, Bool, true, false, Option, None, inl, inr, Contains, refl, sym, ap, ◌∙◌, subst, arith}
 use Rattle.std.specs.List.{flat_map}
+use Rattle.std.proofs.lemmas.List.{map-append}
+use Rattle.std.proofs.lemmas.List.Elements.{Contains-append_left, Contains-push, Contains-push_cases}
 use Rattle.mg_text.specs.Call.{Name}
+use Rattle.mg_text.specs.declared.place.Place.{Place}
 use Rattle.mg_read.specs.Culprit.{Culprit}
 use Rattle.mg_read.specs.First.{FirstOf, none, this, next, Clean, behind, with_earlier}
 use Rattle.mg_read.proofs.Judging.{judged-clean, clean-judged}
@@ -9,8 +12,8 @@ use Rattle.ts_tree.specs.declared.parts.Branch.{Branch}
 use Rattle.ts_tree.specs.Typestate.{One, ByAnswer, State, Typestate}
 use Rattle.ts_parse.specs.declared.written.Naming.{Naming}
 use Rattle.ts_parse.specs.declared.written.WrittenBranch.{WrittenBranch}
-use Rattle.ts_parse.specs.Written.{WTarget, to_one, by_label, WMethod, WState, WFile}
-use Rattle.ts_read.specs.Conditions.{state_names, method_names, methods_of, branches_of, labels_of, leads_to, targets_of, texts, blamed, IsRepeat, IsUnknown, SameSignature, HasOther, IsNamedEnd, IsFault}
+use Rattle.ts_parse.specs.Written.{WTarget, to_one, by_label, WMethod, WEntry, offer, drop_end, WState, WFile, methods_in, has_drop}
+use Rattle.ts_read.specs.Conditions.{state_names, methods_of, branches_of, labels_of, leads_to, targets_of, texts, blamed, IsRepeat, SameEntry, entry_blamed, IsTwice, IsUnknown, SameSignature, HasOther, IsNamedEnd, IsFault}
 use Rattle.ts_read.specs.Meaning.{place_named, branch_meant, target_meant, method_meant, state_meant, typestate_of}
 
 -- two lists, element by element
@@ -36,9 +39,23 @@ pub record SameMethod (m n : WMethod) : Type 0 where
   pub params : m.params ≡ n.params
   pub target : SameTarget m.target n.target
 
+abbrev pub LikeEntry : WEntry → WEntry → Type 0
+LikeEntry (offer m) (offer n) = SameMethod m n
+LikeEntry (drop_end p) (drop_end q) = Unit {0}
+LikeEntry _ _ = ⊥
+
+-- entries in the order in which they are laid out: the methods, and then `drop: end`, wherever it stood
+abbrev pub drop_last : Place → Bool → List WEntry
+drop_last place true = drop_end place ∷ []
+drop_last place false = []
+
+abbrev pub ordered : WState → List WEntry
+ordered s = map offer (methods_in s.entries) ++ drop_last s.name.place (has_drop s.entries)
+
+-- the second has the entries of the first in the order in which they are laid out
 pub record SameState (s t : WState) : Type 0 where
   pub name : SameNaming s.name t.name
-  pub methods : Zip SameMethod s.methods t.methods
+  pub entries : Zip LikeEntry (ordered s) t.entries
 
 -- ---- lists
 
@@ -156,6 +173,140 @@ other_kept x y r c h =
 end_kept : (n m : Naming) → SameNaming n m → (c : Culprit) → IsNamedEnd m c → (d : Culprit) × IsNamedEnd n d
 end_kept n m r c h = (blamed n, (refl, r ∙ h.1))
 
+-- ---- entries
+
+like_methods : (es fs : List WEntry) → Zip LikeEntry es fs → Zip SameMethod (methods_in es) (methods_in fs)
+like_methods [] [] z = tt
+like_methods (offer m ∷ es) (offer n ∷ fs) z = (z.0, like_methods es fs z.1)
+like_methods (drop_end p ∷ es) (drop_end q ∷ fs) z = like_methods es fs z.1
+like_methods (offer m ∷ es) (drop_end q ∷ fs) z = absurd z.0
+like_methods (drop_end p ∷ es) (offer n ∷ fs) z = absurd z.0
+like_methods [] (f ∷ fs) z = absurd z
+like_methods (e ∷ es) [] z = absurd z
+
+like_drop : (es fs : List WEntry) → Zip LikeEntry es fs → has_drop es ≡ has_drop fs
+like_drop [] [] z = refl
+like_drop (offer m ∷ es) (offer n ∷ fs) z = like_drop es fs z.1
+like_drop (drop_end p ∷ es) (drop_end q ∷ fs) z = refl
+like_drop (offer m ∷ es) (drop_end q ∷ fs) z = absurd z.0
+like_drop (drop_end p ∷ es) (offer n ∷ fs) z = absurd z.0
+like_drop [] (f ∷ fs) z = absurd z
+like_drop (e ∷ es) [] z = absurd z
+
+ordered_methods : (ms : List WMethod) (p : Place) (b : Bool) → methods_in (map offer ms ++ drop_last p b) ≡ ms
+ordered_methods [] p true = refl
+ordered_methods [] p false = refl
+ordered_methods (m ∷ ms) p b = ap (λ (ns : List WMethod). m ∷ ns) (ordered_methods ms p b)
+
+ordered_drop : (ms : List WMethod) (p : Place) (b : Bool) → has_drop (map offer ms ++ drop_last p b) ≡ b
+ordered_drop [] p true = refl
+ordered_drop [] p false = refl
+ordered_drop (m ∷ ms) p b = ordered_drop ms p b
+
+same_methods : (s t : WState) → SameState s t → Zip SameMethod (methods_in s.entries) (methods_in t.entries)
+same_methods s t r =
+    subst (λ (ms : List WMethod). Zip SameMethod ms (methods_in t.entries)) (ordered_methods (methods_in s.entries) s.name.place (has_drop s.entries))
+    (like_methods (ordered s) t.entries r.entries)
+
+same_drop : (s t : WState) → SameState s t → has_drop s.entries ≡ has_drop t.entries
+same_drop s t r = sym (ordered_drop (methods_in s.entries) s.name.place (has_drop s.entries)) ∙ like_drop (ordered s) t.entries r.entries
+
+like_same : (a b c d : WEntry) → LikeEntry a b → SameEntry b c → LikeEntry d c → SameEntry a d
+like_same (offer a) (offer b) (offer c) (offer d) r s q = r.name ∙ s ∙ sym q.name
+like_same (drop_end a) (drop_end b) (drop_end c) (drop_end d) r s q = tt
+like_same (offer a) (drop_end b) c d r s q = absurd r
+like_same (drop_end a) (offer b) c d r s q = absurd r
+like_same (offer a) (offer b) (drop_end c) d r s q = absurd s
+like_same (drop_end a) (drop_end b) (offer c) d r s q = absurd s
+like_same (offer a) (offer b) (offer c) (drop_end d) r s q = absurd q
+like_same (drop_end a) (drop_end b) (drop_end c) (offer d) r s q = absurd q
+
+twice_kept : (x y : List WEntry × WEntry) → Pair LikeEntry x y → (c : Culprit) → IsTwice y c → (d : Culprit) × IsTwice x d
+twice_kept x y r c h =
+    let k = zip_contains LikeEntry x.0 y.0 h.1 r.0 h.2 in
+    (entry_blamed x.1, (refl, k.0, k.1, like_same k.0 h.1 y.1 x.1 k.2 h.3 r.1))
+
+-- the names of the methods of a state stand once, where its entries do
+once_names : (earlier es : List WEntry) (seen : List Naming)
+    → ((t : Name) → Contains (texts seen) t → (m : WMethod) × Contains earlier (offer m) × (m.name.text ≡ t))
+    → Clean IsTwice (behind earlier es) → Clean IsRepeat (behind seen (map (λ (m : WMethod). m.name) (methods_in es)))
+once_names earlier [] seen from h = tt
+once_names earlier (offer m ∷ es) seen from h = (
+  (λ c g. let x = from m.name.text g.1 in h.0 c (g.0, offer x.0, x.1, x.2)),
+  once_names (earlier ++ offer m ∷ []) es (seen ++ m.name ∷ []) more h.1,
+)
+  where
+    more : (t : Name) → Contains (texts (seen ++ m.name ∷ [])) t → (n : WMethod) × Contains (earlier ++ offer m ∷ []) (offer n) × (n.name.text ≡ t)
+    more t g = elim (Contains-push_cases (texts seen) m.name.text t (subst (λ (ts : List Name). Contains ts t) (map-append (λ (n : Naming). n.text) seen (m.name ∷ [])) g)) [
+      | inl old ↦ let x = from t old in (x.0, Contains-append_left earlier (offer m ∷ []) (offer x.0) x.1, x.2)
+      | inr e ↦ (m, Contains-push earlier (offer m), e)
+    ]
+once_names earlier (drop_end p ∷ es) seen from h =
+    once_names (earlier ++ drop_end p ∷ []) es seen
+    (λ t g. let x = from t g in (x.0, Contains-append_left earlier (drop_end p ∷ []) (offer x.0) x.1, x.2)) h.1
+
+same_offer : (m n : WMethod) → offer m ≡ offer n → m.name.text ≡ n.name.text
+same_offer m n e = let same : m ≡ n = cc in ap (λ (k : WMethod). k.name.text) same
+
+no_offer : {X : Type 0} (m : WMethod) (p : Place) → offer m ≡ drop_end p → X
+no_offer m p e = absurd cc
+
+-- and entries in the order of a layout do, where the names of methods do
+once_entries : (earlier : List WEntry) (seen : List Naming) (ms : List WMethod) (p : Place) (b : Bool)
+    → ((m : WMethod) → Contains earlier (offer m) → Contains (texts seen) m.name.text) → ((q : Place) → Contains earlier (drop_end q) → ⊥)
+    → Clean IsRepeat (behind seen (map (λ (m : WMethod). m.name) ms)) → Clean IsTwice (behind earlier (map offer ms ++ drop_last p b))
+once_entries earlier seen [] p false met unmarked h = tt
+once_entries earlier seen [] p true met unmarked h = ((λ c g. left c g), tt)
+  where
+    left : (c : Culprit) → IsTwice (earlier, drop_end p) c → ⊥
+    left c (is, offer m, among, same) = same
+    left c (is, drop_end q, among, same) = unmarked q among
+once_entries earlier seen (m ∷ ms) p b met unmarked h =
+    ((λ c g. twice c g), once_entries (earlier ++ offer m ∷ []) (seen ++ m.name ∷ []) ms p b more still h.1)
+  where
+    twice : (c : Culprit) → IsTwice (earlier, offer m) c → ⊥
+    twice c (is, offer n, among, same) = h.0 (blamed m.name) (refl, subst (Contains (texts seen)) same (met n among))
+    twice c (is, drop_end q, among, same) = same
+
+    more : (n : WMethod) → Contains (earlier ++ offer m ∷ []) (offer n) → Contains (texts (seen ++ m.name ∷ [])) n.name.text
+    more n g = subst (λ (ts : List Name). Contains ts n.name.text) (sym (map-append (λ (k : Naming). k.text) seen (m.name ∷ [])))
+        (elim (Contains-push_cases earlier (offer m) (offer n) g) [
+          | inl old ↦ Contains-append_left (texts seen) (m.name.text ∷ []) n.name.text (met n old)
+          | inr e ↦ subst (Contains (texts seen ++ m.name.text ∷ [])) (same_offer m n e) (Contains-push (texts seen) m.name.text)
+        ])
+
+    still : (q : Place) → Contains (earlier ++ offer m ∷ []) (drop_end q) → ⊥
+    still q g = elim (Contains-push_cases earlier (offer m) (drop_end q) g) [ inl old ↦ unmarked q old | inr e ↦ no_offer m q e ]
+
+once_ordered : (s : WState) → Clean IsTwice (with_earlier s.entries) → Clean IsTwice (with_earlier (ordered s))
+once_ordered s h =
+    once_entries [] [] (methods_in s.entries) s.name.place (has_drop s.entries)
+    (λ m g. absurd (omega (arith, g.1))) (λ q g. omega (arith, g.1))
+    (once_names [] s.entries [] (λ t g. absurd (omega (arith, g.1))) h)
+
+once_state : (s t : WState) → SameState s t → Clean IsTwice (with_earlier s.entries) → Clean IsTwice (with_earlier t.entries)
+once_state s t r h =
+    clean_zip (Pair LikeEntry) IsTwice IsTwice twice_kept (with_earlier (ordered s)) (with_earlier t.entries)
+    (zip_behind LikeEntry [] [] (ordered s) t.entries tt r.entries) (once_ordered s h)
+
+clean_apart : {X : Type 0} (At : X → Culprit → Type 0) (xs ys : List X) → Clean At (xs ++ ys) → Clean At xs × Clean At ys
+clean_apart At [] ys h = (tt, h)
+clean_apart At (x ∷ xs) ys h = let r = clean_apart At xs ys h.1 in ((h.0, r.0), r.1)
+
+clean_joined : {X : Type 0} (At : X → Culprit → Type 0) (xs ys : List X) → Clean At xs → Clean At ys → Clean At (xs ++ ys)
+clean_joined At [] ys h g = g
+clean_joined At (x ∷ xs) ys h g = (h.0, clean_joined At xs ys h.1 g)
+
+once_states : (ss ts : List WState) → Zip SameState ss ts → Clean IsTwice (flat_map (λ (s : WState). with_earlier s.entries) ss)
+    → Clean IsTwice (flat_map (λ (s : WState). with_earlier s.entries) ts)
+once_states [] [] z h = tt
+once_states (s ∷ ss) (t ∷ ts) z h =
+    let r = clean_apart IsTwice (with_earlier s.entries) (flat_map (λ (s : WState). with_earlier s.entries) ss) h in
+    clean_joined IsTwice (with_earlier t.entries) (flat_map (λ (s : WState). with_earlier s.entries) ts)
+    (once_state s t z.0 r.0) (once_states ss ts z.1 r.1)
+once_states [] (t ∷ ts) z h = absurd z
+once_states (s ∷ ss) [] z h = absurd z
+
 -- ---- no fault
 
 next_of : {K C : Type 0} {Of : K → Option C → Type 0} (k : K) (ks : List K) → FirstOf Of (k ∷ ks) None → Of k None × FirstOf Of ks None
@@ -176,19 +327,11 @@ module _ (w v : WFile) (same : Zip SameState w.states v.states) where
   names = zip_map SameState SameNaming (λ s. s.name) (λ s. s.name) (λ x y r. r.name) w.states v.states same
 
   methods : Zip SameMethod (methods_of w) (methods_of v)
-  methods = zip_flat SameState SameMethod (λ s. s.methods) (λ s. s.methods) (λ x y r. r.methods) w.states v.states same
+  methods = zip_flat SameState SameMethod (λ s. methods_in s.entries) (λ s. methods_in s.entries) same_methods w.states v.states same
 
   targets : Zip SameNaming (targets_of w) (targets_of v)
   targets = zip_flat SameMethod SameNaming (λ m. leads_to m.target) (λ m. leads_to m.target)
       (λ x y r. leads_same x.target y.target r.target) (methods_of w) (methods_of v) methods
-
-  in_states : Zip (Pair SameNaming) (flat_map (λ (s : WState). with_earlier (method_names s)) w.states)
-      (flat_map (λ (s : WState). with_earlier (method_names s)) v.states)
-  in_states =
-      zip_flat SameState (Pair SameNaming) (λ s. with_earlier (method_names s)) (λ s. with_earlier (method_names s))
-      (λ x y r. zip_behind SameNaming [] [] (method_names x) (method_names y) tt
-      (zip_map SameMethod SameNaming (λ m. m.name) (λ m. m.name) (λ m n k. k.name) x.methods y.methods r.methods))
-      w.states v.states same
 
   in_lists : Zip (Pair SameNaming) (flat_map (λ (m : WMethod). with_earlier (labels_of m)) (methods_of w))
       (flat_map (λ (m : WMethod). with_earlier (labels_of m)) (methods_of v))
@@ -205,7 +348,7 @@ module _ (w v : WFile) (same : Zip SameState w.states v.states) where
       (judged-clean a.0)))
       (next (clean-judged _ (clean_zip SameNaming (IsUnknown (state_names w)) (IsUnknown (state_names v))
       (unknown_kept (state_names w) (state_names v) (texts_same _ _ names)) _ _ targets (judged-clean b.0)))
-      (next (clean-judged _ (clean_zip (Pair SameNaming) IsRepeat IsRepeat repeat_kept _ _ in_states (judged-clean c.0)))
+      (next (clean-judged _ (once_states w.states v.states same (judged-clean c.0)))
       (next (clean-judged _ (clean_zip (Pair SameMethod) HasOther HasOther other_kept _ _ (zip_behind SameMethod [] [] _ _ tt methods)
       (judged-clean d.0)))
       (next (clean-judged _ (clean_zip (Pair SameNaming) IsRepeat IsRepeat repeat_kept _ _ in_lists (judged-clean e.0)))
@@ -230,8 +373,9 @@ module _ (states : List Name) where
 
   state_same : (s t : WState) → SameState s t → state_meant states s ≡ state_meant states t
   state_same s t r =
-      let ms = zip_eq SameMethod (method_meant states) (method_meant states) method_same s.methods t.methods r.methods in
-      λ i. record { name = r.name i; methods = ms i }
+      let ms = zip_eq SameMethod (method_meant states) (method_meant states) method_same (methods_in s.entries) (methods_in t.entries) (same_methods s t r) in
+      let d = same_drop s t r in
+      λ i. record { name = r.name i; methods = ms i; drops = d i }
 
 pub meaning_same : (w v : WFile) → w.name ≡ v.name → Zip SameState w.states v.states → typestate_of w ≡ typestate_of v
 meaning_same w v name same =

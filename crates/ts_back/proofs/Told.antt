@@ -203,6 +203,15 @@ typestate_word = record {
       λ p. refl;
 }
 
+-- the words of `drop: end` are names
+pub drop_name : IsName (codes "drop")
+unfolding all_of
+drop_name = record { starts = refl; bytes = all_pass (codes "drop") refl; short = short_of (codes "drop") refl; free = refl }
+
+pub end_name : IsName (codes "end")
+unfolding all_of
+end_name = record { starts = refl; bytes = all_pass (codes "end") refl; short = short_of (codes "end") refl; free = refl }
+
 -- two parts
 abbrev pub Both : (List Tok → Type 0) → (List Tok → Type 0) → List Tok → Type 0
 Both P Q ts = (us vs : List Tok) × (ts ≡ us ++ vs) × P us × Q vs

@@ -10,10 +10,10 @@ use Rattle.ts_parse.specs.declared.written.Naming.{Naming}
 use Rattle.ts_parse.specs.Tok.{Tok, named, marked}
 use Rattle.ts_parse.specs.Written.{WState, WFile}
 use Rattle.ts_parse.specs.Grammar.{Listed, IsNaming, IsPackage, IsStar, IsImport, IsState, IsSpelled}
-use Rattle.ts_parse.specs.inner.Reading.{mark_at, name_at, is_at, is_dot_name, not_closed, path_at, package_at, after_package, after_star, import_at, imports_at, methods_at, state_at, states_at, title_at, typestate_at, if_last, file_of}
+use Rattle.ts_parse.specs.inner.Reading.{mark_at, name_at, is_at, is_dot_name, not_closed, path_at, package_at, after_package, after_star, import_at, imports_at, entries_at, state_at, states_at, title_at, typestate_at, if_last, file_of}
 use Rattle.ts_parse.proofs.Steps.{Anything, after, mark_is, name_is}
 use Rattle.ts_parse.proofs.Lists.{name_exact, dot_name_goes, listed_sound, listed_complete}
-use Rattle.ts_parse.proofs.Members.{methods_sound, methods_complete}
+use Rattle.ts_parse.proofs.Contents.{entries_sound, entries_complete}
 
 -- ---- names with dots
 
@@ -135,23 +135,23 @@ state_sound ts x e =
     let n = bind_some (name_at ts) _ x e in
     let q = bind_some (mark_at marks.Equals n.0.1) _ x n.2 in
     let o = bind_some (mark_at marks.OpenBrace q.0.1) _ x q.2 in
-    let m = bind_some (methods_at o.0.1) _ x o.2 in
+    let m = bind_some (entries_at o.0.1) _ x o.2 in
     let d = bind_some (mark_at marks.CloseBrace m.0.1) _ x m.2 in
-    let methods = methods_sound o.0.1 m.0 m.1 in
+    let entries = entries_sound o.0.1 m.0 m.1 in
     let end : List Tok = marked d.0.0 marks.CloseBrace ∷ [] in
-    let inner : o.0.1 ≡ (methods.front ++ end) ++ d.0.1 =
-    methods.parts ∙ ap (λ (r : List Tok). methods.front ++ r) (mark_is marks.CloseBrace m.0.1 d.0 d.1) ∙ sym (append_assoc methods.front end d.0.1) in
+    let inner : o.0.1 ≡ (entries.front ++ end) ++ d.0.1 =
+    entries.parts ∙ ap (λ (r : List Tok). entries.front ++ r) (mark_is marks.CloseBrace m.0.1 d.0 d.1) ∙ sym (append_assoc entries.front end d.0.1) in
     subst (λ (y : WState × List Tok). Takes (IsState y.0) ts y.1) (some_is _ x d.2)
     (record {
-      front = named n.0.0.place n.0.0.text ∷ marked q.0.0 marks.Equals ∷ marked o.0.0 marks.OpenBrace ∷ (methods.front ++ end);
+      front = named n.0.0.place n.0.0.text ∷ marked q.0.0 marks.Equals ∷ marked o.0.0 marks.OpenBrace ∷ (entries.front ++ end);
       parts = after (name_is ts n.0 n.1) (after (mark_is marks.Equals n.0.1 q.0 q.1) (after (mark_is marks.OpenBrace q.0.1 o.0 o.1) inner));
-      holds = (q.0.0, o.0.0, d.0.0, methods.front, refl, methods.holds);
+      holds = (q.0.0, o.0.0, d.0.0, entries.front, refl, entries.holds);
     })
 
 state_complete : (s : WState) (ts rest : List Tok) → Anything rest → IsState s ts → state_at (ts ++ rest) ≡ Some (s, rest)
 unfolding state_at
 state_complete s ts rest fine (a, b, c, us, e, h) =
-    let reads = methods_complete s.methods us rest c h in
+    let reads = entries_complete s.entries us rest c h in
     rw (e, append_assoc us (marked c marks.CloseBrace ∷ []) rest, reads) refl
 
 state_exact : IsExact state_at IsState Anything

@@ -10,8 +10,8 @@ use Rattle.ts_parse.specs.declared.written.Naming.{Naming}
 use Rattle.ts_parse.specs.declared.written.WrittenBranch.{WrittenBranch}
 use Rattle.ts_parse.specs.Tok.{Tok, named, marked}
 use Rattle.ts_parse.specs.Written.{WTarget, to_one, by_label, WMethod}
-use Rattle.ts_parse.specs.Grammar.{Behind, Listed, type_named, param_named, IsParam, AreParams, IsBranch, IsTarget, IsMethod, IsLastComma, AreMethods}
-use Rattle.ts_parse.specs.inner.Reading.{mark_at, name_at, is_at, is_more, behind_at, listed_at, typed, param_at, params_at, branch_at, answers_at, target_at, head_at, method_at, after_comma, some_methods_at, methods_at}
+use Rattle.ts_parse.specs.Grammar.{Behind, Listed, type_named, param_named, IsParam, AreParams, IsBranch, IsTarget, IsMethod}
+use Rattle.ts_parse.specs.inner.Reading.{mark_at, name_at, is_at, behind_at, listed_at, typed, param_at, params_at, branch_at, answers_at, target_at, head_at, method_at}
 use Rattle.ts_parse.proofs.Steps.{Anything, after, mark_is, name_is}
 use Rattle.ts_parse.proofs.Lists.{behind_shorter, listed_sound, listed_complete}
 
@@ -140,7 +140,7 @@ target_complete (by_label bs) ts rest (a, b, us, e, h) =
 
 -- ---- methods
 
-method_sound : (ts : List Tok) (x : WMethod × List Tok) → method_at ts ≡ Some x → Takes (IsMethod x.0) ts x.1
+pub method_sound : (ts : List Tok) (x : WMethod × List Tok) → method_at ts ≡ Some x → Takes (IsMethod x.0) ts x.1
 unfolding method_at head_at
 method_sound ts x e =
     let h = bind_some (head_at ts) _ x e in
@@ -171,82 +171,10 @@ method_sound ts x e =
       holds = (t.0.0.place, o.0.0, d.0.0, c.0.0, t.0.0.text, params.front, target.front, refl, type_same, params.holds, target.holds);
     })
 
-method_complete : (m : WMethod) (ts rest : List Tok) → Anything rest → IsMethod m ts → method_at (ts ++ rest) ≡ Some (m, rest)
+pub method_complete : (m : WMethod) (ts rest : List Tok) → Anything rest → IsMethod m ts → method_at (ts ++ rest) ≡ Some (m, rest)
 unfolding method_at head_at
 method_complete m ts rest fine (a, b, c, d, text, us, vs, e, type, p, t) =
     let params = params_complete m.params us (marked d marks.Colon ∷ (vs ++ rest)) c p in
     let target = target_complete m.target vs rest t in
     rw (e, append_assoc us (marked c marks.CloseParen ∷ marked d marks.Colon ∷ vs) rest, params, target)
     (ap (λ (y : TypeName). Some (record { result = y; name = m.name; params = m.params; target = m.target }, rest)) type)
-
-pub method_exact : IsExact method_at IsMethod Anything
-method_exact = record { sound = method_sound; complete = method_complete }
-
-pub other_method_shorter : (ts : List Tok) (x : WMethod) (us : List Tok) → behind_at marks.Comma method_at ts ≡ Some (x, us) → length us < length ts
-other_method_shorter = behind_shorter marks.Comma method_at IsMethod method_exact
-
--- ---- the methods of a state
-
-last_sound : (ts us : List Tok) → after_comma ts ≡ Some us → Takes IsLastComma ts us
-unfolding after_comma
-last_sound ts us e =
-    elim (chosen (is_at marks.Comma ts) (mark_at marks.Comma ts >>= λ comma. Some comma.1) (Some ts) (Some us) e) [
-      | inl t ↦
-          let c = bind_some (mark_at marks.Comma ts) (λ comma. Some comma.1) us t.1 in
-          subst (Takes IsLastComma ts) (some_is c.0.1 us c.2)
-          (record { front = marked c.0.0 marks.Comma ∷ []; parts = mark_is marks.Comma ts c.0 c.1; holds = inr (c.0.0, refl) })
-      | inr f ↦ subst (Takes IsLastComma ts) (some_is ts us f.1) (record { front = []; parts = refl; holds = inl refl })
-    ]
-
-last_complete : (ts rest : List Tok) (a : Place) → IsLastComma ts → after_comma (ts ++ marked a marks.CloseBrace ∷ rest) ≡ Some (marked a marks.CloseBrace ∷ rest)
-unfolding after_comma
-last_complete ts rest a (inl e) = rw e refl
-last_complete ts rest a (inr (b, e)) = rw e refl
-
--- a last comma is followed by no method
-last_stops : (ts rest : List Tok) (a : Place) → IsLastComma ts → is_more (ts ++ marked a marks.CloseBrace ∷ rest) ≡ false
-last_stops ts rest a (inl e) = rw e refl
-last_stops ts rest a (inr (b, e)) = rw e refl
-
-more_goes : (m : WMethod) (ts rest : List Tok) → Behind marks.Comma IsMethod m ts → is_more (ts ++ rest) ≡ true
-more_goes m ts rest (x, ws, f, (a, b, c, d, text, us, vs, e, type, p, t)) = rw (f, e) refl
-
-are_methods : (ms : List WMethod) (ts us vs : List Tok) → ts ≡ us ++ vs → Listed marks.Comma IsMethod ms us → IsLastComma vs → AreMethods ms ts
-are_methods [] ts us vs e h l = absurd h
-are_methods (m ∷ ms) ts us vs e h l = (us, vs, e, h, l)
-
-some_methods_sound : (ts : List Tok) (x : List WMethod × List Tok) → some_methods_at ts ≡ Some x → Takes (AreMethods x.0) ts x.1
-unfolding some_methods_at
-some_methods_sound ts x e =
-    let m = bind_some (listed_at marks.Comma is_more method_at ts) _ x e in
-    let c = bind_some (after_comma m.0.1) _ x m.2 in
-    let l = listed_sound marks.Comma method_at IsMethod method_exact is_more ts m.0 m.1 in
-    let last = last_sound m.0.1 c.0 c.1 in
-    subst (λ (y : List WMethod × List Tok). Takes (AreMethods y.0) ts y.1) (some_is _ x c.2)
-    (record {
-      front = l.front ++ last.front;
-      parts = l.parts ∙ ap (λ (r : List Tok). l.front ++ r) last.parts ∙ sym (append_assoc l.front last.front c.0);
-      holds = are_methods m.0.0 (l.front ++ last.front) l.front last.front refl l.holds last.holds;
-    })
-
-pub methods_sound : (ts : List Tok) (x : List WMethod × List Tok) → methods_at ts ≡ Some x → Takes (AreMethods x.0) ts x.1
-unfolding methods_at
-methods_sound ts x e =
-    elim (chosen (is_at marks.CloseBrace ts) (Some ([], ts)) (some_methods_at ts) (Some x) e) [
-      | inl t ↦ subst (λ (y : List WMethod × List Tok). Takes (AreMethods y.0) ts y.1) (some_is ([], ts) x t.1) (record { front = []; parts = refl; holds = refl })
-      | inr f ↦ some_methods_sound ts x f.1
-    ]
-
--- methods begin with no brace
-methods_begin : (m : WMethod) (ms : List WMethod) (ts rest : List Tok) → Listed marks.Comma IsMethod (m ∷ ms) ts → is_at marks.CloseBrace (ts ++ rest) ≡ false
-methods_begin m ms ts rest (ps, qs, f, (a, b, c, d, text, us, vs, e, type, p, t), g) = rw (f, e) refl
-
-pub methods_complete : (ms : List WMethod) (ts rest : List Tok) (a : Place) → AreMethods ms ts → methods_at (ts ++ marked a marks.CloseBrace ∷ rest) ≡ Some (ms, marked a marks.CloseBrace ∷ rest)
-unfolding methods_at some_methods_at
-methods_complete [] ts rest a h = rw h refl
-methods_complete (m ∷ ms) ts rest a (us, vs, e, h, l) =
-    let end : List Tok = marked a marks.CloseBrace ∷ rest in
-    let begins = methods_begin m ms us (vs ++ end) h in
-    let reads = listed_complete marks.Comma method_at IsMethod method_exact is_more more_goes (m ∷ ms) us (vs ++ end) (last_stops vs rest a l) h in
-    let last = last_complete vs rest a l in
-    rw (e, append_assoc us vs end, begins, reads, last) refl

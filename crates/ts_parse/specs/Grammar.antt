@@ -11,7 +11,7 @@ use Rattle.ts_parse.specs.declared.token.Mark.TheVariants as marks
 use Rattle.ts_parse.specs.declared.written.Naming.{Naming}
 use Rattle.ts_parse.specs.declared.written.WrittenBranch.{WrittenBranch}
 use Rattle.ts_parse.specs.Tok.{Tok, named, marked}
-use Rattle.ts_parse.specs.Written.{WTarget, to_one, by_label, WMethod, WState, WFile}
+use Rattle.ts_parse.specs.Written.{WTarget, to_one, by_label, WMethod, WEntry, offer, drop_end, WState, WFile}
 
 -- ---- lists. `Each G xs ts`: the tokens are those of the parts xs, one after another, each as G says.
 
@@ -91,18 +91,23 @@ IsMethod m ts =
 abbrev pub IsLastComma : List Tok → Type 0
 IsLastComma ts = (ts ≡ []) ⊎ ((a : Place) × (ts ≡ marked a marks.Comma ∷ []))
 
--- [ method { "," method } [ "," ] ]
-abbrev pub AreMethods : List WMethod → List Tok → Type 0
-AreMethods [] ts = ts ≡ []
-AreMethods (m ∷ ms) ts = (us vs : List Tok) × (ts ≡ us ++ vs) × Listed marks.Comma IsMethod (m ∷ ms) us × IsLastComma vs
+-- method  |  "drop" ":" "end", where neither word is reserved
+abbrev pub IsEntry : WEntry → List Tok → Type 0
+IsEntry (offer m) ts = IsMethod m ts
+IsEntry (drop_end place) ts = (a b : Place) × (ts ≡ named place (codes "drop") ∷ marked a marks.Colon ∷ named b (codes "end") ∷ [])
+
+-- [ entry { "," entry } [ "," ] ]
+abbrev pub AreEntries : List WEntry → List Tok → Type 0
+AreEntries [] ts = ts ≡ []
+AreEntries (e ∷ es) ts = (us vs : List Tok) × (ts ≡ us ++ vs) × Listed marks.Comma IsEntry (e ∷ es) us × IsLastComma vs
 
 -- ---- states and the file
 
--- name "=" "{" methods "}"
+-- name "=" "{" entries "}"
 abbrev pub IsState : WState → List Tok → Type 0
 IsState s ts =
     (a b c : Place) × (us : List Tok)
-    × (ts ≡ named s.name.place s.name.text ∷ marked a marks.Equals ∷ marked b marks.OpenBrace ∷ (us ++ marked c marks.CloseBrace ∷ [])) × AreMethods s.methods us
+    × (ts ≡ named s.name.place s.name.text ∷ marked a marks.Equals ∷ marked b marks.OpenBrace ∷ (us ++ marked c marks.CloseBrace ∷ [])) × AreEntries s.entries us
 
 -- [ package ] { import } "typestate" name "{" { state } "}"
 pub record IsSpelled (w : WFile) (ts : List Tok) : Type 0 where

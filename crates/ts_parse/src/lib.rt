@@ -9,6 +9,7 @@ ghost use Rattle.ts_parse.specs.Written.{WFile, wfile_of};
 ghost use Rattle.ts_parse.specs.Grammar.{IsSpelled};
 ghost use Rattle.ts_parse.specs.Answer.{IsReadOrMemory, SaysSyntax};
 
+mod entries;
 mod front;
 mod head;
 mod methods;
@@ -23,7 +24,8 @@ use mg_read::ParseFault;
 use std::alloc::Global;
 pub use token::{Mark, Token, TokenKind};
 pub use written::{
-    Naming, WrittenBranch, WrittenMethod, WrittenState, WrittenTarget, WrittenTypestate,
+    Naming, WrittenBranch, WrittenEntry, WrittenMethod, WrittenState, WrittenTarget,
+    WrittenTypestate,
 };
 
 /// The tokens of the bytes of a file, each with its place. The bytes of a comment are free, as

@@ -34,11 +34,19 @@ pub struct WrittenMethod {
     pub target: WrittenTarget,
 }
 
-/// A state, and its methods in the order of the text.
+/// An entry of a state.
+#[derive(Debug, Drop)]
+pub enum WrittenEntry {
+    Method(WrittenMethod),
+    /// `drop: end`, at the place of its `drop`.
+    DropEnd(Place),
+}
+
+/// A state, and its entries in the order of the text.
 #[derive(Debug, Drop)]
 pub struct WrittenState {
     pub name: Naming,
-    pub methods: List<WrittenMethod>,
+    pub entries: List<WrittenEntry>,
 }
 
 /// A typestate, and its states in the order of the text.

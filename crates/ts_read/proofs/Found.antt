@@ -15,14 +15,15 @@ use Rattle.ts_parse.specs.declared.written.WrittenTarget.{WrittenTarget}
 use Rattle.ts_parse.specs.declared.written.WrittenTarget.TheVariants as kept
 use Rattle.ts_parse.specs.declared.written.WrittenMethod.{WrittenMethod}
 use Rattle.ts_parse.specs.declared.written.WrittenState.{WrittenState}
-use Rattle.ts_parse.specs.Written.{WMethod, WState, WFile, wtarget_of, wmethod_of, wstate_of}
-use Rattle.ts_read.specs.Conditions.{method_names, branches_of, labels_of, leads_to, targets_of, texts, IsRepeat, IsUnknown, HasOther, IsNamedEnd, Judges, IsFault}
+use Rattle.ts_parse.specs.Written.{WMethod, WState, WFile, methods_in, wtarget_of, wmethod_of, wentry_of, wstate_of}
+use Rattle.ts_read.specs.Conditions.{branches_of, labels_of, leads_to, targets_of, texts, IsRepeat, IsTwice, IsUnknown, HasOther, IsNamedEnd, Judges, IsFault}
 use Rattle.ts_read.specs.declared.condition.Condition.{Condition}
 use Rattle.ts_read.specs.declared.condition.Condition.TheVariants as conditions
-use Rattle.ts_read.specs.inner.Finding.{repeat_in, first_some, noted, state_name, method_name, label_name, branches_in, repeat_method, repeat_label, repeat_labels, unknown_to, unknown_target, unknown_method, unknown_state, named_end}
+use Rattle.ts_read.specs.inner.Finding.{repeat_in, first_some, noted, state_name, label_name, branches_in, at_method, repeat_entry, repeat_label, repeat_labels, unknown_to, unknown_target, unknown_method, unknown_state, named_end}
 use Rattle.ts_read.specs.inner.Signing.{Firsts, with_states, other_method, other_in_state}
 use Rattle.ts_read.specs.inner.Deciding.{tagged, fault_found}
 use Rattle.ts_read.proofs.Judges.{repeat_judged, first_judged, each_judged, noted_distinct, unknown_judged, end_judged}
+use Rattle.ts_read.proofs.Contents.{kept_in, kept_are, some_in, entries_judged}
 use Rattle.ts_read.proofs.Signed.{kept_methods, table_look, signed_judged}
 
 -- ---- lists of lists
@@ -32,19 +33,22 @@ map_map f g [] = refl
 map_map f g (x ∷ xs) = ap (λ ys. f (g x) ∷ ys) (map_map f g xs)
 
 nested : {Y : Type 0} (f : WMethod → List Y) (ss : List WrittenState)
-    → flat_map f (flat_map (λ (s : WState). s.methods) (map wstate_of ss)) ≡ flat_map
-    (λ (s : WrittenState). flat_map (λ (m : WrittenMethod). f (wmethod_of m)) s.methods.items) ss
+    → flat_map f (flat_map (λ (s : WState). methods_in s.entries) (map wstate_of ss)) ≡ flat_map
+    (λ (s : WrittenState). flat_map (λ (m : WrittenMethod). f (wmethod_of m)) (kept_in s.entries.items)) ss
 nested f [] = refl
 nested {Y} f (s ∷ ss) =
-    flat_map-append f (map wmethod_of s.methods.items) (flat_map (λ (t : WState). t.methods) (map wstate_of ss))
-    ∙ ap (λ (ys : List Y). ys ++ flat_map f (flat_map (λ (t : WState). t.methods) (map wstate_of ss)))
-    (flat_map-map f wmethod_of s.methods.items)
-    ∙ ap (λ (ys : List Y). flat_map (λ (m : WrittenMethod). f (wmethod_of m)) s.methods.items ++ ys) (nested f ss)
+    let rest = flat_map (λ (t : WState). methods_in t.entries) (map wstate_of ss) in
+    flat_map-append f (methods_in (map wentry_of s.entries.items)) rest
+    ∙ ap (λ (ms : List WMethod). flat_map f ms ++ flat_map f rest) (kept_are s.entries.items)
+    ∙ ap (λ (ys : List Y). ys ++ flat_map f rest) (flat_map-map f wmethod_of (kept_in s.entries.items))
+    ∙ ap (λ (ys : List Y). flat_map (λ (m : WrittenMethod). f (wmethod_of m)) (kept_in s.entries.items) ++ ys) (nested f ss)
 
-kept_of : (ss : List WrittenState) → flat_map (λ (s : WState). s.methods) (map wstate_of ss) ≡ map wmethod_of (kept_methods ss)
+kept_of : (ss : List WrittenState) → flat_map (λ (s : WState). methods_in s.entries) (map wstate_of ss) ≡ map wmethod_of (kept_methods ss)
 kept_of [] = refl
-kept_of (s ∷ ss) = ap (λ (ms : List WMethod). map wmethod_of s.methods.items ++ ms) (kept_of ss)
-    ∙ sym (map-append wmethod_of s.methods.items (kept_methods ss))
+kept_of (s ∷ ss) =
+    ap (λ (ms : List WMethod). ms ++ flat_map (λ (t : WState). methods_in t.entries) (map wstate_of ss)) (kept_are s.entries.items)
+    ∙ ap (λ (ms : List WMethod). map wmethod_of (kept_in s.entries.items) ++ ms) (kept_of ss)
+    ∙ sym (map-append wmethod_of (kept_in s.entries.items) (kept_methods ss))
 
 some_append : (f : WrittenMethod → Option Culprit) (xs ys : List WrittenMethod)
     → first_some (map f (xs ++ ys)) ≡ option_or (first_some (map f xs)) (first_some (map f ys))
@@ -58,7 +62,8 @@ some_append f (x ∷ xs) ys = ap (λ (o : Option Culprit). option_or (f x) o) (s
 pub some_kept : (T : Firsts) (ss : List WrittenState)
     → first_some (map (other_method T) (kept_methods ss)) ≡ first_some (map (other_in_state T) ss)
 some_kept T [] = refl
-some_kept T (s ∷ ss) = some_append (other_method T) s.methods.items (kept_methods ss)
+some_kept T (s ∷ ss) = some_append (other_method T) (kept_in s.entries.items) (kept_methods ss)
+    ∙ ap (λ (o : Option Culprit). option_or o (first_some (map (other_method T) (kept_methods ss)))) (sym (some_in (other_method T) s.entries.items))
     ∙ ap (λ (o : Option Culprit). option_or (other_in_state T s) o) (some_kept T ss)
 
 -- ---- each condition
@@ -78,16 +83,22 @@ unknown_there S (kept.One to) = unknown_judged S to
 unknown_there S (kept.ByAnswer branches) = each_judged (IsUnknown S) (λ (b : WrittenBranch). b.to) (unknown_to (texts S))
     (λ b. unknown_judged S b.to) branches.items
 
+-- what is judged at the methods of a state is judged at its entries
+at_methods : {Y : Type 0} (At : Y → Culprit → Type 0) (parts : WrittenMethod → List Y) (find : WrittenMethod → Option Culprit)
+    → ((m : WrittenMethod) → Judged At (parts m) (find m)) → (s : WrittenState)
+    → Judged At (flat_map parts (kept_in s.entries.items)) (first_some (map (at_method find) s.entries.items))
+at_methods At parts find h s =
+    subst (Judged At (flat_map parts (kept_in s.entries.items))) (sym (some_in find s.entries.items)) (first_judged At parts find h (kept_in s.entries.items))
+
 unknown_all : (S : List Naming) (ss : List WrittenState)
-    → Judged (IsUnknown S) (flat_map (λ (m : WMethod). leads_to m.target) (flat_map (λ (s : WState). s.methods) (map wstate_of ss)))
+    → Judged (IsUnknown S) (flat_map (λ (m : WMethod). leads_to m.target) (flat_map (λ (s : WState). methods_in s.entries) (map wstate_of ss)))
     (first_some (map (unknown_state (texts S)) ss))
 unknown_all S ss =
     subst (λ (ns : List Naming). Judged (IsUnknown S) ns (first_some (map (unknown_state (texts S)) ss)))
     (sym (nested (λ (m : WMethod). leads_to m.target) ss))
-    (first_judged (IsUnknown S) (λ (s : WrittenState). flat_map (λ (m : WrittenMethod). leads_to (wtarget_of m.target)) s.methods.items)
+    (first_judged (IsUnknown S) (λ (s : WrittenState). flat_map (λ (m : WrittenMethod). leads_to (wtarget_of m.target)) (kept_in s.entries.items))
     (unknown_state (texts S))
-    (λ s. first_judged (IsUnknown S) (λ (m : WrittenMethod). leads_to (wtarget_of m.target)) (unknown_method (texts S))
-    (λ m. unknown_there S m.target) s.methods.items) ss)
+    (at_methods (IsUnknown S) (λ (m : WrittenMethod). leads_to (wtarget_of m.target)) (unknown_method (texts S)) (λ m. unknown_there S m.target)) ss)
 
 judge_targets : (name : Name) (names : List Name) (ss : List WrittenState) → names ≡ texts (map state_name ss)
     → Judges (file name ss) conditions.UnknownState (first_some (map (unknown_state names) ss))
@@ -97,18 +108,12 @@ judge_targets name names ss is =
     (subst (λ (ts : List Name). Judged (IsUnknown (map state_name ss)) (targets_of (file name ss)) (first_some (map (unknown_state ts) ss)))
     (sym is) (unknown_all (map state_name ss) ss))
 
-repeat_here : (s : WrittenState) → Judged IsRepeat (with_earlier (method_names (wstate_of s))) (repeat_method s)
-repeat_here s =
-    subst (λ (ns : List Naming). Judged IsRepeat (with_earlier ns) (repeat_method s))
-    (sym (map_map (λ (m : WMethod). m.name) wmethod_of s.methods.items))
-    (repeat_judged [] (map method_name s.methods.items))
-
-judge_methods : (name : Name) (ss : List WrittenState)
-    → Judges (file name ss) conditions.DuplicateMethod (first_some (map repeat_method ss))
-judge_methods name ss =
-    subst (λ xs. Judged IsRepeat xs (first_some (map repeat_method ss)))
-    (sym (flat_map-map (λ (s : WState). with_earlier (method_names s)) wstate_of ss))
-    (first_judged IsRepeat (λ (s : WrittenState). with_earlier (method_names (wstate_of s))) repeat_method repeat_here ss)
+judge_entries : (name : Name) (ss : List WrittenState)
+    → Judges (file name ss) conditions.DuplicateMethod (first_some (map repeat_entry ss))
+judge_entries name ss =
+    subst (λ xs. Judged IsTwice xs (first_some (map repeat_entry ss)))
+    (sym (flat_map-map (λ (s : WState). with_earlier s.entries) wstate_of ss))
+    (first_judged IsTwice (λ (s : WrittenState). with_earlier (map wentry_of s.entries.items)) repeat_entry entries_judged ss)
 
 judge_signatures : (name : Name) (ss : List WrittenState)
     → Judges (file name ss) conditions.SignatureDiffers
@@ -128,9 +133,8 @@ judge_labels : (name : Name) (ss : List WrittenState) → Judges (file name ss) 
 judge_labels name ss =
     subst (λ xs. Judged IsRepeat xs (first_some (map repeat_labels ss))) (sym (nested (λ (m : WMethod). with_earlier (labels_of m)) ss))
     (first_judged IsRepeat (λ (s : WrittenState). flat_map
-    (λ (m : WrittenMethod). with_earlier (labels_of (wmethod_of m))) s.methods.items) repeat_labels
-    (λ s. first_judged IsRepeat (λ (m : WrittenMethod). with_earlier (labels_of (wmethod_of m))) repeat_label
-    (λ m. labels_there m.target) s.methods.items) ss)
+    (λ (m : WrittenMethod). with_earlier (labels_of (wmethod_of m))) (kept_in s.entries.items)) repeat_labels
+    (at_methods IsRepeat (λ (m : WrittenMethod). with_earlier (labels_of (wmethod_of m))) repeat_label (λ m. labels_there m.target)) ss)
 
 judge_ends : (name : Name) (ss : List WrittenState) → Judges (file name ss) conditions.ReservedEnd (first_some (map named_end ss))
 judge_ends name ss =
@@ -150,7 +154,7 @@ pub fault_is : (name : Name) (names : List Name) (ss : List WrittenState) → na
 fault_is name names ss is =
     step conditions.DuplicateState _ _ _ (judge_states name ss) (λ distinct.
     step conditions.UnknownState _ _ _ (judge_targets name names ss (is ∙ noted_distinct [] (map state_name ss) distinct)) (λ _.
-    step conditions.DuplicateMethod _ _ _ (judge_methods name ss) (λ _.
+    step conditions.DuplicateMethod _ _ _ (judge_entries name ss) (λ _.
     step conditions.SignatureDiffers _ _ _ (judge_signatures name ss) (λ _.
     step conditions.DuplicateLabel _ _ _ (judge_labels name ss) (λ _.
     step conditions.ReservedEnd _ _ _ (judge_ends name ss) (λ _. all_hold))))))

@@ -1,5 +1,6 @@
 pub mod Separated
 pub mod Judges
+pub mod Contents
 pub mod Signed
 pub mod Found
 pub mod Proper

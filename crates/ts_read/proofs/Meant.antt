@@ -7,7 +7,7 @@ use Rattle.mg_read.specs.Culprit.{Culprit}
 use Rattle.ts_tree.specs.Typestate.{Method, State, Typestate}
 use Rattle.ts_tree.specs.Proper.{IsProper}
 use Rattle.ts_parse.specs.declared.written.WrittenState.{WrittenState}
-use Rattle.ts_parse.specs.Written.{WState, wmethod_of, wstate_of}
+use Rattle.ts_parse.specs.Written.{WState, wmethod_of, wentry_of, wstate_of, has_drop}
 use Rattle.ts_read.specs.declared.condition.Condition.{Condition}
 use Rattle.ts_read.specs.declared.condition.Condition.TheVariants as conditions
 use Rattle.ts_read.specs.declared.fault.TsFault.{TsFault}
@@ -17,7 +17,9 @@ use Rattle.ts_read.specs.Meaning.{method_meant, state_meant, typestate_of}
 use Rattle.ts_read.specs.inner.Finding.{repeat_in, noted, state_name}
 use Rattle.ts_read.specs.inner.Deciding.{broken_of, fault_found}
 use Rattle.ts_read.specs.inner.Composing.{condition_of, MeantFault}
+use Rattle.ts_read.specs.inner.Building.{state_made}
 use Rattle.ts_read.proofs.Judges.{noted_distinct}
+use Rattle.ts_read.proofs.Contents.{kept_in, kept_are, made_in}
 use Rattle.ts_read.proofs.Found as found
 use Rattle.ts_read.proofs.Found.{map_map, fault_is}
 use Rattle.ts_read.proofs.Proper.{meant, tag_split, proper}
@@ -27,9 +29,17 @@ use Rattle.ts_read.proofs.Composed.{meant_fault}
 meant_all : (names : List Name) (ss : List WrittenState) → map (meant names) ss ≡ map (state_meant names) (map wstate_of ss)
 meant_all names [] = refl
 meant_all names (s ∷ ss) =
-    let F : List Method → State = λ ms. record { name = s.name.text; methods = ms } in
-    ap (λ (ms : List Method). F ms ∷ map (meant names) ss) (sym (map_map (method_meant names) wmethod_of s.methods.items))
+    let F : List Method → State = λ ms. record { name = s.name.text; methods = ms; drops = has_drop (map wentry_of s.entries.items) } in
+    ap (λ (ms : List Method). F ms ∷ map (meant names) ss)
+    (sym (map_map (method_meant names) wmethod_of (kept_in s.entries.items)) ∙ ap (map (method_meant names)) (sym (kept_are s.entries.items)))
     ∙ ap (λ (ts : List State). state_meant names (wstate_of s) ∷ ts) (meant_all names ss)
+
+made_all : (names : List Name) (ss : List WrittenState) → map (state_made names) ss ≡ map (meant names) ss
+made_all names [] = refl
+made_all names (s ∷ ss) =
+    let F : List Method → State = λ ms. record { name = s.name.text; methods = ms; drops = has_drop (map wentry_of s.entries.items) } in
+    ap (λ (ms : List Method). F ms ∷ map (state_made names) ss) (made_in names s.entries.items)
+    ∙ ap (λ (ts : List State). meant names s ∷ ts) (made_all names ss)
 
 module _ (listed : List WrittenState) (names : List Name) (o : Option Broken) (is : names ≡ noted [] (map state_name listed))
     (sought : option_map broken_of o ≡ fault_found names listed) where
@@ -48,8 +58,8 @@ module _ (listed : List WrittenState) (names : List Name) (o : Option Broken) (i
   nothing : o ≡ None → fault_found names listed ≡ None
   nothing none = sym sought ∙ ap (λ (x : Option Broken). option_map broken_of x) none
 
-  pub proper_states : (made : List State) → o ≡ None → made ≡ map (meant names) listed → IsProper made
-  proper_states made none built = subst IsProper (sym built) (proper names listed is (nothing none))
+  pub proper_states : (made : List State) → o ≡ None → made ≡ map (state_made names) listed → IsProper made
+  proper_states made none built = subst IsProper (sym (built ∙ made_all names listed)) (proper names listed is (nothing none))
 
   names_are : (name : Name) → o ≡ None → names ≡ texts (state_names (found.file name listed))
   names_are name none =
@@ -58,7 +68,7 @@ module _ (listed : List WrittenState) (names : List Name) (o : Option Broken) (i
       ∙ ap texts (sym (map_map (λ (s : WState). s.name) wstate_of listed))
 
   pub typestate_meant : (name copied : Name) (items : List WrittenState) (made : List State) → listed ≡ items → length listed ≤ 1000
-      → o ≡ None → copied ≡ name → made ≡ map (meant names) listed
+      → o ≡ None → copied ≡ name → made ≡ map (state_made names) listed
       → (length (map wstate_of items) ≤ 1000) × IsFault (found.file name items) None
       × (◌≡◌ {A = Typestate} (record { name = copied; states = made }) (typestate_of (found.file name items)))
   typestate_meant name copied items made same few none copy built =
@@ -67,7 +77,7 @@ module _ (listed : List WrittenState) (names : List Name) (o : Option Broken) (i
       × (T copied made ≡ typestate_of (found.file name ss)) in
       let few : length (map wstate_of listed) ≤ 1000 = subst (λ (n : ℕ). n ≤ 1000) (sym (length-map listed wstate_of)) few in
       let is_states : made ≡ map (state_meant (texts (state_names (found.file name listed)))) (map wstate_of listed) =
-      built ∙ meant_all names listed ∙ ap (λ (ns : List Name). map (state_meant ns) (map wstate_of listed)) (names_are name none) in
+      built ∙ made_all names listed ∙ meant_all names listed ∙ ap (λ (ns : List Name). map (state_meant ns) (map wstate_of listed)) (names_are name none) in
       subst P same (
         few,
         subst (IsFault (found.file name listed)) (nothing none) (fault_is name names listed is),

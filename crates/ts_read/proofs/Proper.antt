@@ -21,20 +21,25 @@ use Rattle.ts_parse.specs.declared.written.WrittenTarget.{WrittenTarget}
 use Rattle.ts_parse.specs.declared.written.WrittenTarget.TheVariants as kept
 use Rattle.ts_parse.specs.declared.written.WrittenMethod.{WrittenMethod}
 use Rattle.ts_parse.specs.declared.written.WrittenState.{WrittenState}
-use Rattle.ts_parse.specs.Written.{wtarget_of, wmethod_of}
+use Rattle.ts_parse.specs.Written.{wtarget_of, wmethod_of, wentry_of, has_drop}
 use Rattle.ts_read.specs.Conditions.{blamed, texts}
 use Rattle.ts_read.specs.Meaning.{place_named, state_numbered, branch_meant, target_meant, method_meant}
 use Rattle.ts_read.specs.declared.condition.Condition.{Condition}
 use Rattle.ts_read.specs.declared.condition.Condition.TheVariants as conditions
-use Rattle.ts_read.specs.inner.Finding.{is_in, repeat_in, first_some, noted, state_name, method_name, label_name, branches_in, repeat_method, repeat_label, repeat_labels, unknown_name, unknown_to, unknown_target, unknown_method, unknown_state, named_end}
+use Rattle.ts_read.specs.inner.Finding.{is_in, repeat_in, first_some, noted, state_name, method_name, label_name, branches_in, repeat_entry, repeat_label, repeat_labels, unknown_name, unknown_to, unknown_target, unknown_method, unknown_state, named_end}
 use Rattle.ts_read.specs.inner.Signing.{Sig, Firsts, with_states, other_in_state}
 use Rattle.ts_read.specs.inner.Deciding.{tagged, labels_or_end, methods_or_later, fault_found}
 use Rattle.ts_read.proofs.Judges.{in_contained, contained_in, noted_distinct, true_false}
+use Rattle.ts_read.proofs.Contents.{kept_in, some_in, once_in}
 use Rattle.ts_read.proofs.Signed.{kept_methods, lookup, Agrees, all_agree, table_look}
 use Rattle.ts_read.proofs.Found.{map_map, some_kept}
 
 abbrev pub meant : List Name → WrittenState → State
-meant names s = record { name = s.name.text; methods = map (λ m. method_meant names (wmethod_of m)) s.methods.items }
+meant names s = record {
+  name = s.name.text;
+  methods = map (λ m. method_meant names (wmethod_of m)) (kept_in s.entries.items);
+  drops = has_drop (map wentry_of s.entries.items);
+}
 
 -- ---- nothing was found
 
@@ -127,20 +132,21 @@ module _ (names : List Name) where
     go true h e = absurd cc
     go false h e = λ same. true_false ((bytes_eq-Decides s.name.text (codes "end")).1 same) h
 
-  states_fit : (ss : List WrittenState) → first_some (map (unknown_state names) ss) ≡ None → first_some (map repeat_method ss) ≡ None
+  states_fit : (ss : List WrittenState) → first_some (map (unknown_state names) ss) ≡ None → first_some (map repeat_entry ss) ≡ None
       → first_some (map repeat_labels ss) ≡ None → first_some (map named_end ss) ≡ None
       → AllByRecursion (IsState (length names)) (map (meant names) ss)
   states_fit [] u m l n = tt
   states_fit (s ∷ ss) u m l n =
       let us = some_split (unknown_state names s) (first_some (map (unknown_state names) ss)) u in
-      let ms = some_split (repeat_method s) (first_some (map repeat_method ss)) m in
+      let ms = some_split (repeat_entry s) (first_some (map repeat_entry ss)) m in
       let ls = some_split (repeat_labels s) (first_some (map repeat_labels ss)) l in
       let ns = some_split (named_end s) (first_some (map named_end ss)) n in (
         record {
           named = not_end s ns.0;
           methods = distinct_as method_name (λ (k : WrittenMethod). method_meant names (wmethod_of k))
-              (λ (k : Method). k.name) s.methods.items refl ms.0;
-          targets = methods_fit s.methods.items us.0 ls.0;
+              (λ (k : Method). k.name) (kept_in s.entries.items) refl (once_in false [] s.entries.items ms.0);
+          targets = methods_fit (kept_in s.entries.items) (sym (some_in (unknown_method names) s.entries.items) ∙ us.0)
+              (sym (some_in repeat_label s.entries.items) ∙ ls.0);
         },
         states_fit ss us.1 ms.1 ls.1 ns.1,
       )
@@ -164,10 +170,10 @@ module _ (names : List Name) where
       → Contains (map (meant names) ss) s → Contains s.methods m → Told T m
   offered_told T [] m s a (k, lt, e) c = absurd (omega arith)
   offered_told T (w ∷ ws) m s a (zero, lt, e) c =
-      method_told T w.methods.items m (agrees_split T w.methods.items (kept_methods ws) a).0
+      method_told T (kept_in w.entries.items) m (agrees_split T (kept_in w.entries.items) (kept_methods ws) a).0
       (subst (λ (t : State). Contains t.methods m) (sym e) c)
   offered_told T (w ∷ ws) m s a (suc k, lt, e) c =
-      offered_told T ws m s (agrees_split T w.methods.items (kept_methods ws) a).1 (k, omega arith, e) c
+      offered_told T ws m s (agrees_split T (kept_in w.entries.items) (kept_methods ws) a).1 (k, omega arith, e) c
 
   one_signature : (T : Firsts) (ss : List WrittenState) → Agrees T (kept_methods ss) → (m n : Method) → IsOffered (map (meant names) ss) m
       → IsOffered (map (meant names) ss) n → m.name ≡ n.name
@@ -185,7 +191,7 @@ pub proper : (names : List Name) (ss : List WrittenState) → names ≡ noted []
 proper names ss is e =
     let a = tag_split conditions.DuplicateState (repeat_in [] (map state_name ss)) _ e in
     let b = tag_split conditions.UnknownState (first_some (map (unknown_state names) ss)) (methods_or_later ss) a.1 in
-    let c = tag_split conditions.DuplicateMethod (first_some (map repeat_method ss)) _ b.1 in
+    let c = tag_split conditions.DuplicateMethod (first_some (map repeat_entry ss)) _ b.1 in
     let d = tag_split conditions.SignatureDiffers (first_some (map (other_in_state (with_states (record { names = []; sigs = [] }) ss)) ss))
     (labels_or_end ss) c.1 in
     let f = tag_split conditions.DuplicateLabel (first_some (map repeat_labels ss)) _ d.1 in

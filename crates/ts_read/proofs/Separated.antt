@@ -1,9 +1,11 @@
 -- Texts with something between two: the first, and then each other behind what separates it.
-use Rattle.std.proofs.Common.{◌≡◌, ℕ, ◌-◌, ◌≤◌, List, [], ◌∷◌, ◌++◌, length, get_or, drop, take, map, codes, refl, sym, ap, ◌∙◌, append_assoc, arith}
+use Rattle.std.proofs.Common.{◌≡◌, ℕ, Bool, ◌-◌, ◌≤◌, List, [], ◌∷◌, ◌++◌, length, get_or, drop, take, map, codes, refl, sym, ap, ◌∙◌, append_assoc, arith}
 use Rattle.std.specs.List.{flat_map}
+use Rattle.std.proofs.lemmas.Grind.{flat_map-append}
 use Rattle.std.proofs.lemmas.List.{append-nil, take_all}
 use Rattle.ts_tree.specs.Typestate.{Method, State}
-use Rattle.ts_read.specs.Layout.{listed, line_feed, method_text, methods_text}
+use Rattle.ts_read.specs.Layout.{listed, line_feed, method_text, drop_line, entry_lines, lines}
+use Rattle.ts_read.specs.inner.Printing.{behind}
 
 module _ {X : Type 0} (f : X → List ℕ) where
   -- each text behind a comma and a space
@@ -35,30 +37,46 @@ module _ {X : Type 0} (f : X → List ℕ) where
       ∙ append_assoc old (f x) _
       ∙ ap (λ t. old ++ t) (sym (listed_first xs x h is))
 
+-- the first text, the others, and the end of the last line
+lines-cons : (t : List ℕ) (ts : List (List ℕ)) → lines (t ∷ ts) ≡ t ++ (behind ts ++ line_feed)
+lines-cons t [] = refl
+lines-cons t (u ∷ us) =
+    append_assoc (t ++ codes ",") line_feed (lines (u ∷ us))
+    ∙ append_assoc t (codes ",") (line_feed ++ lines (u ∷ us))
+    ∙ ap (λ r. t ++ (codes ",\n" ++ r)) (lines-cons u us ∙ sym (append_assoc u (behind us) line_feed))
+
 module _ {X : Type 0} (states : List State) (v : X → Method) where
   -- each method on a line of its own, behind a comma
   abbrev pub behind_lines : List X → List ℕ
   behind_lines = flat_map (λ x. codes ",\n" ++ method_text states (v x))
 
-  -- the first method, the others, and the end of the last line
-  methods_text-cons : (x : X) (xs : List X) → methods_text states (map v (x ∷ xs)) ≡ method_text states (v x) ++
-      (behind_lines xs ++ line_feed)
-  methods_text-cons x [] = refl
-  methods_text-cons x (y ∷ ys) =
-      append_assoc (method_text states (v x) ++ codes ",") line_feed (methods_text states (map v (y ∷ ys)))
-      ∙ append_assoc (method_text states (v x)) (codes ",") (line_feed ++ methods_text states (map v (y ∷ ys)))
-      ∙ ap (λ t. method_text states (v x) ++ (codes ",\n" ++ t))
-      (methods_text-cons y ys ∙ sym (append_assoc (method_text states (v y)) (behind_lines ys) line_feed))
+  behind_methods : (xs : List X) → behind (map (method_text states) (map v xs)) ≡ behind_lines xs
+  behind_methods [] = refl
+  behind_methods (x ∷ xs) = ap (λ r. codes ",\n" ++ method_text states (v x) ++ r) (behind_methods xs)
 
-  -- what a loop over the others has written at its end, but for the end of the last line
-  pub methods_done : (xs : List X) (x : X) (i : ℕ) (old first now : List ℕ) → 1 ≤ length xs → x ≡ get_or xs 0 x
+  -- a method, the others, what stands behind them, and the end of the last line
+  entries-cons : (x : X) (xs : List X) (drops : Bool)
+      → lines (entry_lines states (map v (x ∷ xs)) drops)
+      ≡ method_text states (v x) ++ ((behind_lines xs ++ behind (drop_line drops)) ++ line_feed)
+  entries-cons x xs drops =
+      lines-cons (method_text states (v x)) (map (method_text states) (map v xs) ++ drop_line drops)
+      ∙ ap (λ r. method_text states (v x) ++ (r ++ line_feed))
+      (flat_map-append (λ t. codes ",\n" ++ t) (map (method_text states) (map v xs)) (drop_line drops)
+      ∙ ap (λ r. r ++ behind (drop_line drops)) (behind_methods xs))
+
+  -- what a loop over the others has written at its end, and what stands behind them, but for the end of the last line
+  pub entries_done : (xs : List X) (x : X) (i : ℕ) (drops : Bool) (old first now last : List ℕ) → 1 ≤ length xs → x ≡ get_or xs 0 x
       → length (take (length xs - 1) (drop 1 xs)) ≤ i → first ≡ old ++ method_text states (v x)
-      → now ≡ first ++ behind_lines (take i (take (length xs - 1) (drop 1 xs))) → now ++ line_feed ≡ old ++ methods_text states (map v xs)
-  methods_done [] x i old first now h is all begun done = absurd (omega arith)
-  methods_done (y ∷ ys) x i old first now h is all begun done =
+      → now ≡ first ++ behind_lines (take i (take (length xs - 1) (drop 1 xs))) → last ≡ now ++ behind (drop_line drops)
+      → last ++ line_feed ≡ old ++ lines (entry_lines states (map v xs) drops)
+  entries_done [] x i drops old first now last h is all begun done ends = absurd (omega arith)
+  entries_done (y ∷ ys) x i drops old first now last h is all begun done ends =
+      let D = behind (drop_line drops) in
+      let M = method_text states (v x) in
+      let L = behind_lines ys in
       let rest : take (length (y ∷ ys) - 1) ys ≡ ys = take_all (length (y ∷ ys) - 1) ys (omega arith) in
-      ap (λ t. t ++ line_feed) (done ∙ ap (λ (zs : List X). first ++ behind_lines zs) (take_all i _ all ∙ rest)
-      ∙ ap (λ t. t ++ behind_lines ys) begun ∙ append_assoc old (method_text states (v x)) (behind_lines ys))
-      ∙ append_assoc old (method_text states (v x) ++ behind_lines ys) line_feed
-      ∙ ap (λ t. old ++ t) (append_assoc (method_text states (v x)) (behind_lines ys) line_feed
-      ∙ ap (λ (z : X). method_text states (v z) ++ (behind_lines ys ++ line_feed)) is ∙ sym (methods_text-cons y ys))
+      let so_far : now ≡ (old ++ M) ++ L = done ∙ ap (λ (zs : List X). first ++ behind_lines zs) (take_all i _ all ∙ rest) ∙ ap (λ t. t ++ L) begun in
+      ap (λ t. t ++ line_feed) (ends ∙ ap (λ t. t ++ D) so_far ∙ append_assoc (old ++ M) L D ∙ append_assoc old M (L ++ D))
+      ∙ append_assoc old (M ++ (L ++ D)) line_feed
+      ∙ ap (λ t. old ++ t) (append_assoc M (L ++ D) line_feed
+      ∙ ap (λ (z : X). method_text states (v z) ++ ((L ++ D) ++ line_feed)) is ∙ sym (entries-cons y ys drops))

@@ -13,12 +13,15 @@ use Rattle.mg_read.proofs.Steps.{some_is}
 use Rattle.ts_tree.specs.declared.parts.TypeName.{TypeName}
 use Rattle.ts_tree.specs.declared.parts.TypeName.TheVariants as types
 use Rattle.ts_parse.specs.declared.written.WrittenMethod.{WrittenMethod}
+use Rattle.ts_parse.specs.declared.written.WrittenEntry.{WrittenEntry}
+use Rattle.ts_parse.specs.declared.written.WrittenEntry.TheVariants as entries
 use Rattle.ts_parse.specs.declared.written.WrittenState.{WrittenState}
 use Rattle.ts_parse.specs.Written.{WMethod, wmethod_of}
 use Rattle.ts_read.specs.Conditions.{blamed, HasOther, SameSignature}
 use Rattle.ts_read.specs.inner.Finding.{is_in, first_some}
-use Rattle.ts_read.specs.inner.Signing.{type_eq, types_eq, Sig, sig_in, Firsts, with_method, with_methods, with_states, is_like, first_sig, other_method}
+use Rattle.ts_read.specs.inner.Signing.{type_eq, types_eq, Sig, sig_in, Firsts, with_method, with_entries, with_states, is_like, first_sig, other_method}
 use Rattle.ts_read.proofs.Judges.{is_in_any, true_false}
+use Rattle.ts_read.proofs.Contents.{kept_in}
 
 -- ---- equal types
 
@@ -164,6 +167,11 @@ with_look f m t e = go (is_in f.names m.name.text) refl where
   go true h = there (bytes_eq t m.name.text) refl h
   go false h = sig_push f.names f.sigs m.name.text (sig_in m) t e
 
+-- with methods, one after another
+abbrev with_methods : Firsts → List WrittenMethod → Firsts
+with_methods f [] = f
+with_methods f (m ∷ ms) = with_methods (with_method f m) ms
+
 methods_look : (f : Firsts) (ms : List WrittenMethod) (t : Name) → Even f
     → lookup (with_methods f ms) t ≡ option_or (lookup f t) (first_of ms t)
 methods_look f [] t e = sym (or_none (lookup f t))
@@ -178,11 +186,19 @@ methods_append f (x ∷ xs) ys = methods_append (with_method f x) xs ys
 
 -- the methods of all states, in the order of the text
 abbrev pub kept_methods : List WrittenState → List WrittenMethod
-kept_methods ss = flat_map (λ s. s.methods.items) ss
+kept_methods ss = flat_map (λ s. kept_in s.entries.items) ss
+
+entries_flat : (f : Firsts) (es : List WrittenEntry) → with_entries f es ≡ with_methods f (kept_in es)
+entries_flat f [] = refl
+entries_flat f (entries.Method m ∷ es) = entries_flat (with_method f m) es
+entries_flat f (entries.DropEnd place ∷ es) = entries_flat f es
 
 states_flat : (f : Firsts) (ss : List WrittenState) → with_states f ss ≡ with_methods f (kept_methods ss)
 states_flat f [] = refl
-states_flat f (s ∷ ss) = states_flat (with_methods f s.methods.items) ss ∙ sym (methods_append f s.methods.items (kept_methods ss))
+states_flat f (s ∷ ss) =
+    states_flat (with_entries f s.entries.items) ss
+    ∙ ap (λ (g : Firsts). with_methods g (kept_methods ss)) (entries_flat f s.entries.items)
+    ∙ sym (methods_append f (kept_in s.entries.items) (kept_methods ss))
 
 pub table_look : (ss : List WrittenState) (t : Name)
     → lookup (with_states (record { names = []; sigs = [] }) ss) t ≡ first_of (kept_methods ss) t

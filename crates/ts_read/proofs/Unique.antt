@@ -19,7 +19,7 @@ use Rattle.ts_parse.proofs.Whole as parsed
 use Rattle.ts_read.specs.declared.condition.Condition.{Condition}
 use Rattle.ts_read.specs.declared.condition.Condition.TheVariants as conditions
 use Rattle.ts_read.specs.declared.fault.TsFault.{TsFault}
-use Rattle.ts_read.specs.Conditions.{IsRepeat, IsUnknown, HasOther, IsNamedEnd, Judges, IsFault}
+use Rattle.ts_read.specs.Conditions.{IsRepeat, IsTwice, IsUnknown, HasOther, IsNamedEnd, Judges, IsFault}
 use Rattle.ts_read.specs.Meaning.{typestate_of}
 use Rattle.ts_read.specs.Outcome.{Answer, Read, BadByte, Refused, Spells, Outcome, too_large, too_many, bad_byte, syntax, refused, read, answer_of, IsAnswered}
 use Rattle.ts_read.specs.inner.Composing.{IsToldOf}
@@ -28,6 +28,9 @@ use Rattle.ts_read.specs.inner.Composing.{IsToldOf}
 
 repeat_single : IsSingle IsRepeat
 repeat_single x c d a b = a.0 ∙ sym b.0
+
+twice_single : IsSingle IsTwice
+twice_single x c d a b = a.0 ∙ sym b.0
 
 unknown_single : (states : List Naming) → IsSingle (IsUnknown states)
 unknown_single states n c d a b = a.0 ∙ sym b.0
@@ -41,7 +44,7 @@ end_single n c d a b = a.0 ∙ sym b.0
 one_of : (w : WFile) (k : Condition) (r s : Option Culprit) → Judges w k r → Judges w k s → r ≡ s
 one_of w conditions.DuplicateState r s = one_answer repeat_single
 one_of w conditions.UnknownState r s = one_answer (unknown_single _)
-one_of w conditions.DuplicateMethod r s = one_answer repeat_single
+one_of w conditions.DuplicateMethod r s = one_answer twice_single
 one_of w conditions.SignatureDiffers r s = one_answer other_single
 one_of w conditions.DuplicateLabel r s = one_answer repeat_single
 one_of w conditions.ReservedEnd r s = one_answer end_single

@@ -6,7 +6,7 @@ use Rattle.mg_read.specs.Culprit.{Culprit, culprit}
 use Rattle.mg_read.specs.First.{Judged, FirstOf, with_earlier}
 use Rattle.ts_parse.specs.declared.written.Naming.{Naming}
 use Rattle.ts_parse.specs.declared.written.WrittenBranch.{WrittenBranch}
-use Rattle.ts_parse.specs.Written.{WTarget, to_one, by_label, WMethod, WState, WFile}
+use Rattle.ts_parse.specs.Written.{WTarget, to_one, by_label, WMethod, WEntry, offer, drop_end, WState, WFile, methods_in}
 use Rattle.ts_read.specs.declared.condition.Condition.{Condition}
 use Rattle.ts_read.specs.declared.condition.Condition.TheVariants as conditions
 
@@ -15,11 +15,8 @@ use Rattle.ts_read.specs.declared.condition.Condition.TheVariants as conditions
 abbrev pub state_names : WFile → List Naming
 state_names w = map (λ s. s.name) w.states
 
-abbrev pub method_names : WState → List Naming
-method_names s = map (λ m. m.name) s.methods
-
 abbrev pub methods_of : WFile → List WMethod
-methods_of w = flat_map (λ s. s.methods) w.states
+methods_of w = flat_map (λ s. methods_in s.entries) w.states
 
 abbrev pub branches_of : WTarget → List WrittenBranch
 branches_of (to_one n) = []
@@ -48,6 +45,21 @@ blamed n = culprit n.place n.text
 abbrev pub IsRepeat : List Naming × Naming → Culprit → Type 0
 IsRepeat x c = (c ≡ blamed x.1) × Contains (texts x.0) x.1.text
 
+-- two methods of one name, or `drop: end` both
+abbrev pub SameEntry : WEntry → WEntry → Type 0
+SameEntry (offer m) (offer n) = m.name.text ≡ n.name.text
+SameEntry (drop_end p) (drop_end q) = Unit {0}
+SameEntry _ _ = ⊥
+
+-- the name of a method, or the word "drop", where it stands
+abbrev pub entry_blamed : WEntry → Culprit
+entry_blamed (offer m) = blamed m.name
+entry_blamed (drop_end place) = culprit place (codes "drop")
+
+-- an entry that is the same as an earlier one; a method may be named "drop" beside `drop: end`
+abbrev pub IsTwice : List WEntry × WEntry → Culprit → Type 0
+IsTwice x c = (c ≡ entry_blamed x.1) × (e : WEntry) × Contains x.0 e × SameEntry e x.1
+
 -- a target that is neither the end nor a state
 abbrev pub IsUnknown : List Naming → Naming → Culprit → Type 0
 IsUnknown states n c = (c ≡ blamed n) × (n.text ≢ codes "end") × (Contains (texts states) n.text → ⊥)
@@ -69,8 +81,8 @@ abbrev pub Judges : WFile → Condition → Option Culprit → Type 0
 Judges w conditions.DuplicateState = Judged IsRepeat (with_earlier (state_names w))
 -- a target that is no state
 Judges w conditions.UnknownState = Judged (IsUnknown (state_names w)) (targets_of w)
--- a name twice in a state
-Judges w conditions.DuplicateMethod = Judged IsRepeat (flat_map (λ s. with_earlier (method_names s)) w.states)
+-- a name twice in a state, or `drop: end` twice
+Judges w conditions.DuplicateMethod = Judged IsTwice (flat_map (λ s. with_earlier s.entries) w.states)
 -- one method name with two results or parameter lists
 Judges w conditions.SignatureDiffers = Judged HasOther (with_earlier (methods_of w))
 -- a label twice in one list

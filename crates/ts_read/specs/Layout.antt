@@ -1,5 +1,5 @@
 -- How a typestate is laid out as a text.
-use Rattle.std.specs.Prelude.{ℕ, List, [], ◌∷◌, ◌++◌, Option, Some, None, codes, map, slice_get}
+use Rattle.std.specs.Prelude.{ℕ, Bool, true, false, List, [], ◌∷◌, ◌++◌, Option, Some, None, codes, map, slice_get}
 use Rattle.std.specs.List.{flat_map}
 use Rattle.mg_text.specs.Call.{Name}
 use Rattle.ts_tree.specs.declared.parts.To.{To}
@@ -46,15 +46,24 @@ abbrev pub method_text : List State → Method → List ℕ
 method_text states m =
     codes "        " ++ type_text m.result ++ codes " " ++ m.name ++ codes "(" ++ listed (map type_text m.params) ++ codes "): " ++ target_text states m.target
 
--- methods, each on a line of its own, with a comma behind each but the last
-abbrev pub methods_text : List State → List Method → List ℕ
-methods_text states [] = []
-methods_text states (m ∷ []) = method_text states m ++ line_feed
-methods_text states (m ∷ n ∷ ms) = method_text states m ++ codes "," ++ line_feed ++ methods_text states (n ∷ ms)
+-- `drop: end`, where a state is marked so
+abbrev pub drop_line : Bool → List (List ℕ)
+drop_line true = codes "        drop: end" ∷ []
+drop_line false = []
+
+-- the methods of a state, and then `drop: end`
+abbrev pub entry_lines : List State → List Method → Bool → List (List ℕ)
+entry_lines states methods drops = map (method_text states) methods ++ drop_line drops
+
+-- texts, each on a line of its own, with a comma behind each but the last
+abbrev pub lines : List (List ℕ) → List ℕ
+lines [] = []
+lines (x ∷ []) = x ++ line_feed
+lines (x ∷ y ∷ xs) = x ++ codes "," ++ line_feed ++ lines (y ∷ xs)
 
 abbrev pub state_text : List State → State → List ℕ
 state_text states s =
-    codes "    " ++ s.name ++ codes " = {" ++ line_feed ++ methods_text states s.methods ++ codes "    }" ++ line_feed
+    codes "    " ++ s.name ++ codes " = {" ++ line_feed ++ lines (entry_lines states s.methods s.drops) ++ codes "    }" ++ line_feed
 
 -- the text of a typestate
 abbrev pub layout : Typestate → List ℕ

@@ -7,7 +7,7 @@ use Rattle.ts_tree.specs.declared.parts.To.TheVariants as tos
 use Rattle.ts_tree.specs.declared.parts.Branch.{Branch}
 use Rattle.ts_tree.specs.Typestate.{Target, One, ByAnswer, Method, State, Typestate}
 use Rattle.ts_parse.specs.declared.written.WrittenBranch.{WrittenBranch}
-use Rattle.ts_parse.specs.Written.{WTarget, to_one, by_label, WMethod, WState, WFile}
+use Rattle.ts_parse.specs.Written.{WTarget, to_one, by_label, WMethod, WState, WFile, methods_in, has_drop}
 use Rattle.ts_read.specs.Conditions.{state_names, texts}
 
 -- the first state of this name; what is none, since it is refused, counts as the end
@@ -30,7 +30,7 @@ abbrev pub method_meant : List Name → WMethod → Method
 method_meant states m = record { result = m.result; name = m.name.text; params = m.params; target = target_meant states m.target }
 
 abbrev pub state_meant : List Name → WState → State
-state_meant states s = record { name = s.name.text; methods = map (method_meant states) s.methods }
+state_meant states s = record { name = s.name.text; methods = map (method_meant states) (methods_in s.entries); drops = has_drop s.entries }
 
 abbrev pub typestate_of : WFile → Typestate
 typestate_of w = record { name = w.name; states = map (state_meant (texts (state_names w))) w.states }

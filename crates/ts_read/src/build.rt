@@ -1,15 +1,17 @@
 //! The states of a typestate, from what is written: names of states become their numbers.
 //! What names nothing becomes the end; it was refused before.
 
-ghost use Rattle.std.specs.Prelude.{◌≡◌, IfOk, map};
+ghost use Rattle.std.specs.Prelude.{◌≡◌, ◌++◌, IfOk, OnOk, map};
+ghost use Rattle.std.specs.List.{flat_map};
 ghost use Rattle.ts_tree.specs.View.{target_of, method_of, state_of};
-ghost use Rattle.ts_parse.specs.Written.{wtarget_of, wmethod_of, wstate_of};
-ghost use Rattle.ts_read.specs.Meaning.{place_named, branch_meant, target_meant, method_meant, state_meant};
+ghost use Rattle.ts_parse.specs.Written.{wtarget_of, wmethod_of, wentry_of, has_drop};
+ghost use Rattle.ts_read.specs.Meaning.{place_named, branch_meant, target_meant, method_meant};
+ghost use Rattle.ts_read.specs.inner.Building.{entry_made, state_made};
 
 use crate::signatures::copy_types;
 use mg_text::{List, Memory, Names, Text};
 use std::alloc::Global;
-use ts_parse::{WrittenBranch, WrittenMethod, WrittenState, WrittenTarget};
+use ts_parse::{WrittenBranch, WrittenEntry, WrittenMethod, WrittenState, WrittenTarget};
 use ts_tree::{Branch, Method, State, Target, To};
 
 // The end, or the state of this name.
@@ -76,27 +78,62 @@ fn method_meant(alloc: Global, names: &Names, method: &WrittenMethod) -> Result<
     })
 }
 
+// Appends the method that an entry means, if it is one.
+fn push_meant(
+    alloc: Global,
+    names: &Names,
+    made: &mut List<Method>,
+    entry: &WrittenEntry,
+) -> Result<(), Memory>
+    ensures { OnOk result (map method_of made.new.items ≡ map method_of made.old.items ++ entry_made names.now entry.now) }
+{
+    match entry {
+        WrittenEntry::Method(method) => {
+            let method = method_meant(alloc, names, method)?;
+            made.push(method)?;
+            Ok(())
+        }
+        WrittenEntry::DropEnd(_) => Ok(()),
+    }
+}
+
 fn methods_meant(
     alloc: Global,
     names: &Names,
-    methods: &[WrittenMethod],
+    entries: &[WrittenEntry],
 ) -> Result<List<Method>, Memory>
-    ensures { IfOk result (λ l. map method_of l.items ≡ map (λ m. method_meant names.now (wmethod_of m)) methods.now) }
+    ensures { IfOk result (λ l. map method_of l.items ≡ flat_map (entry_made names.now) entries.now) }
 {
     let mut made = List::new(alloc);
-    for item in methods {
-        let method = method_meant(alloc, names, item)?;
-        made.push(method)?;
+    for item in entries {
+        push_meant(alloc, names, &mut made, item)?;
     }
     Ok(made)
 }
 
+// Whether one of the entries is `drop: end`.
+fn has_drop(entries: &[WrittenEntry]) -> bool
+    ensures { result ≡ has_drop (map wentry_of entries.now) }
+{
+    for item in entries {
+        if matches!(item, WrittenEntry::DropEnd(_)) {
+            return true;
+        }
+    }
+    false
+}
+
 fn state_meant(alloc: Global, names: &Names, state: &WrittenState) -> Result<State, Memory>
-    ensures { IfOk result (λ s. state_of s ≡ record { name = state.now.name.text; methods = map (λ m. method_meant names.now (wmethod_of m)) state.now.methods.items }) }
+    ensures { IfOk result (λ s. state_of s ≡ state_made names.now state.now) }
 {
     let name = state.name.text.copy()?;
-    let methods = methods_meant(alloc, names, state.methods.as_slice())?;
-    Ok(State { name, methods })
+    let methods = methods_meant(alloc, names, state.entries.as_slice())?;
+    let drops = has_drop(state.entries.as_slice());
+    Ok(State {
+        name,
+        methods,
+        drops,
+    })
 }
 
 /// The states that are written, with these names.
@@ -105,7 +142,7 @@ pub(crate) fn states_meant(
     names: &Names,
     states: &[WrittenState],
 ) -> Result<List<State>, Memory>
-    ensures { IfOk result (λ l. map state_of l.items ≡ map (λ s. record { name = s.name.text; methods = map (λ m. method_meant names.now (wmethod_of m)) s.methods.items }) states.now) }
+    ensures { IfOk result (λ l. map state_of l.items ≡ map (state_made names.now) states.now) }
 {
     let mut made = List::new(alloc);
     for item in states {

@@ -8,7 +8,7 @@ pub enum Condition {
     DuplicateState,
     /// A target is no state.
     UnknownState,
-    /// A method stands twice in a state.
+    /// A method stands twice in a state, or `drop: end` does.
     DuplicateMethod,
     /// One method name has two results or parameter lists.
     SignatureDiffers,

@@ -19,7 +19,8 @@ pub enum TsFault {
     DuplicateState { place: Place, name: Text },
     /// A target is neither `end` nor a state.
     UnknownState { place: Place, name: Text },
-    /// A method stands twice in a state. The place is the second one's name.
+    /// A method stands twice in a state, or `drop: end` does, with the name `drop`. The place is the
+    /// second one's name.
     DuplicateMethod { place: Place, name: Text },
     /// A method has another result or other parameters than an earlier one of its name.
     SignatureDiffers { place: Place, name: Text },

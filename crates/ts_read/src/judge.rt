@@ -7,7 +7,7 @@ ghost use Rattle.ts_read.specs.inner.Deciding.{broken_of, tagged, labels_or_end,
 
 use crate::Condition;
 use crate::blame::Blamed;
-use crate::repeats::{repeated_label, repeated_method, repeated_state};
+use crate::repeats::{repeated_entry, repeated_label, repeated_state};
 use crate::signatures::other_signature;
 use crate::unknown::{state_named_end, unknown_target};
 use mg_text::{Memory, Names};
@@ -46,8 +46,8 @@ fn labels_or_end(alloc: Global, states: &[WrittenState]) -> Result<Option<Broken
 fn methods_or_later(alloc: Global, states: &[WrittenState]) -> Result<Option<Broken>, Memory>
     ensures { IfOk result (λ o. option_map broken_of o ≡ methods_or_later states.now) }
 {
-    let method = repeated_method(alloc, states)?;
-    let found = broken_by(Condition::DuplicateMethod, method);
+    let entry = repeated_entry(alloc, states)?;
+    let found = broken_by(Condition::DuplicateMethod, entry);
     if found.is_some() {
         return Ok(found);
     }

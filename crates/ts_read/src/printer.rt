@@ -4,7 +4,8 @@
 ghost use Rattle.std.specs.Prelude.{◌≡◌, ◌++◌, OnOk, string_bytes, map};
 ghost use Rattle.std.specs.List.{flat_map};
 ghost use Rattle.ts_tree.specs.View.{target_of, method_of, state_of};
-ghost use Rattle.ts_read.specs.Layout.{layout, listed, type_text, to_text, branch_text, target_text, method_text, methods_text, state_text};
+ghost use Rattle.ts_read.specs.Layout.{layout, listed, type_text, to_text, branch_text, target_text, method_text, drop_line, entry_lines, lines, state_text};
+ghost use Rattle.ts_read.specs.inner.Printing.{behind};
 
 use mg_text::Memory;
 use ts_tree::{Branch, Method, State, Target, To, TypeName, Typestate};
@@ -37,22 +38,48 @@ fn print_state(out: &mut String, states: &[State], state: &State) -> Result<(), 
     out.push_str("    ")?;
     out.push_str(state.name.as_str())?;
     out.push_str(" = {\n")?;
-    print_methods(out, states, state.methods.as_slice())?;
+    print_entries(out, states, state.methods.as_slice(), state.drops)?;
     out.push_str("    }\n")?;
     Ok(())
 }
 
-fn print_methods(out: &mut String, states: &[State], methods: &[Method]) -> Result<(), Memory>
-    ensures { OnOk result (string_bytes out.new ≡ string_bytes out.old ++ methods_text (map state_of states.now) (map method_of methods.now)) }
+// `drop: end` as the only entry of a state, if it is marked so.
+fn print_drop(out: &mut String, drops: bool) -> Result<(), Memory>
+    ensures { OnOk result (string_bytes out.new ≡ string_bytes out.old ++ lines (drop_line drops)) }
+{
+    if drops {
+        out.push_str("        drop: end\n")?;
+    }
+    Ok(())
+}
+
+// `drop: end` behind methods, if the state is marked so.
+fn print_drop_behind(out: &mut String, drops: bool) -> Result<(), Memory>
+    ensures { OnOk result (string_bytes out.new ≡ string_bytes out.old ++ behind (drop_line drops)) }
+{
+    if drops {
+        out.push_str(",\n        drop: end")?;
+    }
+    Ok(())
+}
+
+fn print_entries(
+    out: &mut String,
+    states: &[State],
+    methods: &[Method],
+    drops: bool,
+) -> Result<(), Memory>
+    ensures { OnOk result (string_bytes out.new ≡ string_bytes out.old ++ lines (entry_lines (map state_of states.now) (map method_of methods.now) drops)) }
 {
     let [first, rest @ ..] = methods else {
-        return Ok(());
+        return print_drop(out, drops);
     };
     print_method(out, states, first)?;
     for method in rest {
         out.push_str(",\n")?;
         print_method(out, states, method)?;
     }
+    print_drop_behind(out, drops)?;
     out.push_str("\n")?;
     Ok(())
 }

@@ -1,13 +1,13 @@
-//! Names that stand twice: states of a file, methods of a state, labels of a list.
+//! What stands twice: states of a file, methods and `drop: end` of a state, labels of a list.
 //! Each search looks at a name once, in a table of those before it.
 
-ghost use Rattle.std.specs.Prelude.{◌≡◌, [], IfOk, map, option_map};
-ghost use Rattle.ts_read.specs.inner.Finding.{blamed_of, repeat_in, first_some, state_name, method_name, label_name, repeat_method, branches_in, repeat_label, repeat_labels};
+ghost use Rattle.std.specs.Prelude.{◌≡◌, [], false, IfOk, map, option_map};
+ghost use Rattle.ts_read.specs.inner.Finding.{blamed_of, repeat_in, first_some, state_name, label_name, at_method, twice_in, repeat_entry, branches_in, repeat_label, repeat_labels};
 
-use crate::blame::{Blamed, blame, note};
+use crate::blame::{Blamed, blame, blame_drop, note};
 use mg_text::{Memory, Names};
 use std::alloc::Global;
-use ts_parse::{WrittenBranch, WrittenMethod, WrittenState, WrittenTarget};
+use ts_parse::{WrittenBranch, WrittenEntry, WrittenState, WrittenTarget};
 
 // The first state whose name an earlier one has.
 pub(crate) fn repeated_state(
@@ -26,15 +26,15 @@ pub(crate) fn repeated_state(
     Ok(None)
 }
 
-// The first method whose name an earlier one of its state has.
-pub(crate) fn repeated_method(
+// The first entry that is the same as an earlier one of its state.
+pub(crate) fn repeated_entry(
     alloc: Global,
     states: &[WrittenState],
 ) -> Result<Option<Blamed>, Memory>
-    ensures { IfOk result (λ o. option_map blamed_of o ≡ first_some (map repeat_method states.now)) }
+    ensures { IfOk result (λ o. option_map blamed_of o ≡ first_some (map repeat_entry states.now)) }
 {
     for item in states {
-        let found = repeated_here(alloc, item.methods.as_slice())?;
+        let found = repeated_here(alloc, item.entries.as_slice())?;
         if found.is_some() {
             return Ok(found);
         }
@@ -42,14 +42,25 @@ pub(crate) fn repeated_method(
     Ok(None)
 }
 
-fn repeated_here(alloc: Global, methods: &[WrittenMethod]) -> Result<Option<Blamed>, Memory>
-    ensures { IfOk result (λ o. option_map blamed_of o ≡ repeat_in [] (map method_name methods.now)) }
+fn repeated_here(alloc: Global, entries: &[WrittenEntry]) -> Result<Option<Blamed>, Memory>
+    ensures { IfOk result (λ o. option_map blamed_of o ≡ twice_in false [] entries.now) }
 {
     let mut met = Names::new(alloc);
-    for item in methods {
-        let fresh = note(&mut met, &item.name.text)?;
-        if !fresh {
-            return blame(&item.name);
+    let mut dropped = false;
+    for item in entries {
+        match item {
+            WrittenEntry::Method(method) => {
+                let fresh = note(&mut met, &method.name.text)?;
+                if !fresh {
+                    return blame(&method.name);
+                }
+            }
+            WrittenEntry::DropEnd(place) => {
+                if dropped {
+                    return blame_drop(alloc, *place);
+                }
+                dropped = true;
+            }
         }
     }
     Ok(None)
@@ -63,7 +74,7 @@ pub(crate) fn repeated_label(
     ensures { IfOk result (λ o. option_map blamed_of o ≡ first_some (map repeat_labels states.now)) }
 {
     for item in states {
-        let found = repeated_label_in(alloc, item.methods.as_slice())?;
+        let found = repeated_label_in(alloc, item.entries.as_slice())?;
         if found.is_some() {
             return Ok(found);
         }
@@ -71,16 +82,25 @@ pub(crate) fn repeated_label(
     Ok(None)
 }
 
-fn repeated_label_in(alloc: Global, methods: &[WrittenMethod]) -> Result<Option<Blamed>, Memory>
-    ensures { IfOk result (λ o. option_map blamed_of o ≡ first_some (map repeat_label methods.now)) }
+fn repeated_label_in(alloc: Global, entries: &[WrittenEntry]) -> Result<Option<Blamed>, Memory>
+    ensures { IfOk result (λ o. option_map blamed_of o ≡ first_some (map (at_method repeat_label) entries.now)) }
 {
-    for item in methods {
-        let found = repeated_label_of(alloc, &item.target)?;
+    for item in entries {
+        let found = repeated_label_at(alloc, item)?;
         if found.is_some() {
             return Ok(found);
         }
     }
     Ok(None)
+}
+
+fn repeated_label_at(alloc: Global, entry: &WrittenEntry) -> Result<Option<Blamed>, Memory>
+    ensures { IfOk result (λ o. option_map blamed_of o ≡ at_method repeat_label entry.now) }
+{
+    match entry {
+        WrittenEntry::Method(method) => repeated_label_of(alloc, &method.target),
+        WrittenEntry::DropEnd(_) => Ok(None),
+    }
 }
 
 fn repeated_label_of(alloc: Global, target: &WrittenTarget) -> Result<Option<Blamed>, Memory>

@@ -2,13 +2,13 @@
 //! A table has the signature of the first method of each name; every method is held against it.
 
 ghost use Rattle.std.specs.Prelude.{◌≡◌, [], ◌&&◌, IfOk, OnOk, map, option_map};
-ghost use Rattle.ts_read.specs.inner.Finding.{blamed_of, first_some};
-ghost use Rattle.ts_read.specs.inner.Signing.{type_eq, types_eq, sig_of, sig_in, with_method, with_methods, with_states, is_like, other_method, other_in_state};
+ghost use Rattle.ts_read.specs.inner.Finding.{blamed_of, first_some, at_method};
+ghost use Rattle.ts_read.specs.inner.Signing.{type_eq, types_eq, sig_of, sig_in, with_method, with_entry, with_entries, with_states, is_like, other_method, other_in_state};
 
 use crate::blame::{Blamed, blame};
 use mg_text::{List, Memory, Names};
 use std::alloc::Global;
-use ts_parse::{WrittenMethod, WrittenState};
+use ts_parse::{WrittenEntry, WrittenMethod, WrittenState};
 use ts_tree::TypeName;
 
 /// The result and the parameters of a method.
@@ -102,17 +102,33 @@ fn note_method(
     Ok(())
 }
 
-fn note_methods(
+// Notes the signature of an entry that is a method whose name is new.
+fn note_entry(
     alloc: Global,
     names: &mut Names,
     signatures: &mut List<Signature>,
-    methods: &[WrittenMethod],
+    entry: &WrittenEntry,
 ) -> Result<(), Memory>
     ensures { OnOk result (record { names = names.new; sigs = map sig_of signatures.new.items }
-        ≡ with_methods (record { names = names.old; sigs = map sig_of signatures.old.items }) methods.now) }
+        ≡ with_entry (record { names = names.old; sigs = map sig_of signatures.old.items }) entry.now) }
 {
-    for item in methods {
-        note_method(alloc, names, signatures, item)?;
+    match entry {
+        WrittenEntry::Method(method) => note_method(alloc, names, signatures, method),
+        WrittenEntry::DropEnd(_) => Ok(()),
+    }
+}
+
+fn note_entries(
+    alloc: Global,
+    names: &mut Names,
+    signatures: &mut List<Signature>,
+    entries: &[WrittenEntry],
+) -> Result<(), Memory>
+    ensures { OnOk result (record { names = names.new; sigs = map sig_of signatures.new.items }
+        ≡ with_entries (record { names = names.old; sigs = map sig_of signatures.old.items }) entries.now) }
+{
+    for item in entries {
+        note_entry(alloc, names, signatures, item)?;
     }
     Ok(())
 }
@@ -127,7 +143,7 @@ fn note_states(
         ≡ with_states (record { names = names.old; sigs = map sig_of signatures.old.items }) states.now) }
 {
     for item in states {
-        note_methods(alloc, names, signatures, item.methods.as_slice())?;
+        note_entries(alloc, names, signatures, item.entries.as_slice())?;
     }
     Ok(())
 }
@@ -156,15 +172,29 @@ fn unless_like(
     blame(&method.name)
 }
 
-fn other_in_methods(
+fn other_at(
     names: &Names,
     signatures: &[Signature],
-    methods: &[WrittenMethod],
+    entry: &WrittenEntry,
 ) -> Result<Option<Blamed>, Memory>
-    ensures { IfOk result (λ o. option_map blamed_of o ≡ first_some (map (other_method (record { names = names.now; sigs = map sig_of signatures.now })) methods.now)) }
+    ensures { IfOk result (λ o. option_map blamed_of o ≡ at_method (other_method (record { names = names.now; sigs = map sig_of signatures.now })) entry.now) }
 {
-    for item in methods {
-        let found = unless_like(names, signatures, item)?;
+    match entry {
+        WrittenEntry::Method(method) => unless_like(names, signatures, method),
+        WrittenEntry::DropEnd(_) => Ok(None),
+    }
+}
+
+fn other_in_entries(
+    names: &Names,
+    signatures: &[Signature],
+    entries: &[WrittenEntry],
+) -> Result<Option<Blamed>, Memory>
+    ensures { IfOk result (λ o. option_map blamed_of o
+        ≡ first_some (map (at_method (other_method (record { names = names.now; sigs = map sig_of signatures.now }))) entries.now)) }
+{
+    for item in entries {
+        let found = other_at(names, signatures, item)?;
         if found.is_some() {
             return Ok(found);
         }
@@ -180,7 +210,7 @@ fn other_in_states(
     ensures { IfOk result (λ o. option_map blamed_of o ≡ first_some (map (other_in_state (record { names = names.now; sigs = map sig_of signatures.now })) states.now)) }
 {
     for item in states {
-        let found = other_in_methods(names, signatures, item.methods.as_slice())?;
+        let found = other_in_entries(names, signatures, item.entries.as_slice())?;
         if found.is_some() {
             return Ok(found);
         }

@@ -2,12 +2,12 @@
 //! The names of the states stand in one table.
 
 ghost use Rattle.std.specs.Prelude.{◌≡◌, [], IfOk, map, option_map};
-ghost use Rattle.ts_read.specs.inner.Finding.{blamed_of, first_some, noted, state_name, unknown_name, unknown_to, unknown_target, unknown_method, unknown_state, named_end};
+ghost use Rattle.ts_read.specs.inner.Finding.{blamed_of, first_some, at_method, noted, state_name, unknown_name, unknown_to, unknown_target, unknown_method, unknown_state, named_end};
 
 use crate::blame::{Blamed, blame, note};
 use mg_text::{Memory, Names};
 use std::alloc::Global;
-use ts_parse::{Naming, WrittenBranch, WrittenMethod, WrittenState, WrittenTarget};
+use ts_parse::{Naming, WrittenBranch, WrittenEntry, WrittenState, WrittenTarget};
 
 /// The names of the states, each once.
 pub(crate) fn state_table(alloc: Global, states: &[WrittenState]) -> Result<Names, Memory>
@@ -28,7 +28,7 @@ pub(crate) fn unknown_target(
     ensures { IfOk result (λ o. option_map blamed_of o ≡ first_some (map (unknown_state names.now) states.now)) }
 {
     for item in states {
-        let found = unknown_in_methods(names, item.methods.as_slice())?;
+        let found = unknown_in_entries(names, item.entries.as_slice())?;
         if found.is_some() {
             return Ok(found);
         }
@@ -36,16 +36,25 @@ pub(crate) fn unknown_target(
     Ok(None)
 }
 
-fn unknown_in_methods(names: &Names, methods: &[WrittenMethod]) -> Result<Option<Blamed>, Memory>
-    ensures { IfOk result (λ o. option_map blamed_of o ≡ first_some (map (unknown_method names.now) methods.now)) }
+fn unknown_in_entries(names: &Names, entries: &[WrittenEntry]) -> Result<Option<Blamed>, Memory>
+    ensures { IfOk result (λ o. option_map blamed_of o ≡ first_some (map (at_method (unknown_method names.now)) entries.now)) }
 {
-    for item in methods {
-        let found = unknown_in_target(names, &item.target)?;
+    for item in entries {
+        let found = unknown_in_entry(names, item)?;
         if found.is_some() {
             return Ok(found);
         }
     }
     Ok(None)
+}
+
+fn unknown_in_entry(names: &Names, entry: &WrittenEntry) -> Result<Option<Blamed>, Memory>
+    ensures { IfOk result (λ o. option_map blamed_of o ≡ at_method (unknown_method names.now) entry.now) }
+{
+    match entry {
+        WrittenEntry::Method(method) => unknown_in_target(names, &method.target),
+        WrittenEntry::DropEnd(_) => Ok(None),
+    }
 }
 
 fn unknown_in_target(names: &Names, target: &WrittenTarget) -> Result<Option<Blamed>, Memory>

@@ -1,5 +1,5 @@
 -- Which calls a typestate allows.
-use Rattle.std.specs.Prelude.{◌≡◌, ℕ, List, [], ◌∷◌, Option, Some, None, IfSome, IsSome, slice_get, option_and_then, if◌then◌else◌}
+use Rattle.std.specs.Prelude.{◌≡◌, ℕ, Bool, true, false, List, [], ◌∷◌, Option, Some, None, IfSome, IsSome, slice_get, option_and_then, if◌then◌else◌}
 use Rattle.std.specs.List.{AllByRecursion}
 use Rattle.std.specs.Str.{bytes_eq}
 use Rattle.mg_text.specs.Call.{Name, Call}
@@ -48,6 +48,15 @@ abbrev pub led : Typestate → To → List Call → Option To
 led t from [] = Some from
 led t from (call ∷ calls) = option_and_then (λ to. led t to calls) (next_from t from call)
 
+-- whether the state of this number is marked drop
+abbrev pub drops : Typestate → ℕ → Bool
+drops t q = elim (slice_get t.states q) [ None ↦ false | Some s ↦ s.drops ]
+
+-- whether an object may be left at this place: at the end, or in a state that is marked drop
+abbrev pub may_end : Typestate → To → Bool
+may_end t (tos.State q) = drops t q
+may_end t tos.End = true
+
 -- a call has an answer only if a method of its name has a result of a named type
 abbrev pub Fits : Typestate → Call → Type 0
 Fits t call = IsSome call.answer → (m : Method) × (type : Name) × IsOffered t.states m × (m.name ≡ call.method) × (m.result ≡ types.Named type)
@@ -68,3 +77,10 @@ pub record Path (t : Typestate) (calls : List Call) (open_call : Option Name) : 
 pub record Ends (t : Typestate) (calls : List Call) : Type 0 where
   pub fit : AllByRecursion (Fits t) calls
   pub leads : led t (initial t) calls ≡ Some tos.End
+
+-- the calls lead from the initial state to the end or to a state that is marked drop: the object may be left there
+pub record MayBeLeft (t : Typestate) (calls : List Call) : Type 0 where
+  pub fit : AllByRecursion (Fits t) calls
+  pub to : To
+  pub leads : led t (initial t) calls ≡ Some to
+  pub may : may_end t to ≡ true

@@ -1,5 +1,5 @@
 -- Typestates, as definitions speak of them.
-use Rattle.std.specs.Prelude.{List}
+use Rattle.std.specs.Prelude.{Bool, List}
 use Rattle.mg_text.specs.Call.{Name}
 use Rattle.ts_tree.specs.declared.parts.TypeName.{TypeName}
 use Rattle.ts_tree.specs.declared.parts.To.{To}
@@ -20,6 +20,8 @@ pub record Method : Type 0 where
 pub record State : Type 0 where
   pub name : Name
   pub methods : List Method
+  -- whether it is marked `drop: end`: an object may be left in it
+  pub drops : Bool
 
 pub record Typestate : Type 0 where
   pub name : Name

@@ -14,4 +14,4 @@ abbrev pub method_of : KeptMethod → Method
 method_of m = record { result = m.result; name = m.name; params = m.params.items; target = target_of m.target }
 
 abbrev pub state_of : KeptState → State
-state_of s = record { name = s.name; methods = map method_of s.methods.items }
+state_of s = record { name = s.name; methods = map method_of s.methods.items; drops = s.drops }

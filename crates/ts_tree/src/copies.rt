@@ -96,7 +96,11 @@ fn copy_state(alloc: Global, state: &State) -> Result<State, Memory>
 {
     let name = state.name.copy()?;
     let methods = copy_methods(alloc, state.methods.as_slice())?;
-    Ok(State { name, methods })
+    Ok(State {
+        name,
+        methods,
+        drops: state.drops,
+    })
 }
 
 // Equal states.

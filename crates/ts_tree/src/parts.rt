@@ -46,9 +46,11 @@ pub struct Method {
     pub target: Target,
 }
 
-/// A state, and the methods that it offers.
+/// A state, the methods that it offers, and whether an object may be left in it.
 #[derive(Debug, Drop)]
 pub struct State {
     pub name: Text,
     pub methods: List<Method>,
+    /// Whether it is marked `drop: end`: an object in it may be left, overwritten or discarded.
+    pub drops: bool,
 }

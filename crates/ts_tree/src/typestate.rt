@@ -36,7 +36,7 @@ impl Model for Typestate {
 
 impl Typestate {
     ghost use Rattle.std.specs.Prelude.{◌≡◌, ◌<◌, IfOk, length, option_map};
-    ghost use Rattle.ts_tree.specs.Calls.{initial, next};
+    ghost use Rattle.ts_tree.specs.Calls.{initial, next, drops};
     ghost use Rattle.ts_tree.specs.Reachable.{MarksReachable};
 
     /// The initial state, or the end where there are no states.
@@ -48,6 +48,15 @@ impl Typestate {
         } else {
             To::State(0)
         }
+    }
+
+    /// Whether an object may be left in state `q`: whether the state is marked `drop: end`.
+    pub fn drops(&self, q: u32) -> bool
+        requires { q < length self.now.states }
+        ensures { result ≡ drops self.now q }
+    {
+        let state = &self.states.as_slice()[q as usize];
+        state.drops
     }
 
     /// An equal typestate.

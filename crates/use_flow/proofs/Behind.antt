@@ -7,12 +7,12 @@ use Rattle.mg_text.specs.Call.{Name}
 use Rattle.mg_text.specs.declared.place.Place.{Place}
 use Rattle.ts_tree.specs.declared.parts.To.{To}
 use Rattle.ts_tree.specs.Typestate.{Typestate, Target}
+use Rattle.ts_tree.specs.Calls.{may_end}
 use Rattle.jv_core.specs.Lookup.{text_at}
 use Rattle.use_rules.specs.declared.demand.Demand.{Demand}
 use Rattle.use_rules.specs.Elements.{Set, target_at}
 use Rattle.use_rules.specs.Keys.{typestate_of}
 use Rattle.use_rules.specs.Flow as rules
-use Rattle.use_rules.specs.Flow.{is_end}
 use Rattle.use_rules.specs.State.{Out, Log}
 use Rattle.use_flow.specs.inner.Calling.{which_of}
 use Rattle.use_flow.specs.inner.Ending.{followed, fields_left, leaves_fields, left}
@@ -22,19 +22,19 @@ use Rattle.use_flow.proofs.Rests.{append_nil}
 abbrev ended : Followed → Place → Bool → List Set → List Demand
 ended s q b sets = if b then open_fields s q 0 (own_fields s) sets else []
 
-module _ (s : Followed) (c : ℕ) (tos' : List To) (q : Place) (sets : List Set) (os os' : List Out) (ds ds' : List Demand) where
-  pub target_ends : (b : Bool) → b ≡ list_any is_end tos' → b ≡ true → os' ≡ os ++ to_states s c tos' sets → ds' ≡ ds ++ open_fields s q 0 (own_fields s) sets →
+module _ (s : Followed) (c : ℕ) (ts : Typestate) (tos' : List To) (q : Place) (sets : List Set) (os os' : List Out) (ds ds' : List Demand) where
+  pub target_ends : (b : Bool) → ts ≡ typestate_of s.program c → b ≡ list_any (may_end ts) tos' → b ≡ true → os' ≡ os ++ to_states s c tos' sets → ds' ≡ ds ++ open_fields s q 0 (own_fields s) sets →
       record { outs = os'; failed = ds' } ≡ fields_left s c tos' q sets (record { outs = os; failed = ds })
-  target_ends b e h eo ed =
+  target_ends b et e h eo ed =
       ap (λ (x : List Out). record { outs = x; failed = ds' }) eo
-      ∙ ap (λ (x : List Demand). record { outs = os ++ to_states s c tos' sets; failed = x }) (ed ∙ ap (λ x. ds ++ ended s q x sets) (sym h ∙ e))
+      ∙ ap (λ (x : List Demand). record { outs = os ++ to_states s c tos' sets; failed = x }) (ed ∙ ap (λ x. ds ++ ended s q x sets) (sym h ∙ e ∙ ap (λ (ts : Typestate). list_any (may_end ts) tos') et))
 
-  pub target_lasts : (b : Bool) → b ≡ list_any is_end tos' → b ≡ false → os' ≡ os ++ to_states s c tos' sets → ds' ≡ ds →
+  pub target_lasts : (b : Bool) → ts ≡ typestate_of s.program c → b ≡ list_any (may_end ts) tos' → b ≡ false → os' ≡ os ++ to_states s c tos' sets → ds' ≡ ds →
       record { outs = os'; failed = ds' } ≡ fields_left s c tos' q sets (record { outs = os; failed = ds })
-  target_lasts b e h eo ed =
+  target_lasts b et e h eo ed =
       ap (λ (x : List Out). record { outs = x; failed = ds' }) eo
       ∙ ap (λ (x : List Demand). record { outs = os ++ to_states s c tos' sets; failed = x })
-      (ed ∙ sym (append_nil ds) ∙ ap (λ x. ds ++ ended s q x sets) (sym h ∙ e))
+      (ed ∙ sym (append_nil ds) ∙ ap (λ x. ds ++ ended s q x sets) (sym h ∙ e ∙ ap (λ (ts : Typestate). list_any (may_end ts) tos') et))
 
 pub ruleset led = (target_ends, target_lasts)
 

@@ -14,7 +14,8 @@ use Rattle.jv_core.specs.View.{field_of}
 use Rattle.use_rules.specs.declared.demand.Demand.{Demand}
 use Rattle.use_flow.specs.declared.elements.Rule.TheVariants as rules
 use Rattle.use_rules.specs.Elements.{Set}
-use Rattle.use_rules.specs.Flow.{is_end}
+use Rattle.ts_tree.specs.Typestate.{Typestate}
+use Rattle.ts_tree.specs.Calls.{may_end}
 use Rattle.use_rules.specs.State.{Out}
 use Rattle.use_flow.specs.inner.Followed.{Followed, judged_variable, left_open, without, to_states, open_fields}
 use Rattle.use_flow.proofs.Rests.{append_nil}
@@ -88,7 +89,7 @@ branches_sent s c bs i sets os total le h =
 
 pub ruleset states = (branch_sent, branches_sent)
 
--- Whether one leads to the end.
+-- Whether one leads to where the object may be left.
 
 pub or_true_is : (a b : Bool) → a ≡ true → true ≡ (a || b)
 or_true_is true b h = refl
@@ -98,13 +99,13 @@ pub or_false_is : (a : Bool) → a ≡ (a || false)
 or_false_is true = refl
 or_false_is false = refl
 
-pub branch_ended : (bs : List Branch) (i : ℕ) (b : Branch) → i < length bs → b ≡ get_or bs i b →
-    list_any is_end (map (λ b. b.to) (drop i bs)) ≡ (is_end b.to || list_any is_end (map (λ b. b.to) (drop (i + 1) bs)))
-branch_ended bs i b lt at =
-    at_drop_more (λ (xs : List Branch). list_any is_end (map (λ b. b.to) xs)) bs i b lt
-    ∙ ap (λ (x : Branch). list_any is_end (map (λ b. b.to) (x ∷ drop (i + 1) bs))) (sym at)
+pub branch_ended : (t : Typestate) (bs : List Branch) (i : ℕ) (b : Branch) → i < length bs → b ≡ get_or bs i b →
+    list_any (may_end t) (map (λ b. b.to) (drop i bs)) ≡ (may_end t b.to || list_any (may_end t) (map (λ b. b.to) (drop (i + 1) bs)))
+branch_ended t bs i b lt at =
+    at_drop_more (λ (xs : List Branch). list_any (may_end t) (map (λ b. b.to) xs)) bs i b lt
+    ∙ ap (λ (x : Branch). list_any (may_end t) (map (λ b. b.to) (x ∷ drop (i + 1) bs))) (sym at)
 
-pub branches_ended : (bs : List Branch) (i : ℕ) → length bs ≤ i → list_any is_end (map (λ b. b.to) (drop i bs)) ≡ false
-branches_ended bs i le = at_drop_all (λ (xs : List Branch). list_any is_end (map (λ b. b.to) xs)) bs i le
+pub branches_ended : (t : Typestate) (bs : List Branch) (i : ℕ) → length bs ≤ i → list_any (may_end t) (map (λ b. b.to) (drop i bs)) ≡ false
+branches_ended t bs i le = at_drop_all (λ (xs : List Branch). list_any (may_end t) (map (λ b. b.to) xs)) bs i le
 
 pub ruleset ends = (or_true_is, or_false_is, branch_ended, branches_ended)

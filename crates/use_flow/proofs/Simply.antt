@@ -3,18 +3,21 @@ use Rattle.std.proofs.Common.{◌≡◌, ℕ, List, [], ◌∷◌, ◌++◌, Opt
 use Rattle.std.specs.Prelude.{slice_set, codes}
 use Rattle.mg_text.specs.Call.{Name}
 use Rattle.mg_text.specs.declared.place.Place.{Place}
+use Rattle.ts_tree.specs.Typestate.{Typestate}
+use Rattle.jv_core.specs.declared.program.CoreType.{CoreType}
 use Rattle.jv_core.specs.declared.tree.CoreVar.{CoreVar}
 use Rattle.jv_core.specs.Tree.{Expr}
 use Rattle.use_flow.specs.declared.evaluated.Value.{Value}
 use Rattle.use_rules.specs.declared.demand.Demand.{Demand}
 use Rattle.use_rules.specs.declared.demand.DemandKind.TheVariants as demands
 use Rattle.use_flow.specs.declared.elements.Rule.TheVariants as judging
-use Rattle.use_rules.specs.Elements.{Set, if_state}
+use Rattle.use_rules.specs.Elements.{Set, if_open}
+use Rattle.use_rules.specs.Keys.{typestate_of}
 use Rattle.use_rules.specs.State.{Now, Out, Log, Jump, joined, judged}
 use Rattle.use_rules.specs.Flow.{Evaluated, flow, placed}
 use Rattle.use_flow.specs.inner.Ending.{answer_of, left}
-use Rattle.use_flow.specs.inner.Followed.{Followed, eval, width_of, variable_at, variable_width, judged_variable, left_open, without}
-use Rattle.use_flow.specs.inner.Simple.{exit, slot_width, placed_flow, declared, local, overwritten, assigned, printed_flow, printed, dropped_flow, returned_flow, returned}
+use Rattle.use_flow.specs.inner.Followed.{Followed, eval, width_of, variable_at, variable_width, class_or_none, judged_variable, left_open, without}
+use Rattle.use_flow.specs.inner.Simple.{exit, slot_width, placed_flow, declared, local, overwritten, assigned, printed_flow, printed, type_dropped, dropped_flow, dropped, returned_flow, returned}
 use Rattle.use_flow.specs.inner.Values.{yes_of, no_of, evaluated_of}
 
 module _ (s : Followed) (q : Place) (ks : List ℕ) (js : List Jump) (sets sets' : List Set) (os : List Out) (ds ds' : List Demand) where
@@ -54,13 +57,22 @@ module _ (s : Followed) (log : Log) (e : Expr) (la : Log) (n : Now) where
       flow n [] la ≡ printed s e sets log
   printed_is sets v ev en = ap (λ (y : Now). flow y [] la) en ∙ ap printed_flow ev
 
-  pub dropped_is : (q : Place) (c : ℕ) (sets : List Set) (v : Value) (ds' : List Demand) → evaluated_of v la ≡ eval s 0 e (Some sets) log →
-      n ≡ joined (yes_of v.ways) (no_of v.ways) → ds' ≡ la.failed ++ judged (if_state demands.LeftOpen) q (codes "value") c v.set →
+  dropped_is : (q : Place) (c : ℕ) (ts : Typestate) (sets : List Set) (v : Value) (ds' : List Demand) → ts ≡ typestate_of s.program c → evaluated_of v la ≡ eval s 0 e (Some sets) log →
+      n ≡ joined (yes_of v.ways) (no_of v.ways) → ds' ≡ la.failed ++ judged (if_open demands.LeftOpen ts) q (codes "value") c v.set →
       flow n [] (record { outs = la.outs; failed = ds' }) ≡ dropped_flow s q c (eval s 0 e (Some sets) log)
-  dropped_is q c sets v ds' ev en ed =
+  dropped_is q c ts sets v ds' et ev en ed =
       ap (λ (y : Now). flow y [] (record { outs = la.outs; failed = ds' })) en
-      ∙ ap (λ (y : List Demand). flow (joined (yes_of v.ways) (no_of v.ways)) [] (record { outs = la.outs; failed = y })) ed
+      ∙ ap (λ (y : List Demand). flow (joined (yes_of v.ways) (no_of v.ways)) [] (record { outs = la.outs; failed = y }))
+      (ed ∙ ap (λ (ts : Typestate). la.failed ++ judged (if_open demands.LeftOpen ts) q (codes "value") c v.set) et)
       ∙ ap (dropped_flow s q c) ev
+
+  pub dropped_as : (q : Place) (o : Option CoreType) (c : ℕ) (ts : Typestate) (sets : List Set) (v : Value) (ds' : List Demand)
+      → o ≡ type_dropped s e → c ≡ class_or_none s o → ts ≡ typestate_of s.program c → evaluated_of v la ≡ eval s 0 e (Some sets) log →
+      n ≡ joined (yes_of v.ways) (no_of v.ways) → ds' ≡ la.failed ++ judged (if_open demands.LeftOpen ts) q (codes "value") c v.set →
+      flow n [] (record { outs = la.outs; failed = ds' }) ≡ dropped s q e sets log
+  dropped_as q o c ts sets v ds' eo ec et ev en ed =
+      dropped_is q c ts sets v ds' et ev en ed
+      ∙ ap (λ (d : ℕ). dropped_flow s q d (eval s 0 e (Some sets) log)) (ec ∙ ap (class_or_none s) eo)
 
   pub returned_is : (q : Place) (sc : List ℕ) (sets : List Set) (v : Value) (label : Option Name) (lb : Log) →
       evaluated_of v la ≡ eval s (width_of s s.method.result) e (Some sets) log → n ≡ joined (yes_of v.ways) (no_of v.ways) → label ≡ answer_of s (Some e) →
@@ -73,6 +85,6 @@ pub ruleset locals = (declared_is, local_is)
 
 pub ruleset assignments = (assigned_none, assigned_some)
 
-pub ruleset drops = (printed_is, dropped_is)
+pub ruleset drops = (printed_is, dropped_as)
 
 pub ruleset returns = (returned_is)

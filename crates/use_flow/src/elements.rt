@@ -1,15 +1,18 @@
 //! Where the elements of a set lead, and which demands they fail.
 //! Each is a loop over the members of a set.
 
-ghost use Rattle.std.specs.Prelude.{◌≡◌, ◌++◌, slice_set, true, IfOk, OnOk};
-ghost use Rattle.use_rules.specs.Elements.{element_at, if_state, image, marked, none};
+ghost use Rattle.std.specs.Prelude.{◌≡◌, ◌++◌, slice_set, true, option_map, IfOk, OnOk};
+ghost use Rattle.ts_tree.specs.Calls.{drops};
+ghost use Rattle.use_rules.specs.Elements.{element_at, if_open, image, marked, none};
 ghost use Rattle.use_rules.specs.State.{judged};
+ghost use Rattle.use_flow.specs.inner.Followed.{typestate_or_end};
 ghost use Rattle.use_flow.specs.inner.Mappings.{mapping_of, rule_of, listed, blamed, title_in};
 
 use crate::{Demand, DemandKind, Element};
 use mg_sets::StateSet;
 use mg_text::{List, Memory, Name, Names, Place, Text};
 use std::alloc::Global;
+use ts_tree::Typestate;
 
 /// Where reads and null tests lead from an element.
 #[derive(Clone, Copy, Debug, PartialEq, Eq)]
@@ -105,10 +108,24 @@ pub(crate) fn image(
     Ok(found)
 }
 
-// Which demand an element fails.
+// Whether a state of a typestate is marked drop.
+#[tactic(auto, using(crate::proofs::Scenes::scenes))]
+pub(crate) fn drops_at(typestate: Option<&Typestate>, state: usize) -> bool
+    ensures { result ≡ drops (typestate_or_end (option_map (λ t. t.now) typestate.entry)) state }
+{
+    let Some(typestate) = typestate else {
+        return false;
+    };
+    match typestate.states.as_slice().get(state) {
+        Some(state) => state.drops,
+        None => false,
+    }
+}
+
+// Which demand an element of a class with this typestate fails.
 #[tactic(auto, using(crate::proofs::Leading::leading))]
-fn asked(rule: Rule, element: usize) -> Option<DemandKind>
-    ensures { result ≡ rule_of rule element }
+fn asked(rule: Rule, typestate: Option<&Typestate>, element: usize) -> Option<DemandKind>
+    ensures { result ≡ rule_of rule (typestate_or_end (option_map (λ t. t.now) typestate.entry)) element }
 {
     match rule {
         Rule::Moved => {
@@ -118,18 +135,25 @@ fn asked(rule: Rule, element: usize) -> Option<DemandKind>
                 None
             }
         }
-        Rule::LeftOpen => state_asked(DemandKind::LeftOpen, element),
-        Rule::Overwritten => state_asked(DemandKind::Overwritten, element),
-        Rule::FieldOpenAtEnd => state_asked(DemandKind::FieldOpenAtEnd, element),
+        Rule::LeftOpen => open_asked(DemandKind::LeftOpen, typestate, element),
+        Rule::Overwritten => open_asked(DemandKind::Overwritten, typestate, element),
+        Rule::FieldOpenAtEnd => open_asked(DemandKind::FieldOpenAtEnd, typestate, element),
     }
 }
 
-// The demand that no state meets.
+// The demand that no state meets but one that is marked drop.
 #[tactic(auto, using(crate::proofs::Leading::leading))]
-fn state_asked(kind: DemandKind, element: usize) -> Option<DemandKind>
-    ensures { result ≡ if_state kind element }
+fn open_asked(kind: DemandKind, typestate: Option<&Typestate>, element: usize) -> Option<DemandKind>
+    ensures { result ≡ if_open kind (typestate_or_end (option_map (λ t. t.now) typestate.entry)) element }
 {
-    if element < 3 { None } else { Some(kind) }
+    if element < 3 {
+        return None;
+    }
+    if drops_at(typestate, element - 3) {
+        None
+    } else {
+        Some(kind)
+    }
 }
 
 // The element at a place of a set.
@@ -210,7 +234,7 @@ pub(crate) fn blame(
     Ok(())
 }
 
-// Appends the demands that a set fails, element by element.
+// Appends the demands that a set fails, element by element. The typestate is that of the class.
 #[tactic(auto, using(crate::proofs::Rests::rests))]
 pub(crate) fn judge(
     alloc: Global,
@@ -218,13 +242,16 @@ pub(crate) fn judge(
     failed: &mut List<Demand>,
     subject: Subject,
     rule: Rule,
+    typestate: Option<&Typestate>,
     set: &StateSet,
 ) -> Result<(), Memory>
-    ensures { OnOk result (failed.new.items ≡ failed.old.items ++ judged (rule_of rule) subject.place (title_in names.now subject.title) subject.class set.now) }
+    ensures { OnOk result (failed.new.items ≡ failed.old.items ++ judged (rule_of rule (typestate_or_end (option_map (λ t. t.now) typestate.entry)))
+        subject.place (title_in names.now subject.title) subject.class set.now) }
 {
     for element in 0..set.width() {
         if set.has(element) {
-            blame(alloc, names, failed, subject, element, asked(rule, element))?;
+            let kind = asked(rule, typestate, element);
+            blame(alloc, names, failed, subject, element, kind)?;
         }
     }
     Ok(())

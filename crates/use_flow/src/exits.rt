@@ -1,17 +1,17 @@
 //! Where scopes end and methods are left.
-//! No variable that is left may have a state, and fields flow to the tables of what comes next.
+//! No variable that is left may have a state that isn't marked drop, and fields flow to the tables of what comes next.
 
 ghost use Rattle.std.specs.Prelude.{◌≡◌, ◌++◌, ◌∷◌, [], map, option_map, OnOk};
 ghost use Rattle.std.specs.List.{list_any};
 ghost use Rattle.jv_core.specs.View.{field_of};
 ghost use Rattle.ts_tree.specs.View.{target_of};
-ghost use Rattle.use_rules.specs.Flow.{is_end};
+ghost use Rattle.ts_tree.specs.Calls.{may_end};
 ghost use Rattle.use_flow.specs.inner.Calling.{which_of};
 ghost use Rattle.use_flow.specs.inner.Fields.{outs_in};
-ghost use Rattle.use_flow.specs.inner.Followed.{seen, left_open, without, to_states, open_fields};
+ghost use Rattle.use_flow.specs.inner.Followed.{seen, typestate_or_end, left_open, without, to_states, open_fields};
 
 use crate::calling::by_label;
-use crate::elements::{Rule, empty_set};
+use crate::elements::{Rule, drops_at, empty_set};
 use crate::fields::{FieldTable, number};
 use crate::scene::Scene;
 use crate::sets::Sets;
@@ -19,44 +19,44 @@ use crate::{Demand, Out};
 use jv_core::{CoreField, Var};
 use mg_text::{List, Memory, Place};
 use std::alloc::Global;
-use ts_tree::{Branch, Target, To};
+use ts_tree::{Branch, Target, To, Typestate};
 
-// Whether a place is the end.
-fn is_end(to: To) -> bool
-    ensures { result ≡ is_end to }
+// Whether an object may be left at a place of its typestate.
+fn may_end(typestate: Option<&Typestate>, to: To) -> bool
+    ensures { result ≡ may_end (typestate_or_end (option_map (λ t. t.now) typestate.entry)) to }
 {
     match to {
-        To::State(_) => false,
+        To::State(state) => drops_at(typestate, state as usize),
         To::End => true,
     }
 }
 
-// Whether a branch leads to the end.
+// Whether a branch leads to where it may be left.
 #[tactic(auto, using(crate::proofs::Leaving::ends))]
-fn branch_ends(branches: &[Branch]) -> bool
-    ensures { result ≡ list_any is_end (map (λ b. b.to) branches.now) }
+fn branch_ends(typestate: Option<&Typestate>, branches: &[Branch]) -> bool
+    ensures { result ≡ list_any (may_end (typestate_or_end (option_map (λ t. t.now) typestate.entry))) (map (λ b. b.to) branches.now) }
 {
     for branch in branches {
-        if is_end(branch.to) {
+        if may_end(typestate, branch.to) {
             return true;
         }
     }
     false
 }
 
-// Whether calls lead to the end.
+// Whether calls lead to where the object may be left.
 #[tactic(auto, using(crate::proofs::Leaving::ends))]
-pub(crate) fn ends(target: &Target, label: Option<&str>) -> bool
-    ensures { result ≡ list_any is_end (which_of (option_map (λ l. l.now) label.entry) (target_of target.now)) }
+pub(crate) fn ends(typestate: Option<&Typestate>, target: &Target, label: Option<&str>) -> bool
+    ensures { result ≡ list_any (may_end (typestate_or_end (option_map (λ t. t.now) typestate.entry))) (which_of (option_map (λ l. l.now) label.entry) (target_of target.now)) }
 {
     match target {
-        Target::One(to) => is_end(*to),
+        Target::One(to) => may_end(typestate, *to),
         Target::ByAnswer(branches) => {
             let Some(label) = label else {
-                return branch_ends(branches.as_slice());
+                return branch_ends(typestate, branches.as_slice());
             };
             match by_label(branches.as_slice(), label) {
-                Some(to) => is_end(to),
+                Some(to) => may_end(typestate, to),
                 None => false,
             }
         }
@@ -64,7 +64,7 @@ pub(crate) fn ends(target: &Target, label: Option<&str>) -> bool
 }
 
 impl<'a> Scene<'a> {
-    // Appends the demands that no variable that is left has a state.
+    // Appends the demands that no variable that is left has a state that isn't marked drop.
     #[tactic(auto, using(crate::proofs::Leaving::slots))]
     pub(crate) fn judge_left(
         &self,
@@ -94,7 +94,7 @@ impl<'a> Scene<'a> {
         Ok(())
     }
 
-    // Appends the demands that none of these fields has a state.
+    // Appends the demands that none of these fields has a state that isn't marked drop.
     #[tactic(auto, using(crate::proofs::Leaving::opened))]
     pub(crate) fn judge_these(
         &self,

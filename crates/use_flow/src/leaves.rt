@@ -33,7 +33,8 @@ impl<'a> Scene<'a> {
         ""
     }
 
-    // The fields go to where the target leads; where it leads to the end none may have a state.
+    // The fields go to where the target leads; where the object may be left there none may have a state
+    // that isn't marked drop.
     #[tactic(auto, using(crate::proofs::Behind::led))]
     fn leave_target(
         &self,
@@ -48,7 +49,7 @@ impl<'a> Scene<'a> {
         ensures { OnOk result (log_of log.new ≡ fields_left (seen self.now) class (which_of (option_map (λ l. l.now) label.entry) (target_of target.now)) place sets.now (log_of log.old)) }
     {
         self.send_target(alloc, &mut log.outs, class, target, label, sets)?;
-        if !ends(target, label) {
+        if !ends(typestate_of(self.core, class), target, label) {
             return Ok(());
         }
         self.judge_fields(alloc, &mut log.failed, place, sets)

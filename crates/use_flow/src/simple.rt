@@ -1,5 +1,5 @@
 //! Statements without statements inside: what flows on behind them, and what they ask.
-//! Where a scope ends, no variable that goes out of it may have a state.
+//! Where a scope ends, no variable that goes out of it may have a state that isn't marked drop.
 
 ghost use Rattle.std.specs.Prelude.{◌≡◌, List, Some, None, [], reverse, IfOk, OnOk};
 ghost use Rattle.jv_core.specs.View.{expr_of};
@@ -13,7 +13,7 @@ ghost use Rattle.use_flow.specs.inner.Simple.{exit, slot_width, local, declared,
 use crate::Flow;
 use crate::elements::{Rule, Subject, Title, empty_set, judge};
 use crate::evaluated::Value;
-use crate::scene::Scene;
+use crate::scene::{Scene, typestate_of};
 use crate::sets::Sets;
 use jv_core::{CoreExpr, CoreVar};
 use mg_sets::StateSet;
@@ -97,7 +97,7 @@ impl<'a> Scene<'a> {
         Ok(now)
     }
 
-    // An assignment, before which the variable may have no state.
+    // An assignment, before which the variable may have no state that isn't marked drop.
     #[tactic(auto, using(crate::proofs::Simply::assignments))]
     pub(crate) fn step_assign(
         &self,
@@ -145,7 +145,7 @@ impl<'a> Scene<'a> {
         Ok(now)
     }
 
-    // A value that is dropped, which may have no state.
+    // A value that is dropped, which may have no state that isn't marked drop.
     #[tactic(auto, using(crate::proofs::Simply::drops))]
     pub(crate) fn step_dropped(
         &self,
@@ -164,7 +164,17 @@ impl<'a> Scene<'a> {
         };
         let Value { set, ways } = self.eval(alloc, 0, value, sets, log)?;
         let names = self.core.names();
-        judge(alloc, names, &mut log.failed, subject, Rule::LeftOpen, &set)?;
+        let typestate = typestate_of(self.core, subject.class);
+        let failed = &mut log.failed;
+        judge(
+            alloc,
+            names,
+            failed,
+            subject,
+            Rule::LeftOpen,
+            typestate,
+            &set,
+        )?;
         let now = ways.after()?;
         Ok(now)
     }

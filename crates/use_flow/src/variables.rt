@@ -9,7 +9,7 @@ ghost use Rattle.use_flow.specs.inner.Followed.{seen, variable_at, variable_widt
 ghost use Rattle.use_flow.specs.inner.Mappings.{mapping_of};
 
 use crate::elements::{Mapping, Rule, empty_set, image, judge};
-use crate::scene::Scene;
+use crate::scene::{Scene, typestate_of};
 use crate::sets::Sets;
 use crate::{Demand, Flow};
 use jv_core::Var;
@@ -57,6 +57,7 @@ impl<'a> Scene<'a> {
                 failed,
                 subject,
                 rule,
+                typestate_of(self.core, subject.class),
                 sets.get(at),
             )?;
         }

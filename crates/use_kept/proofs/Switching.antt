@@ -35,7 +35,7 @@ use Rattle.use_rules.specs.inner.Order.{Mem, NowIn}
 use Rattle.use_rules.proofs.Members.{within_refl}
 use Rattle.use_rules.proofs.Orders.{now_refl, joined_left, joined_right}
 use Rattle.use_kept.proofs.Roots as roots
-use Rattle.use_kept.proofs.Roots.{class_fields, Root, Held, Onto, onto_then, to_front, Within, Stateless, IsConstant}
+use Rattle.use_kept.proofs.Roots.{class_fields, Root, Held, Onto, onto_then, to_front, Within, IsConstant}
 use Rattle.use_kept.proofs.Worlds.{some_is, Holds, holds_onto}
 use Rattle.use_kept.proofs.Quiets.{Quiet}
 use Rattle.use_kept.proofs.Frames.{Me, Nobody, IsScope, held_by, variables, my_self}

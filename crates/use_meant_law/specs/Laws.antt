@@ -23,7 +23,8 @@ pub record KeepsTo (program : Program) (run : Ended) : Type 0 where
   pub never_wrong : run.finish ≢ Wrong
   -- at each moment the calls of each object lead along its class's typestate, where the last may still be open
   pub follows : (so_far : List Event) → Prefix so_far run.events → Follows program.files program.typestates so_far
-  -- where `main` returned no call is open, and the calls of each object lead to the end of its class's typestate
+  -- where `main` returned no call is open, and the calls of each object lead to the end of its class's typestate, or to a state that
+  -- is marked drop
   pub finished : run.finish ≡ Done → Finished program.files program.typestates run.events
 
 -- For each class with `main`, whatever the other roles sent and whatever the budget.

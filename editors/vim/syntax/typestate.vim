@@ -5,6 +5,7 @@ endif
 syntax keyword typestateHeader typestate package import
 syntax keyword typestateType void int boolean String
 syntax keyword typestateEnd end
+syntax match typestateEnd "\<drop\ze\s*:\s*end\>"
 syntax match typestateState "\<[A-Za-z_][A-Za-z0-9_]*\ze\s*="
 syntax match typestateMethod "\<[A-Za-z_][A-Za-z0-9_]*\ze\s*("
 syntax region typestateComment start="/\*" end="\*/"

@@ -1,5 +1,5 @@
 -- The calls of the file reader's object, and where they lead along its typestate.
-use Rattle.std.specs.Prelude.{◌≡◌, List, [], ◌∷◌, Some, None, codes}
+use Rattle.std.specs.Prelude.{◌≡◌, List, [], ◌∷◌, false, Some, None, codes}
 use Rattle.mg_text.specs.Call.{Name, Call}
 use Rattle.ts_tree.specs.declared.parts.To.TheVariants as tos
 use Rattle.ts_tree.specs.declared.parts.TypeName.TheVariants as types
@@ -25,6 +25,7 @@ init = record {
         params = [];
         target = ByAnswer (record { label = codes "OK"; to = tos.State 1 } ∷ record { label = codes "ERROR"; to = tos.End } ∷ []);
       } ∷ [];
+  drops = false;
 }
 
 abbrev open_state : State
@@ -37,18 +38,21 @@ open_state = record {
         params = [];
         target = ByAnswer (record { label = codes "TRUE"; to = tos.State 2 } ∷ record { label = codes "FALSE"; to = tos.State 3 } ∷ []);
       } ∷ [];
+  drops = false;
 }
 
 abbrev read_state : State
 read_state = record {
   name = codes "Read";
   methods = record { result = types.Void; name = codes "read"; params = []; target = One (tos.State 1) } ∷ [];
+  drops = false;
 }
 
 abbrev close_state : State
 close_state = record {
   name = codes "Close";
   methods = record { result = types.Void; name = codes "close"; params = []; target = One tos.End } ∷ [];
+  drops = false;
 }
 
 abbrev file_protocol : Typestate

@@ -1,5 +1,7 @@
 -- Reading from left to right. Each function gives a value and the tokens behind it.
-use Rattle.std.specs.Prelude.{ℕ, List, [], ◌∷◌, Option, Some, None, Bool, true, false, if◌then◌else◌, ◌==◌}
+use Rattle.std.specs.Prelude.{ℕ, List, [], ◌∷◌, Option, Some, None, Bool, true, false, if◌then◌else◌, ◌==◌, codes}
+use Rattle.std.specs.Str.{bytes_eq}
+use Rattle.mg_text.specs.Call.{Name}
 use Rattle.mg_text.specs.declared.place.Place.{Place}
 use Rattle.mg_read.specs.Reader.{Reader, ◌>>=◌, all_of}
 use Rattle.mg_read.proofs.Loop.{with_front}
@@ -10,7 +12,7 @@ use Rattle.ts_parse.specs.declared.written.Naming.{Naming}
 use Rattle.ts_parse.specs.declared.written.WrittenBranch.{WrittenBranch}
 use Rattle.ts_parse.specs.Tok.{Tok, named, marked}
 use Rattle.ts_parse.specs.Grammar.{type_named, param_named}
-use Rattle.ts_parse.specs.Written.{WTarget, to_one, by_label, WMethod, WState, WFile}
+use Rattle.ts_parse.specs.Written.{WTarget, to_one, by_label, WMethod, WEntry, offer, drop_end, WState, WFile}
 
 -- ---- one token
 
@@ -176,28 +178,65 @@ method_at ts = do
 unfoldable pub after_comma : List Tok → Option (List Tok)
 after_comma ts = if is_at marks.Comma ts then (mark_at marks.Comma ts >>= λ comma. Some comma.1) else Some ts
 
--- method { "," method } [ "," ]
-unfoldable pub some_methods_at : Reader Tok (List WMethod)
-some_methods_at ts = do
-  methods ← listed_at marks.Comma is_more method_at ts
-  rest ← after_comma methods.1
-  Some (methods.0, rest)
+-- ---- entries
 
--- [ methods ], up to "}"
-unfoldable pub methods_at : Reader Tok (List WMethod)
-methods_at ts = if is_at marks.CloseBrace ts then Some ([], ts) else some_methods_at ts
+-- whether a token is this word
+abbrev pub is_word : Name → Tok → Bool
+is_word text (named p n) = bytes_eq n text
+is_word text (marked p k) = false
+
+-- whether the word "drop" comes next, with a colon behind it
+abbrev pub is_drop : List Tok → Bool
+is_drop [] = false
+is_drop (t ∷ ts) = if is_at marks.Colon ts then is_word (codes "drop") t else false
+
+abbrev pub past_end : Naming × List Tok → Option (List Tok)
+past_end name = if bytes_eq name.0.text (codes "end") then Some name.1 else None
+
+-- the word "end"
+unfoldable pub after_end : List Tok → Option (List Tok)
+after_end ts = name_at ts >>= λ name. past_end name
+
+-- a word, ":" "end"
+unfoldable pub drop_at : Reader Tok WEntry
+drop_at ts = do
+  word ← name_at ts
+  colon ← mark_at marks.Colon word.1
+  rest ← after_end colon.1
+  Some (drop_end word.0.place, rest)
+
+-- a method, as an entry
+unfoldable pub offer_at : Reader Tok WEntry
+offer_at ts = do
+  method ← method_at ts
+  Some (offer method.0, method.1)
+
+-- "drop" ":" "end"  |  method
+unfoldable pub entry_at : Reader Tok WEntry
+entry_at ts = if is_drop ts then drop_at ts else offer_at ts
+
+-- entry { "," entry } [ "," ]
+unfoldable pub some_entries_at : Reader Tok (List WEntry)
+some_entries_at ts = do
+  entries ← listed_at marks.Comma is_more entry_at ts
+  rest ← after_comma entries.1
+  Some (entries.0, rest)
+
+-- [ entries ], up to "}"
+unfoldable pub entries_at : Reader Tok (List WEntry)
+entries_at ts = if is_at marks.CloseBrace ts then Some ([], ts) else some_entries_at ts
 
 -- ---- states and the file
 
--- name "=" "{" methods "}"
+-- name "=" "{" entries "}"
 unfoldable pub state_at : Reader Tok WState
 state_at ts = do
   name ← name_at ts
   equals ← mark_at marks.Equals name.1
   start ← mark_at marks.OpenBrace equals.1
-  methods ← methods_at start.1
-  end ← mark_at marks.CloseBrace methods.1
-  Some (record { name = name.0; methods = methods.0 }, end.1)
+  entries ← entries_at start.1
+  end ← mark_at marks.CloseBrace entries.1
+  Some (record { name = name.0; entries = entries.0 }, end.1)
 
 abbrev pub not_closed : List Tok → Bool
 not_closed ts = if is_at marks.CloseBrace ts then false else true

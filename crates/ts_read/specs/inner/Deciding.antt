@@ -7,7 +7,7 @@ use Rattle.ts_parse.specs.declared.written.WrittenState.{WrittenState}
 use Rattle.ts_read.specs.declared.condition.Condition.{Condition}
 use Rattle.ts_read.specs.declared.condition.Condition.TheVariants as conditions
 use Rattle.ts_read.specs.declared.judge.Broken.{Broken}
-use Rattle.ts_read.specs.inner.Finding.{blamed_of, repeat_in, first_some, state_name, repeat_method, repeat_labels, unknown_state, named_end}
+use Rattle.ts_read.specs.inner.Finding.{blamed_of, repeat_in, first_some, state_name, repeat_entry, repeat_labels, unknown_state, named_end}
 use Rattle.ts_read.specs.inner.Signing.{other_in_state, with_states}
 
 abbrev pub broken_of : Broken → Condition × Culprit
@@ -23,7 +23,7 @@ labels_or_end ss =
 
 abbrev pub methods_or_later : List WrittenState → Option (Condition × Culprit)
 methods_or_later ss =
-    option_or (tagged conditions.DuplicateMethod (first_some (map repeat_method ss)))
+    option_or (tagged conditions.DuplicateMethod (first_some (map repeat_entry ss)))
     (option_or (tagged conditions.SignatureDiffers (first_some (map (other_in_state (with_states (record { names = []; sigs = [] }) ss)) ss)))
     (labels_or_end ss))
 

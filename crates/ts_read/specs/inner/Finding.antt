@@ -1,5 +1,5 @@
 -- Finding who breaks a condition, from the front on.
-use Rattle.std.specs.Prelude.{List, [], ◌∷◌, ◌++◌, map, Option, Some, None, is_some, position, Bool, ◌||◌, if◌then◌else◌, codes}
+use Rattle.std.specs.Prelude.{List, [], ◌∷◌, ◌++◌, map, Option, Some, None, is_some, position, Bool, true, false, ◌||◌, if◌then◌else◌, codes}
 use Rattle.std.specs.Option.{option_or}
 use Rattle.std.specs.Str.{bytes_eq}
 use Rattle.mg_text.specs.Call.{Name}
@@ -10,6 +10,8 @@ use Rattle.ts_parse.specs.declared.written.WrittenBranch.{WrittenBranch}
 use Rattle.ts_parse.specs.declared.written.WrittenTarget.{WrittenTarget}
 use Rattle.ts_parse.specs.declared.written.WrittenTarget.TheVariants as kept
 use Rattle.ts_parse.specs.declared.written.WrittenMethod.{WrittenMethod}
+use Rattle.ts_parse.specs.declared.written.WrittenEntry.{WrittenEntry}
+use Rattle.ts_parse.specs.declared.written.WrittenEntry.TheVariants as entries
 use Rattle.ts_parse.specs.declared.written.WrittenState.{WrittenState}
 use Rattle.ts_read.specs.declared.blame.Blamed.{Blamed}
 use Rattle.ts_read.specs.Conditions.{blamed}
@@ -44,14 +46,25 @@ abbrev pub branches_in : WrittenTarget → List WrittenBranch
 branches_in (kept.One to) = []
 branches_in (kept.ByAnswer branches) = branches.items
 
-abbrev pub repeat_method : WrittenState → Option Culprit
-repeat_method s = repeat_in [] (map method_name s.methods.items)
+-- what is found at a method; at `drop: end` nothing is
+abbrev pub at_method : {C : Type 0} → (WrittenMethod → Option C) → WrittenEntry → Option C
+at_method f (entries.Method m) = f m
+at_method f (entries.DropEnd place) = None
+
+-- the first entry that is the same as an earlier one: `drop: end` was seen or not, and methods of these names
+abbrev pub twice_in : Bool → List Name → List WrittenEntry → Option Culprit
+twice_in dropped seen [] = None
+twice_in dropped seen (entries.Method m ∷ es) = if is_in seen m.name.text then Some (blamed m.name) else twice_in dropped (seen ++ m.name.text ∷ []) es
+twice_in dropped seen (entries.DropEnd place ∷ es) = if dropped then Some (culprit place (codes "drop")) else twice_in true seen es
+
+abbrev pub repeat_entry : WrittenState → Option Culprit
+repeat_entry s = twice_in false [] s.entries.items
 
 abbrev pub repeat_label : WrittenMethod → Option Culprit
 repeat_label m = repeat_in [] (map label_name (branches_in m.target))
 
 abbrev pub repeat_labels : WrittenState → Option Culprit
-repeat_labels s = first_some (map repeat_label s.methods.items)
+repeat_labels s = first_some (map (at_method repeat_label) s.entries.items)
 
 -- the first name that is neither the end nor a state
 abbrev pub is_known : List Name → Name → Bool
@@ -71,7 +84,7 @@ abbrev pub unknown_method : List Name → WrittenMethod → Option Culprit
 unknown_method states m = unknown_target states m.target
 
 abbrev pub unknown_state : List Name → WrittenState → Option Culprit
-unknown_state states s = first_some (map (unknown_method states) s.methods.items)
+unknown_state states s = first_some (map (at_method (unknown_method states)) s.entries.items)
 
 -- a state that is named as the end is
 abbrev pub named_end : WrittenState → Option Culprit

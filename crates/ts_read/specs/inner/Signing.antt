@@ -6,10 +6,12 @@ use Rattle.mg_read.specs.Culprit.{Culprit}
 use Rattle.ts_tree.specs.declared.parts.TypeName.{TypeName}
 use Rattle.ts_tree.specs.declared.parts.TypeName.TheVariants as types
 use Rattle.ts_parse.specs.declared.written.WrittenMethod.{WrittenMethod}
+use Rattle.ts_parse.specs.declared.written.WrittenEntry.{WrittenEntry}
+use Rattle.ts_parse.specs.declared.written.WrittenEntry.TheVariants as entries
 use Rattle.ts_parse.specs.declared.written.WrittenState.{WrittenState}
 use Rattle.ts_read.specs.declared.signatures.Signature.{Signature}
 use Rattle.ts_read.specs.Conditions.{blamed}
-use Rattle.ts_read.specs.inner.Finding.{is_in, first_some}
+use Rattle.ts_read.specs.inner.Finding.{is_in, first_some, at_method}
 
 abbrev pub type_eq : TypeName → TypeName → Bool
 type_eq types.Void types.Void = true
@@ -43,13 +45,17 @@ pub record Firsts : Type 0 where
 abbrev pub with_method : Firsts → WrittenMethod → Firsts
 with_method f m = if is_in f.names m.name.text then f else record { names = f.names ++ m.name.text ∷ []; sigs = f.sigs ++ sig_in m ∷ [] }
 
-abbrev pub with_methods : Firsts → List WrittenMethod → Firsts
-with_methods f [] = f
-with_methods f (m ∷ ms) = with_methods (with_method f m) ms
+abbrev pub with_entry : Firsts → WrittenEntry → Firsts
+with_entry f (entries.Method m) = with_method f m
+with_entry f (entries.DropEnd place) = f
+
+abbrev pub with_entries : Firsts → List WrittenEntry → Firsts
+with_entries f [] = f
+with_entries f (e ∷ es) = with_entries (with_entry f e) es
 
 abbrev pub with_states : Firsts → List WrittenState → Firsts
 with_states f [] = f
-with_states f (s ∷ ss) = with_states (with_methods f s.methods.items) ss
+with_states f (s ∷ ss) = with_states (with_entries f s.entries.items) ss
 
 abbrev pub is_like : Option Sig → WrittenMethod → Bool
 is_like None m = true
@@ -63,4 +69,4 @@ abbrev pub other_method : Firsts → WrittenMethod → Option Culprit
 other_method f m = if is_like (first_sig f.sigs (position (bytes_eq m.name.text) f.names)) m then None else Some (blamed m.name)
 
 abbrev pub other_in_state : Firsts → WrittenState → Option Culprit
-other_in_state f s = first_some (map (other_method f) s.methods.items)
+other_in_state f s = first_some (map (at_method (other_method f)) s.entries.items)

@@ -40,6 +40,7 @@ protocol = record {
           params = [];
           target = ByAnswer (record { label = codes "OK"; to = tos.State 1 } ∷ record { label = codes "ERROR"; to = tos.End } ∷ []);
         } ∷ [];
+        drops = false;
       } ∷
       record {
         name = codes "Open";
@@ -49,9 +50,10 @@ protocol = record {
           params = [];
           target = ByAnswer (record { label = codes "TRUE"; to = tos.State 2 } ∷ record { label = codes "FALSE"; to = tos.State 3 } ∷ []);
         } ∷ [];
+        drops = false;
       } ∷
-      record { name = codes "Read"; methods = record { result = written.Void; name = codes "read"; params = []; target = One (tos.State 1) } ∷ [] } ∷
-      record { name = codes "Close"; methods = record { result = written.Void; name = codes "close"; params = []; target = One tos.End } ∷ [] } ∷
+      record { name = codes "Read"; methods = record { result = written.Void; name = codes "read"; params = []; target = One (tos.State 1) } ∷ []; drops = false } ∷
+      record { name = codes "Close"; methods = record { result = written.Void; name = codes "close"; params = []; target = One tos.End } ∷ []; drops = false } ∷
       [];
 }
 

@@ -17,7 +17,7 @@ use Rattle.use_rules.specs.declared.key.TableKey.{TableKey}
 use Rattle.use_flow.specs.declared.held.Tables as held
 use Rattle.use_flow.specs.declared.scene.Scene.{Scene}
 use Rattle.use_rules.specs.Elements.{Set}
-use Rattle.use_rules.specs.Keys.{at_end, class_in}
+use Rattle.use_rules.specs.Keys.{at_end, class_in, typestate_of}
 use Rattle.use_rules.specs.State.{Now, Out, Log, Argued}
 use Rattle.use_rules.specs.Flow as rules
 use Rattle.use_flow.specs.View.{contexts_of, tables_of}
@@ -63,7 +63,7 @@ abbrev pub variable_width : Followed → Var → ℕ
 variable_width s = rules.variable_width s.program s.contexts s.context s.method
 
 abbrev pub judged_variable : Followed → Rule → Place → Var → List Set → List Demand
-judged_variable s rule = rules.judged_variable s.program s.contexts s.context s.method (rule_of rule)
+judged_variable s rule q x = rules.judged_variable s.program s.contexts s.context s.method (rule_of rule (typestate_of s.program (variable_class s x))) q x
 
 abbrev pub field_outs_from : Followed → (ℕ → TableKey) → (field : ℕ) → List Field → List Set → List Out
 field_outs_from s = rules.field_outs_from s.program s.contexts s.context s.method

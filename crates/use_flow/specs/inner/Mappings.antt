@@ -10,8 +10,9 @@ use Rattle.use_rules.specs.declared.demand.DemandKind.{DemandKind}
 use Rattle.use_rules.specs.declared.demand.DemandKind.TheVariants as demands
 use Rattle.use_rules.specs.declared.demand.Demand.{Demand}
 use Rattle.mg_text.specs.Call.{Name}
+use Rattle.ts_tree.specs.Typestate.{Typestate}
 use Rattle.mg_text.specs.declared.place.Place.{Place}
-use Rattle.use_rules.specs.Elements.{as_value, left_behind, not_null, only_null, if_moved, if_state, element_at}
+use Rattle.use_rules.specs.Elements.{as_value, left_behind, not_null, only_null, if_moved, if_open, element_at}
 
 abbrev pub mapping_of : Mapping → ℕ → List ℕ
 mapping_of mappings.AsValue = as_value
@@ -19,11 +20,12 @@ mapping_of mappings.LeftBehind = left_behind
 mapping_of mappings.NotNull = not_null
 mapping_of mappings.OnlyNull = only_null
 
-abbrev pub rule_of : Rule → ℕ → Option DemandKind
-rule_of rules.Moved = if_moved
-rule_of rules.LeftOpen = if_state demands.LeftOpen
-rule_of rules.Overwritten = if_state demands.Overwritten
-rule_of rules.FieldOpenAtEnd = if_state demands.FieldOpenAtEnd
+-- what is asked of an element of a class with this typestate
+abbrev pub rule_of : Rule → Typestate → ℕ → Option DemandKind
+rule_of rules.Moved t = if_moved
+rule_of rules.LeftOpen t = if_open demands.LeftOpen t
+rule_of rules.Overwritten t = if_open demands.Overwritten t
+rule_of rules.FieldOpenAtEnd t = if_open demands.FieldOpenAtEnd t
 
 abbrev pub listed : Option ℕ → List ℕ
 listed None = []

@@ -7,7 +7,8 @@ use Rattle.jv_core.specs.declared.program.CoreType.TheVariants as types
 use Rattle.jv_core.specs.Tree.{Expr}
 use Rattle.use_flow.specs.declared.elements.Rule.TheVariants as judging
 use Rattle.use_rules.specs.declared.demand.DemandKind.TheVariants as demands
-use Rattle.use_rules.specs.Elements.{Set, if_state}
+use Rattle.use_rules.specs.Elements.{Set, if_open}
+use Rattle.use_rules.specs.Keys.{typestate_of}
 use Rattle.use_rules.specs.State.{Now, Log, asks, with_set, Flow, judged}
 use Rattle.use_rules.specs.Flow as rules
 use Rattle.use_flow.specs.inner.Ending.{answer_of, left}
@@ -54,7 +55,7 @@ abbrev pub printed : Followed → Expr → List Set → Log → Flow
 printed s e sets log = printed_flow (eval s 0 e (Some sets) log)
 
 abbrev pub dropped_flow : Followed → Place → (class : ℕ) → rules.Evaluated → Flow
-dropped_flow s q c v = rules.flow (rules.after v) [] (asks (judged (if_state demands.LeftOpen) q (codes "value") c v.set) v.log)
+dropped_flow s q c v = rules.flow (rules.after v) [] (asks (judged (if_open demands.LeftOpen (typestate_of s.program c)) q (codes "value") c v.set) v.log)
 
 abbrev pub dropped : Followed → Place → Expr → List Set → Log → Flow
 dropped s q e sets log = dropped_flow s q (class_or_none s (type_dropped s e)) (eval s 0 e (Some sets) log)

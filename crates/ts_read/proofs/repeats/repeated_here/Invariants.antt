@@ -1,6 +1,6 @@
-use Rattle.std.proofs.Common.{◌≡◌, [], drop, map}
-use Rattle.ts_read.specs.inner.Finding.{repeat_in, method_name}
+use Rattle.std.proofs.Common.{◌≡◌, [], false, drop}
+use Rattle.ts_read.specs.inner.Finding.{twice_in}
 use Rattle.ts_read.proofs.repeats.repeated_here.Given as goal
 
 abbrev pub invariant-loop-item : goal.invariant-loop-item
-invariant-loop-item l = repeat_in l.met (map method_name (drop l.item-index l.methods)) ≡ repeat_in [] (map method_name l.methods)
+invariant-loop-item l = twice_in l.dropped l.met (drop l.item-index l.entries) ≡ twice_in false [] l.entries

@@ -1,8 +1,0 @@
-use Rattle.std.proofs.Common.{◌≡◌, drop, map}
-use Rattle.ts_read.specs.inner.Signing.{sig_of, with_methods}
-use Rattle.ts_read.proofs.signatures.note_methods.Given as goal
-
-abbrev pub invariant-loop-item : goal.invariant-loop-item
-invariant-loop-item l = with_methods (record { names = l.names; sigs = map sig_of l.signatures.items })
-    (drop l.item-index l.methods) ≡ with_methods
-    (record { names = l.initial.names; sigs = map sig_of l.initial.signatures.items }) l.methods
