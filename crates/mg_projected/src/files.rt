@@ -45,11 +45,7 @@ fn file_with(alloc: Global, role: &Text, local: &Local) -> Result<RoleFile, Memo
 }
 
 // The file of a role.
-fn file_of(
-    alloc: Global,
-    global: &GlobalProtocol,
-    role: &Text,
-) -> Result<RoleFile, ProjectFault>
+fn file_of(alloc: Global, global: &GlobalProtocol, role: &Text) -> Result<RoleFile, ProjectFault>
     requires { Contains (tree_of global.now).roles role.now }
     ensures { FileStage (tree_of global.now) role.now result }
 {
@@ -94,11 +90,7 @@ fn unread(fault: GlobalFault) -> ProjectedFault
 }
 
 // The files of a file's global protocol.
-fn projected_of(
-    alloc: Global,
-    file: u32,
-    bytes: &[u8],
-) -> Result<List<RoleFile>, ProjectedFault>
+fn projected_of(alloc: Global, file: u32, bytes: &[u8]) -> Result<List<RoleFile>, ProjectedFault>
     ensures { Stage file bytes.now result }
 {
     match read_global(alloc, file, bytes) {
@@ -116,11 +108,7 @@ fn projected_of(
 /// # Errors
 /// `Unread` with the fault of the bytes; `Unprojected` with the fault of the first role that has no
 /// local protocol; `Memory`.
-pub fn projected(
-    alloc: Global,
-    file: u32,
-    bytes: &[u8],
-) -> Result<List<RoleFile>, ProjectedFault>
+pub fn projected(alloc: Global, file: u32, bytes: &[u8]) -> Result<List<RoleFile>, ProjectedFault>
     // What is answered is what projecting the file gives.
     ensures answered { (a : Answer) → answer_of result ≡ Some a → Outcome file bytes.now a }
     // What projecting the file gives is answered, unless memory runs out.

@@ -73,5 +73,13 @@ pub ruleset all_steps = (common_steps, outline_later, outline_past)
 pub ruleset in_steps = (common_steps, branches_later, branches_past)
 
 pub ruleset alone = (
-  common_steps, outlined-Message, outlined-Choice, outlined-Rec, outlined-Continue, local_views.front-Message, local_views.front-Choice, local_views.front-Rec, local_views.front-Continue,
+  common_steps,
+  outlined-Message,
+  outlined-Choice,
+  outlined-Rec,
+  outlined-Continue,
+  local_views.front-Message,
+  local_views.front-Choice,
+  local_views.front-Rec,
+  local_views.front-Continue,
 )

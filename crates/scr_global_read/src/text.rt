@@ -9,9 +9,9 @@ ghost use Rattle.scr_global_read.specs.inner.Stages.{Stage};
 use crate::fault::GlobalFault;
 use crate::words::first_unsupported;
 use mg_text::{List, Place, Text, place_of};
-use scr_lex::LexFault;
 use scr_global_parse::ParseFault;
 use scr_global_tree::WrittenGlobal;
+use scr_lex::LexFault;
 use scr_tree::Token;
 use std::alloc::Global;
 
@@ -40,7 +40,12 @@ fn place_or_end(file: u32, bytes: &[u8], place: Option<Place>) -> Place
 }
 
 // What the tokens of a file spell.
-fn parsed_of(alloc: Global, file: u32, bytes: &[u8], tokens: &[Token]) -> Result<WrittenGlobal, GlobalFault>
+fn parsed_of(
+    alloc: Global,
+    file: u32,
+    bytes: &[u8],
+    tokens: &[Token],
+) -> Result<WrittenGlobal, GlobalFault>
     requires { Separates file bytes.now (toks tokens.now) }
     ensures { Stage file bytes.now (λ w. Spells file bytes.now (written_of file w)) result }
 {
@@ -58,7 +63,11 @@ fn parsed_of(alloc: Global, file: u32, bytes: &[u8], tokens: &[Token]) -> Result
 }
 
 // What a file spells.
-pub(crate) fn written_of(alloc: Global, file: u32, bytes: &[u8]) -> Result<WrittenGlobal, GlobalFault>
+pub(crate) fn written_of(
+    alloc: Global,
+    file: u32,
+    bytes: &[u8],
+) -> Result<WrittenGlobal, GlobalFault>
     requires { length bytes.now ≤ 1048576 }
     ensures { Stage file bytes.now (λ w. Spells file bytes.now (written_of file w)) result }
 {

@@ -257,8 +257,23 @@ module _ (me : Name) where
 pub ruleset all_steps = (common_steps, same_later, same_differs, same_short, same_end)
 
 pub ruleset alone = (
-  common_steps, Message-Message, Message-Choice, Message-Rec, Message-Continue, Choice-Message, Choice-Choice, Choice-Rec, Choice-Continue,
-  Rec-Message, Rec-Choice, Rec-Rec, Rec-Continue, Continue-Message, Continue-Choice, Continue-Rec, Continue-Continue,
+  common_steps,
+  Message-Message,
+  Message-Choice,
+  Message-Rec,
+  Message-Continue,
+  Choice-Message,
+  Choice-Choice,
+  Choice-Rec,
+  Choice-Continue,
+  Rec-Message,
+  Rec-Choice,
+  Rec-Rec,
+  Rec-Continue,
+  Continue-Message,
+  Continue-Choice,
+  Continue-Rec,
+  Continue-Continue,
 )
 
 pub ruleset in_steps = (common_steps, branches_later, branches_differ, branches_short, branches_end)

@@ -8,7 +8,10 @@ use scr_read::ScrFault;
 pub enum ProjectFault {
     /// The role can't tell which branch of a choice of another role was taken. The place is that of
     /// the first such choice, and the name is the role's.
-    NotMergeable { place: Place, name: Text },
+    NotMergeable {
+        place: Place,
+        name: Text,
+    },
     /// What the role does is no local protocol: `fault` says which condition it doesn't meet. The
     /// place is the file's start, and the name is the role's.
     Unprojected {

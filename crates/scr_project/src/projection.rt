@@ -42,12 +42,7 @@ fn is_memory(fault: &ScrFault) -> bool
 }
 
 // The fault of a role that does what is no local protocol.
-fn unprojected(
-    alloc: Global,
-    file: u32,
-    role: &str,
-    fault: ScrFault,
-) -> Result<Local, ProjectFault>
+fn unprojected(alloc: Global, file: u32, role: &str, fault: ScrFault) -> Result<Local, ProjectFault>
     ensures { IsUnprojected file role.now fault result }
 {
     if is_memory(&fault) {
@@ -83,11 +78,7 @@ fn made(
 }
 
 // The same, of a role for which the text was walked.
-fn project_of(
-    alloc: Global,
-    global: &GlobalProtocol,
-    role: &str,
-) -> Result<Local, ProjectFault>
+fn project_of(alloc: Global, global: &GlobalProtocol, role: &str) -> Result<Local, ProjectFault>
     requires { Contains (tree_of global.now).roles role.now }
     ensures { Stage (tree_of global.now) role.now result }
 {

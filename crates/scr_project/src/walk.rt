@@ -56,7 +56,9 @@ fn found_at(
         } => {
             let sent = *sender == *me;
             let taken = *receiver == *me;
-            let says = said(alloc, sent, taken, *place, sender, receiver, label, *payload)?;
+            let says = said(
+                alloc, sent, taken, *place, sender, receiver, label, *payload,
+            )?;
             Ok(Part {
                 named: sent | taken,
                 reach: 0,
@@ -213,13 +215,7 @@ fn body_of(
 
 // A choice with branches of which this is found.
 #[tactic(auto, using(crate::proofs::Steps::choosing))]
-fn chosen(
-    alloc: Global,
-    me: &Text,
-    place: Place,
-    at: &Text,
-    each: Each,
-) -> Result<Part, Memory>
+fn chosen(alloc: Global, me: &Text, place: Place, at: &Text, each: Each) -> Result<Part, Memory>
     ensures { IfOk result (λ p. found_of p ≡ chosen me.now place at.now (each_of each)) }
 {
     let Each {

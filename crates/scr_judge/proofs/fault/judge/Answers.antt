@@ -21,9 +21,9 @@ pub returns-in_ok-culprit-in-DuplicateName : goal.returns-in_ok-culprit-in-Dupli
 returns-in_ok-culprit-in-DuplicateName c =
     arm (written_of c.args.file c.args.written.now) c.args.condition conditions.DuplicateName _ c.with_name.result c.in-DuplicateName.is
     (let found = culprit_of c.in_ok-culprit-in-DuplicateName.culprit in
-        subst (λ (rs : List Role). Judged DuplicateName (with_earlier (map declares c.args.written.now.types.items ++ map lists rs)) found) c.as_slice-roles.ensures.items
-        (subst (λ (ts : List Declaration). Judged DuplicateName (with_earlier (map declares ts ++ map lists c.as_slice-roles.result.now)) found) c.as_slice-types.ensures.items
-        c.in_ok-culprit-in-DuplicateName.ensures))
+    subst (λ (rs : List Role). Judged DuplicateName (with_earlier (map declares c.args.written.now.types.items ++ map lists rs)) found) c.as_slice-roles.ensures.items
+    (subst (λ (ts : List Declaration). Judged DuplicateName (with_earlier (map declares ts ++ map lists c.as_slice-roles.result.now)) found) c.as_slice-types.ensures.items
+    c.in_ok-culprit-in-DuplicateName.ensures))
     c.with_name.ensures
 
 pub returns-in_ok-culprit-in-UnknownRole : goal.returns-in_ok-culprit-in-UnknownRole
@@ -42,10 +42,10 @@ pub returns-in_ok-culprit-in-UnknownType : goal.returns-in_ok-culprit-in-Unknown
 returns-in_ok-culprit-in-UnknownType c =
     arm (written_of c.args.file c.args.written.now) c.args.condition conditions.UnknownType _ c.with_name-in-UnknownType.result c.in-UnknownType.is
     (let found = culprit_of c.in_ok-culprit-in-UnknownType.culprit in
-        subst (λ (cs : List Carried). Judged (UnknownType c.args.written.now.types.items) (map declared c.args.written.now.types.items ++ flat_map carried_by (map carries_of cs)) found)
-        c.as_slice-carries.ensures.items
-        (subst (λ (ts : List Declaration). Judged (UnknownType ts) (map declared ts ++ flat_map carried_by (map carries_of c.as_slice-carries.result.now)) found) c.as_slice-types.ensures.items
-        c.in_ok-culprit-in-UnknownType.ensures))
+    subst (λ (cs : List Carried). Judged (UnknownType c.args.written.now.types.items) (map declared c.args.written.now.types.items ++ flat_map carried_by (map carries_of cs)) found)
+    c.as_slice-carries.ensures.items
+    (subst (λ (ts : List Declaration). Judged (UnknownType ts) (map declared ts ++ flat_map carried_by (map carries_of c.as_slice-carries.result.now)) found) c.as_slice-types.ensures.items
+    c.in_ok-culprit-in-UnknownType.ensures))
     c.with_name-in-UnknownType.ensures
 
 pub returns-in-PayloadCount : goal.returns-in-PayloadCount
