@@ -1,16 +1,16 @@
 -- Numbers tell pairs apart, and marks by them tell which pairs were met.
-use Rattle.std.proofs.Common.{◌≡◌, ◌≢◌, ℕ, zero, suc, ◌+◌, ◌*◌, ◌^◌, ◌<◌, Bool, true, false, List, [], ◌∷◌, ◌++◌, length, get_or, map, replicate, Option, Some, None, option_map, option_and_then, if◌then◌else◌, refl, sym, ap, subst, ◌∙◌, arith, inl, inr}
+use Rattle.std.proofs.Common.{◌≡◌, ◌≢◌, ℕ, zero, suc, ◌+◌, ◌*◌, ◌^◌, ◌<◌, Bool, true, false, List, [], ◌∷◌, ◌++◌, length, map, replicate, Option, Some, None, option_map, option_and_then, if◌then◌else◌, refl, sym, ap, subst, ◌∙◌, arith, inl, inr}
 use Rattle.std.specs.Prelude.{nat_lt, slice_set, IfSome}
 use Rattle.std.proofs.lemmas.Bool.{cases_eq, ltb-true}
-use Rattle.std.proofs.lemmas.Option.{none-some, slice_get-get_or}
+use Rattle.std.proofs.lemmas.Option.{none-some}
 use Rattle.std.proofs.lemmas.List.{get_or-set_same, get_or-set_other}
 use Rattle.std.proofs.lemmas.Nat.{same_from_place}
 use Rattle.mg_sets.specs.Sets.{has}
 use Rattle.ts_tree.specs.declared.parts.To.{To}
 use Rattle.ts_tree.specs.declared.parts.To.TheVariants as tos
 use Rattle.ts_refine.specs.declared.verdict.Pair.{Pair}
-use Rattle.ts_refine.specs.declared.search.Met.{Met}
 use Rattle.ts_refine.specs.inner.Judging.{same_pair, holds}
+use Rattle.ts_refine.specs.inner.Keeping.{Met}
 use Rattle.ts_refine.specs.inner.Marking.{place_number, number, marked, AreMarked, AreRooted, IsSearch}
 use Rattle.ts_refine.proofs.Relating.{some_is}
 use Rattle.ts_refine.proofs.Closing.{same_pair-self, same_pair-sound}
@@ -193,6 +193,3 @@ search-kept a b marks news_marks ms news m o s fine is of bound e = subst (λ (z
 pub marked-is : (a b : ℕ) (marks : List Bool) (ms : List Met) (pair : Pair) (o : Option ℕ) (i : ℕ) → IsSearch a b marks ms
     → o ≡ number a b pair → o ≡ Some i → has marks i ≡ holds (map (λ (m : Met). m.pair) ms) pair
 marked-is a b marks ms pair o i s of some = s.marked.each pair i (sym of ∙ some)
-
-pub parent-before : (ms : List Met) (i : ℕ) (m : Met) → AreRooted ms → i < length ms → 0 < i → m ≡ get_or ms i m → m.parent < i
-parent-before ms i m r lt some is = r.each i m (slice_get-get_or ms i m lt ∙ ap Some (sym is)) some

@@ -1,17 +1,17 @@
 -- Where a method of a name stands.
-use Rattle.std.proofs.Common.{◌≡◌, ◌≢◌, ℕ, zero, suc, ◌+◌, ◌<◌, ◌≤◌, Bool, true, false, List, [], ◌∷◌, length, drop, map, None, option_map, slice_get, refl, sym, ap, subst, ◌∙◌, arith}
-use Rattle.std.specs.Prelude.{Contains}
+use Rattle.std.proofs.Common.{◌≡◌, ◌≢◌, ℕ, zero, suc, ◌+◌, ◌<◌, ◌≤◌, Bool, true, false, List, [], ◌∷◌, length, drop, map, Option, Some, None, option_map, slice_get, refl, sym, ap, subst, ◌∙◌, arith}
+use Rattle.std.specs.Prelude.{Contains, IfSome}
 use Rattle.std.proofs.lemmas.Bool.{false≢true}
 use Rattle.std.proofs.lemmas.Option.{slice_get_past}
 use Rattle.mg_text.specs.Call.{Name}
 use Rattle.ts_tree.specs.declared.parts.Method.{Method as KeptMethod}
-use Rattle.ts_tree.specs.Typestate.{Method}
+use Rattle.ts_tree.specs.Typestate.{Target, One, ByAnswer, Method}
 use Rattle.ts_tree.specs.Calls.{offered_in}
 use Rattle.ts_tree.specs.Proper.{AreDistinct}
 use Rattle.ts_tree.specs.View.{method_of}
 use Rattle.ts_tree.proofs.Leading.{here}
-use Rattle.ts_refine.specs.inner.Judging.{AreProper, stands_at}
-use Rattle.ts_refine.proofs.Relating.{same_name, other_name}
+use Rattle.ts_refine.specs.inner.Judging.{AreProper, AreLabelled, stands_at}
+use Rattle.ts_refine.proofs.Relating.{same_name, other_name, offered_in-sound}
 
 -- the first of a name from this place on
 from-here : (ms : List KeptMethod) (i : ℕ) (name : Name) → stands_at ms i name ≡ true
@@ -52,6 +52,18 @@ stands-only (m ∷ ms) zero name apart h = rw h refl
 stands-only (m ∷ ms) (suc i) name apart h =
     let ne : m.name ≢ name = λ e. apart.0 (subst (Contains (map (λ (m : Method). m.name) (map method_of ms))) (sym e) (named_among ms i name h)) in
     rw (other_name m.name name ne) (stands-only ms i name apart.1 h)
+
+-- the labels of what is offered are distinct
+labelled-in : (ms : List Method) (m : Method) → AreProper ms → Contains ms m → AreLabelled m.target
+labelled-in ms m proper c = go m.target refl where
+  go : (t : Target) → m.target ≡ t → AreLabelled t
+  go (One to) is = tt
+  go (ByAnswer bs) is = proper.labels m bs c is
+
+pub labelled_by : {R : Type 0} (f : R → Method) (o : Option R) (ms : List Method) (name : Name) → AreProper ms
+    → option_map f o ≡ offered_in ms name → IfSome o (λ m. AreLabelled (f m).target)
+labelled_by f None ms name proper e = tt
+labelled_by f (Some m) ms name proper e = labelled-in ms (f m) proper (offered_in-sound ms name (f m) (sym e)).0
 
 -- with what the program knows
 pub stood : (ms : List KeptMethod) (i : ℕ) (name : Name) (r : Bool) → AreProper (map method_of ms) → r ≡ stands_at ms i name → r ≡ true

@@ -1,5 +1,5 @@
 -- A pair is judged along the methods of its second place, flaws and calls together.
-use Rattle.std.proofs.Common.{◌≡◌, ℕ, ◌+◌, ◌<◌, ◌≤◌, Bool, true, false, not, List, [], ◌∷◌, ◌++◌, length, get_or, drop, map, Option, Some, None, is_none, is_some, if◌then◌else◌, refl, sym, ap, ◌∙◌}
+use Rattle.std.proofs.Common.{◌≡◌, ℕ, ◌+◌, ◌<◌, ◌≤◌, Bool, true, false, not, List, ◌∷◌, length, get_or, drop, map, Option, Some, None, is_none, is_some, if◌then◌else◌, refl, sym, ap, ◌∙◌}
 use Rattle.std.proofs.lemmas.List.{at_drop_more, at_drop_all}
 use Rattle.mg_text.specs.Call.{Name}
 use Rattle.ts_tree.specs.declared.parts.Method.{Method as KeptMethod}
@@ -10,7 +10,7 @@ use Rattle.ts_refine.specs.declared.verdict.Pair.{Pair}
 use Rattle.ts_refine.specs.declared.verdict.Reason.{Reason}
 use Rattle.ts_refine.specs.declared.judge.Flaw.{Flaw}
 use Rattle.ts_refine.specs.Orders.{methods_at}
-use Rattle.ts_refine.specs.inner.Judging.{flaw_of, or_by, reason_in, is_unfinished, or_last, first_reason, all_held, arrows_at, arrows_in, arrows, are_shown, is_shown}
+use Rattle.ts_refine.specs.inner.Judging.{flaw_of, or_by, reason_in, or_last, all_held, arrows_at, arrows_in, arrows, are_shown, is_shown}
 use Rattle.ts_refine.proofs.Stepping.{all_held-append}
 
 -- the first of the methods, and the others

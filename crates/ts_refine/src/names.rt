@@ -99,7 +99,12 @@ fn note_methods(slots: &mut [u64], side: u64, list: u64, methods: &[Method]) {
 fn note_states(slots: &mut [u64], side: u64, t: &Typestate) {
     let mut number: u32 = 0;
     for state in t.states.as_slice() {
-        note_methods(slots, side, list_of(side, To::State(number)), state.methods.as_slice());
+        note_methods(
+            slots,
+            side,
+            list_of(side, To::State(number)),
+            state.methods.as_slice(),
+        );
         number = number.wrapping_add(1);
     }
 }

@@ -1,11 +1,11 @@
 //! Where a name stands in the list of its state or of its method, by a table of hashes.
 //! What the table says is only tried: a name that doesn't stand there is looked for along the list.
 
-ghost use Rattle.std.specs.Prelude.{◌≡◌, ◌<◌, ◌→◌, IfSome, is_some, map, option_map, slice_get};
+ghost use Rattle.std.specs.Prelude.{◌≡◌, map, option_map, slice_get};
 ghost use Rattle.ts_tree.specs.Calls.{offered_in, by_label};
 ghost use Rattle.ts_tree.specs.Proper.{AreDistinct};
-ghost use Rattle.ts_tree.specs.View.{method_of, target_of};
-ghost use Rattle.ts_refine.specs.inner.Judging.{AreProper, AreLabelled, IsPlaceOf, has_label, label_stands_at, stands_at};
+ghost use Rattle.ts_tree.specs.View.{method_of};
+ghost use Rattle.ts_refine.specs.inner.Judging.{AreProper, IsPlaceOf, has_label, label_stands_at, stands_at};
 
 use crate::Pair;
 use crate::names::{list_of, list_under, noted};
@@ -78,15 +78,13 @@ pub(crate) struct LabelPlaces<'t> {
 
 impl<'t> MethodPlaces<'t> {
     // The method of this name.
-    #[tactic(auto, using(crate::proofs::Offering::labels))]
     pub(crate) fn method_named<'a>(
         &mut self,
         methods: &'a [Method],
         name: &str,
     ) -> Option<&'a Method>
         requires { AreProper (map method_of methods.now) }
-        ensures method { option_map (λ m. method_of m.now) result ≡ offered_in (map method_of methods.now) name.now }
-        ensures labelled { IfSome result (λ m. AreLabelled (target_of m.now.target)) }
+        ensures { option_map (λ m. method_of m.now) result ≡ offered_in (map method_of methods.now) name.now }
     {
         let place = self.place_in(methods, name);
         self.near = place;
@@ -116,18 +114,26 @@ impl<'t> MethodPlaces<'t> {
 }
 
 impl<'t> LabelPlaces<'t> {
-    // The branch of this label.
-    pub(crate) fn branch_labelled<'a>(
-        &mut self,
-        branches: &'a [Branch],
-        label: &str,
-    ) -> Option<&'a Branch>
-        ensures has { is_some result ≡ has_label branches.now label.now }
-        ensures to { AreDistinct (map (λ b. b.label) branches.now) → option_map (λ b. b.now.to) result ≡ by_label branches.now label.now }
+    // Whether this label is among those of the branches.
+    pub(crate) fn has_label(&mut self, branches: &[Branch], label: &str) -> bool
+        ensures { result ≡ has_label branches.now label.now }
     {
         let place = self.place_of(branches, label);
         self.near = place;
-        branches.get(place)
+        branches.get(place).is_some()
+    }
+
+    // Where the branch of this label leads.
+    pub(crate) fn by_label(&mut self, branches: &[Branch], label: &str) -> Option<To>
+        requires { AreDistinct (map (λ b. b.label) branches.now) }
+        ensures { result ≡ by_label branches.now label.now }
+    {
+        let place = self.place_of(branches, label);
+        self.near = place;
+        match branches.get(place) {
+            None => None,
+            Some(branch) => Some(branch.to),
+        }
     }
 
     // Where the branch of this label stands, as with methods.
