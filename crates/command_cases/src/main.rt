@@ -23,6 +23,7 @@
 //! ```
 #![tactic(auto)]
 
+mod calling;
 mod classes;
 mod given;
 mod torn;
