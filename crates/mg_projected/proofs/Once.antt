@@ -16,10 +16,10 @@ use Rattle.mg_projected.specs.declared.fault.ProjectedFault.TheVariants as fault
 use Rattle.mg_projected.specs.Projected.{file_of, AreFiles, IsRefusal, IsRefused, Answer, Files, Unread, Unprojected, IsUnread, Outcome, unread, unprojected, written, answer_of, IsAnswered}
 use Rattle.mg_projected.specs.inner.Stages.{Stage}
 
-protocol_is : (s t : LocalTree) → projects.Protocol s ≡ projects.Protocol t → s ≡ t
+pub protocol_is : (s t : LocalTree) → projects.Protocol s ≡ projects.Protocol t → s ≡ t
 protocol_is s t e = cc
 
-tree_is : (g h : GlobalTree) → reads.Protocol g ≡ reads.Protocol h → g ≡ h
+pub tree_is : (g h : GlobalTree) → reads.Protocol g ≡ reads.Protocol h → g ≡ h
 tree_is g h e = cc
 
 module _ (g : GlobalTree) where
@@ -27,7 +27,7 @@ module _ (g : GlobalTree) where
   not_both : (role : Name) (local : LocalTree) (a : projects.Answer) → projects.Outcome g role (projects.Protocol local) → projects.Outcome g role a → IsRefusal a → ⊥
   not_both role local a h k r = subst IsRefusal (sym (projecting.one_outcome g role (projects.Protocol local) a h k)) r
 
-  files_once : (roles : List Name) (fs hs : List RoleFile) → AreFiles g roles fs → AreFiles g roles hs → fs ≡ hs
+  pub files_once : (roles : List Name) (fs hs : List RoleFile) → AreFiles g roles fs → AreFiles g roles hs → fs ≡ hs
   files_once [] fs hs a b = a ∙ sym b
   files_once (role ∷ roles) fs hs a b =
       let same = protocol_is a.0 b.0 (projecting.one_outcome g role (projects.Protocol a.0) (projects.Protocol b.0) a.3 b.3) in
