@@ -1,7 +1,6 @@
 -- The files of the roles have the texts of the projections, so that the laws of projection speak of them.
-use Rattle.std.proofs.Common.{◌≡◌, ℕ, zero, suc, List, [], ◌∷◌, map, length, Contains, Option, None, Some, refl, sym, ap, subst, ◌∙◌, arith}
+use Rattle.std.proofs.Common.{◌≡◌, ℕ, zero, suc, List, [], ◌∷◌, map, Contains, Option, None, Some, refl, sym, ap, subst, ◌∙◌, arith}
 use Rattle.mg_text.specs.Call.{Name}
-use Rattle.mg_read.proofs.Steps.{none_is_not}
 use Rattle.scr_tree.specs.Tree.{LocalTree, Statements, Nothing}
 use Rattle.scr_global.specs.Texts.{projected}
 use Rattle.scr_global_tree.specs.Tree.{GlobalTree}
@@ -9,11 +8,10 @@ use Rattle.scr_global_tree.specs.Valid.{IsValid}
 use Rattle.scr_global_judge.proofs.Faultless.{faultless}
 use Rattle.scr_global_read.specs.Outcome as reads
 use Rattle.scr_global_read.proofs.Named.{can_be_written}
-use Rattle.scr_project.specs.Laws.{AreProjected}
 use Rattle.scr_project.specs.Outcome.{projection_of}
 use Rattle.scr_project.specs.Outcome as projects
 use Rattle.mg_projected.specs.declared.files.RoleFile.{RoleFile}
-use Rattle.mg_projected.specs.Projected.{file_of, AreFiles, IsProjected, Answer, Files, Unread, Unprojected, Outcome, unread, unprojected, written}
+use Rattle.mg_projected.specs.Projected.{file_of, AreFiles, IsProjected, Answer, Files, Outcome, unread, unprojected, written}
 use Rattle.mg_projected.proofs.Once.{protocol_is, tree_is}
 
 -- ---- a file that spells a global protocol spells a valid one

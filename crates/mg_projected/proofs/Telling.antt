@@ -1,6 +1,6 @@
 -- What is told of a fault is said of the answer that it is.
-use Rattle.std.proofs.Common.{◌≡◌, ◌⊎◌, inl, inr, ℕ, List, [], ◌∷◌, ◌++◌, length, codes, Option, Some, None, Result, Ok, Err, refl, sym, ap, ap₂, ◌∙◌, subst, get_or, arith, append_assoc}
-use Rattle.std.specs.Prelude.{option_map, OnOk, IfOk}
+use Rattle.std.proofs.Common.{◌≡◌, inl, inr, ℕ, List, [], ◌∷◌, length, codes, Option, Some, None, Result, Ok, Err, refl, sym, ap, ◌∙◌, subst, get_or, arith}
+use Rattle.std.specs.Prelude.{option_map, OnOk}
 use Rattle.mg_text.specs.Call.{Name}
 use Rattle.mg_text.specs.Row.{Row}
 use Rattle.mg_text.specs.declared.place.Place.{Place}
@@ -23,10 +23,10 @@ use Rattle.mg_sources.specs.declared.stop.Stop.TheVariants as stops
 use Rattle.mg_projected.specs.declared.files.RoleFile.{RoleFile}
 use Rattle.mg_projected.specs.declared.fault.ProjectedFault.{ProjectedFault}
 use Rattle.mg_projected.specs.declared.fault.ProjectedFault.TheVariants as faults
-use Rattle.mg_projected.specs.Projected.{IsRefused, Answer, Files, Unread, Unprojected, Outcome, unread, unprojected, written, IsProjected, fault_answer}
+use Rattle.mg_projected.specs.Projected.{IsRefused, Answer, Files, Unread, Unprojected, Outcome, unread, unprojected, written, fault_answer}
 use Rattle.mg_projected.specs.Told.{IsSaidOfGlobal, IsSaidOfProjection, IsSaid, AreWritten, Refusal, IsAnswer, IsThat}
-use Rattle.mg_projected.specs.inner.Saying.{word_of, words_of, said_of_global, said_of_projection, said_of, IsRefusal}
-use Rattle.mg_projected.proofs.Once.{one_outcome, files_once}
+use Rattle.mg_projected.specs.inner.Saying.{words_of, said_of_global, said_of_projection, said_of, IsRefusal}
+use Rattle.mg_projected.proofs.Once.{one_outcome}
 use Rattle.mg_projected.proofs.Followed.{files_of_projected, files_projected}
 
 same_fault : (f g : Fault) → ◌≡◌ {A = Option Fault} (Some f) (Some g) → g ≡ f
@@ -161,6 +161,14 @@ pub stop_refusal : (file : List ℕ) (fault : Fault) (stop : Stop) → IsStop (f
 stop_refusal file fault (stops.Refused line) h = (fault, refl, h)
 stop_refusal file fault stops.Memory h = tt
 
+-- the refusal by a fault that was told of these names
+pub named_refusal : (file given kind name other : List ℕ) (place : Place) (said : Option Fault) (stop : Stop) → given ≡ file → other ≡ name →
+    said ≡ Some (fault_at kind place name) → IsStop (fault_line given (fault_at kind place other)) stop → IsRefusal file said stop
+named_refusal file given kind name other place said stop e f h is =
+    told_is file (Some (fault_at kind place name)) said (sym h) stop
+    (stop_refusal file (fault_at kind place name) stop
+    (subst (λ (z : List ℕ). IsStop (fault_line file (fault_at kind place z)) stop) f (subst (λ (z : List ℕ). IsStop (fault_line z (fault_at kind place other)) stop) e is)))
+
 -- ---- one answer
 
 source_is : (a b : Source) → ◌≡◌ {A = List Source} (a ∷ []) (b ∷ []) → a ≡ b
@@ -169,7 +177,7 @@ source_is a b e = cc
 pub gives_files : (files : List Source) (fs : List RoleFile) (w : AreWritten files fs) → Outcome w.source.number w.source.bytes (Files fs)
 gives_files files fs w = written w.reads (files_of_projected w.global fs w.projected)
 
-files_of : Answer → List RoleFile
+abbrev files_of : Answer → List RoleFile
 files_of (Files fs) = fs
 files_of (Unread a) = []
 files_of (Unprojected a) = []
@@ -204,3 +212,8 @@ one_source (x ∷ y ∷ xs) contents name bytes n c e f = absurd (omega (arith, 
 one_source (x ∷ []) [] name bytes n c e f = absurd (omega (arith, c))
 one_source (x ∷ []) (z ∷ w ∷ zs) name bytes n c e f = absurd (omega (arith, c))
 one_source (x ∷ []) (z ∷ []) name bytes n c e f = λ i. source_of 0 (e i) (f i) ∷ []
+
+pub answer_of_one : (names contents : List (List ℕ)) (name bytes given : List ℕ) (r : Result (Row RoleFile) Stop) → length names ≡ 1 → length contents ≡ 1 →
+    name ≡ get_or names 0 name → bytes ≡ get_or contents 0 bytes → given ≡ bytes → IsAnswer (source_of 0 name given ∷ []) r → IsAnswer (sources names contents) r
+answer_of_one names contents name bytes given r n c e f g h =
+    subst (λ (z : List Source). IsAnswer z r) (one_source names contents name bytes n c e f) (subst (λ (z : List ℕ). IsAnswer (source_of 0 name z ∷ []) r) g h)

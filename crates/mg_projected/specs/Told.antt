@@ -1,6 +1,5 @@
 -- What is told of a file whose global protocol is projected: the files of its roles, or the line of the first refusal.
 use Rattle.std.specs.Prelude.{◌≡◌, ℕ, List, [], ◌∷◌, ◌++◌, codes, Result, Ok, Err}
-use Rattle.mg_text.specs.Call.{Name}
 use Rattle.mg_text.specs.Row.{Row}
 use Rattle.scr_read.specs.Outcome as scr
 use Rattle.scr_global_tree.specs.declared.condition.GlobalCondition.{GlobalCondition}
