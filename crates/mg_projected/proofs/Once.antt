@@ -1,9 +1,7 @@
 -- Projecting the global protocol of a file gives one answer at most.
-use Rattle.std.proofs.Common.{◌≡◌, ◌⊎◌, inl, inr, ⊎_elim, ℕ, List, [], ◌∷◌, Option, None, Some, Result, Ok, Err, refl, sym, ap, subst, ◌∙◌}
-use Rattle.std.specs.Prelude.{option_map}
+use Rattle.std.proofs.Common.{◌≡◌, inl, inr, ⊎_elim, ℕ, List, [], ◌∷◌, Option, None, Some, Result, refl, sym, ap, subst, ◌∙◌}
 use Rattle.mg_text.specs.Call.{Name}
 use Rattle.mg_text.specs.Row.{Row}
-use Rattle.mg_read.proofs.Steps.{some_is, none_is_not}
 use Rattle.scr_tree.specs.Tree.{LocalTree}
 use Rattle.scr_global_tree.specs.Tree.{GlobalTree}
 use Rattle.scr_global_read.specs.Outcome as reads
@@ -12,7 +10,6 @@ use Rattle.scr_project.specs.Outcome as projects
 use Rattle.scr_project.proofs.Answered as projecting
 use Rattle.mg_projected.specs.declared.files.RoleFile.{RoleFile}
 use Rattle.mg_projected.specs.declared.fault.ProjectedFault.{ProjectedFault}
-use Rattle.mg_projected.specs.declared.fault.ProjectedFault.TheVariants as faults
 use Rattle.mg_projected.specs.Projected.{file_of, AreFiles, IsRefusal, IsRefused, Answer, Files, Unread, Unprojected, IsUnread, Outcome, unread, unprojected, written, answer_of, IsAnswered}
 use Rattle.mg_projected.specs.inner.Stages.{Stage}
 

@@ -1,4 +1,4 @@
-use Rattle.std.proofs.Common.{refl, sym, ap}
+use Rattle.std.proofs.Common.{refl, ap}
 use Rattle.std.specs.Prelude.{option_map}
 use Rattle.mg_sources.specs.Faults.{fault_at}
 use Rattle.mg_projected.proofs.Telling.{named_refusal}
