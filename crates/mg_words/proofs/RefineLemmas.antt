@@ -1,5 +1,5 @@
 -- Which words are the command `refine`, and which can't follow.
-use Rattle.std.proofs.Common.{◌≡◌, List, [], ◌∷◌, ◌++◌, All, length, Some, None, codes, refl, sym, ap, ◌∙◌, subst}
+use Rattle.std.proofs.Common.{◌≡◌, List, [], ◌∷◌, All, length, Some, None, codes, refl, sym, ap, ◌∙◌, subst}
 use Rattle.mg_sources.specs.Files.{EndsWith}
 use Rattle.mg_words.specs.Words.{Word, Command, Translate, Conform, Check, Compile, Run, Exec, Refine, Project, IsFileOf, AreTwoTypestates, IsBehind, IsCommand, AreCommand, CanBegin, AreWrong}
 use Rattle.mg_words.proofs.Verbs.{refine, translate_refine, conform_refine, check_refine, compile_refine, run_refine, exec_refine, refine_project}

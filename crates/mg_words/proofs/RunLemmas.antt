@@ -8,7 +8,7 @@ use Rattle.mg_words.specs.declared.runs.Input.{Input}
 use Rattle.mg_words.specs.declared.runs.Input.TheVariants as input
 use Rattle.mg_words.specs.declared.options.Named.{Named}
 use Rattle.mg_words.specs.declared.options.Named.TheVariants as named
-use Rattle.mg_words.specs.Words.{Word, RoleClass, Roles, Alone, Several, role_names, Command, Translate, Conform, Check, Compile, Run, Exec, Refine, Project, Asked, RunOption, Main, Role, Order, Steps, Trace, Out, option_words, IsOption, AreOptions, IsBehind, IsCommand, AreCommand, CanBegin, AreWrong}
+use Rattle.mg_words.specs.Words.{Word, RoleClass, Roles, Alone, Several, role_names, Command, Translate, Conform, Check, Compile, Run, Exec, Refine, Project, Asked, RunOption, Main, Role, Order, Steps, Trace, Out, option_words, IsOption, AreOptions, IsCommand, AreCommand, CanBegin, AreWrong}
 use Rattle.mg_words.specs.inner.Judging.{IsFirstOther, has_name, AreGiven, word_of, kind_of, IsPlain, IsNewRole, Fits, IsNoValue, can_follow, are_whole, roles_more, with_more, made, verb_of, IsFor, AreFor, Keeps, is_barred}
 use Rattle.mg_words.proofs.WordsLemmas.{head_is, tail_is, filled, nothing_behind, All-first, All-rest, All-push, All-mid, none_yet, some_for, for_named, some_class, classed, pushed_filled, IsRunBehind, is_run, run_is, first_wrong, same_translate, same_conform, same_check, same_compile}
 use Rattle.mg_words.proofs.RefineLemmas.{same_refine}
