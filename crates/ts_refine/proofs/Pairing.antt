@@ -1,102 +1,129 @@
--- The pairs that were met and the steps to them, as two lists.
-use Rattle.std.proofs.Common.{◌≡◌, ℕ, zero, suc, ◌+◌, ◌*◌, ◌^◌, ◌<◌, Bool, false, List, [], ◌∷◌, ◌++◌, length, get_or, map, replicate, Option, Some, None, slice_get, refl, sym, ap, subst, ◌∙◌, arith}
+-- The pairs that were met: the first, and those of the visits.
+use Rattle.std.proofs.Common.{◌≡◌, ℕ, zero, suc, ◌+◌, ◌-◌, ◌*◌, ◌^◌, ◌<◌, ◌≤◌, Bool, true, false, List, [], ◌∷◌, ◌++◌, length, get_or, drop, map, replicate, take, Option, Some, None, if◌then◌else◌, slice_get, refl, sym, ap, subst, ◌∙◌, arith}
 use Rattle.std.specs.Prelude.{IfSome}
-use Rattle.std.proofs.lemmas.List.{length-append}
+use Rattle.std.proofs.lemmas.List.{at_drop_more, at_drop_all, take_more, take_all}
 use Rattle.std.proofs.lemmas.Option.{slice_get-get_or}
 use Rattle.mg_sets.specs.Sets.{has}
 use Rattle.ts_tree.specs.declared.parts.To.TheVariants as tos
 use Rattle.ts_refine.specs.declared.verdict.Pair.{Pair}
-use Rattle.ts_refine.specs.declared.search.Step.{Step}
-use Rattle.ts_refine.specs.inner.Judging.{holds}
-use Rattle.ts_refine.specs.inner.Keeping.{Met, call_by, met_by, mets, IsStepAt}
-use Rattle.ts_refine.specs.inner.Marking.{number, marked, IsKept}
+use Rattle.ts_refine.specs.declared.search.Visit.{Visit}
+use Rattle.ts_refine.specs.inner.Judging.{same_pair, holds}
+use Rattle.ts_refine.specs.inner.Keeping.{Met, call_by, met_first, met_of, mets, IsStepAt}
+use Rattle.ts_refine.specs.inner.Marking.{number, marked, IsSearch}
 use Rattle.ts_refine.proofs.Relating.{some_none}
 use Rattle.ts_refine.proofs.Marking.{search-blank, search-kept, marked-is}
 
-pub mets-pairs : (ps : List Pair) (ss : List Step) → length ps ≡ length ss → map (λ (m : Met). m.pair) (mets ps ss) ≡ ps
-mets-pairs [] ss e = refl
-mets-pairs (p ∷ ps) [] e = absurd (omega (arith, e))
-mets-pairs (p ∷ ps) (s ∷ ss) e = ap (λ (qs : List Pair). p ∷ qs) (mets-pairs ps ss (omega (arith, e)))
+pairs-later : (vs : List Visit) → map (λ (m : Met). m.pair) (map met_of vs) ≡ map (λ (v : Visit). v.pair) vs
+pairs-later [] = refl
+pairs-later (v ∷ vs) = ap (λ (ps : List Pair). v.pair ∷ ps) (pairs-later vs)
 
-pub mets-length : (ps : List Pair) (ss : List Step) → length ps ≡ length ss → length (mets ps ss) ≡ length ps
-mets-length [] ss e = refl
-mets-length (p ∷ ps) [] e = absurd (omega (arith, e))
-mets-length (p ∷ ps) (s ∷ ss) e = ap suc (mets-length ps ss (omega (arith, e)))
+pub mets-pairs : (p : Pair) (vs : List Visit) → map (λ (m : Met). m.pair) (mets p vs) ≡ p ∷ map (λ (v : Visit). v.pair) vs
+mets-pairs p vs = ap (λ (ps : List Pair). p ∷ ps) (pairs-later vs)
 
-mets-push : (ps : List Pair) (ss : List Step) (p : Pair) (s : Step) → length ps ≡ length ss
-    → mets (ps ++ p ∷ []) (ss ++ s ∷ []) ≡ mets ps ss ++ met_by p s ∷ []
-mets-push [] [] p s e = refl
-mets-push [] (t ∷ ss) p s e = absurd (omega (arith, e))
-mets-push (q ∷ ps) [] p s e = absurd (omega (arith, e))
-mets-push (q ∷ ps) (t ∷ ss) p s e = ap (λ (ms : List Met). met_by q t ∷ ms) (mets-push ps ss p s (omega (arith, e)))
+length-later : (vs : List Visit) → length (map met_of vs) ≡ length vs
+length-later [] = refl
+length-later (v ∷ vs) = ap suc (length-later vs)
 
-mets-at : (ps : List Pair) (ss : List Step) (i : ℕ) (s : Step) → length ps ≡ length ss → i < length ss → s ≡ get_or ss i s
-    → IsStepAt (mets ps ss) i s
-mets-at ps [] i s e lt is = absurd (omega (arith, lt))
-mets-at [] (t ∷ ss) i s e lt is = absurd (omega (arith, e))
-mets-at (p ∷ ps) (t ∷ ss) zero s e lt is = (ap (λ (s : Step). s.parent) (sym is), ap call_by (sym is))
-mets-at (p ∷ ps) (t ∷ ss) (suc i) s e lt is = mets-at ps ss i s (omega (arith, e)) (omega (arith, lt)) is
+push-later : (vs : List Visit) (v : Visit) → map met_of (vs ++ v ∷ []) ≡ map met_of vs ++ met_of v ∷ []
+push-later [] v = refl
+push-later (w ∷ vs) v = ap (λ (ms : List Met). met_of w ∷ ms) (push-later vs v)
+
+step-later : (vs : List Visit) (i : ℕ) (v : Visit) → i < length vs → v ≡ get_or vs i v → IsStepAt (map met_of vs) i v.step
+step-later [] i v lt is = absurd (omega (arith, lt))
+step-later (w ∷ vs) zero v lt is = (ap (λ (v : Visit). v.step.parent) (sym is), ap (λ (v : Visit). call_by v.step) (sym is))
+step-later (w ∷ vs) (suc i) v lt is = step-later vs i v (omega (arith, lt)) is
+
+pair-later : (vs : List Visit) (i : ℕ) (d : Visit) → i < length vs → slice_get (map (λ (v : Visit). v.pair) vs) i ≡ Some (get_or vs i d).pair
+pair-later [] i d lt = absurd (omega (arith, lt))
+pair-later (v ∷ vs) zero d lt = refl
+pair-later (v ∷ vs) (suc i) d lt = pair-later vs i d (omega (arith, lt))
 
 -- ---- with what the program knows
-pub kept-blank : (a b : ℕ) (marks : List Bool) (ps : List Pair) (ss : List Step) → a < 2 ^ 32 → b < 2 ^ 32
-    → marks ≡ replicate ((a + 1) * (b + 1)) false → ps ≡ [] → ss ≡ [] → IsKept a b marks ps ss
-kept-blank a b marks ps ss h k is e f = record {
-  even = ap length e ∙ sym (ap length f);
-  search = search-blank a b marks (mets ps ss) h k is (ap (λ (qs : List Pair). mets qs ss) e);
-}
+pub begun : (a b : ℕ) (blank marks : List Bool) (p : Pair) (vs : List Visit) (o : Option ℕ) → a < 2 ^ 32 → b < 2 ^ 32
+    → blank ≡ replicate ((a + 1) * (b + 1)) false → o ≡ number a b p → IfSome o (λ n. n < (a + 1) * (b + 1)) → marks ≡ marked blank o
+    → vs ≡ [] → IsSearch a b marks (mets p vs)
+begun a b blank marks p vs o h k is of bound e none =
+    search-kept a b blank marks [] (mets p vs) (met_first p) o (search-blank a b blank [] h k is refl) (λ lt. absurd (omega (arith, lt)))
+    (ap (λ (vs : List Visit). mets p vs) none) of bound e
 
-pub kept-same : (a b : ℕ) (marks : List Bool) (ps news : List Pair) (ss more : List Step) → IsKept a b marks ps ss → news ≡ ps
-    → more ≡ ss → IsKept a b marks news more
-kept-same a b marks ps news ss more k e f =
-    subst (λ (ss : List Step). IsKept a b marks news ss) (sym f) (subst (λ (ps : List Pair). IsKept a b marks ps ss) (sym e) k)
+pub kept-view : (p : Pair) (vs news : List Visit) (v : Visit) → news ≡ vs ++ v ∷ [] → mets p news ≡ mets p vs ++ met_of v ∷ []
+kept-view p vs news v e = ap (λ (ws : List Visit). mets p ws) e ∙ ap (λ (ms : List Met). met_first p ∷ ms) (push-later vs v)
 
-pub kept-view : (ps news : List Pair) (ss more : List Step) (p : Pair) (s : Step) → length ps ≡ length ss → news ≡ ps ++ p ∷ []
-    → more ≡ ss ++ s ∷ [] → mets news more ≡ mets ps ss ++ met_by p s ∷ []
-kept-view ps news ss more p s even e f =
-    ap (λ (qs : List Pair). mets qs more) e ∙ ap (mets (ps ++ p ∷ [])) f ∙ mets-push ps ss p s even
+pub kept-more : (a b : ℕ) (marks news_marks : List Bool) (p : Pair) (vs news : List Visit) (v : Visit) (o : Option ℕ)
+    → IsSearch a b marks (mets p vs) → v.step.parent < length (mets p vs) → news ≡ vs ++ v ∷ []
+    → o ≡ number a b v.pair → IfSome o (λ n. n < (a + 1) * (b + 1)) → news_marks ≡ marked marks o → IsSearch a b news_marks (mets p news)
+kept-more a b marks news_marks p vs news v o s fine e of bound is =
+    search-kept a b marks news_marks (mets p vs) (mets p news) (met_of v) o s (λ some. fine) (kept-view p vs news v e) of bound is
 
-pub kept-more : (a b : ℕ) (marks news_marks : List Bool) (ps news : List Pair) (ss more : List Step) (p : Pair) (s : Step) (o : Option ℕ)
-    → IsKept a b marks ps ss → (0 < length (mets ps ss) → s.parent < length (mets ps ss)) → news ≡ ps ++ p ∷ [] → more ≡ ss ++ s ∷ []
-    → o ≡ number a b p → IfSome o (λ n. n < (a + 1) * (b + 1)) → news_marks ≡ marked marks o → IsKept a b news_marks news more
-kept-more a b marks news_marks ps news ss more p s o k fine e f of bound is = record {
-  even = omega (arith, ap length e, length-append ps (p ∷ []), ap length f, length-append ss (s ∷ []), k.even);
-  search = search-kept a b marks news_marks (mets ps ss) (mets news more) (met_by p s) o k.search fine (kept-view ps news ss more p s k.even e f) of bound is;
-}
+pub kept-length : (p : Pair) (vs : List Visit) (n : ℕ) → n ≡ length vs → n + 1 ≡ length (mets p vs)
+kept-length p vs n is = omega (arith, is, length-later vs)
 
-pub kept-length : (a b : ℕ) (marks : List Bool) (ps : List Pair) (ss : List Step) (n : ℕ) → IsKept a b marks ps ss → n ≡ length ps
-    → n ≡ length (mets ps ss)
-kept-length a b marks ps ss n k is = is ∙ sym (mets-length ps ss k.even)
+pub first-pair : (p : Pair) (vs : List Visit) (i : ℕ) → i ≡ 0 → slice_get (map (λ (m : Met). m.pair) (mets p vs)) i ≡ Some p
+first-pair p vs i is = ap (λ k. slice_get (map (λ (m : Met). m.pair) (mets p vs)) k) is
 
-pub kept-within : (a b : ℕ) (marks : List Bool) (ps : List Pair) (ss : List Step) (i : ℕ) → IsKept a b marks ps ss
-    → i < length (mets ps ss) → i < length ps
-kept-within a b marks ps ss i k h = omega (arith, h, mets-length ps ss k.even)
+pub later-pair : (p : Pair) (vs : List Visit) (i : ℕ) (d : Visit) → 0 < i → i < length (mets p vs)
+    → slice_get (map (λ (m : Met). m.pair) (mets p vs)) i ≡ Some (get_or vs (i - 1) d).pair
+later-pair p vs zero d some h = absurd (omega (arith, some))
+later-pair p vs (suc i) d some h =
+    let k : suc i - 1 ≡ i = omega arith in
+    ap (λ (ps : List Pair). slice_get ps i) (pairs-later vs)
+    ∙ pair-later vs i d (omega (arith, h, length-later vs))
+    ∙ ap (λ j. Some (get_or vs j d).pair) (sym k)
 
-pub kept-pair : (a b : ℕ) (marks : List Bool) (ps xs : List Pair) (ss : List Step) (now : List Met) (i : ℕ) (d : Pair)
-    → IsKept a b marks ps ss → mets ps ss ≡ now → xs ≡ ps → i < length now
-    → slice_get (map (λ (m : Met). m.pair) now) i ≡ Some (get_or xs i d)
-kept-pair a b marks ps xs ss now i d k view is h =
-    ap (λ (ms : List Met). slice_get (map (λ (m : Met). m.pair) ms) i) (sym view)
-    ∙ ap (λ (qs : List Pair). slice_get qs i) (mets-pairs ps ss k.even)
-    ∙ slice_get-get_or ps i d (omega (arith, h, ap length view, mets-length ps ss k.even))
-    ∙ ap (λ (qs : List Pair). Some (get_or qs i d)) (sym is)
+pub later-within : (p : Pair) (vs : List Visit) (i : ℕ) → 0 < i → i < length (mets p vs) → i - 1 < length vs
+later-within p vs i some h = omega (arith, some, h, length-later vs)
 
-pub kept-step : (a b : ℕ) (marks : List Bool) (ps : List Pair) (ss : List Step) (i : ℕ) (s : Step) → IsKept a b marks ps ss
-    → i < length (mets ps ss) → s ≡ get_or ss i s → IsStepAt (mets ps ss) i s
-kept-step a b marks ps ss i s k h is = mets-at ps ss i s k.even (omega (arith, h, mets-length ps ss k.even, k.even)) is
+pub kept-step : (p : Pair) (vs : List Visit) (i : ℕ) (v : Visit) → 0 < i → i < length (mets p vs) → v ≡ get_or vs (i - 1) v
+    → IsStepAt (mets p vs) i v.step
+kept-step p vs zero v some h is = absurd (omega (arith, some))
+kept-step p vs (suc i) v some h is =
+    let k : suc i - 1 ≡ i = omega arith in
+    step-later vs i v (omega (arith, h, length-later vs)) (is ∙ ap (λ j. get_or vs j v) k)
 
-pub kept-earlier : (a b : ℕ) (marks : List Bool) (ps : List Pair) (ss : List Step) (i : ℕ) (s : Step) → IsKept a b marks ps ss
-    → i < length (mets ps ss) → s ≡ get_or ss i s → 0 < i → s.parent < i
-kept-earlier a b marks ps ss i s k h is some = go (slice_get (mets ps ss) i) refl (kept-step a b marks ps ss i s k h is) where
-  go : (o : Option Met) → slice_get (mets ps ss) i ≡ o → IfSome o (λ m. (m.parent ≡ s.parent) × (m.call ≡ call_by s)) → s.parent < i
-  go None e step = absurd (some_none (get_or (mets ps ss) i (met_by (record { a = tos.End; b = tos.End }) s)) (sym (slice_get-get_or (mets ps ss) i (met_by (record { a = tos.End; b = tos.End }) s) h) ∙ e))
-  go (Some m) e step = subst (λ p. p < i) step.0 (k.search.rooted.each i m e some)
+pub kept-earlier : (a b : ℕ) (marks : List Bool) (p : Pair) (vs : List Visit) (i : ℕ) (v : Visit) → IsSearch a b marks (mets p vs)
+    → 0 < i → i < length (mets p vs) → v ≡ get_or vs (i - 1) v → v.step.parent < i
+kept-earlier a b marks p vs i v s some h is = go (slice_get (mets p vs) i) refl (kept-step p vs i v some h is) where
+  go : (o : Option Met) → slice_get (mets p vs) i ≡ o → IfSome o (λ m. (m.parent ≡ v.step.parent) × (m.call ≡ call_by v.step)) → v.step.parent < i
+  go None e step = absurd (some_none (get_or (mets p vs) i (met_first p)) (sym (slice_get-get_or (mets p vs) i (met_first p) h) ∙ e))
+  go (Some m) e step = subst (λ p. p < i) step.0 (s.rooted.each i m e some)
 
-pub kept-marked : (a b : ℕ) (marks : List Bool) (ps : List Pair) (ss : List Step) (pair : Pair) (o : Option ℕ) (i : ℕ)
-    → IsKept a b marks ps ss → o ≡ number a b pair → o ≡ Some i → has marks i ≡ holds (map (λ (m : Met). m.pair) (mets ps ss)) pair
-kept-marked a b marks ps ss pair o i k of some = marked-is a b marks (mets ps ss) pair o i k.search of some
+pub kept-marked : (a b : ℕ) (marks : List Bool) (p : Pair) (vs : List Visit) (pair : Pair) (o : Option ℕ) (i : ℕ)
+    → IsSearch a b marks (mets p vs) → o ≡ number a b pair → o ≡ Some i → has marks i ≡ holds (map (λ (m : Met). m.pair) (mets p vs)) pair
+kept-marked a b marks p vs pair o i s of some = marked-is a b marks (mets p vs) pair o i s of some
 
-pub kept-along : (a b : ℕ) (marks : List Bool) (ps : List Pair) (ss : List Step) (pair : Pair) (r : Bool) → IsKept a b marks ps ss
-    → r ≡ holds ps pair → r ≡ holds (map (λ (m : Met). m.pair) (mets ps ss)) pair
-kept-along a b marks ps ss pair r k is = is ∙ ap (λ (qs : List Pair). holds qs pair) (sym (mets-pairs ps ss k.even))
+pub held-first : (p : Pair) (vs : List Visit) (pair : Pair) (r : Bool) → r ≡ same_pair p pair → r ≡ true
+    → true ≡ holds (map (λ (m : Met). m.pair) (mets p vs)) pair
+held-first p vs pair r is e = sym (ap (λ (t : Bool). if t then true else holds (map (λ (m : Met). m.pair) (map met_of vs)) pair) (sym is ∙ e))
 
-pub ruleset pairs = (kept-length, kept-within, kept-step, kept-earlier, kept-marked, kept-along)
+pub held-later : (p : Pair) (vs : List Visit) (pair : Pair) (r s : Bool) → r ≡ same_pair p pair → r ≡ false
+    → s ≡ holds (map (λ (v : Visit). v.pair) vs) pair → s ≡ holds (map (λ (m : Met). m.pair) (mets p vs)) pair
+held-later p vs pair r s is e of =
+    of ∙ ap (λ (ps : List Pair). holds ps pair) (sym (pairs-later vs))
+    ∙ sym (ap (λ (t : Bool). if t then true else holds (map (λ (m : Met). m.pair) (map met_of vs)) pair) (sym is ∙ e))
+
+-- ---- along the visits
+pub visits-drop : (vs : List Visit) (i : ℕ) (v : Visit) (wanted : Pair) → i < length vs → v ≡ get_or vs i v
+    → holds (map (λ (v : Visit). v.pair) (drop i vs)) wanted ≡
+    (if same_pair v.pair wanted then true else holds (map (λ (v : Visit). v.pair) (drop (i + 1) vs)) wanted)
+visits-drop vs i v wanted h e =
+    at_drop_more (λ ws. holds (map (λ (v : Visit). v.pair) ws) wanted) vs i v h
+    ∙ ap (λ (x : Visit). if same_pair x.pair wanted then true else holds (map (λ (v : Visit). v.pair) (drop (i + 1) vs)) wanted) (sym e)
+
+pub visits-past : (vs : List Visit) (i : ℕ) (wanted : Pair) → length vs ≤ i → holds (map (λ (v : Visit). v.pair) (drop i vs)) wanted ≡ false
+visits-past vs i wanted h = at_drop_all (λ ws. holds (map (λ (v : Visit). v.pair) ws) wanted) vs i h
+
+push-pairs : (vs : List Visit) (v : Visit) → map (λ (v : Visit). v.pair) (vs ++ v ∷ []) ≡ map (λ (v : Visit). v.pair) vs ++ v.pair ∷ []
+push-pairs [] v = refl
+push-pairs (w ∷ vs) v = ap (λ (ps : List Pair). w.pair ∷ ps) (push-pairs vs v)
+
+pub taken-more : (p : Pair) (vs : List Visit) (i : ℕ) (v : Visit) (ps : List Pair) → i < length vs → v ≡ get_or vs i v
+    → ps ≡ p ∷ map (λ (v : Visit). v.pair) (take i vs) → ps ++ v.pair ∷ [] ≡ p ∷ map (λ (v : Visit). v.pair) (take (i + 1) vs)
+taken-more p vs i v ps h is e =
+    ap (λ (qs : List Pair). qs ++ v.pair ∷ []) e
+    ∙ ap (λ (qs : List Pair). p ∷ qs) (sym (ap (map (λ (v : Visit). v.pair)) (take_more vs i v h ∙ ap (λ (w : Visit). take i vs ++ w ∷ []) (sym is)) ∙ push-pairs (take i vs) v))
+
+pub taken-all : (p : Pair) (vs : List Visit) (i : ℕ) (ps : List Pair) → length vs ≤ i
+    → ps ≡ p ∷ map (λ (v : Visit). v.pair) (take i vs) → ps ≡ p ∷ map (λ (v : Visit). v.pair) vs
+taken-all p vs i ps h e = e ∙ ap (λ (ws : List Visit). p ∷ map (λ (v : Visit). v.pair) ws) (take_all i vs h)
+
+pub ruleset pairs = (taken-more, taken-all, kept-length, first-pair, later-pair, later-within, kept-step, kept-earlier, kept-marked, held-first, held-later, visits-drop, visits-past)

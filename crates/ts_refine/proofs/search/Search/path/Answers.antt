@@ -6,11 +6,11 @@ use Rattle.ts_refine.proofs.Whole.{steps_back, back_ends}
 use Rattle.ts_refine.proofs.search.Search.path.Goals as goal
 
 pub loop-at-smaller : goal.loop-at-smaller
-loop-at-smaller c = c.step_at-step.ensures.earlier c.loop-at-test.true
+loop-at-smaller c = c.step_at-step.ensures.earlier
 
 pub loop-at-preserved : goal.loop-at-preserved
 loop-at-preserved c =
-    let earlier = c.step_at-step.ensures.earlier c.loop-at-test.true in
+    let earlier = c.step_at-step.ensures.earlier in
     record {
       within = omega (arith, earlier, c.loop-at.invariant.within);
       rest =
