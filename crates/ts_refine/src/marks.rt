@@ -7,6 +7,7 @@ use crate::Pair;
 use ts_tree::To;
 
 // The number of a place of so many states, the end after them; a state past them has none.
+#[inline(always)]
 fn place_number(count: usize, at: To) -> Option<usize>
     ensures value { result ≡ place_number count at }
     ensures bound { IfSome result (λ n. n ≤ count) }
@@ -21,6 +22,7 @@ fn place_number(count: usize, at: To) -> Option<usize>
 }
 
 // The number of a pair of places of so many states each.
+#[inline(always)]
 pub(crate) fn number(a: usize, b: usize, pair: Pair) -> Option<usize>
     requires a { a < 2 ^ 32 }
     requires b { b < 2 ^ 32 }

@@ -39,6 +39,7 @@ impl<'t> Lists<'t> {
     }
 
     // Where the labels of the method of this name stand at the first place.
+    #[inline(always)]
     pub(crate) fn labels_of_a(&self, method: &'t str) -> LabelPlaces<'t> {
         LabelPlaces {
             slots: self.slots,
@@ -49,6 +50,7 @@ impl<'t> Lists<'t> {
     }
 
     // Where the labels of the method of this name stand at the second place.
+    #[inline(always)]
     pub(crate) fn labels_of_b(&self, method: &'t str) -> LabelPlaces<'t> {
         LabelPlaces {
             slots: self.slots,
@@ -78,6 +80,7 @@ pub(crate) struct LabelPlaces<'t> {
 
 impl<'t> MethodPlaces<'t> {
     // The method of this name.
+    #[inline(always)]
     pub(crate) fn method_named<'a>(
         &mut self,
         methods: &'a [Method],
@@ -93,6 +96,7 @@ impl<'t> MethodPlaces<'t> {
 
     // Where the method of this name stands: behind or before the one that was found last, or where
     // the table or the list tells. No method stands there where there is none of this name.
+    #[inline(always)]
     fn place_in(&self, methods: &[Method], name: &str) -> usize
         requires { AreProper (map method_of methods.now) }
         ensures { option_map method_of (slice_get methods.now result) ≡ offered_in (map method_of methods.now) name.now }
@@ -157,6 +161,7 @@ impl<'t> LabelPlaces<'t> {
 }
 
 // Whether a method of this name stands there.
+#[inline(always)]
 fn stands_at(methods: &[Method], place: usize, name: &str) -> bool
     ensures { result ≡ stands_at methods.now place name.now }
 {
