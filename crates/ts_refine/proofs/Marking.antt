@@ -1,7 +1,7 @@
 -- Numbers tell pairs apart, and marks by them tell which pairs were met.
-use Rattle.std.proofs.Common.{◌≡◌, ◌≢◌, ℕ, zero, suc, ◌+◌, ◌*◌, ◌^◌, ◌<◌, Bool, true, false, List, [], ◌∷◌, ◌++◌, length, map, replicate, Option, Some, None, option_map, option_and_then, if◌then◌else◌, refl, sym, ap, subst, ◌∙◌, arith, inl, inr}
-use Rattle.std.specs.Prelude.{nat_lt, slice_set, IfSome}
-use Rattle.std.proofs.lemmas.Bool.{cases_eq, ltb-true}
+use Rattle.std.proofs.Common.{◌≡◌, ◌≢◌, ℕ, zero, suc, ◌+◌, ◌*◌, ◌^◌, ◌<◌, Bool, true, false, List, [], ◌∷◌, ◌++◌, length, map, Option, Some, None, option_map, option_and_then, if◌then◌else◌, refl, sym, ap, subst, ◌∙◌, arith, inl, inr}
+use Rattle.std.specs.Prelude.{nat_eq, nat_lt}
+use Rattle.std.proofs.lemmas.Bool.{cases_eq, ltb-true, eq-eqb, ne_eqb}
 use Rattle.std.proofs.lemmas.Option.{none-some}
 use Rattle.std.proofs.lemmas.List.{get_or-set_same, get_or-set_other}
 use Rattle.std.proofs.lemmas.Nat.{same_from_place}
@@ -136,60 +136,38 @@ rooted-more ms m r fine = record {
 rooted-none : AreRooted []
 rooted-none = record { each = λ i m e some. absurd (none-some m e) }
 
-length-blank : (n : ℕ) → length (replicate n false) ≡ n
-length-blank zero = refl
-length-blank (suc n) = ap suc (length-blank n)
+is-marked : (slot : Pair → Option ℕ) (before after : ℕ → Bool) (pairs : List Pair) → AreMarked slot before pairs
+    → ((k : ℕ) → after k ≡ before k) → AreMarked slot after pairs
+is-marked slot before after pairs m same = record { each = λ pair i e. same i ∙ m.each pair i e }
 
-blank-has : (n i : ℕ) → has (replicate n false) i ≡ false
-blank-has zero i = refl
-blank-has (suc n) zero = refl
-blank-has (suc n) (suc i) = blank-has n i
-
-pub search-blank : (a b : ℕ) (marks : List Bool) (ms : List Met) → a < 2 ^ 32 → b < 2 ^ 32 → marks ≡ replicate ((a + 1) * (b + 1)) false
-    → ms ≡ [] → IsSearch a b marks ms
-search-blank a b marks ms h k e none = record {
+pub search-blank : (a b : ℕ) (is : ℕ → Bool) (ms : List Met) → a < 2 ^ 32 → b < 2 ^ 32 → ((n : ℕ) → is n ≡ false) → ms ≡ []
+    → IsSearch a b is ms
+search-blank a b is ms h k blank none = record {
   few_a = h;
   few_b = k;
-  wide = ap length e ∙ length-blank ((a + 1) * (b + 1));
-  marked = subst (λ (ms : List Met). AreMarked (number a b) (has marks) (map (λ (m : Met). m.pair) ms)) (sym none) (blank-marked (number a b) (has marks) (λ i. ap (λ (marks : List Bool). has marks i) e ∙ blank-has ((a + 1) * (b + 1)) i));
+  marked = subst (λ (ms : List Met). AreMarked (number a b) is (map (λ (m : Met). m.pair) ms)) (sym none) (blank-marked (number a b) is blank);
   rooted = subst AreRooted (sym none) rooted-none;
 }
 
-pub search-more : (a b : ℕ) (marks : List Bool) (ms news : List Met) (m : Met) (o : Option ℕ) (i : ℕ) → IsSearch a b marks ms
-    → (0 < length ms → m.parent < length ms) → news ≡ ms ++ m ∷ [] → o ≡ number a b m.pair → o ≡ Some i → i < length marks
-    → IsSearch a b (slice_set marks i true) news
-search-more a b marks ms news m o i s fine is of some lt = subst (IsSearch a b (slice_set marks i true)) (sym is) (record {
-  few_a = s.few_a;
-  few_b = s.few_b;
-  wide = length-set marks i ∙ s.wide;
-  marked = subst (AreMarked (number a b) (has (slice_set marks i true))) (sym (pairs-met ms m)) (marked-more (number a b) (number_same a b) (has marks) (has (slice_set marks i true)) (map (λ (m : Met). m.pair) ms) m.pair i s.marked (sym of ∙ some)
-      (get_or-set_same marks i true false lt) (λ k ne. get_or-set_other marks i k true false ne));
-  rooted = rooted-more ms m s.rooted fine;
-}) where
-  length-set : (marks : List Bool) (i : ℕ) → length (slice_set marks i true) ≡ length marks
-  length-set [] i = refl
-  length-set (x ∷ marks) zero = refl
-  length-set (x ∷ marks) (suc i) = ap suc (length-set marks i)
+pairs-more : (a b : ℕ) (before after : ℕ → Bool) (pairs : List Pair) (pair : Pair) (o : Option ℕ) → AreMarked (number a b) before pairs
+    → number a b pair ≡ o → ((k : ℕ) → after k ≡ marked before o k) → AreMarked (number a b) after (pairs ++ pair ∷ [])
+pairs-more a b before after pairs pair None m of step =
+    is-marked (number a b) before after (pairs ++ pair ∷ []) (marked-past (number a b) before pairs pair m of) step
+pairs-more a b before after pairs pair (Some i) m of step =
+    marked-more (number a b) (number_same a b) before after pairs pair i m of (step i ∙ ap (λ (t : Bool). if t then true else before i) (eq-eqb i i refl))
+    (λ k ne. step k ∙ ap (λ (t : Bool). if t then true else before k) (ne_eqb i k (λ e. ne (sym e))))
 
-pub search-past : (a b : ℕ) (marks : List Bool) (ms news : List Met) (m : Met) (o : Option ℕ) → IsSearch a b marks ms
-    → (0 < length ms → m.parent < length ms) → news ≡ ms ++ m ∷ [] → o ≡ number a b m.pair → o ≡ None → IsSearch a b marks news
-search-past a b marks ms news m o s fine is of none = subst (IsSearch a b marks) (sym is) (record {
+pub search-kept : (a b : ℕ) (before after : ℕ → Bool) (ms news : List Met) (m : Met) (o : Option ℕ) → IsSearch a b before ms
+    → (0 < length ms → m.parent < length ms) → news ≡ ms ++ m ∷ [] → o ≡ number a b m.pair → ((k : ℕ) → after k ≡ marked before o k)
+    → IsSearch a b after news
+search-kept a b before after ms news m o s fine is of step = subst (IsSearch a b after) (sym is) (record {
   few_a = s.few_a;
   few_b = s.few_b;
-  wide = s.wide;
-  marked = subst (AreMarked (number a b) (has marks)) (sym (pairs-met ms m)) (marked-past (number a b) (has marks) (map (λ (m : Met). m.pair) ms) m.pair s.marked (sym of ∙ none));
+  marked = subst (AreMarked (number a b) after) (sym (pairs-met ms m)) (pairs-more a b before after (map (λ (m : Met). m.pair) ms) m.pair o s.marked (sym of) step);
   rooted = rooted-more ms m s.rooted fine;
 })
 
-pub search-kept : (a b : ℕ) (marks news_marks : List Bool) (ms news : List Met) (m : Met) (o : Option ℕ) → IsSearch a b marks ms
-    → (0 < length ms → m.parent < length ms) → news ≡ ms ++ m ∷ [] → o ≡ number a b m.pair → IfSome o (λ n. n < (a + 1) * (b + 1))
-    → news_marks ≡ marked marks o → IsSearch a b news_marks news
-search-kept a b marks news_marks ms news m o s fine is of bound e = subst (λ (z : List Bool). IsSearch a b z news) (sym e) (go o of bound) where
-  go : (o : Option ℕ) → o ≡ number a b m.pair → IfSome o (λ n. n < (a + 1) * (b + 1)) → IsSearch a b (marked marks o) news
-  go (Some i) of lt = search-more a b marks ms news m (Some i) i s fine is of refl (subst (λ w. i < w) (sym s.wide) lt)
-  go None of lt = search-past a b marks ms news m None s fine is of refl
-
 -- what is marked was met
-pub marked-is : (a b : ℕ) (marks : List Bool) (ms : List Met) (pair : Pair) (o : Option ℕ) (i : ℕ) → IsSearch a b marks ms
-    → o ≡ number a b pair → o ≡ Some i → has marks i ≡ holds (map (λ (m : Met). m.pair) ms) pair
-marked-is a b marks ms pair o i s of some = s.marked.each pair i (sym of ∙ some)
+pub marked-is : (a b : ℕ) (is : ℕ → Bool) (ms : List Met) (pair : Pair) (o : Option ℕ) (i : ℕ) → IsSearch a b is ms
+    → o ≡ number a b pair → o ≡ Some i → is i ≡ holds (map (λ (m : Met). m.pair) ms) pair
+marked-is a b is ms pair o i s of some = s.marked.each pair i (sym of ∙ some)

@@ -3,7 +3,6 @@ use Rattle.std.proofs.Common.{◌≡◌, ℕ, zero, suc, ◌+◌, ◌-◌, ◌*�
 use Rattle.std.specs.Prelude.{IfSome}
 use Rattle.std.proofs.lemmas.List.{at_drop_more, at_drop_all, take_more, take_all}
 use Rattle.std.proofs.lemmas.Option.{slice_get-get_or}
-use Rattle.mg_sets.specs.Sets.{has}
 use Rattle.ts_tree.specs.declared.parts.To.TheVariants as tos
 use Rattle.ts_refine.specs.declared.verdict.Pair.{Pair}
 use Rattle.ts_refine.specs.declared.search.Visit.{Visit}
@@ -39,21 +38,20 @@ pair-later (v ∷ vs) zero d lt = refl
 pair-later (v ∷ vs) (suc i) d lt = pair-later vs i d (omega (arith, lt))
 
 -- ---- with what the program knows
-pub begun : (a b : ℕ) (blank marks : List Bool) (p : Pair) (vs : List Visit) (o : Option ℕ) → a < 2 ^ 32 → b < 2 ^ 32
-    → blank ≡ replicate ((a + 1) * (b + 1)) false → o ≡ number a b p → IfSome o (λ n. n < (a + 1) * (b + 1)) → marks ≡ marked blank o
-    → vs ≡ [] → IsSearch a b marks (mets p vs)
-begun a b blank marks p vs o h k is of bound e none =
-    search-kept a b blank marks [] (mets p vs) (met_first p) o (search-blank a b blank [] h k is refl) (λ lt. absurd (omega (arith, lt)))
-    (ap (λ (vs : List Visit). mets p vs) none) of bound e
+pub begun : (a b : ℕ) (before after : ℕ → Bool) (p : Pair) (vs : List Visit) (o : Option ℕ) → a < 2 ^ 32 → b < 2 ^ 32
+    → ((n : ℕ) → before n ≡ false) → o ≡ number a b p → ((k : ℕ) → after k ≡ marked before o k) → vs ≡ [] → IsSearch a b after (mets p vs)
+begun a b before after p vs o h k blank of step none =
+    search-kept a b before after [] (mets p vs) (met_first p) o (search-blank a b before [] h k blank refl) (λ lt. absurd (omega (arith, lt)))
+    (ap (λ (vs : List Visit). mets p vs) none) of step
 
 pub kept-view : (p : Pair) (vs news : List Visit) (v : Visit) → news ≡ vs ++ v ∷ [] → mets p news ≡ mets p vs ++ met_of v ∷ []
 kept-view p vs news v e = ap (λ (ws : List Visit). mets p ws) e ∙ ap (λ (ms : List Met). met_first p ∷ ms) (push-later vs v)
 
-pub kept-more : (a b : ℕ) (marks news_marks : List Bool) (p : Pair) (vs news : List Visit) (v : Visit) (o : Option ℕ)
-    → IsSearch a b marks (mets p vs) → v.step.parent < length (mets p vs) → news ≡ vs ++ v ∷ []
-    → o ≡ number a b v.pair → IfSome o (λ n. n < (a + 1) * (b + 1)) → news_marks ≡ marked marks o → IsSearch a b news_marks (mets p news)
-kept-more a b marks news_marks p vs news v o s fine e of bound is =
-    search-kept a b marks news_marks (mets p vs) (mets p news) (met_of v) o s (λ some. fine) (kept-view p vs news v e) of bound is
+pub kept-more : (a b : ℕ) (before after : ℕ → Bool) (p : Pair) (vs news : List Visit) (v : Visit) (o : Option ℕ)
+    → IsSearch a b before (mets p vs) → v.step.parent < length (mets p vs) → news ≡ vs ++ v ∷ []
+    → o ≡ number a b v.pair → ((k : ℕ) → after k ≡ marked before o k) → IsSearch a b after (mets p news)
+kept-more a b before after p vs news v o s fine e of step =
+    search-kept a b before after (mets p vs) (mets p news) (met_of v) o s (λ some. fine) (kept-view p vs news v e) of step
 
 pub kept-length : (p : Pair) (vs : List Visit) (n : ℕ) → n ≡ length vs → n + 1 ≡ length (mets p vs)
 kept-length p vs n is = omega (arith, is, length-later vs)
@@ -80,15 +78,15 @@ kept-step p vs (suc i) v some h is =
     let k : suc i - 1 ≡ i = omega arith in
     step-later vs i v (omega (arith, h, length-later vs)) (is ∙ ap (λ j. get_or vs j v) k)
 
-pub kept-earlier : (a b : ℕ) (marks : List Bool) (p : Pair) (vs : List Visit) (i : ℕ) (v : Visit) → IsSearch a b marks (mets p vs)
+pub kept-earlier : (a b : ℕ) (marks : ℕ → Bool) (p : Pair) (vs : List Visit) (i : ℕ) (v : Visit) → IsSearch a b marks (mets p vs)
     → 0 < i → i < length (mets p vs) → v ≡ get_or vs (i - 1) v → v.step.parent < i
 kept-earlier a b marks p vs i v s some h is = go (slice_get (mets p vs) i) refl (kept-step p vs i v some h is) where
   go : (o : Option Met) → slice_get (mets p vs) i ≡ o → IfSome o (λ m. (m.parent ≡ v.step.parent) × (m.call ≡ call_by v.step)) → v.step.parent < i
   go None e step = absurd (some_none (get_or (mets p vs) i (met_first p)) (sym (slice_get-get_or (mets p vs) i (met_first p) h) ∙ e))
   go (Some m) e step = subst (λ p. p < i) step.0 (s.rooted.each i m e some)
 
-pub kept-marked : (a b : ℕ) (marks : List Bool) (p : Pair) (vs : List Visit) (pair : Pair) (o : Option ℕ) (i : ℕ)
-    → IsSearch a b marks (mets p vs) → o ≡ number a b pair → o ≡ Some i → has marks i ≡ holds (map (λ (m : Met). m.pair) (mets p vs)) pair
+pub kept-marked : (a b : ℕ) (marks : ℕ → Bool) (p : Pair) (vs : List Visit) (pair : Pair) (o : Option ℕ) (i : ℕ)
+    → IsSearch a b marks (mets p vs) → o ≡ number a b pair → o ≡ Some i → marks i ≡ holds (map (λ (m : Met). m.pair) (mets p vs)) pair
 kept-marked a b marks p vs pair o i s of some = marked-is a b marks (mets p vs) pair o i s of some
 
 pub held-first : (p : Pair) (vs : List Visit) (pair : Pair) (r : Bool) → r ≡ same_pair p pair → r ≡ true

@@ -1,9 +1,11 @@
 -- Pairs of places by numbers, and tables of marks by such numbers.
-use Rattle.std.specs.Prelude.{◌≡◌, ℕ, ◌+◌, ◌*◌, ◌/◌, ◌^◌, ◌<◌, Bool, List, length, map, Option, Some, None, option_map, option_and_then, slice_get, slice_set, nat_lt, true, if◌then◌else◌}
+use Rattle.std.specs.Prelude.{◌≡◌, ℕ, ◌+◌, ◌*◌, ◌/◌, ◌^◌, ◌<◌, Bool, List, length, map, Option, Some, None, option_map, option_and_then, slice_get, nat_eq, nat_lt, true, if◌then◌else◌}
 use Rattle.mg_sets.specs.Sets.{has}
 use Rattle.mg_sets.specs.Words.{bit}
 use Rattle.ts_tree.specs.declared.parts.To.{To}
 use Rattle.ts_tree.specs.declared.parts.To.TheVariants as tos
+use Rattle.std.specs.HashSet.{contains}
+use Rattle.ts_refine.specs.declared.marks.Marks.{Marks}
 use Rattle.ts_refine.specs.declared.verdict.Pair.{Pair}
 use Rattle.ts_refine.specs.inner.Judging.{holds}
 use Rattle.ts_refine.specs.inner.Keeping.{Met}
@@ -25,21 +27,24 @@ bit_number count a b pair = option_and_then (λ n. if nat_lt (n / 64) count then
 pub record AreMarked (slot : Pair → Option ℕ) (is_marked : ℕ → Bool) (pairs : List Pair) : Type 0 where
   pub each : (pair : Pair) (i : ℕ) → slot pair ≡ Some i → is_marked i ≡ holds pairs pair
 
--- the marks, with that of a number, if there is one
-abbrev pub marked : List Bool → Option ℕ → List Bool
-marked marks None = marks
-marked marks (Some n) = slice_set marks n true
+-- whether a number is marked
+abbrev pub is_marked : Marks → ℕ → Bool
+is_marked m n = if nat_lt n (length m.near) then has m.near n else contains nat_eq m.far n
+
+-- what is marked, with a number, if there is one
+abbrev pub marked : (ℕ → Bool) → Option ℕ → ℕ → Bool
+marked is None k = is k
+marked is (Some n) k = if nat_eq n k then true else is k
 
 -- each but the first was met from an earlier one
 pub record AreRooted (ms : List Met) : Type 0 where
   pub each : (i : ℕ) (m : Met) → slice_get ms i ≡ Some m → 0 < i → m.parent < i
 
 -- what was met, with its marks
-pub record IsSearch (a b : ℕ) (marks : List Bool) (ms : List Met) : Type 0 where
+pub record IsSearch (a b : ℕ) (is : ℕ → Bool) (ms : List Met) : Type 0 where
   pub few_a : a < 2 ^ 32
   pub few_b : b < 2 ^ 32
-  pub wide : length marks ≡ (a + 1) * (b + 1)
-  pub marked : AreMarked (number a b) (has marks) (map (λ m. m.pair) ms)
+  pub marked : AreMarked (number a b) is (map (λ m. m.pair) ms)
   pub rooted : AreRooted ms
 
 -- pairs of a list, with a bit for each that has one
