@@ -42,7 +42,7 @@ pub(crate) fn number(a: usize, b: usize, pair: Pair) -> Option<usize>
 const NEAR: usize = 0x100_0000;
 
 /// Which numbers are marked: a bit for each number below the width of the one set, and the numbers
-/// themselves from there on, so that marks take no more room than what is marked.
+/// themselves from there on, so that room is taken for what is marked, and not for all pairs.
 #[derive(Drop)]
 pub(crate) struct Marks {
     near: StateSet,
