@@ -1,8 +1,8 @@
 -- Roles that took steps alone before their turns came: the world differs from that of the turns in these roles alone, and the turn of another role does the same in both.
-use Rattle.std.proofs.Common.{◌≡◌, ◌≢◌, ◌⊎◌, inl, inr, ◌<◌, ◌+◌, ◌++◌, ℕ, zero, suc, List, length, map, set, get_or, replicate, slice_get, slice_set, Option, Some, None, true, false, refl, sym, ap, ◌∙◌, subst, arith}
+use Rattle.std.proofs.Common.{◌≡◌, ◌≢◌, ◌⊎◌, inl, inr, ◌<◌, ◌+◌, ◌++◌, ℕ, zero, suc, List, length, map, set, get_or, slice_get, slice_set, Option, Some, None, true, false, refl, sym, ap, ◌∙◌, subst, arith}
 use Rattle.std.specs.Prelude.{◌==◌}
 use Rattle.std.proofs.lemmas.Bool.Decides.{eqb_tells}
-use Rattle.std.proofs.lemmas.List.{get_or-set_same, get_or-set_other, length-replicate, length-set}
+use Rattle.std.proofs.lemmas.List.{get_or-set_same, get_or-set_other}
 use Rattle.std.proofs.lemmas.Option.{slice_get-get_or}
 use Rattle.vm_model.specs.Program.{Program}
 use Rattle.vm_model.specs.Messages.{Messages}
@@ -14,7 +14,7 @@ use Rattle.vm_world_law.specs.Turns.{Advances, StillAt, counted}
 use Rattle.vm_world_law.proofs.Lists.{some_is, set_here, set_there, set_long, get_within, got_within, same_at_each}
 use Rattle.vm_world_law.proofs.Moments.{still_turn}
 use Rattle.vm_world_law.proofs.Stopping.{turns_count}
-use Rattle.vm_world.specs.Alone.{StateAlone, RoleAlone, TurnsAlone, Counts, with_role}
+use Rattle.vm_world.specs.Alone.{StateAlone, RoleAlone, Counts, with_role}
 use Rattle.vm_world.proofs.Turning.{set_same}
 use Rattle.vm_world.proofs.Alone.{AllCount, running, by_roles, none_alone}
 

@@ -1,5 +1,5 @@
 -- What turns that are taken alone make of the world.
-use Rattle.std.proofs.Common.{◌≡◌, ℕ, zero, suc, ◌+◌, ◌<◌, List, [], ◌∷◌, ◌++◌, length, map, set, get_or, slice_get, slice_set, Option, Some, None, true, refl, sym, ap, ◌∙◌, subst, add-zero, add-suc, append-nil, ◌≤◌, ◌-◌, ◌^◌, Bool, false, IfSome, arith}
+use Rattle.std.proofs.Common.{◌≡◌, ℕ, zero, suc, ◌+◌, ◌<◌, List, [], ◌∷◌, length, set, get_or, slice_get, slice_set, Option, Some, None, true, refl, sym, ap, ◌∙◌, subst, add-zero, add-suc, append-nil, ◌≤◌, ◌-◌, ◌^◌, Bool, false, IfSome, arith}
 use Rattle.std.proofs.lemmas.List.{map-set}
 use Rattle.vm_model.specs.Program.{Program}
 use Rattle.vm_model.specs.Messages.{Messages}

@@ -1,4 +1,4 @@
-use Rattle.std.proofs.Common.{◌≡◌, ◌<◌, ◌≤◌, ℕ, get_or, length, refl, subst, arith}
+use Rattle.std.proofs.Common.{◌<◌, ◌≤◌, ℕ, get_or, length, refl, subst, arith}
 use Rattle.vm_world.specs.Alone.{Counts}
 use Rattle.vm_world.proofs.Going.{room, following_row, still_row}
 use Rattle.vm_world.proofs.world.World.run_one.Goals as goal

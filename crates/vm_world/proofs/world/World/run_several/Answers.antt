@@ -1,4 +1,4 @@
-use Rattle.std.proofs.Common.{◌≡◌, ◌<◌, ◌≤◌, ℕ, get_or, length, inl, inr, refl, subst, arith}
+use Rattle.std.proofs.Common.{◌<◌, ◌≤◌, ℕ, get_or, length, inl, inr, refl, subst, arith}
 use Rattle.vm_world.specs.Alone.{Counts}
 use Rattle.vm_world.proofs.Going.{zero_is}
 use Rattle.vm_world.proofs.Several.{begin_several, several_stopped, within_ahead, within_roles, taken_several, idle_several, down_several, room_several}
