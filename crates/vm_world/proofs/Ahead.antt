@@ -1,4 +1,5 @@
--- Roles that took steps alone before their turns came: the world differs from that of the turns in these roles alone, and the turn of another role does the same in both.
+-- Roles that took steps alone before their turns came: the world differs from that of the turns in these roles alone,
+-- and the turn of another role does the same in both.
 use Rattle.std.proofs.Common.{◌≡◌, ◌≢◌, ◌⊎◌, inl, inr, ◌<◌, ◌+◌, ◌++◌, ℕ, zero, suc, List, length, map, set, get_or, slice_get, slice_set, Option, Some, None, true, false, refl, sym, ap, ◌∙◌, subst, arith}
 use Rattle.std.specs.Prelude.{◌==◌}
 use Rattle.std.proofs.lemmas.Bool.Decides.{eqb_tells}
@@ -33,8 +34,7 @@ first_of p before after k h = by_states before.state after.state before.count af
     by_states : (s t : State) (c d : ℕ) → StateAlone p (suc k) s t → d ≡ c + suc k →
         FirstOf p (record { state = s; count = c }) k (record { state = t; count = d })
     by_states (Runs m) (Runs n) c d all more =
-        let f = first_step p m k n all in
-        (
+        let f = first_step p m k n all in (
           running f.0 (suc c),
           (
             record { state = (m, (refl, f.1.0)); count = (let e : suc c ≡ c + 1 = omega arith in e) },

@@ -13,7 +13,7 @@ mod_more k t n =
 mod_whole : (k n : ℕ) → (k + n) % n ≡ k % n
 mod_whole k n = ap (λ m. m % n) (let e : k + n ≡ 1 * n + k = omega arith in e) ∙ mul-add-mod_self_right 1 n k
 
--- A turn of the role comes after so many others, and where it is followed by one for each further cycle, there are as many as this before those that are left have ended.
+-- A turn of the role comes after so many others, and then one in each cycle: as many as this before those that are left have ended.
 pub record Comes (order : List ℕ) (next left role many : ℕ) : Type 0 where
   pub others : ℕ
   pub is : get_or order ((next + others) % length order) 0 ≡ role
@@ -126,7 +126,7 @@ pub behind_idle : (order : List ℕ) (next left role place : ℕ) (ahead : List 
 behind_idle order next left role place ahead within at following due none r = go (eqb_tells r role)
   where
     weaker : (many : ℕ) → IsDue order place (left - 1) r many → IsDue order place left r many
-    weaker many (inl zero_) = inl zero_
+    weaker many (inl zeros) = inl zeros
     weaker many (inr c) = inr (record { others = c.others; is = c.is; before = omega (arith, c.before) })
 
     go : ((r == role) ≡ true) × (r ≡ role) ⊎ ((r == role) ≡ false) × (r ≢ role) → IsDue order place left r (get_or ahead r 0)

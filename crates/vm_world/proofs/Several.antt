@@ -59,7 +59,10 @@ module _ (p : Program) (first : World) (order : List ℕ) (limit : ℕ) where
         same : (left ≡ 0) ⊎ (length order ≤ idle) → now.world ≡ h.so_far
         same (inl none) =
             caught_up p h.so_far now.world ahead h.world
-            (λ r k a b at is alone. absurd (let e : suc k ≡ 0 = sym is ∙ none_due order next r (get_or ahead r 0) (subst (λ n. AllDue order next n ahead) none h.due r) in omega (arith, e)))
+            (λ r k a b at is alone.
+            let zero_left : AllDue order next 0 ahead = subst (λ n. AllDue order next n ahead) none h.due in
+            let e : suc k ≡ 0 = sym is ∙ none_due order next r (get_or ahead r 0) (zero_left r) in
+            absurd (omega (arith, e)))
         same (inr enough) =
             rests_caught_up p h.so_far now.world ahead h.world
             (rest_moment p first order limit h.going.since idle h.so_far h.going.moment
@@ -110,7 +113,7 @@ module _ (p : Program) (first : World) (order : List ℕ) (limit : ℕ) where
             Several p first order limit after ahead left (idle + 1) place
         idle_several none a =
             let i = idles p h.so_far now.world ahead h.world role lt_so_far none after.world
-                (subst (λ (q : Program). Advances q now.world role after.world false) h.program a) in
+            (subst (λ (q : Program). Advances q now.world role after.world false) h.program a) in
             record {
               so_far = h.so_far;
               going = following_idle p first order limit before left idle next h.going more role at before place refl i.0 following;

@@ -99,7 +99,13 @@ impl World {
 
     /// Turns of several roles. `ahead` says of each how many turns it is ahead of those that were
     /// counted, which is none at first.
-    fn run_several(&mut self, alloc: Global, order: &[u32], limit: u32, ahead: &mut [u32]) -> Result<(), Memory>
+    fn run_several(
+        &mut self,
+        alloc: Global,
+        order: &[u32],
+        limit: u32,
+        ahead: &mut [u32],
+    ) -> Result<(), Memory>
         requires numbers { (i : ℕ) (r : ℕ) → slice_get order.now i ≡ Some r → r < length self.old.world.roles }
         requires named { (r : ℕ) → r < length self.old.world.roles → Contains order.now r }
         requires fresh { counted self.old.world ≡ 0 }
