@@ -1,7 +1,6 @@
 -- What turns that are taken alone make of the world.
-use Rattle.std.proofs.Common.{◌≡◌, ℕ, zero, suc, ◌+◌, ◌<◌, List, [], ◌∷◌, ◌++◌, length, map, set, get_or, slice_get, slice_set, Option, Some, None, true, refl, sym, ap, ◌∙◌, subst, add-zero, add-suc, append-nil, ◌≤◌, ◌-◌, ◌^◌, Bool, false, IfSome, arith}
+use Rattle.std.proofs.Common.{◌≡◌, ℕ, zero, suc, ◌+◌, ◌<◌, List, [], ◌∷◌, length, set, get_or, slice_get, slice_set, Option, Some, None, true, refl, sym, ap, ◌∙◌, subst, add-zero, add-suc, append-nil, ◌≤◌, ◌-◌, ◌^◌, Bool, false, IfSome, arith}
 use Rattle.std.proofs.lemmas.List.{map-set}
-use Rattle.mg_text.specs.declared.event.Ending.{Ending}
 use Rattle.vm_model.specs.Program.{Program}
 use Rattle.vm_model.specs.Messages.{Messages}
 use Rattle.vm_model.specs.Machine.{Machine, Stepped, Went}
@@ -15,7 +14,7 @@ use Rattle.vm_world_law.proofs.Moments.{went}
 use Rattle.vm_world.specs.declared.role.Role.{Role}
 use Rattle.vm_world.specs.View.{role_of, roles_of}
 use Rattle.vm_world.specs.Seen.{Seen}
-use Rattle.vm_world.specs.Alone.{StateAlone, RoleAlone, TurnsAlone, Counts}
+use Rattle.vm_world.specs.Alone.{StateAlone, RoleAlone, TurnsAlone, Counts, with_role}
 use Rattle.vm_world.proofs.Turning.{set_same, role_there}
 
 get_set : {A : Type 0} (xs : List A) (i : ℕ) (x y : A) → slice_get xs i ≡ Some x → slice_get (slice_set xs i y) i ≡ Some y
@@ -28,12 +27,13 @@ set_set [] i x y = refl
 set_set (z ∷ xs) zero x y = refl
 set_set (z ∷ xs) (suc i) x y = ap (λ l. z ∷ l) (set_set xs i x y)
 
--- the world with another role at a place
-abbrev pub with_role : World → ℕ → model.Role → World
-with_role w r role = record { roles = slice_set w.roles r role; messages = w.messages; events = w.events }
-
-abbrev running : Machine → ℕ → model.Role
+abbrev pub running : Machine → ℕ → model.Role
 running m count = record { state = Runs m; count = count }
+
+-- so many turns of a role, each of which counts
+abbrev pub AllCount : Program → World → (r k : ℕ) → World → Type 0
+AllCount p w r zero v = v ≡ w
+AllCount p w r (suc k) v = (u : World) × (AllCount p w r k u × Advances p u r v true)
 
 module _ (p : Program) (w : World) (r : ℕ) where
   -- a step alone is a turn that counts
@@ -51,7 +51,7 @@ module _ (p : Program) (w : World) (r : ℕ) where
       subst (λ (v : World). Advances p u r v true) (sym goes) (went p u r answer)
 
   turns_of : (m : Machine) (count k : ℕ) (n : Machine) → slice_get w.roles r ≡ Some (running m count) → AllAlone p m k n →
-      TurnsAlone p w r k (with_role w r (running n (count + k)))
+      AllCount p w r k (with_role w r (running n (count + k)))
   turns_of m count zero n at same =
       ap (λ l. record { roles = l; messages = w.messages; events = w.events })
       (ap (slice_set w.roles r) (ap (λ x. running x (count + 0)) same ∙ ap (running m) (add-zero count))
@@ -66,46 +66,78 @@ module _ (p : Program) (w : World) (r : ℕ) where
   )
 
   by_states : (k : ℕ) (s t : State) (c d : ℕ) → slice_get w.roles r ≡ Some (record { state = s; count = c }) → StateAlone p k s t → d ≡ c + k →
-      TurnsAlone p w r k (with_role w r (record { state = t; count = d }))
+      AllCount p w r k (with_role w r (record { state = t; count = d }))
   by_states k (Runs m) (Runs n) c d at h more =
-      subst (λ e. TurnsAlone p w r k (with_role w r (running n e))) (sym more) (turns_of m c k n at h)
+      subst (λ e. AllCount p w r k (with_role w r (running n e))) (sym more) (turns_of m c k n at h)
   by_states k (Runs m) (Over ending) c d at h more = absurd h
   by_states k (Over ending) t c d at h more =
       let none : d ≡ c = more ∙ ap (λ j. c + j) h.0 ∙ add-zero c in
-      subst (λ j. TurnsAlone p w r j (with_role w r (record { state = t; count = d }))) (sym h.0)
+      subst (λ j. AllCount p w r j (with_role w r (record { state = t; count = d }))) (sym h.0)
       (ap (λ l. record { roles = l; messages = w.messages; events = w.events })
       (ap (slice_set w.roles r) (ap (λ x. record { state = x; count = d }) h.1 ∙ ap (λ e. record { state = Over ending; count = e }) none)
       ∙ set_same w.roles r (record { state = Over ending; count = c }) at))
 
-  pub by_roles : (k : ℕ) (before after : model.Role) → slice_get w.roles r ≡ Some before → RoleAlone p before k after → TurnsAlone p w r k (with_role w r after)
+  pub by_roles : (k : ℕ) (before after : model.Role) → slice_get w.roles r ≡ Some before → RoleAlone p before k after → AllCount p w r k (with_role w r after)
   by_roles k before after at h = by_states k before.state after.state before.count after.count at h.state h.count
+
+  pub all_count : (k : ℕ) (v : World) → TurnsAlone p w r k v → AllCount p w r k v
+  all_count k v t = subst (λ (u : World). AllCount p w r k u) (sym t.is) (by_roles k t.before t.after t.there t.alone)
+
+-- no step alone changes nothing
+pub none_alone : (p : Program) (before after : model.Role) → RoleAlone p before 0 after → after ≡ before
+none_alone p before after h = by_states before.state after.state before.count after.count h.state h.count
+  where
+    same_count : (s : State) (c d : ℕ) → d ≡ c + 0 → ◌≡◌ {A = model.Role} (record { state = s; count = d }) (record { state = s; count = c })
+    same_count s c d more = ap (λ e. record { state = s; count = e }) (more ∙ add-zero c)
+
+    by_states : (s t : State) (c d : ℕ) → StateAlone p 0 s t → d ≡ c + 0 →
+        ◌≡◌ {A = model.Role} (record { state = t; count = d }) (record { state = s; count = c })
+    by_states (Runs m) (Runs n) c d same more = ap (λ x. running x d) same ∙ same_count (Runs m) c d more
+    by_states (Runs m) (Over ending) c d same more = absurd same
+    by_states (Over ending) t c d same more = ap (λ x. record { state = x; count = d }) same.1 ∙ same_count (Over ending) c d more
 
 -- the same of the program's list of roles
 pub turns_world : (p : Program) (roles : List Role) (i : ℕ) (old : Role) → i < length roles → old ≡ get_or roles i old → (q : Messages)
     (events : List RoleEvent) (new : Role) (k : ℕ) → RoleAlone p (role_of old) k (role_of new) →
     TurnsAlone p (record { roles = roles_of roles; messages = q; events = events }) i k
     (record { roles = roles_of (set roles i new); messages = q; events = events })
-turns_world p roles i old lt is q events new k h =
-    let w : World = record { roles = roles_of roles; messages = q; events = events } in
-    subst (λ l. TurnsAlone p w i k (record { roles = l; messages = q; events = events })) (sym (map-set role_of roles i new))
-    (by_roles p w i k (role_of old) (role_of new) (role_there roles i old lt is) h)
+turns_world p roles i old lt is q events new k h = record {
+  before = role_of old;
+  after = role_of new;
+  there = role_there roles i old lt is;
+  alone = h;
+  is = ap (λ l. record { roles = l; messages = q; events = events }) (map-set role_of roles i new);
+}
 
 -- some turns that were taken alone count
 pub counts_some : (p : Program) (w v : World) (r k : ℕ) → 0 < k → TurnsAlone p w r k v → Counts p w r k v
 counts_some p w v r zero some h = absurd (omega (arith, some))
-counts_some p w v r (suc k) some h = h
+counts_some p w v r (suc zero) some h = one (all_count p w r 1 v h)
+  where
+    one : AllCount p w r 1 v → Advances p w r v true
+    one (u, (same, a)) = subst (λ (x : World). Advances p x r v true) same a
+counts_some p w v r (suc (suc k)) some h = h
+
+-- turns that count, one after another
+pub all_of_counts : (p : Program) (w v : World) (r k : ℕ) → Counts p w r (suc k) v → AllCount p w r (suc k) v
+all_of_counts p w v r zero h = (w, (refl, h))
+all_of_counts p w v r (suc k) h = all_count p w r (suc (suc k)) v h
 
 -- where none was nothing has changed
 pub none_taken : (before after : Seen) (r k : ℕ) → after.program ≡ before.program → TurnsAlone before.program before.world r k after.world → k ≤ 0 →
     after ≡ before
-none_taken before after r zero same h none = λ i. record { program = same i; world = h i }
+none_taken before after r zero same h none =
+    let w : World = before.world in
+    let unchanged : after.world ≡ w =
+    h.is ∙ ap (with_role w r) (none_alone before.program h.before h.after h.alone)
+    ∙ ap (λ l. record { roles = l; messages = w.messages; events = w.events }) (set_same w.roles r h.before h.there) in
+    λ i. record { program = same i; world = unchanged i }
 none_taken before after r (suc k) same h none = absurd (omega (arith, none))
 
 -- a turn by the general tests, behind none that was taken alone
 pub counts_one : (before now : Seen) (r : ℕ) (v : World) (b : Bool) → now ≡ before → b ≡ true → Advances now.program now.world r v b →
     Counts before.program before.world r 1 v
-counts_one before now r v true same e a =
-    (before.world, (refl, subst (λ (s : Seen). Advances s.program s.world r v true) same a))
+counts_one before now r v true same e a = subst (λ (s : Seen). Advances s.program s.world r v true) same a
 counts_one before now r v false same e a = absurd (cc e)
 
 pub counts_none : (before now : Seen) (r : ℕ) (v : World) (b : Bool) → now ≡ before → b ≡ false → Advances now.program now.world r v b →

@@ -6,7 +6,8 @@ use Rattle.vm_model.specs.Program.{Program}
 use Rattle.vm_world_law.specs.World.{Role, World, turn, Rests}
 use Rattle.vm_world_law.specs.Turns.{role_of_turn, counted, StopsAt, IsRun, StillAt}
 use Rattle.vm_world_law.specs.Turns.{Advances}
-use Rattle.vm_world.specs.Alone.{TurnsAlone, Counts}
+use Rattle.vm_world.specs.Alone.{Counts}
+use Rattle.vm_world.proofs.Alone.{AllCount, all_of_counts}
 use Rattle.vm_world_law.proofs.Moments.{Moment, first_moment, idle_moment, count_moment, rest_moment, run_here, count_within}
 use Rattle.vm_world_law.proofs.Stopping.{turn_long}
 use Rattle.vm_world.specs.Seen.{Seen}
@@ -109,39 +110,40 @@ module _ (p : Program) (first : World) (order : List ℕ) (limit : ℕ) where
       go None at = tt
       go (Some role) at = let le = count_within now.world.roles r role at in omega (arith, le, h.left_is, within, fits)
 
-  -- Turns that are taken alone.
+  -- Turns in a row, in an order of one role.
   module _ (now : Seen) (left idle next : ℕ) (h : Going p first order limit now left idle next) (more : idle < length order)
-      (role : ℕ) (at : role ≡ get_or order next 0) where
-    -- in an order of one role the next is the same
-    stays : length order ≡ 1 → next ≡ (next + 1) % length order
-    stays one =
+      (role : ℕ) (at : role ≡ get_or order next 0) (one : length order ≡ 1) where
+    -- the next is the same
+    stays : next ≡ (next + 1) % length order
+    stays =
         let lt : next < 1 = subst (λ n. next < n) one (in_order now left idle next h more) in
         let e : next ≡ (next + 1) % 1 = omega arith in
         subst (λ n. next ≡ (next + 1) % n) (sym one) e
 
-    in_a_row : (k : ℕ) (after : Seen) → after.program ≡ now.program → TurnsAlone now.program now.world role (suc k) after.world → suc k ≤ left →
-        length order ≡ 1 → Going p first order limit after (left - suc k) 0 next
-    in_a_row zero after same (u, (t, a)) le one =
+    in_a_row : (k : ℕ) (after : Seen) → after.program ≡ now.program → AllCount now.program now.world role (suc k) after.world → suc k ≤ left →
+        Going p first order limit after (left - suc k) 0 next
+    in_a_row zero after same (u, (t, a)) le =
         following_count now left idle next h more role at after next same
-        (subst (λ (w : World). Advances now.program w role after.world true) t a) (stays one) (omega (arith, le))
-    in_a_row (suc k) after same (u, (t, a)) le one =
+        (subst (λ (w : World). Advances now.program w role after.world true) t a) stays (omega (arith, le))
+    in_a_row (suc k) after same (u, (t, a)) le =
         let s : Seen = record { program = now.program; world = u } in
         let some : 0 < length order = omega (arith, one) in
         let fewer : left - suc k - 1 ≡ left - suc (suc k) = omega arith in
         subst (λ n. Going p first order limit after n 0 next) fewer
-        (following_count s (left - suc k) 0 next (in_a_row k s refl t (omega (arith, le)) one) some role at after next same a (stays one) (omega (arith, le)))
+        (following_count s (left - suc k) 0 next (in_a_row k s refl t (omega (arith, le))) some role at after next same a stays (omega (arith, le)))
 
-    -- as many as may be taken in a row
-    pub following_alone : (k most : ℕ) (after : Seen) (place : ℕ) → after.program ≡ now.program → Counts now.program now.world role k after.world →
-        0 < k → k ≤ most → most ≤ left → (length order ≡ 1) ⊎ (most ≡ 1) → place ≡ (next + 1) % length order →
-        Going p first order limit after (left - k) 0 place
-    following_alone zero most after place same t pos within fits alone is = absurd (omega (arith, pos))
-    following_alone (suc k) most after place same t pos within fits (inl one) is =
-        subst (λ n. Going p first order limit after (left - suc k) 0 n) (stays one ∙ sym is) (in_a_row k after same t (omega (arith, within, fits)) one)
-    following_alone (suc zero) most after place same (u, (t, a)) pos within fits (inr one) is =
-        following_count now left idle next h more role at after place same
-        (subst (λ (w : World). Advances now.program w role after.world true) t a) is (omega (arith, fits, one))
-    following_alone (suc (suc k)) most after place same t pos within fits (inr one) is = absurd (omega (arith, within, one))
+    pub following_row : (k : ℕ) (after : Seen) → after.program ≡ now.program → Counts now.program now.world role k after.world → 0 < k → k ≤ left →
+        Going p first order limit after (left - k) 0 next
+    following_row zero after same t some le = absurd (omega (arith, some))
+    following_row (suc k) after same t some le =
+        in_a_row k after same (all_of_counts now.program now.world after.world role k t) le
+
+    -- the role is found still, and with it all
+    pub still_row : (after : Seen) → after.program ≡ now.program → Advances now.program now.world role after.world false →
+        ((r : ℕ) → r < length first.roles → Contains order r) → IsRun p first order limit after.world
+    still_row after same a named =
+        stopped after left (idle + 1) next (following_idle now left idle next h more role at after next same a stays) named
+        (inr (omega (arith, one)))
 
 at_least : (k m : ℕ) → 0 < k → m ≤ k * m
 at_least zero m pos = absurd (omega (arith, pos))

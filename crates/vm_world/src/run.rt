@@ -1,8 +1,13 @@
 //! A run of several roles: turns in an order that is repeated as a cycle.
 //! It stops where the world rests, which a whole cycle of turns that change nothing shows, or where
 //! so many instructions were counted.
+//!
+//! Steps that a role takes alone change nothing but its machine, so they are the same whether the
+//! turns of other roles come before them or behind. A role whose turn comes takes as many of them at
+//! once as turns of its own are sure to come, and is then that many turns ahead: when they come
+//! they are counted, and nothing is left to do.
 
-ghost use Rattle.std.specs.Prelude.{◌≡◌, ◌⊎◌, ◌<◌, ◌≤◌, ◌^◌, ◌-◌, ◌+◌, ◌%◌, ℕ, Contains, length, slice_get, IfOk, IfSome};
+ghost use Rattle.std.specs.Prelude.{◌≡◌, ◌⊎◌, ◌<◌, ◌≤◌, ◌^◌, ◌-◌, ◌+◌, ◌*◌, ◌%◌, ℕ, Contains, length, replicate, slice_get, IfOk, IfSome};
 ghost use Rattle.vm_world_law.specs.Turns.{counted, Advances, IsRun};
 ghost use Rattle.vm_world.specs.Alone.{Counts};
 
@@ -16,18 +21,21 @@ fn following(place: usize, count: usize) -> usize
     requires { place < count }
     ensures { result ≡ (place + 1) % count }
 {
-    (place + 1) % count
+    let behind = place + 1;
+    if behind < count { behind } else { 0 }
 }
 
-/// How many turns in a row a role may take, in an order of so many: where it is alone all that are
-/// left.
-fn most_in_a_row(count: usize, left: u32) -> u32
-    requires { 0 < left }
+/// How many turns a role may take at once, in an order of so many of which so many are left: no more
+/// than whole cycles, in each of which one of its own comes.
+fn most_at_once(count: usize, left: u32) -> u32
+    requires count { 0 < count }
+    requires some { 0 < left }
     ensures some { 0 < result }
     ensures within { result ≤ left }
-    ensures alone { (count ≡ 1) ⊎ (result ≡ 1) }
+    ensures come { (result ≡ 1) ⊎ (result * count ≤ left) }
 {
-    if count == 1 { left } else { 1 }
+    let cycles = left as usize / count;
+    if cycles > 1 { cycles as u32 } else { 1 }
 }
 
 impl World {
@@ -67,6 +75,69 @@ impl World {
         if counted { Ok(1) } else { Ok(0) }
     }
 
+    /// Turns of one role, up to the first moment at which it rests or `limit` instructions were
+    /// counted.
+    fn run_one(&mut self, alloc: Global, order: &[u32], limit: u32) -> Result<(), Memory>
+        requires one { length order.now ≡ 1 }
+        requires numbers { (i : ℕ) (r : ℕ) → slice_get order.now i ≡ Some r → r < length self.old.world.roles }
+        requires named { (r : ℕ) → r < length self.old.world.roles → Contains order.now r }
+        requires fresh { counted self.old.world ≡ 0 }
+        ensures program { self.new.program ≡ self.old.program }
+        ensures run { IfOk result (λ u. IsRun self.old.program self.old.world order.now limit self.new.world) }
+    {
+        let role = order[0];
+        let mut left = limit;
+        while left > 0 {
+            let counted = self.take_turns(alloc, role, left)?;
+            if counted == 0 {
+                return Ok(());
+            }
+            left -= counted;
+        }
+        Ok(())
+    }
+
+    /// Turns of several roles. `ahead` says of each how many turns it is ahead of those that were
+    /// counted, which is none at first.
+    fn run_several(
+        &mut self,
+        alloc: Global,
+        order: &[u32],
+        limit: u32,
+        ahead: &mut [u32],
+    ) -> Result<(), Memory>
+        requires numbers { (i : ℕ) (r : ℕ) → slice_get order.now i ≡ Some r → r < length self.old.world.roles }
+        requires named { (r : ℕ) → r < length self.old.world.roles → Contains order.now r }
+        requires fresh { counted self.old.world ≡ 0 }
+        requires ahead { ahead.old ≡ replicate (length self.old.world.roles) 0 }
+        ensures program { self.new.program ≡ self.old.program }
+        ensures run { IfOk result (λ u. IsRun self.old.program self.old.world order.now limit self.new.world) }
+    {
+        let mut left = limit;
+        let mut idle = 0;
+        let mut next = 0;
+        while left > 0 && idle < order.len() {
+            let role = order[next];
+            let place = role as usize;
+            next = following(next, order.len());
+            if ahead[place] > 0 {
+                ahead[place] -= 1;
+                left -= 1;
+                idle = 0;
+                continue;
+            }
+            let counted = self.take_turns(alloc, role, most_at_once(order.len(), left))?;
+            if counted == 0 {
+                idle += 1;
+                continue;
+            }
+            ahead[place] = counted - 1;
+            left -= 1;
+            idle = 0;
+        }
+        Ok(())
+    }
+
     /// Takes turns in this order, repeated as a cycle, up to the first moment at which the world
     /// rests or `limit` instructions were counted.
     ///
@@ -79,21 +150,10 @@ impl World {
         ensures program { self.new.program ≡ self.old.program }
         ensures run { IfOk result (λ u. IsRun self.old.program self.old.world order.now limit self.new.world) }
     {
-        let mut left = limit;
-        let mut idle = 0;
-        let mut next = 0;
-        while left > 0 && idle < order.len() {
-            let role = order[next];
-            next = following(next, order.len());
-            let most = most_in_a_row(order.len(), left);
-            let counted = self.take_turns(alloc, role, most)?;
-            if counted > 0 {
-                left -= counted;
-                idle = 0;
-                continue;
-            }
-            idle += 1;
+        if order.len() == 1 {
+            return self.run_one(alloc, order, limit);
         }
-        Ok(())
+        let mut ahead = vec![in alloc; 0u32; self.roles.len()]?;
+        self.run_several(alloc, order, limit, ahead.as_mut_slice())
     }
 }

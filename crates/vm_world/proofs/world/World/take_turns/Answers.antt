@@ -1,6 +1,5 @@
 -- Where no turn was taken alone nothing has changed, and the role takes its turn by the general tests.
-use Rattle.std.proofs.Common.{◌≡◌, Bool, true, false, ◌<◌, ◌^◌, ◌-◌, length, slice_get, IfSome, refl, sym, subst}
-use Rattle.vm_world_law.specs.Turns.{Advances}
+use Rattle.std.proofs.Common.{◌≡◌, ◌<◌, ◌^◌, ◌-◌, length, slice_get, IfSome, sym, subst}
 use Rattle.vm_world.specs.Seen.{Seen}
 use Rattle.vm_world.proofs.Alone.{counts_some, counts_one, counts_none, none_taken, still_room}
 use Rattle.vm_world.proofs.world.World.take_turns.Goals as goal

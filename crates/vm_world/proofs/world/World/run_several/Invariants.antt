@@ -1,9 +1,9 @@
 use Rattle.std.proofs.Common.{◌+◌, ◌-◌, ◌*◌, length}
-use Rattle.vm_world.proofs.Going.{Going}
-use Rattle.vm_world.proofs.world.World.run.Given as goal
+use Rattle.vm_world.proofs.Several.{Several}
+use Rattle.vm_world.proofs.world.World.run_several.Given as goal
 
 abbrev pub invariant-loop-left : goal.invariant-loop-left
-invariant-loop-left l = Going l.fn.self.program l.fn.self.world l.order l.limit l.self l.left l.idle l.next
+invariant-loop-left l = Several l.fn.self.program l.fn.self.world l.order l.limit l.self l.ahead l.left l.idle l.next
 
 abbrev pub decreases-loop-left : goal.decreases-loop-left
 decreases-loop-left l = l.left * (length l.order + 1) + (length l.order - l.idle)
