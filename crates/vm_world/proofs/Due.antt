@@ -3,7 +3,7 @@ use Rattle.std.proofs.Common.{◌≡◌, ◌≢◌, ◌⊎◌, inl, inr, ◌<◌
 use Rattle.std.specs.Prelude.{◌==◌}
 use Rattle.std.proofs.lemmas.Bool.Decides.{eqb_tells}
 use Rattle.std.proofs.lemmas.List.{get_or-set_same, get_or-set_other}
-use Rattle.std.proofs.Math.Nat.{add-mul, div-add-mod', mul-add-mod_self_right}
+use Rattle.std.proofs.Math.Nat.{div-add-mod', mul-add-mod_self_right}
 
 mod_more : (k t n : ℕ) → (k % n + t) % n ≡ (k + t) % n
 mod_more k t n =
@@ -84,18 +84,13 @@ module _ (order : List ℕ) (next left : ℕ) (within : next < length order) whe
             inr (record { others = t; is = ap (λ k. get_or order k 0) (on t) ∙ is; before = omega (arith, before, fewer, within) })
 
     -- as many as come to it of those that are left, or one
-    of_taken : (many most : ℕ) → suc many ≤ most → (most ≡ 1) ⊎ (most * length order ≤ left) → IsDue order place (left - 1) role many
-    of_taken zero most le h = inl refl
-    of_taken (suc many) most le (inl one) = absurd (omega (arith, le, one))
-    of_taken (suc many) most le (inr enough) = inr (record { others = length order - 1; is = again; before = omega (arith, all, within) })
+    of_taken : (many : ℕ) → (suc many ≤ 1) ⊎ (suc many * length order ≤ left) → IsDue order place (left - 1) role many
+    of_taken zero h = inl refl
+    of_taken (suc many) (inl le) = absurd (omega (arith, le))
+    of_taken (suc many) (inr enough) = inr (record { others = length order - 1; is = again; before = omega (arith, grown, enough, within) })
       where
-        all : suc many * length order + length order ≤ left
-        all =
-            let whole : suc (suc many) + (most - suc (suc many)) ≡ most = omega (arith, le) in
-            let e : most * length order ≡ suc (suc many) * length order + (most - suc (suc many)) * length order =
-            sym (ap (λ k. k * length order) whole) ∙ add-mul (suc (suc many)) (most - suc (suc many)) (length order) in
-            let f : suc (suc many) * length order ≡ suc many * length order + length order = grind arith in
-            omega (arith, e, f, enough)
+        grown : suc (suc many) * length order ≡ suc many * length order + length order
+        grown = grind arith
 
     module _ (ahead : List ℕ) (due : AllDue order next left ahead) where
       same_for_others : (r many : ℕ) → r ≢ role → get_or (set ahead role many) r 0 ≡ get_or ahead r 0
@@ -116,9 +111,9 @@ module _ (order : List ℕ) (next left : ℕ) (within : next < length order) whe
       pub behind_counted : (many : ℕ) → role < length ahead → get_or ahead role 0 ≡ suc many → AllDue order place (left - 1) (set ahead role many)
       behind_counted many lt is = behind many lt (of_itself many (subst (IsDue order next left role) is (due role)))
 
-      pub behind_taken : (many most : ℕ) → role < length ahead → suc many ≤ most → (most ≡ 1) ⊎ (most * length order ≤ left) →
+      pub behind_taken : (many : ℕ) → role < length ahead → (suc many ≤ 1) ⊎ (suc many * length order ≤ left) →
           AllDue order place (left - 1) (set ahead role many)
-      behind_taken many most lt le h = behind many lt (of_taken many most le h)
+      behind_taken many lt h = behind many lt (of_taken many h)
 
 -- behind a turn that found its role still, which is not ahead
 pub behind_idle : (order : List ℕ) (next left role place : ℕ) (ahead : List ℕ) → next < length order → role ≡ get_or order next 0 →

@@ -162,3 +162,15 @@ fewer_idle left idle n lt = omega (arith, lt)
 
 pub zero_is : (k : ℕ) → k ≤ 0 → k ≡ 0
 zero_is k h = omega (arith, h)
+
+pub less_room : (o : Option Role) (most left : ℕ) → most ≤ left → IfSome o (λ r. r.count + left < 2 ^ 32) → IfSome o (λ r. r.count + most < 2 ^ 32)
+less_room None most left le h = tt
+less_room (Some role) most left le h = omega (arith, le, h)
+
+-- no more were taken than are sure to come
+pub all_come : (k most count left : ℕ) → k ≤ most → (most ≡ 1) ⊎ (most * count ≤ left) → (k ≤ 1) ⊎ (k * count ≤ left)
+all_come k most count left le (inl one) = inl (omega (arith, le, one))
+all_come k most count left le (inr come) =
+    let whole : k + (most - k) ≡ most = omega (arith, le) in
+    let e : most * count ≡ k * count + (most - k) * count = sym (ap (λ j. j * count) whole) ∙ add-mul k (most - k) count in
+    inr (omega (arith, e, come))

@@ -98,15 +98,15 @@ module _ (p : Program) (first : World) (order : List ℕ) (limit : ℕ) where
         }
 
         -- a turn of a role that isn't ahead
-        pub taken_several : (k most : ℕ) → get_or ahead role 0 ≡ 0 → 0 < left → Counts now.program now.world role k after.world → 0 < k → k ≤ most →
-            (most ≡ 1) ⊎ (most * length order ≤ left) → Several p first order limit after (set ahead role (k - 1)) (left - 1) 0 place
-        taken_several zero most none some t took le enough = absurd (omega (arith, took))
-        taken_several (suc k) most none some t took le enough =
+        pub taken_several : (k : ℕ) → get_or ahead role 0 ≡ 0 → 0 < left → Counts now.program now.world role k after.world → 0 < k →
+            (k ≤ 1) ⊎ (k * length order ≤ left) → Several p first order limit after (set ahead role (k - 1)) (left - 1) 0 place
+        taken_several zero none some t took come = absurd (omega (arith, took))
+        taken_several (suc k) none some t took come =
             subst (λ j. Several p first order limit after (set ahead role j) (left - 1) 0 place) (let e : k ≡ suc k - 1 = omega arith in e)
             (counting (set ahead role k) some
             (takes p h.so_far now.world ahead h.world role lt_so_far none k after.world
             (subst (λ (q : Program). Counts q now.world role (suc k) after.world) h.program t))
-            (behind_taken order next left within role place at following ahead h.due k most within_ahead le enough))
+            (behind_taken order next left within role place at following ahead h.due k within_ahead come))
 
         -- a turn that found its role still
         pub idle_several : get_or ahead role 0 ≡ 0 → Advances now.program now.world role after.world false →
@@ -133,9 +133,9 @@ module _ (p : Program) (first : World) (order : List ℕ) (limit : ℕ) where
           (behind_counted order next left within role place at following ahead h.due k within_ahead is)
 
       -- a role that isn't ahead has room for those that are left
-      pub room_several : (most : ℕ) → get_or ahead role 0 ≡ 0 → most ≤ left → limit < 2 ^ 32 →
-          IfSome (slice_get now.world.roles role) (λ r. r.count + most < 2 ^ 32)
-      room_several most none le fits =
-          subst (λ (o : Option Role). IfSome o (λ r. r.count + most < 2 ^ 32))
+      pub room_several : get_or ahead role 0 ≡ 0 → limit < 2 ^ 32 → IfSome (slice_get now.world.roles role) (λ r. r.count + left < 2 ^ 32)
+      room_several none fits =
+          let le : left ≤ left = omega arith in
+          subst (λ (o : Option Role). IfSome o (λ r. r.count + left < 2 ^ 32))
           (sym (there p h.so_far now.world ahead h.world role lt_so_far none))
-          (room p first order limit before left idle next role most h.going le fits)
+          (room p first order limit before left idle next role left h.going le fits)

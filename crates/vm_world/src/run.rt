@@ -75,6 +75,28 @@ impl World {
         if counted { Ok(1) } else { Ok(0) }
     }
 
+    /// Turns of a role, of which as many are taken at once as are sure to come: in an order of so
+    /// many, where so many instructions are left. The answer is how many were counted.
+    #[inline(never)]
+    fn take_at_once(
+        &mut self,
+        alloc: Global,
+        role: u32,
+        count: usize,
+        left: u32,
+    ) -> Result<u32, Memory>
+        requires number { role < length self.old.world.roles }
+        requires cycle { 0 < count }
+        requires some { 0 < left }
+        requires room { IfSome (slice_get self.old.world.roles role) (λ r. r.count + left < 2 ^ 32) }
+        ensures program { self.new.program ≡ self.old.program }
+        ensures come { IfOk result (λ k. (k ≤ 1) ⊎ (k * count ≤ left)) }
+        ensures turns { IfOk result (λ k. Counts self.old.program self.old.world role k self.new.world) }
+    {
+        let counted = self.take_turns(alloc, role, most_at_once(count, left))?;
+        Ok(counted)
+    }
+
     /// Turns of one role, up to the first moment at which it rests or `limit` instructions were
     /// counted.
     fn run_one(&mut self, alloc: Global, order: &[u32], limit: u32) -> Result<(), Memory>
@@ -126,7 +148,7 @@ impl World {
                 idle = 0;
                 continue;
             }
-            let counted = self.take_turns(alloc, role, most_at_once(order.len(), left))?;
+            let counted = self.take_at_once(alloc, role, order.len(), left)?;
             if counted == 0 {
                 idle += 1;
                 continue;

@@ -21,27 +21,26 @@ loop-left-preserved-then-ahead-place-gt0 c =
     c.loop-left.left c.loop-left.idle c.loop-left.next c.loop-left.invariant c.if-idle-order.true c.requires.numbers
     (get_or c.args.order.now c.loop-left.next 0) refl c.following-next.result c.following-next.ensures c.if-ahead-place-gt0.true c.loop-left-test.true
 
-pub take_turns-requires-clause-number : goal.take_turns-requires-clause-number
-take_turns-requires-clause-number c =
+pub take_at_once-requires-clause-number : goal.take_at_once-requires-clause-number
+take_at_once-requires-clause-number c =
     within_roles c.args.self.now.program c.args.self.now.world c.args.order.now c.args.limit c.loop-left.self c.loop-left.ahead
     c.loop-left.left c.loop-left.idle c.loop-left.next c.loop-left.invariant c.if-idle-order.true c.requires.numbers
     (get_or c.args.order.now c.loop-left.next 0) refl
 
-pub take_turns-requires-clause-count : goal.take_turns-requires-clause-count
-take_turns-requires-clause-count c =
+pub take_at_once-requires-clause-room : goal.take_at_once-requires-clause-room
+take_at_once-requires-clause-room c =
     room_several c.args.self.now.program c.args.self.now.world c.args.order.now c.args.limit c.loop-left.self c.loop-left.ahead
     c.loop-left.left c.loop-left.idle c.loop-left.next c.loop-left.invariant c.if-idle-order.true c.requires.numbers
-    (get_or c.args.order.now c.loop-left.next 0) refl c.most_at_once.result
-    (zero_is (get_or c.loop-left.ahead (get_or c.args.order.now c.loop-left.next 0) 0) c.if-ahead-place-gt0.false)
-    c.most_at_once.ensures.within c.ranges.limit.fits
+    (get_or c.args.order.now c.loop-left.next 0) refl
+    (zero_is (get_or c.loop-left.ahead (get_or c.args.order.now c.loop-left.next 0) 0) c.if-ahead-place-gt0.false) c.ranges.limit.fits
 
 pub loop-left-preserved-then-counted-eq0 : goal.loop-left-preserved-then-counted-eq0
 loop-left-preserved-then-counted-eq0 c =
     let still = subst (λ (k : ℕ). Counts c.loop-left.self.program c.loop-left.self.world (get_or c.args.order.now c.loop-left.next 0) k
-    c.take_turns.new.self.world) c.if-counted-eq0.true c.in_ok-counted.ensures.turns in
+    c.take_at_once.new.self.world) c.if-counted-eq0.true c.in_ok-counted.ensures.turns in
     idle_several c.args.self.now.program c.args.self.now.world c.args.order.now c.args.limit c.loop-left.self c.loop-left.ahead
     c.loop-left.left c.loop-left.idle c.loop-left.next c.loop-left.invariant c.if-idle-order.true c.requires.numbers
-    (get_or c.args.order.now c.loop-left.next 0) refl c.take_turns.new.self c.in_ok-counted.ensures.program
+    (get_or c.args.order.now c.loop-left.next 0) refl c.take_at_once.new.self c.in_ok-counted.ensures.program
     c.following-next.result c.following-next.ensures
     (zero_is (get_or c.loop-left.ahead (get_or c.args.order.now c.loop-left.next 0) 0) c.if-ahead-place-gt0.false) still
 
@@ -56,10 +55,10 @@ loop-left-preserved c =
     let some : 0 < c.in_ok-counted.counted = omega (arith, c.if-counted-eq0.false) in
     taken_several c.args.self.now.program c.args.self.now.world c.args.order.now c.args.limit c.loop-left.self c.loop-left.ahead
     c.loop-left.left c.loop-left.idle c.loop-left.next c.loop-left.invariant c.if-idle-order.true c.requires.numbers
-    (get_or c.args.order.now c.loop-left.next 0) refl c.take_turns.new.self c.in_ok-counted.ensures.program
-    c.following-next.result c.following-next.ensures c.in_ok-counted.counted c.most_at_once.result
+    (get_or c.args.order.now c.loop-left.next 0) refl c.take_at_once.new.self c.in_ok-counted.ensures.program
+    c.following-next.result c.following-next.ensures c.in_ok-counted.counted
     (zero_is (get_or c.loop-left.ahead (get_or c.args.order.now c.loop-left.next 0) 0) c.if-ahead-place-gt0.false)
-    c.loop-left-test.true c.in_ok-counted.ensures.turns some c.in_ok-counted.ensures.most c.most_at_once.ensures.come
+    c.loop-left-test.true c.in_ok-counted.ensures.turns some c.in_ok-counted.ensures.come
 
 pub returns-else-idle-order-clause-run : goal.returns-else-idle-order-clause-run
 returns-else-idle-order-clause-run c =
