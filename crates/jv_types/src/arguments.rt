@@ -9,7 +9,7 @@ ghost use Rattle.jv_types.specs.Tables.{program_in};
 
 use crate::operands::misfit;
 use crate::signature::Params;
-use crate::table::Table;
+use crate::name_table::Table;
 use crate::value_type::{ValueType, meant};
 use jv_tree::Expr;
 use mg_text::Place;

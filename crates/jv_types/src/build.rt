@@ -17,7 +17,7 @@ use crate::naming::{
     class_names, constant_names, enum_names, field_names, method_names, typestate_names,
 };
 use crate::protocols::{Protocol, protocols};
-use crate::table::Table;
+use crate::name_table::Table;
 use jv_tree::{Class, Decl, Enum, File};
 use mg_text::{Memory, Names};
 use std::alloc::Global;

@@ -20,7 +20,7 @@ use crate::locals::Locals;
 use crate::receivers::{calls_helper, calls_protocol, field_named, field_of, receiver_misfit};
 use crate::scope::Scope;
 use crate::signature::{Params, Signature};
-use crate::table::Table;
+use crate::name_table::Table;
 use crate::value_type::ValueType;
 use crate::variable::variable_type;
 use jv_rules::Condition;

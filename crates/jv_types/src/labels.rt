@@ -17,7 +17,7 @@ use crate::blame::{Blamed, note};
 use crate::demands::{Demand, broken_by, other_labels};
 use crate::entry::ClassEntry;
 use crate::protocols::Protocol;
-use crate::table::Table;
+use crate::name_table::Table;
 use mg_text::{Memory, Names};
 use std::alloc::Global;
 use ts_tree::Method;

@@ -9,7 +9,7 @@ ghost use Rattle.jv_types.specs.Tables.{program_in};
 
 use crate::entry::{ClassEntry, EnumEntry};
 use crate::protocols::Protocol;
-use crate::table::Table;
+use crate::name_table::Table;
 
 impl<'a> Table<'a> {
     /// The class of a name.

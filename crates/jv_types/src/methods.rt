@@ -21,7 +21,7 @@ use crate::locals::Locals;
 use crate::params::check_params;
 use crate::scope::{Around, Scope};
 use crate::stmts::check_stmts;
-use crate::table::Table;
+use crate::name_table::Table;
 use jv_rules::Condition;
 use jv_tree::MethodDecl;
 use std::alloc::Global;

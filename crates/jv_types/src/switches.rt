@@ -17,7 +17,7 @@ use crate::judged::Wrong;
 use crate::jumps::label_text;
 use crate::locals::Locals;
 use crate::scope::Scope;
-use crate::table::Table;
+use crate::name_table::Table;
 use crate::value_type::ValueType;
 use crate::values::{Wanted, check_value};
 use jv_rules::Condition;
