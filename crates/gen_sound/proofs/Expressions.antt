@@ -50,7 +50,7 @@ use Rattle.gen_sound.specs.Following.{Moment, Comes, Follows}
 use Rattle.gen_sound.specs.Arriving.{Arrives}
 use Rattle.gen_sound.specs.Related.{Running, moment, flat, Laid, LaidObject, RunsCode}
 use Rattle.world_meant_law.specs.Meant.{Holds}
-use Rattle.gen_sound.specs.Plain.{IsPlain, ArePlainArgs}
+use Rattle.gen_sound.proofs.Plain.{IsPlain, ArePlainArgs}
 use Rattle.gen_sound.proofs.Steps.{stays, ClosedBefore, follows_later, follows_then}
 use Rattle.gen_sound.proofs.Forms.{Does, does_value, Value_at, value_closed, arrives_later, next_place}
 use Rattle.gen_sound.proofs.Logic.{not_does, and_does, or_does}

@@ -20,6 +20,7 @@ pub use fault::ScrFault;
 use mg_text::Place;
 pub use parts::local_of;
 use scr_judge::first_fault;
+pub use scr_print::print_local;
 pub use scr_tree::{Direction, Local, Message, Payload, Statement};
 use std::alloc::Global;
 

@@ -30,6 +30,14 @@ impl Answer {
         self.add(second)
     }
 
+    /// Goes on to the next line, where there is one before.
+    pub fn line(&mut self) -> Result<(), Memory> {
+        if self.text.is_empty() {
+            return Ok(());
+        }
+        self.add("\n")
+    }
+
     /// Adds a value as it is shown.
     pub fn show<T: Display>(&mut self, value: &T) -> Result<(), Memory> {
         write!(self.text, "{value}")?;
@@ -39,6 +47,12 @@ impl Answer {
     /// Adds a value as it is told whole.
     pub fn tell<T: Debug>(&mut self, value: &T) -> Result<(), Memory> {
         write!(self.text, "{value:?}")?;
+        Ok(())
+    }
+
+    /// Adds a number in hexadecimal, of two digits at least.
+    pub fn hexadecimal(&mut self, number: u32) -> Result<(), Memory> {
+        write!(self.text, "{number:02x}")?;
         Ok(())
     }
 

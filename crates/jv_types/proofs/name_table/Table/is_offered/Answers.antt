@@ -3,7 +3,7 @@ use Rattle.jv_types.specs.Tables.{program_in}
 use Rattle.jv_types.specs.inner.Tabled.{class_in}
 use Rattle.jv_types.proofs.Finding.{any_found}
 use Rattle.jv_types.proofs.Offering.{of_protocol}
-use Rattle.jv_types.proofs.table.Table.is_offered.Goals as goal
+use Rattle.jv_types.proofs.name_table.Table.is_offered.Goals as goal
 
 pub returns-in-Some : goal.returns-in-Some
 returns-in-Some c =

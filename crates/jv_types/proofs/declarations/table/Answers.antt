@@ -6,7 +6,7 @@ use Rattle.jv_types.specs.View.{program_of}
 use Rattle.jv_types.specs.inner.Deciding.{IsLater}
 use Rattle.jv_types.proofs.Answering.{later_as}
 use Rattle.jv_types.proofs.MethodSteps.{told_more}
-use Rattle.jv_types.proofs.declarations.build_table.Goals as goal
+use Rattle.jv_types.proofs.declarations.table.Goals as goal
 
 pub returns-in_err-table-clause-fault : goal.returns-in_err-table-clause-fault
 returns-in_err-table-clause-fault c =

@@ -1,5 +1,5 @@
 use Rattle.jv_types.proofs.Entries.{class_within, class_found, class_missing, entry_at}
-use Rattle.jv_types.proofs.table.Table.class_named.Goals as goal
+use Rattle.jv_types.proofs.name_table.Table.class_named.Goals as goal
 
 pub returns-in-Some-clause-class : goal.returns-in-Some-clause-class
 returns-in-Some-clause-class c = class_found c.args.self.now.tabled c.args.name.now c.in-Some.number.0 c.in-Some.ensures c.index.result.now c.index.ensures

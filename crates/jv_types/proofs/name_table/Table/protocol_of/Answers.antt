@@ -1,5 +1,5 @@
 use Rattle.jv_types.proofs.Entries.{protocol_found, protocol_missing}
-use Rattle.jv_types.proofs.table.Table.protocol_of.Goals as goal
+use Rattle.jv_types.proofs.name_table.Table.protocol_of.Goals as goal
 
 pub returns-in-Some-find : goal.returns-in-Some-find
 returns-in-Some-find c =
