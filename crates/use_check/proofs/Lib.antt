@@ -1,4 +1,5 @@
 mod Worked
 mod Failing
+mod First
 pub mod Listed
 mod Reporting
