@@ -27,7 +27,8 @@ use Rattle.jv_core.specs.Conditions.{IsCore}
 use Rattle.jv_core.specs.Types.{IsShown, IsArithmetic, IsLogic, IsOrder, IsEquality, IsCompared, IsVariable, IsCalled, Has, HasAll, HasTypestate}
 use Rattle.jv_core.specs.Types.{session_params, session_result}
 use Rattle.jv_core.specs.Types
-use Rattle.jv_core.specs.Meaning.{Lower, operator_of, session_of, result_of, runs_on_object, read, protocol_call, eval, eval_all, new_fields}
+use Rattle.jv_mean.specs.Operators.{operator_of}
+use Rattle.jv_core.specs.Meaning.{Lower, session_of, result_of, runs_on_object, read, protocol_call, eval, eval_all, new_fields}
 use Rattle.vm_model.specs.declared.value.Value.{Value as Held}
 use Rattle.vm_model.specs.declared.value.Value.TheVariants as held
 use Rattle.vm_model.specs.Program as linked

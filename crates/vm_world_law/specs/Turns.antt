@@ -79,16 +79,6 @@ is_mismatch (stands.Ended (endings.Mismatch peer found)) = true
 is_mismatch (stands.Ended (endings.NoPeer peer)) = true
 is_mismatch _ = false
 
--- The status of a run, by how the roles stand: the first that applies. A role that neither ended nor waits is there only where the run stopped at its limit.
-abbrev pub status_of : List Stand → ℕ
-status_of all =
-    if list_any is_bound all then 9
-    else if list_any is_broken all then 10
-    else if list_any is_zero all then 6
-    else if list_any is_mismatch all then 7
-    else if list_any is_waiting all then 8
-    else 0
-
 -- Laws.
 
 -- a role that has ended or waits, where there is one of this number
