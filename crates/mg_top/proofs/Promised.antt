@@ -25,10 +25,10 @@ use Rattle.mg_top.proofs.DeliveryLaws as laws
 -- ---- what is read of files that are told is one thing
 
 same_bytes : (limit : ℕ) (m : Files) (name : Word) (x y : List ℕ) → IsRead limit (Some m) name x → IsRead limit (Some m) name y → x ≡ y
-same_bytes limit m name x y h k =
-    let e : ◌≡◌ {A = Option (List ℕ)} (Some h.1) (Some k.1) = sym h.2 ∙ k.2 in
-    let same : h.1 ≡ k.1 = cc in
-    h.3 ∙ ap (take limit) same ∙ sym k.3
+same_bytes limit m name x y (few, h) (less, k) =
+    let e : ◌≡◌ {A = Option (List ℕ)} (Some h.0) (Some k.0) = sym h.1 ∙ k.1 in
+    let same : h.0 ≡ k.0 = cc in
+    h.2 ∙ ap (take limit) same ∙ sym k.2
 
 same_read : (limit : ℕ) (m : Files) (names : List Word) (xs ys : List (List ℕ)) → AreRead limit (Some m) names xs → AreRead limit (Some m) names ys → xs ≡ ys
 same_read limit m [] [] [] h k = refl
