@@ -56,7 +56,7 @@ module _ (source : Source) where
   -- what is refused isn't read
   pub excludes : (part : Part) (fault : Fault) → Reads source part → Refuses source fault → ⊥
   excludes part fault (reading.protocol {local = local} is o) (reading.protocol answer is' o' said) =
-      subst (λ (a : of_protocols.Answer). IsSaidOfProtocol a fault) (protocols_unique.one_outcome source.number source.bytes answer _ o' o) said
+      subst (λ (a : of_protocols.Answer). IsSaidOfProtocol source a fault) (protocols_unique.one_outcome source.number source.bytes answer _ o' o) said
   excludes part fault (reading.protocol is o) (reading.states answer is' o' said) =
       ends_alike Scribble Typestates source is is' (λ e. differ 114 108 e (λ k. absurd (omega (arith, k))))
   excludes part fault (reading.protocol is o) (reading.classes answer is' o' said) =
@@ -64,7 +64,7 @@ module _ (source : Source) where
   excludes part fault (reading.states is o) (reading.protocol answer is' o' said) =
       ends_alike Typestates Scribble source is is' (λ e. differ 108 114 e (λ k. absurd (omega (arith, k))))
   excludes part fault (reading.states is o) (reading.states answer is' o' said) =
-      subst (λ (a : of_typestates.Answer). IsSaidOfTypestate a fault) (states_unique.one_outcome source.number source.bytes answer _ o' o) said
+      subst (λ (a : of_typestates.Answer). IsSaidOfTypestate source a fault) (states_unique.one_outcome source.number source.bytes answer _ o' o) said
   excludes part fault (reading.states is o) (reading.classes answer is' o' said) =
       ends_alike Typestates Java source is is' (λ e. differ 108 97 e (λ k. absurd (omega (arith, k))))
   excludes part fault (reading.classes is o) (reading.protocol answer is' o' said) =
@@ -72,7 +72,7 @@ module _ (source : Source) where
   excludes part fault (reading.classes is o) (reading.states answer is' o' said) =
       ends_alike Java Typestates source is is' (λ e. differ 97 108 e (λ k. absurd (omega (arith, k))))
   excludes part fault (reading.classes is o) (reading.classes answer is' o' said) =
-      subst (λ (a : of_java.Answer). IsSaidOfJava a fault) (classes_unique.one_outcome source.number source.bytes answer _ o' o) said
+      subst (λ (a : of_java.Answer). IsSaidOfJava source a fault) (classes_unique.one_outcome source.number source.bytes answer _ o' o) said
 
   -- a local protocol is neither a typestate nor classes
   pub no_states : (typestate : Typestate) → IsOf Scribble source → Reads source (States typestate) → ⊥

@@ -1,0 +1,18 @@
+-- The place of Syntax is one of the file.
+use Rattle.std.proofs.Common.{◌≡◌, ℕ, List, refl}
+use Rattle.mg_text.specs.declared.place.Place.{Place}
+use Rattle.jv_read.specs.declared.fault.JavaFault.{JavaFault}
+use Rattle.jv_read.specs.declared.fault.JavaFault.TheVariants as faults
+use Rattle.jv_read.specs.Outcome.{HasPlace}
+
+-- another fault has none to have
+pub no_place : (file : ℕ) (bytes : List ℕ) (fault : JavaFault) → ((place : Place) → fault ≡ faults.Syntax place → ⊥) → HasPlace file bytes fault
+no_place file bytes (faults.TooLarge place) n = tt
+no_place file bytes (faults.BadByte place) n = tt
+no_place file bytes (faults.OpenComment place) n = tt
+no_place file bytes (faults.OpenText place) n = tt
+no_place file bytes (faults.BadEscape place) n = tt
+no_place file bytes (faults.BadNumber place) n = tt
+no_place file bytes (faults.Unsupported place name) n = tt
+no_place file bytes (faults.Syntax place) n = absurd (n place refl)
+no_place file bytes faults.Memory n = tt
