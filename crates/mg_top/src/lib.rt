@@ -2,6 +2,8 @@
 //! Its contract carries what the whole program promises.
 #![tactic(auto)]
 
+ghost use Rattle.mg_top.specs.Once.{OneYield};
+
 mod check;
 mod compile;
 mod conform;
@@ -18,3 +20,9 @@ mod translate;
 
 pub use status::Status;
 pub use top::mungo;
+
+/// Of the same contents a command gives one status, and the same actions where it doesn't refuse. The
+/// function carries a law.
+pub fn one_yield()
+    ensures { OneYield }
+{}

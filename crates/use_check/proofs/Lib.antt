@@ -2,4 +2,4 @@ mod Worked
 mod Failing
 mod First
 pub mod Listed
-mod Reporting
+pub mod Reporting
