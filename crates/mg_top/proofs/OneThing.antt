@@ -64,10 +64,10 @@ one_of_source folder source xs ys h k =
 
 each_once : {folder : Option Word} {files : List Source} {xs ys : List Action} → EachTranslates folder files xs → EachTranslates folder files ys → xs ≡ ys
 each_once none none = refl
-each_once {folder = folder} (one {source = s} {writes = a} {actions = as} t ts) (one {writes = b} {actions = bs} u us) =
+each_once {folder = folder} (one {source = s} {writes = a} {actions = later} t ts) (one {writes = b} {actions = rest} u us) =
     let first : a ≡ b = one_of_source folder s a b t u in
-    let rest : as ≡ bs = each_once ts us in
-    λ i. first i ++ rest i
+    let behind : later ≡ rest = each_once ts us in
+    λ i. first i ++ behind i
 
 translate_once : {folder : Option Word} {files : List Source} {a b : List Action} {m n : Status} → TranslateGives folder files a m →
     TranslateGives folder files b n → m ≡ n → m ≢ statuses.Refused → a ≡ b
