@@ -7,13 +7,5 @@ use Rattle.ts_read.specs.Outcome.{HasPlace}
 
 -- another fault has none to have
 pub no_place : (file : ℕ) (bytes : List ℕ) (fault : TsFault) → ((place : Place) → fault ≡ faults.Syntax place → ⊥) → HasPlace file bytes fault
-no_place file bytes (faults.TooLarge place) n = tt
-no_place file bytes (faults.BadByte place) n = tt
 no_place file bytes (faults.Syntax place) n = absurd (n place refl)
-no_place file bytes (faults.DuplicateState place name) n = tt
-no_place file bytes (faults.UnknownState place name) n = tt
-no_place file bytes (faults.DuplicateMethod place name) n = tt
-no_place file bytes (faults.SignatureDiffers place name) n = tt
-no_place file bytes (faults.DuplicateLabel place name) n = tt
-no_place file bytes (faults.ReservedEnd place name) n = tt
-no_place file bytes faults.Memory n = tt
+no_place file bytes _ n = tt
