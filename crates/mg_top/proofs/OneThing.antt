@@ -62,16 +62,22 @@ one_of_source folder source xs ys h k =
     let same : h.local ≡ k.local = same_local h.local k.local (one_part source (Protocol h.local) (Protocol k.local) h.spelled k.spelled) in
     one_translation folder k.local xs ys (subst (λ (l : LocalTree). IsTranslation folder l xs) same h.translation) k.translation
 
-each_once : {folder : Option Word} {files : List Source} {xs ys : List Action} → EachTranslates folder files xs → EachTranslates folder files ys → xs ≡ ys
-each_once none none = refl
-each_once {folder = folder} (one {source = s} {writes = a} {actions = later} t ts) (one {writes = b} {actions = rest} u us) =
-    let first : a ≡ b = one_of_source folder s a b t u in
-    let behind : later ≡ rest = each_once ts us in
+each_once : {folder : Option Word} {files others : List Source} {xs ys : List Action} → EachTranslates folder files xs →
+    EachTranslates folder others ys → files ≡ others → xs ≡ ys
+each_once none none e = refl
+each_once none (one u us) e = let no : ⊥ = cc in absurd no
+each_once (one t ts) none e = let no : ⊥ = cc in absurd no
+each_once {folder = folder} (one {source = s} {writes = a} {sources = ss} {actions = later} t ts)
+    (one {source = r} {writes = b} {sources = rs} {actions = rest} u us) e =
+    let same : s ≡ r = cc in
+    let others : ss ≡ rs = cc in
+    let first : a ≡ b = one_of_source folder r a b (subst (λ (z : Source). Translates folder z a) same t) u in
+    let behind : later ≡ rest = each_once ts us others in
     λ i. first i ++ behind i
 
 translate_once : {folder : Option Word} {files : List Source} {a b : List Action} {m n : Status} → TranslateGives folder files a m →
     TranslateGives folder files b n → m ≡ n → m ≢ statuses.Refused → a ≡ b
-translate_once (translated t) (translated u) e ne = each_once t.each u.each
+translate_once (translated t) (translated u) e ne = each_once t.each u.each refl
 translate_once (translated t) (not_translated q) e ne = absurd (ne e)
 translate_once (not_translated r) z e ne = absurd (ne refl)
 
