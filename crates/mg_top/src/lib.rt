@@ -2,7 +2,7 @@
 //! Its contract carries what the whole program promises.
 #![tactic(auto)]
 
-ghost use Rattle.mg_top.specs.Once.{OneYield};
+ghost use Rattle.mg_top.specs.Once.{YieldsOnce};
 
 mod check;
 mod compile;
@@ -21,8 +21,9 @@ mod translate;
 pub use status::Status;
 pub use top::mungo;
 
-/// Of the same contents a command gives one status, and the same actions where it doesn't refuse. The
-/// function carries a law.
+/// Of the same contents a command gives one status, and the same actions, but for the place of Syntax
+/// in a line; of class files as they are that is said where they aren't refused. The function carries
+/// a law.
 pub fn one_yield()
-    ensures { OneYield }
+    ensures { YieldsOnce }
 {}

@@ -15,7 +15,7 @@ use Rattle.use_check.specs.Faults.{IsFault, fault_of, OneFault}
 some_same : {A : Type 0} (x y : A) → Some x ≡ Some y → x ≡ y
 some_same x y e = cc
 
-one_demand : (p : Program) (a b : Demand) → FailsFirst p a → FailsFirst p b → a ≡ b
+pub one_demand : (p : Program) (a b : Demand) → FailsFirst p a → FailsFirst p b → a ≡ b
 one_demand p a b x y =
     let r : y.reached ≡ x.reached = reached_same p y.reached x.reached y.are x.are in
     let least : Least p x.reached y.tables = subst (λ r. Least p r y.tables) r y.least in

@@ -1,5 +1,5 @@
 mod Worked
 mod Failing
-mod First
+pub mod First
 pub mod Listed
 pub mod Reporting

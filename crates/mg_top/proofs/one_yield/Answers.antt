@@ -1,4 +1,4 @@
-use Rattle.mg_top.proofs.OneThing.{one_yield as the_law}
+use Rattle.mg_top.proofs.OneThing.{yields_once as the_law}
 use Rattle.mg_top.proofs.one_yield.Goals as goal
 
 pub returns : goal.returns
