@@ -38,8 +38,8 @@ pub record CoreHasMain (p : Program) (class : Name) : Type 0 where
   pub at : slice_get p.methods number ≡ Some method
   pub is : main_of p class ≡ Some (as_run p number method)
 
--- For each core whose names are plain and each of its classes with a `main`: on the linked program, with lists that hold what the other roles
--- sent, the run of the machine that starts at this `main` and the meaning agree, both ways.
+-- For each core whose names are plain and each of its classes with a `main`: on the linked program, with lists that hold what the
+-- other roles sent, the run of the machine that starts at this `main` and the meaning agree, both ways.
 abbrev pub MainsAgree : Type 0
 MainsAgree = (p : Program) → IsCore p → HasPlainNames p → (all : List (List Compiled)) → IsCompiled p all →
     (class : Name) → CoreHasMain p class → (inputs : Inputs) (me : ℕ) (q : Messages) → Holds inputs q me [] → (start : Machine) →

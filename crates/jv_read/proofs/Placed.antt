@@ -6,6 +6,7 @@ use Rattle.jv_read.specs.declared.fault.JavaFault.TheVariants as faults
 use Rattle.jv_read.specs.Outcome.{HasPlace}
 
 -- another fault has none to have
-pub no_place : (file : ℕ) (bytes : List ℕ) (fault : JavaFault) → ((place : Place) → fault ≡ faults.Syntax place → ⊥) → HasPlace file bytes fault
+pub no_place : (file : ℕ) (bytes : List ℕ) (fault : JavaFault) →
+    ((place : Place) → fault ≡ faults.Syntax place → ⊥) → HasPlace file bytes fault
 no_place file bytes (faults.Syntax place) n = absurd (n place refl)
 no_place file bytes _ n = tt

@@ -55,6 +55,9 @@ IsSaidOfJava source java.Syntax fault =
 
 -- the bytes of the file are refused by its reader, with this fault
 pub data Refuses (source : Source) (fault : Fault) : Type 0 where
-  protocol : (answer : scribble.Answer) → IsOf Scribble source → scribble.Outcome source.number source.bytes answer → IsSaidOfProtocol source answer fault → Refuses source fault
-  states : (answer : typestates.Answer) → IsOf Typestates source → typestates.Outcome source.number source.bytes answer → IsSaidOfTypestate source answer fault → Refuses source fault
-  classes : (answer : java.Answer) → IsOf Java source → java.Outcome source.number source.bytes answer → IsSaidOfJava source answer fault → Refuses source fault
+  protocol : (answer : scribble.Answer) → IsOf Scribble source → scribble.Outcome source.number source.bytes answer →
+      IsSaidOfProtocol source answer fault → Refuses source fault
+  states : (answer : typestates.Answer) → IsOf Typestates source → typestates.Outcome source.number source.bytes answer →
+      IsSaidOfTypestate source answer fault → Refuses source fault
+  classes : (answer : java.Answer) → IsOf Java source → java.Outcome source.number source.bytes answer →
+      IsSaidOfJava source answer fault → Refuses source fault

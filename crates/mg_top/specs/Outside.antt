@@ -24,8 +24,8 @@ abbrev pub outside : Option Files → List Word → List Word → Stream → Str
 outside files failed_reads failed_writes out err =
     record { files = files; failed_reads = failed_reads; failed_writes = failed_writes; out = out; err = err }
 
--- These bytes were read of a file, of which at most so many are read: they are no more, and where the files are told, the file is there, and they
--- are its first so many bytes, or all of it.
+-- These bytes were read of a file, of which at most so many are read: they are no more, and where the files are told, the file is
+-- there, and they are its first so many bytes, or all of it.
 abbrev pub IsRead : (limit : ℕ) → Option Files → Word → List ℕ → Type 0
 IsRead limit files file bytes =
     (length bytes ≤ limit) × IfSome files (λ m. (content : List ℕ) × (map.get m file ≡ Some content) × (bytes ≡ take limit content))
