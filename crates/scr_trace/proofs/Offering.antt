@@ -245,7 +245,15 @@ pub look_pushed : (me : Name) (w : Work) (c : ℕ) (arrows : List Arrow) (i : �
 look_pushed me w c arrows i first o before after h e none is named labels same =
     ap calls_offered (is ∙ ap (λ l. l ++ o ∷ []) none) ∙ look_offer me w c arrows i first o h e same named labels
 
-pub ruleset looks_once = (common_steps, none_offered, look_pushed)
+-- at most one offer
+pub none_many : (offers : List Offer) → offers ≡ [] → length offers ≤ 1
+none_many offers e = subst (λ (os : List Offer). length os ≤ 1) (sym e) (omega arith)
+
+pub one_many : (o : Offer) (before after : List Offer) → before ≡ [] → after ≡ before ++ o ∷ [] → length after ≤ 1
+one_many o before after none is =
+    subst (λ (os : List Offer). length os ≤ 1) (sym (is ∙ ap (λ (os : List Offer). os ++ o ∷ []) none)) (omega arith)
+
+pub ruleset looks_once = (common_steps, none_offered, look_pushed, none_many, one_many)
 
 -- a walk that stands at no state is at the end
 pub at_no_state : (s : Standing) → ((n : ℕ) → s ≡ standings.State n → ⊥) → s ≡ standings.End
