@@ -73,15 +73,15 @@ wrong_unless : (P : Type 0) (b : Bool) (k : Culprit) → Decides b P → Answers
 wrong_unless P b k d = wrong (P → ⊥) (not b) k (Decides-not b d)
 
 -- 10
-class-Decides : (scope : Scope) (x : Name) → Decides (names_class scope x) (NamesClass scope x)
-class-Decides scope x = Decides-or _ _ (bytes_eq-Decides x (codes "Session")) (some-Decides (class_named scope.program.files x))
+named_class-Decides : (scope : Scope) (x : Name) → Decides (names_class scope x) (NamesClass scope x)
+named_class-Decides scope x = Decides-or _ _ (bytes_eq-Decides x (codes "Session")) (some-Decides (class_named scope.program.files x))
 
 receiver-Decides : (scope : Scope) (x : Name) → Decides (is_receiver scope x) (IsReceiver scope x)
-receiver-Decides scope x = Decides-or _ _ (some-Decides (variable_type scope x)) (class-Decides scope x)
+receiver-Decides scope x = Decides-or _ _ (some-Decides (variable_type scope x)) (named_class-Decides scope x)
 
 qualifier-Decides : (scope : Scope) (x : Name) → Decides (is_qualifier scope x) (IsQualifier scope x)
 qualifier-Decides scope x =
-    Decides-or _ _ (some-Decides (variable_type scope x)) (Decides-or _ _ (some-Decides (enum_named scope.program.files x)) (class-Decides scope x))
+    Decides-or _ _ (some-Decides (variable_type scope x)) (Decides-or _ _ (some-Decides (enum_named scope.program.files x)) (named_class-Decides scope x))
 
 unknown_name-right : (s : Spot) → Answers (UnknownName s) (unknown_name s)
 unknown_name-right (AtNode scope (Receiver p x)) = wrong_unless (IsReceiver scope x) (is_receiver scope x) (culprit p x) (receiver-Decides scope x)

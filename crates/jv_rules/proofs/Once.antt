@@ -33,15 +33,19 @@ one_typestate program class c d (x, is, h, none) (y, is', k, none') =
     let same : x ≡ y = same_some x y (sym is ∙ is') in
     h ∙ ap (culprit class.place) same ∙ sym k
 
+-- a member of a class with this typestate
+abbrev AtMember : Option (List ℕ) → ClassMember → Culprit → Type 0
+AtMember typestate member c = elim member [
+  | OfField f ↦ (c ≡ culprit f.place []) × (typestate ≡ None)
+  | OfMethod m ↦ (c ≡ culprit m.place []) × (typestate ≡ None) × (m.is_static ≡ false)
+]
+
+one_member : (typestate : Option (List ℕ)) (member : ClassMember) (c d : Culprit) → AtMember typestate member c → AtMember typestate member d → c ≡ d
+one_member typestate (OfField f) c d h k = h.0 ∙ sym k.0
+one_member typestate (OfMethod m) c d h k = h.0 ∙ sym k.0
+
 one_standing : IsSingle declared.InstanceInPlain
-one_standing s c d h k = go s.member h k
-  where
-    go : (m : ClassMember) →
-        elim m [ | OfField f ↦ (c ≡ culprit f.place []) × (s.typestate ≡ None) | OfMethod m ↦ (c ≡ culprit m.place []) × (s.typestate ≡ None) × (m.is_static ≡ false) ] →
-        elim m [ | OfField f ↦ (d ≡ culprit f.place []) × (s.typestate ≡ None) | OfMethod m ↦ (d ≡ culprit m.place []) × (s.typestate ≡ None) × (m.is_static ≡ false) ] →
-        c ≡ d
-    go (OfField f) h k = h.0 ∙ sym k.0
-    go (OfMethod m) h k = h.0 ∙ sym k.0
+one_standing s c d h k = one_member s.typestate s.member c d h k
 
 one_of : (program : Program) (origins : List ℕ) (k : Condition) (r s : Option Culprit) → Of program origins k r → Of program origins k s → r ≡ s
 one_of program origins conditions.DuplicateName r s h k = one_answer (λ q c d h k. h.0 ∙ sym k.0) h k
