@@ -4,14 +4,14 @@
 
 mod fault;
 mod front;
-mod within;
+mod placing;
 
 pub use fault::{LexFault, ParseFault};
 pub use front::{
     FrontPiece, PieceKind, ascii_text, comment_of, first_of, ill_formed_at, line_len, name_len,
     piece_of,
 };
-pub use within::place_within;
+pub use placing::place_within;
 use mg_text::Memory;
 use std::alloc::{AllocError, AllocFailed};
 
