@@ -12,8 +12,8 @@ returns-then-names_class c =
     at_class (scope_seen c.args.scope.now c.args.locals.now) c.args.place c.args.name.now (expr_of c.args.of.now) c.args.x.now c.requires
     c.in-None.ensures c.in-None-enum_named.ensures (sym c.if-names_class.true ∙ c.names_class.ensures)
 
-pub returns-in-None-enum_named : goal.returns-in-None-enum_named
-returns-in-None-enum_named c =
+pub returns-else-names_class : goal.returns-else-names_class
+returns-else-names_class c =
     at_nothing (scope_seen c.args.scope.now c.args.locals.now) c.args.place c.args.name.now (expr_of c.args.of.now) c.args.x.now c.requires
     c.in-None.ensures c.in-None-enum_named.ensures (sym c.if-names_class.false ∙ c.names_class.ensures)
     ∙ ap (λ p. Some (conditions.UnknownName, culprit p c.args.x.now)) (place-expr c.args.of.now)
