@@ -11,7 +11,7 @@ returns-in_default-clause-calls c =
     (offered_end tree c.args.self.now position h (at_no_state c.args.self.now.standing c.in_default.not-State))
 
 pub returns-in_default-clause-distinct : goal.returns-in_default-clause-distinct
-returns-in_default-clause-distinct c = λ tree position h. none_twice c.new.new.items c.new.ensures
+returns-in_default-clause-distinct c = λ tree position h. none_twice _ c.new.ensures
 
 pub returns-in_default-exits_of-clause-calls : goal.returns-in_default-exits_of-clause-calls
 returns-in_default-exits_of-clause-calls c =
