@@ -12,7 +12,11 @@ use Rattle.mg_projected.proofs.Once.{one_outcome}
 global_alike : (name : List ℕ) (a : reads.Answer) (f g : Fault) → IsSaidOfGlobal a f → IsSaidOfGlobal a g → AreAlike (fault_line name f) (fault_line name g)
 global_alike name (reads.Protocol p) f g h k = absurd h
 global_alike name reads.Syntax f g h k = inr (record {
-  file = name; first = f.place; second = g.place; says = ap (fault_line name) h; also = ap (fault_line name) k;
+  file = name;
+  first = f.place;
+  second = g.place;
+  says = ap (fault_line name) h;
+  also = ap (fault_line name) k;
 })
 global_alike name _ f g h k = inl (ap (fault_line name) (h ∙ sym k))
 

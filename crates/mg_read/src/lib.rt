@@ -11,8 +11,8 @@ pub use front::{
     FrontPiece, PieceKind, ascii_text, comment_of, first_of, ill_formed_at, line_len, name_len,
     piece_of,
 };
-pub use placing::place_within;
 use mg_text::Memory;
+pub use placing::place_within;
 use std::alloc::{AllocError, AllocFailed};
 
 /// Why tokens could not be read.

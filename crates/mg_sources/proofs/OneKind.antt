@@ -110,7 +110,11 @@ module _ (source : Source) where
       AreAlike (fault_line source.name f) (fault_line source.name g)
   said_protocol (of_protocols.Protocol local) f g h k = absurd h
   said_protocol of_protocols.Syntax f g h k = inr (record {
-    file = source.name; first = f.place; second = g.place; says = ap (fault_line source.name) h.0; also = ap (fault_line source.name) k.0;
+    file = source.name;
+    first = f.place;
+    second = g.place;
+    says = ap (fault_line source.name) h.0;
+    also = ap (fault_line source.name) k.0;
   })
   said_protocol _ f g h k = inl (ap (fault_line source.name) (h ∙ sym k))
 
@@ -118,7 +122,11 @@ module _ (source : Source) where
       AreAlike (fault_line source.name f) (fault_line source.name g)
   said_states (of_typestates.Read typestate) f g h k = absurd h
   said_states of_typestates.Syntax f g h k = inr (record {
-    file = source.name; first = f.place; second = g.place; says = ap (fault_line source.name) h.0; also = ap (fault_line source.name) k.0;
+    file = source.name;
+    first = f.place;
+    second = g.place;
+    says = ap (fault_line source.name) h.0;
+    also = ap (fault_line source.name) k.0;
   })
   said_states _ f g h k = inl (ap (fault_line source.name) (h ∙ sym k))
 
@@ -126,7 +134,11 @@ module _ (source : Source) where
       AreAlike (fault_line source.name f) (fault_line source.name g)
   said_classes (of_java.Read file) f g h k = absurd h
   said_classes of_java.Syntax f g h k = inr (record {
-    file = source.name; first = f.place; second = g.place; says = ap (fault_line source.name) h.0; also = ap (fault_line source.name) k.0;
+    file = source.name;
+    first = f.place;
+    second = g.place;
+    says = ap (fault_line source.name) h.0;
+    also = ap (fault_line source.name) k.0;
   })
   said_classes _ f g h k = inl (ap (fault_line source.name) (h ∙ sym k))
 
