@@ -23,7 +23,7 @@ use Rattle.jv_core.specs.declared.tree.SessionCall.{SessionCall}
 use Rattle.jv_core.specs.Tree as Core
 use Rattle.jv_core.specs.Lookup.{text_at, class_text, enum_text}
 use Rattle.jv_core.specs.Meaning as core_meaning
-use Rattle.jv_names.specs.Resolves.{Numbers, IsClass, IsEnum, IsMethod, IsVar, IsSession, IsExpr, IsExprs, IsStmt, Resolves}
+use Rattle.jv_names.specs.Resolves.{Numbers, IsClass, IsEnum, IsMethod, IsSession, IsExpr, IsExprs, IsStmt, Resolves}
 use Rattle.jv_names.specs.Resolves as resolves
 use Rattle.jv_names.proofs.Rows.{Beside, bytes_differ}
 use Rattle.jv_names.proofs.Tables.{aligned_at, class_name, text_is, enum_text_is, constant_is, fields_same, method_is}

@@ -1,6 +1,5 @@
 -- A program has one fault of its types: each condition has one culprit at each element that it is judged at.
 use Rattle.std.proofs.Common.{◌≡◌, ℕ, false, List, [], Option, Some, None, sym, ap, ◌∙◌}
-use Rattle.mg_text.specs.Call.{Name}
 use Rattle.mg_read.specs.Culprit.{Culprit, culprit}
 use Rattle.mg_read.specs.FirstLaws.{IsSingle}
 use Rattle.mg_read.proofs.Judging.{one_answer, one_first}

@@ -1,7 +1,6 @@
 -- The first refusal of files that aren't accepted has one line, but for the place of Syntax.
 use Rattle.std.proofs.Common.{◌≡◌, ℕ, List, sym, ◌∙◌, subst, inl}
 use Rattle.jv_core.specs.Tree as Core
-use Rattle.use_rules.specs.declared.demand.Demand.{Demand}
 use Rattle.use_check.specs.Verdict.{FailsFirst}
 use Rattle.use_check.proofs.First.{one_demand}
 use Rattle.mg_sources.specs.Files.{Source}

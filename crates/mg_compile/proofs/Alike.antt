@@ -1,5 +1,5 @@
 -- The first refusal of files that aren't compiled has one line, but for the place of Syntax.
-use Rattle.std.proofs.Common.{◌≡◌, ℕ, List, Option, Some, sym, ap, ◌∙◌, subst, inl}
+use Rattle.std.proofs.Common.{◌≡◌, ℕ, List, Some, sym, ap, ◌∙◌, subst, inl}
 use Rattle.jv_core.specs.Tree as Core
 use Rattle.gen_rules.specs.Limits.{Excess, IsFirstExcess}
 use Rattle.gen_rules.proofs.Files.{only_excess}

@@ -1,5 +1,5 @@
 -- The first refusal of a file of a global protocol has one line, but for the place of Syntax.
-use Rattle.std.proofs.Common.{◌≡◌, ℕ, List, [], ◌∷◌, codes, refl, sym, ap, ◌∙◌, subst, inl, inr}
+use Rattle.std.proofs.Common.{◌≡◌, ℕ, List, [], ◌∷◌, sym, ap, ◌∙◌, subst, inl, inr}
 use Rattle.scr_global_read.specs.Outcome as reads
 use Rattle.scr_project.specs.Outcome as projects
 use Rattle.scr_read.specs.Outcome as scr

@@ -1,7 +1,7 @@
 -- The first refusal of files has one line, but for the place of Syntax.
-use Rattle.std.proofs.Common.{◌≡◌, ℕ, List, Option, None, Some, codes, refl, sym, ap, ◌∙◌, subst, inl}
+use Rattle.std.proofs.Common.{◌≡◌, ℕ, List, Option, Some, codes, refl, sym, ap, ◌∙◌, subst, inl}
 use Rattle.mg_text.specs.Places.{start_of}
-use Rattle.mg_read.specs.First.{Judged, clean, here, later, with_earlier}
+use Rattle.mg_read.specs.First.{Judged, clean, here, later}
 use Rattle.mg_read.specs.FirstLaws.{IsSingle}
 use Rattle.mg_read.proofs.Judging.{no_both, one_answer}
 use Rattle.scr_tree.specs.Tree.{LocalTree}

@@ -1,14 +1,12 @@
 -- A command gives one thing of the same contents, but for the place of Syntax.
-use Rattle.std.proofs.Common.{◌≡◌, ◌≢◌, ◌⊎◌, ℕ, Option, Some, None, List, [], ◌∷◌, ◌++◌, map, codes, refl, sym, ap, ◌∙◌, subst, inl, inr, arith}
+use Rattle.std.proofs.Common.{◌≡◌, ◌≢◌, ◌⊎◌, ℕ, Option, Some, List, [], ◌∷◌, ◌++◌, map, codes, refl, sym, ap, ◌∙◌, subst, inl, inr, arith}
 use Rattle.std.proofs.lemmas.List.{map-append}
 use Rattle.mg_text.specs.Call.{Call}
 use Rattle.mg_text.specs.declared.place.Place.{Place}
 use Rattle.mg_read.specs.FirstLaws.{IsSingle}
 use Rattle.mg_read.proofs.Judging.{one_answer}
 use Rattle.scr_tree.specs.Tree.{LocalTree}
-use Rattle.ts_tree.specs.Typestate.{Typestate}
 use Rattle.ts_read.specs.Layout.{layout}
-use Rattle.stm_api.specs.Api.{ApiText, IsApi}
 use Rattle.scr_tree.specs.Meaning.{protocol_of}
 use Rattle.scr_tree.specs.Traces.{Trace}
 use Rattle.mg_calls.specs.Calls.{CallAt, IsBadLine}
@@ -50,7 +48,7 @@ use Rattle.mg_top.specs.Commands.{TranslateGives, translated, not_translated, Co
 use Rattle.mg_top.specs.Commands.{CompileGives, compiled, not_compiled, RunGives, ran, not_run, ExecGives, executed, not_executed}
 use Rattle.mg_top.specs.Commands.{RefineGives, refined, not_refined, ProjectGives, projected, not_projected, Yields}
 use Rattle.mg_top.specs.Commands as commands
-use Rattle.mg_top.specs.Once.{SameActions, OneYield, YieldsOnce}
+use Rattle.mg_top.specs.Once.{SameActions, YieldsOnce}
 use Rattle.mg_top.proofs.Exact.{one_status, never_refused, listed_once}
 
 -- ---- translate

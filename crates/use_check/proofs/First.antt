@@ -1,5 +1,5 @@
 -- The first demand that fails is one: the least tables have the same members, and these decide what fails.
-use Rattle.std.proofs.Common.{◌≡◌, List, Bool, Some, slice_get, sym, ap, subst, ◌∙◌, refl}
+use Rattle.std.proofs.Common.{◌≡◌, Some, slice_get, sym, ap, subst, ◌∙◌, refl}
 use Rattle.jv_core.specs.Tree.{Program}
 use Rattle.use_rules.specs.declared.demand.Demand.{Demand}
 use Rattle.use_rules.specs.declared.demand.DemandKind.{DemandKind}

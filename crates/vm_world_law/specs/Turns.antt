@@ -1,8 +1,6 @@
 -- A run of several roles: turns in an order that is repeated as a cycle, up to a number of instructions.
 use Rattle.std.specs.Prelude.{◌≡◌, ◌⊎◌, ◌<◌, ◌≤◌, ◌+◌, ◌%◌, ℕ, zero, suc, List, [], ◌∷◌, ◌++◌, length, get_or, Option, Some, None, slice_get, Bool, true, false, Contains}
 use Rattle.std.specs.List.{list_any}
-use Rattle.mg_text.specs.Call.{Name}
-use Rattle.mg_text.specs.declared.event.Ending.{Ending}
 use Rattle.mg_text.specs.declared.event.Ending.TheVariants as endings
 use Rattle.vm_model.specs.Program.{Program}
 use Rattle.vm_world_law.specs.declared.stand.Stand.{Stand}
