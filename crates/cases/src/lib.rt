@@ -24,12 +24,14 @@
 //! ```
 #![tactic(auto)]
 
+mod answer;
 mod case;
 mod escapes;
 mod fault;
 mod reading;
 mod telling;
 
+pub use answer::{Answer, fault_text, plain, told};
 pub use case::{Case, File, files_of};
 pub use fault::CasesFault;
 pub use reading::cases_of;

@@ -1,8 +1,8 @@
 //! Class files that are read, and written as they were.
 
-use crate::answer::Answer;
 use crate::spelling::{add_bytes, byte_of, number_of};
 use crate::unanswered::Unanswered;
+use cases::Answer;
 use cls_bytes::{ClassFault, read_class, write_class};
 use cls_code::CodeFault;
 use cls_tree::Class;

@@ -1,9 +1,9 @@
 //! Codes that are read, and encoded as they were.
 
-use crate::answer::Answer;
 use crate::instrs::tell_instrs;
 use crate::spelling::bytes_of;
 use crate::unanswered::Unanswered;
+use cases::Answer;
 use cls_code::{CodeFault, decode, encode};
 use cls_tree::Instr;
 use mg_text::{List, Memory};

@@ -2,11 +2,11 @@
 
 ghost use Rattle.std.specs.Prelude.{◌<◌, length};
 
-use crate::answer::Answer;
 use crate::classes::read;
 use crate::running::tell_class;
 use crate::spelling::{bytes_of, joined, number_of};
 use crate::unanswered::Unanswered;
+use cases::Answer;
 use mg_text::Memory;
 use std::alloc::{AllocError, Global};
 

@@ -1,7 +1,7 @@
 //! Instructions as lines: the opcode, and what stands behind it.
 
-use crate::answer::Answer;
 use crate::spelling::{byte_of, number_of};
+use cases::Answer;
 use cls_tree::{Args, Instr};
 use mg_text::Memory;
 

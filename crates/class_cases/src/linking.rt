@@ -1,8 +1,8 @@
 //! What described classes link to, and what is wrong with them.
 
-use crate::answer::Answer;
 use crate::described::class_of;
 use crate::unanswered::Unanswered;
+use cases::Answer;
 use cls_tree::Class;
 use mg_text::{List, Memory};
 use std::alloc::Global;

@@ -3,7 +3,6 @@
 //! of its file.
 #![tactic(auto)]
 
-mod answer;
 mod classes;
 mod codes;
 mod described;
@@ -16,10 +15,9 @@ mod texts;
 mod unanswered;
 mod walks;
 
-use crate::answer::Answer;
 use crate::spelling::bytes_of;
 use crate::unanswered::Unanswered;
-use cases::{Answers, CasesFault, tell};
+use cases::{Answer, Answers, CasesFault, tell};
 use mg_text::Memory;
 use std::alloc::Global;
 use std::fs;

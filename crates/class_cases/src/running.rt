@@ -1,10 +1,10 @@
 //! What machines do, step by step, in a run with no other roles.
 
-use crate::answer::Answer;
 use crate::described::class_of;
 use crate::linking::link;
 use crate::spelling::number_of;
 use crate::unanswered::Unanswered;
+use cases::Answer;
 use cls_tree::Class;
 use mg_text::Memory;
 use std::alloc::Global;

@@ -3,10 +3,10 @@
 
 ghost use Rattle.std.specs.Prelude.{◌<◌, length};
 
-use crate::answer::Answer;
 use crate::classes::{is_written_back, read};
 use crate::spelling::joined;
 use crate::unanswered::Unanswered;
+use cases::Answer;
 use cls_tree::{Class, Const};
 use mg_text::Memory;
 use std::alloc::{AllocError, Global};

@@ -1,8 +1,8 @@
 //! All fronts of the bytes of a class file, and all bytes that differ from them in one place.
 
-use crate::answer::Answer;
 use crate::classes::{is_written_back, read};
 use crate::unanswered::Unanswered;
+use cases::Answer;
 use cls_bytes::ClassFault;
 use mg_text::Memory;
 use std::alloc::{AllocError, Global};

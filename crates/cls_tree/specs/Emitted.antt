@@ -137,6 +137,3 @@ class_for name texts =
 abbrev pub code_of : List Member → List Instr
 code_of [] = []
 code_of (m ∷ ms) = elim m.attributes [ [] ↦ [] | a ∷ more ↦ elim a [ Coded c ↦ c.instrs | Other name bytes ↦ [] ] ]
-
-abbrev pub main_code : Name → List (List ℕ) → List Instr
-main_code name texts = code_of (class_for name texts).methods

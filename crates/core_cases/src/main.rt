@@ -3,10 +3,12 @@
 //! What is wanted is read off the sources by hand.
 #![tactic(auto)]
 
+mod codes;
 mod cores;
 mod flows;
 mod forms;
 mod frames;
+mod judged;
 mod keys;
 mod program;
 mod used;

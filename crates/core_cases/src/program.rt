@@ -3,7 +3,7 @@
 ghost use Rattle.std.specs.Prelude.{IsTrue};
 ghost use Rattle.mg_sources.specs.Files.{EndsWith, Kind, suffix_of};
 
-use crate::{cores, flows, forms, keys, used};
+use crate::{codes, cores, flows, forms, judged, keys, used};
 use cases::{File, files_of};
 use jv_core::Core;
 use mg_program::resolve_program;
@@ -16,6 +16,9 @@ use std::alloc::Global;
 pub(crate) fn answer(alloc: Global, asked: &str, text: &str) -> Result<String, Memory> {
     let files = files_of(alloc, text)?;
     let files = files.as_slice();
+    if asked == "judged.txt" {
+        return judged::told(alloc, files);
+    }
     match core_of(alloc, files) {
         Ok(core) => answer_of(alloc, asked, files, &core),
         Err(Stop::Refused(line)) => without_end(alloc, line.as_str()),
@@ -33,6 +36,7 @@ fn answer_of(
     match asked {
         "forms.txt" => forms::last_body(alloc, core),
         "cores.txt" => cores::shown(alloc, core),
+        "codes.txt" => codes::last_code(alloc, core),
         "contexts.txt" => flows::all_contexts(alloc, core),
         "flows.txt" => flows::shown(alloc, files, core),
         "tables.txt" => keys::held(alloc, core),

@@ -10,8 +10,8 @@ ghost use Rattle.gen_members.specs.Parts.{compiled_of};
 use gen_code::{MethodCode, method_code};
 use gen_init::constructor_code;
 use gen_members::Making;
-use gen_refs::{method_descriptor, name_text};
-use jv_core::{Core, CoreClass, CoreMethod, MethodKind};
+use gen_refs::method_descriptor;
+use jv_core::{Core, CoreClass, CoreMethod, MethodKind, name_text};
 use mg_text::{List, Memory};
 use std::alloc::Global;
 

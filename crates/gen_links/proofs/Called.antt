@@ -9,7 +9,7 @@ use Rattle.ts_tree.specs.Proper.{AreDistinct}
 use Rattle.cls_tree.specs.Pool.{Reference}
 use Rattle.vm_model.specs.Program as machine
 use Rattle.vm_model.specs.Linked.{fits_code}
-use Rattle.vm_model.specs.Links.{Outline, UnknownMember, is_member, is_static, built_in}
+use Rattle.vm_model.specs.Links.{Outline, is_member, is_static, built_in}
 use Rattle.vm_model.specs.Links.{built_members, member_args, named_args, loaded_member, method_of_class, args_by, method_types}
 use Rattle.jv_core.specs.declared.program.MethodKind.{MethodKind}
 use Rattle.jv_core.specs.declared.program.MethodKind.TheVariants as kinds
@@ -212,7 +212,7 @@ module _ (p : Program) (core : IsCore p) (plain : HasPlainNames p) (all : List (
       names_as count op args h found fits =
           names_by os count op called (method_types (text_at p m.name) (method_descriptor p m)) args
           (class_known p core plain all compiled_all c k at)
-          (descriptor_good p core plain all compiled_all (UnknownMember (text_at p m.name)) m h) found fits
+          (descriptor_good p core plain all compiled_all None m h) found fits
 
       by_kind : (count op : ℕ) → IsMethod p m → (kind : MethodKind) → m.kind ≡ kind → IsCalledBy kind op → NamesMethod os count op called
       by_kind count op h kinds.Main e g = absurd g
@@ -244,7 +244,7 @@ module _ (p : Program) (core : IsCore p) (plain : HasPlainNames p) (all : List (
     knows_init_of count t e =
         names_by os count 183 init (method_types init_name init_descriptor) (machine.Method c 0)
         (class_known p core plain all compiled_all c k at)
-        (init_described p core plain all compiled_all (UnknownMember init_name))
+        (init_described p core plain all compiled_all None)
         (ap (named_args os 183 init) (not_183 init (plain_class p core plain all compiled_all c k at))
         ∙ ap (loaded_member os 183 init.member) (named_class p core plain all compiled_all c k at)
         ∙ ap (args_by (machine.Method c)) (ap (method_of_class init.member false) it.outline ∙ init_position t e)) refl

@@ -28,7 +28,7 @@ module _ (p : Program) (core : IsCore p) (plain : HasPlainNames p) (all : List (
       AllByRecursion (λ d. field_flaw os d ≡ None) (map (declared_field p) ds)
   fields_good [] h = tt
   fields_good (d ∷ ds) h =
-      (field_described p core plain all compiled (BadDescriptor (field_descriptor p d.ty)) d.ty (h.0).type, fields_good ds h.1)
+      (field_described p core plain all compiled (Some (BadDescriptor (field_descriptor p d.ty))) d.ty (h.0).type, fields_good ds h.1)
 
   methods_good : (ms : List Method) (cs : List Compiled) → AreCompiled p ms cs → AllByRecursion (IsMethod p) ms →
       AllByRecursion (λ d. method_flaw os d ≡ None) (map declared_method cs)
@@ -37,7 +37,7 @@ module _ (p : Program) (core : IsCore p) (plain : HasPlainNames p) (all : List (
   methods_good (m ∷ ms) [] h g = absurd h
   methods_good (m ∷ ms) (c ∷ cs) h g = (
     subst (λ x. method_flaw os (declared_method x) ≡ None) (sym (h.0).2)
-        (descriptor_good p core plain all compiled (BadDescriptor (method_descriptor p m)) m g.0),
+        (descriptor_good p core plain all compiled (Some (BadDescriptor (method_descriptor p m))) m g.0),
     methods_good ms cs h.1 g.1,
   )
 
@@ -45,7 +45,7 @@ module _ (p : Program) (core : IsCore p) (plain : HasPlainNames p) (all : List (
       AllByRecursion (λ d. method_flaw os d ≡ None) (map declared_method cs) →
       AllByRecursion (λ d. method_flaw os d ≡ None) (map declared_method (constructors p c k t ++ cs))
   with_constructors c k None cs h = h
-  with_constructors c k (Some t) cs h = (init_described p core plain all compiled (BadDescriptor init_descriptor), h)
+  with_constructors c k (Some t) cs h = (init_described p core plain all compiled (Some (BadDescriptor init_descriptor)), h)
 
   class_good : (c : ℕ) (k : Class) (cs : List Compiled) → slice_get p.classes c ≡ Some k → IsCompiledClass p c k cs →
       HasGoodDescriptors os (outline_of p k cs)

@@ -1,6 +1,6 @@
 -- The descriptors of a program's fields and methods are read as their types, whose classes are all known.
 use Rattle.std.proofs.Common.{◌≡◌, ◌≢◌, ℕ, zero, suc, Bool, true, false, ◌||◌, not, List, [], ◌∷◌, ◌++◌, map}
-use Rattle.std.proofs.Common.{take, Some, None, option_map, slice_get, refl, sym}
+use Rattle.std.proofs.Common.{take, Option, Some, None, option_map, slice_get, refl, sym}
 use Rattle.std.proofs.Common.{ap, ap₂, ◌∙◌, subst, is_some, arith, if◌then◌else◌, codes}
 use Rattle.std.specs.List.{AllByRecursion}
 use Rattle.std.specs.Str.{bytes_eq}
@@ -106,7 +106,7 @@ module _ (p : Program) (core : IsCore p) (plain : HasPlainNames p) (all : List (
       = (field_exact (field_descriptor p t) (type_in p t)).1 (descriptors.plain (type_plain t h) refl) in
       ap (λ x. elim x [ None ↦ None | Some y ↦ Some (y ∷ []) ]) read
 
-  pub field_described : (flaw : Flaw) (t : CoreType) → IsUsable p t →
+  pub field_described : (flaw : Option Flaw) (t : CoreType) → IsUsable p t →
       descriptor_flaw here flaw (field_types (field_descriptor p t)) ≡ None
   field_described flaw t h = ap (descriptor_flaw here flaw) (field_types_are t h) ∙ ap (option_map UnknownClass) (type_known t h [])
 
@@ -147,7 +147,7 @@ module _ (p : Program) (core : IsCore p) (plain : HasPlainNames p) (all : List (
       (not_main params result h r)
       ∙ ap (λ x. elim x [ None ↦ None | Some s ↦ Some (types_of_signature s) ]) read
 
-  pub method_described : (flaw : Flaw) (name : Name) (params : List CoreType) (result : CoreType) → AllByRecursion (IsUsable p) params →
+  pub method_described : (flaw : Option Flaw) (name : Name) (params : List CoreType) (result : CoreType) → AllByRecursion (IsUsable p) params →
       IsResult p result → descriptor_flaw here flaw (method_types name (descriptor_of p params result)) ≡ None
   method_described flaw name params result h r =
       ap (descriptor_flaw here flaw) (method_types_are name params result h r)
@@ -161,15 +161,15 @@ module _ (p : Program) (core : IsCore p) (plain : HasPlainNames p) (all : List (
   pub params_usable : (m : Method) → IsMethod p m → AllByRecursion (IsUsable p) (param_types m)
   params_usable m h = usable_params m.params m.slots h.slots
 
-  main_described : (flaw : Flaw) → descriptor_flaw here flaw (method_types (codes "main") (signature_text main_signature)) ≡ None
+  main_described : (flaw : Option Flaw) → descriptor_flaw here flaw (method_types (codes "main") (signature_text main_signature)) ≡ None
   unfolding signature_of
   main_described flaw = refl
 
-  pub init_described : (flaw : Flaw) → descriptor_flaw here flaw (method_types init_name init_descriptor) ≡ None
+  pub init_described : (flaw : Option Flaw) → descriptor_flaw here flaw (method_types init_name init_descriptor) ≡ None
   unfolding signature_of
   init_described flaw = refl
 
-  described : (flaw : Flaw) (m : Method) → IsMethod p m → (kind : MethodKind) → m.kind ≡ kind → IsOfKind p m kind →
+  described : (flaw : Option Flaw) (m : Method) → IsMethod p m → (kind : MethodKind) → m.kind ≡ kind → IsOfKind p m kind →
       descriptor_flaw here flaw (method_types (text_at p m.name) (method_descriptor p m)) ≡ None
   described flaw m h kinds.Main e k =
       ap₂ (λ x y. descriptor_flaw here flaw (method_types x (if is_main y
@@ -189,6 +189,6 @@ module _ (p : Program) (core : IsCore p) (plain : HasPlainNames p) (all : List (
       ∙ method_described flaw (text_at p m.name) (param_types m) m.result (params_usable m h) h.result
 
   -- the descriptor of each method of a core
-  pub descriptor_good : (flaw : Flaw) (m : Method) → IsMethod p m →
+  pub descriptor_good : (flaw : Option Flaw) (m : Method) → IsMethod p m →
       descriptor_flaw here flaw (method_types (text_at p m.name) (method_descriptor p m)) ≡ None
   descriptor_good flaw m h = described flaw m h m.kind refl h.kind

@@ -11,7 +11,7 @@ use Rattle.vm_model.specs.Program.{Args}
 use Rattle.vm_model.specs.Program as machine
 use Rattle.vm_model.specs.Types.{FieldType}
 use Rattle.vm_model.specs.Linked.{fits_code}
-use Rattle.vm_model.specs.Links.{Outline, Declared, UnknownMember, UnknownClass}
+use Rattle.vm_model.specs.Links.{Outline, Declared, UnknownClass}
 use Rattle.vm_model.specs.Links.{loaded, is_known, is_member, member_args}
 use Rattle.vm_model.specs.Links.{loaded_member, field_of_class, args_by}
 use Rattle.vm_model.specs.Links.{judged_args, judged_member, descriptor_flaw, field_types}
@@ -80,12 +80,12 @@ field_names p (d ∷ ds) = ap (λ xs. text_at p d.name ∷ xs) (field_names p ds
 -- what is known, described and found is a member
 pub names_by : (os : List Outline) (count op : ℕ) (r : Reference) (types : Option (List FieldType)) (args : Args) →
     is_known os r.class ≡ true →
-    descriptor_flaw os (UnknownMember r.member.name) types ≡ None → member_args os op r ≡ Some args → fits_code count op args ≡ true →
+    descriptor_flaw os None types ≡ None → member_args os op r ≡ Some args → fits_code count op args ≡ true →
     Names os count op r types
 names_by os count op r types args k d f fits = record {
   args = args;
   judged =
-      ap (λ b. if b then judged_member os op r (descriptor_flaw os (UnknownMember r.member.name) types) else Err (UnknownClass r.class)) k
+      ap (λ b. if b then judged_member os op r (descriptor_flaw os None types) else Err (UnknownClass r.class)) k
       ∙ ap (judged_member os op r) d ∙ ap (judged_args r.member.name) f;
   found = f;
   fits = fits;
@@ -143,6 +143,6 @@ module _ (p : Program) (core : IsCore p) (plain : HasPlainNames p) (all : List (
         subst (NamesField here count op) (sym field_is)
         (names_by here count op referred (field_types (field_descriptor p d.ty)) (machine.Field c f)
         (class_known p core plain all compiled c k at)
-        (field_described p core plain all compiled (UnknownMember (text_at p d.name)) d.ty
+        (field_described p core plain all compiled None d.ty
         (every (λ x. Rattle.jv_core.specs.Members.IsField p x) k.fields (core.classes c k at).fields f d of).type)
         (field_found op e) (field_fits count op e))

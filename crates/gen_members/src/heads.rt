@@ -14,8 +14,8 @@ ghost use Rattle.gen_members.specs.Parts.{part_excess, AreFine, FirstTold};
 use crate::faults::{GenFault, Telling, judge};
 use cls_tree::Member;
 use gen_pool::{Pool, class_const, short};
-use gen_refs::{field_descriptor, name_text};
-use jv_core::{Core, CoreClass, CoreField};
+use gen_refs::field_descriptor;
+use jv_core::{Core, CoreClass, CoreField, name_text};
 use mg_text::List;
 use std::alloc::Global;
 

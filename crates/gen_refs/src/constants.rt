@@ -9,11 +9,11 @@ ghost use Rattle.gen_pool.specs.Made.{IsMade, IsFrontOf};
 ghost use Rattle.gen_refs.specs.Constants.{constant_of, field_of_reference, method_of_reference};
 
 use crate::descriptors::{field_descriptor, method_descriptor};
-use crate::names::{class_name, name_text};
+use crate::names::class_name;
 use crate::session::{session_descriptor, session_name};
 use gen_code::{BuiltIn, Operand};
 use gen_pool::{Pool, class_const, field_const, int_const, method_const, text_const};
-use jv_core::{Core, CoreField};
+use jv_core::{Core, CoreField, name_text};
 use mg_text::Memory;
 use std::alloc::Global;
 

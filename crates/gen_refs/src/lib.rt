@@ -9,4 +9,4 @@ mod session;
 
 pub use constants::constant;
 pub use descriptors::{field_descriptor, method_descriptor};
-pub use names::{class_name, name_text};
+pub use names::class_name;

@@ -46,7 +46,7 @@ use Rattle.gen_sound.specs.Following.{Moment, Comes, EndsAlike, Follows}
 use Rattle.gen_sound.specs.Related.{Running, moment, flat, flat_given, RunsCode}
 use Rattle.world_meant_law.specs.Meant.{Holds}
 use Rattle.gen_sound.specs.Standing.{return_of}
-use Rattle.gen_sound.specs.Plain.{ArePlain}
+use Rattle.gen_sound.proofs.Plain.{ArePlain}
 use Rattle.gen_sound.specs.Begun.{outermost}
 use Rattle.gen_sound.proofs.Steps.{stays, follows_paid}
 use Rattle.gen_sound.proofs.Acts.{acts_well}

@@ -12,8 +12,9 @@ use Rattle.jv_core.specs.Numbering.{numbers_from}
 use Rattle.jv_core.specs.Conditions.{IsCore}
 use Rattle.jv_sound.proofs.Lists.{is_first, in_more}
 use Rattle.jv_sound.proofs.Expressions.{method_ok}
-use Rattle.gen_sound.specs.Plain.{IsPlain, ArePlainArgs, IsPlainStmt, ArePlain, ArePlainGroups}
-use Rattle.gen_sound.specs.PlainMains.{HasMain, HasPlainMain}
+use Rattle.gen_sound.proofs.Plain.{IsPlain, ArePlainArgs, IsPlainStmt, ArePlain, ArePlainGroups}
+use Rattle.gen_sound.specs.Mains.{CoreHasMain}
+use Rattle.gen_sound.proofs.Coming.{HasPlainMain}
 
 module _ (p : Program) (may : List ℕ) (named : (n : ℕ) (k : Method) → slice_get p.methods n ≡ Some k → Contains may n) (m : Method) where
   mutual
@@ -89,7 +90,7 @@ every_method p n k at =
     subst (λ x. Contains (numbers_from 0 (length p.methods)) x) same (numbered 0 (length p.methods) n (slice_get_within p.methods n k at))
 
 -- so each `main` is
-pub main_plain : (p : Program) → IsCore p → (class : _) → HasMain p class → HasPlainMain p class
+pub main_plain : (p : Program) → IsCore p → (class : _) → CoreHasMain p class → HasPlainMain p class
 main_plain p ok class main = record {
   number = main.number;
   method = main.method;

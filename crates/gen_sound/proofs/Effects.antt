@@ -32,7 +32,7 @@ use Rattle.gen_sound.specs.Following.{Moment, Comes, Follows}
 use Rattle.gen_sound.specs.Related.{Running, moment, flat, flat_given, RunsCode}
 use Rattle.gen_sound.specs.Arriving.{Arrives}
 use Rattle.gen_sound.specs.Standing.{HoldsRow}
-use Rattle.gen_sound.specs.Plain.{IsPlain}
+use Rattle.gen_sound.proofs.Plain.{IsPlain}
 use Rattle.gen_sound.proofs.Calling.{CallsDo}
 use Rattle.gen_sound.proofs.Steps.{comes_on, ClosedBefore, follows_later}
 use Rattle.gen_sound.proofs.Forms.{next_place}

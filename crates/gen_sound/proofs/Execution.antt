@@ -43,7 +43,7 @@ use Rattle.jv_sound.proofs.Executions.{On, on_more, Lowers, exec_good, all_good}
 use Rattle.jv_sound.proofs.Lists.{some_is}
 use Rattle.gen_sound.specs.Following.{Moment, Comes, Follows}
 use Rattle.gen_sound.specs.Related.{Running, moment, flat, LaidObject, RunsCode}
-use Rattle.gen_sound.specs.Plain.{IsPlain, IsPlainStmt, ArePlain, ArePlainGroups}
+use Rattle.gen_sound.proofs.Plain.{IsPlain, IsPlainStmt, ArePlain, ArePlainGroups}
 use Rattle.gen_sound.specs.Arriving.{Arrives}
 use Rattle.gen_sound.specs.Standing.{HoldsRow}
 use Rattle.gen_sound.proofs.Steps.{stays, comes_on, follows_later}

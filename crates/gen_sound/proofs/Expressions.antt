@@ -27,7 +27,8 @@ use Rattle.jv_core.specs.Conditions.{IsCore}
 use Rattle.jv_core.specs.Types.{IsShown, IsArithmetic, IsLogic, IsOrder, IsEquality, IsCompared, IsVariable, IsCalled, Has, HasAll, HasTypestate}
 use Rattle.jv_core.specs.Types.{session_params, session_result}
 use Rattle.jv_core.specs.Types
-use Rattle.jv_core.specs.Meaning.{Lower, operator_of, session_of, result_of, runs_on_object, read, protocol_call, eval, eval_all, new_fields}
+use Rattle.jv_mean.specs.Operators.{operator_of}
+use Rattle.jv_core.specs.Meaning.{Lower, session_of, result_of, runs_on_object, read, protocol_call, eval, eval_all, new_fields}
 use Rattle.vm_model.specs.declared.value.Value.{Value as Held}
 use Rattle.vm_model.specs.declared.value.Value.TheVariants as held
 use Rattle.vm_model.specs.Program as linked
@@ -50,7 +51,7 @@ use Rattle.gen_sound.specs.Following.{Moment, Comes, Follows}
 use Rattle.gen_sound.specs.Arriving.{Arrives}
 use Rattle.gen_sound.specs.Related.{Running, moment, flat, Laid, LaidObject, RunsCode}
 use Rattle.world_meant_law.specs.Meant.{Holds}
-use Rattle.gen_sound.specs.Plain.{IsPlain, ArePlainArgs}
+use Rattle.gen_sound.proofs.Plain.{IsPlain, ArePlainArgs}
 use Rattle.gen_sound.proofs.Steps.{stays, ClosedBefore, follows_later, follows_then}
 use Rattle.gen_sound.proofs.Forms.{Does, does_value, Value_at, value_closed, arrives_later, next_place}
 use Rattle.gen_sound.proofs.Logic.{not_does, and_does, or_does}

@@ -34,5 +34,7 @@ pub mod Entering
 pub mod Calling
 pub mod Fields
 pub mod Making
+pub mod Plain
+pub mod Coming
 pub mod Covering
 pub mod PlainMains

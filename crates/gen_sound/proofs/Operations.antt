@@ -13,7 +13,7 @@ use Rattle.jv_core.specs.declared.program.CoreType.TheVariants as types
 use Rattle.jv_core.specs.Tree.{Method, Program}
 use Rattle.jv_core.specs.Conditions.{IsCore}
 use Rattle.jv_core.specs.Types.{IsOrder, IsCompared}
-use Rattle.jv_core.specs.Meaning.{operator_of}
+use Rattle.jv_mean.specs.Operators.{operator_of}
 use Rattle.vm_model.specs.declared.value.Value.{Value as Held}
 use Rattle.vm_model.specs.declared.value.Value.TheVariants as held
 use Rattle.vm_model.specs.declared.linked.Built.TheVariants as built

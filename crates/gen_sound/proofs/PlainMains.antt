@@ -25,9 +25,10 @@ use Rattle.gen_links.specs.Files.{HasPlainNames}
 use Rattle.jv_sound.proofs.Sound.{never_wrong}
 use Rattle.gen_sound.specs.Following.{Moment, Stopped, EndsAlike}
 use Rattle.world_meant_law.specs.Meant.{finish_of, Holds, Means, EndsSo, RunsAsMeant}
-use Rattle.gen_sound.specs.Plain.{ArePlain}
+use Rattle.gen_sound.proofs.Plain.{ArePlain}
 use Rattle.gen_sound.specs.Begun.{outermost, begun}
-use Rattle.gen_sound.specs.PlainMains.{DoesAsMeant, StandsAs, LinkedCodeRuns, PlainMainsRun, PlainMainsAgree, MainsAgree}
+use Rattle.gen_sound.specs.Mains.{StandsAs, LinkedCodeRuns, MainsAgree}
+use Rattle.gen_sound.proofs.Coming.{DoesWithin, PlainMainsRun, PlainMainsAgree}
 use Rattle.gen_sound.proofs.Agreeing.{further_is, ended_so, waits_so, goes_so}
 use Rattle.gen_sound.proofs.Bodies
 use Rattle.gen_sound.proofs.Loading.{linked_runs}
@@ -45,7 +46,7 @@ run_from : (p : Program) → IsCore p → HasPlainNames p → (all : List (List 
     slice_get p.methods number ≡ Some m → m.kind ≡ kinds.Main → (may : List ℕ) → Contains may number →
     ((n : ℕ) (m : Method) → Contains may n → slice_get p.methods n ≡ Some m → ArePlain may m.body) → (class method : ℕ) (code : List Instr) →
     StandsAs p all class method m code → (inputs : Inputs) (me : ℕ) (q : Messages) → Holds inputs q me [] → (budget : ℕ) →
-    DoesAsMeant me (linked_program p all) budget (begun (started (linked_program p all) class method) q)
+    DoesWithin me (linked_program p all) budget (begun (started (linked_program p all) class method) q)
     (ran (language p inputs) (Some (as_run p number m)) budget)
 run_from p ok names all made number m at main may among plain class method code h inputs me q holds budget =
     let program : linked.Program = linked_program p all in
@@ -70,8 +71,8 @@ plain_mains_run p ok names all made class main inputs me q holds start is budget
     let same_method : is.method ≡ h.method = some_is (sym is.main.has_main ∙ ap (λ c. main_in (class_at (linked_program p all) c)) same_class
     ∙ h.main.has_main) in
     let machine : start ≡ started (linked_program p all) h.class h.method = is.machine ∙ ap₂ (started (linked_program p all)) same_class same_method in
-    subst (λ r. DoesAsMeant me (linked_program p all) budget (begun start q) r) (ap (λ r. ran (language p inputs) r budget) (sym main.is))
-    (subst (λ s. DoesAsMeant me (linked_program p all) budget (begun s q) (ran (language p inputs) (Some (as_run p main.number main.method)) budget))
+    subst (λ r. DoesWithin me (linked_program p all) budget (begun start q) r) (ap (λ r. ran (language p inputs) r budget) (sym main.is))
+    (subst (λ s. DoesWithin me (linked_program p all) budget (begun s q) (ran (language p inputs) (Some (as_run p main.number main.method)) budget))
     (sym machine)
     (run_from p ok names all made main.number main.method main.at h.kind main.may main.among main.plain h.class h.method h.code h.stands inputs me q holds budget))
 

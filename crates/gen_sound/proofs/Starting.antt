@@ -28,7 +28,7 @@ use Rattle.jv_sound.proofs.Sound.{main_at, is_main_method}
 use Rattle.gen_links.specs.Files.{IsPlainName, HasPlainNames}
 use Rattle.gen_links.proofs.Apart.{passes_at, classes_apart}
 use Rattle.gen_links.proofs.Called.{methods_filtered, among, plain_names, none_is_init}
-use Rattle.gen_sound.specs.PlainMains.{StandsAs}
+use Rattle.gen_sound.specs.Mains.{StandsAs}
 use Rattle.gen_sound.proofs.Loading.{method_at}
 
 -- the element at a position

@@ -41,7 +41,7 @@ use Rattle.jv_sound.proofs.Executions.{on_more}
 use Rattle.gen_sound.specs.Following.{Moment, Leads, Follows}
 use Rattle.gen_sound.specs.Related.{Running, moment, RunsCode}
 use Rattle.gen_sound.specs.Arriving.{Arrives}
-use Rattle.gen_sound.specs.Plain.{IsPlain}
+use Rattle.gen_sound.proofs.Plain.{IsPlain}
 use Rattle.gen_sound.proofs.Calling.{CallsDo}
 use Rattle.gen_sound.proofs.Steps.{comes_on, lead_of, follows_then}
 use Rattle.gen_sound.proofs.Taking.{step_takes}

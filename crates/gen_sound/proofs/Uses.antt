@@ -34,7 +34,7 @@ use Rattle.gen_sound.specs.Following.{Moment, Follows}
 use Rattle.gen_sound.specs.Related.{Running, moment, flat, Laid, RunsCode}
 use Rattle.gen_sound.specs.Arriving.{Arrives}
 use Rattle.gen_sound.specs.Standing.{HoldsRow}
-use Rattle.gen_sound.specs.Plain.{IsPlain}
+use Rattle.gen_sound.proofs.Plain.{IsPlain}
 use Rattle.gen_sound.proofs.Calling.{CallsDo}
 use Rattle.gen_sound.proofs.Forms.{Does as DoesForms, Unless_at, When_at}
 use Rattle.gen_sound.proofs.Slots.{as_long, laid_at}

@@ -2,6 +2,5 @@ pub mod Following
 pub mod Related
 pub mod Arriving
 pub mod Standing
-pub mod Plain
 pub mod Begun
-pub mod PlainMains
+pub mod Mains

@@ -2,7 +2,7 @@
 //! There is no running code here; each function carries a law.
 #![tactic(auto)]
 
-ghost use Rattle.gen_sound.specs.PlainMains.{LinkedCodeRuns, MainsAgree, PlainMainsAgree, PlainMainsRun};
+ghost use Rattle.gen_sound.specs.Mains.{LinkedCodeRuns, MainsAgree};
 
 /// In the linked program of a core each frame of a method runs the code that the templates give for
 /// it: at each place stands what is linked of the instruction there, and the frame is as large as they say.
@@ -13,10 +13,7 @@ pub fn linked_code_runs()
 /// The machine that starts at a `main` runs its code as it means: with the same events, and to the
 /// same ending, the same wait for a message, or, where the meaning's budget is spent, on for at least
 /// as many steps. So the run shows nothing else: where it ends or waits the meaning does, and what it
-/// shows on the way the meaning shows. `meant` and `agree` say so of a `main` beside which the methods
-/// are named that it may come to, `whole` of each class with a `main`: its methods may call all methods.
-pub fn plain_mains_run()
-    ensures meant { PlainMainsRun }
-    ensures agree { PlainMainsAgree }
-    ensures whole { MainsAgree }
+/// shows on the way the meaning shows.
+pub fn mains_run_as_meant()
+    ensures { MainsAgree }
 {}

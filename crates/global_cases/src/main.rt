@@ -3,10 +3,7 @@
 //! Each file of cases has its kind of answer, and those that are not the wanted ones are printed.
 #![tactic(auto)]
 
-mod answer;
-
-use answer::{Answer, fault_text, plain};
-use cases::{Answers, CasesFault, tell};
+use cases::{Answer, Answers, CasesFault, fault_text, plain, tell};
 use mg_projected::{ProjectedFault, projected};
 use mg_text::Memory;
 use scr_global_read::read_global;

@@ -19,7 +19,7 @@ use Rattle.jv_tree.specs.Tokens as tokens
 use Rattle.jv_tree.specs.Expressions.{Language, AreMoreArgs, AreArgs, AreArguments, is_number_kind, starts_number, sign_of, looseness, IsChain, IsSimple, IsPrimary, IsPost, IsUnary, IsBinary, IsWhole, IsInner, IsExpr}
 use Rattle.jv_lex.specs.Letters.{is_word_start}
 use Rattle.jv_lex.specs.Signs.{goes_on}
-use Rattle.jv_print.specs.Layout.{expr_text, args_text, truth_text, op_text, quoted_text, has_operator, is_apart}
+use Rattle.jv_print.specs.Layout.{expr_text, args_text, op_text, quoted_text, has_operator, is_apart}
 use Rattle.jv_print.specs.Layout as layout
 use Rattle.jv_back.specs.Bare.{bare, bare_args, nowhere}
 use Rattle.jv_back.proofs.Told.{NoWord, NoTail, tail_word, Told, nothing, convert, within, space_then, Front, sign_then, mark_then, IsWord, word_then, word_told, plain_word, IsNamed, named, Both, both}

@@ -3,13 +3,10 @@
 use Rattle.std.specs.Prelude.{ℕ, Bool, true, false, List, [], ◌∷◌, Option, Some, None, ◌||◌, ◌&&◌, suc, pos, nat_eq, slice_get, if◌then◌else◌, option_map, option_and_then}
 use Rattle.std.specs.Str.{bytes_eq}
 use Rattle.mg_text.specs.Call.{Name}
-use Rattle.jv_tree.specs.declared.tree.Op.{Op}
-use Rattle.jv_tree.specs.declared.tree.Op.TheVariants as ops
 use Rattle.jv_mean.specs.Values.{Value, Row, Shared, Lives, Here, Inputs, Ended, Wrong, find, put}
 use Rattle.jv_mean.specs.Values as values
 use Rattle.jv_mean.specs.Doing.{Run, ◌>>=◌, give, stop, found, valued, valuing, within, declared, truth, constant}
-use Rattle.jv_mean.specs.Operators.{Operator, binary, negative, opposite, equal_texts, joined_texts, print}
-use Rattle.jv_mean.specs.Operators as operators
+use Rattle.jv_mean.specs.Operators.{operator_of, binary, negative, opposite, equal_texts, joined_texts, print}
 use Rattle.jv_mean.specs.Objects.{object_of, read_field, write_field, make, receiver, telling}
 use Rattle.jv_mean.specs.Messages.{session}
 use Rattle.jv_mean.specs.Messages as messages
@@ -29,21 +26,6 @@ use Rattle.jv_core.specs.Tree.{Stmt, Block, Empty, Local, Assign, If, IfElse, Wh
 use Rattle.jv_core.specs.Tree.{Stmts, NoStmt, Then, Declare, Groups, NoGroup, Group, Field, Method, Program}
 use Rattle.jv_core.specs.Lookup.{text_at, class_text, enum_text, variable_type, class_numbered, is_main}
 use Rattle.jv_core.specs.Numbering.{numbers_from}
-
-abbrev pub operator_of : Op → Operator
-operator_of ops.Or = operators.Or
-operator_of ops.And = operators.And
-operator_of ops.Eq = operators.Equal
-operator_of ops.Ne = operators.Unequal
-operator_of ops.Lt = operators.Less
-operator_of ops.Le = operators.AtMost
-operator_of ops.Gt = operators.Greater
-operator_of ops.Ge = operators.AtLeast
-operator_of ops.Add = operators.Plus
-operator_of ops.Sub = operators.Minus
-operator_of ops.Mul = operators.Times
-operator_of ops.Div = operators.Divide
-operator_of ops.Rem = operators.Remain
 
 abbrev pub session_of : SessionCall → messages.SessionCall
 session_of calls.Send = messages.Send

@@ -4,6 +4,7 @@
 
 mod program;
 mod resolved;
+mod texts;
 mod tree;
 
 pub use jv_tree::Op as CoreOp;
@@ -11,6 +12,7 @@ pub use program::{
     CoreClass, CoreEnum, CoreField, CoreLoop, CoreMethod, CoreSlot, CoreType, MethodKind,
 };
 pub use resolved::Core;
+pub use texts::name_text;
 pub use tree::{
     CoreExpr, CoreExprKind, CoreGroup, CoreStmt, CoreStmtKind, CoreVar, SessionCall, Var,
 };

@@ -58,9 +58,9 @@ abbrev pub seen : {S A : Type 0} → (of : S → List Event) → Outcome S A →
 seen of (Gives a s) = of s
 seen of (Ends f events) = events
 
--- b is a with later events
-pub record Prefix (a b : List Event) : Type 0 where
-  pub later : List Event
+-- b is a with later items
+pub record Prefix {A : Type 0} (a b : List A) : Type 0 where
+  pub later : List A
   pub is : b ≡ a ++ later
 
 -- the same, or a spent budget and more events

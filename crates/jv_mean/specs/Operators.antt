@@ -6,12 +6,30 @@ use Rattle.std.specs.Fmt.{signed_decimal}
 use Rattle.std.specs.Str.{bytes_eq}
 use mir.Syntax.{w32}
 use Rattle.mg_text.specs.declared.event.Event.TheVariants as seen
+use Rattle.jv_tree.specs.declared.tree.Op.{Op}
+use Rattle.jv_tree.specs.declared.tree.Op.TheVariants as ops
 use Rattle.jv_mean.specs.Values.{Value, Int, Truth, Text, Object, Constant, Zero, Wrong, Shared}
 use Rattle.jv_mean.specs.Values as values
 use Rattle.jv_mean.specs.Doing.{Run, ◌>>=◌, give, stop, note, found, number, truth, text}
 
 pub data Operator : Type 0 where
   Or And Equal Unequal Less AtMost Greater AtLeast Plus Minus Times Divide Remain : Operator
+
+-- what stands for an operator of the trees
+abbrev pub operator_of : Op → Operator
+operator_of ops.Or = Or
+operator_of ops.And = And
+operator_of ops.Eq = Equal
+operator_of ops.Ne = Unequal
+operator_of ops.Lt = Less
+operator_of ops.Le = AtMost
+operator_of ops.Gt = Greater
+operator_of ops.Ge = AtLeast
+operator_of ops.Add = Plus
+operator_of ops.Sub = Minus
+operator_of ops.Mul = Times
+operator_of ops.Div = Divide
+operator_of ops.Rem = Remain
 
 abbrev pub wrap : ℤ → ℤ
 wrap z = int_wrap w32 z

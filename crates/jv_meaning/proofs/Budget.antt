@@ -17,7 +17,8 @@ use Rattle.jv_mean.proofs.Expressions as expressions
 use Rattle.jv_mean.proofs.Further.{further_shares, lives_closed, within_further, declared_further, assigned_further, same_exits}
 use Rattle.jv_mean.proofs.Further as further
 use Rattle.jv_meaning.specs.Program.{Sources, class_named, enum_named}
-use Rattle.jv_meaning.specs.Names.{operator_of, session_named, method_of, main_of, Referent, ALocal, AField, NoVariable, referent, constant_named, new_fields}
+use Rattle.jv_mean.specs.Operators.{operator_of}
+use Rattle.jv_meaning.specs.Names.{session_named, method_of, main_of, Referent, ALocal, AField, NoVariable, referent, constant_named, new_fields}
 use Rattle.jv_meaning.specs.Meaning.{Lower, read, read_constant, member, write_own, write_member, write, mine, case_label, has_group, Target, Own, OfClass, OfValue, target_of, passed, text_call, class_call, value_call, member_call, eval, eval_all, value, test, exec, exec_all, exec_from, exec_groups, language}
 use Rattle.jv_meaning.specs.Budget.{BudgetLaw}
 

@@ -14,7 +14,8 @@ use Rattle.jv_mean.specs.Messages.{session}
 use Rattle.jv_mean.specs.Statements.{Normal, Breaks, Continues, Returns, Does, next_do, assigned, Mine, while_turn, do_turn, is_default, case_at, any_label, after_switch}
 use Rattle.jv_mean.specs.Budget.{Below, Language, ran}
 use Rattle.jv_meaning.specs.Program.{Sources, class_named, enum_named, constant_position}
-use Rattle.jv_meaning.specs.Names.{operator_of, session_named, Called, method_of, main_of, Referent, ALocal, AField, NoVariable, referent, constant_named, new_fields}
+use Rattle.jv_mean.specs.Operators.{operator_of}
+use Rattle.jv_meaning.specs.Names.{session_named, Called, method_of, main_of, Referent, ALocal, AField, NoVariable, referent, constant_named, new_fields}
 
 abbrev pub Lower : Type 0
 Lower = Below Name Called Stmt

@@ -5,31 +5,12 @@ use Rattle.std.specs.Str.{bytes_eq}
 use Rattle.mg_text.specs.Call.{Name}
 use Rattle.ts_tree.specs.declared.parts.TypeName.{TypeName}
 use Rattle.ts_tree.specs.declared.parts.TypeName.TheVariants as types
-use Rattle.jv_tree.specs.declared.tree.Op.{Op}
-use Rattle.jv_tree.specs.declared.tree.Op.TheVariants as ops
 use Rattle.jv_tree.specs.declared.tree.Param.{Param}
 use Rattle.jv_tree.specs.Source.{Expr, Int, Truth, Text, Null, Variable, Member, Stmt, Block, Field, Method}
 use Rattle.jv_mean.specs.Values.{Value, Row, Here, find}
 use Rattle.jv_mean.specs.Values as values
-use Rattle.jv_mean.specs.Operators.{Operator}
-use Rattle.jv_mean.specs.Operators as operators
 use Rattle.jv_mean.specs.Messages.{SessionCall, Send, SendInt, SendTruth, SendText, Look, Take, TakeInt, TakeTruth, TakeText, Refuse}
 use Rattle.jv_meaning.specs.Program.{Sources, class_named, enum_named, field_named, method_named, constant_position}
-
-abbrev pub operator_of : Op → Operator
-operator_of ops.Or = operators.Or
-operator_of ops.And = operators.And
-operator_of ops.Eq = operators.Equal
-operator_of ops.Ne = operators.Unequal
-operator_of ops.Lt = operators.Less
-operator_of ops.Le = operators.AtMost
-operator_of ops.Gt = operators.Greater
-operator_of ops.Ge = operators.AtLeast
-operator_of ops.Add = operators.Plus
-operator_of ops.Sub = operators.Minus
-operator_of ops.Mul = operators.Times
-operator_of ops.Div = operators.Divide
-operator_of ops.Rem = operators.Remain
 
 -- the method of the class `Session` that has this name
 abbrev pub session_named : Name → Option SessionCall

@@ -4,13 +4,11 @@ use Rattle.std.specs.Prelude.{if◌then◌else◌, codes}
 use Rattle.std.specs.Str.{bytes_eq}
 use Rattle.std.proofs.lemmas.Slice.Eq.{bytes_eq-Decides}
 use Rattle.mg_text.specs.Call.{Name}
-use Rattle.jv_tree.specs.declared.tree.Op.{Op}
-use Rattle.jv_tree.specs.declared.tree.Op.TheVariants as ops
 use Rattle.jv_tree.specs.Source
 use Rattle.jv_mean.specs.Values.{Value, Text, Row, Shared, Instance, Inputs, Wrong}
 use Rattle.jv_mean.specs.Values as values
 use Rattle.jv_mean.specs.Doing.{Outcome, Gives, Ends, Run, and_then, ◌>>=◌, give, stop, found, valued, valuing}
-use Rattle.jv_mean.specs.Operators.{binary, equal_texts, joined_texts}
+use Rattle.jv_mean.specs.Operators.{operator_of, binary, equal_texts, joined_texts}
 use Rattle.jv_mean.specs.Objects.{object, object_of, make, telling}
 use Rattle.jv_mean.specs.Messages.{session}
 use Rattle.jv_mean.specs.Statements.{Completion, Does}
@@ -25,7 +23,7 @@ use Rattle.jv_core.specs.declared.tree.SessionCall.{SessionCall}
 use Rattle.jv_core.specs.Tree as Core
 use Rattle.jv_core.specs.Lookup.{text_at, class_text, enum_text}
 use Rattle.jv_core.specs.Meaning as core_meaning
-use Rattle.jv_names.specs.Resolves.{Numbers, IsClass, IsEnum, IsMethod, IsVar, IsSession, IsExpr, IsExprs, IsStmt, Resolves}
+use Rattle.jv_names.specs.Resolves.{Numbers, IsClass, IsEnum, IsMethod, IsSession, IsExpr, IsExprs, IsStmt, Resolves}
 use Rattle.jv_names.specs.Resolves as resolves
 use Rattle.jv_names.proofs.Rows.{Beside, bytes_differ}
 use Rattle.jv_names.proofs.Tables.{aligned_at, class_name, text_is, enum_text_is, constant_is, fields_same, method_is}
@@ -54,21 +52,6 @@ group_left m f g n h = record { by = λ s t e. subst (λ o. Alike ◌≡◌ ◌�
 group_right : {A B C : Type 0} (n : Run Shared A) (f : A → Run Shared B) (g : B → Run Shared C) (m : Run Shared C) → Equals m
     (n >>= λ a. f a >>= g) → Equals m ((n >>= f) >>= g)
 group_right n f g m h = record { by = λ s t e. subst (λ o. Alike ◌≡◌ ◌≡◌ SameEnd (m s) o) (sym (grouped (n t) f g)) (h.by s t e) }
-
-operator_same : (o : Op) → core_meaning.operator_of o ≡ names.operator_of o
-operator_same ops.Or = refl
-operator_same ops.And = refl
-operator_same ops.Eq = refl
-operator_same ops.Ne = refl
-operator_same ops.Lt = refl
-operator_same ops.Le = refl
-operator_same ops.Gt = refl
-operator_same ops.Ge = refl
-operator_same ops.Add = refl
-operator_same ops.Sub = refl
-operator_same ops.Mul = refl
-operator_same ops.Div = refl
-operator_same ops.Rem = refl
 
 session_same : (f : Name) (call : SessionCall) → IsSession f call → names.session_named f ≡ Some (core_meaning.session_of call)
 session_same f call resolves.session_send = refl
@@ -300,14 +283,9 @@ module _ (program : Program) (core : Core.Program) (res : Resolves program core)
         (then_like (same.valued_same E shares (eval_like x h)) (same.negative_same E shares))
     eval_like (resolves.opposite x) h = same.valuing_same E shares
         (then_like (same.valued_same E shares (eval_like x h)) (same.opposite_same E shares))
-    eval_like {r = r} {r' = r'} (resolves.binary {o = o} {l = l} {r = x} {l' = l'} {r' = x'} y z) h =
-        subst (λ op. Equals (valuing (binary op (valued (core_meaning.eval core inputs low number (on_core c this) r l'))
-        (valued (core_meaning.eval core inputs low number (on_core c this) r x'))))
-        (valuing (binary (names.operator_of o) (valued (meant.eval program.files inputs high (on_source scope.class.name this) r' l))
-        (valued (meant.eval program.files inputs high (on_source scope.class.name this) r' x)))))
-        (sym (operator_same o))
-        (same.valuing_same E shares (same.binary_same E shares (names.operator_of o) (same.valued_same E shares (eval_like y h))
-        (same.valued_same E shares (eval_like z h))))
+    eval_like (resolves.binary {o = o} y z) h =
+        same.valuing_same E shares (same.binary_same E shares (operator_of o) (same.valued_same E shares (eval_like y h))
+        (same.valued_same E shares (eval_like z h)))
     eval_like (resolves.static {f = f} {m = m} {method = k} is st xs) h =
         then_like (args_like xs h) (λ vs. own_call f m k is None (no_object k.is_static st) vs)
     eval_like {r = r} {r' = r'}

@@ -11,6 +11,7 @@ use Rattle.jv_tree.specs.declared.tree.Param.{Param}
 use Rattle.jv_tree.specs.Source.{Expr, Int, Truth, Text, Null, This, Variable, Member, Neg, Not, Binary, Call, MethodCall, New, Exprs, NoExpr, Argument}
 use Rattle.jv_tree.specs.Source.{Stmt, Block, Empty, Local, Assign, If, IfElse, While, Do, Switch, Break, Continue, Return, Print, Eval, Stmts, NoStmt, Then, Groups, NoGroup, Group}
 use Rattle.jv_tree.specs.Source.{Field, Method, Class, Enum, Decl, ClassDecl, EnumDecl, File}
+use Rattle.jv_tree.specs.Expressions.{truth_word}
 
 abbrev pub indent : ℕ → List ℕ
 indent level = replicate (4 * level) 32
@@ -25,10 +26,6 @@ character c =
 
 abbrev pub quoted_text : List ℕ → List ℕ
 quoted_text text = codes "\"" ++ (flat_map character text ++ codes "\"")
-
-abbrev pub truth_text : Bool → List ℕ
-truth_text true = codes "true"
-truth_text false = codes "false"
 
 abbrev pub type_text : TypeName → List ℕ
 type_text types.Void = codes "void"
@@ -80,7 +77,7 @@ call_text name args = name ++ (codes "(" ++ (args ++ codes ")"))
 abbrev mutual
   pub expr_text : Expr → List ℕ
   expr_text (Int p z) = signed_decimal z
-  expr_text (Truth p b) = truth_text b
+  expr_text (Truth p b) = truth_word b
   expr_text (Text p t) = quoted_text t
   expr_text (Null p) = codes "null"
   expr_text (This p) = codes "this"

@@ -5,7 +5,7 @@ ghost use Rattle.jv_tree.specs.View.{expr_of, exprs_of};
 ghost use Rattle.std.specs.Fmt.{signed_decimal};
 ghost use Rattle.jv_print.specs.Layout.{expr_text, args_text, call_text, within, has_operator, is_apart};
 
-use crate::words::{op_text, put_quoted, truth_text};
+use crate::words::{op_text, put_quoted, truth_word};
 use crate::writing::put;
 use jv_tree::{Expr, ExprKind};
 use mg_text::Memory;
@@ -18,7 +18,7 @@ pub fn put_expr(out: &mut String, expr: &Expr) -> Result<(), Memory>
 {
     match &expr.kind {
         ExprKind::Int(number) => put_number(out, *number),
-        ExprKind::Truth(truth) => put(out, &[truth_text(*truth)]),
+        ExprKind::Truth(truth) => put(out, &[truth_word(*truth)]),
         ExprKind::Text(text) => put_quoted(out, text.as_str()),
         ExprKind::Null => put(out, &["null"]),
         ExprKind::This => put(out, &["this"]),

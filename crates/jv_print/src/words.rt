@@ -3,14 +3,15 @@
 ghost use Rattle.std.specs.Prelude.{◌≡◌, ◌++◌, OnOk, string_bytes};
 ghost use Rattle.std.specs.List.{flat_map};
 ghost use Rattle.std.specs.Char.{encode_utf8};
-ghost use Rattle.jv_print.specs.Layout.{character, quoted_text, truth_text, type_text, op_text};
+ghost use Rattle.jv_tree.specs.Expressions.{truth_word};
+ghost use Rattle.jv_print.specs.Layout.{character, quoted_text, type_text, op_text};
 
 use jv_tree::Op;
 use mg_text::Memory;
 use ts_tree::TypeName;
 
-pub fn truth_text(truth: bool) -> &'static str
-    ensures { result.now ≡ truth_text truth }
+pub fn truth_word(truth: bool) -> &'static str
+    ensures { result.now ≡ truth_word truth }
 {
     if truth { "true" } else { "false" }
 }

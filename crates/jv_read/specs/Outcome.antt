@@ -3,6 +3,7 @@ use Rattle.std.specs.Prelude.{◌≡◌, ◌≤◌, ◌⊎◌, ℕ, List, length
 use Rattle.mg_text.specs.Call.{Name}
 use Rattle.mg_text.specs.declared.place.Place.{Place}
 use Rattle.mg_read.specs.Culprit.{culprit}
+use Rattle.mg_read.specs.Within.{IsWithin}
 use Rattle.mg_read.specs.First.{Judged}
 use Rattle.jv_tree.specs.declared.token.Token.{Token}
 use Rattle.jv_tree.specs.declared.tree.File.{File as KeptFile}
@@ -18,7 +19,7 @@ use Rattle.jv_read.specs.Spelling.{Spells}
 use Rattle.jv_read.specs.declared.fault.JavaFault.{JavaFault}
 use Rattle.jv_read.specs.declared.fault.JavaFault.TheVariants as faults
 
--- what is answered, want of memory aside; the place of Syntax is left open
+-- what is answered, want of memory aside; the place of Syntax is left open here
 pub data Answer : Type 0 where
   Read : File → Answer
   TooLarge : Place → Answer
@@ -72,3 +73,8 @@ answer_of (Err fault) = fault_answer fault
 -- this was answered, or memory ran out
 abbrev pub IsAnswered : Answer → Result KeptFile JavaFault → Type 0
 IsAnswered answer result = (answer_of result ≡ Some answer) ⊎ (answer_of result ≡ None)
+
+-- the place of Syntax is one of the file
+abbrev pub HasPlace : (file : ℕ) (bytes : List ℕ) → JavaFault → Type 0
+HasPlace file bytes (faults.Syntax place) = IsWithin file bytes place
+HasPlace file bytes _ = Unit {0}

@@ -2,10 +2,10 @@
 //! The answer is the file that the bytes spell, or the first of its faults.
 #![tactic(auto)]
 
-ghost use Rattle.std.specs.Prelude.{◌≡◌, ℕ, List, Some};
+ghost use Rattle.std.specs.Prelude.{◌≡◌, ℕ, List, Some, IfErr, Err};
 ghost use Rattle.jv_tree.specs.Source.{File as Tree};
 ghost use Rattle.jv_read.specs.Spelling.{Spells};
-ghost use Rattle.jv_read.specs.Outcome.{Answer, Outcome, answer_of, IsAnswered};
+ghost use Rattle.jv_read.specs.Outcome.{Answer, Outcome, answer_of, IsAnswered, HasPlace};
 ghost use Rattle.jv_read.specs.inner.Stages.{Stage, IsRead};
 
 mod fault;
@@ -14,6 +14,7 @@ pub use fault::JavaFault;
 use jv_lex::tokens;
 use jv_parse::parse_file;
 pub use jv_tree::File;
+use mg_read::place_within;
 use std::alloc::Global;
 
 // The file that the bytes spell.
@@ -23,6 +24,30 @@ fn read_of(alloc: Global, file: u32, bytes: &[u8]) -> Result<File, JavaFault>
     let tokens = tokens(alloc, file, bytes)?;
     let tree = parse_file(alloc, file, tokens.as_slice())?;
     Ok(tree)
+}
+
+// A fault of a file, with a place of the file where it is one of the grammar.
+fn fault_placed(file: u32, bytes: &[u8], fault: JavaFault) -> JavaFault
+    ensures answer { answer_of (Err result) ≡ answer_of (Err fault) }
+    ensures place { HasPlace file bytes.now result }
+{
+    match fault {
+        JavaFault::Syntax { place } => JavaFault::Syntax {
+            place: place_within(file, bytes, place),
+        },
+        fault => fault,
+    }
+}
+
+// What was read of a file, with a place of the file where it is a fault of the grammar.
+fn placed(file: u32, bytes: &[u8], read: Result<File, JavaFault>) -> Result<File, JavaFault>
+    ensures answer { answer_of result ≡ answer_of read }
+    ensures place { IfErr result (HasPlace file bytes.now) }
+{
+    match read {
+        Ok(found) => Ok(found),
+        Err(fault) => Err(fault_placed(file, bytes, fault)),
+    }
 }
 
 /// Reads the Java source that the bytes of a file spell (Java Language Specification, chapters 3
@@ -37,8 +62,10 @@ pub fn read_java(alloc: Global, file: u32, bytes: &[u8]) -> Result<File, JavaFau
     ensures answered { (a : Answer) → answer_of result ≡ Some a → Outcome file bytes.now a }
     // What reading the bytes gives is answered, unless memory runs out.
     ensures only { (a : Answer) → Outcome file bytes.now a → IsAnswered a result }
+    // The place of Syntax is one of the file.
+    ensures place { IfErr result (HasPlace file bytes.now) }
 {
-    read_of(alloc, file, bytes)
+    placed(file, bytes, read_of(alloc, file, bytes))
 }
 
 /// Reading the bytes of a file gives one answer at most, and they spell one file at most.

@@ -26,10 +26,10 @@ use Rattle.jv_rules.specs.Completes.{Through}
 use Rattle.jv_rules.specs.Typing.{type_of, called, called_on}
 use Rattle.jv_rules.specs.Spots.{Value, Receiver, Qualifier, Spot, AtNode, AtStatement, AtParameter, AtEnd, spots}
 use Rattle.jv_rules.specs.Taking.{Wanted, Fitting, Writable, AnyEnum, ClassVariable, Nothing, IsWritable, IsEnum, IsClass, Suits, Taking, Takes, Lacks, count_of, taken_at}
-use Rattle.jv_rules.specs.Conditions.{IsReceiver, IsQualifier, UnknownName, DuplicateLocal, TypeMismatch, Arity, CanBreak, CanContinue, Labelled, BreakAt, ContinueAt, LoopAt, CaseAt, label_name, labelled_at, IsConstant, BadLabel, MissingReturn, IsProtocol, IsHelper, SelfCall, ThisAsValue, CallsHelper, CallsHelperIn, ArgsMayMove}
+use Rattle.jv_rules.specs.Conditions.{NamesClass, IsReceiver, IsQualifier, UnknownName, DuplicateLocal, TypeMismatch, Arity, CanBreak, CanContinue, Labelled, BreakAt, ContinueAt, LoopAt, CaseAt, label_name, labelled_at, IsConstant, BadLabel, MissingReturn, IsProtocol, IsHelper, SelfCall, ThisAsValue, CallsHelper, CallsHelperIn, ArgsMayMove}
 use Rattle.jv_rules.specs.Faults.{AtSpot, on_methods, IsAtFault, IsFault}
 use Rattle.jv_rules.specs.inner.Leaving.{same_label}
-use Rattle.jv_rules.specs.inner.Deciding.{when, first_by, told, first_kind, is_receiver, is_qualifier, unknown_name, duplicate_local, tag, type_name, same_type, fits, is_writable, suits, suits_some, type_mismatch, count_differs, arity, is_loop, has_label, can_break, can_continue, has_constant, is_case_of, bad_label, is_void, missing_return, is_protocol, is_helper, self_call, this_as_value, calls_helper, calls_helper_in, args_may_move, answer, fault_at, method_fault}
+use Rattle.jv_rules.specs.inner.Deciding.{when, first_by, told, first_kind, names_class, is_receiver, is_qualifier, unknown_name, duplicate_local, tag, type_name, same_type, fits, is_writable, suits, suits_some, type_mismatch, count_differs, arity, is_loop, has_label, can_break, can_continue, has_constant, is_case_of, bad_label, is_void, missing_return, is_protocol, is_helper, self_call, this_as_value, calls_helper, calls_helper_in, args_may_move, answer, fault_at, method_fault}
 use Rattle.jv_rules.proofs.Tests.{nothing_in, holds, fails, decides_as, any_decides, in_cases, in_first, in_later, some-Decides, lacks-Decides}
 use Rattle.jv_rules.proofs.Leaving.{same_label-Decides, leaves_all-Decides}
 
@@ -73,12 +73,15 @@ wrong_unless : (P : Type 0) (b : Bool) (k : Culprit) → Decides b P → Answers
 wrong_unless P b k d = wrong (P → ⊥) (not b) k (Decides-not b d)
 
 -- 10
+named_class-Decides : (scope : Scope) (x : Name) → Decides (names_class scope x) (NamesClass scope x)
+named_class-Decides scope x = Decides-or _ _ (bytes_eq-Decides x (codes "Session")) (some-Decides (class_named scope.program.files x))
+
 receiver-Decides : (scope : Scope) (x : Name) → Decides (is_receiver scope x) (IsReceiver scope x)
-receiver-Decides scope x =
-    Decides-or _ _ (some-Decides (variable_type scope x)) (Decides-or _ _ (bytes_eq-Decides x (codes "Session")) (some-Decides (class_named scope.program.files x)))
+receiver-Decides scope x = Decides-or _ _ (some-Decides (variable_type scope x)) (named_class-Decides scope x)
 
 qualifier-Decides : (scope : Scope) (x : Name) → Decides (is_qualifier scope x) (IsQualifier scope x)
-qualifier-Decides scope x = Decides-or _ _ (some-Decides (variable_type scope x)) (some-Decides (enum_named scope.program.files x))
+qualifier-Decides scope x =
+    Decides-or _ _ (some-Decides (variable_type scope x)) (Decides-or _ _ (some-Decides (enum_named scope.program.files x)) (named_class-Decides scope x))
 
 unknown_name-right : (s : Spot) → Answers (UnknownName s) (unknown_name s)
 unknown_name-right (AtNode scope (Receiver p x)) = wrong_unless (IsReceiver scope x) (is_receiver scope x) (culprit p x) (receiver-Decides scope x)

@@ -3,3 +3,4 @@ pub mod Leaving
 pub mod Deciding
 pub mod Judged
 pub mod Positive
+pub mod Once

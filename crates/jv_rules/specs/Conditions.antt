@@ -17,14 +17,17 @@ use Rattle.jv_rules.specs.Taking.{Taking, Takes, Lacks, Suits, count_of}
 use Rattle.jv_rules.specs.Spots.{Value, Receiver, Qualifier, Spot, AtNode, AtStatement, AtParameter, AtEnd}
 use Rattle.jv_rules.specs.Completes.{Completes}
 
--- A name before `.name(..)` is that of a variable or of a class, `Session` included.
-abbrev pub IsReceiver : Scope → Name → Type 0
-IsReceiver scope name =
-    (variable_type scope name ≢ None) ⊎ ((name ≡ codes "Session") ⊎ (class_named scope.program.files name ≢ None))
+-- the name of a class, `Session` included
+abbrev pub NamesClass : Scope → Name → Type 0
+NamesClass scope name = (name ≡ codes "Session") ⊎ (class_named scope.program.files name ≢ None)
 
--- A name before `.name` is that of a variable or of an enum.
+-- A name before `.name(..)` is that of a variable or of a class.
+abbrev pub IsReceiver : Scope → Name → Type 0
+IsReceiver scope name = (variable_type scope name ≢ None) ⊎ NamesClass scope name
+
+-- A name before `.name` is that of a variable, of an enum or of a class, which has no such member.
 abbrev pub IsQualifier : Scope → Name → Type 0
-IsQualifier scope name = (variable_type scope name ≢ None) ⊎ (enum_named scope.program.files name ≢ None)
+IsQualifier scope name = (variable_type scope name ≢ None) ⊎ ((enum_named scope.program.files name ≢ None) ⊎ NamesClass scope name)
 
 -- 10. UnknownName: a name names nothing that is visible or callable there
 abbrev pub UnknownName : Spot → Culprit → Type 0

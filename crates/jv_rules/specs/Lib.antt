@@ -10,5 +10,6 @@ pub mod Members
 pub mod Declarations
 pub mod Faults
 pub mod Shape
+pub mod Laws
 pub mod inner
 pub mod Examples

@@ -18,7 +18,7 @@ pub data Node : Type 0 where
   Value : Expr → Node
   -- a name before `.name(..)`, which may be that of a class
   Receiver : Place → Name → Node
-  -- a name before `.name`, which may be that of an enum
+  -- a name before `.name`, which may be that of an enum or of a class
   Qualifier : Place → Name → Node
 
 abbrev mutual

@@ -7,6 +7,7 @@ mod condition;
 ghost use Rattle.jv_rules.specs.Program.{Program};
 ghost use Rattle.jv_rules.specs.Faults.{IsFault};
 ghost use Rattle.jv_rules.specs.Examples.{AreJudged};
+ghost use Rattle.jv_rules.specs.Laws.{OneFault};
 ghost use Rattle.jv_rules.specs.inner.Deciding.{method_fault};
 
 pub use condition::Condition;
@@ -15,6 +16,11 @@ pub use condition::Condition;
 #[tactic(auto, using(crate::proofs::Deciding::judging))]
 pub fn methods_are_judged()
     ensures { (program : Program) → IsFault program (method_fault program) }
+{}
+
+/// A program has one fault of its types, or none. The function carries a law.
+pub fn one_fault()
+    ensures { OneFault }
 {}
 
 /// Small programs are judged as they should be.

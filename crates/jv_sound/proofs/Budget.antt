@@ -19,7 +19,8 @@ use Rattle.jv_core.specs.Tree.{Exprs, NoExpr, Argument}
 use Rattle.jv_core.specs.Tree.{Stmt, Block, Empty, Local, Assign, If, IfElse, While, Do, Switch, Break, Continue, Return, Print, Eval}
 use Rattle.jv_core.specs.Tree.{Stmts, NoStmt, Then, Declare, Groups, NoGroup, Group, Program}
 use Rattle.jv_core.specs.Lookup.{text_at, class_text, enum_text}
-use Rattle.jv_core.specs.Meaning.{Lower, Code, operator_of, session_of, mine, new_fields, enum_given, has_group, own_field, read, write, protocol_call, eval, eval_all, value, test, position, exec, exec_all, exec_from, exec_groups, language, main_of}
+use Rattle.jv_mean.specs.Operators.{operator_of}
+use Rattle.jv_core.specs.Meaning.{Lower, Code, session_of, mine, new_fields, enum_given, has_group, own_field, read, write, protocol_call, eval, eval_all, value, test, position, exec, exec_all, exec_from, exec_groups, language, main_of}
 use Rattle.jv_sound.specs.Laws.{BudgetLaw}
 
 -- the lemmas of the library, for this relation

@@ -14,7 +14,7 @@ use Rattle.jv_core.specs.declared.program.CoreType.TheVariants as types
 use Rattle.jv_core.specs.Tree.{Program}
 use Rattle.jv_core.specs.Lookup.{enum_text}
 use Rattle.jv_core.specs.Types.{IsArithmetic, IsOrder, IsEquality, IsLogic, IsShown, IsCompared}
-use Rattle.jv_core.specs.Meaning.{operator_of}
+use Rattle.jv_mean.specs.Operators.{operator_of}
 use Rattle.jv_sound.proofs.Lists.{some_is, same_name}
 use Rattle.jv_sound.proofs.Worlds.{World, Extends, Runs, runs_later, runs_give, runs_then, runs_as, runs_stop, runs_found, Fits, fits_more, GivesA}
 use Rattle.jv_sound.proofs.Worlds as worlds

@@ -15,7 +15,7 @@ use Rattle.jv_rules.specs.Types.{ValueType, EnumType}
 use Rattle.jv_rules.specs.Scope.{Scope, field_type, variable_type}
 use Rattle.jv_rules.specs.Typing.{member_type, constant_type}
 use Rattle.jv_rules.specs.Spots.{Value, nodes}
-use Rattle.jv_rules.specs.inner.Deciding.{told, when, has_constant}
+use Rattle.jv_rules.specs.inner.Deciding.{told, when, has_constant, names_class}
 use Rattle.jv_types.specs.declared.value_type.ValueType.{ValueType as KeptType}
 use Rattle.jv_types.specs.inner.View.{type_seen}
 use Rattle.jv_types.specs.inner.Judging.{expr_fault, IsChecked, is_this, variable_name}
@@ -59,20 +59,33 @@ module _ (s : Scope) (p : Place) (n : Name) where
   own_unknown (MethodCall q r m args) t e = absurd (true≢false (sym t))
   own_unknown (New q m) t e = absurd (true≢false (sym t))
 
-  -- behind a name: that of a variable, of an enum, or of nothing
-  answers : Place → Name → Option ValueType → Option Enum → Option (Condition × Culprit)
-  answers q x v o =
-      option_or (told conditions.UnknownName (when (not (is_some v || is_some o)) (culprit q x)) None)
+  -- behind a name: that of a variable, of an enum, of a class, or of nothing
+  answers : Place → Name → Option ValueType → Option Enum → Bool → Option (Condition × Culprit)
+  answers q x v o b =
+      option_or (told conditions.UnknownName (when (not (is_some v || (is_some o || b))) (culprit q x)) None)
       (option_or (by_type p n (elim v [ None ↦ elim o [ None ↦ None | Some e ↦ if list_any (bytes_eq n) e.constants then Some (EnumType x) else None ] | Some t ↦ None ])) None)
 
   module _ (q : Place) (x : Name) where
     named_variable : (t : ValueType) → Some t ≡ variable_type s x → expr_fault s (Member p (Variable q x) n) ≡ unknown p n
     unfolding answers
-    named_variable t e = ap (λ v. answers q x v (enum_named s.program.files x)) (sym e)
+    named_variable t e = ap (λ v. answers q x v (enum_named s.program.files x) (names_class s x)) (sym e)
 
-    named_nothing : None ≡ variable_type s x → None ≡ enum_named s.program.files x → expr_fault s (Member p (Variable q x) n) ≡ unknown q x
+    by_class : None ≡ variable_type s x → None ≡ enum_named s.program.files x → (b : Bool) → b ≡ names_class s x →
+        expr_fault s (Member p (Variable q x) n) ≡ answers q x None None b
     unfolding answers
-    named_nothing e f = ap (λ v. answers q x v (enum_named s.program.files x)) (sym e) ∙ ap (answers q x None) (sym f)
+    by_class e f b g =
+        ap (λ v. answers q x v (enum_named s.program.files x) (names_class s x)) (sym e)
+        ∙ ap (λ o. answers q x None o (names_class s x)) (sym f) ∙ ap (answers q x None None) (sym g)
+
+    named_nothing : None ≡ variable_type s x → None ≡ enum_named s.program.files x → false ≡ names_class s x →
+        expr_fault s (Member p (Variable q x) n) ≡ unknown q x
+    unfolding answers
+    named_nothing e f g = by_class e f false g
+
+    named_class : None ≡ variable_type s x → None ≡ enum_named s.program.files x → true ≡ names_class s x →
+        expr_fault s (Member p (Variable q x) n) ≡ unknown p n
+    unfolding answers
+    named_class e f g = by_class e f true g
 
     module _ (e : None ≡ variable_type s x) (m : Enum) (f : Some m ≡ enum_named s.program.files x) where
       constant_is : (b : Bool) → b ≡ list_any (bytes_eq n) m.constants → member_type s (Variable q x) n ≡ (if b then Some (EnumType x) else None)
@@ -82,7 +95,9 @@ module _ (s : Scope) (p : Place) (n : Name) where
 
       fault_is : (b : Bool) → b ≡ list_any (bytes_eq n) m.constants → expr_fault s (Member p (Variable q x) n) ≡ option_or (by_type p n (if b then Some (EnumType x) else None)) None
       unfolding answers
-      fault_is b g = ap (λ v. answers q x v (enum_named s.program.files x)) (sym e) ∙ ap (answers q x None) (sym f) ∙ ap (λ c. option_or (by_type p n (if c then Some (EnumType x) else None)) None) (sym g)
+      fault_is b g =
+          ap (λ v. answers q x v (enum_named s.program.files x) (names_class s x)) (sym e)
+          ∙ ap (λ o. answers q x None o (names_class s x)) (sym f) ∙ ap (λ c. option_or (by_type p n (if c then Some (EnumType x) else None)) None) (sym g)
 
       named_constant : true ≡ list_any (bytes_eq n) m.constants → (ty : KeptType) → type_seen ty ≡ EnumType x → IsChecked s (Member p (Variable q x) n) (record { ty = ty; helper = false })
       named_constant g ty h = record { fine = fault_is true g; typed = constant_is true g ∙ ap Some (sym h); helper = refl }
@@ -113,8 +128,13 @@ module _ (s : Scope) (p : Place) (n : Name) where
     pub at_variable : (t : ValueType) → Some t ≡ variable_type s x → expr_fault s (Member p e n) ≡ unknown p n
     at_variable t h = ap (λ z. expr_fault s (Member p z n)) is_named ∙ named_variable (place_of e) x t h
 
-    pub at_nothing : None ≡ variable_type s x → None ≡ enum_named s.program.files x → expr_fault s (Member p e n) ≡ unknown (place_of e) x
-    at_nothing h f = ap (λ z. expr_fault s (Member p z n)) is_named ∙ named_nothing (place_of e) x h f
+    pub at_nothing : None ≡ variable_type s x → None ≡ enum_named s.program.files x → false ≡ names_class s x →
+        expr_fault s (Member p e n) ≡ unknown (place_of e) x
+    at_nothing h f g = ap (λ z. expr_fault s (Member p z n)) is_named ∙ named_nothing (place_of e) x h f g
+
+    pub at_class : None ≡ variable_type s x → None ≡ enum_named s.program.files x → true ≡ names_class s x →
+        expr_fault s (Member p e n) ≡ unknown p n
+    at_class h f g = ap (λ z. expr_fault s (Member p z n)) is_named ∙ named_class (place_of e) x h f g
 
     pub at_constant : None ≡ variable_type s x → (m : Enum) → Some m ≡ enum_named s.program.files x → true ≡ has_constant (Some m) n → (ty : KeptType) → type_seen ty ≡ EnumType x →
         IsChecked s (Member p e n) (record { ty = ty; helper = false })

@@ -7,9 +7,9 @@ ghost use Rattle.jv_types.specs.inner.Judging.{at_place, args_misfit};
 ghost use Rattle.jv_types.specs.inner.Signatures.{params_seen};
 ghost use Rattle.jv_types.specs.Tables.{program_in};
 
+use crate::name_table::Table;
 use crate::operands::misfit;
 use crate::signature::Params;
-use crate::table::Table;
 use crate::value_type::{ValueType, meant};
 use jv_tree::Expr;
 use mg_text::Place;

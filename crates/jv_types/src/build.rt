@@ -13,11 +13,11 @@ ghost use Rattle.jv_types.specs.inner.Repeating.{repeat_member, repeat_constant,
 ghost use Rattle.jv_types.specs.inner.Kept.{class_kept, enum_kept, kept_classes, kept_decls, kept_enums, typestate_in, followed};
 
 use crate::entry::{ClassEntry, EnumEntry};
+use crate::name_table::Table;
 use crate::naming::{
     class_names, constant_names, enum_names, field_names, method_names, typestate_names,
 };
 use crate::protocols::{Protocol, protocols};
-use crate::table::Table;
 use jv_tree::{Class, Decl, Enum, File};
 use mg_text::{Memory, Names};
 use std::alloc::Global;

@@ -11,9 +11,9 @@ ghost use Rattle.jv_types.specs.Tables.{program_in};
 
 use crate::entry::ClassEntry;
 use crate::locals::Locals;
+use crate::name_table::Table;
 use crate::scope::Scope;
 use crate::signature::{Signature, session_method, signature_of, text_method};
-use crate::table::Table;
 use crate::value_type::ValueType;
 use crate::variable::is_protocol;
 use jv_tree::MethodDecl;

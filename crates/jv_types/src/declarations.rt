@@ -23,9 +23,9 @@ use crate::fault::{TypeFault, type_fault};
 use crate::fields::field_needs_value;
 use crate::labels::labels_differ;
 use crate::mentions::unknown_class;
+use crate::name_table::Table;
 use crate::plain::{instance_in_plain, unknown_typestate};
 use crate::repeats::{repeated, repeated_type, repeated_typestate};
-use crate::table::Table;
 use jv_rules::Condition;
 use jv_tree::{Decl, File};
 use mg_text::Memory;
@@ -191,7 +191,7 @@ fn check_tables(alloc: Global, table: &Table<'_>) -> Result<(), TypeFault>
 /// # Errors
 /// The fault of the first condition on the declarations that is at fault, in the order of their
 /// numbers, and there the first in file and text order; and `Memory`.
-pub fn build_table<'a>(
+pub fn table<'a>(
     alloc: Global,
     files: &'a [File],
     typestates: &'a [Typestate],

@@ -16,7 +16,7 @@ ghost use Rattle.jv_types.specs.inner.Tabled.{class_in, enum_in, IsEntryOf, AreE
 
 use crate::blame::{Blamed, note};
 use crate::entry::{ClassEntry, EnumEntry};
-use crate::table::Table;
+use crate::name_table::Table;
 use jv_tree::{MethodDecl, Param};
 use mg_text::{Memory, Names, Text};
 use std::alloc::Global;

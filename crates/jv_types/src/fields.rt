@@ -12,7 +12,7 @@ ghost use Rattle.jv_types.specs.inner.Tabled.{class_in};
 
 use crate::blame::Blamed;
 use crate::entry::ClassEntry;
-use crate::table::Table;
+use crate::name_table::Table;
 use jv_tree::{Expr, ExprKind, Field};
 use mg_text::Text;
 use ts_tree::TypeName;

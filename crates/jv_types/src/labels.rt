@@ -16,8 +16,8 @@ ghost use Rattle.jv_types.specs.inner.Tabled.{class_in, IsEntryOf, AreEntriesOf}
 use crate::blame::{Blamed, note};
 use crate::demands::{Demand, broken_by, other_labels};
 use crate::entry::ClassEntry;
+use crate::name_table::Table;
 use crate::protocols::Protocol;
-use crate::table::Table;
 use mg_text::{Memory, Names};
 use std::alloc::Global;
 use ts_tree::Method;

@@ -8,8 +8,8 @@ ghost use Rattle.jv_types.specs.inner.Tabled.{class_in, enum_in, IsEntryOf, AreE
 ghost use Rattle.jv_types.specs.Tables.{program_in};
 
 use crate::entry::{ClassEntry, EnumEntry};
+use crate::name_table::Table;
 use crate::protocols::Protocol;
-use crate::table::Table;
 
 impl<'a> Table<'a> {
     /// The class of a name.

@@ -8,6 +8,7 @@ ghost use Rattle.jv_types.specs.inner.Scopes.{scope_seen};
 
 use crate::judged::{Checked, Wrong};
 use crate::locals::Locals;
+use crate::receivers::names_class;
 use crate::scope::Scope;
 use crate::value_type::ValueType;
 use crate::variable::{field_type, variable_type};
@@ -61,7 +62,12 @@ pub(crate) fn end_named_member<'a>(
     match variable_type(scope, locals, x) {
         Some(_ty) => Err(Wrong::Fault(Condition::UnknownName, place, name)),
         None => match scope.table.enum_named(x) {
-            None => Err(Wrong::Fault(Condition::UnknownName, of.place, x)),
+            None => {
+                if names_class(scope, locals, x) {
+                    return Err(Wrong::Fault(Condition::UnknownName, place, name));
+                }
+                Err(Wrong::Fault(Condition::UnknownName, of.place, x))
+            }
             Some(entry) => {
                 if entry.has_constant(name) {
                     return Ok(Checked {

@@ -15,7 +15,7 @@ ghost use Rattle.jv_types.specs.inner.Tabled.{class_in};
 use crate::blame::Blamed;
 use crate::entry::ClassEntry;
 use crate::merged::{Member, members};
-use crate::table::Table;
+use crate::name_table::Table;
 use jv_tree::{Class, Expr, ExprKind, Group, Param, Stmt, StmtKind};
 use mg_text::{Memory, Place};
 use std::alloc::Global;

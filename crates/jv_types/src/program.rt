@@ -6,7 +6,7 @@ ghost use Rattle.jv_types.specs.Outcome.{TellsFault};
 ghost use Rattle.jv_types.specs.View.{program_of};
 ghost use Rattle.jv_types.specs.Whole.{IsTypeFault};
 
-use crate::declarations::build_table;
+use crate::declarations::table;
 use crate::fault::TypeFault;
 use crate::methods::type_check;
 use jv_tree::File;
@@ -17,7 +17,7 @@ use ts_tree::Typestate;
 /// typestate, in their order.
 ///
 /// # Errors
-/// The faults of `build_table`, then those of `type_check`; and `Memory`.
+/// The faults of `table`, then those of `type_check`; and `Memory`.
 pub fn judge(
     alloc: Global,
     files: &[File],
@@ -28,6 +28,6 @@ pub fn judge(
     ensures fine { OnOk result (IsWellTyped (program_of files.now typestates.now)) }
     ensures fault { IfErr result (λ e. TellsFault (IsTypeFault (program_of files.now typestates.now) origins.now) e) }
 {
-    let table = build_table(alloc, files, typestates, origins)?;
+    let table = table(alloc, files, typestates, origins)?;
     type_check(alloc, &table)
 }

@@ -3,7 +3,7 @@
 ghost use Rattle.std.specs.Prelude.{◌≡◌, option_map, None};
 ghost use Rattle.jv_tree.specs.View.{expr_of, field_of as field_seen};
 ghost use Rattle.jv_rules.specs.Scope.{field_of};
-ghost use Rattle.jv_rules.specs.inner.Deciding.{is_own, is_protocol, is_helper, is_receiver};
+ghost use Rattle.jv_rules.specs.inner.Deciding.{is_own, is_protocol, is_helper, is_receiver, names_class};
 ghost use Rattle.jv_types.specs.inner.View.{type_seen};
 ghost use Rattle.jv_types.specs.inner.Calls.{receiver_misfit, field_named_by};
 ghost use Rattle.jv_types.specs.inner.Judging.{at_place, variable_name};
@@ -47,17 +47,18 @@ pub(crate) fn calls_helper(scope: &Scope<'_, '_>, locals: &Locals<'_>, name: &st
     false
 }
 
+/// Whether a name is that of a class, `Session` included.
+pub(crate) fn names_class(scope: &Scope<'_, '_>, locals: &Locals<'_>, name: &str) -> bool
+    ensures { result ≡ names_class (scope_seen scope.now locals.now) name.now }
+{
+    name == "Session" || scope.table.class_named(name).is_some()
+}
+
 /// Whether a name is that of a variable or of a class, so that it may stand before a call.
 pub(crate) fn is_receiver(scope: &Scope<'_, '_>, locals: &Locals<'_>, name: &str) -> bool
     ensures { result ≡ is_receiver (scope_seen scope.now locals.now) name.now }
 {
-    if variable_type(scope, locals, name).is_some() {
-        return true;
-    }
-    if name == "Session" {
-        return true;
-    }
-    scope.table.class_named(name).is_some()
+    variable_type(scope, locals, name).is_some() || names_class(scope, locals, name)
 }
 
 /// The own field that a name is.

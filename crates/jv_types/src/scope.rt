@@ -6,7 +6,7 @@ ghost use Rattle.jv_types.specs.inner.Tabled.{IsEntryOf};
 ghost use Rattle.jv_types.specs.Tables.{program_in};
 
 use crate::entry::ClassEntry;
-use crate::table::Table;
+use crate::name_table::Table;
 use jv_tree::MethodDecl;
 use std::alloc::Global;
 

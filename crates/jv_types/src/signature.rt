@@ -8,7 +8,7 @@ ghost use Rattle.jv_rules.specs.Typing.{built_in, session_methods, text_methods}
 ghost use Rattle.jv_types.specs.inner.Signatures.{signature_seen};
 ghost use Rattle.jv_types.specs.Tables.{program_in};
 
-use crate::table::Table;
+use crate::name_table::Table;
 use crate::value_type::{ValueType, meant};
 use jv_tree::{MethodDecl, Param};
 

@@ -6,7 +6,7 @@ ghost use Rattle.jv_rules.specs.inner.Deciding.{same_type, fits, is_writable};
 ghost use Rattle.jv_types.specs.inner.View.{type_seen};
 ghost use Rattle.jv_types.specs.Tables.{program_in};
 
-use crate::table::Table;
+use crate::name_table::Table;
 use ts_tree::TypeName;
 
 /// The type of a value.

@@ -3,3 +3,4 @@ pub mod Ready
 pub mod Writing
 pub mod Given
 pub mod Apart
+pub mod Alike

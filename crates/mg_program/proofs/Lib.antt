@@ -4,3 +4,4 @@ pub mod Lines
 pub mod Apart
 pub mod Resolved
 pub mod Total
+pub mod Alike

@@ -5,7 +5,7 @@ ghost use Rattle.mg_sources.specs.View.{sourced_of};
 ghost use Rattle.mg_program.specs.inner.Answers.{IsJudged};
 
 use crate::refusal::refusal;
-use jv_types::{build_table, type_check};
+use jv_types::{table, type_check};
 use mg_sources::{Sources, Stop};
 use mg_text::Text;
 use std::alloc::Global;
@@ -15,7 +15,7 @@ pub(crate) fn judge(alloc: Global, names: &[Text], sources: &Sources) -> Result<
     requires { length sources.now.origins.items ≡ length sources.now.typestates.items }
     ensures { IsJudged names.now (sourced_of sources.now) result }
 {
-    let table = match build_table(
+    let table = match table(
         alloc,
         sources.files.as_slice(),
         sources.typestates.as_slice(),

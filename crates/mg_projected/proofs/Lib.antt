@@ -3,3 +3,4 @@ pub mod Rest
 pub mod Staged
 pub mod Followed
 pub mod Telling
+pub mod Alike

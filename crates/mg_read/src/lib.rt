@@ -4,6 +4,7 @@
 
 mod fault;
 mod front;
+mod placing;
 
 pub use fault::{LexFault, ParseFault};
 pub use front::{
@@ -11,6 +12,7 @@ pub use front::{
     piece_of,
 };
 use mg_text::Memory;
+pub use placing::place_within;
 use std::alloc::{AllocError, AllocFailed};
 
 /// Why tokens could not be read.

@@ -29,7 +29,7 @@ use Rattle.mg_runs.specs.Commanded.{Refusal, unaccepted, no_main, too_large}
 use Rattle.mg_runs.proofs.Sound.{one_spelled_list}
 
 -- a class that has no `main` isn't among those that have one
-lacks_none : (core : Core.Program) (front : List RoleMain) (main : RoleMain) (rest : List RoleMain) → HaveMains core (front ++ main ∷ rest) →
+pub lacks_none : (core : Core.Program) (front : List RoleMain) (main : RoleMain) (rest : List RoleMain) → HaveMains core (front ++ main ∷ rest) →
     main_of core main.class ≢ None
 lacks_none core [] main rest h = h.0
 lacks_none core (x ∷ front) main rest h = lacks_none core front main rest h.1

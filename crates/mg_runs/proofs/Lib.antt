@@ -7,3 +7,4 @@ pub mod Protocols
 pub mod Shown
 pub mod Apart
 pub mod Naming
+pub mod Alike

@@ -31,7 +31,7 @@ use Rattle.gen_rules.specs.Classes.{class_files}
 use Rattle.gen_rules.specs.Linked.{linked_program}
 use Rattle.gen_links.specs.Files.{HasPlainNames, CoresLink}
 use Rattle.gen_held.specs.Laws.{WrittenCoresAreHeld}
-use Rattle.gen_sound.specs.PlainMains.{HasMain, MainsAgree}
+use Rattle.gen_sound.specs.Mains.{CoreHasMain, MainsAgree}
 use Rattle.gen_sound.proofs.Starting.{main_stands}
 use Rattle.mg_sources.specs.Files.{Source}
 use Rattle.mg_program.specs.Program.{HaveCore}
@@ -101,10 +101,10 @@ module _ (p : Program) (core : IsCore p) (plain : HasPlainNames p) (written : Li
 
   -- ---- the `main` of a class
 
-  main_found : (class : Name) → main_of p class ≢ None → HasMain p class
+  main_found : (class : Name) → main_of p class ≢ None → CoreHasMain p class
   main_found class isnt = by_class (class_numbered p class) refl
     where
-      found : (c : ℕ) → class_numbered p class ≡ Some c → (o : Option (values.Method ℕ Code)) → main_in p c 0 p.methods ≡ o → HasMain p class
+      found : (c : ℕ) → class_numbered p class ≡ Some c → (o : Option (values.Method ℕ Code)) → main_in p c 0 p.methods ≡ o → CoreHasMain p class
       found c at None e = absurd (isnt (ap (option_and_then (λ k. main_in p k 0 p.methods)) at ∙ e))
       found c at (Some r) e =
           let i = main_at p core c [] p.methods r refl e in
@@ -115,18 +115,18 @@ module _ (p : Program) (core : IsCore p) (plain : HasPlainNames p) (written : Li
             is = ap (option_and_then (λ k. main_in p k 0 p.methods)) at ∙ e ∙ ap Some i.is;
           }
 
-      by_class : (o : Option ℕ) → class_numbered p class ≡ o → HasMain p class
+      by_class : (o : Option ℕ) → class_numbered p class ≡ o → CoreHasMain p class
       by_class None e = absurd (isnt (ap (option_and_then (λ k. main_in p k 0 p.methods)) e))
       by_class (Some c) e = found c e (main_in p c 0 p.methods) refl
 
   -- the linked program has it too
-  main_linked : (class : Name) → HasMain p class → (program : machine.Program) → program ≡ linked_program p made.are.all → vm.HasMain program class
+  main_linked : (class : Name) → CoreHasMain p class → (program : machine.Program) → program ≡ linked_program p made.are.all → vm.HasMain program class
   main_linked class h program same =
       let s = main_stands p core plain made.are.all made.are.compiled class h.number h.method h.at h.is in
       subst (λ (z : machine.Program). vm.HasMain z class) (sym same) (record { class = s.class; method = s.method; is = s.main })
 
   -- the machine does what the core means
-  as_meant : MainsAgree → (class : Name) → HasMain p class → (program : machine.Program) → program ≡ linked_program p made.are.all →
+  as_meant : MainsAgree → (class : Name) → CoreHasMain p class → (program : machine.Program) → program ≡ linked_program p made.are.all →
       (inputs : Inputs) (me : ℕ) (q : Messages) → Holds inputs q me [] → (start : Machine) → IsStart program class start →
       RunsAsMeant (step program me) start q (cmean p class inputs)
   as_meant agree class h program same inputs me q holds start starts =

@@ -5,7 +5,7 @@ ghost use Rattle.mg_runs.specs.Laws.{AllProtocolsAgree, RolesAreMeant, RolesKeep
 
 use gen_held::written_cores_are_held;
 use gen_links::files_link;
-use gen_sound::plain_mains_run;
+use gen_sound::mains_run_as_meant;
 use jv_kept::core_is_kept;
 use jv_shaped::spelled_is_shaped;
 use jv_whole::types_are_enough;
@@ -34,7 +34,7 @@ pub fn runs_are_meant()
     core_is_kept();
     written_cores_are_held();
     files_link();
-    plain_mains_run();
+    mains_run_as_meant();
     types_are_enough();
 }
 

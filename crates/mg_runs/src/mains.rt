@@ -9,8 +9,7 @@ ghost use Rattle.jv_core.specs.Meaning.{main_in, main_of};
 ghost use Rattle.jv_core.specs.View.{class_of, method_of};
 ghost use Rattle.mg_runs.specs.inner.Mains.{IsFirstWithout};
 
-use gen_refs::name_text;
-use jv_core::{Core, CoreClass, CoreMethod, MethodKind};
+use jv_core::{Core, CoreClass, CoreMethod, MethodKind, name_text};
 use vm_world::RoleMain;
 
 /// The number of the first role whose class has no `main`.

@@ -5,3 +5,4 @@ pub mod PartLemmas
 pub mod RoleLemmas
 pub mod Together
 pub mod Programs
+pub mod Alike

@@ -1,5 +1,5 @@
 -- A file is of one kind, and spells one part at most.
-use Rattle.std.proofs.Common.{arith, ◌≡◌, ℕ, List, [], ◌∷◌, ◌++◌, codes, Option, Some, None, refl, sym, ap, ◌∙◌, subst}
+use Rattle.std.proofs.Common.{arith, ◌≡◌, ℕ, List, [], ◌∷◌, ◌++◌, codes, Option, Some, None, refl, sym, ap, ◌∙◌, subst, inl, inr}
 use Rattle.scr_tree.specs.Tree.{LocalTree}
 use Rattle.ts_tree.specs.Typestate.{Typestate}
 use Rattle.jv_tree.specs.Source.{File}
@@ -10,7 +10,7 @@ use Rattle.scr_read.proofs.Unique as protocols_unique
 use Rattle.ts_read.proofs.Unique as states_unique
 use Rattle.jv_read.proofs.Unique as classes_unique
 use Rattle.mg_sources.specs.Files.{Source, Kind, Scribble, Typestates, Java, suffix_of, IsOf}
-use Rattle.mg_sources.specs.Faults.{Fault}
+use Rattle.mg_sources.specs.Faults.{Fault, fault_line, AreAlike}
 use Rattle.mg_sources.specs.Reading.{Part, Protocol, States, Classes, Reads, Refuses, IsSaidOfProtocol, IsSaidOfTypestate, IsSaidOfJava}
 use Rattle.mg_sources.specs.Reading as reading
 
@@ -56,7 +56,7 @@ module _ (source : Source) where
   -- what is refused isn't read
   pub excludes : (part : Part) (fault : Fault) → Reads source part → Refuses source fault → ⊥
   excludes part fault (reading.protocol {local = local} is o) (reading.protocol answer is' o' said) =
-      subst (λ (a : of_protocols.Answer). IsSaidOfProtocol a fault) (protocols_unique.one_outcome source.number source.bytes answer _ o' o) said
+      subst (λ (a : of_protocols.Answer). IsSaidOfProtocol source a fault) (protocols_unique.one_outcome source.number source.bytes answer _ o' o) said
   excludes part fault (reading.protocol is o) (reading.states answer is' o' said) =
       ends_alike Scribble Typestates source is is' (λ e. differ 114 108 e (λ k. absurd (omega (arith, k))))
   excludes part fault (reading.protocol is o) (reading.classes answer is' o' said) =
@@ -64,7 +64,7 @@ module _ (source : Source) where
   excludes part fault (reading.states is o) (reading.protocol answer is' o' said) =
       ends_alike Typestates Scribble source is is' (λ e. differ 108 114 e (λ k. absurd (omega (arith, k))))
   excludes part fault (reading.states is o) (reading.states answer is' o' said) =
-      subst (λ (a : of_typestates.Answer). IsSaidOfTypestate a fault) (states_unique.one_outcome source.number source.bytes answer _ o' o) said
+      subst (λ (a : of_typestates.Answer). IsSaidOfTypestate source a fault) (states_unique.one_outcome source.number source.bytes answer _ o' o) said
   excludes part fault (reading.states is o) (reading.classes answer is' o' said) =
       ends_alike Typestates Java source is is' (λ e. differ 108 97 e (λ k. absurd (omega (arith, k))))
   excludes part fault (reading.classes is o) (reading.protocol answer is' o' said) =
@@ -72,7 +72,7 @@ module _ (source : Source) where
   excludes part fault (reading.classes is o) (reading.states answer is' o' said) =
       ends_alike Java Typestates source is is' (λ e. differ 97 108 e (λ k. absurd (omega (arith, k))))
   excludes part fault (reading.classes is o) (reading.classes answer is' o' said) =
-      subst (λ (a : of_java.Answer). IsSaidOfJava a fault) (classes_unique.one_outcome source.number source.bytes answer _ o' o) said
+      subst (λ (a : of_java.Answer). IsSaidOfJava source a fault) (classes_unique.one_outcome source.number source.bytes answer _ o' o) said
 
   -- a local protocol is neither a typestate nor classes
   pub no_states : (typestate : Typestate) → IsOf Scribble source → Reads source (States typestate) → ⊥
@@ -104,3 +104,60 @@ module _ (source : Source) where
   one_part part other (reading.classes is o) (reading.states is' o') = ends_alike Java Typestates source is is' (λ e. differ 97 108 e (λ k. absurd (omega (arith, k))))
   one_part part other (reading.classes {file = f} is o) (reading.classes {file = g} is' o') =
       same_classes f g (classes_unique.one_outcome source.number source.bytes _ _ o o')
+
+  -- two refusals have one line, but for the place of Syntax
+  said_protocol : (answer : of_protocols.Answer) (f g : Fault) → IsSaidOfProtocol source answer f → IsSaidOfProtocol source answer g →
+      AreAlike (fault_line source.name f) (fault_line source.name g)
+  said_protocol (of_protocols.Protocol local) f g h k = absurd h
+  said_protocol of_protocols.Syntax f g h k = inr (record {
+    file = source.name;
+    first = f.place;
+    second = g.place;
+    says = ap (fault_line source.name) h.0;
+    also = ap (fault_line source.name) k.0;
+  })
+  said_protocol _ f g h k = inl (ap (fault_line source.name) (h ∙ sym k))
+
+  said_states : (answer : of_typestates.Answer) (f g : Fault) → IsSaidOfTypestate source answer f → IsSaidOfTypestate source answer g →
+      AreAlike (fault_line source.name f) (fault_line source.name g)
+  said_states (of_typestates.Read typestate) f g h k = absurd h
+  said_states of_typestates.Syntax f g h k = inr (record {
+    file = source.name;
+    first = f.place;
+    second = g.place;
+    says = ap (fault_line source.name) h.0;
+    also = ap (fault_line source.name) k.0;
+  })
+  said_states _ f g h k = inl (ap (fault_line source.name) (h ∙ sym k))
+
+  said_classes : (answer : of_java.Answer) (f g : Fault) → IsSaidOfJava source answer f → IsSaidOfJava source answer g →
+      AreAlike (fault_line source.name f) (fault_line source.name g)
+  said_classes (of_java.Read file) f g h k = absurd h
+  said_classes of_java.Syntax f g h k = inr (record {
+    file = source.name;
+    first = f.place;
+    second = g.place;
+    says = ap (fault_line source.name) h.0;
+    also = ap (fault_line source.name) k.0;
+  })
+  said_classes _ f g h k = inl (ap (fault_line source.name) (h ∙ sym k))
+
+  pub alike : (f g : Fault) → Refuses source f → Refuses source g → AreAlike (fault_line source.name f) (fault_line source.name g)
+  alike f g (reading.protocol a is o said) (reading.protocol b is' o' told) =
+      said_protocol b f g (subst (λ (x : of_protocols.Answer). IsSaidOfProtocol source x f) (protocols_unique.one_outcome source.number source.bytes a b o o') said) told
+  alike f g (reading.protocol a is o said) (reading.states b is' o' told) =
+      ends_alike Scribble Typestates source is is' (λ e. differ 114 108 e (λ k. absurd (omega (arith, k))))
+  alike f g (reading.protocol a is o said) (reading.classes b is' o' told) =
+      ends_alike Scribble Java source is is' (λ e. differ 114 97 e (λ k. absurd (omega (arith, k))))
+  alike f g (reading.states a is o said) (reading.protocol b is' o' told) =
+      ends_alike Typestates Scribble source is is' (λ e. differ 108 114 e (λ k. absurd (omega (arith, k))))
+  alike f g (reading.states a is o said) (reading.states b is' o' told) =
+      said_states b f g (subst (λ (x : of_typestates.Answer). IsSaidOfTypestate source x f) (states_unique.one_outcome source.number source.bytes a b o o') said) told
+  alike f g (reading.states a is o said) (reading.classes b is' o' told) =
+      ends_alike Typestates Java source is is' (λ e. differ 108 97 e (λ k. absurd (omega (arith, k))))
+  alike f g (reading.classes a is o said) (reading.protocol b is' o' told) =
+      ends_alike Java Scribble source is is' (λ e. differ 97 114 e (λ k. absurd (omega (arith, k))))
+  alike f g (reading.classes a is o said) (reading.states b is' o' told) =
+      ends_alike Java Typestates source is is' (λ e. differ 97 108 e (λ k. absurd (omega (arith, k))))
+  alike f g (reading.classes a is o said) (reading.classes b is' o' told) =
+      said_classes b f g (subst (λ (x : of_java.Answer). IsSaidOfJava source x f) (classes_unique.one_outcome source.number source.bytes a b o o') said) told

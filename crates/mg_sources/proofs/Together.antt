@@ -68,7 +68,7 @@ one_first me (doing.first {doing = d} {more = ds} new more) (doing.first {doing 
     let firsts = one_first me more more' (λ i. e i ++ call_of me (same i) ∷ []) rest in
     λ i. same i ∷ firsts i
 
-one_api : (local : LocalTree) (a b : List ApiText) → IsApi local a → IsApi local b → a ≡ b
+pub one_api : (local : LocalTree) (a b : List ApiText) → IsApi local a → IsApi local b → a ≡ b
 one_api local a b p q =
     p.are_files
     ∙ ap (λ (z : List Doing). class_file (start_of local.file) local.me z ∷ enum_files (start_of local.file) local.me (doings (protocol_of local)))

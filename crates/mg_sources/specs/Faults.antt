@@ -1,5 +1,5 @@
 -- What is at fault in a file, and the line that is said of it.
-use Rattle.std.specs.Prelude.{ℕ, List, [], ◌∷◌, ◌++◌, codes}
+use Rattle.std.specs.Prelude.{◌≡◌, ◌⊎◌, ℕ, List, [], ◌∷◌, ◌++◌, codes}
 use Rattle.std.specs.Fmt.{decimal}
 use Rattle.mg_text.specs.declared.place.Place.{Place}
 
@@ -21,3 +21,15 @@ fault_name (c ∷ cs) = codes " " ++ c ∷ cs
 abbrev pub fault_line : List ℕ → Fault → List ℕ
 fault_line file fault =
     file ++ codes ":" ++ decimal fault.place.line ++ codes ":" ++ decimal fault.place.column ++ codes ": " ++ fault.kind ++ fault_name fault.name ++ 10 ∷ []
+
+-- two lines that say Syntax of one file, at places that are left open
+pub record SaySyntax (line other : List ℕ) : Type 0 where
+  pub file : List ℕ
+  pub first : Place
+  pub second : Place
+  pub says : line ≡ fault_line file (fault_at (codes "Syntax") first [])
+  pub also : other ≡ fault_line file (fault_at (codes "Syntax") second [])
+
+-- one line, but for the place of Syntax
+abbrev pub AreAlike : List ℕ → List ℕ → Type 0
+AreAlike line other = (line ≡ other) ⊎ SaySyntax line other

@@ -103,7 +103,7 @@ follows local calls text status done (unfinished trace isnt) = trace
 follows local calls text status done (not_offered front call rest split trace isnt) = absurd cc
 
 -- a file that lists calls isn't refused
-listed_once : (source : Source) (list : List CallAt) (line : List ℕ) → Lists source list → IsNoList source line → ⊥
+pub listed_once : (source : Source) (list : List CallAt) (line : List ℕ) → Lists source list → IsNoList source line → ⊥
 listed_once source list line h (conformance.too_large large) = let size = h.size in omega arith
 listed_once source list line h (bad_line place small bad) = no_bad source.number source.bytes list place h.listed bad
 
@@ -236,7 +236,7 @@ tests_run false false false true w e = cc
 tests_run false false false false true e = cc
 tests_run false false false false false e = cc
 
-never_refused : (all : List Stand) → status_of all ≡ statuses.Refused → ⊥
+pub never_refused : (all : List Stand) → status_of all ≡ statuses.Refused → ⊥
 never_refused all = tests_run (list_any is_bound all) (list_any is_broken all) (list_any is_zero all) (list_any is_mismatch all) (list_any is_waiting all)
 
 answer_says : {local : LocalTree} {calls : List CallAt} {text : List ℕ} {status : Status} → Conforms local calls text status → status ≡ statuses.Refused →

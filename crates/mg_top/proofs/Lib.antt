@@ -7,4 +7,5 @@ pub mod ConformLemmas
 pub mod ExecLemmas
 pub mod Unbroken
 pub mod Exact
+pub mod OneThing
 pub mod Promised

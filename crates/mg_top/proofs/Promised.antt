@@ -25,7 +25,7 @@ use Rattle.mg_top.proofs.DeliveryLaws as laws
 -- ---- what is read of files that are told is one thing
 
 same_bytes : (limit : ℕ) (m : Files) (name : Word) (x y : List ℕ) → IsRead limit (Some m) name x → IsRead limit (Some m) name y → x ≡ y
-same_bytes limit m name x y h k =
+same_bytes limit m name x y (few, h) (less, k) =
     let e : ◌≡◌ {A = Option (List ℕ)} (Some h.0) (Some k.0) = sym h.1 ∙ k.1 in
     let same : h.0 ≡ k.0 = cc in
     h.2 ∙ ap (take limit) same ∙ sym k.2

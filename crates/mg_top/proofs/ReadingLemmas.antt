@@ -17,9 +17,9 @@ is_front : (limit : ℕ) (o : Option (List ℕ)) (bytes : List ℕ) → option_m
 is_front limit None bytes e = absurd cc
 is_front limit (Some content) bytes e = (content, refl, let h : ◌≡◌ {A = Option (List ℕ)} (Some (take limit content)) (Some bytes) = e in cc)
 
-is_read : (limit : ℕ) (files : Option Files) (name file : Word) (bytes : List ℕ) → name ≡ file → IfSome files (λ m. option_map (take limit) (map.get m name) ≡ Some bytes) → IsRead limit files file bytes
-is_read limit None name file bytes same h = tt
-is_read limit (Some m) name file bytes same h = is_front limit (map.get m file) bytes (ap (λ (n : Word). option_map (take limit) (map.get m n)) (sym same) ∙ h)
+is_read : (limit : ℕ) (files : Option Files) (name file : Word) (bytes : List ℕ) → length bytes ≤ limit → name ≡ file → IfSome files (λ m. option_map (take limit) (map.get m name) ≡ Some bytes) → IsRead limit files file bytes
+is_read limit None name file bytes few same h = (few, tt)
+is_read limit (Some m) name file bytes few same h = (few, is_front limit (map.get m file) bytes (ap (λ (n : Word). option_map (take limit) (map.get m n)) (sym same) ∙ h))
 
 read_push : (limit : ℕ) (files : Option Files) (names : List Word) (contents : List (List ℕ)) (name : Word) (bytes : List ℕ) → AreRead limit files names contents → IsRead limit files name bytes → AreRead limit files (names ++ name ∷ []) (contents ++ bytes ∷ [])
 read_push limit files [] [] name bytes h k = (k, tt)
@@ -35,13 +35,13 @@ same_length limit files (n ∷ ns) [] h = absurd h
 same_length limit files (n ∷ ns) (c ∷ cs) (first, rest) = ap suc (same_length limit files ns cs rest)
 
 -- one more was read
-pub read_more : (limit : ℕ) (files files' : Option Files) (names : List Word) (i : ℕ) (name asked : Word) (bytes : List ℕ) (contents contents' : List (List ℕ)) → i < length names → name ≡ get_or names i name → asked ≡ name → files' ≡ files → contents' ≡ contents ++ bytes ∷ []
+pub read_more : (limit : ℕ) (files files' : Option Files) (names : List Word) (i : ℕ) (name asked : Word) (bytes : List ℕ) (contents contents' : List (List ℕ)) → i < length names → name ≡ get_or names i name → asked ≡ name → length bytes ≤ limit → files' ≡ files → contents' ≡ contents ++ bytes ∷ []
     → AreRead limit files (take i names) contents → IfSome files' (λ m. option_map (take limit) (map.get m asked) ≡ Some bytes) → AreRead limit files (take (i + 1) names) contents'
-read_more limit files files' names i name asked bytes contents contents' within is as_asked same grown before h =
+read_more limit files files' names i name asked bytes contents contents' within is as_asked few same grown before h =
     let told = subst (λ (f : Option Files). IfSome f (λ m. option_map (take limit) (map.get m asked) ≡ Some bytes)) same h in
     let names_are : take i names ++ name ∷ [] ≡ take (i + 1) names = ap (λ (z : Word). take i names ++ z ∷ []) is ∙ sym (take_more names i name within) in
     subst (λ (z : List Word). AreRead limit files z contents') names_are
-    (subst (λ (z : List (List ℕ)). AreRead limit files (take i names ++ name ∷ []) z) (sym grown) (read_push limit files (take i names) contents name bytes before (is_read limit files asked name bytes as_asked told)))
+    (subst (λ (z : List (List ℕ)). AreRead limit files (take i names ++ name ∷ []) z) (sym grown) (read_push limit files (take i names) contents name bytes before (is_read limit files asked name bytes few as_asked told)))
 
 -- all was read
 pub read_all : (limit : ℕ) (files : Option Files) (names : List Word) (i : ℕ) (contents : List (List ℕ)) → length names ≤ i → AreRead limit files (take i names) contents → AreRead limit files names contents

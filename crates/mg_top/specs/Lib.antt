@@ -8,5 +8,6 @@ pub mod Outside
 pub mod Delivery
 pub mod Commands
 pub mod Ending
+pub mod Once
 pub mod Promises
 pub mod inner

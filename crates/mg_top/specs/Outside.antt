@@ -1,5 +1,5 @@
 -- What stands outside the program at a moment.
-use Rattle.std.specs.Prelude.{◌≡◌, ℕ, List, take, Option, Some, IfSome}
+use Rattle.std.specs.Prelude.{◌≡◌, ◌≤◌, ℕ, List, length, take, Option, Some, IfSome}
 use Rattle.std.specs.FinMap as map
 use Rattle.mg_io.specs.Outside.{Files}
 use Rattle.mg_words.specs.Words.{Word}
@@ -24,7 +24,8 @@ abbrev pub outside : Option Files → List Word → List Word → Stream → Str
 outside files failed_reads failed_writes out err =
     record { files = files; failed_reads = failed_reads; failed_writes = failed_writes; out = out; err = err }
 
--- These bytes were read of a file, of which at most so many are read: where the files are told, the file is there, and they are its first so many
--- bytes, or all of it.
+-- These bytes were read of a file, of which at most so many are read: they are no more, and where the files are told, the file is
+-- there, and they are its first so many bytes, or all of it.
 abbrev pub IsRead : (limit : ℕ) → Option Files → Word → List ℕ → Type 0
-IsRead limit files file bytes = IfSome files (λ m. (content : List ℕ) × (map.get m file ≡ Some content) × (bytes ≡ take limit content))
+IsRead limit files file bytes =
+    (length bytes ≤ limit) × IfSome files (λ m. (content : List ℕ) × (map.get m file ≡ Some content) × (bytes ≡ take limit content))

@@ -2,6 +2,8 @@
 //! Its contract carries what the whole program promises.
 #![tactic(auto)]
 
+ghost use Rattle.mg_top.specs.Once.{YieldsOnce};
+
 mod check;
 mod compile;
 mod conform;
@@ -18,3 +20,10 @@ mod translate;
 
 pub use status::Status;
 pub use top::mungo;
+
+/// Of the same contents a command gives one status, and the same actions, but for the place of Syntax
+/// in a line; of class files as they are that is said where they aren't refused. The function carries
+/// a law.
+pub fn one_yield()
+    ensures { YieldsOnce }
+{}

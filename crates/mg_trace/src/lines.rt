@@ -8,10 +8,9 @@ ghost use Rattle.vm_model.specs.Step.{truth_text};
 ghost use Rattle.mg_trace.specs.inner.Kept.{known_at};
 ghost use Rattle.mg_trace.specs.inner.Tabled.{AreTold, telling_of};
 
-use crate::names::name_text;
 use crate::objects::{Tracked, known};
 use crate::results::Answers;
-use jv_core::{Core, CoreType};
+use jv_core::{Core, CoreType, name_text};
 use mg_text::{Carried, Event, Memory, Text};
 
 /// Appends the line of an event of the role of this name. A text that is printed has none.

@@ -1,24 +1,9 @@
-//! The texts of names.
+//! The names of roles.
 
 ghost use Rattle.std.specs.Prelude.{◌≡◌};
-ghost use Rattle.jv_core.specs.Core.{tree_of};
-ghost use Rattle.jv_core.specs.Lookup.{text_at};
 ghost use Rattle.mg_trace.specs.Trace.{name_at};
 
-use jv_core::Core;
-use mg_text::{Name, Text};
-
-/// The text of a name; empty where the program has no such name.
-#[tactic(auto, using(crate::proofs::Found::found))]
-pub(crate) fn name_text(core: &Core, name: Name) -> &str
-    ensures { result.now ≡ text_at (tree_of core.now) name.0 }
-{
-    let names = core.names();
-    if (name.0 as usize) < names.len() {
-        return names.text(name);
-    }
-    ""
-}
+use mg_text::Text;
 
 /// The name of the role of a number; empty where there is none.
 #[tactic(auto, using(crate::proofs::Found::found))]

@@ -9,8 +9,7 @@ ghost use Rattle.jv_core.specs.View.{class_of};
 ghost use Rattle.mg_trace.specs.Trace.{methods_of, result_in};
 ghost use Rattle.mg_trace.specs.inner.Tabled.{AreMethods, AreClasses, AreResults, result_by};
 
-use crate::names::name_text;
-use jv_core::{Core, CoreClass, CoreType};
+use jv_core::{Core, CoreClass, CoreType, name_text};
 use mg_text::Memory;
 use std::alloc::Global;
 use std::collections::HashMap;

@@ -2,12 +2,12 @@
 //! go to the top call, and the number of its status is the exit status.
 #![tactic(auto)]
 
-ghost use Rattle.std.specs.Prelude.{◌≡◌, ◌≢◌, map, drop, IfOk, string_bytes};
+ghost use Rattle.std.specs.Prelude.{◌≡◌, ◌≢◌, [], None, map, drop, IfOk, string_bytes};
 ghost use Rattle.std.specs.IoError.{error_kind};
 ghost use Rattle.std.specs.Process.{exit_status};
 ghost use Rattle.std.specs.Vec.Iter.{into_iter_items};
 ghost use Rattle.mg_top.specs.Numbers.{number_of};
-ghost use Rattle.mg_top.specs.Outside.{outside, stream};
+ghost use Rattle.mg_top.specs.Outside.{Outside, outside, stream};
 ghost use Rattle.mg_top.specs.Promises.{Promises};
 ghost use Rattle.mg_top.specs.declared.status.Status.{Status as Kept};
 
@@ -39,7 +39,10 @@ fn hosted<R: Files + AllocGlobal>(
     words: &[Text],
     mut out: HostSink<Stdout>,
     mut err: HostSink<Stderr>,
-) -> ExitCode {
+) -> ExitCode
+    ensures { (status : Kept) × (after : Outside) × (exit_status result ≡ number_of status)
+        × Promises words.now (outside None [] [] (stream None out.faults) (stream None err.faults)) status after }
+{
     let alloc = rt.alloc();
     let mut folder = HostFolder::new(alloc, rt);
     ended::<HostFolder<R>, HostSink<Stdout>, HostSink<Stderr>>(

@@ -1,7 +1,7 @@
 //! Answers on texts, bytes, lists, places, tables of names, Java's words and sets.
 //! Each call that takes memory is seen to succeed where there is enough of it.
 
-use crate::answer::{Answer, plain, told};
+use cases::{Answer, plain, told};
 use mg_sets::StateSet;
 use mg_text::{Bytes, List, Memory, Name, Names, Place, Text, is_java_word, place_of};
 use std::alloc::Global;

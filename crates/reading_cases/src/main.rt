@@ -2,15 +2,13 @@
 //! Each file of cases has its kind of answer, and those that are not the wanted ones are printed.
 #![tactic(auto)]
 
-mod answer;
 mod bases;
 mod protocols;
 mod typestates;
 mod walks;
 mod written;
 
-use answer::plain;
-use cases::{Answers, CasesFault, tell};
+use cases::{Answers, CasesFault, plain, tell};
 use mg_text::Memory;
 use std::alloc::Global;
 use std::env;

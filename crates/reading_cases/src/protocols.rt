@@ -1,6 +1,6 @@
 //! Answers on the text of local protocols: tokens, faults, what is read and how it is printed.
 
-use crate::answer::{Answer, fault_text, plain, told};
+use cases::{Answer, fault_text, plain, told};
 use mg_text::{Memory, Place};
 use scr_lex::{reserved, tokens};
 use scr_print::print_local;

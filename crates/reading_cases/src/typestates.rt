@@ -1,8 +1,7 @@
 //! Answers on typestates: faults, trees, the one layout, and where calls lead.
 
-use crate::answer::{Answer, fault_text, plain, told};
 use crate::bases::add_members;
-use cases::files_of;
+use cases::{Answer, fault_text, files_of, plain, told};
 use mg_sets::StateSet;
 use mg_text::{Memory, Text};
 use std::alloc::Global;

@@ -1,9 +1,8 @@
 //! Answers on what protocols offer call by call, their typestates and their APIs.
 
-use crate::answer::{Answer, fault_text, plain};
 use crate::protocols::read;
 use crate::typestates::printed;
-use cases::files_of;
+use cases::{Answer, fault_text, files_of, plain};
 use mg_text::{List, Memory, Text};
 use scr_read::Local;
 use scr_trace::{Call, Offer, Walk, label_call_name};

@@ -1,6 +1,6 @@
 //! What is written in typestate files: states and their entries with the places of names.
 
-use crate::answer::{Answer, plain, told};
+use cases::{Answer, plain, told};
 use mg_read::ParseFault;
 use mg_text::Memory;
 use std::alloc::Global;

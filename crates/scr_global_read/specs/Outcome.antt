@@ -4,6 +4,7 @@ use Rattle.mg_text.specs.Call.{Name}
 use Rattle.mg_text.specs.Places.{start_of, place_after}
 use Rattle.mg_text.specs.declared.place.Place.{Place}
 use Rattle.mg_read.specs.First.{Judged}
+use Rattle.mg_read.specs.Within.{IsWithin}
 use Rattle.mg_read.specs.Culprit.{culprit}
 use Rattle.scr_global_tree.specs.declared.condition.GlobalCondition.{GlobalCondition}
 use Rattle.scr_global_tree.specs.declared.condition.GlobalCondition.TheVariants as conditions
@@ -20,7 +21,7 @@ use Rattle.scr_global_parse.specs.Grammar.{IsSpelled}
 use Rattle.scr_global_read.specs.declared.fault.GlobalFault.{GlobalFault}
 use Rattle.scr_global_read.specs.declared.fault.GlobalFault.TheVariants as faults
 
--- what is answered, want of memory aside; the place of Syntax is left open
+-- what is answered, want of memory aside; the place of Syntax is left open here
 pub data Answer : Type 0 where
   Protocol : GlobalTree → Answer
   TooLarge : Place → Answer
@@ -90,3 +91,8 @@ answer_of (Err fault) = fault_answer fault
 -- this was answered, or memory ran out
 abbrev pub IsAnswered : Answer → Result Global GlobalFault → Type 0
 IsAnswered answer result = (answer_of result ≡ Some answer) ⊎ (answer_of result ≡ None)
+
+-- the place of Syntax is one of the file
+abbrev pub HasPlace : (file : ℕ) (bytes : List ℕ) → GlobalFault → Type 0
+HasPlace file bytes (faults.Syntax place) = IsWithin file bytes place
+HasPlace file bytes _ = Unit {0}

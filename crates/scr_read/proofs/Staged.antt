@@ -19,7 +19,7 @@ use Rattle.scr_parse.specs.Answer.{SaysSyntax}
 use Rattle.scr_read.specs.declared.fault.ScrFault.{ScrFault}
 use Rattle.scr_read.specs.Unsupported.{IsUnsupported}
 use Rattle.scr_read.specs.Spelling.{Separates, Spells}
-use Rattle.scr_read.specs.Outcome.{Answer, Protocol, Outcome, fault_answer, IsAnswered}
+use Rattle.scr_read.specs.Outcome.{Answer, Protocol, Outcome, fault_answer, answer_of, IsAnswered}
 use Rattle.scr_read.specs.inner.Stages.{Stage, IsProtocol}
 use Rattle.scr_read.proofs.Unique.{one_outcome}
 
@@ -53,6 +53,11 @@ pub spells_of : (file : ℕ) (bytes : List ℕ) (tokens : List Tok) (w : Written
     → Judged IsUnsupported tokens None → IsSpelled w tokens → Spells file bytes w
 spells_of file bytes tokens w same separates supported spelled =
     record { same_file = same; tokens = tokens; separates = separates; supported = supported; spelled = spelled }
+
+pub answered_of : (file : ℕ) (bytes : List ℕ) (r : Result Local ScrFault) → Stage file bytes (IsProtocol file bytes) r → (a : Answer)
+    → answer_of r ≡ Some a → Outcome file bytes a
+answered_of file bytes (Ok local) h a e = told file bytes (Protocol (tree_of local)) h a e
+answered_of file bytes (Err fault) h a e = h a e
 
 pub only_of : (file : ℕ) (bytes : List ℕ) (r : Result Local ScrFault) → Stage file bytes (IsProtocol file bytes) r → (a : Answer)
     → Outcome file bytes a → IsAnswered a r

@@ -2,10 +2,10 @@
 //! The answer is the protocol that the bytes spell, or the fault of the lowest number at its first place.
 #![tactic(auto)]
 
-ghost use Rattle.std.specs.Prelude.{◌≡◌, ◌≤◌, ℕ, List, length, Some};
+ghost use Rattle.std.specs.Prelude.{◌≡◌, ◌≤◌, ℕ, List, length, Some, IfErr, Err};
 ghost use Rattle.scr_tree.specs.Written.{WrittenTree};
 ghost use Rattle.scr_read.specs.Spelling.{Spells};
-ghost use Rattle.scr_read.specs.Outcome.{Answer, Outcome, answer_of, IsAnswered};
+ghost use Rattle.scr_read.specs.Outcome.{Answer, Outcome, answer_of, IsAnswered, HasPlace};
 ghost use Rattle.scr_read.specs.inner.Stages.{Stage, IsProtocol};
 
 mod fault;
@@ -17,9 +17,11 @@ mod words;
 use crate::text::written_of;
 use crate::verdict::{protocol_of, refusal};
 pub use fault::ScrFault;
+use mg_read::place_within;
 use mg_text::Place;
 pub use parts::local_of;
 use scr_judge::first_fault;
+pub use scr_print::print_local;
 pub use scr_tree::{Direction, Local, Message, Payload, Statement};
 use std::alloc::Global;
 
@@ -49,6 +51,30 @@ fn read_of(alloc: Global, file: u32, bytes: &[u8]) -> Result<Local, ScrFault>
     judged_of(alloc, file, bytes)
 }
 
+// A fault of a file, with a place of the file where it is one of the grammar.
+fn fault_placed(file: u32, bytes: &[u8], fault: ScrFault) -> ScrFault
+    ensures answer { answer_of (Err result) ≡ answer_of (Err fault) }
+    ensures place { HasPlace file bytes.now result }
+{
+    match fault {
+        ScrFault::Syntax { place } => ScrFault::Syntax {
+            place: place_within(file, bytes, place),
+        },
+        fault => fault,
+    }
+}
+
+// What was read of a file, with a place of the file where it is a fault of the grammar.
+fn placed(file: u32, bytes: &[u8], read: Result<Local, ScrFault>) -> Result<Local, ScrFault>
+    ensures answer { answer_of result ≡ answer_of read }
+    ensures place { IfErr result (HasPlace file bytes.now) }
+{
+    match read {
+        Ok(found) => Ok(found),
+        Err(fault) => Err(fault_placed(file, bytes, fault)),
+    }
+}
+
 /// Reads the local protocol that the bytes of a file spell, with the place of each statement.
 ///
 /// # Errors
@@ -58,8 +84,10 @@ pub fn read_local(alloc: Global, file: u32, bytes: &[u8]) -> Result<Local, ScrFa
     ensures answered { (a : Answer) → answer_of result ≡ Some a → Outcome file bytes.now a }
     // What reading the bytes gives is answered, unless memory runs out.
     ensures only { (a : Answer) → Outcome file bytes.now a → IsAnswered a result }
+    // The place of Syntax is one of the file.
+    ensures place { IfErr result (HasPlace file bytes.now) }
 {
-    read_of(alloc, file, bytes)
+    placed(file, bytes, read_of(alloc, file, bytes))
 }
 
 /// Reading the bytes of a file gives one answer at most, and they spell one file at most.

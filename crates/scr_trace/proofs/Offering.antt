@@ -8,6 +8,7 @@ use Rattle.scr_tree.specs.Tree.{LocalTree}
 use Rattle.scr_tree.specs.CallNames.{message_call, label_call, call_of}
 use Rattle.scr_tree.specs.Meaning.{message_of, protocol_of}
 use Rattle.scr_tree.specs.Local.{tree_of}
+use Rattle.scr_tree.specs.Valid.{AreDistinct}
 use Rattle.scr_tree.specs.Steps.{Act, Moves, Looks, Position, Step, Silent}
 use Rattle.scr_trace.specs.declared.arrow.Arrow.{Arrow}
 use Rattle.scr_trace.specs.declared.arrow.Exits.{Exits}
@@ -21,11 +22,12 @@ use Rattle.scr_trace.specs.Graph.{Edge, IsStep, AreSteps}
 use Rattle.scr_trace.specs.Walking.{graph_of, Stands, Offered, calls_in, answered, calls_offered}
 use Rattle.scr_trace.specs.inner.Goes.{Among}
 use Rattle.scr_trace.specs.inner.Laying.{Work, Cell, Draft}
-use Rattle.scr_trace.specs.inner.Offering.{edge_calls, labels_in, SamePeer}
+use Rattle.scr_trace.specs.inner.Offering.{edge_calls, labels_in, methods_of, messages_in, AreApart, SamePeer}
 use Rattle.scr_trace.specs.inner.View.{draft_of, drafts_of, cell_of, work_of, act_of, edge_of, edges_of}
 use Rattle.scr_trace.proofs.Following.{IsSettled, AllSettled, states_settled, step_listed, listed_step, settled_at, edges_there, position_there, step_of_edge, StepsFrom, steps_from, steps_to}
-use Rattle.scr_trace.proofs.Telling.{OneChoice, moving, looking, AllLook, AllMove, Told, AllTold, valid_told}
-use Rattle.scr_trace.proofs.Walks.{get_map, get_none, told_at, all_of, settled_of, edge_among, walk_told, state_same}
+use Rattle.scr_trace.proofs.Telling.{OneChoice, moving, looking, AllLook, AllMove, DiffersFrom, AllDiffer, Told, AllTold, valid_told}
+use Rattle.scr_trace.proofs.Valid.{first_or_later, none_contained}
+use Rattle.scr_trace.proofs.Walks.{get_map, get_none, told_at, all_of, settled_of, edge_among, walk_told, state_same, calls_edges}
 
 -- ---- the loops
 
@@ -64,7 +66,15 @@ label_more arrows i a made label h e is before =
     (λ j. before j ++ is j ∷ []) ∙ sym (map-append (λ (d : Draft). d.message.label) (drafts_of (drop (i + 1) arrows)) (draft_of a ∷ []))
     ∙ ap labels_in (sym (drafts-drop arrows i a h e))
 
-pub ruleset message_steps = (common_steps, message_more, drafts-past)
+pub method_more : (arrows : List Arrow) (i : ℕ) (a : Arrow) (made : List Offer) (o : Offer) → i < length arrows → a ≡ get_or arrows i a →
+    o.method ≡ message_call (message_of a.message.now) → methods_of made ≡ messages_in (drafts_of (drop (i + 1) arrows)) →
+    methods_of (made ++ o ∷ []) ≡ messages_in (drafts_of (drop i arrows))
+method_more arrows i a made o h e named before =
+    map-append (λ (x : Offer). x.method) made (o ∷ []) ∙ (λ j. before j ++ named j ∷ [])
+    ∙ sym (map-append (λ (d : Draft). message_call (message_of d.message)) (drafts_of (drop (i + 1) arrows)) (draft_of a ∷ []))
+    ∙ ap messages_in (sym (drafts-drop arrows i a h e))
+
+pub ruleset message_steps = (common_steps, message_more, method_more, drafts-past)
 
 -- no arrows, no offers
 pub none_offered : (me : Name) (w : Work) (c : ℕ) (arrows : List Arrow) (offers : List Offer) → length arrows ≡ 0 → offers ≡ [] → calls_offered offers ≡ edge_calls me (map (edge_of w (Some c)) (drafts_of arrows))
@@ -175,12 +185,6 @@ offered_at local walk position number cell calls h at there is =
     state_place all at_end k f = cc f
     state_place all (silently m c) k f = state_place all c k f
 
-    calls_edges : (me : Name) (all : List Position) (steps : List Onward) (edges : List Edge) → AreSteps all steps edges → edge_calls me edges ≡ calls_of me steps
-    calls_edges me all [] [] h = refl
-    calls_edges me all [] (e ∷ edges) h = absurd h
-    calls_edges me all (s ∷ steps) [] h = absurd h
-    calls_edges me all (s ∷ steps) (e ∷ edges) h = λ i. call_of me (h.0.act i) ∷ calls_edges me all steps edges h.1 i
-
 no_step_at_end : (all : List Position) → AllSettled all → {p q : Position} {s : Standing} {act : Act} → ComesTo all p s → s ≡ standings.End → Step p act q → ⊥
 no_step_at_end all sets c e st = let f = (steps_from all sets c st).is_state in cc
 
@@ -241,9 +245,59 @@ pub look_pushed : (me : Name) (w : Work) (c : ℕ) (arrows : List Arrow) (i : �
 look_pushed me w c arrows i first o before after h e none is named labels same =
     ap calls_offered (is ∙ ap (λ l. l ++ o ∷ []) none) ∙ look_offer me w c arrows i first o h e same named labels
 
-pub ruleset looks_once = (common_steps, none_offered, look_pushed)
+-- at most one offer
+pub none_many : (offers : List Offer) → offers ≡ [] → length offers ≤ 1
+none_many offers e = subst (λ (os : List Offer). length os ≤ 1) (sym e) (omega arith)
+
+pub one_many : (o : Offer) (before after : List Offer) → before ≡ [] → after ≡ before ++ o ∷ [] → length after ≤ 1
+one_many o before after none is =
+    subst (λ (os : List Offer). length os ≤ 1) (sym (is ∙ ap (λ (os : List Offer). os ++ o ∷ []) none)) (omega arith)
+
+pub ruleset looks_once = (common_steps, none_offered, look_pushed, none_many, one_many)
 
 -- a walk that stands at no state is at the end
 pub at_no_state : (s : Standing) → ((n : ℕ) → s ≡ standings.State n → ⊥) → s ≡ standings.End
 at_no_state (standings.State n) h = absurd (h n refl)
 at_no_state standings.End h = refl
+
+-- ---- no two offers have one method
+
+pub none_twice : (offers : List Offer) → offers ≡ [] → AreDistinct (methods_of offers)
+none_twice offers e = subst (λ os. AreDistinct (methods_of os)) (sym e) tt
+
+few_distinct : (offers : List Offer) → length offers ≤ 1 → AreDistinct (methods_of offers)
+few_distinct [] h = tt
+few_distinct (o ∷ []) h = (none_contained o.method, tt)
+few_distinct (o ∷ p ∷ offers) h = absurd (omega (arith, h))
+
+module _ (me : Name) (w : Work) where
+  none_named : (name : Name) (ds : List Draft) → DiffersFrom (record { method = name; answer = None }) (edge_calls me (map (edge_of w None) ds)) →
+      Contains (messages_in ds) name → ⊥
+  none_named name [] h c = none_contained name c
+  none_named name (d ∷ ds) h c =
+      ⊎_elim (λ e. h.0 (λ i. record { method = sym e i; answer = None })) (none_named name ds h.1)
+      (first_or_later (message_call (message_of d.message)) (messages_in ds) name c)
+
+  messages_distinct : (ds : List Draft) → AllDiffer (edge_calls me (map (edge_of w None) ds)) → AreDistinct (messages_in ds)
+  messages_distinct [] h = tt
+  messages_distinct (d ∷ ds) h = (none_named (message_call (message_of d.message)) ds h.0, messages_distinct ds h.1)
+
+-- the calls of a state's edges differ
+state_differs : (local : LocalTree) (walk : Walk) (position : Position) (number : ℕ) (cell : Cell) → Stands local walk position →
+    Some cell ≡ slice_get (work_of walk.laid).cells number → AllDiffer (edge_calls local.me (edges_of (work_of walk.laid) cell))
+state_differs local walk position number cell h there =
+    let w : Work = work_of walk.laid in
+    let e = get_map (edges_of w) w.cells number cell (sym there) in
+    let place = position_there (all_of local) (all_of local) (graph_of walk).states h.along.states number (edges_of w cell) e in
+    let told = told_at local.me (all_of local) (walk_told local walk h.of) number place.0 place.1 in
+    subst AllDiffer (sym (calls_edges local.me (all_of local) (steps_at place.0) (edges_of w cell) place.2)) told.differ
+
+pub offers_distinct : (local : LocalTree) (walk : Walk) (position : Position) (number : ℕ) (exits : Exits) (offers : List Offer) → Stands local walk position →
+    Some (cell_of exits) ≡ slice_get (work_of walk.laid).cells number → AreApart exits.number (drafts_of exits.arrows.items) offers → AreDistinct (methods_of offers)
+offers_distinct local walk position number exits offers h there =
+    go exits.number (state_differs local walk position number (cell_of exits) h there)
+  where
+    go : (o : Option ℕ) → AllDiffer (edge_calls local.me (map (edge_of (work_of walk.laid) o) (drafts_of exits.arrows.items))) →
+        AreApart o (drafts_of exits.arrows.items) offers → AreDistinct (methods_of offers)
+    go None d e = subst AreDistinct (sym e) (messages_distinct local.me (work_of walk.laid) (drafts_of exits.arrows.items) d)
+    go (Some c) d few = few_distinct offers few

@@ -266,7 +266,7 @@ none_steps local walk position call none h act to st named =
 
 -- ---- no state has a call twice
 
-calls_edges : (me : Name) (all : List Position) (steps : List Onward) (edges : List Edge) → AreSteps all steps edges → map (λ (e : Edge). call_of me e.act) edges ≡ calls_from me steps
+pub calls_edges : (me : Name) (all : List Position) (steps : List Onward) (edges : List Edge) → AreSteps all steps edges → map (λ (e : Edge). call_of me e.act) edges ≡ calls_from me steps
 calls_edges me all [] [] h = refl
 calls_edges me all [] (e ∷ edges) h = absurd h
 calls_edges me all (s ∷ steps) [] h = absurd h

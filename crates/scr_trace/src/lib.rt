@@ -15,5 +15,6 @@ pub use arrow::{Arrow, Exits, Hop};
 pub use call::{Call, Offer};
 pub use laying::Laying;
 pub use names::{is_label_call, is_message_call, label_call_name};
+pub use scr_tree::call_name;
 pub use standing::Standing;
 pub use walk::{StepFault, Walk};

@@ -1,9 +1,9 @@
 //! The calls that a walk offers, in the order of the text.
 
-ghost use Rattle.std.specs.Prelude.{◌≡◌, ℕ, IfOk, Some, None, map};
+ghost use Rattle.std.specs.Prelude.{◌≡◌, ◌≤◌, ℕ, IfOk, Some, None, length, map};
 ghost use Rattle.scr_tree.specs.Local.{tree_of};
 ghost use Rattle.scr_trace.specs.Walking.{calls_offered};
-ghost use Rattle.scr_trace.specs.inner.Offering.{SamePeer, edge_calls, labels_in};
+ghost use Rattle.scr_trace.specs.inner.Offering.{AreApart, SamePeer, edge_calls, labels_in, messages_in, methods_of};
 ghost use Rattle.scr_trace.specs.inner.View.{cell_of, drafts_of, edge_of, edges_of, work_of};
 
 use crate::arrow::{Arrow, Exits};
@@ -21,7 +21,8 @@ pub fn offers_of(
     laid: &Laying<'_>,
     exits: &Exits<'_>,
 ) -> Result<List<Offer>, Memory>
-    ensures { IfOk result (λ offers. ((c : ℕ) → exits.now.number ≡ Some c → SamePeer exits.now.arrows.items) → calls_offered offers.items ≡ edge_calls (tree_of local.now).me (edges_of (work_of laid.now) (cell_of exits.now))) }
+    ensures calls { IfOk result (λ offers. ((c : ℕ) → exits.now.number ≡ Some c → SamePeer exits.now.arrows.items) → calls_offered offers.items ≡ edge_calls (tree_of local.now).me (edges_of (work_of laid.now) (cell_of exits.now))) }
+    ensures apart { IfOk result (λ offers. AreApart exits.now.number (drafts_of exits.now.arrows.items) offers.items) }
 {
     let arrows = exits.arrows.as_slice();
     match exits.number {
@@ -38,7 +39,8 @@ fn message_offers(
     laid: &Laying<'_>,
     arrows: &[Arrow<'_>],
 ) -> Result<List<Offer>, Memory>
-    ensures { IfOk result (λ offers. calls_offered offers.items ≡ edge_calls (tree_of local.now).me (map (edge_of (work_of laid.now) None) (drafts_of arrows.now))) }
+    ensures calls { IfOk result (λ offers. calls_offered offers.items ≡ edge_calls (tree_of local.now).me (map (edge_of (work_of laid.now) None) (drafts_of arrows.now))) }
+    ensures methods { IfOk result (λ offers. methods_of offers.items ≡ messages_in (drafts_of arrows.now)) }
 {
     let mut offers = List::new(alloc);
     let mut i = arrows.len();
@@ -61,7 +63,8 @@ fn label_offers(
     behind: u32,
     arrows: &[Arrow<'_>],
 ) -> Result<List<Offer>, Memory>
-    ensures { IfOk result (λ offers. SamePeer arrows.now → calls_offered offers.items ≡ edge_calls (tree_of local.now).me (map (edge_of (work_of laid.now) (Some behind)) (drafts_of arrows.now))) }
+    ensures calls { IfOk result (λ offers. SamePeer arrows.now → calls_offered offers.items ≡ edge_calls (tree_of local.now).me (map (edge_of (work_of laid.now) (Some behind)) (drafts_of arrows.now))) }
+    ensures one { IfOk result (λ offers. length offers.items ≤ 1) }
 {
     let mut offers = List::new(alloc);
     let count = arrows.len();

@@ -47,7 +47,9 @@ impl From<Memory> for StepFault {
 impl<'a> Walk<'a> {
     ghost use Rattle.scr_trace.specs.declared.walk.StepFault.TheVariants as faults;
     ghost use Rattle.scr_trace.specs.Walking.{Stands, StepsOn, HasTaken, Offered, Calls, call_said, calls_offered};
+    ghost use Rattle.scr_tree.specs.Valid.{AreDistinct};
     ghost use Rattle.scr_trace.specs.inner.Goes.{Goes};
+    ghost use Rattle.scr_trace.specs.inner.Offering.{methods_of};
 
     /// A walk that stands at the start of a protocol, and has taken no calls.
     /// The only error is `Memory`, where there is too little of it.
@@ -87,10 +89,12 @@ impl<'a> Walk<'a> {
         }
     }
 
-    /// The calls of all steps from where the walk stands, in the order of the text.
+    /// The calls of all steps from where the walk stands, in the order of the text. No two offers
+    /// have one method.
     /// The only error is `Memory`, where there is too little of it.
     pub fn offers(&self) -> Result<List<Offer>, Memory>
-        ensures { IfOk result (λ offers. (tree : LocalTree) (position : Position) → Stands tree self.now position → Offered tree position (calls_offered offers.items)) }
+        ensures calls { IfOk result (λ offers. (tree : LocalTree) (position : Position) → Stands tree self.now position → Offered tree position (calls_offered offers.items)) }
+        ensures distinct { IfOk result (λ offers. (tree : LocalTree) (position : Position) → Stands tree self.now position → AreDistinct (methods_of offers.items)) }
     {
         let Standing::State(number) = self.standing else {
             return Ok(List::new(self.alloc));

@@ -4,6 +4,7 @@ use Rattle.mg_text.specs.Call.{Name}
 use Rattle.mg_text.specs.Places.{start_of, place_after}
 use Rattle.mg_text.specs.declared.place.Place.{Place}
 use Rattle.mg_read.specs.Culprit.{culprit}
+use Rattle.mg_read.specs.Within.{IsWithin}
 use Rattle.ts_tree.specs.Typestate.{Typestate}
 use Rattle.ts_parse.specs.Tok.{Tok, AreTokens, IsBadAt}
 use Rattle.ts_parse.specs.Grammar.{IsSpelled}
@@ -15,7 +16,7 @@ use Rattle.ts_read.specs.declared.condition.Condition.TheVariants as conditions
 use Rattle.ts_read.specs.declared.fault.TsFault.{TsFault}
 use Rattle.ts_read.specs.declared.fault.TsFault.TheVariants as faults
 
--- what is answered, want of memory aside; the place of Syntax is left open
+-- what is answered, want of memory aside; the place of Syntax is left open here
 pub data Answer : Type 0 where
   Read : Typestate → Answer
   TooLarge : Place → Answer
@@ -64,3 +65,8 @@ answer_of (Err faults.Memory) = None
 -- this was answered, or memory ran out
 abbrev pub IsAnswered : Answer → Result Typestate TsFault → Type 0
 IsAnswered answer result = (answer_of result ≡ Some answer) ⊎ (answer_of result ≡ None)
+
+-- the place of Syntax is one of the file
+abbrev pub HasPlace : (file : ℕ) (bytes : List ℕ) → TsFault → Type 0
+HasPlace file bytes (faults.Syntax place) = IsWithin file bytes place
+HasPlace file bytes _ = Unit {0}

@@ -5,9 +5,9 @@ use Rattle.std.proofs.lemmas.Bool.{cases_eq, cases_Bool}
 use Rattle.std.proofs.lemmas.List.{get_or-set_other, get_or-set_same, at_drop_more, at_drop_all}
 use Rattle.std.proofs.lemmas.List.Elements.{Contains-append_left, Contains-append_right, Contains-append_cases, Contains-push, Contains-push_cases}
 use Rattle.std.proofs.lemmas.List.Sums.{fold-append}
-use Rattle.mg_sets.specs.Sets.{has}
+use Rattle.mg_sets.specs.Sets.{has, missing}
 use Rattle.mg_sets.proofs.SetLaws.{has-set}
-use Rattle.mg_sets.proofs.Missing.{missing, missing-set}
+use Rattle.mg_sets.proofs.Missing.{missing-set}
 use Rattle.ts_tree.specs.declared.parts.To.{To}
 use Rattle.ts_tree.specs.declared.parts.To.TheVariants as tos
 use Rattle.ts_tree.specs.declared.parts.Branch.{Branch}

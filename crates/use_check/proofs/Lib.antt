@@ -1,4 +1,5 @@
 mod Worked
 mod Failing
+pub mod First
 pub mod Listed
-mod Reporting
+pub mod Reporting

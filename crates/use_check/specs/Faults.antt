@@ -1,5 +1,5 @@
 -- What a fault says of a program.
-use Rattle.std.specs.Prelude.{◌≡◌}
+use Rattle.std.specs.Prelude.{◌≡◌, ◌≢◌}
 use Rattle.jv_core.specs.Tree.{Program}
 use Rattle.use_rules.specs.declared.demand.Demand.{Demand}
 use Rattle.use_rules.specs.declared.demand.DemandKind.{DemandKind}
@@ -33,3 +33,7 @@ fault_of d = elim d.kind [
   | demands.Overwritten ↦ faults.Overwritten d
   | demands.FieldOpenAtEnd ↦ faults.FieldOpenAtEnd d
 ]
+
+-- A program has one fault, want of memory aside: the first demand that fails is one.
+abbrev pub OneFault : Type 0
+OneFault = (p : Program) (a b : CheckFault) → a ≢ faults.Memory → b ≢ faults.Memory → IsFault p a → IsFault p b → a ≡ b

@@ -3,6 +3,7 @@
 #![tactic(auto)]
 
 ghost use Rattle.use_check.specs.Computed.{ReportsOfExamples};
+ghost use Rattle.use_check.specs.Faults.{OneFault};
 ghost use Rattle.use_check.specs.Report.{OneReport};
 
 mod contexts;
@@ -16,6 +17,11 @@ pub use verdict::{Accepted, CheckFault, check};
 /// The text of a report is computed on worked programs. The function carries a law.
 pub fn examples_report()
     ensures { ReportsOfExamples }
+{}
+
+/// A program has one fault, want of memory aside. The function carries a law.
+pub fn one_fault()
+    ensures { OneFault }
 {}
 
 /// A program has one report. The function carries a law.

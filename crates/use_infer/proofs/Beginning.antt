@@ -2,8 +2,7 @@
 use Rattle.std.proofs.Common.{◌≡◌, ℕ, zero, suc, ◌+◌, ◌<◌, ◌≤◌, Bool, true, false, List, [], length, replicate, get_or, Option, Some, None, slice_get, refl, sym, ap, subst, ◌∙◌, arith}
 use Rattle.std.proofs.lemmas.Bool.{false≢true}
 use Rattle.std.proofs.lemmas.Option.{slice_get-get_or, slice_get_within}
-use Rattle.mg_sets.specs.Sets.{has}
-use Rattle.mg_sets.proofs.Missing.{missing}
+use Rattle.mg_sets.specs.Sets.{has, missing}
 use Rattle.mg_sets.proofs.SetLaws.{member-below}
 use Rattle.jv_core.specs.Tree.{Program}
 use Rattle.use_rules.specs.declared.key.Context.{Context}

@@ -3,8 +3,7 @@ use Rattle.std.proofs.Common.{◌≡◌, ℕ, zero, suc, ◌+◌, ◌<◌, ◌�
 use Rattle.std.specs.Prelude.{slice_set}
 use Rattle.std.proofs.lemmas.Bool.{false≢true, cases_eq, cases_lt}
 use Rattle.std.proofs.lemmas.List.{get_or-set_other, get_or-set_same, get_or_past}
-use Rattle.mg_sets.specs.Sets.{has}
-use Rattle.mg_sets.proofs.Missing.{missing}
+use Rattle.mg_sets.specs.Sets.{has, missing}
 use Rattle.jv_core.specs.Tree.{Program}
 use Rattle.use_rules.specs.declared.key.Context.{Context}
 use Rattle.use_rules.specs.declared.key.TableKey.{TableKey}

@@ -90,7 +90,7 @@ module _ (os : List Outline) (names : List Name) (same : (name : Name) → is_kn
   none_mapped (Some n) h = absurd cc
 
   field_known : (flaw : Flaw) (o : Option FieldType) →
-      descriptor_flaw os flaw (elim o [ None ↦ None | Some t ↦ Some (t ∷ []) ]) ≡ None → is_field_type names o ≡ true
+      descriptor_flaw os (Some flaw) (elim o [ None ↦ None | Some t ↦ Some (t ∷ []) ]) ≡ None → is_field_type names o ≡ true
   field_known flaw None h = absurd cc
   field_known flaw (Some t) h = one (is_type names t) (all_known (t ∷ []) (none_mapped (unknown_in os (t ∷ [])) h))
     where
@@ -99,12 +99,13 @@ module _ (os : List Outline) (names : List Name) (same : (name : Name) → is_kn
       one false e = absurd cc
 
   method_known : (flaw : Flaw) (b : Bool) (o : Option Typed) →
-      descriptor_flaw os flaw (if b then elim o [ None ↦ None | Some s ↦ Some (types_of_signature s) ] else None) ≡ None → is_method_type names o ≡ true
+      descriptor_flaw os (Some flaw) (if b then elim o [ None ↦ None | Some s ↦ Some (types_of_signature s) ] else None) ≡ None → is_method_type names o ≡ true
   method_known flaw false o h = absurd cc
   method_known flaw true None h = absurd cc
   method_known flaw true (Some s) h = all_known (types_of_signature s) (none_mapped (unknown_in os (types_of_signature s)) h)
 
-  main_alone : (flaw : Flaw) (b : Bool) (types : Option (List FieldType)) → descriptor_flaw os flaw (if b then types else None) ≡ None → b ≡ true
+  main_alone : (flaw : Flaw) (b : Bool) (types : Option (List FieldType)) →
+      descriptor_flaw os (Some flaw) (if b then types else None) ≡ None → b ≡ true
   main_alone flaw false types h = absurd cc
   main_alone flaw true types h = refl
 
@@ -165,8 +166,8 @@ module _ (p : Program) where
 
     fine_reference : (op : ℕ) (r : Reference) (ts : Option (List FieldType)) → fine (judged_reference os op r ts) ≡ true
     fine_reference op r ts =
-        fine_if (is_known os r.class) (judged_member os op r (descriptor_flaw os (UnknownMember r.member.name) ts)) (Err (UnknownClass r.class))
-        (fine_member op r (descriptor_flaw os (UnknownMember r.member.name) ts)) refl
+        fine_if (is_known os r.class) (judged_member os op r (descriptor_flaw os None ts)) (Err (UnknownClass r.class))
+        (fine_member op r (descriptor_flaw os None ts)) refl
 
     fine_field : (op : ℕ) (r : Option Reference) → fine (judged_field_reference os op r) ≡ true
     fine_field op None = refl

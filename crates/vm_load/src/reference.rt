@@ -55,7 +55,8 @@ fn found_member(
     }
 }
 
-/// The member that a reference of this opcode names, whose descriptor has these types.
+/// The member that a reference of this opcode names, whose descriptor has these types. One of no types
+/// is judged where a member has it.
 #[tactic(auto, using(crate::proofs::Judged::judges))]
 fn judge_reference(
     alloc: Global,
@@ -72,7 +73,7 @@ fn judge_reference(
         return Err(unknown_class(alloc, reference.class));
     }
     let Some(types) = types else {
-        return Err(unknown_member(alloc, reference.name));
+        return found_member(alloc, outlines, names, op, reference);
     };
     match judge_types(alloc, outlines, names, types.as_slice()) {
         Ok(()) => found_member(alloc, outlines, names, op, reference),

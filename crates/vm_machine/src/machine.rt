@@ -157,8 +157,8 @@ impl Machine {
     }
 
     /// Takes a step of the role `me`: the next instruction's tests in their order, and then what it
-    /// does (JVMS chapter 6). A step that waits changes neither the machine nor the messages; one
-    /// that ends the run leaves the messages, so that a mismatch takes none.
+    /// does (JVMS chapter 6). A step that waits, or that ends the run, changes neither the machine
+    /// nor the messages; so a mismatch takes none.
     ///
     /// # Errors
     /// `Memory` only, and then neither has changed.

@@ -122,9 +122,9 @@ abbrev pub method_types : Name → Name → Option (List FieldType)
 method_types name descriptor =
     if is_main_alone name descriptor then elim (signature_of descriptor) [ None ↦ None | Some s ↦ Some (types_of_signature s) ] else None
 
--- what is wrong with a descriptor of these types: it has none, and that is this flaw, or a class in it is unknown
-abbrev pub descriptor_flaw : List Outline → Flaw → Option (List FieldType) → Option Flaw
-descriptor_flaw os flaw None = Some flaw
+-- what is wrong with a descriptor of these types: a class in it is unknown, or, where it has none, this
+abbrev pub descriptor_flaw : List Outline → Option Flaw → Option (List FieldType) → Option Flaw
+descriptor_flaw os flaw None = flaw
 descriptor_flaw os flaw (Some ts) = option_map UnknownClass (unknown_in os ts)
 
 abbrev pub field_made : Declared → FieldOf
@@ -132,10 +132,10 @@ field_made d = record { name = d.name; descriptor = d.descriptor }
 
 -- what is wrong with the descriptor of a declared field, and with that of a declared method
 abbrev pub field_flaw : List Outline → Declared → Option Flaw
-field_flaw os d = descriptor_flaw os (BadDescriptor d.descriptor) (field_types d.descriptor)
+field_flaw os d = descriptor_flaw os (Some (BadDescriptor d.descriptor)) (field_types d.descriptor)
 
 abbrev pub method_flaw : List Outline → Declared → Option Flaw
-method_flaw os d = descriptor_flaw os (BadDescriptor d.descriptor) (method_types d.name d.descriptor)
+method_flaw os d = descriptor_flaw os (Some (BadDescriptor d.descriptor)) (method_types d.name d.descriptor)
 
 -- what is wrong with the super class
 abbrev pub super_flaw : Name → Option Flaw
@@ -220,14 +220,15 @@ abbrev pub judged_args : Name → Option Args → Result Args Flaw
 judged_args name None = Err (UnknownMember name)
 judged_args name (Some args) = Ok args
 
--- after the class its descriptor's classes are judged, and then whether there is such a member
+-- After the class its descriptor's classes are judged, and then whether there is such a member. A descriptor of no types
+-- is wrong where the member is declared, and not where a reference has it.
 abbrev pub judged_member : List Outline → ℕ → Reference → Option Flaw → Result Args Flaw
 judged_member os op r (Some flaw) = Err flaw
 judged_member os op r None = judged_args r.member.name (member_args os op r)
 
 abbrev pub judged_reference : List Outline → ℕ → Reference → Option (List FieldType) → Result Args Flaw
 judged_reference os op r ts =
-    if is_known os r.class then judged_member os op r (descriptor_flaw os (UnknownMember r.member.name) ts) else Err (UnknownClass r.class)
+    if is_known os r.class then judged_member os op r (descriptor_flaw os None ts) else Err (UnknownClass r.class)
 
 abbrev pub judged_field_reference : List Outline → ℕ → Option Reference → Result Args Flaw
 judged_field_reference os op None = Err (UnknownMember [])

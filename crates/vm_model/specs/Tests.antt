@@ -193,10 +193,6 @@ abbrev pub type_in : Option FieldOf → Want
 type_in None = Any
 type_in (Some f) = elim (type_of f.descriptor) [ None ↦ Any | Some type ↦ Typed type ]
 
-abbrev pub sort_of_result : Option Sort → List Want → List Want
-sort_of_result None ws = []
-sort_of_result (Some sort) ws = ws
-
 abbrev pub is_sort : Option Sort → Option FieldType → Bool
 is_sort None result = not (is_some result)
 is_sort (Some sort) result = is_some result

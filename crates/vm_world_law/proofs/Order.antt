@@ -12,9 +12,10 @@ use Rattle.vm_model.specs.Step.{step}
 use Rattle.vm_world_law.specs.World.{State, Runs, Over, Role, World, turn, turns, turn_at, turn_in, stepped, IsFresh, events_of, sent, sent_to, message_to, name_of, IsStill, Rests}
 use Rattle.vm_world_law.specs.declared.stand.Stand.{Stand}
 use Rattle.vm_world_law.specs.Turns.{first_turns, stand_of, stands_from, OrdersAgree}
-use Rattle.vm_world_law.specs.Laws.{Prefix, Begin, Left, Arrives, ComesAlone, Longer, EventsBegin, SameForAll}
+use Rattle.vm_world_law.specs.Laws.{Begin, Left, Arrives, ComesAlone, Longer, EventsBegin, SameForAll}
 use Rattle.vm_world_law.proofs.Lists.{get_within, replicate_there}
 use Rattle.vm_world_law.proofs.Moves.{GoesAlike, step_alike}
+use Rattle.jv_mean.specs.Alike.{Prefix}
 use Rattle.vm_world_law.proofs.Events.{others_more}
 use Rattle.vm_world_law.proofs.Alone.{Kept, kept_first, kept_by, turn_kept}
 use Rattle.vm_world_law.proofs.Same.{same_sent, messages_same, roles_same}
@@ -69,8 +70,8 @@ held_all w r within = held_begin w r within (λ from. []) w refl (λ from lt apa
 -- what was sent is a prefix where the events are
 sent_front : (names : _) (es fs : List Event) → Prefix es fs → Prefix (sent_to names es) (sent_to names fs)
 sent_front names es fs h = record {
-  more = sent_to names h.more;
-  is = ap (sent_to names) h.is ∙ flat_map-append (message_to names) es h.more;
+  later = sent_to names h.later;
+  is = ap (sent_to names) h.is ∙ flat_map-append (message_to names) es h.later;
 }
 
 module _ (p : Program) (first : World) where
@@ -188,7 +189,7 @@ module _ (p : Program) (first : World) where
 
     pub begins : (order : List ℕ) → EventsBegin (turns p first order) w
     begins order = turns_front first (kept_first p first fresh)
-        (λ r lt. record { more = events_of r w.events; is = ap (λ es. events_of r es ++ events_of r w.events) (sym fresh.unseen) }) order
+        (λ r lt. record { later = events_of r w.events; is = ap (λ es. events_of r es ++ events_of r w.events) (sym fresh.unseen) }) order
 
     -- Two worlds at rest.
     module _ (v : World) (kept' : Kept p first v) (rests' : Rests p v) (same : (r : ℕ) → r < length w.roles → events_of r v.events ≡ events_of r w.events) where

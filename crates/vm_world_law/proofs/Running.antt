@@ -5,7 +5,7 @@ use Rattle.mg_text.specs.declared.event.Event.{Event}
 use Rattle.vm_model.specs.Messages.{Messages}
 use Rattle.vm_model.specs.Machine.{Machine, Stepped, Went, Stops, Steps, none, more, noted}
 use Rattle.vm_world_law.specs.World.{Runs, Over, Role}
-use Rattle.vm_world_law.specs.Laws.{Prefix}
+use Rattle.jv_mean.specs.Alike.{Prefix}
 
 -- Prefixes.
 
@@ -15,7 +15,7 @@ drop_front (x ∷ xs) ys = drop_front xs ys
 
 -- what is behind a prefix
 pub behind_front : {A : Type 0} (xs ys : List A) → Prefix xs ys → ys ≡ xs ++ drop (length xs) ys
-behind_front xs ys h = h.is ∙ ap (λ l. xs ++ l) (sym (ap (drop (length xs)) h.is ∙ drop_front xs h.more))
+behind_front xs ys h = h.is ∙ ap (λ l. xs ++ l) (sym (ap (drop (length xs)) h.is ∙ drop_front xs h.later))
 
 nothing_more : {A : Type 0} (xs ys : List A) → length (xs ++ ys) ≡ length xs → ys ≡ []
 nothing_more xs [] e = refl
@@ -24,10 +24,10 @@ nothing_more xs (y ∷ ys) e = absurd (omega (arith, e, length-append xs (y ∷ 
 -- two lists that are prefixes of each other are the same
 pub each_front : {A : Type 0} (xs ys : List A) → Prefix xs ys → Prefix ys xs → xs ≡ ys
 each_front xs ys h g =
-    let longer : length ys ≡ length xs + length h.more = ap length h.is ∙ length-append xs h.more in
-    let shorter : length xs ≡ length ys + length g.more = ap length g.is ∙ length-append ys g.more in
-    let same : length (xs ++ h.more) ≡ length xs = sym (ap length h.is) ∙ (omega (arith, longer, shorter)) in
-    sym (h.is ∙ ap (λ l. xs ++ l) (nothing_more xs h.more same) ∙ append-nil xs)
+    let longer : length ys ≡ length xs + length h.later = ap length h.is ∙ length-append xs h.later in
+    let shorter : length xs ≡ length ys + length g.later = ap length g.is ∙ length-append ys g.later in
+    let same : length (xs ++ h.later) ≡ length xs = sym (ap length h.is) ∙ (omega (arith, longer, shorter)) in
+    sym (h.is ∙ ap (λ l. xs ++ l) (nothing_more xs h.later same) ∙ append-nil xs)
 
 -- Runs.
 
@@ -113,8 +113,8 @@ module _ (next : Machine → Messages → Stepped) (start : Machine) (q : Messag
           ⊎ GoesOn next s.last s.left s.steps fs f.shows.last f.shows.left f.shows.steps es → Prefix fs es
       go (inl h) =
           let no_more = halts_there next f.shows.last f.shows.left f.out f.is f.halts s.last s.left h.left h.events h.leads in
-          record { more = []; is = sym (h.all ∙ ap (λ l. es ++ l) no_more.0 ∙ append-nil es) ∙ sym (append-nil fs) }
-      go (inr h) = record { more = h.events; is = h.all }
+          record { later = []; is = sym (h.all ∙ ap (λ l. es ++ l) no_more.0 ∙ append-nil es) ∙ sym (append-nil fs) }
+      go (inr h) = record { later = h.events; is = h.all }
 
   -- two that halt stand at the same place
   pub final_same : (es fs : List Event) (role other : Role) → Final es role → Final fs other → role ≡ other

@@ -9,6 +9,7 @@ use Rattle.vm_model.specs.Runs as whole
 use Rattle.vm_model.specs.Start.{IsStart}
 use Rattle.vm_model.specs.Step.{step}
 use Rattle.mg_text.specs.Call.{Name}
+use Rattle.jv_mean.specs.Alike.{Prefix}
 use Rattle.vm_world_law.specs.declared.role.RoleMain.{RoleMain}
 use Rattle.vm_world_law.specs.Doing.{DoesOne}
 use Rattle.vm_world_law.specs.World.{State, Runs, Over, Role, World, turn, turns, IsFresh, IsBegun, name_of, events_of, sent, took, waits, Rests}
@@ -28,11 +29,6 @@ pub record BeginsAt (p : Program) (w : World) (r : ℕ) (main : RoleMain) : Type
 abbrev pub BegunIsFresh : Type 0
 BegunIsFresh = (p : Program) (mains : List RoleMain) (w : World) → IsBegun p mains w →
     IsFresh w × ((r : ℕ) (main : RoleMain) → slice_get mains r ≡ Some main → BeginsAt p w r main)
-
--- a list is the front of another
-pub record Prefix {A : Type 0} (front whole : List A) : Type 0 where
-  pub more : List A
-  pub is : whole ≡ front ++ more
 
 -- What a role took from another is a prefix of what that sent to it, and the list between them is the rest.
 abbrev pub Delivers : World → Type 0

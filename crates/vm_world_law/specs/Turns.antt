@@ -1,8 +1,6 @@
 -- A run of several roles: turns in an order that is repeated as a cycle, up to a number of instructions.
-use Rattle.std.specs.Prelude.{◌≡◌, ◌⊎◌, ◌<◌, ◌≤◌, ◌+◌, ◌%◌, ℕ, zero, suc, List, [], ◌∷◌, ◌++◌, length, get_or, Option, Some, None, slice_get, Bool, true, false, if◌then◌else◌, Contains}
+use Rattle.std.specs.Prelude.{◌≡◌, ◌⊎◌, ◌<◌, ◌≤◌, ◌+◌, ◌%◌, ℕ, zero, suc, List, [], ◌∷◌, ◌++◌, length, get_or, Option, Some, None, slice_get, Bool, true, false, Contains}
 use Rattle.std.specs.List.{list_any}
-use Rattle.mg_text.specs.Call.{Name}
-use Rattle.mg_text.specs.declared.event.Ending.{Ending}
 use Rattle.mg_text.specs.declared.event.Ending.TheVariants as endings
 use Rattle.vm_model.specs.Program.{Program}
 use Rattle.vm_world_law.specs.declared.stand.Stand.{Stand}
@@ -78,16 +76,6 @@ abbrev pub is_mismatch : Stand → Bool
 is_mismatch (stands.Ended (endings.Mismatch peer found)) = true
 is_mismatch (stands.Ended (endings.NoPeer peer)) = true
 is_mismatch _ = false
-
--- The status of a run, by how the roles stand: the first that applies. A role that neither ended nor waits is there only where the run stopped at its limit.
-abbrev pub status_of : List Stand → ℕ
-status_of all =
-    if list_any is_bound all then 9
-    else if list_any is_broken all then 10
-    else if list_any is_zero all then 6
-    else if list_any is_mismatch all then 7
-    else if list_any is_waiting all then 8
-    else 0
 
 -- Laws.
 

@@ -43,11 +43,14 @@ abbrev pub first_kind : {K C : Type 0} → (K → Option C) → List K → Optio
 first_kind f [] = None
 first_kind f (k ∷ ks) = told k (f k) (first_kind f ks)
 
+abbrev pub names_class : Scope → Name → Bool
+names_class scope name = bytes_eq name (codes "Session") || is_some (class_named scope.program.files name)
+
 abbrev pub is_receiver : Scope → Name → Bool
-is_receiver scope name = is_some (variable_type scope name) || (bytes_eq name (codes "Session") || is_some (class_named scope.program.files name))
+is_receiver scope name = is_some (variable_type scope name) || names_class scope name
 
 abbrev pub is_qualifier : Scope → Name → Bool
-is_qualifier scope name = is_some (variable_type scope name) || is_some (enum_named scope.program.files name)
+is_qualifier scope name = is_some (variable_type scope name) || (is_some (enum_named scope.program.files name) || names_class scope name)
 
 abbrev pub unknown_name : Spot → Option Culprit
 unknown_name (AtNode scope (Receiver p x)) = when (not (is_receiver scope x)) (culprit p x)

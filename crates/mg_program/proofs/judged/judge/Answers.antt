@@ -1,8 +1,8 @@
 use Rattle.mg_program.proofs.Resolved.{same_count, table_failed, method_failed, no_fault}
 use Rattle.mg_program.proofs.judged.judge.Goals as goal
 
-pub build_table-requires : goal.build_table-requires
-build_table-requires c =
+pub table-requires : goal.table-requires
+table-requires c =
     same_count c.args.sources.now (record { files = c.as_slice.ensures.items; typestates = c.as_slice-2.ensures.items; origins = c.as_slice-3.ensures.items }) c.requires
 
 pub returns-in-Err : goal.returns-in-Err

@@ -10,5 +10,5 @@ returns-in-Ok c = states c.requires (c.in-Ok.ensures.answered (Read c.in-Ok.type
 
 pub returns-in-Err : goal.returns-in-Err
 returns-in-Err c =
-    states_refused (source_of c.args.number c.args.name.now c.args.bytes.now) c.in-Err.fault c.told.result c.requires
+    states_refused (source_of c.args.number c.args.name.now c.args.bytes.now) c.in-Err.fault c.told.result c.requires c.in-Err.ensures.place
     (told_refused _ _ _ c.told_of_typestate.ensures c.told.result c.told.ensures) c.in-Err.ensures.answered

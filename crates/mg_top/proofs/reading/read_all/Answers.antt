@@ -41,7 +41,7 @@ loop-name-preserved g c =
     let r = c.in-Ok.ensures in
     let l = c.loop-name.invariant in
     record {
-      read = read_more c.args.limit _ _ c.args.names.now c.loop-name.name-index c.name-item.result c.as_str.result.now c.in-Ok.bytes _ _ c.loop-name-test.true c.name-item.is c.as_str.ensures l.files c.in_ok-push-in-Ok.ensures.ok l.read r.content;
+      read = read_more c.args.limit _ _ c.args.names.now c.loop-name.name-index c.name-item.result c.as_str.result.now c.in-Ok.bytes _ _ c.loop-name-test.true c.name-item.is c.as_str.ensures r.limit l.files c.in_ok-push-in-Ok.ensures.ok l.read r.content;
       files = r.files ∙ l.files;
       reads = r.failed_reads ∙ append-nil _ ∙ l.reads;
       writes = r.failed_writes ∙ l.writes;

@@ -1,0 +1,55 @@
+//! The code of the last method of a core, over a pool of its own, and the constants of that pool.
+
+use cases::{Answer, fault_text};
+use cls_tree::Code;
+use gen_method::{GenFault, Pool, gen_method};
+use jv_core::Core;
+use mg_text::Memory;
+use std::alloc::Global;
+
+/// The code of the last method, or what is too large in it; and a line for each constant of the
+/// pool.
+pub(crate) fn last_code(alloc: Global, core: &Core) -> Result<String, Memory> {
+    let mut answer = Answer::new(alloc);
+    let mut pool = Pool::new(alloc);
+    let count = core.methods().len();
+    if count == 0 {
+        return Err(Memory);
+    }
+    let Ok(number) = u32::try_from(count - 1) else {
+        return Err(Memory);
+    };
+    match gen_method(alloc, core, number, &mut pool) {
+        Ok(code) => tell_code(&mut answer, &code)?,
+        Err(GenFault::Memory) => return Err(Memory),
+        Err(fault) => answer.add(fault_text(alloc, &fault)?.as_str())?,
+    }
+    tell_pool(&mut answer, &pool)?;
+    Ok(answer.into_text())
+}
+
+// The number of the name of a code, the most operands, and how many locals there are; and a line for
+// each instruction.
+fn tell_code(answer: &mut Answer, code: &Code) -> Result<(), Memory> {
+    answer.show(&code.name)?;
+    answer.add(" ")?;
+    answer.show(&code.max_stack)?;
+    answer.add(" ")?;
+    answer.show(&code.max_locals)?;
+    for instr in code.instrs.as_slice() {
+        answer.line()?;
+        answer.hexadecimal(u32::from(instr.op))?;
+        answer.add(" ")?;
+        answer.tell(&instr.args)?;
+    }
+    Ok(())
+}
+
+// A line for each constant.
+fn tell_pool(answer: &mut Answer, pool: &Pool) -> Result<(), Memory> {
+    for entry in pool.entries() {
+        answer.line()?;
+        answer.tell(entry)?;
+    }
+    Ok(())
+}

@@ -1,0 +1,5 @@
+use Rattle.jv_read.proofs.Placed.{no_place}
+use Rattle.jv_read.proofs.fault_placed.Goals as goal
+
+pub returns-in_default-clause-place : goal.returns-in_default-clause-place
+returns-in_default-clause-place c = no_place c.args.file c.args.bytes.now c.args.fault c.in_default.not-Syntax

@@ -1,0 +1,23 @@
+-- What a command gives is one thing.
+use Rattle.std.specs.Prelude.{◌≡◌, ◌≢◌, ◌⊎◌, ℕ, List, [], ◌∷◌}
+use Rattle.mg_words.specs.Words.{Word, Asked, Command, Exec}
+use Rattle.mg_sources.specs.Faults.{SaySyntax}
+use Rattle.mg_top.specs.declared.status.Status.{Status}
+use Rattle.mg_top.specs.declared.status.Status.TheVariants as statuses
+use Rattle.mg_top.specs.declared.delivery.Action.{Action}
+use Rattle.mg_top.specs.declared.delivery.Action.TheVariants.{Say}
+use Rattle.mg_top.specs.Commands.{Yields}
+
+-- the same actions, but for the place of Syntax in a line that is said
+abbrev pub SameActions : List Action → List Action → Type 0
+SameActions a b = (a ≡ b) ⊎ ((line other : List ℕ) × (a ≡ Say line ∷ []) × (b ≡ Say other ∷ []) × SaySyntax line other)
+
+-- Of the same contents a command gives one status, and the same actions; of class files as they are that is said where they aren't refused.
+pub record OneYield (command : Command) (a b : List Action) (m n : Status) : Type 0 where
+  pub status : m ≡ n
+  pub actions : ((asked : Asked) (files : List Word) → command ≢ Exec asked files) → SameActions a b
+  pub done : m ≢ statuses.Refused → a ≡ b
+
+abbrev pub YieldsOnce : Type 0
+YieldsOnce = (command : Command) (contents : List (List ℕ)) (a b : List Action) (m n : Status) →
+    Yields command contents a m → Yields command contents b n → OneYield command a b m n

@@ -1,0 +1,12 @@
+-- The place of Syntax is one of the file.
+use Rattle.std.proofs.Common.{◌≡◌, ℕ, List, refl}
+use Rattle.mg_text.specs.declared.place.Place.{Place}
+use Rattle.scr_global_read.specs.declared.fault.GlobalFault.{GlobalFault}
+use Rattle.scr_global_read.specs.declared.fault.GlobalFault.TheVariants as faults
+use Rattle.scr_global_read.specs.Outcome.{HasPlace}
+
+-- another fault has none to have
+pub no_place : (file : ℕ) (bytes : List ℕ) (fault : GlobalFault) →
+    ((place : Place) → fault ≡ faults.Syntax place → ⊥) → HasPlace file bytes fault
+no_place file bytes (faults.Syntax place) n = absurd (n place refl)
+no_place file bytes _ n = tt
