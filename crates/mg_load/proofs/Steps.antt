@@ -1,5 +1,6 @@
--- One more of what stands in a row.
-use Rattle.std.proofs.Common.{◌≡◌, ℕ, zero, suc, ◌+◌, ◌-◌, ◌*◌, ◌%◌, ◌<◌, List, [], ◌∷◌, ◌++◌, map, length, take, get_or, refl, sym, ap, ◌∙◌, subst, add-zero, add-one, append_assoc, arith}
+-- Texts of things that stand in a row.
+use Rattle.std.proofs.Common.{◌≡◌, ℕ, zero, suc, ◌+◌, ◌-◌, ◌%◌, ◌<◌, List, [], ◌∷◌, ◌++◌, map, length, take, get_or, sym, ap, ◌∙◌, subst, add-zero, add-one, append_assoc, arith}
+use Rattle.std.specs.Prelude.{Result, Ok, Err, IfOk}
 use Rattle.std.specs.List.{flat_map, range_with_len}
 use Rattle.std.proofs.lemmas.Grind.{flat_map-append}
 use Rattle.std.proofs.lemmas.List.{append-nil, take_more, length-take}
@@ -39,14 +40,40 @@ rounds_more picks i x before now after lt is h made =
     let place : 1 + length (take i picks) ≡ i + 1 = omega (arith, length-take i picks) in
     let whole : rounds 1 (take (i + 1) picks) ≡ rounds 1 (take i picks) ++ round (i + 1) x =
     ap (rounds 1) cut ∙ rounds_append 1 (take i picks) x ∙ ap (λ n. rounds 1 (take i picks) ++ round n x) place in
-    made ∙ ap (λ l. l ++ round (i + 1) x) h ∙ append_assoc before (rounds 1 (take i picks)) (round (i + 1) x) ∙ ap (λ l. before ++ l) (sym whole)
+    made ∙ ap (λ l. l ++ round (i + 1) x) h ∙ append_assoc before (rounds 1 (take i picks)) (round (i + 1) x)
+    ∙ ap (λ l. before ++ l) (sym whole)
 
 -- what is still to be picked gives up its first
-pub picks_more : (n left : ℕ) (picks whole : List ℕ) (g : Lcg) (word : ℕ) (h : Lcg) → 0 < left → (word, h) ≡ pcg32 g →
-    picks ++ map (λ w. w % n) (words g left) ≡ whole → (picks ++ word % n ∷ []) ++ map (λ w. w % n) (words h (left - 1)) ≡ whole
-picks_more n zero picks whole g word h pos is rest = absurd (omega (arith, pos))
-picks_more n (suc left) picks whole g word h pos is rest =
-    let one : suc left - 1 ≡ left = omega arith in
-    append_assoc picks (word % n ∷ []) (map (λ w. w % n) (words h (suc left - 1)))
-    ∙ ap (λ k. picks ++ word % n ∷ map (λ w. w % n) (words h k)) one
+picks_more : (n left : ℕ) (picks whole : List ℕ) (g : Lcg) (word : ℕ) (h : Lcg) → (word, h) ≡ pcg32 g →
+    picks ++ map (λ w. w % n) (words g (suc left)) ≡ whole → (picks ++ word % n ∷ []) ++ map (λ w. w % n) (words h left) ≡ whole
+picks_more n left picks whole g word h is rest =
+    append_assoc picks (word % n ∷ []) (map (λ w. w % n) (words h left))
     ∙ ap (λ (p : ℕ × Lcg). picks ++ p.0 % n ∷ map (λ w. w % n) (words p.1 left)) is ∙ rest
+
+-- the same of the one picked next, of so many
+pub picked : (n end counter : ℕ) (before after whole : List ℕ) (g : Lcg) (word : ℕ) (h : Lcg) → counter < end → (word, h) ≡ pcg32 g →
+    after ≡ before ++ word % n ∷ [] → before ++ map (λ w. w % n) (words g (end - counter)) ≡ whole →
+    after ++ map (λ w. w % n) (words h (end - (counter + 1))) ≡ whole
+picked n end counter before after whole g word h less is grown rest =
+    let left : end - counter ≡ suc (end - (counter + 1)) = omega (arith, less) in
+    ap (λ (l : List ℕ). l ++ map (λ w. w % n) (words h (end - (counter + 1)))) grown
+    ∙ picks_more n (end - (counter + 1)) before whole g word h is (subst (λ k. before ++ map (λ w. w % n) (words g k) ≡ whole) left rest)
+
+-- a text of a head, a middle and an end
+pub framed : (start first between last head middle end : List ℕ) → start ≡ [] → first ≡ start ++ head → between ≡ first ++ middle
+    → last ≡ between ++ end → last ≡ head ++ (middle ++ end)
+framed start first between last head middle end none one two three =
+    three ∙ ap (λ l. l ++ end) (two ∙ ap (λ l. l ++ middle) (one ∙ ap (λ l. l ++ head) none)) ∙ append_assoc head middle end
+
+-- what is made of it
+pub made_of : {E : Type 0} (text wanted : List ℕ) (r : Result (List ℕ) E) → text ≡ wanted → IfOk r (λ b. b ≡ text)
+    → IfOk r (λ b. b ≡ wanted)
+made_of text wanted (Ok b) e made = made ∙ e
+made_of text wanted (Err x) e made = tt
+
+-- three texts behind one that stands there
+pub three_put : (before first second third x y z : List ℕ) → first ≡ before ++ x → second ≡ first ++ y → third ≡ second ++ z →
+    third ≡ before ++ (x ++ (y ++ z))
+three_put before first second third x y z one two three =
+    three ∙ ap (λ l. l ++ z) (two ∙ ap (λ l. l ++ y) one ∙ append_assoc before x y) ∙ append_assoc before (x ++ y) z
+    ∙ ap (λ l. before ++ l) (append_assoc x y z)

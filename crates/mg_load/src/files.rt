@@ -56,7 +56,7 @@ pub fn load_files(alloc: Global, n: u32, seed: u64) -> Result<Workload, Memory>
 ///
 /// # Errors
 /// `Memory` only.
-pub fn loaded_line(alloc: Global, n: u32, seed: u64, messages: u64) -> Result<Text, Memory>
+pub fn loaded_line(alloc: Global, n: u32, seed: u64, messages: usize) -> Result<Text, Memory>
     requires { n ≤ MOST }
     ensures { IfOk result (λ t. t ≡ loaded_line n seed messages) }
 {

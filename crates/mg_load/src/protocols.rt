@@ -1,23 +1,13 @@
 //! The protocol files: a choice of so many branches, each of which sends a number and is answered.
 
-ghost use Rattle.std.specs.Prelude.{◌≡◌, ◌++◌, ◌<◌, ◌^◌, OnOk, IfOk, string_bytes};
+ghost use Rattle.std.specs.Prelude.{◌≡◌, ◌++◌, OnOk, IfOk, string_bytes};
 ghost use Rattle.mg_load.specs.Workload.{branch, protocol};
 
-use mg_text::{Bytes, Memory, Text};
+use mg_text::{Bytes, Memory};
 use std::alloc::Global;
 
-/// The branch of a number, and the words before the next.
-fn push_branch(out: &mut String, there: &str, back: &str, number: u32) -> Result<(), Memory>
-    ensures { OnOk result (string_bytes out.new ≡ string_bytes out.old ++ branch there.now back.now number) }
-{
-    write!(
-        out,
-        "            m{number}(int) {there};\n            r{number}(int) {back};\n            continue X;\n        }} or {{\n"
-    )?;
-    Ok(())
-}
-
-/// The protocol at a role. A message of a branch goes there, and its answer comes back.
+/// The protocol at a role, with so many branches. A message of a branch goes there, and its answer
+/// comes back.
 pub(crate) fn protocol(
     alloc: Global,
     me: &str,
@@ -37,4 +27,14 @@ pub(crate) fn protocol(
     }
     write!(out, "            stop() {there};\n        }}\n    }}\n}}\n")?;
     Bytes::of(alloc, out.as_bytes())
+}
+
+// Appends the branch of a number, and the words before the next.
+fn push_branch(out: &mut String, there: &str, back: &str, number: u32) -> Result<(), Memory>
+    ensures { OnOk result (string_bytes out.new ≡ string_bytes out.old ++ branch there.now back.now number) }
+{
+    write!(out, "            m{number}(int) {there};\n")?;
+    write!(out, "            r{number}(int) {back};\n")?;
+    out.push_str("            continue X;\n        } or {\n")?;
+    Ok(())
 }
