@@ -2,9 +2,11 @@
 use Rattle.std.proofs.Common.{◌≡◌, ℕ, ◌<◌, ◌≤◌, ◌^◌, List, [], ◌∷◌, length, Some, None, refl, sym, ap, ◌∙◌, subst, arith}
 use Rattle.std.specs.Fmt.{decimal}
 use Rattle.std.proofs.lemmas.Fmt.{decimal_injective}
-use Rattle.mg_words.specs.Words.{Word, Command, Translate, Conform, Check, Compile, Run, Exec, Refine, Project, Load, IsWorkload, IsBehind, IsCommand, AreCommand, CanBegin, AreWrong}
+use Rattle.mg_words.specs.Words.{Word, Command, Translate, Conform, Check, Compile, Run, Exec, Refine, Project, Load, IsWorkload, IsBehind}
+use Rattle.mg_words.specs.Words.{IsCommand, AreCommand, CanBegin, AreWrong}
 use Rattle.mg_words.specs.inner.Judging.{IsNumber, IsUpTo, IsKnown}
-use Rattle.mg_words.proofs.Verbs.{load, translate_load, conform_load, check_load, compile_load, run_load, exec_load, refine_load, project_load}
+use Rattle.mg_words.proofs.Verbs.{load, translate_load, conform_load, check_load, compile_load, run_load, exec_load, refine_load}
+use Rattle.mg_words.proofs.Verbs.{project_load}
 use Rattle.mg_words.proofs.WordsLemmas.{head_is, tail_is, filled, empty_is, few, wrong_at}
 
 -- ---- what can begin the command
@@ -35,7 +37,8 @@ is_load (Refine files) rest (r, e, b) = refine_load (sym (head_is e))
 is_load (Project folder files) rest (r, e, b) = project_load (sym (head_is e))
 is_load (Load n seed) rest (r, e, b) = (n, seed, refl, subst (IsBehind (Load n seed)) (sym (tail_is e)) b)
 
-first_word : (command : Command) (p : Word) (more : List Word) → IsCommand command (load ∷ p ∷ more) → (n : ℕ) × (p ≡ decimal n) × (1 ≤ n) × (n ≤ 400)
+first_word : (command : Command) (p : Word) (more : List Word) → IsCommand command (load ∷ p ∷ more) → (n : ℕ) × (p ≡ decimal n) × (1 ≤ n)
+    × (n ≤ 400)
 first_word command p more is = let (n, seed, same, (e, h)) = is_load command (p ∷ more) is in (n, head_is e, h.some, h.most)
 
 second_word : (command : Command) (p q : Word) (more : List Word) → IsCommand command (load ∷ p ∷ q ∷ more)
@@ -63,7 +66,8 @@ begins_named first n (named, low, high) = subst (λ (w : Word). CanBegin AreComm
 pub few_branches : (rest : List Word) (first : Word) (more : List Word) (n : ℕ) → rest ≡ first ∷ more → IsUpTo 400 first (Some n)
     → length more ≡ 0 → AreWrong (load ∷ rest) None
 few_branches rest first more n is h e =
-    subst (λ (z : List Word). AreWrong (load ∷ z) None) (sym is) (few (load ∷ first ∷ []) more e (begins_named first n h) (branches_is_none first))
+    subst (λ (z : List Word). AreWrong (load ∷ z) None) (sym is) (few (load ∷ first ∷ []) more e (begins_named first n h)
+    (branches_is_none first))
 
 pub wrong_branches : (rest : List Word) (word : Word) (more : List Word) → rest ≡ word ∷ more → IsUpTo 400 word None
     → AreWrong (load ∷ rest) (Some word)
@@ -79,7 +83,8 @@ wrong_seed rest first word more more' n e e' h isnt =
     (λ b. let (seed, named, below, none) = second_word b.1.0 first word b.0 b.1.1 in isnt seed below named))
 
 -- two words name a workload
-two_numbers : (first second : Word) (n seed : ℕ) → IsUpTo 400 first (Some n) → IsNumber second (Some seed) → IsBehind (Load n seed) (first ∷ second ∷ [])
+two_numbers : (first second : Word) (n seed : ℕ) → IsUpTo 400 first (Some n) → IsNumber second (Some seed) →
+    IsBehind (Load n seed) (first ∷ second ∷ [])
 two_numbers first second n seed (named, low, high) (named', below) =
     ((λ i. named i ∷ named' i ∷ []), record { some = low; most = high; picks = omega arith })
 
@@ -92,10 +97,12 @@ wrong_surplus rest first second word more more' more'' n seed e e' e'' h h' =
     ([], (Load n seed, (first ∷ second ∷ [], refl, two_numbers first second n seed h h')))
     (λ b. filled (sym (second_word b.1.0 first second (word ∷ b.0) b.1.1).3)))
 
-pub known_load : (rest : List Word) (first second : Word) (more more' : List Word) (n seed : ℕ) → rest ≡ first ∷ more → more ≡ second ∷ more'
+pub known_load : (rest : List Word) (first second : Word) (more more' : List Word) (n seed : ℕ) → rest ≡ first ∷ more →
+    more ≡ second ∷ more'
     → length more' ≡ 0 → IsUpTo 400 first (Some n) → IsNumber second (Some seed) → IsCommand (Load n seed) (load ∷ rest)
 known_load rest first second more more' n seed e e' none h h' =
-    let two : rest ≡ first ∷ second ∷ [] = e ∙ ap (λ (z : List Word). first ∷ z) (e' ∙ ap (λ (z : List Word). second ∷ z) (empty_is more' none)) in
+    let two : rest ≡ first ∷ second ∷ [] = e ∙ ap (λ (z : List Word). first ∷ z)
+    (e' ∙ ap (λ (z : List Word). second ∷ z) (empty_is more' none)) in
     (rest, refl, subst (IsBehind (Load n seed)) (sym two) (two_numbers first second n seed h h'))
 
 pub same_load : (command : Command) (n seed : ℕ) (rest : List Word) → IsBehind (Load n seed) rest → IsCommand command (load ∷ rest)

@@ -3,7 +3,8 @@ use Rattle.std.proofs.Common.{◌≡◌, ◌≢◌, ℕ, zero, suc, ◌<◌, ◌
 use Rattle.std.specs.Prelude.{Ok, Err, Result}
 use Rattle.std.specs.Fmt.{decimal}
 use Rattle.std.specs.Str.Parse.{AllDigits, digits_value, ParsesUnsigned}
-use Rattle.std.proofs.lemmas.Fmt.{first_decimal, digits_decimal, decimal_digit, decimal-digits_value, decimal_injective, parse-decimal, decimal_nonempty}
+use Rattle.std.proofs.lemmas.Fmt.{first_decimal, digits_decimal, decimal_digit, decimal-digits_value, decimal_injective, parse-decimal}
+use Rattle.std.proofs.lemmas.Fmt.{decimal_nonempty}
 use Rattle.std.proofs.lemmas.Str.Parse.{IsNumeralModel, numerals_by_value, tells_digits, digit_at, parse_plain}
 use Rattle.mg_words.specs.Words.{Word}
 use Rattle.mg_words.specs.inner.Judging.{IsNumber, IsUpTo, StartsNumber}
@@ -51,7 +52,8 @@ no_number word no isnt (suc n) small e = isnt (subst StartsNumber (sym e) starts
 
 -- ---- words in the code
 
-pub not_started : (bytes text word : Word) → bytes ≡ text → text ≡ word → (word ≡ 48 ∷ [] → ⊥) → (StartsNumber bytes → ⊥) → IsNumber word None
+pub not_started : (bytes text word : Word) → bytes ≡ text → text ≡ word → (word ≡ 48 ∷ [] → ⊥) → (StartsNumber bytes → ⊥) →
+    IsNumber word None
 not_started bytes text word e e' no isnt = no_number word no (λ h. isnt (subst StartsNumber (sym (e ∙ e')) h))
 
 -- a word that is read as no number

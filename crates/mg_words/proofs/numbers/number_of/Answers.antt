@@ -8,7 +8,8 @@ returns-then-is_word c = zero_number c.args.word.now (c.if-is_word.ensures.0 ref
 
 pub returns-then-not-starts_number : goal.returns-then-not-starts_number
 returns-then-not-starts_number c =
-    not_started _ _ c.args.word.now c.as_bytes.ensures.value c.as_str-text.ensures (refuted c.if-is_word.ensures.1) (refuted c.if-not-starts_number.ensures.1)
+    not_started _ _ c.args.word.now c.as_bytes.ensures.value c.as_str-text.ensures (refuted c.if-is_word.ensures.1)
+    (refuted c.if-not-starts_number.ensures.1)
 
 pub returns-in-Err : goal.returns-in-Err
 returns-in-Err c = not_read _ c.args.word.now _ _ c.as_str-text.ensures c.parse.ensures.value.0 c.in-Err.is
