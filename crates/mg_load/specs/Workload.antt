@@ -96,8 +96,8 @@ file_texts n seed =
     protocol (codes "A") (codes "to B") (codes "from B") n ∷ protocol (codes "B") (codes "from A") (codes "to A") n
     ∷ client (picks n seed) ∷ server n ∷ []
 
--- the line that tells of it
+-- the line that tells of it, with the end of the line
 abbrev pub loaded_line : (n seed messages : ℕ) → List ℕ
 loaded_line n seed messages =
     codes "load " ++ (decimal n ++ (codes " " ++ (decimal seed ++ (codes ": " ++ (decimal (4 * n)
-    ++ (codes " rounds, " ++ (decimal messages ++ codes " messages")))))))
+    ++ (codes " rounds, " ++ (decimal messages ++ codes " messages\n")))))))

@@ -52,7 +52,8 @@ pub fn load_files(alloc: Global, n: u32, seed: u64) -> Result<Workload, Memory>
     Ok(Workload { names, contents })
 }
 
-/// The line that tells of a workload that ran: its rounds, and how many messages were sent.
+/// The line that tells of a workload that ran: its rounds, and how many messages were sent. It ends
+/// with a line feed.
 ///
 /// # Errors
 /// `Memory` only.
@@ -61,6 +62,6 @@ pub fn loaded_line(alloc: Global, n: u32, seed: u64, messages: usize) -> Result<
     ensures { IfOk result (λ t. t ≡ loaded_line n seed messages) }
 {
     let rounds = 4 * n;
-    let line = format!(in alloc; "load {n} {seed}: {rounds} rounds, {messages} messages")?;
+    let line = format!(in alloc; "load {n} {seed}: {rounds} rounds, {messages} messages\n")?;
     Ok(Text::from_string(line))
 }
