@@ -1,5 +1,5 @@
 -- What the command of a workload answers.
-use Rattle.std.proofs.Common.{◌≡◌, ◌<◌, ◌^◌, ℕ, zero, suc, Bool, true, false, map, List, [], ◌∷◌, ◌++◌, length, get_or, slice_get, All, Contains, Some, None, codes, refl, sym, ap, subst, arith}
+use Rattle.std.proofs.Common.{◌≡◌, ◌∙◌, ◌<◌, ◌^◌, ℕ, zero, suc, Bool, true, false, map, List, [], ◌∷◌, ◌++◌, length, get_or, slice_get, All, Contains, Some, None, codes, refl, sym, ap, subst, arith}
 use Rattle.std.specs.Prelude.{IfOk, Result}
 use Rattle.std.specs.List.{IsDistinct}
 use Rattle.std.specs.Str.{bytes_eq}
@@ -29,7 +29,7 @@ use Rattle.mg_top.proofs.CommandLemmas.{gives}
 
 -- ---- its files and roles are those of a run
 
-IsKind : Word → Type 0
+abbrev IsKind : Word → Type 0
 IsKind name = (kind : Kind) × EndsWith (suffix_of kind) name
 
 pub kinds_of_load : (names : List Word) → names ≡ file_names → HaveKinds names
@@ -46,7 +46,7 @@ as_many names contents n seed e f = ap length e ∙ sym (ap length f)
 pub four_files : (contents : List (List ℕ)) (n seed : ℕ) → contents ≡ file_texts n seed → length contents < 2 ^ 32
 four_files contents n seed f = let four : length contents ≡ 4 = ap length f in omega arith
 
-two_names : List Word
+abbrev two_names : List Word
 two_names = codes "A" ∷ codes "B" ∷ []
 
 apart : (i j : ℕ) (d : Word) → i < j → j < length two_names → bytes_eq (get_or two_names i d) (get_or two_names j d) ≡ false

@@ -110,8 +110,10 @@ pub same_load : (command : Command) (n seed : ℕ) (rest : List Word) → IsBehi
 same_load command n seed rest (e, h) is =
     let (m, other, same, (e', h')) = is_load command rest is in
     let both : decimal n ∷ decimal seed ∷ [] ≡ decimal m ∷ decimal other ∷ [] = sym e ∙ e' in
-    let (most, most') = (h.most, h'.most) in
-    let (low, low') = (h.picks, h'.picks) in
+    let most = h.most in
+    let most' = h'.most in
+    let picks = h.picks in
+    let picks' = h'.picks in
     let one : n ≡ m = decimal_injective n m (omega arith) (omega arith) (head_is both) in
     let two : seed ≡ other = decimal_injective seed other (omega arith) (omega arith) (head_is (tail_is both)) in
     (λ i. Load (one i) (two i)) ∙ sym same

@@ -1,4 +1,4 @@
-use Rattle.std.proofs.Common.{◌∙◌}
+use Rattle.std.proofs.Common.{refl, ◌∙◌}
 use Rattle.mg_top.proofs.CommandLemmas.{gives}
 use Rattle.mg_top.proofs.LoadLemmas.{kinds_of_load, as_many, four_files, two_roles, numbers_below, each_numbered, load_given, refusal_given}
 use Rattle.mg_top.proofs.load.load.Goals as goal

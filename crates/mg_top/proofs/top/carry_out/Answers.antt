@@ -1,4 +1,4 @@
-use Rattle.std.proofs.Common.{◌≡◌, ◌∙◌, length, option_map, subst, sym}
+use Rattle.std.proofs.Common.{◌≡◌, ◌∙◌, length, option_map, subst, sym, arith}
 use Rattle.mg_words.specs.declared.words.Command.{Command}
 use Rattle.mg_words.specs.Words.{files_of, IsCommand}
 use Rattle.mg_words.specs.inner.Judging.{command_of, asked_of}
@@ -82,7 +82,9 @@ project-requires-clause-same c =
 pub load-requires-clause-some : goal.load-requires-clause-some
 load-requires-clause-some c =
     let known = c.requires.known in
-    (workload_of known.0 c.in-Load.branches c.in-Load.seed (subst (λ (z : Command). IsCommand (command_of z) known.0) c.in-Load.is known.1)).some
+    let is = subst (λ (z : Command). IsCommand (command_of z) known.0) c.in-Load.is known.1 in
+    let some = (workload_of known.0 c.in-Load.branches c.in-Load.seed is).some in
+    omega arith
 
 pub load-requires-clause-most : goal.load-requires-clause-most
 load-requires-clause-most c =
