@@ -40,8 +40,8 @@ zero_number word e = (e ∙ sym (decimal_digit 0 (omega arith)), omega arith)
 
 -- a word that is no 0, and doesn't start as a number
 no_number : (word : Word) → (word ≡ 48 ∷ [] → ⊥) → (StartsNumber word → ⊥) → IsNumber word None
-no_number word no isnt zero small e = no (e ∙ decimal_digit 0 (omega arith))
-no_number word no isnt (suc n) small e = isnt (subst StartsNumber (sym e) starts) where
+no_number word other isnt zero small e = other (e ∙ decimal_digit 0 (omega arith))
+no_number word other isnt (suc n) small e = isnt (subst StartsNumber (sym e) starts) where
   some : 0 < length (decimal (suc n))
   some = decimal_nonempty (suc n) small
 
@@ -54,7 +54,7 @@ no_number word no isnt (suc n) small e = isnt (subst StartsNumber (sym e) starts
 
 pub not_started : (bytes text word : Word) → bytes ≡ text → text ≡ word → (word ≡ 48 ∷ [] → ⊥) → (StartsNumber bytes → ⊥) →
     IsNumber word None
-not_started bytes text word e e' no isnt = no_number word no (λ h. isnt (subst StartsNumber (sym (e ∙ e')) h))
+not_started bytes text word e e' other isnt = no_number word other (λ h. isnt (subst StartsNumber (sym (e ∙ e')) h))
 
 -- a word that is read as no number
 pub not_read : {E : Type 0} (text word : Word) (r : Result ℕ E) (x : E) → text ≡ word → ParsesUnsigned 64 10 text r → r ≡ Err x
