@@ -3,8 +3,8 @@
 #![tactic(auto)]
 
 mod classes;
+mod files;
 mod picks;
 mod protocols;
-mod workload;
 
-pub use workload::{MOST, Workload, loaded_line, workload};
+pub use files::{MOST, Workload, load_files, loaded_line};

@@ -36,7 +36,7 @@ fn file_names(alloc: Global) -> Result<List<Text>, Memory>
 ///
 /// # Errors
 /// `Memory` only.
-pub fn workload(alloc: Global, n: u32, seed: u64) -> Result<Workload, Memory>
+pub fn load_files(alloc: Global, n: u32, seed: u64) -> Result<Workload, Memory>
     requires some { 0 < n }
     requires most { n ≤ MOST }
     ensures names { IfOk result (λ w. w.names.items ≡ file_names) }
