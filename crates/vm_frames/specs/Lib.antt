@@ -1,0 +1,4 @@
+pub mod Seen
+pub mod View
+pub mod Kept
+pub mod Frames
