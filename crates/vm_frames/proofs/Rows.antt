@@ -1,6 +1,6 @@
 -- What the running frame is, once its cells have changed.
 use Rattle.std.proofs.Common.{◌≡◌, ℕ, zero, suc, ◌+◌, ◌-◌, ◌<◌, ◌≤◌, List, [], ◌∷◌, ◌++◌, length, map, take, drop, set, get_or, slice_get, Option, Some, None, refl, sym, ap, ◌∙◌, subst, arith, length-append, length-take, length-drop}
-use Rattle.std.proofs.lemmas.List.{take-append-le, drop-append-le, take-take, drop-take, drop-set-lt, map-set, map_push, take-map, length-map}
+use Rattle.std.proofs.lemmas.List.{take-append-le, drop-append-le, take-take, drop-take, drop-set-lt, map-set, map_push, take-map, length-map, length-set}
 use Rattle.std.proofs.lemmas.List.Elements.{All-push, All-take, All-set}
 use Rattle.std.proofs.lemmas.Option.{slice_get-map, slice_get_within, slice_get_past, get_or_from_slice_get}
 use Rattle.std.proofs.Math.Seq.{take-set-lt}
@@ -12,6 +12,7 @@ use Rattle.vm_model.specs.Machine as model
 use Rattle.vm_model.specs.Tests.{below}
 use Rattle.vm_model.specs.Step.{at_place, with_local}
 use Rattle.vm_frames.specs.declared.cell.Cell.{Cell}
+use Rattle.vm_frames.specs.declared.cell.Cell.TheVariants as cells
 use Rattle.vm_frames.specs.declared.cell.Head.{Head}
 use Rattle.vm_frames.specs.declared.cell.Object.{Object}
 use Rattle.vm_frames.specs.Seen.{Seen, value_in, values_in, local_in, IsKnown, IsSet}
@@ -36,20 +37,20 @@ at_slice P xs i x all e = subst P (get_or_from_slice_get xs i x x e) (all i x (s
 
 -- What a set cell says as a local.
 pub set_local_in : (texts : List Name) (count : ℕ) (cell : Cell) → IsSet count cell → local_in texts cell ≡ Some (value_in texts cell)
-set_local_in texts count Cell.Unset h = absurd h
-set_local_in texts count Cell.Null h = refl
-set_local_in texts count Cell.Out h = refl
-set_local_in texts count (Cell.Int x) h = refl
-set_local_in texts count (Cell.Text n) h = refl
-set_local_in texts count (Cell.Object n) h = refl
+set_local_in texts count cells.Unset h = absurd h
+set_local_in texts count cells.Null h = refl
+set_local_in texts count cells.Out h = refl
+set_local_in texts count (cells.Int x) h = refl
+set_local_in texts count (cells.Text n) h = refl
+set_local_in texts count (cells.Object n) h = refl
 
 pub known : (count : ℕ) (cell : Cell) → IsSet count cell → IsKnown count cell
-known count Cell.Unset h = absurd h
-known count Cell.Null h = tt
-known count Cell.Out h = tt
-known count (Cell.Int x) h = tt
-known count (Cell.Text n) h = h
-known count (Cell.Object n) h = tt
+known count cells.Unset h = absurd h
+known count cells.Null h = tt
+known count cells.Out h = tt
+known count (cells.Int x) h = tt
+known count (cells.Text n) h = h
+known count (cells.Object n) h = tt
 
 module _ (texts : List Name) (head : Head) (heads : List Head) (row : List Cell) (rows : List (List Cell)) (heap : List Object) (s : Seen)
     (view_is : seen_in texts head heads row rows heap ≡ s) (within : head.locals ≤ length row) where

@@ -73,6 +73,20 @@ impl State {
         self.cells.drop_top(count);
     }
 
+    /// Puts a value in the place of so many operands.
+    #[inline(always)]
+    pub fn put(&mut self, count: usize, cell: Cell)
+        requires some { 0 < count }
+        requires within { count ≤ length self.old.machine.frame.operands }
+        requires set { IsSet (length self.old.texts) cell }
+        ensures machine { self.new.machine ≡ at_place self.old.machine self.old.machine.frame.place
+            (below count self.old.machine.frame.operands ++ value_in self.old.texts cell ∷ []) }
+        ensures texts { self.new.texts ≡ self.old.texts }
+    {
+        self.cells.drop_top(count);
+        self.cells.push(cell);
+    }
+
     /// Puts a value into a local.
     #[inline(always)]
     pub fn set_local(&mut self, local: usize, cell: Cell)
