@@ -130,10 +130,6 @@ module _ (texts : List Name) (head : Head) (heads : List Head) (row : List Cell)
 
 -- The frames that wait.
 
--- a frame keeps its locals and its cells where only its place changes
-pub placed : (count place : ℕ) (head : Head) (row : List Cell) → IsFrame count head row → IsFrame count (record head { place = place }) row
-placed count place head row frame = record { within = frame.within; locals = frame.locals; operands = frame.operands }
-
 module _ (count : ℕ) where
   -- none has a frame below it that isn't empty
   pub has_row : (head : Head) (heads : List Head) (rows : List (List Cell)) → AreFrames count (head ∷ heads) rows → rows ≡ [] → ⊥
@@ -158,7 +154,7 @@ module _ (texts : List Name) (left_head head : Head) (heads : List Head) (left_r
       left_to s.machine (value_in s.texts cell ∷ []) s.machine.callers ≡ Some (machine_in texts head heads (row ++ cell ∷ []) rows heap)
   leaves_with cell within =
       ap (λ t. left_to t.machine (value_in t.texts cell ∷ []) t.machine.callers) (sym view_is)
-      ∙ ap (λ m. Some m) (sym (pushes texts head heads row rows heap (seen_in texts head heads row rows heap) refl within (row ++ cell ∷ []) rows cell refl refl))
+      ∙ ap (λ m. Some m) (sym (pushes texts head heads row rows heap (seen_in texts head heads row rows heap) refl within head.place (row ++ cell ∷ []) rows cell refl refl))
 
   pub waits : IsNearest head.class head.method (length row - head.locals) s.machine.callers
   waits = subst (λ t. IsNearest head.class head.method (length row - head.locals) t.machine.callers) view_is

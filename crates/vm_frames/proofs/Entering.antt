@@ -12,7 +12,7 @@ use Rattle.vm_frames.specs.Seen.{Seen, value_in, IsSet}
 use Rattle.vm_frames.specs.View.{machine_in, seen_in, seen_of}
 use Rattle.vm_frames.specs.Kept.{IsFrame, AreFrames, IsObject, IsKept, most}
 use Rattle.vm_frames.specs.Frames.{entered, left_to, IsNearest}
-use Rattle.vm_frames.proofs.Rows.{frame-push}
+use Rattle.vm_frames.proofs.Rows.{frame-push, placed}
 use Rattle.vm_frames.proofs.Calls as calls
 use Rattle.vm_frames.proofs.States.{depth_is}
 
@@ -59,7 +59,7 @@ module _ (s : Inside) (v : Seen) (view_is : seen_of s ≡ v) (kept : IsKept s) w
         calls.waiting-frame s.texts.items s.head (reverse s.heads.items) s.cells.running s.cells.callers s.heap.items v view_is kept.running args short in
         let each : AreFrames (length s.texts.items) (record s.head { place = s.head.place + 1 } ∷ reverse s.heads.items)
             (take (length s.cells.running - args) s.cells.running ∷ s.cells.callers) =
-        (calls.placed (length s.texts.items) (s.head.place + 1) s.head (take (length s.cells.running - args) s.cells.running) waiting, kept.callers) in
+        (placed (length s.texts.items) (s.head.place + 1) s.head (take (length s.cells.running - args) s.cells.running) waiting, kept.callers) in
         let count : length s.texts.items ≡ length s'.texts.items = sym (ap length texts) in
         record {
           room = omega (arith, locals_is, long, spare, enough);

@@ -52,6 +52,19 @@ known count (cells.Int x) h = tt
 known count (cells.Text n) h = h
 known count (cells.Object n) h = tt
 
+-- A known cell that isn't unset holds a value, and says as a local what it says.
+pub set-from_known : (count : ℕ) (cell : Cell) → (cell ≡ cells.Unset → ⊥) → IsKnown count cell → IsSet count cell
+set-from_known count cells.Unset no h = no refl
+set-from_known count cells.Null no h = tt
+set-from_known count cells.Out no h = tt
+set-from_known count (cells.Int x) no h = tt
+set-from_known count (cells.Text n) no h = h
+set-from_known count (cells.Object n) no h = tt
+
+-- at another instruction
+abbrev pub at_head : Head → ℕ → Head
+at_head head place = record head { place = place }
+
 module _ (texts : List Name) (head : Head) (heads : List Head) (row : List Cell) (rows : List (List Cell)) (heap : List Object) (s : Seen)
     (view_is : seen_in texts head heads row rows heap ≡ s) (within : head.locals ≤ length row) where
   pub depth_is : length s.machine.frame.operands ≡ length row - head.locals
@@ -102,23 +115,23 @@ module _ (texts : List Name) (head : Head) (heads : List Head) (row : List Cell)
       (at_slice (IsKnown (length texts)) (take head.locals row) local cell all (slice_get-take head.locals local row lt ∙ e))
 
   -- a value more
-  pub pushes : (row' : List Cell) (rows' : List (List Cell)) (cell : Cell) → row' ≡ row ++ cell ∷ [] → rows' ≡ rows →
-      machine_in texts head heads row' rows' heap
-      ≡ at_place s.machine s.machine.frame.place (s.machine.frame.operands ++ value_in s.texts cell ∷ [])
-  pushes row' rows' cell is same =
-      ap (λ r. machine_in texts head heads r rows' heap) is
-      ∙ ap (λ r. machine_in texts head heads (row ++ cell ∷ []) r heap) same
-      ∙ ap (λ l. record (machine_in texts head heads (row ++ cell ∷ []) rows heap) { frame = record (frame_in texts head (row ++ cell ∷ [])) { locals = map (local_in texts) l } })
+  pub pushes : (place : ℕ) (row' : List Cell) (rows' : List (List Cell)) (cell : Cell) → row' ≡ row ++ cell ∷ [] → rows' ≡ rows →
+      machine_in texts (at_head head place) heads row' rows' heap
+      ≡ at_place s.machine place (s.machine.frame.operands ++ value_in s.texts cell ∷ [])
+  pushes place row' rows' cell is same =
+      ap (λ r. machine_in texts (at_head head place) heads r rows' heap) is
+      ∙ ap (λ r. machine_in texts (at_head head place) heads (row ++ cell ∷ []) r heap) same
+      ∙ ap (λ l. record (machine_in texts (at_head head place) heads (row ++ cell ∷ []) rows heap) { frame = record (frame_in texts (at_head head place) (row ++ cell ∷ [])) { locals = map (local_in texts) l } })
         (take-append-le head.locals row (cell ∷ []) within)
-      ∙ ap (λ l. record (machine_in texts head heads row rows heap) { frame = record (frame_in texts head row) { operands = l } })
+      ∙ ap (λ l. record (machine_in texts (at_head head place) heads row rows heap) { frame = record (frame_in texts (at_head head place) row) { operands = l } })
         (ap (values_in texts) (drop-append-le head.locals row (cell ∷ []) within) ∙ map_push (value_in texts) (drop head.locals row) cell)
-      ∙ ap (λ t. at_place t.machine t.machine.frame.place (t.machine.frame.operands ++ value_in t.texts cell ∷ [])) view_is
+      ∙ ap (λ t. at_place t.machine place (t.machine.frame.operands ++ value_in t.texts cell ∷ [])) view_is
 
   -- so many values less
-  pub drops : (row' : List Cell) (rows' : List (List Cell)) (count : ℕ) → count ≤ length row - head.locals → row' ≡ take (length row - count) row →
+  pub drops : (place : ℕ) (row' : List Cell) (rows' : List (List Cell)) (count : ℕ) → count ≤ length row - head.locals → row' ≡ take (length row - count) row →
       rows' ≡ rows →
-      machine_in texts head heads row' rows' heap ≡ at_place s.machine s.machine.frame.place (below count s.machine.frame.operands)
-  drops row' rows' count le is same =
+      machine_in texts (at_head head place) heads row' rows' heap ≡ at_place s.machine place (below count s.machine.frame.operands)
+  drops place row' rows' count le is same =
       let kept : head.locals ≤ length row - count = omega (arith, le, within) in
       let left : length row - count ≡ head.locals + (length row - head.locals - count) = omega (arith, le, within) in
       let long : length row - head.locals ≡ length (values_in texts (drop head.locals row)) =
@@ -128,12 +141,12 @@ module _ (texts : List Name) (head : Head) (heads : List Head) (row : List Cell)
       ∙ ap (values_in texts) (drop-take head.locals (length row - head.locals - count) row)
       ∙ sym (take-map (value_in texts) (length row - head.locals - count) (drop head.locals row))
       ∙ ap (λ k. take (k - count) (values_in texts (drop head.locals row))) long in
-      ap (λ r. machine_in texts head heads r rows' heap) is
-      ∙ ap (λ r. machine_in texts head heads (take (length row - count) row) r heap) same
-      ∙ ap (λ l. record (machine_in texts head heads (take (length row - count) row) rows heap) { frame = record (frame_in texts head (take (length row - count) row)) { locals = map (local_in texts) l } })
+      ap (λ r. machine_in texts (at_head head place) heads r rows' heap) is
+      ∙ ap (λ r. machine_in texts (at_head head place) heads (take (length row - count) row) r heap) same
+      ∙ ap (λ l. record (machine_in texts (at_head head place) heads (take (length row - count) row) rows heap) { frame = record (frame_in texts (at_head head place) (take (length row - count) row)) { locals = map (local_in texts) l } })
         (take-take head.locals (length row - count) row kept)
-      ∙ ap (λ l. record (machine_in texts head heads row rows heap) { frame = record (frame_in texts head row) { operands = l } }) operands
-      ∙ ap (λ t. at_place t.machine t.machine.frame.place (below count t.machine.frame.operands)) view_is
+      ∙ ap (λ l. record (machine_in texts (at_head head place) heads row rows heap) { frame = record (frame_in texts (at_head head place) row) { operands = l } }) operands
+      ∙ ap (λ t. at_place t.machine place (below count t.machine.frame.operands)) view_is
 
   -- another value of a local
   pub sets : (row' : List Cell) (rows' : List (List Cell)) (local : ℕ) (cell : Cell) → local < head.locals → IsSet (length texts) cell →
@@ -149,6 +162,9 @@ module _ (texts : List Name) (head : Head) (heads : List Head) (row : List Cell)
         (drop-set-lt head.locals row local cell lt)
       ∙ ap (λ l. record (machine_in texts head heads row rows heap) { frame = record (frame_in texts head row) { locals = l } }) locals
       ∙ ap (λ t. with_local t.machine local (value_in t.texts cell)) view_is
+
+pub placed : (count place : ℕ) (head : Head) (row : List Cell) → IsFrame count head row → IsFrame count (at_head head place) row
+placed count place head row frame = record { within = frame.within; locals = frame.locals; operands = frame.operands }
 
 -- What is kept of a frame.
 module _ (count : ℕ) (head : Head) (row : List Cell) (frame : IsFrame count head row) where

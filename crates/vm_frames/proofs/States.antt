@@ -11,7 +11,7 @@ use Rattle.vm_frames.specs.declared.cell.Cell.{Cell}
 use Rattle.vm_frames.specs.declared.cell.Cell.TheVariants as cells
 use Rattle.vm_frames.specs.declared.cell.Head.{Head}
 use Rattle.vm_frames.specs.declared.state.State.TheInside.{Inside}
-use Rattle.vm_frames.specs.Seen.{Seen, value_in, local_in, IsKnown, IsSet}
+use Rattle.vm_frames.specs.Seen.{Seen, value_in, local_in, held_in, IsKnown, IsSet}
 use Rattle.vm_frames.specs.View.{machine_in, seen_of}
 use Rattle.vm_frames.specs.Kept.{IsFrame, AreFrames, IsKept, most}
 use Rattle.vm_frames.proofs.Rows as rows
@@ -46,19 +46,34 @@ module _ (s : Inside) (v : Seen) (view_is : seen_of s ≡ v) (kept : IsKept s) w
   pub has_local : (local : ℕ) → local < s.head.locals → local < length s.cells.running
   has_local local lt = omega (arith, lt, kept.running.within)
 
-  pub local_says : (local : ℕ) (cell : Cell) → local < s.head.locals → slice_get s.cells.running local ≡ Some cell →
+  local_says : (local : ℕ) (cell : Cell) → local < s.head.locals → slice_get s.cells.running local ≡ Some cell →
       Some (local_in v.texts cell) ≡ slice_get v.machine.frame.locals local
   local_says =
       rows.local_says s.texts.items s.head (reverse s.heads.items) s.cells.running s.cells.callers s.heap.items v view_is kept.running.within
 
-  pub no_local : (local : ℕ) → s.head.locals ≤ local → None ≡ slice_get v.machine.frame.locals local
-  no_local =
-      rows.no_local s.texts.items s.head (reverse s.heads.items) s.cells.running s.cells.callers s.heap.items v view_is kept.running.within
-
-  pub local_known : (local : ℕ) (cell : Cell) → local < s.head.locals → slice_get s.cells.running local ≡ Some cell → IsKnown (length v.texts) cell
+  local_known : (local : ℕ) (cell : Cell) → local < s.head.locals → slice_get s.cells.running local ≡ Some cell → IsKnown (length v.texts) cell
   local_known local cell =
       rows.local_known s.texts.items s.head (reverse s.heads.items) s.cells.running s.cells.callers s.heap.items v view_is kept.running.within
       local cell kept.running.locals
+
+  -- what it holds
+  pub none_held : (local : ℕ) → s.head.locals ≤ local → None ≡ held_in (slice_get v.machine.frame.locals local)
+  none_held local le =
+      ap held_in
+      (rows.no_local s.texts.items s.head (reverse s.heads.items) s.cells.running s.cells.callers s.heap.items v view_is kept.running.within local le)
+
+  pub unset_held : (local : ℕ) (cell : Cell) → local < s.head.locals → slice_get s.cells.running local ≡ Some cell → cell ≡ cells.Unset →
+      None ≡ held_in (slice_get v.machine.frame.locals local)
+  unset_held local cell lt e is = sym (ap (local_in v.texts) is) ∙ ap held_in (local_says local cell lt e)
+
+  pub held_set : (local : ℕ) (cell : Cell) → local < s.head.locals → slice_get s.cells.running local ≡ Some cell → (cell ≡ cells.Unset → ⊥) →
+      IsSet (length v.texts) cell
+  held_set local cell lt e no = rows.set-from_known (length v.texts) cell no (local_known local cell lt e)
+
+  pub held_says : (local : ℕ) (cell : Cell) → local < s.head.locals → slice_get s.cells.running local ≡ Some cell → (cell ≡ cells.Unset → ⊥) →
+      Some (value_in v.texts cell) ≡ held_in (slice_get v.machine.frame.locals local)
+  held_says local cell lt e no =
+      sym (rows.set_local_in v.texts (length v.texts) cell (held_set local cell lt e no)) ∙ ap held_in (local_says local cell lt e)
 
   -- there is room for one more
   pub has_room : length v.machine.frame.operands < most → 0 < s.cells.spare
@@ -68,54 +83,54 @@ module _ (s : Inside) (v : Seen) (view_is : seen_of s ≡ v) (kept : IsKept s) w
     same_callers : AreFrames (length s.texts.items) (reverse s.heads.items) after.callers
     same_callers = subst (AreFrames (length s.texts.items) (reverse s.heads.items)) (sym callers) kept.callers
 
-    module _ (cell : Cell) (running : after.running ≡ s.cells.running ++ cell ∷ []) where
-      pub pushes : (seen_of (record s { cells = after })).machine
-          ≡ at_place v.machine v.machine.frame.place (v.machine.frame.operands ++ value_in v.texts cell ∷ [])
+    module _ (place : ℕ) (cell : Cell) (running : after.running ≡ s.cells.running ++ cell ∷ []) where
+      pub pushes : (seen_of (record s { cells = after; head = rows.at_head s.head place })).machine
+          ≡ at_place v.machine place (v.machine.frame.operands ++ value_in v.texts cell ∷ [])
       pushes =
           rows.pushes s.texts.items s.head (reverse s.heads.items) s.cells.running s.cells.callers s.heap.items v view_is kept.running.within
-          after.running after.callers cell running callers
+          place after.running after.callers cell running callers
 
-      pub pushed-kept : after.spare + 1 ≡ s.cells.spare → IsSet (length s.texts.items) cell → IsKept (record s { cells = after })
+      pub pushed-kept : after.spare + 1 ≡ s.cells.spare → IsSet (length s.texts.items) cell → IsKept (record s { cells = after; head = rows.at_head s.head place })
       pushed-kept spare is_set = record {
         room = omega (arith, kept.room, spare, ap length running, length-append s.cells.running (cell ∷ []));
-        running = rows.frame-push (length s.texts.items) s.head s.cells.running kept.running after.running cell running is_set;
+        running = rows.placed (length s.texts.items) place s.head after.running (rows.frame-push (length s.texts.items) s.head s.cells.running kept.running after.running cell running is_set);
         callers = same_callers;
         objects = kept.objects;
       }
 
-    module _ (count : ℕ) (running : after.running ≡ take (length s.cells.running - count) s.cells.running) where
+    module _ (place count : ℕ) (running : after.running ≡ take (length s.cells.running - count) s.cells.running) where
       pub drops : count ≤ length v.machine.frame.operands →
-          (seen_of (record s { cells = after })).machine ≡ at_place v.machine v.machine.frame.place (below count v.machine.frame.operands)
+          (seen_of (record s { cells = after; head = rows.at_head s.head place })).machine ≡ at_place v.machine place (below count v.machine.frame.operands)
       drops le =
           rows.drops s.texts.items s.head (reverse s.heads.items) s.cells.running s.cells.callers s.heap.items v view_is kept.running.within
-          after.running after.callers count (omega (arith, le, depth_is)) running callers
+          place after.running after.callers count (omega (arith, le, depth_is)) running callers
 
-      pub dropped-kept : count ≤ length v.machine.frame.operands → after.spare ≡ s.cells.spare + count → IsKept (record s { cells = after })
+      pub dropped-kept : count ≤ length v.machine.frame.operands → after.spare ≡ s.cells.spare + count → IsKept (record s { cells = after; head = rows.at_head s.head place })
       dropped-kept le spare =
           let enough : s.head.locals ≤ length s.cells.running - count = omega (arith, le, depth_is, kept.running.within) in record {
             room = omega (arith, kept.room, spare, le, depth_is, ap length running, length-take (length s.cells.running - count) s.cells.running);
-            running = rows.frame-take (length s.texts.items) s.head s.cells.running kept.running after.running (length s.cells.running - count) (omega arith) enough running;
+            running = rows.placed (length s.texts.items) place s.head after.running (rows.frame-take (length s.texts.items) s.head s.cells.running kept.running after.running (length s.cells.running - count) (omega arith) enough running);
             callers = same_callers;
             objects = kept.objects;
           }
 
     -- a value in the place of so many
-    module _ (mid : Frames Cell) (count : ℕ) (cell : Cell) (le : count ≤ length v.machine.frame.operands)
+    module _ (mid : Frames Cell) (place count : ℕ) (cell : Cell) (le : count ≤ length v.machine.frame.operands)
         (left : mid.running ≡ take (length s.cells.running - count) s.cells.running) (running : after.running ≡ mid.running ++ cell ∷ []) where
-      pub puts : (seen_of (record s { cells = after })).machine
-          ≡ at_place v.machine v.machine.frame.place (below count v.machine.frame.operands ++ value_in v.texts cell ∷ [])
+      pub puts : (seen_of (record s { cells = after; head = rows.at_head s.head place })).machine
+          ≡ at_place v.machine place (below count v.machine.frame.operands ++ value_in v.texts cell ∷ [])
       puts =
-          rows.pushes s.texts.items s.head (reverse s.heads.items) mid.running s.cells.callers s.heap.items
-          (record v { machine = at_place v.machine v.machine.frame.place (below count v.machine.frame.operands) })
+          rows.pushes s.texts.items (rows.at_head s.head place) (reverse s.heads.items) mid.running s.cells.callers s.heap.items
+          (record v { machine = at_place v.machine place (below count v.machine.frame.operands) })
           (ap (λ m. record { machine = m; texts = s.texts.items })
             (rows.drops s.texts.items s.head (reverse s.heads.items) s.cells.running s.cells.callers s.heap.items v view_is kept.running.within
-            mid.running s.cells.callers count (omega (arith, le, depth_is)) left refl)
-            ∙ ap (λ t. record v { machine = at_place v.machine v.machine.frame.place (below count v.machine.frame.operands); texts = t }) (sym texts_is))
+            place mid.running s.cells.callers count (omega (arith, le, depth_is)) left refl)
+            ∙ ap (λ t. record v { machine = at_place v.machine place (below count v.machine.frame.operands); texts = t }) (sym texts_is))
           (omega (arith, le, depth_is, kept.running.within, ap length left, length-take (length s.cells.running - count) s.cells.running))
-          after.running after.callers cell running callers
+          place after.running after.callers cell running callers
 
       pub put-kept : 0 < count → after.spare + 1 ≡ mid.spare → mid.spare ≡ s.cells.spare + count → IsSet (length s.texts.items) cell →
-          IsKept (record s { cells = after })
+          IsKept (record s { cells = after; head = rows.at_head s.head place })
       put-kept some less more is_set =
           let enough : s.head.locals ≤ length s.cells.running - count = omega (arith, le, depth_is, kept.running.within) in
           let frame : IsFrame (length s.texts.items) s.head mid.running =
@@ -123,7 +138,7 @@ module _ (s : Inside) (v : Seen) (view_is : seen_of s ≡ v) (kept : IsKept s) w
           record {
             room = omega (arith, kept.room, less, more, le, depth_is, ap length running, length-append mid.running (cell ∷ []),
                 ap length left, length-take (length s.cells.running - count) s.cells.running);
-            running = rows.frame-push (length s.texts.items) s.head mid.running frame after.running cell running is_set;
+            running = rows.placed (length s.texts.items) place s.head after.running (rows.frame-push (length s.texts.items) s.head mid.running frame after.running cell running is_set);
             callers = same_callers;
             objects = kept.objects;
           }

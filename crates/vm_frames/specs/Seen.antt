@@ -33,6 +33,11 @@ local_in texts (cells.Int x) = Some (values.Int x)
 local_in texts (cells.Text n) = Some (values.Text (get_or texts n []))
 local_in texts (cells.Object n) = Some (values.Object n)
 
+-- the value of a local, where there is the local and it has one
+abbrev pub held_in : Option (Option Value) → Option Value
+held_in None = None
+held_in (Some value) = value
+
 -- where a cell names a text, it names one of so many
 abbrev pub IsKnown : ℕ → Cell → Type 0
 IsKnown count (cells.Text n) = n < count

@@ -4,7 +4,7 @@
 ghost use Rattle.std.specs.Prelude.{◌≡◌, ◌+◌, ◌-◌, ◌<◌, ◌≤◌, ◌++◌, ◌∷◌, [], length, slice_get, option_map, IfSome, Some};
 ghost use Rattle.vm_model.specs.Tests.{below};
 ghost use Rattle.vm_model.specs.Step.{at_place, with_local};
-ghost use Rattle.vm_frames.specs.Seen.{value_in, local_in, IsKnown, IsSet};
+ghost use Rattle.vm_frames.specs.Seen.{value_in, held_in, IsSet};
 ghost use Rattle.vm_frames.specs.Kept.{most};
 
 use crate::cell::Cell;
@@ -38,53 +38,59 @@ impl State {
         self.cells.from_top(above)
     }
 
-    /// What a local holds, where there is one of this number.
+    /// What a local holds, where there is one of this number and it was stored to.
     #[inline(always)]
-    pub fn local(&self, local: usize) -> Option<Cell>
-        ensures value { option_map (local_in self.now.texts) result ≡ slice_get self.now.machine.frame.locals local }
-        ensures known { IfSome result (IsKnown (length self.now.texts)) }
+    pub fn held(&self, local: usize) -> Option<Cell>
+        ensures value { option_map (value_in self.now.texts) result ≡ held_in (slice_get self.now.machine.frame.locals local) }
+        ensures set { IfSome result (IsSet (length self.now.texts)) }
     {
         if local >= usize::from(self.head.locals) {
             return None;
         }
-        Some(self.cells.at(local))
+        match self.cells.at(local) {
+            Cell::Unset => None,
+            cell => Some(cell),
+        }
     }
 
-    /// Puts a value on top.
+    /// Puts a value on top, and goes to a place.
     #[inline(always)]
-    pub fn push(&mut self, cell: Cell)
+    pub fn push(&mut self, cell: Cell, place: u32)
         requires room { length self.old.machine.frame.operands < most }
         requires set { IsSet (length self.old.texts) cell }
-        ensures machine { self.new.machine ≡ at_place self.old.machine self.old.machine.frame.place
+        ensures machine { self.new.machine ≡ at_place self.old.machine place
             (self.old.machine.frame.operands ++ value_in self.old.texts cell ∷ []) }
         ensures texts { self.new.texts ≡ self.old.texts }
     {
         self.cells.push(cell);
+        self.head.place = place;
     }
 
-    /// Drops so many operands.
+    /// Drops so many operands, and goes to a place.
     #[inline(always)]
-    pub fn drop(&mut self, count: usize)
+    pub fn drop(&mut self, count: usize, place: u32)
         requires { count ≤ length self.old.machine.frame.operands }
-        ensures machine { self.new.machine ≡ at_place self.old.machine self.old.machine.frame.place
+        ensures machine { self.new.machine ≡ at_place self.old.machine place
             (below count self.old.machine.frame.operands) }
         ensures texts { self.new.texts ≡ self.old.texts }
     {
         self.cells.drop_top(count);
+        self.head.place = place;
     }
 
-    /// Puts a value in the place of so many operands.
+    /// Puts a value in the place of so many operands, and goes to a place.
     #[inline(always)]
-    pub fn put(&mut self, count: usize, cell: Cell)
+    pub fn put(&mut self, count: usize, cell: Cell, place: u32)
         requires some { 0 < count }
         requires within { count ≤ length self.old.machine.frame.operands }
         requires set { IsSet (length self.old.texts) cell }
-        ensures machine { self.new.machine ≡ at_place self.old.machine self.old.machine.frame.place
+        ensures machine { self.new.machine ≡ at_place self.old.machine place
             (below count self.old.machine.frame.operands ++ value_in self.old.texts cell ∷ []) }
         ensures texts { self.new.texts ≡ self.old.texts }
     {
         self.cells.drop_top(count);
         self.cells.push(cell);
+        self.head.place = place;
     }
 
     /// Puts a value into a local.

@@ -15,7 +15,6 @@ mod plain;
 mod program;
 mod returns;
 mod session;
-mod state;
 mod step;
 mod stepped;
 mod waits;

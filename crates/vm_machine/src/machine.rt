@@ -12,16 +12,15 @@ ghost use Rattle.vm_machine.specs.Doing.{Does, waits_in};
 ghost use Rattle.vm_machine.specs.Alone.{AllAlone};
 ghost use Rattle.vm_machine.specs.Main.{HasMain};
 
-use crate::calls::unset;
 use crate::frequent::steps_alone;
 use crate::program::{class_at, max_locals, method_at};
-use crate::state::{Frame, State};
 use crate::step::take_step;
 use crate::stepped::Stepped;
 use crate::waits::waits;
 use mg_text::Memory;
 use std::alloc::Global;
 use std::marker::Model;
+use vm_frames::State;
 use vm_model::{Linked, LinkedClass, LinkedMethod, Ports};
 
 /// A machine that runs a linked program. Contracts see its frames and its objects.
@@ -102,21 +101,8 @@ pub fn has_main(linked: &Linked, main: &str) -> bool
 fn started(alloc: Global, linked: &Linked, class: u32, method: u32) -> Result<State, Memory>
     ensures { IfOk result (λ s. state_of s ≡ started (classes_of linked.now.classes.items) class method) }
 {
-    let mut locals = Vec::new(alloc);
-    unset(&mut locals, max_locals(method_at(linked, class, method)))?;
-    let frame = Frame {
-        class,
-        method,
-        place: 0,
-        locals,
-        operands: Vec::new(alloc),
-        told: None,
-    };
-    Ok(State {
-        frame,
-        callers: Vec::new(alloc),
-        heap: Vec::new(alloc),
-    })
+    let locals = max_locals(method_at(linked, class, method)) as u16;
+    State::start(alloc, class, method, locals)
 }
 
 /// The state at the `main` of a class.
