@@ -9,7 +9,7 @@ use Rattle.vm_machine.proofs.step.act_make.Goals as goal
 pub returns-in-Some-clause-ok : goal.returns-in-Some-clause-ok
 returns-in-Some-clause-ok c = λ me q. (
   act_wrong (classes_of c.args.linked.now.classes.items) q (state_of c.args.state.now) me (actions.Make c.args.class)
-      c.in-Some.kind (sym c.in-Some.is ∙ c.check.ensures),
+      c.in-Some.kind (sym c.in-Some.is ∙ c.check.ensures.wrong),
   refl,
   refl,
 )
@@ -18,4 +18,4 @@ pub returns-clause-ok : goal.returns-clause-ok
 returns-clause-ok c =
     plays_for (state_of c.args.state.now) (state_of c.make.new.state) c.make.result _ _
     (λ me q. make_is (classes_of c.args.linked.now.classes.items) q (state_of c.args.state.now) me c.args.class
-    (sym c.in_default.is ∙ c.check.ensures)) c.make.ensures.ok
+    (sym c.in_default.is ∙ c.check.ensures.wrong)) c.make.ensures.ok
