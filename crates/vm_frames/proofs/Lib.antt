@@ -6,3 +6,4 @@ pub mod States
 pub mod Entering
 pub mod Starting
 pub mod Same
+pub mod Lying

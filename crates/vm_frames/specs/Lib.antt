@@ -2,3 +2,4 @@ pub mod Seen
 pub mod View
 pub mod Kept
 pub mod Frames
+pub mod Lying

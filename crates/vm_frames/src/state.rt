@@ -1,9 +1,10 @@
 //! The state of a machine. Its running frame lies on those that wait, in one region.
 //! What the running method is stands beside the cells.
 
-ghost use Rattle.std.specs.Prelude.{◌≡◌, ◌<◌, ◌^◌, [], length, replicate, IfOk, Some, None};
+ghost use Rattle.std.specs.Prelude.{◌≡◌, [], ◌∷◌, IfOk};
 ghost use Rattle.vm_model.specs.Step.{at_place};
 ghost use Rattle.vm_frames.specs.Frames.{started};
+ghost use Rattle.vm_frames.specs.Lying.{AllLie};
 
 use crate::cell::{Cell, Head, Object};
 use mg_text::{List, Memory, Text};
@@ -70,6 +71,13 @@ impl State {
             heap: Vec::new(alloc),
             texts: List::new(alloc),
         })
+    }
+
+    /// The frames, and the empty one below them.
+    pub fn frames(&self) -> &RawStack<Cell>
+        ensures { AllLie self.now.texts (self.now.machine.frame ∷ self.now.machine.callers) (result.now.running ∷ result.now.callers) }
+    {
+        &self.cells
     }
 
     /// The class of the method that runs.

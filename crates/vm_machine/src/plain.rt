@@ -1,12 +1,14 @@
 //! Constants, locals, the stack, arithmetic and jumps.
 //! Each function is one action behind its tests.
 
-ghost use Rattle.std.specs.Prelude.{◌≡◌, ◌+◌, ◌<◌, ◌≤◌, ◌-◌, if◌then◌else◌, ◌^◌, ◌++◌, ◌∷◌, [], length, slice_get, IfOk, OnErr};
+ghost use Rattle.std.specs.Prelude.{◌≡◌, ◌+◌, ◌<◌, ◌≤◌, ◌-◌, if◌then◌else◌, ◌^◌, ◌++◌, ◌∷◌, [], false, length, slice_get, IfOk, OnErr};
 ghost use Rattle.vm_model.specs.Tests.{below};
 ghost use Rattle.vm_model.specs.Step as model;
 ghost use Rattle.vm_frames.specs.Kept.{most};
 ghost use Rattle.vm_machine.specs.State.{state_of, operands_of};
 ghost use Rattle.vm_machine.specs.Table.{constant_of, operation_of, comparison_of};
+ghost use Rattle.vm_model.specs.Actions.{Push};
+ghost use Rattle.vm_machine.specs.Steady.{is_steady_action};
 ghost use Rattle.vm_machine.specs.Doing.{Plays};
 ghost use Rattle.vm_machine.specs.inner.Tops.{at_top, int_in, int_of_local};
 ghost use Rattle.vm_machine.specs.inner.Acts.{stored_by, doubled_by, swapped_by, computes_by, negates_by, increased_by, on_zero_by, on_both_by, on_null_by, switches_by};
@@ -29,6 +31,7 @@ pub(crate) fn push_constant(
     ensures ok { IfOk result (λ s. Plays (λ q. model.goes q (model.next (state_of state.old)
         (operands_of state.old ++ constant_of constant.entry ∷ []))) (state_of state.old) (state_of state.new) s) }
     ensures err { OnErr result (state_of state.new ≡ state_of state.old) }
+    ensures steady { OnErr result (is_steady_action (Push (constant_of constant.entry)) ≡ false) }
 {
     let cell = match constant {
         Constant::Int(x) => Cell::Int(x),

@@ -1,7 +1,7 @@
 //! A step: the next instruction's tests, and then what it does.
 //! Nothing changes where memory is wanting or a message is.
 
-ghost use Rattle.std.specs.Prelude.{◌≡◌, ℕ, ◌+◌, ◌<◌, ◌≤◌, ◌-◌, ◌^◌, length, option_map, slice_get, Some, IfOk, OnErr, OnSome, []};
+ghost use Rattle.std.specs.Prelude.{◌≡◌, true, false, ℕ, ◌+◌, ◌<◌, ◌≤◌, ◌-◌, ◌^◌, length, option_map, slice_get, Some, IfOk, OnErr, OnSome, []};
 ghost use Rattle.vm_model.specs.Messages.{Messages};
 ghost use Rattle.vm_model.specs.Program as program;
 ghost use Rattle.vm_model.specs.View.{classes_of, field_of, instr_of};
@@ -13,6 +13,7 @@ ghost use Rattle.vm_frames.specs.Kept.{most};
 ghost use Rattle.vm_machine.specs.State.{state_of, operands_of};
 ghost use Rattle.vm_machine.specs.Table.{sort_of, plain_of, action_of};
 ghost use Rattle.vm_machine.specs.Needing.{want_of, wants_of};
+ghost use Rattle.vm_machine.specs.Steady.{is_steady, is_steady_action, next_action};
 ghost use Rattle.vm_machine.specs.Doing.{Does, Plays, waits_in};
 ghost use Rattle.vm_machine.specs.inner.Tops.{at_top, text_in};
 
@@ -107,6 +108,7 @@ fn act_plain(state: &mut State, linked: &Linked, plain: Plain<'_>) -> Result<Ste
     ensures ok { IfOk result (λ s. (me : ℕ) → Plays (λ q. model.act (classes_of linked.now.classes.items) q (state_of state.old) me
         (plain_of plain.entry)) (state_of state.old) (state_of state.new) s) }
     ensures err { OnErr result (state_of state.new ≡ state_of state.old) }
+    ensures steady { OnErr result (is_steady_action (plain_of plain.entry) ≡ false) }
 {
     if let Some(kind) = check_plain(linked, state, plain) {
         return Ok(Stepped::Ended(Ending::Bad(kind)));
@@ -146,6 +148,7 @@ fn act_read(state: &mut State, linked: &Linked, class: u32, field: u32) -> Resul
     ensures ok { IfOk result (λ s. (me : ℕ) → Plays (λ q. model.act (classes_of linked.now.classes.items) q (state_of state.old) me
         (actions.Read class field)) (state_of state.old) (state_of state.new) s) }
     ensures err { OnErr result (state_of state.new ≡ state_of state.old) }
+    ensures steady { OnErr result (true ≡ false) }
 {
     let takes = [object(linked, class)];
     if let Some(kind) = check(linked, state, &takes, 1) {
@@ -173,6 +176,7 @@ fn act_write(state: &mut State, linked: &Linked, class: u32, field: u32) -> Resu
     ensures ok { IfOk result (λ s. (me : ℕ) → Plays (λ q. model.act (classes_of linked.now.classes.items) q (state_of state.old) me
         (actions.Write class field)) (state_of state.old) (state_of state.new) s) }
     ensures err { OnErr result (state_of state.new ≡ state_of state.old) }
+    ensures steady { OnErr result (true ≡ false) }
 {
     let value = field_want(field_at(linked, class, field));
     let takes = [object(linked, class), value];
@@ -285,6 +289,7 @@ fn act(
         (action_of action.entry)) (state_of state.old) ports.old (state_of state.new) ports.new s) }
     ensures err { OnErr result (state_of state.new ≡ state_of state.old) }
     ensures err_ports { OnErr result (ports.new ≡ ports.old) }
+    ensures steady { OnErr result (is_steady_action (action_of action.entry) ≡ false) }
 {
     match action {
         Action::Plain(plain) => act_plain(state, linked, plain),
@@ -323,6 +328,7 @@ pub(crate) fn take_step(
         (state_of state.old) ports.old (state_of state.new) ports.new s) }
     ensures err { OnErr result (state_of state.new ≡ state_of state.old) }
     ensures err_ports { OnErr result (ports.new ≡ ports.old) }
+    ensures steady { OnErr result (is_steady (next_action (classes_of linked.now.classes.items) (state_of state.old)) ≡ false) }
 {
     let Some(instr) = next_instr(linked, state) else {
         return Ok(Stepped::Ended(Ending::Bad(BadKind::FellOff)));
