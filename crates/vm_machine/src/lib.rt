@@ -21,3 +21,4 @@ mod waits;
 
 pub use machine::{Machine, has_main};
 pub use stepped::Stepped;
+pub use vm_frames::Cell;

@@ -1,0 +1,14 @@
+-- The cells say what they said.
+use Rattle.std.proofs.Common.{refl, arith}
+use Rattle.vm_frames.proofs.Same.{same-seen, same-kept, texted, texted-kept}
+use Rattle.vm_frames.proofs.texts.State.add_text.Goals as goal
+
+pub returns-clause-machine : goal.returns-clause-machine
+returns-clause-machine c =
+    texted c.self.inside c.args.self.now c.self.view_is c.self.invariant (record c.self.inside { texts = c.push.new.self }) refl refl refl refl
+    (omega arith) c.args.text c.in_ok-push.ensures.ok refl
+
+pub invariant_of-self-2 : goal.invariant_of-self-2
+invariant_of-self-2 c =
+    texted-kept c.self.inside c.args.self.now c.self.view_is c.self.invariant (record c.self.inside { texts = c.push.new.self }) refl refl refl refl
+    (omega arith) c.args.text c.in_ok-push.ensures.ok refl
