@@ -1,7 +1,7 @@
-use Rattle.std.proofs.Common.{◌∙◌, sym, Ok, refl}
+use Rattle.std.proofs.Common.{◌∙◌, sym, Ok, refl, arith}
 use Rattle.vm_model.specs.View.{classes_of}
 use Rattle.vm_machine.specs.State.{state_of}
-use Rattle.vm_machine.proofs.Acts.{act_wrong, does_same, does_plays_same}
+use Rattle.vm_machine.proofs.Acts.{act_wrong, does_same, does_plays_same, room_in}
 use Rattle.vm_machine.proofs.Whole.{init_is, concat_is, equals_is, show_int_is, show_truth_is, out_is, print_is, send_is, send_int_is, send_truth_is, send_text_is, look_is, take_is, take_int_is, take_truth_is, take_text_is, refuse_is}
 use Rattle.vm_machine.proofs.step.act_built.Goals as goal
 
@@ -47,9 +47,9 @@ returns-in-ValueOfTruth-clause-ok c =
 
 pub returns-in-Out-clause-ok : goal.returns-in-Out-clause-ok
 returns-in-Out-clause-ok c =
-    does_plays_same (state_of c.args.state.now) (state_of c.push_out.new.state) c.args.ports.now c.push_out.result _ _
+    does_plays_same (state_of c.args.state.now) (state_of c.push_out.new.state) c.args.ports.now (Ok c.push_out.result) _ _
     (rw c.in-Out.is (out_is (classes_of c.args.linked.now.classes.items) c.args.ports.now (state_of c.args.state.now) c.args.me
-    (rw c.in-Out.is at (sym c.in_default.is ∙ c.check_built.ensures.wrong)))) c.push_out.ensures.ok
+    (rw c.in-Out.is at (sym c.in_default.is ∙ c.check_built.ensures.wrong)))) c.push_out.ensures
 
 pub returns-in-Println-clause-ok : goal.returns-in-Println-clause-ok
 returns-in-Println-clause-ok c =
@@ -122,3 +122,8 @@ returns-in-Refuse-clause-ok c =
     does_same (state_of c.args.state.now) (state_of c.args.state.now) c.args.ports.now c.args.ports.now c.refuse.result _ _
     (rw c.in-Refuse.is (refuse_is (classes_of c.args.linked.now.classes.items) c.args.ports.now (state_of c.args.state.now)
     c.args.me (rw c.in-Refuse.is at (sym c.in_default.is ∙ c.check_built.ensures.wrong)))) c.refuse.ensures
+
+pub push_out-requires-clause-room : goal.push_out-requires-clause-room
+push_out-requires-clause-room c =
+    let right = room_in (classes_of c.args.linked.now.classes.items) _ (state_of c.args.state.now) (rw c.in-Out.is at (sym c.in_default.is ∙ c.check_built.ensures.wrong)) in
+    omega (arith, right.1, c.check_built.ensures.small)
