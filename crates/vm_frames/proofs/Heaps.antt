@@ -3,7 +3,7 @@ use Rattle.std.proofs.Common.{◌≡◌, ℕ, zero, suc, ◌<◌, ◌≤◌, Lis
 use Rattle.std.proofs.lemmas.List.{map-set, map_push, length-map}
 use Rattle.std.proofs.lemmas.List.Elements.{All-set}
 use Rattle.std.proofs.lemmas.Option.{slice_get-map, slice_get_read, slice_get_past, slice_get-get_or}
-use Rattle.std.specs.Prelude.{All}
+use Rattle.std.specs.Prelude.{All, IfSome}
 use Rattle.std.specs.Option.{option_map}
 use Rattle.mg_text.specs.Call.{Name}
 use Rattle.vm_model.specs.declared.value.Value.{Value}
@@ -12,9 +12,19 @@ use Rattle.vm_frames.specs.declared.cell.Cell.{Cell}
 use Rattle.vm_frames.specs.declared.cell.Head.{Head}
 use Rattle.vm_frames.specs.declared.cell.Object.{Object}
 use Rattle.vm_frames.specs.Seen.{Seen, value_in, values_in, IsSet}
-use Rattle.vm_frames.specs.View.{object_in, objects_in, machine_in, seen_in}
+use Rattle.vm_frames.specs.View.{object_in, objects_in, cell_of_object, cell_in, machine_in, seen_in}
 use Rattle.vm_frames.specs.Kept.{IsObject}
 use Rattle.vm_frames.specs.Frames.{field_in, field_of_object, with_field}
+use Rattle.vm_frames.proofs.Rows.{at_slice}
+
+module _ (texts : List Name) where
+  same_class : (o : Option Object) → option_map (λ o. o.class) o ≡ option_map (λ o. o.class) (option_map (object_in texts) o)
+  same_class None = refl
+  same_class (Some o) = refl
+
+  same_field : (field : ℕ) (o : Option Object) → option_map (value_in texts) (cell_of_object field o) ≡ field_of_object field (option_map (object_in texts) o)
+  same_field field None = refl
+  same_field field (Some o) = sym (slice_get-map (value_in texts) o.fields.items field)
 
 module _ (texts : List Name) (head : Head) (heads : List Head) (row : List Cell) (rows : List (List Cell)) (heap : List Object) (s : Seen)
     (view_is : seen_in texts head heads row rows heap ≡ s) where
@@ -25,26 +35,23 @@ module _ (texts : List Name) (head : Head) (heads : List Head) (row : List Cell)
   object_is n o e =
       ap (λ t. slice_get t.machine.heap n) (sym view_is) ∙ slice_get-map (object_in texts) heap n ∙ ap (option_map (object_in texts)) e
 
-  -- an object that there is, and one that there isn't
-  pub class_says : (n : ℕ) (o : Object) → slice_get heap n ≡ Some o → Some o.class ≡ option_map (λ o. o.class) (slice_get s.machine.heap n)
-  class_says n o e = sym (ap (option_map (λ o. o.class)) (object_is n o e))
+  heap_is : s.machine.heap ≡ objects_in texts heap
+  heap_is = ap (λ t. t.machine.heap) (sym view_is)
 
-  pub no_class : (n : ℕ) → slice_get heap n ≡ None → None ≡ option_map (λ o. o.class) (slice_get s.machine.heap n)
-  no_class n e =
-      sym (ap (λ t. option_map (λ o. o.class) (slice_get t.machine.heap n)) (sym view_is)
-      ∙ ap (option_map (λ o. o.class)) (slice_get-map (object_in texts) heap n ∙ ap (option_map (object_in texts)) e))
+  texts_are : s.texts ≡ texts
+  texts_are = ap (λ t. t.texts) (sym view_is)
+
+  -- the class of an object
+  pub class_is : (n : ℕ) → option_map (λ o. o.class) (slice_get heap n) ≡ option_map (λ o. o.class) (slice_get s.machine.heap n)
+  class_is n =
+      same_class texts (slice_get heap n) ∙ ap (option_map (λ o. o.class)) (sym (slice_get-map (object_in texts) heap n))
+      ∙ ap (λ l. option_map (λ o. o.class) (slice_get l n)) (sym heap_is)
 
   -- what a field holds
-  pub field_says : (n field : ℕ) (o : Object) (found : Option Cell) → slice_get heap n ≡ Some o → found ≡ slice_get o.fields.items field →
-      option_map (value_in s.texts) found ≡ field_in s.machine.heap n field
-  field_says n field o found e is =
-      ap (λ t. option_map (value_in t.texts) found) (sym view_is) ∙ ap (option_map (value_in texts)) is
-      ∙ sym (ap (field_of_object field) (object_is n o e) ∙ slice_get-map (value_in texts) o.fields.items field)
-
-  pub no_field : (n field : ℕ) → slice_get heap n ≡ None → None ≡ field_in s.machine.heap n field
-  no_field n field e =
-      sym (ap (λ t. field_in t.machine.heap n field) (sym view_is)
-      ∙ ap (field_of_object field) (slice_get-map (object_in texts) heap n ∙ ap (option_map (object_in texts)) e))
+  pub field_is : (n field : ℕ) → option_map (value_in s.texts) (cell_in heap n field) ≡ field_in s.machine.heap n field
+  field_is n field =
+      ap (λ t. option_map (value_in t) (cell_in heap n field)) texts_are ∙ same_field texts field (slice_get heap n)
+      ∙ ap (field_of_object field) (sym (slice_get-map (object_in texts) heap n)) ∙ ap (λ l. field_in l n field) (sym heap_is)
 
   -- a field of an object holds another value
   pub writes : (heap' : List Object) (n field : ℕ) (cell : Cell) (o o' : Object) → slice_get heap n ≡ Some o → heap' ≡ set heap n o' →
@@ -82,3 +89,16 @@ pub object-set : (count : ℕ) (o o' : Object) (field : ℕ) (cell : Cell) → I
     o'.fields.items ≡ set o.fields.items field cell → IsObject count o'
 object-set count o o' field cell kept is_set is =
     subst (All (IsSet count)) (sym is) (All-set (IsSet count) o.fields.items field cell is_set kept)
+
+-- what a field holds is a value
+module _ (count : ℕ) (heap : List Object) (all : All (IsObject count) heap) (n field : ℕ) where
+  field_set : (o : Object) → IsObject count o → (found : Option Cell) → slice_get o.fields.items field ≡ found → IfSome found (IsSet count)
+  field_set o is None e = tt
+  field_set o is (Some cell) e = at_slice (IsSet count) o.fields.items field cell is e
+
+  object_set : (found : Option Object) → slice_get heap n ≡ found → IfSome (cell_of_object field found) (IsSet count)
+  object_set None e = tt
+  object_set (Some o) e = field_set o (at_slice (IsObject count) heap n o all e) (slice_get o.fields.items field) refl
+
+  pub cell_set : IfSome (cell_in heap n field) (IsSet count)
+  cell_set = object_set (slice_get heap n) refl

@@ -5,5 +5,6 @@ pub mod Heaps
 pub mod States
 pub mod Entering
 pub mod Starting
+pub mod Nearest
 pub mod Same
 pub mod Lying

@@ -1,5 +1,5 @@
 -- What the frames and objects of a state are.
-use Rattle.std.specs.Prelude.{ℕ, List, [], ◌∷◌, map, take, drop, reverse}
+use Rattle.std.specs.Prelude.{ℕ, List, [], ◌∷◌, map, take, drop, reverse, Option, Some, None, slice_get}
 use Rattle.mg_text.specs.Call.{Name}
 use Rattle.vm_model.specs.Machine as model
 use Rattle.vm_frames.specs.declared.cell.Cell.{Cell}
@@ -30,6 +30,14 @@ object_in texts o = record { class = o.class; fields = values_in texts o.fields.
 
 abbrev pub objects_in : List Name → List Object → List model.Object
 objects_in texts objects = map (object_in texts) objects
+
+-- the cell of a field, where there are the object and the field
+abbrev pub cell_of_object : ℕ → Option Object → Option Cell
+cell_of_object field None = None
+cell_of_object field (Some o) = slice_get o.fields.items field
+
+abbrev pub cell_in : List Object → (object field : ℕ) → Option Cell
+cell_in heap object field = cell_of_object field (slice_get heap object)
 
 -- the running frame, those that wait and the objects
 abbrev pub machine_in : List Name → Head → List Head → List Cell → List (List Cell) → List Object → model.Machine

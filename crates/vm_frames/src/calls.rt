@@ -93,9 +93,12 @@ impl State {
         };
         let _left = self.cells.leave();
         self.head = head;
-        if let Some(cell) = value {
-            self.cells.push(cell);
+        match value {
+            Some(cell) => {
+                self.cells.push(cell);
+                true
+            }
+            None => true,
         }
-        true
     }
 }

@@ -3,6 +3,7 @@
 
 ghost use Rattle.std.specs.Prelude.{◌≡◌, ◌<◌, ◌++◌, ◌∷◌, [], length, map, option_map, slice_get, slice_set, All, IfOk, IfSome, OnErr};
 ghost use Rattle.vm_frames.specs.Seen.{value_in, values_in, IsSet};
+ghost use Rattle.vm_frames.specs.View.{cell_in};
 ghost use Rattle.vm_frames.specs.Frames.{field_in, with_field};
 
 use crate::cell::{Cell, Object};
@@ -17,10 +18,7 @@ impl State {
     pub fn class_of_object(&self, object: u32) -> Option<u32>
         ensures { result ≡ option_map (λ o. o.class) (slice_get self.now.machine.heap object) }
     {
-        match self.heap.get(object as usize) {
-            Some(found) => Some(found.class),
-            None => None,
-        }
+        class_at(self.heap.as_slice(), object)
     }
 
     /// What a field of an object holds, where there are both.
@@ -28,10 +26,7 @@ impl State {
         ensures value { option_map (value_in self.now.texts) result ≡ field_in self.now.machine.heap object field }
         ensures set { IfSome result (IsSet (length self.now.texts)) }
     {
-        match self.heap.get(object as usize) {
-            Some(found) => found.fields.get(field as usize).copied(),
-            None => None,
-        }
+        cell_at(self.heap.as_slice(), object, field)
     }
 
     /// Puts a value into a field of an object, where there are both.
@@ -69,6 +64,26 @@ impl State {
         }
         self.heap.push(Object { class, fields })?;
         Ok(count as u32)
+    }
+}
+
+/// The class of the object of a number.
+fn class_at(heap: &[Object], object: u32) -> Option<u32>
+    ensures { result ≡ option_map (λ o. o.class) (slice_get heap.now object) }
+{
+    match heap.get(object as usize) {
+        Some(found) => Some(found.class),
+        None => None,
+    }
+}
+
+/// The cell of a field of the object of a number.
+fn cell_at(heap: &[Object], object: u32, field: u32) -> Option<Cell>
+    ensures { result ≡ cell_in heap.now object field }
+{
+    match heap.get(object as usize) {
+        Some(found) => found.fields.get(field as usize).copied(),
+        None => None,
     }
 }
 

@@ -20,7 +20,7 @@ impl State {
         requires { number < length self.now.texts }
         ensures { result.now ≡ slice_index_or self.now.texts number [] }
     {
-        &self.texts[number as usize]
+        &self.texts.as_slice()[number as usize]
     }
 
     /// Puts a text into the table, and answers its number. After an error nothing has changed.
