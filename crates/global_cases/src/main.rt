@@ -40,9 +40,12 @@ fn files(alloc: Global, given: &[u8]) -> Result<String, Memory> {
     match projected(alloc, 0, given) {
         Ok(files) => {
             let mut answer = Answer::new(alloc);
+            let mut between = "";
             for file in files.as_slice() {
+                answer.add(between)?;
                 answer.pair(file.name.as_str(), "\n")?;
-                answer.add(file.text.as_str())?;
+                answer.add(without_last_feed(file.text.as_str()))?;
+                between = "\n";
             }
             Ok(answer.into_text())
         }
@@ -50,6 +53,11 @@ fn files(alloc: Global, given: &[u8]) -> Result<String, Memory> {
         Err(ProjectedFault::Unprojected(fault)) => unprojected(alloc, &fault),
         Err(ProjectedFault::Memory) => Err(Memory),
     }
+}
+
+// A text without its last line feed.
+fn without_last_feed(text: &str) -> &str {
+    text.strip_suffix('\n').unwrap_or(text)
 }
 
 // A fault of projecting as `LINE:COLUMN: KIND ROLE`, and the inner fault's kind.
