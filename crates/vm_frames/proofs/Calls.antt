@@ -19,11 +19,11 @@ use Rattle.vm_frames.specs.Frames.{entered, left_to, IsNearest}
 use Rattle.vm_frames.proofs.Rows.{known, set_local_in, frame-take, pushes}
 
 -- set cells as locals
-set_locals : (texts : List Name) (count : ℕ) (cells : List Cell) → All (IsSet count) cells → map (local_in texts) cells ≡ map Some (values_in texts cells)
+set_locals : (texts : List Name) (count : ℕ) (row : List Cell) → All (IsSet count) row → map (local_in texts) row ≡ map Some (values_in texts row)
 set_locals texts count [] all = refl
-set_locals texts count (cell ∷ cells) all =
-    ap (λ l. l ∷ map (local_in texts) cells) (set_local_in texts count cell (All-head (IsSet count) cell cells all))
-    ∙ ap (λ l. Some (value_in texts cell) ∷ l) (set_locals texts count cells (All-tail (IsSet count) cell cells all))
+set_locals texts count (cell ∷ row) all =
+    ap (λ l. l ∷ map (local_in texts) row) (set_local_in texts count cell (All-head (IsSet count) cell row all))
+    ∙ ap (λ l. Some (value_in texts cell) ∷ l) (set_locals texts count row (All-tail (IsSet count) cell row all))
 
 pub map-replicate : {A B : Type 0} (f : A → B) (n : ℕ) (x : A) → map f (replicate n x) ≡ replicate n (f x)
 map-replicate f zero x = refl
@@ -44,6 +44,14 @@ drop-further zero k row le = ap (λ j. drop j row) (omega arith)
 drop-further (suc n) zero row le = absurd (omega (arith, le))
 drop-further (suc n) (suc k) [] le = drop-none (suc k - suc n)
 drop-further (suc n) (suc k) (x ∷ row) le = ap (λ j. drop j (drop n row)) (omega arith) ∙ drop-further n k row (omega (arith, le))
+
+-- a machine of these parts, at the beginning of a method
+abbrev framed : (class method : ℕ) → Option ℕ → List (Option Value) → List Value → model.Frame → List model.Frame → List model.Object → model.Machine
+framed class method told ls os caller callers heap = record {
+  frame = record { class = class; method = method; place = 0; locals = ls; operands = os; told = told };
+  callers = caller ∷ callers;
+  heap = heap;
+}
 
 module _ (texts : List Name) (head : Head) (heads : List Head) (row : List Cell) (rows : List (List Cell)) (heap : List Object) (s : Seen)
     (view_is : seen_in texts head heads row rows heap ≡ s) (frame : IsFrame (length texts) head row) where
@@ -68,10 +76,10 @@ module _ (texts : List Name) (head : Head) (heads : List Head) (row : List Cell)
       let top : drop (k - n) (drop n row) ≡ some = drop-further n k row kept in
       let all : All (IsSet (length texts)) some = subst (All (IsSet (length texts))) top (All-drop (IsSet (length texts)) (k - n) (drop n row) frame.operands) in
       let taken : on_top args ops ≡ values_in texts some =
-      ap (λ j. drop (j - args) ops) long ∙ ap (λ j. drop j ops) {y = k - n} (omega (arith, le))
+      ap (λ j. drop (j - args) ops) long ∙ ap (λ j. drop j ops) {x = length row - n - args} {y = k - n} (omega (arith, le))
       ∙ drop-map (value_in texts) (k - n) (drop n row) ∙ ap (values_in texts) top in
       let left : below args ops ≡ values_in texts (drop n (take k row)) =
-      ap (λ j. take (j - args) ops) long ∙ ap (λ j. take j ops) {y = k - n} (omega (arith, le))
+      ap (λ j. take (j - args) ops) long ∙ ap (λ j. take j ops) {x = length row - n - args} {y = k - n} (omega (arith, le))
       ∙ take-map (value_in texts) (k - n) (drop n row) ∙ ap (values_in texts) (sym (drop-taken n k row kept (omega arith))) in
       let new_locals : map (local_in texts) (take locals (some ++ replicate (locals - args) cells.Unset)) ≡ map Some (on_top args ops) ++ replicate (locals - args) None =
       ap (map (local_in texts)) (take_all locals (some ++ replicate (locals - args) cells.Unset) (omega (arith, whole)))
@@ -86,21 +94,16 @@ module _ (texts : List Name) (head : Head) (heads : List Head) (row : List Cell)
       ∙ ap (λ h. machine_in texts h (caller' ∷ heads) row' rows' heap) called_is
       ∙ ap (λ r. machine_in texts called' (caller' ∷ heads) r rows' heap) row_is
       ∙ ap (λ r. machine_in texts called' (caller' ∷ heads) (some ++ replicate (locals - args) cells.Unset) r heap) rows_is
-      ∙ ap (λ l. framed class method told locals l (values_in texts (drop locals (some ++ replicate (locals - args) cells.Unset)))
-        (frame_in texts caller' (take k row))) new_locals
-      ∙ ap (λ l. framed class method told locals (map Some (on_top args ops) ++ replicate (locals - args) None) l (frame_in texts caller' (take k row))) new_operands
-      ∙ ap (λ l. framed class method told locals (map Some (on_top args ops) ++ replicate (locals - args) None) []
-        (record (frame_in texts caller' (take k row)) { locals = map (local_in texts) l })) (take-take n k row kept)
-      ∙ ap (λ l. framed class method told locals (map Some (on_top args ops) ++ replicate (locals - args) None) []
-        (record (frame_in texts caller' row) { operands = l })) (sym left)
+      ∙ ap (λ l. framed class method told l (values_in texts (drop locals (some ++ replicate (locals - args) cells.Unset)))
+        (frame_in texts caller' (take k row)) (frames_in texts heads rows) (objects_in texts heap)) new_locals
+      ∙ ap (λ l. framed class method told (map Some (on_top args ops) ++ replicate (locals - args) None) l
+        (frame_in texts caller' (take k row)) (frames_in texts heads rows) (objects_in texts heap)) new_operands
+      ∙ ap (λ l. framed class method told (map Some (on_top args ops) ++ replicate (locals - args) None) []
+        (record (frame_in texts caller' (take k row)) { locals = map (local_in texts) l }) (frames_in texts heads rows) (objects_in texts heap))
+        (take-take n k row kept)
+      ∙ ap (λ l. framed class method told (map Some (on_top args ops) ++ replicate (locals - args) None) []
+        (record (frame_in texts caller' row) { operands = l }) (frames_in texts heads rows) (objects_in texts heap)) (sym left)
       ∙ ap (λ t. entered t.machine class method args locals told) view_is
-    where
-      framed : ℕ → ℕ → Option ℕ → ℕ → List (Option Value) → List Value → model.Frame → model.Machine
-      framed class method told locals ls os below_it = record {
-        frame = record { class = class; method = method; place = 0; locals = ls; operands = os; told = told };
-        callers = below_it ∷ frames_in texts heads rows;
-        heap = objects_in texts heap;
-      }
 
   -- the frame that begins and the one that waits for it are as they should be
   pub called-frame : (called : Head) (row' : List Cell) (args : ℕ) → args ≤ length row - head.locals → args ≤ called.locals →

@@ -28,7 +28,7 @@ module _ (texts : List Name) where
 
 module _ (texts : List Name) (head : Head) (heads : List Head) (row : List Cell) (rows : List (List Cell)) (heap : List Object) (s : Seen)
     (view_is : seen_in texts head heads row rows heap ≡ s) where
-  count_is : length s.machine.heap ≡ length heap
+  pub count_is : length s.machine.heap ≡ length heap
   count_is = ap (λ t. length t.machine.heap) (sym view_is) ∙ length-map heap (object_in texts)
 
   object_is : (n : ℕ) (o : Object) → slice_get heap n ≡ Some o → slice_get s.machine.heap n ≡ Some (object_in texts o)

@@ -6,5 +6,6 @@ pub mod States
 pub mod Entering
 pub mod Starting
 pub mod Nearest
+pub mod Leaving
 pub mod Same
 pub mod Lying

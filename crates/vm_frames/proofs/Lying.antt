@@ -22,7 +22,7 @@ module _ (texts : List Name) where
 
   all-lie : (count : ℕ) (heads : List Head) (rows : List (List Cell)) → AreFrames count heads rows → AllLie texts (frames_in texts heads rows) rows
   all-lie count [] rows are = are
-  all-lie count (head ∷ heads) [] are = are
+  all-lie count (head ∷ heads) [] are = absurd are
   all-lie count (head ∷ heads) (row ∷ rows) are = (lies count head row are.0, all-lie count heads rows are.1)
 
 pub frames-lie : (s : Inside) (v : Seen) → seen_of s ≡ v → IsKept s →

@@ -46,8 +46,8 @@ first_in (row ∷ rows) depth e = (row, rows, refl, sym (same_Some depth (length
 
 -- the part of a test that holds
 pub true_part : (b : Bool) (P Q : Type 0) → OnTrue b P → OnFalse b Q → (Q → ⊥) → P
-true_part true P Q yes no not = yes
-true_part false P Q yes no not = absurd (not no)
+true_part true P Q if_true if_false never = if_true
+true_part false P Q if_true if_false never = absurd (never if_false)
 
 module _ (s : Inside) (v : Seen) (view_is : seen_of s ≡ v) (kept : IsKept s) (head : Head)
     (last : slice_get s.heads.items (length s.heads.items - 1) ≡ Some head) where

@@ -54,12 +54,12 @@ known count (cells.Object n) h = tt
 
 -- A known cell that isn't unset holds a value, and says as a local what it says.
 pub set-from_known : (count : ℕ) (cell : Cell) → (cell ≡ cells.Unset → ⊥) → IsKnown count cell → IsSet count cell
-set-from_known count cells.Unset no h = no refl
-set-from_known count cells.Null no h = tt
-set-from_known count cells.Out no h = tt
-set-from_known count (cells.Int x) no h = tt
-set-from_known count (cells.Text n) no h = h
-set-from_known count (cells.Object n) no h = tt
+set-from_known count cells.Unset differs h = differs refl
+set-from_known count cells.Null differs h = tt
+set-from_known count cells.Out differs h = tt
+set-from_known count (cells.Int x) differs h = tt
+set-from_known count (cells.Text n) differs h = h
+set-from_known count (cells.Object n) differs h = tt
 
 -- at another instruction
 abbrev pub at_head : Head → ℕ → Head

@@ -20,6 +20,9 @@ module _ (s : Inside) (v : Seen) (view_is : seen_of s ≡ v) (kept : IsKept s) w
   pub texts_is : v.texts ≡ s.texts.items
   texts_is = ap (λ t. t.texts) (sym view_is)
 
+  pub place_is : v.machine.frame.place ≡ s.head.place
+  place_is = ap (λ t. t.machine.frame.place) (sym view_is)
+
   pub depth_is : length v.machine.frame.operands ≡ length s.cells.running - s.head.locals
   depth_is = rows.depth_is s.texts.items s.head (reverse s.heads.items) s.cells.running s.cells.callers s.heap.items v view_is kept.running.within
 
@@ -68,12 +71,12 @@ module _ (s : Inside) (v : Seen) (view_is : seen_of s ≡ v) (kept : IsKept s) w
 
   pub held_set : (local : ℕ) (cell : Cell) → local < s.head.locals → slice_get s.cells.running local ≡ Some cell → (cell ≡ cells.Unset → ⊥) →
       IsSet (length v.texts) cell
-  held_set local cell lt e no = rows.set-from_known (length v.texts) cell no (local_known local cell lt e)
+  held_set local cell lt e differs = rows.set-from_known (length v.texts) cell differs (local_known local cell lt e)
 
   pub held_says : (local : ℕ) (cell : Cell) → local < s.head.locals → slice_get s.cells.running local ≡ Some cell → (cell ≡ cells.Unset → ⊥) →
       Some (value_in v.texts cell) ≡ held_in (slice_get v.machine.frame.locals local)
-  held_says local cell lt e no =
-      sym (rows.set_local_in v.texts (length v.texts) cell (held_set local cell lt e no)) ∙ ap held_in (local_says local cell lt e)
+  held_says local cell lt e differs =
+      sym (rows.set_local_in v.texts (length v.texts) cell (held_set local cell lt e differs)) ∙ ap held_in (local_says local cell lt e)
 
   -- there is room for one more
   pub has_room : length v.machine.frame.operands < most → 0 < s.cells.spare
@@ -122,7 +125,7 @@ module _ (s : Inside) (v : Seen) (view_is : seen_of s ≡ v) (kept : IsKept s) w
       puts =
           rows.pushes s.texts.items (rows.at_head s.head place) (reverse s.heads.items) mid.running s.cells.callers s.heap.items
           (record v { machine = at_place v.machine place (below count v.machine.frame.operands) })
-          (ap (λ m. record { machine = m; texts = s.texts.items })
+          (ap (λ m. let t : Seen = record { machine = m; texts = s.texts.items } in t)
             (rows.drops s.texts.items s.head (reverse s.heads.items) s.cells.running s.cells.callers s.heap.items v view_is kept.running.within
             place mid.running s.cells.callers count (omega (arith, le, depth_is)) left refl)
             ∙ ap (λ t. record v { machine = at_place v.machine place (below count v.machine.frame.operands); texts = t }) (sym texts_is))

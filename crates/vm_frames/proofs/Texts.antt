@@ -70,17 +70,17 @@ module _ (texts : List Name) (text : Name) where
   same-local (cells.Text n) h = ap (λ t. Some (values.Text t)) (same-text n h)
   same-local (cells.Object n) h = refl
 
-  same-values : (cells : List Cell) → All (IsSet (length texts)) cells → values_in (texts ++ text ∷ []) cells ≡ values_in texts cells
+  same-values : (row : List Cell) → All (IsSet (length texts)) row → values_in (texts ++ text ∷ []) row ≡ values_in texts row
   same-values [] all = refl
-  same-values (cell ∷ cells) all =
-      ap (λ v. v ∷ values_in (texts ++ text ∷ []) cells) (same-value cell (All-head (IsSet (length texts)) cell cells all))
-      ∙ ap (λ l. value_in texts cell ∷ l) (same-values cells (All-tail (IsSet (length texts)) cell cells all))
+  same-values (cell ∷ row) all =
+      ap (λ v. v ∷ values_in (texts ++ text ∷ []) row) (same-value cell (All-head (IsSet (length texts)) cell row all))
+      ∙ ap (λ l. value_in texts cell ∷ l) (same-values row (All-tail (IsSet (length texts)) cell row all))
 
-  same-locals : (cells : List Cell) → All (IsKnown (length texts)) cells → map (local_in (texts ++ text ∷ [])) cells ≡ map (local_in texts) cells
+  same-locals : (row : List Cell) → All (IsKnown (length texts)) row → map (local_in (texts ++ text ∷ [])) row ≡ map (local_in texts) row
   same-locals [] all = refl
-  same-locals (cell ∷ cells) all =
-      ap (λ v. v ∷ map (local_in (texts ++ text ∷ [])) cells) (same-local cell (All-head (IsKnown (length texts)) cell cells all))
-      ∙ ap (λ l. local_in texts cell ∷ l) (same-locals cells (All-tail (IsKnown (length texts)) cell cells all))
+  same-locals (cell ∷ row) all =
+      ap (λ v. v ∷ map (local_in (texts ++ text ∷ [])) row) (same-local cell (All-head (IsKnown (length texts)) cell row all))
+      ∙ ap (λ l. local_in texts cell ∷ l) (same-locals row (All-tail (IsKnown (length texts)) cell row all))
 
   same-frame : (head : Head) (row : List Cell) → IsFrame (length texts) head row → frame_in (texts ++ text ∷ []) head row ≡ frame_in texts head row
   same-frame head row frame =

@@ -22,7 +22,7 @@ value_in texts (cells.Object n) = values.Object n
 value_in texts cells.Unset = values.Null
 
 abbrev pub values_in : List Name → List Cell → List Value
-values_in texts cells = map (value_in texts) cells
+values_in texts row = map (value_in texts) row
 
 -- what a local says
 abbrev pub local_in : List Name → Cell → Option Value

@@ -46,21 +46,22 @@ impl State {
         let unset = usize::from(callee.locals) - callee.args;
         self.heads.reserve(1)?;
         match self.cells.reserve(unset + MOST) {
-            Ok(()) => {}
-            Err(_) => return Err(Memory),
+            Ok(()) => {
+                let mut caller = self.head;
+                caller.place += 1;
+                self.heads.push_reserved(caller);
+                self.cells.enter(callee.args, Cell::Unset, unset);
+                self.head = Head {
+                    class: callee.class,
+                    method: callee.method,
+                    place: 0,
+                    told: callee.told,
+                    locals: callee.locals,
+                };
+                Ok(())
+            }
+            Err(_) => Err(Memory),
         }
-        let mut caller = self.head;
-        caller.place += 1;
-        self.heads.push_reserved(caller);
-        self.cells.enter(callee.args, Cell::Unset, unset);
-        self.head = Head {
-            class: callee.class,
-            method: callee.method,
-            place: 0,
-            told: callee.told,
-            locals: callee.locals,
-        };
-        Ok(())
     }
 
     /// The frame that goes on where the running one is left, if one waits.

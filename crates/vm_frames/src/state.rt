@@ -54,23 +54,24 @@ impl State {
         let count = usize::from(locals);
         let mut cells = RawStack::new(alloc);
         match cells.reserve(count + MOST) {
-            Ok(()) => {}
-            Err(_) => return Err(Memory),
+            Ok(()) => {
+                cells.enter(0, Cell::Unset, count);
+                Ok(State {
+                    cells,
+                    head: Head {
+                        class,
+                        method,
+                        place: 0,
+                        told: None,
+                        locals,
+                    },
+                    heads: Vec::new(alloc),
+                    heap: Vec::new(alloc),
+                    texts: List::new(alloc),
+                })
+            }
+            Err(_) => Err(Memory),
         }
-        cells.enter(0, Cell::Unset, count);
-        Ok(State {
-            cells,
-            head: Head {
-                class,
-                method,
-                place: 0,
-                told: None,
-                locals,
-            },
-            heads: Vec::new(alloc),
-            heap: Vec::new(alloc),
-            texts: List::new(alloc),
-        })
     }
 
     /// The frames, and the empty one below them.

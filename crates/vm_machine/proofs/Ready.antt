@@ -259,6 +259,10 @@ pub when_true : {P : Type 0} (b : Bool) → b ≡ true → OnTrue b P → P
 when_true true e h = h
 when_true false e h = absurd (cc e)
 
+pub when_false : {P : Type 0} (b : Bool) → b ≡ false → OnFalse b P → P
+when_false false e h = h
+when_false true e h = absurd (cc e)
+
 -- an action that ends with a push
 pub alone_if : (max : ℕ) (a : Action) (m m' : Machine) {R S : Type 0} (b : Bool) → OnTrue b R → OnTrue b S → OnFalse b (m' ≡ m) →
     (R → S → Alone max a m m' true) → Alone max a m m' b
