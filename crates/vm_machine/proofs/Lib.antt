@@ -6,6 +6,7 @@ pub mod Cases
 pub mod Whole
 pub mod Ready
 pub mod Frames
+pub mod Added
 pub mod Calling
 pub mod Places
 pub mod Mains

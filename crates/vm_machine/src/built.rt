@@ -13,8 +13,8 @@ ghost use Rattle.vm_machine.specs.Doing.{Plays};
 ghost use Rattle.vm_machine.specs.inner.Tops.{at_top, int_in, text_in};
 ghost use Rattle.vm_machine.specs.inner.Builts.{inits_by, joins_by, equals_by, shows_int_by, shows_truth_by, prints_by};
 
-use crate::operands::{int_at, text_at};
 use crate::needs::is_null;
+use crate::operands::{int_at, put_text, text_at};
 use crate::session::{is_true, truth};
 use crate::stepped::Stepped;
 use mg_text::{BadKind, Ending, Event, Memory, Text};
@@ -61,9 +61,7 @@ pub(crate) fn concat(state: &mut State, alloc: Global) -> Result<Stepped, Memory
         return Ok(Stepped::Ended(Ending::Null));
     };
     let text = joined(alloc, first, second)?;
-    let number = state.add_text(text)?;
-    let place = state.place() + 1;
-    state.put(2, Cell::Text(number), place);
+    put_text(state, 2, text)?;
     Ok(Stepped::Went(None))
 }
 
@@ -114,9 +112,7 @@ pub(crate) fn show_int(state: &mut State, alloc: Global) -> Result<Stepped, Memo
         return Ok(Stepped::Ended(Ending::Bad(BadKind::Kind)));
     };
     let text = decimal(alloc, x)?;
-    let number = state.add_text(text)?;
-    let place = state.place() + 1;
-    state.put(1, Cell::Text(number), place);
+    put_text(state, 1, text)?;
     Ok(Stepped::Went(None))
 }
 
@@ -143,9 +139,7 @@ pub(crate) fn show_truth(state: &mut State, alloc: Global) -> Result<Stepped, Me
         return Ok(Stepped::Ended(Ending::Bad(BadKind::Kind)));
     };
     let text = truth_text(alloc, is_true(x))?;
-    let number = state.add_text(text)?;
-    let place = state.place() + 1;
-    state.put(1, Cell::Text(number), place);
+    put_text(state, 1, text)?;
     Ok(Stepped::Went(None))
 }
 

@@ -1,14 +1,16 @@
 //! The operands of the running frame, by how far they stand from the top.
 //! Nothing below those that an instruction takes is touched.
 
-ghost use Rattle.std.specs.Prelude.{◌≡◌, ◌<◌, ◌≤◌, length, slice_get, option_map};
+ghost use Rattle.std.specs.Prelude.{◌≡◌, ◌<◌, ◌≤◌, ◌-◌, ◌^◌, ◌++◌, ◌∷◌, [], length, slice_get, option_map, OnOk, OnErr};
 ghost use Rattle.vm_model.specs.Tests.{below};
-ghost use Rattle.vm_model.specs.Step.{at_place, with_local};
+ghost use Rattle.vm_model.specs.Step.{next, with_local};
+ghost use Rattle.vm_model.specs.declared.value.Value.TheVariants as values;
+ghost use Rattle.vm_frames.specs.Kept.{most};
 ghost use Rattle.vm_frames.specs.Seen.{value_in, IsSet};
 ghost use Rattle.vm_machine.specs.State.{state_of, operands_of};
 ghost use Rattle.vm_machine.specs.inner.Tops.{at_top, int_in, text_in, int_of_local};
 
-use mg_text::Text;
+use mg_text::{Memory, Text};
 use vm_frames::{Cell, State};
 
 /// The operand so far below the top where it is an int.
@@ -45,12 +47,33 @@ pub(crate) fn int_of_local(state: &State, local: usize) -> Option<i32>
     }
 }
 
-/// Takes so many operands, or all where there are fewer, and goes to a place.
-pub(crate) fn settle(state: &mut State, taken: usize, place: u32)
-    ensures { state_of state.new ≡ at_place (state_of state.old) place (below taken (operands_of state.old)) }
+/// Pushes a text, which is put into the table first. After an error nothing has changed.
+pub(crate) fn push_text(state: &mut State, text: Text) -> Result<(), Memory>
+    requires place { state.old.machine.frame.place < 2 ^ 32 - 1 }
+    requires room { length (operands_of state.old) < most }
+    ensures ok { OnOk result (state_of state.new ≡ next (state_of state.old) (operands_of state.old ++ values.Text text ∷ [])) }
+    ensures err { OnErr result (state_of state.new ≡ state_of state.old) }
 {
-    let count = taken.min(state.depth());
-    state.drop(count, place);
+    let number = state.add_text(text)?;
+    let place = state.place() + 1;
+    state.push(Cell::Text(number), place);
+    Ok(())
+}
+
+/// Puts a text, which is put into the table first, in the place of so many operands. After an error
+/// nothing has changed.
+pub(crate) fn put_text(state: &mut State, count: usize, text: Text) -> Result<(), Memory>
+    requires place { state.old.machine.frame.place < 2 ^ 32 - 1 }
+    requires some { 0 < count }
+    requires within { count ≤ length (operands_of state.old) }
+    ensures ok { OnOk result (state_of state.new ≡ next (state_of state.old)
+        (below count (operands_of state.old) ++ values.Text text ∷ [])) }
+    ensures err { OnErr result (state_of state.new ≡ state_of state.old) }
+{
+    let number = state.add_text(text)?;
+    let place = state.place() + 1;
+    state.put(count, Cell::Text(number), place);
+    Ok(())
 }
 
 /// Puts a value into a local, where there is one of this number.

@@ -5,6 +5,7 @@ ghost use Rattle.std.specs.Prelude.{◌≡◌, ◌+◌, ◌<◌, ◌≤◌, ◌-
 ghost use Rattle.vm_model.specs.Tests.{below};
 ghost use Rattle.vm_model.specs.Step as model;
 ghost use Rattle.vm_frames.specs.Kept.{most};
+ghost use Rattle.vm_frames.specs.Seen.{value_in, IsSet};
 ghost use Rattle.vm_machine.specs.State.{state_of, operands_of};
 ghost use Rattle.vm_machine.specs.Table.{constant_of, operation_of, comparison_of};
 ghost use Rattle.vm_model.specs.Actions.{Push};
@@ -16,10 +17,23 @@ ghost use Rattle.vm_machine.specs.inner.Acts.{stored_by, doubled_by, swapped_by,
 use crate::action::{Comparison, Constant, Operation};
 use crate::arithmetic::{added, compares, computed, negated, switched};
 use crate::needs::is_null;
-use crate::operands::{int_at, int_of_local, set_local};
+use crate::operands::{int_at, int_of_local, push_text, set_local};
 use crate::stepped::{Stepped, broken};
 use mg_text::{BadKind, Ending, Memory};
 use vm_frames::{Cell, State};
+
+/// Pushes a value.
+fn push(state: &mut State, cell: Cell) -> Stepped
+    requires place { state.old.machine.frame.place < 2 ^ 32 - 1 }
+    requires room { length (operands_of state.old) < most }
+    requires set { IsSet (length state.old.texts) cell }
+    ensures { Plays (λ q. model.goes q (model.next (state_of state.old) (operands_of state.old ++ value_in state.old.texts cell ∷ [])))
+        (state_of state.old) (state_of state.new) result }
+{
+    let place = state.place() + 1;
+    state.push(cell, place);
+    Stepped::Went(None)
+}
 
 /// Pushes a constant. A text is put into the table first.
 pub(crate) fn push_constant(
@@ -33,17 +47,15 @@ pub(crate) fn push_constant(
     ensures err { OnErr result (state_of state.new ≡ state_of state.old) }
     ensures steady { OnErr result (is_steady_action (Push (constant_of constant.entry)) ≡ false) }
 {
-    let cell = match constant {
-        Constant::Int(x) => Cell::Int(x),
+    match constant {
+        Constant::Int(x) => Ok(push(state, Cell::Int(x))),
+        Constant::Null => Ok(push(state, Cell::Null)),
         Constant::Text(text) => {
             let text = text.as_ref().copy()?;
-            Cell::Text(state.add_text(text)?)
+            push_text(state, text)?;
+            Ok(Stepped::Went(None))
         }
-        Constant::Null => Cell::Null,
-    };
-    let place = state.place() + 1;
-    state.push(cell, place);
-    Ok(Stepped::Went(None))
+    }
 }
 
 /// Pushes what a local holds.
@@ -56,9 +68,7 @@ pub(crate) fn load(state: &mut State, local: u8) -> Stepped
     let Some(cell) = state.held(usize::from(local)) else {
         return broken(BadKind::Kind);
     };
-    let place = state.place() + 1;
-    state.push(cell, place);
-    Stepped::Went(None)
+    push(state, cell)
 }
 
 /// Takes the operand on top into a local.

@@ -1,7 +1,7 @@
 //! The members of `Session`: messages that are sent, looked at, taken and refused.
 //! Everything that needs memory is made before anything changes.
 
-ghost use Rattle.std.specs.Prelude.{◌≡◌, ℕ, List, ◌<◌, ◌≤◌, ◌-◌, ◌^◌, ◌++◌, ◌∷◌, [], Some, length, option_map, option_to_list, IfOk, IfSome, OnOk, OnErr};
+ghost use Rattle.std.specs.Prelude.{◌≡◌, ℕ, List, ◌<◌, ◌≤◌, ◌-◌, ◌^◌, ◌++◌, ◌∷◌, [], Some, length, option_map, IfOk, OnOk, OnErr};
 ghost use Rattle.vm_model.specs.Messages.{role_named};
 ghost use Rattle.vm_model.specs.Tests.{below};
 ghost use Rattle.vm_model.specs.Step as model;
@@ -12,7 +12,7 @@ ghost use Rattle.vm_machine.specs.Doing.{Does};
 ghost use Rattle.vm_machine.specs.inner.Tops.{at_top, text_in};
 ghost use Rattle.vm_machine.specs.inner.Sessions.{payload_of, payload_in, sent_count, pushed_of, taken_where, sends_by, looks_by, takes_by, refuses_by};
 
-use crate::operands::{int_at, text_at};
+use crate::operands::{int_at, put_text, text_at};
 use crate::stepped::Stepped;
 use mg_text::{Carried, Ending, Event, Memory, Sent, Text};
 use vm_frames::{Cell, State};
@@ -214,9 +214,8 @@ pub(crate) fn look(
         peer: peer.copy()?,
         label: message.label.copy()?,
     };
-    let number = state.add_text(message.label.copy()?)?;
-    let place = state.place() + 1;
-    state.put(1, Cell::Text(number), place);
+    let label = message.label.copy()?;
+    put_text(state, 1, label)?;
     Ok(Stepped::Went(Some(event)))
 }
 
@@ -244,23 +243,6 @@ fn given_where(carries: Payload, label: &Text, message: &Sent) -> Result<Option<
     }
 }
 
-/// What was carried, as a cell. A text is put into the table.
-fn cell_of(state: &mut State, given: Carried) -> Result<Option<Cell>, Memory>
-    ensures ok { IfOk result (λ o. option_to_list (option_map (value_in state.new.texts) o) ≡ pushed_of given) }
-    ensures set { IfOk result (λ o. IfSome o (IsSet (length state.new.texts))) }
-    ensures machine { state_of state.new ≡ state_of state.old }
-{
-    match given {
-        Carried::Nothing => Ok(None),
-        Carried::Int(x) => Ok(Some(Cell::Int(x))),
-        Carried::Truth(b) => Ok(Some(truth(b))),
-        Carried::Text(text) => {
-            let number = state.add_text(text)?;
-            Ok(Some(Cell::Text(number)))
-        }
-    }
-}
-
 /// Puts what is given, if anything is, in the place of the two operands on top. After an error
 /// nothing has changed.
 fn settle_with(state: &mut State, given: Carried) -> Result<(), Memory>
@@ -269,13 +251,22 @@ fn settle_with(state: &mut State, given: Carried) -> Result<(), Memory>
     ensures ok { OnOk result (state_of state.new ≡ model.next (state_of state.old) (below 2 (operands_of state.old) ++ pushed_of given)) }
     ensures err { OnErr result (state_of state.new ≡ state_of state.old) }
 {
-    let cell = cell_of(state, given)?;
     let place = state.place() + 1;
-    match cell {
-        Some(cell) => state.put(2, cell, place),
-        None => state.drop(2, place),
+    match given {
+        Carried::Nothing => {
+            state.drop(2, place);
+            Ok(())
+        }
+        Carried::Int(x) => {
+            state.put(2, Cell::Int(x), place);
+            Ok(())
+        }
+        Carried::Truth(b) => {
+            state.put(2, truth(b), place);
+            Ok(())
+        }
+        Carried::Text(text) => put_text(state, 2, text),
     }
-    Ok(())
 }
 
 /// The event of a message that is taken.
