@@ -40,7 +40,8 @@ impl State {
         if number >= self.heap.len() {
             return;
         }
-        put_field(&mut self.heap[number], field as usize, cell);
+        let found = &mut self.heap[number];
+        put_field(found, field as usize, cell);
     }
 
     /// Makes an object of a class whose fields hold these, and answers its number. After an error

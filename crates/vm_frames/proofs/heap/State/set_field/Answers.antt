@@ -19,10 +19,10 @@ returns-then-number-len-clause-machine c =
 pub invariant_of-self : goal.invariant_of-self
 invariant_of-self c =
     let s = c.self.inside in
-    let o = c.index_mut.result.now in
+    let o = c.index_mut-found.result.now in
     let within : c.args.object < length s.heap.items = omega (arith, c.if-number-len.false, c.len.ensures, s.heap.ok.0) in
     let found : slice_get s.heap.items c.args.object ≡ Some o =
-    slice_get_read s.heap.items (length s.heap.items) c.args.object o refl within c.index_mut.ensures.value in
+    slice_get_read s.heap.items (length s.heap.items) c.args.object o refl within c.index_mut-found.ensures.value in
     let is_set : IsSet (length s.texts.items) c.args.cell =
     subst (λ t. IsSet (length t) c.args.cell) (texts_is s c.args.self.now c.self.view_is c.self.invariant) c.requires in
     written-kept s c.args.self.now c.self.view_is c.self.invariant _ refl refl refl refl (omega arith) c.args.object c.put_field.new.object refl refl
@@ -32,10 +32,10 @@ invariant_of-self c =
 pub returns-clause-machine : goal.returns-clause-machine
 returns-clause-machine c =
     let s = c.self.inside in
-    let o = c.index_mut.result.now in
+    let o = c.index_mut-found.result.now in
     let within : c.args.object < length s.heap.items = omega (arith, c.if-number-len.false, c.len.ensures, s.heap.ok.0) in
     let found : slice_get s.heap.items c.args.object ≡ Some o =
-    slice_get_read s.heap.items (length s.heap.items) c.args.object o refl within c.index_mut.ensures.value in
+    slice_get_read s.heap.items (length s.heap.items) c.args.object o refl within c.index_mut-found.ensures.value in
     writes s.texts.items s.head (reverse s.heads.items) s.cells.running s.cells.callers s.heap.items c.args.self.now c.self.view_is
     (set s.heap.items c.args.object c.put_field.new.object) c.args.object c.args.field c.args.cell o c.put_field.new.object found refl
     c.put_field.ensures.class c.put_field.ensures.fields
