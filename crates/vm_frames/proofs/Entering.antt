@@ -13,7 +13,7 @@ use Rattle.vm_frames.specs.View.{machine_in, seen_in, seen_of}
 use Rattle.vm_frames.specs.Kept.{IsFrame, AreFrames, IsObject, IsKept, most}
 use Rattle.vm_frames.specs.Frames.{entered, left_to, IsNearest}
 use Rattle.vm_frames.proofs.Rows.{frame-push, placed}
-use Rattle.vm_frames.proofs.Calls as calls
+use Rattle.vm_frames.proofs.Calling as calls
 use Rattle.vm_frames.proofs.States.{depth_is}
 
 module _ (s : Inside) (v : Seen) (view_is : seen_of s ≡ v) (kept : IsKept s) where

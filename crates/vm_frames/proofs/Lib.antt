@@ -1,6 +1,6 @@
 pub mod Rows
-pub mod Calls
-pub mod Texts
+pub mod Calling
+pub mod Tabled
 pub mod Heaps
 pub mod States
 pub mod Entering

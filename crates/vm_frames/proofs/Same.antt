@@ -11,7 +11,7 @@ use Rattle.vm_frames.specs.Seen.{Seen, value_in, values_in, IsSet}
 use Rattle.vm_frames.specs.View.{machine_in, seen_of}
 use Rattle.vm_frames.specs.Kept.{IsFrame, AreFrames, IsObject, IsKept}
 use Rattle.vm_frames.specs.Frames.{with_field}
-use Rattle.vm_frames.proofs.Texts.{more-frame, more-frames, more-objects, same-machine}
+use Rattle.vm_frames.proofs.Tabled.{more-frame, more-frames, more-objects, same-machine}
 
 module _ (s : Inside) (v : Seen) (view_is : seen_of s ≡ v) (kept : IsKept s) (s' : Inside) (head : s'.head ≡ s.head) (heads : s'.heads.items ≡ s.heads.items)
     (running : s'.cells.running ≡ s.cells.running) (callers : s'.cells.callers ≡ s.cells.callers) where

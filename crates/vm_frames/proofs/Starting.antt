@@ -11,7 +11,7 @@ use Rattle.vm_frames.specs.Seen.{values_in, local_in, IsKnown, IsSet}
 use Rattle.vm_frames.specs.View.{machine_in, seen_of}
 use Rattle.vm_frames.specs.Kept.{IsFrame, AreFrames, IsObject, IsKept, most}
 use Rattle.vm_frames.specs.Frames.{started}
-use Rattle.vm_frames.proofs.Calls.{map-replicate}
+use Rattle.vm_frames.proofs.Calling.{map-replicate}
 
 module _ (s : Inside) (class method locals : ℕ) (texts : s.texts.items ≡ []) (heap : s.heap.items ≡ []) (heads : s.heads.items ≡ [])
     (head : s.head ≡ record { class = class; method = method; place = 0; told = None; locals = locals })
