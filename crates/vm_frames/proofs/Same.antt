@@ -1,7 +1,7 @@
 -- A state whose parts have moved, and one with a text or an object more.
 use Rattle.std.proofs.Common.{◌≡◌, ℕ, ◌+◌, ◌<◌, ◌≤◌, List, [], ◌∷◌, ◌++◌, length, set, get_or, slice_get, Option, Some, None, refl, sym, ap, ◌∙◌, subst, arith, length-append}
 use Rattle.std.proofs.lemmas.List.Elements.{All-push, All-set}
-use Rattle.std.specs.Prelude.{All, reverse}
+use Rattle.std.specs.Prelude.{All, reverse, Result, Ok, Err, OnErr}
 use Rattle.mg_text.specs.Call.{Name}
 use Rattle.vm_model.specs.Machine.{Machine}
 use Rattle.vm_frames.specs.declared.cell.Cell.{Cell}
@@ -12,6 +12,11 @@ use Rattle.vm_frames.specs.View.{machine_in, seen_of}
 use Rattle.vm_frames.specs.Kept.{IsFrame, AreFrames, IsObject, IsKept}
 use Rattle.vm_frames.specs.Frames.{with_field}
 use Rattle.vm_frames.proofs.Tabled.{more-frame, more-frames, more-objects, same-machine}
+
+-- what holds is said of an error too
+pub on_err : {A E P : Type 0} (r : Result A E) → P → OnErr r P
+on_err (Ok a) h = tt
+on_err (Err e) h = h
 
 module _ (s : Inside) (v : Seen) (view_is : seen_of s ≡ v) (kept : IsKept s) (s' : Inside) (head : s'.head ≡ s.head) (heads : s'.heads.items ≡ s.heads.items)
     (running : s'.cells.running ≡ s.cells.running) (callers : s'.cells.callers ≡ s.cells.callers) where

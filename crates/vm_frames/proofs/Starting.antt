@@ -1,8 +1,9 @@
 -- A state at the beginning.
-use Rattle.std.proofs.Common.{◌≡◌, ℕ, ◌+◌, ◌≤◌, List, [], ◌∷◌, length, map, take, drop, replicate, Option, None, refl, sym, ap, ◌∙◌, subst, arith}
+use Rattle.std.proofs.Common.{◌≡◌, ℕ, ◌+◌, ◌-◌, ◌≤◌, List, [], ◌∷◌, ◌++◌, length, map, take, drop, replicate, Option, None, refl, sym, ap, ◌∙◌, subst, arith}
 use Rattle.std.proofs.lemmas.List.{take_all, drop_all, length-replicate}
 use Rattle.std.proofs.lemmas.List.Elements.{All-nil, All-replicate}
 use Rattle.std.specs.Prelude.{All, reverse}
+use Rattle.raw_stack.specs.Frames.{Frames}
 use Rattle.vm_frames.specs.declared.cell.Cell.{Cell}
 use Rattle.vm_frames.specs.declared.cell.Cell.TheVariants as cells
 use Rattle.vm_frames.specs.declared.cell.Head.{Head}
@@ -12,6 +13,16 @@ use Rattle.vm_frames.specs.View.{machine_in, seen_of}
 use Rattle.vm_frames.specs.Kept.{IsFrame, AreFrames, IsObject, IsKept, most}
 use Rattle.vm_frames.specs.Frames.{started}
 use Rattle.vm_frames.proofs.Calling.{map-replicate}
+
+-- a frame over none
+module _ (mid after : Frames Cell) (none : mid.running ≡ []) where
+  pub begins : (count locals : ℕ) → after.running ≡ drop (length mid.running - 0) mid.running ++ replicate count cells.Unset → count ≡ locals →
+      after.running ≡ replicate locals cells.Unset
+  begins count locals is same =
+      is ∙ ap (λ r. drop (length r - 0) r ++ replicate count cells.Unset) none ∙ ap (λ n. replicate n cells.Unset) same
+
+  pub none_below : mid.callers ≡ [] → after.callers ≡ take (length mid.running - 0) mid.running ∷ mid.callers → after.callers ≡ [] ∷ []
+  none_below lowest is = is ∙ ap (λ r. take (length r - 0) r ∷ mid.callers) none ∙ ap (λ l. [] ∷ l) lowest
 
 module _ (s : Inside) (class method locals : ℕ) (texts : s.texts.items ≡ []) (heap : s.heap.items ≡ []) (heads : s.heads.items ≡ [])
     (head : s.head ≡ record { class = class; method = method; place = 0; told = None; locals = locals })

@@ -3,7 +3,7 @@ use Rattle.std.proofs.Common.{◌≡◌, ◌+◌, ◌-◌, ◌++◌, ◌∷◌, 
 use Rattle.vm_frames.specs.declared.cell.Head.{Head}
 use Rattle.vm_frames.specs.declared.cell.Cell.TheVariants as cells
 use Rattle.vm_frames.proofs.States.{depth_is, place_is}
-use Rattle.vm_frames.proofs.Same.{same-seen, same-kept}
+use Rattle.vm_frames.proofs.Same.{on_err, same-seen, same-kept}
 use Rattle.vm_frames.proofs.Entering.{enters, entered-kept}
 use Rattle.vm_frames.proofs.state.State.enter.Goals as goal
 
@@ -14,8 +14,9 @@ invariant_of-self c =
 
 pub returns-in_err-reserve-clause-err : goal.returns-in_err-reserve-clause-err
 returns-in_err-reserve-clause-err c =
-    same-seen c.self.inside c.args.self.now c.self.view_is c.self.invariant (record c.self.inside { heads = c.reserve.new.self }) refl
-    c.reserve.ensures.items refl refl refl refl
+    on_err c.from_residual.result
+    (same-seen c.self.inside c.args.self.now c.self.view_is c.self.invariant (record c.self.inside { heads = c.reserve.new.self }) refl
+    c.reserve.ensures.items refl refl refl refl)
 
 pub invariant_of-self-in-Err : goal.invariant_of-self-in-Err
 invariant_of-self-in-Err c =
@@ -29,8 +30,8 @@ returns-in-Err-clause-err c =
     (record c.self.inside { heads = c.reserve.new.self; cells = c.reserve-2.new.self }) refl
     c.reserve.ensures.items c.reserve-2.ensures.frames.0 c.reserve-2.ensures.frames.1 refl refl
 
-pub overflow_add-place : goal.overflow_add-place
-overflow_add-place c = omega (arith, c.requires.place, place_is c.self.inside c.args.self.now c.self.view_is c.self.invariant)
+pub overflow_add-caller : goal.overflow_add-caller
+overflow_add-caller c = omega (arith, c.requires.place, place_is c.self.inside c.args.self.now c.self.view_is c.self.invariant)
 
 pub enter-requires-clause-args : goal.enter-requires-clause-args
 enter-requires-clause-args c =

@@ -3,7 +3,7 @@ use Rattle.std.proofs.Common.{length, reverse, refl, sym, subst, arith}
 use Rattle.std.specs.Prelude.{All}
 use Rattle.vm_frames.specs.Seen.{IsSet}
 use Rattle.vm_frames.proofs.Heaps.{count_is, makes}
-use Rattle.vm_frames.proofs.Same.{same-seen, same-kept, made-kept}
+use Rattle.vm_frames.proofs.Same.{on_err, same-seen, same-kept, made-kept}
 use Rattle.vm_frames.proofs.States.{texts_is}
 use Rattle.vm_frames.proofs.state.State.make.Goals as goal
 
@@ -14,8 +14,9 @@ invariant_of-self c =
 
 pub returns-in_err-push-clause-err : goal.returns-in_err-push-clause-err
 returns-in_err-push-clause-err c =
-    same-seen c.self.inside c.args.self.now c.self.view_is c.self.invariant (record c.self.inside { heap = c.push.new.self }) refl refl refl refl
-    refl c.in_err-push.ensures.items
+    on_err c.from_residual.result
+    (same-seen c.self.inside c.args.self.now c.self.view_is c.self.invariant (record c.self.inside { heap = c.push.new.self }) refl refl refl refl
+    refl c.in_err-push.ensures.items)
 
 pub invariant_of-self-2 : goal.invariant_of-self-2
 invariant_of-self-2 c =
