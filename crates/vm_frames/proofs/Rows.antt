@@ -1,5 +1,5 @@
 -- What the running frame is, once its cells have changed.
-use Rattle.std.proofs.Common.{◌≡◌, ℕ, zero, suc, ◌+◌, ◌-◌, ◌<◌, ◌≤◌, List, [], ◌∷◌, ◌++◌, length, map, take, drop, set, get_or, slice_get, Option, Some, None, refl, sym, ap, ◌∙◌, subst, arith, length-append, length-take, length-drop}
+use Rattle.std.proofs.Common.{◌≡◌, ℕ, zero, suc, ◌+◌, ◌-◌, ◌<◌, ◌≤◌, List, [], ◌∷◌, ◌++◌, length, map, take, drop, set, slice_get, Some, None, refl, sym, ap, ◌∙◌, subst, arith, length-append, length-take, length-drop}
 use Rattle.std.proofs.lemmas.List.{take-append-le, drop-append-le, take-take, drop-take, drop-set-lt, map-set, map_push, take-map, length-map, length-set}
 use Rattle.std.proofs.lemmas.List.Elements.{All-push, All-take, All-set}
 use Rattle.std.proofs.lemmas.Option.{slice_get-map, slice_get_within, slice_get_past, get_or_from_slice_get}
@@ -7,8 +7,6 @@ use Rattle.std.proofs.Math.Seq.{take-set-lt}
 use Rattle.std.specs.Prelude.{All}
 use Rattle.std.specs.Option.{option_map}
 use Rattle.mg_text.specs.Call.{Name}
-use Rattle.vm_model.specs.declared.value.Value.{Value}
-use Rattle.vm_model.specs.Machine as model
 use Rattle.vm_model.specs.Tests.{below}
 use Rattle.vm_model.specs.Step.{at_place, with_local}
 use Rattle.vm_frames.specs.declared.cell.Cell.{Cell}
@@ -16,7 +14,7 @@ use Rattle.vm_frames.specs.declared.cell.Cell.TheVariants as cells
 use Rattle.vm_frames.specs.declared.cell.Head.{Head}
 use Rattle.vm_frames.specs.declared.cell.Object.{Object}
 use Rattle.vm_frames.specs.Seen.{Seen, value_in, values_in, local_in, IsKnown, IsSet}
-use Rattle.vm_frames.specs.View.{frame_in, frames_in, objects_in, machine_in, seen_in}
+use Rattle.vm_frames.specs.View.{frame_in, machine_in, seen_in}
 use Rattle.vm_frames.specs.Kept.{IsFrame}
 
 -- Lists.

@@ -1,16 +1,13 @@
 -- A state whose parts have moved, and one with a text or an object more.
-use Rattle.std.proofs.Common.{◌≡◌, ℕ, ◌+◌, ◌<◌, ◌≤◌, List, [], ◌∷◌, ◌++◌, length, set, get_or, slice_get, Option, Some, None, refl, sym, ap, ◌∙◌, subst, arith, length-append}
+use Rattle.std.proofs.Common.{◌≡◌, ℕ, ◌+◌, ◌≤◌, [], ◌∷◌, ◌++◌, length, set, sym, ap, ◌∙◌, subst, arith, length-append}
 use Rattle.std.proofs.lemmas.List.Elements.{All-push, All-set}
 use Rattle.std.specs.Prelude.{All, reverse, Result, Ok, Err, OnErr}
 use Rattle.mg_text.specs.Call.{Name}
-use Rattle.vm_model.specs.Machine.{Machine}
-use Rattle.vm_frames.specs.declared.cell.Cell.{Cell}
 use Rattle.vm_frames.specs.declared.cell.Object.{Object}
 use Rattle.vm_frames.specs.declared.state.State.TheInside.{Inside}
-use Rattle.vm_frames.specs.Seen.{Seen, value_in, values_in, IsSet}
+use Rattle.vm_frames.specs.Seen.{Seen}
 use Rattle.vm_frames.specs.View.{machine_in, seen_of}
 use Rattle.vm_frames.specs.Kept.{IsFrame, AreFrames, IsObject, IsKept}
-use Rattle.vm_frames.specs.Frames.{with_field}
 use Rattle.vm_frames.proofs.Tabled.{more-frame, more-frames, more-objects, same-machine}
 
 -- what holds is said of an error too

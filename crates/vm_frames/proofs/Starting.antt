@@ -1,16 +1,15 @@
 -- A state at the beginning.
-use Rattle.std.proofs.Common.{◌≡◌, ℕ, ◌+◌, ◌-◌, ◌≤◌, List, [], ◌∷◌, ◌++◌, length, map, take, drop, replicate, Option, None, refl, sym, ap, ◌∙◌, subst, arith}
+use Rattle.std.proofs.Common.{◌≡◌, ℕ, ◌+◌, ◌-◌, ◌≤◌, [], ◌∷◌, ◌++◌, length, map, take, drop, replicate, None, sym, ap, ◌∙◌, subst, arith}
 use Rattle.std.proofs.lemmas.List.{take_all, drop_all, length-replicate}
 use Rattle.std.proofs.lemmas.List.Elements.{All-nil, All-replicate}
 use Rattle.std.specs.Prelude.{All, reverse}
 use Rattle.raw_stack.specs.Frames.{Frames}
 use Rattle.vm_frames.specs.declared.cell.Cell.{Cell}
 use Rattle.vm_frames.specs.declared.cell.Cell.TheVariants as cells
-use Rattle.vm_frames.specs.declared.cell.Head.{Head}
 use Rattle.vm_frames.specs.declared.state.State.TheInside.{Inside}
 use Rattle.vm_frames.specs.Seen.{values_in, local_in, IsKnown, IsSet}
 use Rattle.vm_frames.specs.View.{machine_in, seen_of}
-use Rattle.vm_frames.specs.Kept.{IsFrame, AreFrames, IsObject, IsKept, most}
+use Rattle.vm_frames.specs.Kept.{AreFrames, IsObject, IsKept, most}
 use Rattle.vm_frames.specs.Frames.{started}
 use Rattle.vm_frames.proofs.Calling.{map-replicate}
 

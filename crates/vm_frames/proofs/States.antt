@@ -1,18 +1,15 @@
 -- What each change of a state's cells is, and what is kept of it.
-use Rattle.std.proofs.Common.{◌≡◌, ℕ, ◌+◌, ◌-◌, ◌<◌, ◌≤◌, List, [], ◌∷◌, ◌++◌, length, take, drop, set, get_or, slice_get, replicate, Option, Some, None, refl, sym, ap, ◌∙◌, subst, arith, length-append, length-take}
+use Rattle.std.proofs.Common.{◌≡◌, ℕ, ◌+◌, ◌-◌, ◌<◌, ◌≤◌, [], ◌∷◌, ◌++◌, length, take, set, slice_get, Some, None, refl, sym, ap, ◌∙◌, subst, arith, length-append, length-take}
 use Rattle.std.proofs.lemmas.List.{length-set}
-use Rattle.std.specs.Prelude.{All, reverse}
-use Rattle.std.specs.Option.{option_map}
+use Rattle.std.specs.Prelude.{reverse}
 use Rattle.raw_stack.specs.Frames.{Frames}
-use Rattle.vm_model.specs.Machine.{Machine}
 use Rattle.vm_model.specs.Tests.{below}
 use Rattle.vm_model.specs.Step.{at_place, with_local}
 use Rattle.vm_frames.specs.declared.cell.Cell.{Cell}
 use Rattle.vm_frames.specs.declared.cell.Cell.TheVariants as cells
-use Rattle.vm_frames.specs.declared.cell.Head.{Head}
 use Rattle.vm_frames.specs.declared.state.State.TheInside.{Inside}
 use Rattle.vm_frames.specs.Seen.{Seen, value_in, local_in, held_in, IsKnown, IsSet}
-use Rattle.vm_frames.specs.View.{machine_in, seen_of}
+use Rattle.vm_frames.specs.View.{seen_of}
 use Rattle.vm_frames.specs.Kept.{IsFrame, AreFrames, IsKept, most}
 use Rattle.vm_frames.proofs.Rows as rows
 

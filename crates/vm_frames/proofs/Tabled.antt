@@ -1,5 +1,5 @@
 -- A text more changes nothing that cells say.
-use Rattle.std.proofs.Common.{◌≡◌, ℕ, zero, suc, ◌+◌, ◌<◌, ◌≤◌, List, [], ◌∷◌, ◌++◌, length, map, take, drop, get_or, Some, refl, sym, ap, ◌∙◌, arith, length-append}
+use Rattle.std.proofs.Common.{◌≡◌, ℕ, ◌+◌, ◌<◌, ◌≤◌, List, [], ◌∷◌, ◌++◌, length, map, take, drop, get_or, Some, refl, ap, ◌∙◌, arith}
 use Rattle.std.proofs.lemmas.List.{get_or_append_left}
 use Rattle.std.proofs.lemmas.List.Elements.{All-head, All-tail, All-weaker}
 use Rattle.std.specs.Prelude.{All}
@@ -8,7 +8,6 @@ use Rattle.vm_frames.specs.declared.cell.Cell.{Cell}
 use Rattle.vm_frames.specs.declared.cell.Cell.TheVariants as cells
 use Rattle.vm_frames.specs.declared.cell.Head.{Head}
 use Rattle.vm_frames.specs.declared.cell.Object.{Object}
-use Rattle.vm_model.specs.Machine as model
 use Rattle.vm_model.specs.declared.value.Value.TheVariants as values
 use Rattle.vm_frames.specs.Seen.{value_in, values_in, local_in, IsKnown, IsSet}
 use Rattle.vm_frames.specs.View.{frame_in, frames_in, object_in, objects_in, machine_in}

@@ -1,5 +1,5 @@
 -- The new frame lies over the operands that it takes.
-use Rattle.std.proofs.Common.{◌≡◌, ◌+◌, ◌-◌, ◌++◌, ◌∷◌, [], List, length, drop, replicate, refl, sym, ap, ◌∙◌, arith}
+use Rattle.std.proofs.Common.{◌+◌, ◌-◌, ◌++◌, ◌∷◌, [], List, length, drop, replicate, refl, ap, ◌∙◌, arith}
 use Rattle.vm_frames.specs.declared.cell.Head.{Head}
 use Rattle.vm_frames.specs.declared.cell.Cell.TheVariants as cells
 use Rattle.vm_frames.proofs.States.{depth_is, place_is}

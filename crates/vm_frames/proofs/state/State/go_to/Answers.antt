@@ -1,5 +1,4 @@
 -- The frame is at another place.
-use Rattle.vm_frames.specs.Kept.{IsKept}
 use Rattle.vm_frames.proofs.Rows.{placed}
 use Rattle.std.proofs.Common.{length, ap}
 use Rattle.vm_model.specs.Step.{at_place}

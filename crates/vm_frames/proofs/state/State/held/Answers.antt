@@ -1,6 +1,6 @@
 -- The locals are the first cells.
 use Rattle.std.proofs.Common.{arith}
-use Rattle.vm_frames.proofs.States.{has_local, none_held, unset_held, held_set, held_says}
+use Rattle.vm_frames.proofs.States.{has_local, unset_held, held_set, held_says}
 use Rattle.vm_frames.proofs.state.State.held.Goals as goal
 
 pub at-requires : goal.at-requires

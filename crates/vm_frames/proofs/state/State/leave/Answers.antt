@@ -1,6 +1,6 @@
 -- The nearest of the frames that wait runs again.
 use Rattle.std.proofs.Common.{refl, arith}
-use Rattle.vm_frames.proofs.Leaving.{nothing_popped, alone, has_room, none-kept, none_left, some-kept, some_left}
+use Rattle.vm_frames.proofs.Leaving.{nothing_popped, alone}
 use Rattle.vm_frames.proofs.Same.{same-seen, same-kept}
 use Rattle.vm_frames.proofs.state.State.leave.Goals as goal
 

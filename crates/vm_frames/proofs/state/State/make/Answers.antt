@@ -1,5 +1,5 @@
 -- The object is the last.
-use Rattle.std.proofs.Common.{length, reverse, refl, sym, subst, arith}
+use Rattle.std.proofs.Common.{length, reverse, refl, subst, arith}
 use Rattle.std.specs.Prelude.{All}
 use Rattle.vm_frames.specs.Seen.{IsSet}
 use Rattle.vm_frames.proofs.Heaps.{count_is, makes}

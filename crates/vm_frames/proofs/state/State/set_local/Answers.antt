@@ -1,5 +1,5 @@
 -- The value stands where the local's stood.
-use Rattle.std.proofs.Common.{◌<◌, length, subst, arith}
+use Rattle.std.proofs.Common.{length, subst, arith}
 use Rattle.vm_frames.specs.Seen.{IsSet}
 use Rattle.vm_frames.proofs.States.{locals_is, has_local, sets, set-kept, texts_is}
 use Rattle.vm_frames.proofs.state.State.set_local.Goals as goal

@@ -1,5 +1,5 @@
 -- The frame that waits lies below the running one.
-use Rattle.std.proofs.Common.{◌≡◌, ◌-◌, List, length, Some, None, sym, ap, ◌∙◌, arith}
+use Rattle.std.proofs.Common.{◌≡◌, ◌-◌, List, length, Some, sym, ap, ◌∙◌, arith}
 use Rattle.std.specs.Prelude.{slice_get}
 use Rattle.std.specs.Option.{option_map}
 use Rattle.vm_frames.specs.declared.cell.Head.{Head}
@@ -25,8 +25,8 @@ returns-in_default-depth_below c =
     (must_lie s c.args.self.now c.self.view_is c.self.invariant c.in-Some.head.now last
     (sym c.in_default-depth_below.is ∙ c.depth_below.ensures))
 
-pub overflow_sub-operands : goal.overflow_sub-operands
-overflow_sub-operands c =
+pub overflow_sub-result : goal.overflow_sub-result
+overflow_sub-result c =
     let s = c.self.inside in
     let last : slice_get s.heads.items (length s.heads.items - 1) ≡ Some c.in-Some.head.now =
     ap (λ (l : List Head). slice_get l (length l - 1)) (sym c.deref.ensures.value) ∙ sym c.last.ensures.value
