@@ -94,14 +94,14 @@ module _ (texts : List Name) (head : Head) (heads : List Head) (row : List Cell)
       ∙ ap (λ r. machine_in texts called' (caller' ∷ heads) r rows' heap) row_is
       ∙ ap (λ r. machine_in texts called' (caller' ∷ heads) (some ++ replicate (locals - args) cells.Unset) r heap) rows_is
       ∙ ap (λ l. framed class method told l (values_in texts (drop locals (some ++ replicate (locals - args) cells.Unset)))
-        (frame_in texts caller' (take k row)) (frames_in texts heads rows) (objects_in texts heap)) new_locals
+      (frame_in texts caller' (take k row)) (frames_in texts heads rows) (objects_in texts heap)) new_locals
       ∙ ap (λ l. framed class method told (map Some (on_top args ops) ++ replicate (locals - args) None) l
-        (frame_in texts caller' (take k row)) (frames_in texts heads rows) (objects_in texts heap)) new_operands
+      (frame_in texts caller' (take k row)) (frames_in texts heads rows) (objects_in texts heap)) new_operands
       ∙ ap (λ l. framed class method told (map Some (on_top args ops) ++ replicate (locals - args) None) []
-        (record (frame_in texts caller' (take k row)) { locals = map (local_in texts) l }) (frames_in texts heads rows) (objects_in texts heap))
-        (take-take n k row kept)
+      (record (frame_in texts caller' (take k row)) { locals = map (local_in texts) l }) (frames_in texts heads rows) (objects_in texts heap))
+      (take-take n k row kept)
       ∙ ap (λ l. framed class method told (map Some (on_top args ops) ++ replicate (locals - args) None) []
-        (record (frame_in texts caller' row) { operands = l }) (frames_in texts heads rows) (objects_in texts heap)) (sym left)
+      (record (frame_in texts caller' row) { operands = l }) (frames_in texts heads rows) (objects_in texts heap)) (sym left)
       ∙ ap (λ t. entered t.machine class method args locals told) view_is
 
   -- the frame that begins and the one that waits for it are as they should be
@@ -150,7 +150,7 @@ module _ (texts : List Name) (left_head head : Head) (heads : List Head) (left_r
   leaves =
       ap (λ t. left_to t.machine [] t.machine.callers) (sym view_is)
       ∙ ap (λ l. Some (record (machine_in texts head heads row rows heap) { frame = record (frame_in texts head row) { operands = l } }))
-        (append-nil (values_in texts (drop head.locals row)))
+      (append-nil (values_in texts (drop head.locals row)))
 
   pub leaves_with : (cell : Cell) → head.locals ≤ length row →
       left_to s.machine (value_in s.texts cell ∷ []) s.machine.callers ≡ Some (machine_in texts head heads (row ++ cell ∷ []) rows heap)

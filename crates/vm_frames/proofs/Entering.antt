@@ -41,23 +41,29 @@ module _ (s : Inside) (v : Seen) (view_is : seen_of s ≡ v) (kept : IsKept s) w
         ∙ ap (machine_in s.texts.items s'.head (reverse s'.heads.items) s'.cells.running s'.cells.callers) heap
         ∙ ap (λ l. machine_in s.texts.items s'.head l s'.cells.running s'.cells.callers s.heap.items) heads_is
         ∙ calls.enters s.texts.items s.head (reverse s.heads.items) s.cells.running s.cells.callers s.heap.items v view_is kept.running
-          (record s.head { place = s.head.place + 1 }) s'.head s'.cells.running s'.cells.callers class method args locals told short fits refl head
-          running_is callers_is
+        (record s.head { place = s.head.place + 1 }) s'.head s'.cells.running s'.cells.callers class method args locals told short fits refl head
+        running_is callers_is
 
     pub entered-kept : s'.cells.spare + (locals - args) ≡ mid.spare → locals - args + most ≤ mid.spare → IsKept s'
     entered-kept spare enough =
         let locals_is : s'.head.locals ≡ locals = ap (λ h. h.locals) head in
         let long : length s'.cells.running ≡ locals =
         ap length running_is
-        ∙ omega (arith, length-append (drop (length s.cells.running - args) s.cells.running) (replicate (locals - args) cells.Unset),
-          length-drop (length s.cells.running - args) s.cells.running, length-replicate (locals - args) cells.Unset, fits, short) in
+        ∙ omega (
+          arith,
+          length-append (drop (length s.cells.running - args) s.cells.running) (replicate (locals - args) cells.Unset),
+          length-drop (length s.cells.running - args) s.cells.running,
+          length-replicate (locals - args) cells.Unset,
+          fits,
+          short,
+        ) in
         let row_is : s'.cells.running ≡ drop (length s.cells.running - args) s.cells.running ++ replicate (s'.head.locals - args) cells.Unset =
         running_is ∙ ap (λ k. drop (length s.cells.running - args) s.cells.running ++ replicate (k - args) cells.Unset) (sym locals_is) in
         let fits_in : args ≤ s'.head.locals = omega (arith, fits, locals_is) in
         let waiting : IsFrame (length s.texts.items) s.head (take (length s.cells.running - args) s.cells.running) =
         calls.waiting-frame s.texts.items s.head (reverse s.heads.items) s.cells.running s.cells.callers s.heap.items v view_is kept.running args short in
         let each : AreFrames (length s.texts.items) (record s.head { place = s.head.place + 1 } ∷ reverse s.heads.items)
-            (take (length s.cells.running - args) s.cells.running ∷ s.cells.callers) =
+        (take (length s.cells.running - args) s.cells.running ∷ s.cells.callers) =
         (placed (length s.texts.items) (s.head.place + 1) s.head (take (length s.cells.running - args) s.cells.running) waiting, kept.callers) in
         let count : length s.texts.items ≡ length s'.texts.items = sym (ap length texts) in
         record {

@@ -64,7 +64,7 @@ module _ (texts : List Name) (head : Head) (heads : List Head) (row : List Cell)
       ap (machine_in texts head heads row rows) is
       ∙ ap (λ l. record (machine_in texts head heads row rows heap) { heap = l }) (map-set (object_in texts) heap n o' ∙ ap (set (objects_in texts heap) n) after)
       ∙ ap (λ r. record (machine_in texts head heads row rows heap) { heap = with_field (objects_in texts heap) n field (value_in texts cell) r })
-        (sym (slice_get-map (object_in texts) heap n ∙ ap (option_map (object_in texts)) e))
+      (sym (slice_get-map (object_in texts) heap n ∙ ap (option_map (object_in texts)) e))
       ∙ ap (λ t. record t.machine { heap = with_field t.machine.heap n field (value_in t.texts cell) (slice_get t.machine.heap n) }) view_is
 
   -- there is no such object

@@ -53,10 +53,10 @@ module _ (s : Inside) (v : Seen) (view_is : seen_of s ≡ v) (kept : IsKept s) (
           ap (λ o. left_to v.machine (option_to_list (option_map (value_in v.texts) o)) v.machine.callers) is
           ∙ leaves s v view_is kept head popped heads below is_left.0
           ∙ sym (ap (λ t. Some (machine_in t s'.head (reverse s'.heads.items) s'.cells.running s'.cells.callers s'.heap.items)) texts
-            ∙ ap (λ h. Some (machine_in s.texts.items s'.head (reverse s'.heads.items) s'.cells.running s'.cells.callers h)) heap
-            ∙ ap (λ h. Some (machine_in s.texts.items h (reverse s'.heads.items) s'.cells.running s'.cells.callers s.heap.items)) head_is
-            ∙ ap (λ l. Some (machine_in s.texts.items head (reverse l) s'.cells.running s'.cells.callers s.heap.items)) heads_is
-            ∙ ap (λ f. Some (machine_in s.texts.items head (reverse popped) f.running f.callers s.heap.items)) cells_is)
+          ∙ ap (λ h. Some (machine_in s.texts.items s'.head (reverse s'.heads.items) s'.cells.running s'.cells.callers h)) heap
+          ∙ ap (λ h. Some (machine_in s.texts.items h (reverse s'.heads.items) s'.cells.running s'.cells.callers s.heap.items)) head_is
+          ∙ ap (λ l. Some (machine_in s.texts.items head (reverse l) s'.cells.running s'.cells.callers s.heap.items)) heads_is
+          ∙ ap (λ f. Some (machine_in s.texts.items head (reverse popped) f.running f.callers s.heap.items)) cells_is)
 
     -- with a value
     module _ (value : Option Cell) (cell : Cell) (is : value ≡ Some cell) (after : Frames Cell) (running : after.running ≡ below.running ++ cell ∷ [])
@@ -75,8 +75,8 @@ module _ (s : Inside) (v : Seen) (view_is : seen_of s ≡ v) (kept : IsKept s) (
           ap (λ o. left_to v.machine (option_to_list (option_map (value_in v.texts) o)) v.machine.callers) is
           ∙ leaves_with s v view_is kept head popped heads below is_left.0 after cell running callers
           ∙ sym (ap (λ t. Some (machine_in t s'.head (reverse s'.heads.items) s'.cells.running s'.cells.callers s'.heap.items)) texts
-            ∙ ap (λ h. Some (machine_in s.texts.items s'.head (reverse s'.heads.items) s'.cells.running s'.cells.callers h)) heap
-            ∙ ap (λ h. Some (machine_in s.texts.items h (reverse s'.heads.items) s'.cells.running s'.cells.callers s.heap.items)) head_is
-            ∙ ap (λ l. Some (machine_in s.texts.items head (reverse l) s'.cells.running s'.cells.callers s.heap.items)) heads_is
-            ∙ ap (λ r. Some (machine_in s.texts.items head (reverse popped) r s'.cells.callers s.heap.items)) running_is
-            ∙ ap (λ r. Some (machine_in s.texts.items head (reverse popped) after.running r s.heap.items)) callers_is)
+          ∙ ap (λ h. Some (machine_in s.texts.items s'.head (reverse s'.heads.items) s'.cells.running s'.cells.callers h)) heap
+          ∙ ap (λ h. Some (machine_in s.texts.items h (reverse s'.heads.items) s'.cells.running s'.cells.callers s.heap.items)) head_is
+          ∙ ap (λ l. Some (machine_in s.texts.items head (reverse l) s'.cells.running s'.cells.callers s.heap.items)) heads_is
+          ∙ ap (λ r. Some (machine_in s.texts.items head (reverse popped) r s'.cells.callers s.heap.items)) running_is
+          ∙ ap (λ r. Some (machine_in s.texts.items head (reverse popped) after.running r s.heap.items)) callers_is)

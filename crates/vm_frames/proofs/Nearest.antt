@@ -1,5 +1,5 @@
 -- The frame that waits, by what stands last.
-use Rattle.std.proofs.Common.{◌≡◌, ℕ, zero, suc, ◌+◌, ◌-◌, ◌<◌, ◌≤◌, List, [], ◌∷◌, ◌++◌, length, take, get_or, Bool, true, false, Some, None, refl, sym, ap, ◌∙◌, subst, arith}
+use Rattle.std.proofs.Common.{◌≡◌, ℕ, zero, suc, ◌-◌, ◌<◌, ◌≤◌, List, [], ◌∷◌, ◌++◌, length, take, get_or, Bool, true, false, Some, None, refl, sym, ap, ◌∙◌, subst, arith}
 use Rattle.std.proofs.lemmas.Option.{none-some, same_Some, slice_get-get_or, slice_get_within}
 use Rattle.std.specs.Prelude.{slice_get}
 use Rattle.std.specs.Bool.{OnTrue, OnFalse}
@@ -62,7 +62,7 @@ module _ (s : Inside) (v : Seen) (view_is : seen_of s ≡ v) (kept : IsKept s) (
     enough =
         let lies = first_in s.cells.callers depth first in
         let frame = frames_below s v view_is kept head (take (length s.heads.items - 1) s.heads.items) heads
-            (record { running = lies.0; callers = lies.1; spare = 0; room = 0 }) lies.2 in
+        (record { running = lies.0; callers = lies.1; spare = 0; room = 0 }) lies.2 in
         omega (arith, frame.0.within, lies.3)
 
     pub nearest : IsNearest head.class head.method (depth - head.locals) v.machine.callers

@@ -120,9 +120,9 @@ module _ (texts : List Name) (head : Head) (heads : List Head) (row : List Cell)
       ap (λ r. machine_in texts (at_head head place) heads r rows' heap) is
       ∙ ap (λ r. machine_in texts (at_head head place) heads (row ++ cell ∷ []) r heap) same
       ∙ ap (λ l. record (machine_in texts (at_head head place) heads (row ++ cell ∷ []) rows heap) { frame = record (frame_in texts (at_head head place) (row ++ cell ∷ [])) { locals = map (local_in texts) l } })
-        (take-append-le head.locals row (cell ∷ []) within)
+      (take-append-le head.locals row (cell ∷ []) within)
       ∙ ap (λ l. record (machine_in texts (at_head head place) heads row rows heap) { frame = record (frame_in texts (at_head head place) row) { operands = l } })
-        (ap (values_in texts) (drop-append-le head.locals row (cell ∷ []) within) ∙ map_push (value_in texts) (drop head.locals row) cell)
+      (ap (values_in texts) (drop-append-le head.locals row (cell ∷ []) within) ∙ map_push (value_in texts) (drop head.locals row) cell)
       ∙ ap (λ t. at_place t.machine place (t.machine.frame.operands ++ value_in t.texts cell ∷ [])) view_is
 
   -- so many values less
@@ -142,7 +142,7 @@ module _ (texts : List Name) (head : Head) (heads : List Head) (row : List Cell)
       ap (λ r. machine_in texts (at_head head place) heads r rows' heap) is
       ∙ ap (λ r. machine_in texts (at_head head place) heads (take (length row - count) row) r heap) same
       ∙ ap (λ l. record (machine_in texts (at_head head place) heads (take (length row - count) row) rows heap) { frame = record (frame_in texts (at_head head place) (take (length row - count) row)) { locals = map (local_in texts) l } })
-        (take-take head.locals (length row - count) row kept)
+      (take-take head.locals (length row - count) row kept)
       ∙ ap (λ l. record (machine_in texts (at_head head place) heads row rows heap) { frame = record (frame_in texts (at_head head place) row) { operands = l } }) operands
       ∙ ap (λ t. at_place t.machine place (below count t.machine.frame.operands)) view_is
 
@@ -157,7 +157,7 @@ module _ (texts : List Name) (head : Head) (heads : List Head) (row : List Cell)
       ap (λ r. machine_in texts head heads r rows' heap) is
       ∙ ap (λ r. machine_in texts head heads (set row local cell) r heap) same
       ∙ ap (λ l. record (machine_in texts head heads (set row local cell) rows heap) { frame = record (frame_in texts head (set row local cell)) { operands = values_in texts l } })
-        (drop-set-lt head.locals row local cell lt)
+      (drop-set-lt head.locals row local cell lt)
       ∙ ap (λ l. record (machine_in texts head heads row rows heap) { frame = record (frame_in texts head row) { locals = l } }) locals
       ∙ ap (λ t. with_local t.machine local (value_in t.texts cell)) view_is
 

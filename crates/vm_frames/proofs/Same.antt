@@ -1,5 +1,5 @@
 -- A state whose parts have moved, and one with a text or an object more.
-use Rattle.std.proofs.Common.{◌≡◌, ℕ, ◌+◌, ◌≤◌, [], ◌∷◌, ◌++◌, length, set, sym, ap, ◌∙◌, subst, arith, length-append}
+use Rattle.std.proofs.Common.{◌≡◌, ℕ, ◌≤◌, [], ◌∷◌, ◌++◌, length, set, sym, ap, ◌∙◌, subst, arith, length-append}
 use Rattle.std.proofs.lemmas.List.Elements.{All-push, All-set}
 use Rattle.std.specs.Prelude.{All, reverse, Result, Ok, Err, OnErr}
 use Rattle.mg_text.specs.Call.{Name}
@@ -66,7 +66,7 @@ module _ (s : Inside) (v : Seen) (view_is : seen_of s ≡ v) (kept : IsKept s) (
           ∙ ap (λ r. machine_in s'.texts.items s.head (reverse s.heads.items) s.cells.running r s'.heap.items) callers
           ∙ ap (machine_in s'.texts.items s.head (reverse s.heads.items) s.cells.running s.cells.callers) heap
           ∙ same-machine s.texts.items text s'.texts.items s.head (reverse s.heads.items) s.cells.running s.cells.callers s.heap.items texts
-            kept.running kept.callers kept.objects
+          kept.running kept.callers kept.objects
           ∙ ap (λ t. t.machine) view_is
 
     -- an object more, and one that is changed

@@ -53,8 +53,8 @@ module _ (s : Inside) (class method locals : ℕ) (texts : s.texts.items ≡ [])
       ∙ ap (λ h. machine_in [] h [] s.cells.running s.cells.callers []) head
       ∙ ap (λ r. machine_in [] (record { class = class; method = method; place = 0; told = None; locals = locals }) [] r s.cells.callers []) running
       ∙ ap (λ l. record (started class method locals) { frame = record (started class method locals).frame { locals = map (local_in []) l; operands = values_in [] (drop locals (replicate locals cells.Unset)) } })
-        (take_all locals (replicate locals cells.Unset) (omega (arith, length-replicate locals cells.Unset)))
+      (take_all locals (replicate locals cells.Unset) (omega (arith, length-replicate locals cells.Unset)))
       ∙ ap (λ l. record (started class method locals) { frame = record (started class method locals).frame { locals = l; operands = values_in [] (drop locals (replicate locals cells.Unset)) } })
-        (map-replicate (local_in []) locals cells.Unset)
+      (map-replicate (local_in []) locals cells.Unset)
       ∙ ap (λ l. record (started class method locals) { frame = record (started class method locals).frame { operands = values_in [] l } })
-        (drop_all locals (replicate locals cells.Unset) (omega (arith, length-replicate locals cells.Unset)))
+      (drop_all locals (replicate locals cells.Unset) (omega (arith, length-replicate locals cells.Unset)))

@@ -123,9 +123,9 @@ module _ (s : Inside) (v : Seen) (view_is : seen_of s ≡ v) (kept : IsKept s) w
           rows.pushes s.texts.items (rows.at_head s.head place) (reverse s.heads.items) mid.running s.cells.callers s.heap.items
           (record v { machine = at_place v.machine place (below count v.machine.frame.operands) })
           (ap (λ m. let t : Seen = record { machine = m; texts = s.texts.items } in t)
-            (rows.drops s.texts.items s.head (reverse s.heads.items) s.cells.running s.cells.callers s.heap.items v view_is kept.running.within
-            place mid.running s.cells.callers count (omega (arith, le, depth_is)) left refl)
-            ∙ ap (λ t. record v { machine = at_place v.machine place (below count v.machine.frame.operands); texts = t }) (sym texts_is))
+          (rows.drops s.texts.items s.head (reverse s.heads.items) s.cells.running s.cells.callers s.heap.items v view_is kept.running.within
+          place mid.running s.cells.callers count (omega (arith, le, depth_is)) left refl)
+          ∙ ap (λ t. record v { machine = at_place v.machine place (below count v.machine.frame.operands); texts = t }) (sym texts_is))
           (omega (arith, le, depth_is, kept.running.within, ap length left, length-take (length s.cells.running - count) s.cells.running))
           place after.running after.callers cell running callers
 
@@ -136,8 +136,18 @@ module _ (s : Inside) (v : Seen) (view_is : seen_of s ≡ v) (kept : IsKept s) w
           let frame : IsFrame (length s.texts.items) s.head mid.running =
           rows.frame-take (length s.texts.items) s.head s.cells.running kept.running mid.running (length s.cells.running - count) (omega arith) enough left in
           record {
-            room = omega (arith, kept.room, less, more, le, depth_is, ap length running, length-append mid.running (cell ∷ []),
-                ap length left, length-take (length s.cells.running - count) s.cells.running);
+            room = omega (
+              arith,
+              kept.room,
+              less,
+              more,
+              le,
+              depth_is,
+              ap length running,
+              length-append mid.running (cell ∷ []),
+              ap length left,
+              length-take (length s.cells.running - count) s.cells.running,
+            );
             running = rows.placed (length s.texts.items) place s.head after.running (rows.frame-push (length s.texts.items) s.head mid.running frame after.running cell running is_set);
             callers = same_callers;
             objects = kept.objects;

@@ -1,5 +1,5 @@
 -- A text more changes nothing that cells say.
-use Rattle.std.proofs.Common.{◌≡◌, ℕ, ◌+◌, ◌<◌, ◌≤◌, List, [], ◌∷◌, ◌++◌, length, map, take, drop, get_or, Some, refl, ap, ◌∙◌, arith}
+use Rattle.std.proofs.Common.{◌≡◌, ℕ, ◌<◌, ◌≤◌, List, [], ◌∷◌, ◌++◌, length, map, take, drop, get_or, Some, refl, ap, ◌∙◌, arith}
 use Rattle.std.proofs.lemmas.List.{get_or_append_left}
 use Rattle.std.proofs.lemmas.List.Elements.{All-head, All-tail, All-weaker}
 use Rattle.std.specs.Prelude.{All}
@@ -98,7 +98,7 @@ module _ (texts : List Name) (text : Name) where
   same-objects [] all = refl
   same-objects (o ∷ heap) all =
       ap (λ l. record { class = o.class; fields = l } ∷ objects_in (texts ++ text ∷ []) heap)
-        (same-values o.fields.items (All-head (IsObject (length texts)) o heap all))
+      (same-values o.fields.items (All-head (IsObject (length texts)) o heap all))
       ∙ ap (λ l. object_in texts o ∷ l) (same-objects heap (All-tail (IsObject (length texts)) o heap all))
 
   pub same-machine : (texts' : List Name) (head : Head) (heads : List Head) (row : List Cell) (rows : List (List Cell)) (heap : List Object) →

@@ -32,8 +32,10 @@ impl State {
     /// Puts a value into a field of an object, where there are both.
     pub fn set_field(&mut self, object: u32, field: u32, cell: Cell)
         requires { IsSet (length self.old.texts) cell }
-        ensures machine { self.new.machine ≡ record self.old.machine { heap = with_field self.old.machine.heap object field
-            (value_in self.old.texts cell) (slice_get self.old.machine.heap object) } }
+        ensures machine { self.new.machine ≡ record self.old.machine {
+          heap = with_field self.old.machine.heap object field
+              (value_in self.old.texts cell) (slice_get self.old.machine.heap object);
+        } }
         ensures texts { self.new.texts ≡ self.old.texts }
     {
         let number = object as usize;
@@ -52,10 +54,12 @@ impl State {
     pub fn make(&mut self, class: u32, fields: Vec<Cell>) -> Result<u32, Memory>
         requires { All (IsSet (length self.old.texts)) fields.items }
         ensures number { IfOk result (λ n. n ≡ length self.old.machine.heap) }
-        ensures ok { IfOk result (λ _. self.new.machine ≡ record self.old.machine { heap = self.old.machine.heap ++ record {
-          class = class;
-          fields = values_in self.old.texts fields.items;
-        } ∷ [] }) }
+        ensures ok { IfOk result (λ _. self.new.machine ≡ record self.old.machine {
+          heap = self.old.machine.heap ++ record {
+            class = class;
+            fields = values_in self.old.texts fields.items;
+          } ∷ [];
+        }) }
         ensures err { OnErr result (self.new.machine ≡ self.old.machine) }
         ensures texts { self.new.texts ≡ self.old.texts }
     {

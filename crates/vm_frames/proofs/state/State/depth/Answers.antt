@@ -1,5 +1,5 @@
 -- The operands lie above the locals.
-use Rattle.std.proofs.Common.{◌-◌, arith}
+use Rattle.std.proofs.Common.{arith}
 use Rattle.vm_frames.proofs.States.{depth_is}
 use Rattle.vm_frames.proofs.state.State.depth.Goals as goal
 

@@ -1,5 +1,5 @@
 -- What is left lies below.
-use Rattle.std.proofs.Common.{◌-◌, arith}
+use Rattle.std.proofs.Common.{arith}
 use Rattle.vm_frames.proofs.States.{depth_is, drops, dropped-kept}
 use Rattle.vm_frames.proofs.state.State.drop.Goals as goal
 

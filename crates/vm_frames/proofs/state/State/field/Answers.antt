@@ -13,9 +13,9 @@ pub returns-clause-value : goal.returns-clause-value
 returns-clause-value c =
     let s = c.self.inside in
     ap (option_map (value_in c.args.self.now.texts))
-      (c.cell_at.ensures ∙ ap (λ (l : List Object). cell_in l c.args.object c.args.field) c.as_slice.ensures.value)
+    (c.cell_at.ensures ∙ ap (λ (l : List Object). cell_in l c.args.object c.args.field) c.as_slice.ensures.value)
     ∙ field_is s.texts.items s.head (reverse s.heads.items) s.cells.running s.cells.callers s.heap.items c.args.self.now c.self.view_is
-      c.args.object c.args.field
+    c.args.object c.args.field
 
 pub returns-clause-set : goal.returns-clause-set
 returns-clause-set c =

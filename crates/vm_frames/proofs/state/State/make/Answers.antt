@@ -27,8 +27,12 @@ invariant_of-self-2 c =
 pub returns-clause-number : goal.returns-clause-number
 returns-clause-number c =
     let s = c.self.inside in
-    omega (arith, c.len-count.ensures, s.heap.ok.0,
-      count_is s.texts.items s.head (reverse s.heads.items) s.cells.running s.cells.callers s.heap.items c.args.self.now c.self.view_is)
+    omega (
+      arith,
+      c.len-count.ensures,
+      s.heap.ok.0,
+      count_is s.texts.items s.head (reverse s.heads.items) s.cells.running s.cells.callers s.heap.items c.args.self.now c.self.view_is,
+    )
 
 pub returns-clause-ok : goal.returns-clause-ok
 returns-clause-ok c =

@@ -1,5 +1,5 @@
 -- The value stands above what is left.
-use Rattle.std.proofs.Common.{◌-◌, ◌∙◌, length, subst, arith}
+use Rattle.std.proofs.Common.{◌∙◌, length, subst, arith}
 use Rattle.vm_frames.specs.Seen.{IsSet}
 use Rattle.vm_frames.proofs.States.{depth_is, puts, put-kept, texts_is}
 use Rattle.vm_frames.proofs.state.State.put.Goals as goal

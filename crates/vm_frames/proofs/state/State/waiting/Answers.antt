@@ -31,9 +31,12 @@ overflow_sub-result c =
     let last : slice_get s.heads.items (length s.heads.items - 1) ≡ Some c.in-Some.head.now =
     ap (λ (l : List Head). slice_get l (length l - 1)) (sym c.deref.ensures.value) ∙ sym c.last.ensures.value
     ∙ ap (option_map (λ h. h.now)) c.in-Some.is in
-    omega (arith, c.from.ensures,
+    omega (
+      arith,
+      c.from.ensures,
       enough s c.args.self.now c.self.view_is c.self.invariant c.in-Some.head.now last c.in-Some-depth_below.depth
-      (sym c.in-Some-depth_below.is ∙ c.depth_below.ensures))
+          (sym c.in-Some-depth_below.is ∙ c.depth_below.ensures),
+    )
 
 pub returns : goal.returns
 returns c =
@@ -42,5 +45,5 @@ returns c =
     ap (λ (l : List Head). slice_get l (length l - 1)) (sym c.deref.ensures.value) ∙ sym c.last.ensures.value
     ∙ ap (option_map (λ h. h.now)) c.in-Some.is in
     let near = nearest s c.args.self.now c.self.view_is c.self.invariant c.in-Some.head.now last c.in-Some-depth_below.depth
-        (sym c.in-Some-depth_below.is ∙ c.depth_below.ensures) in
+    (sym c.in-Some-depth_below.is ∙ c.depth_below.ensures) in
     rw c.from.ensures near
