@@ -15,7 +15,7 @@ next_action p m = option_and_then (λ i. action i.op i.args) (slice_get (code_in
 abbrev pub is_steady_action : Action → Bool
 is_steady_action (Push (values.Text text)) = false
 is_steady_action (Make class) = false
-is_steady_action (Call calling class method) = false
+is_steady_action (Call _ _ _) = false
 is_steady_action (Use member) = false
 is_steady_action _ = true
 
