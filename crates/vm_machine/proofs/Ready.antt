@@ -11,11 +11,8 @@ use Rattle.vm_model.specs.Messages.{Messages}
 use Rattle.vm_model.specs.Machine.{Machine, Went}
 use Rattle.vm_model.specs.Arithmetic.{wrap, computed, compares, switched}
 use Rattle.std.specs.Bool.{OnTrue, OnFalse}
-use Rattle.std.proofs.Common.{set, take, suc, add-one, subst}
-use Rattle.std.proofs.lemmas.List.{map_push, length-map, take_all}
-use Rattle.vm_machine.specs.declared.state.Cell.{Cell}
-use Rattle.vm_machine.specs.declared.state.Cell.TheVariants as cells
-use Rattle.vm_machine.specs.State.{value_of, values_of}
+use Rattle.std.proofs.Common.{suc, add-one, subst}
+use Rattle.vm_frames.specs.Seen.{held_in}
 use Rattle.vm_model.specs.Actions.{Action, Sort, Number, Reference, Operation, Comparison, Push, Load, Store, Pop, Double, Compute, Negate, Increase, IfZero, IfBoth, IfNull, Go, Switch}
 use Rattle.vm_model.specs.Tests as model
 use Rattle.vm_model.specs.Tests.{Needs, needs, wrong, wrong_by, below, on_top, misfits, misfit_read, misfit_local, misfit_sort, some_of, is_kind, is_member, is_null, max_stack_in, method_of_frame}
@@ -24,7 +21,7 @@ use Rattle.vm_machine.specs.Alone.{SameMethod, Alone, NextAlone, AllAlone}
 use Rattle.vm_machine.specs.inner.Tops.{at_top, int_in, int_of_local}
 use Rattle.vm_machine.specs.inner.Acts.{stored_by, doubled_by, computes_by, negates_by, increased_by, on_zero_by, on_both_by, on_null_by, switches_by}
 use Rattle.vm_machine.proofs.Acts.{by_one, by_two, There, there}
-use Rattle.vm_machine.proofs.Tops.{doubles, below_map, put_last}
+use Rattle.vm_machine.proofs.Tops.{doubles}
 use Rattle.vm_machine.proofs.Whole.{push_is, load_is, store_is, pop_is, double_is, compute_is, negate_is, increase_is, if_zero_is, if_both_is, if_null_is, go_is, switch_is}
 
 not_below : (a b : ℕ) → b ≤ a → nat_lt a b ≡ false
@@ -262,27 +259,20 @@ pub when_true : {P : Type 0} (b : Bool) → b ≡ true → OnTrue b P → P
 when_true true e h = h
 when_true false e h = absurd (cc e)
 
+pub when_false : {P : Type 0} (b : Bool) → b ≡ false → OnFalse b P → P
+when_false false e h = h
+when_false true e h = absurd (cc e)
+
 -- an action that ends with a push
 pub alone_if : (max : ℕ) (a : Action) (m m' : Machine) {R S : Type 0} (b : Bool) → OnTrue b R → OnTrue b S → OnFalse b (m' ≡ m) →
     (R → S → Alone max a m m' true) → Alone max a m m' b
 alone_if max a m m' true room is same f = f room is
 alone_if max a m m' false room is same f = same
 
--- an int in the place of the last operand
-pub put_last_int : (cs new : List Cell) (k : ℕ) (x : ℤ) → k ≡ length cs - 1 → 1 ≤ length (values_of cs) → new ≡ set cs k (cells.Int x) →
-    values_of new ≡ below 1 (values_of cs) ++ values.Int x ∷ []
-put_last_int cs new k x at some made =
-    let same : length (values_of cs) ≡ length cs = length-map cs value_of in
-    ap values_of (made ∙ ap (λ j. set cs j (cells.Int x)) at)
-    ∙ ap values_of (sets_front cs x (omega arith)) ∙ map_push value_of (take (length cs - 1) cs) (cells.Int x)
-    ∙ ap (λ l. l ++ values.Int x ∷ []) (sym (below_map 1 cs))
-  where
-    sets_front : (cs : List Cell) (x : ℤ) → 1 ≤ length cs → set cs (length cs - 1) (cells.Int x) ≡ take (length cs - 1) cs ++ cells.Int x ∷ []
-    sets_front cs x h =
-        let e : suc (length cs - 1) ≡ length cs = omega arith in
-        let lt : length cs - 1 < length cs = omega arith in
-        ap (λ l. set l (length cs - 1) (cells.Int x)) (sym (ap (λ k. take k cs) e ∙ take_all (length cs) cs (omega arith)))
-        ∙ put_last cs (length cs - 1) (cells.Int x) lt
+-- a local that holds a value
+pub held_is : (o : Option (Option Value)) (v : Value) → Some v ≡ held_in o → o ≡ Some (Some v)
+held_is None v e = absurd (cc e)
+held_is (Some o) v e = ap Some (sym e)
 
 pub some_is : {A : Type 0} (x y : A) → Some x ≡ Some y → x ≡ y
 some_is x y e = cc
