@@ -18,7 +18,8 @@ use Rattle.vm_frames.specs.Frames.{entered, left_to, IsNearest}
 use Rattle.vm_frames.proofs.Rows.{known, set_local_in, frame-take, pushes}
 
 -- set cells as locals
-set_locals : (texts : List Name) (count : ℕ) (row : List Cell) → All (IsSet count) row → map (local_in texts) row ≡ map Some (values_in texts row)
+set_locals : (texts : List Name) (count : ℕ) (row : List Cell) → All (IsSet count) row →
+    map (local_in texts) row ≡ map Some (values_in texts row)
 set_locals texts count [] all = refl
 set_locals texts count (cell ∷ row) all =
     ap (λ l. l ∷ map (local_in texts) row) (set_local_in texts count cell (All-head (IsSet count) cell row all))
@@ -45,7 +46,8 @@ drop-further (suc n) (suc k) [] le = drop-none (suc k - suc n)
 drop-further (suc n) (suc k) (x ∷ row) le = ap (λ j. drop j (drop n row)) (omega arith) ∙ drop-further n k row (omega (arith, le))
 
 -- a machine of these parts, at the beginning of a method
-abbrev framed : (class method : ℕ) → Option ℕ → List (Option Value) → List Value → model.Frame → List model.Frame → List model.Object → model.Machine
+abbrev framed : (class method : ℕ) → Option ℕ → List (Option Value) → List Value → model.Frame → List model.Frame → List model.Object →
+    model.Machine
 framed class method told ls os caller callers heap = record {
   frame = record { class = class; method = method; place = 0; locals = ls; operands = os; told = told };
   callers = caller ∷ callers;
@@ -71,19 +73,28 @@ module _ (texts : List Name) (head : Head) (heads : List Head) (row : List Cell)
       let some : List Cell = drop k row in
       let count : length some ≡ args = omega (arith, length-drop k row, le) in
       let whole : length (some ++ replicate (locals - args) cells.Unset) ≡ locals =
-      omega (arith, length-append some (replicate (locals - args) cells.Unset), count, length-replicate (locals - args) cells.Unset, fits) in
+      omega (
+        arith,
+        length-append some (replicate (locals - args) cells.Unset),
+        count,
+        length-replicate (locals - args) cells.Unset,
+        fits,
+      ) in
       let top : drop (k - n) (drop n row) ≡ some = drop-further n k row kept in
-      let all : All (IsSet (length texts)) some = subst (All (IsSet (length texts))) top (All-drop (IsSet (length texts)) (k - n) (drop n row) frame.operands) in
+      let all : All (IsSet (length texts)) some =
+      subst (All (IsSet (length texts))) top (All-drop (IsSet (length texts)) (k - n) (drop n row) frame.operands) in
       let taken : on_top args ops ≡ values_in texts some =
       ap (λ j. drop (j - args) ops) long ∙ ap (λ j. drop j ops) {x = length row - n - args} {y = k - n} (omega (arith, le))
       ∙ drop-map (value_in texts) (k - n) (drop n row) ∙ ap (values_in texts) top in
       let left : below args ops ≡ values_in texts (drop n (take k row)) =
       ap (λ j. take (j - args) ops) long ∙ ap (λ j. take j ops) {x = length row - n - args} {y = k - n} (omega (arith, le))
       ∙ take-map (value_in texts) (k - n) (drop n row) ∙ ap (values_in texts) (sym (drop-taken n k row kept (omega arith))) in
-      let new_locals : map (local_in texts) (take locals (some ++ replicate (locals - args) cells.Unset)) ≡ map Some (on_top args ops) ++ replicate (locals - args) None =
+      let new_locals : map (local_in texts) (take locals (some ++ replicate (locals - args) cells.Unset))
+      ≡ map Some (on_top args ops) ++ replicate (locals - args) None =
       ap (map (local_in texts)) (take_all locals (some ++ replicate (locals - args) cells.Unset) (omega (arith, whole)))
       ∙ map-append (local_in texts) some (replicate (locals - args) cells.Unset)
-      ∙ ap (λ l. l ++ map (local_in texts) (replicate (locals - args) cells.Unset)) (set_locals texts (length texts) some all ∙ ap (map Some) (sym taken))
+      ∙ ap (λ l. l ++ map (local_in texts) (replicate (locals - args) cells.Unset))
+      (set_locals texts (length texts) some all ∙ ap (map Some) (sym taken))
       ∙ ap (λ l. map Some (on_top args ops) ++ l) (map-replicate (local_in texts) (locals - args) cells.Unset) in
       let new_operands : values_in texts (drop locals (some ++ replicate (locals - args) cells.Unset)) ≡ [] =
       ap (values_in texts) (drop_all locals (some ++ replicate (locals - args) cells.Unset) (omega (arith, whole))) in
@@ -98,7 +109,8 @@ module _ (texts : List Name) (head : Head) (heads : List Head) (row : List Cell)
       ∙ ap (λ l. framed class method told (map Some (on_top args ops) ++ replicate (locals - args) None) l
       (frame_in texts caller' (take k row)) (frames_in texts heads rows) (objects_in texts heap)) new_operands
       ∙ ap (λ l. framed class method told (map Some (on_top args ops) ++ replicate (locals - args) None) []
-      (record (frame_in texts caller' (take k row)) { locals = map (local_in texts) l }) (frames_in texts heads rows) (objects_in texts heap))
+      (record (frame_in texts caller' (take k row)) { locals = map (local_in texts) l }) (frames_in texts heads rows)
+      (objects_in texts heap))
       (take-take n k row kept)
       ∙ ap (λ l. framed class method told (map Some (on_top args ops) ++ replicate (locals - args) None) []
       (record (frame_in texts caller' row) { operands = l }) (frames_in texts heads rows) (objects_in texts heap)) (sym left)
@@ -112,9 +124,17 @@ module _ (texts : List Name) (head : Head) (heads : List Head) (row : List Cell)
       let k : ℕ = length row - args in
       let some : List Cell = drop k row in
       let whole : length (some ++ replicate (called.locals - args) cells.Unset) ≡ called.locals =
-      omega (arith, length-append some (replicate (called.locals - args) cells.Unset), length-drop k row, length-replicate (called.locals - args) cells.Unset, fits, le) in
+      omega (
+        arith,
+        length-append some (replicate (called.locals - args) cells.Unset),
+        length-drop k row,
+        length-replicate (called.locals - args) cells.Unset,
+        fits,
+        le,
+      ) in
       let top : drop (k - n) (drop n row) ≡ some = drop-further n k row (omega (arith, le, frame.within)) in
-      let all : All (IsSet (length texts)) some = subst (All (IsSet (length texts))) top (All-drop (IsSet (length texts)) (k - n) (drop n row) frame.operands) in
+      let all : All (IsSet (length texts)) some =
+      subst (All (IsSet (length texts))) top (All-drop (IsSet (length texts)) (k - n) (drop n row) frame.operands) in
       let each : All (IsKnown (length texts)) (some ++ replicate (called.locals - args) cells.Unset) =
       All-append (IsKnown (length texts)) some (replicate (called.locals - args) cells.Unset)
       (All-weaker (IsSet (length texts)) (IsKnown (length texts)) (known (length texts)) some all)
@@ -123,12 +143,15 @@ module _ (texts : List Name) (head : Head) (heads : List Head) (row : List Cell)
       (record {
         within = omega (arith, whole);
         locals = All-take (IsKnown (length texts)) called.locals (some ++ replicate (called.locals - args) cells.Unset) each;
-        operands = subst (All (IsSet (length texts))) (sym (drop_all called.locals (some ++ replicate (called.locals - args) cells.Unset) (omega (arith, whole)))) (All-nil (IsSet (length texts)));
+        operands = subst (All (IsSet (length texts)))
+            (sym (drop_all called.locals (some ++ replicate (called.locals - args) cells.Unset) (omega (arith, whole))))
+            (All-nil (IsSet (length texts)));
       })
 
   pub waiting-frame : (args : ℕ) → args ≤ length row - head.locals → IsFrame (length texts) head (take (length row - args) row)
   waiting-frame args le =
-      frame-take (length texts) head row frame (take (length row - args) row) (length row - args) (omega arith) (omega (arith, le, frame.within)) refl
+      frame-take (length texts) head row frame (take (length row - args) row) (length row - args) (omega arith)
+      (omega (arith, le, frame.within)) refl
 
 -- The frames that wait.
 
@@ -144,7 +167,8 @@ module _ (count : ℕ) where
   nearest head heads rows left row are is = subst (AreFrames count (head ∷ heads)) is are
 
 -- what a return leads to
-module _ (texts : List Name) (left_head head : Head) (heads : List Head) (left_row row : List Cell) (rows : List (List Cell)) (heap : List Object) (s : Seen)
+module _ (texts : List Name) (left_head head : Head) (heads : List Head) (left_row row : List Cell) (rows : List (List Cell))
+    (heap : List Object) (s : Seen)
     (view_is : seen_in texts left_head (head ∷ heads) left_row (row ∷ rows) heap ≡ s) where
   pub leaves : left_to s.machine [] s.machine.callers ≡ Some (machine_in texts head heads row rows heap)
   leaves =
@@ -156,7 +180,8 @@ module _ (texts : List Name) (left_head head : Head) (heads : List Head) (left_r
       left_to s.machine (value_in s.texts cell ∷ []) s.machine.callers ≡ Some (machine_in texts head heads (row ++ cell ∷ []) rows heap)
   leaves_with cell within =
       ap (λ t. left_to t.machine (value_in t.texts cell ∷ []) t.machine.callers) (sym view_is)
-      ∙ ap (λ m. Some m) (sym (pushes texts head heads row rows heap (seen_in texts head heads row rows heap) refl within head.place (row ++ cell ∷ []) rows cell refl refl))
+      ∙ ap (λ m. Some m) (sym (pushes texts head heads row rows heap (seen_in texts head heads row rows heap) refl within head.place
+      (row ++ cell ∷ []) rows cell refl refl))
 
   pub waits : IsNearest head.class head.method (length row - head.locals) s.machine.callers
   waits = subst (λ t. IsNearest head.class head.method (length row - head.locals) t.machine.callers) view_is

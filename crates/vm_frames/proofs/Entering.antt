@@ -30,7 +30,8 @@ module _ (s : Inside) (v : Seen) (view_is : seen_of s ≡ v) (kept : IsKept s) w
     running_is = running ∙ ap (λ r. drop (length r - args) r ++ replicate (locals - args) cells.Unset) same.0
 
     callers_is : s'.cells.callers ≡ take (length s.cells.running - args) s.cells.running ∷ s.cells.callers
-    callers_is = callers ∙ ap (λ r. take (length r - args) r ∷ mid.callers) same.0 ∙ ap (λ r. take (length s.cells.running - args) s.cells.running ∷ r) same.1
+    callers_is = callers ∙ ap (λ r. take (length r - args) r ∷ mid.callers) same.0
+        ∙ ap (λ r. take (length s.cells.running - args) s.cells.running ∷ r) same.1
 
     heads_is : reverse s'.heads.items ≡ record s.head { place = s.head.place + 1 } ∷ reverse s.heads.items
     heads_is = ap reverse heads ∙ reverse-append s.heads.items (record s.head { place = s.head.place + 1 } ∷ [])
@@ -41,7 +42,8 @@ module _ (s : Inside) (v : Seen) (view_is : seen_of s ≡ v) (kept : IsKept s) w
         ∙ ap (machine_in s.texts.items s'.head (reverse s'.heads.items) s'.cells.running s'.cells.callers) heap
         ∙ ap (λ l. machine_in s.texts.items s'.head l s'.cells.running s'.cells.callers s.heap.items) heads_is
         ∙ calls.enters s.texts.items s.head (reverse s.heads.items) s.cells.running s.cells.callers s.heap.items v view_is kept.running
-        (record s.head { place = s.head.place + 1 }) s'.head s'.cells.running s'.cells.callers class method args locals told short fits refl head
+        (record s.head { place = s.head.place + 1 }) s'.head s'.cells.running s'.cells.callers class method args locals told short fits refl
+        head
         running_is callers_is
 
     pub entered-kept : s'.cells.spare + (locals - args) ≡ mid.spare → locals - args + most ≤ mid.spare → IsKept s'
@@ -57,23 +59,31 @@ module _ (s : Inside) (v : Seen) (view_is : seen_of s ≡ v) (kept : IsKept s) w
           fits,
           short,
         ) in
-        let row_is : s'.cells.running ≡ drop (length s.cells.running - args) s.cells.running ++ replicate (s'.head.locals - args) cells.Unset =
+        let row_is : s'.cells.running
+        ≡ drop (length s.cells.running - args) s.cells.running ++ replicate (s'.head.locals - args) cells.Unset =
         running_is ∙ ap (λ k. drop (length s.cells.running - args) s.cells.running ++ replicate (k - args) cells.Unset) (sym locals_is) in
         let fits_in : args ≤ s'.head.locals = omega (arith, fits, locals_is) in
         let waiting : IsFrame (length s.texts.items) s.head (take (length s.cells.running - args) s.cells.running) =
-        calls.waiting-frame s.texts.items s.head (reverse s.heads.items) s.cells.running s.cells.callers s.heap.items v view_is kept.running args short in
+        calls.waiting-frame s.texts.items s.head
+        (reverse s.heads.items) s.cells.running s.cells.callers s.heap.items v view_is kept.running args short in
         let each : AreFrames (length s.texts.items) (record s.head { place = s.head.place + 1 } ∷ reverse s.heads.items)
-        (take (length s.cells.running - args) s.cells.running ∷ s.cells.callers) =
-        (placed (length s.texts.items) (s.head.place + 1) s.head (take (length s.cells.running - args) s.cells.running) waiting, kept.callers) in
+        (take (length s.cells.running - args) s.cells.running ∷ s.cells.callers) = (
+          placed (length s.texts.items) (s.head.place + 1) s.head (take (length s.cells.running - args) s.cells.running) waiting,
+          kept.callers,
+        ) in
         let count : length s.texts.items ≡ length s'.texts.items = sym (ap length texts) in
         record {
           room = omega (arith, locals_is, long, spare, enough);
           running = subst (λ k. IsFrame k s'.head s'.cells.running) count
-              (calls.called-frame s.texts.items s.head (reverse s.heads.items) s.cells.running s.cells.callers s.heap.items v view_is kept.running s'.head s'.cells.running args short fits_in row_is);
+              (calls.called-frame s.texts.items s.head
+              (reverse s.heads.items) s.cells.running s.cells.callers s.heap.items v view_is kept.running s'.head s'.cells.running args
+              short fits_in row_is);
           callers = subst (λ k. AreFrames k (reverse s'.heads.items) s'.cells.callers) count
               (subst (λ l. AreFrames (length s.texts.items) l s'.cells.callers) (sym heads_is)
-              (subst (AreFrames (length s.texts.items) (record s.head { place = s.head.place + 1 } ∷ reverse s.heads.items)) (sym callers_is) each));
-          objects = subst (λ k. All (IsObject k) s'.heap.items) count (subst (All (IsObject (length s.texts.items))) (sym heap) kept.objects);
+              (subst (AreFrames (length s.texts.items) (record s.head { place = s.head.place + 1 } ∷ reverse s.heads.items))
+              (sym callers_is) each));
+          objects = subst (λ k. All (IsObject k) s'.heap.items) count
+              (subst (All (IsObject (length s.texts.items))) (sym heap) kept.objects);
         }
 
   -- A state whose nearest frame runs again.
@@ -104,12 +114,14 @@ module _ (s : Inside) (v : Seen) (view_is : seen_of s ≡ v) (kept : IsKept s) w
           left_to v.machine (value_in v.texts cell ∷ []) v.machine.callers
           ≡ Some (machine_in s.texts.items head (reverse left) after.running after.callers s.heap.items)
       leaves_with after cell running callers =
-          calls.leaves_with s.texts.items s.head head (reverse left) s.cells.running below.running below.callers s.heap.items v seen_is cell frames_below.0.within
+          calls.leaves_with s.texts.items s.head head
+          (reverse left) s.cells.running below.running below.callers s.heap.items v seen_is cell frames_below.0.within
           ∙ ap (λ r. Some (machine_in s.texts.items head (reverse left) r below.callers s.heap.items)) (sym running)
           ∙ ap (λ r. Some (machine_in s.texts.items head (reverse left) after.running r s.heap.items)) (sym callers)
 
       -- what is kept of it
-      pub left-kept : (s' : Inside) → s'.texts.items ≡ s.texts.items → s'.heap.items ≡ s.heap.items → s'.head ≡ head → s'.heads.items ≡ left →
+      pub left-kept : (s' : Inside) → s'.texts.items ≡ s.texts.items → s'.heap.items ≡ s.heap.items → s'.head ≡ head →
+          s'.heads.items ≡ left →
           s'.cells ≡ below → below.spare ≡ s.cells.spare + length s.cells.running → IsKept s'
       left-kept s' texts heap head_is heads_is cells_is spare =
           let count : length s.texts.items ≡ length s'.texts.items = sym (ap length texts) in
@@ -125,25 +137,38 @@ module _ (s : Inside) (v : Seen) (view_is : seen_of s ≡ v) (kept : IsKept s) w
             callers = subst (λ k. AreFrames k (reverse s'.heads.items) s'.cells.callers) count
                 (subst (λ l. AreFrames (length s.texts.items) (reverse l) s'.cells.callers) (sym heads_is)
                 (subst (λ f. AreFrames (length s.texts.items) (reverse left) f.callers) (sym cells_is) frames_below.1));
-            objects = subst (λ k. All (IsObject k) s'.heap.items) count (subst (All (IsObject (length s.texts.items))) (sym heap) kept.objects);
+            objects = subst (λ k. All (IsObject k) s'.heap.items) count
+                (subst (All (IsObject (length s.texts.items))) (sym heap) kept.objects);
           }
 
       pub left-kept-with : (s' : Inside) (cell : Cell) → s'.texts.items ≡ s.texts.items → s'.heap.items ≡ s.heap.items → s'.head ≡ head →
           s'.heads.items ≡ left → s'.cells.running ≡ below.running ++ cell ∷ [] → s'.cells.callers ≡ below.callers →
-          s'.cells.spare + 1 ≡ below.spare → below.spare ≡ s.cells.spare + length s.cells.running → IsSet (length s.texts.items) cell → IsKept s'
+          s'.cells.spare + 1 ≡ below.spare → below.spare ≡ s.cells.spare + length s.cells.running → IsSet (length s.texts.items) cell →
+          IsKept s'
       left-kept-with s' cell texts heap head_is heads_is running callers less spare is_set =
           let count : length s.texts.items ≡ length s'.texts.items = sym (ap length texts) in
           let within : head.locals ≤ length below.running = frames_below.0.within in
           let locals_is : s'.head.locals ≡ head.locals = ap (λ h. h.locals) head_is in
           record {
-            room = omega (arith, kept.room, kept.running.within, spare, less, within, locals_is, ap length running, length-append below.running (cell ∷ []));
+            room = omega (
+              arith,
+              kept.room,
+              kept.running.within,
+              spare,
+              less,
+              within,
+              locals_is,
+              ap length running,
+              length-append below.running (cell ∷ []),
+            );
             running = subst (λ k. IsFrame k s'.head s'.cells.running) count
                 (subst (λ h. IsFrame (length s.texts.items) h s'.cells.running) (sym head_is)
                 (frame-push (length s.texts.items) head below.running frames_below.0 s'.cells.running cell running is_set));
             callers = subst (λ k. AreFrames k (reverse s'.heads.items) s'.cells.callers) count
                 (subst (λ l. AreFrames (length s.texts.items) (reverse l) s'.cells.callers) (sym heads_is)
                 (subst (AreFrames (length s.texts.items) (reverse left)) (sym callers) frames_below.1));
-            objects = subst (λ k. All (IsObject k) s'.heap.items) count (subst (All (IsObject (length s.texts.items))) (sym heap) kept.objects);
+            objects = subst (λ k. All (IsObject k) s'.heap.items) count
+                (subst (All (IsObject (length s.texts.items))) (sym heap) kept.objects);
           }
 
       pub is_nearest : IsNearest head.class head.method (length below.running - head.locals) v.machine.callers

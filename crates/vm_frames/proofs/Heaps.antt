@@ -21,7 +21,8 @@ module _ (texts : List Name) where
   same_class None = refl
   same_class (Some o) = refl
 
-  same_field : (field : ℕ) (o : Option Object) → option_map (value_in texts) (cell_of_object field o) ≡ field_of_object field (option_map (object_in texts) o)
+  same_field : (field : ℕ) (o : Option Object) →
+      option_map (value_in texts) (cell_of_object field o) ≡ field_of_object field (option_map (object_in texts) o)
   same_field field None = refl
   same_field field (Some o) = sym (slice_get-map (value_in texts) o.fields.items field)
 
@@ -58,12 +59,18 @@ module _ (texts : List Name) (head : Head) (heads : List Head) (row : List Cell)
       machine_in texts head heads row rows heap'
       ≡ record s.machine { heap = with_field s.machine.heap n field (value_in s.texts cell) (slice_get s.machine.heap n) }
   writes heap' n field cell o o' e is class fields =
-      let after : object_in texts o' ≡ record (object_in texts o) { fields = set (values_in texts o.fields.items) field (value_in texts cell) } =
+      let after : object_in texts o'
+      ≡ record (object_in texts o) { fields = set (values_in texts o.fields.items) field (value_in texts cell) } =
       ap (λ k. record { class = k; fields = values_in texts o'.fields.items }) class
-      ∙ ap (λ l. record { class = o.class; fields = l }) (ap (values_in texts) fields ∙ map-set (value_in texts) o.fields.items field cell) in
+      ∙ ap (λ l. record { class = o.class; fields = l })
+      (ap (values_in texts) fields ∙ map-set (value_in texts) o.fields.items field cell) in
       ap (machine_in texts head heads row rows) is
-      ∙ ap (λ l. record (machine_in texts head heads row rows heap) { heap = l }) (map-set (object_in texts) heap n o' ∙ ap (set (objects_in texts heap) n) after)
-      ∙ ap (λ r. record (machine_in texts head heads row rows heap) { heap = with_field (objects_in texts heap) n field (value_in texts cell) r })
+      ∙ ap (λ l. record (machine_in texts head heads row rows heap) { heap = l })
+      (map-set (object_in texts) heap n o' ∙ ap (set (objects_in texts heap) n) after)
+      ∙ ap (λ r. record (machine_in texts head heads row rows heap) {
+        heap =
+            with_field (objects_in texts heap) n field (value_in texts cell) r;
+      })
       (sym (slice_get-map (object_in texts) heap n ∙ ap (option_map (object_in texts)) e))
       ∙ ap (λ t. record t.machine { heap = with_field t.machine.heap n field (value_in t.texts cell) (slice_get t.machine.heap n) }) view_is
 
@@ -81,7 +88,8 @@ module _ (texts : List Name) (head : Head) (heads : List Head) (row : List Cell)
   makes heap' o is =
       ap (machine_in texts head heads row rows) is
       ∙ ap (λ l. record (machine_in texts head heads row rows heap) { heap = l }) (map_push (object_in texts) heap o)
-      ∙ ap (λ t. record t.machine { heap = t.machine.heap ++ record { class = o.class; fields = values_in t.texts o.fields.items } ∷ [] }) view_is
+      ∙ ap (λ t. record t.machine { heap = t.machine.heap ++ record { class = o.class; fields = values_in t.texts o.fields.items } ∷ [] })
+      view_is
 
 -- what is kept of an object whose field is set
 pub object-set : (count : ℕ) (o o' : Object) (field : ℕ) (cell : Cell) → IsObject count o → IsSet count cell →

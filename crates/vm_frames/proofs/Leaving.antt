@@ -26,14 +26,17 @@ module _ (s : Inside) (v : Seen) (view_is : seen_of s ≡ v) (kept : IsKept s) (
     alone long = none_waits s v view_is kept (no_items s.heads.items long)
 
   module _ (head : Head) (some : found ≡ Some head) (below : Frames Cell) (left : Bool)
-      (if_true : OnTrue left ((s.cells.callers ≡ below.running ∷ below.callers) × (below.spare ≡ s.cells.spare + length s.cells.running) × (below.room ≡ s.cells.room + 1)))
+      (if_true : OnTrue left ((s.cells.callers ≡ below.running ∷ below.callers) × (below.spare ≡ s.cells.spare + length s.cells.running) ×
+      (below.room ≡ s.cells.room + 1)))
       (if_false : OnFalse left ((s.cells.callers ≡ []) × (below ≡ s.cells))) where
     heads : s.heads.items ≡ popped ++ head ∷ []
     heads = items ∙ ap (λ o. popped ++ option_to_list o) some
 
-    is_left : (s.cells.callers ≡ below.running ∷ below.callers) × (below.spare ≡ s.cells.spare + length s.cells.running) × (below.room ≡ s.cells.room + 1)
+    is_left : (s.cells.callers ≡ below.running ∷ below.callers) × (below.spare ≡ s.cells.spare + length s.cells.running) ×
+        (below.room ≡ s.cells.room + 1)
     is_left =
-        true_part left ((s.cells.callers ≡ below.running ∷ below.callers) × (below.spare ≡ s.cells.spare + length s.cells.running) × (below.room ≡ s.cells.room + 1))
+        true_part left ((s.cells.callers ≡ below.running ∷ below.callers) × (below.spare ≡ s.cells.spare + length s.cells.running) ×
+        (below.room ≡ s.cells.room + 1))
         ((s.cells.callers ≡ []) × (below ≡ s.cells)) if_true if_false (λ h. has_below s v view_is kept head popped heads h.0)
 
     pub has_room : 0 < below.spare
@@ -41,12 +44,14 @@ module _ (s : Inside) (v : Seen) (view_is : seen_of s ≡ v) (kept : IsKept s) (
 
     -- with no value
     module _ (value : Option Cell) (is : value ≡ None) where
-      pub none-kept : (s' : Inside) → s'.texts.items ≡ s.texts.items → s'.heap.items ≡ s.heap.items → s'.head ≡ head → s'.heads.items ≡ popped →
+      pub none-kept : (s' : Inside) → s'.texts.items ≡ s.texts.items → s'.heap.items ≡ s.heap.items → s'.head ≡ head →
+          s'.heads.items ≡ popped →
           s'.cells ≡ below → IsKept s'
       none-kept s' texts heap head_is heads_is cells_is =
           left-kept s v view_is kept head popped heads below is_left.0 s' texts heap head_is heads_is cells_is is_left.1
 
-      pub none_left : (s' : Inside) → s'.texts.items ≡ s.texts.items → s'.heap.items ≡ s.heap.items → s'.head ≡ head → s'.heads.items ≡ popped →
+      pub none_left : (s' : Inside) → s'.texts.items ≡ s.texts.items → s'.heap.items ≡ s.heap.items → s'.head ≡ head →
+          s'.heads.items ≡ popped →
           s'.cells ≡ below →
           left_to v.machine (option_to_list (option_map (value_in v.texts) value)) v.machine.callers ≡ Some (seen_of s').machine
       none_left s' texts heap head_is heads_is cells_is =
@@ -59,16 +64,22 @@ module _ (s : Inside) (v : Seen) (view_is : seen_of s ≡ v) (kept : IsKept s) (
           ∙ ap (λ f. Some (machine_in s.texts.items head (reverse popped) f.running f.callers s.heap.items)) cells_is)
 
     -- with a value
-    module _ (value : Option Cell) (cell : Cell) (is : value ≡ Some cell) (after : Frames Cell) (running : after.running ≡ below.running ++ cell ∷ [])
+    module _ (value : Option Cell) (cell : Cell) (is : value ≡ Some cell) (after : Frames Cell)
+        (running : after.running ≡ below.running ++ cell ∷ [])
         (callers : after.callers ≡ below.callers) where
-      pub some-kept : (s' : Inside) → s'.texts.items ≡ s.texts.items → s'.heap.items ≡ s.heap.items → s'.head ≡ head → s'.heads.items ≡ popped →
-          s'.cells.running ≡ after.running → s'.cells.callers ≡ after.callers → s'.cells.spare + 1 ≡ below.spare → IfSome value (IsSet (length v.texts)) →
+      pub some-kept : (s' : Inside) → s'.texts.items ≡ s.texts.items → s'.heap.items ≡ s.heap.items → s'.head ≡ head →
+          s'.heads.items ≡ popped →
+          s'.cells.running ≡ after.running → s'.cells.callers ≡ after.callers → s'.cells.spare + 1 ≡ below.spare →
+          IfSome value (IsSet (length v.texts)) →
           IsKept s'
       some-kept s' texts heap head_is heads_is running_is callers_is less is_set =
-          left-kept-with s v view_is kept head popped heads below is_left.0 s' cell texts heap head_is heads_is (running_is ∙ running) (callers_is ∙ callers)
-          less is_left.1 (subst (λ t. IsSet (length t) cell) (texts_is s v view_is kept) (subst (λ o. IfSome o (IsSet (length v.texts))) is is_set))
+          left-kept-with s v view_is kept head popped heads below is_left.0 s' cell texts heap head_is heads_is (running_is ∙ running)
+          (callers_is ∙ callers)
+          less is_left.1 (subst (λ t. IsSet (length t) cell) (texts_is s v view_is kept)
+          (subst (λ o. IfSome o (IsSet (length v.texts))) is is_set))
 
-      pub some_left : (s' : Inside) → s'.texts.items ≡ s.texts.items → s'.heap.items ≡ s.heap.items → s'.head ≡ head → s'.heads.items ≡ popped →
+      pub some_left : (s' : Inside) → s'.texts.items ≡ s.texts.items → s'.heap.items ≡ s.heap.items → s'.head ≡ head →
+          s'.heads.items ≡ popped →
           s'.cells.running ≡ after.running → s'.cells.callers ≡ after.callers →
           left_to v.machine (option_to_list (option_map (value_in v.texts) value)) v.machine.callers ≡ Some (seen_of s').machine
       some_left s' texts heap head_is heads_is running_is callers_is =

@@ -20,7 +20,8 @@ module _ (texts : List Name) where
         operands = ap (λ n. values_in texts (drop n row)) long;
       }
 
-  all-lie : (count : ℕ) (heads : List Head) (rows : List (List Cell)) → AreFrames count heads rows → AllLie texts (frames_in texts heads rows) rows
+  all-lie : (count : ℕ) (heads : List Head) (rows : List (List Cell)) → AreFrames count heads rows →
+      AllLie texts (frames_in texts heads rows) rows
   all-lie count [] rows are = are
   all-lie count (head ∷ heads) [] are = absurd are
   all-lie count (head ∷ heads) (row ∷ rows) are = (lies count head row are.0, all-lie count heads rows are.1)
@@ -29,4 +30,5 @@ pub frames-lie : (s : Inside) (v : Seen) → seen_of s ≡ v → IsKept s →
     AllLie v.texts (v.machine.frame ∷ v.machine.callers) (s.cells.running ∷ s.cells.callers)
 frames-lie s v view_is kept =
     subst (λ t. AllLie t.texts (t.machine.frame ∷ t.machine.callers) (s.cells.running ∷ s.cells.callers)) view_is
-    (all-lie s.texts.items (length s.texts.items) (s.head ∷ reverse s.heads.items) (s.cells.running ∷ s.cells.callers) (kept.running, kept.callers))
+    (all-lie s.texts.items (length s.texts.items) (s.head ∷ reverse s.heads.items) (s.cells.running ∷ s.cells.callers)
+    (kept.running, kept.callers))

@@ -67,7 +67,8 @@ module _ (texts : List Name) (head : Head) (heads : List Head) (row : List Cell)
     (view_is : seen_in texts head heads row rows heap ≡ s) (within : head.locals ≤ length row) where
   pub depth_is : length s.machine.frame.operands ≡ length row - head.locals
   depth_is =
-      ap (λ t. length t.machine.frame.operands) (sym view_is) ∙ length-map (drop head.locals row) (value_in texts) ∙ length-drop head.locals row
+      ap (λ t. length t.machine.frame.operands) (sym view_is) ∙ length-map (drop head.locals row) (value_in texts)
+      ∙ length-drop head.locals row
 
   pub locals_is : length s.machine.frame.locals ≡ head.locals
   locals_is =
@@ -75,13 +76,15 @@ module _ (texts : List Name) (head : Head) (heads : List Head) (row : List Cell)
       ∙ omega (arith, length-take head.locals row)
 
   -- the operand so far below the top
-  pub operand_is : (above : ℕ) (cell : Cell) → above < length s.machine.frame.operands → slice_get row (length row - 1 - above) ≡ Some cell →
+  pub operand_is : (above : ℕ) (cell : Cell) → above < length s.machine.frame.operands →
+      slice_get row (length row - 1 - above) ≡ Some cell →
       slice_get (drop head.locals row) (length row - head.locals - (above + 1)) ≡ Some cell
   operand_is above cell lt e =
       let there : head.locals + (length row - head.locals - (above + 1)) ≡ length row - 1 - above = omega (arith, lt, depth_is) in
       slice_get-drop head.locals (length row - head.locals - (above + 1)) row ∙ ap (slice_get row) there ∙ e
 
-  pub operand_says : (above : ℕ) (cell : Cell) → above < length s.machine.frame.operands → slice_get row (length row - 1 - above) ≡ Some cell →
+  pub operand_says : (above : ℕ) (cell : Cell) → above < length s.machine.frame.operands →
+      slice_get row (length row - 1 - above) ≡ Some cell →
       slice_get s.machine.frame.operands (length s.machine.frame.operands - (above + 1)) ≡ Some (value_in s.texts cell)
   operand_says above cell lt e =
       ap (λ k. slice_get s.machine.frame.operands (k - (above + 1))) depth_is
@@ -90,11 +93,13 @@ module _ (texts : List Name) (head : Head) (heads : List Head) (row : List Cell)
       ∙ ap (option_map (value_in texts)) (operand_is above cell lt e)
       ∙ ap (λ t. Some (value_in t.texts cell)) view_is
 
-  pub operand_set : (above : ℕ) (cell : Cell) → All (IsSet (length texts)) (drop head.locals row) → above < length s.machine.frame.operands →
+  pub operand_set : (above : ℕ) (cell : Cell) → All (IsSet (length texts)) (drop head.locals row) →
+      above < length s.machine.frame.operands →
       slice_get row (length row - 1 - above) ≡ Some cell → IsSet (length s.texts) cell
   operand_set above cell all lt e =
       subst (λ t. IsSet (length t.texts) cell) view_is
-      (at_slice (IsSet (length texts)) (drop head.locals row) (length row - head.locals - (above + 1)) cell all (operand_is above cell lt e))
+      (at_slice (IsSet (length texts)) (drop head.locals row) (length row - head.locals - (above + 1)) cell all
+      (operand_is above cell lt e))
 
   -- what a local says
   pub local_says : (local : ℕ) (cell : Cell) → local < head.locals → slice_get row local ≡ Some cell →
@@ -119,14 +124,21 @@ module _ (texts : List Name) (head : Head) (heads : List Head) (row : List Cell)
   pushes place row' rows' cell is same =
       ap (λ r. machine_in texts (at_head head place) heads r rows' heap) is
       ∙ ap (λ r. machine_in texts (at_head head place) heads (row ++ cell ∷ []) r heap) same
-      ∙ ap (λ l. record (machine_in texts (at_head head place) heads (row ++ cell ∷ []) rows heap) { frame = record (frame_in texts (at_head head place) (row ++ cell ∷ [])) { locals = map (local_in texts) l } })
+      ∙ ap (λ l. record (machine_in texts (at_head head place) heads (row ++ cell ∷ []) rows heap) {
+        frame =
+            record (frame_in texts (at_head head place) (row ++ cell ∷ [])) { locals = map (local_in texts) l };
+      })
       (take-append-le head.locals row (cell ∷ []) within)
-      ∙ ap (λ l. record (machine_in texts (at_head head place) heads row rows heap) { frame = record (frame_in texts (at_head head place) row) { operands = l } })
+      ∙ ap (λ l. record (machine_in texts (at_head head place) heads row rows heap) {
+        frame =
+            record (frame_in texts (at_head head place) row) { operands = l };
+      })
       (ap (values_in texts) (drop-append-le head.locals row (cell ∷ []) within) ∙ map_push (value_in texts) (drop head.locals row) cell)
       ∙ ap (λ t. at_place t.machine place (t.machine.frame.operands ++ value_in t.texts cell ∷ [])) view_is
 
   -- so many values less
-  pub drops : (place : ℕ) (row' : List Cell) (rows' : List (List Cell)) (count : ℕ) → count ≤ length row - head.locals → row' ≡ take (length row - count) row →
+  pub drops : (place : ℕ) (row' : List Cell) (rows' : List (List Cell)) (count : ℕ) → count ≤ length row - head.locals →
+      row' ≡ take (length row - count) row →
       rows' ≡ rows →
       machine_in texts (at_head head place) heads row' rows' heap ≡ at_place s.machine place (below count s.machine.frame.operands)
   drops place row' rows' count le is same =
@@ -134,16 +146,23 @@ module _ (texts : List Name) (head : Head) (heads : List Head) (row : List Cell)
       let left : length row - count ≡ head.locals + (length row - head.locals - count) = omega (arith, le, within) in
       let long : length row - head.locals ≡ length (values_in texts (drop head.locals row)) =
       sym (length-map (drop head.locals row) (value_in texts) ∙ length-drop head.locals row) in
-      let operands : values_in texts (drop head.locals (take (length row - count) row)) ≡ below count (values_in texts (drop head.locals row)) =
+      let operands : values_in texts (drop head.locals (take (length row - count) row))
+      ≡ below count (values_in texts (drop head.locals row)) =
       ap (λ k. values_in texts (drop head.locals (take k row))) left
       ∙ ap (values_in texts) (drop-take head.locals (length row - head.locals - count) row)
       ∙ sym (take-map (value_in texts) (length row - head.locals - count) (drop head.locals row))
       ∙ ap (λ k. take (k - count) (values_in texts (drop head.locals row))) long in
       ap (λ r. machine_in texts (at_head head place) heads r rows' heap) is
       ∙ ap (λ r. machine_in texts (at_head head place) heads (take (length row - count) row) r heap) same
-      ∙ ap (λ l. record (machine_in texts (at_head head place) heads (take (length row - count) row) rows heap) { frame = record (frame_in texts (at_head head place) (take (length row - count) row)) { locals = map (local_in texts) l } })
+      ∙ ap (λ l. record (machine_in texts (at_head head place) heads (take (length row - count) row) rows heap) {
+        frame =
+            record (frame_in texts (at_head head place) (take (length row - count) row)) { locals = map (local_in texts) l };
+      })
       (take-take head.locals (length row - count) row kept)
-      ∙ ap (λ l. record (machine_in texts (at_head head place) heads row rows heap) { frame = record (frame_in texts (at_head head place) row) { operands = l } }) operands
+      ∙ ap (λ l. record (machine_in texts (at_head head place) heads row rows heap) {
+        frame =
+            record (frame_in texts (at_head head place) row) { operands = l };
+      }) operands
       ∙ ap (λ t. at_place t.machine place (below count t.machine.frame.operands)) view_is
 
   -- another value of a local
@@ -151,12 +170,16 @@ module _ (texts : List Name) (head : Head) (heads : List Head) (row : List Cell)
       row' ≡ set row local cell → rows' ≡ rows →
       machine_in texts head heads row' rows' heap ≡ with_local s.machine local (value_in s.texts cell)
   sets row' rows' local cell lt is_set is same =
-      let locals : map (local_in texts) (take head.locals (set row local cell)) ≡ set (map (local_in texts) (take head.locals row)) local (Some (value_in texts cell)) =
+      let locals : map (local_in texts) (take head.locals (set row local cell))
+      ≡ set (map (local_in texts) (take head.locals row)) local (Some (value_in texts cell)) =
       ap (map (local_in texts)) (take-set-lt head.locals row local cell lt) ∙ map-set (local_in texts) (take head.locals row) local cell
       ∙ ap (set (map (local_in texts) (take head.locals row)) local) (set_local_in texts (length texts) cell is_set) in
       ap (λ r. machine_in texts head heads r rows' heap) is
       ∙ ap (λ r. machine_in texts head heads (set row local cell) r heap) same
-      ∙ ap (λ l. record (machine_in texts head heads (set row local cell) rows heap) { frame = record (frame_in texts head (set row local cell)) { operands = values_in texts l } })
+      ∙ ap (λ l. record (machine_in texts head heads (set row local cell) rows heap) {
+        frame =
+            record (frame_in texts head (set row local cell)) { operands = values_in texts l };
+      })
       (drop-set-lt head.locals row local cell lt)
       ∙ ap (λ l. record (machine_in texts head heads row rows heap) { frame = record (frame_in texts head row) { locals = l } }) locals
       ∙ ap (λ t. with_local t.machine local (value_in t.texts cell)) view_is
@@ -172,7 +195,8 @@ module _ (count : ℕ) (head : Head) (row : List Cell) (frame : IsFrame count he
       (record {
         within = omega (arith, frame.within, length-append row (cell ∷ []));
         locals = subst (All (IsKnown count)) (sym (take-append-le head.locals row (cell ∷ []) frame.within)) frame.locals;
-        operands = subst (All (IsSet count)) (sym (drop-append-le head.locals row (cell ∷ []) frame.within)) (All-push (IsSet count) (drop head.locals row) cell frame.operands is_set);
+        operands = subst (All (IsSet count)) (sym (drop-append-le head.locals row (cell ∷ []) frame.within))
+            (All-push (IsSet count) (drop head.locals row) cell frame.operands is_set);
       })
 
   pub frame-take : (row' : List Cell) (n : ℕ) → n ≤ length row → head.locals ≤ n → row' ≡ take n row → IsFrame count head row'
@@ -184,14 +208,17 @@ module _ (count : ℕ) (head : Head) (row : List Cell) (frame : IsFrame count he
       (record {
         within = omega (arith, kept, le, length-take n row);
         locals = subst (All (IsKnown count)) (sym (take-take head.locals n row kept)) frame.locals;
-        operands = subst (All (IsSet count)) (sym operands) (All-take (IsSet count) (n - head.locals) (drop head.locals row) frame.operands);
+        operands = subst (All (IsSet count)) (sym operands)
+            (All-take (IsSet count) (n - head.locals) (drop head.locals row) frame.operands);
       })
 
-  pub frame-set : (row' : List Cell) (local : ℕ) (cell : Cell) → local < head.locals → IsSet count cell → row' ≡ set row local cell → IsFrame count head row'
+  pub frame-set : (row' : List Cell) (local : ℕ) (cell : Cell) → local < head.locals → IsSet count cell → row' ≡ set row local cell →
+      IsFrame count head row'
   frame-set row' local cell lt is_set is =
       subst (IsFrame count head) (sym is)
       (record {
         within = omega (arith, frame.within, length-set row local cell);
-        locals = subst (All (IsKnown count)) (sym (take-set-lt head.locals row local cell lt)) (All-set (IsKnown count) (take head.locals row) local cell (known count cell is_set) frame.locals);
+        locals = subst (All (IsKnown count)) (sym (take-set-lt head.locals row local cell lt))
+            (All-set (IsKnown count) (take head.locals row) local cell (known count cell is_set) frame.locals);
         operands = subst (All (IsSet count)) (sym (drop-set-lt head.locals row local cell lt)) frame.operands;
       })

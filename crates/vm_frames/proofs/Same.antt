@@ -15,7 +15,8 @@ pub on_err : {A E P : Type 0} (r : Result A E) → P → OnErr r P
 on_err (Ok a) h = tt
 on_err (Err e) h = h
 
-module _ (s : Inside) (v : Seen) (view_is : seen_of s ≡ v) (kept : IsKept s) (s' : Inside) (head : s'.head ≡ s.head) (heads : s'.heads.items ≡ s.heads.items)
+module _ (s : Inside) (v : Seen) (view_is : seen_of s ≡ v) (kept : IsKept s) (s' : Inside) (head : s'.head ≡ s.head)
+    (heads : s'.heads.items ≡ s.heads.items)
     (running : s'.cells.running ≡ s.cells.running) (callers : s'.cells.callers ≡ s.cells.callers) where
   -- all that there is stays
   module _ (texts : s'.texts.items ≡ s.texts.items) (heap : s'.heap.items ≡ s.heap.items) where
@@ -37,7 +38,8 @@ module _ (s : Inside) (v : Seen) (view_is : seen_of s ≡ v) (kept : IsKept s) (
     running = subst (λ k. IsFrame k s'.head s'.cells.running) is
         (subst (λ h. IsFrame count h s'.cells.running) (sym head) (subst (IsFrame count s.head) (sym running) frame));
     callers = subst (λ k. AreFrames k (reverse s'.heads.items) s'.cells.callers) is
-        (subst (λ l. AreFrames count (reverse l) s'.cells.callers) (sym heads) (subst (AreFrames count (reverse s.heads.items)) (sym callers) are));
+        (subst (λ l. AreFrames count (reverse l) s'.cells.callers) (sym heads)
+        (subst (AreFrames count (reverse s.heads.items)) (sym callers) are));
     objects = subst (λ k. All (IsObject k) s'.heap.items) is all;
   }
 
@@ -51,10 +53,12 @@ module _ (s : Inside) (v : Seen) (view_is : seen_of s ≡ v) (kept : IsKept s) (
     module _ (text : Name) (texts : s'.texts.items ≡ s.texts.items ++ text ∷ []) (heap : s'.heap.items ≡ s.heap.items) where
       pub texted-kept : IsKept s'
       texted-kept =
-          let longer : length s.texts.items ≤ length (s.texts.items ++ text ∷ []) = omega (arith, length-append s.texts.items (text ∷ [])) in
+          let longer : length s.texts.items ≤ length (s.texts.items ++ text ∷ []) =
+          omega (arith, length-append s.texts.items (text ∷ [])) in
           frames-kept (length (s.texts.items ++ text ∷ [])) (sym (ap length texts)) spare
           (more-frame (length s.texts.items) (length (s.texts.items ++ text ∷ [])) longer s.head s.cells.running kept.running)
-          (more-frames (length s.texts.items) (length (s.texts.items ++ text ∷ [])) longer (reverse s.heads.items) s.cells.callers kept.callers)
+          (more-frames (length s.texts.items) (length (s.texts.items ++ text ∷ [])) longer
+          (reverse s.heads.items) s.cells.callers kept.callers)
           (subst (All (IsObject (length (s.texts.items ++ text ∷ [])))) (sym heap)
           (more-objects (length s.texts.items) (length (s.texts.items ++ text ∷ [])) longer s.heap.items kept.objects))
 
@@ -70,13 +74,17 @@ module _ (s : Inside) (v : Seen) (view_is : seen_of s ≡ v) (kept : IsKept s) (
           ∙ ap (λ t. t.machine) view_is
 
     -- an object more, and one that is changed
-    pub made-kept : (o : Object) → s'.texts.items ≡ s.texts.items → s'.heap.items ≡ s.heap.items ++ o ∷ [] → IsObject (length s.texts.items) o → IsKept s'
+    pub made-kept : (o : Object) → s'.texts.items ≡ s.texts.items → s'.heap.items ≡ s.heap.items ++ o ∷ [] →
+        IsObject (length s.texts.items) o → IsKept s'
     made-kept o texts heap is =
         frames-kept (length s.texts.items) (sym (ap length texts)) spare kept.running kept.callers
-        (subst (All (IsObject (length s.texts.items))) (sym heap) (All-push (IsObject (length s.texts.items)) s.heap.items o kept.objects is))
+        (subst (All (IsObject (length s.texts.items))) (sym heap)
+        (All-push (IsObject (length s.texts.items)) s.heap.items o kept.objects is))
 
-    pub written-kept : (n : ℕ) (o : Object) → s'.texts.items ≡ s.texts.items → s'.heap.items ≡ set s.heap.items n o → IsObject (length s.texts.items) o →
+    pub written-kept : (n : ℕ) (o : Object) → s'.texts.items ≡ s.texts.items → s'.heap.items ≡ set s.heap.items n o →
+        IsObject (length s.texts.items) o →
         IsKept s'
     written-kept n o texts heap is =
         frames-kept (length s.texts.items) (sym (ap length texts)) spare kept.running kept.callers
-        (subst (All (IsObject (length s.texts.items))) (sym heap) (All-set (IsObject (length s.texts.items)) s.heap.items n o is kept.objects))
+        (subst (All (IsObject (length s.texts.items))) (sym heap)
+        (All-set (IsObject (length s.texts.items)) s.heap.items n o is kept.objects))

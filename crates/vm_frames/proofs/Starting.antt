@@ -15,7 +15,8 @@ use Rattle.vm_frames.proofs.Calling.{map-replicate}
 
 -- a frame over none
 module _ (mid after : Frames Cell) (none : mid.running ≡ []) where
-  pub begins : (count locals : ℕ) → after.running ≡ drop (length mid.running - 0) mid.running ++ replicate count cells.Unset → count ≡ locals →
+  pub begins : (count locals : ℕ) → after.running ≡ drop (length mid.running - 0) mid.running ++ replicate count cells.Unset →
+      count ≡ locals →
       after.running ≡ replicate locals cells.Unset
   begins count locals is same =
       is ∙ ap (λ r. drop (length r - 0) r ++ replicate count cells.Unset) none ∙ ap (λ n. replicate n cells.Unset) same
@@ -37,9 +38,11 @@ module _ (s : Inside) (class method locals : ℕ) (texts : s.texts.items ≡ [])
     room = omega (arith, locals_is, long, enough);
     running = record {
       within = omega (arith, locals_is, long);
-      locals = subst (All (IsKnown (length s.texts.items))) (sym (take_all s.head.locals s.cells.running (omega (arith, locals_is, long)) ∙ running))
+      locals = subst (All (IsKnown (length s.texts.items)))
+          (sym (take_all s.head.locals s.cells.running (omega (arith, locals_is, long)) ∙ running))
           (All-replicate (IsKnown (length s.texts.items)) locals cells.Unset tt);
-      operands = subst (All (IsSet (length s.texts.items))) (sym (drop_all s.head.locals s.cells.running (omega (arith, locals_is, long)))) (All-nil (IsSet (length s.texts.items)));
+      operands = subst (All (IsSet (length s.texts.items))) (sym (drop_all s.head.locals s.cells.running (omega (arith, locals_is, long))))
+          (All-nil (IsSet (length s.texts.items)));
     };
     callers = subst (λ l. AreFrames (length s.texts.items) (reverse l) s.cells.callers) (sym heads) callers;
     objects = subst (All (IsObject (length s.texts.items))) (sym heap) (All-nil (IsObject (length s.texts.items)));
@@ -51,10 +54,21 @@ module _ (s : Inside) (class method locals : ℕ) (texts : s.texts.items ≡ [])
       ∙ ap (machine_in [] s.head (reverse s.heads.items) s.cells.running s.cells.callers) heap
       ∙ ap (λ l. machine_in [] s.head (reverse l) s.cells.running s.cells.callers []) heads
       ∙ ap (λ h. machine_in [] h [] s.cells.running s.cells.callers []) head
-      ∙ ap (λ r. machine_in [] (record { class = class; method = method; place = 0; told = None; locals = locals }) [] r s.cells.callers []) running
-      ∙ ap (λ l. record (started class method locals) { frame = record (started class method locals).frame { locals = map (local_in []) l; operands = values_in [] (drop locals (replicate locals cells.Unset)) } })
+      ∙ ap (λ r. machine_in [] (record { class = class; method = method; place = 0; told = None; locals = locals }) [] r s.cells.callers [])
+      running
+      ∙ ap (λ l. record (started class method locals) {
+        frame =
+            record (started class method locals).frame {
+              locals = map (local_in []) l;
+              operands =
+                  values_in [] (drop locals (replicate locals cells.Unset));
+            };
+      })
       (take_all locals (replicate locals cells.Unset) (omega (arith, length-replicate locals cells.Unset)))
-      ∙ ap (λ l. record (started class method locals) { frame = record (started class method locals).frame { locals = l; operands = values_in [] (drop locals (replicate locals cells.Unset)) } })
+      ∙ ap (λ l. record (started class method locals) {
+        frame =
+            record (started class method locals).frame { locals = l; operands = values_in [] (drop locals (replicate locals cells.Unset)) };
+      })
       (map-replicate (local_in []) locals cells.Unset)
       ∙ ap (λ l. record (started class method locals) { frame = record (started class method locals).frame { operands = values_in [] l } })
       (drop_all locals (replicate locals cells.Unset) (omega (arith, length-replicate locals cells.Unset)))

@@ -45,7 +45,8 @@ module _ (a b : ℕ) (le : a ≤ b) where
   more-frames (head ∷ heads) (row ∷ rows) are = (more-frame head row are.0, more-frames heads rows are.1)
 
   pub more-objects : (heap : List Object) → All (IsObject a) heap → All (IsObject b) heap
-  more-objects heap all = All-weaker (IsObject a) (IsObject b) (λ o each. All-weaker (IsSet a) (IsSet b) (more-set a b le) o.fields.items each) heap all
+  more-objects heap all = All-weaker (IsObject a) (IsObject b)
+      (λ o each. All-weaker (IsSet a) (IsSet b) (more-set a b le) o.fields.items each) heap all
 
 -- The same said.
 
@@ -81,7 +82,8 @@ module _ (texts : List Name) (text : Name) where
       ap (λ v. v ∷ map (local_in (texts ++ text ∷ [])) row) (same-local cell (All-head (IsKnown (length texts)) cell row all))
       ∙ ap (λ l. local_in texts cell ∷ l) (same-locals row (All-tail (IsKnown (length texts)) cell row all))
 
-  same-frame : (head : Head) (row : List Cell) → IsFrame (length texts) head row → frame_in (texts ++ text ∷ []) head row ≡ frame_in texts head row
+  same-frame : (head : Head) (row : List Cell) → IsFrame (length texts) head row →
+      frame_in (texts ++ text ∷ []) head row ≡ frame_in texts head row
   same-frame head row frame =
       ap (λ l. record (frame_in (texts ++ text ∷ []) head row) { locals = l }) (same-locals (take head.locals row) frame.locals)
       ∙ ap (λ l. record (frame_in texts head row) { operands = l }) (same-values (drop head.locals row) frame.operands)
@@ -101,11 +103,14 @@ module _ (texts : List Name) (text : Name) where
       (same-values o.fields.items (All-head (IsObject (length texts)) o heap all))
       ∙ ap (λ l. object_in texts o ∷ l) (same-objects heap (All-tail (IsObject (length texts)) o heap all))
 
-  pub same-machine : (texts' : List Name) (head : Head) (heads : List Head) (row : List Cell) (rows : List (List Cell)) (heap : List Object) →
-      texts' ≡ texts ++ text ∷ [] → IsFrame (length texts) head row → AreFrames (length texts) heads rows → All (IsObject (length texts)) heap →
+  pub same-machine : (texts' : List Name) (head : Head) (heads : List Head) (row : List Cell) (rows : List (List Cell))
+      (heap : List Object) →
+      texts' ≡ texts ++ text ∷ [] → IsFrame (length texts) head row → AreFrames (length texts) heads rows →
+      All (IsObject (length texts)) heap →
       machine_in texts' head heads row rows heap ≡ machine_in texts head heads row rows heap
   same-machine texts' head heads row rows heap is frame are all =
       ap (λ t. machine_in t head heads row rows heap) is
       ∙ ap (λ f. record (machine_in (texts ++ text ∷ []) head heads row rows heap) { frame = f }) (same-frame head row frame)
-      ∙ ap (λ l. record (machine_in texts head heads row rows heap) { callers = l; heap = objects_in (texts ++ text ∷ []) heap }) (same-frames heads rows are)
+      ∙ ap (λ l. record (machine_in texts head heads row rows heap) { callers = l; heap = objects_in (texts ++ text ∷ []) heap })
+      (same-frames heads rows are)
       ∙ ap (λ l. record (machine_in texts head heads row rows heap) { heap = l }) (same-objects heap all)

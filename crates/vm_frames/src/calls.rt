@@ -39,7 +39,8 @@ impl State {
         requires place { self.old.machine.frame.place < 2 ^ 32 - 1 }
         requires args { callee.args ≤ length self.old.machine.frame.operands }
         requires locals { callee.args ≤ callee.locals }
-        ensures ok { OnOk result (self.new.machine ≡ entered self.old.machine callee.class callee.method callee.args callee.locals callee.told) }
+        ensures ok { OnOk result (self.new.machine ≡ entered self.old.machine callee.class callee.method callee.args callee.locals
+            callee.told) }
         ensures err { OnErr result (self.new.machine ≡ self.old.machine) }
         ensures texts { self.new.texts ≡ self.old.texts }
     {
@@ -84,8 +85,8 @@ impl State {
     /// Leaves the running frame for the nearest that waits, if one does, and hands a value to it.
     pub fn leave(&mut self, value: Option<Cell>) -> bool
         requires { IfSome value (IsSet (length self.old.texts)) }
-        ensures yes { OnTrue result (left_to self.old.machine (option_to_list (option_map (value_in self.old.texts) value)) self.old.machine.callers
-            ≡ Some self.new.machine) }
+        ensures yes { OnTrue result (left_to self.old.machine (option_to_list (option_map (value_in self.old.texts) value))
+            self.old.machine.callers ≡ Some self.new.machine) }
         ensures no { OnFalse result ((self.old.machine.callers ≡ []) × (self.new.machine ≡ self.old.machine)) }
         ensures texts { self.new.texts ≡ self.old.texts }
     {

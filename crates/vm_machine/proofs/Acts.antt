@@ -52,7 +52,8 @@ enough p n m e =
 
 -- the tests in their order, none of which fails
 none_fails : (short kinds lacks members returns over : Bool) →
-    None ≡ (if short then Some bad.Underflow else if kinds then Some bad.Kind else if lacks then Some bad.Local else if members then Some bad.Member
+    None ≡ (if short then Some bad.Underflow else if kinds then Some bad.Kind else if lacks then Some bad.Local else if members then Some
+    bad.Member
     else if not returns then Some bad.Return else if over then Some bad.Overflow else None) → (lacks ≡ false) × (over ≡ false)
 none_fails true kinds lacks members returns over e = absurd (cc e)
 none_fails false true lacks members returns over e = absurd (cc e)
@@ -68,8 +69,10 @@ at_least a b e = grind (arith, nat_tests)
 -- where nothing is wrong there is room for what is pushed, and for the locals
 pub room_in : (p : Program) (n : Needs) (m : Machine) → None ≡ wrong p n m → (n.locals ≤ n.of_locals) × (n.operands ≤ n.max_stack)
 room_in p n m e =
-    let found : List (Option BadKind) = misfit_read n.reads m.frame.locals ∷ misfits p m.heap n.takes (on_top (length n.takes) m.frame.operands) in
-    let right = none_fails (nat_lt (length m.frame.operands) (length n.takes)) (some_of is_kind found) (nat_lt n.of_locals n.locals) (some_of is_member found) n.returns
+    let found : List (Option BadKind) =
+    misfit_read n.reads m.frame.locals ∷ misfits p m.heap n.takes (on_top (length n.takes) m.frame.operands) in
+    let right = none_fails (nat_lt (length m.frame.operands) (length n.takes)) (some_of is_kind found) (nat_lt n.of_locals n.locals)
+    (some_of is_member found) n.returns
     (nat_lt n.max_stack n.operands) e in (at_least n.of_locals n.locals right.0, at_least n.max_stack n.operands right.1)
 
 -- what a step is may be said in other words

@@ -16,22 +16,29 @@ pub calls_is : (p : Program) (q : Messages) (m new : Machine) (class method args
     args ≤ length m.frame.operands → locals ≡ max_locals_in (method_at p class method) → new ≡ entered m class method args locals told →
     model.calls_in p q m class method (below args m.frame.operands) (on_top args m.frame.operands) told event ≡ Went new q event
 calls_is p q m new class method args locals told event le locals_is is =
-    let count : length (on_top args m.frame.operands) ≡ args = omega (arith, length-drop (length m.frame.operands - args) m.frame.operands, le) in
-    let left : max_locals_in (method_at p class method) - length (on_top args m.frame.operands) ≡ locals - args = omega (arith, count, locals_is) in
+    let count : length (on_top args m.frame.operands) ≡ args =
+    omega (arith, length-drop (length m.frame.operands - args) m.frame.operands, le) in
+    let left : max_locals_in (method_at p class method) - length (on_top args m.frame.operands) ≡ locals - args =
+    omega (arith, count, locals_is) in
     ap (λ k. Went (record (entered m class method args locals told) {
-      frame = record (entered m class method args locals told).frame { locals = map Some (on_top args m.frame.operands) ++ replicate k None };
+      frame = record (entered m class method args locals told).frame {
+        locals =
+            map Some (on_top args m.frame.operands) ++ replicate k None;
+      };
     }) q event) left
     ∙ ap (λ n. Went n q event) (sym is)
 
 -- what is left leads to the frame that waits
-pub returns_is : (q : Messages) (m new : Machine) (vs : List Value) (frames : List Frame) (event : Option Event) → left_to m vs frames ≡ Some new →
+pub returns_is : (q : Messages) (m new : Machine) (vs : List Value) (frames : List Frame) (event : Option Event) →
+    left_to m vs frames ≡ Some new →
     event ≡ model.left m.frame.told vs → model.returns q m vs frames ≡ Went new q event
 returns_is q m new vs [] event is e = absurd (cc is)
 returns_is q m new vs (f ∷ fs) event is e =
     let same : record m { frame = record f { operands = f.operands ++ vs }; callers = fs } ≡ new = cc in
     ap (λ n. Went n q (model.left m.frame.told vs)) same ∙ ap (Went new q) (sym e)
 
-pub ends_is : (q : Messages) (m : Machine) (vs : List Value) (frames : List Frame) → frames ≡ [] → model.returns q m vs frames ≡ Stops endings.Done
+pub ends_is : (q : Messages) (m : Machine) (vs : List Value) (frames : List Frame) → frames ≡ [] →
+    model.returns q m vs frames ≡ Stops endings.Done
 ends_is q m vs frames e = ap (model.returns q m vs) e
 
 -- an object whose class is known

@@ -40,7 +40,8 @@ fn push(state: &mut State, max: u16, cell: Cell) -> bool
     requires place { state.old.machine.frame.place < 2 ^ 32 - 1 }
     requires set { IsSet (length state.old.texts) cell }
     ensures room { OnTrue result (length (operands_of state.old) + 1 ≤ max) }
-    ensures yes { OnTrue result (state_of state.new ≡ next (state_of state.old) (operands_of state.old ++ value_in state.old.texts cell ∷ [])) }
+    ensures yes { OnTrue result (state_of state.new ≡ next (state_of state.old)
+        (operands_of state.old ++ value_in state.old.texts cell ∷ [])) }
     ensures no { OnFalse result (state_of state.new ≡ state_of state.old) }
 {
     if state.depth() >= usize::from(max) {

@@ -174,8 +174,8 @@ impl Machine {
         ports: &mut Ports,
         me: u32,
     ) -> Result<Stepped, Memory>
-        ensures ok { IfOk result (λ s. Does (model.step (classes_of linked.now.classes.items) me self.old.machine ports.old) self.old.machine
-            ports.old self.new.machine ports.new s) }
+        ensures ok { IfOk result (λ s. Does (model.step (classes_of linked.now.classes.items) me self.old.machine ports.old)
+            self.old.machine ports.old self.new.machine ports.new s) }
         ensures err { OnErr result (self.new.machine ≡ self.old.machine) }
         ensures err_ports { OnErr result (ports.new ≡ ports.old) }
         ensures steady { OnErr result (is_steady (next_action (classes_of linked.now.classes.items) self.old.machine) ≡ false) }

@@ -71,7 +71,8 @@ pub(crate) fn text<'a>() -> Want<'a>
 
 /// The class of an object, of a text and of the print stream.
 fn class_of_value<'a>(linked: &'a Linked, state: &State, cell: Cell) -> &'a str
-    ensures { result.now ≡ model.class_of_value (classes_of linked.now.classes.items) (state_of state.now).heap (value_in state.now.texts cell) }
+    ensures { result.now ≡ model.class_of_value (classes_of linked.now.classes.items) (state_of state.now).heap
+        (value_in state.now.texts cell) }
 {
     match cell {
         Cell::Object(number) => match state.class_of_object(number) {

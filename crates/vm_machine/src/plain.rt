@@ -36,10 +36,7 @@ fn push(state: &mut State, cell: Cell) -> Stepped
 }
 
 /// Pushes a constant. A text is put into the table first.
-pub(crate) fn push_constant(
-    state: &mut State,
-    constant: Constant<'_>,
-) -> Result<Stepped, Memory>
+pub(crate) fn push_constant(state: &mut State, constant: Constant<'_>) -> Result<Stepped, Memory>
     requires place { state.old.machine.frame.place < 2 ^ 32 - 1 }
     requires room { length (operands_of state.old) < most }
     ensures ok { IfOk result (λ s. Plays (λ q. model.goes q (model.next (state_of state.old)

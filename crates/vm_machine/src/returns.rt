@@ -141,11 +141,7 @@ fn leave(state: &mut State, value: Option<Cell>) -> Stepped
 }
 
 /// Returns, with a value of this sort or none.
-pub(crate) fn return_from(
-    state: &mut State,
-    linked: &Linked,
-    sort: Option<Sort>,
-) -> Stepped
+pub(crate) fn return_from(state: &mut State, linked: &Linked, sort: Option<Sort>) -> Stepped
     ensures { (me : ℕ) → Plays (λ q. model.act (classes_of linked.now.classes.items) q (state_of state.old) me
         (actions.Return (option_map sort_of sort))) (state_of state.old) (state_of state.new) result }
 {

@@ -190,11 +190,7 @@ pub(crate) fn send(
 }
 
 /// Looks at the label of the next message from a role.
-pub(crate) fn look(
-    state: &mut State,
-    ports: &Ports,
-    me: u32,
-) -> Result<Stepped, Memory>
+pub(crate) fn look(state: &mut State, ports: &Ports, me: u32) -> Result<Stepped, Memory>
     requires place { state.old.machine.frame.place < 2 ^ 32 - 1 }
     requires within { 1 ≤ length (operands_of state.old) }
     ensures ok { IfOk result (λ s. Does (looks_by ports.now (state_of state.old) me (below 1 (operands_of state.old))

@@ -309,7 +309,8 @@ fn act(
 /// The next instruction.
 pub(crate) fn next_instr<'a>(linked: &'a Linked, state: &State) -> Option<&'a LinkedInstr>
     ensures value { option_map (λ i. instr_of i.now) result ≡ slice_get
-        (model.code_in (tests.method_of_frame (classes_of linked.now.classes.items) (state_of state.now).frame)) state.now.machine.frame.place }
+        (model.code_in (tests.method_of_frame (classes_of linked.now.classes.items) (state_of state.now).frame))
+        state.now.machine.frame.place }
     ensures place { OnSome result (state.now.machine.frame.place < 2 ^ 32 - 1) }
 {
     let method = method_at(linked, state.class(), state.method())?;

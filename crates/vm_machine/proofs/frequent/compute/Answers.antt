@@ -22,7 +22,8 @@ returns c =
     let e : to_z w32 (of_z w32 c.in-Some.x) ≡ c.in-Some.x = grind (arith, to_z-of_z) in
     let f : to_z w32 (of_z w32 c.in-Some-int_at.y) ≡ c.in-Some-int_at.y = grind (arith, to_z-of_z) in
     let g : to_z w32 (of_z w32 c.in-Some-computed.z) ≡ c.in-Some-computed.z = grind (arith, to_z-of_z) in
-    compute_alone c.args.max m (state_of c.put.new.state) (omega arith) c.in-Some.x c.in-Some-int_at.y
+    compute_alone c.args.max m (state_of c.put.new.self) (omega arith) c.in-Some.x c.in-Some-int_at.y
     (sym c.in-Some.is ∙ c.int_at.ensures) (sym c.in-Some-int_at.is ∙ c.int_at-2.ensures)
-    (operation_of c.args.operation) c.in-Some-computed.z (sym c.in-Some-computed.is ∙ c.computed.ensures ∙ (λ i. computed (operation_of c.args.operation) (e i) (f i))) (omega arith)
+    (operation_of c.args.operation) c.in-Some-computed.z
+    (sym c.in-Some-computed.is ∙ c.computed.ensures ∙ (λ i. computed (operation_of c.args.operation) (e i) (f i))) (omega arith)
     (c.put.ensures.machine ∙ (λ i. at_place m (c.place-place.ensures i + 1) (below 2 m.frame.operands ++ values.Int (g i) ∷ [])))

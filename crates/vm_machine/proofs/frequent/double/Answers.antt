@@ -19,5 +19,7 @@ use Rattle.vm_machine.proofs.frequent.double.Goals as goal
 pub returns : goal.returns
 returns c =
     let says : Value = value_in c.args.state.now.texts c.operand-cell.result in
-    alone_if c.args.max Double (state_of c.args.state.now) (state_of c.push.new.state) c.push.result c.push.ensures.room c.push.ensures.yes c.push.ensures.no
-    (λ room is. double_alone c.args.max (state_of c.args.state.now) (state_of c.push.new.state) (omega arith) says says c.operand-cell.ensures.value refl room is)
+    alone_if c.args.max Double (state_of c.args.state.now)
+    (state_of c.push.new.state) c.push.result c.push.ensures.room c.push.ensures.yes c.push.ensures.no
+    (λ room is. double_alone c.args.max (state_of c.args.state.now) (state_of c.push.new.state)
+    (omega arith) says says c.operand-cell.ensures.value refl room is)

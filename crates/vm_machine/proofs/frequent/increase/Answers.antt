@@ -23,9 +23,9 @@ returns c =
     let by : to_z w8 (of_z w8 c.args.by.now) ≡ c.args.by.now = grind (arith, to_z-of_z) in
     let g : to_z w32 (of_z w32 c.added.result) ≡ c.added.result = grind (arith, to_z-of_z) in
     let made : to_z w32 (of_z w32 c.added.result) ≡ wrap (c.in-Some.x +ℤ c.args.by.now) = g ∙ c.added.ensures ∙ (λ i. wrap (e i +ℤ by i)) in
-    let stored : (state_of c.set_local.new.state) ≡ with_local m c.args.local (values.Int (wrap (c.in-Some.x +ℤ c.args.by.now))) =
+    let stored : (state_of c.set_local.new.self) ≡ with_local m c.args.local (values.Int (wrap (c.in-Some.x +ℤ c.args.by.now))) =
     c.set_local.ensures.machine ∙ (λ i. with_local m (c.from-local.ensures i) (values.Int (made i))) in
-    increase_alone c.args.max m (state_of c.go_to.new.state) c.args.local c.args.by.now c.in-Some.x
+    increase_alone c.args.max m (state_of c.go_to.new.self) c.args.local c.args.by.now c.in-Some.x
     (sym c.in-Some.is ∙ c.int_of_local.ensures ∙ (λ i. int_of_local (slice_get m.frame.locals (c.from-local.ensures i)))) (omega arith)
-    (c.go_to.ensures.machine ∙ ap (at_place (state_of c.set_local.new.state) (c.place-place.result + 1)) refl
+    (c.go_to.ensures.machine ∙ ap (at_place (state_of c.set_local.new.self) (c.place-place.result + 1)) refl
     ∙ (λ i. at_place (stored i) ((c.place-place.ensures ∙ ap (λ (n : Machine). n.frame.place) stored) i + 1) (stored i).frame.operands))

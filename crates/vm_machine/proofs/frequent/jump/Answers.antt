@@ -17,4 +17,4 @@ use Rattle.vm_machine.proofs.Ready.{go_alone}
 use Rattle.vm_machine.proofs.frequent.jump.Goals as goal
 
 pub returns : goal.returns
-returns c = go_alone c.args.max (state_of c.args.state.now) (state_of c.go_to.new.state) c.args.target (omega arith) c.go_to.ensures.machine
+returns c = go_alone c.args.max (state_of c.args.state.now) (state_of c.go_to.new.self) c.args.target (omega arith) c.go_to.ensures.machine

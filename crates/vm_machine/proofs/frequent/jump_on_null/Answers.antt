@@ -19,7 +19,9 @@ use Rattle.vm_machine.proofs.frequent.jump_on_null.Goals as goal
 pub returns : goal.returns
 returns c =
     let says : Value = value_in c.args.state.now.texts c.operand-cell.result in
-    if_null_alone c.args.max (state_of c.args.state.now) (state_of c.drop.new.state) (omega arith) c.args.wanted c.args.target c.place_after-place.result
-    says c.operand-cell.ensures.value (when_true c.is_of_sort.result c.if-not-is_of_sort.false c.is_of_sort.ensures c.args.state.now.texts) (omega arith)
+    if_null_alone c.args.max (state_of c.args.state.now) (state_of c.drop.new.self)
+    (omega arith) c.args.wanted c.args.target c.place_after-place.result
+    says c.operand-cell.ensures.value (when_true c.is_of_sort.result c.if-not-is_of_sort.false c.is_of_sort.ensures c.args.state.now.texts)
+    (omega arith)
     (c.place_after-place.ensures ∙ ap (λ (b : Bool). if b then c.args.target else (state_of c.args.state.now).frame.place + 1)
     (c.same_truth-test.ensures ∙ ap (same_truth c.args.wanted) (c.is_null.ensures c.args.state.now.texts))) c.drop.ensures.machine

@@ -21,5 +21,6 @@ returns c =
     let m : Machine = state_of c.args.state.now in
     let e : to_z w32 (of_z w32 c.in-Some.x) ≡ c.in-Some.x = grind (arith, to_z-of_z) in
     let g : to_z w32 (of_z w32 c.negated.result) ≡ c.negated.result = grind (arith, to_z-of_z) in
-    negate_alone c.args.max m (state_of c.put.new.state) (omega arith) c.in-Some.x (sym c.in-Some.is ∙ c.int_at.ensures) (omega arith)
-    (c.put.ensures.machine ∙ (λ i. at_place m (c.place-place.ensures i + 1) (below 1 m.frame.operands ++ values.Int ((g ∙ c.negated.ensures ∙ ap (λ z. wrap (neg_ℤ z)) e) i) ∷ [])))
+    negate_alone c.args.max m (state_of c.put.new.self) (omega arith) c.in-Some.x (sym c.in-Some.is ∙ c.int_at.ensures) (omega arith)
+    (c.put.ensures.machine ∙ (λ i. at_place m (c.place-place.ensures i + 1)
+    (below 1 m.frame.operands ++ values.Int ((g ∙ c.negated.ensures ∙ ap (λ z. wrap (neg_ℤ z)) e) i) ∷ [])))

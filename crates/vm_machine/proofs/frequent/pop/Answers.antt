@@ -19,5 +19,5 @@ use Rattle.vm_machine.proofs.frequent.pop.Goals as goal
 pub returns : goal.returns
 returns c =
     let m : Machine = state_of c.args.state.now in
-    pop_alone c.args.max m (state_of c.drop.new.state) (omega arith) (omega arith)
+    pop_alone c.args.max m (state_of c.drop.new.self) (omega arith) (omega arith)
     (c.drop.ensures.machine ∙ (λ i. at_place m (c.place-place.ensures i + 1) (below 1 m.frame.operands)))

@@ -20,9 +20,10 @@ pub returns : goal.returns
 returns c =
     let m : Machine = state_of c.args.state.now in
     let says : Value = value_in c.args.state.now.texts c.operand-cell.result in
-    let stored : (state_of c.set_local.new.state) ≡ with_local m c.args.local says =
+    let stored : (state_of c.set_local.new.self) ≡ with_local m c.args.local says =
     c.set_local.ensures.machine ∙ (λ i. with_local m (c.from-local.ensures i) says) in
-    store_alone c.args.max m (state_of c.drop.new.state) (omega arith) (sort_of c.args.sort) c.args.local says c.operand-cell.ensures.value
+    store_alone c.args.max m (state_of c.drop.new.self) (omega arith) (sort_of c.args.sort) c.args.local says c.operand-cell.ensures.value
     (when_true c.is_of_sort.result c.if-not-is_of_sort.false c.is_of_sort.ensures c.args.state.now.texts) (omega arith) (omega arith)
     (c.drop.ensures.machine
-    ∙ (λ i. at_place (stored i) ((c.place-place.ensures ∙ ap (λ (n : Machine). n.frame.place) stored) i + 1) (below 1 (stored i).frame.operands)))
+    ∙ (λ i. at_place (stored i) ((c.place-place.ensures ∙ ap (λ (n : Machine). n.frame.place) stored) i + 1)
+    (below 1 (stored i).frame.operands)))

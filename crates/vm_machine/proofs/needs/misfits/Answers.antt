@@ -18,7 +18,8 @@ loop-at-preserved c =
     record {
       kind = found_more (classes_of c.args.linked.now.classes.items) (state_of c.args.state.now).heap model.is_kind c.args.takes.now tops
           c.loop-at.at _ v _ _ _ c.loop-at-test.true there (rw c.misfit.ensures at c.noted-found.ensures.kind) c.loop-at.invariant.kind;
-      member = found_more (classes_of c.args.linked.now.classes.items) (state_of c.args.state.now).heap model.is_member c.args.takes.now tops
+      member = found_more (classes_of c.args.linked.now.classes.items)
+          (state_of c.args.state.now).heap model.is_member c.args.takes.now tops
           c.loop-at.at _ v _ _ _ c.loop-at-test.true there (rw c.misfit.ensures at c.noted-found.ensures.member) c.loop-at.invariant.member;
     }
 

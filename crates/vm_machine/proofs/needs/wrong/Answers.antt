@@ -18,10 +18,14 @@ returns c =
     c.judged.ensures
     ∙ wrong_is p (needs_of c.args.needs.now) m c.misfits-found.result.kind c.misfits-found.result.member within
     (c.misfits-found.ensures.kind
-    ∙ ap (λ b. b || model.some_of model.is_kind (model.misfits p m.heap takes (model.on_top (length c.args.needs.now.takes.now) m.frame.operands)))
+    ∙ ap (λ b. b || model.some_of model.is_kind
+    (model.misfits p m.heap takes (model.on_top (length c.args.needs.now.takes.now) m.frame.operands)))
     (c.noted-read.ensures.kind ∙ ap model.is_kind c.misfit_read.ensures)
-    ∙ ap (λ (k : ℕ). model.is_kind (model.misfit_read reads m.frame.locals) || model.some_of model.is_kind (model.misfits p m.heap takes (model.on_top k m.frame.operands))) (sym count))
+    ∙ ap (λ (k : ℕ). model.is_kind (model.misfit_read reads m.frame.locals) || model.some_of model.is_kind
+    (model.misfits p m.heap takes (model.on_top k m.frame.operands))) (sym count))
     (c.misfits-found.ensures.member
-    ∙ ap (λ b. b || model.some_of model.is_member (model.misfits p m.heap takes (model.on_top (length c.args.needs.now.takes.now) m.frame.operands)))
+    ∙ ap (λ b. b || model.some_of model.is_member
+    (model.misfits p m.heap takes (model.on_top (length c.args.needs.now.takes.now) m.frame.operands)))
     (c.noted-read.ensures.member ∙ ap model.is_member c.misfit_read.ensures)
-    ∙ ap (λ (k : ℕ). model.is_member (model.misfit_read reads m.frame.locals) || model.some_of model.is_member (model.misfits p m.heap takes (model.on_top k m.frame.operands))) (sym count))
+    ∙ ap (λ (k : ℕ). model.is_member (model.misfit_read reads m.frame.locals) || model.some_of model.is_member
+    (model.misfits p m.heap takes (model.on_top k m.frame.operands))) (sym count))

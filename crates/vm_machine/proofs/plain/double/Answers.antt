@@ -9,5 +9,5 @@ pub returns : goal.returns
 returns c =
     let m = state_of c.args.state.now in
     let v = value_in c.args.state.now.texts c.operand-cell.result in λ q.
-    doubles q m (state_of c.push.new.state) (operands_of c.args.state.now) v v c.operand-cell.ensures.value refl
+    doubles q m (state_of c.push.new.self) (operands_of c.args.state.now) v v c.operand-cell.ensures.value refl
     (c.push.ensures.machine ∙ (λ i. at_place m (c.place-place.ensures i + 1) (m.frame.operands ++ v ∷ [])))

@@ -12,6 +12,7 @@ returns c =
     let m : Machine = state_of c.args.state.now in
     let w = value_in c.args.state.now.texts c.operand-top.result in
     let v = value_in c.args.state.now.texts c.operand-under.result in
-    λ q. swaps q m (state_of c.push.new.state) (operands_of c.args.state.now) v w c.operand-under.ensures.value c.operand-top.ensures.value
+    λ q. swaps q m (state_of c.push.new.self) (operands_of c.args.state.now) v w c.operand-under.ensures.value c.operand-top.ensures.value
     (c.push.ensures.machine
-    ∙ (λ i. at_place (c.put.ensures.machine i) (c.place-place.ensures i + 1) ((c.put.ensures.machine i).frame.operands ++ value_in (c.put.ensures.texts i) c.operand-under.result ∷ [])))
+    ∙ (λ i. at_place (c.put.ensures.machine i) (c.place-place.ensures i + 1)
+    ((c.put.ensures.machine i).frame.operands ++ value_in (c.put.ensures.texts i) c.operand-under.result ∷ [])))

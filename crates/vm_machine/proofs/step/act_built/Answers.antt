@@ -125,5 +125,6 @@ returns-in-Refuse-clause-ok c =
 
 pub push_out-requires-clause-room : goal.push_out-requires-clause-room
 push_out-requires-clause-room c =
-    let right = room_in (classes_of c.args.linked.now.classes.items) _ (state_of c.args.state.now) (rw c.in-Out.is at (sym c.in_default.is ∙ c.check_built.ensures.wrong)) in
+    let right = room_in (classes_of c.args.linked.now.classes.items) _ (state_of c.args.state.now)
+    (rw c.in-Out.is at (sym c.in_default.is ∙ c.check_built.ensures.wrong)) in
     omega (arith, right.1, c.check_built.ensures.small)

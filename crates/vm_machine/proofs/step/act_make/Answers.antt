@@ -22,5 +22,6 @@ returns-clause-ok c =
 
 pub make-requires-clause-room : goal.make-requires-clause-room
 make-requires-clause-room c =
-    let right = room_in (classes_of c.args.linked.now.classes.items) _ (state_of c.args.state.now) (sym c.in_default.is ∙ c.check.ensures.wrong) in
+    let right = room_in (classes_of c.args.linked.now.classes.items) _ (state_of c.args.state.now)
+    (sym c.in_default.is ∙ c.check.ensures.wrong) in
     omega (arith, right.1, c.check.ensures.small)

@@ -10,4 +10,5 @@ pub returns : goal.returns
 returns c =
     let s = c.self.inside in
     c.class_at.ensures ∙ ap (λ (l : List Object). option_map (λ o. o.class) (slice_get l c.args.object)) c.as_slice.ensures.value
-    ∙ class_is s.texts.items s.head (reverse s.heads.items) s.cells.running s.cells.callers s.heap.items c.args.self.now c.self.view_is c.args.object
+    ∙ class_is s.texts.items s.head
+    (reverse s.heads.items) s.cells.running s.cells.callers s.heap.items c.args.self.now c.self.view_is c.args.object

@@ -8,10 +8,12 @@ drop_top-requires c = omega (arith, c.requires, depth_is c.self.inside c.args.se
 
 pub invariant_of-self : goal.invariant_of-self
 invariant_of-self c =
-    dropped-kept c.self.inside c.args.self.now c.self.view_is c.self.invariant c.drop_top.new.self c.drop_top.ensures.callers c.args.place c.args.count
+    dropped-kept c.self.inside c.args.self.now c.self.view_is c.self.invariant c.drop_top.new.self c.drop_top.ensures.callers c.args.place
+    c.args.count
     c.drop_top.ensures.running c.requires c.drop_top.ensures.spare
 
 pub returns-clause-machine : goal.returns-clause-machine
 returns-clause-machine c =
-    drops c.self.inside c.args.self.now c.self.view_is c.self.invariant c.drop_top.new.self c.drop_top.ensures.callers c.args.place c.args.count
+    drops c.self.inside c.args.self.now c.self.view_is c.self.invariant c.drop_top.new.self c.drop_top.ensures.callers c.args.place
+    c.args.count
     c.drop_top.ensures.running c.requires

@@ -35,7 +35,12 @@ overflow_add-caller c = omega (arith, c.requires.place, place_is c.self.inside c
 
 pub enter-requires-clause-args : goal.enter-requires-clause-args
 enter-requires-clause-args c =
-    omega (arith, c.requires.args, depth_is c.self.inside c.args.self.now c.self.view_is c.self.invariant, ap length c.reserve-2.ensures.frames.0)
+    omega (
+      arith,
+      c.requires.args,
+      depth_is c.self.inside c.args.self.now c.self.view_is c.self.invariant,
+      ap length c.reserve-2.ensures.frames.0,
+    )
 
 pub invariant_of-self-in-Ok : goal.invariant_of-self-in-Ok
 invariant_of-self-in-Ok c =
@@ -48,7 +53,8 @@ invariant_of-self-in-Ok c =
       cells = c.enter.new.self;
       head = record { class = callee.class; method = callee.method; place = 0; told = callee.told; locals = callee.locals };
     })
-    callee.class callee.method callee.args callee.locals callee.told mid refl refl c.requires.args c.requires.locals c.reserve-2.ensures.frames refl
+    callee.class callee.method callee.args callee.locals callee.told mid refl refl c.requires.args c.requires.locals
+    c.reserve-2.ensures.frames refl
     (c.push_reserved.ensures.items ∙ ap (λ (l : List Head). l ++ record s.head { place = s.head.place + 1 } ∷ []) c.reserve.ensures.items)
     (c.enter.ensures.running
     ∙ ap (λ n. drop (length mid.running - callee.args) mid.running ++ replicate (n - callee.args) cells.Unset) c.from.ensures)
@@ -65,7 +71,8 @@ returns-in-Ok-clause-ok c =
       cells = c.enter.new.self;
       head = record { class = callee.class; method = callee.method; place = 0; told = callee.told; locals = callee.locals };
     })
-    callee.class callee.method callee.args callee.locals callee.told mid refl refl c.requires.args c.requires.locals c.reserve-2.ensures.frames refl
+    callee.class callee.method callee.args callee.locals callee.told mid refl refl c.requires.args c.requires.locals
+    c.reserve-2.ensures.frames refl
     (c.push_reserved.ensures.items ∙ ap (λ (l : List Head). l ++ record s.head { place = s.head.place + 1 } ∷ []) c.reserve.ensures.items)
     (c.enter.ensures.running
     ∙ ap (λ n. drop (length mid.running - callee.args) mid.running ++ replicate (n - callee.args) cells.Unset) c.from.ensures)

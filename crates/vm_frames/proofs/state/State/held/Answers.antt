@@ -8,15 +8,18 @@ at-requires c = has_local c.self.inside c.args.self.now c.self.view_is c.self.in
 
 pub returns-in-Unset-clause-value : goal.returns-in-Unset-clause-value
 returns-in-Unset-clause-value c =
-    unset_held c.self.inside c.args.self.now c.self.view_is c.self.invariant c.args.local c.at.result (omega (arith, c.from.ensures)) c.at.ensures
+    unset_held c.self.inside c.args.self.now c.self.view_is c.self.invariant c.args.local c.at.result
+    (omega (arith, c.from.ensures)) c.at.ensures
     c.in-Unset.is
 
 pub returns-in_default-clause-value : goal.returns-in_default-clause-value
 returns-in_default-clause-value c =
-    held_says c.self.inside c.args.self.now c.self.view_is c.self.invariant c.args.local c.at.result (omega (arith, c.from.ensures)) c.at.ensures
+    held_says c.self.inside c.args.self.now c.self.view_is c.self.invariant c.args.local c.at.result
+    (omega (arith, c.from.ensures)) c.at.ensures
     c.in_default.not-Unset
 
 pub returns-in_default-clause-set : goal.returns-in_default-clause-set
 returns-in_default-clause-set c =
-    held_set c.self.inside c.args.self.now c.self.view_is c.self.invariant c.args.local c.at.result (omega (arith, c.from.ensures)) c.at.ensures
+    held_set c.self.inside c.args.self.now c.self.view_is c.self.invariant c.args.local c.at.result
+    (omega (arith, c.from.ensures)) c.at.ensures
     c.in_default.not-Unset

@@ -12,8 +12,10 @@ push-requires c = omega (arith, c.requires.some, c.drop_top.ensures.spare)
 
 pub invariant_of-self : goal.invariant_of-self
 invariant_of-self c =
-    put-kept c.self.inside c.args.self.now c.self.view_is c.self.invariant c.push.new.self (c.push.ensures.callers ∙ c.drop_top.ensures.callers)
-    c.drop_top.new.self c.args.place c.args.count c.args.cell c.requires.within c.drop_top.ensures.running c.push.ensures.running c.requires.some
+    put-kept c.self.inside c.args.self.now c.self.view_is c.self.invariant c.push.new.self
+    (c.push.ensures.callers ∙ c.drop_top.ensures.callers)
+    c.drop_top.new.self c.args.place c.args.count c.args.cell c.requires.within c.drop_top.ensures.running c.push.ensures.running
+    c.requires.some
     c.push.ensures.spare c.drop_top.ensures.spare
     (subst (λ t. IsSet (length t) c.args.cell) (texts_is c.self.inside c.args.self.now c.self.view_is c.self.invariant) c.requires.set)
 
