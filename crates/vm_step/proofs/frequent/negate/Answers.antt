@@ -1,0 +1,26 @@
+use Rattle.std.proofs.Common.{◌≡◌, ℕ, ◌+◌, ◌++◌, ◌∷◌, [], Bool, List, Option, Some, arith, refl, sym, ap, ◌∙◌, pos, set, slice_get, to_z, of_z, ◌+ℤ◌}
+use Rattle.std.proofs.lemmas.Int.{to_z-of_z}
+use Rattle.std.specs.Prelude.{if◌then◌else◌, neg_ℤ}
+use mir.Syntax.{w8, w32}
+use Rattle.vm_model.specs.declared.value.Value.{Value}
+use Rattle.vm_model.specs.declared.value.Value.TheVariants as values
+use Rattle.vm_model.specs.Machine.{Machine}
+use Rattle.vm_model.specs.Actions.{Push, Load, Double, Reference}
+use Rattle.vm_model.specs.Tests.{below, is_null}
+use Rattle.vm_model.specs.Arithmetic.{wrap, computed, compares, switched}
+use Rattle.vm_model.specs.Step.{next, at_place, with_local, same_truth}
+use Rattle.vm_frames.specs.Seen.{value_in}
+use Rattle.vm_step.specs.State.{state_of, operands_of}
+use Rattle.vm_step.specs.Table.{sort_of, constant_of, operation_of, comparison_of}
+use Rattle.vm_step.specs.inner.Tops.{int_of_local}
+use Rattle.vm_step.proofs.Ready.{negate_alone}
+use Rattle.vm_step.proofs.frequent.negate.Goals as goal
+
+pub returns : goal.returns
+returns c =
+    let m : Machine = state_of c.args.state.now in
+    let e : to_z w32 (of_z w32 c.in-Some.x) ≡ c.in-Some.x = grind (arith, to_z-of_z) in
+    let g : to_z w32 (of_z w32 c.negated.result) ≡ c.negated.result = grind (arith, to_z-of_z) in
+    negate_alone c.args.max m (state_of c.put.new.self) (omega arith) c.in-Some.x (sym c.in-Some.is ∙ c.int_at.ensures) (omega arith)
+    (c.put.ensures.machine ∙ (λ i. at_place m (c.place-place.ensures i + 1)
+    (below 1 m.frame.operands ++ values.Int ((g ∙ c.negated.ensures ∙ ap (λ z. wrap (neg_ℤ z)) e) i) ∷ [])))
