@@ -67,7 +67,9 @@ impl State {
 
     /// The frame that goes on where the running one is left, if one waits.
     pub fn waiting(&self) -> Option<Waiting>
-        ensures { MatchOption result (self.now.machine.callers ≡ []) (λ w. IsNearest w.class w.method w.operands self.now.machine.callers) }
+        ensures nearest { MatchOption result (self.now.machine.callers ≡ [])
+            (λ w. IsNearest w.class w.method w.operands self.now.machine.callers) }
+        ensures bound { IfSome result (λ w. w.operands < 2 ^ 63) }
     {
         let Some(head) = self.heads.last() else {
             return None;

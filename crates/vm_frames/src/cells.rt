@@ -1,7 +1,7 @@
 //! The operands and locals of the running frame, by the cells where they lie.
 //! Nothing here takes memory.
 
-ghost use Rattle.std.specs.Prelude.{◌≡◌, ◌+◌, ◌-◌, ◌<◌, ◌≤◌, ◌++◌, ◌∷◌, [], length, slice_get, option_map, IfSome, Some};
+ghost use Rattle.std.specs.Prelude.{◌≡◌, ◌+◌, ◌-◌, ◌<◌, ◌≤◌, ◌^◌, ◌++◌, ◌∷◌, [], length, slice_get, option_map, IfSome, Some};
 ghost use Rattle.vm_model.specs.Tests.{below};
 ghost use Rattle.vm_model.specs.Step.{at_place, with_local};
 ghost use Rattle.vm_frames.specs.Seen.{value_in, held_in, IsSet};
@@ -14,7 +14,8 @@ impl State {
     /// How many operands there are.
     #[inline(always)]
     pub fn depth(&self) -> usize
-        ensures { result ≡ length self.now.machine.frame.operands }
+        ensures value { result ≡ length self.now.machine.frame.operands }
+        ensures bound { result < 2 ^ 63 }
     {
         self.cells.depth() - usize::from(self.head.locals)
     }

@@ -6,6 +6,7 @@ mod calls;
 mod cell;
 mod cells;
 mod heap;
+mod notes;
 mod state;
 mod texts;
 

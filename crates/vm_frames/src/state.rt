@@ -7,10 +7,12 @@ ghost use Rattle.vm_frames.specs.Frames.{started};
 ghost use Rattle.vm_frames.specs.Lying.{AllLie};
 
 use crate::cell::{Cell, Head, Object};
+use crate::notes::Notes;
 use mg_text::{List, Memory, Text};
 use raw_stack::RawStack;
 use std::alloc::Global;
 use std::marker::Model;
+use vm_model::Linked;
 
 /// The frames, objects and texts of a machine. There is always room for as many operands of the
 /// running frame as a method may have.
@@ -23,6 +25,7 @@ pub struct State {
     pub(crate) heads: Vec<Head>,
     pub(crate) heap: Vec<Object>,
     pub(crate) texts: List<Text>,
+    pub(crate) notes: Notes,
 }
 
 impl Model for State {
@@ -42,15 +45,22 @@ impl Model for State {
 pub const MOST: usize = 0xffff;
 
 impl State {
-    /// The state at the beginning of a method that has so many locals: one frame, whose locals are
-    /// unset, and no objects.
+    /// The state at the beginning of a method of a program that has so many locals: one frame, whose
+    /// locals are unset, and no objects.
     ///
     /// # Errors
     /// `Memory` only.
-    pub fn start(alloc: Global, class: u32, method: u32, locals: u16) -> Result<State, Memory>
+    pub fn start(
+        alloc: Global,
+        linked: &Linked,
+        class: u32,
+        method: u32,
+        locals: u16,
+    ) -> Result<State, Memory>
         ensures machine { IfOk result (λ s. s.machine ≡ started class method locals) }
         ensures texts { IfOk result (λ s. s.texts ≡ []) }
     {
+        let notes = Notes::new(alloc, linked)?;
         let count = usize::from(locals);
         let mut cells = RawStack::new(alloc);
         match cells.reserve(count + MOST) {
@@ -68,6 +78,7 @@ impl State {
                     heads: Vec::new(alloc),
                     heap: Vec::new(alloc),
                     texts: List::new(alloc),
+                    notes,
                 })
             }
             Err(_) => Err(Memory),

@@ -1,7 +1,7 @@
 //! The texts that cells number.
 //! A text is never changed, nor taken from the table.
 
-ghost use Rattle.std.specs.Prelude.{◌≡◌, ◌<◌, ◌++◌, ◌∷◌, [], length, slice_index_or, IfOk, OnErr};
+ghost use Rattle.std.specs.Prelude.{◌≡◌, ◌<◌, ◌++◌, ◌∷◌, [], length, slice_index_or, IfOk, IfSome, OnErr};
 
 use crate::state::State;
 use mg_text::{List, Memory, Text};
@@ -21,6 +21,30 @@ impl State {
         ensures { result.now ≡ slice_index_or self.now.texts number [] }
     {
         &self.texts.as_slice()[number as usize]
+    }
+
+    /// The number of this text, where it is noted that the next instruction pushed it.
+    pub fn noted(&self, text: &Text) -> Option<u32>
+        ensures within { IfSome result (λ n. n < length self.now.texts) }
+        ensures says { IfSome result (λ n. slice_index_or self.now.texts n [] ≡ text.now) }
+    {
+        let head = &self.head;
+        let number = self.notes.at(head.class, head.method, head.place)?;
+        let found = self.texts.as_slice().get(number as usize)?;
+        if found.as_str() == text.as_str() {
+            Some(number)
+        } else {
+            None
+        }
+    }
+
+    /// Notes that the next instruction pushes the text of this number.
+    pub fn note(&mut self, number: u32)
+        ensures machine { self.new.machine ≡ self.old.machine }
+        ensures texts { self.new.texts ≡ self.old.texts }
+    {
+        let head = self.head;
+        self.notes.put(head.class, head.method, head.place, number);
     }
 
     /// Puts a text into the table, and answers its number. After an error nothing has changed.

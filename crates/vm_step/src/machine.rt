@@ -103,7 +103,7 @@ fn started(alloc: Global, linked: &Linked, class: u32, method: u32) -> Result<St
     ensures { IfOk result (λ s. state_of s ≡ started (classes_of linked.now.classes.items) class method) }
 {
     let locals = max_locals(method_at(linked, class, method)) as u16;
-    State::start(alloc, class, method, locals)
+    State::start(alloc, linked, class, method, locals)
 }
 
 /// The state at the `main` of a class.

@@ -1,7 +1,7 @@
 //! The operands of the running frame, by how far they stand from the top.
 //! Nothing below those that an instruction takes is touched.
 
-ghost use Rattle.std.specs.Prelude.{◌≡◌, ◌<◌, ◌≤◌, ◌-◌, ◌^◌, ◌++◌, ◌∷◌, [], length, slice_get, option_map, OnOk, OnErr};
+ghost use Rattle.std.specs.Prelude.{◌≡◌, ◌<◌, ◌≤◌, ◌-◌, ◌^◌, ◌++◌, ◌∷◌, [], length, slice_get, slice_index_or, option_map, IfOk, OnOk, OnErr};
 ghost use Rattle.vm_model.specs.Tests.{below};
 ghost use Rattle.vm_model.specs.Step.{next, with_local};
 ghost use Rattle.vm_model.specs.declared.value.Value.TheVariants as values;
@@ -47,14 +47,30 @@ pub(crate) fn int_of_local(state: &State, local: usize) -> Option<i32>
     }
 }
 
-/// Pushes a text, which is put into the table first. After an error nothing has changed.
-pub(crate) fn push_text(state: &mut State, text: Text) -> Result<(), Memory>
+/// The number of the text that the next instruction pushes. It is put into the table where the
+/// instruction didn't push it before. After an error nothing has changed.
+fn number_of(state: &mut State, text: &Text) -> Result<u32, Memory>
+    ensures machine { state_of state.new ≡ state_of state.old }
+    ensures within { IfOk result (λ n. n < length state.new.texts) }
+    ensures says { IfOk result (λ n. slice_index_or state.new.texts n [] ≡ text.now) }
+{
+    if let Some(number) = state.noted(text) {
+        return Ok(number);
+    }
+    let copy = text.copy()?;
+    let number = state.add_text(copy)?;
+    state.note(number);
+    Ok(number)
+}
+
+/// Pushes a text of the program. After an error nothing has changed.
+pub(crate) fn push_text(state: &mut State, text: &Text) -> Result<(), Memory>
     requires place { state.old.machine.frame.place < 2 ^ 32 - 1 }
     requires room { length (operands_of state.old) < most }
-    ensures ok { OnOk result (state_of state.new ≡ next (state_of state.old) (operands_of state.old ++ values.Text text ∷ [])) }
+    ensures ok { OnOk result (state_of state.new ≡ next (state_of state.old) (operands_of state.old ++ values.Text text.now ∷ [])) }
     ensures err { OnErr result (state_of state.new ≡ state_of state.old) }
 {
-    let number = state.add_text(text)?;
+    let number = number_of(state, text)?;
     let place = state.place() + 1;
     state.push(Cell::Text(number), place);
     Ok(())

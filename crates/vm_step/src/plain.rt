@@ -35,7 +35,7 @@ fn push(state: &mut State, cell: Cell) -> Stepped
     Stepped::Went(None)
 }
 
-/// Pushes a constant. A text is put into the table first.
+/// Pushes a constant.
 pub(crate) fn push_constant(state: &mut State, constant: Constant<'_>) -> Result<Stepped, Memory>
     requires place { state.old.machine.frame.place < 2 ^ 32 - 1 }
     requires room { length (operands_of state.old) < most }
@@ -48,8 +48,7 @@ pub(crate) fn push_constant(state: &mut State, constant: Constant<'_>) -> Result
         Constant::Int(x) => Ok(push(state, Cell::Int(x))),
         Constant::Null => Ok(push(state, Cell::Null)),
         Constant::Text(text) => {
-            let text = text.as_ref().copy()?;
-            push_text(state, text)?;
+            push_text(state, text.as_ref())?;
             Ok(Stepped::Went(None))
         }
     }

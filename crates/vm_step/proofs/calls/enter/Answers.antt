@@ -8,5 +8,5 @@ use Rattle.vm_step.proofs.calls.enter.Goals as goal
 pub returns-clause-ok : goal.returns-clause-ok
 returns-clause-ok c = λ q.
     calls_is (classes_of c.args.linked.now.classes.items) q (state_of c.args.state.now) (state_of c.enter.new.self) c.args.callee.class
-    c.args.callee.method c.args.callee.taken c.max_locals.result c.args.callee.told c.args.event c.requires.within
-    (c.max_locals.ensures.value ∙ ap max_locals_in c.method_at.ensures) c.in_ok-enter.ensures.ok
+    c.args.callee.method c.args.callee.taken c.max_locals-locals.result c.args.callee.told c.args.event c.requires.within
+    (c.max_locals-locals.ensures.value ∙ ap max_locals_in c.method_at.ensures) c.in_ok-enter.ensures.ok

@@ -13,7 +13,6 @@ loop-at-preserved c =
     let v = value_in c.args.state.now.texts c.operand-cell.result in
     let there : slice_get tops c.loop-at.at ≡ Some v =
     taken_at (operands_of c.args.state.now) (length c.args.takes.now) c.loop-at.at c.loop-at-test.true c.requires
-    ∙ ap (λ n. at_top (operands_of c.args.state.now) (n - 1 - c.loop-at.at)) (omega (arith, c.len.ensures))
     ∙ c.operand-cell.ensures.value in
     record {
       kind = found_more (classes_of c.args.linked.now.classes.items) (state_of c.args.state.now).heap model.is_kind c.args.takes.now tops

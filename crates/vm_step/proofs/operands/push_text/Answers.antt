@@ -1,26 +1,19 @@
--- The text is the last of the table.
+-- The text stands in the table.
 use Rattle.std.proofs.Common.{length, ap, arith}
 use Rattle.vm_model.specs.Machine.{Machine}
-use Rattle.vm_model.specs.Tests.{below}
 use Rattle.vm_step.specs.State.{state_of}
-use Rattle.vm_step.proofs.Added.{added_within, added_is}
+use Rattle.vm_step.proofs.Added.{text_on_top}
 use Rattle.vm_step.proofs.operands.push_text.Goals as goal
 
 pub push-requires-clause-room : goal.push-requires-clause-room
-push-requires-clause-room c = omega (arith, c.requires.room, ap (λ (m : Machine). length m.frame.operands) c.in_ok-number.ensures.machine)
+push-requires-clause-room c = omega (arith, c.requires.room, ap (λ (m : Machine). length m.frame.operands) c.number_of.ensures.machine)
 
 pub overflow_add-place : goal.overflow_add-place
 overflow_add-place c = omega
-    (arith, c.requires.place, c.place-place.ensures, ap (λ (m : Machine). m.frame.place) c.in_ok-number.ensures.machine)
-
-pub push-requires-clause-set : goal.push-requires-clause-set
-push-requires-clause-set c =
-    added_within c.args.state.now.texts c.add_text-number.new.self.texts c.args.text c.in_ok-number.number c.in_ok-number.ensures.number
-    c.in_ok-number.ensures.ok
+    (arith, c.requires.place, c.place-place.ensures, ap (λ (m : Machine). m.frame.place) c.number_of.ensures.machine)
 
 pub returns-clause-ok : goal.returns-clause-ok
 returns-clause-ok c =
-    added_is c.args.state.now.texts c.add_text-number.new.self.texts c.args.text c.in_ok-number.number c.in_ok-number.ensures.number
-    c.in_ok-number.ensures.ok (state_of c.args.state.now) (state_of c.add_text-number.new.self)
-    (state_of c.push.new.self) c.place-place.result
-    c.in_ok-number.ensures.machine c.place-place.ensures (λ m. m.frame.operands) c.push.ensures.machine
+    text_on_top c.number_of.new.state.texts c.args.text.now c.in_ok-number.number c.in_ok-number.ensures.says
+    (state_of c.args.state.now) (state_of c.number_of.new.state) (state_of c.push.new.self) c.place-place.result
+    c.number_of.ensures.machine c.place-place.ensures (λ m. m.frame.operands) c.push.ensures.machine

@@ -3,7 +3,7 @@ use Rattle.std.proofs.Common.{length, ap, arith}
 use Rattle.vm_model.specs.Machine.{Machine}
 use Rattle.vm_model.specs.Tests.{below}
 use Rattle.vm_step.specs.State.{state_of}
-use Rattle.vm_step.proofs.Added.{added_within, added_is}
+use Rattle.vm_step.proofs.Added.{added_within, added_says, text_on_top}
 use Rattle.vm_step.proofs.operands.put_text.Goals as goal
 
 pub put-requires-clause-within : goal.put-requires-clause-within
@@ -16,12 +16,13 @@ overflow_add-place c = omega
 
 pub put-requires-clause-set : goal.put-requires-clause-set
 put-requires-clause-set c =
-    added_within c.args.state.now.texts c.add_text-number.new.self.texts c.args.text c.in_ok-number.number c.in_ok-number.ensures.number
+    added_within c.args.state.now.texts c.add_text.new.self.texts c.args.text c.in_ok-number.number c.in_ok-number.ensures.number
     c.in_ok-number.ensures.ok
 
 pub returns-clause-ok : goal.returns-clause-ok
 returns-clause-ok c =
-    added_is c.args.state.now.texts c.add_text-number.new.self.texts c.args.text c.in_ok-number.number c.in_ok-number.ensures.number
-    c.in_ok-number.ensures.ok (state_of c.args.state.now) (state_of c.add_text-number.new.self)
-    (state_of c.put.new.self) c.place-place.result
+    text_on_top c.add_text.new.self.texts c.args.text c.in_ok-number.number
+    (added_says c.args.state.now.texts c.add_text.new.self.texts c.args.text c.in_ok-number.number c.in_ok-number.ensures.number
+    c.in_ok-number.ensures.ok)
+    (state_of c.args.state.now) (state_of c.add_text.new.self) (state_of c.put.new.self) c.place-place.result
     c.in_ok-number.ensures.machine c.place-place.ensures (λ m. below c.args.count m.frame.operands) c.put.ensures.machine

@@ -1,5 +1,6 @@
 use Rattle.std.proofs.Common.{◌≡◌, ◌∙◌, Some, Option, Ok, sym, ap, refl}
 use Rattle.std.specs.Option.{option_map}
+use Rattle.vm_model.specs.Program.{method_at}
 use Rattle.vm_model.specs.View.{classes_of}
 use Rattle.vm_model.specs.Types.{FieldType, signature_of}
 use Rattle.vm_model.specs.Descriptors.{type_view}
@@ -17,7 +18,8 @@ returns-in-Some c =
     let p = classes_of c.args.linked.now.classes.items in
     let m = state_of c.args.state.now in
     let same : option_map type_view c.result_type-answer.result ≡ result_in (signature_of (descriptor_in (method_of_frame p m.frame))) =
-    rw (c.method_at-method.ensures) at c.result_type-answer.ensures in
+    (rw (c.method_at-method.ensures) at c.result_type-answer.ensures)
+    ∙ (λ i. result_in (signature_of (descriptor_in (method_at p (c.class.ensures i) (c.method.ensures i))))) in
     let checked : c.check.result ≡ wrong p (needs p m (Return (option_map sort_of c.args.sort))) m =
     c.check.ensures ∙ ap (λ (t : Option FieldType). wrong p (return_needs p m (option_map sort_of c.args.sort) t) m) same in
     λ me q. (act_wrong p q m me (Return (option_map sort_of c.args.sort)) c.in-Some.kind (sym c.in-Some.is ∙ checked), refl, refl)
@@ -27,7 +29,8 @@ returns-in-None c =
     let p = classes_of c.args.linked.now.classes.items in
     let m = state_of c.args.state.now in
     let same : option_map type_view c.result_type-answer.result ≡ result_in (signature_of (descriptor_in (method_of_frame p m.frame))) =
-    rw (c.method_at-method.ensures) at c.result_type-answer.ensures in
+    (rw (c.method_at-method.ensures) at c.result_type-answer.ensures)
+    ∙ (λ i. result_in (signature_of (descriptor_in (method_at p (c.class.ensures i) (c.method.ensures i))))) in
     let checked : c.check.result ≡ wrong p (needs p m (Return (option_map sort_of c.args.sort))) m =
     c.check.ensures ∙ ap (λ (t : Option FieldType). wrong p (return_needs p m (option_map sort_of c.args.sort) t) m) same in
     plays_for m (state_of c.leave.new.state) (Ok c.leave.result) _ _
@@ -39,7 +42,8 @@ returns-in-Some-sort c =
     let p = classes_of c.args.linked.now.classes.items in
     let m = state_of c.args.state.now in
     let same : option_map type_view c.result_type-answer.result ≡ result_in (signature_of (descriptor_in (method_of_frame p m.frame))) =
-    rw (c.method_at-method.ensures) at c.result_type-answer.ensures in
+    (rw (c.method_at-method.ensures) at c.result_type-answer.ensures)
+    ∙ (λ i. result_in (signature_of (descriptor_in (method_at p (c.class.ensures i) (c.method.ensures i))))) in
     let checked : c.check.result ≡ wrong p (needs p m (Return (option_map sort_of c.args.sort))) m =
     c.check.ensures ∙ ap (λ (t : Option FieldType). wrong p (return_needs p m (option_map sort_of c.args.sort) t) m) same in
     plays_for m (state_of c.leave-in-Some-sort.new.state) (Ok c.leave-in-Some-sort.result) _ _

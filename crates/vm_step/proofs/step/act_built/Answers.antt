@@ -1,5 +1,7 @@
 use Rattle.std.proofs.Common.{◌∙◌, sym, Ok, refl, arith}
 use Rattle.vm_model.specs.View.{classes_of}
+use Rattle.vm_model.specs.Actions.{Use}
+use Rattle.vm_model.specs.Tests.{needs}
 use Rattle.vm_step.specs.State.{state_of}
 use Rattle.vm_step.proofs.Acts.{act_wrong, does_same, does_plays_same, room_in}
 use Rattle.vm_step.proofs.Whole.{init_is, concat_is, equals_is, show_int_is, show_truth_is, out_is, print_is, send_is, send_int_is, send_truth_is, send_text_is, look_is, take_is, take_int_is, take_truth_is, take_text_is, refuse_is}
@@ -125,6 +127,7 @@ returns-in-Refuse-clause-ok c =
 
 pub push_out-requires-clause-room : goal.push_out-requires-clause-room
 push_out-requires-clause-room c =
-    let right = room_in (classes_of c.args.linked.now.classes.items) _ (state_of c.args.state.now)
-    (rw c.in-Out.is at (sym c.in_default.is ∙ c.check_built.ensures.wrong)) in
-    omega (arith, right.1, c.check_built.ensures.small)
+    let p = classes_of c.args.linked.now.classes.items in
+    let m = state_of c.args.state.now in
+    let right = room_in p (needs p m (Use c.args.built)) m (sym c.in_default.is ∙ c.check_built.ensures.wrong) in
+    omega (arith, rw c.in-Out.is at right.1, c.check_built.ensures.small)

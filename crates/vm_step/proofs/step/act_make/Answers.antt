@@ -1,6 +1,7 @@
-use Rattle.std.proofs.Common.{◌∙◌, sym, refl, arith}
+use Rattle.std.proofs.Common.{[], ◌∙◌, sym, refl, arith}
 use Rattle.vm_model.specs.View.{classes_of}
 use Rattle.vm_model.specs.Actions as actions
+use Rattle.vm_model.specs.Tests.{taking}
 use Rattle.vm_step.specs.State.{state_of}
 use Rattle.vm_step.proofs.Acts.{act_wrong, plays_for, room_in}
 use Rattle.vm_step.proofs.Whole.{make_is}
@@ -22,6 +23,7 @@ returns-clause-ok c =
 
 pub make-requires-clause-room : goal.make-requires-clause-room
 make-requires-clause-room c =
-    let right = room_in (classes_of c.args.linked.now.classes.items) _ (state_of c.args.state.now)
+    let right = room_in (classes_of c.args.linked.now.classes.items)
+    (taking (classes_of c.args.linked.now.classes.items) (state_of c.args.state.now) [] 1) (state_of c.args.state.now)
     (sym c.in_default.is ∙ c.check.ensures.wrong) in
     omega (arith, right.1, c.check.ensures.small)

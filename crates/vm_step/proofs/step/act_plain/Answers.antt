@@ -1,6 +1,8 @@
 use Rattle.std.proofs.Common.{◌∙◌, sym, Ok, refl, arith}
 use Rattle.vm_model.specs.View.{classes_of}
+use Rattle.vm_model.specs.Tests.{needs}
 use Rattle.vm_step.specs.State.{state_of}
+use Rattle.vm_step.specs.Table.{plain_of}
 use Rattle.vm_step.proofs.Acts.{act_wrong, plays_for, room_in}
 use Rattle.vm_step.proofs.Whole.{push_is, load_is, store_is, pop_is, double_is, swap_is, compute_is, negate_is, increase_is, if_zero_is, if_both_is, if_null_is, go_is, switch_is}
 use Rattle.vm_step.proofs.step.act_plain.Goals as goal
@@ -101,26 +103,26 @@ pub push_constant-requires-clause-room : goal.push_constant-requires-clause-room
 push_constant-requires-clause-room c =
     let p = classes_of c.args.linked.now.classes.items in
     let m = state_of c.args.state.now in
-    let right = room_in p _ m (rw c.in-Push.is at (sym c.in_default.is ∙ c.check_plain.ensures.wrong)) in
-    omega (arith, right.1, c.check_plain.ensures.small)
+    let right = room_in p (needs p m (plain_of c.args.plain)) m (sym c.in_default.is ∙ c.check_plain.ensures.wrong) in
+    omega (arith, rw c.in-Push.is at right.1, c.check_plain.ensures.small)
 
 pub load-requires-clause-room : goal.load-requires-clause-room
 load-requires-clause-room c =
     let p = classes_of c.args.linked.now.classes.items in
     let m = state_of c.args.state.now in
-    let right = room_in p _ m (rw c.in-Load.is at (sym c.in_default.is ∙ c.check_plain.ensures.wrong)) in
-    omega (arith, right.1, c.check_plain.ensures.small)
+    let right = room_in p (needs p m (plain_of c.args.plain)) m (sym c.in_default.is ∙ c.check_plain.ensures.wrong) in
+    omega (arith, rw c.in-Load.is at right.1, c.check_plain.ensures.small)
 
 pub double-requires-clause-room : goal.double-requires-clause-room
 double-requires-clause-room c =
     let p = classes_of c.args.linked.now.classes.items in
     let m = state_of c.args.state.now in
-    let right = room_in p _ m (rw c.in-Double.is at (sym c.in_default.is ∙ c.check_plain.ensures.wrong)) in
-    omega (arith, right.1, c.check_plain.ensures.small)
+    let right = room_in p (needs p m (plain_of c.args.plain)) m (sym c.in_default.is ∙ c.check_plain.ensures.wrong) in
+    omega (arith, rw c.in-Double.is at right.1, c.check_plain.ensures.small)
 
 pub swap-requires-clause-room : goal.swap-requires-clause-room
 swap-requires-clause-room c =
     let p = classes_of c.args.linked.now.classes.items in
     let m = state_of c.args.state.now in
-    let right = room_in p _ m (rw c.in-Swap.is at (sym c.in_default.is ∙ c.check_plain.ensures.wrong)) in
-    omega (arith, right.1, c.check_plain.ensures.small)
+    let right = room_in p (needs p m (plain_of c.args.plain)) m (sym c.in_default.is ∙ c.check_plain.ensures.wrong) in
+    omega (arith, rw c.in-Swap.is at right.1, c.check_plain.ensures.small)

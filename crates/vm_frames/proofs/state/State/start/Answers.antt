@@ -12,6 +12,7 @@ invariant_of-result c =
       heads = c.new.result;
       heap = c.new-in-Ok.result;
       texts = c.new-in-Ok-2.result;
+      notes = c.in_ok-notes.notes;
     })
     c.args.class c.args.method c.args.locals c.new-in-Ok-2.ensures c.new-in-Ok.ensures.items c.new.ensures.items refl
     (begins c.reserve.new.self c.enter.new.self (c.reserve.ensures.frames.0 ∙ c.new-cells.ensures.running) c.from-count.result c.args.locals
@@ -29,6 +30,7 @@ returns-in-Ok-clause-machine c =
       heads = c.new.result;
       heap = c.new-in-Ok.result;
       texts = c.new-in-Ok-2.result;
+      notes = c.in_ok-notes.notes;
     })
     c.args.class c.args.method c.args.locals c.new-in-Ok-2.ensures c.new-in-Ok.ensures.items c.new.ensures.items refl
     (begins c.reserve.new.self c.enter.new.self (c.reserve.ensures.frames.0 ∙ c.new-cells.ensures.running) c.from-count.result c.args.locals
