@@ -1,6 +1,8 @@
 -- Frames that begin and end.
-use Rattle.std.proofs.Common.{◌≡◌, ℕ, zero, suc, ◌+◌, ◌-◌, ◌≤◌, List, [], ◌∷◌, ◌++◌, length, map, take, drop, replicate, Option, Some, None, refl, sym, ap, ◌∙◌, subst, arith, length-append, length-drop}
-use Rattle.std.proofs.lemmas.List.{append-nil, take_all, drop_all, take-take, drop-take, take-map, drop-map, length-map, length-replicate, map-append}
+use Rattle.std.proofs.Common.{◌≡◌, ℕ, zero, suc, ◌+◌, ◌-◌, ◌≤◌, List, [], ◌∷◌, ◌++◌, length, map, take, drop, replicate, Option, Some, None}
+use Rattle.std.proofs.Common.{refl, sym, ap, ◌∙◌, subst, arith, length-append, length-drop}
+use Rattle.std.proofs.lemmas.List.{append-nil, take_all, drop_all, take-take, drop-take, take-map, drop-map, length-map, length-replicate}
+use Rattle.std.proofs.lemmas.List.{map-append}
 use Rattle.std.proofs.lemmas.List.Elements.{All-nil, All-head, All-tail, All-append, All-replicate, All-take, All-drop, All-weaker}
 use Rattle.std.specs.Prelude.{All}
 use Rattle.mg_text.specs.Call.{Name}

@@ -1,5 +1,6 @@
 -- A state that a method was entered in, and one that was left.
-use Rattle.std.proofs.Common.{◌≡◌, ℕ, ◌+◌, ◌-◌, ◌≤◌, List, [], ◌∷◌, ◌++◌, length, take, drop, replicate, Option, Some, refl, sym, ap, ◌∙◌, subst, arith, length-append, length-drop}
+use Rattle.std.proofs.Common.{◌≡◌, ℕ, ◌+◌, ◌-◌, ◌≤◌, List, [], ◌∷◌, ◌++◌, length, take, drop, replicate, Option, Some, refl, sym, ap, ◌∙◌}
+use Rattle.std.proofs.Common.{subst, arith, length-append, length-drop}
 use Rattle.std.proofs.lemmas.List.{reverse-append, length-replicate}
 use Rattle.std.specs.Prelude.{All, reverse}
 use Rattle.raw_stack.specs.Frames.{Frames}

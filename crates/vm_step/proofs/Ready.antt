@@ -1,5 +1,6 @@
 -- What the frequent actions do where nothing is wrong with them.
-use Rattle.std.proofs.Common.{◌≡◌, ℕ, ℤ, ◌+◌, ◌-◌, ◌<◌, ◌≤◌, Bool, true, false, List, [], ◌∷◌, ◌++◌, length, slice_get, Option, Some, None, nat_lt, refl, sym, ap, ◌∙◌, arith, pos, ◌+ℤ◌}
+use Rattle.std.proofs.Common.{◌≡◌, ℕ, ℤ, ◌+◌, ◌-◌, ◌<◌, ◌≤◌, Bool, true, false, List, [], ◌∷◌, ◌++◌, length, slice_get, Option, Some, None}
+use Rattle.std.proofs.Common.{nat_lt, refl, sym, ap, ◌∙◌, arith, pos, ◌+ℤ◌}
 use Rattle.std.specs.Prelude.{neg_ℤ, if◌then◌else◌}
 use Rattle.std.proofs.lemmas.Option.{slice_get_within}
 use Rattle.std.proofs.lemmas.Bool.Decides.{nat_tests}
@@ -13,16 +14,20 @@ use Rattle.vm_model.specs.Arithmetic.{wrap, computed, compares, switched}
 use Rattle.std.specs.Bool.{OnTrue, OnFalse}
 use Rattle.std.proofs.Common.{suc, add-one, subst}
 use Rattle.vm_frames.specs.Seen.{held_in}
-use Rattle.vm_model.specs.Actions.{Action, Sort, Number, Reference, Operation, Comparison, Push, Load, Store, Pop, Double, Compute, Negate, Increase, IfZero, IfBoth, IfNull, Go, Switch}
+use Rattle.vm_model.specs.Actions.{Action, Sort, Number, Reference, Operation, Comparison, Push, Load, Store, Pop, Double, Compute, Negate}
+use Rattle.vm_model.specs.Actions.{Increase, IfZero, IfBoth, IfNull, Go, Switch}
 use Rattle.vm_model.specs.Tests as model
-use Rattle.vm_model.specs.Tests.{Needs, needs, wrong, wrong_by, below, on_top, misfits, misfit_read, misfit_local, misfit_sort, some_of, is_kind, is_member, is_null, max_stack_in, method_of_frame}
+use Rattle.vm_model.specs.Tests.{Needs, needs, wrong, wrong_by, below, on_top, misfits, misfit_read, misfit_local, misfit_sort, some_of}
+use Rattle.vm_model.specs.Tests.{is_kind, is_member, is_null, max_stack_in, method_of_frame}
 use Rattle.vm_model.specs.Step.{code_in, goes, next, at_place, with_local, pushed, computed_to, branch, same_truth}
 use Rattle.vm_step.specs.Alone.{SameMethod, Alone, NextAlone, AllAlone}
 use Rattle.vm_step.specs.inner.Tops.{at_top, int_in, int_of_local}
-use Rattle.vm_step.specs.inner.Acts.{stored_by, doubled_by, computes_by, negates_by, increased_by, on_zero_by, on_both_by, on_null_by, switches_by}
+use Rattle.vm_step.specs.inner.Acts.{stored_by, doubled_by, computes_by, negates_by, increased_by, on_zero_by, on_both_by, on_null_by}
+use Rattle.vm_step.specs.inner.Acts.{switches_by}
 use Rattle.vm_step.proofs.Acts.{by_one, by_two, There, there}
 use Rattle.vm_step.proofs.Tops.{doubles}
-use Rattle.vm_step.proofs.Whole.{push_is, load_is, store_is, pop_is, double_is, compute_is, negate_is, increase_is, if_zero_is, if_both_is, if_null_is, go_is, switch_is}
+use Rattle.vm_step.proofs.Whole.{push_is, load_is, store_is, pop_is, double_is, compute_is, negate_is, increase_is, if_zero_is, if_both_is}
+use Rattle.vm_step.proofs.Whole.{if_null_is, go_is, switch_is}
 
 not_below : (a b : ℕ) → b ≤ a → nat_lt a b ≡ false
 not_below a b h = grind (arith, nat_tests)

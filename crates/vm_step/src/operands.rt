@@ -1,7 +1,8 @@
 //! The operands of the running frame, by how far they stand from the top.
 //! Nothing below those that an instruction takes is touched.
 
-ghost use Rattle.std.specs.Prelude.{◌≡◌, ◌<◌, ◌≤◌, ◌-◌, ◌^◌, ◌++◌, ◌∷◌, [], length, slice_get, slice_index_or, option_map, IfOk, OnOk, OnErr};
+ghost use Rattle.std.specs.Prelude.{◌≡◌, ◌<◌, ◌≤◌, ◌-◌, ◌^◌, ◌++◌, ◌∷◌, [], length, slice_get, slice_index_or, option_map, IfOk, OnOk};
+ghost use Rattle.std.specs.Prelude.{OnErr};
 ghost use Rattle.vm_model.specs.Tests.{below};
 ghost use Rattle.vm_model.specs.Step.{next, with_local};
 ghost use Rattle.vm_model.specs.declared.value.Value.TheVariants as values;

@@ -12,7 +12,8 @@ ghost use Rattle.vm_model.specs.Actions.{Push};
 ghost use Rattle.vm_step.specs.Steady.{is_steady_action};
 ghost use Rattle.vm_step.specs.Doing.{Plays};
 ghost use Rattle.vm_step.specs.inner.Tops.{at_top, int_in, int_of_local};
-ghost use Rattle.vm_step.specs.inner.Acts.{stored_by, doubled_by, swapped_by, computes_by, negates_by, increased_by, on_zero_by, on_both_by, on_null_by, switches_by};
+ghost use Rattle.vm_step.specs.inner.Acts.{stored_by, doubled_by, swapped_by, computes_by, negates_by, increased_by, on_zero_by};
+ghost use Rattle.vm_step.specs.inner.Acts.{on_both_by, on_null_by, switches_by};
 
 use crate::action::{Comparison, Constant, Operation};
 use crate::arithmetic::{added, compares, computed, negated, switched};

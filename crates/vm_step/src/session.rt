@@ -10,7 +10,8 @@ ghost use Rattle.vm_frames.specs.Seen.{value_in, IsSet};
 ghost use Rattle.vm_step.specs.State.{state_of, operands_of};
 ghost use Rattle.vm_step.specs.Doing.{Does};
 ghost use Rattle.vm_step.specs.inner.Tops.{at_top, text_in};
-ghost use Rattle.vm_step.specs.inner.Sessions.{payload_of, payload_in, sent_count, pushed_of, taken_where, sends_by, looks_by, takes_by, refuses_by};
+ghost use Rattle.vm_step.specs.inner.Sessions.{payload_of, payload_in, sent_count, pushed_of, taken_where, sends_by, looks_by, takes_by};
+ghost use Rattle.vm_step.specs.inner.Sessions.{refuses_by};
 
 use crate::operands::{int_at, put_text, text_at};
 use crate::stepped::Stepped;

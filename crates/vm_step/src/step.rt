@@ -1,7 +1,8 @@
 //! A step: the next instruction's tests, and then what it does.
 //! Nothing changes where memory is wanting or a message is.
 
-ghost use Rattle.std.specs.Prelude.{◌≡◌, true, false, ℕ, ◌+◌, ◌<◌, ◌≤◌, ◌-◌, ◌^◌, length, option_map, slice_get, Some, IfOk, OnErr, OnSome, []};
+ghost use Rattle.std.specs.Prelude.{◌≡◌, true, false, ℕ, ◌+◌, ◌<◌, ◌≤◌, ◌-◌, ◌^◌, length, option_map, slice_get, Some, IfOk, OnErr, OnSome};
+ghost use Rattle.std.specs.Prelude.{[]};
 ghost use Rattle.vm_model.specs.Messages.{Messages};
 ghost use Rattle.vm_model.specs.Program as program;
 ghost use Rattle.vm_model.specs.View.{classes_of, field_of, instr_of};

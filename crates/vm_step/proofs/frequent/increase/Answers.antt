@@ -1,4 +1,5 @@
-use Rattle.std.proofs.Common.{◌≡◌, ℕ, ◌+◌, ◌++◌, ◌∷◌, [], Bool, List, Option, Some, arith, refl, sym, ap, ◌∙◌, pos, set, slice_get, to_z, of_z, ◌+ℤ◌}
+use Rattle.std.proofs.Common.{◌≡◌, ℕ, ◌+◌, ◌++◌, ◌∷◌, [], Bool, List, Option, Some, arith, refl, sym, ap, ◌∙◌, pos, set, slice_get, to_z}
+use Rattle.std.proofs.Common.{of_z, ◌+ℤ◌}
 use Rattle.std.proofs.lemmas.Int.{to_z-of_z}
 use Rattle.std.specs.Prelude.{if◌then◌else◌, neg_ℤ}
 use mir.Syntax.{w8, w32}

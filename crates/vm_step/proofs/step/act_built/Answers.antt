@@ -4,7 +4,8 @@ use Rattle.vm_model.specs.Actions.{Use}
 use Rattle.vm_model.specs.Tests.{needs}
 use Rattle.vm_step.specs.State.{state_of}
 use Rattle.vm_step.proofs.Acts.{act_wrong, does_same, does_plays_same, room_in}
-use Rattle.vm_step.proofs.Whole.{init_is, concat_is, equals_is, show_int_is, show_truth_is, out_is, print_is, send_is, send_int_is, send_truth_is, send_text_is, look_is, take_is, take_int_is, take_truth_is, take_text_is, refuse_is}
+use Rattle.vm_step.proofs.Whole.{init_is, concat_is, equals_is, show_int_is, show_truth_is, out_is, print_is, send_is, send_int_is}
+use Rattle.vm_step.proofs.Whole.{send_truth_is, send_text_is, look_is, take_is, take_int_is, take_truth_is, take_text_is, refuse_is}
 use Rattle.vm_step.proofs.step.act_built.Goals as goal
 
 pub returns-in-Some-clause-ok : goal.returns-in-Some-clause-ok
