@@ -9,12 +9,12 @@ invariant_of-result c =
     (record {
       cells = c.enter.new.self;
       head = record { class = c.args.class; method = c.args.method; place = 0; told = None; locals = c.args.locals };
-      heads = c.new.result;
-      heap = c.new-in-Ok.result;
-      texts = c.new-in-Ok-2.result;
+      heads = c.new-in-Ok.result;
+      heap = c.new-in-Ok-2.result;
+      texts = c.new-in-Ok-3.result;
       notes = c.in_ok-notes.notes;
     })
-    c.args.class c.args.method c.args.locals c.new-in-Ok-2.ensures c.new-in-Ok.ensures.items c.new.ensures.items refl
+    c.args.class c.args.method c.args.locals c.new-in-Ok-3.ensures c.new-in-Ok-2.ensures.items c.new-in-Ok.ensures.items refl
     (begins c.reserve.new.self c.enter.new.self (c.reserve.ensures.frames.0 ∙ c.new-cells.ensures.running) c.from-count.result c.args.locals
     c.enter.ensures.running c.from-count.ensures)
     (none_below c.reserve.new.self c.enter.new.self (c.reserve.ensures.frames.0 ∙ c.new-cells.ensures.running)
@@ -27,11 +27,11 @@ returns-in-Ok-clause-machine c =
     (record {
       cells = c.enter.new.self;
       head = record { class = c.args.class; method = c.args.method; place = 0; told = None; locals = c.args.locals };
-      heads = c.new.result;
-      heap = c.new-in-Ok.result;
-      texts = c.new-in-Ok-2.result;
+      heads = c.new-in-Ok.result;
+      heap = c.new-in-Ok-2.result;
+      texts = c.new-in-Ok-3.result;
       notes = c.in_ok-notes.notes;
     })
-    c.args.class c.args.method c.args.locals c.new-in-Ok-2.ensures c.new-in-Ok.ensures.items c.new.ensures.items refl
+    c.args.class c.args.method c.args.locals c.new-in-Ok-3.ensures c.new-in-Ok-2.ensures.items c.new-in-Ok.ensures.items refl
     (begins c.reserve.new.self c.enter.new.self (c.reserve.ensures.frames.0 ∙ c.new-cells.ensures.running) c.from-count.result c.args.locals
     c.enter.ensures.running c.from-count.ensures)
