@@ -1,7 +1,7 @@
 //! Frames that begin and end.
 //! Only a call takes memory, and it does so before it changes anything.
 
-ghost use Rattle.std.specs.Prelude.{◌≡◌, ◌-◌, ◌+◌, ◌<◌, ◌≤◌, ◌^◌, ◌++◌, ◌∷◌, [], length, map, option_map, option_to_list, IfSome};
+ghost use Rattle.std.specs.Prelude.{◌≡◌, ◌-◌, ◌+◌, ◌<◌, ◌≤◌, ◌^◌, [], length, option_map, option_to_list, IfSome};
 ghost use Rattle.std.specs.Prelude.{MatchOption, OnOk, OnErr, Some};
 ghost use Rattle.std.specs.Bool.{OnTrue, OnFalse};
 ghost use Rattle.vm_frames.specs.Seen.{value_in, IsSet};

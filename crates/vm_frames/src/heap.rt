@@ -1,7 +1,7 @@
 //! The objects, by their numbers.
 //! None is ever taken away.
 
-ghost use Rattle.std.specs.Prelude.{◌≡◌, ◌<◌, ◌++◌, ◌∷◌, [], length, map, option_map, slice_get, slice_set, All, IfOk, IfSome, OnErr};
+ghost use Rattle.std.specs.Prelude.{◌≡◌, ◌<◌, ◌++◌, ◌∷◌, [], length, option_map, slice_get, slice_set, All, IfOk, IfSome, OnErr};
 ghost use Rattle.vm_frames.specs.Seen.{value_in, values_in, IsSet};
 ghost use Rattle.vm_frames.specs.View.{cell_in};
 ghost use Rattle.vm_frames.specs.Frames.{field_in, with_field};

@@ -4,7 +4,6 @@ use Rattle.mg_text.specs.Call.{Name}
 use Rattle.vm_model.specs.declared.value.Value.{Value}
 use Rattle.vm_model.specs.declared.value.Value.TheVariants as values
 use Rattle.vm_model.specs.Machine.{Machine}
-use Rattle.vm_model.specs.Tests.{below}
 use Rattle.vm_model.specs.Step.{at_place, next}
 
 last_of : (texts : List Name) (text : Name) → get_or (texts ++ text ∷ []) (length texts) [] ≡ text

@@ -1,5 +1,5 @@
 -- Objects that are made, and fields that are written.
-use Rattle.std.proofs.Common.{◌≡◌, ℕ, ◌+◌, List, [], ◌∷◌, ◌++◌, length, map, set, slice_get, Some, None, Result, Ok, Err, IfOk, sym, ap}
+use Rattle.std.proofs.Common.{◌≡◌, ℕ, ◌+◌, List, [], ◌∷◌, ◌++◌, length, map, set, slice_get, Some, None, sym, ap}
 use Rattle.std.proofs.Common.{◌∙◌}
 use Rattle.mg_text.specs.Call.{Name}
 use Rattle.mg_text.specs.declared.event.Event.TheVariants as seen

@@ -8,21 +8,20 @@ use Rattle.mg_text.specs.declared.event.BadKind.{BadKind}
 use Rattle.vm_model.specs.declared.value.Value.{Value}
 use Rattle.vm_model.specs.declared.value.Value.TheVariants as values
 use Rattle.vm_model.specs.Program.{Program, Instr, MethodOf, method_at}
-use Rattle.vm_model.specs.Messages.{Messages}
 use Rattle.vm_model.specs.Machine.{Machine, Went}
 use Rattle.vm_model.specs.Arithmetic.{wrap, computed, compares, switched}
 use Rattle.std.specs.Bool.{OnTrue, OnFalse}
-use Rattle.std.proofs.Common.{suc, add-one, subst}
+use Rattle.std.proofs.Common.{add-one, subst}
 use Rattle.vm_frames.specs.Seen.{held_in}
 use Rattle.vm_model.specs.Actions.{Action, Sort, Number, Reference, Operation, Comparison, Push, Load, Store, Pop, Double, Compute, Negate}
 use Rattle.vm_model.specs.Actions.{Increase, IfZero, IfBoth, IfNull, Go, Switch}
 use Rattle.vm_model.specs.Tests as model
-use Rattle.vm_model.specs.Tests.{Needs, needs, wrong, wrong_by, below, on_top, misfits, misfit_read, misfit_local, misfit_sort, some_of}
+use Rattle.vm_model.specs.Tests.{Needs, needs, wrong_by, below, on_top, misfits, misfit_local, misfit_sort, some_of}
 use Rattle.vm_model.specs.Tests.{is_kind, is_member, is_null, max_stack_in, method_of_frame}
-use Rattle.vm_model.specs.Step.{code_in, goes, next, at_place, with_local, pushed, computed_to, branch, same_truth}
+use Rattle.vm_model.specs.Step.{code_in, next, at_place, with_local, pushed, computed_to, same_truth}
 use Rattle.vm_step.specs.Alone.{SameMethod, Alone, NextAlone, AllAlone}
 use Rattle.vm_step.specs.inner.Tops.{at_top, int_in, int_of_local}
-use Rattle.vm_step.specs.inner.Acts.{stored_by, doubled_by, computes_by, negates_by, increased_by, on_zero_by, on_both_by, on_null_by}
+use Rattle.vm_step.specs.inner.Acts.{stored_by, computes_by, negates_by, increased_by, on_zero_by, on_both_by, on_null_by}
 use Rattle.vm_step.specs.inner.Acts.{switches_by}
 use Rattle.vm_step.proofs.Acts.{by_one, by_two, There, there}
 use Rattle.vm_step.proofs.Tops.{doubles}

@@ -1,12 +1,11 @@
 //! The frequent instructions where nothing is wrong with them, by the cells where they lie.
 //! What isn't right, needs memory or tells something is left to the general tests.
 
-ghost use Rattle.std.specs.Prelude.{◌≡◌, List, ◌+◌, ◌-◌, ◌<◌, ◌≤◌, ◌^◌, ◌++◌, ◌∷◌, [], length, map, slice_get, Some, None, IfSome};
+ghost use Rattle.std.specs.Prelude.{◌≡◌, List, ◌+◌, ◌-◌, ◌<◌, ◌≤◌, ◌^◌, ◌++◌, ◌∷◌, [], length, map, Some, None};
 ghost use Rattle.std.specs.Bool.{OnTrue, OnFalse};
-ghost use Rattle.vm_model.specs.declared.value.Value.TheVariants as values;
 ghost use Rattle.vm_model.specs.Actions as actions;
-ghost use Rattle.vm_model.specs.Tests.{below, misfit_sort, is_reference};
-ghost use Rattle.vm_model.specs.Step.{at_place, next};
+ghost use Rattle.vm_model.specs.Tests.{misfit_sort};
+ghost use Rattle.vm_model.specs.Step.{next};
 ghost use Rattle.vm_model.specs.View.{classes_of, instr_of};
 ghost use Rattle.mg_text.specs.Call.{Name};
 ghost use Rattle.vm_frames.specs.Seen.{value_in, IsSet};
@@ -52,7 +51,7 @@ fn push(state: &mut State, max: u16, cell: Cell) -> bool
     true
 }
 
-/// Pushes a constant that is no text.
+/// Pushes a constant, which is no text or one that the instruction pushed before.
 #[inline(always)]
 fn push_constant(state: &mut State, max: u16, constant: Constant<'_>) -> bool
     requires { state.old.machine.frame.place < 2 ^ 32 - 1 }
@@ -61,7 +60,10 @@ fn push_constant(state: &mut State, max: u16, constant: Constant<'_>) -> bool
     match constant {
         Constant::Int(x) => push(state, max, Cell::Int(x)),
         Constant::Null => push(state, max, Cell::Null),
-        Constant::Text(_) => false,
+        Constant::Text(text) => match state.noted(text.as_ref()) {
+            Some(number) => push(state, max, Cell::Text(number)),
+            None => false,
+        },
     }
 }
 

@@ -6,7 +6,6 @@ ghost use Rattle.std.specs.Str.{bytes_eq};
 ghost use Rattle.vm_model.specs.Descriptors.{type_view};
 ghost use Rattle.vm_model.specs.Tests as model;
 ghost use Rattle.vm_model.specs.View.{classes_of};
-ghost use Rattle.vm_model.specs.declared.value.Value.{Value};
 ghost use Rattle.mg_text.specs.Call.{Name};
 ghost use Rattle.vm_frames.specs.Seen.{value_in};
 ghost use Rattle.vm_frames.specs.Kept.{most};

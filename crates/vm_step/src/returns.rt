@@ -3,7 +3,6 @@
 
 ghost use Rattle.std.specs.Prelude.{◌≡◌, ℕ, ◌≤◌, List, length, option_map, option_to_list, None, IfSome};
 ghost use Rattle.vm_model.specs.View.{classes_of};
-ghost use Rattle.vm_model.specs.Types.{signature_of};
 ghost use Rattle.vm_model.specs.Descriptors.{type_view};
 ghost use Rattle.vm_model.specs.Actions as actions;
 ghost use Rattle.vm_model.specs.Tests as tests;

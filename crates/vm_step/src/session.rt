@@ -1,7 +1,7 @@
 //! The members of `Session`: messages that are sent, looked at, taken and refused.
 //! Everything that needs memory is made before anything changes.
 
-ghost use Rattle.std.specs.Prelude.{◌≡◌, ℕ, List, ◌<◌, ◌≤◌, ◌-◌, ◌^◌, ◌++◌, ◌∷◌, [], Some, length, option_map, IfOk, OnOk, OnErr};
+ghost use Rattle.std.specs.Prelude.{◌≡◌, ℕ, List, ◌<◌, ◌≤◌, ◌-◌, ◌^◌, ◌++◌, Some, length, option_map, IfOk, OnOk, OnErr};
 ghost use Rattle.vm_model.specs.Messages.{role_named};
 ghost use Rattle.vm_model.specs.Tests.{below};
 ghost use Rattle.vm_model.specs.Step as model;

@@ -1,9 +1,8 @@
 //! A step: the next instruction's tests, and then what it does.
 //! Nothing changes where memory is wanting or a message is.
 
-ghost use Rattle.std.specs.Prelude.{◌≡◌, true, false, ℕ, ◌+◌, ◌<◌, ◌≤◌, ◌-◌, ◌^◌, length, option_map, slice_get, Some, IfOk, OnErr, OnSome};
+ghost use Rattle.std.specs.Prelude.{◌≡◌, true, false, ℕ, ◌+◌, ◌<◌, ◌≤◌, ◌-◌, ◌^◌, option_map, slice_get, Some, IfOk, OnErr, OnSome};
 ghost use Rattle.std.specs.Prelude.{[]};
-ghost use Rattle.vm_model.specs.Messages.{Messages};
 ghost use Rattle.vm_model.specs.Program as program;
 ghost use Rattle.vm_model.specs.View.{classes_of, field_of, instr_of};
 ghost use Rattle.vm_model.specs.Actions as actions;
@@ -11,26 +10,24 @@ ghost use Rattle.vm_model.specs.Types as types;
 ghost use Rattle.vm_model.specs.Tests as tests;
 ghost use Rattle.vm_model.specs.Step as model;
 ghost use Rattle.vm_frames.specs.Kept.{most};
-ghost use Rattle.vm_step.specs.State.{state_of, operands_of};
+ghost use Rattle.vm_step.specs.State.{state_of};
 ghost use Rattle.vm_step.specs.Table.{sort_of, plain_of, action_of};
 ghost use Rattle.vm_step.specs.Needing.{want_of, wants_of};
 ghost use Rattle.vm_step.specs.Steady.{is_steady, is_steady_action, next_action};
-ghost use Rattle.vm_step.specs.Doing.{Does, Plays, waits_in};
-ghost use Rattle.vm_step.specs.inner.Tops.{at_top, text_in};
+ghost use Rattle.vm_step.specs.Doing.{Does, Plays};
 
 use crate::action::{Action, Plain, Sort, action_of};
 use crate::built::{concat, equals, init, print, push_out, show_int, show_truth};
 use crate::calls::call;
 use crate::needs::{Want, number, taking, text, wrong};
 use crate::objects::{make, read, write};
-use crate::operands::text_at;
 use crate::plain::{
     compute, double, increase, jump, jump_on_both, jump_on_null, jump_on_zero, load, negate, pop,
     push_constant, store, swap, switch,
 };
 use crate::program::{class_name, field_at, lent, method_at};
 use crate::returns::return_from;
-use crate::session::{Payload, look, other_role, refuse, send, take};
+use crate::session::{Payload, look, refuse, send, take};
 use crate::stepped::Stepped;
 use mg_text::{BadKind, Ending, Memory};
 use std::alloc::Global;

@@ -1,4 +1,4 @@
-use Rattle.std.proofs.Common.{◌≡◌, ◌≤◌, ◌∙◌, length, ap, sym, refl, arith}
+use Rattle.std.proofs.Common.{◌≡◌, ◌∙◌, length, ap, sym, refl, arith}
 use Rattle.std.proofs.lemmas.List.{length-map}
 use Rattle.vm_model.specs.View.{classes_of}
 use Rattle.vm_model.specs.Program.{method_at}

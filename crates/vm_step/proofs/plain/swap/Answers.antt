@@ -1,6 +1,5 @@
-use Rattle.std.proofs.Common.{◌≡◌, ◌+◌, ◌++◌, ◌∷◌, [], ◌∙◌, ap}
+use Rattle.std.proofs.Common.{◌+◌, ◌++◌, ◌∷◌, [], ◌∙◌}
 use Rattle.vm_model.specs.Machine.{Machine}
-use Rattle.vm_model.specs.Tests.{below}
 use Rattle.vm_model.specs.Step.{at_place}
 use Rattle.vm_frames.specs.Seen.{value_in}
 use Rattle.vm_step.specs.State.{state_of, operands_of}

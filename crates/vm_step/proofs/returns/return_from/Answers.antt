@@ -1,4 +1,4 @@
-use Rattle.std.proofs.Common.{◌≡◌, ◌∙◌, Some, Option, Ok, sym, ap, refl}
+use Rattle.std.proofs.Common.{◌≡◌, ◌∙◌, Option, Ok, sym, ap, refl}
 use Rattle.std.specs.Option.{option_map}
 use Rattle.vm_model.specs.Program.{method_at}
 use Rattle.vm_model.specs.View.{classes_of}

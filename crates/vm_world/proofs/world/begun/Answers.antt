@@ -12,6 +12,6 @@ loop-main-preserved c =
       ap length c.in_ok-push.ensures.items ∙ length-append c.loop-main.roles.items _ ∙ ap (λ n. n + 1) c.loop-main.invariant.0,
       next_begun (classes_of c.args.linked.now.classes.items) c.args.mains.now c.loop-main.roles.items c.push.new.self.items
           c.loop-main.main-index
-          c.main-item.result c.in_ok-machine.machine.machine c.loop-main-test.true c.main-item.is c.loop-main.invariant.1 start
+          c.main-item.result c.in_ok-machine.machine c.loop-main-test.true c.main-item.is c.loop-main.invariant.1 start
           c.in_ok-push.ensures.items,
     )
