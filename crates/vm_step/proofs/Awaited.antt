@@ -3,6 +3,7 @@ use Rattle.std.proofs.Common.{◌≡◌, ℕ, false, List, Option, Some, None, r
 use Rattle.mg_text.specs.Call.{Name}
 use Rattle.mg_text.specs.declared.event.Sent.{Sent}
 use Rattle.vm_model.specs.declared.value.Value.{Value}
+use Rattle.vm_model.specs.declared.linked.Built.{Built as BuiltIn}
 use Rattle.vm_model.specs.declared.linked.Built.TheVariants as built
 use Rattle.vm_model.specs.Messages.{Messages, on_way, role_named}
 use Rattle.vm_model.specs.Machine.{Machine}

@@ -7,6 +7,7 @@ use Rattle.mg_text.specs.declared.event.Sent.{Sent}
 use Rattle.mg_text.specs.declared.event.Carried.{Carried}
 use Rattle.vm_model.specs.declared.value.Value.{Value}
 use Rattle.vm_model.specs.declared.value.Value.TheVariants as values
+use Rattle.vm_model.specs.declared.linked.Built.{Built as BuiltIn}
 use Rattle.vm_model.specs.declared.linked.Built.TheVariants as built
 use Rattle.vm_model.specs.Program.{Program}
 use Rattle.vm_model.specs.Messages.{Messages, role_named}
