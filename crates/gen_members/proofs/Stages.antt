@@ -25,7 +25,8 @@ finals_of c l = finals l.starts l.starts c.code l.numbers
 
 -- the steps of a method: its name, its descriptor, the text `Code`, and its code
 module _ (c : Compiled) (pool p1 p2 p3 p4 : List Const) (n d k : ℕ) (l : Laid) (name : IsMade n p1 (utf8 c.name pool))
-    (descriptor : IsMade d p2 (utf8 c.descriptor p1)) (code : IsMade k p3 (utf8 (codes "Code") p2)) (lay : IsMade l p4 (laid 0 c.code p3)) where
+    (descriptor : IsMade d p2 (utf8 c.descriptor p1)) (code : IsMade k p3 (utf8 (codes "Code") p2)) (lay : IsMade l p4 (laid 0 c.code p3))
+        where
   abbrev before : List Const
   before = (utf8 (codes "Code") (utf8 c.descriptor (utf8 c.name pool).1).1).1
 

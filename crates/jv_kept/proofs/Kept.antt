@@ -33,7 +33,8 @@ use Rattle.jv_kept.proofs.MethodKinds.{kind_kept}
 use Rattle.jv_kept.proofs.Performing.{keeps_to}
 use Rattle.jv_kept.proofs.Slots.{all_at, all_holds, slots_kept, param_names_apart}
 
-module _ (program : Program) (core : Core.Program) (well : IsWellTyped program) (shaped : IsShaped program) (res : Resolves program core) where
+module _ (program : Program) (core : Core.Program) (well : IsWellTyped program) (shaped : IsShaped program) (res : Resolves program core)
+    where
   declarations : NoFault program well.origins
   declarations = no_fault program well.origins well.declarations
 

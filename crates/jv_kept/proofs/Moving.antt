@@ -16,7 +16,8 @@ use Rattle.jv_core.specs.Types as resolved
 use Rattle.jv_names.specs.Resolves.{Numbers, IsVar, IsMethod, IsExpr, IsExprs}
 use Rattle.jv_names.specs.Resolves as is
 use Rattle.jv_names.proofs.Tables.{some_is}
-use Rattle.jv_kept.proofs.Clean.{NoFaultAt, CleanNodes, CleanExpr, CleanArgs, nodes_left, nodes_right, first_arg, other_args, left_operand, right_operand}
+use Rattle.jv_kept.proofs.Clean.{NoFaultAt, CleanNodes, CleanExpr, CleanArgs, nodes_left, nodes_right, first_arg, other_args, left_operand}
+use Rattle.jv_kept.proofs.Clean.{right_operand}
 use Rattle.jv_kept.proofs.Naming.{Runs}
 
 -- an expression but `this`
@@ -63,7 +64,8 @@ not_protocol : (b : Bool) (P : Type 0) → (P × (b ≡ true) → ⊥) → P →
 not_protocol true P n h = absurd (n (h, refl))
 not_protocol false P n h = refl
 
-module _ (core : Core.Program) (m : Core.Method) (scope : Scope) (ns : Numbers) (runs : Runs core m scope.program scope.class scope.method) where
+module _ (core : Core.Program) (m : Core.Method) (scope : Scope) (ns : Numbers) (runs : Runs core m scope.program scope.class scope.method)
+    where
   pub own_class : (f : Name) (n : ℕ) (method : Source.Method) (i : IsMethod scope.program core scope.class.name f n method) →
       i.owner.class ≡ scope.class
   own_class f n method i = some_is (sym i.owner_named ∙ runs.named)

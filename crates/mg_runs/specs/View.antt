@@ -21,7 +21,8 @@ pub record Shows (mains : List RoleMain) (named traced : Bool) (run : Course) (s
   pub trace_is : shown.trace ≡ (if traced then trace run.core (names_of mains) run.last.events else [])
 
 -- some run of these files is shown
-pub record IsOfRun (files : List Source) (mains : List RoleMain) (order : List ℕ) (limit : ℕ) (named traced : Bool) (shown : Ran) : Type 0 where
+pub record IsOfRun (files : List Source) (mains : List RoleMain) (order : List ℕ) (limit : ℕ) (named traced : Bool) (shown : Ran) : Type 0
+    where
   pub run : Course
   pub is : IsRun files mains order limit run
   pub shows : Shows mains named traced run shown
