@@ -116,15 +116,21 @@ send_fine : (p : Place) (peer label : Name) (kind : Payload) → IsRoleName peer
     → AllByRecursion IsFine (send_body p peer label kind)
 send_fine p peer label payloads.Nothing w l =
     ((inr ((session_named, send_named payloads.Nothing, (role_utf8 peer w, (role_utf8 label l, tt))), refl, refl), omega arith), tt)
-send_fine p peer label payloads.Int w l =
-    ((inr ((session_named, send_named payloads.Int, (role_utf8 peer w, (role_utf8 label l, (value_named, tt)))), refl, refl), omega arith),
-        tt)
-send_fine p peer label payloads.Boolean w l =
-    ((inr ((session_named, send_named payloads.Boolean, (role_utf8 peer w, (role_utf8 label l, (value_named, tt)))), refl, refl),
-        omega arith), tt)
-send_fine p peer label payloads.Text w l =
-    ((inr ((session_named, send_named payloads.Text, (role_utf8 peer w, (role_utf8 label l, (value_named, tt)))), refl, refl), omega arith),
-        tt)
+send_fine p peer label payloads.Int w l = (
+  (inr ((session_named, send_named payloads.Int, (role_utf8 peer w, (role_utf8 label l, (value_named, tt)))), refl, refl), omega arith),
+  tt,
+)
+send_fine p peer label payloads.Boolean w l = (
+  (
+    inr ((session_named, send_named payloads.Boolean, (role_utf8 peer w, (role_utf8 label l, (value_named, tt)))), refl, refl),
+    omega arith,
+  ),
+  tt,
+)
+send_fine p peer label payloads.Text w l = (
+  (inr ((session_named, send_named payloads.Text, (role_utf8 peer w, (role_utf8 label l, (value_named, tt)))), refl, refl), omega arith),
+  tt,
+)
 
 take_fine : (p : Place) (peer label : Name) (kind : Payload) → IsRoleName peer → IsRoleName label
     → AllByRecursion IsFine (take_body p peer label kind)
@@ -164,7 +170,7 @@ look_fine : (p : Place) (enum peer : Name) (labels : List Name) → IsNamed enum
     → AllByRecursion IsFine (look_body p enum peer labels)
 look_fine p enum peer labels e w h =
     let looks : IsFine (found_by p peer) = (inl (text_typed, found_named, (session_named, look_named, (role_utf8 peer w, tt))), omega arith)
-        in
+    in
     let refuses : IsFine (refusal p peer) =
     (inr ((session_named, refuse_named, (role_utf8 peer w, (found_named, tt))), refl, refl), omega arith) in (
       looks,

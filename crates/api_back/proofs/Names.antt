@@ -86,7 +86,7 @@ digits_pass (suc k) n acc h =
     let more : AllPasses is_word_byte (digit_glyph false (n % 10) ∷ acc) = (digit_passes n, h) in
     either_passes is_word_byte (n / 10 == 0) (digit_glyph false (n % 10) ∷ acc)
     (digits_onto k 10 false (n / 10) (digit_glyph false (n % 10) ∷ acc)) more (digits_pass k (n / 10) (digit_glyph false (n % 10) ∷ acc)
-        more)
+    more)
 
 pub number_bytes : (n : ℕ) → AllPasses is_word_byte (decimal n)
 unfolding digits

@@ -92,7 +92,7 @@ read_number : (bytes : List ℕ) (at : ℕ) (part : Part) → is_cut bytes (fiel
 unfolding number_at number is_cut
 read_number bytes at part e =
     let k : drop (size part) (drop at bytes) ≡ drop (at + size part) bytes = drop-drop (size part) at bytes ∙ ap (λ n. drop n bytes)
-          (omega arith) in
+    (omega arith) in
     rw e (ap (λ r. Some (big_number (size part) (drop at bytes), r)) k)
 
 step_of : (bytes last places : List ℕ) (at : ℕ) (part : Part) (due : List Part) (row : List Field) → Lays bytes places at (part ∷ due) row
@@ -103,7 +103,7 @@ step_of bytes last places at part due [] l cl within = elim l [ ]
 step_of bytes last places at part due (f ∷ []) (stopped e s) (behind (whole nc j) cl) within =
     let c : is_cut bytes (field at part) ≡ false = rw e at nc in
     let t : Judges bytes last [] part at (num bytes at part) (drop at bytes) None =
-          subst (λ (g : Field). Judges bytes last [] g.part g.at (number bytes g) (drop g.at bytes) None) e j in
+    subst (λ (g : Field). Judges bytes last [] g.part g.at (number bytes g) (drop g.at bytes) None) e j in
     let s2 : stops bytes last (field at part) ≡ true = rw e at s in
     absurd (goes_on bytes last [] part at (num bytes at part) (drop at bytes) t (rw c at s2))
 step_of bytes last places at part due (f ∷ row) (next e s more) (behind (whole nc j) cl) within =
@@ -113,9 +113,13 @@ step_of bytes last places at part due (f ∷ row) (next e s more) (behind (whole
       whole = c;
       read = read_number bytes at part c;
       lasts = or_false _ _ s2;
-      rest = record { row = row; lays =
-          subst (λ (g : Field). Lays bytes (entered part at places) (at + size part) (due_behind bytes places g ++ due) row last) e more;
-          clean = cl; within = end_within bytes (field at part) c within };
+      rest = record {
+        row = row;
+        lays =
+            subst (λ (g : Field). Lays bytes (entered part at places) (at + size part) (due_behind bytes places g ++ due) row last) e more;
+        clean = cl;
+        within = end_within bytes (field at part) c within;
+      };
       judged = subst (λ (g : Field). Judges bytes last row g.part g.at (number bytes g) (drop g.at bytes) None) e j;
       ends = ap (λ (g : Field). ends_here g.part g.at (ends_well row)) e;
     }

@@ -40,14 +40,16 @@ run_sound bytes x fits e =
     let long : n.value ≤ length n.rest = ltb-false _ _ p.0 in
     let len : length (take n.value n.rest) ≡ n.value = omega (arith, length-take n.value n.rest) in
     let second : Takes n.rest (take n.value n.rest) (drop n.value n.rest) =
-          record { parts = sym (take-append-drop n.value n.rest); rest_fits = IsBytes-drop n.value n.rest n.takes.rest_fits } in
+    record { parts = sym (take-append-drop n.value n.rest); rest_fits = IsBytes-drop n.value n.rest n.takes.rest_fits } in
     let both = Takes-then bytes (u4 n.value) n.rest (take n.value n.rest) (drop n.value n.rest) n.takes second in
     let all : Takes bytes (run_bytes (take n.value n.rest)) (drop n.value n.rest) =
-          subst (λ (k : ℕ). Takes bytes (u4 k ++ take n.value n.rest) (drop n.value n.rest)) (sym len) both in
-    let run : IsRun (take n.value n.rest) = (all_bytes (take n.value n.rest) (IsBytes-take n.value n.rest n.takes.rest_fits),
-          subst IsU4 (sym len) n.fits) in
+    subst (λ (k : ℕ). Takes bytes (u4 k ++ take n.value n.rest) (drop n.value n.rest)) (sym len) both in
+    let run : IsRun (take n.value n.rest) = (
+      all_bytes (take n.value n.rest) (IsBytes-take n.value n.rest n.takes.rest_fits),
+      subst IsU4 (sym len) n.fits,
+    ) in
     subst (λ (y : List ℕ × List ℕ). Takes bytes (run_bytes y.0) y.1 × IsRun y.0) (some_is (take n.value n.rest, drop n.value n.rest) x p.1)
-        (all, run)
+    (all, run)
 
 run_back : (run rest : List ℕ) → IsU4 (length run) → run_at (run_bytes run ++ rest) ≡ Some (run, rest)
 unfolding run_at
@@ -67,7 +69,7 @@ inner_sound bytes x fits e =
     let run = read run_at run_bytes IsRun _ name.rest x run_sound name.takes.rest_fits name.goes_on in
     let all = Takes-then bytes (u2 name.value) name.rest (run_bytes run.value) run.rest name.takes run.takes in
     subst (λ (y : Inner × List ℕ). Takes bytes (inner_bytes y.0) y.1 × FitsInner y.0) (some_is (Unread name.value run.value, run.rest) x
-        run.goes_on) (all, (name.fits, run.fits))
+    run.goes_on) (all, (name.fits, run.fits))
 
 pub inner_complete : IsComplete inner_at inner_bytes FitsInner
 unfolding inner_at
@@ -94,9 +96,11 @@ instrs_from_sound (suc n) place (b ∷ bytes) is fits e =
     let f = front_some i is (unfit place (b ∷ bytes)) (instrs_from n (place + size) (drop size (b ∷ bytes))) e in
     let s = stands place (b ∷ bytes) fits f.1 in
     let rest = instrs_from_sound n (place + size) (drop size (b ∷ bytes)) f.0 (IsBytes-drop size (b ∷ bytes) fits) f.2 in
-    subst (λ k. AllByRecursion FitsInstr k × (b ∷ bytes ≡ code_from place k)) (sym f.3)
-    ((s.fits, rest.0), s.spelled ∙ ap (λ r. instr_bytes place i ++ r) rest.1 ∙ ap (λ k. instr_bytes place i ++ code_from (place + k) f.0)
-        s.sized)
+    subst (λ k. AllByRecursion FitsInstr k × (b ∷ bytes ≡ code_from place k)) (sym f.3) (
+      (s.fits, rest.0),
+      s.spelled ∙ ap (λ r. instr_bytes place i ++ r) rest.1 ∙ ap (λ k. instr_bytes place i ++ code_from (place + k) f.0)
+          s.sized,
+    )
 
 instrs_from_complete : (is : List Instr) (n place : ℕ) → AllByRecursion FitsInstr is → length (code_from place is) < n →
     instrs_from n place (code_from place is) ≡ Some is
@@ -110,9 +114,9 @@ instrs_from_complete (i ∷ is) (suc n) place all lt =
     let s = seen place i rest all.0 in
     let ih = instrs_from_complete is n (place + length here) all.1 (omega (arith, length-append here rest)) in
     ap (λ u. in_front u (instr_in place (here ++ rest)) (instrs_from n (place + size_in place (here ++ rest))
-        (drop (size_in place (here ++ rest)) (here ++ rest)))) s.none
+    (drop (size_in place (here ++ rest)) (here ++ rest)))) s.none
     ∙ ap (λ k. in_front None k (instrs_from n (place + size_in place (here ++ rest)) (drop (size_in place (here ++ rest)) (here ++ rest))))
-        s.instr
+    s.instr
     ∙ ap (λ k. in_front None i (instrs_from n (place + k) (drop k (here ++ rest)))) s.size
     ∙ ap (λ bs. in_front None i (instrs_from n (place + length here) bs)) (drop_at here rest (length here) refl)
     ∙ ap (in_front None i) ih
@@ -169,7 +173,7 @@ unfolding instrs_of
 code_complete is fit sound =
     let short = sound.short in
     let t : is_sound (length (code_bytes is)) is ≡ true = sound_again (length (code_bytes is)) (first_outside is) (some_bytes is fit.1)
-          (omega arith) sound.inside in
+    (omega arith) sound.inside in
     rw (instrs_from_complete is (suc (length (code_bytes is))) 0 fit.0 (omega arith), t) refl
 
 -- what decoding answers
@@ -211,7 +215,7 @@ body_sound bytes x fits e =
     let t : Takes bytes (body_bytes is.0) run.rest = subst (λ (w : List ℕ). Takes bytes (run_bytes w) run.rest) s.spelled run.takes in
     let n : IsU4 (length (code_bytes is.0)) = subst (λ (w : List ℕ). IsU4 (length w)) s.spelled run.fits.1 in
     subst (λ (y : List Instr × List ℕ). Takes bytes (body_bytes y.0) y.1 × FitBody y.0) (some_is (is.0, run.rest) x is.2)
-        (t, (s.fits, s.sound, n))
+    (t, (s.fits, s.sound, n))
 
 body_complete : (is : List Instr) (rest : List ℕ) → FitBody is → body_at (body_bytes is ++ rest) ≡ Some (is, rest)
 unfolding body_at
@@ -233,7 +237,7 @@ inners_complete : IsComplete inners_at inners_bytes (FitListed FitsInner)
 unfolding inners_at
 inners_complete inners rest fit =
     rw (behind_complete 2 0 IsU2 u2_complete (omega arith) (listed_bytes inner_bytes inners ++ rest))
-        (listed_complete inner_at inner_bytes FitsInner inner_complete inners rest fit)
+    (listed_complete inner_at inner_bytes FitsInner inner_complete inners rest fit)
 
 -- ---- what a code attribute holds
 abbrev content_spell : Attr → List ℕ
@@ -255,15 +259,21 @@ content_sound name bytes x fits e =
     let inners = read inners_at inners_bytes (FitListed FitsInner) _ body.rest x inners_sound body.takes.rest_fits body.goes_on in
     let t1 = Takes-then sizes.rest (body_bytes body.value) body.rest (inners_bytes inners.value) inners.rest body.takes inners.takes in
     let t0 = Takes-then bytes (pair_bytes sizes.value) sizes.rest (body_bytes body.value ++ inners_bytes inners.value) inners.rest
-          sizes.takes t1 in
-    let code : Code = record { name = name; max_stack = sizes.value.0; max_locals = sizes.value.1; instrs = body.value; attributes =
-          inners.value } in
+    sizes.takes t1 in
+    let code : Code = record {
+      name = name;
+      max_stack = sizes.value.0;
+      max_locals = sizes.value.1;
+      instrs = body.value;
+      attributes =
+          inners.value;
+    } in
     let t : Takes bytes (content_bytes code) inners.rest =
     subst (λ (w : List ℕ). Takes bytes w inners.rest)
     (regroup (u2 sizes.value.0) (u2 sizes.value.1) (u4 (length (code_bytes body.value))) (code_bytes body.value) (u2 0)
-        (listed_bytes inner_bytes inners.value)) t0 in
+    (listed_bytes inner_bytes inners.value)) t0 in
     subst (λ (y : Attr × List ℕ). Takes bytes (content_spell y.0) y.1 × FitContent name y.0)
-        (some_is (Coded code, inners.rest) x inners.goes_on)
+    (some_is (Coded code, inners.rest) x inners.goes_on)
     (t, (refl, sizes.fits, body.fits, inners.fits))
 
 content_complete : (c : Code) (rest : List ℕ) → FitContent c.name (Coded c) → content_at c.name (content_bytes c ++ rest) ≡ Some
@@ -271,13 +281,16 @@ content_complete : (c : Code) (rest : List ℕ) → FitContent c.name (Coded c) 
 unfolding content_at
 content_complete c rest fit =
     let grouped = regroup (u2 c.max_stack) (u2 c.max_locals) (u4 (length (code_bytes c.instrs))) (code_bytes c.instrs) (u2 0)
-          (listed_bytes inner_bytes c.attributes) in
+    (listed_bytes inner_bytes c.attributes) in
     let tail = inners_bytes c.attributes ++ rest in
     ap (λ (w : List ℕ). content_at c.name (w ++ rest)) (sym grouped)
     ∙ ap (content_at c.name) (append_assoc (pair_bytes (c.max_stack, c.max_locals)) (body_bytes c.instrs ++ inners_bytes c.attributes) rest
     ∙ ap (λ w. pair_bytes (c.max_stack, c.max_locals) ++ w) (append_assoc (body_bytes c.instrs) (inners_bytes c.attributes) rest))
-    ∙ rw (pair_front (c.max_stack, c.max_locals) (body_bytes c.instrs ++ tail) fit.1, body_complete c.instrs tail fit.2,
-        inners_complete c.attributes rest fit.3) refl
+    ∙ rw (
+      pair_front (c.max_stack, c.max_locals) (body_bytes c.instrs ++ tail) fit.1,
+      body_complete c.instrs tail fit.2,
+      inners_complete c.attributes rest fit.3,
+    ) refl
   where
     pair_front : (p : ℕ × ℕ) (rest : List ℕ) → FitPair p → pair_at (pair_bytes p ++ rest) ≡ Some (p, rest)
     pair_front p rest f = pair_complete p rest f
@@ -308,7 +321,7 @@ unfolding code_at
 coded_sound name bytes x fits e =
     let len = read (number_at 4) u4 IsU4 _ bytes x u4_sound fits e in
     let content = read (content_at name) content_spell (FitContent name) _ len.rest x (content_sound name) len.takes.rest_fits len.goes_on
-        in
+    in
     let h = held (eqb (length len.rest) (len.value + length content.rest)) (Some (content.value, content.rest)) x content.goes_on in
     let long : length len.rest ≡ len.value + length content.rest = eqb-true _ _ h.0 in
     subst (λ (y : Attr × List ℕ). Takes bytes (code_spell y.0) y.1 × FitCoded name y.0) (some_is (content.value, content.rest) x h.1)
@@ -337,7 +350,7 @@ unfolding other_at
 other_sound name bytes x fits e =
     let run = read run_at run_bytes IsRun _ bytes x run_sound fits e in
     subst (λ (y : Attr × List ℕ). Takes bytes (other_spell y.0) y.1 × FitOther name y.0)
-        (some_is (Other name run.value, run.rest) x run.goes_on) (run.takes, (refl, run.fits))
+    (some_is (Other name run.value, run.rest) x run.goes_on) (run.takes, (refl, run.fits))
 
 other_complete : (name : ℕ) (run rest : List ℕ) → IsRun run → other_at name (run_bytes run ++ rest) ≡ Some (Other name run, rest)
 unfolding other_at
@@ -359,7 +372,7 @@ FitsCode_of c name small f =
 attr_coded : (pool : List Const) (of_method : Bool) (name : ℕ) (bytes front : List ℕ) (y : Attr × List ℕ) →
     (of_method ≡ true) × (names_code pool name ≡ true) → IsU2 name
     → Takes bytes (u2 name) front → Takes front (code_spell y.0) y.1 → FitCoded name y.0 → Takes bytes (attr_bytes y.0) y.1
-        × FileAttr pool of_method y.0
+    × FileAttr pool of_method y.0
 attr_coded pool of_method name bytes front (Coded c, rest) is small t s f = (
   subst (λ (k : ℕ). Takes bytes (u2 k ++ code_spell (Coded c)) rest) (sym f.0.0) (Takes-then bytes (u2 name) front (code_spell (Coded c))
       rest t s),
@@ -370,7 +383,7 @@ attr_coded pool of_method name bytes front (Other n run, rest) is small t s f = 
 attr_other : (pool : List Const) (of_method : Bool) (name : ℕ) (bytes front : List ℕ) (y : Attr × List ℕ) →
     (of_method && names_code pool name) ≡ false → IsU2 name
     → Takes bytes (u2 name) front → Takes front (other_spell y.0) y.1 → FitOther name y.0 → Takes bytes (attr_bytes y.0) y.1
-        × FileAttr pool of_method y.0
+    × FileAttr pool of_method y.0
 attr_other pool of_method name bytes front (Coded c, rest) is small t s f = absurd f
 attr_other pool true name bytes front (Other n run, rest) is small t s f = (
   subst (λ (k : ℕ). Takes bytes (u2 k ++ run_bytes run) rest) (sym f.0) (Takes-then bytes (u2 name) front (run_bytes run) rest t s),
@@ -399,8 +412,10 @@ attr_sound pool of_method bytes x fits e =
 pub attr_complete : (pool : List Const) (of_method : Bool) → IsComplete (attr_at pool of_method) attr_bytes (FileAttr pool of_method)
 unfolding attr_at
 attr_complete pool true (Coded c) rest ok =
-    let f : FitCoded c.name (Coded c) = ((refl, (ok.0.max_stack, ok.0.max_locals), (ok.0.instrs, ok.1, ok.0.code_length), ok.0.attributes),
-          ok.0.content_length) in
+    let f : FitCoded c.name (Coded c) = (
+      (refl, (ok.0.max_stack, ok.0.max_locals), (ok.0.instrs, ok.1, ok.0.code_length), ok.0.attributes),
+      ok.0.content_length,
+    ) in
     rw (u2_complete c.name (code_spell (Coded c) ++ rest) ok.0.name, ok.3) (coded_complete c rest f)
 attr_complete pool false (Coded c) rest ok = absurd (let e = ok.2 in cc)
 attr_complete pool true (Other name run) rest ok =
@@ -412,6 +427,6 @@ attr_complete pool false (Other name run) rest ok =
 pub content_read : (name : ℕ) (bytes r₁ r₂ r₃ : List ℕ) (sizes : ℕ × ℕ) (is : List Instr) (inners : List Inner)
     → pair_at bytes ≡ Some (sizes, r₁) → body_at r₁ ≡ Some (is, r₂) → inners_at r₂ ≡ Some (inners, r₃)
     → content_at name bytes ≡ Some
-        (Coded (record { name = name; max_stack = sizes.0; max_locals = sizes.1; instrs = is; attributes = inners }), r₃)
+    (Coded (record { name = name; max_stack = sizes.0; max_locals = sizes.1; instrs = is; attributes = inners }), r₃)
 unfolding content_at
 content_read name bytes r₁ r₂ r₃ sizes is inners a b c = rw (a, b, c) refl

@@ -29,7 +29,7 @@ unfolding counted
 goes_on f front count i bytes x after total lt h so_far =
     let k : count - i ≡ suc (count - (i + 1)) = omega arith in
     let one : with_front front (counted f (count - i) bytes) ≡ with_front (front ++ x ∷ []) (counted f (count - (i + 1)) after) =
-          rw (k, h) (regroup front x (counted f (count - (i + 1)) after)) in
+    rw (k, h) (regroup front x (counted f (count - (i + 1)) after)) in
     sym one ∙ so_far
 
 pub ends : {A : Type 0} (f : Reader ℕ A) (e : ReadError) (front : List A) (count i : ℕ) (bytes : List ℕ) (total : Option (List A × List ℕ))
@@ -48,5 +48,5 @@ unfolding counted
 is_done f front count i bytes total le so_far =
     let k : count - i ≡ 0 = omega arith in
     let one : with_front front (counted f (count - i) bytes) ≡ Some (front, bytes) = rw k (ap (λ xs. Some (xs, bytes)) (append-nil front))
-        in
+    in
     sym so_far ∙ one

@@ -98,8 +98,12 @@ form_length place forms.Jump (tree.Jump n) ok = refl
 form_length place forms.Jump other ok = absurd ok
 form_length place forms.Table (tree.Table default low offsets) ok =
     let k = fours offsets in
-    omega (arith, length-replicate {A = ℕ} (pad place) 0, length-append (replicate (pad place) 0)
-        (s4 default ++ (s4 low ++ (s4 (highest low offsets) ++ flat_map s4 offsets))))
+    omega (
+      arith,
+      length-replicate {A = ℕ} (pad place) 0,
+      length-append (replicate (pad place) 0)
+          (s4 default ++ (s4 low ++ (s4 (highest low offsets) ++ flat_map s4 offsets))),
+    )
 form_length place forms.Table other ok = absurd ok
 form_length place forms.NearConstant (tree.Pool n) ok = refl
 form_length place forms.NearConstant other ok = absurd ok
@@ -118,7 +122,7 @@ instr_length place i form e ok =
     let fits : FitsForm form i.args = subst (λ (o : Option Form). FitsArgs o i.args) e ok in
     let k = form_length place form i.args fits in
     let n : length (args_bytes place (form_of i.op) i.args) ≡ fixed place form + extra i.args =
-          ap (λ (o : Option Form). length (args_bytes place o i.args)) e ∙ k in
+    ap (λ (o : Option Form). length (args_bytes place o i.args)) e ∙ k in
     omega (arith, n)
 
 -- ---- numbers of instructions
@@ -142,7 +146,7 @@ module _ (bad : ℕ → ℕ → Bool) (is : List Instr) where
     pub one_few : place + length (instr_bytes place i) < 65536
     one_few =
         let k : place + length (code_from place (i ∷ more)) < 65536 = subst (λ (l : List Instr). place + length (code_from place l) < 65536)
-              e m.few in
+        e m.few in
         omega (arith, k, length-append (instr_bytes place i) (code_from (place + length (instr_bytes place i)) more))
 
     pub misnaming_found : args_misnamed bad i.op i.args ≡ true → Some place ≡ first_misnamed bad 0 is
@@ -159,7 +163,7 @@ module _ (bad : ℕ → ℕ → Bool) (is : List Instr) where
       fits = (subst (AllByRecursion FitsInstr) e m.fits).1;
       few =
           let k : place + length (code_from place (i ∷ more)) < 65536 =
-                subst (λ (l : List Instr). place + length (code_from place l) < 65536) e m.few in
+          subst (λ (l : List Instr). place + length (code_from place l) < 65536) e m.few in
           rw at (omega (arith, k, length-append (instr_bytes place i) (code_from (place + length (instr_bytes place i)) more)));
     }
 
@@ -323,7 +327,7 @@ module _ (bytes places : List ℕ) (later : List Field) (at n m : ℕ) where
   module _ (rest : List ℕ) (r : Option ClassFault) where
     pub judges_number : (p : Part) → ((len : ℕ) → p ≡ parts.Letters len → ⊥) → ((len : ℕ) → p ≡ parts.Code len → ⊥) → (p ≡ parts.End → ⊥)
         → (size p ≡ 1 → n ≡ m) → (size p ≡ 2 → n ≡ m) → (size p ≡ 4 → n ≡ m) → r ≡ judged bytes places later p at n →
-            Judges bytes places later p at m rest r
+        Judges bytes places later p at m rest r
     judges_number parts.Magic a b c one two four e = e ∙ judged_same parts.Magic one two four
     judges_number parts.Minor a b c one two four e = e ∙ judged_same parts.Minor one two four
     judges_number parts.Major a b c one two four e = e ∙ judged_same parts.Major one two four

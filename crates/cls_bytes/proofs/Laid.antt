@@ -32,7 +32,7 @@ reverse_last xs ys p e = ap reverse e ∙ reverse-append xs (p ∷ [])
 
 module _ (bytes : List ℕ) (l old new : Layout) (part : Part)
     (same_row : old.row.items ≡ l.row.items) (same_at : old.at ≡ l.at) (same_places : old.places.items ≡ l.places.items)
-        (popped : l.due.items ≡ old.due.items ++ part ∷ []) where
+    (popped : l.due.items ≡ old.due.items ++ part ∷ []) where
   step_on : (row : List Field) (places : List ℕ) (at : ℕ) → row ≡ l.row.items → places ≡ l.places.items → at ≡ l.at →
       (rest : List Field) (last : List ℕ) → Laying bytes l
       → Lays bytes places at (part ∷ reverse old.due.items) rest last → LaysAll bytes (row ++ rest) last
@@ -43,18 +43,18 @@ module _ (bytes : List ℕ) (l old new : Layout) (part : Part)
   laying_more w h = record {
     front = λ rest last r.
         let more : Lays bytes (entered part old.at old.places.items) (old.at + size part)
-              (due_behind bytes old.places.items (field old.at part) ++ reverse old.due.items) rest last =
+        (due_behind bytes old.places.items (field old.at part) ++ reverse old.due.items) rest last =
         rw (← w.places, ← w.at, ← w.due) r in
         rw (w.row, append_assoc old.row.items (field old.at part ∷ []) rest)
         (step_on old.row.items old.places.items old.at same_row same_places same_at (field old.at part ∷ rest) last h
-            (next refl w.goes_on more));
+        (next refl w.goes_on more));
     within = w.within;
   }
 
   pub laid_last : Stopped bytes part old new → Laying bytes l → LaysAll bytes new.row.items new.places.items
   laid_last s h =
       rw (s.row, s.places) (step_on old.row.items old.places.items old.at same_row same_places same_at (field old.at part ∷ [])
-          old.places.items h (stopped refl s.ends))
+      old.places.items h (stopped refl s.ends))
 
 pub laid_all : (bytes : List ℕ) (l : Layout) → l.due.items ≡ [] → Laying bytes l → LaysAll bytes l.row.items l.places.items
 laid_all bytes l none h =
@@ -133,8 +133,8 @@ holds_few : (n : ℕ) → length (holds n) ≤ 6
 holds_few n =
     either_few (eqb n 1) _ _ (omega arith) (either_few (eqb n 3) _ _ (omega arith) (either_few (eqb n 7) _ _ (omega arith)
     (either_few (eqb n 8) _ _ (omega arith)
-        (either_few (eqb n 9) _ _ (omega arith)
-        (either_few (eqb n 10) _ _ (omega arith) (either_few (eqb n 12) _ _ (omega arith) (omega arith)))))))
+    (either_few (eqb n 9) _ _ (omega arith)
+    (either_few (eqb n 10) _ _ (omega arith) (either_few (eqb n 12) _ _ (omega arith) (omega arith)))))))
 
 left_few : (n : ℕ) (seen : Bool) → length (attributes_left n seen) ≤ 1
 left_few zero seen = omega arith
@@ -198,8 +198,8 @@ goes_down bytes l old new part fits same popped w =
     let d₁ : length l.due.items ≡ length old.due.items + 1 = ap length popped ∙ length-append old.due.items (part ∷ []) in
     let d₂ : length new.due.items ≡ length (brings part old.at n named) + length old.due.items =
     sym (length-reverse new.due.items) ∙
-        (ap length w.due ∙ (length-append (brings part old.at n named) (reverse old.due.items) ∙
-        ap (λ k. length (brings part old.at n named) + k) (length-reverse old.due.items))) in
+    (ap length w.due ∙ (length-append (brings part old.at n named) (reverse old.due.items) ∙
+    ap (λ k. length (brings part old.at n named) + k) (length-reverse old.due.items))) in
     elim (few_part part old.at n named (small_two bytes f fits)) [
       | inl none ↦ let k : length (brings part old.at n named) ≡ 0 = ap length none in down_none (length bytes) l.at old.at new.at
           (size part) (length l.due.items) (length old.due.items) (length new.due.items) (length (brings part old.at n named)) same at d₁ d₂

@@ -144,8 +144,14 @@ one_given u rest low high = ap (λ w. unit_at (w ++ rest)) (bytes_one u low high
 two_given : (u : ℕ) (rest : List ℕ) → (u ≡ 0) ⊎ (128 ≤ u) → u < 2048 → unit_at (two_bytes u ++ rest) ≡ Some (u, rest)
 unfolding unit_at two_at
 two_given u rest long high =
-    rw (le-ltb (192 + u / 64) 128 (omega arith), le-ltb (192 + u / 64) 192 (omega arith), lt-ltb (192 + u / 64) 224 (omega arith), a_tail u,
-        two_on u, none u long) refl where
+    rw (
+      le-ltb (192 + u / 64) 128 (omega arith),
+      le-ltb (192 + u / 64) 192 (omega arith),
+      lt-ltb (192 + u / 64) 224 (omega arith),
+      a_tail u,
+      two_on u,
+      none u long,
+    ) refl where
       none : (u : ℕ) → (u ≡ 0) ⊎ (128 ≤ u) → (ltb 0 u && ltb u 128) ≡ false
       none u h = grind (arith, nat_tests)
 
@@ -222,13 +228,15 @@ char_read bytes x e =
           let k = held (is_low v.0.0) (Some (char_of_two u.0.0 v.0.0, v.0.1)) x v.2 in
           let l = low_bounds v.0.0 k.0 in
           let both_parts : bytes ≡ (unit_bytes u.0.0 ++ unit_bytes v.0.0) ++ v.0.1 =
-                r.0 ∙ (ap (λ (w : List ℕ). unit_bytes u.0.0 ++ w) s.0 ∙ sym (append_assoc (unit_bytes u.0.0) (unit_bytes v.0.0) v.0.1)) in
+          r.0 ∙ (ap (λ (w : List ℕ). unit_bytes u.0.0 ++ w) s.0 ∙ sym (append_assoc (unit_bytes u.0.0) (unit_bytes v.0.0) v.0.1)) in
           subst (CharRead bytes) (some_is (char_of_two u.0.0 v.0.0, v.0.1) x k.1)
           (both_parts ∙ ap (λ (w : List ℕ). w ++ v.0.1) (sym (pairs_back u.0.0 v.0.0 h.0 h.1 l.0 l.1)), above u.0.0 v.0.0 h.0 h.1 l.0 l.1)
       | inr f ↦
           let p = passed (is_low u.0.0) (Some (u.0.0, u.0.1)) x f.1 in
-          subst (CharRead bytes) (some_is (u.0.0, u.0.1) x p.1) (r.0 ∙ ap (λ (w : List ℕ). w ++ u.0.1) (sym (char_one u.0.0 r.1)),
-              no_surrogate u.0.0 f.0 p.0 r.1)
+          subst (CharRead bytes) (some_is (u.0.0, u.0.1) x p.1) (
+            r.0 ∙ ap (λ (w : List ℕ). w ++ u.0.1) (sym (char_one u.0.0 r.1)),
+            no_surrogate u.0.0 f.0 p.0 r.1,
+          )
     ] where
       above : (u v : ℕ) → 55296 ≤ u → u < 56320 → 56320 ≤ v → v < 57344 → IsScalar (char_of_two u v)
       above u v a b c d = scalar_above (char_of_two u v) (omega arith) (omega arith)
@@ -245,8 +253,13 @@ two_char c rest low high =
     let is : char_of_two u v ≡ c = omega arith in
     ap (λ w. char_at (w ++ rest)) (char_two c low high)
     ∙ ap char_at (append_assoc (unit_bytes u) (unit_bytes v) rest)
-    ∙ rw (unit_given u (unit_bytes v ++ rest) (omega arith), first u (omega arith) (omega arith), unit_given v rest (omega arith),
-        second v (omega arith) (omega arith), is) refl
+    ∙ rw (
+      unit_given u (unit_bytes v ++ rest) (omega arith),
+      first u (omega arith) (omega arith),
+      unit_given v rest (omega arith),
+      second v (omega arith) (omega arith),
+      is,
+    ) refl
   where
     first : (u : ℕ) → 55296 ≤ u → u < 56320 → is_high u ≡ true
     first u a b = grind (arith, nat_tests)
@@ -308,8 +321,10 @@ many_read (suc n) (b ∷ bytes) x e =
     let cs = bind_some (many some_left char_at n c.0.1) (λ xs. Some (c.0.0 ∷ xs.0, xs.1)) x c.2 in
     let one = char_read (b ∷ bytes) c.0 c.1 in
     let more = many_read n c.0.1 cs.0 cs.1 in
-    subst (AllRead (b ∷ bytes)) (some_is (c.0.0 ∷ cs.0.0, cs.0.1) x cs.2) (one.0 ∙ ap (λ (w : List ℕ). modified_char c.0.0 ++ w) more.0,
-        both_hold (scalar c.0.0) (scalars cs.0.0) one.1 more.1)
+    subst (AllRead (b ∷ bytes)) (some_is (c.0.0 ∷ cs.0.0, cs.0.1) x cs.2) (
+      one.0 ∙ ap (λ (w : List ℕ). modified_char c.0.0 ++ w) more.0,
+      both_hold (scalar c.0.0) (scalars cs.0.0) one.1 more.1,
+    )
 
 many_given : (cs : List ℕ) (n : ℕ) → scalars cs ≡ true → length (flat_map modified_char cs) < n →
     many some_left char_at n (flat_map modified_char cs) ≡ Some (cs, [])
@@ -322,7 +337,7 @@ many_given (c ∷ cs) (suc n) s lt =
     let size = length-append (modified_char c) (flat_map modified_char cs) in
     let some = char_some c in
     let left : some_left (modified_char c ++ flat_map modified_char cs) ≡ true = not_empty (modified_char c ++ flat_map modified_char cs)
-          (omega arith) in
+    (omega arith) in
     rw (left, char_given c (flat_map modified_char cs) p.0, many_given cs n p.1 (omega arith)) refl
 
 -- what is read as a text is one in modified UTF-8
@@ -331,16 +346,20 @@ unfolding letters all_of modified
 letters_read bytes text e =
     let cs = bind_some (many some_left char_at (suc (length bytes)) bytes) (λ x. Some (encode_utf8_all x.0)) text e in
     let r = many_read (suc (length bytes)) bytes cs.0 cs.1 in
-    let is = some_is (encode_utf8_all cs.0.0) text cs.2 in
-    ((cs.0.0, (r.1, is)), ap (λ t. flat_map modified_char (chars t)) (sym is) ∙ ap (flat_map modified_char) (chars-encodes cs.0.0 r.1) ∙
-        sym r.0)
+    let is = some_is (encode_utf8_all cs.0.0) text cs.2 in (
+      (cs.0.0, (r.1, is)),
+      ap (λ t. flat_map modified_char (chars t)) (sym is) ∙ ap (flat_map modified_char) (chars-encodes cs.0.0 r.1) ∙
+          sym r.0,
+    )
 
 -- each text is read
 pub letters_given : (text : List ℕ) → IsUtf8 text → letters (modified text) ≡ Some text
 unfolding letters all_of modified
 letters_given text ok =
-    rw (many_given (chars text) (suc (length (flat_map modified_char (chars text)))) (scalars-chars text ok) (omega arith),
-        encodes-chars text ok) refl
+    rw (
+      many_given (chars text) (suc (length (flat_map modified_char (chars text)))) (scalars-chars text ok) (omega arith),
+      encodes-chars text ok,
+    ) refl
 
 -- the number of a character is that of a character
 pub code_fits : (bytes rest : List ℕ) (c : ℕ) → char_at bytes ≡ Some (c, rest) → IsScalar c
@@ -370,9 +389,9 @@ module _ (bytes : List ℕ) where
   unfolding letters
   heard_last text rest none h = rw (Left-done some_left char_at h.cs rest (all_of some_left char_at bytes) (empty rest none) h.left)
       (ap Some (sym h.spelled)) where
-    empty : (rest : List ℕ) → eqb (length rest) 0 ≡ true → some_left rest ≡ false
-    empty [] e = refl
-    empty (b ∷ rest) e = absurd (let k = eqb-true (suc (length rest)) 0 e in omega (arith, k))
+        empty : (rest : List ℕ) → eqb (length rest) 0 ≡ true → some_left rest ≡ false
+        empty [] e = refl
+        empty (b ∷ rest) e = absurd (let k = eqb-true (suc (length rest)) 0 e in omega (arith, k))
 
   pub heard_fails : (err : ReadError) (text rest : List ℕ) → eqb (length rest) 0 ≡ false → Fails err (char_at rest) → Heard text rest bytes
       → Fails err (letters bytes)
@@ -380,4 +399,4 @@ module _ (bytes : List ℕ) where
   heard_fails errors.Memory text rest some f h = tt
   heard_fails errors.Syntax text rest some f h =
       rw (Left-none some_left char_at h.cs rest (all_of some_left char_at bytes)
-          (not_empty rest (let k = eqb-false (length rest) 0 some in omega (arith, k))) f h.left) refl
+      (not_empty rest (let k = eqb-false (length rest) 0 some in omega (arith, k))) f h.left) refl

@@ -40,10 +40,13 @@ number_sound n spelled bytes x fits e =
     let long : n ≤ length bytes = ltb-false _ _ p.0 in
     let front = spelled bytes long fits in
     let t : Takes bytes (big_bytes n (big_number n bytes)) (drop n bytes) =
-          record { parts = sym (take-append-drop n bytes) ∙ ap (λ (f : List ℕ). f ++ drop n bytes) (sym front); rest_fits =
-          IsBytes-drop n bytes fits } in
+    record {
+      parts = sym (take-append-drop n bytes) ∙ ap (λ (f : List ℕ). f ++ drop n bytes) (sym front);
+      rest_fits =
+          IsBytes-drop n bytes fits;
+    } in
     subst (λ (y : ℕ × List ℕ). Takes bytes (big_bytes n y.0) y.1 × (y.0 < 256 ^ n)) (some_is (big_number n bytes, drop n bytes) x p.1)
-        (t, big_from-lt 0 n bytes fits)
+    (t, big_from-lt 0 n bytes fits)
 
 number_complete : (n : ℕ) → IsComplete (number_at n) (big_bytes n) (λ x. x < 256 ^ n)
 unfolding number_at
@@ -72,7 +75,7 @@ behind_sound n wanted ok sound bytes rest fits e =
     let x = read (number_at n) (big_bytes n) ok _ bytes rest sound fits e in
     let h = held (eqb x.value wanted) (Some x.rest) rest x.goes_on in
     subst (λ (r : List ℕ). Takes bytes (big_bytes n wanted) r) (some_is x.rest rest h.1)
-        (subst (λ (k : ℕ). Takes bytes (big_bytes n k) x.rest) (eqb-true x.value wanted h.0) x.takes)
+    (subst (λ (k : ℕ). Takes bytes (big_bytes n k) x.rest) (eqb-true x.value wanted h.0) x.takes)
 
 pub behind_complete : (n wanted : ℕ) (ok : ℕ → Type 0) → IsComplete (number_at n) (big_bytes n) ok → ok wanted → (rest : List ℕ) →
     behind n wanted (big_bytes n wanted ++ rest) ≡ Some rest

@@ -43,8 +43,11 @@ entered_more parts.Tag at places = record { more = at ∷ []; is = refl }
 entered_more p at places = record { more = []; is = sym (append-nil places) }
 
 grown_twice : (a b c : List ℕ) → Grown a b → Grown b c → Grown a c
-grown_twice a b c f g = record { more = f.more ++ g.more; is =
-    g.is ∙ (ap (λ (x : List ℕ). x ++ g.more) f.is ∙ append_assoc a f.more g.more) }
+grown_twice a b c f g = record {
+  more = f.more ++ g.more;
+  is =
+      g.is ∙ (ap (λ (x : List ℕ). x ++ g.more) f.is ∙ append_assoc a f.more g.more);
+}
 
 pub grown : (bytes places : List ℕ) (at : ℕ) (due : List Part) (row : List Field) (last : List ℕ) → Lays bytes places at due row last →
     Grown places last
@@ -104,8 +107,10 @@ tagged n e =
                             elim (or_else (nat_eq n 9) _ e9) [
                               | inl a ↦ subst Tagged (sym (eqb-true n 9 a)) tag_field_of
                               | inr e10 ↦
-                                  elim (or_else (nat_eq n 10) _ e10) [ inl a ↦ subst Tagged (sym (eqb-true n 10 a)) tag_method_of
-                                      | inr a ↦ subst Tagged (sym (eqb-true n 12 a)) tag_signature ]
+                                  elim (or_else (nat_eq n 10) _ e10) [
+                                    | inl a ↦ subst Tagged (sym (eqb-true n 10 a)) tag_method_of
+                                    | inr a ↦ subst Tagged (sym (eqb-true n 12 a)) tag_signature
+                                  ]
                             ]
                       ]
                 ]
@@ -127,7 +132,7 @@ module _ (bytes last : List ℕ) where
       let h : get_or (drop at bytes) 0 0 ≡ get_or bytes at 0 = get_or-drop at bytes 0 0 ∙ ap (λ (m : ℕ). get_or bytes m 0) z in
       let n : get_or bytes at 0 ≡ big_number 1 (drop at bytes) = omega (arith, h) in
       drop-cons bytes at 0 lt ∙ (ap (λ (m : ℕ). m ∷ drop (suc at) bytes) n ∙ ap (λ (m : ℕ). big_number 1 (drop at bytes) ∷ drop m bytes)
-          (sym (add-one at)))
+      (sym (add-one at)))
 
   pub byte_of : (at n : ℕ) (rest : List ℕ) → drop at bytes ≡ n ∷ rest → get_or bytes at 0 ≡ n
   byte_of at n rest e =
@@ -150,8 +155,10 @@ both true b e = (refl, e)
 both false b e = absurd (cc)
 
 code_modified : modified (codes "Code") ≡ codes "Code"
-code_modified = modified_plain (codes "Code") ((omega arith, omega arith),
-    ((omega arith, omega arith), ((omega arith, omega arith), ((omega arith, omega arith), tt))))
+code_modified = modified_plain (codes "Code") (
+  (omega arith, omega arith),
+  ((omega arith, omega arith), ((omega arith, omega arith), ((omega arith, omega arith), tt))),
+)
 
 some_is : {A : Type 0} (x y : A) → ◌≡◌ {A = Option A} (Some x) (Some y) → x ≡ y
 some_is x y e = cc
@@ -190,7 +197,7 @@ code_so b c rest text b_low c_low ok code_ok m fits = same_test _ _ is_then then
       let len : length (take (256 * b + c) rest) ≡ 4 = omega (arith, length-take (256 * b + c) rest) in
       let whole_ = four (take (256 * b + c) rest) len
       (short _ n 0 0 (omega arith) ∙ eqb-true _ 67 r.0) (short _ n 1 0 (omega arith) ∙ eqb-true _ 111 s.0)
-          (short _ n 2 0 (omega arith) ∙ eqb-true _ 100 t.0) (short _ n 3 0 (omega arith) ∙ eqb-true _ 101 t.1) in
+      (short _ n 2 0 (omega arith) ∙ eqb-true _ 100 t.0) (short _ n 3 0 (omega arith) ∙ eqb-true _ 101 t.1) in
       (bytes_eq-Decides text (codes "Code")).1 (one_text text (codes "Code") ok code_ok (m ∙ (whole_ ∙ sym code_modified)))
 
   then_is : bytes_eq text (codes "Code") ≡ true → is_code_text (1 ∷ b ∷ c ∷ rest) ≡ true
@@ -228,7 +235,7 @@ module _ (bytes last : List ℕ) (fits : IsBytes bytes) where
   one_got : (tag at : ℕ) (make : ℕ → Const) (places : List ℕ) (due : List Part) → drop at bytes ≡ tag ∷ drop (at + 1) bytes →
       nat_eq tag 1 ≡ false
       → ((rest : List ℕ) → const_at (tag ∷ rest) ≡ one_at make rest) → ((n : ℕ) → tag_of (make n) ≡ tag) →
-          ((n : ℕ) → is_code_name (text_in (make n)) ≡ false) → ((n : ℕ) → is_bad_entry bytes last 1 n ≡ false → Named bytes last (make n))
+      ((n : ℕ) → is_code_name (text_in (make n)) ≡ false) → ((n : ℕ) → is_bad_entry bytes last 1 n ≡ false → Named bytes last (make n))
       → Clear bytes last places (at + 1) (parts.Reference 1 ∷ due) → ConstGot places at due
   unfolding one_at
   one_got tag at make places due is other reads tags no_text name c =
@@ -238,8 +245,12 @@ module _ (bytes last : List ℕ) (fits : IsBytes bytes) where
         value = make n;
         after = at + 1 + 2;
         is = ap const_at is ∙ (reads (drop (at + 1) bytes) ∙ rw s.read refl);
-        fits = record { tag = byte_of bytes last at tag (drop (at + 1) bytes) is ∙ sym (tags n); code =
-            no_code bytes last at tag (drop (at + 1) bytes) is other ∙ sym (no_text n); named = name n (bad_name 1 n _ s.judged) };
+        fits = record {
+          tag = byte_of bytes last at tag (drop (at + 1) bytes) is ∙ sym (tags n);
+          code =
+              no_code bytes last at tag (drop (at + 1) bytes) is other ∙ sym (no_text n);
+          named = name n (bad_name 1 n _ s.judged);
+        };
         rest = s.rest;
         kept = tt;
       }
@@ -247,7 +258,7 @@ module _ (bytes last : List ℕ) (fits : IsBytes bytes) where
   two_got : (tag at first second : ℕ) (make : ℕ → ℕ → Const) (places : List ℕ) (due : List Part) → drop at bytes ≡ tag ∷ drop (at + 1) bytes
       → nat_eq tag 1 ≡ false
       → ((rest : List ℕ) → const_at (tag ∷ rest) ≡ two_at make rest) → ((a b : ℕ) → tag_of (make a b) ≡ tag) →
-          ((a b : ℕ) → is_code_name (text_in (make a b)) ≡ false)
+      ((a b : ℕ) → is_code_name (text_in (make a b)) ≡ false)
       → ((a b : ℕ) → is_bad_entry bytes last first a ≡ false → is_bad_entry bytes last second b ≡ false → Named bytes last (make a b))
       → Clear bytes last places (at + 1) (parts.Reference first ∷ parts.Reference second ∷ due) → ConstGot places at due
   unfolding two_at pair_at
@@ -260,9 +271,13 @@ module _ (bytes last : List ℕ) (fits : IsBytes bytes) where
         value = make a b;
         after = at + 1 + 2 + 2;
         is = ap const_at is ∙ (reads (drop (at + 1) bytes) ∙ rw (s.read, t.read) refl);
-        fits = record { tag = byte_of bytes last at tag (drop (at + 1) bytes) is ∙ sym (tags a b); code =
-            no_code bytes last at tag (drop (at + 1) bytes) is other ∙ sym (no_text a b); named = name a b (bad_name first a _ s.judged)
-            (bad_name second b _ t.judged) };
+        fits = record {
+          tag = byte_of bytes last at tag (drop (at + 1) bytes) is ∙ sym (tags a b);
+          code =
+              no_code bytes last at tag (drop (at + 1) bytes) is other ∙ sym (no_text a b);
+          named = name a b (bad_name first a _ s.judged)
+              (bad_name second b _ t.judged);
+        };
         rest = t.rest;
         kept = tt;
       }
@@ -276,8 +291,12 @@ module _ (bytes last : List ℕ) (fits : IsBytes bytes) where
         value = consts.Integer (cast_signed w32 (num bytes (at + 1) parts.Int));
         after = at + 1 + 4;
         is = ap const_at is ∙ rw s.read refl;
-        fits = record { tag = byte_of bytes last at 3 (drop (at + 1) bytes) is; code = no_code bytes last at 3 (drop (at + 1) bytes) is
-            refl; named = tt };
+        fits = record {
+          tag = byte_of bytes last at 3 (drop (at + 1) bytes) is;
+          code = no_code bytes last at 3 (drop (at + 1) bytes) is
+              refl;
+          named = tt;
+        };
         rest = s.rest;
         kept = tt;
       }
@@ -299,9 +318,14 @@ module _ (bytes last : List ℕ) (fits : IsBytes bytes) where
         let first : get_or (drop at bytes) 0 0 ≡ b = ap (λ (x : List ℕ). get_or x 0 0) q in
         let second : get_or (drop at bytes) 1 0 ≡ c = ap (λ (x : List ℕ). get_or x 1 0) q in
         let low_b : get_or (drop at bytes) 0 0 < 256 = rw get_or-drop (fits (at + 0)) in
-        let low_c : get_or (drop at bytes) 1 0 < 256 = rw get_or-drop (fits (at + 1)) in
-        (b, c, q ∙ ap (λ (x : List ℕ). b ∷ c ∷ x) tail, omega (arith, first, low_b), omega (arith, second, low_c),
-            omega (arith, is, first, second))
+        let low_c : get_or (drop at bytes) 1 0 < 256 = rw get_or-drop (fits (at + 1)) in (
+          b,
+          c,
+          q ∙ ap (λ (x : List ℕ). b ∷ c ∷ x) tail,
+          omega (arith, first, low_b),
+          omega (arith, second, low_c),
+          omega (arith, is, first, second),
+        )
 
   text_got : (at : ℕ) (places : List ℕ) (due : List Part) → drop at bytes ≡ 1 ∷ drop (at + 1) bytes →
       Clear bytes last places (at + 1) (parts.TextLength ∷ due) → ConstGot places at due
@@ -349,7 +373,7 @@ module _ (bytes last : List ℕ) (fits : IsBytes bytes) where
   const_got at places due c =
       let s = step bytes last places at parts.Tag due c in
       by_tag (num bytes at parts.Tag) (tagged (num bytes at parts.Tag) (not_true (is_tag (num bytes at parts.Tag)) s.lasts)) at
-          (places ++ at ∷ []) due (front bytes last at s.whole) s.rest
+      (places ++ at ∷ []) due (front bytes last at s.whole) s.rest
 
   -- ---- the pool
   pub record PoolGot (n at : ℕ) (places : List ℕ) (due : List Part) : Type 0 where
@@ -364,8 +388,16 @@ module _ (bytes last : List ℕ) (fits : IsBytes bytes) where
   pub pool_got : (n at : ℕ) (places : List ℕ) (due : List Part) → Clear bytes last places at (replicate n parts.Tag ++ due) →
       PoolGot n at places due
   unfolding counted
-  pool_got zero at places due c = record { constants = []; news = []; after = at; is = refl; pairs = tt; count = refl; rest =
-      subst (λ (p : List ℕ). Clear bytes last p at due) (sym (append-nil places)) c }
+  pool_got zero at places due c = record {
+    constants = [];
+    news = [];
+    after = at;
+    is = refl;
+    pairs = tt;
+    count = refl;
+    rest =
+        subst (λ (p : List ℕ). Clear bytes last p at due) (sym (append-nil places)) c;
+  }
   pool_got (suc n) at places due c =
       let one = const_got at places (replicate n parts.Tag ++ due) c in
       let more = pool_got n one.after (places ++ at ∷ []) due one.rest in

@@ -56,14 +56,14 @@ pub by_attrs : (attrs : List Attr) (later : Option CodeFault) → Decides (attrs
 by_attrs [] later = record { none = λ _. refl; some = λ fault e. absurd cc }
 by_attrs (a ∷ attrs) later =
     two (attr_refusal a None) (attr_refusal a (attrs_refusal attrs None)) (attr_refusal a (attrs_refusal attrs later))
-        (attrs_refusal attrs None) (attrs_refusal attrs later) later
+    (attrs_refusal attrs None) (attrs_refusal attrs later) later
     (by_attr a (attrs_refusal attrs None)) (by_attr a (attrs_refusal attrs later)) (by_attrs attrs later)
 
 pub by_members : (ms : List Member) (later : Option CodeFault) → Decides (members_refusal ms None) (members_refusal ms later) later
 by_members [] later = record { none = λ _. refl; some = λ fault e. absurd cc }
 by_members (m ∷ ms) later =
     two (attrs_refusal m.attributes None) (attrs_refusal m.attributes (members_refusal ms None))
-        (attrs_refusal m.attributes (members_refusal ms later))
+    (attrs_refusal m.attributes (members_refusal ms later))
     (members_refusal ms None) (members_refusal ms later) later
     (by_attrs m.attributes (members_refusal ms None)) (by_attrs m.attributes (members_refusal ms later)) (by_members ms later)
 

@@ -83,9 +83,9 @@ module _ (bytes last : List ℕ) where
         let inside : i < length last = omega (arith, ap length g.is, length-append places g.more, w) in
         let one : suc i - 1 ≡ i = omega arith in
         let same : get_or last (suc i - 1) 0 ≡ get_or places i 0 = ap (λ (k : ℕ). get_or last k 0) one ∙
-              (ap (λ (l : List ℕ). get_or l i 0) g.is ∙ front_get places g.more i w) in
+        (ap (λ (l : List ℕ). get_or l i 0) g.is ∙ front_get places g.more i w) in
         let test = right_tag (nat_lt (suc i - 1) (length last)) (nat_eq (get_or bytes (get_or last (suc i - 1) 0) 0) tag) p.2
-              (lt-ltb (suc i - 1) (length last) (omega (arith, inside))) in
+        (lt-ltb (suc i - 1) (length last) (omega (arith, inside))) in
         let is : get_or bytes (get_or places i 0) 0 ≡ tag = ap (λ (k : ℕ). get_or bytes k 0) (sym same) ∙ eqb-true _ tag test in
         rw a.is (ap Some (sym a.begins.tag ∙ is))
 
@@ -98,11 +98,11 @@ module _ (bytes last : List ℕ) where
           let one : suc i - 1 ≡ i = omega arith in
           let inside : nat_lt (suc i - 1) (length places) ≡ true = lt-ltb (suc i - 1) (length places) (let w = a.within in omega arith) in
           let text : is_code_text (drop (get_or places (suc i - 1) 0) bytes) ≡ is_code_name (text_in a.constant) =
-                ap (λ (k : ℕ). is_code_text (drop (get_or places k 0) bytes)) one ∙ a.begins.code in
+          ap (λ (k : ℕ). is_code_text (drop (get_or places k 0) bytes)) one ∙ a.begins.code in
           rw (ne_eqb (suc i) 0 (λ h. omega (arith, h)), inside, a.is) text
       | inr le ↦
           let outside : nat_lt (suc i - 1) (length places) ≡ false =
-                le-ltb (suc i - 1) (length places) (let l = pairs_long places pool pairs in omega arith) in
+          le-ltb (suc i - 1) (length places) (let l = pairs_long places pool pairs in omega arith) in
           rw (ne_eqb (suc i) 0 (λ h. omega (arith, h)), outside, past pool i le) refl
     ]
 
@@ -151,10 +151,31 @@ right_spells bytes row last fits lays all_right =
     let k = p.count in
     omega (arith, high, low, k, some) in
     let b = behind_pool bytes last p.news p.constants (env bytes last p.news p.constants p.pairs g counts) p.after p.rest in
-    let class : Class = record { pool = p.constants; access = b.access; this_class = b.this_class; super_class = b.super_class; fields =
-          b.fields; methods = b.methods; attributes = b.attributes } in
-    let read : class_at bytes ≡ Some class = rw (s1.read, magic, s2.read, minor, s3.read, major, s4.read, no_zero, p.is, b.three, b.none,
-          b.members, b.all) refl in
+    let class : Class = record {
+      pool = p.constants;
+      access = b.access;
+      this_class = b.this_class;
+      super_class = b.super_class;
+      fields =
+          b.fields;
+      methods = b.methods;
+      attributes = b.attributes;
+    } in
+    let read : class_at bytes ≡ Some class = rw (
+      s1.read,
+      magic,
+      s2.read,
+      minor,
+      s3.read,
+      major,
+      s4.read,
+      no_zero,
+      p.is,
+      b.three,
+      b.none,
+      b.members,
+      b.all,
+    ) refl in
     let sound = class_sound bytes class fits read in
     let formed : IsWellFormed class = record {
       pool = all_named bytes last p.news p.constants p.pairs g counts;

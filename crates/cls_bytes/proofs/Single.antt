@@ -33,8 +33,8 @@ one_row bytes places at (part ∷ due) (f ∷ a) (g ∷ []) p q (next e s more) 
 one_row bytes places at (part ∷ due) (f ∷ a) (g ∷ b) p q (next e s more) (next d t rest) =
     let same : f ≡ g = e ∙ sym d in
     let r = one_row bytes (entered part at places) _ _ a b p q more
-          (subst (λ (x : Field). Lays bytes (entered part at places) (at + size part) (due_behind bytes places x ++ due) b q) (sym same)
-          rest) in
+    (subst (λ (x : Field). Lays bytes (entered part at places) (at + size part) (due_behind bytes places x ++ due) b q) (sym same)
+    rest) in
     record { row = subst (λ (x : Field). f ∷ a ≡ x ∷ b) same (ap (λ (x : List Field). f ∷ x) r.row); places = r.places }
 
 one_text : (bytes : List ℕ) (at : ℕ) (r s : Option ClassFault) → JudgesText bytes at r → JudgesText bytes at s → r ≡ s
@@ -95,7 +95,7 @@ pub one_fault : (bytes : List ℕ) (a b : ClassFault) → Fails bytes a → Fail
 one_fault bytes a b f g =
     let e = one_row bytes [] 0 _ f.row g.row f.places g.places f.lays g.lays in
     let h : First bytes f.places f.row (Some b) = subst (λ (p : List ℕ). First bytes p f.row (Some b)) (sym e.places)
-          (subst (λ (r : List Field). First bytes g.places r (Some b)) (sym e.row) g.first) in
+    (subst (λ (r : List Field). First bytes g.places r (Some b)) (sym e.row) g.first) in
     let k : ◌≡◌ {A = Option ClassFault} (Some a) (Some b) = one_first bytes f.places f.row (Some a) (Some b) f.first h in
     cc
 
@@ -103,6 +103,6 @@ pub no_fault : (bytes : List ℕ) (b : ClassFault) → IsRight bytes → Fails b
 no_fault bytes b f g =
     let e = one_row bytes [] 0 _ f.row g.row f.places g.places f.lays g.lays in
     let h : First bytes f.places f.row (Some b) = subst (λ (p : List ℕ). First bytes p f.row (Some b)) (sym e.places)
-          (subst (λ (r : List Field). First bytes g.places r (Some b)) (sym e.row) g.first) in
+    (subst (λ (r : List Field). First bytes g.places r (Some b)) (sym e.row) g.first) in
     let k : ◌≡◌ {A = Option ClassFault} None (Some b) = one_first bytes f.places f.row None (Some b) f.first h in
     absurd (cc)

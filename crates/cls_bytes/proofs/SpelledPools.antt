@@ -42,7 +42,7 @@ module _ (bytes : List ℕ) (fits : IsBytes bytes) where
   tag_build last places at tag due all e known c =
       let k : is_tag (num bytes at parts.Tag) ≡ true = rw e known in
       (back bytes last places at parts.Tag due all (rw k refl)
-          (subst (λ (n : ℕ). Clear bytes last (places ++ at ∷ []) (at + 1) (holds n ++ due)) (sym e) c) (unless_right _ _ k)).clear
+      (subst (λ (n : ℕ). Clear bytes last (places ++ at ∷ []) (at + 1) (holds n ++ due)) (sym e) c) (unless_right _ _ k)).clear
 
   module _ (at tag : ℕ) (all : nat_lt (length (drop at bytes)) 1 ≡ false) (tag_is : num bytes at parts.Tag ≡ tag)
       (here : drop at bytes ≡ tag ∷ drop (at + 1) bytes) (known : is_tag tag ≡ true) where
@@ -65,14 +65,14 @@ module _ (bytes : List ℕ) (fits : IsBytes bytes) where
           code = no_code bytes [] at tag (drop (at + 1) bytes) here other ∙ sym (no_text n);
           build = λ last places due named c.
               let b = back bytes last (places ++ at ∷ []) (at + 1) (parts.Reference 1) due t.all refl c
-                    (unless_named _ _ (names last n named)) in
+              (unless_named _ _ (names last n named)) in
               tag_build last places at tag due all tag_is known (rw parts_are b.clear);
         })
 
     two_stands : (first second : ℕ) (make : ℕ → ℕ → Const) → holds tag ≡ parts.Reference first ∷ parts.Reference second ∷ [] →
         nat_eq tag 1 ≡ false → ((a b : ℕ) → tag_of (make a b) ≡ tag) → ((a b : ℕ) → is_code_name (text_in (make a b)) ≡ false)
         → ((last : List ℕ) (a b : ℕ) → Named bytes last (make a b) → (is_bad_entry bytes last first a ≡ false)
-            × (is_bad_entry bytes last second b ≡ false))
+        × (is_bad_entry bytes last second b ≡ false))
         → (x : Const × List ℕ) → two_at make (drop (at + 1) bytes) ≡ Some x → Stands at x.0 x.1
     unfolding two_at pair_at
     two_stands first second make parts_are other tags no_text names x e =
@@ -93,9 +93,9 @@ module _ (bytes : List ℕ) (fits : IsBytes bytes) where
           build = λ last places due named c.
               let names_both = names last a b named in
               let c2 = back bytes last (places ++ at ∷ []) (at + 1 + 2) (parts.Reference second) due u.all refl c
-                    (unless_named _ _ names_both.1) in
+              (unless_named _ _ names_both.1) in
               let c1 = back bytes last (places ++ at ∷ []) (at + 1) (parts.Reference first) (parts.Reference second ∷ due) t.all refl
-                    c2.clear (unless_named _ _ names_both.0) in
+              c2.clear (unless_named _ _ names_both.0) in
               tag_build last places at tag due all tag_is known (rw parts_are c1.clear);
         })
 
@@ -137,7 +137,7 @@ module _ (bytes : List ℕ) (fits : IsBytes bytes) where
         build = λ last places due named c.
             let b = back bytes last (places ++ at ∷ []) a (parts.Letters n) due p.0 refl c (spelled y.0 r.0 r.1) in
             tag_build last places at 1 due all tag_is refl (back bytes last (places ++ at ∷ []) (at + 1) parts.TextLength due t.all refl
-                b.clear refl).clear;
+            b.clear refl).clear;
       })
 
   utf8_stands : (at : ℕ) → nat_lt (length (drop at bytes)) 1 ≡ false → num bytes at parts.Tag ≡ 1 → drop at bytes ≡ 1 ∷ drop (at + 1) bytes
@@ -219,8 +219,16 @@ module _ (bytes : List ℕ) (fits : IsBytes bytes) where
   unfolding counted
   all_stand zero at x e =
       subst (λ (w : List Const × List ℕ). AllStand zero at w.0 w.1) (some_is ([], drop at bytes) x e)
-      (record { news = []; after = at; is = refl; within = λ w. w; pairs = tt; count = refl; build =
-          λ last places due named c. subst (λ (p : List ℕ). Clear bytes last p at due) (append-nil places) c })
+      (record {
+        news = [];
+        after = at;
+        is = refl;
+        within = λ w. w;
+        pairs = tt;
+        count = refl;
+        build =
+            λ last places due named c. subst (λ (p : List ℕ). Clear bytes last p at due) (append-nil places) c;
+      })
   all_stand (suc n) at x e =
       let c = bind_some (const_at (drop at bytes)) (λ y. counted const_at n y.1 >>= λ ys. Some (y.0 ∷ ys.0, ys.1)) x e in
       let cs = bind_some (counted const_at n c.0.1) (λ ys. Some (c.0.0 ∷ ys.0, ys.1)) x c.2 in
@@ -236,5 +244,5 @@ module _ (bytes : List ℕ) (fits : IsBytes bytes) where
         build = λ last places due named cl.
             one.build last places (replicate n parts.Tag ++ due) named.0
             (more.build last (places ++ at ∷ []) due named.1 (subst (λ (p : List ℕ). Clear bytes last p more.after due)
-                (sym (append_assoc places (at ∷ []) more.news)) cl));
+            (sym (append_assoc places (at ∷ []) more.news)) cl));
       })

@@ -49,12 +49,17 @@ module _ (bytes last : List ℕ) where
   pub back : (places : List ℕ) (at : ℕ) (part : Part) (due : List Part) → nat_lt (length (drop at bytes)) (size part) ≡ false
       → ends_row part (num bytes at part) (is_code bytes places (num bytes at part)) ≡ false
       → (rest : Clear bytes last (entered part at places) (at + size part)
-          (brings part at (num bytes at part) (is_code bytes places (num bytes at part)) ++ due))
+      (brings part at (num bytes at part) (is_code bytes places (num bytes at part)) ++ due))
       → Judges bytes last rest.row part at (num bytes at part) (drop at bytes) None → Backed places at part due rest.row
   unfolding stops due_behind is_cut ends_well
   back places at part due all goes rest j = record {
-    clear = record { row = field at part ∷ rest.row; lays = next refl (rw (all, goes) refl) rest.lays; clean =
-        behind (whole all j) rest.clean; within = let w = rest.within in omega arith };
+    clear = record {
+      row = field at part ∷ rest.row;
+      lays = next refl (rw (all, goes) refl) rest.lays;
+      clean =
+          behind (whole all j) rest.clean;
+      within = let w = rest.within in omega arith;
+    };
     ends = refl;
   }
 
@@ -64,7 +69,7 @@ module _ (bytes last : List ℕ) where
   unfolding number_at number
   told at part x e =
       let p = passed (nat_lt (length (drop at bytes)) (size part))
-            (Some (big_number (size part) (drop at bytes), drop (size part) (drop at bytes))) x e in
+      (Some (big_number (size part) (drop at bytes), drop (size part) (drop at bytes))) x e in
       let k : drop (size part) (drop at bytes) ≡ drop (at + size part) bytes = drop-drop (size part) at bytes in
       (p.0, ap (λ (r : List ℕ). (big_number (size part) (drop at bytes), r)) (sym k) ∙ some_is _ x p.1)
 
@@ -102,8 +107,13 @@ module _ (bytes last : List ℕ) where
         Goes places at rest (replicate n part) Kept
     unfolding counted
     counted_goes zero at xs rest e all =
-        record { after = at; is = sym (ap (λ (z : List A × List ℕ). z.1) (some_is ([], drop at bytes) (xs, rest) e)); within =
-            λ w. w; build = λ due c. record { clear = c; kept = same c.row } }
+        record {
+          after = at;
+          is = sym (ap (λ (z : List A × List ℕ). z.1) (some_is ([], drop at bytes) (xs, rest) e));
+          within =
+              λ w. w;
+          build = λ due c. record { clear = c; kept = same c.row };
+        }
     counted_goes (suc n) at xs rest e all =
         let x = bind_some (f (drop at bytes)) (λ y. counted f n y.1 >>= λ ys. Some (y.0 ∷ ys.0, ys.1)) (xs, rest) e in
         let ys = bind_some (counted f n x.0.1) (λ ys. Some (x.0.0 ∷ ys.0, ys.1)) (xs, rest) x.2 in
@@ -111,7 +121,7 @@ module _ (bytes last : List ℕ) where
         let all2 : AllByRecursion ok (x.0.0 ∷ ys.0.0) = subst (AllByRecursion ok) (sym (ap (λ (w : List A × List ℕ). w.0) z)) all in
         let one = item at x.0.0 x.0.1 x.1 all2.0 in
         let more = counted_goes n one.after ys.0.0 ys.0.1 (subst (λ (w : List ℕ). counted f n w ≡ Some (ys.0.0, ys.0.1)) one.is ys.1) all2.1
-            in
+        in
         record {
           after = more.after;
           is = sym (ap (λ (w : List A × List ℕ). w.1) z) ∙ more.is;
@@ -208,7 +218,7 @@ module _ (bytes last : List ℕ) (fits : IsBytes bytes) (pool : List Const) (kno
       let t = tell bytes last at parts.OtherLength _ (run, rest) e in
       let n = num bytes at parts.OtherLength in
       let p = passed (nat_lt (length (drop (at + 4) bytes)) n) (Some (take n (drop (at + 4) bytes), drop n (drop (at + 4) bytes)))
-            (run, rest) t.goes_on in
+      (run, rest) t.goes_on in
       record {
         after = at + 4 + n;
         is = sym (ap (λ (z : List ℕ × List ℕ). z.1) (some_is (take n (drop (at + 4) bytes), drop n (drop (at + 4) bytes)) (run, rest) p.1))
@@ -274,11 +284,11 @@ module _ (bytes last : List ℕ) (fits : IsBytes bytes) (pool : List Const) (kno
       let t6 = tell bytes last at parts.Handlers _ none.0 none.1 in
       let z6 = held (nat_eq (num bytes at parts.Handlers) 0) (Some (drop (at + 2) bytes)) none.0 t6.goes_on in
       let list_here : listed_at inner_at (drop (at + 2) bytes) ≡ Some (xs, rest) =
-            subst (λ (w : List ℕ). listed_at inner_at w ≡ Some (xs, rest)) (sym (some_is (drop (at + 2) bytes) none.0 z6.1)) none.2 in
+      subst (λ (w : List ℕ). listed_at inner_at w ≡ Some (xs, rest)) (sym (some_is (drop (at + 2) bytes) none.0 z6.1)) none.2 in
       let t7 = tell bytes last (at + 2) (parts.AttributeCount false) _ (xs, rest) list_here in
       let n7 = num bytes (at + 2) (parts.AttributeCount false) in
       let g = counted_goes bytes last last inner_at (InnerNames pool) parts.AttributeName Same (λ r. refl) (λ r s t p q. p ∙ q) inner_goes
-            n7 (at + 2 + 2) xs rest t7.goes_on all in
+      n7 (at + 2 + 2) xs rest t7.goes_on all in
       record {
         after = g.after;
         is = g.is;
@@ -287,7 +297,7 @@ module _ (bytes last : List ℕ) (fits : IsBytes bytes) (pool : List Const) (kno
             let m = g.build due c in
             let b7 = back bytes last last (at + 2) (parts.AttributeCount false) due t7.all refl m.clear refl in
             let b6 = back bytes last last at parts.Handlers (parts.AttributeCount false ∷ due) t6.all (rw z6.0 refl) b7.clear
-                  (unless_right _ _ z6.0) in
+            (unless_right _ _ z6.0) in
             record { clear = b6.clear; kept = b6.ends ∙ (b7.ends ∙ m.kept) };
       }
 
@@ -299,12 +309,12 @@ module _ (bytes last : List ℕ) (fits : IsBytes bytes) (pool : List Const) (kno
       let t4 = tell bytes last at parts.CodeSize _ run.0 run.1 in
       let n4 = num bytes at parts.CodeSize in
       let p = passed (nat_lt (length (drop (at + 4) bytes)) n4) (Some (take n4 (drop (at + 4) bytes), drop n4 (drop (at + 4) bytes))) run.0
-            t4.goes_on in
+      t4.goes_on in
       let s4 = some_is (take n4 (drop (at + 4) bytes), drop n4 (drop (at + 4) bytes)) run.0 p.1 in
       let js = bind_some (instrs_of run.0.0) _ (is, rest) run.2 in
       let s5 = some_is (js.0, run.0.1) (is, rest) js.2 in
       let code : instrs_of (take n4 (drop (at + 4) bytes)) ≡ Some is = ap (λ (w : List ℕ × List ℕ). instrs_of w.0) s4 ∙
-            (js.1 ∙ ap (λ (w : List Instr × List ℕ). Some w.0) s5) in
+      (js.1 ∙ ap (λ (w : List Instr × List ℕ). Some w.0) s5) in
       let sound = code_sound (take n4 (drop (at + 4) bytes)) is (IsBytes-part n4 (at + 4)) code in
       record {
         after = at + 4 + n4;
@@ -312,8 +322,8 @@ module _ (bytes last : List ℕ) (fits : IsBytes bytes) (pool : List Const) (kno
         within = λ w. past bytes last (at + 4) n4 p.0 (past bytes last at 4 t4.all w);
         build = λ due c.
             let b5 = back bytes last last (at + 4) (parts.Code n4) due p.0 refl c
-                  (right (decoded.whole sound.fits sound.sound sound.spelled) (instrs_right pool (is_bad_entry bytes last) known.tags 0 is
-                  all)) in
+            (right (decoded.whole sound.fits sound.sound sound.spelled) (instrs_right pool (is_bad_entry bytes last) known.tags 0 is
+            all)) in
             let b4 = back bytes last last at parts.CodeSize due t4.all refl b5.clear refl in
             record { clear = b4.clear; kept = b4.ends ∙ b5.ends };
       }
@@ -328,15 +338,21 @@ module _ (bytes last : List ℕ) (fits : IsBytes bytes) (pool : List Const) (kno
       let s3 = some_is ((num bytes at parts.Number, num bytes (at + 2) parts.Number), drop (at + 2 + 2) bytes) sizes.0 t3.goes_on in
       let body = bind_some (body_at sizes.0.1) _ (x, rest) sizes.2 in
       let body_here : body_at (drop (at + 2 + 2) bytes) ≡ Some body.0 = subst (λ (w : (ℕ × ℕ) × List ℕ). body_at w.1 ≡ Some body.0) (sym s3)
-            body.1 in
+      body.1 in
       let inners = bind_some (inners_at body.0.1) _ (x, rest) body.2 in
-      let made : Code = record { name = name; max_stack = sizes.0.0.0; max_locals = sizes.0.0.1; instrs = body.0.0; attributes =
-            inners.0.0 } in
+      let made : Code = record {
+        name = name;
+        max_stack = sizes.0.0.0;
+        max_locals = sizes.0.0.1;
+        instrs = body.0.0;
+        attributes =
+            inners.0.0;
+      } in
       let z = some_is (Coded made, inners.0.1) (x, rest) inners.2 in
       let named : CodeNames pool made = subst (MethodNames pool) (sym (ap (λ (w : Attr × List ℕ). w.0) z)) ok in
       let b = body_goes (at + 2 + 2) body.0.0 body.0.1 body_here named.instrs in
       let inners_here : inners_at (drop b.after bytes) ≡ Some inners.0 = subst (λ (w : List ℕ). inners_at w ≡ Some inners.0) b.is inners.1
-          in
+      in
       let g = inners_goes b.after inners.0.0 inners.0.1 inners_here named.attributes in
       record {
         after = g.after;
@@ -348,16 +364,16 @@ module _ (bytes last : List ℕ) (fits : IsBytes bytes) (pool : List Const) (kno
         content_build : (at : ℕ) (due : List Part) (middle after : ℕ) (c : Clear bytes last last after due) →
             nat_lt (length (drop at bytes)) 2 ≡ false → nat_lt (length (drop (at + 2) bytes)) 2 ≡ false
             → ((d : Clear bytes last last middle (parts.Handlers ∷ parts.AttributeCount false ∷ due)) →
-                Built bytes last last (at + 2 + 2) (parts.CodeSize ∷ parts.Handlers ∷ parts.AttributeCount false ∷ due) d.row Same)
+            Built bytes last last (at + 2 + 2) (parts.CodeSize ∷ parts.Handlers ∷ parts.AttributeCount false ∷ due) d.row Same)
             → Built bytes last last middle (parts.Handlers ∷ parts.AttributeCount false ∷ due) c.row Same
             → Built bytes last last at (parts.Number ∷ parts.Number ∷ parts.CodeSize ∷ parts.Handlers ∷ parts.AttributeCount false ∷ due)
-                c.row Same
+            c.row Same
         content_build at due middle after c t2 t3 f m =
             let o = f m.clear in
             let b3 = back bytes last last (at + 2) parts.Number (parts.CodeSize ∷ parts.Handlers ∷ parts.AttributeCount false ∷ due) t3 refl
-                  o.clear refl in
+            o.clear refl in
             let b2 = back bytes last last at parts.Number (parts.Number ∷ parts.CodeSize ∷ parts.Handlers ∷ parts.AttributeCount false ∷
-                  due) t2 refl b3.clear refl in
+            due) t2 refl b3.clear refl in
             record { clear = b2.clear; kept = b2.ends ∙ (b3.ends ∙ (o.kept ∙ m.kept)) }
 
   pub code_goes : (name at : ℕ) (x : Attr) (rest : List ℕ) → code_at name (drop at bytes) ≡ Some (x, rest) → MethodNames pool x →
@@ -372,22 +388,27 @@ module _ (bytes last : List ℕ) (fits : IsBytes bytes) (pool : List Const) (kno
       let here : content_at name (drop (at + 4) bytes) ≡ Some (x, rest) = c.1 ∙ ap Some same in
       let g = content_goes name (at + 4) x rest here ok in
       let lengths : length (drop (at + 4) bytes) ≡ n1 + length rest = eqb-true (length (drop (at + 4) bytes)) (n1 + length c.0.1) h.0 ∙
-            ap (λ (w : Attr × List ℕ). n1 + length w.1) same in
-      record { after = g.after; is = g.is; within = λ w. g.within (past bytes last at 4 t1.all w); build =
-          λ due cl. code_build at g.after due cl t1.all (lengths ∙ ap (λ (w : List ℕ). n1 + length w) g.is)
-          (g.build (parts.ContentEnd (at + 4) n1 ∷ due)) } where
+      ap (λ (w : Attr × List ℕ). n1 + length w.1) same in
+      record {
+        after = g.after;
+        is = g.is;
+        within = λ w. g.within (past bytes last at 4 t1.all w);
+        build =
+            λ due cl. code_build at g.after due cl t1.all (lengths ∙ ap (λ (w : List ℕ). n1 + length w) g.is)
+            (g.build (parts.ContentEnd (at + 4) n1 ∷ due));
+      } where
         code_build : (at after : ℕ) (due : List Part) → (cl : Clear bytes last last after due) → nat_lt (length (drop at bytes)) 4 ≡ false
             → length (drop (at + 4) bytes) ≡ num bytes at parts.CodeLength + length (drop after bytes)
             → ((d : Clear bytes last last after (parts.ContentEnd (at + 4) (num bytes at parts.CodeLength) ∷ due)) →
-                Built bytes last last (at + 4) (content (at + 4) (num bytes at parts.CodeLength) ++ due) d.row Same)
+            Built bytes last last (at + 4) (content (at + 4) (num bytes at parts.CodeLength) ++ due) d.row Same)
             → Built bytes last last at (parts.CodeLength ∷ due) cl.row Any
         code_build at after due cl t1 lengths f =
             let n1 = num bytes at parts.CodeLength in
             let end = back bytes last last after (parts.ContentEnd (at + 4) n1) due (no_less (length (drop after bytes))) refl
-                  (subst (λ (k : ℕ). Clear bytes last last k due) (sym (add_none after)) cl) refl in
+            (subst (λ (k : ℕ). Clear bytes last last k due) (sym (add_none after)) cl) refl in
             let m = f end.clear in
             let sum : after ≡ (at + 4) + n1 = end_sum (length bytes) (at + 4) after n1 (length (drop (at + 4) bytes))
-                  (length (drop after bytes)) (length-drop (at + 4) bytes) (length-drop after bytes) lengths cl.within m.clear.within in
+            (length (drop after bytes)) (length-drop (at + 4) bytes) (length-drop after bytes) lengths cl.within m.clear.within in
             let right_end : ends_well m.clear.row ≡ true = m.kept ∙ (end.ends ∙ eq-eqb after ((at + 4) + n1) sum) in
             let b1 = back bytes last last at parts.CodeLength due t1 refl m.clear (unless_right _ _ right_end) in
             record { clear = b1.clear; kept = tt }
@@ -426,8 +447,17 @@ module _ (bytes last : List ℕ) (fits : IsBytes bytes) (pool : List Const) (kno
       let sizes = bind_some (pair_at l.0.1) _ c.0 c.1 in
       let body = bind_some (body_at sizes.0.1) _ c.0 sizes.2 in
       let inners = bind_some (inners_at body.0.1) _ c.0 body.2 in
-      let z = some_is (Coded (record { name = name; max_stack = sizes.0.0.0; max_locals = sizes.0.0.1; instrs = body.0.0; attributes =
-            inners.0.0 }), inners.0.1) c.0 inners.2 in
+      let z = some_is (
+        Coded (record {
+          name = name;
+          max_stack = sizes.0.0.0;
+          max_locals = sizes.0.0.1;
+          instrs = body.0.0;
+          attributes =
+              inners.0.0;
+        }),
+        inners.0.1,
+      ) c.0 inners.2 in
       ap (λ (w : Attr × List ℕ). is_coded w.0) (sym (z ∙ some_is c.0 (x, rest) h.1))
 
   module _ (n at : ℕ) (seen : Bool) (x : Attr) (ys : List Attr) (rest mid : List ℕ) (named : MethodNames pool x)
@@ -457,7 +487,7 @@ module _ (bytes last : List ℕ) (fits : IsBytes bytes) (pool : List Const) (kno
               let o = g.build (attributes_left n seen ++ due) b.clear in
               let never = second_not seen (is_code bytes last (num bytes at (parts.MethodAttribute n seen))) (λ s. code) in
               let s = back bytes last last at (parts.MethodAttribute n seen) due t never (rw code o.clear) (judged_right at _ _ bad never)
-                  in
+              in
               record { clear = s.clear; kept = tt };
         }
 
@@ -467,14 +497,14 @@ module _ (bytes last : List ℕ) (fits : IsBytes bytes) (pool : List Const) (kno
         let g = code_goes k (at + 2) x mid e named in
         let coded = coded_is k (at + 2) x mid e in
         let counts : count_by is_coded (x ∷ ys) ≡ 1 + count_by is_coded ys =
-              count_more x ys ∙ ap (λ (b : Bool). cond b 1 0 + count_by is_coded ys) coded in
+        count_more x ys ∙ ap (λ (b : Bool). cond b 1 0 + count_by is_coded ys) coded in
         let none : count_by is_coded ys ≡ 0 = none_left (count_by is_coded ys) (subst (λ (m : ℕ). m ≤ 1) counts bounds.0) in
         let m = more g.after true g.is (rw none (omega arith), λ s. none) in
         let code : is_code bytes last (num bytes at (parts.MethodAttribute n seen)) ≡ true = rw (← k_is) (known.codes_so k ∙ named_so) in
         let text : IsText pool k = text_of pool k (code_named pool k named_so) in
         let bad : is_bad_entry bytes last 1 (num bytes at (parts.MethodAttribute n seen)) ≡ false = rw (← k_is) (known.tags 1 k text) in
         let unseen : seen ≡ true → is_code bytes last (num bytes at (parts.MethodAttribute n seen)) ≡ false =
-              λ s. absurd (let b = bounds.1 s in omega (arith, counts, b)) in
+        λ s. absurd (let b = bounds.1 s in omega (arith, counts, b)) in
         record {
           after = m.after;
           is = m.is;
@@ -484,7 +514,7 @@ module _ (bytes last : List ℕ) (fits : IsBytes bytes) (pool : List Const) (kno
               let o = g.build (attributes_left n true ++ due) b.clear in
               let never = second_not seen (is_code bytes last (num bytes at (parts.MethodAttribute n seen))) unseen in
               let s = back bytes last last at (parts.MethodAttribute n seen) due t never (rw code o.clear) (judged_right at _ _ bad never)
-                  in
+              in
               record { clear = s.clear; kept = tt };
         }
 
@@ -498,11 +528,16 @@ module _ (bytes last : List ℕ) (fits : IsBytes bytes) (pool : List Const) (kno
       → Goes_ at rest (attributes_left n seen) Any
   unfolding counted attr_at
   methods_goes zero at seen xs rest e all bounds =
-      record { after = at; is = sym (ap (λ (z : List Attr × List ℕ). z.1) (some_is ([], drop at bytes) (xs, rest) e)); within =
-          λ w. w; build = λ due c. record { clear = c; kept = tt } }
+      record {
+        after = at;
+        is = sym (ap (λ (z : List Attr × List ℕ). z.1) (some_is ([], drop at bytes) (xs, rest) e));
+        within =
+            λ w. w;
+        build = λ due c. record { clear = c; kept = tt };
+      }
   methods_goes (suc n) at seen xs rest e all bounds =
       let x = bind_some (attr_at pool true (drop at bytes)) (λ y. counted (attr_at pool true) n y.1 >>= λ ys. Some (y.0 ∷ ys.0, ys.1))
-            (xs, rest) e in
+      (xs, rest) e in
       let ys = bind_some (counted (attr_at pool true) n x.0.1) (λ ys. Some (x.0.0 ∷ ys.0, ys.1)) (xs, rest) x.2 in
       let z = some_is (x.0.0 ∷ ys.0.0, ys.0.1) (xs, rest) ys.2 in
       let list : xs ≡ x.0.0 ∷ ys.0.0 = sym (ap (λ (w : List Attr × List ℕ). w.0) z) in
@@ -513,16 +548,19 @@ module _ (bytes last : List ℕ) (fits : IsBytes bytes) (pool : List Const) (kno
       let after_is : ys.0.1 ≡ rest = ap (λ (w : List Attr × List ℕ). w.1) z in
       either_goes n at seen x.0.0 ys.0.0 rest x.0.1 all2.0 bounds2
       (λ a s mid_is b. methods_goes n a s ys.0.0 rest (subst (λ (w : List ℕ). counted (attr_at pool true) n w ≡ Some (ys.0.0, rest)) mid_is
-          (subst (λ (w : List ℕ). counted (attr_at pool true) n x.0.1 ≡ Some (ys.0.0, w)) after_is ys.1)) all2.1 b)
+      (subst (λ (w : List ℕ). counted (attr_at pool true) n x.0.1 ≡ Some (ys.0.0, w)) after_is ys.1)) all2.1 b)
       t.all k refl (names_code pool k) refl t.goes_on
 
   -- ---- fields and methods
   pub three_told : (at : ℕ) (part second third : Part) (x : (ℕ × ℕ × ℕ) × List ℕ) → size part ≡ 2 → size second ≡ 2 → size third ≡ 2 →
       three_at (drop at bytes) ≡ Some x
       → (nat_lt (length (drop at bytes)) 2 ≡ false) × (nat_lt (length (drop (at + 2) bytes)) 2 ≡ false)
-          × (nat_lt (length (drop (at + 2 + 2) bytes)) 2 ≡ false)
-      × (((big_number 2 (drop at bytes), big_number 2 (drop (at + 2) bytes), big_number 2 (drop (at + 2 + 2) bytes)), drop (at + 2 + 2 + 2)
-          bytes) ≡ x)
+      × (nat_lt (length (drop (at + 2 + 2) bytes)) 2 ≡ false)
+      × ((
+        (big_number 2 (drop at bytes), big_number 2 (drop (at + 2) bytes), big_number 2 (drop (at + 2 + 2) bytes)),
+        drop (at + 2 + 2 + 2)
+            bytes,
+      ) ≡ x)
   unfolding three_at number
   three_told at part second third x a b c e =
       let t1 = tell bytes last at parts.Number _ x e in
@@ -539,7 +577,7 @@ module _ (bytes last : List ℕ) (fits : IsBytes bytes) (pool : List Const) (kno
   attributes_goes at xs rest e all =
       let t = tell bytes last at (parts.AttributeCount false) _ (xs, rest) e in
       let g = counted_goes bytes last last (attr_at pool false) (PlainNames pool) parts.AttributeName Any (λ r. tt) (λ r s t p q. tt)
-            plain_goes (num bytes at (parts.AttributeCount false)) (at + 2) xs rest t.goes_on all in
+      plain_goes (num bytes at (parts.AttributeCount false)) (at + 2) xs rest t.goes_on all in
       record {
         after = g.after;
         is = g.is;
@@ -571,18 +609,18 @@ module _ (bytes last : List ℕ) (fits : IsBytes bytes) (pool : List Const) (kno
       nat_lt (length (drop (at + 2) bytes)) 2 ≡ false → nat_lt (length (drop (at + 2 + 2) bytes)) 2 ≡ false
       → IsText pool (num bytes (at + 2) (parts.Reference 1)) → IsText pool (num bytes (at + 2 + 2) (parts.Reference 1))
       → Clear bytes last last (at + 2 + 2 + 2) (parts.AttributeCount is_method ∷ due) →
-          Clear bytes last last at (parts.Member is_method ∷ due)
+      Clear bytes last last at (parts.Member is_method ∷ due)
   member_build is_method at due t1 t2 t3 name descriptor c =
       let b3 = back bytes last last (at + 2 + 2) (parts.Reference 1) (parts.AttributeCount is_method ∷ due) t3 refl c
-            (text_right _ _ descriptor) in
+      (text_right _ _ descriptor) in
       let b2 = back bytes last last (at + 2) (parts.Reference 1) _ t2 refl b3.clear (text_right _ _ name) in
       (back bytes last last at (parts.Member is_method) due t1 refl b2.clear refl).clear
 
   member_parts : (is_method : Bool) (at : ℕ) (m : Member) (rest : List ℕ) → member_at pool is_method (drop at bytes) ≡ Some (m, rest)
       → (nat_lt (length (drop at bytes)) 2 ≡ false) × (nat_lt (length (drop (at + 2) bytes)) 2 ≡ false)
-          × (nat_lt (length (drop (at + 2 + 2) bytes)) 2 ≡ false)
+      × (nat_lt (length (drop (at + 2 + 2) bytes)) 2 ≡ false)
       × (m.name ≡ num bytes (at + 2) (parts.Reference 1)) × (m.descriptor ≡ num bytes (at + 2 + 2) (parts.Reference 1))
-          × listed_here (attr_at pool is_method) (at + 2 + 2 + 2) m.attributes rest
+      × listed_here (attr_at pool is_method) (at + 2 + 2 + 2) m.attributes rest
   unfolding member_at number
   member_parts is_method at m rest e =
       let three = bind_some (three_at (drop at bytes)) _ (m, rest) e in
@@ -591,7 +629,7 @@ module _ (bytes last : List ℕ) (fits : IsBytes bytes) (pool : List Const) (kno
       let p = passed (nat_lt 1 (count_by is_coded attrs.0.0)) _ (m, rest) attrs.2 in
       let z = some_is _ (m, rest) p.1 in
       let here : listed_at (attr_at pool is_method) (drop (at + 2 + 2 + 2) bytes) ≡ Some attrs.0 =
-            subst (λ (w : (ℕ × ℕ × ℕ) × List ℕ). listed_at (attr_at pool is_method) w.1 ≡ Some attrs.0) (sym t.3) attrs.1 in (
+      subst (λ (w : (ℕ × ℕ × ℕ) × List ℕ). listed_at (attr_at pool is_method) w.1 ≡ Some attrs.0) (sym t.3) attrs.1 in (
         t.0,
         t.1,
         t.2,
@@ -610,8 +648,11 @@ module _ (bytes last : List ℕ) (fits : IsBytes bytes) (pool : List Const) (kno
         is = g.is;
         within = λ w. g.within (past bytes last (at + 2 + 2) 2 p.2 (past bytes last (at + 2) 2 p.1 (past bytes last at 2 p.0 w)));
         build = λ due c.
-            record { clear = member_build false at due p.0 p.1 p.2 (subst (IsText pool) p.3 ok.name) (subst (IsText pool) p.4 ok.descriptor)
-                (g.build due c).clear; kept = tt };
+            record {
+              clear = member_build false at due p.0 p.1 p.2 (subst (IsText pool) p.3 ok.name) (subst (IsText pool) p.4 ok.descriptor)
+                  (g.build due c).clear;
+              kept = tt;
+            };
       }
 
   pub method_goes : (at : ℕ) (m : Member) (rest : List ℕ) → member_at pool true (drop at bytes) ≡ Some (m, rest) → IsMethod_in pool m →
@@ -624,8 +665,11 @@ module _ (bytes last : List ℕ) (fits : IsBytes bytes) (pool : List Const) (kno
         is = g.is;
         within = λ w. g.within (past bytes last (at + 2 + 2) 2 p.2 (past bytes last (at + 2) 2 p.1 (past bytes last at 2 p.0 w)));
         build = λ due c.
-            record { clear = member_build true at due p.0 p.1 p.2 (subst (IsText pool) p.3 ok.name) (subst (IsText pool) p.4 ok.descriptor)
-                (g.build due c).clear; kept = tt };
+            record {
+              clear = member_build true at due p.0 p.1 p.2 (subst (IsText pool) p.3 ok.name) (subst (IsText pool) p.4 ok.descriptor)
+                  (g.build due c).clear;
+              kept = tt;
+            };
       }
 
   pub members_goes : (k : Bool) (at : ℕ) (xs : List Member) (rest : List ℕ) (ok : Member → Type 0)
@@ -635,7 +679,7 @@ module _ (bytes last : List ℕ) (fits : IsBytes bytes) (pool : List Const) (kno
   members_goes k at xs rest ok item e all =
       let t = tell bytes last at (parts.MemberCount k) _ (xs, rest) e in
       let g = counted_goes bytes last last (member_at pool k) ok (parts.Member k) Any (λ r. tt) (λ r s t p q. tt) item
-            (num bytes at (parts.MemberCount k)) (at + 2) xs rest t.goes_on all in
+      (num bytes at (parts.MemberCount k)) (at + 2) xs rest t.goes_on all in
       record {
         after = g.after;
         is = g.is;

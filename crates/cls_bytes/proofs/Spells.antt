@@ -34,7 +34,7 @@ sound_if false n bytes None later t h = (short n t, refl, h)
 sound_attr : (a : Attr) (later : Option CodeFault) → attr_refusal a later ≡ None → IsSoundAttr a × (later ≡ None)
 sound_attr (Coded c) later h =
     let s = sound_if (nat_lt 32767 (length (code_bytes c.instrs))) (length (code_bytes c.instrs)) (code_bytes c.instrs)
-          (first_outside c.instrs) later refl h in
+    (first_outside c.instrs) later refl h in
     (record { short = s.0; inside = s.1 }, s.2)
 sound_attr (Other name bytes) later h = (tt, h)
 

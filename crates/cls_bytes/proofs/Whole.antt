@@ -33,8 +33,11 @@ head_sound bytes rest fits e =
 head_complete : (rest : List ℕ) → behind_head (head ++ rest) ≡ Some rest
 unfolding behind_head
 head_complete rest =
-    rw (behind_complete 4 3405691582 IsU4 u4_complete (omega arith) (u2 0 ++ (u2 49 ++ rest)), behind_complete 2 0 IsU2 u2_complete
-        (omega arith) (u2 49 ++ rest)) (behind_complete 2 49 IsU2 u2_complete (omega arith) rest)
+    rw (
+      behind_complete 4 3405691582 IsU4 u4_complete (omega arith) (u2 0 ++ (u2 49 ++ rest)),
+      behind_complete 2 0 IsU2 u2_complete
+          (omega arith) (u2 49 ++ rest),
+    ) (behind_complete 2 49 IsU2 u2_complete (omega arith) rest)
 
 -- the parts of a class file one behind the other
 grouped : (a b c d e f g h r : List ℕ) → (a ++ (b ++ c)) ++ ((d ++ e) ++ ((f ++ (g ++ h)) ++ r)) ≡ a
@@ -45,12 +48,12 @@ grouped a b c d e f g h r = simp append_assoc
 abbrev parts_of : Tree → List ℕ
 parts_of c =
     head ++ (pool_bytes c.pool ++ (three_bytes (c.access, c.this_class, c.super_class)
-        ++ (u2 0 ++ all_members_bytes (c.fields, c.methods, c.attributes))))
+    ++ (u2 0 ++ all_members_bytes (c.fields, c.methods, c.attributes))))
 
 spelled_as : (c : Tree) → parts_of c ≡ class_bytes c
 spelled_as c =
     grouped (u4 3405691582) (u2 0) (u2 49) (u2 (length c.pool + 1)) (flat_map const_bytes c.pool) (u2 c.access) (u2 c.this_class)
-        (u2 c.super_class)
+    (u2 c.super_class)
     (u2 0 ++ all_members_bytes (c.fields, c.methods, c.attributes))
 
 pub class_sound : (bytes : List ℕ) (class : Tree) → IsBytes bytes → class_at bytes ≡ Some class → IsFile class × (bytes ≡ class_bytes class)
@@ -64,20 +67,28 @@ class_sound bytes class fits e =
     let z = behind_sound 2 0 IsU2 u2_sound three.rest middle.0 three.takes.rest_fits middle.1 in
     let p = pool.value in
     let members = read (members_at p) all_members_bytes (FitMembers p) _ middle.0 class (all_members_sound p) z.rest_fits middle.2 in
-    let made : Tree = record { pool = p; access = three.value.0; this_class = three.value.1; super_class = three.value.2; fields =
-          members.value.0; methods = members.value.1; attributes = members.value.2 } in
+    let made : Tree = record {
+      pool = p;
+      access = three.value.0;
+      this_class = three.value.1;
+      super_class = three.value.2;
+      fields =
+          members.value.0;
+      methods = members.value.1;
+      attributes = members.value.2;
+    } in
     let g = held (eqb (length members.rest) 0) (Some made) class members.goes_on in
     let nothing : members.rest ≡ [] = nil_from_length members.rest (eqb-true _ _ g.0) in
     let t3 = Takes-then three.rest (u2 0) middle.0 (all_members_bytes members.value) members.rest z members.takes in
     let t2 = Takes-then pool.rest (three_bytes three.value) three.rest (u2 0 ++ all_members_bytes members.value) members.rest three.takes t3
-        in
+    in
     let t1 = Takes-then front.0 (pool_bytes p) pool.rest (three_bytes three.value ++ (u2 0 ++ all_members_bytes members.value)) members.rest
-          pool.takes t2 in
+    pool.takes t2 in
     let t0 = Takes-then bytes head front.0 (pool_bytes p ++ (three_bytes three.value ++ (u2 0 ++ all_members_bytes members.value)))
-          members.rest h t1 in
+    members.rest h t1 in
     let all : bytes ≡ class_bytes made =
     Takes-all bytes (head ++ (pool_bytes p ++ (three_bytes three.value ++ (u2 0 ++ all_members_bytes members.value)))) members.rest t0
-        nothing ∙ spelled_as made in
+    nothing ∙ spelled_as made in
     let ok : IsFile made =
     record {
       pool = pool.fits.0;
@@ -100,7 +111,7 @@ class_complete class ok =
     let rest = u2 0 ++ all_members_bytes members in
     let a : members_at p (all_members_bytes members) ≡ Some (members, []) =
     ap (members_at p) (sym (append-nil (all_members_bytes members))) ∙ all_members_complete p members []
-        (ok.fields, ok.methods, ok.attributes) in
+    (ok.fields, ok.methods, ok.attributes) in
     ap class_at (sym (spelled_as class))
     ∙ rw (
       head_complete (pool_bytes p ++ (three_bytes three ++ rest)),

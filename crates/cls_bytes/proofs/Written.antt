@@ -16,7 +16,7 @@ pub more : {B : Type 0} (g : B → List ℕ) (ys zs : List B) (y : B) (out new t
     out ++ flat_map g ys ≡ total → new ++ flat_map g zs ≡ total
 more g ys zs y out new total e added so_far =
     let step : (out ++ g y) ++ flat_map g zs ≡ out ++ flat_map g ys = append_assoc out (g y) (flat_map g zs) ∙
-          ap (λ ws. out ++ flat_map g ws) (sym e) in
+    ap (λ ws. out ++ flat_map g ws) (sym e) in
     ap (λ (ws : List ℕ). ws ++ flat_map g zs) added ∙ step ∙ so_far
 
 pub first_fits : {B : Type 0} (Fits : B → Type 0) (ys zs : List B) (y : B) → ys ≡ y ∷ zs → AllByRecursion Fits ys → Fits y

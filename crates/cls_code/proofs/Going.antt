@@ -50,7 +50,7 @@ module _ (kept : List Kept) (starts : List ℕ) (k : ℕ) (x : Kept) (below : k 
 
   same_is : first_outside (instrs_of kept)
       ≡ cond (jumps_outside (starts_from 0 (instrs_of kept)) g.place (instr_of x)) (Some g.place)
-          (first_outside_from (starts_from 0 (instrs_of kept)) next (instrs_of (drop (k + 1) kept)))
+      (first_outside_from (starts_from 0 (instrs_of kept)) next (instrs_of (drop (k + 1) kept)))
   unfolding first_outside_from next
   same_is = g.same ∙ ap (λ ks. first_outside_from (starts_from 0 (instrs_of kept)) g.place (instrs_of ks)) rest_is
 
@@ -69,7 +69,7 @@ module _ (kept : List Kept) (starts : List ℕ) (k : ℕ) (x : Kept) (below : k 
   going_found e =
       let outside = ap (λ p. jumps_outside (starts_from 0 (instrs_of kept)) p (instr_of x)) (sym place_is) ∙ e in
       same_is ∙ ap (λ b. cond b (Some g.place) (first_outside_from (starts_from 0 (instrs_of kept)) next (instrs_of (drop (k + 1) kept))))
-          outside
+      outside
       ∙ ap Some (sym place_is)
 
 pub going_over : (kept : List Kept) (starts : List ℕ) (k : ℕ) → length kept ≤ k → Going kept starts k →
@@ -104,9 +104,9 @@ code_snoc place (k ∷ is) i =
     let here = instr_bytes place k in
     let next = place + length here in
     ap (λ bs. here ++ bs) (code_snoc next is i) ∙
-        sym (append_assoc here (code_from next is) (instr_bytes (next + length (code_from next is)) i))
+    sym (append_assoc here (code_from next is) (instr_bytes (next + length (code_from next is)) i))
     ∙ ap (λ n. (here ++ code_from next is) ++ instr_bytes n i) (behind place (length here) (length (code_from next is))
-        (length (here ++ code_from next is)) (length-append here (code_from next is)))
+    (length (here ++ code_from next is)) (length-append here (code_from next is)))
 
 pub starts_snoc : (place : ℕ) (is : List Instr) (i : Instr) → starts_from place (is ++ i ∷ []) ≡ starts_from place is
     ++ (place + length (code_from place is)) ∷ []
@@ -117,7 +117,7 @@ starts_snoc place (k ∷ is) i =
     let next = place + length here in
     ap (λ ns. place ∷ ns) (starts_snoc next is i)
     ∙ ap (λ n. place ∷ (starts_from next is ++ n ∷ [])) (behind place (length here) (length (code_from next is))
-        (length (here ++ code_from next is)) (length-append here (code_from next is)))
+    (length (here ++ code_from next is)) (length-append here (code_from next is)))
 
 -- each start of a code lies within it
 pub all_within : (starts : List ℕ) (kept : List Kept) (len : ℕ) → starts ≡ starts_from 0 (instrs_of kept) →

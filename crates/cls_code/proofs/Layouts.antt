@@ -56,12 +56,12 @@ module _ (bytes : List ℕ) (fits : IsBytes bytes) (kept more : List Kept) (star
       let i = instr_in place rest in
       let s = stands place rest (bytes_drop place bytes fits) none in
       let all : instrs_of more ≡ instrs_of kept ++ i ∷ [] = ap instrs_of e ∙ map-append instr_of kept (k ∷ []) ∙
-            ap (λ x. instrs_of kept ++ x ∷ []) is in
+      ap (λ x. instrs_of kept ++ x ∷ []) is in
       let code : code_bytes (instrs_of more) ≡ code_bytes (instrs_of kept) ++ instr_bytes place i =
       ap code_bytes all ∙ code_snoc 0 (instrs_of kept) i ∙ ap (λ n. code_bytes (instrs_of kept) ++ instr_bytes n i)
-          (here (length (code_bytes (instrs_of kept))) r.at) in
+      (here (length (code_bytes (instrs_of kept))) r.at) in
       let long : length (code_bytes (instrs_of more)) ≡ length (code_bytes (instrs_of kept)) + length (instr_bytes place i) =
-            ap length code ∙ length-append (code_bytes (instrs_of kept)) (instr_bytes place i) in
+      ap length code ∙ length-append (code_bytes (instrs_of kept)) (instr_bytes place i) in
       let rest_is : drop size rest ≡ drop (place + size) bytes = drop-drop size place bytes ∙ ap (λ n. drop n bytes) (omega arith) in
       let at = r.at in
       let len = s.sized in
@@ -73,7 +73,7 @@ module _ (bytes : List ℕ) (fits : IsBytes bytes) (kept more : List Kept) (star
         spelled = r.spelled ∙ ap (λ bs. code_bytes (instrs_of kept) ++ bs) (s.spelled ∙ ap (λ n. instr_bytes place i ++ drop n rest)
             (sym sized) ∙ ap (λ bs. instr_bytes place i ++ bs) rest_is)
             ∙ sym (append_assoc (code_bytes (instrs_of kept)) (instr_bytes place i) (drop (place + size) bytes)) ∙
-                ap (λ bs. bs ++ drop (place + size) bytes) (sym code);
+            ap (λ bs. bs ++ drop (place + size) bytes) (sym code);
         at = omega arith;
         started = ap (λ ns. ns ++ place ∷ []) started ∙ ap (λ n. starts_from 0 (instrs_of kept) ++ n ∷ [])
             (sym (here (length (code_bytes (instrs_of kept))) r.at)) ∙ sym (starts_snoc 0 (instrs_of kept) i) ∙ ap (starts_from 0)
@@ -106,9 +106,9 @@ module _ (bytes : List ℕ) (fits : IsBytes bytes) (kept more : List Kept) (star
 -- one more instruction was written
 pub written_more : (kept : List Kept) (k : ℕ) (d : Kept) → k < length kept
     → (code_bytes (instrs_of (take (k + 1) kept)) ≡ code_bytes (instrs_of (take k kept))
-        ++ instr_bytes (length (code_bytes (instrs_of (take k kept)))) (instr_of (get_or kept k d)))
+    ++ instr_bytes (length (code_bytes (instrs_of (take k kept)))) (instr_of (get_or kept k d)))
     × (starts_from 0 (instrs_of (take (k + 1) kept)) ≡ starts_from 0 (instrs_of (take k kept))
-        ++ length (code_bytes (instrs_of (take k kept))) ∷ [])
+    ++ length (code_bytes (instrs_of (take k kept))) ∷ [])
 written_more kept k d below =
     let all : instrs_of (take (k + 1) kept) ≡ instrs_of (take k kept) ++ instr_of (get_or kept k d) ∷ [] =
     ap instrs_of (take_more kept k d below) ∙ map-append instr_of (take k kept) (get_or kept k d ∷ []) in

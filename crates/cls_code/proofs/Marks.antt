@@ -55,8 +55,10 @@ marking_on starts marks len k below within m =
 pub marking_last : (starts : List ℕ) (marks : List Bool) (len k : ℕ) → length starts ≤ k → Marking starts marks len k →
     IsMarked starts marks
 marking_last starts marks len k le m =
-    record { marked = λ at. sym (nothing (get_or marks at false)) ∙ ap (λ ts. get_or marks at false || list_any (λ t. t == at) ts)
-        (sym (drop_all k starts le)) ∙ m.marked at }
+    record {
+      marked = λ at. sym (nothing (get_or marks at false)) ∙ ap (λ ts. get_or marks at false || list_any (λ t. t == at) ts)
+          (sym (drop_all k starts le)) ∙ m.marked at;
+    }
   where
     nothing : (b : Bool) → (b || false) ≡ b
     nothing true = refl

@@ -40,9 +40,9 @@ same_front place p q (i ∷ is) (j ∷ js) r s fi fj e pe qe ep eq =
     let a = code_from (place + length (instr_bytes place i)) is in
     let b = code_from (place + length (instr_bytes place j)) js in
     let one = same_instr place i j (a ++ r) (b ++ s) fi.0 fj.0 (sym (append_assoc (instr_bytes place i) a r) ∙ e ∙
-          append_assoc (instr_bytes place j) b s) in
+    append_assoc (instr_bytes place j) b s) in
     let b_is : code_from (place + length (instr_bytes place j)) js ≡ code_from (place + length (instr_bytes place i)) js =
-          ap (λ k. code_from (place + length (instr_bytes place k)) js) (sym one.0) in
+    ap (λ k. code_from (place + length (instr_bytes place k)) js) (sym one.0) in
     let n_is : length (instr_bytes place j) ≡ length (instr_bytes place i) = ap (λ k. length (instr_bytes place k)) (sym one.0) in
     let m_is = ap length b_is in
     let rest = same_front (place + length (instr_bytes place i)) p q is js r s fi.1 fj.1 (one.1 ∙ ap (λ bs. bs ++ s) b_is)
@@ -64,10 +64,10 @@ module _ (bytes : List ℕ) where
   not_stuck : (is front : List Instr) (rest : List ℕ) (fault : CodeFault) → AllByRecursion FitsInstr is → 0 < length is →
       bytes ≡ code_bytes is
       → AllByRecursion FitsInstr front → bytes ≡ code_bytes front ++ rest → (0 < length rest) ⊎ (front ≡ []) →
-          unfit (length (code_bytes front)) rest ≡ Some fault → ⊥
+      unfit (length (code_bytes front)) rest ≡ Some fault → ⊥
   not_stuck is front rest fault fi some ei fr er ends u =
       let one = one_layout is front [] rest fi fr (ei ∙ sym (append-nil (code_bytes is))) er (over (length (code_bytes is)))
-            (no_fault (length (code_bytes front)) rest fault u) in
+      (no_fault (length (code_bytes front)) rest fault u) in
       elim ends [
         | inl lt ↦ let e = ap length one.1 in omega arith
         | inr none ↦ let e = ap length (one.0 ∙ none) in omega arith
@@ -77,7 +77,7 @@ module _ (bytes : List ℕ) where
       bytes ≡ code_bytes js → is ≡ js
   all_same is js fi fj ei ej =
       (one_layout is js [] [] fi fj (ei ∙ sym (append-nil (code_bytes is))) (ej ∙ sym (append-nil (code_bytes js)))
-          (over (length (code_bytes is))) (over (length (code_bytes js)))).0
+      (over (length (code_bytes is))) (over (length (code_bytes js)))).0
 
   same_some : {A : Type 0} (x y : A) → Some x ≡ Some y → x ≡ y
   same_some x y e = cc

@@ -42,8 +42,11 @@ args_stand place forms.Increment rest fits long good =
     one_less [] le = absurd (omega arith)
     one_less (b ∷ rest) le = omega arith
 args_stand place forms.Jump rest fits long good = record { fits = signed2 rest fits; told = told2 rest long fits }
-args_stand place forms.Table rest fits long good = record { fits = table_fits place rest fits long good; told =
-    table_told place rest fits long good }
+args_stand place forms.Table rest fits long good = record {
+  fits = table_fits place rest fits long good;
+  told =
+      table_told place rest fits long good;
+}
 args_stand place forms.NearConstant rest fits long good = record { fits = below1 rest fits; told = spelled1 rest long fits }
 args_stand place forms.Constant rest fits long good = record { fits = below2 rest fits; told = spelled2 rest long fits }
 args_stand place forms.Field rest fits long good = record { fits = below2 rest fits; told = spelled2 rest long fits }
@@ -97,7 +100,7 @@ stood_args : (place op : ℕ) (rest : List ℕ) (f : Option Form) → form_of op
 stood_args place op rest None e fits none = absurd cc
 stood_args place op rest (Some form) e fits none =
     let t = no_tests (nat_lt (length rest) (room place form rest)) (is_bad_switch place form rest) (faults.Short place)
-          (faults.BadSwitch place) none in
+    (faults.BadSwitch place) none in
     let long : room place form rest ≤ length rest = grind (arith, nat_tests) in
     let s = args_stand place form rest fits long t.1 in
     let args = args_in place form rest in
@@ -131,7 +134,7 @@ seen_args place op args rest (Some form) e f =
     let b = args_back place form args rest f in
     let all = form_bytes place form args ++ rest in
     let long : nat_lt (length all) (room place form all) ≡ false = not_cut (length all) (room place form all)
-          (omega (arith, b.size, length-append (form_bytes place form args) rest)) in (
+    (omega (arith, b.size, length-append (form_bytes place form args) rest)) in (
       ap (λ t. cond t (Some (faults.Short place)) (cond (is_bad_switch place form all) (Some (faults.BadSwitch place)) None)) long
           ∙ ap (λ t. cond t (Some (faults.BadSwitch place)) None) b.good,
       b.is,
@@ -153,8 +156,10 @@ pub same_instr : (place : ℕ) (i j : Instr) (r s : List ℕ) → FitsInstr i �
 same_instr place i j r s f g e =
     let is : i ≡ j = sym (seen place i r f).instr ∙ ap (instr_in place) e ∙ (seen place j s g).instr in
     let a : drop (length (instr_bytes place i)) (instr_bytes place i ++ r) ≡ r =
-          drop_at (instr_bytes place i) r (length (instr_bytes place i)) refl in
+    drop_at (instr_bytes place i) r (length (instr_bytes place i)) refl in
     let b : drop (length (instr_bytes place j)) (instr_bytes place j ++ s) ≡ s =
-          drop_at (instr_bytes place j) s (length (instr_bytes place j)) refl in
-    (is, sym a ∙ ap (drop (length (instr_bytes place i))) e ∙ ap (λ k. drop (length (instr_bytes place k)) (instr_bytes place j ++ s)) is ∙
-        b)
+    drop_at (instr_bytes place j) s (length (instr_bytes place j)) refl in (
+      is,
+      sym a ∙ ap (drop (length (instr_bytes place i))) e ∙ ap (λ k. drop (length (instr_bytes place k)) (instr_bytes place j ++ s)) is ∙
+          b,
+    )

@@ -71,7 +71,7 @@ module _ (p n : ℕ) (rest : List ℕ) where
 
   parts_taken : take ((p + 12) + 4 * n) rest
       ≡ take p rest ++ (take 4 (drop p rest)
-          ++ (take 4 (drop (p + 4) rest) ++ (take 4 (drop (p + 8) rest) ++ take (4 * n) (drop (p + 12) rest))))
+      ++ (take 4 (drop (p + 4) rest) ++ (take 4 (drop (p + 8) rest) ++ take (4 * n) (drop (p + 12) rest))))
   parts_taken =
       let a = one_more (p + 8) (p + 12) (omega arith) in
       let b = one_more (p + 4) (p + 8) (omega arith) in
@@ -116,7 +116,7 @@ module _ (place : ℕ) (rest : List ℕ) (fits : IsBytes rest) (long : room plac
       let p = pad place in
       let n = cases_of place rest in
       five_parts (replicate p 0) (take p rest) (s4 (s4_at p rest)) (take 4 (drop p rest)) (s4 (s4_at (p + 4) rest))
-          (take 4 (drop (p + 4) rest))
+      (take 4 (drop (p + 4) rest))
       (s4 (highest (s4_at (p + 4) rest) (words n (drop (p + 12) rest)))) (take 4 (drop (p + 8) rest))
       (flat_map s4 (words n (drop (p + 12) rest))) (take (4 * n) (drop (p + 12) rest))
       zeros_are
@@ -195,7 +195,7 @@ module _ (place : ℕ) (default low : ℤ) (os : List ℤ) (tail : List ℕ) (f 
   pub table_back : args_in place forms.Table table_bytes ≡ Table default low os
   table_back =
       ap (λ z. Table z (s4_at (pad place + 4) table_bytes) (words (cases_of place table_bytes) (drop (pad place + 12) table_bytes)))
-          default_back
+      default_back
       ∙ ap (λ z. Table default z (words (cases_of place table_bytes) (drop (pad place + 12) table_bytes))) low_back
       ∙ ap (Table default low) offsets_back
 
@@ -204,7 +204,7 @@ module _ (place : ℕ) (default low : ℤ) (os : List ℤ) (tail : List ℕ) (f 
       ap (λ n. (pad place + 12) + 4 * n) cases_are
       ∙ sum_of (zeros ++ (s4 default ++ (s4 low ++ high))) (flat_map s4 os) (length os) sizes.2 (length-words_bytes os)
       ∙ ap length (sym (regroup4 zeros (s4 default) (s4 low) high (flat_map s4 os) []) ∙
-          ap (λ bs. zeros ++ (s4 default ++ (s4 low ++ (high ++ bs)))) (append-nil (flat_map s4 os)))
+      ap (λ bs. zeros ++ (s4 default ++ (s4 low ++ (high ++ bs)))) (append-nil (flat_map s4 os)))
     where
       sum_of : (a b : List ℕ) (n : ℕ) → length a ≡ pad place + 12 → length b ≡ 4 * n → (pad place + 12) + 4 * n ≡ length (a ++ (b ++ []))
       sum_of a b n x y = simp length-append (omega (arith, x, y))

@@ -51,7 +51,7 @@ FitsForm forms.Increment (Add local n) = IsU1 local × FitsSigned w8 n
 FitsForm forms.Jump (Jump distance) = FitsSigned w16 distance
 FitsForm forms.Table (Table default low offsets) =
     FitsSigned w32 default × FitsSigned w32 low × FitsSigned w32 (highest low offsets) × AllByRecursion (FitsSigned w32) offsets
-        × (0 < length offsets)
+    × (0 < length offsets)
 FitsForm forms.NearConstant (Pool n) = IsU1 n
 FitsForm forms.Constant (Pool n) = IsU2 n
 FitsForm forms.Field (Pool n) = IsU2 n

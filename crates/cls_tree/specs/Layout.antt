@@ -96,7 +96,7 @@ abbrev pub content_bytes : Code → List ℕ
 content_bytes c =
     let code = code_bytes c.instrs in
     u2 c.max_stack ++ (u2 c.max_locals
-        ++ (u4 (length code) ++ (code ++ (u2 0 ++ (u2 (length c.attributes) ++ flat_map inner_bytes c.attributes)))))
+    ++ (u4 (length code) ++ (code ++ (u2 0 ++ (u2 (length c.attributes) ++ flat_map inner_bytes c.attributes)))))
 
 -- an attribute: name, length, content
 abbrev pub attr_bytes : Attr → List ℕ
@@ -116,5 +116,5 @@ members_bytes ms = u2 (length ms) ++ flat_map member_bytes ms
 abbrev pub class_bytes : Class → List ℕ
 class_bytes c =
     u4 3405691582 ++ (u2 0 ++ (u2 49
-        ++ (u2 (length c.pool + 1) ++ (flat_map const_bytes c.pool ++ (u2 c.access ++ (u2 c.this_class ++ (u2 c.super_class
+    ++ (u2 (length c.pool + 1) ++ (flat_map const_bytes c.pool ++ (u2 c.access ++ (u2 c.this_class ++ (u2 c.super_class
     ++ (u2 0 ++ (members_bytes c.fields ++ (members_bytes c.methods ++ attrs_bytes c.attributes))))))))))

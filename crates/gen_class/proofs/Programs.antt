@@ -167,6 +167,6 @@ module _ (p : Program) (m : Method) (pool : List Const) where
       subst (λ x. Tells x fault)
       (ap (λ x. excess_at x.place x.told_as (exceeded_by_code x pool)) e
       ∙ ap (λ code. excess_at m.place (text_at p m.name) (exceeded_by_code (compiled p m code) pool))
-          (sym (only_generated p m is.code is.is_code))
+      (sym (only_generated p m is.code is.is_code))
       ∙ sym is.is)
       tells

@@ -410,7 +410,7 @@ module _ (p : Program) (m : Method) (held : IsHeld p) where
         let r = expr_fits scope a h room in
         let le = r.deep in
         valued_fits (frames.depths p m a).value _ (fits_then (pieces.value p m scope a) (plain 116) r.value neg_fits) (omega (arith, le))
-            (omega arith)
+        (omega arith)
     expr_fits scope (Not q a) h room =
         let r = expr_fits scope a h room in jumped_fits (frames.depths p m a).jump _ _ r.when r.unless
     expr_fits scope (Binary q o a b) h room =
@@ -619,7 +619,7 @@ module _ (p : Program) (m : Method) (held : IsHeld p) where
           deep = max_within (frames.depths p m c).jump (max (frames.depth_of p m s) (frames.depth_of p m r)) (j.size + f.size + 1 + g.size)
               (omega (arith, x))
               (max_within (frames.depth_of p m s) (frames.depth_of p m r) (j.size + f.size + 1 + g.size) (omega (arith, y))
-                  (omega (arith, z)));
+              (omega (arith, z)));
         }
     statement_fits scope (While q k c s) h room =
         let a = (expr_fits scope c h.0 (room_of scope s room)).unless in
@@ -674,7 +674,7 @@ module _ (p : Program) (m : Method) (held : IsHeld p) where
         let r = expr_fits scope e h room in
         let le = r.deep in
         steady_fits _ _ (fits_then (pieces.value p m scope e) (return_value m.result) r.value (return_value_fits m.result))
-            (omega (arith, le))
+        (omega (arith, le))
     statement_fits scope (Print q e) h room =
         let r = expr_fits scope e h room in
         let le = r.deep in
@@ -702,7 +702,7 @@ module _ (p : Program) (m : Method) (held : IsHeld p) where
         let le = takes_stmts (next_local m.kind (k ∷ scope)) more in
         flows_fit _ _ (pieces.steady (pieces.value p m scope e and pieces.store_in p m (k ∷ scope) k))
         (pieces.statements p m (k ∷ scope) more) (declared_fits scope k e h.0 (omega (arith, le, rest)))
-            (statements_fit (k ∷ scope) more h.1 rest)
+        (statements_fit (k ∷ scope) more h.1 rest)
 
     groups_fit : (scope : List ℕ) (gs : Groups) → HoldsGroups gs → RoomForGroups scope gs →
         GroupsFit (frames.depth_of_groups p m gs) (pieces.groups p m scope gs)

@@ -141,7 +141,7 @@ module _ (p : Program) (core : IsCore p) where
     few_fields =
         let names = map (λ f. text_at p f.name) k.fields in
         let made = each_made (FieldMade p) (field_in_file p) (λ q r g d m h. field_grown p g d m h) (field_made p) k.fields
-              (header p k []).1 in
+        (header p k []).1 in
         let few = as_few names (with_fields k) (core.classes c k at).fields_apart
         (field_texts p (with_fields k) k.fields (each (field_in_file p) k.fields (header p k []).1).0 made.holds) in
         let same : length names ≡ length k.fields = length-map k.fields (λ f. text_at p f.name) in
@@ -184,7 +184,7 @@ module _ (p : Program) (core : IsCore p) where
         record { fields = few_fields c k here cs room_is; methods = few_methods c k here cs room_is h.0 },
         all_few (suc c) ks all h.1
             (λ i x e. let same : c + suc i ≡ suc c + i = omega arith in subst (λ n. slice_get p.classes n ≡ Some x) same (at (suc i) x e))
-                first.1,
+            first.1,
       )
 
 pub cores_are_small : CoresAreSmall

@@ -27,7 +27,7 @@ exceeded_none l n pool more = go (nat_lt 32767 l) (nat_lt 255 n) (nat_lt 65534 (
   where
     go : (a b c d : Bool) → nat_lt 32767 l ≡ a → nat_lt 255 n ≡ b → nat_lt 65534 (length pool) ≡ c → list_any is_long more ≡ d →
         (if a then Some CodeTooLong else if b then Some TooManyLocals else if c then Some PoolFull else if d then Some TextTooLong else
-            None)
+        None)
         ≡ None → IsWithin l n pool more
     go true b c d e f g h none = absurd (some-is-not none)
     go false true c d e f g h none = absurd (some-is-not none)
@@ -101,7 +101,7 @@ module _ (p : Program) (k : Class) where
       (exceeded_by p k part pool ≡ None) × (first_in_parts p k more (pool_behind p k part pool) ≡ None)
   part_none part more pool h =
       let both = first_none (option_map (told p k part) (exceeded_by p k part pool)) (first_in_parts p k more (pool_behind p k part pool)) h
-          in
+      in
       (told_none (told p k part) (exceeded_by p k part pool) both.0, both.1)
 
   pub methods_limited : ((c : Compiled) (pool : List Const) → Grows pool (method_in_file c pool).1) →

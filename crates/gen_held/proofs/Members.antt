@@ -111,7 +111,7 @@ module _ (tables : Tables) (few : AreFew tables.enums) where
       let one = field_kept ns x k.item k.is w.0 f in
       let rest = fields_kept k.item.names xs m.item m.is w.1 one.names in
       subst (KeptWith (List Core.Field) (AllByRecursion FieldHeld)) (some_is m.gives)
-          (record { names = rest.names; it = (one.it, rest.it) })
+      (record { names = rest.names; it = (one.it, rest.it) })
 
   class_kept : (ns : List Name) (x : Entry) (r : Naming Core.Class) → class tables ns x ≡ Some r → IsWrittenClass x.class → AreFine ns →
       KeptWith Core.Class ClassHeld r
@@ -119,7 +119,7 @@ module _ (tables : Tables) (few : AreFew tables.enums) where
       let n = bound (interned ns x.class.name) _ r given in
       let fs = bound (fields tables n.item.names x.class.fields) _ r n.gives in
       let h = fields_kept n.item.names x.class.fields fs.item fs.is w.fields
-            (fine_with ns x.class.name n.item n.is (fine x.class.name w.name) f) in
+      (fine_with ns x.class.name n.item n.is (fine x.class.name w.name) f) in
       subst (KeptWith Core.Class ClassHeld) (some_is fs.gives) (record { names = h.names; it = h.it })
 
   pub classes_kept : (ns : List Name) (xs : List Entry) (r : Naming (List Core.Class)) → classes tables ns xs ≡ Some r →
@@ -132,7 +132,7 @@ module _ (tables : Tables) (few : AreFew tables.enums) where
       let one = class_kept ns x k.item k.is w.0 f in
       let rest = classes_kept k.item.names xs m.item m.is w.1 one.names in
       subst (KeptWith (List Core.Class) (AllByRecursion ClassHeld)) (some_is m.gives)
-          (record { names = rest.names; it = (one.it, rest.it) })
+      (record { names = rest.names; it = (one.it, rest.it) })
 
   params_named : (m : Source.Method) → AreWrittenParams m → AllByRecursion IsWrittenParam m.params
   params_named m (inl (plain, are)) = are
@@ -171,7 +171,7 @@ module _ (tables : Tables) (few : AreFew tables.enums) where
       let one = method_kept ns x y k.item k.is w.0 f in
       let rest = methods_in_kept k.item.names x ys m.item m.is w.1 one.names in
       subst (KeptWith (List Core.Method) (AllByRecursion MethodHeld)) (some_is m.gives)
-          (record { names = rest.names; it = (one.it, rest.it) })
+      (record { names = rest.names; it = (one.it, rest.it) })
 
   pub methods_kept : (ns : List Name) (xs : List Entry) (r : Naming (List Core.Method)) → methods tables ns xs ≡ Some r →
       AllByRecursion EntryWritten xs → AreFine ns → KeptWith (List Core.Method) (AllByRecursion MethodHeld) r

@@ -125,8 +125,11 @@ entries_written typestates n m [] xs e h = subst (AllByRecursion EntryWritten) (
 entries_written typestates n m (c ∷ cs) xs e h =
     let t = bound (followed typestates c.typestate) _ xs e in
     let r = bound (entries_from typestates (suc n) (m + length c.methods) cs) _ xs t.gives in
-    subst (AllByRecursion EntryWritten) (some_is r.gives) (h.0, entries_written typestates (suc n) (m + length c.methods) cs r.item r.is
-        h.1)
+    subst (AllByRecursion EntryWritten) (some_is r.gives) (
+      h.0,
+      entries_written typestates (suc n) (m + length c.methods) cs r.item r.is
+          h.1,
+    )
 
 -- the tables of a program whose files can be written
 record TablesWritten (tables : Tables) : Type 0 where
@@ -162,7 +165,7 @@ written_cores_are_held files sourced core are e bounded =
     let ek = enums_kept [] t.item.enums es.item es.is tw.enums tt in
     let few : AreFew t.item.enums = ek.many (2 ^ 31)
     (subst (λ (c : Core.Program). AllByRecursion (λ (e : Core.Enum). length e.constants ≤ 2 ^ 31) c.enums) (sym (some_is ms.gives))
-        bounded.enums) in
+    bounded.enums) in
     let ck = classes_kept t.item few es.item.names t.item.classes cs.item cs.is tw.classes ek.names in
     let mk = methods_kept t.item few cs.item.names t.item.classes ms.item ms.is tw.classes ck.names in
     subst CanBeHeld (some_is ms.gives) (record {

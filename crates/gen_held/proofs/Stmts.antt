@@ -124,7 +124,7 @@ module _ (tables : Tables) (few : AreFew tables.enums) where
           let h = stmt_kept body around locals c b.item w.1 f b.is in
           let g = stmt_kept rest around locals b.item.so_far d.item w.3 h.names d.is in
           subst StmtKept (some_is d.gives)
-              (record { names = g.names; it = (resolved_held tables few at locals x t.item w.0 t.is, h.it, g.it) })
+          (record { names = g.names; it = (resolved_held tables few at locals x t.item w.0 t.is, h.it, g.it) })
       stmt_kept (Source.While p label x body) around locals c r w f e =
           let t = bound (resolved tables at locals x) _ r e in
           let b = bound (stmt tables at body (InLoop label (length c.loops) ∷ around) locals (loop_more p locals c)) _ r t.gives in
@@ -167,7 +167,7 @@ module _ (tables : Tables) (few : AreFew tables.enums) where
 
       pub groups_kept : (gs : Source.Groups) (enum : Source.Enum) (around : List Around) (locals : List Known) (c : Counted)
           (r : Counting (List OneGroup)) → AreWrittenGroups gs → AreFine c.names → groups tables at gs enum around locals c ≡ Some r →
-              GroupsKept r
+          GroupsKept r
       groups_kept Source.NoGroup enum around locals c r w f e = subst GroupsKept (some_is e) (record { names = f; it = tt })
       groups_kept (Source.Group labels body end more) enum around locals c r w f e =
           let l = bound (labels_at enum labels) _ r e in

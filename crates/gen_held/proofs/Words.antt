@@ -40,8 +40,11 @@ fine_with names name r e f fs =
     go false = all_in_back IsFine names (name ∷ []) fs (f, tt)
 
 plain_byte : (c : ℕ) → is_word_byte c ≡ true → (c ≢ 47) × (c ≢ 59) × (c ≢ 60)
-plain_byte c h = (λ e. absurd (no_slash (subst (λ z. is_word_byte z ≡ true) e h)),
-    λ e. absurd (no_semicolon (subst (λ z. is_word_byte z ≡ true) e h)), λ e. absurd (no_less (subst (λ z. is_word_byte z ≡ true) e h)))
+plain_byte c h = (
+  λ e. absurd (no_slash (subst (λ z. is_word_byte z ≡ true) e h)),
+  λ e. absurd (no_semicolon (subst (λ z. is_word_byte z ≡ true) e h)),
+  λ e. absurd (no_less (subst (λ z. is_word_byte z ≡ true) e h)),
+)
   where
     no_slash : is_word_byte 47 ≡ true → ⊥
     no_slash e = cc
@@ -57,8 +60,11 @@ plain_bytes [] h = tt
 plain_bytes (c ∷ cs) h = (plain_byte c h.0, plain_bytes cs h.1)
 
 pub fine : (name : Name) → IsNamed name → IsFine name
-fine name is = record { plain = plain_bytes name is.bytes; utf8 =
-    IsUtf8-from_ascii name (passing_ascii is_word_byte name word_low is.bytes) }
+fine name is = record {
+  plain = plain_bytes name is.bytes;
+  utf8 =
+      IsUtf8-from_ascii name (passing_ascii is_word_byte name word_low is.bytes);
+}
 
 pub all_fine : (names : List Name) → AllByRecursion IsNamed names → AllByRecursion IsFine names
 all_fine [] h = tt

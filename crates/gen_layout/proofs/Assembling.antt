@@ -179,7 +179,7 @@ laid_done numbers starts end pool all l =
 pub lay_more : (p : Program) (kept : List Symbolic) (n : ℕ) (x : Symbolic) (old new : KeptLaid) (pool left : List Const)
     (all : Laid × List Const) (k size : ℕ) → n < length kept → x ≡ get_or kept n x →
     IsMade k left (constant_of (operand_of p x.operand) pool) → size ≡ size_at old.end x.op (operand_of p x.operand) k →
-        IsOneMore old new k size →
+    IsOneMore old new k size →
     IsLeft (instrs_of p (drop n kept)) old.numbers.items old.starts.items old.end pool all →
     IsLeft (instrs_of p (drop (n + 1) kept)) new.numbers.items new.starts.items new.end left all
 lay_more p kept n x old new pool left all k size within is made takes more l =

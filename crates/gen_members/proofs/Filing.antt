@@ -66,7 +66,7 @@ module _ (p : Program) (k : Class) {X : Type 0} (f : X → Pooled file.Member) (
       left = l.left ∙ ap (λ q. (each f rest q).1) (sym made.left);
       judged = λ more. l.judged more
           ∙ ap₂ (λ r q. or_else (option_map (told p k (part x)) r) (first_in_parts p k (map part rest ++ more) q)) fine
-              (same ∙ sym made.left);
+          (same ∙ sym made.left);
     }
 
   -- something in one is too large

@@ -98,7 +98,7 @@ module _ (k : Key) (ks : List Key) where
       let place = position_or_len (key_eq k) ks in
       let last : ltb place (length ks) ≡ false → place ≡ length (map const_of ks) = λ none. place-none (key_eq k) ks none ∙ sym len in
       rw (at, len, list_any-position (key_eq k) ks, map-cond (ltb place (length ks)) ks k)
-          (settled (const_of k) (map const_of ks) place (ltb place (length ks)) last)
+      (settled (const_of k) (map const_of ks) place (ltb place (length ks)) last)
 
 -- a constant that isn't one too many has its number in a class file, and leaves room there
 module _ (c : Const) (pool : List Const) (room : length pool ≤ 65534) (go_on : IsFull c pool → ⊥) where

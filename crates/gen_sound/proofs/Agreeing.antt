@@ -46,7 +46,7 @@ module _ (step : Machine → Messages → Stepped) where
       le =
       let same : Went m2 q2 f ≡ Went m1 q1 e = sym u ∙ s in
       let there = subst (λ m. Steps step m q1 k fs o t) (ap (machine_of m2) same)
-            (subst (λ q. Steps step m2 q k fs o t) (ap (messages_of q2)
+      (subst (λ q. Steps step m2 q k fs o t) (ap (messages_of q2)
       same) b) in
       let h = onward a there (omega (arith, le)) in
       let c = h.counts in

@@ -144,7 +144,7 @@ module _ (p : Program) (ok : IsCore p) (os : List Outline) (program : linked.Pro
     pub call_is : (kind : MethodKind) → k.kind ≡ kind → kind ≢ kinds.Main → (place : ℕ) (rest args : List Held) (ls : List (Option Held))
         (s : Shared) (q : Messages) → slice_get code place ≡ Some (invoke kind (method_reference p i)) →
         AllMeet program (heap_in p s.heap) (call_takes program (calling_of kind) k.class (linked.method_at program k.class stands.method))
-            args →
+        args →
         length args ≤ max_locals k →
         step program me (moment p r place (rest ++ args) ls s q).machine q
         ≡ machine.calls program q (moment p r place (rest ++ args) ls s q).machine (calling_of kind) k.class stands.method rest args
@@ -202,19 +202,19 @@ module _ (p : Program) (ok : IsCore p) (os : List Outline) (program : linked.Pro
             ≡ Went (moment p r at_call (rest ++ flat_given v) ls u q).machine q (left told (flat_given v))
         go t e v worlds.nothing at room =
             step_is p os program me (callee at_call rest ls told) k stands.code (callee_runs at_call rest ls told) place [] locals u q
-                return (Return None) at refl
+            return (Return None) at refl
             ∙ acts_well program q (moment p (callee at_call rest ls told) place [] locals u q).machine me (Return None) [] [] refl tt refl
-                (omega arith)
+            (omega arith)
             (ap (is_sort None) (result_there at_call rest ls told ∙ ap (result_in p) e))
             (subst (λ j. length rest + 0 ≤ j) (sym room_here) room)
         go t e v (worlds.value {v = y} f) at room =
             let result : tests.result_in (signature_of (descriptor_in (linked.method_at program k.class stands.method))) ≡ result_in p t =
             result_there at_call rest ls told ∙ ap (result_in p) e in
             step_is p os program me (callee at_call rest ls told) k stands.code (callee_runs at_call rest ls told) place (flat y ∷ [])
-                locals u q (return_value t)
+            locals u q (return_value t)
             (Return (Some (sort_of t))) at (return_does t)
             ∙ acts_well program q (moment p (callee at_call rest ls told) place (flat y ∷ []) locals u q).machine me
-                (Return (Some (sort_of t))) [] (flat y ∷ []) refl (
+            (Return (Some (sort_of t))) [] (flat y ∷ []) refl (
               subst (λ o. misfit program (heap_in p u.heap) (Returned (sort_of t) o) (flat y) ≡ None) (sym result)
                   (returned_fits p ok os program me known x u heap y t f (subst (IsResult p) e is.result)),
               tt,
@@ -236,7 +236,7 @@ module _ (p : Program) (ok : IsCore p) (os : List Outline) (program : linked.Pro
           comes = comes_on (step program me) c (moment p frame b.place (flat_given v) b.locals u q)
               (moment p r at_call (rest ++ flat_given v) ls u q) b.arrives.comes
               (lead_of (step program me) (moment p frame b.place (flat_given v) b.locals u q)
-                  (moment p r at_call (rest ++ flat_given v) ls u q)
+              (moment p r at_call (rest ++ flat_given v) ls u q)
               None (return_is h.world v u h.gives h.heap at_call rest ls None b.place b.locals q b.at
               (given_room h.world v k.result (length rest) (max_stack p m) h.gives room)) (sym (append-nil u.events))).comes;
           holds = b.arrives.holds;
@@ -309,7 +309,7 @@ module _ (p : Program) (ok : IsCore p) (os : List Outline) (program : linked.Pro
         misfit program (heap_in p s.heap) (Typed (Named (linked.class_name program k.class))) (held.Object o) ≡ None
     object_meets x o s heap of =
         subst (λ n. misfit_class program (heap_in p s.heap) n (held.Object o) ≡ None)
-            (sym (calls.known.class_named k.class is.class is.class_at))
+        (sym (calls.known.class_named k.class is.class is.class_at))
         (object_fits p ok os program me calls.known x s heap o k.class is.class of is.class_at)
 
     pub static_calls : k.kind ≡ kinds.Static → slice_get code place ≡ Some (invokestatic (method_reference p i)) →

@@ -185,7 +185,7 @@ module _ (p : Program) (ok : IsCore p) (os : List Outline) (program : linked.Pro
       tested = record {
         does = λ w s ls q h. first (WhenStand from to) (C ts to) Any w (moment p r mid [] ls s.shared q) s test
             (λ t. if t then again else give Normal) h.mine h.living well_test (dt.does w s ls q h)
-                (branch (moment p r mid [] ls s.shared q));
+            (branch (moment p r mid [] ls s.shared q));
       }
 
   -- a statement, and what follows it where it completes normally

@@ -153,7 +153,7 @@ module _ (p : Program) (ok : IsCore p) (k : Method) (is : IsMethod p k) (n : k.k
   pub args_fit : length args ≤ max_locals k
   args_fit =
       let taken : first_local k.kind + length (params_in_scope k) ≤ max_locals k = at_least_all (next_local k.kind (params_in_scope k))
-            k.body in
+      k.body in
       fit_by (length args) (length (map flat vs)) (first_local k.kind) (length (params_in_scope k)) k.params (max_locals k)
       (object_many k.kind n this on (map flat vs))
       (length-map vs flat

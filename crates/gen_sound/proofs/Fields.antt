@@ -121,7 +121,7 @@ module _ (p : Program) (ok : IsCore p) (os : List Outline) (program : linked.Pro
       misfit program (heap_in p s.heap) (Typed (Named (linked.class_name program m.class))) (held.Object o) ≡ None
   object_meets x s heap o of =
       subst (λ name. misfit_class program (heap_in p s.heap) name (held.Object o) ≡ None)
-          (sym (known.class_named m.class there.class there.at))
+      (sym (known.class_named m.class there.class there.at))
       (object_fits p ok os program me known x s heap o m.class there.class of there.at)
 
   abbrev names_then : {B : Type 0} → Option Class → (Name × Name → Run Shared B) → Run Shared B
@@ -163,7 +163,7 @@ module _ (p : Program) (ok : IsCore p) (os : List Outline) (program : linked.Pro
         (st ++ flat has.value ∷ [])
         (step_takes p os program me r m code runs place (st ++ held.Object own.object ∷ []) ls s q (getfield (field_reference p m.class f))
         (Read m.class f) at stands.reads st (held.Object own.object ∷ []) (Typed (Named (linked.class_name program m.class)) ∷ []) 1 refl
-            refl
+        refl
         (object_meets x s heap own.object own.of, tt) room
         ∙ ap (reads_object q state st f) it.in_heap
         ∙ ap (λ o. elim o [ None ↦ broken bad.Member | Some v ↦ goes q (next state (st ++ v ∷ [])) ])
@@ -213,7 +213,7 @@ module _ (p : Program) (ok : IsCore p) (os : List Outline) (program : linked.Pro
         ∙ ap (λ y. and_then y (λ i. found (put bytes_eq (text_at p there.field.name) v i.fields) >>= λ row. objects >>= λ heap. with_objects
         (slice_set heap own.object (record i { fields = row })))) object_given
         ∙ ap (λ y. (found y >>= λ row. objects >>= λ heap. with_objects (slice_set heap own.object (record it.instance { fields = row })))
-            s)
+        s)
         (puts v fits).is
 
     field_meets : (v : Value) → Fits p x v t → misfit program (heap_in p s.heap) (type_in (linked.field_at program m.class f)) (flat v) ≡
@@ -242,7 +242,7 @@ module _ (p : Program) (ok : IsCore p) (os : List Outline) (program : linked.Pro
         let start : Moment = moment p r place args ls s q in
         lead_of (step program me) start (moment p r (place + 1) [] ls (set_to v fits) q) None
         (step_takes p os program me r m code runs place args ls s q (putfield (field_reference p m.class f)) (Write m.class f) at
-            stands.writes []
+        stands.writes []
         args (Typed (Named (linked.class_name program m.class)) ∷ type_in (linked.field_at program m.class f) ∷ []) 0 refl refl
         (object_meets x s heap own.object own.of, (field_meets v fits, tt)) (omega arith)
         ∙ ap (writes_object q start.machine [] own.object f (flat v)) it.in_heap

@@ -184,7 +184,7 @@ module _ (p : Program) (core : IsCore p) (plain : HasPlainNames p) (all : List (
       ap signature_of (descriptor_is k.kind (signature_text main_signature) d n)
       ∙ (method_exact d (record { params = map (type_in p) (param_types k); result = result_in p k.result })).1
       (descriptors.plain (types_plain (param_types k) (params_usable p core plain all made.classes k is)) (result_plain k.result is.result)
-          refl)
+      refl)
 
   class_named : (c : ℕ) (k : Class) → slice_get p.classes c ≡ Some k → linked.class_name (linked_program p all) c ≡ text_at p k.name
   class_named c k at = ap linked.name_in (linked_class_at p os 0 p.classes all made.classes c k at).linked
@@ -253,7 +253,7 @@ module _ (p : Program) (core : IsCore p) (plain : HasPlainNames p) (all : List (
 
     found : (op : ℕ) (static : Bool) → built_in op reference built_members ≡ None →
         loaded_member os op reference.member (Some m.class) ≡ args_by (linked.Method m.class)
-            (method_of_class reference.member static (slice_get os m.class)) →
+        (method_of_class reference.member static (slice_get os m.class)) →
         Fits static (access_of m.kind) → member_args os op reference ≡ Some (linked.Method m.class b.number)
     found op static none is_method fits =
         ap (named_args os op reference) none
@@ -313,12 +313,12 @@ module _ (p : Program) (core : IsCore p) (plain : HasPlainNames p) (all : List (
     read_found : member_args os 180 referred ≡ Some (linked.Field c f)
     read_found =
         ap (loaded_member os 180 referred.member) (named_class p core plain all made.classes c k at) ∙ ap (args_by (linked.Field c))
-            field_there
+        field_there
 
     write_found : member_args os 181 referred ≡ Some (linked.Field c f)
     write_found =
         ap (loaded_member os 181 referred.member) (named_class p core plain all made.classes c k at) ∙ ap (args_by (linked.Field c))
-            field_there
+        field_there
 
     field_stands : FieldStands p os (linked_program p all) c f d
     field_stands = record {
@@ -366,7 +366,7 @@ module _ (p : Program) (core : IsCore p) (plain : HasPlainNames p) (all : List (
       called = ap (λ o. action 183 (or_nothing o)) init_found;
       runs = λ r e f.
           let h = compiled_runs p core plain all made me c 0 lies.methods lies.class_is (constructor p c k)
-                (ap (λ xs. slice_get xs 0) first_is) r e f in
+          (ap (λ xs. slice_get xs 0) first_is) r e f in
           record {
             method = h.method;
             at = h.at;

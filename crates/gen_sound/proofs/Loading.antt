@@ -96,11 +96,11 @@ linked_at os starts places [] pool long good place i e = absurd (cc)
 linked_at os starts [] (j ∷ is) pool long good place i e = absurd (cc)
 linked_at os starts (here ∷ places) (j ∷ is) pool long good zero i e =
     subst (LinkedAt os (linked_code os (j ∷ is) (all_aimed starts (here ∷ places) (j ∷ is) (all_numbered (j ∷ is) pool).0)) zero)
-        (some_is e)
+    (some_is e)
     (record { instr = _; at = refl; does = same_action os starts here j.op j.operand pool good.0 })
 linked_at os starts (here ∷ places) (j ∷ is) pool long good (suc place) i e =
     let h = linked_at os starts places is (numbered j pool).1 (let l : length (here ∷ places) ≡ length (j ∷ is) = long in omega (arith, l))
-          good.1
+    good.1
     place i e in
     record { instr = h.instr; at = h.at; does = h.does }
 
@@ -173,7 +173,7 @@ compiled_runs p core plain all made me class method cs class_is x method_is r e 
 -- so it runs the code of a method
 pub linked_runs : (p : Program) → IsCore p → HasPlainNames p → (all : List (List Compiled)) → IsCompiled p all → (me class method : ℕ)
     (cs : List Compiled) → slice_get all class ≡ Some cs → (m : Method) (code : List Instr) → slice_get cs method ≡ Some (compiled p m code)
-        →
+    →
     (r : Running) → r.class ≡ class → r.method ≡ method → RunsCode p (outlines_of p p.classes all) (linked_program p all) me r m code
 linked_runs p core plain all made me class method cs class_is m code method_is r e f =
     let h = compiled_runs p core plain all made me class method cs class_is (compiled p m code) method_is r e f in

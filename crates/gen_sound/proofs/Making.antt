@@ -272,9 +272,9 @@ module _ (p : Program) (ok : IsCore p) (os : List Outline) (program : linked.Pro
     dup_goes row place st code_at room =
         let object : Held = held.Object (length s.heap) in
         goes_there p ok os program inputs me r m code runs n place (st ++ object ∷ []) ls (state row) q (place + 1)
-            (st ++ object ∷ object ∷ [])
+        (st ++ object ∷ object ∷ [])
         (step_takes p os program me r m code runs place (st ++ object ∷ []) ls (state row) q dup Double code_at refl st (object ∷ [])
-            (Any ∷ []) 2
+        (Any ∷ []) 2
         refl refl (refl, tt) room)
 
     -- the constructor is entered, and the object waits below
@@ -298,12 +298,12 @@ module _ (p : Program) (ok : IsCore p) (os : List Outline) (program : linked.Pro
         let size : max_locals_in (linked.method_at program c 0) ≡ 1 = ap max_locals_in h.at ∙ h.locals in
         let meet : AllMeet program (heap_in p (state row).heap) takes (object ∷ []) =
         subst (λ ts. AllMeet program (heap_in p (state row).heap) (Typed (Named (linked.class_name program c)) ∷ map Typed ts)
-            (object ∷ []))
+        (object ∷ []))
         (sym params) (object_meets row, tt) in
         let count : length takes ≡ 1 = as_many program (heap_in p (state row).heap) takes (object ∷ []) meet in
         lead_of (step program me) (moment p r place full ls (state row) q) (moment p frame 0 [] (Some object ∷ []) (state row) q) None
         (step_is p os program me r m code runs place full ls (state row) q (invokespecial (init_of (class_name p c))) (Call Silent c 0)
-            code_at
+        code_at
         stands.called
         ∙ acts_well program q before me (Call Silent c 0) rest (object ∷ []) (sym (append_assoc st (object ∷ []) (object ∷ []))) meet refl
         (subst (λ j. length takes ≤ j) (sym size) (subst (λ j. j ≤ 1) (sym count) (omega arith))) refl (omega arith)
@@ -335,7 +335,7 @@ module _ (p : Program) (ok : IsCore p) (os : List Outline) (program : linked.Pro
         let long : length rest ≡ length st + 1 = length-append st (object ∷ []) in
         lead_of (step program me) before (moment p r at_call rest ls (state row) q) None
         (step_is p os program me frame (constructor_method p c k) (constructor_code p c k) h place [] (Some object ∷ []) (state row) q
-            return
+        return
         (Return None) code_at refl
         ∙ acts_well program q before.machine me (Return None) [] [] refl tt refl (omega arith)
         (ap (is_sort None) (ap (λ o. tests.result_in (signature_of (descriptor_in o))) h.at
@@ -368,7 +368,7 @@ module _ (p : Program) (ok : IsCore p) (os : List Outline) (program : linked.Pro
         Leads (step program me) (In place [] row) (In (place + 1) (obj ∷ []) row)
     this_goes place row code_at =
         load_goes p ok os program inputs me rc mc body h n place [] cls (state row) q (types.Object 0) 0 (values.Object (length s.heap))
-            code_at refl
+        code_at refl
         refl one_fits
 
     super_goes : (place : ℕ) (row : Row Name) → slice_get body place ≡ Some (invokespecial (init_of object_class)) →
@@ -376,7 +376,7 @@ module _ (p : Program) (ok : IsCore p) (os : List Outline) (program : linked.Pro
     super_goes place row code_at =
         goes_there p ok os program inputs me rc mc body h n place (obj ∷ []) cls (state row) q (place + 1) []
         (step_takes p os program me rc mc body h place (obj ∷ []) cls (state row) q (invokespecial (init_of object_class)) (Use built.Init)
-            code_at
+        code_at
         refl [] (obj ∷ []) (Typed (Named (codes "java/lang/Object")) ∷ []) 0 refl refl (refl, tt) (omega arith))
 
     abbrev put_to : (place : ℕ) → List machine.Object → Stepped
@@ -408,7 +408,7 @@ module _ (p : Program) (ok : IsCore p) (os : List Outline) (program : linked.Pro
         ∙ constant_meets p program heap v d.ty fits in
         lead_of (step program me) (In place args row) (In (place + 1) [] set) None
         (step_takes p os program me rc mc body h place args cls (state row) q (putfield (field_reference p c f)) (Write c f) code_at
-            there.writes []
+        there.writes []
         args (Typed (Named (linked.class_name program c)) ∷ tests.type_in (linked.field_at program c f) ∷ []) 0 refl refl
         (object_meets row, (meets, tt)) (omega arith)
         ∙ ap (writes_object q (In place args row).machine [] (length s.heap) f (flat v)) (object_there row)
@@ -442,7 +442,7 @@ module _ (p : Program) (ok : IsCore p) (os : List Outline) (program : linked.Pro
     -- one field
     set_one : (f : ℕ) (d : Field) → slice_get k.fields f ≡ Some d → IsField p d → (value : Option Expr) → d.value ≡ value → (v : Value) →
         begins_with p d.ty value ≡ Some v → Fits p [] v d.ty → (place : ℕ) (done rest : Row Name) → f ≡ length done →
-            (more tail : List Instr) →
+        (more tail : List Instr) →
         Lies place ((initialised p c f value ++ more) ++ tail) → (set : Row Name) →
         ((later : ℕ) → Lies later (more ++ tail) → Sets later tail (done ++ (text_at p d.name, v) ∷ rest) set) →
         Sets place tail (done ++ (text_at p d.name, blank_value d.ty) ∷ rest) set
@@ -458,12 +458,12 @@ module _ (p : Program) (ok : IsCore p) (os : List Outline) (program : linked.Pro
         let two : 2 ≤ max_stack p mc = sized_two p k.place mc (all_initialised p c 0 k.fields) (two_room p c k.fields 0 f d x of has) in
         let same : flat_row next ≡ slice_set (flat_row row) f (flat v) =
         subst (λ j. flat_row next ≡ slice_set (flat_row row) j (flat v)) (sym many) (set_front done (text_at p d.name) (blank_value d.ty) v
-            rest) in
+        rest) in
         sets_later place (place + 1 + 1 + 1) tail row next set
         (comes_on (step program me) (In place [] row) (In (place + 1) (obj ∷ []) row) (In (place + 1 + 1 + 1) [] next)
         (this_goes place row (first_lies place (aload 0) (push_constant x ∷ putfield (field_reference p c f) ∷ (more ++ tail)) lies)).comes
         (comes_on (step program me) (In (place + 1) (obj ∷ []) row) (In (place + 1 + 1) (obj ∷ flat v ∷ []) row)
-            (In (place + 1 + 1 + 1) [] next)
+        (In (place + 1 + 1 + 1) [] next)
         (push_goes p ok os program inputs me rc mc body h n (place + 1) (obj ∷ []) cls (state row) q (push_constant x) (flat v)
         (first_lies (place + 1) (push_constant x) (putfield (field_reference p c f) ∷ (more ++ tail)) second) (pushes os p x v e) two).comes
         (set_goes f d of (place + 1 + 1) row next v
@@ -483,7 +483,7 @@ module _ (p : Program) (ok : IsCore p) (os : List Outline) (program : linked.Pro
         let long : length longer ≡ suc (length done) = length-append done ((x, v) ∷ []) ∙ one_more (length done) in
         let here : length done + 0 ≡ length done = omega arith in
         set_one (length done) d (subst (λ j. slice_get k.fields j ≡ Some d) here (there 0 d refl)) all.0 d.value refl v parts.0 fit place
-            done
+        done
         (blank_row p ds) refl (all_initialised p c (suc (length done)) ds) tail lies (done ++ (x, v) ∷ rest)
         (λ later l.
         subst (λ r. Sets later tail r (done ++ (x, v) ∷ rest)) (append_assoc done ((x, v) ∷ []) (blank_row p ds))
@@ -509,7 +509,7 @@ module _ (p : Program) (ok : IsCore p) (os : List Outline) (program : linked.Pro
         let third : Lies (0 + 1 + 1) inits = more_lies (0 + 1) (invokespecial (init_of object_class)) inits second in
         let s = inits_do k.fields [] final (0 + 1 + 1) (return ∷ [])
         (λ i d g. let same : i ≡ 0 + i = omega arith in subst (λ y. slice_get k.fields y ≡ Some d) same g) (ok.classes c k at).fields fits e
-            third in
+        third in
         record {
           to = s.to;
           comes = comes_on (step program me) (In 0 [] row) (In (0 + 1) (obj ∷ []) row) (In s.to [] final)

@@ -113,7 +113,7 @@ module _ (p : Program) (ok : IsCore p) (os : List Outline) (program : linked.Pro
       s q
       target st
       (step_takes p os program me r m code runs place (st ++ held.Object k ∷ []) ls s q i (IfNull false target) at is st
-          (held.Object k ∷ [])
+      (held.Object k ∷ [])
       (Sorted Reference ∷ []) 0 refl refl (refl, tt) (omega (arith, room)))
 
   passes : (mid to : ℕ) (st : List Held) (v : Held) (c : Moment) (s : Shared) →
@@ -192,7 +192,7 @@ module _ (p : Program) (ok : IsCore p) (os : List Outline) (program : linked.Pro
       (λ target from to st x s q h room grown heap holds. subst (F (U target to st) (A from st s q)) (sym (test s))
       (value_tested (U target to st) t h.0 st (A from st s q) g is
       (λ v u b. null_unless t target h.0 to st (A from st s q) (Un target) h.2.0 (un_is target) h.2.1 (room_left st d.value room) v u b)
-          (a s)
+      (a s)
       (does.value from h.0 st x s q h.1 room grown heap holds)))
       (λ target from to st x s q h room grown heap holds. subst (F (W target to st) (A from st s q)) (sym (test s))
       (value_tested (W target to st) t h.0 st (A from st s q) g is

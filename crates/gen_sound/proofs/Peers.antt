@@ -148,4 +148,4 @@ took_holds inputs q me from peer label payload x more es named way h =
         (one_name q name peer from (there.is ∙ ap (λ i. Some i) g) here.is)) ∙ is))) in
         meaning.known sent other a k
         (still_on_way q other from me me more apart ∙ c ∙ ap (λ i. drop i sent)
-            (sym (taken_still name es (seen.Take peer label payload) is)))
+        (sym (taken_still name es (seen.Take peer label payload) is)))

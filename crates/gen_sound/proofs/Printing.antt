@@ -146,27 +146,27 @@ module _ (p : Program) (ok : IsCore p) (os : List Outline) (program : linked.Pro
   text_comes types.Int i x v (worlds.int {z = z}) from to stands st ls s q room =
       next_place p ok os program inputs me r m code runs 0
       (λ k. Come (moment p r from (st ++ held.Int z ∷ []) ls s q) (moment p r k (st ++ held.Text (unwrap_or (shown (values.Int z)) []) ∷ [])
-          ls s q)) from to stands.1
+      ls s q)) from to stands.1
       (goes p ok os program inputs me r m code runs 0 from (st ++ held.Int z ∷ []) ls s q (from + 1)
-          (st ++ held.Text (unwrap_or (shown (values.Int z)) []) ∷ [])
+      (st ++ held.Text (unwrap_or (shown (values.Int z)) []) ∷ [])
       (step_takes p os program me r m code runs from (st ++ held.Int z ∷ []) ls s q (invokestatic value_of_int) (Use built.ValueOfInt)
       stands.0 refl st (held.Int z ∷ []) (number ∷ []) 1 refl refl (refl, tt) room)).comes
   text_comes types.Boolean i x v (worlds.truth {b = true}) from to stands st ls s q room =
       next_place p ok os program inputs me r m code runs 0
       (λ k. Come (moment p r from (st ++ flat (values.Truth true) ∷ []) ls s q)
-          (moment p r k (st ++ held.Text (unwrap_or (shown (values.Truth true)) []) ∷ []) ls s q)) from to
+      (moment p r k (st ++ held.Text (unwrap_or (shown (values.Truth true)) []) ∷ []) ls s q)) from to
       stands.1
       (goes p ok os program inputs me r m code runs 0 from (st ++ flat (values.Truth true) ∷ []) ls s q (from + 1)
-          (st ++ held.Text (unwrap_or (shown (values.Truth true)) []) ∷ [])
+      (st ++ held.Text (unwrap_or (shown (values.Truth true)) []) ∷ [])
       (step_takes p os program me r m code runs from (st ++ flat (values.Truth true) ∷ []) ls s q (invokestatic value_of_truth)
       (Use built.ValueOfTruth) stands.0 refl st (flat (values.Truth true) ∷ []) (number ∷ []) 1 refl refl (refl, tt) room)).comes
   text_comes types.Boolean i x v (worlds.truth {b = false}) from to stands st ls s q room =
       next_place p ok os program inputs me r m code runs 0
       (λ k. Come (moment p r from (st ++ flat (values.Truth false) ∷ []) ls s q)
-          (moment p r k (st ++ held.Text (unwrap_or (shown (values.Truth false)) []) ∷ []) ls s q)) from to
+      (moment p r k (st ++ held.Text (unwrap_or (shown (values.Truth false)) []) ∷ []) ls s q)) from to
       stands.1
       (goes p ok os program inputs me r m code runs 0 from (st ++ flat (values.Truth false) ∷ []) ls s q (from + 1)
-          (st ++ held.Text (unwrap_or (shown (values.Truth false)) []) ∷ [])
+      (st ++ held.Text (unwrap_or (shown (values.Truth false)) []) ∷ [])
       (step_takes p os program me r m code runs from (st ++ flat (values.Truth false) ∷ []) ls s q (invokestatic value_of_truth)
       (Use built.ValueOfTruth) stands.0 refl st (flat (values.Truth false) ∷ []) (number ∷ []) 1 refl refl (refl, tt) room)).comes
   text_comes types.Text i x v (worlds.text {t = t}) from to stands st ls s q room =

@@ -145,7 +145,7 @@ module _ (p : Program) (m : Method) where
           let a = ih o.rest o.is lt in
           let place : ℕ = local_of kind sc k in
           let differs : first_local kind + length o.rest ≢ place =
-                (λ e. absurd (let h = a.below in let g = a.long in omega (arith, e, h, g))) in
+          (λ e. absurd (let h = a.below in let g = a.long in omega (arith, e, h, g))) in
           let here : slice_get ls (first_local kind + length o.rest) ≡ Some (Some (flat u)) =
           subst (λ n. slice_get ls (first_local kind + n) ≡ Some (Some (flat u))) (sym a.long) l.0 in
           subst (PutAt (first_local kind) ls place v ((j, u) ∷ row)) o.row_is

@@ -233,11 +233,11 @@ module _ (p : Program) (ok : IsCore p) (os : List Outline) (program : linked.Pro
       PeerHolds inputs q me s.events peer → F (V (place + 1) st) (A place (st ++ args) s q) (refuses inputs peer label s)
   refuses_go place st args peer label s q is (meaning.unknown a b) =
       subst (λ o. F (V (place + 1) st) (A place (st ++ args) s q)
-          (and_then (there_or (NoPeer peer) o s) (λ ms. stop (Mismatch peer label))))
+      (and_then (there_or (NoPeer peer) o s) (λ ms. stop (Mismatch peer label))))
       (sym a) (stopped (A place (st ++ args) s q) _ (is ∙ ap (machine.refuses_from peer label) b))
   refuses_go place st args peer label s q is (meaning.known sent to a b w) =
       subst (λ o. F (V (place + 1) st) (A place (st ++ args) s q)
-          (and_then (there_or (NoPeer peer) o s) (λ ms. stop (Mismatch peer label))))
+      (and_then (there_or (NoPeer peer) o s) (λ ms. stop (Mismatch peer label))))
       (sym a) (stopped (A place (st ++ args) s q) _ (is ∙ ap (machine.refuses_from peer label) b))
 
   -- the call, over its arguments
@@ -250,7 +250,7 @@ module _ (p : Program) (ok : IsCore p) (os : List Outline) (program : linked.Pro
       sends_go place st (held.Text a ∷ held.Text b ∷ []) a b carried.Nothing s q
       (step_takes p os program me r m code runs place (st ++ held.Text a ∷ held.Text b ∷ []) ls s q
       (invokestatic (session_reference p calls.Send)) (Use built.Send) at refl st (held.Text a ∷ held.Text b ∷ []) (text ∷ text ∷ []) 0 refl
-          refl (refl, (refl, tt)) room)
+      refl (refl, (refl, tt)) room)
       holds (holds.peers a)
   session_last calls.SendInt place st x vs s q at
       (worlds.value (worlds.text {t = a}) (worlds.value (worlds.text {t = b}) (worlds.value (worlds.int {z = z}) worlds.no_values))) room
@@ -258,7 +258,7 @@ module _ (p : Program) (ok : IsCore p) (os : List Outline) (program : linked.Pro
       sends_go place st (held.Text a ∷ held.Text b ∷ held.Int z ∷ []) a b (carried.Int z) s q
       (step_takes p os program me r m code runs place (st ++ held.Text a ∷ held.Text b ∷ held.Int z ∷ []) ls s q
       (invokestatic (session_reference p calls.SendInt)) (Use built.SendInt) at refl st (held.Text a ∷ held.Text b ∷ held.Int z ∷ [])
-          (text ∷ text ∷ number ∷ []) 0 refl refl (refl, (refl, (refl, tt))) room)
+      (text ∷ text ∷ number ∷ []) 0 refl refl (refl, (refl, (refl, tt))) room)
       holds (holds.peers a)
   session_last calls.SendBoolean place st x vs s q at
       (worlds.value (worlds.text {t = a}) (worlds.value (worlds.text {t = b}) (worlds.value (worlds.truth {b = true}) worlds.no_values)))
@@ -266,8 +266,8 @@ module _ (p : Program) (ok : IsCore p) (os : List Outline) (program : linked.Pro
       sends_go place st (held.Text a ∷ held.Text b ∷ flat (values.Truth true) ∷ []) a b (carried.Truth true) s q
       (step_takes p os program me r m code runs place (st ++ held.Text a ∷ held.Text b ∷ flat (values.Truth true) ∷ []) ls s q
       (invokestatic (session_reference p calls.SendBoolean)) (Use built.SendTruth) at refl st
-          (held.Text a ∷ held.Text b ∷ flat (values.Truth true) ∷ []) (text ∷ text ∷ number ∷ []) 0 refl refl (refl, (refl, (refl, tt)))
-          room)
+      (held.Text a ∷ held.Text b ∷ flat (values.Truth true) ∷ []) (text ∷ text ∷ number ∷ []) 0 refl refl (refl, (refl, (refl, tt)))
+      room)
       holds (holds.peers a)
   session_last calls.SendBoolean place st x vs s q at
       (worlds.value (worlds.text {t = a}) (worlds.value (worlds.text {t = b}) (worlds.value (worlds.truth {b = false}) worlds.no_values)))
@@ -275,8 +275,8 @@ module _ (p : Program) (ok : IsCore p) (os : List Outline) (program : linked.Pro
       sends_go place st (held.Text a ∷ held.Text b ∷ flat (values.Truth false) ∷ []) a b (carried.Truth false) s q
       (step_takes p os program me r m code runs place (st ++ held.Text a ∷ held.Text b ∷ flat (values.Truth false) ∷ []) ls s q
       (invokestatic (session_reference p calls.SendBoolean)) (Use built.SendTruth) at refl st
-          (held.Text a ∷ held.Text b ∷ flat (values.Truth false) ∷ []) (text ∷ text ∷ number ∷ []) 0 refl refl (refl, (refl, (refl, tt)))
-          room)
+      (held.Text a ∷ held.Text b ∷ flat (values.Truth false) ∷ []) (text ∷ text ∷ number ∷ []) 0 refl refl (refl, (refl, (refl, tt)))
+      room)
       holds (holds.peers a)
   session_last calls.SendString place st x vs s q at
       (worlds.value (worlds.text {t = a}) (worlds.value (worlds.text {t = b}) (worlds.value (worlds.text {t = c}) worlds.no_values))) room
@@ -284,13 +284,13 @@ module _ (p : Program) (ok : IsCore p) (os : List Outline) (program : linked.Pro
       sends_go place st (held.Text a ∷ held.Text b ∷ held.Text c ∷ []) a b (carried.Text c) s q
       (step_takes p os program me r m code runs place (st ++ held.Text a ∷ held.Text b ∷ held.Text c ∷ []) ls s q
       (invokestatic (session_reference p calls.SendString)) (Use built.SendText) at refl st (held.Text a ∷ held.Text b ∷ held.Text c ∷ [])
-          (text ∷ text ∷ text ∷ []) 0 refl refl (refl, (refl, (refl, tt))) room)
+      (text ∷ text ∷ text ∷ []) 0 refl refl (refl, (refl, (refl, tt))) room)
       holds (holds.peers a)
   session_last calls.Look place st x vs s q at (worlds.value (worlds.text {t = a}) worlds.no_values) room holds =
       looks_go place st (held.Text a ∷ []) a s q
       (step_takes p os program me r m code runs place (st ++ held.Text a ∷ []) ls s q
       (invokestatic (session_reference p calls.Look)) (Use built.Look) at refl st (held.Text a ∷ []) (text ∷ []) 1 refl refl (refl, tt)
-          room)
+      room)
       holds
   session_last calls.Take place st x vs s q at (worlds.value (worlds.text {t = a}) (worlds.value (worlds.text {t = b}) worlds.no_values))
       room
@@ -298,7 +298,7 @@ module _ (p : Program) (ok : IsCore p) (os : List Outline) (program : linked.Pro
       takes_go NoPayload nothing_in nothing_taken place st (held.Text a ∷ held.Text b ∷ []) a b s q
       (step_takes p os program me r m code runs place (st ++ held.Text a ∷ held.Text b ∷ []) ls s q
       (invokestatic (session_reference p calls.Take)) (Use built.Take) at refl st (held.Text a ∷ held.Text b ∷ []) (text ∷ text ∷ []) 0 refl
-          refl (refl, (refl, tt)) room)
+      refl (refl, (refl, tt)) room)
       holds
   session_last calls.TakeInt place st x vs s q at (worlds.value (worlds.text {t = a}) (worlds.value (worlds.text {t = b}) worlds.no_values))
       room
@@ -306,7 +306,7 @@ module _ (p : Program) (ok : IsCore p) (os : List Outline) (program : linked.Pro
       takes_go IntPayload int_in int_taken place st (held.Text a ∷ held.Text b ∷ []) a b s q
       (step_takes p os program me r m code runs place (st ++ held.Text a ∷ held.Text b ∷ []) ls s q
       (invokestatic (session_reference p calls.TakeInt)) (Use built.TakeInt) at refl st (held.Text a ∷ held.Text b ∷ []) (text ∷ text ∷ [])
-          1 refl refl (refl, (refl, tt)) room)
+      1 refl refl (refl, (refl, tt)) room)
       holds
   session_last calls.TakeBoolean place st x vs s q at
       (worlds.value (worlds.text {t = a}) (worlds.value (worlds.text {t = b}) worlds.no_values)) room
@@ -314,7 +314,7 @@ module _ (p : Program) (ok : IsCore p) (os : List Outline) (program : linked.Pro
       takes_go TruthPayload truth_in truth_taken place st (held.Text a ∷ held.Text b ∷ []) a b s q
       (step_takes p os program me r m code runs place (st ++ held.Text a ∷ held.Text b ∷ []) ls s q
       (invokestatic (session_reference p calls.TakeBoolean)) (Use built.TakeTruth) at refl st (held.Text a ∷ held.Text b ∷ [])
-          (text ∷ text ∷ []) 1 refl refl (refl, (refl, tt)) room)
+      (text ∷ text ∷ []) 1 refl refl (refl, (refl, tt)) room)
       holds
   session_last calls.TakeString place st x vs s q at
       (worlds.value (worlds.text {t = a}) (worlds.value (worlds.text {t = b}) worlds.no_values)) room
@@ -322,7 +322,7 @@ module _ (p : Program) (ok : IsCore p) (os : List Outline) (program : linked.Pro
       takes_go TextPayload text_in text_taken place st (held.Text a ∷ held.Text b ∷ []) a b s q
       (step_takes p os program me r m code runs place (st ++ held.Text a ∷ held.Text b ∷ []) ls s q
       (invokestatic (session_reference p calls.TakeString)) (Use built.TakeText) at refl st (held.Text a ∷ held.Text b ∷ [])
-          (text ∷ text ∷ []) 1 refl refl (refl, (refl, tt)) room)
+      (text ∷ text ∷ []) 1 refl refl (refl, (refl, tt)) room)
       holds
   session_last calls.Refuse place st x vs s q at (worlds.value (worlds.text {t = a}) (worlds.value (worlds.text {t = b}) worlds.no_values))
       room
@@ -330,5 +330,5 @@ module _ (p : Program) (ok : IsCore p) (os : List Outline) (program : linked.Pro
       refuses_go place st (held.Text a ∷ held.Text b ∷ []) a b s q
       (step_takes p os program me r m code runs place (st ++ held.Text a ∷ held.Text b ∷ []) ls s q
       (invokestatic (session_reference p calls.Refuse)) (Use built.Refuse) at refl st (held.Text a ∷ held.Text b ∷ []) (text ∷ text ∷ []) 0
-          refl refl (refl, (refl, tt)) room)
+      refl refl (refl, (refl, tt)) room)
       (holds.peers a)

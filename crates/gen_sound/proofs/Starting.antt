@@ -166,7 +166,7 @@ module _ (p : Program) (core : IsCore p) (plain : HasPlainNames p) (all : List (
       let main : IsMain p m = is_main_method p core m m.kind (method_ok p core number m of).kind kind in
       let l = linked_class_at p os 0 p.classes all made.classes c k at in
       let class : IsCompiledClass p c k l.methods = let same : 0 + c ≡ c = omega arith in subst (λ y. IsCompiledClass p y k l.methods) same
-            l.compiled in
+      l.compiled in
       let a = among c p.methods number m of mine in
       let in_methods : slice_get (methods_in p k) a.number ≡ Some m = ap (λ ms. slice_get ms a.number) (in_class c k at) ∙ a.at in
       let x = compiled_at p (methods_in p k) class.methods class.made a.number m in_methods in
@@ -186,7 +186,7 @@ module _ (p : Program) (core : IsCore p) (plain : HasPlainNames p) (all : List (
       let found_class : start.class_named (linked_program p all) name ≡ Some c =
       passes_at (λ c. c.name) (λ c. bytes_eq c.name name) (linked_program p all) c (linked_class p os k l.methods)
       (subst AreDistinct (sym (linked_names p os 0 p.classes all made.classes)) (classes_apart p core plain all made.classes)) l.linked
-          named
+      named
       (λ d t. name_is d.name name t ∙ sym (name_is (text_at p k.name) name named)) in
       let found_main : start.main_in (Some (linked_class p os k l.methods)) ≡ Some b.number =
       passes_at (λ m. m.name) start.is_main (linked_methods os l.methods (class_file p k l.methods).methods) b.number

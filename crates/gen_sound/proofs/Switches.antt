@@ -216,7 +216,7 @@ module _ (p : Program) (ok : IsCore p) (os : List Outline) (program : linked.Pro
   none_runs wanted (Group labels body end more) [] h e = absurd h
   none_runs wanted (Group labels body end more) (first ∷ starts) h e =
       go (λ g. none_runs wanted more starts h g) (exec_all p inputs low number_of here body
-          >>= next_do (exec_groups p inputs low number_of here more))
+      >>= next_do (exec_groups p inputs low number_of here more))
       (any_label wanted labels) e
     where
       go : (group_at wanted more starts ≡ None → exec_from p inputs low number_of here wanted more ≡ give Normal) → (x : Does ℕ) →
@@ -275,14 +275,14 @@ module _ (p : Program) (ok : IsCore p) (os : List Outline) (program : linked.Pro
         (eval p inputs low number_of here s.locals e s.shared) (λ k. chosen gs k >>= after_switch)
         ((eval_good p ok inputs low well number_of m at this h w a.mine a.living.locals).run w (same_world w) s.shared a.living.shared)
         ((forms_do p ok os program inputs me r m code runs this n sc low well may calls number_of at e (types.Enum of) h plain w s ls q
-            a).value from mid []
+        a).value from mid []
         w s.shared q stands_value (over_none _ _ room) (same_world w) a.living.shared a.holds)
         (λ x k u g heap arrives.
         let place : ℕ = constant_at gs starts to k in
         let leads : Leads (step program me) (moment p r mid (held.Int (pos k) ∷ []) ls u arrives.messages)
         (moment p r place [] ls u arrives.messages) =
         table_goes mid (default_at gs starts to) k place (targets gs starts to (positions p (type_of p m e))) ls u arrives.messages
-            stands_table
+        stands_table
         (ap (target_at (default_at gs starts to) (targets gs starts to (positions p (type_of p m e)))) (from_none k)
         ∙ look_up (constant_at gs starts to) (default_at gs starts to) (max 1 (constants_of p (type_of p m e))) k
         (λ le. beyond of gs starts to k (type_of p m e) type cases le)) in

@@ -89,7 +89,7 @@ module _ (p : Program) (ok : IsCore p) (os : List Outline) (program : linked.Pro
       (eval p inputs low number here s.locals e) (depths p m e)
   forms_do e t h plain w s ls q a =
       expression_does p ok os program inputs me r m code runs (suc n) low well may calls number at this ls a.row.object h plain w a.mine
-          a.living.locals a.row.laid
+      a.living.locals a.row.laid
 
   -- a value over these operands, and what uses it
   pub used : {A : Type 0} (R : Moment → A → Lives ℕ → Type 0) (e : Expr) (t : CoreType) → Has p m sc e t → IsPlain may e → (from to : ℕ)
@@ -184,7 +184,7 @@ module _ (p : Program) (ok : IsCore p) (os : List Outline) (program : linked.Pro
         (record { locals = (k, v) ∷ s.locals; shared = u }) mine
         (record { locals = worlds.more is fits living.locals; shared = living.shared })
         (stored p ok os program inputs me r m code runs this mid in_scope place t ls v (moment p r from [] ls s.shared q)
-            ((k, v) ∷ s.locals) u
+        ((k, v) ∷ s.locals) u
         code_at stands_store.1 inside (fits_sort p x v t fits)
         (row_set m this s.locals ((k, v) ∷ s.locals) ls place (Some (flat v)) a.row (omega arith) laid) arrives)));
   }

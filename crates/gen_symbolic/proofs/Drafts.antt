@@ -115,7 +115,7 @@ module _ (p : Program) (m : Method) (final : List Instr) (ls : List ℕ) where
       let near : Instr = record { op = 16; operand = Number n } in
       stays_if (lies_within (negsuc 0) (pos 5) n) (plain (iconst n)) _ refl
       (stays_if (lies_within (negsuc 127) (pos 127) n) near _ refl (stays_if (lies_within (negsuc 32767) (pos 32767) n) short far refl
-          refl))
+      refl))
 
   local_stays : (short long k : ℕ) → aimed ls (with_local short long k) ≡ with_local short long k
   local_stays short long k = stays_if (nat_le k 3) (plain (short + k)) (record { op = long; operand = Local' k }) refl refl
@@ -407,12 +407,12 @@ module _ (p : Program) (m : Method) (final : List Instr) (ls : List ℕ) where
           low = λ l lt there.
               let n = placed_labels first d in
               rest_grows.low l (omega (arith, lt)) (omega (arith, there, n, body_grows.labels)) ∙ body_grows.kept l
-                  (omega (arith, there, n))
+              (omega (arith, there, n))
               ∙ placed_other first l d (λ e. less_apart l lt e);
           high = λ l le there.
               let n = placed_labels first d in
               rest_grows.high l (omega (arith, le)) (omega (arith, there, n, body_grows.labels)) ∙ body_grows.kept l
-                  (omega (arith, there, n))
+              (omega (arith, there, n))
               ∙ placed_other first l d (λ e. more_apart l le e);
         }
           where
@@ -492,96 +492,97 @@ module _ (p : Program) (m : Method) (final : List Instr) (ls : List ℕ) where
 
     -- a table and its groups
     module _ (gs : Groups) (x : ℕ) (ns : List ℕ) (step : (first : ℕ) → Step) (S : (starts : List ℕ) → Span) (hg : GroupsFollow gs step S)
-        where
-      abbrev tabled : (to : ℕ) → Span
-      tabled to' from to = (starts : List ℕ) × (one final (tableswitch (default_at gs starts to') (targets gs starts to' ns)) before S
-          starts) from to
+      where
+        abbrev tabled : (to : ℕ) → Span
+        tabled to' from to = (starts : List ℕ) × (one final (tableswitch (default_at gs starts to') (targets gs starts to' ns)) before S
+            starts) from to
 
-      module _ (d : Draft) where
-        abbrev labelled : Draft
-        labelled = with_labels (count gs) d
+        module _ (d : Draft) where
+          abbrev labelled : Draft
+          labelled = with_labels (count gs) d
 
-        abbrev the_table : Step
-        the_table = drafts.table p m gs (next_label d) (count gs) x ns
+          abbrev the_table : Step
+          the_table = drafts.table p m gs (next_label d) (count gs) x ns
 
-        abbrev past_table : Draft
-        past_table = the_table labelled
+          abbrev past_table : Draft
+          past_table = the_table labelled
 
-        abbrev past_groups : Draft
-        past_groups = step (next_label d) past_table
+          abbrev past_groups : Draft
+          past_groups = step (next_label d) past_table
 
-        abbrev starts : List ℕ
-        starts = map at (numbers_from (next_label d) (count gs))
+          abbrev starts : List ℕ
+          starts = map at (numbers_from (next_label d) (count gs))
 
-        table_follows : F the_table (one final (tableswitch (default_at gs starts (at x)) (targets gs starts (at x) ns)))
-        table_follows = follows_emit final ls _ _ (table_led gs (numbers_from (next_label d) (count gs)) x ns)
+          table_follows : F the_table (one final (tableswitch (default_at gs starts (at x)) (targets gs starts (at x) ns)))
+          table_follows = follows_emit final ls _ _ (table_led gs (numbers_from (next_label d) (count gs)) x ns)
 
-        table_grows : Grows labelled past_table
-        table_grows = table_follows.grows labelled
+          table_grows : Grows labelled past_table
+          table_grows = table_follows.grows labelled
 
-        room : next_label d + count gs ≤ length past_table.labels
-        room = let n = labels_long (count gs) d in let k = next_long d in omega (arith, n, k, table_grows.labels)
+          room : next_label d + count gs ≤ length past_table.labels
+          room = let n = labels_long (count gs) d in let k = next_long d in omega (arith, n, k, table_grows.labels)
 
-        groups_grow : GroupsGrow (next_label d) (next_label d + count gs) past_table past_groups
-        groups_grow = hg.grows (next_label d) past_table room
+          groups_grow : GroupsGrow (next_label d) (next_label d + count gs) past_table past_groups
+          groups_grow = hg.grows (next_label d) past_table room
 
-        to_table : Grows d past_table
-        to_table = grows_more d labelled past_table (labels_grow (count gs) d) table_grows
+          to_table : Grows d past_table
+          to_table = grows_more d labelled past_table (labels_grow (count gs) d) table_grows
 
-        all_grown : Grows d past_groups
-        all_grown = record {
-          code = omega (arith, to_table.code, groups_grow.code);
-          same = λ i lt. groups_grow.same i (omega (arith, lt, to_table.code)) ∙ to_table.same i lt;
-          labels = omega (arith, to_table.labels, groups_grow.labels);
-          kept = λ l lt.
-              let k = next_long d in
-              groups_grow.low l (omega (arith, lt, k)) (omega (arith, lt, to_table.labels)) ∙ to_table.kept l lt;
-        }
-
-        module _ (h : Final final ls d past_groups) where
-          long : length labelled.code ≡ length d.code
-          long = ap length (labels_same (count gs) d)
-
-          table_final : Final final ls labelled past_table
-          table_final = record {
-            code = λ i low high.
-                h.code i (omega (arith, low, long)) (omega (arith, high, groups_grow.code)) ∙ ap (option_map (aimed ls))
-                    (groups_grow.same i high);
-            labels = λ l low high.
-                let n = labels_long (count gs) d in
+          all_grown : Grows d past_groups
+          all_grown = record {
+            code = omega (arith, to_table.code, groups_grow.code);
+            same = λ i lt. groups_grow.same i (omega (arith, lt, to_table.code)) ∙ to_table.same i lt;
+            labels = omega (arith, to_table.labels, groups_grow.labels);
+            kept = λ l lt.
                 let k = next_long d in
-                h.labels l (omega (arith, low, n)) (omega (arith, high, groups_grow.labels))
-                ∙ groups_grow.high l (omega (arith, low, n, k)) high;
+                groups_grow.low l (omega (arith, lt, k)) (omega (arith, lt, to_table.labels)) ∙ to_table.kept l lt;
           }
 
-          groups_final : GroupsFinal (next_label d) (next_label d + count gs) past_table past_groups
-          groups_final = record {
-            code = λ i low high. h.code i (omega (arith, low, to_table.code)) high;
-            own = λ l low high. (let k = next_long d in h.labels l (omega (arith, low, k)) (omega (arith, high, room, groups_grow.labels)));
-            labels = λ l low high. h.labels l (omega (arith, low, to_table.labels)) high;
-          }
+          module _ (h : Final final ls d past_groups) where
+            long : length labelled.code ≡ length d.code
+            long = ap length (labels_same (count gs) d)
 
-          tabled_holds : tabled (at x) (length d.code) (length past_groups.code)
-          tabled_holds = (
-            starts,
-            (
-              length past_table.code,
-              subst (λ k. one final (tableswitch (default_at gs starts (at x)) (targets gs starts (at x) ns)) k (length past_table.code))
-                  long
-                  (table_follows.holds labelled table_final),
-              hg.holds (next_label d) past_table room groups_final,
-            ),
-          )
+            table_final : Final final ls labelled past_table
+            table_final = record {
+              code = λ i low high.
+                  h.code i (omega (arith, low, long)) (omega (arith, high, groups_grow.code)) ∙ ap (option_map (aimed ls))
+                  (groups_grow.same i high);
+              labels = λ l low high.
+                  let n = labels_long (count gs) d in
+                  let k = next_long d in
+                  h.labels l (omega (arith, low, n)) (omega (arith, high, groups_grow.labels))
+                  ∙ groups_grow.high l (omega (arith, low, n, k)) high;
+            }
 
-      switched_follows : F (drafts.switched p m gs step x ns) (tabled (at x))
-      switched_follows = record { grows = all_grown; holds = tabled_holds }
+            groups_final : GroupsFinal (next_label d) (next_label d + count gs) past_table past_groups
+            groups_final = record {
+              code = λ i low high. h.code i (omega (arith, low, to_table.code)) high;
+              own = λ l low high. (let k = next_long d in h.labels l (omega (arith, low, k))
+                  (omega (arith, high, room, groups_grow.labels)));
+              labels = λ l low high. h.labels l (omega (arith, low, to_table.labels)) high;
+            }
+
+            tabled_holds : tabled (at x) (length d.code) (length past_groups.code)
+            tabled_holds = (
+              starts,
+              (
+                length past_table.code,
+                subst (λ k. one final (tableswitch (default_at gs starts (at x)) (targets gs starts (at x) ns)) k (length past_table.code))
+                    long
+                    (table_follows.holds labelled table_final),
+                hg.holds (next_label d) past_table room groups_final,
+              ),
+            )
+
+        switched_follows : F (drafts.switched p m gs step x ns) (tabled (at x))
+        switched_follows = record { grows = all_grown; holds = tabled_holds }
 
     -- the value, then the table
     value_tabled : (gs : Groups) (ns : List ℕ) (V : Span) (S : (to : ℕ) (starts : List ℕ) → Span) (to' from to : ℕ) →
         (V before (λ a b. (starts : List ℕ) × (one final (tableswitch (default_at gs starts to') (targets gs starts to' ns)) before S to'
-            starts) a b)) from to →
+        starts) a b)) from to →
         (starts : List ℕ) × (V before one final (tableswitch (default_at gs starts to') (targets gs starts to' ns)) before S to' starts)
-            from to
+        from to
     value_tabled gs ns V S to' from to h = ((h.2).0, (((h.2).1).0, (h.0, h.1, ((h.2).1).1), ((h.2).1).2))
 
     into_group : (scope : List ℕ) (ts : List Around) (labels : List (Option ℕ)) (body : Stmts) (end : Place) (more : Groups)
@@ -605,9 +606,9 @@ module _ (p : Program) (m : Method) (final : List Instr) (ls : List ℕ) where
       statement_follows scope ts (IfElse q c s r) =
           follows_ahead final ls
           (λ n. ahead (λ l. drafts.jump p m scope c false l then drafts.statement p m scope ts s then emit (goto n)) then drafts.statement p
-              m scope ts r)
+          m scope ts r)
           (λ t. (λ from l. (templates.unless p m final scope c l before templates.statement p m final scope (led ts) s before one final
-              (goto t)) from l)
+          (goto t)) from l)
           before templates.statement p m final scope (led ts) r)
           (λ n. and_then
           (follows_ahead final ls (λ l. drafts.jump p m scope c false l then drafts.statement p m scope ts s then emit (goto n))
@@ -624,7 +625,7 @@ module _ (p : Program) (m : Method) (final : List Instr) (ls : List ℕ) where
           (λ t. templates.unless p m final scope c t before templates.statement p m final scope (around.Loop n t (at h) ∷ led ts) s
           before one final (goto (at h)))
           (λ x. and_then (and_then ((expr_follows scope c).unless x) (statement_follows scope (around.Loop n x h ∷ ts) s))
-              (jumps_to 167 h)))
+          (jumps_to 167 h)))
       statement_follows scope ts (Do q n s c) =
           follows_behind final ls
           (λ h. ahead (λ x. ahead (λ k. drafts.statement p m scope (around.Loop n x k ∷ ts) s) then drafts.jump p m scope c true h))
@@ -633,7 +634,7 @@ module _ (p : Program) (m : Method) (final : List Instr) (ls : List ℕ) where
           (λ h. follows_ahead final ls
           (λ x. ahead (λ k. drafts.statement p m scope (around.Loop n x k ∷ ts) s) then drafts.jump p m scope c true h)
           (λ t. (λ a k. templates.statement p m final scope (around.Loop n t k ∷ led ts) s a k) before templates.when p m final scope c
-              (at h))
+          (at h))
           (λ x. and_then
           (follows_ahead final ls (λ k. drafts.statement p m scope (around.Loop n x k ∷ ts) s)
           (λ k. templates.statement p m final scope (around.Loop n (at x) k ∷ led ts) s)
@@ -693,7 +694,7 @@ module _ (p : Program) (m : Method) where
       let ls = the_draft.labels in
       let begins : place_of ls 0 ≡ 0 = method_grows.kept 0 (omega arith) in
       let s = and_then p m the_code ls (statements_follow p m the_code ls begins (params_in_scope m) [] m.body)
-            (end_follows p m the_code ls m.result) in
+      (end_follows p m the_code ls m.result) in
       let all : Final the_code ls beginning the_draft = record {
         code = λ i low high. slice_get-map (aimed ls) the_draft.code i;
         labels = λ l low high. refl;

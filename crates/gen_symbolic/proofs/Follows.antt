@@ -140,7 +140,7 @@ module _ (final : List Instr) (ls : List ℕ) where
     label_there =
         let n = length-set e.labels (length d.labels) (length e.code) in
         h.labels (length d.labels) (omega arith) (omega (arith, n, within)) ∙ get_or-set_same e.labels (length d.labels) (length e.code) 0
-            within
+        within
 
     final_inside : Final final ls (with_label 0 d) e
     unfolding placed next_label with_label
@@ -188,7 +188,7 @@ module _ (final : List Instr) (ls : List ℕ) where
         let r : R (place_of ls l) (length b.code) (length e.code) = (s l).holds b (final_inside d e g h) in
         subst (λ t. R t (length d.code) (length (placed l e).code)) (label_there d e g h)
         (subst (λ k. R (place_of ls l) (length d.code) k) (sym (placed_code l e)) (subst (λ k. R (place_of ls l) k (length e.code))
-            (label_code 0 d) r));
+        (label_code 0 d) r));
   }
 
   here_label : (d : Draft) → place_of (with_label_here d).labels (next_label d) ≡ length d.code
@@ -213,6 +213,6 @@ module _ (final : List Instr) (ls : List ℕ) where
         let r : R (place_of ls l) (length b.code) (length e.code) = (s l).holds b (final_rest d b e (grows_here d) h) in
         let inside = here_within d in
         let there : place_of ls l ≡ length d.code = h.labels l (next_is d) (omega (arith, inside, g.labels)) ∙ g.kept l inside ∙
-              here_label d in
+        here_label d in
         subst (λ t. R t (length d.code) (length e.code)) there (subst (λ k. R (place_of ls l) k (length e.code)) (here_code d) r);
   }

@@ -30,12 +30,12 @@ max_none a = omega arith
 module _ (p : Program) (m : Method) where
   pub argument_depth : (es : List CoreExpr) (i j : ℕ) (e : CoreExpr) (v deep old new : ℕ) → j + 1 ≡ i → i ≤ length es → e ≡ get_or es j e →
       v ≡ (depths p m (expr_of e)).value → old ≡ depth_of_arguments p m (exprs_of (map expr_of (drop i es))) → deep ≡ suc old →
-          new ≡ max v deep →
+      new ≡ max v deep →
       new ≡ depth_of_arguments p m (exprs_of (map expr_of (drop j es)))
   argument_depth es i j e v deep old new ej le is ev eo ed en =
       en ∙ ap (λ x. max x deep) ev
       ∙ ap (max (depths p m (expr_of e)).value)
-          (ed ∙ ap suc (eo ∙ ap (λ k. depth_of_arguments p m (exprs_of (map expr_of (drop k es)))) (sym ej)))
+      (ed ∙ ap suc (eo ∙ ap (λ k. depth_of_arguments p m (exprs_of (map expr_of (drop k es)))) (sym ej)))
       ∙ sym (ap (λ (ys : List CoreExpr). depth_of_arguments p m (exprs_of (map expr_of ys))) (drop_at es j e (omega (arith, ej, le)) is))
 
   depth_before : (s : Stmt) (more : Stmts) → depth_of_all p m (before s more) ≡ max (depth_of p m s) (depth_of_all p m more)
@@ -61,9 +61,9 @@ module _ (p : Program) (m : Method) where
     depth_more x next new within is en e =
         let more = stmts_of (map stmt_of (drop (i + 1) xs)) in
         ap (λ n. max n (depth_of_all p m more)) (e ∙ ap (λ n. max n old) en) ∙
-            sym (max_parts old (depth_of p m (stmt_of x)) (depth_of_all p m more))
+        sym (max_parts old (depth_of p m (stmt_of x)) (depth_of_all p m more))
         ∙ sym (ap (max old) (ap (λ (ys : List CoreStmt). depth_of_all p m (stmts_of (map stmt_of ys))) (drop_at xs i x within is) ∙
-            depth_before (stmt_of x) more))
+        depth_before (stmt_of x) more))
         ∙ h
 
     pub depth_done : length xs ≤ i → old ≡ total
@@ -87,7 +87,7 @@ module _ (p : Program) (m : Method) where
     pub group_depth_done : length gs ≤ i → old ≡ total
     group_depth_done le =
         sym (ap (λ (ys : List CoreGroup). max old (depth_of_groups p m (groups_of (map group_of ys)))) (drop_done gs i le) ∙ max_none old) ∙
-            h
+        h
 
 -- locals
 at_least : (n : ℕ) (ss : Stmts) → n ≤ locals_of_all n ss
@@ -183,7 +183,7 @@ module _ (gs : List CoreGroup) (i taken old total : ℕ)
             (e ∙ ap (λ n. max n old) (en ∙ ap (λ (ys : List CoreStmt). locals_of_all taken (stmts_of (map stmt_of ys))) eb))
             ∙ sym (max_parts old first (locals_of_groups taken more))
             ∙ sym (ap (max old) (ap (λ (ys : List CoreGroup). locals_of_groups taken (groups_of (map group_of ys)))
-                (drop_at gs i g within is)
+            (drop_at gs i g within is)
             ∙ ap (λ o. locals_of_groups taken (groups_of (o ∷ map group_of (drop (i + 1) gs)))) (group_of-is g)))
             ∙ h.left;
         low = omega (arith, low, e);

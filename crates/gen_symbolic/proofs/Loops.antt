@@ -67,7 +67,7 @@ module _ (w : Option ℕ → Bool) (gs : List CoreGroup) (i k : ℕ) (total : Op
         sym (ap (λ x. group_at w x (numbers_from k (length gs - i))) (groups_at gs i g within is)
         ∙ ap (λ x. group_at w (groups_of (x ∷ map group_of (drop (i + 1) gs))) (numbers_from k (length gs - i))) (group_of-is g)
         ∙ ap (group_at w (groups_of (one_group (out-CoreGroup g).labels.items (map stmt_of (out-CoreGroup g).body.items)
-            (out-CoreGroup g).end ∷ map group_of (drop (i + 1) gs))))
+        (out-CoreGroup g).end ∷ map group_of (drop (i + 1) gs))))
         (numbers_more k (length gs) i within)) ∙ h
 
     pub group_found : (labels : List (Option ℕ)) → labels ≡ (out-CoreGroup g).labels.items → any_label w labels ≡ true → Some k ≡ total

@@ -18,5 +18,5 @@ unfolding draft_in
 method_is c d is ls xs h el ex e =
     subst (IsCode (program_in c) (method_in c))
     (sym (e ∙ ap (λ z. map (aimed z) (instrs_of (program_in c) xs)) el ∙ ap (λ z. map (aimed d.labels.items) (instrs_of (program_in c) z))
-        ex
+    ex
     ∙ ap (λ (x : Draft). map (aimed x.labels) x.code) h)) (drafted_is_code (program_in c) (method_in c))

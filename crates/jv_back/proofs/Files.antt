@@ -117,7 +117,7 @@ enum_word = plain_word (codes "enum") refl refl
 abbrev MembersPart : Class → List Token → Type 0
 MembersPart c ts =
     (gs : List Field) × (ns : List Method) × (map bare_field gs ≡ map bare_field c.fields)
-        × (map bare_method ns ≡ map bare_method c.methods)
+    × (map bare_method ns ≡ map bare_method c.methods)
     × AreMembers (map FieldMember gs ++ map MethodMember ns) ts
 
 members_told : (c : Class) → IsWrittenClass c → max (depth_of_fields c.fields) (depth_of_methods c.methods) ≤ 399
@@ -158,8 +158,22 @@ class_told c w d =
         let all = map FieldMember ms.0 ++ map MethodMember ms.1 in (
           record { place = p; name = c.name; typestate = c.typestate; fields = ms.0; methods = ms.1 },
           (λ i. record { place = nowhere; name = c.name; typestate = c.typestate; fields = ms.2 i; methods = ms.3 i }),
-          (w.name.name, a, b, g, us, tokens.word m (codes "public") ∷ [], ws, parts, note, refl, all, ms.4, only_fields ms.0 ms.1,
-              only_methods ms.0 ms.1),
+          (
+            w.name.name,
+            a,
+            b,
+            g,
+            us,
+            tokens.word m (codes "public") ∷ [],
+            ws,
+            parts,
+            note,
+            refl,
+            all,
+            ms.4,
+            only_fields ms.0 ms.1,
+            only_methods ms.0 ms.1,
+          ),
         )
 
 -- ---- enums

@@ -230,6 +230,20 @@ method_told m w d =
         takes_args = m.takes_args;
         body = body.1 i;
       }),
-      (w.result, w.name.name, a, c, g, k, us, vs, ws, e1 ∙ past us (e2 ∙ on (e3 ∙ on (e4 ∙ on (e5 ∙ past vs (e6 ∙ on e7))))), mods.0,
-          mods.1, ps.2, body.2),
+      (
+        w.result,
+        w.name.name,
+        a,
+        c,
+        g,
+        k,
+        us,
+        vs,
+        ws,
+        e1 ∙ past us (e2 ∙ on (e3 ∙ on (e4 ∙ on (e5 ∙ past vs (e6 ∙ on e7))))),
+        mods.0,
+        mods.1,
+        ps.2,
+        body.2,
+      ),
     )

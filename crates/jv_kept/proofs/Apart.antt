@@ -103,7 +103,7 @@ fields_in [] ms = fields_none ms
 fields_in (f ∷ fs) ms =
     in_parts FieldName (map OfMethod (methods_before f.place ms)) (OfField f ∷ merged fs (methods_from f.place ms))
     ∙ ap (λ ns. ns ++ f.name ∷ names_in FieldName (map member_entry (merged fs (methods_from f.place ms))))
-        (fields_none (methods_before f.place ms))
+    (fields_none (methods_before f.place ms))
     ∙ ap (λ ns. f.name ∷ ns) (fields_in fs (methods_from f.place ms))
 
 methods_in : (fs : List Field) (ms : List Method) → names_in MethodName (map member_entry (merged fs ms)) ≡ map (λ m. m.name) ms
@@ -111,7 +111,7 @@ methods_in [] ms = methods_all ms
 methods_in (f ∷ fs) ms =
     in_parts MethodName (map OfMethod (methods_before f.place ms)) (OfField f ∷ merged fs (methods_from f.place ms))
     ∙ ap (λ ns. ns ++ names_in MethodName (map member_entry (merged fs (methods_from f.place ms))))
-        (methods_all (methods_before f.place ms))
+    (methods_all (methods_before f.place ms))
     ∙ ap (λ ns. map (λ (m : Method). m.name) (methods_before f.place ms) ++ ns) (methods_in fs (methods_from f.place ms))
     ∙ sym (map-append (λ (m : Method). m.name) (methods_before f.place ms) (methods_from f.place ms))
     ∙ ap (map (λ (m : Method). m.name)) (split f.place ms)

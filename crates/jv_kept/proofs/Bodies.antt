@@ -53,7 +53,7 @@ params_in_scope core m (p ∷ ps) sc n (param s rest) locals =
     let count : suc n + length ps ≡ n + length (p ∷ ps) = omega arith in
     subst (λ k. AreLocals sc.program core m (with_params ps (declare p.name p.ty sc)).locals (first_slots k)) count
     (params_in_scope core m ps (declare p.name p.ty sc) (suc n) rest (declared sc.program core m sc.locals (first_slots n) p.name p.ty n s
-        locals))
+    locals))
 
 -- a result that is void
 of_void : (program : Program) (core : Core.Program) (t : CoreType) → IsType program core written.Void t → t ≡ types.Void
@@ -107,7 +107,7 @@ module _ (program : Program) (core : Core.Program) (well : IsWellTyped program) 
         (stmts_spots (with_params o.method.params begins) o.method.body ++ AtEnd o.method ∷ []) spots)) in
         subst (λ slots. FineAll core k slots [] k.body) (first_slots_are k.params)
         (are_stated core k n here sc (record { slots = first_slots k.params; loops = [] }) o.method.body k.body res names_apart runs
-            in_scope i.result
+        in_scope i.result
         body clean mentions)
 
     -- the body of a method with a result can't complete

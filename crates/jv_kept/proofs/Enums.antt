@@ -58,7 +58,7 @@ module _ (program : Program) (origins : List ℕ) (clean : NoFault program origi
 
     enums_from : (es : List Source.Enum) (ds : List Core.Enum) → ((e : Source.Enum) → Contains es e → Contains (enums_of program.files) e) →
         AllByRecursion (λ (d : Core.Enum). length d.constants ≤ 2 ^ 31) ds → Aligned (EnumIs program core) es ds →
-            AllByRecursion (IsEnum core) ds
+        AllByRecursion (IsEnum core) ds
     enums_from _ _ within few none = tt
     enums_from _ _ within few (more {a = e} {b = d} {as' = es} {bs = ds} i rest) = (
       record {

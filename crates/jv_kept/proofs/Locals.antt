@@ -64,7 +64,7 @@ module _ (program : Program) (core : Core.Program) (method : Core.Method) where
       go : (b : Bool) → bytes_eq d.name name ≡ b → (find (λ d. bytes_eq d.name name) ds ≡ None → (j : ℕ) → Contains ks j →
           slot_text core method j ≢ Some name) →
           cond b (Some d) (find (λ d. bytes_eq d.name name) ds) ≡ None → (n : ℕ) → n < length (k ∷ ks) → slice_index_or (k ∷ ks) n j ≡ j →
-              slot_text core method j ≢ Some name
+          slot_text core method j ≢ Some name
       go true unlike ih e n lt f = absurd (cc)
       go false unlike ih e n lt f = at n (ih e j) unlike lt f
 

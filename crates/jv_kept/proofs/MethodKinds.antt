@@ -180,4 +180,4 @@ module _ (program : Program) (core : Core.Program) (res : Resolves program core)
     pub kind_kept : IsShapedMethod o.method → IsOfKind core k k.kind
     kind_kept shaped = subst (IsOfKind core k) (sym is_it.kind)
         (of_kind o.method.is_static o.method.takes_args (is_of_protocol program o.owner.class o.method.name) shaped.main named_by
-            not_named_by)
+        not_named_by)

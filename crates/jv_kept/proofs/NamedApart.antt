@@ -76,7 +76,7 @@ among (ClassDecl c ∷ ds) name has =
     (λ more. in_later (map decl_name ds) c.name name (among ds name more)) (in_cases (class_names ds ++ enum_names ds) c.name name has)
 among (EnumDecl e ∷ ds) name has =
     ⊎_elim (λ early. in_later (map decl_name ds) e.name name
-        (among ds name (Contains-append_left (class_names ds) (enum_names ds) name early)))
+    (among ds name (Contains-append_left (class_names ds) (enum_names ds) name early)))
     (λ late. ⊎_elim (λ same. subst (λ n. Contains (n ∷ map decl_name ds) name) (sym same) (in_first (map decl_name ds) name))
     (λ more. in_later (map decl_name ds) e.name name (among ds name (Contains-append_right (class_names ds) (enum_names ds) name more)))
     (in_cases (enum_names ds) e.name name late))
@@ -103,8 +103,11 @@ earlier_of : {A : Type 0} (seen xs : List A) (x : A) → Contains xs x → (earl
 earlier_of seen [] x has = absurd (nothing_in x has)
 earlier_of seen (y ∷ xs) x has =
     ⊎_elim
-    (λ same. (seen, subst (λ z. Contains ((seen, z) ∷ behind (seen ++ y ∷ []) xs) (seen, x)) (sym same)
-        (in_first (behind (seen ++ y ∷ []) xs) (seen, x))))
+    (λ same. (
+      seen,
+      subst (λ z. Contains ((seen, z) ∷ behind (seen ++ y ∷ []) xs) (seen, x)) (sym same)
+          (in_first (behind (seen ++ y ∷ []) xs) (seen, x)),
+    ))
     (λ more. let w = earlier_of (seen ++ y ∷ []) xs x more in (w.0, in_later (behind (seen ++ y ∷ []) xs) (seen, y) (w.0, x) w.1))
     (in_cases xs y x has)
 
@@ -146,7 +149,7 @@ module _ (program : Program) (origins : List ℕ) (clean : NoFault program origi
 
   pub not_built_in : (name : Name) →
       Contains (map (λ c. c.name) (classes_of program.files) ++ map (λ e. e.name) (enums_of program.files)) name →
-          Contains built_in_classes name → ⊥
+      Contains built_in_classes name → ⊥
   not_built_in name has built =
       let ds = decls_of program.files in
       let w = entry_of ds name (among ds name (subst (λ ns. Contains ns name) (sym (names_of program.files)) has)) in

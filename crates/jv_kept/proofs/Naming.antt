@@ -176,7 +176,7 @@ params_from : (program : Program) (core : Core.Program) (k : Core.Method) (n : �
 params_from program core k n _ is.no_param = is.none
 params_from program core k n _ (is.param {p = p} {ps = ps} i more) =
     subst (λ xs. Aligned (Meets program core) (map (λ p. meant program p.ty) (p ∷ ps))
-        (map (λ (s : Core.Slot). s.ty) (take (suc (length ps)) xs)))
+    (map (λ (s : Core.Slot). s.ty) (take (suc (length ps)) xs)))
     (sym (from_here k.slots n i.slot i.at))
     (is.more (meant_meets program core p.ty i.slot.ty i.type) (params_from program core k (suc n) ps more))
 
@@ -184,7 +184,7 @@ pub params_meet : (program : Program) (core : Core.Program) (o : Owned) (k : Cor
     Aligned (Meets program core) (map (λ p. meant program p.ty) o.method.params) (param_types k)
 params_meet program core o k m =
     subst (λ n. Aligned (Meets program core) (map (λ p. meant program p.ty) o.method.params)
-        (map (λ (s : Core.Slot). s.ty) (take n k.slots)))
+    (map (λ (s : Core.Slot). s.ty) (take n k.slots)))
     (sym m.count) (params_from program core k 0 o.method.params m.params)
 
 -- a method that a call names

@@ -98,6 +98,6 @@ module _ (program : Program) (core : Core.Program) (res : Resolves program core)
   pub is_named : (c : ℕ) (k : Source.Class) → slice_get (classes_of program.files) c ≡ Some k → class_named program.files k.name ≡ Some k
   is_named c k e =
       let w = finds (λ (c : Source.Class). bytes_eq c.name k.name) (classes_of program.files) c k e
-            ((bytes_eq-Decides k.name k.name).1 refl) in
+      ((bytes_eq-Decides k.name k.name).1 refl) in
       let same = one_number w.number c w.item k w.at e (class_name program.files k.name w.item w.is) in
       w.is ∙ (sym w.at ∙ ap (slice_get (classes_of program.files)) same ∙ e)

@@ -73,10 +73,10 @@ module _ (core : Core.Program) (m : Core.Method) (slots : List ℕ) where
 
 -- a variable stands for one
 pub record VariableForm (program : Program) (core : Core.Program) (scope : Scope) (ns : Numbers) (e : Source.Expr) (e' : Core.Expr) : Type 0
-    where
-  pub var : Var
-  pub is_var : IsVar program core scope ns e var
-  pub is : e' ≡ Core.Variable (place_of e) var
+  where
+    pub var : Var
+    pub is_var : IsVar program core scope ns e var
+    pub is : e' ≡ Core.Variable (place_of e) var
 
 pub variable_form : (program : Program) (core : Core.Program) (scope : Scope) (ns : Numbers) {e : Source.Expr} {e' : Core.Expr} →
     IsExpr program core scope ns e e' → is_variable e ≡ true → VariableForm program core scope ns e e'
@@ -222,7 +222,7 @@ module _ (core : Core.Program) (m : Core.Method) (scope : Scope) (ns : Numbers) 
   plus false false i j clean =
       known scope.program core res apart m ns.slots IntType types.Int (Core.Binary p ops.Add l' r') meets.int tt
       (has.sum (left_has IntType types.Int (taken r (Fitting IntType) ∷ []) clean meets.int)
-          (right_has IntType types.Int clean.1 meets.int))
+      (right_has IntType types.Int clean.1 meets.int))
 
   int_of : (o : Op) → H (Core.Binary p o l' r') types.Int → Typed scope.program core res apart m ns.slots IntType (Core.Binary p o l' r')
   int_of o h = known scope.program core res apart m ns.slots IntType types.Int (Core.Binary p o l' r') meets.int tt h

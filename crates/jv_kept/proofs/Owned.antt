@@ -106,7 +106,7 @@ others_skipped : (c n : ℕ) (k : Class) (ms : List Method) (rest : List Owned) 
 others_skipped c n k [] rest e = refl
 others_skipped c n k (m ∷ ms) rest e =
     ap (λ t. cond t (owned_by n k m ∷ filter (of_number c) (map (owned_by n k) ms ++ rest))
-        (filter (of_number c) (map (owned_by n k) ms ++ rest))) e
+    (filter (of_number c) (map (owned_by n k) ms ++ rest))) e
     ∙ others_skipped c n k ms rest e
 
 own_taken : (c n : ℕ) (k : Class) (ms : List Method) (rest : List Owned) → nat_eq n c ≡ true →
@@ -114,7 +114,7 @@ own_taken : (c n : ℕ) (k : Class) (ms : List Method) (rest : List Owned) → n
 own_taken c n k [] rest e = refl
 own_taken c n k (m ∷ ms) rest e =
     ap (λ t. cond t (owned_by n k m ∷ filter (of_number c) (map (owned_by n k) ms ++ rest))
-        (filter (of_number c) (map (owned_by n k) ms ++ rest))) e
+    (filter (of_number c) (map (owned_by n k) ms ++ rest))) e
     ∙ ap (λ os. owned_by n k m ∷ os) (own_taken c n k ms rest e)
 
 none_later : (c n : ℕ) (cs : List Class) → suc c ≤ n → filter (of_number c) (methods_in (numbered_from n cs)) ≡ []

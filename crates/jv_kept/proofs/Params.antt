@@ -21,7 +21,7 @@ module _ (program : Program) (core : Core.Program) where
   slot_of method n (q ∷ ps) (param s rest) zero p e =
       let number : n ≡ n + 0 = omega arith in
       subst (λ k. IsSlot program core method k p.name p.ty) number (subst (λ (q : Param). IsSlot program core method n q.name q.ty)
-          (some_is e) s)
+      (some_is e) s)
   slot_of method n (q ∷ ps) (param s rest) (suc i) p e =
       let number : suc n + i ≡ n + suc i = omega arith in
       subst (λ k. IsSlot program core method k p.name p.ty) number (slot_of method (suc n) ps rest i p e)

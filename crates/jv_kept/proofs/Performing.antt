@@ -110,7 +110,7 @@ module _ (program : Program) (origins : List ℕ) (clean : NoFault program origi
       performed_by : (m : Source.Method) × (method_named class offered.name ≡ Some m) × (m.is_static ≡ false)
       performed_by = found_instance (method_named class offered.name)
           (λ missing. clean_in MissingMethod (demands_on program) (classes_of program.files) clean.methods class has_class (class, offered)
-              is_demanded
+          is_demanded
           (culprit class.place offered.name) (refl, missing))
 
       module _ (m : Source.Method) (named : method_named class offered.name ≡ Some m) (instance : m.is_static ≡ false) where
@@ -168,7 +168,7 @@ module _ (program : Program) (origins : List ℕ) (clean : NoFault program origi
           clean_in InstanceInPlain standing_in (classes_of program.files) clean.plain class has_class
           (record { typestate = class.typestate; member = OfField f })
           (in_map (λ m. record { typestate = class.typestate; member = m }) (members_of class) (OfField f)
-              (field_stands class.fields class.methods f has))
+          (field_stands class.fields class.methods f has))
           (culprit f.place []) (refl, plain)
 
       no_instance : (m : Source.Method) → Contains class.methods m → m.is_static ≡ false → ⊥
@@ -176,7 +176,7 @@ module _ (program : Program) (origins : List ℕ) (clean : NoFault program origi
           clean_in InstanceInPlain standing_in (classes_of program.files) clean.plain class has_class
           (record { typestate = class.typestate; member = OfMethod m })
           (in_map (λ m. record { typestate = class.typestate; member = m }) (members_of class) (OfMethod m)
-              (method_stands class.fields class.methods m has))
+          (method_stands class.fields class.methods m has))
           (culprit m.place []) (refl, plain, e)
 
       no_fields : (fs : List Source.Field) (ks : List Core.Field) → ((f : Source.Field) → Contains fs f → ⊥) →

@@ -131,7 +131,7 @@ module _ (program : Program) (origins : List ℕ) (clean : NoFault program origi
     in_groups : {enum : Source.Enum} {sc : Scope} {ns : Numbers} {g : Source.Groups} {g' : Core.Groups} →
         IsGroups program core method enum sc ns g g' →
         GroupsDeclareValues g → Clean (UnknownClass program) (mentions_in_groups g) → (j : ℕ) → Contains (declared_in_groups g') j →
-            IsKept j
+        IsKept j
     in_groups is.no_group v c j has = absurd (nothing_in j has)
     in_groups (is.group {body = body} {body' = body'} {gs = gs} {gs' = gs'} labels i more) v c j has =
         ⊎_elim (λ early. in_stmts i v.0 (clean_left (UnknownClass program) (mentions_in_stmts body) (mentions_in_groups gs) c) j early)
@@ -148,17 +148,17 @@ module _ (program : Program) (origins : List ℕ) (clean : NoFault program origi
         let number : 0 + j ≡ j = omega arith in
         slot_kept p.place j p.name p.ty
         (clean_at (UnknownClass program) (map param_mention o.method.params) (param_mentions program origins clean o.owner.class o.method of
-            has)
+        has)
         (param_mention p) (in_map param_mention o.method.params p (got_in o.method.params j p w.1)))
         (all_holds (λ (p : Param). IsOfValues p.ty) o.method.params shaped.params j p w.1)
         (subst (λ k. is.IsSlot program core method k p.name p.ty) number (slot_of program core method 0 o.method.params is_it.params j p
-            w.1))
+        w.1))
 
     of_local : (j : ℕ) → method.params ≤ j → j < length method.slots → IsKept j
     of_local j from below =
         in_stmts is_it.body shaped.body (body_mentions_of program origins clean o.owner.class o.method of has) j
         (subst (λ ks. Contains ks j) (sym is_it.numbered.slots) (in_numbers (length method.slots - method.params) method.params j from
-            (within method.params (length method.slots) from below)))
+        (within method.params (length method.slots) from below)))
       where
         within : (a n : ℕ) → a ≤ j → j < n → j < a + (n - a)
         within a n from below = omega (arith, from, below)
@@ -174,7 +174,7 @@ module _ (program : Program) (origins : List ℕ) (clean : NoFault program origi
     pub slots_kept : AllByRecursion (core_conditions.IsSlot core) method.slots
     slots_kept = all_at (core_conditions.IsSlot core) method.slots
         (λ j s e. let w = of_each j (slice_get_within method.slots j s e) in subst (core_conditions.IsSlot core)
-            (same w.slot s (sym w.at ∙ e)) w.kept)
+        (same w.slot s (sym w.at ∙ e)) w.kept)
       where
         same : (a b : Core.Slot) → Some a ≡ Some b → a ≡ b
         same a b e = cc

@@ -186,15 +186,15 @@ module _ (program : Program) (core : Core.Program) (res : Resolves program core)
     -- an assignment
     assigns : {t e : Source.Expr} {x : CoreVar} {e' : Core.Expr} (p : Place) → is.IsPlaced program core sc ns t x → E e e' →
         AllByRecursion NoFaultAt (stmt_spots sc (Source.Assign p t e)) → Made e → Fine core m ns.slots (map target ns.loops)
-            (Core.Assign p x e')
+        (Core.Assign p x e')
     assigns {t} {e} {x} {e'} p placed ex spots made =
         let at : List Spot = AtStatement sc (Source.Assign p t e) ∷ [] in
         let more = all_right NoFaultAt (expr_spots sc t) (expr_spots sc e ++ at) spots in
         let v = target_typed core m sc ns resolved apart h.runs h.locals
         (subst (λ p. is.IsVar p core sc ns t x.var) h.same placed.is) (all_left NoFaultAt (expr_spots sc t) (expr_spots sc e ++ at) spots)
-            in
+        in
         let tk = subst (λ o. Clean TypeMismatch (all_taken sc (assigned o e))) v.2 (all_right NoFaultAt (expr_spots sc e) at more).0.types
-            in
+        in
         fine.assign v.4 (fits_in ex (all_left NoFaultAt (expr_spots sc e) at more) made v.0 v.1 tk v.3)
 
   stays : (s : Source.Stmt) (sc : Scope) → ((p : Place) (ty : TypeName) (x : Name) (e : Source.Expr) → s ≢ Source.Local p ty x e) →
@@ -249,7 +249,7 @@ module _ (program : Program) (core : Core.Program) (res : Resolves program core)
         (clean_left (UnknownClass program) (mentions_in_stmt s) (mentions_in c) made))
         (condition sc ns h x (all_left NoFaultAt (expr_spots sc c) end more)
         (clean_right (UnknownClass program) (mentions_in_stmt s) (mentions_in c) made)
-            (all_right NoFaultAt (expr_spots sc c) end more).0.types)
+        (all_right NoFaultAt (expr_spots sc c) end more).0.types)
     states {sc} {ns} (is.switch {p = p} {end = end} {e = e} {e' = e'} {n = n} {enum = enum} {gs = gs} {gs' = gs'} x en gives g) h spots
         made =
         let behind_e : List Spot = AtStatement sc (Source.Switch p e gs end) ∷ group_spots (within Switch sc) gs in
@@ -258,7 +258,7 @@ module _ (program : Program) (core : Core.Program) (res : Resolves program core)
         (all_left NoFaultAt (expr_spots sc e) behind_e spots)
         (made_is sc ns h e (clean_left (UnknownClass program) (mentions_in e) (mentions_in_groups gs) made)) more.0.types in
         let same : value.0 ≡ n = enum_is
-              (some_is (sym (enum_given core m ns.slots number numbered e' value.0 value.1) ∙ gives number numbered)) in
+        (some_is (sym (enum_given core m ns.slots number numbered e' value.0 value.1) ∙ gives number numbered)) in
         let met = aligned_at res.enums n enum en.at in
         fine.switch (subst (λ k. Has core m ns.slots e' (types.Enum k)) same value.1)
         (are_cases program core m enum n met.item met.at met.is sc p e gs gs' g more.0.labels)
@@ -269,7 +269,7 @@ module _ (program : Program) (core : Core.Program) (res : Resolves program core)
     states {sc} {ns} (is.print {p = p} {e = e} x) h spots made =
         let end : List Spot = AtStatement sc (Source.Print p e) ∷ [] in
         let s = shown core m sc ns (resolved sc ns h) apart h.runs h.locals (expr_is sc ns h x)
-              (all_left NoFaultAt (expr_spots sc e) end spots)
+        (all_left NoFaultAt (expr_spots sc e) end spots)
         (made_is sc ns h e made) (all_right NoFaultAt (expr_spots sc e) end spots).0.types in
         fine.print s.2 s.1
     states {sc} {ns} (is.eval {p = p} {e = e} x) h spots made =
@@ -291,7 +291,7 @@ module _ (program : Program) (core : Core.Program) (res : Resolves program core)
         (clean_left (UnknownClass program) (mentions_in_stmt s) (mentions_in_stmts rest) made))
         (all_state more h
         (subst (λ sc. AreClean (stmts_spots sc rest)) (stays s sc n) (all_right NoFaultAt (stmt_spots sc s) (stmts_spots (behind s sc) rest)
-            spots))
+        spots))
         (clean_right (UnknownClass program) (mentions_in_stmt s) (mentions_in_stmts rest) made))
 
     pub groups_state : {enum : Source.Enum} {sc : Scope} {ns : Numbers} {gs : Source.Groups} {gs' : Core.Groups} →
@@ -309,9 +309,9 @@ module _ (program : Program) (core : Core.Program) (res : Resolves program core)
 pub are_stated : (core : Core.Program) (m : Core.Method) (number : ℕ) → slice_get core.methods number ≡ Some m →
     (sc : Scope) (ns : Numbers) (b : Source.Stmts) (b' : Core.Stmts) → Resolves sc.program core → AreDistinct (type_names core) →
     Runs core m sc.program sc.class sc.method → AreLocals sc.program core m sc.locals ns.slots → IsType sc.program core sc.method.result
-        m.result →
+    m.result →
     IsStmts sc.program core m sc ns b b' → AllByRecursion NoFaultAt (stmts_spots sc b) →
-        Clean (UnknownClass sc.program) (mentions_in_stmts b) →
+    Clean (UnknownClass sc.program) (mentions_in_stmts b) →
     FineAll core m ns.slots (map target ns.loops) b'
 are_stated core m number at sc ns b b' res apart runs locals result body spots made =
     all_state sc.program core res apart m number at body (record { same = refl; runs = runs; locals = locals; result = result }) spots made

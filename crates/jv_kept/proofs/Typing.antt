@@ -273,7 +273,7 @@ module _ (core : Core.Program) (m : Core.Method) (scope : Scope) (ns : Numbers) 
   typed_constant : (p q : Place) (e a : Name) (k : Source.Enum) (n i : ℕ) → variable_type scope e ≡ None →
       is.IsEnum scope.program core e n k →
       constant_position k a ≡ Some i → (t : ValueType) → type_of scope (Source.Member p (Source.Variable q e) a) ≡ Some t →
-          T t (Core.Constant p n i)
+      T t (Core.Constant p n i)
   typed_constant p q e a k n i none en at t g =
       let met = aligned_at res.enums n k en.at in
       let in_range : i < length met.item.constants =
@@ -281,8 +281,11 @@ module _ (core : Core.Program) (m : Core.Method) (scope : Scope) (ns : Numbers) 
       subst (λ t. T t (Core.Constant p n i)) (chosen (list_any (bytes_eq a) k.constants) (EnumType e) t (
       sym (
       ap (λ (o : Option ValueType). elim o [ None ↦ constant_type scope.program e a | Some t ↦ None ]) none
-      ∙ ap (λ (o : Option Source.Enum). elim o [ None ↦ None | Some k ↦ if list_any (bytes_eq a) k.constants then Some (EnumType e) else
-          None ]) en.named
+      ∙ ap (λ (o : Option Source.Enum). elim o [
+        | None ↦ None
+        | Some k ↦ if list_any (bytes_eq a) k.constants then Some (EnumType e) else
+            None
+      ]) en.named
       ) ∙ g))
       (is_known (EnumType e) (types.Enum n) (Core.Constant p n i) (meets.enum en) tt (has.constant met.at in_range))
 
@@ -319,7 +322,7 @@ module _ (core : Core.Program) (m : Core.Method) (scope : Scope) (ns : Numbers) 
       Given args args' →
       o ≡ Some s → ((c : Culprit) → (c ≡ culprit p []) × (s : Signature) × (o ≡ Some s) × (count_of args ≢ length s.params) → ⊥) →
       Clean TypeMismatch (all_taken scope (arguments o args)) → Aligned (Meets scope.program core) s.params us →
-          HasAll core m ns.slots args' us
+      HasAll core m ns.slots args' us
   all_given p o args args' s us given e arity clean meet =
       given.all s.params us meet (counted p o args s arity e) (subst (λ o. Clean TypeMismatch (all_taken scope (arguments o args))) e clean)
 
@@ -327,7 +330,7 @@ module _ (core : Core.Program) (m : Core.Method) (scope : Scope) (ns : Numbers) 
   static_has : (p : Place) (class f : Name) (n : ℕ) (method : Source.Method) (owner : Source.Class) (c : Calls class f n method owner)
       (args' : Core.Exprs) →
       method.is_static ≡ true → method.takes_args ≡ false → HasAll core m ns.slots args' (param_types c.method_is) →
-          H (Core.Static p n args') c.method_is.result
+      H (Core.Static p n args') c.method_is.result
   static_has p class f n method owner c args' s a all =
       has.static (record {
         at = c.at;
@@ -336,7 +339,7 @@ module _ (core : Core.Program) (m : Core.Method) (scope : Scope) (ns : Numbers) 
 
   typed_static : (p : Place) (f : Name) (n : ℕ) (method : Source.Method) (args : Source.Exprs) (args' : Core.Exprs) →
       IsMethod scope.program core scope.class.name f n method → method.is_static ≡ true → Given args args' →
-          CleanExpr scope (Source.Call p f args) →
+      CleanExpr scope (Source.Call p f args) →
       (t : ValueType) → type_of scope (Source.Call p f args) ≡ Some t → T t (Core.Static p n args')
   typed_static p f n method args args' i st given clean t e =
       let spot = (nodes_right scope (nodes_in args) (Value (Source.Call p f args) ∷ []) clean).0 in
@@ -356,7 +359,7 @@ module _ (core : Core.Program) (m : Core.Method) (scope : Scope) (ns : Numbers) 
 
   typed_class_static : (p q : Place) (k f : Name) (n : ℕ) (method : Source.Method) (args : Source.Exprs) (args' : Core.Exprs) →
       variable_type scope k ≡ None → k ≢ codes "Session" → IsMethod scope.program core k f n method → method.is_static ≡ true →
-          Given args args' →
+      Given args args' →
       CleanExpr scope (Source.MethodCall p (Source.Variable q k) f args) →
       (t : ValueType) → type_of scope (Source.MethodCall p (Source.Variable q k) f args) ≡ Some t → T t (Core.Static p n args')
   typed_class_static p q k f n method args args' none other i st given clean t e =
@@ -381,13 +384,13 @@ module _ (core : Core.Program) (m : Core.Method) (scope : Scope) (ns : Numbers) 
       let all = all_given p (called_on scope (Source.Variable q k) (type_of scope (Source.Variable q k)) f) args args'
       (signature_of scope.program method) (param_types c.method_is) given (out ∙ s.sig) spot.arity takes_all c.params in
       returned k f n method i.owner.class c t (Core.Static p n args') s.result (static_has p k f n method i.owner.class c args' st s.no_args
-          all)
+      all)
 
   typed_session : (p q : Place) (f : Name) (call : SessionCall) (args : Source.Exprs) (args' : Core.Exprs) →
       variable_type scope (codes "Session") ≡ None → IsSession f call → Given args args' →
       CleanExpr scope (Source.MethodCall p (Source.Variable q (codes "Session")) f args) →
       (t : ValueType) → type_of scope (Source.MethodCall p (Source.Variable q (codes "Session")) f args) ≡ Some t →
-          T t (Core.Session p call args')
+      T t (Core.Session p call args')
   typed_session p q f call args args' none i given clean t e =
       let named : Source.Expr = Source.Variable q (codes "Session") in
       let spot = call_clean scope p f args named clean in
@@ -396,7 +399,7 @@ module _ (core : Core.Program) (m : Core.Method) (scope : Scope) (ns : Numbers) 
       let takes_all = taken_behind scope (receiver (type_of scope named) named)
       (arguments (called_on scope named (type_of scope named) f) args) spot.types in
       let all = all_given p (called_on scope named (type_of scope named) f) args args' s.sig (session_params call) given out spot.arity
-            takes_all s.params in
+      takes_all s.params in
       subst (λ t. T t (Core.Session p call args')) (some_is (sym (ap (option_map (λ s. s.result)) out) ∙ e))
       (is_known s.sig.result (session_result call) (Core.Session p call args') s.result s.known (has.session all refl))
 
@@ -413,7 +416,7 @@ module _ (core : Core.Program) (m : Core.Method) (scope : Scope) (ns : Numbers) 
       ap (is_of_protocol scope.program scope.class) (method_name i.owner.class f method i.named) ∙ none in
       let s = helper_call scope method t st not_of (sym (ap (option_map (λ s. s.result)) out) ∙ e) in
       let all = all_given p o args args' (signature_of scope.program method) (param_types c.method_is) given (out ∙ s.sig) arity types
-            c.params in
+      c.params in
       returned scope.class.name f n method i.owner.class c t (Core.Helper p n args') s.result
       (has.helper (runs_on_object core m scope.program scope.class scope.method runs s.instance)
       (record {
@@ -435,12 +438,12 @@ module _ (core : Core.Program) (m : Core.Method) (scope : Scope) (ns : Numbers) 
 
   typed_helper : (p : Place) (f : Name) (n : ℕ) (method : Source.Method) (args : Source.Exprs) (args' : Core.Exprs) →
       IsMethod scope.program core scope.class.name f n method → method.is_static ≡ false → Given args args' →
-          CleanExpr scope (Source.Call p f args) →
+      CleanExpr scope (Source.Call p f args) →
       (t : ValueType) → type_of scope (Source.Call p f args) ≡ Some t → T t (Core.Helper p n args')
   typed_helper p f n method args args' i st given clean t e =
       let spot = (nodes_right scope (nodes_in args) (Value (Source.Call p f args) ∷ []) clean).0 in
       helped p f n method args args' i st given (no_protocol core m scope ns runs p f spot.no_self_call
-          (is_own core m scope ns runs f n method i st))
+      (is_own core m scope ns runs f n method i st))
       (called scope f) (own_out f n method i st) spot.arity spot.types t e
 
   typed_this_helper : (p q : Place) (f : Name) (n : ℕ) (method : Source.Method) (args : Source.Exprs) (args' : Core.Exprs) →
@@ -450,10 +453,10 @@ module _ (core : Core.Program) (m : Core.Method) (scope : Scope) (ns : Numbers) 
   typed_this_helper p q f n method args args' i st given clean t e =
       let spot = call_clean scope p f args (Source.This q) clean in
       helped p f n method args args' i st given (no_protocol core m scope ns runs p f spot.no_self_call
-          (is_own core m scope ns runs f n method i st))
+      (is_own core m scope ns runs f n method i st))
       (called_on scope (Source.This q) None f)
       (ap (λ (o : Option Source.Method). elim o [ None ↦ None | Some m ↦ own_instance scope m ])
-          (own_named core m scope ns runs f n method i))
+      (own_named core m scope ns runs f n method i))
       spot.arity spot.types t e
 
   -- a call on a value
@@ -465,7 +468,7 @@ module _ (core : Core.Program) (m : Core.Method) (scope : Scope) (ns : Numbers) 
       (args' : Core.Exprs) →
       IsVar scope.program core scope ns e x.var → type_of scope e ≡ Some (ClassType k) → IsMethod scope.program core k f n method →
       method.is_static ≡ false → Given args args' → (has.CallsHelperIn args' → rules.CallsHelperIn scope args) →
-          CleanExpr scope (Source.MethodCall p e f args) →
+      CleanExpr scope (Source.MethodCall p e f args) →
       (t : ValueType) → type_of scope (Source.MethodCall p e f args) ≡ Some t → T t (Core.Protocol p x n args')
   typed_protocol p e x k f n method args args' v te i st given back clean t g =
       let spot = call_clean scope p f args e clean in
@@ -475,9 +478,9 @@ module _ (core : Core.Program) (m : Core.Method) (scope : Scope) (ns : Numbers) 
       ∙ ap (λ (o : Option Source.Class). elim o [ None ↦ None | Some c ↦ protocol_method scope.program c f ]) i.owner_named in
       let s = protocol_call scope.program i.owner.class f method t i.named st (sym (ap (option_map (λ s. s.result)) out) ∙ g) in
       let takes_all = taken_behind scope (receiver (type_of scope e) e) (arguments (called_on scope e (type_of scope e) f) args) spot.types
-          in
+      in
       let all = all_given p (called_on scope e (type_of scope e) f) args args' (signature_of scope.program method) (param_types c.method_is)
-            given
+      given
       (out ∙ s.sig) spot.arity takes_all c.params in
       let w = typed_var core m scope ns runs locals v (ClassType k) te in
       let same = one_type scope.program core res apart w.meets (meets.class c.class_is) tt in
@@ -547,7 +550,7 @@ module _ (core : Core.Program) (m : Core.Method) (scope : Scope) (ns : Numbers) 
       (CleanExpr scope e → AreMade e → (t : ValueType) → type_of scope e ≡ Some t → T t e') →
       (CleanExpr scope a → AreMade a → (t : ValueType) → type_of scope a ≡ Some t → T t a') →
       CleanExpr scope (Source.MethodCall p e f (Source.Argument a Source.NoExpr)) →
-          AreMade (Source.MethodCall p e f (Source.Argument a Source.NoExpr)) →
+      AreMade (Source.MethodCall p e f (Source.Argument a Source.NoExpr)) →
       OnText p e a f e' a'
   text_call p f e a e' a' result found te x y receives argued clean made =
       let args : Source.Exprs = Source.Argument a Source.NoExpr in
@@ -558,7 +561,7 @@ module _ (core : Core.Program) (m : Core.Method) (scope : Scope) (ns : Numbers) 
       (λ c. receives c (clean_left (UnknownClass scope.program) (mentions_in e) (mentions_in_args args) made) TextType te)
       (receiver_clean scope p f args e (not_this core m scope ns runs x) clean) in
       on_text p e a f e' a' result found te x received (λ t g. argued inner made_a t g) (λ h. calls_back core m scope ns runs y inner h)
-          clean
+      clean
 
   mutual
     -- A resolved expression is well typed, with the type of its source.
@@ -585,9 +588,9 @@ module _ (core : Core.Program) (m : Core.Method) (scope : Scope) (ns : Numbers) 
     typed (is.binary {p = p} {o = o} {l = l} {r = r} {l' = l'} {r' = r'} x y) clean made t g =
         at_type (operated core m scope ns res apart runs locals p l r l' r' x y
         (λ t g. typed x (left_operand scope p o l r clean) (clean_left (UnknownClass scope.program) (mentions_in l) (mentions_in r) made) t
-            g)
+        g)
         (λ t g. typed y (right_operand scope p o l r clean) (clean_right (UnknownClass scope.program) (mentions_in l) (mentions_in r) made)
-            t g)
+        t g)
         o (operator scope p o l r clean).types) g
     typed (is.static {p = p} {f = f} {m = n} {method = method} {args = args} {args' = args'} i s xs) clean made t g =
         typed_static p f n method args args' i s
@@ -613,13 +616,13 @@ module _ (core : Core.Program) (m : Core.Method) (scope : Scope) (ns : Numbers) 
         (λ h. calls_back_in core m scope ns runs xs inner h) clean t g
     typed (is.equals {p = p} {e = e} {a = a} {e' = e'} {a' = a'} te x y) clean made t g =
         let h = text_call p (codes "equals") e a e' a' BooleanType refl te x y (λ c k t g. typed x c k t g) (λ c k t g. typed y c k t g)
-              clean made in
+        clean made in
         subst (λ t. T t (Core.Equals p e' a'))
         (text_result p e a (codes "equals") BooleanType refl te (not_this core m scope ns runs x) t g)
         (is_known BooleanType types.Boolean (Core.Equals p e' a') meets.boolean tt (has.equals h.receiver_is h.argument_is h.moves))
     typed (is.concat {p = p} {e = e} {a = a} {e' = e'} {a' = a'} te x y) clean made t g =
         let h = text_call p (codes "concat") e a e' a' TextType refl te x y (λ c k t g. typed x c k t g) (λ c k t g. typed y c k t g) clean
-              made in
+        made in
         subst (λ t. T t (Core.Concat p e' a'))
         (text_result p e a (codes "concat") TextType refl te (not_this core m scope ns runs x) t g)
         (is_known TextType types.Text (Core.Concat p e' a') meets.text tt (has.concat h.receiver_is h.argument_is h.moves))
@@ -636,9 +639,9 @@ module _ (core : Core.Program) (m : Core.Method) (scope : Scope) (ns : Numbers) 
         has.arg
         (takes a a' p u (paired more ps)
         (λ t g. typed x (first_arg scope a more clean) (clean_left (UnknownClass scope.program) (mentions_in a) (mentions_in_args more)
-            made) t g) tk w)
+        made) t g) tk w)
         (all_typed xs (other_args scope a more clean) (clean_right (UnknownClass scope.program) (mentions_in a) (mentions_in_args more)
-            made) ps us ws
+        made) ps us ws
         (omega (arith, e)) tk.1)
 
   -- What a statement needs of a clean expression.

@@ -36,7 +36,7 @@ cut_once (p ∷ ps) [] bytes rest more (after, parts, stands, h) b u v =
     absurd (ends_not more (p, after) v (ap front_at (sym b ∙ parts) ∙ front_again p after stands))
 cut_once (p ∷ ps) (q ∷ qs) bytes rest more (a, a_parts, a_stands, a_more) (b, b_parts, b_stands, b_more) u v =
     let same = same_found (p, a) (q, b) bytes (ap front_at a_parts ∙ front_again p a a_stands)
-          (ap front_at b_parts ∙ front_again q b b_stands) in
+    (ap front_at b_parts ∙ front_again q b b_stands) in
     let head : p ≡ q = ap (λ (x : Piece × List ℕ). x.0) same in
     let tail : a ≡ b = ap (λ (x : Piece × List ℕ). x.1) same in
     let r = cut_once ps qs a rest more a_more (subst (λ (z : List ℕ). Cut qs z more) (sym tail) b_more) u v in
@@ -61,7 +61,7 @@ stopped_once bytes c d k j a b =
     let r = cut_once a.pieces b.pieces bytes a.rest b.rest a.cut b.cut (stops_end a.rest a.stops) (stops_end b.rest b.stops) in
     let long = ap length r.1 in
     let same : ◌≡◌ {A = Result (Piece × List ℕ) (Cause × ℕ)} (Err (c, a.behind)) (Err (d, b.behind)) = sym (front_stops a.rest a.stops) ∙
-          ap front_at r.1 ∙ front_stops b.rest b.stops in
+    ap front_at r.1 ∙ front_stops b.rest b.stops in
     let pair : ◌≡◌ {A = Cause × ℕ} (c, a.behind) (d, b.behind) = cc in
     let behind : a.behind ≡ b.behind = ap (λ (x : Cause × ℕ). x.1) pair in
     (ap (λ (x : Cause × ℕ). x.0) pair, omega (arith, long, behind, a.here, b.here))
@@ -87,8 +87,15 @@ stop_ascii rest (open_comment body parts none) =
 stop_ascii rest (open_text body parts none) =
     inr (record { before = []; byte = 34; after = body; parts = parts; long = refl; low = omega arith })
 stop_ascii rest (bad_escape good more c after parts fine bad in_line strokes) =
-    inr (record { before = 34 ∷ spelled good; byte = 92; after = c ∷ (spelled more ++ 34 ∷ after); parts = parts; long = refl; low =
-        omega arith })
+    inr (record {
+      before = 34 ∷ spelled good;
+      byte = 92;
+      after = c ∷ (spelled more ++ 34 ∷ after);
+      parts = parts;
+      long = refl;
+      low =
+          omega arith;
+    })
 stop_ascii rest (bad_number c cs parts digit none) =
     inr (record { before = []; byte = c; after = cs; parts = parts; long = refl; low = digit_low c digit })
 stop_ascii rest (bad_byte c cs parts start none) = inl refl
@@ -107,9 +114,15 @@ bad_both bytes cause k s v = elim (stop_ascii s.rest s.stops) [
   | inr a ↦
       let c = cut_parts s.pieces bytes s.rest s.cut in
       let parts : bytes ≡ (c.0 ++ a.before) ++ a.byte ∷ a.after = c.1 ∙ ap (λ (z : List ℕ). c.0 ++ z) a.parts ∙
-            sym (append_assoc c.0 a.before (a.byte ∷ a.after)) in
-      let at : k ≡ length (c.0 ++ a.before) = omega (arith, s.here, ap length c.1, length-append c.0 s.rest, length-append c.0 a.before,
-            a.long) in
+      sym (append_assoc c.0 a.before (a.byte ∷ a.after)) in
+      let at : k ≡ length (c.0 ++ a.before) = omega (
+        arith,
+        s.here,
+        ap length c.1,
+        length-append c.0 s.rest,
+        length-append c.0 a.before,
+        a.long,
+      ) in
       absurd (ill_not_ascii bytes (c.0 ++ a.before) a.after a.byte k parts at a.low v)
 ]
 
@@ -147,7 +160,7 @@ tokens_or_fault file ts bytes c k a f = go (fault_is bytes f) where
 pub same_tokens : (file : ℕ) (ts us : List Token) (bytes : List ℕ) → AreTokens file ts bytes → AreTokens file us bytes → ts ≡ us
 same_tokens file ts us bytes a b =
     a.tokens ∙ ap (tokens_from (start_of file)) (cut_once a.pieces b.pieces bytes [] [] a.cut b.cut nothing_left nothing_left).0 ∙
-        sym b.tokens
+    sym b.tokens
 
 -- ---- the first of the faults
 

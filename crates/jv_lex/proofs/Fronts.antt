@@ -56,12 +56,12 @@ close_there : (u v : List ℕ) → close_at (u ++ 42 ∷ 47 ∷ v) ≡ None → 
 close_there [] v e = none_is_not 0 (sym e)
 close_there (c ∷ u) v e = elim (chosen (is_close (c ∷ (u ++ 42 ∷ 47 ∷ v))) (Some 0) (option_map (λ n. n + 1) (close_at (u ++ 42 ∷ 47 ∷ v)))
     None e) [
-  | inl t ↦ none_is_not 0 (sym t.1)
-  | inr f ↦ close_there u v (unmapped (close_at (u ++ 42 ∷ 47 ∷ v)) f.1)
-] where
-  unmapped : (o : Option ℕ) → option_map (λ n. n + 1) o ≡ None → o ≡ None
-  unmapped None e = refl
-  unmapped (Some n) e = absurd (none_is_not (n + 1) (sym e))
+      | inl t ↦ none_is_not 0 (sym t.1)
+      | inr f ↦ close_there u v (unmapped (close_at (u ++ 42 ∷ 47 ∷ v)) f.1)
+    ] where
+      unmapped : (o : Option ℕ) → option_map (λ n. n + 1) o ≡ None → o ≡ None
+      unmapped None e = refl
+      unmapped (Some n) e = absurd (none_is_not (n + 1) (sym e))
 
 block_right : (body : List ℕ) → Right (47 ∷ 42 ∷ body) (closed_block body (close_at body))
 block_right body = go (close_at body) refl where
@@ -72,7 +72,7 @@ block_right body = go (close_at body) refl where
       let two : suc (suc n) ≡ n + 2 = omega arith in
       let parts : body ≡ (take n body ++ 42 ∷ 47 ∷ []) ++ drop (n + 2) body =
       subst (λ (k : ℕ). body ≡ (take n body ++ 42 ∷ 47 ∷ []) ++ drop k body) two
-          (r.parts ∙ sym (append_assoc (take n body) (42 ∷ 47 ∷ []) (drop (suc (suc n)) body))) in
+      (r.parts ∙ sym (append_assoc (take n body) (42 ∷ 47 ∷ []) (drop (suc (suc n)) body))) in
       (ap (λ (z : List ℕ). 47 ∷ 42 ∷ z) parts, r.first)
 
 line_right : (body : List ℕ) → Right (47 ∷ 47 ∷ body) (line_at body)
@@ -97,11 +97,11 @@ whole_right ws after cs None parts strokes h =
     (ap (λ (z : List ℕ). 34 ∷ z) (parts ∙ sym (append_assoc (spelled ws) (34 ∷ []) after)), h)
 whole_right ws after cs (Some k) parts strokes h =
     let is : spelled ws ≡ spelled h.good ++ 92 ∷ h.byte ∷ spelled h.more = ap spelled h.parts ∙ spelled_append h.good
-          (escaped h.byte ∷ h.more) in
+    (escaped h.byte ∷ h.more) in
     subst (λ (z : ℕ). Stops (34 ∷ cs) causes.BadEscape z) (sym h.at)
     (bad_escape h.good h.more h.byte after
     (ap (λ (z : List ℕ). 34 ∷ z) (parts ∙ ap (λ (z : List ℕ). z ++ 34 ∷ after) is ∙ append_assoc (spelled h.good)
-        (92 ∷ h.byte ∷ spelled h.more) (34 ∷ after)))
+    (92 ∷ h.byte ∷ spelled h.more) (34 ∷ after)))
     h.fine h.none h.in_line h.strokes)
 
 text_right : (cs : List ℕ) → Right (34 ∷ cs) (text_at cs)
@@ -110,7 +110,7 @@ text_right cs = go (closing_at false cs) refl where
   go None e =
       subst (Right (34 ∷ cs)) (sym (ap (closed_text cs) e))
       (open_text cs refl (λ ws after strokes parts. none_is_not (length (spelled ws)) (sym e ∙ ap (closing_at false) parts ∙
-          closing_again ws after strokes)))
+      closing_again ws after strokes)))
   go (Some n) e =
       let k : Closed cs n = closing_is false cs n e in
       subst (Right (34 ∷ cs)) (sym (ap text_at k.parts ∙ text_closed k.ws k.after k.strokes))
@@ -170,7 +170,7 @@ front_again (block body) rest h =
 front_again (word []) rest (starts, passes, stops) = absurd starts
 front_again (word (c ∷ cs)) rest (starts, passes, stops) =
     second_way (is_blank c) (is_word_start c) _ _ _ (blank_apart c starts) starts ∙ ap (λ (x : Piece × List ℕ). Ok x)
-        (word_again (c ∷ cs) rest passes stops)
+    (word_again (c ∷ cs) rest passes stops)
 front_again (number n) rest h = number_front n rest h
 front_again (text ws) rest h = ap text_at (append_assoc (spelled ws) (34 ∷ []) rest) ∙ text_again ws rest h
 front_again (sign s) rest h = sign_again s rest h
@@ -212,7 +212,7 @@ byte_none c cs start none =
       | inr f ↦ f
     ]) in
     last_way (is_blank c) (is_word_start c) (is_ascii_digit c) (eqb c 34) (eqb c 47) _ _ _ _ _ _ b.0 w.0 d.0 d.1 slash ∙ ap (sign_from c cs)
-        (single_none c cs none)
+    (single_none c cs none)
 
 pub front_stops : (rest : List ℕ) {cause : Cause} {k : ℕ} → Stops rest cause k → front_at rest ≡ Err (cause, k)
 front_stops rest (open_comment body parts none) = ap front_at parts ∙ ap (closed_block body) (close_none body none)

@@ -60,7 +60,7 @@ pub number_again : (n : ℕ) (rest : List ℕ) → MayStand (number n) rest → 
 number_again n rest (most, stops) =
     let passes : AllPasses is_ascii_digit (decimal n) = digits_decimal own n (below n most) in
     let long : span is_ascii_digit (decimal n ++ rest) ≡ length (decimal n) = span_again is_ascii_digit (decimal n) rest passes
-          (stops_digits rest stops) in
+    (stops_digits rest stops) in
     let front = take_at (decimal n) rest (length (decimal n)) refl in
     let back = drop_at (decimal n) rest (length (decimal n)) refl in
     rw (long, front, back, not_tailed rest stops, no_zero n (below n most), (decimal_is_IsNumeral n (below n most)).1, small_is n most) refl

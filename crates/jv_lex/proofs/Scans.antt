@@ -73,7 +73,7 @@ tokens_more [] p place = append-nil (tokens_of place p)
 tokens_more (q ∷ ps) p place =
     let next : Place = place_after place (spell q) in
     ap (λ (z : List Token). tokens_of place q ++ z) (tokens_more ps p next) ∙
-        sym (append_assoc (tokens_of place q) (tokens_from next ps) (tokens_of (places_after next ps) p))
+    sym (append_assoc (tokens_of place q) (tokens_from next ps) (tokens_of (places_after next ps) p))
 
 -- no piece is empty
 nonempty : (p : Piece) (after : List ℕ) → MayStand p after → 0 < length (spell p)
@@ -116,8 +116,11 @@ readable (line body) after h u = tt
 readable (block body) after h u = tt
 readable (word name) after h u = passing_ascii is_word_byte name word_low h.1
 readable (number n) after h u = tt
-readable (text ws) after h u = (omega (arith, length-append (spelled ws) (34 ∷ [])), subst IsUtf8 (sym (meaning_is ws h))
-    (text_utf8 ws after h u))
+readable (text ws) after h u = (
+  omega (arith, length-append (spelled ws) (34 ∷ [])),
+  subst IsUtf8 (sym (meaning_is ws h))
+      (text_utf8 ws after h u),
+)
 readable (sign s) after h u = tt
 
 -- a cause stands within what is left
@@ -198,13 +201,13 @@ module _ (told : FrontPiece) (rest : List ℕ) (f : FrontOf told rest) where
   -- a turn of the loop keeps what is so far
   pub so_far_more : (file : ℕ) (bytes : List ℕ) (ts : List Token) (place : Place) (offset : ℕ) → SoFar file bytes ts place offset rest
       → SoFar file bytes (ts ++ tokens_shown place told.kind (take told.len rest)) (place_after place (take told.len rest))
-          (offset + told.len) (drop told.len rest)
+      (offset + told.len) (drop told.len rest)
   unfolding reached_more
   so_far_more file bytes ts place offset h =
       let start : Place = start_of file in
       let ps : List Piece = h.reached.pieces in
       let said : tokens_shown place told.kind (take told.len rest) ≡ tokens_of place f.piece =
-            rw (text_is, kind_is) (shown_is place f.piece f.after f.stands.1) in
+      rw (text_is, kind_is) (shown_is place f.piece f.after f.stands.1) in
       record {
         reached = reached_more bytes offset h.reached;
         tokens = ap (λ (z : List Token). z ++ tokens_shown place told.kind (take told.len rest)) h.tokens
@@ -236,8 +239,15 @@ so_far_whole file bytes ts place offset (c ∷ cs) e u h = absurd (omega arith)
 -- where the pieces stop
 pub reached_stop : (bytes : List ℕ) (offset : ℕ) (rest : List ℕ) (cause : Cause) (n : ℕ) → Stops rest cause n → Reached bytes offset rest →
     IsStopped bytes cause (offset + n)
-reached_stop bytes offset rest cause n s h = record { pieces = h.pieces; rest = rest; behind = n; cut = h.cut; stops = s; here =
-    omega (arith, h.here) }
+reached_stop bytes offset rest cause n s h = record {
+  pieces = h.pieces;
+  rest = rest;
+  behind = n;
+  cut = h.cut;
+  stops = s;
+  here =
+      omega (arith, h.here);
+}
 
 -- which is within the bytes
 pub stop_within : (bytes : List ℕ) (offset : ℕ) (rest : List ℕ) (cause : Cause) (n : ℕ) → Stops rest cause n → Reached bytes offset rest →

@@ -123,14 +123,21 @@ closing_is true (c ∷ cs) n e = elim (chosen (is_line_end c) None (option_map (
 ]
 closing_is false (c ∷ cs) n e =
     elim (chosen (is_line_end c) None (cond (eqb c 34) (Some 0) (option_map (λ k. k + 1) (closing_at (eqb c 92) cs))) (Some n) e) [
-  | inl t ↦ absurd (none_is_not n t.1)
-  | inr f ↦ elim (chosen (eqb c 34) (Some 0) (option_map (λ k. k + 1) (closing_at (eqb c 92) cs)) (Some n) f.1) [
-    | inl q ↦ record { ws = []; after = cs; parts = ap (λ (z : ℕ). z ∷ cs) (eqb-true c 34 q.0); strokes = tt; long = sym (some_is 0 n q.1) }
-    | inr q ↦
-        let m = map_some (closing_at (eqb c 92) cs) (λ k. k + 1) n q.1 in
-        one_more c cs m.0 n (eqb c 92) q.0 f.0 refl m.2 (closing_is (eqb c 92) cs m.0 m.1)
-  ]
-]
+      | inl t ↦ absurd (none_is_not n t.1)
+      | inr f ↦ elim (chosen (eqb c 34) (Some 0) (option_map (λ k. k + 1) (closing_at (eqb c 92) cs)) (Some n) f.1) [
+        | inl q ↦ record {
+          ws = [];
+          after = cs;
+          parts = ap (λ (z : ℕ). z ∷ cs) (eqb-true c 34 q.0);
+          strokes = tt;
+          long =
+              sym (some_is 0 n q.1);
+        }
+        | inr q ↦
+            let m = map_some (closing_at (eqb c 92) cs) (λ k. k + 1) n q.1 in
+            one_more c cs m.0 n (eqb c 92) q.0 f.0 refl m.2 (closing_is (eqb c 92) cs m.0 m.1)
+      ]
+    ]
 
 -- the quote that closes is found
 pub closing_again : (ws : List Written) (after : List ℕ) → AllByRecursion IsStroke ws → closing_at false (spelled ws ++ 34 ∷ after) ≡ Some
@@ -280,9 +287,9 @@ text_bad good more c after h bad l k =
     let parts : spelled good ++ 92 ∷ c ∷ (spelled more ++ 34 ∷ after) ≡ spelled ws ++ 34 ∷ after =
     sym (append_assoc (spelled good) (92 ∷ c ∷ spelled more) (34 ∷ after)) ∙ ap (λ (z : List ℕ). z ++ 34 ∷ after) (sym is) in
     let at : bad_at false (spelled ws) ≡ Some (suc (length (spelled good))) = ap (bad_at false) is ∙ bad_again good c (spelled more) h bad
-        in
+    in
     ap text_at parts ∙ text_closed ws after (strokes_append good (escaped c ∷ more) (strokes good h) (l, k)) ∙
-        ap (whole_text (spelled ws) after) at
+    ap (whole_text (spelled ws) after) at
 
 -- that no quote closes
 pub text_open : (cs : List ℕ) → ((ws : List Written) (after : List ℕ) → AllByRecursion IsStroke ws → cs ≡ spelled ws ++ 34 ∷ after → ⊥) →

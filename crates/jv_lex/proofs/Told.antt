@@ -74,7 +74,7 @@ pair_shown c [] s t one some two = absurd (omega arith)
 pair_shown c (d ∷ ds) s t one some two =
     let is : written t ≡ c ∷ d ∷ [] = pair_is s c d t (single_is c s one) two in
     ap (λ (n : ℕ). Ok (record { kind = kinds.Sign t; len = n })) (sym (ap length is)) ∙ sym (ap (λ o. shown (sign_from c (d ∷ ds) o)) one ∙
-        ap (λ o. shown (Ok (or_alone s (d ∷ ds) o))) two)
+    ap (λ o. shown (Ok (or_alone s (d ∷ ds) o))) two)
 
 -- ---- texts
 

@@ -47,7 +47,7 @@ ill_not_ascii bytes xs ys c k parts at low v =
     let more : k < n = omega (arith, one, at) in
     let long_parts : bytes ≡ (xs ++ c ∷ []) ++ ys = parts ∙ sym (append_assoc xs (c ∷ []) ys) in
     let front : take k bytes ≡ xs = ap (λ (z : List ℕ). take k z) parts ∙ ap (λ (z : ℕ). take z (xs ++ c ∷ ys)) at ∙ take-append_seam xs
-          (c ∷ ys) in
+    (c ∷ ys) in
     let long : take n bytes ≡ xs ++ c ∷ [] = ap (λ (z : List ℕ). take n z) long_parts ∙ take-append_seam (xs ++ c ∷ []) ys in
     v.longest n more (subst IsUtf8 (sym long) (IsUtf8-append xs (c ∷ []) (subst IsUtf8 front v.front) (ascii_one c low)))
 
@@ -108,7 +108,7 @@ after_piece (word name) after h u = past_ascii is_word_byte name after word_low 
 after_piece (number n) after h u = past_ascii is_ascii_digit (decimal n) after digit_low (digits_decimal own n (below n h.0)) u
 after_piece (text ws) after h u =
     (split_ascii (34 ∷ spelled ws) after 34 (subst (λ (z : List ℕ). IsUtf8 (34 ∷ z)) (append_assoc (spelled ws) (34 ∷ []) after) u)
-        (omega arith)).1
+    (omega arith)).1
 after_piece (sign s) after h u = past_ascii (λ c. nat_lt c 128) (written s) after test_low (all_low (written s) (sign_low s)) u
 
 -- what a text means is UTF-8 where what is written is
@@ -116,17 +116,17 @@ meant_utf8 : (xs : List ℕ) (ws : List Written) → AllByRecursion IsCharacter 
 meant_utf8 xs [] h u = u
 meant_utf8 xs (plain c ∷ ws) h u =
     subst IsUtf8 (append_assoc xs (c ∷ []) (map meant ws))
-        (meant_utf8 (xs ++ c ∷ []) ws h.1 (subst IsUtf8 (sym (append_assoc xs (c ∷ []) (spelled ws))) u))
+    (meant_utf8 (xs ++ c ∷ []) ws h.1 (subst IsUtf8 (sym (append_assoc xs (c ∷ []) (spelled ws))) u))
 meant_utf8 xs (escaped c ∷ ws) h u =
     let a = split_ascii xs (c ∷ spelled ws) 92 u (omega arith) in
     let b = split_ascii [] (spelled ws) c a.1 (escape_low c h.0) in
     IsUtf8-append xs (escaped_byte c ∷ map meant ws) a.0 (IsUtf8-append (escaped_byte c ∷ []) (map meant ws)
-        (ascii_one (escaped_byte c) (escaped_low c h.0)) (meant_utf8 [] ws h.1 b.1))
+    (ascii_one (escaped_byte c) (escaped_low c h.0)) (meant_utf8 [] ws h.1 b.1))
 
 pub text_utf8 : (ws : List Written) (after : List ℕ) → AllByRecursion IsCharacter ws → IsUtf8 (34 ∷ (spelled ws ++ 34 ∷ []) ++ after) →
     IsUtf8 (map meant ws)
 text_utf8 ws after h u =
     let inner : IsUtf8 (spelled ws ++ 34 ∷ after) =
-          (split_ascii [] (spelled ws ++ 34 ∷ after) 34 (subst (λ (z : List ℕ). IsUtf8 (34 ∷ z)) (append_assoc (spelled ws) (34 ∷ []) after)
-          u) (omega arith)).1 in
+    (split_ascii [] (spelled ws ++ 34 ∷ after) 34 (subst (λ (z : List ℕ). IsUtf8 (34 ∷ z)) (append_assoc (spelled ws) (34 ∷ []) after)
+    u) (omega arith)).1 in
     meant_utf8 [] ws h (split_ascii (spelled ws) after 34 inner (omega arith)).0

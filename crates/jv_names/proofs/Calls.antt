@@ -206,7 +206,7 @@ module _ (program : Program) (core : Core.Program) (res : Resolves program core)
         (sym q.by_name)
         (runs_like class m
         (record { owner = q.owner; method = method }) q.core_method q.owner_class q.is q.here q.owner_here q.owner_is q.owner_named this
-            vs))
+        vs))
 
   -- with every budget
   pub belows_like : (n : ℕ) → Belows program core (below (core_meaning.language core inputs) n)

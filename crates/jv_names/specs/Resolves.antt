@@ -198,7 +198,7 @@ module _ (program : Program) (core : Core.Program) where
       -- `C.f(..)`, where no variable is named C
       class_static : {p q : Place} {c f : Name} {m : ℕ} {method : Source.Method} {args : Source.Exprs} {args' : Core.Exprs} →
           variable_type scope c ≡ None → c ≢ codes "Session" → IsMethod c f m method → method.is_static ≡ true →
-              IsExprs scope numbers args args' →
+          IsExprs scope numbers args args' →
           IsExpr scope numbers (Source.MethodCall p (Source.Variable q c) f args) (Core.Static p m args')
       -- `Session.f(..)`, where no variable is named so
       session : {p q : Place} {f : Name} {call : SessionCall} {args : Source.Exprs} {args' : Core.Exprs} →
@@ -216,7 +216,7 @@ module _ (program : Program) (core : Core.Program) where
       protocol : {p : Place} {e : Source.Expr} {x : CoreVar} {c f : Name} {m : ℕ} {method : Source.Method} {args : Source.Exprs}
           {args' : Core.Exprs} →
           IsPlaced scope numbers e x → type_of scope e ≡ Some (ClassType c) → IsMethod c f m method → method.is_static ≡ false →
-              IsExprs scope numbers args args' →
+          IsExprs scope numbers args args' →
           IsExpr scope numbers (Source.MethodCall p e f args) (Core.Protocol p x m args')
       -- `e.equals(a)` and `e.concat(a)`, where e is a text
       equals : {p : Place} {e a : Source.Expr} {e' a' : Core.Expr} → type_of scope e ≡ Some TextType → IsExpr scope numbers e e' →
@@ -231,7 +231,7 @@ module _ (program : Program) (core : Core.Program) where
       no_args : IsExprs scope numbers Source.NoExpr Core.NoExpr
       arg : {e : Source.Expr} {e' : Core.Expr} {rest : Source.Exprs} {rest' : Core.Exprs} →
           IsExpr scope numbers e e' → IsExprs scope numbers rest rest' → IsExprs scope numbers (Source.Argument e rest)
-              (Core.Argument e' rest')
+          (Core.Argument e' rest')
 
   -- slot k of a method is this local
   pub record IsSlot (method : Core.Method) (k : ℕ) (name : Name) (ty : TypeName) : Type 0 where

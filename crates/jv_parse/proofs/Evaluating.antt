@@ -90,7 +90,7 @@ prints_none true true (x ∷ y ∷ xs) h = refl
 -- one that does not print is evaluated
 pub call_is : (d : ℕ) (p at : Place) (r : KeptExpr) (n : Name) (xs : List KeptExpr) → does_print r n xs ≡ false
     → eval_if d p (MethodCall at (expr_of r) n (exprs_of (map expr_of xs))) ≡ evaluated d p
-        (MethodCall at (expr_of r) n (exprs_of (map expr_of xs)))
+    (MethodCall at (expr_of r) n (exprs_of (map expr_of xs)))
 call_is d p at r n xs h =
     let call = MethodCall at (expr_of r) n (exprs_of (map expr_of xs)) in
     sym (ap (evaluated_by d p call) (prints_none (is_out (expr_of r)) (bytes_eq n (codes "println")) xs h))
@@ -99,4 +99,4 @@ pub prints_are : (b v : Bool) (r s : KeptExpr) (n m : Name) (xs ys : List KeptEx
     xs ≡ ys → does_print s m ys ≡ v
 prints_are b v r s n m xs ys is was e f g =
     ap (λ (t : KeptExpr). does_print t m ys) (sym e) ∙ ap (λ (k : Name). does_print r k ys) (sym f) ∙ ap (does_print r n) (sym g) ∙ sym is ∙
-        was
+    was

@@ -94,7 +94,7 @@ pub args_start : (m d : ℕ) (ts : List Token) (x : Expr) (us : List Token) → 
 unfolding args_with expr_at
 args_start m d ts x us h =
     rw h (Left-start (is_sign signs.Comma) (next_arg_with (expr_at m d)) (x ∷ []) us
-        (with_front (x ∷ []) (all_of (is_sign signs.Comma) (next_arg_with (expr_at m d)) us)) refl)
+    (with_front (x ∷ []) (all_of (is_sign signs.Comma) (next_arg_with (expr_at m d)) us)) refl)
 
 pub args_fails : (e : Halt) (m d : ℕ) (ts : List Token) → Fails e (binary_at m 6 d ts) → Fails e (args_with (expr_at m d) ts)
 unfolding args_with expr_at

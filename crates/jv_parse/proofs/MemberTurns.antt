@@ -30,11 +30,11 @@ methods-append (MethodMember m ∷ xs) ys = ap (λ (zs : List Method). m ∷ zs)
 
 -- what is left to read makes up the whole, where each kind is kept for itself
 pub record Sorting (fields : List Field) (methods : List Method) (rest : List Token) (total : Option (List Member × List Token)) : Type 0
-    where
-  pub front : List Member
-  pub left : Left not_closed member_at front rest total
-  pub fields_are : fields ≡ fields_among front
-  pub methods_are : methods ≡ methods_among front
+  where
+    pub front : List Member
+    pub left : Left not_closed member_at front rest total
+    pub fields_are : fields ≡ fields_among front
+    pub methods_are : methods ≡ methods_among front
 
 pub sorting_start : (ts : List Token) → Sorting [] [] ts (all_of not_closed member_at ts)
 sorting_start ts = record { front = []; left = Left-init not_closed member_at ts; fields_are = refl; methods_are = refl }
@@ -45,7 +45,7 @@ member_at_shorter ts x us h = member_shorter ts (x, us) h
 pub sorting_more : (fields more_fields : List Field) (methods more_methods : List Method) (ts us : List Token) (x : Member)
     (total : Option (List Member × List Token))
     → not_closed ts ≡ true → member_at ts ≡ Some (x, us) → more_fields ≡ fields ++ fields_among (x ∷ []) → more_methods ≡ methods
-        ++ methods_among (x ∷ [])
+    ++ methods_among (x ∷ [])
     → Sorting fields methods ts total → Sorting more_fields more_methods us total
 sorting_more fields more_fields methods more_methods ts us x total goes h f m s = record {
   front = s.front ++ x ∷ [];
@@ -65,7 +65,7 @@ pub sorting_done : (fields : List Field) (methods : List Method) (ts : List Toke
 sorting_done fields methods ts total stops s =
     ap sorted (Left-done not_closed member_at s.front ts total stops s.left)
     ∙ ap (λ (fs : List Field). Some ((fs, methods_among s.front), ts)) (sym s.fields_are) ∙
-        ap (λ (ms : List Method). Some ((fields, ms), ts)) (sym s.methods_are)
+    ap (λ (ms : List Method). Some ((fields, ms), ts)) (sym s.methods_are)
 
 -- ---- a class
 
@@ -80,7 +80,7 @@ closed_alike ms (Some c) = refl
 
 read_alike : (r : Option (List Member × List Token))
     → (sorted r >>= λ ms. sign_at signs.CloseBrace ms.1 >>= λ c. Some (ms.0, c.1)) ≡ sorted (r >>= λ ms. sign_at signs.CloseBrace ms.1
-        >>= λ c. Some (ms.0, c.1))
+    >>= λ c. Some (ms.0, c.1))
 read_alike None = refl
 read_alike (Some ms) = closed_alike ms.0 (sign_at signs.CloseBrace ms.1)
 
@@ -105,7 +105,7 @@ made_alike t n (Some ms) = refl
 
 named_alike : (t : Option (List ℕ)) (r : Option ((Place × Name) × List Token))
     → (r >>= λ n. members_at n.1 >>= λ ms. made t n.0 ((fields_among ms.0, methods_among ms.0), ms.1)) ≡
-        (r >>= λ n. sorted_members n.1 >>= made t n.0)
+    (r >>= λ n. sorted_members n.1 >>= made t n.0)
 named_alike t None = refl
 named_alike t (Some n) = made_alike t n.0 (members_at n.1) ∙ ap (λ (r : Rest). r >>= made t n.0) (sym (members_alike n.1))
 
@@ -117,7 +117,7 @@ begun_alike t (Some s) = named_alike t (name_at s.1)
 
 noted_alike : (r : Option (Option (List ℕ) × List Token))
     → (r >>= λ t. word_at (codes "class") (after_mods class_words t.1) >>= λ s. name_at s.1 >>= λ n. members_at n.1 >>= λ ms. made t.0 n.0
-        ((fields_among ms.0, methods_among ms.0), ms.1))
+    ((fields_among ms.0, methods_among ms.0), ms.1))
     ≡ (r >>= λ t. word_at (codes "class") (after_mods class_words t.1) >>= λ s. name_at s.1 >>= λ n. sorted_members n.1 >>= made t.0 n.0)
 noted_alike None = refl
 noted_alike (Some t) = begun_alike t.0 (word_at (codes "class") (after_mods class_words t.1))

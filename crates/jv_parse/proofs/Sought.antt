@@ -31,7 +31,7 @@ pub sought_here : (rest behind : List Token) (t : Token) (whole : List Token) (t
     → Sought rest whole → Judged IsUnsupported whole (Some (culprit t.place text))
 sought_here rest behind t whole text parts e s =
     s.sought (Some (culprit t.place text)) (subst (λ (ts : List Token). Judged IsUnsupported ts (Some (culprit t.place text))) (sym parts)
-        (here (text, e, refl)))
+    (here (text, e, refl)))
 
 pub sought_end : (rest whole : List Token) → length rest ≡ 0 → Sought rest whole → Judged IsUnsupported whole None
 sought_end [] whole e s = s.sought None clean

@@ -39,7 +39,7 @@ pub enum_joined : (o o1 o2 o3 name n constants names : List ℕ) → n ≡ name 
     o3 ≡ o ++ (codes "public enum " ++ (name ++ (codes " {\n    " ++ (constants ++ codes "\n}\n"))))
 enum_joined o o1 o2 o3 name n constants names en ec e1 e2 e3 =
     three o o1 o2 o3 _ names (codes "\n}\n") e1 e2 e3 ∙ ap (λ x. o ++ (codes "public enum " ++ x))
-        (append_assoc n (codes " {\n    ") (names ++ codes "\n}\n"))
+    (append_assoc n (codes " {\n    ") (names ++ codes "\n}\n"))
     ∙ ap (λ x. o ++ (codes "public enum " ++ (x ++ (codes " {\n    " ++ (names ++ codes "\n}\n"))))) en
     ∙ ap (λ x. o ++ (codes "public enum " ++ (name ++ (codes " {\n    " ++ (x ++ codes "\n}\n"))))) ec
 
@@ -56,14 +56,14 @@ pub annotated : (o o1 o2 o3 : List ℕ) (typestate : Option (List ℕ)) (text t 
     o3 ≡ o ++ annotation typestate
 annotated o o1 o2 o3 typestate text t is et e1 e2 e3 =
     three o o1 o2 o3 (codes "@Typestate(") (quoted_text t) (codes ")\n") e1 e2 e3 ∙ ap (λ x. o ++ annotation (Some x)) et ∙
-        ap (λ x. o ++ annotation x) (sym is)
+    ap (λ x. o ++ annotation x) (sym is)
 
 pub method_joined : (o o1 o2 o3 o4 o5 o6 static s ty t name n params ps body b : List ℕ) → s ≡ static → t ≡ ty → n ≡ name → ps ≡ params →
     b ≡ body →
     o1 ≡ o ++ (codes "    public " ++ (s ++ [])) → o2 ≡ o1 ++ (t ++ (codes " " ++ (n ++ codes "("))) → o3 ≡ o2 ++ ps → o4 ≡ o3 ++ codes ") "
-        → o5 ≡ o4 ++ b → o6 ≡ o5 ++ codes "\n" →
+    → o5 ≡ o4 ++ b → o6 ≡ o5 ++ codes "\n" →
     o6 ≡ o ++ (codes "    public "
-        ++ (static ++ (ty ++ (codes " " ++ (name ++ (codes "(" ++ (params ++ (codes ") " ++ (body ++ codes "\n")))))))))
+    ++ (static ++ (ty ++ (codes " " ++ (name ++ (codes "(" ++ (params ++ (codes ") " ++ (body ++ codes "\n")))))))))
 method_joined o o1 o2 o3 o4 o5 o6 static s ty t name n params ps body b es et en ep eb e1 e2 e3 e4 e5 e6 =
     let rest = ps ++ (codes ") " ++ (b ++ codes "\n")) in
     let tail = params ++ (codes ") " ++ (body ++ codes "\n")) in
@@ -74,9 +74,9 @@ method_joined o o1 o2 o3 o4 o5 o6 static s ty t name n params ps body b es et en
     ∙ ap (λ x. o ++ (codes "    public " ++ (static ++ (x ++ (codes " " ++ (n ++ (codes "(" ++ rest))))))) et
     ∙ ap (λ x. o ++ (codes "    public " ++ (static ++ (ty ++ (codes " " ++ (x ++ (codes "(" ++ rest))))))) en
     ∙ ap (λ x. o ++ (codes "    public "
-        ++ (static ++ (ty ++ (codes " " ++ (name ++ (codes "(" ++ (x ++ (codes ") " ++ (b ++ codes "\n")))))))))) ep
+    ++ (static ++ (ty ++ (codes " " ++ (name ++ (codes "(" ++ (x ++ (codes ") " ++ (b ++ codes "\n")))))))))) ep
     ∙ ap (λ x. o ++ (codes "    public "
-        ++ (static ++ (ty ++ (codes " " ++ (name ++ (codes "(" ++ (params ++ (codes ") " ++ (x ++ codes "\n")))))))))) eb
+    ++ (static ++ (ty ++ (codes " " ++ (name ++ (codes "(" ++ (params ++ (codes ") " ++ (x ++ codes "\n")))))))))) eb
 
 pub class_joined : (o o1 o2 o3 o4 o5 before name n fields fs methods ms : List ℕ) → n ≡ name → fs ≡ fields → ms ≡ methods →
     o1 ≡ o ++ before → o2 ≡ o1 ++ (codes "public class " ++ (n ++ codes " {\n")) → o3 ≡ o2 ++ fs → o4 ≡ o3 ++ ms → o5 ≡ o4 ++ codes "}\n" →
@@ -92,18 +92,18 @@ pub called_joined : (e : KeptExpr) (of : Box KeptExpr Global) (name : Name) (arg
     (given : List KeptExpr) (apart : Bool) →
     e.kind ≡ kinds.MethodCall of name args → n ≡ name → given ≡ args.items → apart ≡ is_apart (expr_of of.value) →
     o1 ≡ o ++ within apart (expr_text (expr_of of.value)) → o2 ≡ o1 ++ codes "." →
-        o3 ≡ o2 ++ call_text n (args_text [] (exprs_of (map expr_of given))) →
+    o3 ≡ o2 ++ call_text n (args_text [] (exprs_of (map expr_of given))) →
     o3 ≡ o ++ expr_text (expr_of e)
 called_joined e of name args o o1 o2 o3 n given apart is en eg ea e1 e2 e3 =
     three o o1 o2 o3 _ (codes ".") _ e1 e2 e3
     ∙ ap (λ (b : Bool). o ++ (within b (expr_text (expr_of of.value))
-        ++ (codes "." ++ call_text n (args_text [] (exprs_of (map expr_of given)))))) ea
+    ++ (codes "." ++ call_text n (args_text [] (exprs_of (map expr_of given)))))) ea
     ∙ ap (λ x. o ++ (within (is_apart (expr_of of.value)) (expr_text (expr_of of.value))
-        ++ (codes "." ++ call_text x (args_text [] (exprs_of (map expr_of given)))))) en
+    ++ (codes "." ++ call_text x (args_text [] (exprs_of (map expr_of given)))))) en
     ∙ ap (λ (x : List KeptExpr). o ++ (within (is_apart (expr_of of.value)) (expr_text (expr_of of.value))
-        ++ (codes "." ++ call_text name (args_text [] (exprs_of (map expr_of x)))))) eg
+    ++ (codes "." ++ call_text name (args_text [] (exprs_of (map expr_of x)))))) eg
     ∙ ap (λ (x : Expr). o ++ expr_text x)
-        (sym (expr_of-is e ∙ ap (λ (k : KeptExprKind). kind_of k e.place) is ∙ kind-MethodCall of name args e.place))
+    (sym (expr_of-is e ∙ ap (λ (k : KeptExprKind). kind_of k e.place) is ∙ kind-MethodCall of name args e.place))
 
 -- one more is written
 pub name_more : (out o1 o2 before : List ℕ) (names : List Name) (i : ℕ) (x y : Name) → i < length names → x ≡ get_or names i x → y ≡ x →
@@ -112,7 +112,7 @@ pub name_more : (out o1 o2 before : List ℕ) (names : List Name) (i : ℕ) (x y
 name_more out o1 o2 before names i x y within is same e1 e2 =
     let more = names_text (codes ", ") (drop (i + 1) names) in
     ap (λ z. out ++ z) (names-step before names i x within is) ∙ sym (append_assoc out before (x ++ more)) ∙ ap (λ z. z ++ (x ++ more))
-        (ap (λ z. out ++ z) (sym (append-nil before)) ∙ sym e1)
+    (ap (λ z. out ++ z) (sym (append-nil before)) ∙ sym e1)
     ∙ sym (append_assoc o1 x more) ∙ ap (λ z. z ++ more) (ap (λ z. o1 ++ z) (sym (append-nil y ∙ same)) ∙ sym e2)
 
 pub param_more : (out o1 o2 before : List ℕ) (ps : List Param) (i : ℕ) (x : Param) → i < length ps → x ≡ get_or ps i x →
@@ -121,7 +121,7 @@ pub param_more : (out o1 o2 before : List ℕ) (ps : List Param) (i : ℕ) (x : 
 param_more out o1 o2 before ps i x within is e1 e2 =
     let more = params_text (codes ", ") (drop (i + 1) ps) in
     ap (λ z. out ++ z) (params-step before ps i x within is) ∙ sym (append_assoc out before (param_text x ++ more)) ∙
-        ap (λ z. z ++ (param_text x ++ more)) (ap (λ z. out ++ z) (sym (append-nil before)) ∙ sym e1)
+    ap (λ z. z ++ (param_text x ++ more)) (ap (λ z. out ++ z) (sym (append-nil before)) ∙ sym e1)
     ∙ sym (append_assoc o1 (param_text x) more) ∙ ap (λ z. z ++ more) (sym e2)
 
 pub method_more : (out o1 : List ℕ) (ms : List MethodDecl) (i : ℕ) (x : MethodDecl) → i < length ms → x ≡ get_or ms i x →
@@ -130,4 +130,4 @@ pub method_more : (out o1 : List ℕ) (ms : List MethodDecl) (i : ℕ) (x : Meth
 method_more out o1 ms i x within is e =
     let more = flat_map method_lines (map method_of (drop (i + 1) ms)) in
     ap (λ z. out ++ z) (methods-step ms i x within is) ∙ sym (append_assoc out (method_lines (method_of x)) more) ∙ ap (λ z. z ++ more)
-        (sym e)
+    (sym e)

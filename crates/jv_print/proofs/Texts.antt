@@ -22,7 +22,7 @@ high [] h = refl
 high (b ∷ bs) h =
     let big : 128 ≤ b = h 0 (omega arith) in
     ap₂ (λ (x y : List ℕ). x ++ y) (plain b (λ e. omega arith) (λ e. omega arith) (λ e. omega arith) (λ e. omega arith) (λ e. omega arith)
-        (λ e. omega arith) (λ e. omega arith))
+    (λ e. omega arith) (λ e. omega arith))
     (high bs (λ k below. h (suc k) (omega arith)))
 
 high_char : (c : ℕ) → 128 ≤ c → flat_map character (encode c) ≡ encode c
@@ -49,7 +49,7 @@ pub one_more : (out : List ℕ) (cs : List ℕ) (c : ℕ) → (out ++ flat_map c
 one_more out cs c =
     append_assoc out _ _
     ∙ ap (λ x. out ++ x) (sym (flat_map-append character (encodes cs) (encode c)) ∙ ap (flat_map character)
-        (ap (λ x. encodes cs ++ x) (sym (append-nil (encode c))) ∙ sym (encodes-append cs (c ∷ []))))
+    (ap (λ x. encodes cs ++ x) (sym (append-nil (encode c))) ∙ sym (encodes-append cs (c ∷ []))))
 
 -- all characters are written, and stand between quotes
 pub all_written : (o1 o2 o3 o cs text quote : List ℕ) → IsUtf8 text → map (λ c. c) cs ≡ chars text → o1 ≡ o ++ quote →
@@ -57,5 +57,5 @@ pub all_written : (o1 o2 o3 o cs text quote : List ℕ) → IsUtf8 text → map 
     o3 ≡ o ++ (quote ++ (flat_map character text ++ quote))
 all_written o1 o2 o3 o cs text quote u all e1 e2 e3 =
     e3 ∙ ap (λ x. x ++ quote) (e2 ∙ ap (λ x. x ++ flat_map character (encodes cs)) e1) ∙
-        ap (λ x. ((o ++ quote) ++ flat_map character x) ++ quote) (ap encodes (sym (map-id cs) ∙ all) ∙ encodes-chars text u)
+    ap (λ x. ((o ++ quote) ++ flat_map character x) ++ quote) (ap encodes (sym (map-id cs) ∙ all) ∙ encodes-chars text u)
     ∙ append_assoc (o ++ quote) _ quote ∙ append_assoc o quote _

@@ -69,8 +69,14 @@ ungrammatical_told file bytes ts cut parses.Memory says refuses = λ a e. absurd
 
 pub spells_of : (file : ℕ) (bytes : List ℕ) (ts : List Token) (f : File) → Cut file bytes ts → Judged IsUnsupported ts None × files.Spells f
     ts → Spells file bytes f
-spells_of file bytes ts f cut (supported, spelled) = record { size = cut.size; tokens = ts; cut = cut.tokens; supported =
-    supported; spelled = spelled }
+spells_of file bytes ts f cut (supported, spelled) = record {
+  size = cut.size;
+  tokens = ts;
+  cut = cut.tokens;
+  supported =
+      supported;
+  spelled = spelled;
+}
 
 -- ---- the whole
 

@@ -86,7 +86,7 @@ module _ (file : ℕ) (bytes : List ℕ) where
   same_text ts us p q v w a b h g =
       let same : ◌≡◌ {A = Option Culprit} (Some (culprit p v)) (Some (culprit q w)) =
       one_answer single (subst (λ (xs : List Token). Judged IsUnsupported xs (Some (culprit p v))) (same_tokens file ts us bytes a b) h) g
-          in
+      in
       let places : p ≡ q = cc in
       let texts : v ≡ w = cc in
       λ i. Unsupported (places i) (texts i)

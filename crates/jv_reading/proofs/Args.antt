@@ -127,10 +127,10 @@ module _ (f : Reads) (G : Language) (d : ℕ) (reading : Reading f (Within G d))
   args_complete e more ts rest fine stops (us, vs, parts, g, others) le =
       let others_each = more_each more vs others (omega arith) in
       let follows = each_follows (is_sign signs.Comma) (next_arg_with f) NextArg (Ends 6) next_exact next_starts (list_of more) vs rest fine
-            others_each in
+      others_each in
       let first = reading.exact.complete e us (vs ++ rest) follows (g, omega arith) in
       let all = all_complete (is_sign signs.Comma) (next_arg_with f) NextArg (Ends 6) next_exact next_starts (list_of more) vs rest fine
-            stops others_each in
+      stops others_each in
       rw (parts, append_assoc, first, all) refl
 
   closed_args_sound : (ts : List Token) (x : List Expr × List Token) → closed_args_with f ts ≡ Some x
@@ -141,15 +141,19 @@ module _ (f : Reads) (G : Language) (d : ℕ) (reading : Reading f (Within G d))
         | inl t ↦
             let c = bind_some (sign_at signs.CloseParen ts) _ x t.1 in
             subst (λ (y : List Expr × List Token). Takes (λ us. (b : Place) × (vs : List Token) × (us ≡ vs ++ sign b signs.CloseParen ∷ [])
-                × Spelled y.0 vs) ts y.1) (some_is _ x c.2)
-            (record { front = sign c.0.0 signs.CloseParen ∷ []; parts = sign_is signs.CloseParen ts c.0 c.1; holds =
-                (c.0.0, [], refl, (refl, omega arith)) })
+            × Spelled y.0 vs) ts y.1) (some_is _ x c.2)
+            (record {
+              front = sign c.0.0 signs.CloseParen ∷ [];
+              parts = sign_is signs.CloseParen ts c.0 c.1;
+              holds =
+                  (c.0.0, [], refl, (refl, omega arith));
+            })
         | inr t ↦
             let a = bind_some (args_with f ts) _ x t.1 in
             let c = bind_some (sign_at signs.CloseParen a.0.1) _ x a.2 in
             let one = args_sound ts a.0 a.1 in
             subst (λ (y : List Expr × List Token). Takes (λ us. (b : Place) × (vs : List Token) × (us ≡ vs ++ sign b signs.CloseParen ∷ [])
-                × Spelled y.0 vs) ts y.1) (some_is _ x c.2)
+            × Spelled y.0 vs) ts y.1) (some_is _ x c.2)
             (record {
               front = one.front ++ sign c.0.0 signs.CloseParen ∷ [];
               parts = glue one.front (sign c.0.0 signs.CloseParen ∷ []) c.0.1 one.parts (sign_is signs.CloseParen a.0.1 c.0 c.1);
@@ -196,7 +200,7 @@ module _ (f : Reads) (G : Language) (d : ℕ) (reading : Reading f (Within G d))
       let c = bind_some (sign_at signs.CloseParen a.0.1) _ x a.2 in
       let one = reading.exact.sound ts a.0 a.1 in
       subst (λ (y : Expr × List Token). Takes (λ us. (b : Place) × (vs : List Token) × (us ≡ vs ++ sign b signs.CloseParen ∷ [])
-          × Within G d y.0 vs) ts y.1) (some_is _ x c.2)
+      × Within G d y.0 vs) ts y.1) (some_is _ x c.2)
       (record {
         front = one.front ++ sign c.0.0 signs.CloseParen ∷ [];
         parts = glue one.front (sign c.0.0 signs.CloseParen ∷ []) c.0.1 one.parts (sign_is signs.CloseParen a.0.1 c.0 c.1);

@@ -42,7 +42,7 @@ compound_is (t ∷ ts) x e = by_kind t.place t.kind e where
   by_kind p (kinds.Sign s) e =
       let o = bind_some (compound s) _ x e in
       subst (λ (y : Op × List Token). (q : Place) × (r : Sign) × (sign p s ∷ ts ≡ sign q r ∷ y.1) × (compound r ≡ Some y.0))
-          (some_is (o.0, ts) x o.2) (p, s, refl, o.1)
+      (some_is (o.0, ts) x o.2) (p, s, refl, o.1)
   by_kind p (kinds.Word w) e = absurd (none_is_not x e)
   by_kind p (kinds.Number n) e = absurd (none_is_not x e)
   by_kind p (kinds.Text t) e = absurd (none_is_not x e)
@@ -56,7 +56,7 @@ counter_is (t ∷ ts) x e = by_kind t.place t.kind e where
   by_kind p (kinds.Sign s) e =
       let o = bind_some (counter s) _ x e in
       subst (λ (y : (Place × Op) × List Token). (r : Sign) × (sign p s ∷ ts ≡ sign y.0.0 r ∷ y.1) × (counter r ≡ Some y.0.1))
-          (some_is ((p, o.0), ts) x o.2) (s, refl, o.1)
+      (some_is ((p, o.0), ts) x o.2) (s, refl, o.1)
   by_kind p (kinds.Word w) e = absurd (none_is_not x e)
   by_kind p (kinds.Number n) e = absurd (none_is_not x e)
   by_kind p (kinds.Text t) e = absurd (none_is_not x e)
@@ -155,7 +155,7 @@ target_sound ts x e =
           let n = bind_some (name_at b.0.1) _ x b.2 in
           let name = name_is b.0.1 n.0 n.1 in
           subst (λ (y : Expr × List Token). Takes (λ us. IsTarget y.0 us × (depth y.0 ≤ 2)) ts y.1)
-              (some_is (Member a.0.0 (This a.0.0) n.0.0.1, n.0.1) x n.2)
+          (some_is (Member a.0.0 (This a.0.0) n.0.0.1, n.0.1) x n.2)
           (record {
             front = word a.0.0 (codes "this") ∷ sign b.0.0 signs.Dot ∷ word n.0.0.0 n.0.0.1 ∷ [];
             parts = after (word_is (codes "this") ts a.0 a.1) (after (sign_is signs.Dot a.0.1 b.0 b.1) name.0);
@@ -165,7 +165,7 @@ target_sound ts x e =
           let n = bind_some (name_at ts) _ x f.1 in
           let name = name_is ts n.0 n.1 in
           subst (λ (y : Expr × List Token). Takes (λ us. IsTarget y.0 us × (depth y.0 ≤ 2)) ts y.1)
-              (some_is (Variable n.0.0.0 n.0.0.1, n.0.1) x n.2)
+          (some_is (Variable n.0.0.0 n.0.0.1, n.0.1) x n.2)
           (record { front = word n.0.0.0 n.0.0.1 ∷ []; parts = name.0; holds = ((name.1, refl), omega arith) })
     ]
 
@@ -242,8 +242,11 @@ assigned_is : (d : ℕ) (p : Place) (t v : Expr) (ts : List Token) (x : Stmt × 
     ((Assign p t v, ts) ≡ x) × (depth t ≤ d) × (depth v ≤ d)
 assigned_is d p t v ts x e =
     elim (chosen (leb (depth t) d && leb (depth v) d) _ _ (Some x) e) [
-      | inl h ↦ let both = and_is (leb (depth t) d) (leb (depth v) d) h.0 in (some_is (Assign p t v, ts) x h.1, leb-true (depth t) d both.0,
-          leb-true (depth v) d both.1)
+      | inl h ↦ let both = and_is (leb (depth t) d) (leb (depth v) d) h.0 in (
+        some_is (Assign p t v, ts) x h.1,
+        leb-true (depth t) d both.0,
+        leb-true (depth v) d both.1,
+      )
       | inr f ↦ absurd (none_is_not x f.1)
     ] where
       and_is : (a b : Bool) → (a && b) ≡ true → (a ≡ true) × (b ≡ true)
@@ -269,8 +272,10 @@ change_sound d t us ts x target e =
           (record {
             front = sign a.0.0 signs.Assign ∷ one.front;
             parts = after (sign_is signs.Assign ts a.0 a.1) one.parts;
-            holds = (inl (refl, a.0.0, c, us, vs, ap (λ (z : List Token). us ++ sign a.0.0 signs.Assign ∷ z) parts, target, free),
-                omega (arith, made.1, made.2));
+            holds = (
+              inl (refl, a.0.0, c, us, vs, ap (λ (z : List Token). us ++ sign a.0.0 signs.Assign ∷ z) parts, target, free),
+              omega (arith, made.1, made.2),
+            );
           })
       | inr f ↦ elim (chosen (is_counter ts) _ _ (Some x) f.1) [
         | inl h ↦
@@ -295,8 +300,24 @@ change_sound d t us ts x target e =
             (record {
               front = sign at.0 at.1 ∷ one.front;
               parts = after at.2 one.parts;
-              holds = (inr (inl (refl, at.1, o.0.0, v.0.0, at.0, c, us, vs, ap (λ (z : List Token). us ++ sign at.0 at.1 ∷ z) parts, at.3,
-                  refl, target, free)), omega (arith, made.1, made.2));
+              holds = (
+                inr (inl (
+                  refl,
+                  at.1,
+                  o.0.0,
+                  v.0.0,
+                  at.0,
+                  c,
+                  us,
+                  vs,
+                  ap (λ (z : List Token). us ++ sign at.0 at.1 ∷ z) parts,
+                  at.3,
+                  refl,
+                  target,
+                  free,
+                )),
+                omega (arith, made.1, made.2),
+              );
             })
       ]
     ]
@@ -343,7 +364,7 @@ assign_complete d p t v ts rest (inr (inl (place, s, o, e, a, b, us, vs, parts, 
     let deep : suc (max (depth t) (depth e)) ≤ d = omega (arith, ap depth is) in
     let value = (ended_exact d).complete e (vs ++ sign b signs.Semicolon ∷ []) rest tt (b, vs, refl, free, omega arith) in
     rw (parts, append_assoc, quiet, reads, alone.0, alone.1, comp, value, place, is) (assigned_again d (place_of t) t (changed o t e) rest
-        (omega arith) deep)
+    (omega arith) deep)
 assign_complete d p t v ts rest (inr (inr (inl (place, s, o, a, b, us, parts, count, is, target))), le) =
     let behind : List Token = sign a s ∷ sign b signs.Semicolon ∷ rest in
     let quiet = target_no_counter t us behind target in
@@ -351,7 +372,7 @@ assign_complete d p t v ts rest (inr (inr (inl (place, s, o, a, b, us, parts, co
     let alone = counter_alone s o count in
     let deep : suc (max (depth t) 1) ≤ d = omega (arith, ap depth is) in
     rw (parts, append_assoc, quiet, reads, alone.0, count, place, is) (assigned_again d (place_of t) t (changed o t (one_at t)) rest
-        (omega arith) deep)
+    (omega arith) deep)
 assign_complete d p t v ts rest (inr (inr (inr (s, o, b, us, parts, count, is, target))), le) =
     let reads = target_complete t us (sign b signs.Semicolon ∷ rest) target in
     let deep : suc (max (depth t) 1) ≤ d = omega (arith, ap depth is) in

@@ -74,18 +74,33 @@ begins_no_word w us free b = rw b.parts (by_kind b.token.kind b.kind) where
 module _ (m : ℕ) (G : Language) where
   simple_begins : (e : Expr) (us : List Token) → IsSimple m G e us → Begins us
   simple_begins (Int p z) us (inl (n, less, value, parts)) = record { token = number p n; others = []; parts = parts; kind = refl }
-  simple_begins (Int p z) us (inr (n, q, less, value, parts)) = record { token = sign p signs.Minus; others = number q n ∷ []; parts =
-      parts; kind = refl }
+  simple_begins (Int p z) us (inr (n, q, less, value, parts)) = record {
+    token = sign p signs.Minus;
+    others = number q n ∷ [];
+    parts =
+        parts;
+    kind = refl;
+  }
   simple_begins (Truth p true) us parts = record { token = word p (codes "true"); others = []; parts = parts; kind = rw no_name_true refl }
-  simple_begins (Truth p false) us parts = record { token = word p (codes "false"); others = []; parts = parts; kind =
-      rw no_name_false refl }
+  simple_begins (Truth p false) us parts = record {
+    token = word p (codes "false");
+    others = [];
+    parts = parts;
+    kind =
+        rw no_name_false refl;
+  }
   simple_begins (Text p t) us parts = record { token = quoted p t; others = []; parts = parts; kind = refl }
   simple_begins (Null p) us parts = record { token = word p (codes "null"); others = []; parts = parts; kind = rw no_name_null refl }
   simple_begins (This p) us parts = record { token = word p (codes "this"); others = []; parts = parts; kind = rw no_name_this refl }
   simple_begins (Variable p n) us (name, parts) = record { token = word p n; others = []; parts = parts; kind = rw name refl }
   simple_begins (Call p n args) us (name, vs, parts, h) = record { token = word p n; others = vs; parts = parts; kind = rw name refl }
-  simple_begins (New p n) us (less, name, a, b, c, parts) = record { token = word p (codes "new"); others = _; parts = parts; kind =
-      rw no_name_new refl }
+  simple_begins (New p n) us (less, name, a, b, c, parts) = record {
+    token = word p (codes "new");
+    others = _;
+    parts = parts;
+    kind =
+        rw no_name_new refl;
+  }
   simple_begins (Member p e n) us h = absurd h
   simple_begins (Neg p e) us h = absurd h
   simple_begins (Not p e) us h = absurd h
@@ -94,8 +109,12 @@ module _ (m : ℕ) (G : Language) where
 
   primary_begins : (e : Expr) (us : List Token) → IsPrimary m G e us → Begins us
   primary_begins e us (inl h) = simple_begins e us h
-  primary_begins e us (inr (a, b, vs, parts, h)) = record { token = sign a signs.OpenParen; others = vs ++ sign b signs.CloseParen ∷ [];
-      parts = parts; kind = refl }
+  primary_begins e us (inr (a, b, vs, parts, h)) = record {
+    token = sign a signs.OpenParen;
+    others = vs ++ sign b signs.CloseParen ∷ [];
+    parts = parts;
+    kind = refl;
+  }
 
   pub post_begins : (e : Expr) (us : List Token) → IsPost m G e us → Begins us
   post_begins (Int p z) us h = primary_begins (Int p z) us h

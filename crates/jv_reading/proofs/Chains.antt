@@ -95,7 +95,7 @@ op_is k (t ∷ ts) x e = by_kind t.place t.kind e where
       elim (chosen (eqb (looseness o) k) _ _ (Some x) e) [
         | inl t ↦
             subst (λ (y : Op × List Token). (q : Place) × (sign p s ∷ ts ≡ sign q (sign_of y.0) ∷ y.1) × (looseness y.0 ≡ k))
-                (some_is (o, ts) x t.1)
+            (some_is (o, ts) x t.1)
             (p, ap (λ (z : Sign). sign p z ∷ ts) (operator_is s o h), eqb-true (looseness o) k t.0)
         | inr f ↦ absurd (none_is_not x f.1)
       ]
@@ -183,7 +183,7 @@ module _ (k : ℕ) (part : ℕ → Reads) (P : Language) (exact : (d : ℕ) → 
       let s = bind_some (part d ts) _ x e in
       let one = (exact d).sound ts s.0 s.1 in
       let more = grow_sound (is_op k) step Chain step_sound (suc (length s.0.1)) s.0.0 one.front s.0.1 x
-            (chain_base s.0.0 one.front one.holds.0, one.holds.1) s.2 in
+      (chain_base s.0.0 one.front one.holds.0, one.holds.1) s.2 in
       record { front = one.front ++ more.front; parts = glue one.front more.front x.1 one.parts more.parts; holds = more.holds }
 
   -- Behind the tokens of a chain the reader is at this chain, having begun with its first part.
@@ -199,8 +199,17 @@ module _ (k : ℕ) (part : ℕ → Reads) (P : Language) (exact : (d : ℕ) → 
 
   begun_alone : (e : Expr) (us rest : List Token) → Ends k rest → P e us → depth e ≤ d → Begun e us rest
   begun_alone e us rest fine h le =
-      record { first = e; front = us; back = []; parts = sym (append-nil us); begins = h; less = le; ends = fine; goes =
-          Reaches-here (is_op k) step e rest }
+      record {
+        first = e;
+        front = us;
+        back = [];
+        parts = sym (append-nil us);
+        begins = h;
+        less = le;
+        ends = fine;
+        goes =
+            Reaches-here (is_op k) step e rest;
+      }
 
   begun_more : (e f : Expr) (us vs rest : List Token) → Begun e us (vs ++ rest) → is_op k (vs ++ rest) ≡ true →
       step e (vs ++ rest) ≡ Some (f, rest) → 0 < length vs → Begun f (us ++ vs) rest
@@ -238,11 +247,11 @@ module _ (k : ℕ) (part : ℕ → Reads) (P : Language) (exact : (d : ℕ) → 
       let comes = op_again k o a (ws ++ rest) loose in
       let goes : is_op k (tail ++ rest) ≡ true = rw comes refl in
       let whole : fits d (Binary (place_of l) o l r) rest ≡ Some (Binary p o l r, rest) =
-            rw place (fits_again d (Binary (place_of l) o l r) rest le) in
+      rw place (fits_again d (Binary (place_of l) o l r) rest le) in
       let reads : step l (tail ++ rest) ≡ Some (Binary p o l r, rest) =
-            rw (comes, (exact (d - 1)).complete r ws rest fine (right, omega arith)) whole in
+      rw (comes, (exact (d - 1)).complete r ws rest fine (right, omega arith)) whole in
       subst (λ (z : List Token). Begun (Binary p o l r) z rest) (sym parts) (begun_more l (Binary p o l r) vs tail rest before goes reads
-          (omega arith))
+      (omega arith))
   begun (Call p n args) us rest fine h le = begun_alone (Call p n args) us rest fine h le
   begun (MethodCall p e n args) us rest fine h le = begun_alone (MethodCall p e n args) us rest fine h le
   begun (New p n) us rest fine h le = begun_alone (New p n) us rest fine h le

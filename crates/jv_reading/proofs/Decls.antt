@@ -86,11 +86,17 @@ class_sound ts x e =
     let name = name_is k.0.1 n.0 n.1 in
     let body = members_exact.sound n.0.1 ms.0 ms.1 in
     let (b, g, ws, parts, members, lf, lm) = body.holds in
-    let c : Class = record { place = n.0.0.0; name = n.0.0.1; typestate = a.0.0; fields = fields_among ms.0.0; methods =
-          methods_among ms.0.0 } in
+    let c : Class = record {
+      place = n.0.0.0;
+      name = n.0.0.1;
+      typestate = a.0.0;
+      fields = fields_among ms.0.0;
+      methods =
+          methods_among ms.0.0;
+    } in
     let head : List Token = word k.0.0 (codes "class") ∷ word n.0.0.0 n.0.0.1 ∷ body.front in
     let behind_mods : after_mods class_words a.0.1 ≡ head ++ ms.0.1 = after (word_is (codes "class") (after_mods class_words a.0.1) k.0 k.1)
-          (after name.0 body.parts) in
+    (after name.0 body.parts) in
     subst (λ (y : Class × List Token). Takes (DeepClass y.0) ts y.1) (some_is (c, ms.0.1) x ms.2)
     (record {
       front = note.front ++ (mods.0 ++ head);
@@ -141,9 +147,13 @@ more_names_exact = record { sound = sound; complete = complete } where
       let n = bind_some (name_at a.0.1) _ x a.2 in
       let name = name_is a.0.1 n.0 n.1 in
       subst (λ (y : Name × List Token). Takes (λ us. IsName y.0 × (a b : Place) × (us ≡ sign a signs.Comma ∷ word b y.0 ∷ [])) ts y.1)
-          (some_is (n.0.0.1, n.0.1) x n.2)
-      (record { front = sign a.0.0 signs.Comma ∷ word n.0.0.0 n.0.0.1 ∷ []; parts = after (sign_is signs.Comma ts a.0 a.1) name.0; holds =
-          (name.1, a.0.0, n.0.0.0, refl) })
+      (some_is (n.0.0.1, n.0.1) x n.2)
+      (record {
+        front = sign a.0.0 signs.Comma ∷ word n.0.0.0 n.0.0.1 ∷ [];
+        parts = after (sign_is signs.Comma ts a.0 a.1) name.0;
+        holds =
+            (name.1, a.0.0, n.0.0.0, refl);
+      })
 
   complete : (n : Name) (ts rest : List Token) → Anything rest → IsName n × (a b : Place) × (ts ≡ sign a signs.Comma ∷ word b n ∷ []) →
       next_name_at (ts ++ rest) ≡ Some (n, rest)
@@ -173,8 +183,13 @@ each_names (n ∷ ns) us (ps, qs, parts, (name, a, b, one), more) =
 
 names_each : (ns : List Name) (us : List Token) → AreMoreNames ns us → Each NextName ns us
 names_each [] us h = h
-names_each (n ∷ ns) us (name, a, b, vs, parts, more) = (sign a signs.Comma ∷ word b n ∷ [], vs, parts, (name, a, b, refl),
-    names_each ns vs more)
+names_each (n ∷ ns) us (name, a, b, vs, parts, more) = (
+  sign a signs.Comma ∷ word b n ∷ [],
+  vs,
+  parts,
+  (name, a, b, refl),
+  names_each ns vs more,
+)
 
 names_exact : IsExact names_at AreNames (λ ts. is_more_names ts ≡ false)
 unfolding names_at
@@ -186,14 +201,22 @@ names_exact = record { sound = sound; complete = complete } where
       let name = name_is ts n.0 n.1 in
       let more = all_sound is_more_names next_name_at NextName Anything more_names_exact n.0.1 b.0 b.1 in
       subst (λ (y : List Name × List Token). Takes (AreNames y.0) ts y.1) (some_is (n.0.0.1 ∷ b.0.0, b.0.1) x b.2)
-      (record { front = word n.0.0.0 n.0.0.1 ∷ more.front; parts = after name.0 more.parts; holds =
-          (name.1, n.0.0.0, more.front, refl, each_names b.0.0 more.front more.holds) })
+      (record {
+        front = word n.0.0.0 n.0.0.1 ∷ more.front;
+        parts = after name.0 more.parts;
+        holds =
+            (name.1, n.0.0.0, more.front, refl, each_names b.0.0 more.front more.holds);
+      })
 
   complete : (ns : List Name) (ts rest : List Token) → is_more_names rest ≡ false → AreNames ns ts → names_at (ts ++ rest) ≡ Some (ns, rest)
   complete [] ts rest fine h = absurd h
   complete (n ∷ ns) ts rest fine (name, a, us, parts, more) =
-      rw (parts, name, all_complete is_more_names next_name_at NextName Anything more_names_exact name_starts ns us rest tt fine
-          (names_each ns us more)) refl
+      rw (
+        parts,
+        name,
+        all_complete is_more_names next_name_at NextName Anything more_names_exact name_starts ns us rest tt fine
+            (names_each ns us more),
+      ) refl
 
 past_front : (s : Sign) (ts : List Token) → (us : List Token) × (ts ≡ us ++ past s ts) × ((us ≡ []) ⊎ ((a : Place) × (us ≡ sign a s ∷ [])))
 past_front s [] = ([], refl, inl refl)
@@ -236,20 +259,31 @@ enum_sound ts x e =
     let stop : List Token = sign c.0.0 signs.CloseBrace ∷ [] in
     let tail : ns.0.1 ≡ ((comma.0 ++ semicolon.0) ++ stop) ++ c.0.1 =
     glue (comma.0 ++ semicolon.0) stop c.0.1 (glue comma.0 semicolon.0 (past signs.Semicolon (past signs.Comma ns.0.1)) comma.1 semicolon.1)
-        (sign_is signs.CloseBrace (past signs.Semicolon (past signs.Comma ns.0.1)) c.0 c.1) in
+    (sign_is signs.CloseBrace (past signs.Semicolon (past signs.Comma ns.0.1)) c.0 c.1) in
     let made : Enum = record { place = n.0.0.0; name = n.0.0.1; constants = ns.0.0 } in
     let inside : List Token = names.front ++ ((comma.0 ++ semicolon.0) ++ stop) in
     let head : List Token = word k.0.0 (codes "enum") ∷ word n.0.0.0 n.0.0.1 ∷ sign b.0.0 signs.OpenBrace ∷ inside in
     let behind_mods : after_mods enum_words ts ≡ head ++ c.0.1 =
     after (word_is (codes "enum") (after_mods enum_words ts) k.0 k.1)
-        (after name.0 (after (sign_is signs.OpenBrace n.0.1 b.0 b.1) (glue names.front ((comma.0 ++ semicolon.0) ++ stop) c.0.1 names.parts
-        tail))) in
+    (after name.0 (after (sign_is signs.OpenBrace n.0.1 b.0 b.1) (glue names.front ((comma.0 ++ semicolon.0) ++ stop) c.0.1 names.parts
+    tail))) in
     subst (λ (y : Enum × List Token). Takes (IsEnum y.0) ts y.1) (some_is (made, c.0.1) x c.2)
     (record {
       front = mods.0 ++ head;
       parts = glue mods.0 head c.0.1 mods.1 behind_mods;
-      holds = (name.1, k.0.0, b.0.0, c.0.0, mods.0, names.front, comma.0 ++ semicolon.0, refl, mods.2, names.holds,
-          enum_end comma.0 semicolon.0 comma.2 semicolon.2);
+      holds = (
+        name.1,
+        k.0.0,
+        b.0.0,
+        c.0.0,
+        mods.0,
+        names.front,
+        comma.0 ++ semicolon.0,
+        refl,
+        mods.2,
+        names.holds,
+        enum_end comma.0 semicolon.0 comma.2 semicolon.2,
+      );
     })
 
 enum_complete : (e : Enum) (ts rest : List Token) → IsEnum e ts → enum_at (ts ++ rest) ≡ Some (e, rest)
@@ -263,7 +297,7 @@ enum_complete e ts rest (name, a, b, c, us, vs, ws, parts, mods, names, ends) =
     rw (parts, append_assoc, first, name, append_assoc, append_assoc, second, stops.1) refl where
       ended : (ws : List Token) → IsEnumEnd ws
           → (is_more_names (ws ++ sign c signs.CloseBrace ∷ rest) ≡ false)
-              × (past signs.Semicolon (past signs.Comma (ws ++ sign c signs.CloseBrace ∷ rest)) ≡ sign c signs.CloseBrace ∷ rest)
+          × (past signs.Semicolon (past signs.Comma (ws ++ sign c signs.CloseBrace ∷ rest)) ≡ sign c signs.CloseBrace ∷ rest)
       ended ws (inl h) = rw h (refl, refl)
       ended ws (inr (inl (p, h))) = rw h (refl, refl)
       ended ws (inr (inr (inl (p, h)))) = rw h (refl, refl)
@@ -308,7 +342,7 @@ class_no_enum c ts rest (name, a, b, g, us, vs, ws, parts, note, mods, ms, membe
 enum_is_enum : (e : Enum) (ts rest : List Token) → IsEnum e ts → is_enum (ts ++ rest) ≡ true
 enum_is_enum e ts rest (name, a, b, c, us, vs, ws, parts, mods, names, ends) =
     let back : List Token = word a (codes "enum") ∷ word e.place e.name ∷ sign b signs.OpenBrace ∷
-          ((vs ++ (ws ++ sign c signs.CloseBrace ∷ [])) ++ rest) in
+    ((vs ++ (ws ++ sign c signs.CloseBrace ∷ [])) ++ rest) in
     rw (parts, append_assoc, (mods_again enum_words us back mods refl refl).0) refl
 
 decl_sound : (ts : List Token) (x : Decl × List Token) → decl_at ts ≡ Some x → Takes (DeepDecl x.0) ts x.1
@@ -319,12 +353,12 @@ decl_sound ts x e =
           let d = bind_some (enum_at ts) _ x t.1 in
           let one = enum_sound ts d.0 d.1 in
           subst (λ (y : Decl × List Token). Takes (DeepDecl y.0) ts y.1) (some_is (EnumDecl d.0.0, d.0.1) x d.2)
-              (record { front = one.front; parts = one.parts; holds = (one.holds, omega arith) })
+          (record { front = one.front; parts = one.parts; holds = (one.holds, omega arith) })
       | inr t ↦
           let d = bind_some (class_at ts) _ x t.1 in
           let one = class_sound ts d.0 d.1 in
           subst (λ (y : Decl × List Token). Takes (DeepDecl y.0) ts y.1) (some_is (ClassDecl d.0.0, d.0.1) x d.2)
-              (record { front = one.front; parts = one.parts; holds = one.holds })
+          (record { front = one.front; parts = one.parts; holds = one.holds })
     ]
 
 decl_complete : (x : Decl) (ts rest : List Token) → Anything rest → DeepDecl x ts → decl_at (ts ++ rest) ≡ Some (x, rest)
@@ -340,8 +374,12 @@ decl_some (ClassDecl c) ts ((name, a, b, g, us, vs, ws, parts, note, mods, ms, m
     let head : List Token = word a (codes "class") ∷ word c.place c.name ∷ sign b signs.OpenBrace ∷ (ws ++ sign g signs.CloseBrace ∷ []) in
     omega (arith, ap length parts, length-append us (vs ++ head), length-append vs head)
 decl_some (EnumDecl e) ts ((name, a, b, c, us, vs, ws, parts, mods, names, ends), le) =
-    omega (arith, ap length parts, length-append us (word a (codes "enum") ∷ word e.place e.name ∷ sign b signs.OpenBrace ∷
-        (vs ++ (ws ++ sign c signs.CloseBrace ∷ []))))
+    omega (
+      arith,
+      ap length parts,
+      length-append us (word a (codes "enum") ∷ word e.place e.name ∷ sign b signs.OpenBrace ∷
+          (vs ++ (ws ++ sign c signs.CloseBrace ∷ []))),
+    )
 
 some_goes : (ts rest : List Token) → 0 < length ts → is_some_token (ts ++ rest) ≡ true
 some_goes [] rest h = absurd (omega arith)
@@ -377,8 +415,12 @@ step_exact = record { sound = sound; complete = complete } where
       let n = bind_some (name_at a.0.1) _ x a.2 in
       let name = name_is a.0.1 n.0 n.1 in
       subst (λ (y : Name × List Token). Takes (NextStep y.0) ts y.1) (some_is (n.0.0.1, n.0.1) x n.2)
-      (record { front = sign a.0.0 signs.Dot ∷ word n.0.0.0 n.0.0.1 ∷ []; parts = after (sign_is signs.Dot ts a.0 a.1) name.0; holds =
-          (name.1, a.0.0, n.0.0.0, refl) })
+      (record {
+        front = sign a.0.0 signs.Dot ∷ word n.0.0.0 n.0.0.1 ∷ [];
+        parts = after (sign_is signs.Dot ts a.0 a.1) name.0;
+        holds =
+            (name.1, a.0.0, n.0.0.0, refl);
+      })
 
   complete : (n : Name) (ts rest : List Token) → Anything rest → NextStep n ts → next_step_at (ts ++ rest) ≡ Some (n, rest)
   complete n ts rest fine (name, a, b, parts) = rw (parts, name) refl
@@ -404,8 +446,13 @@ each_steps (n ∷ ns) us (ps, qs, parts, (name, a, b, one), more) =
 
 steps_each : (ns : List Name) (us : List Token) → AreMoreSteps ns us → Each NextStep ns us
 steps_each [] us h = h
-steps_each (n ∷ ns) us (name, a, b, vs, parts, more) = (sign a signs.Dot ∷ word b n ∷ [], vs, parts, (name, a, b, refl),
-    steps_each ns vs more)
+steps_each (n ∷ ns) us (name, a, b, vs, parts, more) = (
+  sign a signs.Dot ∷ word b n ∷ [],
+  vs,
+  parts,
+  (name, a, b, refl),
+  steps_each ns vs more,
+)
 
 path_sound : (ts : List Token) (x : List Name × List Token) → path_at ts ≡ Some x → Takes IsPath ts x.1
 unfolding path_at
@@ -415,8 +462,12 @@ path_sound ts x e =
     let name = name_is ts n.0 n.1 in
     let more = all_sound is_more_steps next_step_at NextStep Anything step_exact n.0.1 b.0 b.1 in
     subst (λ (y : List Name × List Token). Takes IsPath ts y.1) (some_is (n.0.0.1 ∷ b.0.0, b.0.1) x b.2)
-    (record { front = word n.0.0.0 n.0.0.1 ∷ more.front; parts = after name.0 more.parts; holds =
-        (n.0.0.1, b.0.0, name.1, n.0.0.0, more.front, refl, each_steps b.0.0 more.front more.holds) })
+    (record {
+      front = word n.0.0.0 n.0.0.1 ∷ more.front;
+      parts = after name.0 more.parts;
+      holds =
+          (n.0.0.1, b.0.0, name.1, n.0.0.0, more.front, refl, each_steps b.0.0 more.front more.holds);
+    })
 
 -- some names, and what follows the path
 abbrev PathRead : List Token → List Token → Type 0
@@ -424,9 +475,15 @@ PathRead ts rest = (ns : List Name) × (path_at ts ≡ Some (ns, rest))
 
 path_complete : (ts rest : List Token) → is_more_steps rest ≡ false → IsPath ts → PathRead (ts ++ rest) rest
 unfolding path_at
-path_complete ts rest fine (n, ns, name, a, us, parts, more) =
-    (n ∷ ns, rw (parts, name, all_complete is_more_steps next_step_at NextStep Anything step_exact step_starts ns us rest tt fine
-        (steps_each ns us more)) refl)
+path_complete ts rest fine (n, ns, name, a, us, parts, more) = (
+  n ∷ ns,
+  rw (
+    parts,
+    name,
+    all_complete is_more_steps next_step_at NextStep Anything step_exact step_starts ns us rest tt fine
+        (steps_each ns us more),
+  ) refl,
+)
 
 package_sound : (ts rest : List Token) → package_at ts ≡ Some rest → Takes IsPackage ts rest
 unfolding package_at
@@ -477,8 +534,12 @@ star_sound ts rest e =
       | inr t ↦
           let c = bind_some (sign_at signs.Semicolon ts) _ rest t.1 in
           subst (λ (y : List Token). Takes StarEnd ts y) (some_is c.0.1 rest c.2)
-              (record { front = sign c.0.0 signs.Semicolon ∷ []; parts = sign_is signs.Semicolon ts c.0 c.1; holds =
-              (c.0.0, [], refl, inl refl) })
+          (record {
+            front = sign c.0.0 signs.Semicolon ∷ [];
+            parts = sign_is signs.Semicolon ts c.0 c.1;
+            holds =
+                (c.0.0, [], refl, inl refl);
+          })
     ]
 
 import_sound : (ts : List Token) (x : Unit {0} × List Token) → import_at ts ≡ Some x → Takes IsImport ts x.1
@@ -563,22 +624,36 @@ mods_no_word : (words : List Name) (w : Name) (us rest : List Token) → AreModi
 mods_no_word words w [] rest h lacks k = k
 mods_no_word words w (t ∷ us) rest h lacks k =
     by_kind t.kind (and_is (is_kind_among words t.kind) (list_all (λ u. is_kind_among words u.kind) us) h).0 where
-  by_word : (v : Name) → is_among words v ≡ true → (b : Bool) → bytes_eq v w ≡ b → b ≡ false
-  by_word v among false e = refl
-  by_word v among true e = absurd (true≢false (sym among ∙ ap (is_among words) ((bytes_eq-Decides v w).0 e) ∙ lacks))
+      by_word : (v : Name) → is_among words v ≡ true → (b : Bool) → bytes_eq v w ≡ b → b ≡ false
+      by_word v among false e = refl
+      by_word v among true e = absurd (true≢false (sym among ∙ ap (is_among words) ((bytes_eq-Decides v w).0 e) ∙ lacks))
 
-  by_kind : (q : TokenKind) → is_kind_among words q ≡ true → is_word_kind w q ≡ false
-  by_kind (kinds.Word v) e = by_word v e (bytes_eq v w) refl
-  by_kind (kinds.Number n) e = absurd cc
-  by_kind (kinds.Text q) e = absurd cc
-  by_kind (kinds.Sign q) e = absurd cc
+      by_kind : (q : TokenKind) → is_kind_among words q ≡ true → is_word_kind w q ≡ false
+      by_kind (kinds.Word v) e = by_word v e (bytes_eq v w) refl
+      by_kind (kinds.Number n) e = absurd cc
+      by_kind (kinds.Text q) e = absurd cc
+      by_kind (kinds.Sign q) e = absurd cc
 
 -- a declaration begins with no other word than its own
 decl_led : (w : Name) (x : Decl) (ts rest : List Token) → is_among class_words w ≡ false → is_among enum_words w ≡ false →
     bytes_eq (codes "class") w ≡ false → bytes_eq (codes "enum") w ≡ false → IsDecl x ts
     → is_word w (ts ++ rest) ≡ false
-decl_led w (ClassDecl c) ts rest no_class no_enum other another (name, a, b, g, us, vs, ws, parts, note, mods, ms, members, fields,
-    methods) = rw (parts, append_assoc) (by_note c.typestate us note) where
+decl_led w (ClassDecl c) ts rest no_class no_enum other another (
+  name,
+  a,
+  b,
+  g,
+  us,
+  vs,
+  ws,
+  parts,
+  note,
+  mods,
+  ms,
+  members,
+  fields,
+  methods,
+) = rw (parts, append_assoc) (by_note c.typestate us note) where
   head : List Token
   head = word a (codes "class") ∷ word c.place c.name ∷ sign b signs.OpenBrace ∷ (ws ++ sign g signs.CloseBrace ∷ [])
 
@@ -587,7 +662,7 @@ decl_led w (ClassDecl c) ts rest no_class no_enum other another (name, a, b, g, 
   by_note (Some t) us (p, q, r, s, u, h) = rw h refl
 decl_led w (EnumDecl e) ts rest no_class no_enum other another (name, a, b, c, us, vs, ws, parts, mods, names, ends) =
     rw (parts, append_assoc) (mods_no_word enum_words w us (word a (codes "enum") ∷ word e.place e.name ∷ sign b signs.OpenBrace ∷
-        ((vs ++ (ws ++ sign c signs.CloseBrace ∷ [])) ++ rest)) mods no_enum another)
+    ((vs ++ (ws ++ sign c signs.CloseBrace ∷ [])) ++ rest)) mods no_enum another)
 
 decls_led : (w : Name) (xs : List Decl) (ts : List Token) → is_among class_words w ≡ false → is_among enum_words w ≡ false →
     bytes_eq (codes "class") w ≡ false → bytes_eq (codes "enum") w ≡ false → AreDecls xs ts
@@ -634,10 +709,10 @@ file_complete f ts ((n, us, vs, ws, parts, in_package, imports, decls), le) =
     let no_import = decls_led (codes "import") f ws refl refl refl refl decls in
     let first = package_complete us (vs ++ ws) no_package in_package in
     let second = all_complete (is_word (codes "import")) import_at (λ x us. IsImport us) Anything import_exact import_starts (units n) vs ws
-          tt no_import (imports_each n vs imports) in
+    tt no_import (imports_each n vs imports) in
     let third : all_of is_some_token decl_at ws ≡ Some (f, []) =
     ap (all_of is_some_token decl_at) (sym (append-nil ws)) ∙ all_complete is_some_token decl_at DeepDecl Anything decl_exact decl_starts f
-        ws [] tt refl (decls_each f ws decls le) in
+    ws [] tt refl (decls_each f ws decls le) in
     rw (parts, first, second, third) refl
 
 pub file_unique : (f g : File) (ts : List Token) → Spells f ts → Spells g ts → f ≡ g

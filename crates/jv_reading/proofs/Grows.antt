@@ -10,7 +10,7 @@ module _ {T A : Type 0} (go : List T → Bool) (step : A → Reader T A) where
   pub grow_sound : (P : A → List T → Type 0)
       → ((acc : A) (us ts : List T) (x : A × List T) → P acc us → step acc ts ≡ Some x → Takes (λ vs. P x.0 (us ++ vs)) ts x.1)
       → (n : ℕ) (acc : A) (us ts : List T) (x : A × List T) → P acc us → grow go step n acc ts ≡ Some x →
-          Takes (λ vs. P x.0 (us ++ vs)) ts x.1
+      Takes (λ vs. P x.0 (us ++ vs)) ts x.1
   unfolding grow
   grow_sound P kept zero acc us ts x p e = absurd (none_is_not x e)
   grow_sound P kept (suc n) acc us ts x p e =

@@ -77,7 +77,7 @@ abbrev pub item_sign : Sign → Bool
 item_sign s =
     if begins_sign s then true
     else (if same_sign s signs.OpenBrace then true else
-        (if same_sign s signs.Semicolon then true else (if same_sign s signs.PlusPlus then true else same_sign s signs.MinusMinus)))
+    (if same_sign s signs.Semicolon then true else (if same_sign s signs.PlusPlus then true else same_sign s signs.MinusMinus)))
 
 abbrev pub item_words : List Name
 item_words = codes "if" ∷ codes "while" ∷ codes "do" ∷ codes "switch" ∷ codes "break" ∷ codes "continue" ∷ codes "return" ∷ codes "final" ∷
@@ -142,12 +142,18 @@ starting_no_else us b = starting_no_word (codes "else") us (rw no_name_else refl
 
 pub starting_goes : (us : List Token) → Starting us → goes_on us ≡ true
 starting_goes us b =
-    rw (starting_no_sign signs.CloseBrace us refl b, starting_no_word (codes "case") us (rw no_name_case refl) b,
-        starting_no_word (codes "default") us (rw no_name_default refl) b) refl
+    rw (
+      starting_no_sign signs.CloseBrace us refl b,
+      starting_no_word (codes "case") us (rw no_name_case refl) b,
+      starting_no_word (codes "default") us (rw no_name_default refl) b,
+    ) refl
 
 pub starting_no_case : (us : List Token) → Starting us → is_case us ≡ false
-starting_no_case us b = rw (starting_no_word (codes "case") us (rw no_name_case refl) b, starting_no_word (codes "default") us
-    (rw no_name_default refl) b) refl
+starting_no_case us b = rw (
+  starting_no_word (codes "case") us (rw no_name_case refl) b,
+  starting_no_word (codes "default") us
+      (rw no_name_default refl) b,
+) refl
 
 -- an item begins with a word of its own
 own_word : (p : Place) (w : Name) (us vs : List Token) → us ≡ word p w ∷ vs → item_word w ≡ true → Starting us
@@ -306,22 +312,27 @@ pub local_decl : (s : Stmt) (us rest : List Token) → IsLocal s us → is_decl 
 local_decl (Block p body end) us rest h = absurd h
 local_decl (Empty p) us rest h = absurd h
 local_decl (Local p ty n e) us rest (of_type, name, a, b, c, vs, ws, parts, final, free) = rw (parts, append_assoc) (by_final vs final)
-    where
-  back : List Token
-  back = word a (type_word ty) ∷ word p n ∷ sign b signs.Assign ∷ ((ws ++ sign c signs.Semicolon ∷ []) ++ rest)
+  where
+    back : List Token
+    back = word a (type_word ty) ∷ word p n ∷ sign b signs.Assign ∷ ((ws ++ sign c signs.Semicolon ∷ []) ++ rest)
 
-  typed : (ty : TypeName) → IsType ty →
-      is_decl (word a (type_word ty) ∷ word p n ∷ sign b signs.Assign ∷ ((ws ++ sign c signs.Semicolon ∷ []) ++ rest)) ≡ true
-  typed types.Void h = absurd h
-  typed types.Int h = refl
-  typed types.Boolean h = refl
-  typed types.Text h = rw (name_String, name) refl
-  typed (types.Named m) h = rw (h.0, name, name_is_not m (codes "final") h.0 final_no_name, name_is_not m (codes "int") h.0 no_name_int,
-      name_is_not m (codes "boolean") h.0 no_name_boolean) refl
+    typed : (ty : TypeName) → IsType ty →
+        is_decl (word a (type_word ty) ∷ word p n ∷ sign b signs.Assign ∷ ((ws ++ sign c signs.Semicolon ∷ []) ++ rest)) ≡ true
+    typed types.Void h = absurd h
+    typed types.Int h = refl
+    typed types.Boolean h = refl
+    typed types.Text h = rw (name_String, name) refl
+    typed (types.Named m) h = rw (
+      h.0,
+      name,
+      name_is_not m (codes "final") h.0 final_no_name,
+      name_is_not m (codes "int") h.0 no_name_int,
+      name_is_not m (codes "boolean") h.0 no_name_boolean,
+    ) refl
 
-  by_final : (vs : List Token) → IsFinal vs → is_decl (vs ++ back) ≡ true
-  by_final vs (inl h) = rw h (typed ty of_type)
-  by_final vs (inr (q, h)) = rw h refl
+    by_final : (vs : List Token) → IsFinal vs → is_decl (vs ++ back) ≡ true
+    by_final vs (inl h) = rw h (typed ty of_type)
+    by_final vs (inr (q, h)) = rw h refl
 local_decl (Assign p t e) us rest h = absurd h
 local_decl (If p c s) us rest h = absurd h
 local_decl (IfElse p c s r) us rest h = absurd h
@@ -349,8 +360,13 @@ pub record After (ts : List Token) : Type 0 where
       is_change us ≡ false
 
 pub after_semicolon : (p : Place) (ts : List Token) → After (sign p signs.Semicolon ∷ ts)
-after_semicolon p ts = record { unnamed = refl; uncolon = refl; unchanged = refl; member =
-    λ a b us e dot name. absurd (no_dot a b us e dot) } where
+after_semicolon p ts = record {
+  unnamed = refl;
+  uncolon = refl;
+  unchanged = refl;
+  member =
+      λ a b us e dot name. absurd (no_dot a b us e dot);
+} where
   kind_of_first : List Token → TokenKind
   kind_of_first [] = kinds.Number 0
   kind_of_first (t ∷ ts) = t.kind
@@ -360,13 +376,13 @@ after_semicolon p ts = record { unnamed = refl; uncolon = refl; unchanged = refl
 
 after_paren : (p : Place) (ts : List Token) → After (sign p signs.OpenParen ∷ ts)
 after_paren p ts = record { unnamed = refl; uncolon = refl; unchanged = refl; member = λ a b us e dot name. absurd (no_dot a b us e dot) }
-    where
-  kind_of_first : List Token → TokenKind
-  kind_of_first [] = kinds.Number 0
-  kind_of_first (t ∷ ts) = t.kind
+  where
+    kind_of_first : List Token → TokenKind
+    kind_of_first [] = kinds.Number 0
+    kind_of_first (t ∷ ts) = t.kind
 
-  no_dot : (a b : Token) (us : List Token) → sign p signs.OpenParen ∷ ts ≡ a ∷ b ∷ us → is_sign signs.Dot (a ∷ []) ≡ true → ⊥
-  no_dot a b us e dot = true≢false (sym dot ∙ ap (is_sign_kind signs.Dot) (sym (ap kind_of_first e)))
+    no_dot : (a b : Token) (us : List Token) → sign p signs.OpenParen ∷ ts ≡ a ∷ b ∷ us → is_sign signs.Dot (a ∷ []) ≡ true → ⊥
+    no_dot a b us e dot = true≢false (sym dot ∙ ap (is_sign_kind signs.Dot) (sym (ap kind_of_first e)))
 
 after_dot : (p q : Place) (n : Name) (ts : List Token) → is_change ts ≡ false → After (sign p signs.Dot ∷ word q n ∷ ts)
 after_dot p q n ts h = record { unnamed = refl; uncolon = refl; unchanged = refl; member = member } where
@@ -382,8 +398,13 @@ after_dot p q n ts h = record { unnamed = refl; uncolon = refl; unchanged = refl
 -- a word in front of what follows an expression
 quiet_name : (p : Place) (n : Name) (ts : List Token) → IsName n → After ts → Quiet (word p n ∷ ts)
 quiet_name p n ts name a = record {
-  undeclared = rw (name_is_not n (codes "final") name final_no_name, name_is_not n (codes "int") name no_name_int,
-      name_is_not n (codes "boolean") name no_name_boolean, name, a.unnamed) refl;
+  undeclared = rw (
+    name_is_not n (codes "final") name final_no_name,
+    name_is_not n (codes "int") name no_name_int,
+    name_is_not n (codes "boolean") name no_name_boolean,
+    name,
+    a.unnamed,
+  ) refl;
   unlabelled = rw (name, a.uncolon) refl;
   unassigned = by_field ts a.unchanged;
 } where
@@ -464,7 +485,7 @@ module _ (m : ℕ) (G : Language) where
   post_quiet (MethodCall p e n args) us rest x (inl h) = primary_quiet (MethodCall p e n args) us rest x h
   post_quiet (MethodCall p e n args) us rest x (inr (name, place, a, b, vs, ws, parts, h, given)) =
       rw (parts, append_assoc) (post_quiet e vs (sign a signs.Dot ∷ word b n ∷ (ws ++ rest))
-          (after_dot a b n (ws ++ rest) (opened ws given)) h) where
+      (after_dot a b n (ws ++ rest) (opened ws given)) h) where
         opened : (ws : List Token) → AreArguments m G args ws → is_change (ws ++ rest) ≡ false
         opened ws (less, c, d, xs, opens, h) = rw opens refl
   post_quiet (New p n) us rest x h = primary_quiet (New p n) us rest x h

@@ -88,10 +88,14 @@ mods_front words (t ∷ ts) = by_cases (is_kind_among words t.kind) refl (mods_f
   by_cases : (b : Bool) → is_kind_among words t.kind ≡ b → (us : List Token) × (ts ≡ us ++ after_mods words ts) × AreModifiers words us
       × (has_static us ≡ static_mods words ts)
       → (us : List Token) × (t ∷ ts ≡ us ++ (if b then after_mods words ts else t ∷ ts)) × AreModifiers words us
-          × (has_static us ≡ (if b then is_kind_among (codes "static" ∷ []) t.kind || static_mods words ts else false))
-  by_cases true e more =
-      (t ∷ more.0, ap (λ (z : List Token). t ∷ z) more.1, rw e more.2, ap (λ (b : Bool). is_kind_among (codes "static" ∷ []) t.kind || b)
-          more.3)
+      × (has_static us ≡ (if b then is_kind_among (codes "static" ∷ []) t.kind || static_mods words ts else false))
+  by_cases true e more = (
+    t ∷ more.0,
+    ap (λ (z : List Token). t ∷ z) more.1,
+    rw e more.2,
+    ap (λ (b : Bool). is_kind_among (codes "static" ∷ []) t.kind || b)
+        more.3,
+  )
   by_cases false e more = ([], refl, refl, refl)
 
 pub mods_again : (words : List Name) (us rest : List Token) → AreModifiers words us → after_mods words rest ≡ rest →
@@ -109,11 +113,11 @@ pub mods_words : (words : List Name) (s : Sign) (us rest : List Token) → AreMo
 mods_words words s [] rest h k = k
 mods_words words s (t ∷ us) rest h k = by_kind t.kind (and_is (is_kind_among words t.kind) (list_all (λ u. is_kind_among words u.kind) us)
     h).0 where
-  by_kind : (q : TokenKind) → is_kind_among words q ≡ true → is_sign_kind s q ≡ false
-  by_kind (kinds.Word w) e = refl
-  by_kind (kinds.Number n) e = absurd cc
-  by_kind (kinds.Text t) e = absurd cc
-  by_kind (kinds.Sign q) e = absurd cc
+      by_kind : (q : TokenKind) → is_kind_among words q ≡ true → is_sign_kind s q ≡ false
+      by_kind (kinds.Word w) e = refl
+      by_kind (kinds.Number n) e = absurd cc
+      by_kind (kinds.Text t) e = absurd cc
+      by_kind (kinds.Sign q) e = absurd cc
 
 -- ---- types
 
@@ -125,7 +129,7 @@ result_is ts x e =
       | inl t ↦
           let a = bind_some (word_at (codes "void") ts) _ x t.1 in
           subst (λ (y : TypeName × List Token). (p : Place) × (ts ≡ word p (type_word y.0) ∷ y.1) × IsResult y.0)
-              (some_is (types.Void, a.0.1) x a.2)
+          (some_is (types.Void, a.0.1) x a.2)
           (a.0.0, word_is (codes "void") ts a.0 a.1, inl refl)
       | inr t ↦ let h = type_is ts x t.1 in (h.0, h.1, inr h.2)
     ]
@@ -153,9 +157,13 @@ result_no_mod types.Text p ts h = (refl, refl)
 result_no_mod (types.Named n) p ts (inl h) = absurd cc
 result_no_mod (types.Named n) p ts (inr (name, other)) = let e = among in (rw e refl, rw e refl) where
   among : is_among modifiers n ≡ false
-  among = rw (word_is_not (codes "public") n name no_name_public, word_is_not (codes "private") n name no_name_private,
-      word_is_not (codes "protected") n name no_name_protected, word_is_not (codes "static") n name no_name_static,
-      word_is_not (codes "final") n name final_no_name) refl
+  among = rw (
+    word_is_not (codes "public") n name no_name_public,
+    word_is_not (codes "private") n name no_name_private,
+    word_is_not (codes "protected") n name no_name_protected,
+    word_is_not (codes "static") n name no_name_static,
+    word_is_not (codes "final") n name final_no_name,
+  ) refl
 
 -- ---- parameters
 
@@ -171,7 +179,7 @@ param_exact = record { sound = sound; complete = complete } where
       let name = name_is ty.0.1 n.0 n.1 in
       let back : List Token = word of_type.0 (type_word ty.0.0) ∷ word n.0.0.0 n.0.0.1 ∷ [] in
       subst (λ (y : Param × List Token). Takes (IsParam y.0) ts y.1)
-          (some_is (record { place = n.0.0.0; ty = ty.0.0; name = n.0.0.1 }, n.0.1) x n.2)
+      (some_is (record { place = n.0.0.0; ty = ty.0.0; name = n.0.0.1 }, n.0.1) x n.2)
       (record {
         front = f.0 ++ back;
         parts = glue f.0 back n.0.1 f.1 (after of_type.1 name.0);
@@ -217,8 +225,12 @@ next_exact = record { sound = sound; complete = complete } where
   sound ts x e =
       let a = bind_some (sign_at signs.Comma ts) _ x e in
       let one = param_exact.sound a.0.1 x a.2 in
-      record { front = sign a.0.0 signs.Comma ∷ one.front; parts = after (sign_is signs.Comma ts a.0 a.1) one.parts; holds =
-          (a.0.0, one.front, refl, one.holds) }
+      record {
+        front = sign a.0.0 signs.Comma ∷ one.front;
+        parts = after (sign_is signs.Comma ts a.0 a.1) one.parts;
+        holds =
+            (a.0.0, one.front, refl, one.holds);
+      }
 
   complete : (p : Param) (ts rest : List Token) → Anything rest → NextParam p ts → next_param_at (ts ++ rest) ≡ Some (p, rest)
   complete p ts rest fine (a, vs, parts, h) = rw (parts, param_exact.complete p vs rest tt h) refl
@@ -254,8 +266,12 @@ params_sound ts x e =
     let one = param_exact.sound ts s.0 s.1 in
     let more = all_sound (is_sign signs.Comma) next_param_at NextParam Anything next_exact s.0.1 b.0 b.1 in
     subst (λ (y : List Param × List Token). Takes (AreParams y.0) ts y.1) (some_is (s.0.0 ∷ b.0.0, b.0.1) x b.2)
-    (record { front = one.front ++ more.front; parts = glue one.front more.front b.0.1 one.parts more.parts; holds =
-        (one.front, more.front, refl, one.holds, each_more b.0.0 more.front more.holds) })
+    (record {
+      front = one.front ++ more.front;
+      parts = glue one.front more.front b.0.1 one.parts more.parts;
+      holds =
+          (one.front, more.front, refl, one.holds, each_more b.0.0 more.front more.holds);
+    })
 
 params_complete : (p : Param) (ps : List Param) (ts rest : List Token) → is_sign signs.Comma rest ≡ false → AreParams (p ∷ ps) ts →
     params_at (ts ++ rest) ≡ Some (p ∷ ps, rest)
@@ -263,7 +279,7 @@ unfolding params_at
 params_complete p ps ts rest stops (us, vs, parts, h, more) =
     let first = param_exact.complete p us (vs ++ rest) tt h in
     let others = all_complete (is_sign signs.Comma) next_param_at NextParam Anything next_exact next_starts ps vs rest tt stops
-          (more_each ps vs more) in
+    (more_each ps vs more) in
     rw (parts, append_assoc, first, others) refl
 
 -- parameters, and whether they are that of `main`
@@ -313,9 +329,9 @@ params_of_complete main takes [] c us rest (inl (no_args, h)) = rw (h, no_args) 
 params_of_complete main takes (p ∷ ps) c us rest (inl (no_args, (vs, ws, parts, h, more))) =
     let led = param_led p vs (ws ++ sign c signs.CloseParen ∷ rest) h in
     let together : us ++ sign c signs.CloseParen ∷ rest ≡ vs ++ (ws ++ sign c signs.CloseParen ∷ rest) =
-          ap (λ (z : List Token). z ++ sign c signs.CloseParen ∷ rest) parts ∙ append_assoc vs ws (sign c signs.CloseParen ∷ rest) in
+    ap (λ (z : List Token). z ++ sign c signs.CloseParen ∷ rest) parts ∙ append_assoc vs ws (sign c signs.CloseParen ∷ rest) in
     let unclosed : is_sign signs.CloseParen (us ++ sign c signs.CloseParen ∷ rest) ≡ false = ap (is_sign signs.CloseParen) together ∙
-          led.0 in
+    led.0 in
     let no_main : is_args (us ++ sign c signs.CloseParen ∷ rest) ≡ false = ap is_args together ∙ led.1 in
     rw (unclosed, no_main, params_complete p ps us (sign c signs.CloseParen ∷ rest) refl (vs, ws, parts, h, more), no_args) refl
 params_of_complete main takes ps c us rest (inr (args, none, is, (n, name, a, b, d, e, parts))) = rw (parts, args, none, is, name) refl
@@ -357,24 +373,56 @@ method_sound static result p n ts x e =
     let k = bind_some (sign_at signs.CloseBrace b.0.1) _ x b.2 in
     let params = params_of_sound (is_main static result n) a.0.1 ps.0 ps.1 in
     let body = items_sound 200 _ (stmt_exact 200) g.0.1 b.0 b.1 in
-    let m : Method = record { place = p; end = k.0.0; is_static = static; result = result; name = n; params = ps.0.0.0; takes_args =
-          ps.0.0.1; body = stmts_of b.0.0 } in
+    let m : Method = record {
+      place = p;
+      end = k.0.0;
+      is_static = static;
+      result = result;
+      name = n;
+      params = ps.0.0.0;
+      takes_args =
+          ps.0.0.1;
+      body = stmts_of b.0.0;
+    } in
     let tail : List Token = sign c.0.0 signs.CloseParen ∷ sign g.0.0 signs.OpenBrace ∷ (body.front ++ sign k.0.0 signs.CloseBrace ∷ []) in
     let behind_params : ps.0.1 ≡ tail ++ k.0.1 =
     after (sign_is signs.CloseParen ps.0.1 c.0 c.1)
-        (after (sign_is signs.OpenBrace c.0.1 g.0 g.1) (glue body.front (sign k.0.0 signs.CloseBrace ∷ []) k.0.1 body.parts
-        (sign_is signs.CloseBrace b.0.1 k.0 k.1))) in
+    (after (sign_is signs.OpenBrace c.0.1 g.0 g.1) (glue body.front (sign k.0.0 signs.CloseBrace ∷ []) k.0.1 body.parts
+    (sign_is signs.CloseBrace b.0.1 k.0 k.1))) in
     subst (λ (y : Method × List Token). Takes (Headed static result p n y.0) ts y.1) (some_is (m, k.0.1) x k.2)
     (record {
       front = sign a.0.0 signs.OpenParen ∷ (params.front ++ tail);
       parts = after (sign_is signs.OpenParen ts a.0 a.1) (glue params.front tail k.0.1 params.parts behind_params);
-      holds = (refl, refl, refl, refl, a.0.0, c.0.0, g.0.0, params.front, body.front, refl, of ps.0.0.0 ps.0.0.1 k.0.0 (stmts_of b.0.0)
-          params.front params.holds, body.holds.0, body.holds.1);
+      holds = (
+        refl,
+        refl,
+        refl,
+        refl,
+        a.0.0,
+        c.0.0,
+        g.0.0,
+        params.front,
+        body.front,
+        refl,
+        of ps.0.0.0 ps.0.0.1 k.0.0 (stmts_of b.0.0)
+            params.front params.holds,
+        body.holds.0,
+        body.holds.1,
+      );
     }) where
       of : (ps : List Param) (takes : Bool) (end : Place) (body : Stmts) (us : List Token) → ParamsOf (is_main static result n) (ps, takes)
           us
-          → AreParamsOf (record { place = p; end = end; is_static = static; result = result; name = n; params = ps; takes_args =
-              takes; body = body }) us
+          → AreParamsOf (record {
+            place = p;
+            end = end;
+            is_static = static;
+            result = result;
+            name = n;
+            params = ps;
+            takes_args =
+                takes;
+            body = body;
+          }) us
       of ps takes end body us (inl h) = inl h
       of ps takes end body us (inr (args, none, is, h)) = inr (args, none, main_is static result n is, h)
 
@@ -412,15 +460,27 @@ field_sound ty p n ts x e =
           (record {
             front = sign a.0.0 signs.Assign ∷ one.front;
             parts = after (sign_is signs.Assign ts a.0 a.1) one.parts;
-            holds = (refl, refl, refl, c, sign a.0.0 signs.Assign ∷ vs, ap (λ (z : List Token). sign a.0.0 signs.Assign ∷ z) parts,
-                (a.0.0, vs, refl, free), le);
+            holds = (
+              refl,
+              refl,
+              refl,
+              c,
+              sign a.0.0 signs.Assign ∷ vs,
+              ap (λ (z : List Token). sign a.0.0 signs.Assign ∷ z) parts,
+              (a.0.0, vs, refl, free),
+              le,
+            );
           })
       | inr t ↦
           let a = bind_some (sign_at signs.Semicolon ts) _ x t.1 in
           let f : Field = record { place = p; ty = ty; name = n; value = None } in
           subst (λ (y : Field × List Token). Takes (Valued ty p n y.0) ts y.1) (some_is (f, a.0.1) x a.2)
-          (record { front = sign a.0.0 signs.Semicolon ∷ []; parts = sign_is signs.Semicolon ts a.0 a.1; holds =
-              (refl, refl, refl, a.0.0, [], refl, refl, omega arith) })
+          (record {
+            front = sign a.0.0 signs.Semicolon ∷ [];
+            parts = sign_is signs.Semicolon ts a.0 a.1;
+            holds =
+                (refl, refl, refl, a.0.0, [], refl, refl, omega arith);
+          })
     ]
 
 field_complete : (f : Field) (b : Place) (vs rest : List Token) → IsInitialiser f.value vs → depth_of_value f.value ≤ 200 →
@@ -431,14 +491,22 @@ field_complete f b vs rest init le = by_value f.value init le where
   whole v = record { place = f.place; ty = f.ty; name = f.name; value = v }
 
   by_value : (v : Option Expr) → IsInitialiser v vs → depth_of_value v ≤ 200 →
-      field_at f.ty f.place f.name (vs ++ sign b signs.Semicolon ∷ rest) ≡ Some (record { place = f.place; ty = f.ty; name = f.name; value =
-      v }, rest)
+      field_at f.ty f.place f.name (vs ++ sign b signs.Semicolon ∷ rest) ≡ Some (
+        record {
+          place = f.place;
+          ty = f.ty;
+          name = f.name;
+          value =
+              v;
+        },
+        rest,
+      )
   by_value None h le = rw h refl
   by_value (Some e) (a, us, parts, free) le =
       let reads : ended_at 200 ((us ++ sign b signs.Semicolon ∷ []) ++ rest) ≡ Some (e, rest) =
-            (ended_exact 200).complete e (us ++ sign b signs.Semicolon ∷ []) rest tt (b, us, refl, free, le) in
+      (ended_exact 200).complete e (us ++ sign b signs.Semicolon ∷ []) rest tt (b, us, refl, free, le) in
       let read : ended_at 200 (us ++ sign b signs.Semicolon ∷ rest) ≡ Some (e, rest) =
-            ap (ended_at 200) (sym (append_assoc us (sign b signs.Semicolon ∷ []) rest)) ∙ reads in
+      ap (ended_at 200) (sym (append_assoc us (sign b signs.Semicolon ∷ []) rest)) ∙ reads in
       rw (parts, read) refl
 
 -- ---- members
@@ -566,7 +634,7 @@ member_complete (FieldMember f) ts rest fine ((of_type, name, a, b, us, vs, part
       closed (Some e) vs (c, ws, starts, free) = rw starts refl
 member_complete (MethodMember m) ts rest fine ((of_type, name, a, b, c, g, us, vs, ws, parts, mods, static, params, body), le) =
     let inside : List Token = sign b signs.OpenParen ∷ (vs ++ sign c signs.CloseParen ∷ sign g signs.OpenBrace ∷
-          (ws ++ sign m.end signs.CloseBrace ∷ [])) in
+    (ws ++ sign m.end signs.CloseBrace ∷ [])) in
     let back : List Token = word a (type_word m.result) ∷ word m.place m.name ∷ (inside ++ rest) in
     let quiet = result_no_mod m.result a (word m.place m.name ∷ (inside ++ rest)) of_type in
     let k = mods_again modifiers us back mods quiet.0 quiet.1 in
@@ -585,7 +653,7 @@ member_led (FieldMember f) ts rest ((of_type, name, a, b, us, vs, parts, mods, u
 )
 member_led (MethodMember m) ts rest ((of_type, name, a, b, c, g, us, vs, ws, parts, mods, static, params, body), le) =
     let inside : List Token = sign b signs.OpenParen ∷ (vs ++ sign c signs.CloseParen ∷ sign g signs.OpenBrace ∷
-          (ws ++ sign m.end signs.CloseBrace ∷ [])) in (
+    (ws ++ sign m.end signs.CloseBrace ∷ [])) in (
       rw (parts, append_assoc) (mods_words modifiers signs.CloseBrace us (word a (type_word m.result) ∷ word m.place m.name ∷
           (inside ++ rest)) mods refl),
       omega (arith, ap length parts, length-append us (word a (type_word m.result) ∷ word m.place m.name ∷ inside)),
@@ -608,8 +676,11 @@ each_members : (ms : List Member) (us : List Token) → Each DeepMember ms us �
 each_members [] us h = (h, omega arith, omega arith)
 each_members (FieldMember f ∷ ms) us (as_, bs, parts, (h, le), more) =
     let r = each_members ms bs more in ((as_, bs, parts, h, r.0), omega (arith, r.1, le), r.2)
-each_members (MethodMember m ∷ ms) us (as_, bs, parts, (h, le), more) = let r = each_members ms bs more in ((as_, bs, parts, h, r.0), r.1,
-    omega (arith, r.2, le))
+each_members (MethodMember m ∷ ms) us (as_, bs, parts, (h, le), more) = let r = each_members ms bs more in (
+  (as_, bs, parts, h, r.0),
+  r.1,
+  omega (arith, r.2, le),
+)
 
 members_each : (ms : List Member) (us : List Token) → AreMembers ms us → depth_of_fields (fields_among ms) ≤ 200 →
     depth_of_methods (methods_among ms) ≤ 200 → Each DeepMember ms us
@@ -646,5 +717,5 @@ members_exact = record { sound = sound; complete = complete } where
   complete : (ms : List Member) (ts rest : List Token) → Anything rest → Braced ms ts → members_at (ts ++ rest) ≡ Some (ms, rest)
   complete ms ts rest fine (b, g, ws, parts, h, lf, lm) =
       let inner = all_complete not_closed member_at DeepMember Anything member_exact member_starts ms ws (sign g signs.CloseBrace ∷ rest) tt
-            refl (members_each ms ws h lf lm) in
+      refl (members_each ms ws h lf lm) in
       rw (parts, append_assoc, inner) refl

@@ -209,8 +209,11 @@ target_begins t us h = by_head (target_head t us h) where
 assign_led : (t : Expr) (us : List Token) (a : Place) (s : Sign) (rest : List Token) → IsTarget t us → same_sign s signs.Colon ≡ false →
     is_change (sign a s ∷ rest) ≡ true
     → Simple (us ++ sign a s ∷ rest) × (is_assign (us ++ sign a s ∷ rest) ≡ true)
-assign_led t us a s rest h colon change = (simple_begins (us ++ sign a s ∷ rest) (begins_more us (sign a s ∷ rest) (target_begins t us h))
-    (unlabelled (target_head t us h)), assigns (target_head t us h)) where
+assign_led t us a s rest h colon change = (
+  simple_begins (us ++ sign a s ∷ rest) (begins_more us (sign a s ∷ rest) (target_begins t us h))
+      (unlabelled (target_head t us h)),
+  assigns (target_head t us h),
+) where
   unlabelled : TargetHead t us → is_label (us ++ sign a s ∷ rest) ≡ false
   unlabelled (Named p n name parts) = rw (parts, name, colon) refl
   unlabelled (Own p b c n name parts) = rw (parts, no_name_this) refl
@@ -249,20 +252,28 @@ assign_simple p t v us rest (inr (inr (inr (s, o, b, vs, parts, count, is, targe
 -- the tokens of an expression, as a statement begins with them
 evaluated_led : (c : Expr) (us : List Token) (a : Place) (rest : List Token) → IsPost 400 (IsInner 400) c us
     → Simple (us ++ sign a signs.Semicolon ∷ rest) × (is_assign (us ++ sign a signs.Semicolon ∷ rest) ≡ false)
-        × (is_decl (us ++ sign a signs.Semicolon ∷ rest) ≡ false)
+    × (is_decl (us ++ sign a signs.Semicolon ∷ rest) ≡ false)
 evaluated_led c us a rest h =
-    let quiet = post_quiet 400 (IsInner 400) c us (sign a signs.Semicolon ∷ rest) (after_semicolon a rest) h in
-    (simple_begins (us ++ sign a signs.Semicolon ∷ rest)
-        (begins_more us (sign a signs.Semicolon ∷ rest) (post_begins 400 (IsInner 400) c us h)) quiet.unlabelled, quiet.unassigned,
-        quiet.undeclared)
+    let quiet = post_quiet 400 (IsInner 400) c us (sign a signs.Semicolon ∷ rest) (after_semicolon a rest) h in (
+      simple_begins (us ++ sign a signs.Semicolon ∷ rest)
+          (begins_more us (sign a signs.Semicolon ∷ rest) (post_begins 400 (IsInner 400) c us h)) quiet.unlabelled,
+      quiet.unassigned,
+      quiet.undeclared,
+    )
 
 -- a target in front is no declaration
 target_undeclared : (t : Expr) (us : List Token) (a : Place) (s : Sign) (rest : List Token) → IsTarget t us →
     is_decl (us ++ sign a s ∷ rest) ≡ false
 target_undeclared t us a s rest h = by_head (target_head t us h) where
   by_head : TargetHead t us → is_decl (us ++ sign a s ∷ rest) ≡ false
-  by_head (Named p n name parts) = rw (parts, name_is_not n (codes "final") name final_no_name, name_is_not n (codes "int") name
-      no_name_int, name_is_not n (codes "boolean") name no_name_boolean, name) refl
+  by_head (Named p n name parts) = rw (
+    parts,
+    name_is_not n (codes "final") name final_no_name,
+    name_is_not n (codes "int") name
+        no_name_int,
+    name_is_not n (codes "boolean") name no_name_boolean,
+    name,
+  ) refl
   by_head (Own p b c n name parts) = rw (parts, no_name_this) refl
 
 assign_undeclared : (p : Place) (t v : Expr) (us rest : List Token) → IsAssign p t v us → is_decl (us ++ rest) ≡ false
@@ -278,8 +289,13 @@ label_undeclared : (p a : Place) (l : Option Name) (w : Name) (us vs : List Toke
     is_decl (us ++ word a w ∷ vs) ≡ false
 label_undeclared p a None w us vs (same, parts) h = rw parts h
 label_undeclared p a (Some n) w us vs (name, b, parts) h =
-    rw (parts, name_is_not n (codes "final") name final_no_name, name_is_not n (codes "int") name no_name_int,
-        name_is_not n (codes "boolean") name no_name_boolean, name) refl
+    rw (
+      parts,
+      name_is_not n (codes "final") name final_no_name,
+      name_is_not n (codes "int") name no_name_int,
+      name_is_not n (codes "boolean") name no_name_boolean,
+      name,
+    ) refl
 
 stmt_undeclared : (s : Stmt) (us rest : List Token) → IsStmt s us → is_decl (us ++ rest) ≡ false
 stmt_undeclared (Block p body end) us rest (vs, parts, h) = rw parts refl
@@ -371,8 +387,12 @@ module _ (d : ℕ) (f : Reader Token Stmt) (exact : StmtExact f d) where
         elim (chosen (is_decl ts) _ _ (Some x) e) [
           | inl t ↦
               let one = local_sound (d - 1) ts x t.1 in
-              record { front = one.front; parts = one.parts; holds =
-                  (inl one.holds.0, omega (arith, one.holds.1, local_depth x.0 one.front one.holds.0)) }
+              record {
+                front = one.front;
+                parts = one.parts;
+                holds =
+                    (inl one.holds.0, omega (arith, one.holds.1, local_depth x.0 one.front one.holds.0));
+              }
           | inr t ↦
               let one = exact.sound ts x t.1 in
               record { front = one.front; parts = one.parts; holds = (inr one.holds.0, one.holds.1) }
@@ -426,8 +446,7 @@ module _ (d : ℕ) (f : Reader Token Stmt) (exact : StmtExact f d) where
       let c = bind_some (sign_at signs.CloseBrace b.0.1) _ x b.2 in
       let one = items_sound a.0.1 b.0 b.1 in
       let end : List Token = sign c.0.0 signs.CloseBrace ∷ [] in
-      subst (λ (y : Stmt × List Token). Deeper y ts × (takes_else y.0 ≡ false)) (some_is (Block a.0.0 (stmts_of b.0.0) c.0.0, c.0.1) x c.2)
-          (
+      subst (λ (y : Stmt × List Token). Deeper y ts × (takes_else y.0 ≡ false)) (some_is (Block a.0.0 (stmts_of b.0.0) c.0.0, c.0.1) x c.2) (
         record {
           front = sign a.0.0 signs.OpenBrace ∷ (one.front ++ end);
           parts = after (sign_is signs.OpenBrace ts a.0 a.1) (glue one.front end c.0.1 one.parts (sign_is signs.CloseBrace b.0.1 c.0 c.1));
@@ -448,7 +467,7 @@ module _ (d : ℕ) (f : Reader Token Stmt) (exact : StmtExact f d) where
       IsStmt s vs → depth_of_stmt s ≤ d
       → (is_word (codes "else") ts ≡ true → takes_else s ≡ false) → else_with d f p c s ts ≡ Some x
       → Takes (λ ws. DeepStmt (suc d) x.0 (word p (codes "if") ∷ (us ++ (vs ++ ws)))) ts x.1 × (is_word (codes "else") x.1 ≡ true →
-          takes_else x.0 ≡ false)
+      takes_else x.0 ≡ false)
   unfolding else_with
   else_sound p c s us vs ts x cond lc h ls greedy e =
       elim (chosen (is_word (codes "else") ts) _ _ (Some x) e) [
@@ -457,7 +476,7 @@ module _ (d : ℕ) (f : Reader Token Stmt) (exact : StmtExact f d) where
             let r = bind_some (f a.0.1) _ x a.2 in
             let one = exact.sound a.0.1 r.0 r.1 in
             subst (λ (y : Stmt × List Token). Takes (λ ws. DeepStmt (suc d) y.0 (word p (codes "if") ∷ (us ++ (vs ++ ws)))) ts y.1
-                × (is_word (codes "else") y.1 ≡ true → takes_else y.0 ≡ false))
+            × (is_word (codes "else") y.1 ≡ true → takes_else y.0 ≡ false))
             (some_is (IfElse p c s r.0.0, r.0.1) x r.2) (
               record {
                 front = word a.0.0 (codes "else") ∷ one.front;
@@ -468,13 +487,15 @@ module _ (d : ℕ) (f : Reader Token Stmt) (exact : StmtExact f d) where
             )
         | inr t ↦
             subst (λ (y : Stmt × List Token). Takes (λ ws. DeepStmt (suc d) y.0 (word p (codes "if") ∷ (us ++ (vs ++ ws)))) ts y.1
-                × (is_word (codes "else") y.1 ≡ true → takes_else y.0 ≡ false))
+            × (is_word (codes "else") y.1 ≡ true → takes_else y.0 ≡ false))
             (some_is (If p c s, ts) x t.1) (
               record {
                 front = [];
                 parts = refl;
-                holds = ((us, vs, ap (λ (z : List Token). word p (codes "if") ∷ (us ++ z)) (append-nil vs), cond, h),
-                    omega (arith, lc, ls));
+                holds = (
+                  (us, vs, ap (λ (z : List Token). word p (codes "if") ∷ (us ++ z)) (append-nil vs), cond, h),
+                  omega (arith, lc, ls),
+                );
               },
               λ comes. absurd (true≢false (sym comes ∙ t.0)),
             )
@@ -490,7 +511,7 @@ module _ (d : ℕ) (f : Reader Token Stmt) (exact : StmtExact f d) where
       let cond = (cond_exact d).sound a.0.1 c.0 c.1 in
       let body = exact.sound c.0.1 s.0 s.1 in
       let more = else_sound a.0.0 c.0.0 s.0.0 cond.front body.front s.0.1 x cond.holds.0 cond.holds.1 body.holds.0 body.holds.1
-            (exact.greedy c.0.1 s.0 s.1) s.2 in (
+      (exact.greedy c.0.1 s.0 s.1) s.2 in (
         record {
           front = word a.0.0 (codes "if") ∷ (cond.front ++ (body.front ++ more.0.front));
           parts = after (word_is (codes "if") ts a.0 a.1) (glue cond.front (body.front ++ more.0.front) x.1 cond.parts
@@ -506,18 +527,24 @@ module _ (d : ℕ) (f : Reader Token Stmt) (exact : StmtExact f d) where
   unfolding if_with else_with
   if_complete p c s us vs rest fine cond lc h ls =
       rw (append_assoc, (cond_exact d).complete c us (vs ++ rest) tt (cond, lc), exact.complete s vs rest (λ open_if. fine) (h, ls), fine)
-          refl
+      refl
 
   if_else_complete : (p a : Place) (c : Expr) (s r : Stmt) (us vs ws rest : List Token) → (takes_else r ≡ true → NotElse rest) →
       IsCondition c us → depth c ≤ d → IsStmt s vs → depth_of_stmt s ≤ d
       → takes_else s ≡ false → IsStmt r ws → depth_of_stmt r ≤ d →
-          if_with d f (word p (codes "if") ∷ ((us ++ (vs ++ word a (codes "else") ∷ ws)) ++ rest)) ≡ Some (IfElse p c s r, rest)
+      if_with d f (word p (codes "if") ∷ ((us ++ (vs ++ word a (codes "else") ∷ ws)) ++ rest)) ≡ Some (IfElse p c s r, rest)
   unfolding if_with else_with
   if_else_complete p a c s r us vs ws rest fine cond lc h ls closed g lr =
       let behind : List Token = word a (codes "else") ∷ (ws ++ rest) in
       let first = exact.complete s vs behind (λ open_if. absurd (true≢false (sym open_if ∙ closed))) (h, ls) in
-      rw (append_assoc, append_assoc, (cond_exact d).complete c us (vs ++ behind) tt (cond, lc), first, exact.complete r ws rest fine
-          (g, lr)) refl
+      rw (
+        append_assoc,
+        append_assoc,
+        (cond_exact d).complete c us (vs ++ behind) tt (cond, lc),
+        first,
+        exact.complete r ws rest fine
+            (g, lr),
+      ) refl
 
   -- ---- loops
 
@@ -535,12 +562,14 @@ module _ (d : ℕ) (f : Reader Token Stmt) (exact : StmtExact f d) where
       let cond = (cond_exact d).sound a.0.1 c.0 c.1 in
       let body = exact.sound c.0.1 s.0 s.1 in
       subst (λ (y : Stmt × List Token). Takes (Looped l y.0) ts y.1 × (is_word (codes "else") y.1 ≡ true → takes_else y.0 ≡ false))
-          (some_is (While (loop_place a.0.0 l) (loop_label l) c.0.0 s.0.0, s.0.1) x s.2) (
+      (some_is (While (loop_place a.0.0 l) (loop_label l) c.0.0 s.0.0, s.0.1) x s.2) (
         record {
           front = word a.0.0 (codes "while") ∷ (cond.front ++ body.front);
           parts = after (word_is (codes "while") ts a.0 a.1) (glue cond.front body.front s.0.1 cond.parts body.parts);
-          holds = λ us label. ((a.0.0, us, cond.front, body.front, refl, label a.0.0, cond.holds.0, body.holds.0),
-              omega (arith, cond.holds.1, body.holds.1));
+          holds = λ us label. (
+            (a.0.0, us, cond.front, body.front, refl, label a.0.0, cond.holds.0, body.holds.0),
+            omega (arith, cond.holds.1, body.holds.1),
+          );
         },
         exact.greedy c.0.1 s.0 s.1,
       )
@@ -560,13 +589,15 @@ module _ (d : ℕ) (f : Reader Token Stmt) (exact : StmtExact f d) where
       let behind : s.0.1 ≡ (word b.0.0 (codes "while") ∷ (cond.front ++ end)) ++ g.0.1 =
       after (word_is (codes "while") s.0.1 b.0 b.1) (glue cond.front end g.0.1 cond.parts (sign_is signs.Semicolon c.0.1 g.0 g.1)) in
       subst (λ (y : Stmt × List Token). Takes (Looped l y.0) ts y.1 × (is_word (codes "else") y.1 ≡ true → takes_else y.0 ≡ false))
-          (some_is (Do (loop_place a.0.0 l) (loop_label l) s.0.0 c.0.0, g.0.1) x g.2) (
+      (some_is (Do (loop_place a.0.0 l) (loop_label l) s.0.0 c.0.0, g.0.1) x g.2) (
         record {
           front = word a.0.0 (codes "do") ∷ (body.front ++ word b.0.0 (codes "while") ∷ (cond.front ++ end));
           parts = after (word_is (codes "do") ts a.0 a.1) (glue body.front (word b.0.0 (codes "while") ∷ (cond.front ++ end)) g.0.1
               body.parts behind);
-          holds = λ us label. ((a.0.0, b.0.0, g.0.0, us, body.front, cond.front, refl, label a.0.0, body.holds.0, cond.holds.0),
-              omega (arith, cond.holds.1, body.holds.1));
+          holds = λ us label. (
+            (a.0.0, b.0.0, g.0.0, us, body.front, cond.front, refl, label a.0.0, body.holds.0, cond.holds.0),
+            omega (arith, cond.holds.1, body.holds.1),
+          );
         },
         λ comes. refl,
       )
@@ -613,12 +644,17 @@ module _ (d : ℕ) (f : Reader Token Stmt) (exact : StmtExact f d) where
   do_complete : (a b g : Place) (l : Option (Place × Name)) (c : Expr) (s : Stmt) (us vs rest : List Token) → IsStmt s us →
       depth_of_stmt s ≤ d → IsCondition c vs → depth c ≤ d
       → loop_with d f l (word a (codes "do") ∷ ((us ++ word b (codes "while") ∷ (vs ++ sign g signs.Semicolon ∷ [])) ++ rest)) ≡ Some
-          (Do (loop_place a l) (loop_label l) s c, rest)
+      (Do (loop_place a l) (loop_label l) s c, rest)
   unfolding loop_with do_with
   do_complete a b g l c s us vs rest h ls cond lc =
       let behind : List Token = word b (codes "while") ∷ ((vs ++ sign g signs.Semicolon ∷ []) ++ rest) in
-      rw (append_assoc, exact.complete s us behind (λ open_if. refl) (h, ls), append_assoc, (cond_exact d).complete c vs
-          (sign g signs.Semicolon ∷ rest) tt (cond, lc)) refl
+      rw (
+        append_assoc,
+        exact.complete s us behind (λ open_if. refl) (h, ls),
+        append_assoc,
+        (cond_exact d).complete c vs
+            (sign g signs.Semicolon ∷ rest) tt (cond, lc),
+      ) refl
 
   -- ---- groups
 
@@ -686,8 +722,13 @@ module _ (d : ℕ) (f : Reader Token Stmt) (exact : StmtExact f d) where
   pub group_shorter : (ts : List Token) (x : OneGroup × List Token) → group_with d f ts ≡ Some x → length x.1 < length ts
   group_shorter ts x e =
       let one = group_sound ts x e in
-      omega (arith, ap length one.parts, length-append (one.labels ++ one.body) x.1, length-append one.labels one.body,
-          cases_some x.0.labels one.labels one.cases)
+      omega (
+        arith,
+        ap length one.parts,
+        length-append (one.labels ++ one.body) x.1,
+        length-append one.labels one.body,
+        cases_some x.0.labels one.labels one.cases,
+      )
 
   -- groups, in front of a token at this place
   abbrev GroupsOf : Place → List OneGroup → List Token → Type 0
@@ -718,7 +759,7 @@ module _ (d : ℕ) (f : Reader Token Stmt) (exact : StmtExact f d) where
                     parts = one.parts ∙ append_assoc one.labels one.body g.0.1 ∙ ap (λ (r : List Token). one.labels ++ (one.body ++ r))
                         more.0.parts
                         ∙ ap (λ (r : List Token). one.labels ++ r) (sym (append_assoc one.body more.0.front gs.0.1)) ∙
-                            sym (append_assoc one.labels (one.body ++ more.0.front) gs.0.1);
+                        sym (append_assoc one.labels (one.body ++ more.0.front) gs.0.1);
                     holds = (
                       (
                         one.labels,
@@ -761,11 +802,20 @@ module _ (d : ℕ) (f : Reader Token Stmt) (exact : StmtExact f d) where
   -- what comes behind a group
   groups_ahead : (close : Place) (gs : Groups) (us rest : List Token) → AreGroups close gs us
       → (goes_on (us ++ sign close signs.CloseBrace ∷ rest) ≡ false) × (NotElse (us ++ sign close signs.CloseBrace ∷ rest))
-          × (place_ahead (us ++ sign close signs.CloseBrace ∷ rest) ≡ Some (first_place us close))
+      × (place_ahead (us ++ sign close signs.CloseBrace ∷ rest) ≡ Some (first_place us close))
   groups_ahead close NoGroup us rest h = rw h (refl, refl, refl)
   groups_ahead close (Group [] body end more) us rest (ls_tokens, bs, cs, parts, cases, items, others, ends, apart) = absurd cases
-  groups_ahead close (Group (None ∷ ls) body end more) us rest (ls_tokens, bs, cs, parts, (ps, qs, first, (a, b, one), more_cases), items,
-      others, ends, apart) = rw (parts, first, one) (refl, refl, refl)
+  groups_ahead close (Group (None ∷ ls) body end more) us rest (
+    ls_tokens,
+    bs,
+    cs,
+    parts,
+    (ps, qs, first, (a, b, one), more_cases),
+    items,
+    others,
+    ends,
+    apart,
+  ) = rw (parts, first, one) (refl, refl, refl)
   groups_ahead close (Group (Some n ∷ ls) body end more) us rest
       (ls_tokens, bs, cs, parts, (ps, qs, first, (name, a, b, c, one), more_cases), items, others, ends, apart) =
       rw (parts, first, one) (refl, refl, refl)
@@ -773,7 +823,7 @@ module _ (d : ℕ) (f : Reader Token Stmt) (exact : StmtExact f d) where
   groups_complete : (close : Place) (gs : Groups) (n : ℕ) (us rest : List Token) → length us < n → AreGroups close gs us →
       depth_of_groups gs ≤ d
       → many is_case (group_with d f) n (us ++ sign close signs.CloseBrace ∷ rest) ≡ Some
-          (list_groups gs, sign close signs.CloseBrace ∷ rest)
+      (list_groups gs, sign close signs.CloseBrace ∷ rest)
   unfolding many group_with
   groups_complete close gs zero us rest enough h le = absurd (omega arith)
   groups_complete close NoGroup (suc n) us rest enough h le = rw h refl
@@ -785,8 +835,13 @@ module _ (d : ℕ) (f : Reader Token Stmt) (exact : StmtExact f d) where
       let stops : is_case (bs ++ (cs ++ behind)) ≡ false = quiet body more bs cs items others apart in
       let first = cases_exact.complete labels ls_tokens (bs ++ (cs ++ behind)) stops cases in
       let second = items_complete body bs (cs ++ behind) ahead.1 ahead.0 items (omega arith) in
-      let shorter : length cs < n = omega (arith, cases_some labels ls_tokens cases, ap length parts, length-append ls_tokens (bs ++ cs),
-            length-append bs cs) in
+      let shorter : length cs < n = omega (
+        arith,
+        cases_some labels ls_tokens cases,
+        ap length parts,
+        length-append ls_tokens (bs ++ cs),
+        length-append bs cs,
+      ) in
       let third = groups_complete close more n cs rest shorter others (omega arith) in
       rw (parts, append_assoc, append_assoc, goes, first, second, ahead.2, third, stmts-list_of body, ← ends) refl where
         quiet : (body : Stmts) (more : Groups) (bs cs : List Token) → AreItems body bs → AreGroups close more cs →
@@ -809,9 +864,9 @@ module _ (d : ℕ) (f : Reader Token Stmt) (exact : StmtExact f d) where
       let one = (groups_sound (suc (length b.0.1)) b.0.1 g.0 c.0.0 (ap place_ahead close) g.1).0 in
       let end : List Token = sign c.0.0 signs.CloseBrace ∷ [] in
       let behind : v.0.1 ≡ (sign b.0.0 signs.OpenBrace ∷ (one.front ++ end)) ++ c.0.1 = after (sign_is signs.OpenBrace v.0.1 b.0 b.1)
-            (glue one.front end c.0.1 one.parts close) in
+      (glue one.front end c.0.1 one.parts close) in
       subst (λ (y : Stmt × List Token). Deeper y ts × (takes_else y.0 ≡ false)) (some_is (Switch a.0.0 v.0.0 (groups_of g.0.0) c.0.0, c.0.1)
-          x c.2) (
+      x c.2) (
         record {
           front = word a.0.0 (codes "switch") ∷ (value.front ++ sign b.0.0 signs.OpenBrace ∷ (one.front ++ end));
           parts = after (word_is (codes "switch") ts a.0 a.1) (glue value.front (sign b.0.0 signs.OpenBrace ∷ (one.front ++ end)) c.0.1
@@ -824,14 +879,20 @@ module _ (d : ℕ) (f : Reader Token Stmt) (exact : StmtExact f d) where
   switch_complete : (p a end : Place) (e : Expr) (gs : Groups) (us vs rest : List Token) → IsCondition e us → depth e ≤ d →
       AreGroups end gs vs → depth_of_groups gs ≤ d
       → switch_with d f (word p (codes "switch") ∷ ((us ++ sign a signs.OpenBrace ∷ (vs ++ sign end signs.CloseBrace ∷ [])) ++ rest)) ≡ Some
-          (Switch p e gs end, rest)
+      (Switch p e gs end, rest)
   unfolding switch_with groups_with all_of
   switch_complete p a end e gs us vs rest cond lc h lg =
       let behind : List Token = sign a signs.OpenBrace ∷ ((vs ++ sign end signs.CloseBrace ∷ []) ++ rest) in
       let enough : length vs < suc (length (vs ++ sign end signs.CloseBrace ∷ rest)) =
-            omega (arith, length-append vs (sign end signs.CloseBrace ∷ rest)) in
-      rw (append_assoc, (cond_exact d).complete e us behind tt (cond, lc), append_assoc, groups_complete end gs
-          (suc (length (vs ++ sign end signs.CloseBrace ∷ rest))) vs rest enough h lg, groups-list gs) refl
+      omega (arith, length-append vs (sign end signs.CloseBrace ∷ rest)) in
+      rw (
+        append_assoc,
+        (cond_exact d).complete e us behind tt (cond, lc),
+        append_assoc,
+        groups_complete end gs
+            (suc (length (vs ++ sign end signs.CloseBrace ∷ rest))) vs rest enough h lg,
+        groups-list gs,
+      ) refl
 
   -- ---- all of them
 
@@ -928,7 +989,7 @@ module _ (d : ℕ) (f : Reader Token Stmt) (exact : StmtExact f d) where
       let a = bind_some (sign_at signs.Semicolon c.0.1) _ x c.2 in
       let s = bind_some (evaluated d p.0 c.0.0) _ x a.2 in
       subst (λ (y : Stmt × List Token). takes_else y.0 ≡ false) (some_is (s.0, a.0.1) x s.2)
-          (evaluated_closed p.0 c.0.0 (printed c.0.0) s.0 s.1)
+      (evaluated_closed p.0 c.0.0 (printed c.0.0) s.0 s.1)
 
   -- what is read, with each `else` that belongs to it
   abbrev Result : (Stmt × List Token) → List Token → Type 0
@@ -987,8 +1048,14 @@ module _ (d : ℕ) (f : Reader Token Stmt) (exact : StmtExact f d) where
       (Some (p, n)) ts
   unfolding stmt_with labelled_with
   by_label p a n ts name =
-      rw (name_is_not n (codes "if") name no_name_if, name_is_not n (codes "while") name no_name_while, name_is_not n (codes "do") name
-          no_name_do, name_is_not n (codes "switch") name no_name_switch, name) refl
+      rw (
+        name_is_not n (codes "if") name no_name_if,
+        name_is_not n (codes "while") name no_name_while,
+        name_is_not n (codes "do") name
+            no_name_do,
+        name_is_not n (codes "switch") name no_name_switch,
+        name,
+      ) refl
 
   by_while : (a : Place) (ts : List Token) → stmt_with d f (word a (codes "while") ∷ ts) ≡ loop_with d f None (word a (codes "while") ∷ ts)
   unfolding stmt_with
@@ -1014,17 +1081,17 @@ module _ (d : ℕ) (f : Reader Token Stmt) (exact : StmtExact f d) where
       rw parts (if_else_complete p a c s r us vs ws rest fine cond (omega arith) h (omega arith) closed_if g (omega arith))
   stmt_with_complete (While p None c s) ts rest fine ((a, us, vs, ws, parts, (same, none), cond, h), le) =
       rw (parts, none) (by_while a ((vs ++ ws) ++ rest) ∙ while_complete a None c s vs ws rest fine cond (omega arith) h (omega arith) ∙
-          ap (λ (q : Place). Some (While q None c s, rest)) (sym same))
+      ap (λ (q : Place). Some (While q None c s, rest)) (sym same))
   stmt_with_complete (While p (Some n) c s) ts rest fine ((a, us, vs, ws, parts, (name, b, label), cond, h), le) =
       rw (parts, label) (by_label p b n (word a (codes "while") ∷ ((vs ++ ws) ++ rest)) name ∙ while_complete a (Some (p, n)) c s vs ws rest
-          fine cond (omega arith) h (omega arith))
+      fine cond (omega arith) h (omega arith))
   stmt_with_complete (Do p None s c) ts rest fine ((a, b, g, us, vs, ws, parts, (same, none), h, cond), le) =
       rw (parts, none) (by_do a ((vs ++ word b (codes "while") ∷ (ws ++ sign g signs.Semicolon ∷ [])) ++ rest) ∙ do_complete a b g None c s
-          vs ws rest h (omega arith) cond (omega arith)
+      vs ws rest h (omega arith) cond (omega arith)
       ∙ ap (λ (q : Place). Some (Do q None s c, rest)) (sym same))
   stmt_with_complete (Do p (Some n) s c) ts rest fine ((a, b, g, us, vs, ws, parts, (name, k, label), h, cond), le) =
       rw (parts, label) (by_label p k n (word a (codes "do") ∷ ((vs ++ word b (codes "while") ∷ (ws ++ sign g signs.Semicolon ∷ []))
-          ++ rest)) name
+      ++ rest)) name
       ∙ do_complete a b g (Some (p, n)) c s vs ws rest h (omega arith) cond (omega arith))
   stmt_with_complete (Switch p e gs end) ts rest fine ((a, us, vs, parts, cond, h), le) =
       rw parts (switch_complete p a end e gs us vs rest cond (omega arith) h (omega arith))
@@ -1039,14 +1106,14 @@ module _ (d : ℕ) (f : Reader Token Stmt) (exact : StmtExact f d) where
       rw (parts, no_name_return) (rw parts at whole)
   stmt_with_complete (Print p e) ts rest fine ((begins, c, a, us, parts, free, is), le) =
       let together : ts ++ rest ≡ us ++ sign a signs.Semicolon ∷ rest = ap (λ (z : List Token). z ++ rest) parts ∙
-            append_assoc us (sign a signs.Semicolon ∷ []) rest in
+      append_assoc us (sign a signs.Semicolon ∷ []) rest in
       let led = evaluated_led c us a rest (free_call c us (printed_call c e is) free) in
       let simple : Simple (ts ++ rest) = subst Simple (sym together) led.0 in
       let other : is_assign (ts ++ rest) ≡ false = ap is_assign together ∙ led.1 in
       by_simple (ts ++ rest) simple ∙ rw other (print_complete d p e ts rest ((begins, c, a, us, parts, free, is), le))
   stmt_with_complete (Eval p e) ts rest fine ((begins, c, a, us, parts, free, is), le) =
       let together : ts ++ rest ≡ us ++ sign a signs.Semicolon ∷ rest = ap (λ (z : List Token). z ++ rest) parts ∙
-            append_assoc us (sign a signs.Semicolon ∷ []) rest in
+      append_assoc us (sign a signs.Semicolon ∷ []) rest in
       let led = evaluated_led c us a rest (free_call c us is.1 free) in
       let simple : Simple (ts ++ rest) = subst Simple (sym together) led.0 in
       let other : is_assign (ts ++ rest) ≡ false = ap is_assign together ∙ led.1 in

@@ -115,7 +115,7 @@ module _ (m : ℕ) (inner : ℕ → Reads) (G : Language) (reading : (d : ℕ) �
       let b = bind_some (sign_at signs.CloseParen a.0.1) _ x a.2 in
       let name = name_is ts n.0 n.1 in
       subst (λ (y : Expr × List Token). Takes (λ us. IsSimple m G y.0 (word p (codes "new") ∷ us) × (depth y.0 ≤ 1)) ts y.1)
-          (some_is _ x b.2)
+      (some_is _ x b.2)
       (record {
         front = word n.0.0.0 n.0.0.1 ∷ sign a.0.0 signs.OpenParen ∷ sign b.0.0 signs.CloseParen ∷ [];
         parts = after name.0 (after (sign_is signs.OpenParen n.0.1 a.0 a.1) (sign_is signs.CloseParen a.0.1 b.0 b.1));
@@ -133,7 +133,7 @@ module _ (m : ℕ) (inner : ℕ → Reads) (G : Language) (reading : (d : ℕ) �
         elim (chosen (leb n 2147483648) _ _ (Some x) e) [
           | inl t ↦
               subst (λ (y : Expr × List Token). Takes (λ us. IsSimple m G y.0 (sign p signs.Minus ∷ us) × (depth y.0 ≤ 1)) (number q n ∷ ts)
-                  y.1) (some_is _ x t.1)
+              y.1) (some_is _ x t.1)
               (record { front = number q n ∷ []; parts = refl; holds = (inr (n, q, leb-true n 2147483648 t.0, refl, refl), omega arith) })
           | inr t ↦ absurd (none_is_not x t.1)
         ]
@@ -154,7 +154,7 @@ module _ (m : ℕ) (inner : ℕ → Reads) (G : Language) (reading : (d : ℕ) �
             (record { front = one.front; parts = one.parts; holds = ((name, one.front, refl, one.holds.0), f.1) })
         | inr t ↦
             subst (λ (y : Expr × List Token). Takes (λ us. IsSimple m G y.0 (word p n ∷ us) × (depth y.0 ≤ d)) ts y.1)
-                (some_is (Variable p n, ts) x t.1)
+            (some_is (Variable p n, ts) x t.1)
             (record { front = []; parts = refl; holds = ((name, refl), omega arith) })
       ]
 
@@ -168,13 +168,17 @@ module _ (m : ℕ) (inner : ℕ → Reads) (G : Language) (reading : (d : ℕ) �
           | inl t ↦
               let one = new_sound m p ts x (omega arith) t.1 in
               let same : w ≡ codes "new" = (bytes_eq-Decides w (codes "new")).0 t.0 in
-              record { front = one.front; parts = one.parts; holds =
-                  (subst (λ (v : Name). IsSimple m G x.0 (word p v ∷ one.front)) (sym same) one.holds.0, omega (arith, one.holds.1)) }
+              record {
+                front = one.front;
+                parts = one.parts;
+                holds =
+                    (subst (λ (v : Name). IsSimple m G x.0 (word p v ∷ one.front)) (sym same) one.holds.0, omega (arith, one.holds.1));
+              }
           | inr f ↦
               let l = bind_some (literal p w) _ x f.1 in
               let h = literal_is m G p w l.0 l.1 in
               subst (λ (y : Expr × List Token). Takes (λ us. IsSimple m G y.0 (word p w ∷ us) × (depth y.0 ≤ d)) ts y.1)
-                  (some_is (l.0, ts) x l.2)
+              (some_is (l.0, ts) x l.2)
               (record { front = []; parts = refl; holds = (h.0, omega (arith, h.1)) })
         ]
       ]
@@ -193,8 +197,14 @@ module _ (m : ℕ) (inner : ℕ → Reads) (G : Language) (reading : (d : ℕ) �
           | inl t ↦
               let one = negative_sound p ts x t.1 in
               let same = same_is s signs.Minus t.0 in
-              record { front = one.front; parts = one.parts; holds =
-                  (inl (subst (λ (v : Sign). IsSimple m G x.0 (sign p v ∷ one.front)) (sym same) one.holds.0), omega (arith, one.holds.1)) }
+              record {
+                front = one.front;
+                parts = one.parts;
+                holds = (
+                  inl (subst (λ (v : Sign). IsSimple m G x.0 (sign p v ∷ one.front)) (sym same) one.holds.0),
+                  omega (arith, one.holds.1),
+                );
+              }
           | inr f ↦ absurd (none_is_not x f.1)
         ]
       ]
@@ -216,13 +226,16 @@ module _ (m : ℕ) (inner : ℕ → Reads) (G : Language) (reading : (d : ℕ) �
         elim (chosen (leb n 2147483647) _ _ (Some x) e) [
           | inl t ↦
               subst (λ (y : Expr × List Token). Takes (Primary d y.0) (number p n ∷ ts) y.1) (some_is _ x t.1)
-              (record { front = number p n ∷ []; parts = refl; holds = (inl (inl (n, leb-true n 2147483647 t.0, refl, refl)), omega arith)
-                  })
+              (record {
+                front = number p n ∷ [];
+                parts = refl;
+                holds = (inl (inl (n, leb-true n 2147483647 t.0, refl, refl)), omega arith);
+              })
           | inr t ↦ absurd (none_is_not x t.1)
         ]
     by_kind p (kinds.Text t) e =
         subst (λ (y : Expr × List Token). Takes (Primary d y.0) (quoted p t ∷ ts) y.1) (some_is _ x e)
-            (record { front = quoted p t ∷ []; parts = refl; holds = (inl refl, omega arith) })
+        (record { front = quoted p t ∷ []; parts = refl; holds = (inl refl, omega arith) })
     by_kind p (kinds.Sign s) e = taken d (sign p s) ts x (signed_sound d p s ts x some e)
 
   primary_sound : (d : ℕ) (ts : List Token) (x : Expr × List Token) → primary_with m inner d ts ≡ Some x → Takes (Primary d x.0) ts x.1
@@ -248,7 +261,7 @@ module _ (m : ℕ) (inner : ℕ → Reads) (G : Language) (reading : (d : ℕ) �
       let opens : is_sign signs.OpenParen (us ++ rest) ≡ true = opened us h in
       let reads = arguments_complete (inner (d - 1)) G (d - 1) (reading (d - 1)) m args us rest h (omega arith) in
       let whole : fits d (Call p n (exprs_of (list_of args))) rest ≡ Some (Call p n args, rest) =
-            rw exprs-list_of (fits_again d (Call p n args) rest le) in
+      rw exprs-list_of (fits_again d (Call p n args) rest le) in
       rw (parts, name, opens, reads) whole where
         opened : (us : List Token) → AreArguments m G args us → is_sign signs.OpenParen (us ++ rest) ≡ true
         opened us (less, a, b, vs, parts, h) = rw parts refl

@@ -65,7 +65,7 @@ word_in_is w p (kinds.Word v) ts x e =
       | inl t ↦
           let same : v ≡ w = (bytes_eq-Decides v w).0 t.0 in
           subst (λ (y : Place × List Token). word p v ∷ ts ≡ word y.0 w ∷ y.1) (some_is (p, ts) x t.1)
-              (ap (λ (m : Name). word p m ∷ ts) same)
+          (ap (λ (m : Name). word p m ∷ ts) same)
       | inr f ↦ absurd (none_is_not x f.1)
     ]
 word_in_is w p (kinds.Number n) ts x e = absurd (none_is_not x e)

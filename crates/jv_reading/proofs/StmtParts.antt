@@ -72,8 +72,12 @@ ended_exact d = record { sound = sound; complete = complete } where
       })
 
   complete : (e : Expr) (ts rest : List Token) → Anything rest → EndedExpr d e ts → ended_at d (ts ++ rest) ≡ Some (e, rest)
-  complete e ts rest fine (c, us, parts, h, le) = rw (parts, append_assoc, (expr_exact 400 d).complete e us (sign c signs.Semicolon ∷ rest)
-      (before_semicolon c rest) (h, le)) refl
+  complete e ts rest fine (c, us, parts, h, le) = rw (
+    parts,
+    append_assoc,
+    (expr_exact 400 d).complete e us (sign c signs.Semicolon ∷ rest)
+        (before_semicolon c rest) (h, le),
+  ) refl
 
 -- ---- types and declarations
 
@@ -150,7 +154,7 @@ type_is (t ∷ ts) x e = by_kind t.place t.kind e where
       let ty = bind_some (type_in w) _ x e in
       let h = type_in_is w ty.0 ty.1 in
       subst (λ (y : TypeName × List Token). (q : Place) × (word p w ∷ ts ≡ word q (type_word y.0) ∷ y.1) × IsType y.0)
-          (some_is (ty.0, ts) x ty.2)
+      (some_is (ty.0, ts) x ty.2)
       (p, ap (λ (v : Name). word p v ∷ ts) h.0, h.1)
   by_kind p (kinds.Number n) e = absurd (none_is_not x e)
   by_kind p (kinds.Text t) e = absurd (none_is_not x e)
@@ -239,16 +243,20 @@ local_complete d (Block p body end) ts rest (h, le) = absurd h
 local_complete d (Empty p) ts rest (h, le) = absurd h
 local_complete d (Local p ty n e) ts rest ((of_type, name, a, b, c, us, vs, parts, final, free), le) =
     rw (parts, append_assoc) (by_final us final) where
-  reads : declared_at d (word a (type_word ty) ∷ word p n ∷ sign b signs.Assign ∷ ((vs ++ sign c signs.Semicolon ∷ []) ++ rest)) ≡ Some
-      (Local p ty n e, rest)
-  reads = rw (type_in_again ty of_type, name, (ended_exact d).complete e (vs ++ sign c signs.Semicolon ∷ []) rest tt
-      (c, vs, refl, free, omega arith)) refl
+      reads : declared_at d (word a (type_word ty) ∷ word p n ∷ sign b signs.Assign ∷ ((vs ++ sign c signs.Semicolon ∷ []) ++ rest)) ≡ Some
+          (Local p ty n e, rest)
+      reads = rw (
+        type_in_again ty of_type,
+        name,
+        (ended_exact d).complete e (vs ++ sign c signs.Semicolon ∷ []) rest tt
+            (c, vs, refl, free, omega arith),
+      ) refl
 
-  by_final : (us : List Token) → IsFinal us →
-      declared_at d (after_final (us ++ (word a (type_word ty) ∷ word p n ∷ sign b signs.Assign ∷ ((vs ++ sign c signs.Semicolon ∷ [])
-      ++ rest)))) ≡ Some (Local p ty n e, rest)
-  by_final us (inl h) = rw (h, type_no_final ty of_type) reads
-  by_final us (inr (q, h)) = rw h reads
+      by_final : (us : List Token) → IsFinal us →
+          declared_at d (after_final (us ++ (word a (type_word ty) ∷ word p n ∷ sign b signs.Assign ∷ ((vs ++ sign c signs.Semicolon ∷ [])
+          ++ rest)))) ≡ Some (Local p ty n e, rest)
+      by_final us (inl h) = rw (h, type_no_final ty of_type) reads
+      by_final us (inr (q, h)) = rw h reads
 local_complete d (Assign p t e) ts rest (h, le) = absurd h
 local_complete d (If p c s) ts rest (h, le) = absurd h
 local_complete d (IfElse p c s r) ts rest (h, le) = absurd h
@@ -334,8 +342,12 @@ cases_exact = record { sound = sound; complete = complete } where
       let one = case_sound ts s.0 s.1 in
       let more = all_sound is_case case_at IsCase Anything case_exact s.0.1 b.0 b.1 in
       subst (λ (y : List (Option Name) × List Token). Takes (AreCases y.0) ts y.1) (some_is (s.0.0 ∷ b.0.0, b.0.1) x b.2)
-      (record { front = one.front ++ more.front; parts = glue one.front more.front b.0.1 one.parts more.parts; holds =
-          (one.front, more.front, refl, one.holds, each_more b.0.0 more.front more.holds) })
+      (record {
+        front = one.front ++ more.front;
+        parts = glue one.front more.front b.0.1 one.parts more.parts;
+        holds =
+            (one.front, more.front, refl, one.holds, each_more b.0.0 more.front more.holds);
+      })
 
   complete : (ls : List (Option Name)) (ts rest : List Token) → NotCase rest → AreCases ls ts → cases_at (ts ++ rest) ≡ Some (ls, rest)
   complete [] ts rest fine h = absurd h
@@ -459,7 +471,7 @@ return_complete d p None ts rest ((a, us, parts, h), le) = rw (parts, h) refl
 return_complete d p (Some e) ts rest ((a, us, parts, h), le) =
     let stays : is_sign signs.Semicolon ((us ++ sign a signs.Semicolon ∷ []) ++ rest) ≡ false =
     begins_no_sign signs.Semicolon ((us ++ sign a signs.Semicolon ∷ []) ++ rest) refl (begins_more (us ++ sign a signs.Semicolon ∷ []) rest
-        (begins_more us (sign a signs.Semicolon ∷ []) (expr_begins 400 e us h))) in
+    (begins_more us (sign a signs.Semicolon ∷ []) (expr_begins 400 e us h))) in
     rw (parts, stays, (ended_exact d).complete e (us ++ sign a signs.Semicolon ∷ []) rest tt (a, us, refl, h, omega arith)) refl
 
 pub empty_sound : (d : ℕ) (ts : List Token) (x : Stmt × List Token) → empty_at ts ≡ Some x → Takes (DeepStmt (suc d) x.0) ts x.1

@@ -62,10 +62,14 @@ module _ (m : ℕ) (inner : ℕ → Reads) (G : Language) (reading : (d : ℕ) �
             let begins = unary_begins m G n.0.0 one.front one.holds.0 in
             let free : starts_number one.front ≡ false =
             sym (starts_front one.front n.0.1 begins) ∙ ap starts_number (sym one.parts) ∙ negation_is a.0.0 a.0.1
-                (ap is_negation (sym minus) ∙ t.0) in
+            (ap is_negation (sym minus) ∙ t.0) in
             subst (λ (y : Expr × List Token). Takes (Unary (suc d) y.0) ts y.1) f.0
-            (record { front = sign a.0.0 signs.Minus ∷ one.front; parts = after minus one.parts; holds =
-                (inr (one.front, refl, free, one.holds.0), f.1) })
+            (record {
+              front = sign a.0.0 signs.Minus ∷ one.front;
+              parts = after minus one.parts;
+              holds =
+                  (inr (one.front, refl, free, one.holds.0), f.1);
+            })
         | inr g ↦ elim (chosen (is_sign signs.Bang ts) _ _ (Some x) g.1) [
           | inl t ↦
               let a = bind_some (sign_at signs.Bang ts) _ x t.1 in
@@ -73,8 +77,12 @@ module _ (m : ℕ) (inner : ℕ → Reads) (G : Language) (reading : (d : ℕ) �
               let f = fits_is (suc d) (Not a.0.0 n.0.0) n.0.1 x n.2 in
               let one = unary_sound d a.0.1 n.0 n.1 in
               subst (λ (y : Expr × List Token). Takes (Unary (suc d) y.0) ts y.1) f.0
-              (record { front = sign a.0.0 signs.Bang ∷ one.front; parts = after (sign_is signs.Bang ts a.0 a.1) one.parts; holds =
-                  (inr (one.front, refl, one.holds.0), f.1) })
+              (record {
+                front = sign a.0.0 signs.Bang ∷ one.front;
+                parts = after (sign_is signs.Bang ts a.0 a.1) one.parts;
+                holds =
+                    (inr (one.front, refl, one.holds.0), f.1);
+              })
           | inr h ↦
               let one = (post_exact m inner G reading (suc d)).sound ts x h.1 in
               record { front = one.front; parts = one.parts; holds = (unary_base x.0 one.front one.holds.0, one.holds.1) }

@@ -86,7 +86,7 @@ module _ (m : ℕ) (inner : ℕ → Reads) where
   unfoldable pub named_with : ℕ → Place → Name → Reads
   named_with d p n ts =
       if is_sign signs.OpenParen ts then (arguments_with m (inner (d - 1)) ts >>= λ xs. fits d (Call p n (exprs_of xs.0)) xs.1) else Some
-          (Variable p n, ts)
+      (Variable p n, ts)
 
   unfoldable pub word_with : ℕ → Place → Name → Reads
   word_with d p w ts =
@@ -115,7 +115,7 @@ module _ (m : ℕ) (inner : ℕ → Reads) where
   unfoldable pub member_with : ℕ → Expr → Name → Reads
   member_with d e n ts =
       if is_sign signs.OpenParen ts then (arguments_with m (inner (d - 1)) ts >>= λ xs. fits d (MethodCall (place_of e) e n (exprs_of xs.0))
-          xs.1)
+      xs.1)
       else fits d (Member (place_of e) e n) ts
 
   unfoldable pub tail_with : ℕ → Expr → Reads

@@ -67,11 +67,11 @@ same_entries typestates n m (c ∷ cs) =
     let names = map (λ (t : Typestate). t.name) typestates in
     followed_first c n m (followed_by names c.typestate) (entries_by names (n + 1) (m + length c.methods) cs)
     ∙ ap (λ o. o >>= λ t. entries_by names (n + 1) (m + length c.methods) cs >>= λ es. Some (entry_of c n m t ∷ es))
-        (same_followed typestates c.typestate)
+    (same_followed typestates c.typestate)
     ∙ ap (λ k. followed typestates c.typestate >>= λ t. entries_by names k (m + length c.methods) cs >>= λ es. Some (entry_of c n m t ∷ es))
-        (add-one n)
+    (add-one n)
     ∙ ap (λ r. followed typestates c.typestate >>= λ t. r >>= λ es. Some (entry_of c n m t ∷ es))
-        (same_entries typestates (suc n) (m + length c.methods) cs)
+    (same_entries typestates (suc n) (m + length c.methods) cs)
 
 -- ---- whole programs
 

@@ -76,7 +76,7 @@ module _ (tables : Tables) (at : Standing) (around : List Around) (locals : List
           meant (Source.IfElse p c then otherwise) ≡ Some (counting made d.so_far)
       else_made t b d made test h k is =
           ap (λ o. o >>= λ v. after_first v first) test ∙ ap (after_first t) h ∙
-              ap (λ o. o >>= λ e. Some (counting (Core.IfElse p t.expr b.it e.it) e.so_far)) k
+          ap (λ o. o >>= λ e. Some (counting (Core.IfElse p t.expr b.it e.it) e.so_far)) k
           ∙ ap (λ u. Some (counting u d.so_far)) (sym is)
 
       pub else_test_fails : (err : Unresolved) → Fails err (value c) → Fails err (meant (Source.IfElse p c then otherwise))
@@ -157,7 +157,7 @@ module _ (tables : Tables) (at : Standing) (around : List Around) (locals : List
     switch_made v k g made of enum h is =
         ap (λ o. o >>= λ w. enum_given tables w.given >>= chosen w) of ∙ ap (λ o. o >>= chosen v) enum
         ∙ ap (λ o. o >>= λ a. Some (counting (Core.Switch p v.expr (groups_of a.it) end) a.so_far)) h ∙ ap (λ u. Some (counting u g.so_far))
-            (sym is)
+        (sym is)
 
     pub switch_value_fails : (err : Unresolved) → Fails err (value e) → Fails err (meant (Source.Switch p e gs end))
     switch_value_fails err h = fails_then err (value e) (λ w. enum_given tables w.given >>= chosen w) h

@@ -59,7 +59,7 @@ module _ (tables : Tables) (at : Standing) (locals : List Known) where
           is-Binary o is made =
               ap meant (shape-Binary x o e d is)
               ∙ ap (λ a. a >>= λ k. meant (expr_of d.value)
-                  >>= λ l. Some (typed (Core.Binary x.place o k.expr l.expr) (operator_gives o k.given l.given))) part
+              >>= λ l. Some (typed (Core.Binary x.place o k.expr l.expr) (operator_gives o k.given l.given))) part
               ∙ ap (λ a. a >>= λ l. Some (typed (Core.Binary x.place o i.expr l.expr) (operator_gives o i.given l.given))) right
               ∙ ap Some (sym made)
 
@@ -84,7 +84,7 @@ module _ (tables : Tables) (at : Standing) (locals : List Known) where
     pub as-MethodCall : (e : Box KeptExpr Global) (n : Name) (args : Row KeptExpr) (w : Receiver) (es : List Core.Expr) →
         x.kind ≡ E.MethodCall e n args →
         receiver tables at locals (expr_of e.value) (meant (expr_of e.value)) ≡ Some w → all_meant (exprs_of (map expr_of args.items)) ≡
-            Some es →
+        Some es →
         meant (expr_of x) ≡ call_on tables at x.place w n es
     as-MethodCall e n args w es is on all =
         ap meant (shape-MethodCall x e n args is)
@@ -105,8 +105,8 @@ module _ (tables : Tables) (at : Standing) (locals : List Known) where
       fails-left o e d is h =
           fails_as err _ _ (ap meant (shape-Binary x o e d is))
           (fails_then err (meant (expr_of e.value))
-              (λ k. meant (expr_of d.value) >>= λ l. Some (typed (Core.Binary x.place o k.expr l.expr) (operator_gives o k.given l.given)))
-              h)
+          (λ k. meant (expr_of d.value) >>= λ l. Some (typed (Core.Binary x.place o k.expr l.expr) (operator_gives o k.given l.given)))
+          h)
 
       pub fails-right : (o : Op) (e d : Box KeptExpr Global) (i : Resolved) → x.kind ≡ E.Binary o e d → meant (expr_of e.value) ≡ Some i →
           Fails err (meant (expr_of d.value)) →
@@ -115,15 +115,15 @@ module _ (tables : Tables) (at : Standing) (locals : List Known) where
           fails_as err _ _
           (ap meant (shape-Binary x o e d is)
           ∙ ap (λ a. a >>= λ k. meant (expr_of d.value)
-              >>= λ l. Some (typed (Core.Binary x.place o k.expr l.expr) (operator_gives o k.given l.given))) left)
+          >>= λ l. Some (typed (Core.Binary x.place o k.expr l.expr) (operator_gives o k.given l.given))) left)
           (fails_then err (meant (expr_of d.value))
-              (λ l. Some (typed (Core.Binary x.place o i.expr l.expr) (operator_gives o i.given l.given))) h)
+          (λ l. Some (typed (Core.Binary x.place o i.expr l.expr) (operator_gives o i.given l.given))) h)
 
       pub fails-Call : (n : Name) (args : Row KeptExpr) → x.kind ≡ E.Call n args → Fails err (all_meant (exprs_of (map expr_of args.items)))
           → Fails err (meant (expr_of x))
       fails-Call n args is h =
           fails_as err _ _ (ap meant (shape-Call x n args is)) (fails_then err (all_meant (exprs_of (map expr_of args.items)))
-              (call_own tables at x.place n) h)
+          (call_own tables at x.place n) h)
 
       pub fails-receiver : (e : Box KeptExpr Global) (n : Name) (args : Row KeptExpr) → x.kind ≡ E.MethodCall e n args →
           Fails err (receiver tables at locals (expr_of e.value) (meant (expr_of e.value))) → Fails err (meant (expr_of x))
@@ -134,11 +134,11 @@ module _ (tables : Tables) (at : Standing) (locals : List Known) where
 
       pub fails-args : (e : Box KeptExpr Global) (n : Name) (args : Row KeptExpr) (w : Receiver) → x.kind ≡ E.MethodCall e n args →
           receiver tables at locals (expr_of e.value) (meant (expr_of e.value)) ≡ Some w →
-              Fails err (all_meant (exprs_of (map expr_of args.items))) → Fails err (meant (expr_of x))
+          Fails err (all_meant (exprs_of (map expr_of args.items))) → Fails err (meant (expr_of x))
       fails-args e n args w is on h =
           fails_as err _ _
           (ap meant (shape-MethodCall x e n args is) ∙ ap (λ o. o >>= λ v. all_meant (exprs_of (map expr_of args.items)) >>= λ as'. call_on
-              tables at x.place v n as') on)
+          tables at x.place v n as') on)
           (fails_then err (all_meant (exprs_of (map expr_of args.items))) (λ as'. call_on tables at x.place w n as') h)
 
   -- ---- arguments, one after another

@@ -19,7 +19,7 @@ use Rattle.jv_resolve.proofs.Threads.{then_same, same_threaded}
 
 interned_first : (o : Option Interned) (f : List Name → Option (Naming (List ℕ))) →
     (o >>= λ n. f n.names >>= λ r. Some (naming (n.number ∷ r.it) r.names)) ≡ (option_map (λ n. naming n.number n.names) o
-        >>= λ k. f k.names >>= λ r. Some (naming (k.it ∷ r.it) r.names))
+    >>= λ k. f k.names >>= λ r. Some (naming (k.it ∷ r.it) r.names))
 interned_first None f = refl
 interned_first (Some n) f = refl
 
@@ -27,7 +27,7 @@ pub same_interned : (names xs : List Name) → all_interned names xs ≡ threade
 same_interned names [] = refl
 same_interned names (x ∷ xs) =
     then_same (interned names x) (λ n. all_interned n.names xs >>= λ r. Some (naming (n.number ∷ r.it) r.names))
-        (λ n. threaded numbered n.names (map (λ y. y) xs) >>= λ r. Some (naming (n.number ∷ r.it) r.names))
+    (λ n. threaded numbered n.names (map (λ y. y) xs) >>= λ r. Some (naming (n.number ∷ r.it) r.names))
     (λ n. ap (λ o. o >>= λ r. Some (naming (n.number ∷ r.it) r.names)) (same_interned n.names xs))
     ∙ interned_first (interned names x) (λ ns. threaded numbered ns (map (λ y. y) xs))
 
@@ -104,7 +104,7 @@ module _ (tables : Tables) (names : List Name) (e : Entry) (n : ℕ) (ns : List 
   class_fails err h =
       fails_as err _ _ class_opened
       (fails_then err (fields tables ns e.class.fields)
-          (λ fs. Some (naming (core_class e n fs.it (numbers_from e.first_method (length e.class.methods))) fs.names)) h)
+      (λ fs. Some (naming (core_class e n fs.it (numbers_from e.first_method (length e.class.methods))) fs.names)) h)
 
 pub same_classes : (tables : Tables) (names : List Name) (es : List Entry) → classes tables names es ≡ threaded (class tables) names es
 same_classes tables = same_threaded (class tables) (classes tables) (λ ns. refl) (λ ns e es. refl)

@@ -147,11 +147,11 @@ module _ (tables : Tables) (names : List Name) (e : Entry) (m : Source.Method) w
   method_opened : method tables names e m ≡ (signature_meant tables names m >>= then_body)
   method_opened =
       kept_steps (interned names m.name) (type_meant tables m.result) (λ (k : Interned) (ty : CoreType). naming (signed k.number ty)
-          k.names) then_body
+      k.names) then_body
       (λ (k : Interned) (ty : CoreType). params tables m.params [] (unnumbered k.names) >>= λ o. stmts tables (standing e m) m.body []
-          o.locals o.so_far >>= then_done (signed k.number ty))
+      o.locals o.so_far >>= then_done (signed k.number ty))
       (λ (k : Interned) (ty : CoreType). two_steps (params tables m.params [] (unnumbered k.names))
-          (λ (o : Opened). stmts tables (standing e m) m.body [] o.locals o.so_far) (then_done (signed k.number ty)))
+      (λ (o : Opened). stmts tables (standing e m) m.body [] o.locals o.so_far) (then_done (signed k.number ty)))
 
   pub method_signature_fails : (err : Unresolved) → Fails err (signature_meant tables names m) → Fails err (method tables names e m)
   method_signature_fails err h = fails_as err _ _ method_opened (fails_then err (signature_meant tables names m) then_body h)

@@ -23,15 +23,17 @@ is_in seen name = is_some (position (bytes_eq name) seen)
 
 pub bytes_eq_flip : (a b : Name) → bytes_eq a b ≡ bytes_eq b a
 bytes_eq_flip a b =
-    same_from_decides (bytes_eq a b) (bytes_eq b a) (bytes_eq-Decides a b) ((λ e. sym ((bytes_eq-Decides b a).0 e)),
-        (λ e. (bytes_eq-Decides b a).1 (sym e)))
+    same_from_decides (bytes_eq a b) (bytes_eq b a) (bytes_eq-Decides a b) (
+      (λ e. sym ((bytes_eq-Decides b a).0 e)),
+      (λ e. (bytes_eq-Decides b a).1 (sym e)),
+    )
 
 pub any_at : (name : Name) (names : List Name) → is_some (position (bytes_eq name) names) ≡ list_any (bytes_eq name) names
 any_at name names = go (list_any (bytes_eq name) names) (list_any-position (bytes_eq name) names)
   where
     go : (b : Bool) → b ≡ nat_lt (position_or_len (bytes_eq name) names) (length names) →
         is_some (cond (nat_lt (position_or_len (bytes_eq name) names) (length names)) (Some (position_or_len (bytes_eq name) names)) None) ≡
-            b
+        b
     go true e = ap (λ t. is_some (cond t (Some (position_or_len (bytes_eq name) names)) None)) (sym e)
     go false e = ap (λ t. is_some (cond t (Some (position_or_len (bytes_eq name) names)) None)) (sym e)
 
@@ -93,7 +95,7 @@ any_noted n met [] = go (list_any (bytes_eq n) met)
     go false = refl
 any_noted n met (x ∷ xs) =
     any_noted n (with_text met x) xs ∙ ap (λ b. b || list_any (bytes_eq n) xs) (any_with n met x) ∙ or_or (list_any (bytes_eq n) met)
-        (bytes_eq n x) (list_any (bytes_eq n) xs)
+    (bytes_eq n x) (list_any (bytes_eq n) xs)
 
 any_names : (n : Name) (ms : List Method) → list_any (bytes_eq n) (map (λ m. m.name) ms) ≡ list_any (λ m. bytes_eq m.name n) ms
 any_names n [] = refl

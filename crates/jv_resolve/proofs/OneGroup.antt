@@ -41,7 +41,7 @@ module _ (tables : Tables) (at : Standing) (enum : Source.Enum) (around : List A
   pub group_made : (ls : List (Option ℕ)) (b : Counting (List Core.Stmt)) → labels_at enum labels ≡ Some ls →
       stmts tables at body around locals s ≡ Some b →
       group_at tables at (source_group labels body end) enum around locals s ≡ Some (counting (core_group ls (core.stmts_of b.it) end)
-          b.so_far)
+      b.so_far)
   group_made ls b h k = ap (λ o. o >>= then_body) h ∙ ap (λ o. o >>= λ a. Some (counting (core_group ls (core.stmts_of a.it) end) a.so_far))
       k
 
@@ -54,4 +54,4 @@ module _ (tables : Tables) (at : Standing) (enum : Source.Enum) (around : List A
       Fails err (group_at tables at (source_group labels body end) enum around locals s)
   group_body_fails err ls h k =
       fails_as err _ _ (ap (λ o. o >>= then_body) h) (fails_then err (stmts tables at body around locals s)
-          (λ a. Some (counting (core_group ls (core.stmts_of a.it) end) a.so_far)) k)
+      (λ a. Some (counting (core_group ls (core.stmts_of a.it) end) a.so_far)) k)

@@ -69,7 +69,7 @@ module _ (texts : List Name) (t : Name) where
 
     after : (k : Bool) → is_some (position (bytes_eq t) texts) ≡ k → (q : Name) →
         cond k (position (bytes_eq q) texts) (cond (bytes_eq t q) (Some (length texts)) (position (bytes_eq q) texts)) ≡ or_end
-            (position (bytes_eq q) texts) (bytes_eq q t) (length texts)
+        (position (bytes_eq q) texts) (bytes_eq q t) (length texts)
     after true known q = known-same (position (bytes_eq q) texts) q (bytes_eq q t) (bytes_eq-Decides q t) known refl
     after false new q = new-same (position (bytes_eq q) texts) q (bytes_eq q t) (bytes_eq t q) (bytes_eq-Decides q t) (bytes_eq-Decides t q)
         new refl
@@ -97,6 +97,6 @@ module _ {X S : Type 0} (m n : HashMap (Bor Name) X S) (t : Name) (w : X) where
   pub put-new : UpdatesBy (λ x y. bytes_eq x.now y.now) (λ k. bytes_eq t k.now) m n (Some w) → is_some (get_by (λ k. bytes_eq t k.now) m) ≡
       false → (q : Name) →
       get_by (λ k. bytes_eq q k.now) n ≡ cond (is_some (get_by (λ k. bytes_eq t k.now) m)) (get_by (λ k. bytes_eq q k.now) m)
-          (cond (bytes_eq t q) (Some w) (get_by (λ k. bytes_eq q k.now) m))
+      (cond (bytes_eq t q) (Some w) (get_by (λ k. bytes_eq q k.now) m))
   put-new u new q = changed-at u q ∙
       sym (ap (λ b. cond b (get_by (λ k. bytes_eq q k.now) m) (cond (bytes_eq t q) (Some w) (get_by (λ k. bytes_eq q k.now) m))) new)

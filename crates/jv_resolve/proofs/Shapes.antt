@@ -57,7 +57,7 @@ module _ (x : KeptExpr) where
       expr_of x ≡ MethodCall x.place (expr_of e.value) n (exprs_of (map expr_of args.items))
   shape-MethodCall e n args is =
       shape (E.MethodCall e n args) (MethodCall x.place (expr_of e.value) n (exprs_of (map expr_of args.items))) is
-          (kind-MethodCall e n args x.place)
+      (kind-MethodCall e n args x.place)
 
   pub shape-New : (n : Name) → x.kind ≡ E.New n → expr_of x ≡ New x.place n
   shape-New n is = shape (E.New n) (New x.place n) is (kind-New n x.place)

@@ -200,7 +200,7 @@ module _ (tables : Tables) (at : Standing) (around : List Around) where
 
         assoc : (l : Option (List (Option ℕ))) (b : Option (Counting (List Core.Stmt))) →
             (l >>= λ ls. b >>= λ a. then_groups (counting (one_group_of ls a.it) a.so_far)) ≡
-                ((l >>= λ ls. b >>= λ a. Some (counting (one_group_of ls a.it) a.so_far)) >>= then_groups)
+            ((l >>= λ ls. b >>= λ a. Some (counting (one_group_of ls a.it) a.so_far)) >>= then_groups)
         assoc None b = refl
         assoc (Some ls) None = refl
         assoc (Some ls) (Some a) = refl
@@ -209,7 +209,7 @@ module _ (tables : Tables) (at : Standing) (around : List Around) where
         groups_opened =
             so_far ∙ ap (λ xs. with_groups done (left_groups xs locals s)) next
             ∙ ap (with_groups done) (assoc (labels_at enum (source.group_of x).labels) (stmts tables at (source.group_of x).body around
-                locals s))
+            locals s))
 
         pub groups_more : (g : Counting OneGroup) → one_group ≡ Some g → total ≡ with_groups (done ++ g.it ∷ [])
             (left_groups rest locals g.so_far)

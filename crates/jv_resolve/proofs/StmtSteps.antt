@@ -50,7 +50,7 @@ module _ (tables : Tables) where
     pub declared_made : (locals : List Known) (p : Place) (ty : TypeName) (name : Name) (e : Source.Expr) (s : Counted) (r : Resolved)
         (k : Counting Known) →
         resolved tables at locals e ≡ Some r → slot_more tables ty name s ≡ Some k → local tables at p ty name e locals s ≡ Some
-            (k, Core.Local p k.it.slot r.expr)
+        (k, Core.Local p k.it.slot r.expr)
     declared_made locals p ty name e s r k typed slot =
         ap (λ o. o >>= λ v. slot_more tables ty name s >>= λ j. Some (j, Core.Local p j.it.slot v.expr)) typed
         ∙ ap (λ o. o >>= λ j. Some (j, Core.Local p j.it.slot r.expr)) slot

@@ -19,13 +19,13 @@ then_same (Some x) f g h = h x
 pub same_threaded : {X Y : Type 0} (step : List Name → X → Option (Naming Y)) (f : List Name → List X → Option (Naming (List Y))) →
     ((ns : List Name) → f ns [] ≡ Some (naming [] ns)) →
     ((ns : List Name) (x : X) (xs : List X) →
-        f ns (x ∷ xs) ≡ (step ns x >>= λ k. f k.names xs >>= λ r. Some (naming (k.it ∷ r.it) r.names))) → (ns : List Name) (xs : List X) →
-        f ns xs ≡ threaded step ns xs
+    f ns (x ∷ xs) ≡ (step ns x >>= λ k. f k.names xs >>= λ r. Some (naming (k.it ∷ r.it) r.names))) → (ns : List Name) (xs : List X) →
+    f ns xs ≡ threaded step ns xs
 same_threaded step f nil cons ns [] = nil ns
 same_threaded step f nil cons ns (x ∷ xs) =
     cons ns x xs
     ∙ then_same (step ns x) (λ k. f k.names xs >>= λ r. Some (naming (k.it ∷ r.it) r.names))
-        (λ k. threaded step k.names xs >>= λ r. Some (naming (k.it ∷ r.it) r.names))
+    (λ k. threaded step k.names xs >>= λ r. Some (naming (k.it ∷ r.it) r.names))
     (λ k. ap (λ o. o >>= λ r. Some (naming (k.it ∷ r.it) r.names)) (same_threaded step f nil cons k.names xs))
 
 pub start : {Y : Type 0} (o : Option (Naming (List Y))) → o ≡ with_done [] o
@@ -70,7 +70,7 @@ module _ {S X R Y : Type 0} (step : List Name → X → Option (Naming Y)) (from
         total ≡ with_done (map see after) (threaded step later (map from (drop (i + 1) xs)))
     loop_more r after later h pushed =
         thread_more step total (map see done) names (map from (drop i xs)) so_far (from s) (map from (drop (i + 1) xs)) next_one
-            (naming (see r) later) h
+        (naming (see r) later) h
         ∙ ap (λ ys. with_done ys (threaded step later (map from (drop (i + 1) xs)))) (sym (ap (map see) pushed ∙ map_push see done r))
 
     pub loop_fail : (err : Unresolved) → Fails err (step names (from s)) → Fails err total

@@ -75,7 +75,7 @@ module _ (program : Program) where
   abbrev then_parts : Tables → Option Core.Program
   then_parts t =
       enums [] t.enums >>= λ es. classes t es.names t.classes >>= λ cs. methods t cs.names t.classes
-          >>= λ ms. Some (core_program cs.it es.it ms.it program.typestates ms.names)
+      >>= λ ms. Some (core_program cs.it es.it ms.it program.typestates ms.names)
 
   pub whole_tables_fail : (err : Unresolved) → Fails err (tables_of program) → Fails err (resolving program)
   whole_tables_fail err h = fails_then err (tables_of program) then_parts h
@@ -84,4 +84,4 @@ module _ (program : Program) where
   whole_tabled t tabled =
       ap (λ o. o >>= then_parts) tabled
       ∙ grouped (enums [] t.enums) (λ (es : Naming (List Core.Enum)). classes t es.names t.classes)
-          (λ (es : Naming (List Core.Enum)) (cs : Naming (List Core.Class)). heads es.it cs.it cs.names) (then_methods t program.typestates)
+      (λ (es : Naming (List Core.Enum)) (cs : Naming (List Core.Class)). heads es.it cs.it cs.names) (then_methods t program.typestates)

@@ -98,7 +98,7 @@ receiver-Decides scope x = Decides-or _ _ (some-Decides (variable_type scope x))
 qualifier-Decides : (scope : Scope) (x : Name) → Decides (is_qualifier scope x) (IsQualifier scope x)
 qualifier-Decides scope x =
     Decides-or _ _ (some-Decides (variable_type scope x)) (Decides-or _ _ (some-Decides (enum_named scope.program.files x))
-        (named_class-Decides scope x))
+    (named_class-Decides scope x))
 
 unknown_name-right : (s : Spot) → Answers (UnknownName s) (unknown_name s)
 unknown_name-right (AtNode scope (Receiver p x)) = wrong_unless (IsReceiver scope x) (is_receiver scope x) (culprit p x)
@@ -166,7 +166,7 @@ pub same_type-Decides : (s t : ValueType) → Decides (same_type s t) (s ≡ t)
 same_type-Decides s t =
     decides_as (same_type s t) (Decides-and _ _ (Decides-eqb (tag s) (tag t)) (bytes_eq-Decides (type_name s) (type_name t)))
     (λ q. sym (type_by-is s) ∙ ap (λ n. type_by n (type_name s)) q.0 ∙ ap (type_by (tag t)) q.1 ∙ type_by-is t)
-        (λ e. (ap tag e, ap type_name e))
+    (λ e. (ap tag e, ap type_name e))
 
 class_by_tag : (t : ValueType) → tag t ≡ 5 → t ≡ ClassType (type_name t)
 class_by_tag t e = sym (type_by-is t) ∙ ap (λ n. type_by n (type_name t)) e
@@ -227,7 +227,7 @@ some-suits : (w : Wanted) (e : Expr) (o : Option ValueType) →
 some-suits w e None = holds (λ t h. let no : ⊥ = cc in absurd no)
 some-suits w e (Some t) =
     decides_as (not (suits w e t)) (Decides-not _ (suits-Decides w e t)) (λ n s h q. n (subst (Suits w e) (sym (same_Some t s h)) q))
-        (λ n q. n t refl q)
+    (λ n q. n t refl q)
 
 type_mismatch-right : (t : Taking) → Answers (TypeMismatch t) (type_mismatch t)
 type_mismatch-right (Takes scope t) = wrong _ _ (culprit (place_of t.value) []) (some-suits t.wanted t.value (type_of scope t.value))
@@ -242,7 +242,7 @@ count_differs-right p None args = λ c a. none a.1 a.2
     none s e = cc
 count_differs-right p (Some s) args =
     when_wrong _ (count_of args ≢ length s.params) (not (count_of args == length s.params)) (culprit p [])
-        (Decides-not _ (Decides-eqb (count_of args) (length s.params)))
+    (Decides-not _ (Decides-eqb (count_of args) (length s.params)))
     (λ c a. (a.0, λ e. a.3 (e ∙ ap (λ z. length z.params) (same_Some s a.1 a.2)))) (λ n. (refl, s, refl, n))
 
 arity-right : (s : Spot) → Answers (Arity s) (arity s)
@@ -284,7 +284,7 @@ loops-Decides [] = fails (λ q. nothing_in (Loop q.0) q.1)
 loops-Decides (Loop label ∷ ts) = holds (label, in_first ts (Loop label))
 loops-Decides (targets.Switch ∷ ts) =
     decides_as (list_any is_loop ts) (loops-Decides ts) (λ q. (q.0, in_later ts targets.Switch (Loop q.0) q.1))
-        (λ q. (q.0, ⊎_elim (λ e. no q.0 e) (λ h. h) (in_cases ts targets.Switch (Loop q.0) q.1)))
+    (λ q. (q.0, ⊎_elim (λ e. no q.0 e) (λ h. h) (in_cases ts targets.Switch (Loop q.0) q.1)))
   where
     no : (l : Option Name) → targets.Switch ≡ Loop l → Contains ts (Loop l)
     no l e = let x : ⊥ = cc in absurd x
@@ -334,7 +334,7 @@ bad_label-right (LoopAt scope p (Some label)) = wrong _ _ (culprit p label) (lab
 bad_label-right (CaseAt scope p e (earlier, None)) = wrong _ _ (culprit p []) (earlier-Decides earlier None)
 bad_label-right (CaseAt scope p e (earlier, Some name)) =
     wrong _ _ (culprit p name) (Decides-or _ _ (earlier-Decides earlier (Some name))
-        (Decides-not _ (case_of scope.program (type_of scope e) name)))
+    (Decides-not _ (case_of scope.program (type_of scope e) name)))
 
 -- 15
 void-Decides : (t : TypeName) → Decides (is_void t) (t ≡ written.Void)
@@ -350,7 +350,7 @@ missing_return-right (AtStatement scope s) = λ c a. a
 missing_return-right (AtParameter scope p) = λ c a. a
 missing_return-right (AtEnd m) =
     when_wrong (MissingReturn (AtEnd m)) _ _ (culprit m.end []) (Decides-and _ _ (Decides-not _ (void-Decides m.result))
-        (leaves_all-Decides m.body Through))
+    (leaves_all-Decides m.body Through))
     (λ c a. (a.0, (a.1, a.2))) (λ q. (refl, q.0, q.1))
 
 -- 16
@@ -482,7 +482,7 @@ moves-right p None b P d = λ c a. none a.0 a.1
     none f e = cc
 moves-right p (Some f) b P d =
     when_wrong _ P b (culprit p f.name) d (λ c a. (a.2 ∙ sym (ap (λ z. culprit p z.name) (same_Some f a.0 a.1)), a.3))
-        (λ q. (f, refl, refl, q))
+    (λ q. (f, refl, refl, q))
 
 args_may_move-right : (s : Spot) → Answers (ArgsMayMove s) (args_may_move s)
 args_may_move-right (AtNode scope (Receiver p x)) = λ c a. a

@@ -117,9 +117,9 @@ mutual
       Decides-or _ _
       (Decides-and _ _ (through-Decides exit)
       (Decides-or _ _ (Decides-not _ (default-Decides groups))
-          (Decides-or _ _ (leaves_last-Decides groups) (leaves_some-Decides groups (Breaks None)))))
+      (Decides-or _ _ (leaves_last-Decides groups) (leaves_some-Decides groups (Breaks None)))))
       (decides_as _ (Decides-and _ _ (Decides-not _ (through-Decides exit)) (Decides-and _ _ (Decides-not _ (break-Decides exit))
-          (leaves_some-Decides groups exit)))
+      (leaves_some-Decides groups exit)))
       (λ q. (q.0, q.1.0, q.1.1)) (λ q. (q.0, (q.1, q.2))))
   leaves-Decides (Break p label) Through = fails (λ e. let no : ⊥ = cc in no)
   leaves-Decides (Break p label) (Breaks l) = breaks_as l label
@@ -135,7 +135,7 @@ mutual
   leaves_all-Decides NoStmt exit = through-Decides exit
   leaves_all-Decides (Then s more) exit =
       Decides-or _ _ (Decides-and _ _ (Decides-not _ (through-Decides exit)) (leaves-Decides s exit))
-          (Decides-and _ _ (leaves-Decides s Through) (leaves_all-Decides more exit))
+      (Decides-and _ _ (leaves-Decides s Through) (leaves_all-Decides more exit))
 
   leaves_some-Decides : (groups : Groups) (exit : Exit) → Decides (leaves_some groups exit) (LeavesSome groups exit)
   leaves_some-Decides NoGroup exit = fails (λ x. x)

@@ -51,7 +51,7 @@ pub none_of : {K C : Type 0} (f : K → Option C) (ks : List K) → first_kind f
 none_of f [] e k has = absurd (nothing_in k has)
 none_of f (j ∷ ks) e k has =
     let h = told_none j (f j) (first_kind f ks) e in ⊎_elim (λ same. sym (ap f same) ∙ h.0) (λ more. none_of f ks h.1 k more)
-        (in_cases ks j k has)
+    (in_cases ks j k has)
 
 -- there is a value, where there isn't none
 pub some_of : {X : Type 0} (o : Option X) → (o ≡ None → ⊥) → (x : X) × (o ≡ Some x)
@@ -68,7 +68,7 @@ mismatch_counts : Contains on_methods conditions.TypeMismatch
 mismatch_counts =
     in_later (conditions.DuplicateLocal ∷ behind_locals) conditions.UnknownName conditions.TypeMismatch
     (in_later behind_locals conditions.DuplicateLocal conditions.TypeMismatch
-        (in_first (conditions.Arity ∷ behind_arity) conditions.TypeMismatch))
+    (in_first (conditions.Arity ∷ behind_arity) conditions.TypeMismatch))
 
 name_counts : Contains on_methods conditions.UnknownName
 name_counts = in_first (conditions.DuplicateLocal ∷ behind_locals) conditions.UnknownName
@@ -95,7 +95,7 @@ module _ (s : Spot) (fine : (f : Condition × Culprit) → IsAtFault s f → ⊥
       wrong : ((type : ValueType) → type_of scope t.value ≡ Some type → Suits t.wanted t.value type → ⊥) → ⊥
       wrong n =
           clean_at says.TypeMismatch (taken_at s) (judged-clean (nothing_wrong conditions.TypeMismatch mismatch_counts)) (Takes scope t) has
-              (culprit (place_of t.value) []) (refl, n)
+          (culprit (place_of t.value) []) (refl, n)
 
       fitting : (g : ValueType) → type_of scope t.value ≡ Some g → (b : Bool) → Decides b (Suits t.wanted t.value g) →
           (type : ValueType) × (type_of scope t.value ≡ Some type) × Suits t.wanted t.value type
@@ -119,10 +119,10 @@ module _ (scope : Scope) where
         (culprit p x) (refl, n))
 
   module _ (p : Place) (e : Expr) (x : Name) (fine : (f : Condition × Culprit) → IsAtFault (AtNode scope (Value (Member p e x))) f → ⊥)
-      where
-    pub known_member : (type : ValueType) × (type_of scope (Member p e x) ≡ Some type)
-    known_member = some_of (type_of scope (Member p e x)) (λ n. (judged-clean (nothing_wrong _ fine conditions.UnknownName name_counts)).0
-        (culprit p x) (refl, n))
+    where
+      pub known_member : (type : ValueType) × (type_of scope (Member p e x) ≡ Some type)
+      known_member = some_of (type_of scope (Member p e x)) (λ n. (judged-clean (nothing_wrong _ fine conditions.UnknownName name_counts)).0
+          (culprit p x) (refl, n))
 
   module _ (p : Place) (name : Name) (args : Exprs) (fine : (f : Condition × Culprit) → IsAtFault (AtNode scope (Value (Call p name args)))
       f → ⊥) where
@@ -145,4 +145,4 @@ module _ (scope : Scope) where
     pub known_method : (g : Signature) × (called_on scope e (type_of scope e) name ≡ Some g)
     known_method =
         some_of (called_on scope e (type_of scope e) name) (λ n. (judged-clean (nothing_wrong _ fine conditions.UnknownName name_counts)).0
-            (culprit p name) (refl, n))
+        (culprit p name) (refl, n))

@@ -29,7 +29,7 @@ nothing_in x h = omega (arith, h.1)
 pub in_cases : {X : Type 0} (xs : List X) (y x : X) → Contains (y ∷ xs) x → (y ≡ x) ⊎ Contains xs x
 in_cases xs y x h =
     ⊎_elim (λ one. ⊎_elim (λ none. absurd (nothing_in x none)) inl (Contains-push_cases [] y x one)) inr
-        (Contains-append_cases (y ∷ []) xs x h)
+    (Contains-append_cases (y ∷ []) xs x h)
 
 pub in_first : {X : Type 0} (xs : List X) (x : X) → Contains (x ∷ xs) x
 in_first xs x = Contains-append_left (x ∷ []) xs x (Contains-push [] x)

@@ -89,11 +89,11 @@ counter_class = record {
   fields = record { place = at 2 7; ty = written.Int; name = codes "n"; value = Some (Int (at 2 11) (pos 0)) } ∷ [];
   methods =
       instance 3 written.Void (codes "tick") []
-          (Then (raise 3 (Int (at 3 13) (pos 1))) (Then (Print (at 3 20) (variable 3 (codes "n"))) NoStmt))
+      (Then (raise 3 (Int (at 3 13) (pos 1))) (Then (Print (at 3 20) (variable 3 (codes "n"))) NoStmt))
       ∷ instance 4 written.Void (codes "add") (record { place = at 4 23; ty = written.Int; name = codes "k" } ∷ [])
-          (Then (raise 4 (variable 4 (codes "k"))) NoStmt)
+      (Then (raise 4 (variable 4 (codes "k"))) NoStmt)
       ∷ instance 5 written.Void (codes "stop") []
-          (Then (Print (at 5 24) (Binary (at 5 30) ops.Add (Text (at 5 30) (codes "stop ")) (variable 5 (codes "n")))) NoStmt)
+      (Then (Print (at 5 24) (Binary (at 5 30) ops.Add (Text (at 5 30) (codes "stop ")) (variable 5 (codes "n")))) NoStmt)
       ∷ [];
 }
 
@@ -114,13 +114,16 @@ holder_class = record {
       instance 3 written.Int (codes "swap") [] (Then (made 3) (Then (Return (at 3 35) (Some (Int (at 3 42) (pos 1)))) NoStmt))
       ∷ instance 4 written.Void (codes "use") (record { place = at 4 27; ty = written.Boolean; name = codes "b" } ∷ [])
       (Then (made 5) (Then (on_counter 6 (codes "add") (Argument (Call (at 6 11) (codes "swap") NoExpr) NoExpr))
-          (Then (on_counter 7 (codes "stop") NoExpr) NoStmt)))
+      (Then (on_counter 7 (codes "stop") NoExpr) NoStmt)))
       ∷ [];
 }
 
 abbrev pub holding : Program
-holding = record { files = (ClassDecl counter_class ∷ []) ∷ (ClassDecl holder_class ∷ []) ∷ []; typestates =
-    counter_protocol ∷ holder_protocol ∷ [] }
+holding = record {
+  files = (ClassDecl counter_class ∷ []) ∷ (ClassDecl holder_class ∷ []) ∷ [];
+  typestates =
+      counter_protocol ∷ holder_protocol ∷ [];
+}
 
 -- What these programs are judged to be.
 pub record AreJudged : Type 0 where

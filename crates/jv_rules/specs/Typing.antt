@@ -83,8 +83,11 @@ called_on_class program class name =
 -- a call on a value of this type
 abbrev pub called_on_value : Program → ValueType → Name → Option Signature
 called_on_value program TextType name = built_in text_methods name
-called_on_value program (ClassType class) name = elim (class_named program.files class) [ None ↦ None | Some c ↦ protocol_method program c
-    name ]
+called_on_value program (ClassType class) name = elim (class_named program.files class) [
+  | None ↦ None
+  | Some c ↦ protocol_method program c
+      name
+]
 called_on_value program _ name = None
 
 -- a call on an expression of this type, where it has one

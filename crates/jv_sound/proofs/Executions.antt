@@ -207,7 +207,7 @@ module _ (p : Program) (ok : IsCore p) where
     assign_runs sc ts (vars.Field i) t v var Can can w o f =
         let d = field_at p m.class i t var.type in
         runs_then (L sc) Any (C ts Can) w (within (λ locals. own_field p inputs low n here i >>= λ names. write_field names.0 this names.1
-            v)) (λ done. give Normal)
+        v)) (λ done. give Normal)
         (within_runs p ok m Any sc w (λ locals. own_field p inputs low n here i >>= λ names. write_field names.0 this names.1 v)
         (λ x row q r. field_runs p ok inputs low lows.calls n m at this Any x i t d (λ names. write_field names.0 this names.1 v)
         (write_runs p ok x m.class d.class this i d.field v d.at (later q o var.visible) d.field_at

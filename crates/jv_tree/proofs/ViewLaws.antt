@@ -30,8 +30,12 @@ pub stmt_of-is : (s : KeptStmt) → stmt_of s ≡ stmt_kind_of s.kind s.place
 unfolding stmt_of stmt_kind_of
 stmt_of-is s = fold_out-Stmt (Place → Stmt) OneGroup Stmt stmt_layer group_layer placed_stmt_layer s
 
-pub group_of-roll : (g : FS.Group-F KeptStmtKind KeptGroup KeptStmt) → group_of (roll-Group g) ≡ record { labels = g.labels.items; body =
-    stmts_of (map stmt_of g.body.items); end = g.end }
+pub group_of-roll : (g : FS.Group-F KeptStmtKind KeptGroup KeptStmt) → group_of (roll-Group g) ≡ record {
+  labels = g.labels.items;
+  body =
+      stmts_of (map stmt_of g.body.items);
+  end = g.end;
+}
 unfolding stmt_of group_of
 group_of-roll g = fold-roll-Group (Place → Stmt) OneGroup Stmt stmt_layer group_layer placed_stmt_layer g
 
@@ -202,6 +206,36 @@ unfolding stmt_kind_of stmt_of group_of
 kind-Eval e p = ap (λ (f : _). stmt_kind_of f p) (sym (S.rolls-Eval e)) ∙ ap (λ (f : Place → Stmt). f p)
     (fold-roll-StmtKind (Place → Stmt) OneGroup Stmt stmt_layer group_layer placed_stmt_layer (FS.Eval e))
 
-pub ruleset views = (expr_of-is, stmt_of-is, group_of-roll, place-expr, kind-Int, kind-Truth, kind-Text, kind-Null, kind-This, kind-Name,
-    kind-Member, kind-Neg, kind-Not, kind-Binary, kind-Call, kind-MethodCall, kind-New, kind-Block, kind-Empty, kind-Local, kind-Assign,
-    kind-If-None, kind-If-Some, kind-While, kind-Do, kind-Switch, kind-Break, kind-Continue, kind-Return, kind-Print, kind-Eval)
+pub ruleset views = (
+  expr_of-is,
+  stmt_of-is,
+  group_of-roll,
+  place-expr,
+  kind-Int,
+  kind-Truth,
+  kind-Text,
+  kind-Null,
+  kind-This,
+  kind-Name,
+  kind-Member,
+  kind-Neg,
+  kind-Not,
+  kind-Binary,
+  kind-Call,
+  kind-MethodCall,
+  kind-New,
+  kind-Block,
+  kind-Empty,
+  kind-Local,
+  kind-Assign,
+  kind-If-None,
+  kind-If-Some,
+  kind-While,
+  kind-Do,
+  kind-Switch,
+  kind-Break,
+  kind-Continue,
+  kind-Return,
+  kind-Print,
+  kind-Eval,
+)

@@ -95,7 +95,7 @@ abbrev pub IsChain : ℕ → Language → Language
 IsChain k part (Binary p o l r) ts =
     part (Binary p o l r) ts
     ⊎ ((looseness o ≡ k) × (p ≡ place_of l) × (a : Place) × (us vs : List Token) × (ts ≡ us ++ sign a (sign_of o) ∷ vs) × IsChain k part l
-        us × part r vs)
+    us × part r vs)
 IsChain k part (Int p z) ts = part (Int p z) ts
 IsChain k part (Truth p b) ts = part (Truth p b) ts
 IsChain k part (Text p t) ts = part (Text p t) ts
@@ -140,7 +140,7 @@ module _ (m : ℕ) (inner : Language) where
   IsPost (MethodCall p e n args) ts =
       IsPrimary (MethodCall p e n args) ts
       ⊎ (IsName n × (p ≡ place_of e) × (a b : Place) × (us vs : List Token) × (ts ≡ us ++ sign a signs.Dot ∷ word b n ∷ vs) × IsPost e us
-          × AreArguments m inner args vs)
+      × AreArguments m inner args vs)
   IsPost (Int p z) ts = IsPrimary (Int p z) ts
   IsPost (Truth p b) ts = IsPrimary (Truth p b) ts
   IsPost (Text p t) ts = IsPrimary (Text p t) ts

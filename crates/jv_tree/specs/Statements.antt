@@ -74,21 +74,21 @@ abbrev pub IsCompound : Place → Expr → Expr → List Token → Type 0
 IsCompound p target value ts =
     (p ≡ place_of target) × (s : Sign) × (o : Op) × (e : Expr) × (a b : Place) × (us vs : List Token)
     × (ts ≡ us ++ sign a s ∷ (vs ++ sign b signs.Semicolon ∷ [])) × (compound s ≡ Some o) × (value ≡ changed o target e) × IsTarget target
-        us × IsFree e vs
+    us × IsFree e vs
 
 -- target inc ";"
 abbrev pub IsCounterAfter : Place → Expr → Expr → List Token → Type 0
 IsCounterAfter p target value ts =
     (p ≡ place_of target) × (s : Sign) × (o : Op) × (a b : Place) × (us : List Token)
     × (ts ≡ us ++ sign a s ∷ sign b signs.Semicolon ∷ []) × (counter s ≡ Some o) × (value ≡ changed o target (one_at target))
-        × IsTarget target us
+    × IsTarget target us
 
 -- inc target ";"
 abbrev pub IsCounterBefore : Place → Expr → Expr → List Token → Type 0
 IsCounterBefore p target value ts =
     (s : Sign) × (o : Op) × (b : Place) × (us : List Token)
     × (ts ≡ sign p s ∷ (us ++ sign b signs.Semicolon ∷ [])) × (counter s ≡ Some o) × (value ≡ changed o target (one_at target))
-        × IsTarget target us
+    × IsTarget target us
 
 abbrev pub IsAssign : Place → Expr → Expr → List Token → Type 0
 IsAssign p target value ts =
@@ -145,16 +145,16 @@ abbrev mutual
   -- [ name ":" ] "while" "(" expr ")" stmt
   IsStmt (While p l c s) ts =
       (a : Place) × (us vs ws : List Token) × (ts ≡ us ++ word a (codes "while") ∷ (vs ++ ws)) × IsLabel p a l us × IsCondition c vs
-          × IsStmt s ws
+      × IsStmt s ws
   -- [ name ":" ] "do" stmt "while" "(" expr ")" ";"
   IsStmt (Do p l s c) ts =
       (a b d : Place) × (us vs ws : List Token)
-          × (ts ≡ us ++ word a (codes "do") ∷ (vs ++ word b (codes "while") ∷ (ws ++ sign d signs.Semicolon ∷ [])))
+      × (ts ≡ us ++ word a (codes "do") ∷ (vs ++ word b (codes "while") ∷ (ws ++ sign d signs.Semicolon ∷ [])))
       × IsLabel p a l us × IsStmt s vs × IsCondition c ws
   -- "switch" "(" expr ")" "{" { case { case } { item } } "}"
   IsStmt (Switch p e groups end) ts =
       (a : Place) × (us vs : List Token)
-          × (ts ≡ word p (codes "switch") ∷ (us ++ sign a signs.OpenBrace ∷ (vs ++ sign end signs.CloseBrace ∷ [])))
+      × (ts ≡ word p (codes "switch") ∷ (us ++ sign a signs.OpenBrace ∷ (vs ++ sign end signs.CloseBrace ∷ [])))
       × IsCondition e us × AreGroups end groups vs
   -- "break" [ name ] ";"
   IsStmt (Break p l) ts = (a : Place) × (us : List Token) × (ts ≡ word p (codes "break") ∷ (us ++ sign a signs.Semicolon ∷ []))

@@ -52,15 +52,15 @@ module _ (args : List KeptExpr) (params : List ValueType) (types : List KeptType
   left_none h =
       ap (λ xs. args_misfit (exprs_of (map expr_of xs)) (drop i params) (map type_seen (drop i types))) (drop_at args i e within is)
       ∙ ap (λ ps. args_misfit (Argument (expr_of e) (exprs_of (map expr_of (drop (i + 1) args)))) ps (map type_seen (drop i types)))
-          (drop_none params i h)
+      (drop_none params i h)
 
   module _ (p : ValueType) (t : KeptType) (param : Some p ≡ slice_get params i) (inside : i < length types) (at : t ≡ get_or types i t)
-      where
-    pub left_more : left_misfit args params types i ≡ option_or (misfit (Fitting p) (expr_of e) (type_seen t))
-        (left_misfit args params types (i + 1))
-    left_more =
-        ap (λ xs. args_misfit (exprs_of (map expr_of xs)) (drop i params) (map type_seen (drop i types))) (drop_at args i e within is)
-        ∙ ap (λ ps. args_misfit (Argument (expr_of e) (exprs_of (map expr_of (drop (i + 1) args)))) ps (map type_seen (drop i types)))
-            (drop_some params i p param)
-        ∙ ap (λ ts. args_misfit (Argument (expr_of e) (exprs_of (map expr_of (drop (i + 1) args)))) (p ∷ drop (i + 1) params)
-            (map type_seen ts)) (drop_at types i t inside at)
+    where
+      pub left_more : left_misfit args params types i ≡ option_or (misfit (Fitting p) (expr_of e) (type_seen t))
+          (left_misfit args params types (i + 1))
+      left_more =
+          ap (λ xs. args_misfit (exprs_of (map expr_of xs)) (drop i params) (map type_seen (drop i types))) (drop_at args i e within is)
+          ∙ ap (λ ps. args_misfit (Argument (expr_of e) (exprs_of (map expr_of (drop (i + 1) args)))) ps (map type_seen (drop i types)))
+          (drop_some params i p param)
+          ∙ ap (λ ts. args_misfit (Argument (expr_of e) (exprs_of (map expr_of (drop (i + 1) args)))) (p ∷ drop (i + 1) params)
+          (map type_seen ts)) (drop_at types i t inside at)

@@ -108,13 +108,13 @@ module _ (c : KeptClass) (e : repeat_member [] [] (members_of (class_of c)) ≡ 
   pub fields_new : are_new [] (map (λ f. f.name) c.fields.items) ≡ true
   fields_new =
       ap (are_new []) (sym (merged_fields (map field_of c.fields.items) (map method_of c.methods.items) ∙ map-map field_of (λ f. f.name)
-          c.fields.items))
+      c.fields.items))
       ∙ (members_new (members_of (class_of c)) [] [] e).0
 
   pub methods_new : are_new [] (map (λ m. m.name) c.methods.items) ≡ true
   methods_new =
       ap (are_new []) (sym (merged_methods (map field_of c.fields.items) (map method_of c.methods.items) ∙ map-map method_of (λ m. m.name)
-          c.methods.items))
+      c.methods.items))
       ∙ (members_new (members_of (class_of c)) [] [] e).1
 
   pub fields_named : (names : List Name) (fs : List KeptField) → fs ≡ c.fields.items → names ≡ noted [] (map (λ f. f.name) fs) →
@@ -220,7 +220,7 @@ constant_of_enum d c is e = ap (λ x. repeat_in (decl_of x)) (sym is) ∙ e
 pub follow_more : (ts : List Typestate) (es ns : List ClassEntry) (e : ClassEntry) (c : KeptClass) (o : Option Typestate) → e.class.now ≡ c
     → typestate_in e ≡ o →
     o ≡ option_and_then (typestate_named ts) c.typestate → ns ≡ es ++ e ∷ [] → map typestate_in es ≡ map (followed ts) es →
-        map typestate_in ns ≡ map (followed ts) ns
+    map typestate_in ns ≡ map (followed ts) ns
 follow_more ts es ns e c o class given named more h =
     ap (map typestate_in) more ∙ map-append typestate_in es (e ∷ []) ∙ ap (λ xs. xs ++ typestate_in e ∷ []) h
     ∙ ap (λ t. map (followed ts) es ++ t ∷ []) (given ∙ named ∙ ap (λ k. option_and_then (typestate_named ts) k.typestate) (sym class))
@@ -243,19 +243,19 @@ enum_more es ns e c d is of more =
 pub class_table : (files : List KeptFile) → repeat_type [] (map decl_of (kept_decls files)) ≡ None →
     (names : List Name) (es slice : List ClassEntry) → slice ≡ es →
     map (λ e. e.class.now) es ≡ kept_classes files → names ≡ noted [] (map (λ e. e.class.now.name) slice) →
-        names ≡ map (λ c. c.name) (kept_classes files)
+    names ≡ map (λ c. c.name) (kept_classes files)
 class_table files new names es slice same all is =
     is ∙ ap (λ xs. noted [] (map (λ e. e.class.now.name) xs)) same ∙ ap (noted []) (sym (map-map (λ e. e.class.now) (λ c. c.name) es) ∙
-        ap (map (λ c. c.name)) all)
+    ap (map (λ c. c.name)) all)
     ∙ new_noted [] (map (λ c. c.name) (kept_classes files)) (class_names_new files new)
 
 pub enum_table : (files : List KeptFile) → repeat_type [] (map decl_of (kept_decls files)) ≡ None →
     (names : List Name) (es slice : List EnumEntry) → slice ≡ es →
     map (λ e. e.of.now) es ≡ kept_enums files → names ≡ noted [] (map (λ e. e.of.now.name) slice) →
-        names ≡ map (λ e. e.name) (kept_enums files)
+    names ≡ map (λ e. e.name) (kept_enums files)
 enum_table files new names es slice same all is =
     is ∙ ap (λ xs. noted [] (map (λ e. e.of.now.name) xs)) same ∙ ap (noted []) (sym (map-map (λ e. e.of.now) (λ e. e.name) es) ∙
-        ap (map (λ e. e.name)) all)
+    ap (map (λ e. e.name)) all)
     ∙ new_noted [] (map (λ e. e.name) (kept_enums files)) (enum_names_new files new)
 
 -- ---- the typestate of a class
@@ -270,12 +270,12 @@ module _ (ts : List Typestate) (names : List Name) (all : names ≡ map (λ t. t
       Some t ≡ option_and_then (typestate_named ts) o
   typestate_found i at t is =
       found_at text (λ (x : Typestate). x.name) (λ x. x) (λ x. x.name) (λ x. refl) ts ts refl i t (ap (position (bytes_eq text)) (sym all) ∙
-          sym at) is
+      sym at) is
       ∙ ap (find (λ x. bytes_eq x.name text)) (map-same ts) ∙ ap (typestate_named ts) same ∙ ap (option_and_then (typestate_named ts))
-          (sym named)
+      (sym named)
 
   pub typestate_missing : None ≡ position (bytes_eq text) names → None ≡ option_and_then (typestate_named ts) o
   typestate_missing at =
       found_none text (λ (x : Typestate). x.name) (λ x. x) (λ x. x.name) (λ x. refl) ts (ap (position (bytes_eq text)) (sym all) ∙ sym at)
       ∙ ap (find (λ x. bytes_eq x.name text)) (map-same ts) ∙ ap (typestate_named ts) same ∙ ap (option_and_then (typestate_named ts))
-          (sym named)
+      (sym named)

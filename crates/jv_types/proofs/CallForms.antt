@@ -41,7 +41,7 @@ module _ (s : Scope) (site : Site) (args : Exprs) where
       IsSite s (Call p n args) site (called s n) args
   plain_site r own f helper =
       built s (Call p n args) site (called s n) args None (when (is_protocol s n) (culprit p n)) None
-          (last_node s (nodes_in args) (Value (Call p n args))) refl
+      (last_node s (nodes_in args) (Value (Call p n args))) refl
       (ap (λ b. b || calls_helper_in s args) (sym helper)) (no_receiver r) (ap (λ b. when b (culprit p n)) own) (no_field f)
 
   -- `this.name(..)`
@@ -50,7 +50,7 @@ module _ (s : Scope) (site : Site) (args : Exprs) where
       IsSite s (MethodCall p e n args) site (called_on_this s n) args
   own_site (This q) t r own f helper =
       built s (MethodCall p (This q) n args) site (called_on_this s n) args None (when (is_protocol s n) (culprit p n)) None
-          (last_node s (nodes_in args) (Value (MethodCall p (This q) n args))) refl
+      (last_node s (nodes_in args) (Value (MethodCall p (This q) n args))) refl
       (ap (λ b. b || calls_helper_in s args) (sym helper)) (no_receiver r) (ap (λ b. when b (culprit p n)) own) (no_field f)
   own_site (Int q z) t r own f helper = absurd (true≢false (sym t))
   own_site (Truth q b) t r own f helper = absurd (true≢false (sym t))
@@ -70,14 +70,14 @@ module _ (s : Scope) (site : Site) (args : Exprs) where
   raw o ts own moves =
       told conditions.UnknownName (when (not (is_some o)) (culprit p n))
       (told conditions.TypeMismatch (first_by type_mismatch (all_taken s (ts ++ arguments o args)))
-          (told conditions.Arity (count_differs p o args) (told conditions.SelfCall own (told conditions.ArgsMayMove moves None))))
+      (told conditions.Arity (count_differs p o args) (told conditions.SelfCall own (told conditions.ArgsMayMove moves None))))
 
   raw_told : (o : Option Signature) (ts : List Taken) (r own moves : Option Culprit) → first_by type_mismatch (all_taken s ts) ≡ r →
       raw o ts own moves ≡ node_told s p n o r args own moves
   raw_told o ts r own moves e =
       ap (λ m. told conditions.UnknownName (when (not (is_some o)) (culprit p n))
-          (told conditions.TypeMismatch m
-          (told conditions.Arity (count_differs p o args) (told conditions.SelfCall own (told conditions.ArgsMayMove moves None)))))
+      (told conditions.TypeMismatch m
+      (told conditions.Arity (count_differs p o args) (told conditions.SelfCall own (told conditions.ArgsMayMove moves None)))))
       (taken_append s ts (arguments o args) ∙ ap (λ z. option_or z (first_by type_mismatch (all_taken s (arguments o args)))) e)
 
   -- a variable is one
@@ -101,33 +101,33 @@ module _ (s : Scope) (site : Site) (args : Exprs) where
   module _ (q : Place) (x : Name) (known : is_receiver s x ≡ true) where
     named_whole : expr_fault s (MethodCall p (Variable q x) n args)
         ≡ option_or (args_fault s args) (node_told s p n (called_on_named s x n) None args None
-            (moved p (field_named_by s x) (calls_helper_in s args)))
+        (moved p (field_named_by s x) (calls_helper_in s args)))
     named_whole =
         ap (λ b. option_or (told conditions.UnknownName (when (not b) (culprit q x)) None)
-            (fault_in (at_nodes s (nodes_in args ++ Value (MethodCall p (Variable q x) n args) ∷ [])))) known
+        (fault_in (at_nodes s (nodes_in args ++ Value (MethodCall p (Variable q x) n args) ∷ [])))) known
         ∙ last_node s (nodes_in args) (Value (MethodCall p (Variable q x) n args))
         ∙ ap (option_or (args_fault s args))
         (raw_told (called_on s (Variable q x) (variable_type s x) n) (receiver (variable_type s x) (Variable q x)) None None
-            (moved p (field_named_by s x) (calls_helper_in s args)) (variable_fits q x (variable_type s x) refl)
+        (moved p (field_named_by s x) (calls_helper_in s args)) (variable_fits q x (variable_type s x) refl)
         ∙ ap (λ o. node_told s p n o None args None (moved p (field_named_by s x) (calls_helper_in s args)))
-            (named_is q x (variable_type s x)))
+        (named_is q x (variable_type s x)))
 
     named_site : site.receiver ≡ None → site.is_own ≡ false → option_map (λ f. field_seen f.now) site.field ≡ field_named_by s x →
         site.helper ≡ false →
         IsSite s (MethodCall p (Variable q x) n args) site (called_on_named s x n) args
     named_site r own f helper =
         built s (MethodCall p (Variable q x) n args) site (called_on_named s x n) args None None
-            (moved p (field_named_by s x) (calls_helper_in s args)) named_whole
+        (moved p (field_named_by s x) (calls_helper_in s args)) named_whole
         (ap (option_map (λ z. z.result)) (named_is q x (variable_type s x))) (ap (λ b. b || calls_helper_in s args) (sym helper))
-            (no_receiver r) (ap (λ b. when b (culprit p n)) own)
+        (no_receiver r) (ap (λ b. when b (culprit p n)) own)
         (ap (λ o. moved p o (calls_helper_in s args)) f)
 
   pub behind_name : (e : Expr) (x : Name) → variable_name e ≡ Some x → is_receiver s x ≡ true → site.receiver ≡ None → site.is_own ≡ false →
       option_map (λ f. field_seen f.now) site.field ≡ field_named_by s x → site.helper ≡ false → IsSite s (MethodCall p e n args) site
-          (called_on_named s x n) args
+      (called_on_named s x n) args
   behind_name e x is known r own f helper =
       subst (λ z. IsSite s (MethodCall p z n args) site (called_on_named s x n) args) (sym (is_named s p n e x is))
-          (named_site (place_of e) x known r own f helper)
+      (named_site (place_of e) x known r own f helper)
 
   -- what a receiver of this type has
   receiver_fits : (e : Expr) (t : ValueType) → type_of s e ≡ Some t → first_by type_mismatch (all_taken s (receiver (Some t) e)) ≡
@@ -144,32 +144,32 @@ module _ (s : Scope) (site : Site) (args : Exprs) where
   module _ (t : ValueType) where
     other_form : (e : Expr) → expr_fault s e ≡ None → type_of s e ≡ Some t →
         nodes (MethodCall p e n args) ≡ nodes e ++ (nodes_in args ++ Value (MethodCall p e n args) ∷ []) →
-            self_call (AtNode s (Value (MethodCall p e n args))) ≡ None →
+        self_call (AtNode s (Value (MethodCall p e n args))) ≡ None →
         called_on s e (Some t) n ≡ called_on_value s.program t n → calls_helper s (MethodCall p e n args) ≡
-            (calls_helper s e || calls_helper_in s args) →
+        (calls_helper s e || calls_helper_in s args) →
         option_map at_place site.receiver ≡ receiver_misfit t e → site.is_own ≡ false → option_map (λ f. field_seen f.now) site.field ≡
-            field_of s e → site.helper ≡ calls_helper s e →
+        field_of s e → site.helper ≡ calls_helper s e →
         IsSite s (MethodCall p e n args) site (called_on_value s.program t n) args
     other_form e fine typed laid own_none called_is helps r own f helper =
         built s (MethodCall p e n args) site (called_on_value s.program t n) args (receiver_misfit t e) None
-            (moved p (field_of s e) (calls_helper_in s args))
+        (moved p (field_of s e) (calls_helper_in s args))
         (ap (λ ns. fault_in (at_nodes s ns)) laid ∙ nodes-append s (nodes e) (nodes_in args ++ Value (MethodCall p e n args) ∷ []) ∙
-            ap (λ z. option_or z (fault_in (at_nodes s (nodes_in args ++ Value (MethodCall p e n args) ∷ [])))) fine
+        ap (λ z. option_or z (fault_in (at_nodes s (nodes_in args ++ Value (MethodCall p e n args) ∷ [])))) fine
         ∙ last_node s (nodes_in args) (Value (MethodCall p e n args))
         ∙ ap (option_or (args_fault s args))
         (ap (λ o. raw (called_on s e o n) (receiver o e) (self_call (AtNode s (Value (MethodCall p e n args))))
-            (moved p (field_of s e) (calls_helper_in s args))) typed
+        (moved p (field_of s e) (calls_helper_in s args))) typed
         ∙ ap (λ z. raw (called_on s e (Some t) n) (receiver (Some t) e) z (moved p (field_of s e) (calls_helper_in s args))) own_none
         ∙ ap (λ o. raw o (receiver (Some t) e) None (moved p (field_of s e) (calls_helper_in s args))) called_is
         ∙ raw_told (called_on_value s.program t n) (receiver (Some t) e) (receiver_misfit t e) None
-            (moved p (field_of s e) (calls_helper_in s args)) (receiver_fits e t typed)))
+        (moved p (field_of s e) (calls_helper_in s args)) (receiver_fits e t typed)))
         (ap (λ o. option_map (λ z. z.result) (called_on s e o n)) typed ∙ ap (option_map (λ z. z.result)) called_is)
         (helps ∙ ap (λ b. b || calls_helper_in s args) (sym helper)) r (ap (λ b. when b (culprit p n)) own)
-            (ap (λ o. moved p o (calls_helper_in s args)) f)
+        (ap (λ o. moved p o (calls_helper_in s args)) f)
 
     pub other_site : (e : Expr) → is_this e ≡ false → None ≡ variable_name e → expr_fault s e ≡ None → type_of s e ≡ Some t →
         option_map at_place site.receiver ≡ receiver_misfit t e → site.is_own ≡ false → option_map (λ f. field_seen f.now) site.field ≡
-            field_of s e → site.helper ≡ calls_helper s e →
+        field_of s e → site.helper ≡ calls_helper s e →
         IsSite s (MethodCall p e n args) site (called_on_value s.program t n) args
     other_site (This q) i v fine typed = absurd (true≢false i)
     other_site (Variable q x) i v fine typed = let no : ⊥ = cc in absurd no

@@ -63,7 +63,7 @@ module _ (s : Scope) where
       let typed : type_of s e ≡ Some (type_seen t) = cc in
       let rest : types_in s more ≡ map (λ t. Some (type_seen t)) ts = cc in
       one_taken s e (type_seen t) typed (Fitting p) (paired more ps) ∙ ap (option_or (misfit (Fitting p) e (type_seen t)))
-          (args_taken more ps ts rest)
+      (args_taken more ps ts rest)
 
   pub taken_append : (xs ys : List Taken) → first_by type_mismatch (all_taken s (xs ++ ys)) ≡ option_or
       (first_by type_mismatch (all_taken s xs)) (first_by type_mismatch (all_taken s ys))
@@ -81,20 +81,20 @@ module _ (s : Scope) where
   module _ (e : Expr) (site : Site) (o : Option Signature) (args : Exprs) where
     module _ (r own moves : Option Culprit)
         (whole : expr_fault s e ≡ option_or (args_fault s args) (node_told site.place site.name.now o r args own moves))
-            (typed : type_of s e ≡ option_map (λ z. z.result) o)
+        (typed : type_of s e ≡ option_map (λ z. z.result) o)
         (helper : calls_helper s e ≡ (site.helper || calls_helper_in s args)) (rcv : option_map at_place site.receiver ≡ r)
-            (is_own : own_told site ≡ own)
+        (is_own : own_told site ≡ own)
         (moving : moves_told site (calls_helper_in s args) ≡ moves) where
       abbrev at : Signature → Option Culprit → Option Culprit → Option Culprit → Option (Condition × Culprit)
       at sig r' own' moves' =
           option_or (args_fault s args) (call_told site.place (option_or r' (first_by type_mismatch (all_taken s (paired args sig.params))))
-              (count_of args == length sig.params) own' moves')
+          (count_of args == length sig.params) own' moves')
 
       known_part : (sig : Signature) → o ≡ Some sig → expr_fault s e ≡ option_or (args_fault s args) (method_told s site args sig)
       known_part sig h =
           whole ∙ ap (λ z. option_or (args_fault s args) (node_told site.place site.name.now z r args own moves)) h
           ∙ ap (λ z. at sig z own moves) (sym rcv) ∙ ap (λ z. at sig (option_map at_place site.receiver) z moves) (sym is_own) ∙
-              ap (at sig (option_map at_place site.receiver) (own_told site)) (sym moving)
+          ap (at sig (option_map at_place site.receiver) (own_told site)) (sym moving)
 
       pub built : IsSite s e site o args
       built = record {
@@ -118,7 +118,7 @@ module _ (s : Scope) where
         known_method =
             k.known sig is ∙ ap (λ z. option_or z (method_told s site args sig)) h.fine
             ∙ ap (λ m. with_parts m (calls_helper_in s args)) (args_taken args sig.params g.types.items h.typed) ∙
-                ap (with_parts (args_misfit args sig.params (map type_seen g.types.items))) (sym h.helper)
+            ap (with_parts (args_misfit args sig.params (map type_seen g.types.items))) (sym h.helper)
 
         pub method_fine : site_told site args sig.params (map type_seen g.types.items) g.helper ≡ None → (ty : KeptType) (helper : Bool) →
             type_seen ty ≡ sig.result → helper ≡ (site.helper || g.helper) →

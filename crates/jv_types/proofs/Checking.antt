@@ -87,7 +87,7 @@ module _ (s : Scope) where
 
     pub binary_fine : None ≡ operand_misfit op l (type_seen c.ty) r (type_seen d.ty) → (ty : KeptType) (helper : Bool) →
         type_seen ty ≡ operator_type op (Some (type_seen c.ty)) (Some (type_seen d.ty)) → helper ≡ (c.helper || d.helper) →
-            IsChecked s (Binary p op l r) (record { ty = ty; helper = helper })
+        IsChecked s (Binary p op l r) (record { ty = ty; helper = helper })
     binary_fine m ty helper t u = record {
       fine = binary_decides ∙ ap mismatched (sym m);
       typed = ap (λ o. Some (operator_type op o (type_of s r))) h.typed ∙ ap (λ o. Some (operator_type op (Some (type_seen c.ty)) o))

@@ -44,7 +44,7 @@ module _ (gs : List KeptGroup) (i : ℕ) (g : KeptGroup) (within : i < length gs
   labels_more old new labels whole h e k =
       ap (λ z. z ++ others) (e ∙ ap (λ z. old ++ z) k) ∙ append_assoc old (out-Group g).labels.items others
       ∙ ap (λ z. old ++ z) (sym (ap (λ (ys : List KeptGroup). cases (groups_of (map group_of ys))) (drop_at gs i g within is) ∙
-          ap (λ o. cases (groups_of (o ∷ map group_of (drop (i + 1) gs)))) (group_of-is g))) ∙ h
+      ap (λ o. cases (groups_of (o ∷ map group_of (drop (i + 1) gs)))) (group_of-is g))) ∙ h
 
 abbrev case_told : Place → Option Name → Option (Condition × Culprit)
 case_told p None = None
@@ -78,7 +78,7 @@ name_met seen met default name h None = any_one_more None (Some name) seen ∙ o
 name_met seen met default name h (Some n) =
     any_one_more (Some n) (Some name) seen ∙ ap (λ b. b || bytes_eq n name) (h (Some n) ∙ any_at n met)
     ∙ ap (λ b. list_any (bytes_eq n) met || b) (sym (or-false (bytes_eq n name))) ∙ sym (list_any-append (bytes_eq n) met (name ∷ [])) ∙
-        sym (any_at n (met ++ name ∷ []))
+    sym (any_at n (met ++ name ∷ []))
 
 module _ (s : Scope) (p : Place) (e : Expr) (type : ValueType) (typed : type_of s e ≡ Some type) where
   abbrev is_case : Name → Bool
@@ -107,14 +107,14 @@ module _ (s : Scope) (p : Place) (e : Expr) (type : ValueType) (typed : type_of 
   bad_behind seen met default (None ∷ labels) h =
       ap (λ b. option_or (when b (culprit p [])) (told_of (behind (seen ++ None ∷ []) labels))) (h None)
       ∙ default_step default (bad_case is_case met true labels) (told_of (behind (seen ++ None ∷ []) labels))
-          (bad_behind (seen ++ None ∷ []) met true labels (default_met seen met default h))
+      (bad_behind (seen ++ None ∷ []) met true labels (default_met seen met default h))
   bad_behind seen met default (Some name ∷ labels) h =
       ap (λ b. option_or (when (b || not (is_case_of s.program (type_of s e) name)) (culprit p name))
-          (told_of (behind (seen ++ Some name ∷ []) labels))) (h (Some name))
+      (told_of (behind (seen ++ Some name ∷ []) labels))) (h (Some name))
       ∙ ap (λ o. option_or (when (is_in met name || not (is_case_of s.program o name)) (culprit p name))
-          (told_of (behind (seen ++ Some name ∷ []) labels))) typed
+      (told_of (behind (seen ++ Some name ∷ []) labels))) typed
       ∙ name_step (is_in met name) (is_case name) name (bad_case is_case (met ++ name ∷ []) default labels)
-          (told_of (behind (seen ++ Some name ∷ []) labels))
+      (told_of (behind (seen ++ Some name ∷ []) labels))
       (bad_behind (seen ++ Some name ∷ []) (met ++ name ∷ []) default labels (name_met seen met default name h))
 
   none_met : AreMet [] [] false
@@ -132,4 +132,4 @@ module _ (s : Scope) (p : Place) (e : Expr) (type : ValueType) (typed : type_of 
       o ≡ bad_case is_case [] false labels → cases_told s p e groups ≡ case_told p o
   cases_decided groups labels o all is =
       ap (λ z. told conditions.BadLabel z None) (bad_cases groups ∙ ap (λ ls. culprit_of (bad_case is_case [] false ls)) (sym all) ∙
-          ap culprit_of (sym is)) ∙ told_as o
+      ap culprit_of (sym is)) ∙ told_as o

@@ -73,7 +73,7 @@ module _ (s : Scope) where
     do_told =
         first_by-append fault_at (stmt_spots (within (Loop label) s) x) (expr_spots s c ++ AtStatement s (Do p label x c) ∷ [])
         ∙ ap (option_or (stmt_fault (within (Loop label) s) x))
-            (headed c (Do p label x c) [] ∙ or-none (option_or (expr_fault s c) (fault_at (AtStatement s (Do p label x c)))) ∙ head_told)
+        (headed c (Do p label x c) [] ∙ or-none (option_or (expr_fault s c) (fault_at (AtStatement s (Do p label x c)))) ∙ head_told)
 
   -- a switch: its value, its cases, and then its groups
   module _ (p : Place) (e : Expr) (groups : Groups) (end : Place) where

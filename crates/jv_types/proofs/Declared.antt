@@ -40,7 +40,7 @@ judged_map_by {X} {Y} {C} {At} g f each (x ∷ xs) = go (f x) (each x) (judged_m
 
 missing_judged : (c : Class) (o : Option protocols.Typestate) →
     Judged MissingMethod (elim o [ None ↦ [] | Some t ↦ map (λ m. (c, m)) (offers_in t.states) ])
-        (first_by (missing_method c) (offers_of o))
+    (first_by (missing_method c) (offers_of o))
 missing_judged c None = clean
 missing_judged c (Some t) = judged_map_by (λ m. (c, m)) (missing_method c) (missing_method-right c) (offers_in t.states)
 
@@ -50,29 +50,29 @@ module _ (program : Program) (origins : List ℕ) where
   answer-right conditions.DuplicateMember = all_members_judged (decls_of program.files)
   answer-right conditions.UnknownClass =
       parts_judged (UnknownClass program) mentions_in_class (unknown_in_class program)
-          (λ c. judged_by (unknown_class program) (unknown_class-right program) (mentions_in_class c)) (classes_of program.files)
+      (λ c. judged_by (unknown_class program) (unknown_class-right program) (mentions_in_class c)) (classes_of program.files)
   answer-right conditions.UnknownTypestate = judged_by (λ c. unknown_typestate (typestate_of program c) c)
       (λ c. typestate-right program c c.typestate refl) (classes_of program.files)
   answer-right conditions.MissingMethod =
       parts_judged MissingMethod (demands_on program) (λ c. missing_in_class (typestate_of program c) c)
-          (λ c. missing_judged c (typestate_of program c)) (classes_of program.files)
+      (λ c. missing_judged c (typestate_of program c)) (classes_of program.files)
   answer-right conditions.SignatureDiffers =
       parts_judged (SignatureDiffers program) owned_methods (λ c. broken_in_class program demands.OfSignature (typestate_of program c) c)
       (λ c. judged_map_by (λ m. record { owner = c; method = m })
-          (broken_method program demands.OfSignature (offers_of (typestate_of program c))) (signature-right program c) c.methods)
-          (classes_of program.files)
+      (broken_method program demands.OfSignature (offers_of (typestate_of program c))) (signature-right program c) c.methods)
+      (classes_of program.files)
   answer-right conditions.LabelsDiffer =
       parts_judged (LabelsDiffer program) owned_methods (λ c. broken_in_class program demands.OfLabels (typestate_of program c) c)
       (λ c. judged_map_by (λ m. record { owner = c; method = m })
-          (broken_method program demands.OfLabels (offers_of (typestate_of program c))) (labels-right program c) c.methods)
-          (classes_of program.files)
+      (broken_method program demands.OfLabels (offers_of (typestate_of program c))) (labels-right program c) c.methods)
+      (classes_of program.files)
   answer-right conditions.FieldNeedsValue =
       parts_judged (FieldNeedsValue program) (λ c. c.fields) (fields_need_values program)
-          (λ c. judged_by (field_needs_value program) (field-right program) c.fields) (classes_of program.files)
+      (λ c. judged_by (field_needs_value program) (field-right program) c.fields) (classes_of program.files)
   answer-right conditions.InstanceInPlain =
       parts_judged InstanceInPlain standing_in plain_in_class
       (λ c. judged_map_by (λ m. record { typestate = c.typestate; member = m }) (plain_member c.typestate) (plain-right c.typestate)
-          (members_of c)) (classes_of program.files)
+      (members_of c)) (classes_of program.files)
   answer-right conditions.UnknownName = refl
   answer-right conditions.DuplicateLocal = refl
   answer-right conditions.TypeMismatch = refl
@@ -109,20 +109,20 @@ module _ (program : Program) (origins : List ℕ) where
   pub early_fault : (f : Condition × Culprit) → early_found program origins ≡ Some f → IsTableFault program origins (Some f)
   early_fault f e =
       subst (IsTableFault program origins) (two_told (declared_answer program origins conditions.DuplicateName)
-          (declared_answer program origins conditions.DuplicateMember) left_to f e)
+      (declared_answer program origins conditions.DuplicateMember) left_to f e)
       (declared_fault-right program origins)
 
   pub later_fault : early_found program origins ≡ None → IsTableFault program origins left_to
   later_fault e =
       subst (IsTableFault program origins) (none_told (declared_answer program origins conditions.DuplicateName)
-          (declared_answer program origins conditions.DuplicateMember) left_to e).2
+      (declared_answer program origins conditions.DuplicateMember) left_to e).2
       (declared_fault-right program origins)
 
   pub no_repeats : early_found program origins ≡ None → (declared_answer program origins conditions.DuplicateName ≡ None)
       × (declared_answer program origins conditions.DuplicateMember ≡ None)
   no_repeats e =
       let h = none_told (declared_answer program origins conditions.DuplicateName)
-            (declared_answer program origins conditions.DuplicateMember) None e in (h.0, h.1)
+      (declared_answer program origins conditions.DuplicateMember) None e in (h.0, h.1)
 
 -- ---- entries and classes
 

@@ -70,10 +70,12 @@ pub typestate-right : (program : Program) (c : Class) (t : Option Name) → c.ty
 typestate-right program c None e = λ k a. let no : ⊥ = let h : None ≡ Some a.0 = sym e ∙ a.1 in cc in no
 typestate-right program c (Some name) e =
     when_wrong (UnknownTypestate program c) (typestate_named program.typestates name ≡ None)
-        (not (is_some (typestate_named program.typestates name))) (culprit c.place name)
+    (not (is_some (typestate_named program.typestates name))) (culprit c.place name)
     (none-Decides (typestate_named program.typestates name))
-    (λ k a. let both : Some a.0 ≡ Some name = sym a.1 ∙ e in let same : a.0 ≡ name = cc in (a.2 ∙ ap (culprit c.place) same,
-        subst (λ n. typestate_named program.typestates n ≡ None) same a.3))
+    (λ k a. let both : Some a.0 ≡ Some name = sym a.1 ∙ e in let same : a.0 ≡ name = cc in (
+      a.2 ∙ ap (culprit c.place) same,
+      subst (λ n. typestate_named program.typestates n ≡ None) same a.3,
+    ))
     (λ n. (name, e, refl, n))
 
 -- 5
@@ -154,7 +156,7 @@ module _ (program : Program) (k : Demand) (c : Class) (m : Method) (Breaks : pro
   broken-Decides =
       Decides-and _ _ (static-Decides m.is_static)
       (any_by (λ d. bytes_eq d.name m.name && breaks program k m d) (λ d. (d.name ≡ m.name) × Breaks d)
-          (λ d. Decides-and _ _ (bytes_eq-Decides d.name m.name) (each d)) (offers_of (typestate_of program c)))
+      (λ d. Decides-and _ _ (bytes_eq-Decides d.name m.name) (each d)) (offers_of (typestate_of program c)))
 
 abbrev owned : Class → Method → Owned
 owned c m = record { owner = c; method = m }
@@ -166,7 +168,7 @@ pub signature-right : (program : Program) (c : Class) (m : Method) → Answers (
     (broken_method program demands.OfSignature (offers_of (typestate_of program c)) m)
 signature-right program c m =
     when_wrong (SignatureDiffers program (owned c m)) (Broken program demands.OfSignature c m (OtherSignature m) each) _
-        (culprit m.place m.name)
+    (culprit m.place m.name)
     (broken-Decides program demands.OfSignature c m (OtherSignature m) each)
     (λ k a. (a.0, (a.1, (a.2, offered_by program c a.2 a.3, (a.4, a.5)))))
     (λ p. (refl, p.0, p.1.0, demanded_by program c p.1.0 (typestate_of program c) refl p.1.1, p.1.2.0, p.1.2.1))
@@ -189,7 +191,7 @@ constants-Decides : (o : Option Enum) (labels : List Name) → Decides (are_cons
 constants-Decides None labels = fails (λ h. h)
 constants-Decides (Some e) labels =
     decides_as (all_in e.constants labels && all_in labels e.constants) (Decides-and _ _ (all_in-Decides e.constants labels)
-        (all_in-Decides labels e.constants))
+    (all_in-Decides labels e.constants))
     (λ p n. (p.0 n, p.1 n)) (λ f. (λ n. (f n).0, λ n. (f n).1))
 
 labels-Decides : (program : Program) (ty : TypeName) (labels : List Name) → Decides (are_labels_of program ty labels)
@@ -208,7 +210,7 @@ other_labels-Decides : (program : Program) (ty : TypeName) (target : protocols.T
 other_labels-Decides program ty (protocols.One to) = fails (λ h. h.1)
 other_labels-Decides program ty (protocols.ByAnswer branches) =
     decides_as (not (are_labels_of program ty (map (λ b. b.label) branches)))
-        (Decides-not _ (labels-Decides program ty (map (λ b. b.label) branches)))
+    (Decides-not _ (labels-Decides program ty (map (λ b. b.label) branches)))
     (λ n. (map (λ b. b.label) branches, refl, n)) (λ h l. h.2 (subst (AreLabelsOf program ty) (sym h.1) l))
 
 pub labels-right : (program : Program) (c : Class) (m : Method) → Answers (LabelsDiffer program (owned c m))
@@ -354,5 +356,5 @@ plain-right (Some t) (OfMethod m) = λ c a. let no : ⊥ = let h : Some t ≡ No
 plain-right None (OfField f) = (refl, refl)
 plain-right None (OfMethod m) =
     when_wrong (InstanceInPlain (standing None (OfMethod m))) (m.is_static ≡ false) (not m.is_static) (culprit m.place [])
-        (static-Decides m.is_static)
+    (static-Decides m.is_static)
     (λ c a. (a.0, a.2)) (λ e. (refl, refl, e))

@@ -105,9 +105,9 @@ module _ (program : Program) (k : Demand) (c : Class) where
         go false = refl
     out_of (d ∷ ds) =
         ap (λ b. b || list_any (is_broken m.name) ds) (at_name d) ∙
-            ap (λ b. (not m.is_static && (bytes_eq d.name m.name && breaks program k m d)) || b) (out_of ds)
+        ap (λ b. (not m.is_static && (bytes_eq d.name m.name && breaks program k m d)) || b) (out_of ds)
         ∙ go (not m.is_static) (bytes_eq d.name m.name && breaks program k m d)
-            (list_any (λ d. bytes_eq d.name m.name && breaks program k m d) ds)
+        (list_any (λ d. bytes_eq d.name m.name && breaks program k m d) ds)
       where
         go : (a x y : Bool) → ((a && x) || (a && y)) ≡ (a && (x || y))
         go true x y = refl
@@ -134,7 +134,7 @@ module _ (whole : List Method) (f g : Method → Option Culprit) (h : (m : Metho
     f m ≡ g m) where
   agree : (ms : List Method) (met : List Name) → are_new met (map (λ m. m.name) ms) ≡ true →
       ((n : Name) → is_in met n ≡ false → find (λ x. bytes_eq x.name n) whole ≡ find (λ x. bytes_eq x.name n) ms) →
-          first_by f ms ≡ first_by g ms
+      first_by f ms ≡ first_by g ms
   agree [] met e skip = refl
   agree (m ∷ ms) met e skip =
       let s = new_split met (map (λ x. x.name) ms) m.name e in
@@ -154,7 +154,7 @@ pub class_broken : (program : Program) (k : Demand) (c : Class) (ds : List proto
     first_by (broken_by_name (broken_names program k c [] ds)) c.methods ≡ first_by (broken_method program k ds) c.methods
 class_broken program k c ds e =
     agree_all c.methods (broken_by_name (broken_names program k c [] ds)) (broken_method program k ds)
-        (λ m is. named_broken program k c m is ds) e
+    (λ m is. named_broken program k c m is ds) e
 
 pub nothing_demanded : (program : Program) (k : Demand) (ms : List Method) → first_by (broken_method program k []) ms ≡ None
 nothing_demanded program k [] = refl
@@ -169,10 +169,10 @@ nothing_demanded program k (m ∷ ms) = ap (λ b. option_or (when b (culprit m.p
 pub first_broken : (program : Program) (k : Demand) (c : Class) (ds : List protocols.Method) (met : List Name) (ms : List MethodDecl)
     (r : Option Culprit) →
     are_new [] (map (λ m. m.name) ms) ≡ true → c.methods ≡ map source_of ms → met ≡ broken_names program k c [] ds →
-        r ≡ first_by (broken_by_name met) (map source_of ms) →
+    r ≡ first_by (broken_by_name met) (map source_of ms) →
     r ≡ first_by (broken_method program k ds) c.methods
 first_broken program k c ds met ms r new same noted is =
     is ∙ ap (λ n. first_by (broken_by_name n) (map source_of ms)) noted ∙ ap (first_by (broken_by_name (broken_names program k c [] ds)))
-        (sym same)
+    (sym same)
     ∙ class_broken program k c ds (ap (λ l. are_new [] (map (λ m. m.name) l)) same ∙ ap (are_new []) (map-map source_of (λ m. m.name) ms) ∙
-        new)
+    new)

@@ -122,13 +122,13 @@ module _ {files : List File} {typestates : List Typestate} {protocols : List Pro
         Some (class_in x) ≡ class_named (map file_of files) name
     class_found at x is =
         found_entry name class_names classes class_in (λ c. c.name) (classes_of (map file_of files)) all_classes_in classes_are_named i at
-            classes refl x is
+        classes refl x is
 
     pub enum_found : Some i ≡ position (bytes_eq name) enum_names → (x : EnumEntry) → x ≡ get_or enums i x →
         Some (enum_in x) ≡ enum_named (map file_of files) name
     enum_found at x is =
         found_entry name enum_names enums enum_in (λ e. e.name) (enums_of (map file_of files)) all_enums_in enums_are_named i at enums refl
-            x is
+        x is
 
   pub class_missing : (name : Name) → None ≡ position (bytes_eq name) class_names → None ≡ class_named (map file_of files) name
   class_missing name none = no_entry name class_names classes class_in (λ c. c.name) (classes_of (map file_of files)) all_classes_in
@@ -147,7 +147,7 @@ module _ {files : List File} {typestates : List Typestate} {protocols : List Pro
         Some x.of.now ≡ option_and_then (typestate_named typestates) o
     protocol_found i at x is =
         found_entry text typestate_names protocols (λ p. p.of.now) (λ y. y.name) typestates t.all_typestates t.typestates_named i at
-            protocols refl x is ∙ follow_named
+        protocols refl x is ∙ follow_named
 
     pub protocol_missing : None ≡ position (bytes_eq text) typestate_names → None ≡ option_and_then (typestate_named typestates) o
     protocol_missing none = no_entry text typestate_names protocols (λ p. p.of.now) (λ y. y.name) typestates t.all_typestates

@@ -33,7 +33,7 @@ both_assoc a b c =
 -- a label in the table
 pub set_named : (e new : Exits) (name : Name) (j : Jumps) → new.plain ≡ e.plain →
     UpdatesBy string_eq (λ k. bytes_eq name (string_bytes k)) e.labelled new.labelled (Some j) → (l : Option Name) →
-        met_at new l ≡ with_jumps (met_at e) (Some name) j l
+    met_at new l ≡ with_jumps (met_at e) (Some name) j l
 set_named e new name j same u None = same
 set_named e new name j same u (Some q) =
     ap some_jumps (changed_at e.labelled new.labelled name (Some j) u q) ∙ go (bytes_eq name q)
@@ -64,14 +64,14 @@ module _ (m new : Met) (label : Option Name) where
       new l ≡ both (m l) (jumps (same_label l label) false)
   break_adds h l =
       h l ∙ one_jump (jumps true false) (λ b. jumps b false) refl refl l (same_label label l) (same_label l label)
-          (same_label-Decides label l) (same_label-Decides l label)
+      (same_label-Decides label l) (same_label-Decides l label)
 
   -- `continue` with it
   pub continue_adds : ((l : Option Name) → new l ≡ with_jumps m label (both (m label) (jumps false true)) l) → (l : Option Name) →
       new l ≡ both (m l) (jumps false (same_label l label))
   continue_adds h l =
       h l ∙ one_jump (jumps false true) (λ b. jumps false b) refl refl l (same_label label l) (same_label l label)
-          (same_label-Decides label l) (same_label-Decides l label)
+      (same_label-Decides label l) (same_label-Decides l label)
 
 -- A loop hides what was met before and would lead to it, and brings it back.
 module _ (loop : Option Name) (these : Exit → Bool) (before entered within : Met) (enters : (l : Option Name) →
@@ -92,7 +92,7 @@ module _ (loop : Option Name) (these : Exit → Bool) (before entered within : M
       labelled None h = ap (both (jumps_by these None)) (plain None h) ∙ both_same (jumps_by these None)
       labelled (Some n) h =
           ap (both (jumps_by these None)) (adds (Some n) ∙ ap (λ j. both j (jumps_by these (Some n)))
-              (h (Some n) ∙ ap (λ b. if b then no_jumps else before (Some n)) ((bytes_eq-Decides n n).1 refl)))
+          (h (Some n) ∙ ap (λ b. if b then no_jumps else before (Some n)) ((bytes_eq-Decides n n).1 refl)))
 
   pub loop_adds : (after : Met) (plain labelled : Jumps) →
       ((l : Option Name) → after l ≡ with_jumps (with_jumps within loop labelled) None plain l) → plain ≡ before None →
@@ -104,7 +104,7 @@ module _ (loop : Option Name) (these : Exit → Bool) (before entered within : M
     where
       go : (b : Bool) → Decides b (loop ≡ Some n) → entered (Some n) ≡ (if b then no_jumps else before (Some n)) →
           (if b then labelled else within (Some n)) ≡ both (before (Some n))
-              (jumps (not b && these (Breaks (Some n))) (not b && these (Continues (Some n))))
+          (jumps (not b && these (Breaks (Some n))) (not b && these (Continues (Some n))))
       go true d e = q ∙ ap before (d.0 refl) ∙ sym (both_none (before (Some n)))
       go false d e = adds (Some n) ∙ ap (λ j. both j (jumps_by these (Some n))) e
 

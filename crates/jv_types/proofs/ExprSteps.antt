@@ -55,8 +55,12 @@ module _ (s : Scope) (all : Exprs) where
   }
 
   pub left_done : (g : Given) → AreLeft s all NoExpr g → AreChecked s all g
-  left_done g l = record { fine = l.fault; typed = l.typed ∙ append-nil (map (λ t. Some (type_seen t)) g.types.items); helper =
-      sym (l.helper ∙ or-false g.helper) }
+  left_done g l = record {
+    fine = l.fault;
+    typed = l.typed ∙ append-nil (map (λ t. Some (type_seen t)) g.types.items);
+    helper =
+        sym (l.helper ∙ or-false g.helper);
+  }
 
   module _ (e : Expr) (more : Exprs) (g : Given) (l : AreLeft s all (Argument e more) g) where
     pub left_wrong : (w : Wrong) → Tells w (expr_fault s e) → Tells w (args_fault s all)

@@ -64,7 +64,7 @@ module _ (scope : Scope) where
 
   pub binary-fault : (p : Place) (op : Op) (l r : Expr) →
       expr_fault scope (Binary p op l r) ≡ option_or (expr_fault scope l)
-          (option_or (expr_fault scope r) (mismatched (first_by type_mismatch (all_taken scope (takes scope (Binary p op l r))))))
+      (option_or (expr_fault scope r) (mismatched (first_by type_mismatch (all_taken scope (takes scope (Binary p op l r))))))
   binary-fault p op l r =
       nodes-append (nodes l) (nodes r ++ Value (Binary p op l r) ∷ [])
       ∙ ap (option_or (expr_fault scope l)) (last_node (nodes r) (Value (Binary p op l r))

@@ -13,8 +13,10 @@ use Rattle.mg_text.proofs.Numbered.{list_any-from_None, list_any-position}
 
 pub bytes_eq_flip : (a b : Name) → bytes_eq a b ≡ bytes_eq b a
 bytes_eq_flip a b =
-    same_from_decides (bytes_eq a b) (bytes_eq b a) (bytes_eq-Decides a b) ((λ e. sym ((bytes_eq-Decides b a).0 e)),
-        (λ e. (bytes_eq-Decides b a).1 (sym e)))
+    same_from_decides (bytes_eq a b) (bytes_eq b a) (bytes_eq-Decides a b) (
+      (λ e. sym ((bytes_eq-Decides b a).0 e)),
+      (λ e. (bytes_eq-Decides b a).1 (sym e)),
+    )
 
 module _ {X Y : Type 0} (name : Name) (key : X → Name) (view : X → Y) (key' : Y → Name) (agree : (x : X) → key' (view x) ≡ key x) where
   hit : (x : X) (b : Bool) → bytes_eq name (key x) ≡ b → bytes_eq (key' (view x)) name ≡ b
@@ -22,7 +24,7 @@ module _ {X Y : Type 0} (name : Name) (key : X → Name) (view : X → Y) (key' 
 
   pub first_hit : (xs : List X) (i : ℕ) (x : X) → i < length xs → bytes_eq name (get_or (map key xs) i []) ≡ true →
       ((k : ℕ) → k < i → bytes_eq name (get_or (map key xs) k []) ≡ false) → x ≡ get_or xs i x →
-          Some (view x) ≡ find (λ y. bytes_eq (key' y) name) (map view xs)
+      Some (view x) ≡ find (λ y. bytes_eq (key' y) name) (map view xs)
   first_hit [] i x within at before is = let no : ⊥ = omega arith in absurd no
   first_hit (y ∷ xs) zero x within at before is =
       ap (λ z. Some (view z)) is ∙ sym (ap (λ b. cond b (Some (view y)) (find (λ z. bytes_eq (key' z) name) (map view xs))) (hit y true at))
@@ -38,7 +40,7 @@ module _ {X Y : Type 0} (name : Name) (key : X → Name) (view : X → Y) (key' 
       Some (view x) ≡ find (λ y. bytes_eq (key' y) name) (map view xs)
   found_at xs ys same i x e is =
       let h = position-Some (bytes_eq name) (map key xs) i [] e in first_hit xs i x (found_within xs i e) h.1 h.2
-          (is ∙ ap (λ zs. get_or zs i x) same)
+      (is ∙ ap (λ zs. get_or zs i x) same)
 
   none_hit : (xs : List X) → list_any (bytes_eq name) (map key xs) ≡ false → None ≡ find (λ y. bytes_eq (key' y) name) (map view xs)
   none_hit [] e = refl
@@ -65,7 +67,7 @@ any_at name names = go (list_any (bytes_eq name) names) (list_any-position (byte
   where
     go : (b : Bool) → b ≡ nat_lt (position_or_len (bytes_eq name) names) (length names) →
         is_some (cond (nat_lt (position_or_len (bytes_eq name) names) (length names)) (Some (position_or_len (bytes_eq name) names)) None) ≡
-            b
+        b
     go true e = ap (λ t. is_some (cond t (Some (position_or_len (bytes_eq name) names)) None)) (sym e)
     go false e = ap (λ t. is_some (cond t (Some (position_or_len (bytes_eq name) names)) None)) (sym e)
 

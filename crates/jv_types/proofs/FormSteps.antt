@@ -41,7 +41,7 @@ module _ (s : Scope) (e : KeptExpr) (r : Result Checked Wrong) where
   member_as of n of' n' is eo en j =
       judged_as s e (E.Member of n) (Member e.place (expr_of of.value) n) r is (kind-Member of n e.place)
       (subst (λ z. Judges s (Member e.place (expr_of of.value) z) r) en
-          (subst (λ (z : KeptExpr). Judges s (Member e.place (expr_of z) n') r) eo j))
+      (subst (λ (z : KeptExpr). Judges s (Member e.place (expr_of z) n') r) eo j))
 
   pub neg_as : (of : Box KeptExpr Global) (of' : KeptExpr) → e.kind ≡ E.Neg of → of' ≡ of.value → Judges s (Neg e.place (expr_of of')) r →
       Judges s (expr_of e) r
@@ -58,9 +58,9 @@ module _ (s : Scope) (e : KeptExpr) (r : Result Checked Wrong) where
       Judges s (Binary e.place o (expr_of left') (expr_of right')) r → Judges s (expr_of e) r
   binary_as o left right left' right' is el er j =
       judged_as s e (E.Binary o left right) (Binary e.place o (expr_of left.value) (expr_of right.value)) r is
-          (kind-Binary o left right e.place)
+      (kind-Binary o left right e.place)
       (subst (λ (z : KeptExpr). Judges s (Binary e.place o (expr_of left.value) (expr_of z)) r) er
-          (subst (λ (z : KeptExpr). Judges s (Binary e.place o (expr_of z) (expr_of right')) r) el j))
+      (subst (λ (z : KeptExpr). Judges s (Binary e.place o (expr_of z) (expr_of right')) r) el j))
 
   pub call_as : (n : Name) (args : Row KeptExpr) (n' : Name) (args' : List KeptExpr) → e.kind ≡ E.Call n args → n' ≡ n → args' ≡ args.items
       →
@@ -68,14 +68,14 @@ module _ (s : Scope) (e : KeptExpr) (r : Result Checked Wrong) where
   call_as n args n' args' is en ea j =
       judged_as s e (E.Call n args) (Call e.place n (exprs_of (map expr_of args.items))) r is (kind-Call n args e.place)
       (subst (λ z. Judges s (Call e.place z (exprs_of (map expr_of args.items))) r) en
-          (subst (λ (z : List KeptExpr). Judges s (Call e.place n' (exprs_of (map expr_of z))) r) ea j))
+      (subst (λ (z : List KeptExpr). Judges s (Call e.place n' (exprs_of (map expr_of z))) r) ea j))
 
   pub method_call_as : (of : Box KeptExpr Global) (n : Name) (args : Row KeptExpr) (of' : KeptExpr) (n' : Name) (args' : List KeptExpr) →
       e.kind ≡ E.MethodCall of n args → of' ≡ of.value → n' ≡ n → args' ≡ args.items →
       Judges s (MethodCall e.place (expr_of of') n' (exprs_of (map expr_of args'))) r → Judges s (expr_of e) r
   method_call_as of n args of' n' args' is eo en ea j =
       judged_as s e (E.MethodCall of n args) (MethodCall e.place (expr_of of.value) n (exprs_of (map expr_of args.items))) r is
-          (kind-MethodCall of n args e.place)
+      (kind-MethodCall of n args e.place)
       (subst (λ z. Judges s (MethodCall e.place (expr_of of.value) z (exprs_of (map expr_of args.items))) r) en
       (subst (λ (z : List KeptExpr). Judges s (MethodCall e.place (expr_of of.value) n' (exprs_of (map expr_of z))) r) ea
       (subst (λ (z : KeptExpr). Judges s (MethodCall e.place (expr_of z) n' (exprs_of (map expr_of args'))) r) eo j)))
@@ -116,7 +116,7 @@ module _ (s : Scope) (p : Place) (n : Name) where
     own_tells e t w h =
         subst (λ z. Tells w (expr_fault s (MethodCall p z n args))) (sym (this_is e t))
         (tells_first w (args_fault s args) (fault_at (AtNode s (Value (MethodCall p (This (place_of e)) n args))))
-            (expr_fault s (MethodCall p (This (place_of e)) n args))
+        (expr_fault s (MethodCall p (This (place_of e)) n args))
         (last_node s (nodes_in args) (Value (MethodCall p (This (place_of e)) n args))) h)
 
     module _ (e : Expr) (x : Name) (is : variable_name e ≡ Some x) where
@@ -138,7 +138,7 @@ module _ (s : Scope) (p : Place) (n : Name) where
       pub named_tells : is_receiver s x ≡ true → (w : Wrong) → Tells w (args_fault s args) → Tells w (expr_fault s (MethodCall p e n args))
       named_tells h w =
           tells_first w (args_fault s args) (fault_at (AtNode s (Value (MethodCall p (Variable q x) n args))))
-              (expr_fault s (MethodCall p e n args))
+          (expr_fault s (MethodCall p e n args))
           (named_as true h ∙ last_node s (nodes_in args) (Value (MethodCall p (Variable q x) n args)))
 
     other_laid : (e : Expr) → is_this e ≡ false → None ≡ variable_name e → nodes (MethodCall p e n args) ≡ nodes e
@@ -172,7 +172,7 @@ module _ (s : Scope) (p : Place) (n : Name) where
       given_tells f w h =
           tells_later w (expr_fault s e) behind (expr_fault s (MethodCall p e n args)) other_whole f
           (tells_first w (args_fault s args) (fault_at (AtNode s (Value (MethodCall p e n args)))) behind
-              (last_node s (nodes_in args) (Value (MethodCall p e n args))) h)
+          (last_node s (nodes_in args) (Value (MethodCall p e n args))) h)
 
     -- what is wrong with an argument, whatever the call is on
     pub args_tell : (e : Expr) (r : Receiver) → ReceiverIs s e r → (w : Wrong) → Tells w (args_fault s args) →

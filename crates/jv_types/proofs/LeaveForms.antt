@@ -38,7 +38,7 @@ module _ (x : KeptStmt) where
         IfElse x.place (expr_of c) (stmt_of i) (stmt_of o) ≡ stmt_of x
     if_else_is d o other is =
         ap (λ (z : KeptStmt). IfElse x.place (expr_of c) (stmt_of z) (stmt_of o)) inner ∙
-            ap (λ (z : KeptStmt). IfElse x.place (expr_of c) (stmt_of b.value) (stmt_of z)) other
+        ap (λ (z : KeptStmt). IfElse x.place (expr_of c) (stmt_of b.value) (stmt_of z)) other
         ∙ stmt_is x _ _ is (laws.kind-If-Some c b d x.place)
 
     module _ (l seen : Option Name) (same : seen ≡ l) where
@@ -77,18 +77,18 @@ module _ (x : KeptStmt) (m : Met) where
       IsLeft (stmt_of x) true m m
   silent_left q =
       ⊎_elim (λ e. plain_left (Empty x.place) (stmt_is x _ _ e (laws.kind-Empty x.place))
-          (refl, adds_nothing (leaves (Empty x.place)) m (λ l. refl)))
+      (refl, adds_nothing (leaves (Empty x.place)) m (λ l. refl)))
       (λ r. ⊎_elim (λ h. let y = Local x.place h.0 h.1 (expr_of h.2) in plain_left y
-          (stmt_is x _ _ h.3 (laws.kind-Local h.0 h.1 h.2 x.place)) (refl, adds_nothing (leaves y) m (λ l. refl)))
+      (stmt_is x _ _ h.3 (laws.kind-Local h.0 h.1 h.2 x.place)) (refl, adds_nothing (leaves y) m (λ l. refl)))
       (λ h. let y = Assign x.place (expr_of h.0) (expr_of h.1) in plain_left y (stmt_is x _ _ h.2 (laws.kind-Assign h.0 h.1 x.place))
-          (refl, adds_nothing (leaves y) m (λ l. refl))) r) q
+      (refl, adds_nothing (leaves y) m (λ l. refl))) r) q
 
   pub spoken_left : ((e : KeptExpr) × x.kind ≡ kinds.Print e) ⊎ ((e : KeptExpr) × x.kind ≡ kinds.Eval e) → IsLeft (stmt_of x) true m m
   spoken_left q =
       ⊎_elim (λ h. let y = Print x.place (expr_of h.0) in plain_left y (stmt_is x _ _ h.1 (laws.kind-Print h.0 x.place))
-          (refl, adds_nothing (leaves y) m (λ l. refl)))
+      (refl, adds_nothing (leaves y) m (λ l. refl)))
       (λ h. let y = Eval x.place (expr_of h.0) in plain_left y (stmt_is x _ _ h.1 (laws.kind-Eval h.0 x.place))
-          (refl, adds_nothing (leaves y) m (λ l. refl))) q
+      (refl, adds_nothing (leaves y) m (λ l. refl))) q
 
 -- a loop
 module _ (p : Place) (l : Option Name) (c : Expr) (s : Stmt) (before entered within after : Met) (hidden : Hidden) (j : Jumps)
@@ -110,21 +110,21 @@ module _ (p : Place) (l : Option Name) (c : Expr) (s : Stmt) (before entered wit
   do_left b completes e k = (
     e ∙ ap (λ z. (not (is_always_true c) && (completes || z.continues)) || z.breaks) jumped
         ∙ ap (λ z. (not (is_always_true c) && (z || for_loop l (λ k. leaves s (Continues k)))) || for_loop l (λ k. leaves s (Breaks k))) k ∙
-            sym (or-false _),
+        sym (or-false _),
     loop_adds l (leaves s) before entered within enters adds after hidden.plain hidden.labelled ends plain labelled,
   )
 
 -- a switch
 module _ (p : Place) (v : Expr) (gs : Groups) (end : Place) (before entered within after : Met) (hidden : Bool)
     (enters : (k : Option Name) → entered k ≡ with_jumps before None (jumps false (before None).continues) k)
-        (adds : Adds (leaves_some gs) entered within)
+    (adds : Adds (leaves_some gs) entered within)
     (ends : (k : Option Name) → after k ≡ with_jumps within None (jumps hidden (within None).continues) k)
-        (hides : hidden ≡ (before None).breaks) where
+    (hides : hidden ≡ (before None).breaks) where
   pub switch_left : (b completes broken : Bool) → b ≡ (not (has_default gs) || (completes || broken)) → completes ≡ leaves_last gs →
       broken ≡ (within None).breaks → IsLeft (Switch p v gs end) b before after
   switch_left b completes broken e k h = (
     e ∙ ap (λ z. not (has_default gs) || (z || broken)) k
         ∙ ap (λ z. not (has_default gs) || (leaves_last gs || z)) (h ∙ switch_inner (leaves_some gs) before entered within enters adds) ∙
-            sym (or-false _),
+        sym (or-false _),
     λ l. switch_adds (leaves_some gs) before entered within enters adds after hidden ends hides l,
   )

@@ -61,7 +61,7 @@ module _ (all : Stmts) (before : Met) where
           (now l) (onward b l more)
       exits_are b e l =
           h.exits l ∙ ap (λ (ys : List KeptStmt). both (now l) (jumps_by (leaves_all (stmts_of (map stmt_of ys))) l))
-              (drop_at xs i x within is)
+          (drop_at xs i x within is)
           ∙ ap (λ c. both (now l) (onward c l more)) e
 
       pub left_more : leaves (stmt_of x) Through ≡ true → AreLeft all more before new
@@ -109,16 +109,16 @@ module _ (gs : List KeptGroup) (i : ℕ) (g : KeptGroup) (within : i < length gs
   pub groups_more : (all : Groups) (before now new : Met) (done b : Bool) (body : List KeptStmt) → body ≡ (out-Group g).body.items →
       GroupsAreLeft all (groups_of (map group_of (drop i gs))) before now done →
       b ≡ leaves_all (stmts_of (map stmt_of body)) Through → Adds (leaves_all (stmts_of (map stmt_of body))) now new →
-          GroupsAreLeft all others before new b
+      GroupsAreLeft all others before new b
   groups_more all before now new done b body e h k adds =
       let whole = group_at ∙ ap (λ (ys : List KeptStmt). Group (out-Group g).labels.items (stmts_of (map stmt_of ys)) (out-Group g).end
-            others) (sym e) in
+      others) (sym e) in
       record {
         last = h.last ∙ ap (last_or done) whole ∙ last_more (out-Group g).labels.items (stmts_of (map stmt_of body)) (out-Group g).end
             others ∙ ap (λ c. last_or c others) (sym k);
         exits = λ l. h.exits l ∙ ap (λ z. both (now l) (jumps_by (leaves_some z) l)) whole
             ∙ sym (both_assoc (now l) (jumps_by (leaves_all (stmts_of (map stmt_of body))) l) (jumps_by (leaves_some others) l)) ∙
-                ap (λ j. both j (jumps_by (leaves_some others) l)) (sym (adds l));
+            ap (λ j. both j (jumps_by (leaves_some others) l)) (sym (adds l));
       }
 
 pub groups_start : (all : Groups) (before : Met) → GroupsAreLeft all all before before false

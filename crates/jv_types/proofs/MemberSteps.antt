@@ -65,8 +65,14 @@ module _ (s : Scope) (p : Place) (n : Name) where
   answers : Place → Name → Option ValueType → Option Enum → Bool → Option (Condition × Culprit)
   answers q x v o b =
       option_or (told conditions.UnknownName (when (not (is_some v || (is_some o || b))) (culprit q x)) None)
-      (option_or (by_type p n (elim v [ None ↦ elim o [ None ↦ None | Some e ↦ if list_any (bytes_eq n) e.constants then Some (EnumType x)
-          else None ] | Some t ↦ None ])) None)
+      (option_or (by_type p n (elim v [
+        | None ↦ elim o [
+          | None ↦ None
+          | Some e ↦ if list_any (bytes_eq n) e.constants then Some (EnumType x)
+              else None
+        ]
+        | Some t ↦ None
+      ])) None)
 
   module _ (q : Place) (x : Name) where
     named_variable : (t : ValueType) → Some t ≡ variable_type s x → expr_fault s (Member p (Variable q x) n) ≡ unknown p n
@@ -96,7 +102,7 @@ module _ (s : Scope) (p : Place) (n : Name) where
       constant_is b g =
           ap (λ v. elim v [ None ↦ constant_type s.program x n | Some t ↦ None ]) (sym e)
           ∙ ap (λ o. elim o [ None ↦ None | Some k ↦ if list_any (bytes_eq n) k.constants then Some (EnumType x) else None ]) (sym f) ∙
-              ap (λ c. if c then Some (EnumType x) else None) (sym g)
+          ap (λ c. if c then Some (EnumType x) else None) (sym g)
 
       fault_is : (b : Bool) → b ≡ list_any (bytes_eq n) m.constants → expr_fault s (Member p (Variable q x) n) ≡ option_or
           (by_type p n (if b then Some (EnumType x) else None)) None
@@ -104,7 +110,7 @@ module _ (s : Scope) (p : Place) (n : Name) where
       fault_is b g =
           ap (λ v. answers q x v (enum_named s.program.files x) (names_class s x)) (sym e)
           ∙ ap (λ o. answers q x None o (names_class s x)) (sym f) ∙
-              ap (λ c. option_or (by_type p n (if c then Some (EnumType x) else None)) None) (sym g)
+          ap (λ c. option_or (by_type p n (if c then Some (EnumType x) else None)) None) (sym g)
 
       named_constant : true ≡ list_any (bytes_eq n) m.constants → (ty : KeptType) → type_seen ty ≡ EnumType x →
           IsChecked s (Member p (Variable q x) n) (record { ty = ty; helper = false })

@@ -36,7 +36,7 @@ use Rattle.jv_types.proofs.StmtLoops.{answers_last}
 module _ (program : Program) (class : Class) where
   pub method_is : (m : Method) → fault_in_method program class m ≡
       option_or (params_fault (entered program class m) m.params)
-          (option_or (stmts_fault (with_params m.params (entered program class m)) m.body) (fault_at_end m))
+      (option_or (stmts_fault (with_params m.params (entered program class m)) m.body) (fault_at_end m))
   method_is m =
       let s = entered program class m in
       let inside = with_params m.params s in
@@ -52,9 +52,9 @@ module _ (program : Program) (class : Class) where
         (option_or (stmts_fault (with_params params start) body) (fault_at_end m))
     method_as =
         method_is m ∙ ap (λ ps. option_or (params_fault start ps) (option_or (stmts_fault (with_params ps start) m.body) (fault_at_end m)))
-            (sym same_params)
+        (sym same_params)
         ∙ ap (λ b. option_or (params_fault start params) (option_or (stmts_fault (with_params params start) b) (fault_at_end m)))
-            (sym same_body)
+        (sym same_body)
 
     pub params_wrong : (w : Wrong) (s : Scope) → s ≡ start → Tells w (params_fault s params) → Tells w (fault_in_method program class m)
     params_wrong w s e t = tells_first w _ _ _ method_as (subst (λ z. Tells w (params_fault z params)) e t)
@@ -84,7 +84,7 @@ module _ (program : Program) (class : Class) where
       method_at =
           h ∙ ap (λ (ys : List MethodDecl). fault_in_methods program class (map method_of ys)) (drop_at xs i x within is)
           ∙ first_by-append fault_at (method_spots program class (method_of x))
-              (methods_spots program class (map method_of (drop (i + 1) xs)))
+          (methods_spots program class (map method_of (drop (i + 1) xs)))
 
       pub method_wrong : (w : Wrong) → Tells w (fault_in_method program class (method_of x)) → Tells w (fault_in_methods program class all)
       method_wrong w t = tells_first w _ _ _ method_at t
@@ -105,7 +105,7 @@ module _ (program : Program) (xs : List ClassEntry) (i : ℕ) (all : List Class)
     class_at =
         h ∙ ap (λ (ys : List ClassEntry). fault_in_classes program (map class_in ys)) (drop_at xs i x within is)
         ∙ first_by-append fault_at (methods_spots program (class_in x) (class_in x).methods)
-            (classes_spots program (map class_in (drop (i + 1) xs)))
+        (classes_spots program (map class_in (drop (i + 1) xs)))
 
     pub class_wrong : (w : Wrong) → Tells w (fault_in_methods program (class_in x) (class_in x).methods) →
         Tells w (fault_in_classes program all)
@@ -121,8 +121,10 @@ module _ (program : Program) (xs : List ClassEntry) (i : ℕ) (all : List Class)
 -- an entry of the table's classes
 pub entry_in : (program : Program) (es : List ClassEntry) → AreEntriesOf program es → (i : ℕ) (e : ClassEntry) → i < length es →
     e ≡ get_or es i e → IsEntryOf program e
-entry_in program es h i e within is = record { follows = same_at typestate_in (λ x. typestate_of program (class_in x)) es h.follow i e
-    within is }
+entry_in program es h i e within is = record {
+  follows = same_at typestate_in (λ x. typestate_of program (class_in x)) es h.follow i e
+      within is;
+}
 
 -- no fault was found
 pub no_fault : (program : Program) (cs : List Class) → cs ≡ classes_of program.files → fault_in_classes program cs ≡ None →
@@ -147,7 +149,7 @@ pub found_told : (program : Program) (cs : List Class) → cs ≡ classes_of pro
     TellsFault (λ r. r ≡ fault_in_classes program cs) e → TellsFault (IsFault program) e
 found_told program cs same e t =
     told_more (λ r. r ≡ fault_in_classes program cs) (IsFault program)
-        (λ f h. subst (IsFault program) (sym (h ∙ ap (fault_in_classes program) same)) (method_fault-right program)) e t
+    (λ f h. subst (IsFault program) (sym (h ∙ ap (fault_in_classes program) same)) (method_fault-right program)) e t
 
 -- what an error tells
 pub if_wrong : {A E : Type 0} (R S : E → Type 0) (r : Result A E) → ((e : E) → R e → S e) → IfErr r R → IfErr r S
@@ -157,8 +159,13 @@ if_wrong R S (Err e) f h = f e h
 -- a program whose declarations and methods have no fault
 pub well_typed : (program : Program) (origins : List ℕ) → length origins ≡ length program.typestates → IsTableFault program origins None →
     (p : Program) → p ≡ program → IsFault p None → IsWellTyped program
-well_typed program origins n h p same k = record { origins = origins; numbered = n; declarations = h; methods =
-    subst (λ q. IsFault q None) same k }
+well_typed program origins n h p same k = record {
+  origins = origins;
+  numbered = n;
+  declarations = h;
+  methods =
+      subst (λ q. IsFault q None) same k;
+}
 
 -- a fault of the declarations, and one of the methods
 pub declarations_told : (program : Program) (origins : List ℕ) (e : TypeFault) → TellsFault (IsTableFault program origins) e →

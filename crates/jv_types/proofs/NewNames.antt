@@ -24,7 +24,7 @@ within_past sub met n w k h = Contains-append_left met (n ∷ []) k (w k h)
 pub within_more : (sub met : List Name) (n : Name) → Within sub met → Within (sub ++ n ∷ []) (met ++ n ∷ [])
 within_more sub met n w k h =
     ⊎_elim (λ a. Contains-append_left met (n ∷ []) k (w k a)) (λ e. subst (Contains (met ++ n ∷ [])) e (Contains-push met n))
-        (Contains-push_cases sub n k h)
+    (Contains-push_cases sub n k h)
 
 -- the first of these is new, and so are the others behind it
 pub new_split : (met ns : List Name) (n : Name) → are_new met (n ∷ ns) ≡ true → (is_in met n ≡ false) × (are_new (met ++ n ∷ []) ns ≡ true)

@@ -42,7 +42,7 @@ use Rattle.jv_types.proofs.Offers.{any_push, any_with, offers_all}
 pub offers_more : (ss : List KeptState) (i : ℕ) (x : KeptState) → i < length ss → x ≡ get_or ss i x →
     (old new : List (Bor KeptMethod)) (ms : List KeptMethod) (whole : List Method) →
     offers_seen old ++ offers_in (map state_of (drop i ss)) ≡ whole → offers_seen new ≡ offers_seen old ++ map method_of ms →
-        ms ≡ x.methods.items →
+    ms ≡ x.methods.items →
     offers_seen new ++ offers_in (map state_of (drop (i + 1) ss)) ≡ whole
 offers_more ss i x within is old new ms whole e m same =
     ap (λ l. l ++ offers_in (map state_of (drop (i + 1) ss))) (m ∙ ap (λ xs. offers_seen old ++ map method_of xs) same)
@@ -103,7 +103,7 @@ offered_in : (m : Method) (ss : List State) → Contains (offers_in ss) m → Is
 offered_in m [] h = absurd (nothing_in m h)
 offered_in m (s ∷ ss) h =
     ⊎_elim (λ k. (s, in_first ss s, k)) (λ k. let r = offered_in m ss k in (r.0, in_later ss s r.0 r.1, r.2))
-        (Contains-append_cases s.methods (offers_in ss) m h)
+    (Contains-append_cases s.methods (offers_in ss) m h)
 
 pub alike_proper : (ss : List State) → IsProper ss → AreAlike (offers_in ss)
 alike_proper ss proper = record { each = λ m n h k same. proper.one_signature m n (offered_in m ss h) (offered_in n ss k) same }
@@ -125,7 +125,7 @@ pub made_first : (ds fs : List Method) (names : List Name) (slice items : List (
     fs ≡ firsts_among [] ds
 made_first ds fs names slice items none same all is =
     is ∙ ap (λ n. firsts_among n (offers_seen slice)) none ∙ ap (λ (l : List (Bor KeptMethod)). firsts_among [] (offers_seen l)) same ∙
-        ap (firsts_among []) all
+    ap (firsts_among []) all
 
 pub made_named : (t : Typestate) (old new : List Name) (slice items : List (Bor KeptMethod)) → old ≡ [] → slice ≡ items →
     offers_seen items ≡ offers_in t.states →
@@ -133,7 +133,7 @@ pub made_named : (t : Typestate) (old new : List Name) (slice items : List (Bor 
 made_named t old new slice items none same all is =
     offers_all t new (offers_seen items) all
     (is ∙ ap (λ n. noted n (map (λ m. m.name) (offers_seen slice))) none ∙
-        ap (λ (l : List (Bor KeptMethod)). noted [] (map (λ m. m.name) (offers_seen l))) same)
+    ap (λ (l : List (Bor KeptMethod)). noted [] (map (λ m. m.name) (offers_seen l))) same)
 
 -- ---- what holds of the first of each name
 
@@ -159,7 +159,7 @@ module _ {C : Type 0} (f : Method → Option C) where
       more : f d ≡ None → Skips (seen ++ d.name ∷ []) ds
       more none = λ m h k.
           either_way (list_any (bytes_eq m.name) seen) (bytes_eq m.name d.name) (sym (any_push (bytes_eq m.name) seen d.name) ∙ k)
-              (λ e. skips m h e)
+          (λ e. skips m h e)
           (λ e. a d m (in_first ds d) (in_later ds d m h) (sym ((bytes_eq-Decides m.name d.name).0 e)) none)
 
       here : (o : Option C) → f d ≡ o → (Skips (seen ++ d.name ∷ []) ds → first_by f (firsts_among (seen ++ d.name ∷ []) ds) ≡ first_by f
@@ -177,7 +177,7 @@ module _ {C : Type 0} (f : Method → Option C) where
 missing_firsts : (c : sources.Class) (ds : List Method) → first_by (missing_method c) (firsts_among [] ds) ≡ first_by (missing_method c) ds
 missing_firsts c ds =
     firsts_by (missing_method c) [] ds (λ d e h k same n. subst (λ x. when (not (is_instance (method_named c x))) (culprit c.place x) ≡
-        None) same n) (λ d h k. absurd (true≢false (sym k)))
+    None) same n) (λ d h k. absurd (true≢false (sym k)))
 
 abbrev found_by : (Method → Bool) → Method → Option Bool
 found_by p d = cond (p d) (Some true) None
@@ -195,7 +195,7 @@ any_firsts : (p : Method → Bool) (ds : List Method) → ((d e : Method) → Co
 any_firsts p ds same =
     any_as p (firsts_among [] ds)
     ∙ ap is_some (firsts_by (found_by p) [] ds (λ d e h k n x. sym (ap (λ b. cond b (Some true) None) (same d e h k n)) ∙ x)
-        (λ d h k. absurd (true≢false (sym k))))
+    (λ d h k. absurd (true≢false (sym k))))
     ∙ sym (any_as p ds)
 
 same_by : {X C : Type 0} (f g : X → Option C) → ((x : X) → f x ≡ g x) → (xs : List X) → first_by f xs ≡ first_by g xs
@@ -211,9 +211,9 @@ module _ (program : Program) (ds : List Method) (alike : AreAlike ds) where
       (λ d e h k n.
       ap (λ x. bytes_eq x m.name && not (type_eq d.result m.result && types_eq d.params (map (λ p. p.ty) m.params))) n
       ∙ ap (λ t. bytes_eq e.name m.name && not (type_eq t m.result && types_eq d.params (map (λ p. p.ty) m.params)))
-          (alike.each d e h k n).0
+      (alike.each d e h k n).0
       ∙ ap (λ ps. bytes_eq e.name m.name && not (type_eq e.result m.result && types_eq ps (map (λ p. p.ty) m.params)))
-          (alike.each d e h k n).1))
+      (alike.each d e h k n).1))
 
   broken_firsts : (ms : List sources.Method) → first_by (broken_method program demands.OfSignature (firsts_among [] ds)) ms ≡ first_by
       (broken_method program demands.OfSignature ds) ms
@@ -236,7 +236,7 @@ module _ (program : Program) (c : sources.Class) (r : Option Typestate) (follows
       first_by (broken_method program demands.OfSignature fs) c.methods ≡ broken_in_class program demands.OfSignature r c
   signature_of t fs alike e at =
       ap (λ l. first_by (broken_method program demands.OfSignature l) c.methods) e ∙ broken_firsts program (offers_in t.states) alike
-          c.methods
+      c.methods
       ∙ ap (λ o. broken_in_class program demands.OfSignature o c) (at ∙ sym follows)
 
   pub labels_of : (t : Typestate) (fs : List Method) → fs ≡ offers_in t.states → Some t ≡ typestate_of program c →
@@ -251,8 +251,11 @@ pub of_protocol : (program : Program) (c : sources.Class) (o : Option Typestate)
     is_offered o name ≡ is_of_protocol program c name
 of_protocol program c o name e = ap (λ x. is_offered x name) e ∙ go (typestate_of program c)
   where
-    go : (x : Option Typestate) → is_offered x name ≡ elim x [ None ↦ false | Some t ↦ list_any (λ m. bytes_eq m.name name)
-        (offers_in t.states) ]
+    go : (x : Option Typestate) → is_offered x name ≡ elim x [
+      | None ↦ false
+      | Some t ↦ list_any (λ m. bytes_eq m.name name)
+          (offers_in t.states)
+    ]
     go None = refl
     go (Some t) = refl
 
@@ -280,7 +283,7 @@ module _ (program : Program) (m : sources.Method) where
   one_fine : (d : Method) → differs d ≡ false → labels_differ program d ≡ false → answers d ≡ false
   one_fine d e w = go (bytes_eq d.name m.name) (same_signature m d) e
       (λ s. ap (λ t. other_labels program t d.target)
-          (sym (type_is d.result m.result (and_left (type_eq d.result m.result) (types_eq d.params (map (λ p. p.ty) m.params)) s))) ∙ w)
+      (sym (type_is d.result m.result (and_left (type_eq d.result m.result) (types_eq d.params (map (λ p. p.ty) m.params)) s))) ∙ w)
     where
       go : (b s : Bool) → (b && not s) ≡ false → (s ≡ true → other_labels program m.result d.target ≡ false) →
           (b && other_labels program m.result d.target) ≡ false
@@ -312,7 +315,7 @@ labels_fine program ds [] e w = refl
 labels_fine program ds (m ∷ ms) e w =
     let h = none_or (broken_method program demands.OfSignature ds m) (first_by (broken_method program demands.OfSignature ds) ms) e in
     ap (λ o. option_or o (first_by (broken_method program demands.OfLabels ds) ms)) (method_fine program m ds h.0 w) ∙ labels_fine program
-        ds ms h.1 w
+    ds ms h.1 w
 
 -- ---- names of typestates
 
@@ -342,11 +345,11 @@ met_found program n met (x ∷ ts) t e w =
         ap (λ b. list_any (bytes_eq t.name) (cond b (with_text met x.name) met)) (ap (is_mislabelled program) same ∙ w)
         ∙ any_with t.name met x.name
         ∙ or_true (list_any (bytes_eq t.name) met) (bytes_eq t.name x.name)
-            ((bytes_eq-Decides t.name x.name).1 (ap (λ y. y.name) (sym same)))
+        ((bytes_eq-Decides t.name x.name).1 (ap (λ y. y.name) (sym same)))
 
     go : (b : Bool) → cond b (Some x) (find (λ y. bytes_eq y.name n) ts) ≡ Some t →
         (find (λ y. bytes_eq y.name n) ts ≡ Some t →
-            list_any (bytes_eq t.name) (mislabelled program (cond (is_mislabelled program x) (with_text met x.name) met) ts) ≡ true) →
+        list_any (bytes_eq t.name) (mislabelled program (cond (is_mislabelled program x) (with_text met x.name) met) ts) ≡ true) →
         list_any (bytes_eq t.name) (mislabelled program (cond (is_mislabelled program x) (with_text met x.name) met) ts) ≡ true
     go true k rest = let same : x ≡ t = cc in kept_met program t.name (cond (is_mislabelled program x) (with_text met x.name) met) ts
         (here same)
@@ -371,17 +374,17 @@ not_met program c t at e = go (is_mislabelled program t) refl
 pub none_answer : (program : Program) (c : sources.Class) (r : Option Typestate) (t : Typestate) (names : List Name) (met : Bool) →
     r ≡ typestate_of program c → Some t ≡ typestate_of program c →
     names ≡ mislabelled program [] program.typestates → broken_in_class program demands.OfSignature r c ≡ None →
-        met ≡ list_any (bytes_eq t.name) names → met ≡ false →
+    met ≡ list_any (bytes_eq t.name) names → met ≡ false →
     None ≡ broken_in_class program demands.OfLabels r c
 none_answer program c r t names met follows at are alike is fresh =
     sym (labels_fine program (offers_in t.states) c.methods (ap (λ o. broken_in_class program demands.OfSignature o c) (at ∙ sym follows) ∙
-        alike)
+    alike)
     (not_met program c t at (sym (is ∙ ap (list_any (bytes_eq t.name)) are) ∙ fresh)))
     ∙ ap (λ o. broken_in_class program demands.OfLabels o c) (at ∙ sym follows)
 
 pub met_step : (program : Program) (ps : List Protocol) (i : ℕ) (p : Protocol) → i < length ps → p ≡ get_or ps i p → (met new : List Name) →
     new ≡ cond (is_mislabelled program p.of.now) (with_text met p.of.now.name) met →
-        mislabelled program new (map (λ p. p.of.now) (drop (i + 1) ps)) ≡ mislabelled program met (map (λ p. p.of.now) (drop i ps))
+    mislabelled program new (map (λ p. p.of.now) (drop (i + 1) ps)) ≡ mislabelled program met (map (λ p. p.of.now) (drop i ps))
 met_step program ps i p within is met new e =
     ap (λ n. mislabelled program n (map (λ (p : Protocol). p.of.now) (drop (i + 1) ps))) e
     ∙ sym (ap (λ (l : List Protocol). mislabelled program met (map (λ (p : Protocol). p.of.now) l)) (drop_at ps i p within is))
@@ -391,14 +394,14 @@ pub all_met : (program : Program) (old new : List Name) (slice items : List Prot
     new ≡ mislabelled program old (map (λ p. p.of.now) slice) → new ≡ mislabelled program [] ts
 all_met program old new slice items ts none same all is =
     is ∙ ap (λ n. mislabelled program n (map (λ (p : Protocol). p.of.now) slice)) none ∙
-        ap (λ (l : List Protocol). mislabelled program [] (map (λ (p : Protocol). p.of.now) l)) same ∙ ap (mislabelled program []) all
+    ap (λ (l : List Protocol). mislabelled program [] (map (λ (p : Protocol). p.of.now) l)) same ∙ ap (mislabelled program []) all
 
 pub differ_is : (program : Program) (t : Typestate) (slice items : List (Bor KeptMethod)) (d : Bool) → slice ≡ items →
     offers_seen items ≡ offers_in t.states →
     d ≡ list_any (labels_differ program) (offers_seen slice) → d ≡ is_mislabelled program t
 differ_is program t slice items d same all is =
     is ∙ ap (λ (l : List (Bor KeptMethod)). list_any (labels_differ program) (offers_seen l)) same ∙ ap (list_any (labels_differ program))
-        all
+    all
 
 pub not_noted : (met more : List Name) (b d : Bool) → d ≡ b → d ≡ false → met ≡ cond b more met
 not_noted met more b d e f = sym (ap (λ c. cond c more met) (sym e ∙ f))

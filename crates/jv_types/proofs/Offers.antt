@@ -51,7 +51,7 @@ any_noted n met [] = go (list_any (bytes_eq n) met)
     go false = refl
 any_noted n met (x ∷ xs) =
     any_noted n (with_text met x) xs ∙ ap (λ b. b || list_any (bytes_eq n) xs) (any_with n met x) ∙ or_or (list_any (bytes_eq n) met)
-        (bytes_eq n x) (list_any (bytes_eq n) xs)
+    (bytes_eq n x) (list_any (bytes_eq n) xs)
 
 any_names : (n : Name) (ms : List Method) → list_any (bytes_eq n) (map (λ m. m.name) ms) ≡ list_any (λ m. bytes_eq m.name n) ms
 any_names n [] = refl

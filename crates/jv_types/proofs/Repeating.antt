@@ -84,10 +84,10 @@ types_judged (d ∷ ds) met seen k =
     subst (Judged DuplicateName (behind seen (map decl_entry (d ∷ ds))))
     (sym (twice (is_built_in e.name) (is_in met e.name) (Some (blamed_entry e)) (repeat_type (met ++ e.name ∷ []) ds)))
     (judge_more DuplicateName (seen, e) (is_in met e.name || is_built_in e.name) (blamed_entry e)
-        (IsTaken seen e ⊎ ((e.sort ≡ OfType) × Contains built_in_classes e.name))
+    (IsTaken seen e ⊎ ((e.sort ≡ OfType) × Contains built_in_classes e.name))
     (behind (seen ++ e ∷ []) (map decl_entry ds)) (repeat_type (met ++ e.name ∷ []) ds)
     (Decides-or _ _ (taken-Decides OfType met seen e k (decl_sort d)) (decides_as (is_built_in e.name) (built_in-Decides e.name)
-        (λ h. (decl_sort d, h)) (λ h. h.1)))
+    (λ h. (decl_sort d, h)) (λ h. h.1)))
     (λ p. (refl, p)) (λ c a. a.1) more)
 
 no_type : OfTypestate ≡ OfType → ⊥
@@ -116,15 +116,15 @@ pub behind-append : {X : Type 0} (seen xs ys : List X) → behind seen (xs ++ ys
 behind-append seen [] ys = ap (λ s. behind s ys) (sym (append-nil seen))
 behind-append seen (x ∷ xs) ys =
     ap (λ zs. (seen, x) ∷ zs) (behind-append (seen ++ x ∷ []) xs ys ∙ ap (λ s. behind (seen ++ x ∷ []) xs ++ behind s ys)
-        (append_assoc seen (x ∷ []) xs))
+    (append_assoc seen (x ∷ []) xs))
 
 -- 1. types, and then typestates
 pub names_judged : (ds : List Decl) (ts : List protocols.Typestate) (files : List ℕ) →
     Judged DuplicateName (with_earlier (map decl_entry ds ++ typestate_entries ts files))
-        (option_or (repeat_type [] ds) (repeat_typestate [] ts files))
+    (option_or (repeat_type [] ds) (repeat_typestate [] ts files))
 names_judged ds ts files =
     subst (λ xs. Judged DuplicateName xs (option_or (repeat_type [] ds) (repeat_typestate [] ts files)))
-        (sym (behind-append [] (map decl_entry ds) (typestate_entries ts files)))
+    (sym (behind-append [] (map decl_entry ds) (typestate_entries ts files)))
     (judged-append (types_judged ds [] [] (knows_none OfType)) (typestates_judged ts files [] (map decl_entry ds) (knows_none_yet ds)))
 
 members_judged : (xs : List ClassMember) (fields methods : List Name) (seen : List Entry) → Knows FieldName fields seen →
@@ -138,7 +138,7 @@ members_judged (OfField f ∷ xs) fields methods seen k l =
     (behind (seen ++ e ∷ []) (map member_entry xs)) (repeat_member (fields ++ f.name ∷ []) methods xs)
     (taken-Decides FieldName fields seen e k refl) (λ p. (refl, p)) (λ c a. a.1)
     (members_judged xs (fields ++ f.name ∷ []) methods (seen ++ e ∷ []) (knows_more FieldName fields seen e k refl)
-        (knows_past MethodName methods seen e l other))
+    (knows_past MethodName methods seen e l other))
 members_judged (OfMethod m ∷ xs) fields methods seen k l =
     let e = entry m.place MethodName m.name in
     let other : MethodName ≡ FieldName → ⊥ = λ h. cc in
@@ -146,7 +146,7 @@ members_judged (OfMethod m ∷ xs) fields methods seen k l =
     (behind (seen ++ e ∷ []) (map member_entry xs)) (repeat_member fields (methods ++ m.name ∷ []) xs)
     (taken-Decides MethodName methods seen e l refl) (λ p. (refl, p)) (λ c a. a.1)
     (members_judged xs fields (methods ++ m.name ∷ []) (seen ++ e ∷ []) (knows_past FieldName fields seen e k other)
-        (knows_more MethodName methods seen e l refl))
+    (knows_more MethodName methods seen e l refl))
 
 constants_judged : (place : Place) (cs : List Name) (met : List Name) (seen : List Entry) → Knows ConstantName met seen →
     Judged DuplicateMember (behind seen (map (entry place ConstantName) cs)) (repeat_constant place met cs)

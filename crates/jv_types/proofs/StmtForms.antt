@@ -72,13 +72,13 @@ module _ (s : Scope) (x : KeptStmt) where
 
     pub if_else_is : (d : Box KeptStmt Global) (o : KeptStmt) → o ≡ d.value → x.kind ≡ kinds.If c b (Some d) →
         stmt_fault s (stmt_of x) ≡ option_or (value_told s (expr_of c) (Fitting BooleanType))
-            (option_or (stmt_fault s (stmt_of i)) (stmt_fault s (stmt_of o)))
+        (option_or (stmt_fault s (stmt_of i)) (stmt_fault s (stmt_of o)))
     if_else_is d o other is =
         stmt_as s x _ _ is (laws.kind-If-Some c b d x.place) ∙ if_else_told s x.place (expr_of c) (stmt_of b.value) (stmt_of d.value)
         ∙ ap (λ (z : KeptStmt). option_or (value_told s (expr_of c) (Fitting BooleanType))
-            (option_or (stmt_fault s (stmt_of z)) (stmt_fault s (stmt_of d.value)))) (sym inner)
+        (option_or (stmt_fault s (stmt_of z)) (stmt_fault s (stmt_of d.value)))) (sym inner)
         ∙ ap (λ (z : KeptStmt). option_or (value_told s (expr_of c) (Fitting BooleanType))
-            (option_or (stmt_fault s (stmt_of i)) (stmt_fault s (stmt_of z)))) (sym other)
+        (option_or (stmt_fault s (stmt_of i)) (stmt_fault s (stmt_of z)))) (sym other)
 
     -- what the condition tells, the whole tells
     pub if_tells : (r : Option (Box KeptStmt Global)) → x.kind ≡ kinds.If c b r → (w : Wrong) →
@@ -94,21 +94,21 @@ module _ (s : Scope) (x : KeptStmt) where
           (stmt_fault w (stmt_of i))
       while_is is =
           stmt_as s x _ _ is (laws.kind-While l c b x.place) ∙ while_told s x.place l (expr_of c) (stmt_of b.value) ∙
-              ap (option_or (loop_told s x.place l (expr_of c))) inside
+          ap (option_or (loop_told s x.place l (expr_of c))) inside
 
       pub do_is : x.kind ≡ kinds.Do l b c → stmt_fault s (stmt_of x) ≡ option_or (stmt_fault w (stmt_of i))
           (loop_told s x.place l (expr_of c))
       do_is is =
           stmt_as s x _ _ is (laws.kind-Do l b c x.place) ∙ do_told s x.place l (expr_of c) (stmt_of b.value) ∙
-              ap (λ z. option_or z (loop_told s x.place l (expr_of c))) inside
+          ap (λ z. option_or z (loop_told s x.place l (expr_of c))) inside
 
   pub switch_is : (e : KeptExpr) (gs : Row KeptGroup) (end : Place) (ys : List KeptGroup) (w : Scope) → x.kind ≡ kinds.Switch e gs end →
       ys ≡ gs.items → w ≡ within targets.Switch s →
       stmt_fault s (stmt_of x) ≡ option_or (choice_told s x.place (expr_of e) (groups_of (map group_of ys)))
-          (groups_fault w (groups_of (map group_of ys)))
+      (groups_fault w (groups_of (map group_of ys)))
   switch_is e gs end ys w is k at =
       stmt_as s x _ _ is (laws.kind-Switch e gs end x.place)
       ∙ ap (λ (zs : List KeptGroup). stmt_fault s (Switch x.place (expr_of e) (groups_of (map group_of zs)) end)) (sym k)
       ∙ switch_told s x.place (expr_of e) (groups_of (map group_of ys)) end
       ∙ ap (λ z. option_or (choice_told s x.place (expr_of e) (groups_of (map group_of ys))) (groups_fault z (groups_of (map group_of ys))))
-          (sym at)
+      (sym at)

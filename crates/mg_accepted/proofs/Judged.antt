@@ -56,8 +56,12 @@ fails_first core faults.Memory d f h = none_some h
 pub unmet_judged : (names : List (List ℕ)) (core : Core.Program) (fault : CheckFault) (stop : Stop) → IsFault core fault →
     IsRefusal names core (demand_of fault) stop
     → IsJudged names core (Err stop)
-unmet_judged names core fault (stops.Refused line) f (d, told, said) = record { demand = d; fails = fails_first core fault d f told; said =
-    said }
+unmet_judged names core fault (stops.Refused line) f (d, told, said) = record {
+  demand = d;
+  fails = fails_first core fault d f told;
+  said =
+      said;
+}
 unmet_judged names core fault stops.Memory f h = tt
 
 -- ---- the verdict on files
@@ -81,7 +85,7 @@ core_judged names contents core (Ok a) same h j = record {
 core_judged names contents core (Err (stops.Refused line)) same h j =
     let d = j.demand in
     unmet core d h j.fails (j.said ∙ ap (λ (z : List ℕ). fault_line z (fault_at (demand_word d.kind) d.place (demand_name core d)))
-        (sym (named_from 0 names contents d.place.file same)))
+    (sym (named_from 0 names contents d.place.file same)))
 core_judged names contents core (Err stops.Memory) same h j = tt
 
 -- files that are no well typed program are refused

@@ -37,8 +37,10 @@ no_feed_is c e = not_true (c == 10) e where
 pub first_line : (text : List ℕ) (end : ℕ) → end ≡ span not_line_end text → lines text ≡ take end text ∷ lines_left (rest_behind end text)
 first_line [] zero e = refl
 first_line [] (suc end) e = absurd (omega (arith, e))
-first_line (c ∷ cs) end e = elim (either (not_line_end c)) [ inl t ↦ longer_line c cs end e t (first_line cs (span not_line_end cs) refl)
-    | inr f ↦ ended_line c cs end e f ] where
+first_line (c ∷ cs) end e = elim (either (not_line_end c)) [
+  | inl t ↦ longer_line c cs end e t (first_line cs (span not_line_end cs) refl)
+  | inr f ↦ ended_line c cs end e f
+] where
   ended_line : (c : ℕ) (cs : List ℕ) (end : ℕ) → end ≡ span not_line_end (c ∷ cs) → not_line_end c ≡ false →
       lines (c ∷ cs) ≡ take end (c ∷ cs) ∷ lines_left (rest_behind end (c ∷ cs))
   ended_line c cs end e f =
@@ -47,7 +49,7 @@ first_line (c ∷ cs) end e = elim (either (not_line_end c)) [ inl t ↦ longer_
 
   longer_line : (c : ℕ) (cs : List ℕ) (end : ℕ) → end ≡ span not_line_end (c ∷ cs) → not_line_end c ≡ true
       → lines cs ≡ take (span not_line_end cs) cs ∷ lines_left (rest_behind (span not_line_end cs) cs) →
-          lines (c ∷ cs) ≡ take end (c ∷ cs) ∷ lines_left (rest_behind end (c ∷ cs))
+      lines (c ∷ cs) ≡ take end (c ∷ cs) ∷ lines_left (rest_behind end (c ∷ cs))
   longer_line c cs end e t rest =
       let more : end ≡ suc (span not_line_end cs) = e ∙ span-true not_line_end c cs t in
       rw (no_feed_is c t, more) (ap (longer c) rest)
@@ -111,13 +113,13 @@ module _ (file : ℕ) (bytes text : List ℕ) (line : ℕ) (calls : List CallAt)
       calls' ≡ calls ++ record { line = line; call = call } ∷ [] → Left file bytes rest (line + 1) calls'
   left_call call calls' says grown = subst (λ (z : List CallAt). Left file bytes rest (line + 1) z) (sym grown)
       (subst (λ (n : ℕ). Left file bytes rest n (calls ++ record { line = line; call = call } ∷ [])) (sym (add-one line)) (record {
-    found = λ more h. subst (CallsOf (lines_of bytes)) (sym (append_assoc calls (record { line = line; call = call } ∷ []) more))
-        (left.found (record { line = line; call = call } ∷ more)
-        (subst (λ (z : List Line). CallsOf z (record { line = line; call = call } ∷ more)) (sym split) (one call says h)));
-    bad = λ place h. left.bad place (subst (λ (z : List Line). Judged (IsBadLine file) z place) (sym split)
-        (later (not_bad (Some call) says) h));
-    count = subst (λ (n : ℕ). n + left_size rest ≤ length bytes + 2) (add-one line) counted;
-  }))
+        found = λ more h. subst (CallsOf (lines_of bytes)) (sym (append_assoc calls (record { line = line; call = call } ∷ []) more))
+            (left.found (record { line = line; call = call } ∷ more)
+            (subst (λ (z : List Line). CallsOf z (record { line = line; call = call } ∷ more)) (sym split) (one call says h)));
+        bad = λ place h. left.bad place (subst (λ (z : List Line). Judged (IsBadLine file) z place) (sym split)
+            (later (not_bad (Some call) says) h));
+        count = subst (λ (n : ℕ). n + left_size rest ≤ length bytes + 2) (add-one line) counted;
+      }))
 
   -- the line is bad
   pub first_bad : ((what : Option Call) → Says (take end text) what → ⊥) → Judged (IsBadLine file) (lines_of bytes)
@@ -145,7 +147,7 @@ pub silent_step : (file : ℕ) (bytes text : List ℕ) (line : ℕ) (calls calls
 silent_step file bytes text line calls calls' end after left is says same e =
     subst (λ (z : Option (List ℕ)). Left file bytes z (line + 1) (map call_of calls')) (sym e)
     (subst (λ (z : List CallLine). Left file bytes (rest_behind end text) (line + 1) (map call_of z)) (sym same)
-        (left_silent file bytes text line (map call_of calls) left end is says))
+    (left_silent file bytes text line (map call_of calls) left end is says))
 
 pub call_step : (file : ℕ) (bytes text : List ℕ) (line : ℕ) (calls calls' : List CallLine) (end : ℕ) (after : Option (List ℕ))
     (item : CallLine) → Left file bytes (Some text) line (map call_of calls) → end ≡ span not_line_end text →
@@ -154,7 +156,7 @@ pub call_step : (file : ℕ) (bytes text : List ℕ) (line : ℕ) (calls calls' 
 call_step file bytes text line calls calls' end after item left is says at grown e =
     let pushed : map call_of calls' ≡ map call_of calls ++ record { line = line; call = (call_of item).call } ∷ [] =
     ap (map call_of) grown ∙ map-append call_of calls (item ∷ []) ∙
-        ap (λ (n : ℕ). map call_of calls ++ record { line = n; call = (call_of item).call } ∷ []) at in
+    ap (λ (n : ℕ). map call_of calls ++ record { line = n; call = (call_of item).call } ∷ []) at in
     subst (λ (z : Option (List ℕ)). Left file bytes z (line + 1) (map call_of calls')) (sym e)
     (left_call file bytes text line (map call_of calls) left end is (call_of item).call (map call_of calls') says pushed)
 

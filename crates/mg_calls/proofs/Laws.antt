@@ -80,16 +80,16 @@ list_one lines others a b (silent {line = x} {more = xs} s h) (silent {line = y}
     let rest : xs ≡ ys = cc in list_one xs ys _ _ h h' rest
 list_one lines others a b (silent {line = x} {more = xs} s h) (one {line = y} {more = ys} call s' h') e =
     let same : x ≡ y = cc in let no : ◌≡◌ {A = Option Call} None (Some call) = says_one x.text y.text None (Some call) s s'
-                                   (ap (λ (z : Line). z.text) same) in absurd cc
+    (ap (λ (z : Line). z.text) same) in absurd cc
 list_one lines others a b (one call s h) none e = absurd cc
 list_one lines others a b (one {line = x} {more = xs} call s h) (silent {line = y} {more = ys} s' h') e =
     let same : x ≡ y = cc in let no : ◌≡◌ {A = Option Call} (Some call) None = says_one x.text y.text (Some call) None s s'
-                                   (ap (λ (z : Line). z.text) same) in absurd cc
+    (ap (λ (z : Line). z.text) same) in absurd cc
 list_one lines others a b (one {line = x} {more = xs} {calls = cs} call s h) (one {line = y} {more = ys} {calls = ds} call' s' h') e =
     let same : x ≡ y = cc in
     let rest : xs ≡ ys = cc in
     let said : ◌≡◌ {A = Option Call} (Some call) (Some call') = says_one x.text y.text (Some call) (Some call') s s'
-          (ap (λ (z : Line). z.text) same) in
+    (ap (λ (z : Line). z.text) same) in
     let calls_are : call ≡ call' = cc in
     let more = list_one xs ys cs ds h h' rest in
     λ i. record { line = (same i).number; call = calls_are i } ∷ more i

@@ -78,9 +78,10 @@ shape line end is begun what blank part = absurd begun
 shape line end is begun what (comment rest) part = absurd (word_begun 35 rest begun refl)
 shape line end is begun what (method word) part = absurd (part (is ∙ span_all is_name_byte line word.1))
 shape line end is begun what (answered name label word word') part =
-    let at : end ≡ length name = is ∙ span_again is_name_byte name (32 ∷ label) word.1 refl in
-    (ap (λ (n : ℕ). get_or (name ++ 32 ∷ label) n 0) at ∙ mid_is name 32 label,
-        subst IsWord (sym (ap (λ (n : ℕ). drop (suc n) (name ++ 32 ∷ label)) at ∙ after_is name 32 label)) word')
+    let at : end ≡ length name = is ∙ span_again is_name_byte name (32 ∷ label) word.1 refl in (
+      ap (λ (n : ℕ). get_or (name ++ 32 ∷ label) n 0) at ∙ mid_is name 32 label,
+      subst IsWord (sym (ap (λ (n : ℕ). drop (suc n) (name ++ 32 ∷ label)) at ∙ after_is name 32 label)) word',
+    )
 
 module _ (line : List ℕ) (end : ℕ) (is : end ≡ span is_name_byte line) (begun : StartsWith is_name_byte line) where
   pub front_passes : AllPasses is_name_byte (take end line)
@@ -92,7 +93,7 @@ module _ (line : List ℕ) (end : ℕ) (is : end ≡ span is_name_byte line) (be
       let same : take end line ≡ line = take_all end line (omega (arith, all)) in
       let passes : AllPasses is_name_byte line = subst (AllPasses is_name_byte) same front_passes in
       subst (λ (z : List ℕ). Says line (Some (record { method = z; answer = None }))) (sym (e ∙ same))
-          (method (not_empty line begun, passes))
+      (method (not_empty line begun, passes))
 
   -- a method and a label
   pub with_label : (name label : List ℕ) → end < length line → get_or line end 0 ≡ 32 → name ≡ take end line → label ≡ drop (end + 1) line →
@@ -101,7 +102,7 @@ module _ (line : List ℕ) (end : ℕ) (is : end ≡ span is_name_byte line) (be
       let cut : line ≡ name ++ 32 ∷ label =
       sym (take-append-drop end line) ∙ (λ i. sym e i ++ cut_there i) in
       subst (λ (z : List ℕ). Says z (Some (record { method = name; answer = Some label }))) (sym cut)
-          (answered name label (named, named_passes) word)
+      (answered name label (named, named_passes) word)
     where
       cut_there : drop end line ≡ 32 ∷ label
       cut_there = drop-cons line end 32 within ∙
@@ -123,7 +124,7 @@ no_label line end is begun part label e isnt what says =
 pub all_of : (word : List ℕ) (n : ℕ) → n ≡ span is_name_byte word → n ≡ length word → AllPasses is_name_byte word
 all_of word n is all =
     subst (AllPasses is_name_byte) (take_all n word (omega (arith, all))) (subst (λ (k : ℕ). AllPasses is_name_byte (take k word)) (sym is)
-        (span_is is_name_byte word).passes)
+    (span_is is_name_byte word).passes)
 
 -- whether there are bytes and the run is all of them
 pub word_is : (word : List ℕ) (n : ℕ) (r : Bool) → n ≡ span is_name_byte word → (length word ≡ 0 → ⊥) → (IsTrue r ↔ (n ≡ length word)) →

@@ -65,7 +65,7 @@ not_refused files mains order limit r line h (unlinked classes flaw are is said)
 not_refused files mains order limit r line h (no_main program front main rest is parts have none said) =
     let same : r.program ≡ program = one_program files r.program program h.linked is in
     none (subst (λ (z : Program). HasMain z main.class) same
-        (lacks_none r.program front main rest (subst (HaveMains r.program) parts h.have_mains)))
+    (lacks_none r.program front main rest (subst (HaveMains r.program) parts h.have_mains)))
 
 -- two runs of the same files
 pub record SameRun (a b : Course) : Type 0 where

@@ -44,8 +44,12 @@ written_more_sliced old between new bytes rest n w q =
 -- a write took nothing
 pub written_kept : (old between new : Option (List ℕ)) (bytes rest : List ℕ) → Written old between bytes rest → Keeps between new →
     Written old new bytes rest
-written_kept old between new bytes rest w q = record { front = w.front; cut = w.cut; appends = grown_and_kept old between new w.front
-    w.appends q }
+written_kept old between new bytes rest w q = record {
+  front = w.front;
+  cut = w.cut;
+  appends = grown_and_kept old between new w.front
+      w.appends q;
+}
 
 -- what was written is a front of the bytes
 pub front_from_written : (old new : Option (List ℕ)) (bytes rest : List ℕ) → Written old new bytes rest →

@@ -43,39 +43,129 @@ none_said : {P : Type 0} (g : Fault) → ◌≡◌ {A = Option Fault} None (Some
 none_said g e = absurd cc
 
 said_told : (fault : TypeFault) (said : Fault) → said_of fault ≡ Some said → Told fault said
-said_told (faults.DuplicateName place name) said e = record { condition = _; place = place; name = name; told = refl; is =
-    same_fault _ said e }
-said_told (faults.DuplicateMember place name) said e = record { condition = _; place = place; name = name; told = refl; is =
-    same_fault _ said e }
-said_told (faults.UnknownClass place name) said e = record { condition = _; place = place; name = name; told = refl; is =
-    same_fault _ said e }
-said_told (faults.UnknownTypestate place name) said e = record { condition = _; place = place; name = name; told = refl; is =
-    same_fault _ said e }
-said_told (faults.MissingMethod place name) said e = record { condition = _; place = place; name = name; told = refl; is =
-    same_fault _ said e }
-said_told (faults.SignatureDiffers place name) said e = record { condition = _; place = place; name = name; told = refl; is =
-    same_fault _ said e }
-said_told (faults.LabelsDiffer place name) said e = record { condition = _; place = place; name = name; told = refl; is =
-    same_fault _ said e }
-said_told (faults.FieldNeedsValue place name) said e = record { condition = _; place = place; name = name; told = refl; is =
-    same_fault _ said e }
-said_told (faults.InstanceInPlain place name) said e = record { condition = _; place = place; name = name; told = refl; is =
-    same_fault _ said e }
-said_told (faults.UnknownName place name) said e = record { condition = _; place = place; name = name; told = refl; is =
-    same_fault _ said e }
-said_told (faults.DuplicateLocal place name) said e = record { condition = _; place = place; name = name; told = refl; is =
-    same_fault _ said e }
-said_told (faults.TypeMismatch place name) said e = record { condition = _; place = place; name = name; told = refl; is =
-    same_fault _ said e }
+said_told (faults.DuplicateName place name) said e = record {
+  condition = _;
+  place = place;
+  name = name;
+  told = refl;
+  is =
+      same_fault _ said e;
+}
+said_told (faults.DuplicateMember place name) said e = record {
+  condition = _;
+  place = place;
+  name = name;
+  told = refl;
+  is =
+      same_fault _ said e;
+}
+said_told (faults.UnknownClass place name) said e = record {
+  condition = _;
+  place = place;
+  name = name;
+  told = refl;
+  is =
+      same_fault _ said e;
+}
+said_told (faults.UnknownTypestate place name) said e = record {
+  condition = _;
+  place = place;
+  name = name;
+  told = refl;
+  is =
+      same_fault _ said e;
+}
+said_told (faults.MissingMethod place name) said e = record {
+  condition = _;
+  place = place;
+  name = name;
+  told = refl;
+  is =
+      same_fault _ said e;
+}
+said_told (faults.SignatureDiffers place name) said e = record {
+  condition = _;
+  place = place;
+  name = name;
+  told = refl;
+  is =
+      same_fault _ said e;
+}
+said_told (faults.LabelsDiffer place name) said e = record {
+  condition = _;
+  place = place;
+  name = name;
+  told = refl;
+  is =
+      same_fault _ said e;
+}
+said_told (faults.FieldNeedsValue place name) said e = record {
+  condition = _;
+  place = place;
+  name = name;
+  told = refl;
+  is =
+      same_fault _ said e;
+}
+said_told (faults.InstanceInPlain place name) said e = record {
+  condition = _;
+  place = place;
+  name = name;
+  told = refl;
+  is =
+      same_fault _ said e;
+}
+said_told (faults.UnknownName place name) said e = record {
+  condition = _;
+  place = place;
+  name = name;
+  told = refl;
+  is =
+      same_fault _ said e;
+}
+said_told (faults.DuplicateLocal place name) said e = record {
+  condition = _;
+  place = place;
+  name = name;
+  told = refl;
+  is =
+      same_fault _ said e;
+}
+said_told (faults.TypeMismatch place name) said e = record {
+  condition = _;
+  place = place;
+  name = name;
+  told = refl;
+  is =
+      same_fault _ said e;
+}
 said_told (faults.Arity place name) said e = record { condition = _; place = place; name = name; told = refl; is = same_fault _ said e }
 said_told (faults.BadLabel place name) said e = record { condition = _; place = place; name = name; told = refl; is = same_fault _ said e }
-said_told (faults.MissingReturn place name) said e = record { condition = _; place = place; name = name; told = refl; is =
-    same_fault _ said e }
+said_told (faults.MissingReturn place name) said e = record {
+  condition = _;
+  place = place;
+  name = name;
+  told = refl;
+  is =
+      same_fault _ said e;
+}
 said_told (faults.SelfCall place name) said e = record { condition = _; place = place; name = name; told = refl; is = same_fault _ said e }
-said_told (faults.ThisAsValue place name) said e = record { condition = _; place = place; name = name; told = refl; is =
-    same_fault _ said e }
-said_told (faults.ArgsMayMove place name) said e = record { condition = _; place = place; name = name; told = refl; is =
-    same_fault _ said e }
+said_told (faults.ThisAsValue place name) said e = record {
+  condition = _;
+  place = place;
+  name = name;
+  told = refl;
+  is =
+      same_fault _ said e;
+}
+said_told (faults.ArgsMayMove place name) said e = record {
+  condition = _;
+  place = place;
+  name = name;
+  told = refl;
+  is =
+      same_fault _ said e;
+}
 said_told faults.Memory said e = none_said said e
 
 -- a fault of this condition is a fault
@@ -94,7 +184,7 @@ pub table_refused : (names : List (List ℕ)) (sourced : Sourced) (fault : TypeF
 table_refused names sourced fault (stops.Refused line) h (said, e, l) =
     let t = said_told fault said e in
     answers.declarations t.condition t.place t.name (of_told (IsTableFault sourced.program sourced.origins) fault
-        (t.condition, culprit t.place t.name) t.told h)
+    (t.condition, culprit t.place t.name) t.told h)
     (l ∙ ap (λ (z : Fault). fault_line (name_at names z.place.file) z) t.is)
 table_refused names sourced fault stops.Memory h said = tt
 
@@ -105,7 +195,7 @@ pub method_refused : (names : List (List ℕ)) (sourced : Sourced) (fault : Type
 method_refused names sourced fault (stops.Refused line) unblamed h (said, e, l) =
     let t = said_told fault said e in
     answers.methods t.condition t.place t.name unblamed (of_told (IsFault sourced.program) fault (t.condition, culprit t.place t.name)
-        t.told h)
+    t.told h)
     (l ∙ ap (λ (z : Fault). fault_line (name_at names z.place.file) z) t.is)
 method_refused names sourced fault stops.Memory unblamed h said = tt
 

@@ -54,19 +54,22 @@ module _ (s : KeptSources) {fs : List KeptFile} {ts : List Typestate} {os : List
   table_failed names fault stop h said =
       table_refused names (sourced_of s) fault stop
       (subst (λ (z : Sourced). TellsFault (IsTableFault z.program z.origins) fault)
-          (λ i. record { program = same_program i; origins = are.origins i }) h) said
+      (λ i. record { program = same_program i; origins = are.origins i }) h) said
 
   pub method_failed : (names : List (List ℕ)) (program : Program) → program ≡ program_of fs ts → (fault : TypeFault) (stop : Stop) →
       IsTableFault (program_of fs ts) os None
       → TellsFault (IsFault program) fault → IsTypeRefusal names fault stop → IsJudged names (sourced_of s) (Err stop)
   method_failed names program e fault stop unblamed h said =
       method_refused names (sourced_of s) fault stop (table_is None unblamed) (subst (λ (z : Program). TellsFault (IsFault z) fault)
-          (e ∙ same_program) h) said
+      (e ∙ same_program) h) said
 
   pub no_fault : (program : Program) → program ≡ program_of fs ts → IsTableFault (program_of fs ts) os None → IsFault program None →
       HasNoFault (sourced_of s)
-  no_fault program e unblamed h = record { declarations = table_is None unblamed; methods = subst (λ (z : Program). IsFault z None)
-      (e ∙ same_program) h }
+  no_fault program e unblamed h = record {
+    declarations = table_is None unblamed;
+    methods = subst (λ (z : Program). IsFault z None)
+        (e ∙ same_program) h;
+  }
 
   -- ---- what resolving asks for
 
@@ -79,8 +82,13 @@ module _ (s : KeptSources) {fs : List KeptFile} {ts : List Typestate} {os : List
 
     pub is_well_typed : HasNoFault (sourced_of s) → IsWellTyped (program_of fs ts)
     is_well_typed fine = subst IsWellTyped (sym same_program)
-        (record { origins = (sourced_of s).origins; numbered = numbered program.spell; declarations = fine.declarations; methods =
-            fine.methods })
+        (record {
+          origins = (sourced_of s).origins;
+          numbered = numbered program.spell;
+          declarations = fine.declarations;
+          methods =
+              fine.methods;
+        })
 
     pub resolved : HasNoFault (sourced_of s) → (core : Core) → Resolves (program_of fs ts) (tree_of core) →
         resolving (program_of fs ts) ≡ Some (tree_of core)
@@ -106,7 +114,7 @@ read_failed files stops.Memory answer h e = subst (IsResolved files) (sym e) tt
 pub judge_failed : (names contents : List (List ℕ)) (sourced : Sourced) (stop : Stop) (answer : Result Core Stop) →
     length names ≡ length contents
     → AreProgram (sources names contents) sourced → IsJudged names sourced (Err stop) → answer ≡ Err stop →
-        IsResolved (sources names contents) answer
+    IsResolved (sources names contents) answer
 judge_failed names contents sourced (stops.Refused line) answer same are h e =
     subst (IsResolved (sources names contents)) (sym e) (type_refused names contents sourced line same are h)
 judge_failed names contents sourced stops.Memory answer same are h e = subst (IsResolved (sources names contents)) (sym e) tt

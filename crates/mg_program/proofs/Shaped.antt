@@ -78,15 +78,27 @@ params p payloads.Text = (text_value, tt)
 
 method_shaped : (p : Place) (me : Name) (d : Doing) → IsShapedMethod (method_of p me d)
 method_shaped p me (Passes (Send peer label kind)) =
-    record { main = λ e. absurd (true≢false (sym e)); params = params p kind; body = values_of (send_body p peer label kind)
-        (sends p peer label kind) }
+    record {
+      main = λ e. absurd (true≢false (sym e));
+      params = params p kind;
+      body = values_of (send_body p peer label kind)
+          (sends p peer label kind);
+    }
 method_shaped p me (Passes (Take peer label kind)) =
-    record { main = λ e. absurd (true≢false (sym e)); params = tt; body = values_of (take_body p peer label kind)
-        (takes p peer label kind) }
+    record {
+      main = λ e. absurd (true≢false (sym e));
+      params = tt;
+      body = values_of (take_body p peer label kind)
+          (takes p peer label kind);
+    }
 method_shaped p me (Asks number peer labels) =
     let enum = choice_enum me number in
-    record { main = λ e. absurd (true≢false (sym e)); params = tt; body = values_of (look_body p enum peer labels)
-        (looks p enum peer labels) }
+    record {
+      main = λ e. absurd (true≢false (sym e));
+      params = tt;
+      body = values_of (look_body p enum peer labels)
+          (looks p enum peer labels);
+    }
 
 method_assigns : (p : Place) (me : Name) (d : Doing) → AllAssignVariables (method_of p me d).body
 method_assigns p me (Passes (Send peer label kind)) = assigns_of (send_body p peer label kind) (sends p peer label kind)

@@ -48,7 +48,7 @@ pub data Refusal (files : List Source) (line : List ℕ) : Type 0 where
   -- by the types of what is declared
   declarations : (sourced : Sourced) (condition : Condition) (place : Place) (name : List ℕ) → AreProgram files sourced →
       IsTableFault sourced.program sourced.origins (Some (condition, culprit place name)) → line ≡ type_line files condition place name →
-          Refusal files line
+      Refusal files line
   -- by the types in the methods
   methods : (sourced : Sourced) (condition : Condition) (place : Place) (name : List ℕ) → AreProgram files sourced →
       IsTableFault sourced.program sourced.origins None → IsFault sourced.program (Some (condition, culprit place name)) →

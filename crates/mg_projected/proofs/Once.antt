@@ -62,7 +62,7 @@ module _ (file : ℕ) (bytes : List ℕ) where
   one_outcome a b (unprojected {g = g} k r) (unread {a = x} h u) = absurd (read_or_not g x k h u)
   one_outcome a b (unprojected {g = g} {a = x} h r) (unprojected {g = f} {a = y} k s) =
       let same = same_tree g f h k in ap Unprojected (refused_once f f.roles x y (subst (λ (t : GlobalTree). IsRefused t t.roles x) same r)
-          s)
+      s)
   one_outcome a b (unprojected {g = g} {a = x} h r) (written {g = f} {files = fs} k s) =
       let same = same_tree g f h k in absurd (files_or_not f f.roles fs x s (subst (λ (t : GlobalTree). IsRefused t t.roles x) same r))
   one_outcome a b (written {g = g} k r) (unread {a = x} h u) = absurd (read_or_not g x k h u)

@@ -39,7 +39,7 @@ module _ (g : GlobalTree) (roles : List Name) (i : ℕ) (files : List RoleFile) 
   rest_end rs same k =
       let h = subst (λ (z : List Name). length z ≤ i) same k in
       subst (AreFiles g roles) (append-nil files)
-          (rest.made [] (subst (λ (rs : List Name). AreFiles g rs []) (sym (at_drop_all (λ (rs : List Name). rs) roles i h)) refl))
+      (rest.made [] (subst (λ (rs : List Name). AreFiles g rs []) (sym (at_drop_all (λ (rs : List Name). rs) roles i h)) refl))
 
   module _ (rs : List Name) (same : rs ≡ roles) (role : Name) (inside : i < length rs) (found : role ≡ get_or rs i role) where
     within : i < length roles
@@ -55,8 +55,13 @@ module _ (g : GlobalTree) (roles : List Name) (i : ℕ) (files : List RoleFile) 
         f ≡ file_of role local → more ≡ files ++ f ∷ [] → Rest g roles (i + 1) more
     rest_more local f more o e m = record {
       made = λ fs h. subst (AreFiles g roles) (sym (ap (λ (z : List RoleFile). z ++ fs) m ∙ append_assoc files (f ∷ []) fs))
-          (rest.made (f ∷ fs) (subst (λ (rs : List Name). AreFiles g rs (f ∷ fs)) (sym cut) (local, fs, ap (λ (z : RoleFile). z ∷ fs) e, o,
-              h)));
+          (rest.made (f ∷ fs) (subst (λ (rs : List Name). AreFiles g rs (f ∷ fs)) (sym cut) (
+            local,
+            fs,
+            ap (λ (z : RoleFile). z ∷ fs) e,
+            o,
+            h,
+          )));
       refused = λ a h. rest.refused a (subst (λ (rs : List Name). IsRefused g rs a) (sym cut) (inr (local, o, h)));
     }
 

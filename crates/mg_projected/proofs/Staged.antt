@@ -22,8 +22,11 @@ pub record SaysUnread (fault : GlobalFault) : Type 0 where
   pub answers : reads.fault_answer fault ≡ None → fault ≡ global_faults.Memory
 
 some_unread : (fault : GlobalFault) (b : reads.Answer) → reads.fault_answer fault ≡ Some b → IsUnread b → SaysUnread fault
-some_unread fault b e u = record { right = λ a h. subst IsUnread (some_is b a (sym e ∙ h)) u; answers =
-    λ h. absurd (none_is_not b (sym h ∙ e)) }
+some_unread fault b e u = record {
+  right = λ a h. subst IsUnread (some_is b a (sym e ∙ h)) u;
+  answers =
+      λ h. absurd (none_is_not b (sym h ∙ e));
+}
 
 pub says_unread : (fault : GlobalFault) → SaysUnread fault
 says_unread (global_faults.TooLarge place) = some_unread _ _ refl tt

@@ -153,7 +153,7 @@ module _ (s : Source) (line : List ℕ) (f : Fault) (told : line ≡ fault_line 
           h _ (ap (λ (o : Option scr.Answer). option_map Unprojected (option_map (projects.Unprojected place role) o)) k) in
           refusal (Unprojected (projects.Unprojected place role b)) gives
           (unmet_said place role fault f b k (outcome_unmet s.number s.bytes (Unprojected (projects.Unprojected place role b)) gives)
-              (same_fault _ f e))
+          (same_fault _ f e))
   by_projection project_faults.Memory e h n = not_said f e
 
   by_fault : (fault : ProjectedFault) → said_of fault ≡ Some f → ((a : Answer) → fault_answer fault ≡ Some a → Outcome s.number s.bytes a) →
@@ -166,7 +166,7 @@ module _ (s : Source) (line : List ℕ) (f : Fault) (told : line ≡ fault_line 
 pub told_refused : (s : Source) (fault : ProjectedFault) (stop : Stop) → IsRefusal s.name (said_of fault) stop →
     ((a : Answer) → fault_answer fault ≡ Some a → Outcome s.number s.bytes a) →
     (fault_answer fault ≡ None → ◌≡◌ {A = Result (Row RoleFile) ProjectedFault} (Err fault) (Err faults.Memory)) →
-        IsAnswer (s ∷ []) (Err stop)
+    IsAnswer (s ∷ []) (Err stop)
 told_refused s fault (stops.Refused line) (f, said, told) h n = by_fault s line f told fault said h n
 told_refused s fault stops.Memory said h n = tt
 
@@ -192,7 +192,7 @@ named_refusal file given kind name other place said stop e f h is =
     told_is file (Some (fault_at kind place name)) said (sym h) stop
     (stop_refusal file (fault_at kind place name) stop
     (subst (λ (z : List ℕ). IsStop (fault_line file (fault_at kind place z)) stop) f
-        (subst (λ (z : List ℕ). IsStop (fault_line z (fault_at kind place other)) stop) e is)))
+    (subst (λ (z : List ℕ). IsStop (fault_line z (fault_at kind place other)) stop) e is)))
 
 -- ---- one answer
 
@@ -211,14 +211,14 @@ pub written_once : (files : List Source) (fs hs : List RoleFile) → AreWritten 
 written_once files fs hs w v =
     let same : w.source ≡ v.source = source_is w.source v.source (sym w.one ∙ v.one) in
     let there : Outcome v.source.number v.source.bytes (Files fs) = subst (λ (s : Source). Outcome s.number s.bytes (Files fs)) same
-          (gives_files files fs w) in
+    (gives_files files fs w) in
     ap files_of (one_outcome v.source.number v.source.bytes (Files fs) (Files hs) there (gives_files files hs v))
 
 pub not_refused : (files : List Source) (fs : List RoleFile) (line : List ℕ) → AreWritten files fs → Refusal files line → ⊥
 not_refused files fs line w r =
     let same : w.source ≡ r.source = source_is w.source r.source (sym w.one ∙ r.one) in
     let there : Outcome r.source.number r.source.bytes (Files fs) = subst (λ (s : Source). Outcome s.number s.bytes (Files fs)) same
-          (gives_files files fs w) in
+    (gives_files files fs w) in
     subst (λ (a : Answer). IsSaid a r.fault) (one_outcome r.source.number r.source.bytes r.answer (Files fs) r.gives there) r.said
 
 pub only_those : (files : List Source) (r : Result (Row RoleFile) Stop) → IsAnswer files r → (fs : List RoleFile) → AreWritten files fs →
@@ -246,7 +246,7 @@ one_source (x ∷ []) (z ∷ []) name bytes n c e f = λ i. source_of 0 (e i) (f
 pub answer_of_one : (names contents : List (List ℕ)) (name bytes given : List ℕ) (r : Result (Row RoleFile) Stop) → length names ≡ 1 →
     length contents ≡ 1 →
     name ≡ get_or names 0 name → bytes ≡ get_or contents 0 bytes → given ≡ bytes → IsAnswer (source_of 0 name given ∷ []) r →
-        IsAnswer (sources names contents) r
+    IsAnswer (sources names contents) r
 answer_of_one names contents name bytes given r n c e f g h =
     subst (λ (z : List Source). IsAnswer z r) (one_source names contents name bytes n c e f)
-        (subst (λ (z : List ℕ). IsAnswer (source_of 0 name z ∷ []) r) g h)
+    (subst (λ (z : List ℕ). IsAnswer (source_of 0 name z ∷ []) r) g h)

@@ -25,7 +25,7 @@ FilesAreProjected =
 abbrev pub MessagesAreTaken : Type 0
 MessagesAreTaken =
     (g : GlobalTree) (files : List RoleFile) (is : IsProjected g files) (c : System) → IsReached g.roles is.locals c → (me peer : Name) →
-        Contains g.roles me →
+    Contains g.roles me →
     (act : Act) (to : Position) → Step (c.at me) act to → waits_for act ≡ Some peer → c.lists peer me ≢ [] →
     (other : Act) × (d : System) × (waits_for other ≡ Some peer) × Moved me c other d
 
@@ -48,4 +48,4 @@ CompleteRunsAreFollowed =
     (g : GlobalTree) (files : List RoleFile) (is : IsProjected g files) (messages : List Passing) → Complete (said g.body) messages →
     (me : Name) → Contains g.roles me →
     (acts : List Act) × (end : Position) × Run (whole (protocol_of (is.locals me))) acts end × Finished end
-        × (messages_of acts ≡ named me messages)
+    × (messages_of acts ≡ named me messages)

@@ -21,7 +21,7 @@ abbrev pub AreFiles : GlobalTree → List Name → List RoleFile → Type 0
 AreFiles g [] files = files ≡ []
 AreFiles g (role ∷ roles) files =
     (local : LocalTree) × (more : List RoleFile) × (files ≡ file_of role local ∷ more) × projects.Outcome g role (projects.Protocol local)
-        × AreFiles g roles more
+    × AreFiles g roles more
 
 -- Files of the roles of a global protocol, in their order: each has the text of what its role does, so that the laws of projection speak of
 -- them.
@@ -40,7 +40,7 @@ abbrev pub IsRefused : GlobalTree → List Name → projects.Answer → Type 0
 IsRefused g [] a = ⊥
 IsRefused g (role ∷ roles) a =
     (projects.Outcome g role a × IsRefusal a) ⊎ ((local : LocalTree) × projects.Outcome g role (projects.Protocol local) × IsRefused g roles
-        a)
+    a)
 
 -- what is answered, want of memory aside
 pub data Answer : Type 0 where

@@ -41,7 +41,7 @@ module _ (t : Table) (apart : AreApart t.signs) where
       absurd (none_is_not (p, after) (sym v ∙ ap (piece_at t) (sym b ∙ parts) ∙ piece_again t apart p after stands))
   cut_once (p ∷ ps) (q ∷ qs) bytes rest more (a, a_parts, a_stands, a_more) (b, b_parts, b_stands, b_more) u v =
       let same = some_is (p, a) (q, b) (sym (piece_again t apart p a a_stands) ∙ ap (piece_at t) (sym a_parts ∙ b_parts) ∙
-            piece_again t apart q b b_stands) in
+      piece_again t apart q b b_stands) in
       let head : p ≡ q = ap (λ (x : Piece × List ℕ). x.0) same in
       let tail : a ≡ b = ap (λ (x : Piece × List ℕ). x.1) same in
       let r = cut_once ps qs a rest more a_more (subst (λ (z : List ℕ). Cut t qs z more) (sym tail) b_more) u v in
@@ -131,7 +131,7 @@ module _ (t : Table) (apart : AreApart t.signs) where
     tokens_more (q ∷ ps) p place =
         let next : Place = place_after place (spell q) in
         ap (λ (z : List T). given place q ++ z) (tokens_more ps p next) ∙
-            sym (append_assoc (given place q) (tokens_from of next ps) (given (places_after next ps) p))
+        sym (append_assoc (given place q) (tokens_from of next ps) (given (places_after next ps) p))
 
     -- the scan begins with no piece
     pub SoFar-init : (file : ℕ) (bytes : List ℕ) → SoFar file bytes [] (start_of file) 0 bytes
@@ -155,14 +155,14 @@ module _ (t : Table) (apart : AreApart t.signs) where
     pub Front-more : (file : ℕ) (bytes : List ℕ) (ts : List T) (place : Place) (offset : ℕ) (rest : List ℕ) (shown : FrontPiece) →
         Front t shown rest → SoFar file bytes ts place offset rest
         → SoFar file bytes (ts ++ tokens_of of place (content_shown shown.kind (take shown.len rest)))
-            (place_after place (take shown.len rest)) (offset + shown.len) (drop shown.len rest)
+        (place_after place (take shown.len rest)) (offset + shown.len) (drop shown.len rest)
     Front-more file bytes ts place offset rest shown f h =
         let kind_is : shown.kind ≡ kind_of f.piece = ap (λ (s : FrontPiece). s.kind) f.shows in
         let len_is : shown.len ≡ length (spell f.piece) = ap (λ (s : FrontPiece). s.len) f.shows in
         let after_is : drop shown.len rest ≡ f.after =
-              rw (len_is, f.stands.0) (drop_at (spell f.piece) f.after (length (spell f.piece)) refl) in
+        rw (len_is, f.stands.0) (drop_at (spell f.piece) f.after (length (spell f.piece)) refl) in
         rw (text_is t shown rest f, after_is, kind_is, len_is, content_is f.piece) (SoFar-more file bytes ts place offset rest f.piece
-            f.after f.stands h)
+        f.after f.stands h)
 
     -- where nothing is left of what is UTF-8, the tokens are those of the bytes
     pub SoFar-done : (file : ℕ) (bytes : List ℕ) (ts : List T) (place : Place) (offset : ℕ) (rest : List ℕ) → IsUtf8 bytes → length rest ≡ 0

@@ -211,7 +211,7 @@ module _ (t : Table) where
               let two : suc (suc n.0) ≡ n.0 + 2 = omega arith in
               let body : List ℕ = take n.0 ds in
               let parts : ds ≡ (body ++ 42 ∷ 47 ∷ []) ++ drop (n.0 + 2) ds = subst (λ (k : ℕ). ds ≡ (body ++ 42 ∷ 47 ∷ []) ++ drop k ds) two
-                    (r.parts ∙ sym (append_assoc body (42 ∷ 47 ∷ []) (drop (suc (suc n.0)) ds))) in
+              (r.parts ∙ sym (append_assoc body (42 ∷ 47 ∷ []) (drop (suc (suc n.0)) ds))) in
               subst (Stands t (c ∷ d ∷ ds)) (some_is (block body, drop (n.0 + 2) ds) x n.2)
               (rw (is, eqb-true d 42 h.0) (ap (λ (z : List ℕ). 47 ∷ 42 ∷ z) parts), r.first)
           | inr h ↦ absurd (none_is_not x h.1)
@@ -260,10 +260,10 @@ module _ (t : Table) where
       let n = close_again body rest h in
       let two : length body + 2 ≡ suc (suc (length body)) = omega arith in
       rw (append_assoc, n, two, take_at body (42 ∷ 47 ∷ rest) (length body) refl) (ap (λ (z : List ℕ). Some (block body, z)) (past body))
-          where
-        past : (xs : List ℕ) → drop (suc (suc (length xs))) (xs ++ 42 ∷ 47 ∷ rest) ≡ rest
-        past [] = refl
-        past (x ∷ xs) = past xs
+    where
+      past : (xs : List ℕ) → drop (suc (suc (length xs))) (xs ++ 42 ∷ 47 ∷ rest) ≡ rest
+      past [] = refl
+      past (x ∷ xs) = past xs
   piece_again apart (word []) rest (starts, passes, stops, short) = absurd starts
   piece_again apart (word (c ∷ cs)) rest (starts, passes, stops, short) =
       second_way (is_blank c) (is_name_start c) _ _ _ (start_not_blank c starts) starts ∙ word_again (c ∷ cs) rest passes stops short
@@ -335,9 +335,11 @@ module _ (t : Table) where
   readable (line body) after h = tt
   readable (block body) after h = tt
   readable (word text) after h = passing_ascii is_name_byte text name_byte_ascii h.1
-  readable (quote body) after h =
-      (omega (arith, length-append body (34 ∷ [])), IsAscii-cons 34 (body ++ 34 ∷ []) (omega arith)
-          (IsAscii-push body 34 (passing_ascii is_quotable body quotable_ascii h.1) (omega arith)))
+  readable (quote body) after h = (
+    omega (arith, length-append body (34 ∷ [])),
+    IsAscii-cons 34 (body ++ 34 ∷ []) (omega arith)
+        (IsAscii-push body 34 (passing_ascii is_quotable body quotable_ascii h.1) (omega arith)),
+  )
   readable (sign c) after h = tt
 
   -- the text that the code takes can be kept

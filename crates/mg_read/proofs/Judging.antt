@@ -102,11 +102,11 @@ one_first single p q = go single p q refl
         let same : j ≡ k = cc in let told : Some c ≡ Some d = single k (Some c) (Some d) a (subst (λ z. Of z (Some d)) same b) in cc
     go {Of = Of} single (this {k = k} {c = c} a) (next {k = j} n q) e =
         let same : j ≡ k = cc in let told : Some c ≡ None = single k (Some c) None a (subst (λ z. Of z None) same n) in let no : ⊥ = cc in
-            absurd no
+        absurd no
     go single (next n p) none e = let no : ⊥ = cc in absurd no
     go {Of = Of} single (next {k = k} n p) (this {k = j} {c = d} b) e =
         let same : k ≡ j = cc in let told : None ≡ Some d = single j None (Some d) (subst (λ z. Of z None) same n) b in let no : ⊥ = cc in
-            absurd no
+        absurd no
     go single (next {ks = ks} n p) (next {ks = ls} m q) e = let same : ks ≡ ls = cc in go single p q same
 
 -- nothing is found where something is

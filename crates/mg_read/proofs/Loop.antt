@@ -58,7 +58,7 @@ module _ {T A : Type 0} (go : List T → Bool) (f : Reader T A) where
     by_fuel : (n : ℕ) → length ts < n → with_front front (many go f n ts) ≡ total → total ≡ Some (front, ts)
     by_fuel zero enough whole = absurd (omega arith)
     by_fuel (suc n) enough whole = let e : with_front front (many go f (suc n) ts) ≡ Some (front, ts) =
-                                         rw stops (ap (λ (zs : List A). Some (zs, ts)) (append-nil front)) in sym whole ∙ e
+        rw stops (ap (λ (zs : List A). Some (zs, ts)) (append-nil front)) in sym whole ∙ e
 
   pub Left-fails : (err : ReadError) (front : List A) (ts : List T) (total : Option (List A × List T)) → go ts ≡ true → Fails err (f ts) →
       Left go f front ts total → Fails err total

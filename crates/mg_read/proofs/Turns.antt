@@ -22,19 +22,22 @@ pub Left-front : {T A : Type 0} (go : List T → Bool) (f : Reader T A) (front :
 Left-front go f front ts = Left-start go f front ts (with_front front (all_of go f ts)) refl
 
 module _ {T A : Type 0} (go : List T → Bool) (f : Reader T A) (G : A → List T → Type 0) (ok : List T → Type 0) (exact : IsExact f G ok)
-    where
-  -- what is read behind a front
-  pub front_sound : (front : List A) (ts : List T) (x : List A × List T) → with_front front (all_of go f ts) ≡ Some x
-      → (xs : List A) × (x.0 ≡ front ++ xs) × Takes (Each G xs) ts x.1
-  front_sound front ts x e =
-      let b = bind_some (all_of go f ts) (λ y. Some (front ++ y.0, y.1)) x e in
-      let same = some_is (front ++ b.0.0, b.0.1) x b.2 in
-      (b.0.0, sym (ap (λ (y : List A × List T). y.0) same), subst (Takes (Each G b.0.0) ts) (ap (λ (y : List A × List T). y.1) same)
-          (all_sound go f G ok exact ts b.0 b.1))
+  where
+    -- what is read behind a front
+    pub front_sound : (front : List A) (ts : List T) (x : List A × List T) → with_front front (all_of go f ts) ≡ Some x
+        → (xs : List A) × (x.0 ≡ front ++ xs) × Takes (Each G xs) ts x.1
+    front_sound front ts x e =
+        let b = bind_some (all_of go f ts) (λ y. Some (front ++ y.0, y.1)) x e in
+        let same = some_is (front ++ b.0.0, b.0.1) x b.2 in (
+          b.0.0,
+          sym (ap (λ (y : List A × List T). y.0) same),
+          subst (Takes (Each G b.0.0) ts) (ap (λ (y : List A × List T). y.1) same)
+              (all_sound go f G ok exact ts b.0 b.1),
+        )
 
-  pub front_complete : Starts go G ok → (front xs : List A) (ts rest : List T) → ok rest → go rest ≡ false → Each G xs ts
-      → with_front front (all_of go f (ts ++ rest)) ≡ Some (front ++ xs, rest)
-  front_complete starts front xs ts rest fine stops h = rw (all_complete go f G ok exact starts xs ts rest fine stops h) refl
+    pub front_complete : Starts go G ok → (front xs : List A) (ts rest : List T) → ok rest → go rest ≡ false → Each G xs ts
+        → with_front front (all_of go f (ts ++ rest)) ≡ Some (front ++ xs, rest)
+    front_complete starts front xs ts rest fine stops h = rw (all_complete go f G ok exact starts xs ts rest fine stops h) refl
 
 -- what is spelled by some token takes one at least
 pub shorter : {T A : Type 0} (f : Reader T A) (G : A → List T → Type 0) (ok : List T → Type 0) → IsExact f G ok →

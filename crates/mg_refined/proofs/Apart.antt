@@ -59,7 +59,7 @@ pub one_telling : (files : List Source) (x y : List ℕ) (s t : Bool) → AreJud
 one_telling files x y s t h k =
     let e = one_spelling files (States h.a ∷ States h.b ∷ []) (States k.a ∷ States k.b ∷ []) h.spell k.spell in
     let moved : Tells k.a k.b x s = subst (λ (b : Typestate). Tells k.a b x s) (seconds h.a h.b k.a k.b e)
-          (subst (λ (a : Typestate). Tells a h.b x s) (firsts h.a h.b k.a k.b e) h.tells) in
+    (subst (λ (a : Typestate). Tells a h.b x s) (firsts h.a h.b k.a k.b e) h.tells) in
     tells_one k.a k.b x y s t moved k.tells
 
 pub none_spelled : (files : List Source) (parts : List Part) (line : List ℕ) → EachSpells files parts → Judged IsRefused files (Some line)

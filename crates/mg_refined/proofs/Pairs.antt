@@ -55,7 +55,7 @@ pub two_states : (names contents : List (List ℕ)) (parts : List Part) → leng
 two_states (n ∷ m ∷ []) (c ∷ d ∷ []) (p ∷ q ∷ []) two same kinds h =
     let s = state_part (source_of 0 n c) p (All-contains (EndsWith (codes ".protocol")) (n ∷ m ∷ []) n kinds (first_of n (m ∷ []))) h.0 in
     let t = state_part (source_of 1 m d) q (All-contains (EndsWith (codes ".protocol")) (n ∷ m ∷ []) m kinds
-          (later_of n (m ∷ []) m (first_of m []))) h.1.0 in
+    (later_of n (m ∷ []) m (first_of m []))) h.1.0 in
     record { a = s.0; b = t.0; are = ap (λ (x : Part). x ∷ q ∷ []) s.1 ∙ ap (λ (y : Part). States s.0 ∷ y ∷ []) t.1 }
 two_states (n ∷ m ∷ []) (c ∷ d ∷ []) (p ∷ q ∷ r ∷ rest) two same kinds h = absurd h.1.1
 two_states (n ∷ m ∷ []) (c ∷ d ∷ []) (p ∷ []) two same kinds h = absurd h.1

@@ -20,4 +20,4 @@ pub no_tells : (a b : Typestate) (verdict : Verdict) (calls : Row PathCall) (rea
     → Tells a b text false
 no_tells a b verdict calls reason items text h is listed told =
     subst (λ (t : List ℕ). Tells a b t false) (sym (told ∙ ap (λ (cs : List PathCall). no_text (map call_of cs) reason) listed))
-        (no_told {calls = map call_of calls.items} {reason = reason} (subst (IsVerdict a b) is h))
+    (no_told {calls = map call_of calls.items} {reason = reason} (subst (IsVerdict a b) is h))

@@ -42,7 +42,7 @@ not_refused files mains order limit r line h (unaccepted refused) = accepted.not
 not_refused files mains order limit r line h (no_main core front main rest a is have none said) =
     let same : core ≡ r.core = one_core files core r.core a.have h.accepted.have in
     lacks_none r.core front main rest (subst (HaveMains r.core) is h.have_mains) (subst (λ (z : Core.Program). main_of z main.class ≡ None)
-        same none)
+    same none)
 not_refused files mains order limit r line h (too_large core e a have first said) =
     let same : core ≡ r.core = one_core files core r.core a.have h.accepted.have in
     not_exceeded r.core e h.class_files.fine (subst (λ (z : Core.Program). IsFirstExcess z (Some e)) same first)
@@ -95,7 +95,7 @@ shows_same files mains order limit named traced a b ran h g s =
 
 pub only_run : (files : List Source) (mains : List RoleMain) (order : List ℕ) (limit : ℕ) (named traced : Bool) (result : Result Ran Stop) →
     IsRunning files mains order limit named traced result → (run : Course) → IsRun files mains order limit run →
-        IsThatRun mains named traced run result
+    IsThatRun mains named traced run result
 only_run files mains order limit named traced (Ok ran) h run is = shows_same files mains order limit named traced h.run run ran h.is is
     h.shows
 only_run files mains order limit named traced (Err (stops.Refused line)) h run is = not_refused files mains order limit run line is h

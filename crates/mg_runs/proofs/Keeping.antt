@@ -67,5 +67,5 @@ each_keeps sources mains program w keeps meant r main role at there =
 pub roles_keep : AcceptedKeepTypestates → RolesKeep
 roles_keep law files core accepted mains found =
     let keeps : MeaningsKeep accepted.have.program mains = λ r main at. law files core accepted main.class
-          (main_at core mains found r main at) in
+    (main_at core mains found r main at) in
     (keeps, λ program w meant. each_keeps accepted.have.program mains program w keeps meant)

@@ -35,7 +35,7 @@ main_at core (x ∷ mains) h (suc r) main at = main_at core mains h.1 r main at
 module _ (law : RunsAreMeant) (begun : BegunIsFresh) (deliver : TurnsDeliver) (worlds : WorldsAreMeant) (files : List Source)
     (core : Core.Program)
     (written : List ClassFile) (have : HaveCore files core) (made : AreClassFiles core written) (mains : List RoleMain)
-        (found : HaveMains core mains)
+    (found : HaveMains core mains)
     (program : Program) (loaded : IsLoaded (map (λ f. f.bytes) written) program) where
   do_as_meant : DoAsMeant have.program mains program
   do_as_meant r main at start starts = does_as_meant law files core written have made program loaded main.class
@@ -53,9 +53,12 @@ module _ (law : RunsAreMeant) (begun : BegunIsFresh) (deliver : TurnsDeliver) (w
         × IsMeant program (mean have.program.files main.class) (turns program first taken) r role
     each r main at =
         let begin = (begun program mains first begins).1 r main at in
-        let (role, there) = get_within (turns program first taken).roles r (subst (λ n. r < n) (sym many) (got_within mains r main at)) in
-        (role, there, worlds program first fresh taken r begin.start role begin.role there (mean have.program.files main.class)
-            (do_as_meant r main at begin.start begin.starts))
+        let (role, there) = get_within (turns program first taken).roles r (subst (λ n. r < n) (sym many) (got_within mains r main at)) in (
+          role,
+          there,
+          worlds program first fresh taken r begin.start role begin.role there (mean have.program.files main.class)
+              (do_as_meant r main at begin.start begin.starts),
+        )
 
     are_meant : AreMeant have.program mains program (turns program first taken)
     are_meant = record { delivers = deliver program first fresh taken; each = each }

@@ -99,7 +99,7 @@ module _ (p : Program) (core : IsCore p) (plain : HasPlainNames p) (written : Li
       program ≡ linked_program p made.are.all
   linked_is read program spelled links =
       let same : read ≡ made.classes = one_spelled_list (bytes_of written) read made.classes spelled
-            (held_spelled p p.classes made.classes written made.hold) in
+      (held_spelled p p.classes made.classes written made.hold) in
       links.program ∙ ap linked same ∙ sym classes_link.program
 
   -- ---- the `main` of a class
@@ -145,15 +145,18 @@ meant_alike : TypesAreEnough → SpelledIsShaped → (files : List Source) (clas
     cmean core class inputs ≡ mean h.program.files class inputs
 meant_alike enough law files class core h inputs = λ i budget. sym
     ((enough h.program core (well_typed files h.program h.are) (subst IsShaped h.are.is (shaped law h.are.are.spell)) h.stands class inputs
-        budget).same) i
+    budget).same) i
 
 -- ---- the laws
 
 pub classes_link_law : SpelledIsShaped → CoreIsKept → WrittenCoresAreHeld → CoresLink → WrittenClassesLink
 classes_link_law law kept held link files core written have made =
-    let can = is_held held files core have in
-    (made.classes, held_spelled core core.classes made.classes written made.hold, classes_link core (is_core law kept files core have)
-        can.plain written made link)
+    let can = is_held held files core have in (
+      made.classes,
+      held_spelled core core.classes made.classes written made.hold,
+      classes_link core (is_core law kept files core have)
+          can.plain written made link,
+    )
 
 pub runs_law : SpelledIsShaped → CoreIsKept → WrittenCoresAreHeld → CoresLink → MainsAgree → TypesAreEnough → RunsAreMeant
 runs_law law kept held link agree enough files core written have made class main read program spelled links =

@@ -40,7 +40,7 @@ RunsAreMeant = (files : List Source) (core : Core.Program) (written : List Class
     (class : Name) → main_of core class ≢ None → (read : List File) (program : Program) → AreSpelled (map (λ f. f.bytes) written) read →
     Links read program →
     HasMain program class × ((inputs : Inputs) (me : ℕ) (q : Messages) → Holds inputs q me [] → (start : Machine) →
-        IsStart program class start →
+    IsStart program class start →
     RunsAsMeant (step program me) start q (mean have.program.files class inputs))
 
 -- So whatever roles run them: the machine of each does what is meant, and after every list of turns each did what is meant on the messages

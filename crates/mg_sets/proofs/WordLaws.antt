@@ -55,7 +55,7 @@ pub has_bit : (w : ℕ) (ws : List ℕ) (i : ℕ) → AreWords w ws → has (val
 has_bit w ws i a = ⊎_elim
     (λ lt. from_has ws 0 w i lt ∙ ap (bit ws) (omega arith))
     (λ past. get_or_past (values w ws) i false (let e : length (values w ws) ≡ w = values_length ws 0 w in omega (arith, e, past)) ∙
-        sym (bit_past w ws i a past))
+    sym (bit_past w ws i a past))
     (cases_lt i w)
 
 -- The set without members.
@@ -195,7 +195,7 @@ joined_values w v old others now grew a b le o =
     ∙ ored_bit old others now grew i o
     ∙ ap (λ x. x || bit others i) (sym (has_bit w old i a)) ∙ ap (λ y. has (values w old) i || y) (sym (has_bit v others i b))
     ∙ sym (has_joined (values w old) (values v others) i (let e : length (values w now) ≡ w = values_length now 0 w in
-        let f : length (values w old) ≡ w = values_length old 0 w in omega (arith, e, f, lt))))
+    let f : length (values w old) ≡ w = values_length old 0 w in omega (arith, e, f, lt))))
 
 -- Where two words differ, they differ in a bit.
 
@@ -223,7 +223,7 @@ some_bit : (a b : ℕ) → ((i : ℕ) → bit_at a i ≡ 1 → i < 64) → ((i :
     (i : ℕ) × (bit_at a i ≡ bit_at b i → ⊥)
 some_bit a b x y ne = ⊎_elim
     (λ all. absurd (ne (same_from_bits a b (λ i. ⊎_elim (λ lt. eqb-true (bit_at a i) (bit_at b i) (all i lt))
-        (λ past. none a x i past ∙ sym (none b y i past)) (cases_lt i 64)))))
+    (λ past. none a x i past ∙ sym (none b y i past)) (cases_lt i 64)))))
     (λ f. (f.place, λ e. false≢true (sym f.no ∙ ap (λ n. nat_eq (bit_at a f.place) n) (sym e) ∙ nat_self (bit_at a f.place))))
     (all_or_some (λ i. nat_eq (bit_at a i) (bit_at b i)) 64)
   where
@@ -261,8 +261,12 @@ gained w v ws others k a b ne = go (bit_cases (word ws k) i) (bit_cases (word ot
 
     go : (bit_at (word ws k) i ≡ 0) ⊎ (bit_at (word ws k) i ≡ 1) → (bit_at (word others k) i ≡ 0) ⊎ (bit_at (word others k) i ≡ 1) →
         Grows (values v others) (values w ws)
-    go (inr x) (inl y) = record { member = k * 64 + i; new = member_at w ws k i a x; absent = absent_at v others k i b (a.within k i x).0
-        y }
+    go (inr x) (inl y) = record {
+      member = k * 64 + i;
+      new = member_at w ws k i a x;
+      absent = absent_at v others k i b (a.within k i x).0
+          y;
+    }
     go (inl x) (inl y) = absurd (d.1 (or_is ∙ ap (λ n. max n (bit_at (word others k) i)) x ∙ ap (max 0) y ∙ sym y))
     go (inl x) (inr y) = absurd (d.1 (or_is ∙ ap (λ n. max n (bit_at (word others k) i)) x ∙ ap (max 0) y ∙ sym y))
     go (inr x) (inr y) = absurd (d.1 (or_is ∙ ap (λ n. max n (bit_at (word others k) i)) x ∙ ap (max 1) y ∙ sym y))
@@ -273,7 +277,7 @@ joined_grows w v old others now grew a b le o h =
     let d = o.grown h in
     let n = joined_words w v old others now grew a b le o in
     gained w w now old d.place n a
-        (λ e. d.differ (absorbed (word old d.place) (word others d.place) (word now d.place) (ored_word old others now grew d.place o) e))
+    (λ e. d.differ (absorbed (word old d.place) (word others d.place) (word now d.place) (ored_word old others now grew d.place o) e))
   where
     -- now is old or others, so what now and old have together is now
     absorbed : (x y z : ℕ) → z ≡ bit_or x y → bit_or z x ≡ x → z ≡ x
@@ -356,12 +360,12 @@ module _ (w v : ℕ) (ws vs others : List ℕ) (s t : List Bool) (a : AreWords w
   narrow h =
       let x : length (values w ws) ≡ w = values_length ws 0 w in let y : length (values v vs) ≡ v = values_length vs 0 v in
       let x' : length (values w ws) ≡ length s = ap length is in let y' : length (values v vs) ≡ length t = ap length it in omega
-          (arith, x, y, x', y', h)
+      (arith, x, y, x', y', h)
 
   pub no_longer : length t ≤ length s → length others ≤ length ws
   no_longer h =
       let n : v ≤ w = narrow h in let x : length ws ≡ w / 64 + 1 = a.count in let y : length vs ≡ v / 64 + 1 = b.count in
-          let z : length others ≡ length vs = ap length same in
+      let z : length others ≡ length vs = ap length same in
       omega (arith, n, x, y, z)
 
   ored : (now : List ℕ) (grew : Bool) → Ored ws others now (length others) grew → Ored ws vs now (length vs) grew
@@ -386,12 +390,12 @@ module _ (w v : ℕ) (ws vs others : List ℕ) (s t : List Bool) (a : AreWords w
   one_width h =
       let x : length (values w ws) ≡ w = values_length ws 0 w in let y : length (values v vs) ≡ v = values_length vs 0 v in
       let x' : length (values w ws) ≡ length s = ap length is in let y' : length (values v vs) ≡ length t = ap length it in omega
-          (arith, x, y, x', y', h)
+      (arith, x, y, x', y', h)
 
   pub one_length : length s ≡ length t → length ws ≡ length others
   one_length h =
       let n : v ≡ w = one_width h in let x : length ws ≡ w / 64 + 1 = a.count in let y : length vs ≡ v / 64 + 1 = b.count in
-          let z : length others ≡ length vs = ap length same in
+      let z : length others ≡ length vs = ap length same in
       omega (arith, n, x, y, z)
 
   pub subset_of : length s ≡ length t → IsWithin ws others → IsSubset s t

@@ -59,7 +59,7 @@ module _ (source : Source) where
   pub excludes : (part : Part) (fault : Fault) → Reads source part → Refuses source fault → ⊥
   excludes part fault (reading.protocol {local = local} is o) (reading.protocol answer is' o' said) =
       subst (λ (a : of_protocols.Answer). IsSaidOfProtocol source a fault) (protocols_unique.one_outcome source.number source.bytes answer _
-          o' o) said
+      o' o) said
   excludes part fault (reading.protocol is o) (reading.states answer is' o' said) =
       ends_alike Scribble Typestates source is is' (λ e. differ 114 108 e (λ k. absurd (omega (arith, k))))
   excludes part fault (reading.protocol is o) (reading.classes answer is' o' said) =
@@ -68,7 +68,7 @@ module _ (source : Source) where
       ends_alike Typestates Scribble source is is' (λ e. differ 108 114 e (λ k. absurd (omega (arith, k))))
   excludes part fault (reading.states is o) (reading.states answer is' o' said) =
       subst (λ (a : of_typestates.Answer). IsSaidOfTypestate source a fault) (states_unique.one_outcome source.number source.bytes answer _
-          o' o) said
+      o' o) said
   excludes part fault (reading.states is o) (reading.classes answer is' o' said) =
       ends_alike Typestates Java source is is' (λ e. differ 108 97 e (λ k. absurd (omega (arith, k))))
   excludes part fault (reading.classes is o) (reading.protocol answer is' o' said) =
@@ -157,7 +157,7 @@ module _ (source : Source) where
   pub alike : (f g : Fault) → Refuses source f → Refuses source g → AreAlike (fault_line source.name f) (fault_line source.name g)
   alike f g (reading.protocol a is o said) (reading.protocol b is' o' told) =
       said_protocol b f g (subst (λ (x : of_protocols.Answer). IsSaidOfProtocol source x f)
-          (protocols_unique.one_outcome source.number source.bytes a b o o') said) told
+      (protocols_unique.one_outcome source.number source.bytes a b o o') said) told
   alike f g (reading.protocol a is o said) (reading.states b is' o' told) =
       ends_alike Scribble Typestates source is is' (λ e. differ 114 108 e (λ k. absurd (omega (arith, k))))
   alike f g (reading.protocol a is o said) (reading.classes b is' o' told) =
@@ -166,7 +166,7 @@ module _ (source : Source) where
       ends_alike Typestates Scribble source is is' (λ e. differ 108 114 e (λ k. absurd (omega (arith, k))))
   alike f g (reading.states a is o said) (reading.states b is' o' told) =
       said_states b f g (subst (λ (x : of_typestates.Answer). IsSaidOfTypestate source x f)
-          (states_unique.one_outcome source.number source.bytes a b o o') said) told
+      (states_unique.one_outcome source.number source.bytes a b o o') said) told
   alike f g (reading.states a is o said) (reading.classes b is' o' told) =
       ends_alike Typestates Java source is is' (λ e. differ 108 97 e (λ k. absurd (omega (arith, k))))
   alike f g (reading.classes a is o said) (reading.protocol b is' o' told) =
@@ -175,4 +175,4 @@ module _ (source : Source) where
       ends_alike Java Typestates source is is' (λ e. differ 97 108 e (λ k. absurd (omega (arith, k))))
   alike f g (reading.classes a is o said) (reading.classes b is' o' told) =
       said_classes b f g (subst (λ (x : of_java.Answer). IsSaidOfJava source x f) (classes_unique.one_outcome source.number source.bytes a b
-          o o') said) told
+      o o') said) told

@@ -79,7 +79,7 @@ no_program files (Err e) h line r = tt
 pub adds_typestate : (r : Result Unit Memory) (number : ℕ) (typestate : Typestate) (before after : KeptSources) →
     OnOk r (after.files ≡ before.files)
     → OnOk r (after.typestates.items ≡ before.typestates.items ++ typestate ∷ []) →
-        OnOk r (after.origins.items ≡ before.origins.items ++ number ∷ [])
+    OnOk r (after.origins.items ≡ before.origins.items ++ number ∷ [])
     → OnOk r (Appends number (States typestate) (sourced_of before) (sourced_of after))
 adds_typestate (Err e) number typestate before after f t o = tt
 adds_typestate (Ok x) number typestate before after f t o = record {
@@ -94,7 +94,7 @@ adds_typestate (Ok x) number typestate before after f t o = record {
 pub adds_file : (r : Result Unit Memory) (number : ℕ) (file : KeptFile) (before after : KeptSources) →
     OnOk r (after.files.items ≡ before.files.items ++ file ∷ [])
     → after.typestates ≡ before.typestates → after.origins ≡ before.origins →
-        OnOk r (Appends number (Classes (file_of file)) (sourced_of before) (sourced_of after))
+    OnOk r (Appends number (Classes (file_of file)) (sourced_of before) (sourced_of after))
 adds_file (Err e) number file before after f t o = tt
 adds_file (Ok x) number file before after f t o = record {
   files = file_of file ∷ [];
@@ -112,7 +112,7 @@ pub adds_protocol : (r : Result Unit Memory) (number : ℕ) (local : LocalTree) 
     → map file_of files.items ≡ map file_of before.files.items ++ map (λ f. f.tree) (map written_of api)
     → OnOk r (after.files ≡ files) → OnOk r (after.typestates.items ≡ before.typestates.items ++ typestate ∷ [])
     → OnOk r (after.origins.items ≡ before.origins.items ++ number ∷ []) →
-        OnOk r (Appends number (Protocol local) (sourced_of before) (sourced_of after))
+    OnOk r (Appends number (Protocol local) (sourced_of before) (sourced_of after))
 adds_protocol (Err e) number local typestate api before after files is made grown f t o = tt
 adds_protocol (Ok x) number local typestate api before after files is made grown f t o = record {
   files = map (λ f. f.tree) (map written_of api);

@@ -91,7 +91,7 @@ java_said s java.Memory f h e = not_said f e
 pub protocol_refused : (s : Source) (fault : ScrFault) (stop : Stop) → IsOf Scribble s → of_protocols.HasPlace s.number s.bytes fault →
     IsRefusal s.name (said_of_protocol fault) stop
     → ((answer : of_protocols.Answer) → of_protocols.fault_answer fault ≡ Some answer → of_protocols.Outcome s.number s.bytes answer) →
-        IsProtocol s (Err stop)
+    IsProtocol s (Err stop)
 protocol_refused s fault (stops.Refused line) is placed (f, told, said) answered =
     let a = protocol_said s fault f placed told in
     (f, reading.protocol a.0 is (answered a.0 a.1) a.2, said)
@@ -105,7 +105,7 @@ part_refused s stops.Memory h = tt
 pub states_refused : (s : Source) (fault : TsFault) (stop : Stop) → IsOf Typestates s → of_typestates.HasPlace s.number s.bytes fault →
     IsRefusal s.name (said_of_typestate fault) stop
     → ((answer : of_typestates.Answer) → of_typestates.answer_of (Err fault) ≡ Some answer → of_typestates.Outcome s.number s.bytes answer)
-        → IsPart s (Err stop)
+    → IsPart s (Err stop)
 states_refused s fault (stops.Refused line) is placed (f, told, said) answered =
     let a = typestate_said s fault f placed told in
     (f, reading.states a.0 is (answered a.0 a.1) a.2, said)

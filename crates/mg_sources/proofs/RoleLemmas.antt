@@ -175,7 +175,7 @@ module _ (names : List (List ℕ)) (contents : List (List ℕ)) (parts : List Ke
           let at : get_or (map part_of parts) i (part_of l) ≡ part_of l = mapped_at parts i l (part_of l) lt is' in
           subst (λ (z : Source). Reads z (part_of l)) (sym file_is)
           (subst (λ (z : Part). Reads (get_or (sources names contents) i file) z) at (each_at i (sources names contents) (map part_of parts)
-              file (part_of l) each within))
+          file (part_of l) each within))
 
       abbrev before : EachSpells (take i (sources names contents)) (take i (map part_of parts))
       before = each_take i (sources names contents) (map part_of parts) each
@@ -184,7 +184,7 @@ module _ (names : List (List ℕ)) (contents : List (List ℕ)) (parts : List Ke
       pub without_role : role_in (part_of l) ≡ [] → Left SharesRole (sources names contents) (i + 1)
       without_role none =
           left_later SharesRole left file within file_is
-              (λ line h. no_cons h.role (sym none ∙ role_here file (part_of l) h.role only h.of_role))
+          (λ line h. no_cons h.role (sym none ∙ role_here file (part_of l) h.role only h.of_role))
 
       module _ {A S : Type 0} (set : HashSet (String A) S) (exact : HasExactly set (roles (take i (map part_of parts)))) (role : List ℕ)
           (is_role : role_in (part_of l) ≡ role ∷ []) (key : List ℕ) (key_is : key ≡ role) where
@@ -195,17 +195,24 @@ module _ (names : List (List ℕ)) (contents : List (List ℕ)) (parts : List Ke
             let has = (exact role).0 (ap (contains_text set) (sym key_is) ∙ true_from_not (contains_text set key) old) in
             let found = file_of_role (take i (sources names contents)) (take i (map part_of parts)) role before has in
             left_here SharesRole left file within file_is line
-            (record { role = role; of_role = is_of_role file (part_of l) role only is_role; earlier = found.0; stands = found.1; also =
-                found.2; said = said })
+            (record {
+              role = role;
+              of_role = is_of_role file (part_of l) role only is_role;
+              earlier = found.0;
+              stands = found.1;
+              also =
+                  found.2;
+              said = said;
+            })
 
         pub apart : not (contains_text set key) ≡ true → Left SharesRole (sources names contents) (i + 1)
         apart new = left_later SharesRole left file within file_is refuted where
           refuted : (line : List ℕ) → SharesRole (take i (sources names contents), file) line → ⊥
           refuted line h =
               let role_is : h.role ≡ key = heads h.role role (sym (role_here file (part_of l) h.role only h.of_role) ∙ is_role) ∙
-                    sym key_is in
+              sym key_is in
               let has = role_of_file (take i (sources names contents)) (take i (map part_of parts)) h.earlier h.role before h.stands h.also
-                  in
+              in
               true≢false (sym ((exact h.role).1 has) ∙ ap (contains_text set) role_is ∙ false_from_not (contains_text set key) new)
 
 -- the set got the role of the part at an index
@@ -214,7 +221,7 @@ pub exact_next : {A S : Type 0} (set set' : HashSet (String A) S) (before after 
     → ((q : List ℕ) → contains_text set' q ≡ cond (bytes_eq key q) true (contains_text set q)) → HasExactly set' after
 exact_next set set' before after key grown exact e =
     subst (HasExactly set') (sym grown) (λ q. has_pushed (bytes_eq key q) (contains_text set q) (contains_text set' q) before key q
-        (bytes_eq-Decides key q) (exact q) (e q))
+    (bytes_eq-Decides key q) (exact q) (e q))
 
 -- the refusal with this line
 pub apart_refused : (files : List Source) (line : List ℕ) (stop : Stop) →

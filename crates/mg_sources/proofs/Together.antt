@@ -74,7 +74,7 @@ pub one_api : (local : LocalTree) (a b : List ApiText) → IsApi local a → IsA
 one_api local a b p q =
     p.are_files
     ∙ ap (λ (z : List Doing). class_file (start_of local.file) local.me z ∷ enum_files (start_of local.file) local.me
-        (doings (protocol_of local)))
+    (doings (protocol_of local)))
     (one_first local.me p.are_firsts q.are_firsts refl refl)
     ∙ sym q.are_files
 

@@ -21,7 +21,7 @@ fault_name (c ∷ cs) = codes " " ++ c ∷ cs
 abbrev pub fault_line : List ℕ → Fault → List ℕ
 fault_line file fault =
     file ++ codes ":" ++ decimal fault.place.line ++ codes ":" ++ decimal fault.place.column ++ codes ": " ++ fault.kind
-        ++ fault_name fault.name ++ 10 ∷ []
+    ++ fault_name fault.name ++ 10 ∷ []
 
 -- two lines that say Syntax of one file, at places that are left open
 pub record SaySyntax (line other : List ℕ) : Type 0 where

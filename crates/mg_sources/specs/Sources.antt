@@ -40,7 +40,7 @@ pub data Spell : List Source → Sourced → Type 0 where
   none : Spell [] empty
   one : {source : Source} {sources : List Source} {part : Part} {files : List File} {typestates : List Typestate} {rest : Sourced} →
       Reads source part → Stands part files typestates → Spell sources rest →
-          Spell (source ∷ sources) (adding source.number files typestates rest)
+      Spell (source ∷ sources) (adding source.number files typestates rest)
 
 -- the file is refused by its reader, and this is the line of its fault
 abbrev pub IsRefused : Source → List ℕ → Type 0

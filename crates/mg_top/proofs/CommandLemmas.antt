@@ -49,12 +49,12 @@ pub gives : (command : Command) (contents : List (List ℕ)) (actions : List Act
     → IfOk r (λ d. Yields command contents d.actions.items d.status)
 gives command contents actions status (Ok d) a s y =
     subst (λ (z : List Action). Yields command contents z d.status) (sym a) (subst (λ (z : Status). Yields command contents actions z)
-        (sym s) y)
+    (sym s) y)
 gives command contents actions status (Err e) a s y = tt
 
 pub reported : (core : Core.Program) (text given : List ℕ) (r : Result Delivery Memory) → given ≡ text → IsReport core text
     → IfOk r (λ d. d.actions.items ≡ prints given) → IfOk r (λ d. d.status ≡ statuses.Done) →
-        IfOk r (λ d. IsReported core d.actions.items d.status)
+    IfOk r (λ d. IsReported core d.actions.items d.status)
 reported core text given (Ok d) e h a s = record { text = text; says = a ∙ ap prints e; done = s; report = h }
 reported core text given (Err x) e h a s = tt
 
@@ -72,7 +72,7 @@ pub told_given : (files : List Word) (contents : List (List ℕ)) (text given : 
     (r : Result Delivery Memory) → given ≡ text
     → status ≡ refined_status stands → AreJudged (sources files contents) text stands
     → IfOk r (λ d. d.actions.items ≡ Print given ∷ []) → IfOk r (λ d. d.status ≡ status) →
-        IfOk r (λ d. Yields (Refine files) contents d.actions.items d.status)
+    IfOk r (λ d. Yields (Refine files) contents d.actions.items d.status)
 told_given files contents text given stands status (Ok d) e f h a s =
     subst (λ (z : List Action). Yields (Refine files) contents z d.status) (sym (a ∙ ap (λ (t : List ℕ). Print t ∷ []) e))
     (subst (λ (z : Status). Yields (Refine files) contents (Print text ∷ []) z) (sym (s ∙ f)) (commands.refine (refined h)))
@@ -84,7 +84,7 @@ pub line_put : (result last third second first given before text words : List �
     → result ≡ before ++ ((text ++ words) ++ 10 ∷ [])
 line_put result last third second first given before text words e d c b a g =
     e ∙ d ∙ ap (λ (z : List ℕ). z ++ 10 ∷ []) (c ∙ ap (λ (z : List ℕ). z ++ words) (b ∙ ap (λ (z : List ℕ). z ++ text) (a ∙ g)) ∙
-        append_assoc before text words)
+    append_assoc before text words)
     ∙ append_assoc before (text ++ words) (10 ∷ [])
 
 -- a name, a text of three parts, words and the end of a line are put behind what stands there
@@ -96,7 +96,7 @@ role_put result third second first before name a d e words four three two one =
     let whole : (before ++ name) ++ ((a ++ d) ++ e) ≡ before ++ (((name ++ a) ++ d) ++ e)
     = append_assoc before name ((a ++ d) ++ e) ∙ ap (λ (z : List ℕ). before ++ z) inner in
     four ∙ ap (λ (z : List ℕ). z ++ 10 ∷ []) (three ∙ ap (λ (z : List ℕ). z ++ words) (two ∙ ap (λ (z : List ℕ). z ++ ((a ++ d) ++ e)) one ∙
-        whole)
+    whole)
     ∙ append_assoc before (((name ++ a) ++ d) ++ e) words) ∙ append_assoc before ((((name ++ a) ++ d) ++ e) ++ words) (10 ∷ [])
 
 -- the status of a run, by the answers of its tests
@@ -112,11 +112,11 @@ any_stand test b roles e = e ∙ sym (any-map (λ (r : RoleRan). r.stand) test r
 pub status_by : (roles : List RoleRan) (b k z m w : Bool) → b ≡ list_any (λ r. is_bound r.stand) roles →
     k ≡ list_any (λ r. is_broken r.stand) roles →
     z ≡ list_any (λ r. is_zero r.stand) roles → m ≡ list_any (λ r. is_mismatch r.stand) roles → w ≡ list_any (λ r. is_waiting r.stand) roles
-        →
+    →
     by_tests b k z m w ≡ status_of (map (λ r. r.stand) roles)
 status_by roles b k z m w eb ek ez em ew = λ i.
     by_tests (any_stand is_bound b roles eb i) (any_stand is_broken k roles ek i) (any_stand is_zero z roles ez i)
-        (any_stand is_mismatch m roles em i)
+    (any_stand is_mismatch m roles em i)
     (any_stand is_waiting w roles ew i)
 
 -- what is done about a run, by what it shows
@@ -137,7 +137,7 @@ shown_same asked r shown h = λ i. shown_so asked (h.written i) (h.printed_is i)
 run_asked : (asked : Asked) (files : List Source) (mains : List RoleMain) (order : List ℕ) (limit : ℕ) (named : Bool) (shown : Ran)
     → mains ≡ role_mains_of asked → order ≡ order_of asked → limit ≡ limit_of asked → named ≡ are_named asked
     → IsOfRun files mains order limit named asked.traced shown → IsOfRun files (role_mains_of asked) (order_of asked) (limit_of asked)
-        (are_named asked) asked.traced shown
+    (are_named asked) asked.traced shown
 run_asked asked files mains order limit named shown m o l n h =
     subst (λ (z : Bool). IsOfRun files (role_mains_of asked) (order_of asked) (limit_of asked) z asked.traced shown) n
     (subst (λ (z : ℕ). IsOfRun files (role_mains_of asked) (order_of asked) z named asked.traced shown) l
@@ -152,7 +152,7 @@ pub run_given : (asked : Asked) (files : List Word) (contents : List (List ℕ))
     → IfOk r (λ d. d.actions.items ≡ shown_so asked shown.files.items shown.printed shown.trace (names_of mains)
     (map (λ r. r.instructions) shown.roles.items) (map (λ r. r.stand) shown.roles.items))
     → IfOk r (λ d. d.status ≡ status_of (map (λ r. r.stand) shown.roles.items)) →
-        IfOk r (λ d. Yields (Run asked files) contents d.actions.items d.status)
+    IfOk r (λ d. Yields (Run asked files) contents d.actions.items d.status)
 run_given asked files contents mains order limit named shown r m o l n given actions status =
     let h : IsOfRun (sources files contents) (role_mains_of asked) (order_of asked) (limit_of asked) (are_named asked) asked.traced shown =
     run_asked asked (sources files contents) mains order limit named shown m o l n given in
@@ -161,7 +161,7 @@ run_given asked files contents mains order limit named shown r m o l n given act
     (map (λ r. r.instructions) shown.roles.items) (map (λ r. r.stand) shown.roles.items))) m actions) status
     (subst (λ (z : Status). Yields (Run asked files) contents (shown_by asked shown) z) (ap status_of (sym h.shows.stands))
     (subst (λ (z : List Action). Yields (Run asked files) contents z (status_of (stands_in h.run.program h.run.last)))
-        (sym (shown_same asked h.run shown h.shows))
+    (sym (shown_same asked h.run shown h.shows))
     (commands.run (ran h.run h.is))))
 
 -- ---- what is due
@@ -173,18 +173,18 @@ pub said_due : (words : List Word) (before at : Outside) (status : Status) (line
 said_due words before at status line wanted (Ok d) a s e due left =
     let actions_are : d.actions.items ≡ Say wanted ∷ [] = a ∙ ap (λ (z : List ℕ). Say z ∷ []) e in
     subst (λ (z : List Action). IsDue words before z d.status at) (sym actions_are)
-        (subst (λ (z : Status). IsDue words before (Say wanted ∷ []) z at) (sym s) due)
+    (subst (λ (z : Status). IsDue words before (Say wanted ∷ []) z at) (sym s) due)
 said_due words before at status line wanted (Err e) a s is due left = left
 
 -- what a command gives is due
 pub given_due : (words : List Word) (before at : Outside) (command : Command) (names : List Word) (contents given : List (List ℕ))
     (limit : ℕ) (r : Result Delivery Memory)
     → IsCommand command words → names ≡ files_of command → limit ≡ read_limit command → AreRead limit before.files names contents →
-        given ≡ contents → at ≡ before
+    given ≡ contents → at ≡ before
     → IfOk r (λ d. Yields command given d.actions.items d.status) → IsPrepared words before r at
 given_due words before at command names contents given limit (Ok d) is named most read e same y =
     let whole : AreRead (read_limit command) before.files names contents = subst (λ (n : ℕ). AreRead n before.files names contents) most
-          read in
+    read in
     subst (λ (z : Outside). IsDue words before d.actions.items d.status z) (sym same)
     (yielded command contents is (subst (λ (z : List Word). AreRead (read_limit command) before.files z contents) named whole)
     (subst (λ (z : List (List ℕ)). Yields command z d.actions.items d.status) e y))
@@ -207,7 +207,7 @@ starved_due words before at (inr (name, may, e)) = subst (λ (z : Outside). IsDu
 pub unread_of : (words : List Word) (before : Outside) (command : Command) (names : List Word) (name : Word) (front rest : List Word)
     (contents : List (List ℕ)) (limit : ℕ)
     → IsCommand command words → names ≡ files_of command → limit ≡ read_limit command → names ≡ front ++ name ∷ rest →
-        AreRead limit before.files front contents
+    AreRead limit before.files front contents
     → IsUnread words before name
 unread_of words before command names name front rest contents limit is named most stands read =
     record {
@@ -240,7 +240,7 @@ memory_failed folder files answer e = subst (AreWritten folder files) (sym e) tt
 pub all_written : (folder : Option Word) (names : List Word) (contents : List (List ℕ)) (parts given : List Part) (writes : List Action) →
     All (IsFileOf (codes ".scr")) names
     → EachSpells (sources names contents) parts → given ≡ parts → Judged SharesRole (with_earlier (sources names contents)) None →
-        EachIsWritten folder (locals_in given) writes
+    EachIsWritten folder (locals_in given) writes
     → AreTranslated folder (sources names contents) writes
 all_written folder names contents parts given writes scribble each e apart written = record {
   each = translated folder 0 names contents parts writes scribble each (subst (λ (z : List Part). EachIsWritten folder (locals_in z) writes)

@@ -55,14 +55,14 @@ pub taken_more : (local : LocalTree) (walk : Walk) (lines : List CallLine) (i : 
 taken_more local walk lines i line call within is e h =
     let grown : map said (take (i + 1) lines) ≡ map said (take i lines) ++ call ∷ [] =
     ap (map said) (take_more lines i line within ∙ ap (λ (z : CallLine). take i lines ++ z ∷ []) (sym is)) ∙ map-append said (take i lines)
-        (line ∷ []) ∙ ap (λ (z : Call). map said (take i lines) ++ z ∷ []) (sym e) in
+    (line ∷ []) ∙ ap (λ (z : Call). map said (take i lines) ++ z ∷ []) (sym e) in
     subst (HasTaken local walk) (sym grown) h
 
 -- a call that isn't offered
 pub not_offered_at : (local : LocalTree) (walk : Walk) (lines : List CallLine) (i : ℕ) (line : CallLine) (call : Call) → i < length lines →
     line ≡ get_or lines i line → call ≡ said line → HasTaken local walk (map said (take i lines))
     → ((more : List Call) → Traced local (map said (take i lines) ++ call ∷ more) → ⊥) →
-        Conforms local (map call_of lines) (not_offered_line line.line) statuses.Refused
+    Conforms local (map call_of lines) (not_offered_line line.line) statuses.Refused
 not_offered_at local walk lines i line call within is e taken isnt =
     not_offered (map call_of (take i lines)) (call_of line) (map call_of (drop (suc i) lines)) split
     (subst (Traced local) (sym (said_calls (take i lines))) (trace_of local walk (map said (take i lines)) taken))
@@ -85,7 +85,7 @@ taken_at local walk lines i d call within e h = taken_more local walk lines i (g
 pub refused_at : (local : LocalTree) (walk : Walk) (lines : List CallLine) (i : ℕ) (d : CallLine) (call : Call) → i < length lines →
     call ≡ said (get_or lines i d) → HasTaken local walk (map said (take i lines))
     → ((more : List Call) → Traced local (map said (take i lines) ++ call ∷ more) → ⊥) →
-        Conforms local (map call_of lines) (not_offered_line (get_or lines i d).line) statuses.Refused
+    Conforms local (map call_of lines) (not_offered_line (get_or lines i d).line) statuses.Refused
 refused_at local walk lines i d call within e taken isnt = not_offered_at local walk lines i (get_or lines i d) call within
     (same_at lines i d (get_or lines i d) within) e taken isnt
 
@@ -100,7 +100,7 @@ pub complete_at : (local : LocalTree) (walk : Walk) (lines : List CallLine) (i :
     → done ≡ true → Conforms local (map call_of lines) (ended (codes "complete")) statuses.Done
 complete_at local walk lines i done end h told is =
     complete (subst (λ (z : List Call). Complete local.me (protocol_of local) z) (sym (said_calls lines))
-        ((told (map said lines) (all_taken local walk lines i end h)).0 is))
+    ((told (map said lines) (all_taken local walk lines i end h)).0 is))
 
 pub open_at : (local : LocalTree) (walk : Walk) (lines : List CallLine) (i : ℕ) (done : Bool) → length lines ≤ i →
     HasTaken local walk (map said (take i lines)) → ((calls : List Call) → HasTaken local walk calls →
@@ -110,7 +110,7 @@ open_at local walk lines i done end h told is =
     let all = all_taken local walk lines i end h in
     unfinished (subst (Traced local) (sym (said_calls lines)) (trace_of local walk (map said lines) all))
     (λ whole. not_true done is ((told (map said lines) all).1 (subst (λ (z : List Call). Complete local.me (protocol_of local) z)
-        (said_calls lines) whole)))
+    (said_calls lines) whole)))
   where
     not_true : (b : Bool) → b ≡ false → b ≡ true → ⊥
     not_true b e f = let no : false ≡ true = sym e ∙ f in cc
@@ -121,15 +121,19 @@ open_at local walk lines i done end h told is =
 pub answered : (local : LocalTree) (calls : List CallAt) (text made : List ℕ) (status : Status) (r : Result Delivery Memory) →
     IfOk r (λ d. d.actions.items ≡ Print made ∷ []) → IfOk r (λ d. d.status ≡ status) → made ≡ text → Conforms local calls text status
     → IfOk r (λ d. IsAnswered local calls d.actions.items d.status)
-answered local calls text made status (Ok d) a s e c = record { text = text; says = a ∙ ap (λ (z : List ℕ). Print z ∷ []) e; conforms =
-    subst (Conforms local calls text) (sym s) c }
+answered local calls text made status (Ok d) a s e c = record {
+  text = text;
+  says = a ∙ ap (λ (z : List ℕ). Print z ∷ []) e;
+  conforms =
+      subst (Conforms local calls text) (sym s) c;
+}
 answered local calls text made status (Err x) a s e c = tt
 
 pub followed : (protocol calls : Word) (bytes listed : List ℕ) (local : LocalTree) (list : List CallLine) (slice : List CallLine)
     (r : Result Delivery Memory) → Reads (source_of 0 protocol bytes) (Protocol local) → (items : Row CallLine) → items.items ≡ list →
     IsRead 1 listed (Ok items) → slice ≡ list
     → IfOk r (λ d. IsAnswered local (map call_of slice) d.actions.items d.status) →
-        IfOk r (λ d. Yields (Conform (protocol ∷ calls ∷ [])) (bytes ∷ listed ∷ []) d.actions.items d.status)
+    IfOk r (λ d. Yields (Conform (protocol ∷ calls ∷ [])) (bytes ∷ listed ∷ []) d.actions.items d.status)
 followed protocol calls bytes listed local list slice (Ok d) only items same read e h =
     subst (λ (z : List Action). Yields (Conform (protocol ∷ calls ∷ [])) (bytes ∷ listed ∷ []) z d.status) (sym h.says)
     (commands.conform (conforms local (map call_of items.items) only (record { size = read.0; listed = read.1 })
@@ -140,17 +144,17 @@ refused_list : (name : Word) (listed : List ℕ) (fault : CallsFault) → fault 
     IsNoList (source_of 1 name listed) (fault_line name (list_fault fault))
 refused_list name listed (faults.TooLarge place) proper (large, at) =
     subst (λ (p : Place). IsNoList (source_of 1 name listed) (fault_line name (record { kind = codes "TooLarge"; place = p; name = [] })))
-        (sym at) (too_large large)
+    (sym at) (too_large large)
 refused_list name listed (faults.BadLine place) proper (small, bad) = bad_line place small bad
 refused_list name listed faults.Memory proper h = absurd (proper refl)
 
 pub list_refused : (protocol calls : Word) (bytes listed : List ℕ) (local : LocalTree) (fault : CallsFault) (r : Result Delivery Memory) →
     Reads (source_of 0 protocol bytes) (Protocol local) → IsRead 1 listed (Err fault)
     → IfOk r (λ d. IsListRefusal calls fault d.actions.items d.status) →
-        IfOk r (λ d. Yields (Conform (protocol ∷ calls ∷ [])) (bytes ∷ listed ∷ []) d.actions.items d.status)
+    IfOk r (λ d. Yields (Conform (protocol ∷ calls ∷ [])) (bytes ∷ listed ∷ []) d.actions.items d.status)
 list_refused protocol calls bytes listed local fault (Ok d) only read h =
     subst (λ (z : List Action). Yields (Conform (protocol ∷ calls ∷ [])) (bytes ∷ listed ∷ []) z d.status) (sym h.says)
     (subst (λ (z : Status). Yields (Conform (protocol ∷ calls ∷ [])) (bytes ∷ listed ∷ []) (Say (fault_line calls (list_fault fault)) ∷ [])
-        z) (sym h.refuses)
+    z) (sym h.refuses)
     (commands.conform (no_calls local only (refused_list calls listed fault h.proper read))))
 list_refused protocol calls bytes listed local fault (Err x) only read h = tt

@@ -39,20 +39,43 @@ pub record Same (old new : Outside) : Type 0 where
   pub err : new.err.faults ≡ old.err.faults
 
 well : (a : Action) (old new : Outside) → Acts a (Ok tt) old new → Same old new
-well (Write file) old new h = record { writes = ap (λ (o : Outside). o.failed_writes) h.1 ∙ append-nil old.failed_writes; out =
-    ap (λ (o : Outside). o.out.faults) h.1; err = ap (λ (o : Outside). o.err.faults) h.1 }
-well (Print text) old new h = record { writes = ap (λ (o : Outside). o.failed_writes) h.2; out = h.1; err =
-    ap (λ (o : Outside). o.err.faults) h.2 }
-well (Say line) old new h = record { writes = ap (λ (o : Outside). o.failed_writes) h.2; out = ap (λ (o : Outside). o.out.faults) h.2; err =
-    h.1 }
+well (Write file) old new h = record {
+  writes = ap (λ (o : Outside). o.failed_writes) h.1 ∙ append-nil old.failed_writes;
+  out =
+      ap (λ (o : Outside). o.out.faults) h.1;
+  err = ap (λ (o : Outside). o.err.faults) h.1;
+}
+well (Print text) old new h = record {
+  writes = ap (λ (o : Outside). o.failed_writes) h.2;
+  out = h.1;
+  err =
+      ap (λ (o : Outside). o.err.faults) h.2;
+}
+well (Say line) old new h = record {
+  writes = ap (λ (o : Outside). o.failed_writes) h.2;
+  out = ap (λ (o : Outside). o.out.faults) h.2;
+  err =
+      h.1;
+}
 
 lacked : (a : Action) (old new : Outside) → Acts a (Err io.Memory) old new → Same old new
-lacked (Write file) old new h = record { writes = ap (λ (o : Outside). o.failed_writes) h.1 ∙ append-nil old.failed_writes; out =
-    ap (λ (o : Outside). o.out.faults) h.1; err = ap (λ (o : Outside). o.err.faults) h.1 }
-lacked (Print text) old new h = record { writes = ap (λ (o : Outside). o.failed_writes) h.2; out = h.1; err =
-    ap (λ (o : Outside). o.err.faults) h.2 }
-lacked (Say line) old new h = record { writes = ap (λ (o : Outside). o.failed_writes) h.2; out = ap (λ (o : Outside). o.out.faults) h.2;
-    err = h.1 }
+lacked (Write file) old new h = record {
+  writes = ap (λ (o : Outside). o.failed_writes) h.1 ∙ append-nil old.failed_writes;
+  out =
+      ap (λ (o : Outside). o.out.faults) h.1;
+  err = ap (λ (o : Outside). o.err.faults) h.1;
+}
+lacked (Print text) old new h = record {
+  writes = ap (λ (o : Outside). o.failed_writes) h.2;
+  out = h.1;
+  err =
+      ap (λ (o : Outside). o.err.faults) h.2;
+}
+lacked (Say line) old new h = record {
+  writes = ap (λ (o : Outside). o.failed_writes) h.2;
+  out = ap (λ (o : Outside). o.out.faults) h.2;
+  err = h.1;
+}
 
 no_change : (at : Outside) → Same at at
 no_change at = record { writes = refl; out = refl; err = refl }
@@ -90,7 +113,7 @@ pub done_more : (actions : List Action) (i : ℕ) (a : Action) {from at to : Out
     AreDone (take i actions) from at → Acts a (Ok tt) at to → AreDone (take (i + 1) actions) from to
 done_more actions i a {from} {at} {to} within is done act =
     let grown : take (i + 1) actions ≡ take i actions ++ a ∷ [] = take_more actions i a within ∙
-          ap (λ (z : Action). take i actions ++ z ∷ []) (sym is) in
+    ap (λ (z : Action). take i actions ++ z ∷ []) (sym is) in
     subst (λ (z : List Action). AreDone z from to) (sym grown) (done_push a done act)
 
 pub done_whole : (actions : List Action) (i : ℕ) {meant : Status} {from to : Outside} → length actions ≡ i →
@@ -257,20 +280,24 @@ unfaulted from to w o e (put_err r) = e r
 pub calm : {actions : List Action} {meant status : Status} {from to : Outside} → Delivers actions meant from status to →
     meant ≢ statuses.WriteFault
     → to.failed_writes ≡ from.failed_writes → (Rose from.out.faults to.out.faults → ⊥) → (Rose from.err.faults to.err.faults → ⊥) →
-        status ≢ statuses.WriteFault
+    status ≢ statuses.WriteFault
 calm {from = from} {to = to} d isnt w o e is = unfaulted from to w o e (faulted d isnt is)
 
 -- the failed writes grew by nothing, or by one of these
 abbrev pub Grown : List Action → Outside → Outside → Type 0
 Grown actions from to =
     (to.failed_writes ≡ from.failed_writes) ⊎ ((file : Output) × Contains actions (Write file)
-        × (to.failed_writes ≡ from.failed_writes ++ file.name ∷ []))
+    × (to.failed_writes ≡ from.failed_writes ++ file.name ∷ []))
 
 stop_grown : (actions : List Action) (from at : Outside) (a : Action) {status : Status} {to : Outside} → Contains actions a →
     at.failed_writes ≡ from.failed_writes → Stops a at status to → Grown actions from to
 stop_grown actions from at (Write file) has w (fails mid act told) =
-    inr (file, has, told_writes (Write file) _ _ _ told ∙ ap (λ (o : Outside). o.failed_writes) act.1 ∙
-        ap (λ (z : List Word). z ++ file.name ∷ []) w)
+    inr (
+      file,
+      has,
+      told_writes (Write file) _ _ _ told ∙ ap (λ (o : Outside). o.failed_writes) act.1 ∙
+          ap (λ (z : List Word). z ++ file.name ∷ []) w,
+    )
 stop_grown actions from at (Print text) has w (fails mid act told) =
     inl (told_writes (Print text) _ _ _ told ∙ ap (λ (o : Outside). o.failed_writes) act.2 ∙ w)
 stop_grown actions from at (Say line) has w (fails mid act told) =
@@ -295,8 +322,8 @@ other_file : (name other content : List ℕ) (files : Option Files) → (name �
 other_file name other content None isnt = refl
 other_file name other content (Some m) isnt =
     ap (λ (z : Option (List ℕ)). Some z) (get-insert nat_list_cmp_total m name content other ∙
-        ap (λ (b : Bool). cond b (Some content) (map.get m other)) (is_eq-slice_cmp other name ∙ differ (bytes_eq other name)
-        (bytes_eq-Decides other name) (λ e. isnt (sym e))))
+    ap (λ (b : Bool). cond b (Some content) (map.get m other)) (is_eq-slice_cmp other name ∙ differ (bytes_eq other name)
+    (bytes_eq-Decides other name) (λ e. isnt (sym e))))
 
 held_written : (file : Output) (answer : Result Unit IoFault) (name : Word) (old new : Outside) → (file.name ≡ name → ⊥) →
     Acts (Write file) answer old new → held new name ≡ held old name
@@ -336,6 +363,6 @@ pub kept : {actions : List Action} {meant status : Status} {from to : Outside} (
 kept name avoids (whole done) = held_done name avoids done
 kept name avoids (cut front a rest at split done stop) =
     held_stopped a name (λ file has. avoids file (subst (λ (z : List Action). Contains z (Write file)) (sym split)
-        (Contains-append_right front (a ∷ rest) (Write file) (Contains-append_left (a ∷ []) rest (Write file) has)))) stop ∙
-        held_done name (λ file has. avoids file (subst (λ (z : List Action). Contains z (Write file)) (sym split)
-        (Contains-append_left front (a ∷ rest) (Write file) has))) done
+    (Contains-append_right front (a ∷ rest) (Write file) (Contains-append_left (a ∷ []) rest (Write file) has)))) stop ∙
+    held_done name (λ file has. avoids file (subst (λ (z : List Action). Contains z (Write file)) (sym split)
+    (Contains-append_left front (a ∷ rest) (Write file) has))) done

@@ -131,7 +131,7 @@ stopped local calls text status refusal (complete h) trace = cc
 stopped local calls text status refusal (unfinished h isnt) trace = cc
 stopped local calls text status refusal (not_offered front call rest split before isnt) trace =
     isnt (calls_of rest) (subst (λ (z : List Call). Trace local.me (protocol_of local) z)
-        (ap calls_of split ∙ map-append (λ c. c.call) front (call ∷ rest)) trace)
+    (ap calls_of split ∙ map-append (λ c. c.call) front (call ∷ rest)) trace)
 
 same_local : (k l : LocalTree) → Protocol k ≡ Protocol l → k ≡ l
 same_local k l e = cc
@@ -338,7 +338,7 @@ broken_command (commands.compile (not_compiled r)) e = absurd cc
 broken_command (commands.run {asked = asked} {files = files} {contents = contents} (ran r h)) e =
     let all : List Stand = stands_in r.program r.last in
     absurd (tests_whole (list_any is_bound all) (list_any is_broken all) (list_any is_zero all) (list_any is_mismatch all)
-        (list_any is_waiting all)
+    (list_any is_waiting all)
     (none_broken (sources files contents) (role_mains_of asked) (order_of asked) (limit_of asked) r h) e)
 broken_command (commands.run (not_run r)) e = absurd cc
 broken_command (commands.refine (refined {stands = stands} h)) e = absurd (told_whole stands e)

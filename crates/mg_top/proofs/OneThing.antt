@@ -167,8 +167,14 @@ run_once : {asked : Asked} {files : List Source} {a b : List Action} {m n : Stat
     m ≢ statuses.Refused → a ≡ b
 run_once {asked = asked} {files = files} (ran r h) (ran s k) e ne =
     let same = one_of_run files (role_mains_of asked) (order_of asked) (limit_of asked) r s h k in
-    λ i. run_actions asked (record { core = same.core i; written = same.written i; program = same.program i; first = r.first; last =
-        same.last i })
+    λ i. run_actions asked (record {
+      core = same.core i;
+      written = same.written i;
+      program = same.program i;
+      first = r.first;
+      last =
+          same.last i;
+    })
 run_once (ran r h) (not_run q) e ne = absurd (ne e)
 run_once (not_run r) z e ne = absurd (ne refl)
 

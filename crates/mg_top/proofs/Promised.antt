@@ -65,9 +65,12 @@ module _ (words : List Word) (before : Outside) where
   words_only : {actions : List Action} {meant status : Status} {at after : Outside} → IsDue words before actions meant at →
       Delivers actions meant at status after → status ≡ statuses.Words
       → (word : Option Word) × AreWrong words word × AreDone (Say (words_line word) ∷ []) before after
-  words_only (wrong word is) d e =
-      (word, is, (laws.is_whole d (λ h. let no : statuses.Words ≡ statuses.WriteFault = sym e ∙ h in cc)
-      (λ h. let no : statuses.Words ≡ statuses.Memory = sym e ∙ h in cc)).1)
+  words_only (wrong word is) d e = (
+    word,
+    is,
+    (laws.is_whole d (λ h. let no : statuses.Words ≡ statuses.WriteFault = sym e ∙ h in cc)
+        (λ h. let no : statuses.Words ≡ statuses.Memory = sym e ∙ h in cc)).1,
+  )
   words_only (unread name may) d e = absurd (not_given statuses.Words (laws.stops d) (λ h. cc) (λ h. cc) (λ h. cc) e)
   words_only (yielded command contents is read y) d e = absurd (not_given statuses.Words (laws.stops d) (proper y).0 (λ h. cc) (λ h. cc) e)
   words_only starved d e = absurd (not_given statuses.Words (laws.stops d) (λ h. cc) (λ h. cc) (λ h. cc) e)
@@ -85,9 +88,12 @@ module _ (words : List Word) (before : Outside) where
       Delivers actions meant at status after → status ≡ statuses.ReadFault
       → (name : Word) × IsUnread words before name × AreDone (Say (read_line name) ∷ []) (after_read before name) after
   read_only (wrong word is) d e = absurd (not_given statuses.ReadFault (laws.stops d) (λ h. cc) (λ h. cc) (λ h. cc) e)
-  read_only (unread name may) d e =
-      (name, may, (laws.is_whole d (λ h. let no : statuses.ReadFault ≡ statuses.WriteFault = sym e ∙ h in cc)
-      (λ h. let no : statuses.ReadFault ≡ statuses.Memory = sym e ∙ h in cc)).1)
+  read_only (unread name may) d e = (
+    name,
+    may,
+    (laws.is_whole d (λ h. let no : statuses.ReadFault ≡ statuses.WriteFault = sym e ∙ h in cc)
+        (λ h. let no : statuses.ReadFault ≡ statuses.Memory = sym e ∙ h in cc)).1,
+  )
   read_only (yielded command contents is read y) d e = absurd (not_given statuses.ReadFault (laws.stops d) (proper y).1 (λ h. cc) (λ h. cc)
       e)
   read_only starved d e = absurd (not_given statuses.ReadFault (laws.stops d) (λ h. cc) (λ h. cc) (λ h. cc) e)
@@ -107,9 +113,18 @@ module _ (words : List Word) (before : Outside) where
   only (wrong word is) d (a, b, c, e) = absurd (a (laws.is_whole d c e).0)
   only (unread name may) d (a, b, c, e) = absurd (b (laws.is_whole d c e).0)
   only {actions = actions} (yielded command contents is read y) d (a, b, c, e) =
-      let whole = laws.is_whole d c e in
-      (actions, record { command = command; contents = contents; is = is; read = read; yields =
-          subst (λ (s : Status). Yields command contents actions s) (sym whole.0) y }, whole.1)
+      let whole = laws.is_whole d c e in (
+        actions,
+        record {
+          command = command;
+          contents = contents;
+          is = is;
+          read = read;
+          yields =
+              subst (λ (s : Status). Yields command contents actions s) (sym whole.0) y;
+        },
+        whole.1,
+      )
   only starved d (a, b, c, e) = absurd (e (laws.is_whole d c e).0)
   only (mute other may) d (a, b, c, e) = absurd (e (laws.is_whole d c e).0)
 
@@ -151,20 +166,20 @@ module _ (words : List Word) (before : Outside) where
   where_yielded : {actions : List Action} {meant status : Status} {at after : Outside} → IsDue words before actions meant at →
       Delivers actions meant at status after
       → (xs : List Action) (m : Status) (files : Files) → before.files ≡ Some files → Carries words before xs m →
-          after.failed_reads ≡ before.failed_reads → IsUnlessStopped m status
+      after.failed_reads ≡ before.failed_reads → IsUnlessStopped m status
   where_yielded (wrong word is) d xs m files told c quiet = absurd (wrong_is_none words word c.command is c.is)
   where_yielded (unread name may) d xs m files told c quiet = absurd (longer before.failed_reads name (sym (laws.reads_kept d) ∙ quiet))
   where_yielded {actions = actions} {meant = meant} {status = status} (yielded command contents is read y) d xs m files told c quiet =
       let same : command ≡ c.command = same_command words command c.command is c.is in
       let most : ℕ = read_limit c.command in
       let mine : AreRead most (Some files) (files_of c.command) contents =
-            subst (λ (o : Option Files). AreRead most o (files_of c.command) contents) told
-            (subst (λ (k : Command). AreRead (read_limit k) before.files (files_of k) contents) same read) in
+      subst (λ (o : Option Files). AreRead most o (files_of c.command) contents) told
+      (subst (λ (k : Command). AreRead (read_limit k) before.files (files_of k) contents) same read) in
       let yours : AreRead most (Some files) (files_of c.command) c.contents =
-            subst (λ (o : Option Files). AreRead most o (files_of c.command) c.contents) told c.read in
+      subst (λ (o : Option Files). AreRead most o (files_of c.command) c.contents) told c.read in
       let contents_are : contents ≡ c.contents = same_read most files (files_of c.command) contents c.contents mine yours in
       let mine' : Yields c.command c.contents actions meant = subst (λ (z : List (List ℕ)). Yields c.command z actions meant) contents_are
-            (subst (λ (k : Command). Yields k contents actions meant) same y) in
+      (subst (λ (k : Command). Yields k contents actions meant) same y) in
       subst (λ (s : Status). IsUnlessStopped s status) (one_status mine' c.yields) (laws.stops d)
   where_yielded starved d xs m files told c quiet = to_memory (laws.stops d)
   where_yielded (mute other may) d xs m files told c quiet = to_memory (laws.stops d)
@@ -231,25 +246,29 @@ module _ (words : List Word) (before : Outside) where
   complete : {actions : List Action} {meant status : Status} {at after : Outside} → IsDue words before actions meant at →
       Delivers actions meant at status after
       → (command : Command) → IsCommand command words → IsSmooth before after → (status ≡ statuses.Memory)
-          ⊎ ((xs : List Action) × Carries words before xs status)
+      ⊎ ((xs : List Action) × Carries words before xs status)
   complete (wrong word is) d command k smooth = absurd (wrong_is_none words word command is k)
   complete (unread name may) d command k smooth = absurd (longer before.failed_reads name (sym (laws.reads_kept d) ∙ smooth.reads))
   complete (yielded c contents is read y) d command k smooth =
       carried (record { command = c; contents = contents; is = is; read = read; yields = y }) (laws.stops d)
-          (laws.calm d (proper y).2 smooth.writes smooth.out smooth.err)
+      (laws.calm d (proper y).2 smooth.writes smooth.out smooth.err)
   complete starved d command k smooth = lacked (laws.stops d) (laws.calm d (λ h. cc) smooth.writes smooth.out smooth.err)
   complete (mute other may) d command k smooth = lacked (laws.stops d) (laws.calm d (λ h. cc) smooth.writes smooth.out smooth.err)
 
   -- ---- in every status
 
   may_of : {name : Word} → IsUnread words before name → MayRead words name
-  may_of {name = name} u = (u.command, u.is, subst (λ (z : List Word). Contains z name) (sym u.stands)
-      (Contains-append_right u.front (name ∷ u.rest) name (0, omega arith, refl)))
+  may_of {name = name} u = (
+    u.command,
+    u.is,
+    subst (λ (z : List Word). Contains z name) (sym u.stands)
+        (Contains-append_right u.front (name ∷ u.rest) name (0, omega arith, refl)),
+  )
 
   reads_grow : {actions : List Action} {meant status : Status} {at after : Outside} → IsDue words before actions meant at →
       Delivers actions meant at status after
       → (after.failed_reads ≡ before.failed_reads)
-          ⊎ ((name : Word) × MayRead words name × (after.failed_reads ≡ before.failed_reads ++ name ∷ []))
+      ⊎ ((name : Word) × MayRead words name × (after.failed_reads ≡ before.failed_reads ++ name ∷ []))
   reads_grow (wrong word is) d = inl (laws.reads_kept d)
   reads_grow (unread name may) d = inr (name, may_of may, laws.reads_kept d)
   reads_grow (yielded command contents is read y) d = inl (laws.reads_kept d)
@@ -286,8 +305,21 @@ module _ (words : List Word) (before : Outside) where
   kept (unread other may) d name isnt = laws.kept name (λ file has e. no_writes (read_line other) file has) d
   kept {actions = actions} {meant = meant} (yielded command contents is read y) d name isnt =
       laws.kept name (λ file has e. isnt
-          (record { actions = actions; meant = meant; carries = record { command = command; contents = contents; is = is; read =
-          read; yields = y }; file = file; named = e; writes = has })) d
+      (record {
+        actions = actions;
+        meant = meant;
+        carries = record {
+          command = command;
+          contents = contents;
+          is = is;
+          read =
+              read;
+          yields = y;
+        };
+        file = file;
+        named = e;
+        writes = has;
+      })) d
   kept starved d name isnt = laws.kept name (λ file has e. no_writes memory_line file has) d
   kept (mute other may) d name isnt = laws.kept name (λ file has e. no_writes memory_line file has) d
 

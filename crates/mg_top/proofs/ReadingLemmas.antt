@@ -17,8 +17,12 @@ use Rattle.mg_top.specs.inner.Preparing.{AreContents}
 is_front : (limit : ℕ) (o : Option (List ℕ)) (bytes : List ℕ) → option_map (take limit) o ≡ Some bytes →
     (content : List ℕ) × (o ≡ Some content) × (bytes ≡ take limit content)
 is_front limit None bytes e = absurd cc
-is_front limit (Some content) bytes e = (content, refl, let h : ◌≡◌ {A = Option (List ℕ)} (Some (take limit content)) (Some bytes) = e in
-    cc)
+is_front limit (Some content) bytes e = (
+  content,
+  refl,
+  let h : ◌≡◌ {A = Option (List ℕ)} (Some (take limit content)) (Some bytes) = e in
+      cc,
+)
 
 is_read : (limit : ℕ) (files : Option Files) (name file : Word) (bytes : List ℕ) → length bytes ≤ limit → name ≡ file →
     IfSome files (λ m. option_map (take limit) (map.get m name) ≡ Some bytes) → IsRead limit files file bytes
@@ -46,14 +50,14 @@ pub read_more : (limit : ℕ) (files files' : Option Files) (names : List Word) 
     (contents contents' : List (List ℕ)) → i < length names → name ≡ get_or names i name → asked ≡ name → length bytes ≤ limit →
     files' ≡ files → contents' ≡ contents ++ bytes ∷ []
     → AreRead limit files (take i names) contents → IfSome files' (λ m. option_map (take limit) (map.get m asked) ≡ Some bytes) →
-        AreRead limit files (take (i + 1) names) contents'
+    AreRead limit files (take (i + 1) names) contents'
 read_more limit files files' names i name asked bytes contents contents' within is as_asked few same grown before h =
     let told = subst (λ (f : Option Files). IfSome f (λ m. option_map (take limit) (map.get m asked) ≡ Some bytes)) same h in
     let names_are : take i names ++ name ∷ [] ≡ take (i + 1) names = ap (λ (z : Word). take i names ++ z ∷ []) is ∙
-          sym (take_more names i name within) in
+    sym (take_more names i name within) in
     subst (λ (z : List Word). AreRead limit files z contents') names_are
     (subst (λ (z : List (List ℕ)). AreRead limit files (take i names ++ name ∷ []) z) (sym grown)
-        (read_push limit files (take i names) contents name bytes before (is_read limit files asked name bytes few as_asked told)))
+    (read_push limit files (take i names) contents name bytes before (is_read limit files asked name bytes few as_asked told)))
 
 -- all was read
 pub read_all : (limit : ℕ) (files : Option Files) (names : List Word) (i : ℕ) (contents : List (List ℕ)) → length names ≤ i →
@@ -66,7 +70,7 @@ pub split_at : (names : List Word) (i : ℕ) (name : Word) → i < length names 
 split_at names i name within is =
     sym (take-append-drop i names)
     ∙ ap (λ (z : List Word). take i names ++ z) (at_drop_more (λ (z : List Word). z) names i name within ∙
-        ap (λ (y : Word). y ∷ drop (i + 1) names) (sym is))
+    ap (λ (y : Word). y ∷ drop (i + 1) names) (sym is))
 
 -- nothing outside changed
 pub unchanged : (files files' : Option Files) (reads reads' writes writes' : List Word) (o e : Stream) → files' ≡ files → reads' ≡ reads →

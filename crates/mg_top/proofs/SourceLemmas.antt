@@ -39,7 +39,7 @@ scribble_kinds names each k d lt = (Scribble, (each k d lt).1)
 pub translated : (folder : Option Word) (n : ℕ) (names : List Word) (contents : List (List ℕ)) (parts : List Part) (actions : List Action) →
     All (IsFileOf (codes ".scr")) names
     → EachSpells (sources_from n names contents) parts → EachIsWritten folder (locals_in parts) actions →
-        EachTranslates folder (sources_from n names contents) actions
+    EachTranslates folder (sources_from n names contents) actions
 translated folder n [] contents [] actions scribble each preparing.none = none
 translated folder n [] contents (p ∷ ps) actions scribble each written = absurd each
 translated folder n (x ∷ xs) [] [] actions scribble each preparing.none = none
@@ -47,7 +47,7 @@ translated folder n (x ∷ xs) [] (p ∷ ps) actions scribble each written = abs
 translated folder n (x ∷ xs) (b ∷ bs) [] actions scribble each written = absurd each
 translated folder n (x ∷ xs) (b ∷ bs) (Protocol l ∷ ps) actions scribble (reads, rest) (preparing.one {actions = more} t written) =
     one (record { local = l; spelled = reads; translation = t })
-        (translated folder (suc n) xs bs ps more (λ k d lt. scribble (suc k) d (omega arith)) rest written)
+    (translated folder (suc n) xs bs ps more (λ k d lt. scribble (suc k) d (omega arith)) rest written)
 translated folder n (x ∷ xs) (b ∷ bs) (States t ∷ ps) actions scribble (reads, rest) written =
     absurd (no_states (source_of n x b) t (scribble zero x (omega arith)).1 reads)
 translated folder n (x ∷ xs) (b ∷ bs) (Classes c ∷ ps) actions scribble (reads, rest) written =
@@ -74,28 +74,28 @@ part_written {folder} {locals} (Protocol l) before added = subst (EachIsWritten 
     (written_push l added.writes before added.translation)
 part_written {folder} {locals} {actions} {actions'} (States t) before same =
     subst (λ (z : List LocalTree). EachIsWritten folder z actions') (sym (append-nil locals))
-        (subst (EachIsWritten folder locals) (sym same) before)
+    (subst (EachIsWritten folder locals) (sym same) before)
 part_written {folder} {locals} {actions} {actions'} (Classes c) before same =
     subst (λ (z : List LocalTree). EachIsWritten folder z actions') (sym (append-nil locals))
-        (subst (EachIsWritten folder locals) (sym same) before)
+    (subst (EachIsWritten folder locals) (sym same) before)
 
 pub written_more : {folder : Option Word} {actions actions' : List Action} (parts : List KeptPart) (i : ℕ) (p : KeptPart) → i < length parts
     →
     p ≡ get_or parts i p → EachIsWritten folder (locals_in (map part_of (take i parts))) actions →
-        AddsPart folder (part_of p) actions actions' →
+    AddsPart folder (part_of p) actions actions' →
     EachIsWritten folder (locals_in (map part_of (take (i + 1) parts))) actions'
 written_more {folder} {actions} {actions'} parts i p lt is before added =
     let names : map part_of (take (i + 1) parts) ≡ map part_of (take i parts) ++ part_of p ∷ [] =
     ap (map part_of) (take_more parts i p lt ∙ ap (λ (z : KeptPart). take i parts ++ z ∷ []) (sym is)) ∙ map-append part_of (take i parts)
-        (p ∷ []) in
+    (p ∷ []) in
     subst (λ (z : List LocalTree). EachIsWritten folder z actions')
-        (sym (ap locals_in names ∙ locals_push (map part_of (take i parts)) (part_of p)))
+    (sym (ap locals_in names ∙ locals_push (map part_of (take i parts)) (part_of p)))
     (part_written (part_of p) before added)
 
 -- a protocol's typestate and the files of its API are appended
 pub adds_translation : (r : Result Unit Memory) (folder : Option Word) (local : LocalTree) (before pushed after : List Action)
     (files listed : List ApiFile) (file : Output) → IsTypestateFile folder local file → IsApi local (map written_of files) → listed ≡ files
-        →
+    →
     pushed ≡ before ++ acts.Write file ∷ [] → OnOk r (after ≡ pushed ++ map (api_written folder) (map written_of listed)) →
     OnOk r (AddsTranslation folder local before after)
 adds_translation (Err e) folder local before pushed after files listed file is api same grown h = tt

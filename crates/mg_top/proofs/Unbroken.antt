@@ -61,7 +61,7 @@ none_broken files mains order limit r h =
     let taken : List ℕ = first_turns order h.runs.taken in
     let long : length r.last.roles ≡ length mains
     = ap (λ (w : World). length w.roles) h.runs.is ∙ turns_long r.program r.first taken ∙ started_long r.program mains r.first.roles
-        h.begins.roles in
+    h.begins.roles in
     stands_fine r.program r.last 0 r.last.roles (λ i role at.
     let main = get_within mains i (subst (λ (n : ℕ). i < n) long (got_within r.last.roles i role at)) in
     let at_moment : slice_get (turns r.program r.first taken).roles i ≡ Some role

@@ -58,7 +58,7 @@ pub data IsDue (words : List Word) (before : Outside) : List Action → Status �
   -- the command gives these
   yielded : {actions : List Action} {meant : Status} (command : Command) (contents : List (List ℕ)) → IsCommand command words →
       AreRead (read_limit command) before.files (files_of command) contents → Yields command contents actions meant →
-          IsDue words before actions meant before
+      IsDue words before actions meant before
   -- memory lacks, or lacks to say that a file of the words can't be read
   starved : IsDue words before (Say memory_line ∷ []) statuses.Memory before
   mute : (name : Word) → IsUnread words before name → IsDue words before (Say memory_line ∷ []) statuses.Memory (after_read before name)

@@ -206,7 +206,7 @@ module _ (ran : Input) where
   pub lacks_first : (asked : Asked) (files : List Word) (found : Option (Bor Word)) → option_copied found ≡ slice_get files 0
       → 0 < length files → IsPlain files → are_whole asked.roles asked.order ≡ false
       → (o : List RunOption) → AreGiven o asked → Keeps ran asked.folder → AreWrong (run ∷ (words_of o ++ files))
-          (option_map (λ w. w.now) found)
+      (option_map (λ w. w.now) found)
   lacks_first asked files found e some plain lacks =
       let (word, rest, is, same) = first_at files found e some in
       λ o h keeps. subst (λ (r : Option Word). AreWrong (run ∷ (words_of o ++ files)) r) (sym same)

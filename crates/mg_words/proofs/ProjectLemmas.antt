@@ -61,7 +61,7 @@ protocol_behind command folder rest plain is =
 folder_word : (command : Command) (f : Word) (rest : List Word) → IsCommand command (project ∷ out ∷ f ∷ rest) → IsFileName f
 folder_word command f rest is =
     let (d, files, same, (e, name, one)) = is_project command (out ∷ f ∷ rest) is in folder_behind IsOneProtocol no_protocol d files f rest
-        e name one
+    e name one
 
 out_is_none : (command : Command) → IsCommand command (project ∷ out ∷ []) → ⊥
 out_is_none command is =
@@ -123,7 +123,7 @@ wrong_protocol folder files word more name plain e isnt = wrong_behind folder []
   cannot : (command : Command) (after : List Word) → IsCommand command (project ∷ (out_words folder ++ word ∷ after)) → ⊥
   cannot command after is =
       let one : IsOneProtocol (word ∷ after) = protocol_behind command folder (word ∷ after)
-            (plain_first folder files word more after plain e) is in
+      (plain_first folder files word more after plain e) is in
       isnt (subst (IsFileOf (codes ".scr")) (sym (head_is one.one)) one.scribble)
 
 pub wrong_surplus : (folder : Option Word) (files : List Word) (file word : Word) (more more' : List Word) → IfSome folder IsFileName
@@ -131,15 +131,15 @@ pub wrong_surplus : (folder : Option Word) (files : List Word) (file word : Word
     → AreWrong (project ∷ (out_words folder ++ files)) (Some word)
 wrong_surplus folder files file word more more' name e e' h =
     wrong_behind folder (file ∷ []) files word more' (e ∙ ap (λ (z : List Word). file ∷ z) e') (begins_protocol folder file name h) cannot
-        where
-      plain : folder ≡ None → (r : List Word) (after : List Word) → file ∷ after ≡ out ∷ r → ⊥
-      plain n r after is = let first : IsFileOf (codes ".scr") out = subst (IsFileOf (codes ".scr")) (head_is is) h in first.0 refl
+  where
+    plain : folder ≡ None → (r : List Word) (after : List Word) → file ∷ after ≡ out ∷ r → ⊥
+    plain n r after is = let first : IsFileOf (codes ".scr") out = subst (IsFileOf (codes ".scr")) (head_is is) h in first.0 refl
 
-      cannot : (command : Command) (after : List Word) → IsCommand command (project ∷ (out_words folder ++ file ∷ word ∷ after)) → ⊥
-      cannot command after is =
-          let one : IsOneProtocol (file ∷ word ∷ after) = protocol_behind command folder (file ∷ word ∷ after)
-                (λ n r. plain n r (word ∷ after)) is in
-          filled (sym (tail_is one.one))
+    cannot : (command : Command) (after : List Word) → IsCommand command (project ∷ (out_words folder ++ file ∷ word ∷ after)) → ⊥
+    cannot command after is =
+        let one : IsOneProtocol (file ∷ word ∷ after) = protocol_behind command folder (file ∷ word ∷ after)
+        (λ n r. plain n r (word ∷ after)) is in
+        filled (sym (tail_is one.one))
 
 pub one_protocol : (files : List Word) (file : Word) (more : List Word) → files ≡ file ∷ more → length more ≡ 0 →
     IsFileOf (codes ".scr") file → IsOneProtocol files

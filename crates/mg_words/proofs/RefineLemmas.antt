@@ -47,7 +47,7 @@ is_refine (Project folder files) rest (r, e, b) = refine_project (head_is e)
 first_word : (command : Command) (p : Word) (more : List Word) → IsCommand command (refine ∷ p ∷ more) → IsFileOf (codes ".protocol") p
 first_word command p more is =
     let (files, same, (e, h)) = is_refine command (p ∷ more) is in subst (IsFileOf (codes ".protocol")) (sym (head_is (e ∙ h.two)))
-        h.of_first
+    h.of_first
 
 second_word : (command : Command) (p q : Word) (more : List Word) → IsCommand command (refine ∷ p ∷ q ∷ more)
     → IsFileOf (codes ".protocol") q × (more ≡ [])
@@ -71,7 +71,7 @@ pub few_first : (rest : List Word) (first : Word) (more : List Word) → rest �
     → length more ≡ 0 → AreWrong (refine ∷ rest) None
 few_first rest first more is h e =
     subst (λ (z : List Word). AreWrong (refine ∷ z) None) (sym is) (few (refine ∷ first ∷ []) more e (begins_first first h)
-        (first_is_none first))
+    (first_is_none first))
 
 pub wrong_first : (rest : List Word) (word : Word) (more : List Word) → rest ≡ word ∷ more → (IsFileOf (codes ".protocol") word → ⊥)
     → AreWrong (refine ∷ rest) (Some word)
@@ -89,13 +89,19 @@ pub wrong_surplus : (rest : List Word) (first second word : Word) (more more' mo
 wrong_surplus rest first second word more more' more'' e e' e'' h h' =
     subst (λ (ws : List Word). AreWrong (refine ∷ ws) (Some word)) (sym (e ∙ ap (λ (z : List Word). first ∷ z) e'))
     (wrong_at (refine ∷ first ∷ second ∷ []) more' word more'' e'' (begins_second first second h h')
-        (λ b. filled (sym (second_word b.1.0 first second (word ∷ b.0) b.1.1).1)))
+    (λ b. filled (sym (second_word b.1.0 first second (word ∷ b.0) b.1.1).1)))
 
 pub two_typestates : (rest : List Word) (first second : Word) (more more' : List Word) → rest ≡ first ∷ more → more ≡ second ∷ more'
     → length more' ≡ 0 → IsFileOf (codes ".protocol") first → IsFileOf (codes ".protocol") second → AreTwoTypestates rest
 two_typestates rest first second more more' e e' n h h' =
-    record { first = first; second = second; two = e ∙ ap (λ (z : List Word). first ∷ z)
-        (e' ∙ ap (λ (z : List Word). second ∷ z) (empty_is more' n)); of_first = h; of_second = h' }
+    record {
+      first = first;
+      second = second;
+      two = e ∙ ap (λ (z : List Word). first ∷ z)
+          (e' ∙ ap (λ (z : List Word). second ∷ z) (empty_is more' n));
+      of_first = h;
+      of_second = h';
+    }
 
 pub known_refine : (rest : List Word) → AreTwoTypestates rest → IsCommand (Refine rest) (refine ∷ rest)
 known_refine rest two = (rest, refl, (refl, two))
@@ -112,4 +118,4 @@ pub kinds_of_two : (words files : List Word) → IsCommand (Refine files) words 
 kinds_of_two words files (r, e, (behind, two)) =
     subst (All (EndsWith (codes ".protocol"))) (sym two.two)
     (All-cons (EndsWith (codes ".protocol")) two.first (two.second ∷ []) two.of_first.1 (All-one (EndsWith (codes ".protocol")) two.second
-        two.of_second.1))
+    two.of_second.1))

@@ -168,7 +168,7 @@ module _ (ran : Input) where
   it_is : (rs : List RoleClass) (n : Word) → Contains (role_names (rs ++ role_of n ∷ [])) n
   it_is rs n =
       subst (λ (z : List Word). Contains z n) (sym (names_push rs (role_of n))) (Contains-append_right (role_names rs) (n ∷ []) n
-          (here n []))
+      (here n []))
 
   -- a role that an order names can follow where it wasn't named yet
   wanted_fits : (a : Asked) (rs : List RoleClass) (names : List Word) (n : Word) → a.roles ≡ Several rs → a.order ≡ Some names → IsName n
@@ -185,7 +185,7 @@ module _ (ran : Input) where
   begins_named : (todo : List Word) (o : List RunOption) (a : Asked) (rs : List RoleClass) (names : List Word) → AreGiven o a
       → a.roles ≡ Several rs → a.order ≡ Some names → All IsName todo → All (Contains names) todo
       → ((m : Word) → Contains names m → Contains (role_names rs) m ⊎ Contains todo m) → Keeps ran a.folder →
-          CanBegin AreCommand (run ∷ words_of o)
+      CanBegin AreCommand (run ∷ words_of o)
   begins_named [] o a rs names h is ordered named wanted each keeps = begins_all o a (whole_all o a h whole) keeps where
     found : (m : Word) → Contains (role_names rs) m ⊎ Contains [] m → Contains (role_names rs) m
     found m (inl k) = k
@@ -303,7 +303,7 @@ module _ (ran : Input) where
   wrong_value o a option word value rest h keeps free can is other isnt =
       subst (λ (z : List Word). AreWrong (run ∷ z) (Some value)) (append_assoc (words_of o) (word ∷ []) (value ∷ rest))
       (first_wrong (run ∷ (words_of o ++ word ∷ [])) value rest (begins_word o a option word h keeps free can is)
-          (λ b. cannot b.0 b.1.0 b.1.1)) where
+      (λ b. cannot b.0 b.1.0 b.1.1)) where
         by : (more : List Word) (more' : List RunOption) (files : List Word) (asked : Asked)
             → word_of option ∷ value ∷ more ≡ words_of more' ++ files → AreFor ran files → AreAll (o ++ more') asked → ⊥
         by more [] files asked e are all = no_word ran option (value ∷ more) files e are
@@ -372,20 +372,20 @@ module _ (ran : Input) where
       → AreWrong (run ∷ (words_of o ++ word ∷ rest)) (Some word)
   lacks_role o a word rest h keeps lacks plain = first_wrong (run ∷ words_of o) word rest (begins_options o a h keeps)
       (λ b. cannot b.0 b.1.0 b.1.1) where
-    by : (more : List Word) (more' : List RunOption) (files : List Word) (asked : Asked) → word ∷ more ≡ words_of more' ++ files
-        → AreAll (o ++ more') asked → ⊥
-    by more [] files asked e all =
-        let w : AreAll o asked = subst (λ (z : List RunOption). AreAll z asked) (at_end o) all in
-        let one : a ≡ asked = given_one o a asked h (all_given o asked w) in
-        never_both (are_whole a.roles a.order) (ap (λ (z : Asked). are_whole z.roles z.order) one ∙ all_whole o asked w) lacks
-    by more (x ∷ xs) files asked e all =
-        let start = option_first x word more (words_of xs ++ files) (e ∙ append_assoc (option_words x) (words_of xs) files) in
-        plain (kind_of x) rest (ap (λ (w : Word). w ∷ rest) start)
+        by : (more : List Word) (more' : List RunOption) (files : List Word) (asked : Asked) → word ∷ more ≡ words_of more' ++ files
+            → AreAll (o ++ more') asked → ⊥
+        by more [] files asked e all =
+            let w : AreAll o asked = subst (λ (z : List RunOption). AreAll z asked) (at_end o) all in
+            let one : a ≡ asked = given_one o a asked h (all_given o asked w) in
+            never_both (are_whole a.roles a.order) (ap (λ (z : Asked). are_whole z.roles z.order) one ∙ all_whole o asked w) lacks
+        by more (x ∷ xs) files asked e all =
+            let start = option_first x word more (words_of xs ++ files) (e ∙ append_assoc (option_words x) (words_of xs) files) in
+            plain (kind_of x) rest (ap (λ (w : Word). w ∷ rest) start)
 
-    cannot : (more : List Word) (command : Command) → IsCommand command (((run ∷ words_of o) ++ word ∷ []) ++ more) → ⊥
-    cannot more command k =
-        let goes = goes_on o (word ∷ more) command h.right (subst (IsCommand command) (split o word more) k) in
-        by more goes.more goes.files goes.asked goes.words goes.all
+        cannot : (more : List Word) (command : Command) → IsCommand command (((run ∷ words_of o) ++ word ∷ []) ++ more) → ⊥
+        cannot more command k =
+            let goes = goes_on o (word ∷ more) command h.right (subst (IsCommand command) (split o word more) k) in
+            by more goes.more goes.files goes.asked goes.words goes.all
 
   plain_still : (before : List Word) (word : Word) (after more : List Word) → IsPlain (before ++ word ∷ after)
       → IsPlain (before ++ word ∷ more)
@@ -434,7 +434,7 @@ module _ (ran : Input) where
             (λ i. made ran (one i) (words i)) ∙ sym same
         go asked' files' (x ∷ xs) same words all =
             absurd (no_option ran x (words_of xs ++ files') files (sym (append_assoc (option_words x) (words_of xs) files') ∙ sym words)
-                are)
+            are)
 
 -- ---- words are one command at most
 

@@ -161,8 +161,11 @@ begins_sources before each = (
   some_source ∷ [],
   (
     Check (before ++ some_source ∷ []),
-    (before ++ some_source ∷ [], refl,
-        (refl, (pushed_filled before some_source, All-push IsSourceName before some_source each source_named))),
+    (
+      before ++ some_source ∷ [],
+      refl,
+      (refl, (pushed_filled before some_source, All-push IsSourceName before some_source each source_named)),
+    ),
   ),
 )
 
@@ -333,12 +336,12 @@ translate_files command folder rest plain is =
 folder_word : (command : Command) (f : Word) (rest : List Word) → IsCommand command (translate ∷ out ∷ f ∷ rest) → IsFileName f
 folder_word command f rest is =
     let (d, files, same, (e, name, each)) = is_translate command (out ∷ f ∷ rest) is in folder_behind (AreFilesOf (codes ".scr")) no_file d
-        files f rest e name each
+    files f rest e name each
 
 out_is_none : (command : Command) → IsCommand command (translate ∷ out ∷ []) → ⊥
 out_is_none command is =
     let (d, files, same, (e, name, each)) = is_translate command (out ∷ []) is in folder_lacks (AreFilesOf (codes ".scr")) no_file d files e
-        each
+    each
 
 protocol_word : (command : Command) (p : Word) (more : List Word) → IsCommand command (conform ∷ p ∷ more) → IsFileOf (codes ".scr") p
 protocol_word command p more is =
@@ -365,12 +368,12 @@ compile_files : (command : Command) (folder : Option Word) (rest : List Word) �
     → IsCommand command (compile ∷ (out_words folder ++ rest)) → AreSourceNames rest
 compile_files command folder rest plain is =
     let (d, files, same, (e, name, each)) = is_compile command (out_words folder ++ rest) is in files_behind AreSourceNames no_source d
-        files folder rest plain e each
+    files folder rest plain e each
 
 class_folder_word : (command : Command) (f : Word) (rest : List Word) → IsCommand command (compile ∷ out ∷ f ∷ rest) → IsFileName f
 class_folder_word command f rest is =
     let (d, files, same, (e, name, each)) = is_compile command (out ∷ f ∷ rest) is in folder_behind AreSourceNames no_source d files f rest
-        e name each
+    e name each
 
 class_out_is_none : (command : Command) → IsCommand command (compile ∷ out ∷ []) → ⊥
 class_out_is_none command is =
@@ -382,7 +385,7 @@ pub few : (words rest : List Word) → length rest ≡ 0 → CanBegin AreCommand
     → AreWrong (words ++ rest) None
 few words rest e can isnt =
     subst (λ (ws : List Word). AreWrong ws None) (sym (ap (λ (z : List Word). words ++ z) (empty_is rest e) ∙ nothing_behind words))
-        (can, λ k. isnt k.0 k.1)
+    (can, λ k. isnt k.0 k.1)
 
 pub few_none : (rest : List Word) → length rest ≡ 0 → AreWrong rest None
 few_none rest e = few [] rest e begins_empty none_is_none
@@ -411,7 +414,7 @@ pub few_protocol : (rest : List Word) (protocol : Word) (more : List Word) → r
     → length more ≡ 0 → AreWrong (conform ∷ rest) None
 few_protocol rest protocol more is h e =
     subst (λ (z : List Word). AreWrong (conform ∷ z) None) (sym is) (few (conform ∷ protocol ∷ []) more e (begins_protocol protocol h)
-        (protocol_is_none protocol))
+    (protocol_is_none protocol))
 
 pub few_check : (rest : List Word) → length rest ≡ 0 → AreWrong (check ∷ rest) None
 few_check rest e = few (check ∷ []) rest e begins_check (λ command is. (check_files command [] is).0 refl)
@@ -464,7 +467,7 @@ wrong_command rest word more e is_no_translate is_no_conform is_no_check is_no_c
       cannot : (after : List Word) (command : Command) → IsCommand command (word ∷ after) → ⊥
       cannot after command (r, is, behind) = neither
           (subst (λ (w : Word). (w ≡ translate) ⊎ (w ≡ conform) ⊎ (w ≡ check) ⊎ (w ≡ compile) ⊎ (w ≡ run) ⊎ (w ≡ exec) ⊎ (w ≡ refine)
-              ⊎ (w ≡ project))
+          ⊎ (w ≡ project))
           (sym (head_is is)) (first_word command))
 
 pub wrong_protocol : (rest : List Word) (word : Word) (more : List Word) → rest ≡ word ∷ more → (IsFileOf (codes ".scr") word → ⊥)
@@ -477,7 +480,7 @@ pub wrong_calls : (rest : List Word) (protocol word : Word) (more more' : List W
 wrong_calls rest protocol word more more' e e' h isnt =
     subst (λ (ws : List Word). AreWrong (conform ∷ ws) (Some word)) (sym e)
     (wrong_at (conform ∷ protocol ∷ []) more word more' e' (begins_protocol protocol h)
-        (λ b. isnt (calls_word b.1.0 protocol word b.0 b.1.1).0))
+    (λ b. isnt (calls_word b.1.0 protocol word b.0 b.1.1).0))
 
 pub wrong_third : (rest : List Word) (protocol calls word : Word) (more more' more'' : List Word) → rest ≡ protocol ∷ more
     → more ≡ calls ∷ more' → more' ≡ word ∷ more'' → IsFileOf (codes ".scr") protocol → IsFileName calls
@@ -485,13 +488,19 @@ pub wrong_third : (rest : List Word) (protocol calls word : Word) (more more' mo
 wrong_third rest protocol calls word more more' more'' e e' e'' h h' =
     subst (λ (ws : List Word). AreWrong (conform ∷ ws) (Some word)) (sym (e ∙ ap (λ (z : List Word). protocol ∷ z) e'))
     (wrong_at (conform ∷ protocol ∷ calls ∷ []) more' word more'' e'' (begins_calls protocol calls h h')
-        (λ b. filled (sym (calls_word b.1.0 protocol calls (word ∷ b.0) b.1.1).1)))
+    (λ b. filled (sym (calls_word b.1.0 protocol calls (word ∷ b.0) b.1.1).1)))
 
 pub both_files : (rest : List Word) (protocol calls : Word) (more more' : List Word) → rest ≡ protocol ∷ more → more ≡ calls ∷ more'
     → length more' ≡ 0 → IsFileOf (codes ".scr") protocol → IsFileName calls → AreProtocolAndCalls rest
 both_files rest protocol calls more more' e e' n h h' =
-    record { protocol = protocol; calls = calls; two = e ∙ ap (λ (z : List Word). protocol ∷ z)
-        (e' ∙ ap (λ (z : List Word). calls ∷ z) (empty_is more' n)); scribble = h; named = h' }
+    record {
+      protocol = protocol;
+      calls = calls;
+      two = e ∙ ap (λ (z : List Word). protocol ∷ z)
+          (e' ∙ ap (λ (z : List Word). calls ∷ z) (empty_is more' n));
+      scribble = h;
+      named = h';
+    }
 
 pub wrong_folder : (rest : List Word) (word : Word) (more : List Word) → rest ≡ word ∷ more → (IsFileName word → ⊥)
     → AreWrong (translate ∷ out ∷ rest) (Some word)
@@ -518,9 +527,9 @@ wrong_file folder files word name plain (before, after, is, each, isnt) = record
   found : CanBegin AreCommand ((translate ∷ (out_words folder ++ before)) ++ word ∷ []) → IsFileOf (codes ".scr") word
   found (more, (command, k)) =
       let split : ((translate ∷ (out_words folder ++ before)) ++ word ∷ []) ++ more ≡ translate ∷
-            (out_words folder ++ (before ++ word ∷ more)) =
+      (out_words folder ++ (before ++ word ∷ more)) =
       append_assoc (translate ∷ (out_words folder ++ before)) (word ∷ []) more ∙ ap (λ (z : List Word). translate ∷ z)
-          (append_assoc (out_words folder) before (word ∷ more)) in
+      (append_assoc (out_words folder) before (word ∷ more)) in
       let there : IsCommand command (translate ∷ (out_words folder ++ (before ++ word ∷ more))) = subst (IsCommand command) split k in
       let still = λ (n : folder ≡ None). still_plain before word after more (λ r e. plain n r (is ∙ e)) in
       All-mid (IsFileOf (codes ".scr")) before word more (translate_files command folder (before ++ word ∷ more) still there).1
@@ -536,7 +545,7 @@ wrong_source files word (before, after, is, each, isnt) = record {
   found : CanBegin AreCommand ((check ∷ before) ++ word ∷ []) → IsSourceName word
   found (more, (command, k)) =
       let split : ((check ∷ before) ++ word ∷ []) ++ more ≡ check ∷ (before ++ word ∷ more) = append_assoc (check ∷ before) (word ∷ []) more
-          in
+      in
       All-mid IsSourceName before word more (check_files command (before ++ word ∷ more) (subst (IsCommand command) split k)).1
 
 pub wrong_class_folder : (rest : List Word) (word : Word) (more : List Word) → rest ≡ word ∷ more → (IsFileName word → ⊥)
@@ -558,9 +567,9 @@ wrong_class_source folder files word name plain (before, after, is, each, isnt) 
   found : CanBegin AreCommand ((compile ∷ (out_words folder ++ before)) ++ word ∷ []) → IsSourceName word
   found (more, (command, k)) =
       let split : ((compile ∷ (out_words folder ++ before)) ++ word ∷ []) ++ more ≡ compile ∷
-            (out_words folder ++ (before ++ word ∷ more)) =
+      (out_words folder ++ (before ++ word ∷ more)) =
       append_assoc (compile ∷ (out_words folder ++ before)) (word ∷ []) more ∙ ap (λ (z : List Word). compile ∷ z)
-          (append_assoc (out_words folder) before (word ∷ more)) in
+      (append_assoc (out_words folder) before (word ∷ more)) in
       let there : IsCommand command (compile ∷ (out_words folder ++ (before ++ word ∷ more))) = subst (IsCommand command) split k in
       let still = λ (n : folder ≡ None). still_plain before word after more (λ r e. plain n r (is ∙ e)) in
       All-mid IsSourceName before word more (compile_files command folder (before ++ word ∷ more) still there).1
@@ -632,7 +641,7 @@ pub is_ends : (word suffix : List ℕ) → EndsWith suffix word → ends_with eq
 is_ends word suffix (front, e) =
     let at : length front ≡ length word - length suffix = omega (arith, ap length e, length-append front suffix) in
     let tail : drop (length word - length suffix) word ≡ suffix =
-          rw e (drop_at front suffix _ (at ∙ ap (λ (z : Word). length z - length suffix) e)) in
+    rw e (drop_at front suffix _ (at ∙ ap (λ (z : Word). length z - length suffix) e)) in
     (bytes_eq-Decides suffix (drop (length word - length suffix) word)).1 (sym tail)
 
 -- the name of a file is one of a program's, by its ending
@@ -687,7 +696,7 @@ pub at_index : (words : List Word) (i : ℕ) (word : Word) → i < length words 
     → words ≡ take i words ++ word ∷ drop (suc i) words
 at_index words i word within is =
     sym (take-append-drop i words) ∙ ap (λ (z : List Word). take i words ++ z) (drop-cons words i word within ∙
-        ap (λ (z : Word). z ∷ drop (suc i) words) (sym is))
+    ap (λ (z : Word). z ∷ drop (suc i) words) (sym is))
 
 -- an option of a folder, seen through a reference
 pub named_folder : (folder : Option (Bor Word)) → IfSome folder (λ f. IsFileName f.now)

@@ -57,21 +57,24 @@ looked_same false me n p q (Some peer) = ((refl, refl), tt)
 mutual
   pub actions_same : (me : Name) (n : ℕ) (s t : Statements) → AreSame s t → Zip SameAction (actions me n s) (actions me n t)
   actions_same me n Nothing Nothing e = tt
-  actions_same me n (Says m r) (Says k o) e = ((ap message_call (meant_same m k e.0), ap Moves (meant_same m k e.0)), actions_same me n r o
-      e.1)
+  actions_same me n (Says m r) (Says k o) e = (
+    (ap message_call (meant_same m k e.0), ap Moves (meant_same m k e.0)),
+    actions_same me n r o
+        e.1,
+  )
   actions_same me n (Choice p at bs r) (Choice q by cs o) e =
       subst (λ z. Zip SameAction (actions me n (Choice p at bs r)) (actions me n (Choice q z cs o))) e.0
       (zip-append SameAction (looked_unless (bytes_eq at me) me n p (peer_in bs)) _ (looked_unless (bytes_eq at me) me n q (peer_in cs)) _
       (subst (λ z. Zip SameAction (looked_unless (bytes_eq at me) me n p (peer_in bs)) (looked_unless (bytes_eq at me) me n q z))
-          (peer_same bs cs e.1) (looked_same (bytes_eq at me) me n p q (peer_in bs)))
+      (peer_same bs cs e.1) (looked_same (bytes_eq at me) me n p q (peer_in bs)))
       (zip-append SameAction (actions_in me (opened (bytes_eq at me) n) bs) _ (actions_in me (opened (bytes_eq at me) n) cs) _
       (actions_in_same me (opened (bytes_eq at me) n) bs cs e.1)
       (subst (λ z. Zip SameAction (actions me (next_in me (opened (bytes_eq at me) n) bs) r) (actions me z o))
-          (next_in_same me (opened (bytes_eq at me) n) bs cs e.1) (actions_same me _ r o e.2))))
+      (next_in_same me (opened (bytes_eq at me) n) bs cs e.1) (actions_same me _ r o e.2))))
   actions_same me n (Rec p name body r) (Rec q word inner o) e =
       zip-append SameAction (actions me n body) _ (actions me n inner) _ (actions_same me n body inner e.1)
       (subst (λ z. Zip SameAction (actions me (next me n body) r) (actions me z o)) (next_same me n body inner e.1)
-          (actions_same me _ r o e.2))
+      (actions_same me _ r o e.2))
   actions_same me n (Continue p name r) (Continue q word o) e = actions_same me n r o e.1
   actions_same me n _ _ e = absurd e
 
@@ -81,7 +84,7 @@ mutual
   actions_in_same me n (Branch b more) (Branch d others) e =
       zip-append SameAction (actions me n b) _ (actions me n d) _ (actions_same me n b d e.0)
       (subst (λ z. Zip SameAction (actions_in me (next me n b) more) (actions_in me z others)) (next_same me n b d e.0)
-          (actions_in_same me _ more others e.1))
+      (actions_in_same me _ more others e.1))
   actions_in_same me n _ _ e = absurd e
 
 zip_member : {X Y : Type 0} (R : X → Y → Type 0) (xs : List X) (ys : List Y) → Zip R xs ys → (y : Y) → Contains ys y →
@@ -89,7 +92,7 @@ zip_member : {X Y : Type 0} (R : X → Y → Type 0) (xs : List X) (ys : List Y)
 zip_member R [] [] z y c = absurd (Contains-nil y c)
 zip_member R (x ∷ xs) (u ∷ us) z y c =
     ⊎_elim (λ same. (x, Contains-first xs x, subst (R x) same z.0))
-        (λ m. let o = zip_member R xs us z.1 y m in (o.0, Contains-later xs x o.0 o.1, o.2)) (Contains-cons_cases us u y c)
+    (λ m. let o = zip_member R xs us z.1 y m in (o.0, Contains-later xs x o.0 o.1, o.2)) (Contains-cons_cases us u y c)
 zip_member R [] (u ∷ us) z y c = absurd z
 zip_member R (x ∷ xs) [] z y c = absurd z
 
@@ -97,8 +100,13 @@ pub clash_kept : (es fs xs ys : List Action) → Zip SameAction es fs → Zip Sa
     Clean NameClash (behind fs ys)
 clash_kept es fs [] [] z g h = tt
 clash_kept es fs (a ∷ xs) (b ∷ ys) z g h = (
-  λ c x. let o = zip_member SameAction es fs z x.1 x.2 in h.0 (culprit a.place a.call) (refl, o.0, o.1, o.2.0 ∙ x.3 ∙ sym g.0.0,
-      λ same. x.4 (sym o.2.1 ∙ same ∙ g.0.1)),
+  λ c x. let o = zip_member SameAction es fs z x.1 x.2 in h.0 (culprit a.place a.call) (
+    refl,
+    o.0,
+    o.1,
+    o.2.0 ∙ x.3 ∙ sym g.0.0,
+    λ same. x.4 (sym o.2.1 ∙ same ∙ g.0.1),
+  ),
   clash_kept (es ++ a ∷ []) (fs ++ b ∷ []) xs ys (zip-append SameAction es (a ∷ []) fs (b ∷ []) z (g.0, tt)) g.1 h.1,
 )
 clash_kept es fs [] (b ∷ ys) z g h = absurd g
@@ -137,6 +145,6 @@ pub count_same : (me : Name) (xs ys : List Spot) → Zip SameSpot xs ys → leng
 count_same me [] [] z = refl
 count_same me (x ∷ xs) (y ∷ ys) z =
     picked (is_state me x) (is_state me y) (state_same me x y z.0) x y (filter (is_state me) xs) (filter (is_state me) ys)
-        (count_same me xs ys z.1)
+    (count_same me xs ys z.1)
 count_same me [] (y ∷ ys) z = absurd z
 count_same me (x ∷ xs) [] z = absurd z

@@ -43,7 +43,7 @@ apart seen (r ∷ rs) far d = (
   apart (seen ++ lists r ∷ []) rs
       (λ u other has inside same. ⊎_elim (λ old. far u other old (Contains-later rs r u inside) same)
       (λ new. let is : r ≡ other = cc in d.0 (subst (Contains (map role_name rs)) (sym (ap role_name is ∙ same))
-          (Contains-image role_name rs u inside)))
+      (Contains-image role_name rs u inside)))
       (Contains-push_cases seen (lists r) (lists other) has)) d.1,
 )
 
@@ -54,7 +54,7 @@ clean_names : (types : List Declaration) (rs : List Role) → types ≡ [] → A
     Clean DuplicateName (with_earlier (map declares types ++ map lists rs))
 clean_names types rs e d =
     subst (λ ts. Clean DuplicateName (with_earlier (map declares ts ++ map lists rs))) (sym e)
-        (apart [] rs (λ r other has inside same. no_entries (lists other) has) d)
+    (apart [] rs (λ r other has inside same. no_entries (lists other) has) d)
 
 -- ---- types
 
@@ -101,14 +101,14 @@ module _ (local : LocalTree) (valid : IsValid local) (w : WrittenTree) (same : I
     λ c x. x.1 (subst (λ rs. Contains rs w.me.name) same.roles (subst (Contains local.roles) same.me valid.me_listed)),
     clean_image (UnknownRole (map role_name w.roles)) within (spots [] w.body)
         (subst (λ rs. Clean (says.UnknownRole rs) (spots [] w.body)) same.roles (kept (says.UnknownRole local.roles) (role_kept local.roles)
-            valid.roles_listed)),
+        valid.roles_listed)),
   )
 
   one_action : Clean NameClash (with_earlier (actions w.me.name 1 w.body))
   one_action =
       subst (λ me. Clean NameClash (with_earlier (actions me 1 w.body))) same.me
       (clash_kept [] [] (actions local.me 1 local.body) (actions local.me 1 w.body) tt (actions_same local.me 1 local.body w.body same.body)
-          valid.one_action)
+      valid.one_action)
 
   few_states : Clean (TooManyStates w.file w.me.name) (w.body ∷ [])
   few_states = (
@@ -116,7 +116,7 @@ module _ (local : LocalTree) (valid : IsValid local) (w : WrittenTree) (same : I
       refl,
       subst (λ n. 1000 < n)
           (sym (ap (λ me. length (states me local.body)) same.me ∙ count_same w.me.name (spots [] local.body) (spots [] w.body)
-              (spots_same [] [] local.body w.body tt same.body))) x.1,
+          (spots_same [] [] local.body w.body tt same.body))) x.1,
     ),
     tt,
   )

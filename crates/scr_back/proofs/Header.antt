@@ -29,8 +29,13 @@ more_form name names ts h =
     let r = h.3 in let n = r.3 in let m = n.3 in (
       record { place = n.0; name = name } ∷ m.0,
       ap (λ z. name ∷ z) m.1,
-      (marked h.0 marks.Comma ∷ marked r.0 marks.Role ∷ named n.0 name ∷ [], n.1, h.2 ∙ on (r.2 ∙ on n.2),
-          (h.0, marked r.0 marks.Role ∷ named n.0 name ∷ [], refl, (r.0, refl)), m.2),
+      (
+        marked h.0 marks.Comma ∷ marked r.0 marks.Role ∷ named n.0 name ∷ [],
+        n.1,
+        h.2 ∙ on (r.2 ∙ on n.2),
+        (h.0, marked r.0 marks.Role ∷ named n.0 name ∷ [], refl, (r.0, refl)),
+        m.2,
+      ),
     )
 
 roles_form : (name : Name) (names : List Name) (ts : List Tok) → OneRole name (MoreTold names) ts → RolesTold (name ∷ names) ts

@@ -145,7 +145,7 @@ other_start_kept (spot (p ∷ w) s) (spot (r ∷ v) t) h c a = absurd h.0.0
 pub start_kept : Follows BranchStart
 start_kept (spot w s) (spot v t) h c a =
     ⊎_elim (λ b. let d = empty_branch_kept s t h.1 c b in (d.0, inl d.1)) (λ b. let d = other_start_kept (spot w s) (spot v t) h c b in
-        (d.0, inr d.1)) a
+    (d.0, inr d.1)) a
 
 -- choices
 all_send_kept : (bs cs : Branches) → AreSameBranches bs cs → AllSend bs → AllSend cs

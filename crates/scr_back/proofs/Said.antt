@@ -68,8 +68,8 @@ Sign mark P = Behind (λ a. marked a mark) P
 abbrev MessageParts : Message → List Tok → Type 0
 MessageParts m =
     Behind (λ a. named a m.label) (Sign marks.OpenParen
-        (Both (Typed m.payload) (Sign marks.CloseParen
-        (Sign (direction_mark m.direction) (Behind (λ a. named a m.peer) (Sign marks.Semicolon (λ ts. ts ≡ [])))))))
+    (Both (Typed m.payload) (Sign marks.CloseParen
+    (Sign (direction_mark m.direction) (Behind (λ a. named a m.peer) (Sign marks.Semicolon (λ ts. ts ≡ [])))))))
 
 message_form : (m : Message) (ts : List Tok) → MessageParts m ts → Messaged m ts
 message_form m ts h =
@@ -77,8 +77,17 @@ message_form m ts h =
       record { place = h.0; direction = m.direction; peer = m.peer; label = m.label; payload = m.payload },
       b.3.0,
       record { direction = refl; peer = refl; label = refl; payload = refl },
-      (o.0, k.0, d.0, p.0, s.0, b.0, h.2 ∙ on (o.2 ∙ on (b.2 ∙ ap (λ z. b.0 ++ z) (k.2 ∙ on (d.2 ∙ on (p.2 ∙ on (s.2 ∙ on s.3)))))), b.3.1,
-          b.3.2),
+      (
+        o.0,
+        k.0,
+        d.0,
+        p.0,
+        s.0,
+        b.0,
+        h.2 ∙ on (o.2 ∙ on (b.2 ∙ ap (λ z. b.0 ++ z) (k.2 ∙ on (d.2 ∙ on (p.2 ∙ on (s.2 ∙ on s.3)))))),
+        b.3.1,
+        b.3.2,
+      ),
       b.3.3,
     )
 
@@ -117,16 +126,35 @@ says_form m rest ts h =
 choice_form : (place : Place) (at : Name) (bs : Branches) (rest : Statements) (ts : List Tok) →
     Sign marks.Choice (Sign marks.At (Behind (λ a. named a at) (Both (Branched bs) (Stated rest)))) ts → Stated (Choice place at bs rest) ts
 choice_form place at bs rest ts h =
-    let a = h.3 in let n = a.3 in let b = n.3 in let l = b.3 in let r = b.4 in
-    (Choice h.0 at l.0 r.0, l.1 ++ r.1, (refl, l.2, r.2), (a.0, n.0, l.1, r.1, b.0, b.1, refl, h.2 ∙ on (a.2 ∙ on (n.2 ∙ on b.2)), l.3,
-        r.3), plain-append l.1 r.1 l.4 r.4)
+    let a = h.3 in let n = a.3 in let b = n.3 in let l = b.3 in let r = b.4 in (
+      Choice h.0 at l.0 r.0,
+      l.1 ++ r.1,
+      (refl, l.2, r.2),
+      (
+        a.0,
+        n.0,
+        l.1,
+        r.1,
+        b.0,
+        b.1,
+        refl,
+        h.2 ∙ on (a.2 ∙ on (n.2 ∙ on b.2)),
+        l.3,
+        r.3,
+      ),
+      plain-append l.1 r.1 l.4 r.4,
+    )
 
 rec_form : (place : Place) (name : Name) (body rest : Statements) (ts : List Tok) →
     Sign marks.Rec (Behind (λ a. named a name) (Both (Blocked body) (Stated rest))) ts → Stated (Rec place name body rest) ts
 rec_form place name body rest ts h =
-    let n = h.3 in let b = n.3 in let l = b.3 in let r = b.4 in
-    (Rec h.0 name l.0 r.0, l.1 ++ r.1, (refl, l.2, r.2), (n.0, l.1, r.1, b.0, b.1, refl, h.2 ∙ on (n.2 ∙ on b.2), l.3, r.3),
-        plain-append l.1 r.1 l.4 r.4)
+    let n = h.3 in let b = n.3 in let l = b.3 in let r = b.4 in (
+      Rec h.0 name l.0 r.0,
+      l.1 ++ r.1,
+      (refl, l.2, r.2),
+      (n.0, l.1, r.1, b.0, b.1, refl, h.2 ∙ on (n.2 ∙ on b.2), l.3, r.3),
+      plain-append l.1 r.1 l.4 r.4,
+    )
 
 continue_form : (place : Place) (name : Name) (rest : Statements) (ts : List Tok) →
     Sign marks.Continue (Behind (λ a. named a name) (Sign marks.Semicolon (Stated rest))) ts → Stated (Continue place name rest) ts
@@ -142,14 +170,35 @@ block_form body ts h =
 
 branches_form : (b : Statements) (more : Branches) (ts : List Tok) → Both (Blocked b) (Others more) ts → Branched (Branch b more) ts
 branches_form b more ts h =
-    let l = h.3 in let r = h.4 in (Branch l.0 r.0, l.1 ++ r.1, (l.2, r.2), (l.1, r.1, h.0, h.1, refl, h.2, l.3, r.3), plain-append l.1 r.1
-        l.4 r.4)
+    let l = h.3 in let r = h.4 in (
+      Branch l.0 r.0,
+      l.1 ++ r.1,
+      (l.2, r.2),
+      (l.1, r.1, h.0, h.1, refl, h.2, l.3, r.3),
+      plain-append l.1 r.1
+          l.4 r.4,
+    )
 
 others_form : (b : Statements) (more : Branches) (ts : List Tok) → Sign marks.Or (Both (Blocked b) (Others more)) ts →
     Others (Branch b more) ts
 others_form b more ts h =
-    let g = h.3 in let l = g.3 in let r = g.4 in (Branch l.0 r.0, l.1 ++ r.1, (l.2, r.2), (h.0, l.1, r.1, g.0, g.1, refl, h.2 ∙ on g.2, l.3,
-        r.3), plain-append l.1 r.1 l.4 r.4)
+    let g = h.3 in let l = g.3 in let r = g.4 in (
+      Branch l.0 r.0,
+      l.1 ++ r.1,
+      (l.2, r.2),
+      (
+        h.0,
+        l.1,
+        r.1,
+        g.0,
+        g.1,
+        refl,
+        h.2 ∙ on g.2,
+        l.3,
+        r.3,
+      ),
+      plain-append l.1 r.1 l.4 r.4,
+    )
 
 -- braces round what is told
 in_braces : (level : ℕ) (body : Statements) (inside : List ℕ) → Told Any (Stated body) inside →
@@ -163,7 +212,7 @@ mutual
   told level Nothing w = convert (λ ts e. (Nothing, [], tt, (refl, e), tt)) nothing
   told level (Says m rest) w =
       indented (4 * level) (convert (says_form m rest)
-          (both (message m w.0 w.1) (λ bytes o. tt) (blank_then 10 refl (omega arith) (told level rest w.2))))
+      (both (message m w.0 w.1) (λ bytes o. tt) (blank_then 10 refl (omega arith) (told level rest w.2))))
   told level (Choice place at bs rest) w =
       indented (4 * level) (convert (choice_form place at bs rest)
       (word_then (codes "choice") (λ a. marked a marks.Choice) choice_word (λ bytes o. refl) (blank_then 32 refl (omega arith)
@@ -175,7 +224,7 @@ mutual
       (word_then (codes "rec") (λ a. marked a marks.Rec) rec_word (λ bytes o. refl) (blank_then 32 refl (omega arith)
       (word_then name (λ a. named a name) (naming name w.0) (λ bytes o. refl) (blank_then 32 refl (omega arith)
       (both (in_braces level body (lines (level + 1) body) (told (level + 1) body w.1)) (λ bytes o. tt)
-          (blank_then 10 refl (omega arith) (told level rest w.2))))))))
+      (blank_then 10 refl (omega arith) (told level rest w.2))))))))
   told level (Continue place name rest) w =
       indented (4 * level) (convert (continue_form place name rest)
       (word_then (codes "continue") (λ a. marked a marks.Continue) continue_word (λ bytes o. refl) (blank_then 32 refl (omega arith)
@@ -186,7 +235,7 @@ mutual
   branches level NoBranch has w = absurd has
   branches level (Branch b more) has w =
       convert (branches_form b more) (both (in_braces level b (lines (level + 1) b) (told (level + 1) b w.0)) (λ bytes o. tt)
-          (others level more w.1))
+      (others level more w.1))
 
   others : (level : ℕ) (bs : Branches) → AreWrittenIn bs → Told Any (Others bs) (branch_lines (codes " or ") level bs)
   others level NoBranch w = convert (λ ts e. (NoBranch, [], tt, (refl, e), tt)) nothing

@@ -42,12 +42,16 @@ mutual
   pub spots_same : (w v : Way) (s t : Statements) → SameWay w v → AreSame s t → Zip SameSpot (spots w s) (spots v t)
   spots_same w v Nothing Nothing h e = tt
   spots_same w v (Says m r) (Says n o) h e = ((h, e), spots_same _ _ r o ((e.0, tt), h) e.1)
-  spots_same w v (Choice p at bs r) (Choice q by cs o) h e =
-      ((h, e), zip-append SameSpot (branch_spots w at [] bs) _ (branch_spots v by [] cs) _
-          (branches_same w v at by [] [] bs cs h e.0 tt e.1) (spots_same _ _ r o ((e.0, e.1, tt), h) e.2))
-  spots_same w v (Rec p name body r) (Rec q word inner o) h e =
-      ((h, e), zip-append SameSpot (spots (Opens name ∷ w) body) _ (spots (Opens word ∷ v) inner) _ (spots_same _ _ body inner (e.0, h) e.1)
-          (spots_same _ _ r o ((e.0, e.1, tt), h) e.2))
+  spots_same w v (Choice p at bs r) (Choice q by cs o) h e = (
+    (h, e),
+    zip-append SameSpot (branch_spots w at [] bs) _ (branch_spots v by [] cs) _
+        (branches_same w v at by [] [] bs cs h e.0 tt e.1) (spots_same _ _ r o ((e.0, e.1, tt), h) e.2),
+  )
+  spots_same w v (Rec p name body r) (Rec q word inner o) h e = (
+    (h, e),
+    zip-append SameSpot (spots (Opens name ∷ w) body) _ (spots (Opens word ∷ v) inner) _ (spots_same _ _ body inner (e.0, h) e.1)
+        (spots_same _ _ r o ((e.0, e.1, tt), h) e.2),
+  )
   spots_same w v (Continue p name r) (Continue q word o) h e = ((h, e), spots_same _ _ r o ((e.0, tt), h) e.1)
   spots_same w v _ _ h e = absurd e
 
@@ -57,7 +61,7 @@ mutual
   branches_same w v at by es fs NoBranch NoBranch h e z g = tt
   branches_same w v at by es fs (Branch b more) (Branch d others) h e z g =
       zip-append SameSpot (spots (Enters at es ∷ w) b) _ (spots (Enters by fs ∷ v) d) _ (spots_same _ _ b d ((e, z), h) g.0)
-          (branches_same w v at by (b ∷ es) (d ∷ fs) more others h e (g.0, z) g.1)
+      (branches_same w v at by (b ∷ es) (d ∷ fs) more others h e (g.0, z) g.1)
   branches_same w v at by es fs _ _ h e z g = absurd g
 
 -- a condition that is at fault at the same spots is clean where it is clean
@@ -119,7 +123,7 @@ pub inside_right : (w v : Way) (q : Name) → SameWay w v → Contains w (Opens 
 inside_right [] [] q h c = c
 inside_right (p ∷ w) (r ∷ v) q h c =
     ⊎_elim (λ e. at_front r v q (opens_right p r q h.0 e)) (λ m. Contains-later v r (Opens q) (inside_right w v q h.1 m))
-        (Contains-cons_cases w p (Opens q) c)
+    (Contains-cons_cases w p (Opens q) c)
 inside_right [] (r ∷ v) q h c = absurd h
 inside_right (p ∷ w) [] q h c = absurd h
 
@@ -127,7 +131,7 @@ pub inside_left : (w v : Way) (q : Name) → SameWay w v → Contains v (Opens q
 inside_left [] [] q h c = c
 inside_left (p ∷ w) (r ∷ v) q h c =
     ⊎_elim (λ e. at_front p w q (opens_left p r q h.0 e)) (λ m. Contains-later w p (Opens q) (inside_left w v q h.1 m))
-        (Contains-cons_cases v r (Opens q) c)
+    (Contains-cons_cases v r (Opens q) c)
 inside_left [] (r ∷ v) q h c = absurd h
 inside_left (p ∷ w) [] q h c = absurd h
 

@@ -68,16 +68,33 @@ pub record Told (ok : List ℕ → Type 0) (P : List Tok → Type 0) (text : Lis
   pub reads : (qs : List Piece) (bytes : List ℕ) → ok bytes → Cut scribble qs bytes [] → Reads P qs (text ++ bytes)
 
 pub nothing : {ok : List ℕ → Type 0} → Told ok (λ ts. ts ≡ []) []
-nothing = record { low = none; reads = λ qs bytes o cut. record { pieces = qs; cut = cut; tokens =
-    λ p. record { end = p; front = []; parts = refl; holds = refl; used = tt } } }
+nothing = record {
+  low = none;
+  reads = λ qs bytes o cut. record {
+    pieces = qs;
+    cut = cut;
+    tokens =
+        λ p. record { end = p; front = []; parts = refl; holds = refl; used = tt };
+  };
+}
 
 pub convert : {ok : List ℕ → Type 0} {P Q : List Tok → Type 0} {text : List ℕ} → ((ts : List Tok) → P ts → Q ts) → Told ok P text →
     Told ok Q text
 convert f h = record {
   low = h.low;
   reads = λ qs bytes o cut. let r = h.reads qs bytes o cut in
-      record { pieces = r.pieces; cut = r.cut; tokens = λ p. let t = r.tokens p in record { end = t.end; front = t.front; parts =
-          t.parts; holds = f t.front t.holds; used = t.used } };
+      record {
+        pieces = r.pieces;
+        cut = r.cut;
+        tokens = λ p. let t = r.tokens p in record {
+          end = t.end;
+          front = t.front;
+          parts =
+              t.parts;
+          holds = f t.front t.holds;
+          used = t.used;
+        };
+      };
 }
 
 -- a blank, and then a text
@@ -89,8 +106,14 @@ blank_then {text = text} c e l h = record {
       record {
         pieces = blank c ∷ r.pieces;
         cut = (text ++ bytes, refl, e, r.cut);
-        tokens = λ p. let t = r.tokens (place_after p (c ∷ [])) in record { end = t.end; front = t.front; parts = t.parts; holds =
-            t.holds; used = t.used };
+        tokens = λ p. let t = r.tokens (place_after p (c ∷ [])) in record {
+          end = t.end;
+          front = t.front;
+          parts = t.parts;
+          holds =
+              t.holds;
+          used = t.used;
+        };
       };
 }
 

@@ -46,7 +46,7 @@ listed_name : (names : List Name) (name : Name) → AllByRecursion IsName names 
 listed_name [] name h c = absurd (omega (arith, c.1))
 listed_name (x ∷ xs) name h c =
     ⊎_elim (λ one. ⊎_elim (λ none. absurd (omega (arith, none.1))) (λ same. subst IsName same h.0) (Contains-push_cases [] x name one))
-        (λ more. listed_name xs name h.1 more)
+    (λ more. listed_name xs name h.1 more)
     (Contains-append_cases (x ∷ []) xs name c)
 
 -- ---- the file
@@ -54,10 +54,10 @@ listed_name (x ∷ xs) name h c =
 abbrev FileParts : LocalTree → List Tok → Type 0
 FileParts local =
     Behind (λ a. marked a marks.Local)
-        (Behind (λ a. marked a marks.Protocol)
-        (Behind (λ a. named a local.name) (Behind (λ a. marked a marks.At) (Behind (λ a. named a local.me)
+    (Behind (λ a. marked a marks.Protocol)
+    (Behind (λ a. named a local.name) (Behind (λ a. marked a marks.At) (Behind (λ a. named a local.me)
     (Behind (λ a. marked a marks.OpenParen)
-        (Both (RolesTold local.roles) (Behind (λ a. marked a marks.CloseParen) (Both (Blocked local.body) (λ ts. ts ≡ [])))))))))
+    (Both (RolesTold local.roles) (Behind (λ a. marked a marks.CloseParen) (Both (Blocked local.body) (λ ts. ts ≡ [])))))))))
 
 file_told : (local : LocalTree) → IsWritten local → Contains local.roles local.me → Told Any (FileParts local) (layout local)
 file_told local w listed =
@@ -91,7 +91,7 @@ pub record Printed (file : ℕ) (local : LocalTree) : Type 0 where
 file_back : (file : ℕ) (local : LocalTree) → IsWritten local → Whole file (FileParts local) (layout local) → Printed file local
 file_back file local w h =
     let l = h.holds in let p = l.3 in let n = p.3 in let a = n.3 in let m = a.3 in let o = m.3 in let rs = o.3 in let k = rs.4 in
-        let b = k.3 in
+    let b = k.3 in
     let roles = rs.3 in let body = b.3 in
     record {
       written = record {
@@ -137,6 +137,15 @@ printed file local w listed = file_back file local w (whole file (file_told loca
 pub printed_spells : (file : ℕ) (local : LocalTree) → IsWritten local → Contains local.roles local.me → length (layout local) ≤ 1048576 →
     (w : WrittenTree) × Spells file (layout local) w × IsSame local (local_of w)
 printed_spells file local w listed size =
-    let h = printed file local w listed in
-    (h.written, record { same_file = h.same_file; tokens = h.tokens; separates = record { size = size; cut = h.cut }; supported =
-        h.supported; spelled = h.spelled }, h.same)
+    let h = printed file local w listed in (
+      h.written,
+      record {
+        same_file = h.same_file;
+        tokens = h.tokens;
+        separates = record { size = size; cut = h.cut };
+        supported =
+            h.supported;
+        spelled = h.spelled;
+      },
+      h.same,
+    )

@@ -29,30 +29,30 @@ opens_to : {way : Way} {other : local_spots.Way} (name : Name) → Like way othe
 opens_to name start c = absurd (none_contained (Opens name) c)
 opens_to name (past {way = way} {other = other} s t f p l) c =
     ⊎_elim (λ (e : Past s ≡ Opens name). cc e) (λ d. later_in (local_spots.Past t) other (local_spots.Opens name) (opens_to name l d))
-        (first_or_later (Past s) way (Opens name) c)
+    (first_or_later (Past s) way (Opens name) c)
 opens_to name (opens {way = way} {other = other} found l) c =
     ⊎_elim (λ (e : Opens found ≡ Opens name). let f : found ≡ name = cc e in first_in (local_spots.Opens found) other
-        (local_spots.Opens name) (ap local_spots.Opens f))
+    (local_spots.Opens name) (ap local_spots.Opens f))
     (λ d. later_in (local_spots.Opens found) other (local_spots.Opens name) (opens_to name l d))
-        (first_or_later (Opens found) way (Opens name) c)
+    (first_or_later (Opens found) way (Opens name) c)
 opens_to name (enters {way = way} {other = other} at earlier before e l) c =
     ⊎_elim (λ (f : Enters at earlier ≡ Opens name). cc f) (λ d. later_in (local_spots.Enters [] before) other (local_spots.Opens name)
-        (opens_to name l d)) (first_or_later (Enters at earlier) way (Opens name) c)
+    (opens_to name l d)) (first_or_later (Enters at earlier) way (Opens name) c)
 
 opens_from : {way : Way} {other : local_spots.Way} (name : Name) → Like way other → Contains other (local_spots.Opens name) →
     Contains way (Opens name)
 opens_from name start c = absurd (none_contained (local_spots.Opens name) c)
 opens_from name (past {way = way} {other = other} s t f p l) c =
     ⊎_elim (λ (e : local_spots.Past t ≡ local_spots.Opens name). cc e) (λ d. later_in (Past s) way (Opens name) (opens_from name l d))
-        (first_or_later (local_spots.Past t) other (local_spots.Opens name) c)
+    (first_or_later (local_spots.Past t) other (local_spots.Opens name) c)
 opens_from name (opens {way = way} {other = other} found l) c =
     ⊎_elim (λ (e : local_spots.Opens found ≡ local_spots.Opens name). let f : found ≡ name = cc e in first_in (Opens found) way (Opens name)
-        (ap Opens f))
+    (ap Opens f))
     (λ d. later_in (Opens found) way (Opens name) (opens_from name l d))
-        (first_or_later (local_spots.Opens found) other (local_spots.Opens name) c)
+    (first_or_later (local_spots.Opens found) other (local_spots.Opens name) c)
 opens_from name (enters {way = way} {other = other} at earlier before e l) c =
     ⊎_elim (λ (f : local_spots.Enters [] before ≡ local_spots.Opens name). cc f) (λ d. later_in (Enters at earlier) way (Opens name)
-        (opens_from name l d))
+    (opens_from name l d))
     (first_or_later (local_spots.Enters [] before) other (local_spots.Opens name) c)
 
 -- ---- ways without a message
@@ -268,9 +268,10 @@ labels s (past u t f p l) c = neither
 labels s (opens name l) c = neither
 labels Nothing (enters at earlier before e l) c = neither
 labels (Says m rest) (enters at earlier before e l) c =
-    with_place c (culprit m.place m.label) _ _
-    ((λ h. subst (λ (os : List (Option Name)). Contains os (Some m.label)) e h),
-        (λ h. subst (λ (os : List (Option Name)). Contains os (Some m.label)) (sym e) h))
+    with_place c (culprit m.place m.label) _ _ (
+      (λ h. subst (λ (os : List (Option Name)). Contains os (Some m.label)) e h),
+      (λ h. subst (λ (os : List (Option Name)). Contains os (Some m.label)) (sym e) h),
+    )
 labels (Choice place other branches rest) (enters at earlier before e l) c = neither
 labels (Rec place name body rest) (enters at earlier before e l) c = neither
 labels (Continue place name rest) (enters at earlier before e l) c = neither

@@ -32,8 +32,10 @@ module _ (t : WrittenTree) (ks : List GlobalCondition) (i : ℕ) (l : Rest t ks 
         (this (subst (Of t (get_or ks i d)) e a)))
 
     pub rest_later : (o : Option Named) → Of t (get_or ks i d) (named_of o) → named_of o ≡ None → Rest t ks (i + 1)
-    rest_later o a e = record { left =
-        λ r f. l.left r (subst (λ xs. FirstOf (Of t) xs r) (sym cut) (next (subst (Of t (get_or ks i d)) e a) f)) }
+    rest_later o a e = record {
+      left =
+          λ r f. l.left r (subst (λ xs. FirstOf (Of t) xs r) (sym cut) (next (subst (Of t (get_or ks i d)) e a) f));
+    }
 
 -- an arm: the condition is known, and its culprit is given a name
 pub arm : (t : WrittenTree) (k j : GlobalCondition) (o : Option Culprit) (r : Result (Option Named) Memory) → k ≡ j → Of t j o →

@@ -25,7 +25,7 @@ role_single : (roles : List Name) → IsSingle (UnknownRole roles)
 role_single roles (spot way Nothing) c d a b = absurd a
 role_single roles (spot way (Says m rest)) c d a b =
     ⊎_elim (λ x. ⊎_elim (λ y. two _ c d x.0 y.0) (λ y. absurd (x.1 y.1)) b) (λ x. ⊎_elim (λ y. absurd (y.1 x.1)) (λ y. two _ c d x.0 y.0) b)
-        a
+    a
 role_single roles (spot way (Choice p at bs rest)) c d a b = two _ c d a.0 b.0
 role_single roles (spot way (Rec p name body rest)) c d a b = absurd a
 role_single roles (spot way (Continue p name rest)) c d a b = absurd a
@@ -64,9 +64,9 @@ empty_place way (Continue p name rest) c a = absurd a
 start_single : IsSingle BranchStart
 start_single (spot way ss) c d a b =
     let x : (place : Place) × (head_place ss ≡ Some place) × (c ≡ culprit place []) = ⊎_elim (empty_place way ss c) (other_place way ss c) a
-        in
+    in
     let y : (place : Place) × (head_place ss ≡ Some place) × (d ≡ culprit place []) = ⊎_elim (empty_place way ss d) (other_place way ss d) b
-        in
+    in
     let same : Some x.0 ≡ Some y.0 = sym x.1 ∙ y.1 in let place : x.0 ≡ y.0 = cc in x.2 ∙ ap (λ p. culprit p []) place ∙ sym y.2
 
 rec_single : IsSingle UnknownRec

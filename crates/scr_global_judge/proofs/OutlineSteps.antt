@@ -23,7 +23,7 @@ outlined-front : (begins : Option Name) (x : GStatement) (rest : Statements) →
     (outlined begins (front x Nothing)) (outlined None rest)
 outlined-front begins x rest =
     each_front (λ f. outlined begins (f rest) ≡ behind (outlined begins (f Nothing)) (outlined None rest)) (λ m. refl) (λ p at bs. refl)
-        (λ p name body. refl) (λ p name. refl) x
+    (λ p name body. refl) (λ p name. refl) x
 
 -- ---- turns of the loops
 
@@ -36,14 +36,14 @@ module _ (begins : Option Name) (ss : List GStatement) (i : ℕ) where
   pub outline_later : (x : GStatement) → i < length ss → x ≡ get_or ss i x → (made more : List Statement) (next : Statement) →
       locals.front next local.Nothing ≡ outlined begins (front x Nothing) →
       more ≡ made ++ next ∷ [] → behind (locals.statements made) (outlined begins (statements (drop i ss))) ≡ behind
-          (locals.statements more) (outlined None (statements (drop (i + 1) ss)))
+      (locals.statements more) (outlined None (statements (drop (i + 1) ss)))
   outline_later x within is made more next e f =
       ap (λ (s : Statements). behind (locals.statements made) (outlined begins s)) (statements-step ss i x within is)
       ∙ ap (behind (locals.statements made)) (outlined-front begins x (statements (drop (i + 1) ss)))
       ∙ ap (λ (s : local.Statements). behind (locals.statements made) (behind s (outlined None (statements (drop (i + 1) ss))))) (sym e)
       ∙ sym (behind_both (locals.statements made) (locals.front next local.Nothing) (outlined None (statements (drop (i + 1) ss))))
       ∙ ap (λ (s : local.Statements). behind s (outlined None (statements (drop (i + 1) ss))))
-          (sym (ap locals.statements f ∙ statements-push made next))
+      (sym (ap locals.statements f ∙ statements-push made next))
 
 module _ (at : Name) (bs : List (Row GStatement)) (i : ℕ) where
   pub branches_past : (made : List (Row Statement)) → length bs ≤ i → beside (locals.bodies made) (outlined_each at (bodies (drop i bs))) ≡
@@ -55,20 +55,20 @@ module _ (at : Name) (bs : List (Row GStatement)) (i : ℕ) where
       →
       locals.statements next.items ≡ outlined (Some at) (statements x.items) → more ≡ made ++ next ∷ [] →
       beside (locals.bodies made) (outlined_each at (bodies (drop i bs))) ≡ beside (locals.bodies more)
-          (outlined_each at (bodies (drop (i + 1) bs)))
+      (outlined_each at (bodies (drop (i + 1) bs)))
   branches_later x within is made more next e f =
       ap (λ (s : Branches). beside (locals.bodies made) (outlined_each at s)) (bodies-step bs i x within is)
       ∙ ap (λ (s : local.Statements). beside (locals.bodies made) (local.Branch s (outlined_each at (bodies (drop (i + 1) bs))))) (sym e)
       ∙ sym (beside_both (locals.bodies made) (local.Branch (locals.statements next.items) local.NoBranch)
-          (outlined_each at (bodies (drop (i + 1) bs))))
+      (outlined_each at (bodies (drop (i + 1) bs))))
       ∙ ap (λ (s : local.Branches). beside s (outlined_each at (bodies (drop (i + 1) bs))))
-          (sym (ap locals.bodies f ∙ bodies-push made next))
+      (sym (ap locals.bodies f ∙ bodies-push made next))
 
 -- ---- a statement alone
 
 pub outlined-Message : (begins : Option Name) (place : Place) (from to label : Name) (payload : Payload) →
     outlined begins (front (kinds.Message place from to label payload) Nothing) ≡ local.Says
-        (record { place = place; direction = way_of begins from; peer = to; label = label; payload = payload }) local.Nothing
+    (record { place = place; direction = way_of begins from; peer = to; label = label; payload = payload }) local.Nothing
 outlined-Message begins place from to label payload = ap (λ (f : Statements → Statements). outlined begins (f Nothing))
     (front-Message place from to label payload)
 

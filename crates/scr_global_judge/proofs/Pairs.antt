@@ -92,14 +92,14 @@ mutual
     pairs_append (branch_spots way at [] branches) (local_spots.branch_spots other [] [] (outlined_each at branches)) _ _
         (branch_pairs way other at [] [] branches refl l)
         (pairs _ _ rest (past (Choice place at branches Nothing) _ (falls_is None (Choice place at branches Nothing))
-            (passes_is None (Choice place at branches Nothing)) l)),
+        (passes_is None (Choice place at branches Nothing)) l)),
   )
   pairs way other (Rec place name body rest) l = (
     pair (Rec place name body rest) l,
     pairs_append (spots (Opens name ∷ way) body) (local_spots.spots (local_spots.Opens name ∷ other) (outlined None body)) _ _
         (pairs _ _ body (opens name l))
         (pairs _ _ rest (past (Rec place name body Nothing) _ (falls_is None (Rec place name body Nothing))
-            (passes_is None (Rec place name body Nothing)) l)),
+        (passes_is None (Rec place name body Nothing)) l)),
   )
   pairs way other (Continue place name rest) l =
       (pair (Continue place name rest) l, pairs _ _ rest (past (Continue place name Nothing) _ refl refl l))
@@ -107,11 +107,11 @@ mutual
   branch_pairs : (way : Way) (other : local_spots.Way) (at : Name) (earlier : List Statements) (before : List local.Statements)
       (bs : Branches) →
       map first_label earlier ≡ map (first_key nobody []) before → Like way other → Pairs (branch_spots way at earlier bs)
-          (local_spots.branch_spots other [] before (outlined_each at bs))
+      (local_spots.branch_spots other [] before (outlined_each at bs))
   branch_pairs way other at earlier before NoBranch e l = tt
   branch_pairs way other at earlier before (Branch b more) e l =
       pairs_append (spots (Enters at earlier ∷ way) b) (local_spots.spots (local_spots.Enters [] before ∷ other) (outlined (Some at) b)) _ _
-          (pairs _ _ b (enters at earlier before e l))
+      (pairs _ _ b (enters at earlier before e l))
       (branch_pairs way other at (b ∷ earlier) (outlined (Some at) b ∷ before) more (λ i. label_is at b i ∷ e i) l)
 
 -- ---- what is judged over the outline is judged over the protocol

@@ -73,7 +73,7 @@ module _ (check : Check) where
   walk-front s rest =
       parts s rest ∙ ap (λ o. option_or o (option_or (within_it (front s Nothing)) (found_in rest))) (test-front s rest check)
       ∙ or_assoc (here_at (front s Nothing)) (within_it (front s Nothing)) (found_in rest) ∙ ap (λ o. option_or o (found_in rest))
-          (sym (walk-alone s))
+      (sym (walk-alone s))
 
   pub walk_found : (s : GStatement) (c : Culprit) → Some c ≡ test check (front s Nothing) → walk (test check) (front s Nothing) ≡ Some c
   walk_found s c e = walk-alone s ∙ ap (λ o. option_or o (within_it (front s Nothing))) (sym e)

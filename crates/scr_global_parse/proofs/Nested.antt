@@ -92,7 +92,7 @@ module _ (declared : List Declaration) where
 
   ends_complete : (from to : Name) (c d e f g : Place) (rest : List Tok)
       → ends_at (marked c marks.From ∷ named d from ∷ marked e marks.To ∷ named f to ∷ marked g marks.Semicolon ∷ rest) ≡ Some
-          ((from, to), rest)
+      ((from, to), rest)
   unfolding ends_at
   ends_complete from to c d e f g rest = refl
 

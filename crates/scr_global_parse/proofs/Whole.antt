@@ -186,7 +186,7 @@ unfolding file_at title_at
 file_complete w ts h =
     let s = h.spelled in
     let title : List Tok → List Tok = λ r. marked s.global_at marks.Global ∷ marked s.protocol_at marks.Protocol ∷ named s.name_at w.name ∷
-          r in
+    r in
     let head = title (s.header ++ s.block) in
     let start = module_complete s.start (s.types ++ head)
     (types_stop w.types s.types (marked s.protocol_at marks.Protocol ∷ named s.name_at w.name ∷

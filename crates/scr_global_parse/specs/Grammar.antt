@@ -17,7 +17,7 @@ use Rattle.scr_global_tree.specs.Valid.{depth}
 abbrev pub IsHeader : List Role → List Tok → Type 0
 IsHeader roles ts =
     (a b : Place) × (us : List Tok) × (ts ≡ marked a marks.OpenParen ∷ (us ++ marked b marks.CloseParen ∷ [])) × Listed marks.Comma IsRole
-        roles us
+    roles us
 
 -- name "(" types ")" "from" name "to" name ";", where the types mean the kind of the payload
 abbrev pub IsMessage : List Declaration → Told → (types : List Name) → List Tok → Type 0

@@ -54,7 +54,7 @@ pub each_kind : (P : GStatement → Type 0) → ((place : Place) (from to label 
     P (Message place from to label payload)) → ((place : Place) (at : Name) (branches : Row (Row GStatement)) →
     P (Choice place at branches)) →
     ((place : Place) (name : Name) (body : Row GStatement) → P (Rec place name body)) →
-        ((place : Place) (name : Name) → P (Continue place name)) →
+    ((place : Place) (name : Name) → P (Continue place name)) →
     (s : GStatement) → P s
 each_kind P said choice recursion continued (Message place from to label payload) = said place from to label payload
 each_kind P said choice recursion continued (Choice' place at shape rows) = subst P (sym (Choice'-is place at shape rows))

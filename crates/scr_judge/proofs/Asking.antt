@@ -148,7 +148,7 @@ any_to NoBranch e = ([], tt)
 any_to (Branch Nothing more) e = any_to more e
 any_to (Branch (Says m rest) more) e =
     let h = one_new (is_send m.direction) (one_peer (Some m.peer) more) e in
-        (m.peer, (sends_from m.direction h.0, refl, from_to m.peer more h.1))
+    (m.peer, (sends_from m.direction h.0, refl, from_to m.peer more h.1))
 any_to (Branch (Choice p at bs rest) more) e = any_to more e
 any_to (Branch (Rec p name body rest) more) e = any_to more e
 any_to (Branch (Continue p name rest) more) e = any_to more e
@@ -158,7 +158,7 @@ any_from peer NoBranch h = refl
 any_from peer (Branch Nothing more) h = any_from peer more h
 any_from peer (Branch (Says m rest) more) h =
     ap (λ x. if x then false else one_peer (Some m.peer) more) (ap is_send h.0) ∙ ap (λ n. one_peer (Some n) more) h.1 ∙ from_from peer more
-        h.2
+    h.2
 any_from peer (Branch (Choice p at bs rest) more) h = any_from peer more h
 any_from peer (Branch (Rec p name body rest) more) h = any_from peer more h
 any_from peer (Branch (Continue p name rest) more) h = any_from peer more h
@@ -179,7 +179,7 @@ mixed_answers me way Nothing = λ c x. x
 mixed_answers me way (Says m rest) = λ c x. x
 mixed_answers me way (Choice p at bs rest) =
     unless_right (IsUniform me at bs) (uniform me at bs) (culprit p []) (uniform_to me at bs (bytes_eq at me) (bytes_eq-Decides at me))
-        (uniform_from me at bs (bytes_eq at me) (bytes_eq-Decides at me))
+    (uniform_from me at bs (bytes_eq at me) (bytes_eq-Decides at me))
 mixed_answers me way (Rec p name body rest) = λ c x. x
 mixed_answers me way (Continue p name rest) = λ c x. x
 

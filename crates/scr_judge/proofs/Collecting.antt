@@ -41,7 +41,7 @@ module _ (me : Name) (n : ℕ) where
 
   pub actions-Choice : (p : _) (at : Name) (bs : Row (Row Statement)) (self : Bool) → bytes_eq at me ≡ self →
       actions me n (front (kinds.Choice p at bs) Nothing) ≡ looked_unless self me n p (peer_in (bodies bs.items)) ++ actions_in me
-          (opened self n) (bodies bs.items)
+      (opened self n) (bodies bs.items)
   actions-Choice p at bs self e =
       ap (λ f. actions me n (f Nothing)) (front-Choice p at bs)
       ∙ ap (λ b. looked_unless b me n p (peer_in (bodies bs.items)) ++ (actions_in me (opened b n) (bodies bs.items) ++ [])) e
@@ -80,8 +80,18 @@ peers-said (Continue p name rest) more o e = ap (λ o. elim o [ None ↦ None | 
 
 pub ruleset peers = (common_steps, peers-said)
 
-pub ruleset alone = (common_steps, front-Continue, actions-Message, next-Message, actions-Choice, next-Choice, actions-Rec, next-Rec,
-    append_assoc, append-nil)
+pub ruleset alone = (
+  common_steps,
+  front-Continue,
+  actions-Message,
+  next-Message,
+  actions-Choice,
+  next-Choice,
+  actions-Rec,
+  next-Rec,
+  append_assoc,
+  append-nil,
+)
 
 pub ruleset all_steps = (common_steps, next-step, actions-step, statements-past, append_assoc, append-nil)
 

@@ -43,8 +43,11 @@ both n a b r s k c d e = record {
 
 upped : (n : ℕ) (b : Bool) → nat_lt n 1001 ≡ b → n ≤ 1001 → Counts n 1 (if b then n + 1 else n)
 upped n true e h = let l : n < 1001 = grind (arith, nat_tests) in record { low = λ k. refl; high = λ k. omega (arith, l, k) }
-upped n false e h = let l : 1001 ≤ n = grind (arith, nat_tests) in record { low = λ k. omega (arith, l, k); high =
-    λ k. omega (arith, l, h) }
+upped n false e h = let l : 1001 ≤ n = grind (arith, nat_tests) in record {
+  low = λ k. omega (arith, l, k);
+  high =
+      λ k. omega (arith, l, h);
+}
 
 one : (n : ℕ) → n ≤ 1001 → Counts n 1 (up n)
 one n h = upped n (nat_lt n 1001) refl h
@@ -65,7 +68,7 @@ module _ (me : Name) where
       (sym (ap (λ b. length (cond b (s ∷ filter (is_state me) more) (filter (is_state me) more))) e)) c
   said false s n r more e h c =
       both n 1 (many more) (up n) r (many (s ∷ more)) (one n h) c
-          (sym (ap (λ b. length (cond b (s ∷ filter (is_state me) more) (filter (is_state me) more))) e ∙ (omega arith)))
+      (sym (ap (λ b. length (cond b (s ∷ filter (is_state me) more) (filter (is_state me) more))) e ∙ (omega arith)))
 
   -- a choice
   chosen : (n r s : ℕ) (inner more : List Spot) (x : Spot) → is_state me x ≡ true → n ≤ 1001 → Counts (up n) (many inner) r →
@@ -73,7 +76,7 @@ module _ (me : Name) where
   unfolding many
   chosen n r s inner more x e h c d =
       both n 1 (many (inner ++ more)) (up n) s (many (x ∷ (inner ++ more))) (one n h)
-          (both (up n) (many inner) (many more) r s (many (inner ++ more)) c d (many-append inner more))
+      (both (up n) (many inner) (many more) r s (many (inner ++ more)) c d (many-append inner more))
       (sym (ap (λ b. length (cond b (x ∷ filter (is_state me) (inner ++ more)) (filter (is_state me) (inner ++ more)))) e ∙ (omega arith)))
 
   -- another statement
@@ -82,7 +85,7 @@ module _ (me : Name) where
   unfolding many
   passed n r s inner more x e c d =
       subst (λ k. Counts n k s) (sym
-          (ap (λ b. length (cond b (x ∷ filter (is_state me) (inner ++ more)) (filter (is_state me) (inner ++ more)))) e))
+      (ap (λ b. length (cond b (x ∷ filter (is_state me) (inner ++ more)) (filter (is_state me) (inner ++ more)))) e))
       (both n (many inner) (many more) r s (many (inner ++ more)) c d (many-append inner more))
 
   first_said : (first : Bool) (n : ℕ) → n ≤ 1001 → (if first then n else up n) ≤ 1001
@@ -99,14 +102,14 @@ module _ (me : Name) where
         (ap not e) h (counted_exact false (if first then n else up n) (Past (Says m Nothing) ∷ way) rest refl (first_said first n h))
     counted_exact first n way (Choice p at bs rest) e h =
         let inner : Counts (up n) (many (branch_spots way at [] bs)) (counted_in me (bytes_eq at me) (up n) bs) =
-              counted_in_exact (up n) way at [] bs (below n 1 (up n) (one n h)) in
+        counted_in_exact (up n) way at [] bs (below n 1 (up n) (one n h)) in
         chosen n _ _ (branch_spots way at [] bs) (spots (Past (Choice p at bs Nothing) ∷ way) rest) (spot way (Choice p at bs rest)) refl h
-            inner (counted_exact false _ (Past (Choice p at bs Nothing) ∷ way) rest refl (below _ _ _ inner))
+        inner (counted_exact false _ (Past (Choice p at bs Nothing) ∷ way) rest refl (below _ _ _ inner))
     counted_exact first n way (Rec p name body rest) e h =
         let inner : Counts n (many (spots (Opens name ∷ way) body)) (counted me false n body) = counted_exact false n (Opens name ∷ way)
-              body refl h in
+        body refl h in
         passed n _ _ (spots (Opens name ∷ way) body) (spots (Past (Rec p name body Nothing) ∷ way) rest) (spot way (Rec p name body rest))
-            refl inner (counted_exact false _ (Past (Rec p name body Nothing) ∷ way) rest refl (below _ _ _ inner))
+        refl inner (counted_exact false _ (Past (Rec p name body Nothing) ∷ way) rest refl (below _ _ _ inner))
     counted_exact first n way (Continue p name rest) e h = passed n n _ [] (spots (Past (Continue p name Nothing) ∷ way) rest)
         (spot way (Continue p name rest)) refl (nothing n h) (counted_exact false n (Past (Continue p name Nothing) ∷ way) rest refl h)
 
@@ -115,10 +118,10 @@ module _ (me : Name) where
     counted_in_exact n way at earlier NoBranch h = nothing n h
     counted_in_exact n way at earlier (Branch b more) h =
         let inner : Counts n (many (spots (Enters at earlier ∷ way) b)) (counted me (bytes_eq at me) n b) =
-              counted_exact (bytes_eq at me) n (Enters at earlier ∷ way) b refl h in
+        counted_exact (bytes_eq at me) n (Enters at earlier ∷ way) b refl h in
         both n (many (spots (Enters at earlier ∷ way) b)) (many (branch_spots way at (b ∷ earlier) more)) _ _ _ inner
-            (counted_in_exact _ way at (b ∷ earlier) more (below _ _ _ inner)) (many-append (spots (Enters at earlier ∷ way) b)
-            (branch_spots way at (b ∷ earlier) more))
+        (counted_in_exact _ way at (b ∷ earlier) more (below _ _ _ inner)) (many-append (spots (Enters at earlier ∷ way) b)
+        (branch_spots way at (b ∷ earlier) more))
 
 -- whether there are more than a thousand states
 pub too_many : (me : Name) (body : Statements) (n : ℕ) → n ≡ counted me false 0 body →
@@ -126,7 +129,7 @@ pub too_many : (me : Name) (body : Statements) (n : ℕ) → n ≡ counted me fa
 unfolding many
 too_many me body n e =
     let c : Counts 0 (length (filter (is_state me) (spots [] body))) (counted me false 0 body) = counted_exact me false 0 [] body refl
-          (omega arith) in (
+    (omega arith) in (
       λ l. ⊎_elim (λ small. let f = c.low small in omega (arith, l, e, f)) (λ big. omega (arith, big))
           (less_or (0 + length (filter (is_state me) (spots [] body)))),
       λ l. let f = c.high (omega (arith, l)) in omega (arith, e, f),

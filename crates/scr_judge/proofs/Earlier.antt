@@ -24,7 +24,7 @@ module _ {X Y : Type 0} (f : X → Y) (see : List X → List Y) (push : (xs : Li
   pub judged-behind : {C : Type 0} {At : List X × X → C → Type 0} {By : List Y × Y → C → Type 0} →
       ((q : List X × X) (c : C) → At q c → By (see q.0, f q.1) c) →
       ((q : List X × X) (c : C) → By (see q.0, f q.1) c → At q c) → (seen xs : List X) {r : Option C} → Judged At (behind seen xs) r →
-          Judged By (behind (see seen) (map f xs)) r
+      Judged By (behind (see seen) (map f xs)) r
   judged-behind {By = By} to from seen xs {r} j = subst (λ ys. Judged By ys r) (sym (behind-map seen xs))
       (judged-map (λ q. (see q.0, f q.1)) to from j)
 
@@ -109,4 +109,4 @@ pub duplicate_declaration : (ds : List Declaration) (rs : List Role) (c : Culpri
 duplicate_declaration ds rs c p =
     subst (λ ys. Judged DuplicateName ys (Some c)) (sym (behind-append [] (map declares ds) (map lists rs)))
     (judged-found (behind ([] ++ map declares ds) (map lists rs)) (judged-behind declares (map declares) declares_push declared_to
-        declared_from [] ds p))
+    declared_from [] ds p))

@@ -19,7 +19,7 @@ use Rattle.scr_tree.proofs.Behind.{each_front, statements-step, statements-past,
 pub falls-front : (s : Statement) (rest : Statements) → falls (front s rest) ≡ (falls (front s Nothing) && falls rest)
 falls-front s rest =
     each_front (λ f. falls (f rest) ≡ (falls (f Nothing) && falls rest)) (λ m. refl)
-        (λ p at bs. ap (λ b. b && falls rest) (and_true (some_falls bs)))
+    (λ p at bs. ap (λ b. b && falls rest) (and_true (some_falls bs)))
     (λ p name body. ap (λ b. b && falls rest) (and_true (falls body))) (λ p name. refl) s
 
 behind_nothing : (b : Bool) → None ≡ unreachable_behind b Nothing
@@ -35,7 +35,7 @@ pub unreachable-front : (s : Statement) (rest : Statements) → unreachable (fro
 unreachable-front s rest =
     each_front (λ f. unreachable (f rest) ≡ option_or (unreachable (f Nothing)) (unreachable_behind (falls (f Nothing)) rest))
     (λ m. refl) (λ p at bs. alone (unreachable_in bs) (some_falls bs) rest) (λ p name body. alone (unreachable body) (falls body) rest)
-        (λ p name. refl) s
+    (λ p name. refl) s
 
 -- a statement alone
 pub unreachable-Choice : (p : _) (at : Name) (bs : Row (Row Statement)) → unreachable (front (kinds.Choice p at bs) Nothing) ≡
@@ -81,8 +81,17 @@ module _ (ss : List Statement) (i : ℕ) (x : Statement) (within : i < length ss
   pub stands_here : (c : Culprit) → stands (front x Nothing) ≡ Some c → stands (statements (drop i ss)) ≡ Some c
   stands_here c e = ap stands (statements-step ss i x within is) ∙ stands-front x _ ∙ e
 
-pub ruleset falls_alone = (common_steps, front-Message, front-Choice, front-Rec, front-Continue, unreachable-Choice, falls-Choice,
-    unreachable-Rec, falls-Rec)
+pub ruleset falls_alone = (
+  common_steps,
+  front-Message,
+  front-Choice,
+  front-Rec,
+  front-Continue,
+  unreachable-Choice,
+  falls-Choice,
+  unreachable-Rec,
+  falls-Rec,
+)
 
 pub ruleset falls_steps = (common_steps, unreachable_later, falls_later, unreachable_here, stands_here, statements-past, and_true)
 

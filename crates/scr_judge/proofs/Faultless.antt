@@ -26,8 +26,11 @@ split {K} {C} {Of} {k} {ks} p = go _ _ p refl refl
     go ls r none e n = let no : ⊥ = cc in absurd no
     go ls r (this a) e n = let no : ⊥ = cc in absurd no
     go ls r (next {k = j} {ks = js} a q) e n =
-        let same : j ≡ k = cc in let rest : js ≡ ks = cc in (subst (λ z. Of z None) same a, subst (λ s. FirstOf Of ks s) n
-            (subst (λ zs. FirstOf Of zs r) rest q))
+        let same : j ≡ k = cc in let rest : js ≡ ks = cc in (
+          subst (λ z. Of z None) same a,
+          subst (λ s. FirstOf Of ks s) n
+              (subst (λ zs. FirstOf Of zs r) rest q),
+        )
 
 module _ {X C : Type 0} (At : X → C → Type 0) where
   clean_behind : (xs ys : List X) → Clean At (xs ++ ys) → Clean At ys
@@ -45,7 +48,7 @@ clash seen [] r listed h c = Contains-nil r.name c
 clash seen (x ∷ rs) r listed h c =
     ⊎_elim (λ same. h.0 (culprit x.place x.name) (refl, r, listed, sym same))
     (λ more. clash (seen ++ lists x ∷ []) rs r (Contains-append_left seen (lists x ∷ []) (lists r) listed) h.1 more)
-        (Contains-cons_cases (map role_name rs) x.name r.name c)
+    (Contains-cons_cases (map role_name rs) x.name r.name c)
 
 distinct : (seen : List Entry) (rs : List Role) → Clean DuplicateName (behind seen (map lists rs)) → AreDistinct (map role_name rs)
 distinct seen [] h = tt
@@ -56,7 +59,7 @@ pub roles_differ : (ds : List Declaration) (rs : List Role) → Clean DuplicateN
 roles_differ ds rs h =
     distinct (map declares ds) rs
     (clean_behind DuplicateName (with_earlier (map declares ds)) _
-        (subst (λ qs. Clean DuplicateName qs) (behind-append [] (map declares ds) (map lists rs)) h))
+    (subst (λ qs. Clean DuplicateName qs) (behind-append [] (map declares ds) (map lists rs)) h))
 
 -- what is not unlisted is listed
 is_listed : (names : List Name) (name : Name) → ((Contains names name → ⊥) → ⊥) → Contains names name

@@ -47,7 +47,7 @@ module _ {X D : Type 0} (key : X → Name) (deed : X → D) {A S : Type 0} (firs
 
     pub new_indexed : (after : HashMap (String A) ℕ S) (text : String A) → string_bytes text ≡ key x →
         UpdatesBy string_eq (λ k. bytes_eq (string_bytes text) (string_bytes k)) firsts after (Some i) →
-            Indexes key deed after (take (i + 1) xs)
+        Indexes key deed after (take (i + 1) xs)
     new_indexed after text name u = subst (Indexes key deed after) pushed (new_indexes key deed firsts (take i xs) x h none after
         (λ q. hash_map_updates_text (string_bytes text) firsts after (Some i) u q
         ∙ ap (λ n. cond (bytes_eq n q) (Some i) (get_by_text firsts q)) name

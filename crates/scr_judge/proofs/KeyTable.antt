@@ -25,8 +25,10 @@ module _ {X D : Type 0} (key : X → Name) (deed : X → D) where
     pub each : (name : Name) → MatchOption (get_by_text firsts name) (NoKey xs name) (IsKeyAt xs name)
 
   pub no_keys : {A S : Type 0} (firsts : HashMap (String A) ℕ S) → ((name : Name) → get_by_text firsts name ≡ None) → Indexes firsts []
-  no_keys firsts e = record { each = λ name. subst (λ o. MatchOption o (NoKey [] name) (IsKeyAt [] name)) (sym (e name))
-      (λ a has same. omega (arith, has.1)) }
+  no_keys firsts e = record {
+    each = λ name. subst (λ o. MatchOption o (NoKey [] name) (IsKeyAt [] name)) (sym (e name))
+        (λ a has same. omega (arith, has.1));
+  }
 
   -- what is known of a key, after an element that has another one
   other_pushed : (o : Option ℕ) (xs : List X) (m : X) (name : Name) → MatchOption o (NoKey xs name) (IsKeyAt xs name) →
@@ -72,8 +74,12 @@ module _ {X D : Type 0} (key : X → Name) (deed : X → D) where
 
       module _ (y : X) (at : y ≡ get_or xs k y) where
         pub seen_clash : (deed y ≢ deed x) → Differs key deed xs x
-        seen_clash differ = (y, subst (Contains xs) (sym at) (Contains-get_or xs k y seen_before), ap key at ∙ (known (Some k) seen).1 y,
-            differ)
+        seen_clash differ = (
+          y,
+          subst (Contains xs) (sym at) (Contains-get_or xs k y seen_before),
+          ap key at ∙ (known (Some k) seen).1 y,
+          differ,
+        )
 
         module _ (same : deed y ≡ deed x) where
           pub seen_fine : Differs key deed xs x → ⊥
@@ -89,7 +95,7 @@ module _ {X D : Type 0} (key : X → Name) (deed : X → D) where
                 λ z. ap key (get_or_append_left xs (x ∷ []) z k is.0) ∙ is.1 z,
                 λ a z has e. ⊎_elim (λ old. is.2 a z old e ∙ sym (ap deed (get_or_append_left xs (x ∷ []) z k is.0)))
                     (λ new. ap deed (sym new) ∙ sym same ∙ is.2 y z (subst (Contains xs) (sym at) (Contains-get_or xs k y is.0))
-                        (ap key at ∙ is.1 y) ∙ sym (ap deed (get_or_append_left xs (x ∷ []) z k is.0)))
+                    (ap key at ∙ is.1 y) ∙ sym (ap deed (get_or_append_left xs (x ∷ []) z k is.0)))
                     (Contains-push_cases xs x a has),
               ))
           kept_at false q d = other_pushed (get_by_text firsts q) xs x q (h.each q) (λ e. true≢false (sym (d.1 e)))

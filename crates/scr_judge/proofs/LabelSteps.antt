@@ -22,7 +22,7 @@ pub same-front : (me : Name) (s : Statement) (rest : Statements) → same me (fr
 same-front me s rest =
     each_front (λ f. same me (f rest) ≡ option_or (same me (f Nothing)) (same me rest)) (λ m. refl)
     (λ p at bs. ap (λ o. option_or o (same me rest)) (or_none (same_in me at none bs))) (λ p name body. ap (λ o. option_or o (same me rest))
-        (or_none (same me body))) (λ p name. refl) s
+    (or_none (same me body))) (λ p name. refl) s
 
 -- a statement alone
 pub same-Choice : (p : _) (at : Name) (bs : Row (Row Statement)) (me : Name) → same me (front (kinds.Choice p at bs) Nothing) ≡ same_in me
@@ -68,12 +68,12 @@ pub same_in-step : (me at : Name) (has : Names) (bs : List (Row Statement)) (i :
     →
     same_in me at has (bodies (drop i bs)) ≡
     option_or (head_of me at has (first_said (statements x.items)))
-        (option_or (same me (statements x.items)) (same_in me at (with_key me at has (first_said (statements x.items)))
-        (bodies (drop (i + 1) bs))))
+    (option_or (same me (statements x.items)) (same_in me at (with_key me at has (first_said (statements x.items)))
+    (bodies (drop (i + 1) bs))))
 same_in-step me at has bs i x within is =
     ap (same_in me at has) (bodies-step bs i x within is)
     ∙ (λ j. option_or (head-is me at has (statements x.items) j)
-        (option_or (same me (statements x.items)) (same_in me at (key-is me at has (statements x.items) j) (bodies (drop (i + 1) bs)))))
+    (option_or (same me (statements x.items)) (same_in me at (key-is me at has (statements x.items) j) (bodies (drop (i + 1) bs)))))
 
 pub said-Message : (m : Message) (rest : Statements) → first_said (front (kinds.Message m) rest) ≡ Some m
 said-Message m rest = ap (λ f. first_said (f rest)) (front-Message m)

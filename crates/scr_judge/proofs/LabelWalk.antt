@@ -33,8 +33,11 @@ one_more false k q b os d h = (
 )
 
 none_more : (q : Name) (b : Bool) (os : List (Option Name)) → IsTrue b ↔ Contains os (Some q) → IsTrue b ↔ Contains (None ∷ os) (Some q)
-none_more q b os h = (λ i. Contains-later os None (Some q) (h.0 i), λ c. ⊎_elim (λ e. let no : ⊥ = cc in absurd no) h.1
-    (Contains-cons_cases os None (Some q) c))
+none_more q b os h = (
+  λ i. Contains-later os None (Some q) (h.0 i),
+  λ c. ⊎_elim (λ e. let no : ⊥ = cc in absurd no) h.1
+      (Contains-cons_cases os None (Some q) c),
+)
 
 or_assoc : (a b d : Option Culprit) → option_or (option_or a b) d ≡ option_or a (option_or b d)
 or_assoc None b d = refl
@@ -44,8 +47,10 @@ module _ (me : Name) where
   module _ (at : Name) (has : Names) (earlier : List Statements) (h : AreKeys me at has earlier) where
     pub keys_more : (b : Statements) → AreKeys me at (with_head me at has b) (b ∷ earlier)
     keys_more Nothing = record { each = λ q. none_more q (has q) _ (h.each q) }
-    keys_more (Says m rest) = record { each = λ q. one_more (bytes_eq (key me at m) q) (key me at m) q (has q) _
-        (bytes_eq-Decides (key me at m) q) (h.each q) }
+    keys_more (Says m rest) = record {
+      each = λ q. one_more (bytes_eq (key me at m) q) (key me at m) q (has q) _
+          (bytes_eq-Decides (key me at m) q) (h.each q);
+    }
     keys_more (Choice p a bs rest) = record { each = λ q. none_more q (has q) _ (h.each q) }
     keys_more (Rec p n body rest) = record { each = λ q. none_more q (has q) _ (h.each q) }
     keys_more (Continue p n rest) = record { each = λ q. none_more q (has q) _ (h.each q) }
@@ -54,7 +59,7 @@ module _ (me : Name) where
     said : (way : Way) (m : Message) (rest : Statements) (b : Bool) (r : Option Culprit) → has (key me at m) ≡ b →
         Judged (SameLabel me) (spots (Past (Says m Nothing) ∷ (Enters at earlier ∷ way)) rest) r →
         Judged (SameLabel me) (spots (Enters at earlier ∷ way) (Says m rest))
-            (option_or (if b then Some (culprit m.place m.label) else None) r)
+        (option_or (if b then Some (culprit m.place m.label) else None) r)
     said way m rest true r e j = here (refl, (h.each (key me at m)).0 e)
     said way m rest false r e j = later (λ c x. true≢false (sym ((h.each (key me at m)).1 x.1) ∙ e)) j
 
@@ -85,7 +90,7 @@ module _ (me : Name) where
     same_exact_in way at has earlier h (Branch b more) =
         subst (Judged (SameLabel me) (branch_spots way at earlier (Branch b more))) (or_assoc (head_fault me at has b) (same me b) _)
         (judged-append (branch_exact way at has earlier h b) (same_exact_in way at (with_head me at has b) (b ∷ earlier)
-            (keys_more at has earlier h b) more))
+        (keys_more at has earlier h b) more))
 
   -- what the walk over a whole text finds
   pub first_same : (ss : Statements) (r : Option Culprit) → r ≡ same me ss → Judged (SameLabel me) (spots [] ss) r

@@ -24,4 +24,4 @@ module _ (roles : List Name) (has : Names) (h : (q : Name) → IsTrue (has q) �
   unlisted_behind name same e r found =
       later (λ c a. a.1 ((h me.name).0 (ap has (sym same) ∙ e)))
       (judged-map within (λ s c a. a) (λ s c a. a) (first_asked (says.UnknownRole roles) (asks_role has) (role_right roles has h) body r
-          found))
+      found))

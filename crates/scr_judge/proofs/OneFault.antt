@@ -66,9 +66,9 @@ empty_place way (Continue p name rest) c a = absurd a
 start_single : IsSingle BranchStart
 start_single (spot way ss) c d a b =
     let x : (place : Place) × (head_place ss ≡ Some place) × (c ≡ culprit place []) = ⊎_elim (empty_place way ss c) (other_place way ss c) a
-        in
+    in
     let y : (place : Place) × (head_place ss ≡ Some place) × (d ≡ culprit place []) = ⊎_elim (empty_place way ss d) (other_place way ss d) b
-        in
+    in
     let same : Some x.0 ≡ Some y.0 = sym x.1 ∙ y.1 in let place : x.0 ≡ y.0 = cc in x.2 ∙ ap (λ p. culprit p []) place ∙ sym y.2
 
 label_single : (me : Name) → IsSingle (ReservedLabel me)

@@ -46,8 +46,10 @@ module _ {names : List Name} {way : Way} (h : AreOpen names way) where
   -- behind a statement
   past_open : (b : Bool) (s : Statements) → passes s ≡ b → AreOpen (kept b names) (Past s ∷ way)
   past_open true s e = record { each = λ n. (λ t. past e ((h.each n).0 t), λ q. (h.each n).1 (quietly_past _ q s way refl).1) }
-  past_open false s e = record { each =
-      λ n. (λ t. absurd (true≢false (sym t)), λ q. absurd (true≢false (sym (quietly_past _ q s way refl).0 ∙ e))) }
+  past_open false s e = record {
+    each =
+        λ n. (λ t. absurd (true≢false (sym t)), λ q. absurd (true≢false (sym (quietly_past _ q s way refl).0 ∙ e)));
+  }
 
   -- in the body of a rec
   opens_one : (name q : Name) (t : Bool) → Decides t (q ≡ name) → IsTrue (t || is_among q names) ↔ Quietly q (Opens name ∷ way)
@@ -85,7 +87,7 @@ mutual
       (quiet_exact (kept (passes body) names) _ rest (past_open h (passes body) (Rec p name body Nothing) (and_true _))))
   quiet_exact names way (Continue p name rest) h =
       found_or (is_among name names) names way p name rest _ _ h refl
-          (quiet_exact [] _ rest (past_open h false (Continue p name Nothing) refl))
+      (quiet_exact [] _ rest (past_open h false (Continue p name Nothing) refl))
 
   quiet_exact_in : (names : List Name) (way : Way) (at : Name) (earlier : List Statements) (bs : Branches) → AreOpen names way →
       Judged Unguarded (branch_spots way at earlier bs) (unguarded_in names bs)

@@ -35,10 +35,10 @@ mutual
   reached_exact way (Says m rest) h = later (h.fine _) (reached_exact _ rest (behind_falling (Says m Nothing) way refl))
   reached_exact way (Choice p at bs rest) h =
       later (h.fine _) (judged-append (reached_exact_in way at [] bs) (behind_exact (some_falls bs) (Choice p at bs Nothing) way rest
-          (and_true _) (reached_exact _ rest)))
+      (and_true _) (reached_exact _ rest)))
   reached_exact way (Rec p name body rest) h =
       later (h.fine _) (judged-append (reached_exact _ body (record { fine = λ ss c x. x }))
-          (behind_exact (falls body) (Rec p name body Nothing) way rest (and_true _) (reached_exact _ rest)))
+      (behind_exact (falls body) (Rec p name body Nothing) way rest (and_true _) (reached_exact _ rest)))
   reached_exact way (Continue p name rest) h =
       later (h.fine _) (behind_exact false (Continue p name Nothing) way rest refl (reached_exact _ rest))
 

@@ -87,9 +87,9 @@ module _ (check : Check) (begins : Option Name) (around : List Name) where
   walk-front : (s : Statement) (rest : Statements) → found_in (front s rest) ≡ option_or (found_in (front s Nothing)) (found_behind rest)
   walk-front s rest =
       parts s rest ∙ ap (λ o. option_or o (option_or (within_it (front s Nothing)) (found_behind rest)))
-          (test-front begins around s rest check)
+      (test-front begins around s rest check)
       ∙ or_assoc (here_at (front s Nothing)) (within_it (front s Nothing)) (found_behind rest) ∙ ap (λ o. option_or o (found_behind rest))
-          (sym (walk-alone s))
+      (sym (walk-alone s))
 
   pub walk_found : (s : Statement) (c : Culprit) → Some c ≡ test check begins around (front s Nothing) →
       walk (test check) begins around (front s Nothing) ≡ Some c
@@ -109,7 +109,7 @@ module _ (check : Check) (begins : Option Name) (around : List Name) where
 
   pub walk-Rec : (p : _) (name : Name) (body : Row Statement) → None ≡ test check begins around (front (kinds.Rec p name body) Nothing) →
       walk (test check) begins around (front (kinds.Rec p name body) Nothing) ≡ walk (test check) None (name ∷ around)
-          (statements body.items)
+      (statements body.items)
   walk-Rec p name body e = inner _ e ∙ ap (λ f. within_it (f Nothing)) (front-Rec p name body)
 
   pub walk-Continue : (p : _) (name : Name) → None ≡ test check begins around (front (kinds.Continue p name) Nothing) →
@@ -165,7 +165,7 @@ pub nothing-is : (ss : List Statement) → is_nothing (statements ss) ≡ (lengt
 nothing-is [] = refl
 nothing-is (s ∷ ss) =
     each_front (λ f. is_nothing (f (statements ss)) ≡ (length (s ∷ ss) == 0)) (λ m. positive (length ss)) (λ p at bs. positive (length ss))
-        (λ p name body. positive (length ss)) (λ p name. positive (length ss)) s
+    (λ p name body. positive (length ss)) (λ p name. positive (length ss)) s
 
 pub mixed-Choice : (me : Name) (p : Place) (at : Name) (bs : Row (Row Statement)) → mixed_choice me (front (kinds.Choice p at bs) Nothing) ≡
     unless (uniform me at (bodies bs.items)) (culprit p [])
@@ -177,8 +177,19 @@ pub ruleset alone = (common_steps, walk_found, walk-Message, walk-Choice, walk-R
 
 pub ruleset in_steps = (common_steps, bodies-step, bodies-past)
 
-pub ruleset tests = (common_steps, role-Message, role-Choice, self-Message, start-Choice, label-Message, mixed-Choice, front-Message,
-    front-Choice, front-Rec, front-Continue)
+pub ruleset tests = (
+  common_steps,
+  role-Message,
+  role-Choice,
+  self-Message,
+  start-Choice,
+  label-Message,
+  mixed-Choice,
+  front-Message,
+  front-Choice,
+  front-Rec,
+  front-Continue,
+)
 
 pub ruleset sends = (common_steps, bodies-step, bodies-past, all_send-said)
 

@@ -24,8 +24,11 @@ none_around = record { each = λ q. (λ t. absurd (true≢false (sym t)), λ c. 
 module _ {around : List Name} {way : Way} (h : AreAround around way) where
   pub around_past : (s : Statements) → AreAround around (Past s ∷ way)
   around_past s = record {
-    each = λ q. (λ t. Contains-later way (Past s) (Opens q) ((h.each q).0 t), λ c. ⊎_elim (λ e. let no : ⊥ = cc in absurd no) (h.each q).1
-        (Contains-cons_cases way (Past s) (Opens q) c));
+    each = λ q. (
+      λ t. Contains-later way (Past s) (Opens q) ((h.each q).0 t),
+      λ c. ⊎_elim (λ e. let no : ⊥ = cc in absurd no) (h.each q).1
+          (Contains-cons_cases way (Past s) (Opens q) c),
+    );
   }
 
   pub around_enters : (at : Name) (earlier : List Statements) → AreAround around (Enters at earlier ∷ way)
@@ -37,8 +40,10 @@ module _ {around : List Name} {way : Way} (h : AreAround around way) where
   }
 
   opens_one : (name q : Name) (t : Bool) → Decides t (q ≡ name) → IsTrue (t || is_among q around) ↔ Contains (Opens name ∷ way) (Opens q)
-  opens_one name q true d = (λ _. subst (λ z. Contains (Opens name ∷ way) (Opens z)) (sym (d.0 refl)) (Contains-first way (Opens name)),
-      λ _. refl)
+  opens_one name q true d = (
+    λ _. subst (λ z. Contains (Opens name ∷ way) (Opens z)) (sym (d.0 refl)) (Contains-first way (Opens name)),
+    λ _. refl,
+  )
   opens_one name q false d = (
     λ i. Contains-later way (Opens name) (Opens q) ((h.each q).0 i),
     λ c. ⊎_elim (λ e. let same : name ≡ q = cc in absurd (true≢false (sym (d.1 (sym same))))) (h.each q).1
@@ -75,17 +80,17 @@ module _ (At : Spot → Culprit → Type 0) (ask : Asks) where
       walk_exact around way Nothing h = clean
       walk_exact around way (Says m rest) h =
           asked _ (ask (beginning way) around (Says m rest)) _ _ (right.asks around way _ h)
-              (walk_exact around _ rest (around_past h (Says m Nothing)))
+          (walk_exact around _ rest (around_past h (Says m Nothing)))
       walk_exact around way (Choice p at bs rest) h =
           asked _ (ask (beginning way) around (Choice p at bs rest)) _ _ (right.asks around way _ h)
           (judged-append (walk_exact_in around way at [] bs h) (walk_exact around _ rest (around_past h (Choice p at bs Nothing))))
       walk_exact around way (Rec p name body rest) h =
           asked _ (ask (beginning way) around (Rec p name body rest)) _ _ (right.asks around way _ h)
           (judged-append (walk_exact (name ∷ around) _ body (around_opens h name))
-              (walk_exact around _ rest (around_past h (Rec p name body Nothing))))
+          (walk_exact around _ rest (around_past h (Rec p name body Nothing))))
       walk_exact around way (Continue p name rest) h =
           asked _ (ask (beginning way) around (Continue p name rest)) _ _ (right.asks around way _ h)
-              (walk_exact around _ rest (around_past h (Continue p name Nothing)))
+          (walk_exact around _ rest (around_past h (Continue p name Nothing)))
 
       walk_exact_in : (around : List Name) (way : Way) (at : Name) (earlier : List Statements) (bs : Branches) → AreAround around way →
           Judged At (branch_spots way at earlier bs) (walk_in ask at around bs)

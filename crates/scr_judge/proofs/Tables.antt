@@ -68,9 +68,9 @@ supported_row : (types : List Declaration) (d : Declaration) → Answers (Unknow
 supported_row types d =
     unless_right (IsSupported d) (is_supported d) (culprit d.place d.alias)
     (λ e. let h = both_of (bytes_eq d.language (codes "java")) (is_some (kind_of_class d.class)) e in
-        ((bytes_eq-Decides d.language (codes "java")).0 h.0, some_to (kind_of_class d.class) h.1))
+    ((bytes_eq-Decides d.language (codes "java")).0 h.0, some_to (kind_of_class d.class) h.1))
     (λ h. both_so (bytes_eq d.language (codes "java")) (is_some (kind_of_class d.class))
-        ((bytes_eq-Decides d.language (codes "java")).1 h.0) (some_from (kind_of_class d.class) h.1))
+    ((bytes_eq-Decides d.language (codes "java")).1 h.0) (some_from (kind_of_class d.class) h.1))
 
 either_of : (a b : Bool) → (a || b) ≡ true → (a ≡ true) ⊎ (b ≡ true)
 either_of true b e = inl refl
@@ -87,7 +87,7 @@ module _ (types : List Declaration) (aliases : Names) (h : (q : Name) → IsTrue
   declared_to : (type : Name) → is_declared aliases type ≡ true → IsDeclared types type
   declared_to type e =
       ⊎_elim (λ b. inl (some_to (class_beforehand type) b)) (λ a. let o = Contains-origin alias_of types type ((h type).0 a) in inr
-          (o.0, o.1, o.2))
+      (o.0, o.1, o.2))
       (either_of (is_some (class_beforehand type)) (aliases type) e)
 
   declared_from : (type : Name) → IsDeclared types type → is_declared aliases type ≡ true
@@ -107,11 +107,11 @@ module _ (types : List Declaration) (aliases : Names) (h : (q : Name) → IsTrue
 pub unknown_type : (types : List Declaration) (ms : List Kept) (aliases : Names) →
     ((q : Name) → IsTrue (aliases q) ↔ Contains (map alias_of types) q) → (r : Option Culprit) →
     None ≡ first_among unsupported types → r ≡ first_among (undeclared_in aliases) ms →
-        Judged (UnknownType types) (map declared types ++ flat_map carried_by (map carries_of ms)) r
+    Judged (UnknownType types) (map declared types ++ flat_map carried_by (map carries_of ms)) r
 unknown_type types ms aliases h r none e =
     judged-append
     (judged-map declared (λ d c a. a) (λ d c a. a) (subst (Judged (λ d. UnknownType types (declared d)) types) (sym none)
-        (table (λ d. UnknownType types (declared d)) unsupported (supported_row types) types)))
+    (table (λ d. UnknownType types (declared d)) unsupported (supported_row types) types)))
     (subst (Judged (UnknownType types) (flat_map carried_by (map carries_of ms))) (sym e) (rows ms))
   where
     rows : (ms : List Kept) → Judged (UnknownType types) (flat_map carried_by (map carries_of ms)) (first_among (undeclared_in aliases) ms)
@@ -124,7 +124,7 @@ pub unknown_declaration : (types : List Declaration) (ms : List Kept) (c : Culpr
 unknown_declaration types ms c e =
     judged-found (flat_map carried_by (map carries_of ms)) (judged-map declared (λ d k a. a) (λ d k a. a)
     (subst (Judged (λ d. UnknownType types (declared d)) types) (sym e) (table (λ d. UnknownType types (declared d)) unsupported
-        (supported_row types) types)))
+    (supported_row types) types)))
 
 many_row : (m : Kept) → Answers (PayloadCount (carries_of m)) (many m)
 many_row m = go (nat_lt (length m.types.items) 2) refl

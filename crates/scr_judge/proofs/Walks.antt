@@ -33,7 +33,7 @@ found_here false c r = refl
 pub passes-front : (s : Statement) (rest : Statements) → passes (front s rest) ≡ (passes (front s Nothing) && passes rest)
 passes-front s rest =
     each_front (λ f. passes (f rest) ≡ (passes (f Nothing) && passes rest)) (λ m. refl)
-        (λ p at bs. ap (λ b. b && passes rest) (and_true (some_passes bs)))
+    (λ p at bs. ap (λ b. b && passes rest) (and_true (some_passes bs)))
     (λ p name body. ap (λ b. b && passes rest) (and_true (passes body))) (λ p name. refl) s
 
 pub unguarded-front : (names : List Name) (s : Statement) (rest : Statements) →
@@ -109,8 +109,17 @@ module _ (names : List Name) (ss : List Statement) (i : ℕ) (x : Statement) (wi
   unguarded_here c e = unguarded-step ss i x within is (kept quiet names) ∙
       ap (λ o. option_or o (unguarded (kept (passes (front x Nothing)) (kept quiet names)) (statements (drop (i + 1) ss)))) (sym e)
 
-pub ruleset fronts = (common_steps, front-Message, front-Choice, front-Rec, front-Continue, unguarded-Choice, passes-Choice, unguarded-Rec,
-    passes-Rec)
+pub ruleset fronts = (
+  common_steps,
+  front-Message,
+  front-Choice,
+  front-Rec,
+  front-Continue,
+  unguarded-Choice,
+  passes-Choice,
+  unguarded-Rec,
+  passes-Rec,
+)
 
 pub ruleset all_steps = (common_steps, unguarded_later, passes_later, unguarded_here, statements-past, and_true)
 

@@ -34,7 +34,7 @@ pub free_is_none : (me at label : Name) → is_free_label me at label ≡ true �
 unfolding is_free_label
 free_is_none me at label e other reserved =
     one_of (bytes_eq at me) (list_any (bytes_eq label) java_words) e (false_of _ (λ t. other ((bytes_eq-Decides at me).0 t)))
-        (any_from label java_words reserved)
+    (any_from label java_words reserved)
 
 pub not_free : (me at label : Name) → is_free_label me at label ≡ false → (at ≢ me) × Contains java_words label
 unfolding is_free_label

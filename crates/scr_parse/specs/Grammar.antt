@@ -92,7 +92,7 @@ abbrev pub IsMessage : List Declaration → Message → (types : List Name) → 
 IsMessage declared m types ts =
     (a b c d e : Place) × (us : List Tok)
     × (ts ≡ named m.place m.label ∷ marked a marks.OpenParen ∷ (us ++ marked b marks.CloseParen ∷ marked c (direction_mark m.direction) ∷
-        named d m.peer ∷ marked e marks.Semicolon ∷ []))
+    named d m.peer ∷ marked e marks.Semicolon ∷ []))
     × AreTypes types us × (m.payload ≡ kind_of declared types)
 
 -- what a message carries

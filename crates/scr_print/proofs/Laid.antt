@@ -62,7 +62,7 @@ module _ (level : ℕ) where
 pub branches-step : (before : List ℕ) (level : ℕ) (bs : List (Row Statement)) (i : ℕ) (x : Row Statement) → i < length bs →
     x ≡ get_or bs i x →
     branch_lines before level (bodies (drop i bs)) ≡ before ++ (block level (statements x.items) ++ branch_lines (codes " or ") level
-        (bodies (drop (i + 1) bs)))
+    (bodies (drop (i + 1) bs)))
 branches-step before level bs i x within is = ap (branch_lines before level) (bodies-step bs i x within is)
 
 -- the role at an index, and those behind it
@@ -70,7 +70,7 @@ pub roles-step : (before : List ℕ) (rs : List Name) (i : ℕ) (x : Name) → i
     role_list before (drop i rs) ≡ before ++ (codes "role " ++ (x ++ role_list (codes ", ") (drop (i + 1) rs)))
 roles-step before rs i x within is =
     at_drop_more (role_list before) rs i x within ∙ ap (λ y. before ++ (codes "role " ++ (y ++ role_list (codes ", ") (drop (i + 1) rs))))
-        (sym is)
+    (sym is)
 
 pub roles-past : (before : List ℕ) (rs : List Name) (i : ℕ) → length rs ≤ i → role_list before (drop i rs) ≡ []
 roles-past before rs i h = at_drop_all (role_list before) rs i h

@@ -59,4 +59,4 @@ role_list before (role ∷ roles) = before ++ (codes "role " ++ (role ++ role_li
 abbrev pub layout : LocalTree → List ℕ
 layout local =
     codes "local protocol " ++ (local.name
-        ++ (codes " at " ++ (local.me ++ (codes "(" ++ (role_list [] local.roles ++ (codes ") " ++ (block 0 local.body ++ codes "\n")))))))
+    ++ (codes " at " ++ (local.me ++ (codes "(" ++ (role_list [] local.roles ++ (codes ") " ++ (block 0 local.body ++ codes "\n")))))))

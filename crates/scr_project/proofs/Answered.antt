@@ -60,7 +60,7 @@ module _ (g : GlobalTree) (me : Name) where
       IsOpenFault (projection_of g me s) r → IsOpenFault (projection_of g me t) q → r ≡ q
   same_open s t r q e f j k =
       one_first (one_of (parts (projection_of g me t))) (subst (λ (b : local.Statements). IsOpenFault (projection_of g me b) r)
-          (same_body s t e f) j) k
+      (same_body s t e f) j) k
 
   same_place : (p q : Place) (n m : Name) → Judged (IsNotMergeable me) (spots [] g.body) (Some (culprit p n)) →
       Judged (IsNotMergeable me) (spots [] g.body) (Some (culprit q m)) →
@@ -73,7 +73,7 @@ module _ (g : GlobalTree) (me : Name) where
       projected me g.body ≡ Some t →
       IsOpenFault (projection_of g me s) (Some (c, culprit p n)) → IsOpenFault (projection_of g me t) (Some (d, culprit q m)) →
       ◌≡◌ {A = Answer} (Unprojected (start_of g.file) me (Refused c p (told c n)))
-          (Unprojected (start_of g.file) me (Refused d q (told d m)))
+      (Unprojected (start_of g.file) me (Refused d q (told d m)))
   same_fault s t c d p q n m e f j k =
       let pair = some_is (c, culprit p n) (d, culprit q m) (same_open s t (Some (c, culprit p n)) (Some (d, culprit q m)) e f j k) in
       let conditions = ap (λ (x : Condition × Culprit). x.0) pair in
@@ -119,7 +119,7 @@ module _ (g : GlobalTree) (me : Name) where
   stage_unmerged name first place is none e f = record {
     right = λ a h. subst (Outcome g me) (some_is (NotMergeable place name) a h)
         (not_mergeable none (subst (λ (c : Option Culprit). Judged (IsNotMergeable me) (spots [] g.body) c)
-            (ap (at_fault me) (sym e ∙ f) ∙ ap (λ (n : Name). Some (culprit place n)) (sym is)) (first_unmerged me g.body)));
+        (ap (at_fault me) (sym e ∙ f) ∙ ap (λ (n : Name). Some (culprit place n)) (sym is)) (first_unmerged me g.body)));
     answers = λ h. absurd (none_is_not (NotMergeable place name) (sym h));
   }
 

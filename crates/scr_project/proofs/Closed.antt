@@ -53,13 +53,13 @@ mutual
   closed_reach inner outer (Says m rest) = closed_reach inner outer rest
   closed_reach inner outer (Choice place at branches rest) =
       both_le (are_closed inner (said_each branches)) (is_closed inner (said rest)) (reached_in (inner ++ outer) branches)
-          (reached (inner ++ outer) rest) (length inner)
+      (reached (inner ++ outer) rest) (length inner)
       (closed_reach_in inner outer branches) (closed_reach inner outer rest)
   closed_reach inner outer (Rec place name body rest) =
       both_le (is_closed (name ∷ inner) (said body)) (is_closed inner (said rest)) (reached (name ∷ (inner ++ outer)) body - 1)
-          (reached (inner ++ outer) rest) (length inner)
+      (reached (inner ++ outer) rest) (length inner)
       (closed_reach (name ∷ inner) outer body ∙ less_le (reached (name ∷ (inner ++ outer)) body) (length inner))
-          (closed_reach inner outer rest)
+      (closed_reach inner outer rest)
   closed_reach inner outer (Continue place name rest) =
       both_le (is_among inner name) (is_closed inner (said rest)) (far name (inner ++ outer)) (reached (inner ++ outer) rest) (length inner)
       (far_le name inner outer) (closed_reach inner outer rest)
@@ -69,7 +69,7 @@ mutual
   closed_reach_in inner outer NoBranch = zero_le (length inner)
   closed_reach_in inner outer (Branch b more) =
       both_le (is_closed inner (said b)) (are_closed inner (said_each more)) (reached (inner ++ outer) b) (reached_in (inner ++ outer) more)
-          (length inner)
+      (length inner)
       (closed_reach inner outer b) (closed_reach_in inner outer more)
 
 -- a rec's body leads out of it exactly where it reaches further than the rec itself

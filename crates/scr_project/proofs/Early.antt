@@ -86,14 +86,14 @@ module _ (roles : List Name) (me : Name) where
     all_clean names way (Choice place at branches rest) a h =
         with_one _ _ (λ c x. x.1 h.1) (λ c x. x) (λ c x. x) (λ c x. x)
         (with_more _ _ (each_clean names way at [] branches a h.3) (all_clean names _ rest (past_way a (Choice place at branches Nothing))
-            h.4))
+        h.4))
     all_clean names way (Rec place name body rest) a h =
         with_one _ _ (λ c x. x) (λ c x. x) (λ c x. x) (λ c x. h.1 (a.names_of name x.1))
         (with_more _ _ (all_clean (name ∷ names) _ body (opens_way a name) h.2)
-            (all_clean names _ rest (past_way a (Rec place name body Nothing)) h.3))
+        (all_clean names _ rest (past_way a (Rec place name body Nothing)) h.3))
     all_clean names way (Continue place name rest) a h =
         with_one _ _ (λ c x. x) (λ c x. x) (λ c x. x.1 (a.opens_of name h.1)) (λ c x. x)
-            (all_clean names _ rest (past_way a (Continue place name Nothing)) h.2)
+        (all_clean names _ rest (past_way a (Continue place name Nothing)) h.2)
 
     each_clean : (names : List Name) (way : Way) (at : Name) (earlier : List Statements) (bs : Branches) → AreOnWay names way →
         KeepEach roles me names bs → AllClean (branch_spots way at earlier bs)
@@ -129,7 +129,7 @@ module _ (file : ℕ) where
     (λ c x. apart name (first_in name names name refl) (subst (Contains before) x.3 (from x.1 x.2))),
     twice (seen ++ lists (listed file name) ∷ []) (name ∷ before) names grown
         (λ other c k. ⊎_elim (λ (e : name ≡ other). d.0 (subst (Contains names) (sym e) c))
-            (λ l. apart other (later_in name names other c) l) (first_or_later name before other k)) d.1,
+        (λ l. apart other (later_in name names other c) l) (first_or_later name before other k)) d.1,
   )
     where
       grown : (r : Role) → Contains (seen ++ lists (listed file name) ∷ []) (lists r) → Contains (name ∷ before) r.name
@@ -189,5 +189,5 @@ module _ (t : LocalTree) (h : AreEarlyClean t) where
   pub all_of_them : (r : Option (Condition × Culprit)) → IsOpenFault t r → IsFault (parts t) r
   all_of_them r f =
       next (clean-judged _ duplicates) (next (clean-judged (mentions (parts t)) mentioned)
-          (next (clean-judged (spots [] t.body) h.body.apart) (next clean (next clean
+      (next (clean-judged (spots [] t.body) h.body.apart) (next clean (next clean
       (next (clean-judged (spots [] t.body) h.body.known) (next (clean-judged (spots [] t.body) h.body.differ) f))))))

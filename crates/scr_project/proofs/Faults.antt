@@ -67,7 +67,7 @@ module _ (me : Name) where
   asked : (way : Way) (place : Place) (at : Name) (branches : Branches) (rest : Statements) (o : Option Place) (r : Option Place)
       (more : List Spot) → Answers way place at branches rest o →
       Judged (NotMergeable me) more (at_fault me r) → Judged (NotMergeable me) (spot way (Choice place at branches rest) ∷ more)
-          (at_fault me (option_or o r))
+      (at_fault me (option_or o r))
   asked way place at branches rest None r more a j = later a j
   asked way place at branches rest (Some p) r more a j = here a
 
@@ -81,7 +81,7 @@ module _ (me : Name) where
     unmerged_exact way (Says m rest) = later (λ c x. x) (unmerged_exact _ rest)
     unmerged_exact way (Choice place at branches rest) =
         asked way place at branches rest (choice_fault me place (bytes_eq at me) (projected_each me branches)) _ _
-            (choice_answers way place at branches rest)
+        (choice_answers way place at branches rest)
         (appended _ _ (unmerged_in me branches) (unmerged me rest) (unmerged_in_exact way at [] branches) (unmerged_exact _ rest))
     unmerged_exact way (Rec place name body rest) =
         later (λ c x. x) (appended _ _ (unmerged me body) (unmerged me rest) (unmerged_exact _ body) (unmerged_exact _ rest))

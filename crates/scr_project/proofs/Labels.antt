@@ -110,7 +110,7 @@ module _ (me : Name) (peer : Name) where
   said_tells has m rest more h directions.From =
       ap (λ (z : Bool). bytes_eq m.peer peer && (not (has m.label) && z)) h
       ∙ rearranged (bytes_eq m.peer peer) (not (has m.label)) (all_take peer (spoken_each me more))
-          (fresh (with_name m.label has) (first_labels (spoken_each me more)))
+      (fresh (with_name m.label has) (first_labels (spoken_each me more)))
 
   pub tells_is : (has : Names) (bs : Branches) →
       tells peer has bs ≡ (all_take peer (spoken_each me bs) && fresh has (first_labels (spoken_each me bs)))
@@ -119,7 +119,7 @@ module _ (me : Name) (peer : Name) where
   tells_is has (Branch (Says m rest) more) = said_tells has m rest more (tells_is (with_name m.label has) more) m.direction
   tells_is has (Branch (Choice p at bs rest) more) =
       sym (ap (λ (z : Bool). z && fresh has (first_labels (spoken_each me (Branch (Choice p at bs rest) more))))
-          (not_take (bytes_eq at me) peer (spoken_each me bs) (spoken me rest) (spoken_each me more)))
+      (not_take (bytes_eq at me) peer (spoken_each me bs) (spoken me rest) (spoken_each me more)))
   tells_is has (Branch (Rec p name body rest) more) = refl
   tells_is has (Branch (Continue p name rest) more) = refl
 
@@ -151,8 +151,8 @@ module _ (me : Name) where
   one_tells m rest more directions.From e =
       ap (λ (z : Bool). if z then Some m.peer else None)
       (sym (tells_none me m.peer (Branch (Says m rest) more) ∙
-          ap (λ (d : Direction). tells_apart m.peer (protocol.Branch (Does (towards d m.peer m.label m.payload) (spoken me rest))
-          (spoken_each me more))) e))
+      ap (λ (d : Direction). tells_apart m.peer (protocol.Branch (Does (towards d m.peer m.label m.payload) (spoken me rest))
+      (spoken_each me more))) e))
 
   pub telling_is : (b : Statements) (more : Branches) → telling me (Branch b more) ≡ told_by (Branch b more) (first_taken b)
   telling_is Nothing more = refl

@@ -28,7 +28,7 @@ use Rattle.scr_project.proofs.Answered.{stage_made, stage_unprojected, stage_unm
 
 module _ (global : Global) (me : Name) (s : Statements) (e : projected me (tree_of global).body ≡ Some s) (t : LocalTree)
     (file : t.file ≡ (tree_of global).file) (name : t.name ≡ (tree_of global).name) (role : t.me ≡ me)
-        (roles : t.roles ≡ (tree_of global).roles) (body : t.body ≡ s) where
+    (roles : t.roles ≡ (tree_of global).roles) (body : t.body ≡ s) where
   same : t ≡ projection_of (tree_of global) me s
   same = same_parts (tree_of global) me s t file name role roles body
 
@@ -39,13 +39,13 @@ module _ (global : Global) (me : Name) (s : Statements) (e : projected me (tree_
     pub made_of_parts : (made : Local) → Makes t (Ok made) → Stage (tree_of global) me (Ok made)
     made_of_parts made h =
         stage_made (tree_of global) me s e (early_clean (tree_of global) me s e global.valid listed) made
-            (subst (λ (u : LocalTree). Makes u (Ok made)) same h)
+        (subst (λ (u : LocalTree). Makes u (Ok made)) same h)
 
     pub unmade_of_parts : (fault : ScrFault) (r : Result Local ProjectFault) → Makes t (Err fault) → IsUnprojected t.file me fault r →
         Stage (tree_of global) me r
     unmade_of_parts fault r h u =
         stage_unprojected (tree_of global) me s e (early_clean (tree_of global) me s e global.valid listed) fault r
-            (subst (λ (u : LocalTree). Makes u (Err fault)) same h)
+        (subst (λ (u : LocalTree). Makes u (Err fault)) same h)
         (subst (λ (n : ℕ). IsUnprojected n me fault r) file u)
 
 some_unless : (o : Option Place) → (o ≡ None → ⊥) → IsSome o

@@ -39,7 +39,7 @@ pub merged_agreed : (me : Name) (place : Place) (b : Statements) (more : Branche
     merged_text me place (Branch b more) Nothing ≡ Some b
 merged_agreed me place b more e =
     ap (λ (z : Bool). if z then Some (behind b Nothing) else (if tells_apart (first_peer (spoken me b)) (spoken_each me (Branch b more))
-        then Some (Choice place (first_peer (spoken me b)) (Branch b more) Nothing) else None)) e
+    then Some (Choice place (first_peer (spoken me b)) (Branch b more) Nothing) else None)) e
     ∙ ap (λ (s : Statements). Some s) (behind_nothing b)
 
 -- a choice at the role that tells
@@ -52,7 +52,7 @@ pub merged_told : (me : Name) (place : Place) (bs : Branches) → agreed me bs �
 merged_told me place NoBranch e = refl
 merged_told me place (Branch b more) e =
     ap (λ (z : Bool). if z then Some (behind b Nothing) else (if apart then Some (Choice place peer (Branch b more) Nothing) else None)) e ∙
-        go apart
+    go apart
   where
     peer : Name
     peer = first_peer (spoken me b)
@@ -88,7 +88,7 @@ tells_by peer has more (Some m) = bytes_eq m.peer peer && (not (has m.label) && 
 
 by_is : (peer : Name) (has : Names) (more : Branches) (o : Option Said) →
     elim o as (λ _. Bool) [ None ↦ false | Some m ↦ bytes_eq m.peer peer && (not (has m.label) && tells peer (with_name m.label has) more) ]
-        ≡ tells_by peer has more o
+    ≡ tells_by peer has more o
 by_is peer has more None = refl
 by_is peer has more (Some m) = refl
 
@@ -105,13 +105,13 @@ tells-past peer has bs i h = ap (tells peer has) (bodies-past bs i h)
 pub peer_told : (me : Name) (bs : List (Row Statement)) (first : Row Statement) (rest : List (Row Statement)) (o : Option Said) (m : Said)
     (b : Bool) → bs ≡ first ∷ rest →
     o ≡ first_taken (statements first.items) → o ≡ Some m → b ≡ tells m.peer none (bodies bs) →
-        telling me (bodies bs) ≡ (if b then Some m.peer else None)
+    telling me (bodies bs) ≡ (if b then Some m.peer else None)
 peer_told me bs first rest o m b parts takes is told =
     ap (λ (l : List (Row Statement)). telling me (bodies l)) parts
     ∙ telling_is me (statements first.items) (bodies rest)
     ∙ ap (told_by (Branch (statements first.items) (bodies rest))) (sym takes ∙ is)
     ∙ ap (λ (z : Bool). if z then Some m.peer else None)
-        (sym (told ∙ ap (λ (l : List (Row Statement)). tells m.peer none (bodies l)) parts))
+    (sym (told ∙ ap (λ (l : List (Row Statement)). tells m.peer none (bodies l)) parts))
 
 pub none_told : (me : Name) (bs : List (Row Statement)) (first : Row Statement) (rest : List (Row Statement)) (o : Option Said) →
     bs ≡ first ∷ rest → o ≡ first_taken (statements first.items) → o ≡ None →

@@ -30,7 +30,7 @@ module _ (g : GlobalTree) (me : Name) (s : Statements) (e : projected me g.body 
   kept v =
       keeps g.roles me [] g.body s
       (sound.are_sound g.roles [] [] g.body sound.none_on_way v.written.body v.clean.roles_listed v.clean.roles_apart v.clean.recs_known
-          v.clean.recs_differ) e
+      v.clean.recs_differ) e
 
   body_clean : IsValid g → AllClean g.roles me (spots [] s)
   body_clean v = all_clean g.roles me [] [] s none_on_way (kept v)

@@ -93,7 +93,7 @@ are_projections g locals are = record {
   projected = λ me c.
       let k = kept g me (Protocol (locals me)) (are.answered me c) (locals me) refl in
       subst (λ (x : Name). IsProjection me (said g.body) (numbered x 1 (locals me).body)) (sym k.own)
-          (text_is_projected me g.body (locals me).body k.body 1);
+      (text_is_projected me g.body (locals me).body k.body 1);
   guarded = λ me c. (kept g me (Protocol (locals me)) (are.answered me c) (locals me) refl).guarded;
 }
 

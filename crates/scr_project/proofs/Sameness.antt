@@ -85,26 +85,26 @@ module _ (me : Name) (a b : Statements) where
       (λ m. each_front (Splits (Says m))
       (λ n. ap (λ z. z && same_rest) (and_true (same_message (message_of m) (message_of n))))
       (λ p at bs. both_false _ _ same_rest (not_said (bytes_eq at me) (message_of m) (spoken me a) (spoken_each me bs) (spoken me b))
-          (not_said (bytes_eq at me) (message_of m) Done (spoken_each me bs) Done))
+      (not_said (bytes_eq at me) (message_of m) Done (spoken_each me bs) Done))
       (λ p name body. refl) (λ p name. refl) y)
       (λ p at bs. each_front (Splits (Choice p at bs))
       (λ n. both_false _ _ same_rest (said_not (bytes_eq at me) (message_of n) (spoken me b) (spoken_each me bs) (spoken me a))
-          (said_not (bytes_eq at me) (message_of n) Done (spoken_each me bs) Done))
+      (said_not (bytes_eq at me) (message_of n) Done (spoken_each me bs) Done))
       (λ q other cs. same_choices (bytes_eq at me) (bytes_eq other me) (spoken_each me bs) (spoken_each me cs) (spoken me a) (spoken me b))
       (λ q name body. both_false _ _ same_rest (turned_not (bytes_eq at me) name (spoken me body) (spoken me b) (spoken_each me bs)
-          (spoken me a)) (turned_not (bytes_eq at me) name (spoken me body) Done (spoken_each me bs) Done))
+      (spoken me a)) (turned_not (bytes_eq at me) name (spoken me body) Done (spoken_each me bs) Done))
       (λ q name. both_false _ _ same_rest (continued_not (bytes_eq at me) name (spoken me b) (spoken_each me bs) (spoken me a))
-          (continued_not (bytes_eq at me) name Done (spoken_each me bs) Done)) y)
+      (continued_not (bytes_eq at me) name Done (spoken_each me bs) Done)) y)
       (λ p name body. each_front (Splits (Rec p name body))
       (λ n. refl)
       (λ q at bs. both_false _ _ same_rest (not_turned (bytes_eq at me) name (spoken me body) (spoken me a) (spoken_each me bs)
-          (spoken me b)) (not_turned (bytes_eq at me) name (spoken me body) Done (spoken_each me bs) Done))
+      (spoken me b)) (not_turned (bytes_eq at me) name (spoken me body) Done (spoken_each me bs) Done))
       (λ q other inner. regroup (bytes_eq name other) (is_same (spoken me body) (spoken me inner)) same_rest)
       (λ q other. refl) y)
       (λ p name. each_front (Splits (Continue p name))
       (λ n. refl)
       (λ q at bs. both_false _ _ same_rest (not_continued (bytes_eq at me) name (spoken me a) (spoken_each me bs) (spoken me b))
-          (not_continued (bytes_eq at me) name Done (spoken_each me bs) Done))
+      (not_continued (bytes_eq at me) name Done (spoken_each me bs) Done))
       (λ q other inner. refl)
       (λ q other. ap (λ z. z && same_rest) (and_true (bytes_eq name other))) y)
       x
@@ -121,12 +121,12 @@ done_chosen false bs p = refl
 front_none : (me : Name) (x : Statement) (a : Statements) → is_same (spoken me (front x a)) Done ≡ false
 front_none me x a =
     each_front (λ f. is_same (spoken me (f a)) Done ≡ false) (λ m. refl) (λ p at bs. chosen_done (bytes_eq at me) (spoken_each me bs)
-        (spoken me a)) (λ p name body. refl) (λ p name. refl) x
+    (spoken me a)) (λ p name body. refl) (λ p name. refl) x
 
 none_front : (me : Name) (x : Statement) (a : Statements) → is_same Done (spoken me (front x a)) ≡ false
 none_front me x a =
     each_front (λ f. is_same Done (spoken me (f a)) ≡ false) (λ m. refl) (λ p at bs. done_chosen (bytes_eq at me) (spoken_each me bs)
-        (spoken me a)) (λ p name body. refl) (λ p name. refl) x
+    (spoken me a)) (λ p name body. refl) (λ p name. refl) x
 
 -- ---- turns of the loops
 
@@ -163,7 +163,7 @@ module _ (me : Name) (ss : List Statement) (i : ℕ) (x : Statement) (within : i
         (drop (i + 1) ss) after)
     both_on =
         unfolded rest ∙ ap (λ (r : List Statement). is_same (spoken me (front x (statements (drop (i + 1) ss)))) (spoken me (statements r)))
-            parts
+        parts
         ∙ same-front me (statements (drop (i + 1) ss)) (statements after) x y
 
     pub same_later : true ≡ is_same (spoken me (front x Nothing)) (spoken me (front y Nothing)) →
@@ -192,13 +192,13 @@ module _ (me : Name) (bs : List (Row Statement)) (i : ℕ) (x : Row Statement) (
   pub branches_short : (rest : List (Row Statement)) → rest ≡ [] → branches_same me (drop i bs) rest ≡ false
   branches_short rest e =
       branches_unfolded rest ∙ ap (λ (r : List (Row Statement)). are_same
-          (spoken_each me (Branch (statements x.items) (bodies (drop (i + 1) bs)))) (spoken_each me (bodies r))) e
+      (spoken_each me (Branch (statements x.items) (bodies (drop (i + 1) bs)))) (spoken_each me (bodies r))) e
 
   module _ (y : Row Statement) (rest after : List (Row Statement)) (parts : rest ≡ y ∷ after) where
     branches_on : branches_same me (drop i bs) rest ≡ (lists_same me x.items y.items && branches_same me (drop (i + 1) bs) after)
     branches_on =
         branches_unfolded rest ∙ ap (λ (r : List (Row Statement)). are_same
-            (spoken_each me (Branch (statements x.items) (bodies (drop (i + 1) bs)))) (spoken_each me (bodies r))) parts
+        (spoken_each me (Branch (statements x.items) (bodies (drop (i + 1) bs)))) (spoken_each me (bodies r))) parts
 
     pub branches_later : true ≡ lists_same me x.items y.items → branches_same me (drop i bs) rest ≡ branches_same me (drop (i + 1) bs) after
     branches_later e = branches_on ∙ ap (λ (z : Bool). z && branches_same me (drop (i + 1) bs) after) (sym e)
@@ -261,7 +261,7 @@ module _ (me : Name) where
       one_same me (kinds.Rec p name body) (kinds.Rec q other inner) ≡ (bytes_eq name other && lists_same me body.items inner.items)
   Rec-Rec p name body q other inner =
       alike _ _ _ _ (front-Rec p name body) (front-Rec q other inner) ∙ ap (λ (z : Bool). bytes_eq name other && z)
-          (sym (and_true (lists_same me body.items inner.items)))
+      (sym (and_true (lists_same me body.items inner.items)))
 
   pub Rec-Continue : (p : Place) (name : Name) (body : Row Statement) (q : Place) (other : Name) →
       one_same me (kinds.Rec p name body) (kinds.Continue q other) ≡ false
@@ -286,7 +286,7 @@ module _ (me : Name) where
   -- two choices, each at the role or elsewhere
   pub Choice-Choice : (p : Place) (at : Name) (bs : Row (Row Statement)) (q : Place) (other : Name) (cs : Row (Row Statement)) →
       one_same me (kinds.Choice p at bs) (kinds.Choice q other cs) ≡ (same_truth (bytes_eq at me) (bytes_eq other me) && branches_same me
-          bs.items cs.items)
+      bs.items cs.items)
   Choice-Choice p at bs q other cs = alike _ _ _ _ (front-Choice p at bs) (front-Choice q other cs) ∙ go (bytes_eq at me)
       (bytes_eq other me) (spoken_each me (bodies bs.items)) (spoken_each me (bodies cs.items))
     where

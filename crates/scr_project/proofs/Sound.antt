@@ -18,7 +18,7 @@ use Rattle.scr_global_tree.specs.Valid.{AreWritten, AreWrittenIn, HasBranches}
 pub contained : (ns : List Name) (name : Name) → ((Contains ns name → ⊥) → ⊥) → Contains ns name
 contained ns name h =
     ⊎_elim (λ e. among_is ns name e) (λ e. absurd (h (λ c. let f : is_among ns name ≡ true = is_among_it ns name c in cc)))
-        (true_or_false (is_among ns name))
+    (true_or_false (is_among ns name))
 
 -- the names are those of the recs that open on the way
 pub record AreOnWay (names : List Name) (way : Way) : Type 0 where

@@ -76,9 +76,9 @@ merged_front me place (local.Branch b more) r = go (all_same (spoken me b) (spok
   where
     go : (c d : Bool) →
         (if c then Some (behind b r) else (if d then Some (local.Choice place (first_peer (spoken me b)) (local.Branch b more) r) else
-            None)) ≡
+        None)) ≡
         both some_behind (if c then Some (behind b local.Nothing) else
-            (if d then Some (local.Choice place (first_peer (spoken me b)) (local.Branch b more) local.Nothing) else None)) (Some r)
+        (if d then Some (local.Choice place (first_peer (spoken me b)) (local.Branch b more) local.Nothing) else None)) (Some r)
     go true d = ap (λ (z : local.Statements). Some (behind z r)) (sym (behind_nothing b))
     go false true = refl
     go false false = refl
@@ -91,7 +91,7 @@ module _ (me : Name) where
   chosen_front : (place : Place) (at : Name) (b : Bool) (o : Option local.Branches) (q : Option local.Statements) →
       (if b then both (λ bs r. Some (local.Choice place at bs r)) o q else both (merged_text me place) o q) ≡
       both some_behind (if b then both (λ bs r. Some (local.Choice place at bs r)) o (Some local.Nothing) else both (merged_text me place) o
-          (Some local.Nothing)) q
+      (Some local.Nothing)) q
   chosen_front place at true None q = refl
   chosen_front place at true (Some bs) None = refl
   chosen_front place at true (Some bs) (Some r) = refl
@@ -124,12 +124,12 @@ module _ (me : Name) where
     found-front x =
         each_front Follows
         (λ m. found_is (or_three (bytes_eq m.from me) (bytes_eq m.to me) (is_named me (said rest))) (max_none (reached around rest)) refl
-            (told_front (bytes_eq m.from me) (bytes_eq m.to me) m (projected me rest)))
+        (told_front (bytes_eq m.from me) (bytes_eq m.to me) m (projected me rest)))
         (λ p at bs. found_is (or_two (are_named me (said_each bs)) (is_named me (said rest)))
-            (max_two (reached_in around bs) (reached around rest)) (first_two _ (unmerged_in me bs) (unmerged me rest))
+        (max_two (reached_in around bs) (reached around rest)) (first_two _ (unmerged_in me bs) (unmerged me rest))
         (chosen_front p at (bytes_eq at me) (projected_each me bs) (projected me rest)))
         (λ p name body. found_is (or_two (is_named me (said body)) (is_named me (said rest)))
-            (max_two (reached (name ∷ around) body - 1) (reached around rest)) (first_one (unmerged me body) (unmerged me rest))
+        (max_two (reached (name ∷ around) body - 1) (reached around rest)) (first_one (unmerged me body) (unmerged me rest))
         (turned_front p name (is_nothing_to me name (said body)) (projected me body) (projected me rest)))
         (λ p name. found_is refl (max_two (far name around) (reached around rest)) refl (continued_front p name (projected me rest))) x
 
@@ -181,15 +181,20 @@ module _ (me : Name) where
 
     pub found-Message : (place : Place) (from to label : Name) (payload : Payload) →
         found me around (front (kinds.Message place from to label payload) Nothing) ≡
-        record { named = bytes_eq from me || bytes_eq to me; reach = 0; first = None; says =
-            Some (told_in (bytes_eq from me) (bytes_eq to me) (told place from to label payload) local.Nothing) }
+        record {
+          named = bytes_eq from me || bytes_eq to me;
+          reach = 0;
+          first = None;
+          says =
+              Some (told_in (bytes_eq from me) (bytes_eq to me) (told place from to label payload) local.Nothing);
+        }
     found-Message place from to label payload =
         ap (λ (f : Statements → Statements). found me around (f Nothing)) (front-Message place from to label payload)
         ∙ found_is (ap (λ (b : Bool). bytes_eq from me || b) (or_one (bytes_eq to me))) refl refl refl
 
     here_says : (place : Place) (at : Name) (b : Bool) (o : Option local.Branches) →
         (if b then both (λ bs r. Some (local.Choice place at bs r)) o (Some local.Nothing) else both (merged_text me place) o
-            (Some local.Nothing)) ≡
+        (Some local.Nothing)) ≡
         (if b then mapped (λ bs. local.Choice place at bs local.Nothing) o else both (merged_text me place) o (Some local.Nothing))
     here_says place at true None = refl
     here_says place at true (Some bs) = refl
@@ -201,7 +206,7 @@ module _ (me : Name) where
         ap (λ (f : Statements → Statements). found me around (f Nothing)) (front-Choice place at bs)
         ∙ found_is (or_one (are_named me (said_each (bodies bs.items)))) (max_one (reached_in around (bodies bs.items)))
         (ap (option_or _) (option_none (unmerged_in me (bodies bs.items))))
-            (here_says place at (bytes_eq at me) (projected_each me (bodies bs.items)))
+        (here_says place at (bytes_eq at me) (projected_each me (bodies bs.items)))
 
     turns : (place : Place) (name : Name) (n c d : Bool) (o : Option local.Statements) → c ≡ d →
         (if not n && c then Some local.Nothing else both (λ b r. Some (local.Rec place name b r)) o (Some local.Nothing)) ≡
@@ -223,7 +228,7 @@ module _ (me : Name) where
         ap (λ (f : Statements → Statements). found me around (f Nothing)) (front-Rec place name body)
         ∙ found_is (or_one (is_named me (said b))) (max_one (reached (name ∷ around) b - 1)) (option_none (unmerged me b))
         (turns place name (is_named me (said b)) (is_closed (name ∷ []) (said b)) (nat_le (reached (name ∷ around) b) 1) (projected me b)
-            (rec_closed name around b))
+        (rec_closed name around b))
 
     pub found-Continue : (place : Place) (name : Name) → found me around (front (kinds.Continue place name) Nothing) ≡
         record { named = false; reach = far name around; first = None; says = Some (local.Continue place name local.Nothing) }

@@ -22,7 +22,7 @@ pub record AreProjected (g : GlobalTree) (locals : Name → LocalTree) : Type 0 
 abbrev pub MessagesAreTaken : Type 0
 MessagesAreTaken =
     (g : GlobalTree) (locals : Name → LocalTree) → AreProjected g locals → (c : System) → IsReached g.roles locals c → (me peer : Name) →
-        Contains g.roles me →
+    Contains g.roles me →
     (act : Act) (to : Position) → Step (c.at me) act to → waits_for act ≡ Some peer → c.lists peer me ≢ [] →
     (other : Act) × (d : System) × (waits_for other ≡ Some peer) × Moved me c other d
 
@@ -36,13 +36,13 @@ NoneIsStuck =
 abbrev pub RunsAreFollowed : Type 0
 RunsAreFollowed =
     (g : GlobalTree) (locals : Name → LocalTree) → AreProjected g locals → (messages : List Passing) (point : Point) →
-        Goes (start (said g.body)) messages point → (me : Name) → Contains g.roles me →
+    Goes (start (said g.body)) messages point → (me : Name) → Contains g.roles me →
     (acts : List Act) × (end : Position) × Run (whole (protocol_of (locals me))) acts end × (messages_of acts ≡ named me messages)
 
 -- and where the run is complete, so is the role's
 abbrev pub CompleteRunsAreFollowed : Type 0
 CompleteRunsAreFollowed =
     (g : GlobalTree) (locals : Name → LocalTree) → AreProjected g locals → (messages : List Passing) → Complete (said g.body) messages →
-        (me : Name) → Contains g.roles me →
+    (me : Name) → Contains g.roles me →
     (acts : List Act) × (end : Position) × Run (whole (protocol_of (locals me))) acts end × Finished end
-        × (messages_of acts ≡ named me messages)
+    × (messages_of acts ≡ named me messages)

@@ -37,7 +37,7 @@ parts_valid t w fault same written first none =
 pub parts_refused : (t : LocalTree) (w : WrittenTree) (fault : Option Fault) (f : Fault) (s : ScrFault) → w ≡ parts t →
     IsFault w (fault_of fault) → fault ≡ Some f
     → fault_answer s ≡ Some (Refused f.condition f.place (told f.condition f.name)) → (a : Answer) → fault_answer s ≡ Some a →
-        IsRefused (parts t) a
+    IsRefused (parts t) a
 parts_refused t w fault f s same first some says a answered =
     subst (IsRefused (parts t)) (some_is _ a (sym says ∙ answered))
     (refused (subst (λ (v : WrittenTree). IsFault v (Some (f.condition, culprit f.place f.name))) same

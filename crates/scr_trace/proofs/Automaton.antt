@@ -25,7 +25,7 @@ automates local v w e = subst (λ x. Automates (protocol_of local) (graph_of_wor
     let all : List Position = state_positions (protocol_of local) in
     let h = valid_sound local v in
     let many : length all ≡ length u.cells =
-          sym (counted local.me local.body [] nothing 1 Plain [] ∙ (let z : length all + 0 ≡ length all = omega arith in z)) in
+    sym (counted local.me local.body [] nothing 1 Plain [] ∙ (let z : length all + 0 ≡ length all = omega arith in z)) in
     let lies : Lies local.me u all many nothing all = record { front = []; back = []; all_is = sym (append-nil all); behind = refl } in
     let nums : 1 + choices local.me local.body + 0 ≡ suc u.choices = omega (arith, numbers local.me local.body [] h [] nothing) in
     record {

@@ -32,7 +32,7 @@ module _ (me : Name) where
       ((m : ℕ) → length v.cells ≡ length (states_in part around (numbered me m rest)) + length w.cells) →
       length (chosen self g).cells ≡
       length (states_in part around (if self then ChoiceHere (numbered_in me n bs) (numbered me (n + choices_in me bs) rest) else
-          ChoiceThere n (numbered_in me (suc n) bs) (numbered me (suc n + choices_in me bs) rest))) + length w.cells
+      ChoiceThere n (numbered_in me (suc n) bs) (numbered me (suc n + choices_in me bs) rest))) + length w.cells
   choice_counted true n part around bs rest v w g inside behind =
       let r : Protocol = numbered me (n + choices_in me bs) rest in
       let a = inside n (Left r part ∷ around) in
@@ -66,12 +66,12 @@ module _ (me : Name) where
         let r : Protocol = numbered me (n + choices me body) rest in
         let p : Protocol = numbered me n body in
         let a = counted body (record { name = name; number = length v.loops } ∷ known) (opened v) n (BodyOf name p) (Left r part ∷ around)
-            in
+        in
         let b = counted rest known w (n + choices me body) part around in
         let c = ap length (Parts.opened_cells v) in
         let d = length-append (states_in (BodyOf name p) (Left r part ∷ around) p) (states_in part around r) in
         ap length (Parts.closed_cells (length v.loops) (lay me (record { name = name; number = length v.loops } ∷ known) (opened v) body)) ∙
-            omega arith
+        omega arith
     counted (Continue place name rest) known w n part around = counted rest known w n part around
 
     pub counted_in : (bs : tree.Branches) (known : List Known) (self : Bool) (behind : Hop) (g : Gathered) (n : ℕ) (around : Position) →
@@ -83,7 +83,7 @@ module _ (me : Name) where
         let c = counted_first b known self (turned behind h) n around in
         let d = ap length (Parts.within-Branch self around (numbered me n b) (numbered_in me (n + choices me b) more)) in
         let e = length-append (Parts.first_in self around (numbered me n b))
-              (Parts.within self around (numbered_in me (n + choices me b) more)) in
+        (Parts.within self around (numbered_in me (n + choices me b) more)) in
         omega arith
 
     pub counted_first : (b : Statements) (known : List Known) (self : Bool) (g : Gathered) (n : ℕ) (around : Position) →
@@ -93,7 +93,7 @@ module _ (me : Name) where
         joined_cells true m (record { work = lay me known g.work rest; drafts = g.drafts }) ∙ counted rest known g.work n Plain around
     counted_first (Says m rest) known false g n around =
         joined_cells false m (record { work = lay me known g.work rest; drafts = g.drafts }) ∙
-            ap suc (counted rest known g.work n Plain around) ∙ omega arith
+        ap suc (counted rest known g.work n Plain around) ∙ omega arith
     counted_first (Choice place at bs rest) known self g n around =
         no_states self around _ g (Parts.first-choice self (bytes_eq at me) around _ _ _ _ n)
     counted_first (Rec place name body rest) known self g n around = no_states self around _ g (Parts.first-rec self around name _ _)
@@ -113,14 +113,14 @@ module _ (me : Name) where
     numbers (Choice place at bs rest) names h known w =
         let v = lay me known w rest in
         choice_chosen (bytes_eq at me) bs rest v w _ (numbers_in bs names h.0 known (bytes_eq at me) v.next (gathering v))
-            (numbers rest names h.1 known w)
+        (numbers rest names h.1 known w)
     numbers (Rec place name body rest) names h known w =
         let v = lay me known w rest in
         let a = numbers body (name ∷ names) h.1 (record { name = name; number = length v.loops } ∷ known) (opened v) in
         let b = numbers rest names h.3 known w in
         let c = Parts.opened_choices v in
         Parts.closed_choices (length v.loops) (lay me (record { name = name; number = length v.loops } ∷ known) (opened v) body) ∙
-            omega arith
+        omega arith
     numbers (Continue place name rest) names h known w =
         ap (λ (t : Statements). (lay me known w t).choices) h.1 ∙ omega (arith, ap (λ (t : Statements). choices me t) h.1)
 

@@ -182,7 +182,7 @@ module _ (all : List Position) where
   edge_of_step (x ∷ steps) [] h s a = absurd h
   edge_of_step (x ∷ steps) (e ∷ edges) h s a =
       ⊎_elim (λ same. (e, inl refl, subst (λ y. IsStep all y e) same h.0)) (λ a. let r = edge_of_step steps edges h.1 s a in
-          (r.0, inr r.1, r.2)) a
+      (r.0, inr r.1, r.2)) a
 
   pub step_of_edge : (steps : List Onward) (edges : List Edge) → AreSteps all steps edges → (e : Edge) → Among edges e →
       (s : Onward) × Among steps s × IsStep all s e
@@ -191,15 +191,19 @@ module _ (all : List Position) where
   step_of_edge (x ∷ steps) [] h e a = absurd h
   step_of_edge (x ∷ steps) (e' ∷ edges) h e a =
       ⊎_elim (λ same. (x, inl refl, subst (λ y. IsStep all x y) same h.0)) (λ a. let r = step_of_edge steps edges h.1 e a in
-          (r.0, inr r.1, r.2)) a
+      (r.0, inr r.1, r.2)) a
 
   -- the edges at a position's number
   pub edges_there : (ps : List Position) (states : List (List Edge)) → AreStates all ps states → (k : ℕ) (p : Position) →
       slice_get ps k ≡ Some p → (edges : List Edge) × (slice_get states k ≡ Some edges) × AreSteps all (steps_at p) edges
   edges_there [] states h k p e = cc
   edges_there (x ∷ ps) [] h k p e = absurd h
-  edges_there (x ∷ ps) (edges ∷ states) h zero p e = let f : x ≡ p = cc e in (edges, refl, subst (λ y. AreSteps all (steps_at y) edges) f
-      h.0)
+  edges_there (x ∷ ps) (edges ∷ states) h zero p e = let f : x ≡ p = cc e in (
+    edges,
+    refl,
+    subst (λ y. AreSteps all (steps_at y) edges) f
+        h.0,
+  )
   edges_there (x ∷ ps) (edges ∷ states) h (suc k) p e = edges_there ps states h.1 k p e
 
   -- a number of a state is that of a position

@@ -75,7 +75,7 @@ mutual
   keeps_in me around self behind g NoBranch = keeps_all g.work.loops
   keeps_in me around self behind g (Branch b more) =
       keeps_more _ _ _ (keeps_in me around self behind g more)
-          (keeps_branch me around self b (turned behind (lay_in me around self behind g more)))
+      (keeps_branch me around self b (turned behind (lay_in me around self behind g more)))
 
   pub keeps_branch : (me : Name) (around : List Known) (self : Bool) (b : Statements) (g : Gathered) →
       Keeps g.work.loops (branch_laid self me around b g).work.loops
@@ -99,6 +99,6 @@ pub closes : (me : Name) (around : List Known) (w o u : Work) (t : Statements) (
     u ≡ lay me around o t → number < length u.loops
 closes me around w o u t number is opens laid =
     let e : length u.loops ≡ length (lay me around (opened w) t).loops = ap (λ (x : Work). length x.loops) laid ∙
-          ap (λ (x : Work). length (lay me around x t).loops) opens in
+    ap (λ (x : Work). length (lay me around x t).loops) opens in
     let h = number_within me around w t in
     omega arith

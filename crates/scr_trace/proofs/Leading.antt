@@ -34,15 +34,17 @@ again_same name x y (BodyOf other body) around = refl
 pub again_past : (name other : Name) (x y body : Protocol) (part : Part) (around : Position) → bytes_eq name other ≡ false →
     again name (Left x (BodyOf other body) ∷ Left y part ∷ around) ≡ again name (Left Done part ∷ around)
 again_past name other x y body part around e =
-    ap (λ b. elim b as (λ (v : Bool). Option Position) [ true ↦ Some (Left body (BodyOf other body) ∷ Left y part ∷ around)
-        | false ↦ again name (Left y part ∷ around) ]) e
+    ap (λ b. elim b as (λ (v : Bool). Option Position) [
+      | true ↦ Some (Left body (BodyOf other body) ∷ Left y part ∷ around)
+      | false ↦ again name (Left y part ∷ around)
+    ]) e
     ∙ again_same name y Done part around
 
 pub again_here : (name : Name) (x body : Protocol) (around : Position) → again name (Left x (BodyOf name body) ∷ around) ≡ Some
     (Left body (BodyOf name body) ∷ around)
 again_here name x body around =
     ap (λ b. elim b as (λ (v : Bool). Option Position) [ true ↦ Some (Left body (BodyOf name body) ∷ around) | false ↦ again name around ])
-        ((bytes_eq-Decides name name).1 refl)
+    ((bytes_eq-Decides name name).1 refl)
 
 pub true_or_false : (b : Bool) → (b ≡ true) ⊎ (b ≡ false)
 true_or_false true = inl refl
@@ -107,7 +109,7 @@ module _ (me : Name) (total : Work) (all : List Position) (as_many : length all 
       let b = h.behind in
       let k : length h.front ≡ length total.cells - n = omega (arith, as_many) in
       at_state (subst (λ j. slice_get all j ≡ Some p) k (ap (λ l. slice_get l (length h.front)) h.all_is ∙ get_front h.front p
-          (ps ++ h.back)))
+      (ps ++ h.back)))
 
   -- `continue` with this name comes where it is laid out to lead
   pub record Back (name : Name) (known : List Known) (part : Part) (around : Position) : Type 0 where
@@ -119,7 +121,7 @@ module _ (me : Name) (total : Work) (all : List Position) (as_many : length all 
   pub back_past : (name other : Name) (number : ℕ) (known : List Known) (body rest : Protocol) (part : Part) (around : Position) →
       bytes_eq name other ≡ false →
       Back name known part around → Back name (record { name = other; number = number } ∷ known) (BodyOf other body)
-          (Left rest part ∷ around)
+      (Left rest part ∷ around)
   back_past name other number known body rest part around e h = record {
     to = h.to;
     there = again_past name other Done rest body part around e ∙ h.there;
@@ -139,12 +141,12 @@ module _ (me : Name) (total : Work) (all : List Position) (as_many : length all 
   pub returns_in : (names : List Name) (place : _) (name : Name) (body rest : Statements) (known : List Known) (number : ℕ) (p r : Protocol)
       (part : Part) (around : Position) → Guards name body →
       Returns names (Rec place name body rest) known part around →
-          Returns (name ∷ names) body (record { name = name; number = number } ∷ known) (BodyOf name p) (Left r part ∷ around)
+      Returns (name ∷ names) body (record { name = name; number = number } ∷ known) (BodyOf name p) (Left r part ∷ around)
   returns_in names place name body rest known number p r part around g h z among =
       ⊎_elim
       (λ e. inl (subst (λ x. Guards x body) (sym ((bytes_eq-Decides z name).0 e)) g))
       (λ e. ⊎_elim (λ (q : Guards z (Rec place name body rest)). inl q.0) (λ b. inr (back_past z name number known p r part around e b))
-          (h z (among_rest z name names e among)))
+      (h z (among_rest z name names e among)))
       (true_or_false (bytes_eq z name))
 
   returns_behind : (names : List Name) (place : _) (name : Name) (body rest : Statements) (known : List Known) (part : Part)
@@ -158,33 +160,33 @@ module _ (me : Name) (total : Work) (all : List Position) (as_many : length all 
       →
       length (chosen self g).cells ≡
       length (states_in part around (if self then ChoiceHere (numbered_in me n bs) (numbered me (n + choices_in me bs) rest) else
-          ChoiceThere n (numbered_in me (suc n) bs) (numbered me (suc n + choices_in me bs) rest))) + length w.cells →
+      ChoiceThere n (numbered_in me (suc n) bs) (numbered me (suc n + choices_in me bs) rest))) + length w.cells →
       Lies w (states_in part around (if self then ChoiceHere (numbered_in me n bs) (numbered me (n + choices_in me bs) rest) else
-          ChoiceThere n (numbered_in me (suc n) bs) (numbered me (suc n + choices_in me bs) rest))) →
+      ChoiceThere n (numbered_in me (suc n) bs) (numbered me (suc n + choices_in me bs) rest))) →
       ComesTo all (Left (if self then ChoiceHere (numbered_in me n bs) (numbered me (n + choices_in me bs) rest) else ChoiceThere n
-          (numbered_in me (suc n) bs) (numbered me (suc n + choices_in me bs) rest)) part ∷ around)
+      (numbered_in me (suc n) bs) (numbered me (suc n + choices_in me bs) rest)) part ∷ around)
       (standing_of total (chosen self g).next)
   choice_leads true n part around bs rest w g count lies =
       let p : Position = Left (ChoiceHere (numbered_in me n bs) (numbered me (n + choices_in me bs) rest)) part ∷ around in
       subst (λ hop. ComesTo all p (standing_of total hop)) (sym (Parts.chosen_next true g))
-          (comes_first w p _ (suc (length g.work.cells)) lies (ap length (sym (Parts.chosen_cells true g)) ∙ count))
+      (comes_first w p _ (suc (length g.work.cells)) lies (ap length (sym (Parts.chosen_cells true g)) ∙ count))
   choice_leads false n part around bs rest w g count lies =
       let p : Position = Left (ChoiceThere n (numbered_in me (suc n) bs) (numbered me (suc n + choices_in me bs) rest)) part ∷ around in
       subst (λ hop. ComesTo all p (standing_of total hop)) (sym (Parts.chosen_next false g))
-          (comes_first w p _ (suc (length g.work.cells)) lies (ap length (sym (Parts.chosen_cells false g)) ∙ count))
+      (comes_first w p _ (suc (length g.work.cells)) lies (ap length (sym (Parts.chosen_cells false g)) ∙ count))
 
   -- statements come to where they are laid out to begin
   pub leads : (t : Statements) (names : List Name) → Sound names t → (known : List Known) (w : Work) (n : ℕ) (part : Part)
       (around : Position) →
       Lies w (states_in part around (numbered me n t)) → (passes t ≡ true → ComesTo all around (standing_of total w.next)) →
-          Returns names t known part around →
+      Returns names t known part around →
       ComesTo all (Left (numbered me n t) part ∷ around) (standing_of total (lay me known w t).next)
   leads Nothing names h known w n part around lies follow returns = silently ends (follow refl)
   leads (Says m rest) names h known w n part around lies follow returns =
       let v = lay me known w rest in
       let c = counted me rest known w n part around in
       subst (λ hop. ComesTo all (Left (Does (message_of m) (numbered me n rest)) part ∷ around) (standing_of total hop))
-          (sym (Parts.said_next m v))
+      (sym (Parts.said_next m v))
       (comes_first w _ (states_in part around (numbered me n rest)) (suc (length v.cells)) lies (omega (arith, c)))
   leads (Choice place at bs rest) names h known w n part around lies follow returns =
       let v = lay me known w rest in
@@ -199,13 +201,13 @@ module _ (me : Name) (total : Work) (all : List Position) (as_many : length all 
       let c = counted me rest known w (n + choices me body) part around in
       silently begins
       (subst (λ hop. ComesTo all (Left p (BodyOf name p) ∷ Left r part ∷ around) (standing_of total hop))
-          (sym (Parts.closed_next (length v.loops) x))
+      (sym (Parts.closed_next (length v.loops) x))
       (leads body (name ∷ names) h.1 inside (opened v) n (BodyOf name p) (Left r part ∷ around)
       (lies_before w (opened v) (states_in (BodyOf name p) (Left r part ∷ around) p) (states_in part around r)
-          (ap length (Parts.opened_cells v) ∙ c) lies)
+      (ap length (Parts.opened_cells v) ∙ c) lies)
       (λ e. subst (λ hop. ComesTo all (Left r part ∷ around) (standing_of total hop)) (sym (Parts.opened_next v))
       (leads rest names h.3 known w (n + choices me body) part around (lies_behind w (states_in (BodyOf name p) (Left r part ∷ around) p)
-          (states_in part around r) lies)
+      (states_in part around r) lies)
       (λ f. follow (both_true (passes body) (passes rest) e f)) (returns_behind names place name body rest known part around e returns)))
       (returns_in names place name body rest known (length v.loops) p r part around h.0 returns)))
   leads (Continue place name rest) names h known w n part around lies follow returns =

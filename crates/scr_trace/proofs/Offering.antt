@@ -128,7 +128,7 @@ look_offer me w c arrows i first o h e same named labels =
     append-nil (calls_in o.method o.answers.items)
     ∙ (λ j. calls_in (named j) (labels j))
     ∙ some (drafts_of arrows) (edge_among w (Some c) arrows first (among_at arrows i first h e))
-        (from_arrows first.message.now.peer arrows (λ a m. same a first m (among_at arrows i first h e)))
+    (from_arrows first.message.now.peer arrows (λ a m. same a first m (among_at arrows i first h e)))
   where
     some : (ds : List Draft) → Among (map (edge_of w (Some c)) ds) (edge_of w (Some c) (draft_of first)) →
         FromPeer first.message.now.peer ds →
@@ -189,8 +189,8 @@ offered_at local walk position number cell calls h at there is =
             let n : f.number ≡ number = state_same f.number number (sym f.is_state ∙ at) in
             let p : f.place ≡ place.0 = some_same (subst (λ k. slice_get all k ≡ Some f.place) n f.there) place.1 in
             among_contains (steps_at place.0) (record { act = act; to = to })
-                (subst (λ q. Among (steps_at q) (record { act = act; to = to })) p
-                (step_listed f.step (settled_at all sets f.number f.place f.there).settled)),
+            (subst (λ q. Among (steps_at q) (record { act = act; to = to })) p
+            (step_listed f.step (settled_at all sets f.number f.place f.there).settled)),
       );
       named = sym (calls_edges local.me all (steps_at place.0) r.0 r.2) ∙ ap (edge_calls local.me) (sym same) ∙
           ap (λ m. edge_calls m (edges_of w cell)) (sym at_me) ∙ sym is;
@@ -214,8 +214,10 @@ pub offered_end : (local : LocalTree) (walk : Walk) (position : Position) → St
 offered_end local walk position h at = record {
   steps = [];
   ahead = ahead_end (all_of local) h.comes at;
-  each = λ act to. (λ c. absurd (contains_among [] (record { act = act; to = to }) c),
-      λ st. absurd (no_step_at_end (all_of local) (settled_of local) h.comes at st));
+  each = λ act to. (
+    λ c. absurd (contains_among [] (record { act = act; to = to }) c),
+    λ st. absurd (no_step_at_end (all_of local) (settled_of local) h.comes at st),
+  );
   named = refl;
 }
 
@@ -226,7 +228,7 @@ offered_past local walk position number h at none =
     let place = state_place (all_of local) h.comes number at in
     let r = edges_there (all_of local) (all_of local) (graph_of walk).states h.along.states number place.0 place.1 in
     let e : slice_get (graph_of walk).states number ≡ None = get_none (edges_of (work_of walk.laid)) (work_of walk.laid).cells number none
-        in
+    in
     let f = r.1 in
     cc
   where
@@ -244,13 +246,13 @@ step_peer : (steps : List Onward) (n : ℕ) (peer : Name) → AllLook n peer ste
 step_peer [] n peer h s a k p l e = absurd a
 step_peer (x ∷ steps) n peer h s a k p l e =
     ⊎_elim (λ f. look_peer k n p peer l h.0.0 (sym e ∙ ap (λ (y : Onward). y.act) (sym f) ∙ h.0.1))
-        (λ b. step_peer steps n peer h.1 s b k p l e) a
+    (λ b. step_peer steps n peer h.1 s b k p l e) a
 
 move_no_look : (steps : List Onward) → AllMove steps → (s : Onward) → Among steps s → (k : ℕ) (p l : Name) → s.act ≡ Looks k p l → ⊥
 move_no_look [] h s a k p l e = a
 move_no_look (x ∷ steps) h s a k p l e =
     ⊎_elim (λ f. let g : Looks k p l ≡ Moves h.0.0 = sym e ∙ ap (λ (y : Onward). y.act) (sym f) ∙ h.0.1 in cc g)
-        (λ b. move_no_look steps h.1 s b k p l e) a
+    (λ b. move_no_look steps h.1 s b k p l e) a
 
 -- the branches of a choice elsewhere are of one peer
 pub peers_same : (local : LocalTree) (walk : Walk) (position : Position) (number c : ℕ) (exits : Exits) → Stands local walk position →
@@ -262,11 +264,11 @@ peers_same local walk position number c exits h at there counted a b ma mb =
     let place = position_there (all_of local) (all_of local) (graph_of walk).states h.along.states number (edges_of w (cell_of exits)) e in
     let told = told_at local.me (all_of local) (walk_told local walk h.of) number place.0 place.1 in
     let sa = step_of_edge (all_of local) (steps_at place.0) (edges_of w (cell_of exits)) place.2 (edge_of w exits.number (draft_of a))
-          (edge_among w exits.number exits.arrows.items a ma) in
+    (edge_among w exits.number exits.arrows.items a ma) in
     let sb = step_of_edge (all_of local) (steps_at place.0) (edges_of w (cell_of exits)) place.2 (edge_of w exits.number (draft_of b))
-          (edge_among w exits.number exits.arrows.items b mb) in
+    (edge_among w exits.number exits.arrows.items b mb) in
     go (steps_at place.0) told.one sa.0 sb.0 sa.1 sb.1 (sym sa.2.act ∙ ap (λ (o : Option ℕ). act_of w o a.message.now) counted)
-        (sym sb.2.act ∙ ap (λ (o : Option ℕ). act_of w o b.message.now) counted)
+    (sym sb.2.act ∙ ap (λ (o : Option ℕ). act_of w o b.message.now) counted)
   where
     go : (steps : List Onward) → OneChoice steps → (x y : Onward) → Among steps x → Among steps y → {k j : ℕ} {l m : Name} →
         x.act ≡ Looks k a.message.now.peer l → y.act ≡ Looks j b.message.now.peer m → a.message.now.peer ≡ b.message.now.peer
@@ -332,7 +334,7 @@ state_differs local walk position number cell h there =
 pub offers_distinct : (local : LocalTree) (walk : Walk) (position : Position) (number : ℕ) (exits : Exits) (offers : List Offer) →
     Stands local walk position →
     Some (cell_of exits) ≡ slice_get (work_of walk.laid).cells number → AreApart exits.number (drafts_of exits.arrows.items) offers →
-        AreDistinct (methods_of offers)
+    AreDistinct (methods_of offers)
 offers_distinct local walk position number exits offers h there =
     go exits.number (state_differs local walk position number (cell_of exits) h there)
   where

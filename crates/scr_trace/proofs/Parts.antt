@@ -97,8 +97,10 @@ pub closed_loops : (i : ℕ) (w : Work) → (closed i w).loops ≡ slice_set w.l
 unfolding closed
 closed_loops i w = refl
 
-pub chosen_cells : (self : Bool) (g : Gathered) → (chosen self g).cells ≡ record { number = if self then None else Some g.work.choices;
-    drafts = g.drafts } ∷ g.work.cells
+pub chosen_cells : (self : Bool) (g : Gathered) → (chosen self g).cells ≡ record {
+  number = if self then None else Some g.work.choices;
+  drafts = g.drafts;
+} ∷ g.work.cells
 unfolding chosen
 chosen_cells self g = refl
 
@@ -114,12 +116,18 @@ pub chosen_loops : (self : Bool) (g : Gathered) → (chosen self g).loops ≡ g.
 unfolding chosen
 chosen_loops self g = refl
 
-pub joined_here : (m : Said) (g : Gathered) → joined true m g ≡ record { work = g.work; drafts = record { message = m; to = g.work.next } ∷
-    g.drafts }
+pub joined_here : (m : Said) (g : Gathered) → joined true m g ≡ record {
+  work = g.work;
+  drafts = record { message = m; to = g.work.next } ∷
+      g.drafts;
+}
 unfolding joined
 joined_here m g = refl
 
-pub joined_there : (m : Said) (g : Gathered) → joined false m g ≡ record { work = said m g.work; drafts =
-    record { message = m; to = hops.State (suc (length g.work.cells)) } ∷ g.drafts }
+pub joined_there : (m : Said) (g : Gathered) → joined false m g ≡ record {
+  work = said m g.work;
+  drafts =
+      record { message = m; to = hops.State (suc (length g.work.cells)) } ∷ g.drafts;
+}
 unfolding joined
 joined_there m g = refl

@@ -33,7 +33,7 @@ pub piece_there : (ps : List (Bor (List ℕ))) (i : ℕ) (d : Bor (List ℕ)) (a
     bytes_eq all (joined ps) ≡ bytes_eq text (joined (drop i ps)) → bytes_eq all (joined ps) ≡ bytes_eq rest (joined (drop (i + 1) ps))
 piece_there ps i d all text rest h f g =
     g ∙ ap (λ t. bytes_eq t (joined (drop i ps))) f ∙ ap (bytes_eq ((get_or ps i d).now ++ rest)) (joined-drop ps i d h) ∙
-        same_front (get_or ps i d).now rest (joined (drop (i + 1) ps))
+    same_front (get_or ps i d).now rest (joined (drop (i + 1) ps))
 
 -- it doesn't
 pub piece_missing : (ps : List (Bor (List ℕ))) (i : ℕ) (d : Bor (List ℕ)) (text : List ℕ) → i < length ps →

@@ -22,19 +22,19 @@ use Rattle.scr_trace.specs.inner.View.{draft_of, drafts_of, cell_of, cells_of, b
 -- what holds of each statement in front of others holds of each that a program has
 pub each_front : (P : Front → Type 0) → ((m : _) → P (Says m)) → ((p : _) (at : Name) (bs : Branches) → P (Choice p at bs)) →
     ((p : _) (name : Name) (body : Statements) → P (Rec p name body)) → ((p : _) (name : Name) → P (Continue p name)) → (s : Statement) →
-        P (front s)
+    P (front s)
 each_front P said choice recursion continued =
     each_kind (λ s. P (front s)) (λ m. subst P (sym (front-Message m)) (said m)) (λ p at bs. subst P (sym (front-Choice p at bs))
-        (choice p at _))
+    (choice p at _))
     (λ p name body. subst P (sym (front-Rec p name body)) (recursion p name _)) (λ p name. subst P (sym (front-Continue p name))
-        (continued p name))
+    (continued p name))
 
 module _ (me : Name) (around : List Known) (w : Work) where
   pub lay-front : (s : Statement) (rest : Statements) → lay me around w (front s rest) ≡ lay me around (lay me around w rest)
       (front s Nothing)
   lay-front s rest =
       each_front (λ f. lay me around w (f rest) ≡ lay me around (lay me around w rest) (f Nothing)) (λ m. refl) (λ p at bs. refl)
-          (λ p name body. refl) (λ p name. refl) s
+      (λ p name body. refl) (λ p name. refl) s
 
   -- a statement alone
   pub lay-Message : (m : Said) → lay me around w (front (kinds.Message m) Nothing) ≡ said m w
@@ -42,12 +42,12 @@ module _ (me : Name) (around : List Known) (w : Work) where
 
   pub lay-Choice : (p : Place) (at : Name) (bs : Row (Row Statement)) →
       lay me around w (front (kinds.Choice p at bs) Nothing) ≡ chosen (bytes_eq at me)
-          (lay_in me around (bytes_eq at me) w.next (gathering w) (bodies bs.items))
+      (lay_in me around (bytes_eq at me) w.next (gathering w) (bodies bs.items))
   lay-Choice p at bs = ap (λ f. lay me around w (f Nothing)) (front-Choice p at bs)
 
   pub lay-Rec : (p : Place) (name : Name) (body : Row Statement) →
       lay me around w (front (kinds.Rec p name body) Nothing) ≡ closed (length w.loops)
-          (lay me (record { name = name; number = length w.loops } ∷ around) (opened w) (statements body.items))
+      (lay me (record { name = name; number = length w.loops } ∷ around) (opened w) (statements body.items))
   lay-Rec p name body = ap (λ f. lay me around w (f Nothing)) (front-Rec p name body)
 
   pub lay-Continue : (p : Place) (name : Name) → lay me around w (front (kinds.Continue p name) Nothing) ≡ record w
@@ -57,7 +57,7 @@ module _ (me : Name) (around : List Known) (w : Work) where
   -- a branch
   pub branch-Message : (self : Bool) (m : Said) (rest : Statements) (g : Gathered) →
       branch_laid self me around (front (kinds.Message m) rest) g ≡ joined self m
-          (record { work = lay me around g.work rest; drafts = g.drafts })
+      (record { work = lay me around g.work rest; drafts = g.drafts })
   branch-Message self m rest g = ap (λ f. branch_laid self me around (f rest) g) (front-Message m)
 
   pub branch-Choice : (self : Bool) (p : Place) (at : Name) (bs : Row (Row Statement)) (rest : Statements) (g : Gathered) →

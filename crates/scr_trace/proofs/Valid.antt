@@ -60,7 +60,7 @@ passes_are (Says m rest) e = cc
 passes_are (Choice place at bs rest) e = cc
 passes_are (Rec place name body rest) e =
     let both = and_true (passes body) (passes rest) e in both_true (control.passes body) (control.passes rest) (passes_are body both.0)
-        (passes_are rest both.1)
+    (passes_are rest both.1)
 passes_are (Continue place name rest) e = cc
 
 or_true : (a b : Bool) → (a || b) ≡ true → (a ≡ true) ⊎ (b ≡ true)
@@ -81,7 +81,7 @@ stays_not (Says m rest) e = stays_not rest e
 stays_not (Choice place at bs rest) e = cc
 stays_not (Rec place name body rest) e =
     ⊎_elim (λ h. first_false (falls body) (falls rest) (stays_not body h)) (λ h. second_false (falls body) (falls rest) (stays_not rest h))
-        (or_true (stays body) (stays rest) e)
+    (or_true (stays body) (stays rest) e)
 stays_not (Continue place name rest) e = refl
 
 -- nothing stands behind what doesn't fall
@@ -104,7 +104,7 @@ guarded name (Rec place other body rest) way q h = (
 )
 guarded name (Continue place other rest) way q h =
     ⊎_elim (λ e. let same = (bytes_eq-Decides name other).0 e in absurd
-        (h.0 (culprit place other) (refl, subst (λ n. Quietly n way) same q))) (λ e. e) (true_or_false (bytes_eq name other))
+    (h.0 (culprit place other) (refl, subst (λ n. Quietly n way) same q))) (λ e. e) (true_or_false (bytes_eq name other))
 
 -- the recs that open on a way are among these names
 abbrev Opened : List Name → Way → Type 0
@@ -131,7 +131,7 @@ opened_opens : (names : List Name) (way : Way) (other : Name) → Opened names w
 opened_opens names way other h name c =
     ⊎_elim
     (λ (e : Opens other ≡ Opens name). let f : other ≡ name = cc e in true_or (bytes_eq name other) (is_among name names)
-        ((bytes_eq-Decides name other).1 (sym f)))
+    ((bytes_eq-Decides name other).1 (sym f)))
     (λ later. or_second (bytes_eq name other) (is_among name names) (h name later)) (first_or_later (Opens other) way (Opens name) c)
 
 -- the conditions on the spots of statements
@@ -145,12 +145,22 @@ clean_rest : (s : Spot) (xs : List Spot) → AreClean (s ∷ xs) → AreClean xs
 clean_rest s xs h = record { known = h.known.1; guards = h.guards.1; reached = h.reached.1; starts = h.starts.1 }
 
 front_clean : (xs ys : List Spot) → AreClean (xs ++ ys) → AreClean xs
-front_clean xs ys h = record { known = clean_front UnknownRec xs ys h.known; guards = clean_front Unguarded xs ys h.guards; reached =
-    clean_front Unreachable xs ys h.reached; starts = clean_front BranchStart xs ys h.starts }
+front_clean xs ys h = record {
+  known = clean_front UnknownRec xs ys h.known;
+  guards = clean_front Unguarded xs ys h.guards;
+  reached =
+      clean_front Unreachable xs ys h.reached;
+  starts = clean_front BranchStart xs ys h.starts;
+}
 
 behind_clean : (xs ys : List Spot) → AreClean (xs ++ ys) → AreClean ys
-behind_clean xs ys h = record { known = clean_behind UnknownRec xs ys h.known; guards = clean_behind Unguarded xs ys h.guards; reached =
-    clean_behind Unreachable xs ys h.reached; starts = clean_behind BranchStart xs ys h.starts }
+behind_clean xs ys h = record {
+  known = clean_behind UnknownRec xs ys h.known;
+  guards = clean_behind Unguarded xs ys h.guards;
+  reached =
+      clean_behind Unreachable xs ys h.reached;
+  starts = clean_behind BranchStart xs ys h.starts;
+}
 
 mutual
   sound : (t : Statements) (names : List Name) (way : Way) → Opened names way → AreClean (spots way t) → Sound names t
@@ -158,14 +168,14 @@ mutual
   sound (Says m rest) names way o h = sound rest names (Past (Says m Nothing) ∷ way) (opened_past names way _ o) (clean_rest _ _ h)
   sound (Choice place at bs rest) names way o h =
       let both = clean_rest (spot way (Choice place at bs rest))
-            (branch_spots way at [] bs ++ spots (Past (Choice place at bs Nothing) ∷ way) rest) h in (
+      (branch_spots way at [] bs ++ spots (Past (Choice place at bs Nothing) ∷ way) rest) h in (
         sound_in bs names way at [] o (λ e. h.starts.0 (culprit place []) (inl (refl, e))) (front_clean (branch_spots way at [] bs) _ both),
         sound rest names (Past (Choice place at bs Nothing) ∷ way) (opened_past names way _ o)
             (behind_clean (branch_spots way at [] bs) _ both),
       )
   sound (Rec place name body rest) names way o h =
       let both = clean_rest (spot way (Rec place name body rest))
-            (spots (Opens name ∷ way) body ++ spots (Past (Rec place name body Nothing) ∷ way) rest) h in
+      (spots (Opens name ∷ way) body ++ spots (Past (Rec place name body Nothing) ∷ way) rest) h in
       let inside = front_clean (spots (Opens name ∷ way) body) (spots (Past (Rec place name body Nothing) ∷ way) rest) both in
       let behind = behind_clean (spots (Opens name ∷ way) body) (spots (Past (Rec place name body Nothing) ∷ way) rest) both in (
         guarded name body (Opens name ∷ way) opened inside.guards,
@@ -192,7 +202,7 @@ mutual
   sound_first Nothing names way at earlier o none h = none refl
   sound_first (Says m rest) names way at earlier o none h =
       sound rest names (Past (Says m Nothing) ∷ Enters at earlier ∷ way)
-          (opened_past names (Enters at earlier ∷ way) _ (opened_enters names way at earlier o)) (clean_rest _ _ h)
+      (opened_past names (Enters at earlier ∷ way) _ (opened_enters names way at earlier o)) (clean_rest _ _ h)
   sound_first (Choice place other bs rest) names way at earlier o none h = h.starts.0 (culprit place []) (inr (place, refl, refl, tt))
   sound_first (Rec place name body rest) names way at earlier o none h = h.starts.0 (culprit place []) (inr (place, refl, refl, tt))
   sound_first (Continue place name rest) names way at earlier o none h = h.starts.0 (culprit place []) (inr (place, refl, refl, tt))

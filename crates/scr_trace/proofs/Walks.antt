@@ -88,7 +88,7 @@ missed test (x ∷ xs) e a h =
     ⊎_elim
     (λ t. let f : Some x.to ≡ None = sym (ap (λ b. if b then Some x.to else first_led test xs) t) ∙ e in cc f)
     (λ t. ⊎_elim (λ same. subst (λ y. test y ≡ false) same t)
-        (λ later. missed test xs (sym (ap (λ b. if b then Some x.to else first_led test xs) t) ∙ e) a later) h)
+    (λ later. missed test xs (sym (ap (λ b. if b then Some x.to else first_led test xs) t) ∙ e) a later) h)
     (true_or_false (test x))
 
 both_parts : (a b : Bool) → (a && b) ≡ true → (a ≡ true) × (b ≡ true)
@@ -134,7 +134,7 @@ led_has me w (Some c) xs method None hop e = cc
 led_has me w (Some c) xs method (Some label) hop e =
     let r = found (is_looked me (w.choices - c) method label) xs hop e in
     let both = both_parts (bytes_eq r.0.message.now.label label) (bytes_eq method (label_call me (w.choices - c) r.0.message.now.peer)) r.2
-        in
+    in
     record {
       edge = edge_of w (Some c) (draft_of r.0);
       among = edge_among w (Some c) xs r.0 r.1;
@@ -151,7 +151,7 @@ led_lacks : (me : Name) (w : Work) (number : Option ℕ) (xs : List Arrow) (meth
 led_lacks me w None xs method None e edge h named =
     let a = among_edge w None xs edge h in
     let f : message_call (message_of a.0.message.now) ≡ method = ap (λ (x : Edge). (call_of me x.act).method) a.2 ∙
-          ap (λ (c : Call). c.method) named in
+    ap (λ (c : Call). c.method) named in
     let t = (bytes_eq-Decides method (message_call (message_of a.0.message.now))).1 (sym f) in
     let n = missed (is_said method) xs e a.0 a.1 in
     cc
@@ -166,13 +166,13 @@ led_lacks me w (Some c) xs method None e edge h named =
 led_lacks me w (Some c) xs method (Some label) e edge h named =
     let a = among_edge w (Some c) xs edge h in
     let f : label_call me (w.choices - c) a.0.message.now.peer ≡ method = ap (λ (x : Edge). (call_of me x.act).method) a.2 ∙
-          ap (λ (c : Call). c.method) named in
+    ap (λ (c : Call). c.method) named in
     let g : Some a.0.message.now.label ≡ Some label = ap (λ (x : Edge). (call_of me x.act).answer) a.2 ∙ ap (λ (c : Call). c.answer) named
-        in
+    in
     let same : a.0.message.now.label ≡ label = cc g in
     let t = parts_both (bytes_eq a.0.message.now.label label) (bytes_eq method (label_call me (w.choices - c) a.0.message.now.peer))
     ((bytes_eq-Decides a.0.message.now.label label).1 same)
-        ((bytes_eq-Decides method (label_call me (w.choices - c) a.0.message.now.peer)).1 (sym f)) in
+    ((bytes_eq-Decides method (label_call me (w.choices - c) a.0.message.now.peer)).1 (sym f)) in
     let n = missed (is_looked me (w.choices - c) method label) xs e a.0 a.1 in
     cc
 
@@ -192,15 +192,21 @@ state_same j k e = cc
 pub goes_some : (walk : Walk) (number : ℕ) (exits : Exits) (call : Call) (hop : Hop) (to : Standing) →
     walk.standing ≡ standings.State number →
     Some (cell_of exits) ≡ slice_get (work_of walk.laid).cells number → led_if (tree_of walk.local.now).me (work_of walk.laid) exits.number
-        exits.arrows.items call.method call.answer ≡ Some hop →
+    exits.arrows.items call.method call.answer ≡ Some hop →
     to ≡ standing_of (work_of walk.laid) hop → Taken walk call to
 goes_some walk number exits call hop to at there led is =
     let w : Work = work_of walk.laid in
     let h = led_has (tree_of walk.local.now).me w exits.number exits.arrows.items call.method call.answer hop led in
     record {
       edge = h.edge;
-      edged = record { number = number; edges = edges_of w (cell_of exits); at = at; there =
-          get_map (edges_of w) w.cells number (cell_of exits) (sym there); among = h.among };
+      edged = record {
+        number = number;
+        edges = edges_of w (cell_of exits);
+        at = at;
+        there =
+            get_map (edges_of w) w.cells number (cell_of exits) (sym there);
+        among = h.among;
+      };
       named = h.named;
       leads = h.leads ∙ sym is;
     }
@@ -208,16 +214,16 @@ goes_some walk number exits call hop to at there led is =
 -- it finds none
 pub goes_none : (walk : Walk) (number : ℕ) (exits : Exits) (call : Call) → walk.standing ≡ standings.State number →
     Some (cell_of exits) ≡ slice_get (work_of walk.laid).cells number → led_if (tree_of walk.local.now).me (work_of walk.laid) exits.number
-        exits.arrows.items call.method call.answer ≡ None →
+    exits.arrows.items call.method call.answer ≡ None →
     Goes walk call None
 goes_none walk number exits call at there led edge h named =
     let w : Work = work_of walk.laid in
     let same : h.number ≡ number = state_same h.number number (sym h.at ∙ at) in
     let e = get_map (edges_of w) w.cells number (cell_of exits) (sym there) in
     let edges : h.edges ≡ edges_of w (cell_of exits) =
-          some_same (subst (λ k. slice_get (graph_of walk).states k ≡ Some h.edges) same h.there) e in
+    some_same (subst (λ k. slice_get (graph_of walk).states k ≡ Some h.edges) same h.there) e in
     led_lacks (tree_of walk.local.now).me w exits.number exits.arrows.items call.method call.answer led edge
-        (subst (λ l. Among l edge) edges h.among) named
+    (subst (λ l. Among l edge) edges h.among) named
 
 -- there are no edges
 pub get_none : {A B : Type 0} (f : A → B) (xs : List A) (k : ℕ) → None ≡ slice_get xs k → slice_get (map f xs) k ≡ None
@@ -232,7 +238,7 @@ goes_past walk number call at none edge h named =
     let same : h.number ≡ number = state_same h.number number (sym h.at ∙ at) in
     let e = get_none (edges_of w) w.cells number none in
     let f : slice_get (graph_of walk).states number ≡ Some h.edges = subst (λ k. slice_get (graph_of walk).states k ≡ Some h.edges) same
-          h.there in
+    h.there in
     cc
 
 pub goes_end : (walk : Walk) (call : Call) → walk.standing ≡ standings.End → Goes walk call None
@@ -311,9 +317,9 @@ one_edge me [] d a b p q e = absurd p
 one_edge me (x ∷ edges) d a b p q e =
     ⊎_elim
     (λ f. ⊎_elim (λ g. sym f ∙ g) (λ g. absurd (differs_all me (call_of me x.act) edges d.0 b g (ap (λ (y : Edge). call_of me y.act) f ∙
-        e))) q)
+    e))) q)
     (λ f. ⊎_elim (λ g. absurd (differs_all me (call_of me x.act) edges d.0 a f (ap (λ (y : Edge). call_of me y.act) g ∙ sym e)))
-        (λ g. one_edge me edges d.1 a b f g e) q)
+    (λ g. one_edge me edges d.1 a b f g e) q)
     p
 
 pub told_at : (me : Name) (ps : List Position) → AllTold me ps → (k : ℕ) (p : Position) → slice_get ps k ≡ Some p → Told me p
@@ -330,7 +336,7 @@ same_edge local walk told along a b p q e =
     let place = position_there (all_of local) (all_of local) (graph_of walk).states along.states p.number p.edges p.there in
     let t = told_at local.me (all_of local) told p.number place.0 place.1 in
     one_edge local.me p.edges (subst AllDiffer (sym (calls_edges local.me (all_of local) (steps_at place.0) p.edges place.2)) t.differ) a b
-        p.among (subst (λ l. Among l b) edges q.among) e
+    p.among (subst (λ l. Among l b) edges q.among) e
 
 -- ---- runs
 
@@ -359,14 +365,37 @@ cut : (me : Name) {from end : Position} {acts : List Act} (calls more : List Cal
     map (call_of me) acts ≡ calls ++ call ∷ more → Cut me from end calls more call
 cut me [] more call stays e = cc
 cut me [] more call (goes {act = a} st run) e =
-    let p = cons_parts e in record { acts = []; act = a; rest = _; mid = _; to = _; run = stays; named = refl; step = st; is = p.0; behind =
-        run; rest_named = p.1 }
+    let p = cons_parts e in record {
+      acts = [];
+      act = a;
+      rest = _;
+      mid = _;
+      to = _;
+      run = stays;
+      named = refl;
+      step = st;
+      is = p.0;
+      behind =
+          run;
+      rest_named = p.1;
+    }
 cut me (c ∷ calls) more call stays e = cc
 cut me (c ∷ calls) more call (goes {act = a} st run) e =
     let p = cons_parts e in
     let r = cut me calls more call run p.1 in
-    record { acts = a ∷ r.acts; act = r.act; rest = r.rest; mid = r.mid; to = r.to; run = goes st r.run; named = (λ i. p.0 i ∷ r.named i);
-        step = r.step; is = r.is; behind = r.behind; rest_named = r.rest_named }
+    record {
+      acts = a ∷ r.acts;
+      act = r.act;
+      rest = r.rest;
+      mid = r.mid;
+      to = r.to;
+      run = goes st r.run;
+      named = (λ i. p.0 i ∷ r.named i);
+      step = r.step;
+      is = r.is;
+      behind = r.behind;
+      rest_named = r.rest_named;
+    }
 
 pub walk_told : (local : LocalTree) (walk : Walk) → tree_of walk.local.now ≡ local → AllTold local.me (all_of local)
 walk_told local walk e = subst (λ (t : LocalTree). AllTold t.me (all_of t)) e (valid_told (tree_of walk.local.now) walk.local.now.valid)

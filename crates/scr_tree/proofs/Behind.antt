@@ -13,12 +13,12 @@ use Rattle.scr_tree.proofs.ViewLemmas.{each_kind, front-Message, front-Choice, f
 -- what holds of each statement in front of others holds of each that a program has
 pub each_front : (P : Front → Type 0) → ((m : Message) → P (Says m)) → ((p : Place) (at : Name) (bs : Branches) → P (Choice p at bs)) →
     ((p : Place) (name : Name) (body : Statements) → P (Rec p name body)) → ((p : Place) (name : Name) → P (Continue p name)) →
-        (s : Statement) → P (front s)
+    (s : Statement) → P (front s)
 each_front P said choice recursion continued =
     each_kind (λ s. P (front s)) (λ m. subst P (sym (front-Message m)) (said m)) (λ p at bs. subst P (sym (front-Choice p at bs))
-        (choice p at _))
+    (choice p at _))
     (λ p name body. subst P (sym (front-Rec p name body)) (recursion p name _)) (λ p name. subst P (sym (front-Continue p name))
-        (continued p name))
+    (continued p name))
 
 pub statements-step : (ss : List Statement) (i : ℕ) (x : Statement) → i < length ss → x ≡ get_or ss i x →
     statements (drop i ss) ≡ front x (statements (drop (i + 1) ss))

@@ -50,7 +50,7 @@ Rec'-is place name shape rows = sym (roll-out-Statement (Rec' place name shape r
 pub each_kind : (P : Statement → Type 0) → ((m : Message) → P (Said m)) → ((place : Place) (at : Name) (branches : Row (Row Statement)) →
     P (Choice place at branches)) →
     ((place : Place) (name : Name) (body : Row Statement) → P (Rec place name body)) →
-        ((place : Place) (name : Name) → P (Continue place name)) →
+    ((place : Place) (name : Name) → P (Continue place name)) →
     (s : Statement) → P s
 each_kind P said choice recursion continued (Said m) = said m
 each_kind P said choice recursion continued (Choice' place at shape rows) = subst P (sym (Choice'-is place at shape rows))

@@ -67,7 +67,7 @@ pub data Step : Position → Act → Position → Type 0 where
   looks : {number : ℕ} {branches : Branches} {message : Message} {branch rest : Protocol} {part : Part} {around : List Frame} →
       HasBranch branches message branch →
       Step (Left (ChoiceThere number branches rest) part ∷ around) (Looks number (peer_of message) (label_of message))
-          (Left (Does message branch) Plain ∷ Left rest part ∷ around)
+      (Left (Does message branch) Plain ∷ Left rest part ∷ around)
 
 -- these steps, one after another
 pub data Run : Position → List Act → Position → Type 0 where

@@ -92,7 +92,7 @@ pub record IsOver (so_far : List Event) (peer label : Name) (run_of : Ended) : T
 -- what was refused in one run is refused in each that comes as far
 pub refused_again : (local : LocalTree) → ∥ IsValid local ∥₁ →
     {made : List Call} {still_open : Option Name} {deeds : List Deed} {so_far : List Event} {run_of other : Ended} →
-        (r : Refuses local.me (protocol_of local) made still_open deeds so_far run_of) →
+    (r : Refuses local.me (protocol_of local) made still_open deeds so_far run_of) →
     Played local.me (protocol_of local) made still_open deeds so_far other → IsOver so_far r.peer r.label other
 refused_again local valid r (plays p) =
     absurd (exclude local.me (protocol_of local) (calls_tell_apart local valid) (has_one_peer local valid) p r)

@@ -41,7 +41,7 @@ module _ (me : Name) (n : ℕ) where
 
   pub does-Choice : (p : _) (at : Name) (bs : Row (Row Statement)) (self : Bool) → bytes_eq at me ≡ self →
       does me n (front (kinds.Choice p at bs) Nothing) ≡ look_unless self n (bodies bs.items) ++ does_in me (opened self n)
-          (bodies bs.items)
+      (bodies bs.items)
   does-Choice p at bs self e =
       ap (λ f. does me n (f Nothing)) (front-Choice p at bs)
       ∙ ap (λ b. look_unless b n (bodies bs.items) ++ (does_in me (opened b n) (bodies bs.items) ++ [])) e
@@ -88,8 +88,18 @@ said-Continue p name rest = ap (λ f. first_said (f rest)) (front-Continue p nam
 
 pub ruleset firsts = (common_steps, said-Message, said-Choice, said-Rec, said-Continue)
 
-pub ruleset alone = (common_steps, front-Continue, does-Message, next-Message, does-Choice, next-Choice, does-Rec, next-Rec, append_assoc,
-    append-nil)
+pub ruleset alone = (
+  common_steps,
+  front-Continue,
+  does-Message,
+  next-Message,
+  does-Choice,
+  next-Choice,
+  does-Rec,
+  next-Rec,
+  append_assoc,
+  append-nil,
+)
 
 pub ruleset all_steps = (common_steps, next-step, does-step, statements-past, append_assoc, append-nil)
 

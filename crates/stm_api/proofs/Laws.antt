@@ -72,7 +72,7 @@ module _ (me : Name) where
   labels_same (Branch Nothing more) n = labels_same more _
   labels_same (Branch (Says m rest) more) n =
       ap (λ l. l ∷ here.labels_in more) (sym (label_is m.direction m.peer m.label m.payload)) ∙ ap (λ ls. label_of (message_of m) ∷ ls)
-          (labels_same more _)
+      (labels_same more _)
   labels_same (Branch (Choice p at bs rest) more) n = labels_same more _ ∙ sym (no_label (bytes_eq at me) n _ _ _ _ _)
   labels_same (Branch (Rec p name body rest) more) n = labels_same more _
   labels_same (Branch (Continue p name rest) more) n = labels_same more _
@@ -93,18 +93,18 @@ module _ (me : Name) where
       ((m : ℕ) → here.does_in me m bs ≡ doings_in (numbered_in me m bs)) → ((m : ℕ) → here.does me m rest ≡ doings (numbered me m rest)) →
       here.look_unless self n bs ++ (here.does_in me (opened self n) bs ++ here.does me (next_in me (opened self n) bs) rest)
       ≡ doings (if self then ChoiceHere (numbered_in me n bs) (numbered me (n + choices_in me bs) rest) else ChoiceThere n
-          (numbered_in me (suc n) bs) (numbered me (suc n + choices_in me bs) rest))
+      (numbered_in me (suc n) bs) (numbered me (suc n + choices_in me bs) rest))
   choice_same true n bs rest inside after =
       ap (λ k. here.does_in me n bs ++ here.does me k rest) (next_in_is me bs n)
       ∙ ap (λ x. x ++ here.does me (n + choices_in me bs) rest) (inside n) ∙ ap (λ x. doings_in (numbered_in me n bs) ++ x)
-          (after (n + choices_in me bs))
+      (after (n + choices_in me bs))
   choice_same false n bs rest inside after =
       ap (λ k. here.look_unless false n bs ++ (here.does_in me k bs ++ here.does me (next_in me k bs) rest)) (add-one n)
       ∙ ap (λ k. here.look_unless false n bs ++ (here.does_in me (suc n) bs ++ here.does me k rest)) (next_in_is me bs (suc n))
       ∙ ap (λ x. here.look_unless false n bs ++ (x ++ here.does me (suc n + choices_in me bs) rest)) (inside (suc n))
       ∙ ap (λ x. here.look_unless false n bs ++ (doings_in (numbered_in me (suc n) bs) ++ x)) (after (suc n + choices_in me bs))
       ∙ ap (λ x. x ++ (doings_in (numbered_in me (suc n) bs) ++ doings (numbered me (suc n + choices_in me bs) rest)))
-          (look_same bs n (suc n))
+      (look_same bs n (suc n))
 
   mutual
     pub does_same : (t : Statements) (n : ℕ) → here.does me n t ≡ doings (numbered me n t)
@@ -113,7 +113,7 @@ module _ (me : Name) where
     does_same (Choice place at bs rest) n = choice_same (bytes_eq at me) n bs rest (λ m. does_in_same bs m) (λ m. does_same rest m)
     does_same (Rec place name body rest) n =
         ap (λ x. x ++ here.does me (next me n body) rest) (does_same body n) ∙ ap (λ k. doings (numbered me n body) ++ here.does me k rest)
-            (next_is me body n)
+        (next_is me body n)
         ∙ ap (λ x. doings (numbered me n body) ++ x) (does_same rest (n + choices me body))
     does_same (Continue place name rest) n = does_same rest n
 
@@ -121,7 +121,7 @@ module _ (me : Name) where
     does_in_same NoBranch n = refl
     does_in_same (Branch b more) n =
         ap (λ x. x ++ here.does_in me (next me n b) more) (does_same b n) ∙ ap (λ k. doings (numbered me n b) ++ here.does_in me k more)
-            (next_is me b n)
+        (next_is me b n)
         ∙ ap (λ x. doings (numbered me n b) ++ x) (does_in_same more (n + choices me b))
 
 -- ---- first doings
@@ -139,7 +139,7 @@ not_seen text names e h = let t : true ≡ false = sym (found_any text names ∙
 one_first : (me : Name) (seen : List Name) (doing : Doing) (more firsts others : List Doing) (b : Bool) →
     is_some (position (bytes_eq (call_of me doing)) seen) ≡ b →
     Firsts me seen more firsts → Firsts me (seen ++ call_of me doing ∷ []) more others →
-        Firsts me seen (doing ∷ more) (here.first_before b doing firsts others)
+    Firsts me seen (doing ∷ more) (here.first_before b doing firsts others)
 one_first me seen doing more firsts others true e f g = again (seen_before (call_of me doing) seen e) f
 one_first me seen doing more firsts others false e f g = first (not_seen (call_of me doing) seen e) g
 
@@ -147,7 +147,7 @@ pub are_firsts : (me : Name) (ds : List Doing) (seen : List Name) → Firsts me 
 are_firsts me [] seen = none
 are_firsts me (doing ∷ more) seen =
     one_first me seen doing more (here.firsts_of me seen more) (here.firsts_of me (seen ++ call_of me doing ∷ []) more) _ refl
-        (are_firsts me more seen) (are_firsts me more (seen ++ call_of me doing ∷ []))
+    (are_firsts me more seen) (are_firsts me more (seen ++ call_of me doing ∷ []))
 
 -- ---- the whole
 

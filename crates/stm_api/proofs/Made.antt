@@ -23,7 +23,7 @@ use Rattle.stm_api.specs.inner.View.{doing_of}
 pub firsts-step : (me : Name) (seen : List Name) (ds : List Kept) (i : ℕ) (x : Kept) → i < length ds → x ≡ get_or ds i x →
     firsts_of me seen (map doing_of (drop i ds))
     ≡ first_before (is_some (position (bytes_eq (call_of me (doing_of x))) seen)) (doing_of x)
-        (firsts_of me seen (map doing_of (drop (i + 1) ds)))
+    (firsts_of me seen (map doing_of (drop (i + 1) ds)))
     (firsts_of me (seen ++ call_of me (doing_of x) ∷ []) (map doing_of (drop (i + 1) ds)))
 firsts-step me seen ds i x within is =
     at_drop_more (λ l. firsts_of me seen (map doing_of l)) ds i x within
@@ -45,17 +45,17 @@ enums-past p me ds i h = at_drop_all (λ l. enum_files p me (map doing_of l)) ds
 -- a message that is sent, and one that is taken
 pub sent-method : (p : Place) (d : Direction) (peer label : Name) (kind : Payload) → d ≡ directions.To →
     message_method p (towards d peer label kind) ≡ method_with p types.Void (message_call (towards d peer label kind))
-        (map (value_param p) (carried_params kind)) (send_body p peer label kind)
+    (map (value_param p) (carried_params kind)) (send_body p peer label kind)
 sent-method p d peer label kind e =
     subst (λ d. message_method p (towards d peer label kind) ≡ method_with p types.Void (message_call (towards d peer label kind))
-        (map (value_param p) (carried_params kind)) (send_body p peer label kind)) (sym e) refl
+    (map (value_param p) (carried_params kind)) (send_body p peer label kind)) (sym e) refl
 
 pub taken-method : (p : Place) (d : Direction) (peer label : Name) (kind : Payload) → d ≡ directions.From →
     message_method p (towards d peer label kind) ≡ method_with p (carried_type kind) (message_call (towards d peer label kind)) []
-        (take_body p peer label kind)
+    (take_body p peer label kind)
 taken-method p d peer label kind e =
     subst (λ d. message_method p (towards d peer label kind) ≡ method_with p (carried_type kind) (message_call (towards d peer label kind))
-        [] (take_body p peer label kind)) (sym e) refl
+    [] (take_body p peer label kind)) (sym e) refl
 
 pub ruleset messages = (common_steps, sent-method, taken-method)
 

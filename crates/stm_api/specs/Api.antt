@@ -147,7 +147,7 @@ class_file p me firsts = written (me ++ codes "Role.java") (ClassDecl (class_wit
 abbrev pub enum_file : Place → Name → ℕ → List Name → ApiText
 enum_file p me number labels =
     written (choice_enum me number ++ codes ".java") (EnumDecl (record { place = p; name = choice_enum me number; constants = labels }) ∷
-        [])
+    [])
 
 -- the enums of the looks, by their numbers, which rise in the order of the text
 abbrev pub enum_of : Place → Name → Doing → List ApiText

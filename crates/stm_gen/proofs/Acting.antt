@@ -114,9 +114,11 @@ module _ (me : Name) (all : List Action) where
   sends_acted : (bs : tree.Branches) (names : List Name) → SoundIn names bs → (n m : ℕ) (around : Position) →
       Within all (actions_in me n bs) → AllActed me all (sends around (numbered_in me m bs))
   sends_acted NoBranch names h n m around w = tt
-  sends_acted (Branch (Says q rest) more) names h n m around w =
-      (message_acted q _ w, sends_acted more names h.1 (next me n rest) (m + choices me rest) around
-          (within_behind all (actions me n (Says q rest)) _ w))
+  sends_acted (Branch (Says q rest) more) names h n m around w = (
+    message_acted q _ w,
+    sends_acted more names h.1 (next me n rest) (m + choices me rest) around
+        (within_behind all (actions me n (Says q rest)) _ w),
+  )
   sends_acted (Branch Nothing more) names h n m around w = absurd h.0
   sends_acted (Branch (Choice place at bs rest) more) names h n m around w = absurd h.0
   sends_acted (Branch (Rec place name body rest) more) names h n m around w = absurd h.0
@@ -126,9 +128,11 @@ module _ (me : Name) (all : List Action) where
   looks_acted : (steps : List Onward) (n : ℕ) (peer : Name) → AllLook n peer steps → (a : Action) → Among all a →
       a.call ≡ label_call me n peer → a.deed ≡ deeds.Looks n → AllActed me all steps
   looks_acted [] n peer h a among named deed = tt
-  looks_acted (s ∷ ss) n peer h a among named deed =
-      (subst (Acted me all) (sym h.0.1) (record { action = a; among = among; named = named; deed = deed }), looks_acted ss n peer h.1 a
-          among named deed)
+  looks_acted (s ∷ ss) n peer h a among named deed = (
+    subst (Acted me all) (sym h.0.1) (record { action = a; among = among; named = named; deed = deed }),
+    looks_acted ss n peer h.1 a
+        among named deed,
+  )
 
   look_here : (bs : tree.Branches) (names : List Name) → SoundIn names bs → (place : _) (n m : ℕ) (around : Position) (xs : List Action) →
       OneChoice (looks n around (numbered_in me m bs)) → Within all (looked me n place (peer_in bs) ++ xs) →
@@ -145,7 +149,7 @@ module _ (me : Name) (all : List Action) where
       by (looking k peer g) =
           let e = look_parts n k (peer_of (message_of q)) peer (label_of (message_of q)) g.0.0 g.0.1 in
           looks_acted (looks n around (numbered_in me m (Branch (Says q rest) more))) k peer g
-              (record { place = place; call = label_call me n q.peer; deed = deeds.Looks n })
+          (record { place = place; call = label_call me n q.peer; deed = deeds.Looks n })
           (w _ (inl refl)) (λ i. label_call me (e.0 i) ((sym (peer_is q) ∙ e.1) i)) (ap deeds.Looks e.0)
   look_here (Branch Nothing more) names h place n m around xs one w = absurd h.0
   look_here (Branch (Choice p at bs rest) more) names h place n m around xs one w = absurd h.0
@@ -166,15 +170,15 @@ module _ (me : Name) (all : List Action) where
   choice_acted : (self : Bool) (place : _) (n : ℕ) (part : Part) (around : Position) (bs : tree.Branches) (rest : Statements)
       (names : List Name) → SoundIn names bs →
       Within all (looked_unless self me n place (peer_in bs)
-          ++ (actions_in me (opened self n) bs ++ actions me (next_in me (opened self n) bs) rest)) →
+      ++ (actions_in me (opened self n) bs ++ actions me (next_in me (opened self n) bs) rest)) →
       ((m : ℕ) (out : Position) → m ≡ opened self n → AllTold me (Parts.within self out (numbered_in me m bs)) →
-          StatesActed me all (Parts.within self out (numbered_in me m bs))) →
+      StatesActed me all (Parts.within self out (numbered_in me m bs))) →
       ((m : ℕ) → m ≡ next_in me (opened self n) bs → AllTold me (states_in part around (numbered me m rest)) →
-          StatesActed me all (states_in part around (numbered me m rest))) →
+      StatesActed me all (states_in part around (numbered me m rest))) →
       AllTold me (states_in part around (if self then ChoiceHere (numbered_in me n bs) (numbered me (n + choices_in me bs) rest) else
-          ChoiceThere n (numbered_in me (suc n) bs) (numbered me (suc n + choices_in me bs) rest))) →
+      ChoiceThere n (numbered_in me (suc n) bs) (numbered me (suc n + choices_in me bs) rest))) →
       StatesActed me all (states_in part around (if self then ChoiceHere (numbered_in me n bs) (numbered me (n + choices_in me bs) rest)
-          else ChoiceThere n (numbered_in me (suc n) bs) (numbered me (suc n + choices_in me bs) rest)))
+      else ChoiceThere n (numbered_in me (suc n) bs) (numbered me (suc n + choices_in me bs) rest)))
   choice_acted true place n part around bs rest names h w inside behind told =
       let r : Protocol = numbered me (n + choices_in me bs) rest in
       let out : Position = Left r part ∷ around in (
@@ -190,7 +194,7 @@ module _ (me : Name) (all : List Action) where
         acted_both me all (states_there out (numbered_in me (suc n) bs)) (states_in part around r)
             (inside (suc n) out (sym (add-one n)) (told_front (states_there out (numbered_in me (suc n) bs)) _ told.1))
             (behind (suc n + choices_in me bs) (ap (λ k. k + choices_in me bs) (sym (add-one n)) ∙ sym (next_in_is me bs (n + 1)))
-                (told_behind (states_there out (numbered_in me (suc n) bs)) _ told.1)),
+            (told_behind (states_there out (numbered_in me (suc n) bs)) _ told.1)),
       )
 
   none_acted : (ps : List Position) → ps ≡ [] → StatesActed me all ps
@@ -205,13 +209,13 @@ module _ (me : Name) (all : List Action) where
     acted (Choice place at bs rest) names h n part around w told =
         let self : Bool = bytes_eq at me in
         let both = within_behind all (looked_unless self me n place (peer_in bs)) (actions_in me (opened self n) bs
-              ++ actions me (next_in me (opened self n) bs) rest) w in
+        ++ actions me (next_in me (opened self n) bs) rest) w in
         choice_acted self place n part around bs rest names h.0 w
         (λ m out e. shift (λ k. AllTold me (Parts.within self out (numbered_in me k bs)))
-            (λ k. StatesActed me all (Parts.within self out (numbered_in me k bs))) m (opened self n) e
+        (λ k. StatesActed me all (Parts.within self out (numbered_in me k bs))) m (opened self n) e
         (acted_in bs names h.0 self (opened self n) out (within_front all (actions_in me (opened self n) bs) _ both)))
         (λ m e. shift (λ k. AllTold me (states_in part around (numbered me k rest)))
-            (λ k. StatesActed me all (states_in part around (numbered me k rest))) m (next_in me (opened self n) bs) e
+        (λ k. StatesActed me all (states_in part around (numbered me k rest))) m (next_in me (opened self n) bs) e
         (acted rest names h.1 (next_in me (opened self n) bs) part around (within_behind all (actions_in me (opened self n) bs) _ both)))
         told
     acted (Rec place name body rest) names h n part around w told =
@@ -219,12 +223,12 @@ module _ (me : Name) (all : List Action) where
         let r : Protocol = numbered me (n + choices me body) rest in
         acted_both me all (states_in (BodyOf name p) (Left r part ∷ around) p) (states_in part around r)
         (acted body (name ∷ names) h.1 n (BodyOf name p) (Left r part ∷ around) (within_front all (actions me n body) _ w)
-            (told_front (states_in (BodyOf name p) (Left r part ∷ around) p) _ told))
+        (told_front (states_in (BodyOf name p) (Left r part ∷ around) p) _ told))
         (shift (λ k. AllTold me (states_in part around (numbered me k rest)))
-            (λ k. StatesActed me all (states_in part around (numbered me k rest))) (n + choices me body) (next me n body)
-            (sym (next_is me body n))
+        (λ k. StatesActed me all (states_in part around (numbered me k rest))) (n + choices me body) (next me n body)
+        (sym (next_is me body n))
         (acted rest names h.3 (next me n body) part around (within_behind all (actions me n body) _ w))
-            (told_behind (states_in (BodyOf name p) (Left r part ∷ around) p) _ told))
+        (told_behind (states_in (BodyOf name p) (Left r part ∷ around) p) _ told))
     acted (Continue place name rest) names h n part around w told =
         none_acted _ (ap (λ (t : Statements). states_in part around (numbered me n t)) h.1)
 
@@ -237,12 +241,12 @@ module _ (me : Name) (all : List Action) where
         subst (StatesActed me all) (sym (Parts.within-Branch self out (numbered me n b) (numbered_in me (n + choices me b) more)))
         (acted_both me all (Parts.first_in self out (numbered me n b)) _
         (acted_first b names h.0 self n out (within_front all (actions me n b) _ w) (told_front (Parts.first_in self out (numbered me n b))
-            _ told'))
+        _ told'))
         (shift (λ k. AllTold me (Parts.within self out (numbered_in me k more)))
-            (λ k. StatesActed me all (Parts.within self out (numbered_in me k more))) (n + choices me b) (next me n b)
-            (sym (next_is me b n))
+        (λ k. StatesActed me all (Parts.within self out (numbered_in me k more))) (n + choices me b) (next me n b)
+        (sym (next_is me b n))
         (acted_in more names h.1 self (next me n b) out (within_behind all (actions me n b) _ w))
-            (told_behind (Parts.first_in self out (numbered me n b)) _ told')))
+        (told_behind (Parts.first_in self out (numbered me n b)) _ told')))
 
     acted_first : (b : Statements) (names : List Name) → SoundFirst names b → (self : Bool) (n : ℕ) (out : Position) →
         Within all (actions me n b) → AllTold me (Parts.first_in self out (numbered me n b)) →
@@ -282,7 +286,7 @@ pairs_same seen (z ∷ zs) h x y a b e d =
     (λ f. ⊎_elim (λ g. d (ap (λ (q : Action). q.deed) (sym f ∙ g)))
     (λ g. earlier_same (seen ++ z ∷ []) zs h.1 y x g (subst (Contains (seen ++ z ∷ [])) f (contains_last seen z)) e d) b)
     (λ f. ⊎_elim (λ g. earlier_same (seen ++ z ∷ []) zs h.1 x y f (subst (Contains (seen ++ z ∷ [])) g (contains_last seen z)) (sym e)
-        (λ k. d (sym k)))
+    (λ k. d (sym k)))
     (λ g. pairs_same (seen ++ z ∷ []) zs h.1 x y f g e d) b)
     a
 
@@ -350,14 +354,22 @@ offering_of me (e ∷ es) m c = go e.act refl (λ d. offering_of me es m d) c
         Contains (methods_by me a e.to (methods_of me es) (branches_of (e ∷ es))) m → Offering me (e ∷ es) m
     go (Moves msg) is more c =
         ⊎_elim
-        (λ f. (e, inl refl, of_message msg is (ap (λ (x : Method). x.name) (sym f)) (ap (λ (x : Method). x.result) (sym f))
-            (ap (λ (x : Method). x.params) (sym f))))
+        (λ f. (
+          e,
+          inl refl,
+          of_message msg is (ap (λ (x : Method). x.name) (sym f)) (ap (λ (x : Method). x.result) (sym f))
+              (ap (λ (x : Method). x.params) (sym f)),
+        ))
         (λ later. let r = more later in (r.0, inr r.1, r.2))
         (first_or_later (method_of msg e.to) (methods_of me es) m c)
     go (Looks n peer label) is more c =
         ⊎_elim
-        (λ f. (e, inl refl, of_looks n peer label is (ap (λ (x : Method). x.name) (sym f)) (ap (λ (x : Method). x.result) (sym f))
-            (ap (λ (x : Method). x.params) (sym f))))
+        (λ f. (
+          e,
+          inl refl,
+          of_looks n peer label is (ap (λ (x : Method). x.name) (sym f)) (ap (λ (x : Method). x.result) (sym f))
+              (ap (λ (x : Method). x.params) (sym f)),
+        ))
         (λ later. absurd (none_contained m later))
         (first_or_later (label_method me n peer (branches_of (e ∷ es))) [] m c)
 
@@ -391,10 +403,9 @@ same_signature : (me : Name) (all : List Action) → Clean NameClash (with_earli
     Acted me all b → Signed me a m → Signed me b n → m.name ≡ n.name → (m.result ≡ n.result) × (m.params ≡ n.params)
 same_signature me all clean a b m n x y (of_message p ap' pn pr pp) (of_message q aq qn qr qp) e =
     let calls : x.action.call ≡ y.action.call = x.named ∙ ap (λ c. (call_of me c).method) ap' ∙ sym pn ∙ e ∙ qn ∙
-          sym (ap (λ c. (call_of me c).method) aq) ∙ sym y.named in
+    sym (ap (λ c. (call_of me c).method) aq) ∙ sym y.named in
     let s : shape p ≡ shape q = same_number (shape p) (shape q) (λ d. pairs_same [] all clean x.action y.action x.among y.among calls
-    (λ f. d (message_shape p q (sym (deed_of_message a p x.action.deed ap' x.deed) ∙ f ∙ deed_of_message b q y.action.deed aq y.deed)))) in
-        (
+    (λ f. d (message_shape p q (sym (deed_of_message a p x.action.deed ap' x.deed) ∙ f ∙ deed_of_message b q y.action.deed aq y.deed)))) in (
       pr ∙ sym (shape_result p) ∙ ap (λ k. get_or results k types.Void) s ∙ shape_result q ∙ sym qr,
       pp ∙ sym (shape_params p) ∙ ap (λ k. get_or params k []) s ∙ shape_params q ∙ sym qp,
     )
@@ -403,22 +414,22 @@ same_signature me all clean a b m n x y (of_message p ap' pn pr pp) (of_message 
     message_shape p q e = let f : p ≡ q = cc e in ap shape f
 same_signature me all clean a b m n x y (of_message p ap' pn pr pp) (of_looks k peer label aq qn qr qp) e =
     let calls : x.action.call ≡ y.action.call = x.named ∙ ap (λ c. (call_of me c).method) ap' ∙ sym pn ∙ e ∙ qn ∙
-          sym (ap (λ c. (call_of me c).method) aq) ∙ sym y.named in
+    sym (ap (λ c. (call_of me c).method) aq) ∙ sym y.named in
     absurd (pairs_same [] all clean x.action y.action x.among y.among calls
     (λ f. let g : deeds.Moves p ≡ deeds.Looks k = sym (deed_of_message a p x.action.deed ap' x.deed) ∙ f ∙ deed_of_looks b k peer label
-                y.action.deed aq y.deed in cc g))
+    y.action.deed aq y.deed in cc g))
 same_signature me all clean a b m n x y (of_looks k peer label ap' pn pr pp) (of_message q aq qn qr qp) e =
     let calls : x.action.call ≡ y.action.call = x.named ∙ ap (λ c. (call_of me c).method) ap' ∙ sym pn ∙ e ∙ qn ∙
-          sym (ap (λ c. (call_of me c).method) aq) ∙ sym y.named in
+    sym (ap (λ c. (call_of me c).method) aq) ∙ sym y.named in
     absurd (pairs_same [] all clean x.action y.action x.among y.among calls
     (λ f. let g : deeds.Looks k ≡ deeds.Moves q = sym (deed_of_looks a k peer label x.action.deed ap' x.deed) ∙ f ∙ deed_of_message b q
-                y.action.deed aq y.deed in cc g))
+    y.action.deed aq y.deed in cc g))
 same_signature me all clean a b m n x y (of_looks k peer label ap' pn pr pp) (of_looks l other mark aq qn qr qp) e =
     let calls : x.action.call ≡ y.action.call = x.named ∙ ap (λ c. (call_of me c).method) ap' ∙ sym pn ∙ e ∙ qn ∙
-          sym (ap (λ c. (call_of me c).method) aq) ∙ sym y.named in
+    sym (ap (λ c. (call_of me c).method) aq) ∙ sym y.named in
     let s : k ≡ l = same_number k l (λ d. pairs_same [] all clean x.action y.action x.among y.among calls
     (λ f. d (looks_number k l (sym (deed_of_looks a k peer label x.action.deed ap' x.deed) ∙ f ∙ deed_of_looks b l other mark y.action.deed
-        aq y.deed)))) in
+    aq y.deed)))) in
     (pr ∙ ap (λ j. types.Named (choice_enum me j)) s ∙ sym qr, pp ∙ sym qp)
   where
     looks_number : (k l : ℕ) → deeds.Looks k ≡ deeds.Looks l → k ≡ l
@@ -436,7 +447,7 @@ one_signature local v told gs h m n om on e =
     let a = state_offering local.me 0 gs m om in
     let b = state_offering local.me 0 gs n on in
     same_signature local.me all clean a.3.0.act b.3.0.act m n (action a.0 a.1 a.2 a.3.0 a.3.1 facts) (action b.0 b.1 b.2 b.3.0 b.3.1 facts)
-        a.3.2 b.3.2 e
+    a.3.2 b.3.2 e
   where
     action : (edges : List Edge) (j : ℕ) → slice_get gs j ≡ Some edges → (x : Edge) → Among edges x →
         StatesActed local.me (actions local.me 1 local.body) (state_positions (protocol_of local)) →
@@ -447,4 +458,4 @@ one_signature local v told gs h m n om on e =
         let s = step_of_edge all (steps_at p.0) edges p.2 x among in
         subst (Acted local.me (actions local.me 1 local.body)) (sym s.2.act)
         (acted_step local.me (actions local.me 1 local.body) (steps_at p.0) (acted_at local.me (actions local.me 1 local.body) all facts j
-            p.0 p.1) s.0 s.1)
+        p.0 p.1) s.0 s.1)

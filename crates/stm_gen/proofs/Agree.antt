@@ -81,7 +81,7 @@ module _ (me : Name) where
       subst (λ ms. Contains ms (method_of m e.to)) (sym (methods-message me x xs h.0.0 h.0.1))
       (⊎_elim
       (λ f. let same : h.0.0 ≡ m = moves_same h.0.0 m (sym h.0.1 ∙ ap (λ (y : Edge). y.act) f ∙ is) in first_contains (method_of m e.to)
-          (method_of h.0.0 x.to) (methods_of me xs) (λ i. method_of (same i) ((f i).to)))
+      (method_of h.0.0 x.to) (methods_of me xs) (λ i. method_of (same i) ((f i).to)))
       (λ b. later_contains (method_of m e.to) (method_of h.0.0 x.to) (methods_of me xs) (message_method xs h.1 e b m is)) a)
     where
       moves_same : (p q : Message) → Moves p ≡ Moves q → p ≡ q
@@ -158,8 +158,16 @@ module _ (me : Name) where
     here k p e =
         let r = edges_there all all gs are k p e in
         let s = state_there me 0 gs k r.0 r.1 in
-        record { place = p; there = e; edges = r.0; edged = r.1; steps = r.2; state = s.0; stands = ap (λ ss. slice_get ss k) is ∙ s.1;
-            methods = s.2 }
+        record {
+          place = p;
+          there = e;
+          edges = r.0;
+          edged = r.1;
+          steps = r.2;
+          state = s.0;
+          stands = ap (λ ss. slice_get ss k) is ∙ s.1;
+          methods = s.2;
+        }
 
     kind_of : {k : ℕ} (h : Here k) → OneKind h.edges
     kind_of {k} h = one_kind all (steps_at h.place) h.edges h.steps (told_at all told k h.place h.there).one
@@ -278,7 +286,7 @@ module _ (me : Name) where
         ⊎_elim (λ e. e)
         (λ (moved : (m : Message) × (l.edge.act ≡ Moves m)). ap (λ a. (call_of me a).answer) moved.1
         ∙ sym (no_answer k h l.edge l.among moved.0 moved.1 call (sym (ap (λ a. (call_of me a).method) moved.1) ∙ l.method) fits))
-            l.answered in
+        l.answered in
         record {
           act = s.0.act;
           end = s.0.to;
@@ -331,7 +339,7 @@ initial_is me [] (g ∷ gs) are t e c first = absurd are
 initial_is me (q ∷ qs) [] are t e c first = absurd are
 initial_is me (q ∷ qs) (g ∷ gs) are t e {p} {s} c first =
     ap (λ ss. elim ss as (λ (v : List State). To) [ [] ↦ tos.End | x ∷ xs ↦ tos.State 0 ]) e ∙
-        sym (ap to_of (⊎_elim (λ f. f) (λ f. cc f) first))
+    sym (ap to_of (⊎_elim (λ f. f) (λ f. cc f) first))
 
 pub agrees : (local : LocalTree) (g : Graph) → Automates (protocol_of local) g → AllTold local.me (state_positions (protocol_of local)) →
     (t : Typestate) → t.states ≡ states_from local.me 0 g.states → HaveOneSignature local.me t.states →
@@ -353,7 +361,7 @@ agrees local g along told t is one first =
             },
         λ path.
             let r = led_runs me all g.states settled along.states told t is one cs g.initial along.initial path.fit path.to
-                  (ap (λ from. led t from cs) (sym begin) ∙ path.leads) in
+            (ap (λ from. led t from cs) (sym begin) ∙ path.leads) in
             (r.acts, r.end, r.run, r.named),
       );
       ends = λ cs. (
@@ -367,7 +375,7 @@ agrees local g along told t is one first =
             },
         λ path.
             let r = led_runs me all g.states settled along.states told t is one cs g.initial along.initial path.fit tos.End
-                  (ap (λ from. led t from cs) (sym begin) ∙ path.leads) in
+            (ap (λ from. led t from cs) (sym begin) ∙ path.leads) in
             (r.acts, r.end, r.run, end_finished all settled r.comes (to_end r.standing r.at), r.named),
       );
     }
@@ -378,5 +386,8 @@ pub laid : (me : Name) (all : List Position) (k : ℕ) (ps : List Position) (gs 
 laid me all k [] [] h = tt
 laid me all k [] (g ∷ gs) h = absurd h
 laid me all k (p ∷ ps) [] h = absurd h
-laid me all k (p ∷ ps) (g ∷ gs) h = (record { name = refl; edges = g; steps = h.0; methods = refl; drops = refl }, laid me all (suc k) ps gs
-    h.1)
+laid me all k (p ∷ ps) (g ∷ gs) h = (
+  record { name = refl; edges = g; steps = h.0; methods = refl; drops = refl },
+  laid me all (suc k) ps gs
+      h.1,
+)

@@ -34,10 +34,10 @@ module _ (me : Name) where
   -- a choice has a state of its own
   choice_count : (self : Bool) (c : ℕ) (part : Part) (around : Position) (bs : tree.Branches) (rest : Statements) (a b : ℕ) →
       ((d : ℕ) (out : Position) → a ≡ length (Parts.within self out (numbered_in me d bs))) →
-          ((d : ℕ) → b ≡ length (states_in part around (numbered me d rest))) →
+      ((d : ℕ) → b ≡ length (states_in part around (numbered me d rest))) →
       suc (a + b) ≡
       length (states_in part around (if self then ChoiceHere (numbered_in me c bs) (numbered me (c + choices_in me bs) rest) else
-          ChoiceThere c (numbered_in me (suc c) bs) (numbered me (suc c + choices_in me bs) rest)))
+      ChoiceThere c (numbered_in me (suc c) bs) (numbered me (suc c + choices_in me bs) rest)))
   choice_count true c part around bs rest a b inside behind =
       let r : Protocol = numbered me (c + choices_in me bs) rest in
       let e = inside c (Left r part ∷ around) in
@@ -66,11 +66,11 @@ module _ (me : Name) where
     counts (Says m rest) names h way e c part around =
         let more = filter (is_state me) (spots (Past (Says m Nothing) ∷ way) rest) in
         ap (λ b. length (cond (not b) (spot way (Says m rest) ∷ more) more)) e ∙
-            ap suc (counts rest names h (Past (Says m Nothing) ∷ way) refl c part around)
+        ap suc (counts rest names h (Past (Says m Nothing) ∷ way) refl c part around)
     counts (Choice p at bs rest) names h way e c part around =
         ap suc (count-append (branch_spots way at [] bs) (spots (Past (Choice p at bs Nothing) ∷ way) rest))
         ∙ choice_count (bytes_eq at me) c part around bs rest _ _ (λ d out. counts_in bs names h.0 way at [] d out)
-            (λ d. counts rest names h.1 (Past (Choice p at bs Nothing) ∷ way) refl d part around)
+        (λ d. counts rest names h.1 (Past (Choice p at bs Nothing) ∷ way) refl d part around)
     counts (Rec p name body rest) names h way e c part around =
         let b : Protocol = numbered me c body in
         let r : Protocol = numbered me (c + choices me body) rest in
@@ -81,7 +81,7 @@ module _ (me : Name) where
         omega arith
     counts (Continue p name rest) names h way e c part around =
         ap (λ (t : Statements). count (spots (Past (Continue p name Nothing) ∷ way) t)) h.1 ∙
-            sym (ap (λ (t : Statements). length (states_in part around (numbered me c t))) h.1)
+        sym (ap (λ (t : Statements). length (states_in part around (numbered me c t))) h.1)
 
     counts_in : (bs : tree.Branches) (names : List Name) → SoundIn names bs → (way : Way) (at : Name) (earlier : List Statements) (c : ℕ)
         (around : Position) →
@@ -93,7 +93,7 @@ module _ (me : Name) where
         let z = counts_in more names h.1 way at (b ∷ earlier) (c + choices me b) around in
         let d = ap length (Parts.within-Branch (bytes_eq at me) around (numbered me c b) (numbered_in me (c + choices me b) more)) in
         let l = length-append (Parts.first_in (bytes_eq at me) around (numbered me c b))
-              (Parts.within (bytes_eq at me) around (numbered_in me (c + choices me b) more)) in
+        (Parts.within (bytes_eq at me) around (numbered_in me (c + choices me b) more)) in
         omega arith
 
     counts_first : (b : Statements) (names : List Name) → SoundFirst names b → (way : Way) (at : Name) (earlier : List Statements) (c : ℕ)
@@ -101,7 +101,7 @@ module _ (me : Name) where
         count (spots (Enters at earlier ∷ way) b) ≡ length (Parts.first_in (bytes_eq at me) around (numbered me c b))
     counts_first (Says m rest) names h way at earlier c around =
         first_count (bytes_eq at me) (spot (Enters at earlier ∷ way) (Says m rest))
-            (filter (is_state me) (spots (Past (Says m Nothing) ∷ Enters at earlier ∷ way) rest)) (message_of m) (numbered me c rest) around
+        (filter (is_state me) (spots (Past (Says m Nothing) ∷ Enters at earlier ∷ way) rest)) (message_of m) (numbered me c rest) around
         (counts rest names h (Past (Says m Nothing) ∷ Enters at earlier ∷ way) refl c Plain around)
     counts_first Nothing names h way at earlier c around = absurd h
     counts_first (Choice p other bs rest) names h way at earlier c around = absurd h
@@ -121,4 +121,4 @@ few local v =
     let same = counts local.me local.body [] (valid_sound local v) [] refl 1 Plain [] in
     let many = as_many local.me (protocol_of local) 0 standings.End [] Plain [] in
     at_most (length (states local.me 0 standings.End [] (protocol_of local))) (λ h. clean.0 (culprit (start_of local.file) [])
-        (refl, omega (arith, same, many, h)))
+    (refl, omega (arith, same, many, h)))

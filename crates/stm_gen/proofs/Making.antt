@@ -21,8 +21,11 @@ use Rattle.stm_gen.specs.inner.States.{states_from}
 
 -- the states that are made, and those that are left, are all
 pub one_more : (me : Name) (w : Work) (cells : List Cell) (k : ℕ) (c : Cell) (made : List KeptState) (s : KeptState) (all : List State) →
-    k < length cells → Some c ≡ slice_get cells k → state_of s ≡ record { name = state_name k; methods = methods_of me (edges_of w c);
-        drops = false } →
+    k < length cells → Some c ≡ slice_get cells k → state_of s ≡ record {
+      name = state_name k;
+      methods = methods_of me (edges_of w c);
+      drops = false;
+    } →
     map state_of made ++ states_from me k (map (edges_of w) (drop k cells)) ≡ all →
     map state_of (made ++ s ∷ []) ++ states_from me (k + 1) (map (edges_of w) (drop (k + 1) cells)) ≡ all
 one_more me w cells k c made s all h there is before =
@@ -78,7 +81,7 @@ pub method_more : (me : Name) (w : Work) (arrows : List Arrow) (i : ℕ) (a : Ar
     map kept_method (made ++ m ∷ []) ≡ methods_of me (map (edge_of w None) (drafts_of (drop i arrows)))
 method_more me w arrows i a made m h e is before =
     map-append kept_method made (m ∷ []) ∙ (λ i. before i ++ is i ∷ []) ∙
-        sym (methods-more me w (drafts_of (drop (i + 1) arrows)) (draft_of a))
+    sym (methods-more me w (drafts_of (drop (i + 1) arrows)) (draft_of a))
     ∙ ap (λ ds. methods_of me (map (edge_of w None) ds)) (sym (drafts-drop arrows i a h e))
 
 pub branch_more : (w : Work) (c : ℕ) (arrows : List Arrow) (i : ℕ) (a : Arrow) (made : List Branch) (b : Branch) → i < length arrows →

@@ -50,7 +50,7 @@ one_states me false n follow starts b = states_whole me n follow starts b
 
 in-Branch : (me : Name) (self : Bool) (n : ℕ) (follow : Standing) (starts : List Start) (b : Protocol) (more : Branches) →
     in_states me self n follow starts (protocol.Branch b more) ≡ one_states me self n follow starts b ++ in_states me self
-        (after_one self n b) follow starts more
+    (after_one self n b) follow starts more
 in-Branch me true n follow starts b more = refl
 in-Branch me false n follow starts b more = refl
 
@@ -68,7 +68,7 @@ module _ (me : Name) (total : Work) where
 
   from_append : (xs ys : List Cell) (n m : ℕ) → n + length xs ≡ m →
       states_from me n (map (edges_of total) (xs ++ ys)) ≡ states_from me n (map (edges_of total) xs) ++ states_from me m
-          (map (edges_of total) ys)
+      (map (edges_of total) ys)
   from_append [] ys n m e = let f : n ≡ m = omega arith in ap (λ k. states_from me k (map (edges_of total) ys)) f
   from_append (x ∷ xs) ys n m e = ap (λ (l : List State). state n (methods_of me (edges_of total x)) ∷ l)
       (from_append xs ys (suc n) m (omega arith))
@@ -128,7 +128,7 @@ module _ (me : Name) (total : Work) where
       let n = ap length opens ∙ length-append v.loops (0 ∷ []) in
       let m : length u.loops ≡ length x.loops = ap length loops ∙ length-set x.loops (length v.loops) (length x.cells) in
       final j (omega arith) (omega arith) ∙ ap (λ ls. get_or ls j 0) loops ∙ get_or-set_other x.loops (length v.loops) j (length x.cells) 0
-          (λ e. let z : ⊥ = omega arith in z)
+      (λ e. let z : ⊥ = omega arith in z)
 
   -- where every `continue` leads
   abbrev AllReturn : List Name → List Known → List Start → Type 0
@@ -142,30 +142,30 @@ module _ (me : Name) (total : Work) where
   -- a rec begins again at its first state
   begins_again : (name : Name) (to : Standing) (v x u w : Work) (known : List Known) (starts : List Start) →
       u.loops ≡ slice_set x.loops (length v.loops) (length x.cells) → length v.loops < length x.loops → length w.loops ≤ length v.loops →
-          Final w u → x.next ≡ hops.State (length x.cells) →
+      Final w u → x.next ≡ hops.State (length x.cells) →
       to ≡ standing_of total x.next →
       start_of name (record { name = name; to = to } ∷ starts) ≡ standing_of total
-          (hop_named name (record { name = name; number = length v.loops } ∷ known))
+      (hop_named name (record { name = name; number = length v.loops } ∷ known))
   unfolding Final
   begins_again name to v x u w known starts loops within longer final at e =
       let l : length u.loops ≡ length x.loops = ap length loops ∙ length-set x.loops (length v.loops) (length x.cells) in
       let f : get_or total.loops (length v.loops) 0 ≡ length x.cells =
       final (length v.loops) longer (omega arith) ∙ ap (λ ls. get_or ls (length v.loops) 0) loops ∙ get_or-set_same x.loops (length v.loops)
-          (length x.cells) 0 within in
+      (length x.cells) 0 within in
       start_here name to starts ∙ e ∙ ap (standing_of total) at ∙ ap (λ k. standings.State (length total.cells - k)) (sym f) ∙
-          ap (standing_of total) (sym (hop_here name (length v.loops) known))
+      ap (standing_of total) (sym (hop_here name (length v.loops) known))
 
   all_return_in : (names : List Name) (name : Name) (number : ℕ) (to : Standing) (known : List Known) (starts : List Start) →
       AllReturn names known starts →
       start_of name (record { name = name; to = to } ∷ starts) ≡ standing_of total
-          (hop_named name (record { name = name; number = number } ∷ known)) →
+      (hop_named name (record { name = name; number = number } ∷ known)) →
       AllReturn (name ∷ names) (record { name = name; number = number } ∷ known) (record { name = name; to = to } ∷ starts)
   all_return_in names name number to known starts h b z among =
       ⊎_elim
       (λ e. subst (λ x. start_of x (record { name = name; to = to } ∷ starts) ≡ standing_of total
-          (hop_named x (record { name = name; number = number } ∷ known))) (sym ((bytes_eq-Decides z name).0 e)) b)
+      (hop_named x (record { name = name; number = number } ∷ known))) (sym ((bytes_eq-Decides z name).0 e)) b)
       (λ e. start_past z (record { name = name; to = to }) starts e ∙ h z (among_rest z name names e among) ∙ ap (standing_of total)
-          (sym (hop_past z (record { name = name; number = number }) known e)))
+      (sym (hop_past z (record { name = name; number = number }) known e)))
       (true_or_false (bytes_eq z name))
 
   -- ---- choices
@@ -197,16 +197,16 @@ module _ (me : Name) (total : Work) where
   one_more : (self : Bool) (n number : ℕ) (mark : Option ℕ) (follow : Standing) (starts : List Start) (b : Protocol) (more : Branches)
       (g h t u : Gathered) →
       t.work.cells ≡ h.work.cells → t.drafts ≡ h.drafts → Branched self (after_one self n b) number mark follow starts more g h →
-          Joins self n number mark follow starts b t u →
+      Joins self n number mark follow starts b t u →
       Branched self n number mark follow starts (protocol.Branch b more) g u
   one_more self n number mark follow starts b more g h t u cells drafts a j = record {
     inside = subst (λ k. Fits n k (in_states me self n follow starts (protocol.Branch b more)) u.work.cells g.work.cells)
         (sym (after-Branch self n b more))
         (subst (λ ss. Fits n (after_in self (after_one self n b) more) ss u.work.cells g.work.cells)
-            (sym (in-Branch me self n follow starts b more))
+        (sym (in-Branch me self n follow starts b more))
         (both_fit n (after_one self n b) (after_in self (after_one self n b) more) _ _ u.work.cells t.work.cells g.work.cells j.inside
         (subst (λ cs. Fits (after_one self n b) (after_in self (after_one self n b) more)
-            (in_states me self (after_one self n b) follow starts more) cs g.work.cells) (sym cells) a.inside)));
+        (in_states me self (after_one self n b) follow starts more) cs g.work.cells) (sym cells) a.inside)));
     offered = j.offered more (subst (λ ds. Offered me self number (after_one self n b) follow starts more (map (edge_of total mark) ds))
         (sym drafts) a.offered);
   }
@@ -215,14 +215,14 @@ module _ (me : Name) (total : Work) where
   sent : (n : ℕ) (follow : Standing) (starts : List Start) (m : Message) (r : Protocol) (more : Branches) (edge : Edge) (edges : List Edge)
       →
       edge.act ≡ Moves m → first n follow starts r ≡ edge.to → methods_of me edges ≡ sends (after n r) follow starts more →
-          methods_of me (edge ∷ edges) ≡ sends n follow starts (protocol.Branch (Does m r) more)
+      methods_of me (edge ∷ edges) ≡ sends n follow starts (protocol.Branch (Does m r) more)
   sent n follow starts m r more edge edges a e h =
       ap (λ x. methods_by me x edge.to (methods_of me edges) (branches_of (edge ∷ edges))) a ∙ (λ i. method_of m (sym e i) ∷ h i)
 
   looked : (n number : ℕ) (m : Message) (r : Protocol) (more : Branches) (edge : Edge) (edges : List Edge) →
       edge.act ≡ Looks number (peer_of m) (label_of m) → standings.State n ≡ edge.to → branches_of edges ≡ answers (after (suc n) r) more →
       (methods_of me (edge ∷ edges) ≡ asks me number n (protocol.Branch (Does m r) more))
-          × (branches_of (edge ∷ edges) ≡ answers n (protocol.Branch (Does m r) more))
+      × (branches_of (edge ∷ edges) ≡ answers n (protocol.Branch (Does m r) more))
   looked n number m r more edge edges a e h =
       let b : branches_of (edge ∷ edges) ≡ answers n (protocol.Branch (Does m r) more) =
       ap (λ x. branch_before x edge.to (branches_of edges)) a ∙ (λ i. record { label = label_of m; to = to_of (sym e i) } ∷ h i) in (
@@ -247,9 +247,9 @@ module _ (me : Name) (total : Work) where
   -- the number behind a choice is that behind what stands after it
   choice_after : (self : Bool) (n c k : ℕ) (bs : tree.Branches) (rest : Statements) →
       after n (if self then ChoiceHere (numbered_in me c bs) (numbered me (c + choices_in me bs) rest) else ChoiceThere c
-          (numbered_in me (suc c) bs) (numbered me (suc c + choices_in me bs) rest)) ≡ k →
+      (numbered_in me (suc c) bs) (numbered me (suc c + choices_in me bs) rest)) ≡ k →
       (d : ℕ) → d ≡ (if self then c else suc c) → after (after_in self (suc n) (numbered_in me d bs))
-          (numbered me (d + choices_in me bs) rest) ≡ k
+      (numbered me (d + choices_in me bs) rest) ≡ k
   choice_after true n c k bs rest e d f =
       ap (λ j. after (after_in true (suc n) (numbered_in me j bs)) (numbered me (j + choices_in me bs) rest)) f ∙ e
   choice_after false n c k bs rest e d f =
@@ -259,15 +259,15 @@ module _ (me : Name) (total : Work) where
       (g : Gathered) →
       ((d : ℕ) → d ≡ (if self then c else suc c) →
       Branched self (suc n) c (number_of self g.work.choices) (first (after_in self (suc n) (numbered_in me d bs)) follow starts
-          (numbered me (d + choices_in me bs) rest)) starts (numbered_in me d bs) (gathering v) g) →
+      (numbered me (d + choices_in me bs) rest)) starts (numbered_in me d bs) (gathering v) g) →
       ((d : ℕ) → d ≡ (if self then c else suc c) →
       Fits (after_in self (suc n) (numbered_in me d bs)) (after (after_in self (suc n) (numbered_in me d bs))
-          (numbered me (d + choices_in me bs) rest))
+      (numbered me (d + choices_in me bs) rest))
       (states me (after_in self (suc n) (numbered_in me d bs)) follow starts (numbered me (d + choices_in me bs) rest)) v.cells w.cells) →
       Fits n (after n (if self then ChoiceHere (numbered_in me c bs) (numbered me (c + choices_in me bs) rest) else ChoiceThere c
-          (numbered_in me (suc c) bs) (numbered me (suc c + choices_in me bs) rest)))
+      (numbered_in me (suc c) bs) (numbered me (suc c + choices_in me bs) rest)))
       (states me n follow starts (if self then ChoiceHere (numbered_in me c bs) (numbered me (c + choices_in me bs) rest) else ChoiceThere c
-          (numbered_in me (suc c) bs) (numbered me (suc c + choices_in me bs) rest)))
+      (numbered_in me (suc c) bs) (numbered me (suc c + choices_in me bs) rest)))
       (chosen self g).cells w.cells
   choice_fit true n c follow starts bs rest v w g inside behind =
       let r : Protocol = numbered me (c + choices_in me bs) rest in
@@ -275,27 +275,27 @@ module _ (me : Name) (total : Work) where
       let next : Standing = first k follow starts r in
       let i = inside c refl in
       subst (λ cs. Fits n (after n (ChoiceHere (numbered_in me c bs) r)) (states me n follow starts (ChoiceHere (numbered_in me c bs) r)) cs
-          w.cells) (sym (Parts.chosen_cells true g))
+      w.cells) (sym (Parts.chosen_cells true g))
       (one_fit n (after k r) (sends (suc n) next starts (numbered_in me c bs)) _ (states_here me (suc n) next starts (numbered_in me c bs)
-          ++ states me k follow starts r) g.work.cells w.cells i.offered
+      ++ states me k follow starts r) g.work.cells w.cells i.offered
       (both_fit (suc n) k (after k r) (states_here me (suc n) next starts (numbered_in me c bs)) (states me k follow starts r) g.work.cells
-          v.cells w.cells i.inside (behind c refl)))
+      v.cells w.cells i.inside (behind c refl)))
   choice_fit false n c follow starts bs rest v w g inside behind =
       let r : Protocol = numbered me (suc c + choices_in me bs) rest in
       let k : ℕ = after_in false (suc n) (numbered_in me (suc c) bs) in
       let next : Standing = first k follow starts r in
       let i = inside (suc c) refl in
       subst (λ cs. Fits n (after n (ChoiceThere c (numbered_in me (suc c) bs) r))
-          (states me n follow starts (ChoiceThere c (numbered_in me (suc c) bs) r)) cs w.cells) (sym (Parts.chosen_cells false g))
+      (states me n follow starts (ChoiceThere c (numbered_in me (suc c) bs) r)) cs w.cells) (sym (Parts.chosen_cells false g))
       (one_fit n (after k r) (asks me c (suc n) (numbered_in me (suc c) bs)) _
-          (states_there me (suc n) next starts (numbered_in me (suc c) bs) ++ states me k follow starts r) g.work.cells w.cells i.offered.0
+      (states_there me (suc n) next starts (numbered_in me (suc c) bs) ++ states me k follow starts r) g.work.cells w.cells i.offered.0
       (both_fit (suc n) k (after k r) (states_there me (suc n) next starts (numbered_in me (suc c) bs)) (states me k follow starts r)
-          g.work.cells v.cells w.cells i.inside (behind (suc c) refl)))
+      g.work.cells v.cells w.cells i.inside (behind (suc c) refl)))
 
   -- a body with its outcome
   body_fit : (t : Statements) (n c : ℕ) (follow : Standing) (starts : List Start) (o x : Work) → Begins me t o x →
       (x.next ≡ hops.State (length x.cells) → Fits n (after n (numbered me c t)) (states me n follow starts (numbered me c t)) x.cells
-          o.cells) →
+      o.cells) →
       Fits n (after n (numbered me c t)) (states me n follow starts (numbered me c t)) x.cells o.cells
   body_fit t n c follow starts o x (at_first e) f = f e
   body_fit t n c follow starts o x (through none d e) f = none_fit n _ _ _ _ (none_after me t n c none)
@@ -307,7 +307,7 @@ module _ (me : Name) (total : Work) where
     fits : (t : Statements) (names : List Name) → Sound names t → (known : List Known) (w : Work) (n c : ℕ) (follow : Standing)
         (starts : List Start) →
         after n (numbered me c t) + length w.cells ≡ length total.cells → Final w (lay me known w t) →
-            c + choices me t + w.choices ≡ suc total.choices →
+        c + choices me t + w.choices ≡ suc total.choices →
         follow ≡ standing_of total w.next → AllReturn names known starts →
         Fits n (after n (numbered me c t)) (states me n follow starts (numbered me c t)) (lay me known w t).cells w.cells
     fits Nothing names h known w n c follow starts nums final chs comes rets = none_fit n n [] w.cells w.cells refl refl refl
@@ -317,14 +317,14 @@ module _ (me : Name) (total : Work) where
         said_fit n (after (suc n) r) m (first (suc n) follow starts r) v (states me (suc n) follow starts r) w.cells
         (begins_at me total rest names h known w (suc n) c follow starts nums (λ e. comes) (returns names rest known starts rets))
         (fits rest names h known w (suc n) c follow starts nums (final_last w w (said m v) v (keeps_all w.loops) (Parts.said_loops m v)
-            final) chs comes rets)
+        final) chs comes rets)
     fits (Choice place at bs rest) names h known w n c follow starts nums final chs comes rets =
         let self : Bool = bytes_eq at me in
         let v = lay me known w rest in
         let g = lay_in me known self v.next (gathering v) bs in
         let behind_v : Keeps w.loops v.loops = keeps me known w rest in
         let inside_v : Keeps v.loops (chosen self g).loops = keeps_more _ _ _ (keeps_in me known self v.next (gathering v) bs)
-              (keeps_chosen self g) in
+        (keeps_chosen self g) in
         let v_numbers = numbers me rest names h.1 known w in
         let g_numbers = numbers_in me bs names h.0 known self v.next (gathering v) in
         choice_fit self n c follow starts bs rest v w g
@@ -337,12 +337,12 @@ module _ (me : Name) (total : Work) where
         let l = laid_count me rest known w k (d + choices_in me bs) in
         let behind : after k r + length w.cells ≡ length total.cells = omega arith in
         fits_in bs names h.0 known self v.next (gathering v) (suc n) d c (number_of self g.work.choices) (first k follow starts r) starts
-            (omega arith)
+        (omega arith)
         (final_last w v (chosen self g) g.work behind_v (Parts.chosen_loops self g) final) (omega arith)
         (begins_at me total rest names h.1 known w k (d + choices_in me bs) follow starts behind (λ f. comes)
-            (returns names rest known starts rets)) rets
+        (returns names rest known starts rets)) rets
         (act_is self c (choices_in me bs) (choices me rest) w.choices g.work.choices chs
-            (g_numbers ∙ ap (λ j. j + choices_in me bs) v_numbers)) refl)
+        (g_numbers ∙ ap (λ j. j + choices_in me bs) v_numbers)) refl)
         (λ d e.
         let qs : Branches = numbered_in me d bs in
         let r : Protocol = numbered me (d + choices_in me bs) rest in
@@ -350,7 +350,7 @@ module _ (me : Name) (total : Work) where
         let q = choice_numbers self c d (choices_in me bs) (choices me rest) w.choices total.choices e chs in
         let a = choice_after self n c _ bs rest refl d e in
         fits rest names h.1 known w k (d + choices_in me bs) follow starts (omega arith) (final_first w v (chosen self g) behind_v inside_v
-            final) (omega arith) comes rets)
+        final) (omega arith) comes rets)
     fits (Rec place name body rest) names h known w n c follow starts nums final chs comes rets =
         let v = lay me known w rest in
         let inside : List Known = record { name = name; number = length v.loops } ∷ known in
@@ -371,34 +371,34 @@ module _ (me : Name) (total : Work) where
         let count : k + length o.cells ≡ length total.cells = omega arith in
         let next_comes : next ≡ standing_of total o.next =
         begins_at me total rest names h.3 known w k (c + choices me body) follow starts nums (λ e. comes)
-            (returns names rest known starts rets) ∙ ap (standing_of total) (sym (Parts.opened_next v)) in
+        (returns names rest known starts rets) ∙ ap (standing_of total) (sym (Parts.opened_next v)) in
         let to_comes : to ≡ standing_of total x.next =
         begins_at me total body (name ∷ names) h.1 inside o n c next starts count (λ e. next_comes)
         (returns_in me total names place name body rest known (length v.loops) starts h.0
-            (returns names (Rec place name body rest) known starts rets)) in
+        (returns names (Rec place name body rest) known starts rets)) in
         subst (λ cs. Fits n (after k r) (states me n next within p ++ states me k follow starts r) cs w.cells)
-            (sym (Parts.closed_cells (length v.loops) x))
+        (sym (Parts.closed_cells (length v.loops) x))
         (both_fit n k (after k r) (states me n next within p) (states me k follow starts r) x.cells o.cells w.cells
         (body_fit body n c next within o x (begins me body (name ∷ names) h.1 inside o)
         (λ at. fits body (name ∷ names) h.1 inside o n c next within count
         (final_body v o x u w (Parts.opened_loops v) (Parts.closed_loops (length v.loops) x) behind_v.longer final) (omega arith) next_comes
         (all_return_in names name (length v.loops) to known starts rets
         (begins_again name to v x u w known starts (Parts.closed_loops (length v.loops) x) (number_within me inside v body) behind_v.longer
-            final at to_comes))))
+        final at to_comes))))
         (subst (λ cs. Fits k (after k r) (states me k follow starts r) cs w.cells) (sym (Parts.opened_cells v))
         (fits rest names h.3 known w k (c + choices me body) follow starts nums
         (final_first w v u behind_v (keeps_rec v x (keeps me inside o body)) final) (omega arith) comes rets)))
     fits (Continue place name rest) names h known w n c follow starts nums final chs comes rets =
         none_fit n _ _ _ _ (ap (λ (t : Statements). after n (numbered me c t)) h.1)
-            (ap (λ (t : Statements). states me n follow starts (numbered me c t)) h.1) (ap (λ (t : Statements). (lay me known w t).cells)
-            h.1)
+        (ap (λ (t : Statements). states me n follow starts (numbered me c t)) h.1) (ap (λ (t : Statements). (lay me known w t).cells)
+        h.1)
 
     fits_in : (bs : tree.Branches) (names : List Name) → SoundIn names bs → (known : List Known) (self : Bool) (behind : Hop) (g : Gathered)
         (n d number : ℕ) (mark : Option ℕ) (follow : Standing) (starts : List Start) →
         after_in self n (numbered_in me d bs) + length g.work.cells ≡ length total.cells →
-            Final g.work (lay_in me known self behind g bs).work → d + choices_in me bs + g.work.choices ≡ suc total.choices →
+        Final g.work (lay_in me known self behind g bs).work → d + choices_in me bs + g.work.choices ≡ suc total.choices →
         follow ≡ standing_of total behind → AllReturn names known starts →
-            ((q : Said) → act_of total mark q ≡ seen self number (message_of q)) → g.drafts ≡ [] →
+        ((q : Said) → act_of total mark q ≡ seen self number (message_of q)) → g.drafts ≡ [] →
         Branched self n number mark follow starts (numbered_in me d bs) g (lay_in me known self behind g bs)
     fits_in NoBranch names h known self behind g n d number mark follow starts nums final chs comes rets acts none =
         no_branches self n number mark follow starts g none
@@ -411,21 +411,21 @@ module _ (me : Name) (total : Work) where
         let a = after-Branch self n p qs in
         let l = gathered_count me more known self behind g k (d + choices me b) in
         one_more self n number mark follow starts p qs g before (turned behind before) (branch_laid self me known b (turned behind before))
-            refl refl
+        refl refl
         (fits_in more names h.1 known self behind g k (d + choices me b) number mark follow starts (omega arith)
         (final_first g.work before.work (branch_laid self me known b (turned behind before)).work (keeps_in me known self behind g more)
-            (keeps_branch me known self b (turned behind before)) final) (omega arith) comes rets acts none)
+        (keeps_branch me known self b (turned behind before)) final) (omega arith) comes rets acts none)
         (fits_first b names h.0 known self (turned behind before) n d number mark follow starts (omega arith)
         (final_last g.work (turned behind before).work (branch_laid self me known b (turned behind before)).work
-            (branch_laid self me known b (turned behind before)).work (keeps_in me known self behind g more) refl final) (omega arith) comes
-            rets acts)
+        (branch_laid self me known b (turned behind before)).work (keeps_in me known self behind g more) refl final) (omega arith) comes
+        rets acts)
 
     fits_first : (b : Statements) (names : List Name) → SoundFirst names b → (known : List Known) (self : Bool) (g : Gathered)
         (n d number : ℕ) (mark : Option ℕ) (follow : Standing) (starts : List Start) →
         after_one self n (numbered me d b) + length g.work.cells ≡ length total.cells → Final g.work (branch_laid self me known b g).work →
-            d + choices me b + g.work.choices ≡ suc total.choices →
+        d + choices me b + g.work.choices ≡ suc total.choices →
         follow ≡ standing_of total g.work.next → AllReturn names known starts →
-            ((q : Said) → act_of total mark q ≡ seen self number (message_of q)) →
+        ((q : Said) → act_of total mark q ≡ seen self number (message_of q)) →
         Joins self n number mark follow starts (numbered me d b) g (branch_laid self me known b g)
     fits_first Nothing names h known self g n d number mark follow starts nums final chs comes rets acts = absurd h
     fits_first (Choice place at bs rest) names h known self g n d number mark follow starts nums final chs comes rets acts = absurd h
@@ -439,7 +439,7 @@ module _ (me : Name) (total : Work) where
         (record {
           inside = fits rest names h known g.work n d follow starts nums
               (final_last g.work g.work (joined true q all).work x (keeps_all g.work.loops)
-                  (ap (λ (j : Gathered). j.work.loops) (Parts.joined_here q all)) final) chs comes rets;
+              (ap (λ (j : Gathered). j.work.loops) (Parts.joined_here q all)) final) chs comes rets;
           offered = λ more a. sent n follow starts (message_of q) r more (edge_of total mark (record { message = q; to = x.next }))
               (map (edge_of total mark) g.drafts) (acts q)
               (begins_at me total rest names h known g.work n d follow starts nums (λ e. comes) (returns names rest known starts rets)) a;
@@ -454,10 +454,10 @@ module _ (me : Name) (total : Work) where
         (record {
           inside = said_fit n (after (suc n) r) q (first (suc n) follow starts r) x (states me (suc n) follow starts r) g.work.cells
               (begins_at me total rest names h known g.work (suc n) d follow starts nums (λ e. comes)
-                  (returns names rest known starts rets))
+              (returns names rest known starts rets))
               (fits rest names h known g.work (suc n) d follow starts nums
               (final_last g.work g.work (joined false q all).work x (keeps_all g.work.loops)
-                  (ap (λ (j : Gathered). j.work.loops) (Parts.joined_there q all) ∙ Parts.said_loops q x) final) chs comes rets);
+              (ap (λ (j : Gathered). j.work.loops) (Parts.joined_there q all) ∙ Parts.said_loops q x) final) chs comes rets);
           offered = λ more a. looked n number (message_of q) r more
               (edge_of total mark (record { message = q; to = hops.State (suc (length x.cells)) })) (map (edge_of total mark) g.drafts)
               (acts q) (ap standings.State k) a.1;
@@ -476,5 +476,5 @@ numbered_states local v w e = ap (λ (x : Work). states_from local.me 0 (graph_o
         let count = laid_count local.me local.body [] nothing 0 1 in
         let chs : 1 + choices local.me local.body + 0 ≡ suc u.choices = omega (arith, numbers local.me local.body [] h [] nothing) in
         let f = fits local.me u local.body [] h [] nothing 0 1 standings.End [] (omega arith) (λ j l g. refl) chs refl (λ z among. cc among)
-            in
+        in
         ap (λ cs. states_from local.me 0 (map (edges_of u) cs)) (f.stands ∙ append-nil f.front) ∙ f.are

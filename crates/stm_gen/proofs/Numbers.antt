@@ -196,4 +196,4 @@ module _ (me : Name) where
 
   pub none_after : (t : Statements) (n c : ℕ) → HasNone me t → after n (numbered me c t) ≡ n
   none_after t n c none = let a = after_is (numbered me c t) n Plain [] in let b : length (states_in Plain [] (numbered me c t)) ≡ 0 =
-                                                                                 ap length (none c Plain []) in omega arith
+      ap length (none c Plain []) in omega arith

@@ -94,13 +94,13 @@ module _ (me : Name) where
       ∙ ⊎_elim
       (λ same.
       ap (option_and_then (λ f. led_by f.target (call_of me e.act).answer)) (offered-first (method_of m x.to) (methods_of me xs)
-          (call_of me e.act).method true
+      (call_of me e.act).method true
       ((bytes_eq-Decides (message_call m) (call_of me e.act).method).1
-          (sym (ap (λ (c : Call). c.method) (sym (ap (λ (y : Edge). call_of me y.act) same) ∙ first)))))
+      (sym (ap (λ (c : Call). c.method) (sym (ap (λ (y : Edge). call_of me y.act) same) ∙ first)))))
       ∙ ap (λ (y : Edge). Some (to_of y.to)) same)
       (λ later.
       ap (option_and_then (λ f. led_by f.target (call_of me e.act).answer)) (offered-first (method_of m x.to) (methods_of me xs)
-          (call_of me e.act).method false
+      (call_of me e.act).method false
       (other x xs e later m first d h))
       ∙ message_leads xs h.1 d.1 e later)
       a
@@ -137,14 +137,14 @@ module _ (me : Name) where
       ⊎_elim
       (λ t.
       let f : Some (to_of x.to) ≡ Some to =
-            sym (ap (option_and_then (λ f. led_by f.target answer)) (offered-first (method_of m x.to) (methods_of me xs) name true t)) ∙
-            l' in
+      sym (ap (option_and_then (λ f. led_by f.target answer)) (offered-first (method_of m x.to) (methods_of me xs) name true t)) ∙
+      l' in
       let named = (bytes_eq-Decides (message_call m) name).0 t in
       (x, inl refl, ap (call_of me) h.0.1 ∙ (λ i. record { method = named i; answer = None }), some_inside f))
       (λ t.
       let r = leads_message xs h.1 name answer to
-            (sym (ap (option_and_then (λ f. led_by f.target answer)) (offered-first (method_of m x.to) (methods_of me xs) name false t)) ∙
-            l') in
+      (sym (ap (option_and_then (λ f. led_by f.target answer)) (offered-first (method_of m x.to) (methods_of me xs) name false t)) ∙
+      l') in
       (r.0, inr r.1, r.2, r.3))
       (true_or_false (bytes_eq (message_call m) name))
 
@@ -164,15 +164,15 @@ module _ (me : Name) where
       ∙ ⊎_elim
       (λ same.
       let f : h.0.0 ≡ label = label_of_call n peer h.0.0 label (sym (ap (call_of me) h.0.1) ∙ ap (λ (y : Edge). call_of me y.act) same ∙
-            ap (call_of me) is) in
+      ap (call_of me) is) in
       ap (λ b. if b then Some (to_of x.to) else by_label (branches_of xs) label) ((bytes_eq-Decides h.0.0 label).1 f) ∙
-          ap (λ (y : Edge). Some (to_of y.to)) same)
+      ap (λ (y : Edge). Some (to_of y.to)) same)
       (λ later.
       ap (λ b. if b then Some (to_of x.to) else by_label (branches_of xs) label)
       (⊎_elim
       (λ t. absurd (none_later (call_of me x.act) xs e d.0 later
-          (ap (call_of me) h.0.1 ∙ ap (λ l. record { method = label_call me n peer; answer = Some l }) ((bytes_eq-Decides h.0.0 label).0 t)
-          ∙ sym (ap (call_of me) is))))
+      (ap (call_of me) h.0.1 ∙ ap (λ l. record { method = label_call me n peer; answer = Some l }) ((bytes_eq-Decides h.0.0 label).0 t)
+      ∙ sym (ap (call_of me) is))))
       (λ f. f) (true_or_false (bytes_eq h.0.0 label)))
       ∙ by_label_of xs n peer h.1 d.1 e label later is)
       a
@@ -193,7 +193,7 @@ module _ (me : Name) where
       (x, inl refl, h.0.1 ∙ ap (Looks n peer) ((bytes_eq-Decides h.0.0 label).0 t), some_inside f))
       (λ t.
       let r = label_among xs n peer h.1 label to (sym (ap (λ b. if b then Some (to_of x.to) else by_label (branches_of xs) label) t) ∙ l')
-          in
+      in
       (r.0, inr r.1, r.2, r.3))
       (true_or_false (bytes_eq h.0.0 label))
 
@@ -210,7 +210,7 @@ module _ (me : Name) where
       ap (λ ms. leads ms (call_of me e.act).method (call_of me e.act).answer) (methods-look x xs n peer h.0.0 h.0.1)
       ∙ ap (λ (c : Act). leads (label_method me n peer (branches_of (x ∷ xs)) ∷ []) (call_of me c).method (call_of me c).answer) l.1
       ∙ ap (option_and_then (λ f. led_by f.target (Some l.0))) (offered-first (label_method me n peer (branches_of (x ∷ xs))) []
-          (label_call me n peer) true ((bytes_eq-Decides (label_call me n peer) (label_call me n peer)).1 refl))
+      (label_call me n peer) true ((bytes_eq-Decides (label_call me n peer) (label_call me n peer)).1 refl))
       ∙ by_label_of (x ∷ xs) n peer h d e l.0 a l.1
 
   leads_look : (edges : List Edge) (n : ℕ) (peer : Name) → AllLooks n peer edges → (name : Name) (answer : Option Name) (to : To) →
@@ -222,9 +222,9 @@ module _ (me : Name) where
       let l' = sym (ap (λ ms. leads ms name answer) (methods-look x xs n peer h.0.0 h.0.1)) ∙ l in
       ⊎_elim
       (λ t. by answer (sym (ap (option_and_then (λ f. led_by f.target answer)) (offered-first m [] name true t)) ∙ l')
-          ((bytes_eq-Decides (label_call me n peer) name).0 t))
+      ((bytes_eq-Decides (label_call me n peer) name).0 t))
       (λ t. let z : None ≡ Some to = sym (ap (option_and_then (λ f. led_by f.target answer)) (offered-first m [] name false t)) ∙ l' in cc
-          z)
+      z)
       (true_or_false (bytes_eq (label_call me n peer) name))
     where
       by : (answer : Option Name) → led_by (ByAnswer (branches_of (x ∷ xs))) answer ≡ Some to → label_call me n peer ≡ name →
@@ -257,9 +257,20 @@ module _ (me : Name) where
       leads (methods_of me edges) name answer ≡ Some to → LedBy edges name answer to
   leads_edge edges (messages h) name answer to l =
       let r = leads_message edges h name answer to l in
-      record { edge = r.0; among = r.1; method = ap (λ (c : Call). c.method) r.2; answered = inr (message_is edges h r.0 r.1); leads_to =
-          r.3 }
+      record {
+        edge = r.0;
+        among = r.1;
+        method = ap (λ (c : Call). c.method) r.2;
+        answered = inr (message_is edges h r.0 r.1);
+        leads_to =
+            r.3;
+      }
   leads_edge edges (looks n peer h) name answer to l =
       let r = leads_look edges n peer h name answer to l in
-      record { edge = r.0; among = r.1; method = ap (λ (c : Call). c.method) r.2; answered = inl (ap (λ (c : Call). c.answer) r.2);
-          leads_to = r.3 }
+      record {
+        edge = r.0;
+        among = r.1;
+        method = ap (λ (c : Call). c.method) r.2;
+        answered = inl (ap (λ (c : Call). c.answer) r.2);
+        leads_to = r.3;
+      }

@@ -92,29 +92,31 @@ module _ (me : Name) where
       (λ e. (x, inl refl, ap (call_of me) h.0.1 ∙ (λ i. record { method = e i; answer = None })))
       (λ later. let r = named_edge xs h.1 name later in (r.0, inr r.1, r.2))
       (first_or_later (message_call h.0.0) (map (λ m. m.name) (methods_of me xs)) name (subst (λ ms. Contains (map (λ m. m.name) ms) name)
-          (methods-message me x xs h.0.0 h.0.1) c))
+      (methods-message me x xs h.0.0 h.0.1) c))
 
   messages_differ : (edges : List Edge) → AllMessages edges → AllDiffer (calls me edges) →
       AreDistinct (map (λ m. m.name) (methods_of me edges))
   messages_differ [] h d = tt
   messages_differ (x ∷ xs) h d =
-      subst (λ ms. AreDistinct (map (λ m. m.name) ms)) (sym (methods-message me x xs h.0.0 h.0.1))
-      (λ c. let r = named_edge xs h.1 (message_call h.0.0) c in none_later (call_of me x.act) xs r.0 d.0 r.1
-          (ap (call_of me) h.0.1 ∙ sym r.2), messages_differ xs h.1 d.1)
+      subst (λ ms. AreDistinct (map (λ m. m.name) ms)) (sym (methods-message me x xs h.0.0 h.0.1)) (
+        λ c. let r = named_edge xs h.1 (message_call h.0.0) c in none_later (call_of me x.act) xs r.0 d.0 r.1
+            (ap (call_of me) h.0.1 ∙ sym r.2),
+        messages_differ xs h.1 d.1,
+      )
 
   message_targets : (count : ℕ) (edges : List Edge) → AllMessages edges → AllWithin count edges →
       AllByRecursion (λ m. IsTarget count m.target) (methods_of me edges)
   message_targets count [] h w = tt
   message_targets count (x ∷ xs) h w =
       subst (AllByRecursion (λ m. IsTarget count m.target)) (sym (methods-message me x xs h.0.0 h.0.1))
-          (w.0, message_targets count xs h.1 w.1)
+      (w.0, message_targets count xs h.1 w.1)
 
   branch_targets : (count : ℕ) (n : ℕ) (peer : Name) (edges : List Edge) → AllLooks n peer edges → AllWithin count edges →
       AllByRecursion (λ b. IsWithin count b.to) (branches_of edges)
   branch_targets count n peer [] h w = tt
   branch_targets count n peer (x ∷ xs) h w =
       subst (AllByRecursion (λ b. IsWithin count b.to)) (sym (branches-look me x xs n peer h.0.0 h.0.1))
-          (w.0, branch_targets count n peer xs h.1 w.1)
+      (w.0, branch_targets count n peer xs h.1 w.1)
 
   labelled : (n : ℕ) (peer : Name) (edges : List Edge) → AllLooks n peer edges → (label : Name) →
       Contains (map (λ b. b.label) (branches_of edges)) label → (e : Edge) × Among edges e × (e.act ≡ Looks n peer label)
@@ -124,26 +126,36 @@ module _ (me : Name) where
       (λ e. (x, inl refl, h.0.1 ∙ ap (Looks n peer) e))
       (λ later. let r = labelled n peer xs h.1 label later in (r.0, inr r.1, r.2))
       (first_or_later h.0.0 (map (λ b. b.label) (branches_of xs)) label (subst (λ bs. Contains (map (λ b. b.label) bs) label)
-          (branches-look me x xs n peer h.0.0 h.0.1) c))
+      (branches-look me x xs n peer h.0.0 h.0.1) c))
 
   labels_differ : (n : ℕ) (peer : Name) (edges : List Edge) → AllLooks n peer edges → AllDiffer (calls me edges) →
       AreDistinct (map (λ b. b.label) (branches_of edges))
   labels_differ n peer [] h d = tt
   labels_differ n peer (x ∷ xs) h d =
-      subst (λ bs. AreDistinct (map (λ b. b.label) bs)) (sym (branches-look me x xs n peer h.0.0 h.0.1))
-      (λ c. let r = labelled n peer xs h.1 h.0.0 c in none_later (call_of me x.act) xs r.0 d.0 r.1
-          (ap (call_of me) h.0.1 ∙ sym (ap (call_of me) r.2)), labels_differ n peer xs h.1 d.1)
+      subst (λ bs. AreDistinct (map (λ b. b.label) bs)) (sym (branches-look me x xs n peer h.0.0 h.0.1)) (
+        λ c. let r = labelled n peer xs h.1 h.0.0 c in none_later (call_of me x.act) xs r.0 d.0 r.1
+            (ap (call_of me) h.0.1 ∙ sym (ap (call_of me) r.2)),
+        labels_differ n peer xs h.1 d.1,
+      )
 
   proper_state : (count k : ℕ) (edges : List Edge) → OneKind edges → AllDiffer (calls me edges) → AllWithin count edges →
       IsState count (record { name = state_name k; methods = methods_of me edges; drops = false })
-  proper_state count k edges (messages h) d w = record { named = not_end k; methods = messages_differ edges h d; targets =
-      message_targets count edges h w }
+  proper_state count k edges (messages h) d w = record {
+    named = not_end k;
+    methods = messages_differ edges h d;
+    targets =
+        message_targets count edges h w;
+  }
   proper_state count k [] (looks n peer h) d w = record { named = not_end k; methods = tt; targets = tt }
   proper_state count k (x ∷ xs) (looks n peer h) d w =
       subst (λ ms. IsState count (record { name = state_name k; methods = ms; drops = false }))
-          (sym (methods-look me x xs n peer h.0.0 h.0.1))
-      (record { named = not_end k; methods = (none_contained (label_call me n peer), tt); targets =
-          ((branch_targets count n peer (x ∷ xs) h w, labels_differ n peer (x ∷ xs) h d), tt) })
+      (sym (methods-look me x xs n peer h.0.0 h.0.1))
+      (record {
+        named = not_end k;
+        methods = (none_contained (label_call me n peer), tt);
+        targets =
+            ((branch_targets count n peer (x ∷ xs) h w, labels_differ n peer (x ∷ xs) h d), tt);
+      })
 
   each_state : (all : List Position) (k : ℕ) (ps : List Position) (gs : List (List Edge)) → AreStates all ps gs → AllTold me ps →
       AllByRecursion (IsState (length all)) (states_from me k gs)

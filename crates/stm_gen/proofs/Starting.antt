@@ -54,13 +54,13 @@ module _ (me : Name) (total : Work) where
   pub returns_in : (names : List Name) (place : _) (name : Name) (body rest : Statements) (known : List Known) (number : ℕ)
       (starts : List Start) → Guards name body →
       Returns names (Rec place name body rest) known starts → Returns (name ∷ names) body (record { name = name; number = number } ∷ known)
-          starts
+      starts
   returns_in names place name body rest known number starts g h z among =
       ⊎_elim
       (λ e. inl (subst (λ x. Guards x body) (sym ((bytes_eq-Decides z name).0 e)) g))
       (λ e. ⊎_elim (λ (q : Guards z (Rec place name body rest)). inl q.0)
-          (λ b. inr (b ∙ ap (standing_of total) (sym (hop_past z (record { name = name; number = number }) known e))))
-          (h z (among_rest z name names e among)))
+      (λ b. inr (b ∙ ap (standing_of total) (sym (hop_past z (record { name = name; number = number }) known e))))
+      (h z (among_rest z name names e among)))
       (true_or_false (bytes_eq z name))
 
   returns_behind : (names : List Name) (place : _) (name : Name) (body rest : Statements) (known : List Known) (starts : List Start) →
@@ -72,7 +72,7 @@ module _ (me : Name) (total : Work) where
   pub begins_at : (t : Statements) (names : List Name) → Sound names t → (known : List Known) (w : Work) (n c : ℕ) (follow : Standing)
       (starts : List Start) →
       after n (numbered me c t) + length w.cells ≡ length total.cells → (passes t ≡ true → follow ≡ standing_of total w.next) →
-          Returns names t known starts →
+      Returns names t known starts →
       first n follow starts (numbered me c t) ≡ standing_of total (lay me known w t).next
   begins_at Nothing names h known w n c follow starts nums f r = f refl
   begins_at (Says m rest) names h known w n c follow starts nums f r =
@@ -85,7 +85,7 @@ module _ (me : Name) (total : Work) where
       let k = laid_count me (Choice place at bs rest) known w n c in
       let l : length (chosen (bytes_eq at me) g).cells ≡ suc (length g.work.cells) = ap length (Parts.chosen_cells (bytes_eq at me) g) in
       first_chosen (bytes_eq at me) n c follow starts (numbered_in me c bs) (numbered_in me (suc c) bs)
-          (numbered me (c + choices_in me bs) rest) (numbered me (suc c + choices_in me bs) rest)
+      (numbered me (c + choices_in me bs) rest) (numbered me (suc c + choices_in me bs) rest)
       ∙ at_number n (suc (length g.work.cells)) (omega arith) ∙ ap (standing_of total) (sym (Parts.chosen_next (bytes_eq at me) g))
   begins_at (Rec place name body rest) names h known w n c follow starts nums f r =
       let v = lay me known w rest in
@@ -98,7 +98,7 @@ module _ (me : Name) (total : Work) where
       begins_at body (name ∷ names) h.1 inside (opened v) n c (first (after n p) follow starts q) starts (omega arith)
       (λ e.
       begins_at rest names h.3 known w (after n p) (c + choices me body) follow starts nums
-          (λ g. f (both_true (passes body) (passes rest) e g)) (returns_behind names place name body rest known starts e r)
+      (λ g. f (both_true (passes body) (passes rest) e g)) (returns_behind names place name body rest known starts e r)
       ∙ ap (standing_of total) (sym (Parts.opened_next v)))
       (returns_in names place name body rest known (length v.loops) starts h.0 r)
       ∙ ap (standing_of total) (sym (Parts.closed_next (length v.loops) x))

@@ -239,7 +239,7 @@ module _ (names : List Name) (states : List State) where
     where
       form : (ts : List Tok) → Front (λ a. named a (codes "drop"))
           (Front (λ a. marked a marks.Colon) (λ us. (a : Place) × (us ≡ named a (codes "end") ∷ []))) ts →
-              Part LikeEntry IsEntry (drop_end place) ts
+          Part LikeEntry IsEntry (drop_end place) ts
       form ts (p, us, e, (a, vs, f, (q, g))) = (drop_end p, tt, (a, q, e ∙ on (f ∙ on g)))
 
   -- each on a line of its own
@@ -270,7 +270,7 @@ module _ (names : List Name) (states : List State) where
 
   both_methods : (ms : List WMethod) (p : Place) (b : Bool) → AllByRecursion IsNamedMethod ms
       → AllByRecursion (λ (m : WMethod). AllByRecursion Known (leads_to m.target)) ms →
-          AllByRecursion CanEntry (map offer ms ++ drop_last p b)
+      AllByRecursion CanEntry (map offer ms ++ drop_last p b)
   both_methods [] p true h g = (tt, tt)
   both_methods [] p false h g = tt
   both_methods (m ∷ ms) p b h g = ((h.0, g.0), both_methods ms p b h.1 g.1)
@@ -280,14 +280,14 @@ module _ (names : List Name) (states : List State) where
       regroup (assoc7 (codes "    ") s.name.text (codes " = {") line_feed
       (lines (entry_lines states (map (method_meant names) (methods_in s.entries)) (has_drop s.entries))) (codes "    }") line_feed
       ∙ ap (λ (ls : List (List ℕ)). codes "    "
-          ++ (s.name.text ++ (codes " = {" ++ (line_feed ++ (lines ls ++ (codes "    }" ++ line_feed))))))
+      ++ (s.name.text ++ (codes " = {" ++ (line_feed ++ (lines ls ++ (codes "    }" ++ line_feed))))))
       (lines_are (methods_in s.entries) s.name.place (has_drop s.entries)))
       (level_then (convert (state_form s)
       (name_then s.name.text is.name (λ bytes o. refl) (space_then
       (sign_then 61 marks.Equals refl refl (omega arith) (space_then
       (sign_then 123 marks.OpenBrace refl refl (omega arith) (line_then
       (both (entries_told (ordered s) (both_methods (methods_in s.entries) s.name.place (has_drop s.entries) is.methods known))
-          (λ bytes o. tt)
+      (λ bytes o. tt)
       (level_then (sign_then 125 marks.CloseBrace refl refl (omega arith) (line_then nothing))))))))))))
 
   states_told : (ss : List WState) → AllByRecursion CanState ss

@@ -208,7 +208,7 @@ ordered_drop (m ∷ ms) p b = ordered_drop ms p b
 same_methods : (s t : WState) → SameState s t → Zip SameMethod (methods_in s.entries) (methods_in t.entries)
 same_methods s t r =
     subst (λ (ms : List WMethod). Zip SameMethod ms (methods_in t.entries)) (ordered_methods (methods_in s.entries) s.name.place
-        (has_drop s.entries))
+    (has_drop s.entries))
     (like_methods (ordered s) t.entries r.entries)
 
 same_drop : (s t : WState) → SameState s t → has_drop s.entries ≡ has_drop t.entries
@@ -243,9 +243,9 @@ once_names earlier (offer m ∷ es) seen from h = (
         × (n.name.text ≡ t)
     more t g = elim (Contains-push_cases (texts seen) m.name.text t
         (subst (λ (ts : List Name). Contains ts t) (map-append (λ (n : Naming). n.text) seen (m.name ∷ [])) g)) [
-      | inl old ↦ let x = from t old in (x.0, Contains-append_left earlier (offer m ∷ []) (offer x.0) x.1, x.2)
-      | inr e ↦ (m, Contains-push earlier (offer m), e)
-    ]
+          | inl old ↦ let x = from t old in (x.0, Contains-append_left earlier (offer m ∷ []) (offer x.0) x.1, x.2)
+          | inr e ↦ (m, Contains-push earlier (offer m), e)
+        ]
 once_names earlier (drop_end p ∷ es) seen from h =
     once_names (earlier ++ drop_end p ∷ []) es seen
     (λ t g. let x = from t g in (x.0, Contains-append_left earlier (drop_end p ∷ []) (offer x.0) x.1, x.2)) h.1
@@ -379,7 +379,7 @@ module _ (states : List Name) where
   state_same : (s t : WState) → SameState s t → state_meant states s ≡ state_meant states t
   state_same s t r =
       let ms = zip_eq SameMethod (method_meant states) (method_meant states) method_same (methods_in s.entries) (methods_in t.entries)
-            (same_methods s t r) in
+      (same_methods s t r) in
       let d = same_drop s t r in
       λ i. record { name = r.name i; methods = ms i; drops = d i }
 

@@ -42,9 +42,11 @@ end_is : (ts us : List Tok) → after_end ts ≡ Some us → Word (codes "end") 
 unfolding after_end
 end_is ts us e =
     let n = bind_some (name_at ts) (λ name. past_end name) us e in
-    let h = past_end_is n.0 us n.2 in
-    (n.0.0.place, name_is ts n.0 n.1 ∙ ap (λ (t : Name). named n.0.0.place t ∷ n.0.1) h.0 ∙
-        ap (λ (r : List Tok). named n.0.0.place (codes "end") ∷ r) h.1)
+    let h = past_end_is n.0 us n.2 in (
+      n.0.0.place,
+      name_is ts n.0 n.1 ∙ ap (λ (t : Name). named n.0.0.place t ∷ n.0.1) h.0 ∙
+          ap (λ (r : List Tok). named n.0.0.place (codes "end") ∷ r) h.1,
+    )
 
 drop_sound : (ts : List Tok) (x : WEntry × List Tok) → is_drop ts ≡ true → drop_at ts ≡ Some x → Takes (IsEntry x.0) ts x.1
 unfolding drop_at
@@ -165,6 +167,6 @@ entries_complete (x ∷ xs) ts rest a (us, vs, e, h, l) =
     let end : List Tok = marked a marks.CloseBrace ∷ rest in
     let begins = entries_begin x xs us (vs ++ end) h in
     let reads = listed_complete marks.Comma entry_at IsEntry entry_exact is_more more_goes (x ∷ xs) us (vs ++ end) (last_stops vs rest a l)
-          h in
+    h in
     let last = last_complete vs rest a l in
     rw (e, append_assoc us vs end, begins, reads, last) refl

@@ -45,7 +45,7 @@ package_sound ts us e =
         let end : List Tok = marked d.0.0 marks.Semicolon ∷ [] in
         let inner : s.0.1 ≡ (names.front ++ end) ++ d.0.1 =
         names.parts ∙ ap (λ (r : List Tok). names.front ++ r) (mark_is marks.Semicolon n.0.1 d.0 d.1) ∙
-            sym (append_assoc names.front end d.0.1) in
+        sym (append_assoc names.front end d.0.1) in
         subst (Takes IsPackage ts) (some_is d.0.1 us d.2)
         (record {
           front = marked s.0.0 marks.Package ∷ (names.front ++ end);
@@ -66,7 +66,7 @@ star_sound : (ts us : List Tok) → after_star ts ≡ Some us → Takes IsStar t
 unfolding after_star
 star_sound ts us e =
     elim (chosen (is_at marks.Dot ts) (mark_at marks.Dot ts >>= λ dot. mark_at marks.Star dot.1 >>= λ star. Some star.1) (Some ts) (Some us)
-        e) [
+    e) [
       | inl t ↦
           let d = bind_some (mark_at marks.Dot ts) _ us t.1 in
           let s = bind_some (mark_at marks.Star d.0.1) _ us d.2 in
@@ -103,7 +103,7 @@ import_sound ts x e =
     let star = star_sound n.0.1 r.0 r.1 in
     let end : List Tok = marked d.0.0 marks.Semicolon ∷ [] in
     let inner = import_parts names.front star.front end d.0.1 s.0.1 n.0.1 r.0 names.parts star.parts (mark_is marks.Semicolon r.0 d.0 d.1)
-        in
+    in
     subst (λ (y : Place × List Tok). Takes (IsImport y.0) ts y.1) (some_is _ x d.2)
     (record {
       front = marked s.0.0 marks.Import ∷ (names.front ++ (star.front ++ end));
@@ -148,7 +148,7 @@ state_sound ts x e =
     let end : List Tok = marked d.0.0 marks.CloseBrace ∷ [] in
     let inner : o.0.1 ≡ (entries.front ++ end) ++ d.0.1 =
     entries.parts ∙ ap (λ (r : List Tok). entries.front ++ r) (mark_is marks.CloseBrace m.0.1 d.0 d.1) ∙
-        sym (append_assoc entries.front end d.0.1) in
+    sym (append_assoc entries.front end d.0.1) in
     subst (λ (y : WState × List Tok). Takes (IsState y.0) ts y.1) (some_is _ x d.2)
     (record {
       front = named n.0.0.place n.0.0.text ∷ marked q.0.0 marks.Equals ∷ marked o.0.0 marks.OpenBrace ∷ (entries.front ++ end);
@@ -203,7 +203,7 @@ file_sound ts w e =
     let s = bind_some (states_at t.0.1) _ y.0 t.2 in
     let d = bind_some (mark_at marks.CloseBrace s.0.1) _ y.0 s.2 in
     let made : (record { name = t.0.0.text; states = s.0.0 }, d.0.1) ≡ y.0 = some_is (record { name = t.0.0.text; states = s.0.0 }, d.0.1)
-          y.0 d.2 in
+    y.0 d.2 in
     let named_package = package_sound ts p.0 p.1 in
     let imports = all_sound (is_at marks.Import) import_at IsImport Anything import_exact p.0 i.0 i.1 in
     let states = all_sound not_closed state_at IsState Anything state_exact t.0.1 s.0 s.1 in
@@ -213,7 +213,7 @@ file_sound ts w e =
     let opened : i.0.1 ≡ head t.0.0 ++ t.0.1 =
     subst (λ (z : Naming). i.0.1 ≡ head z ++ t.0.1) name_same
     (after (mark_is marks.Typestate i.0.1 a.0 a.1)
-        (after (name_is a.0.1 n.0 n.1) (after (mark_is marks.OpenBrace n.0.1 o.0 o.1) (ap (λ (z : Naming × List Tok). z.1) same)))) in
+    (after (name_is a.0.1 n.0 n.1) (after (mark_is marks.OpenBrace n.0.1 o.0 o.1) (ap (λ (z : Naming × List Tok). z.1) same)))) in
     let closed : s.0.1 ≡ (marked d.0.0 marks.CloseBrace ∷ []) ++ [] = after (mark_is marks.CloseBrace s.0.1 d.0 d.1) nothing in
     subst (λ (z : WFile). IsSpelled z ts) (ap (λ (z : WFile × List Tok). z.0) made ∙ last.0)
     (record {
@@ -244,11 +244,11 @@ unfolding file_of typestate_at title_at
 file_complete w ts h =
     let closing : List Tok = marked h.close_at marks.CloseBrace ∷ [] in
     let title : List Tok = marked h.word_at marks.Typestate ∷ named h.name_at w.name ∷ marked h.open_at marks.OpenBrace ∷
-          (h.state_toks ++ closing) in
+    (h.state_toks ++ closing) in
     let packaged = package_complete h.package_toks (h.import_toks ++ title) (imports_begin h.imports h.import_toks title h.imported refl)
-          h.packaged in
+    h.packaged in
     let imports = all_complete (is_at marks.Import) import_at IsImport Anything import_exact import_starts h.imports h.import_toks title tt
-          refl h.imported in
+    refl h.imported in
     let states = all_complete not_closed state_at IsState Anything state_exact state_starts w.states h.state_toks closing tt refl h.states
-        in
+    in
     rw (h.tokens, packaged, imports, states) refl

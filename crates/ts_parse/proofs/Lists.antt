@@ -53,8 +53,13 @@ module _ {A : Type 0} (m : Mark) (f : Reader Tok A) (G : A → List Tok → Type
         (record {
           front = one.front ++ more.2.front;
           parts = one.parts ∙ ap (λ (r : List Tok). one.front ++ r) more.2.parts ∙ sym (append_assoc one.front more.2.front o.0.1);
-          holds = subst (λ (l : List A). Listed m G l (one.front ++ more.2.front)) (sym more.1) (one.front, more.2.front, refl, one.holds,
-              more.2.holds);
+          holds = subst (λ (l : List A). Listed m G l (one.front ++ more.2.front)) (sym more.1) (
+            one.front,
+            more.2.front,
+            refl,
+            one.holds,
+            more.2.holds,
+          );
         })
 
     -- where go holds before each further part

@@ -83,7 +83,7 @@ params_complete [] ts rest a h = rw h refl
 params_complete (x ∷ xs) ts rest a h =
     let begins = params_begin x xs ts (marked a marks.CloseParen ∷ rest) h in
     let reads = listed_complete marks.Comma param_at IsParam param_exact (is_at marks.Comma) (comma_goes IsParam) (x ∷ xs) ts
-          (marked a marks.CloseParen ∷ rest) refl h in
+    (marked a marks.CloseParen ∷ rest) refl h in
     rw (begins, reads) refl
 
 -- ---- where calls lead
@@ -145,7 +145,7 @@ unfolding target_at answers_at
 target_complete (to_one n) ts rest e = rw e refl
 target_complete (by_label bs) ts rest (a, b, us, e, h) =
     let reads = listed_complete marks.Comma branch_at IsBranch branch_exact (is_at marks.Comma) (comma_goes IsBranch) bs us
-          (marked b marks.Greater ∷ rest) refl h in
+    (marked b marks.Greater ∷ rest) refl h in
     rw (e, append_assoc us (marked b marks.Greater ∷ []) rest, reads) refl
 
 -- ---- methods
@@ -168,9 +168,9 @@ method_sound ts x e =
     after (mark_is marks.CloseParen p.0.1 d.0 d.1) (after (mark_is marks.Colon d.0.1 c.0 c.1) target.parts) in
     let end : List Tok = marked d.0.0 marks.CloseParen ∷ marked c.0.0 marks.Colon ∷ target.front in
     let inner : h.0.1 ≡ (params.front ++ end) ++ g.0.1 = params.parts ∙ ap (λ (r : List Tok). params.front ++ r) tail ∙
-          sym (append_assoc params.front end g.0.1) in
+    sym (append_assoc params.front end g.0.1) in
     let front : Naming → List Tok = λ name. named t.0.0.place t.0.0.text ∷ named name.place name.text ∷ marked o.0.0 marks.OpenParen ∷
-          (params.front ++ end) in
+    (params.front ++ end) in
     let name_same : n.0.0 ≡ h.0.0.1 = ap (λ (y : (TypeName × Naming) × List Tok). y.0.1) same in
     let type_same : type_named t.0.0.text ≡ h.0.0.0 = ap (λ (y : (TypeName × Naming) × List Tok). y.0.0) same in
     let whole : ts ≡ front n.0.0 ++ g.0.1 =

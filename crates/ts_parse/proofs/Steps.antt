@@ -66,7 +66,7 @@ mark_is m (marked p k ∷ ts) x e =
     elim (chosen (eqb (code k) (code m)) (Some (p, ts)) None (Some x) e) [
       | inl t ↦ let same = code_same k m t.0 in
           subst (λ (y : Place × List Tok). marked p k ∷ ts ≡ marked y.0 m ∷ y.1) (some_is (p, ts) x t.1)
-              (ap (λ (j : Mark). marked p j ∷ ts) same)
+          (ap (λ (j : Mark). marked p j ∷ ts) same)
       | inr f ↦ absurd (none_is_not x f.1)
     ]
 

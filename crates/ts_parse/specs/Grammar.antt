@@ -79,14 +79,14 @@ abbrev pub IsTarget : WTarget → List Tok → Type 0
 IsTarget (to_one n) ts = IsNaming n ts
 IsTarget (by_label branches) ts =
     (a b : Place) × (us : List Tok) × (ts ≡ marked a marks.Less ∷ (us ++ marked b marks.Greater ∷ [])) × Listed marks.Comma IsBranch
-        branches us
+    branches us
 
 -- type name "(" types ")" ":" target
 abbrev pub IsMethod : WMethod → List Tok → Type 0
 IsMethod m ts =
     (a b c d : Place) × (text : Name) × (us vs : List Tok)
     × (ts ≡ named a text ∷ named m.name.place m.name.text ∷ marked b marks.OpenParen ∷
-        (us ++ marked c marks.CloseParen ∷ marked d marks.Colon ∷ vs))
+    (us ++ marked c marks.CloseParen ∷ marked d marks.Colon ∷ vs))
     × (type_named text ≡ m.result) × AreParams m.params us × IsTarget m.target vs
 
 -- [ "," ]
@@ -110,7 +110,7 @@ abbrev pub IsState : WState → List Tok → Type 0
 IsState s ts =
     (a b c : Place) × (us : List Tok)
     × (ts ≡ named s.name.place s.name.text ∷ marked a marks.Equals ∷ marked b marks.OpenBrace ∷ (us ++ marked c marks.CloseBrace ∷ []))
-        × AreEntries s.entries us
+    × AreEntries s.entries us
 
 -- [ package ] { import } "typestate" name "{" { state } "}"
 pub record IsSpelled (w : WFile) (ts : List Tok) : Type 0 where

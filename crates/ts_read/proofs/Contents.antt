@@ -121,7 +121,7 @@ twice_judged : (earlier : List WEntry) (dropped : Bool) (seen : List Name) (es :
 twice_judged earlier dropped seen [] k = clean
 twice_judged earlier dropped seen (entries.Method m ∷ es) k =
     go (is_in seen m.name.text) refl (twice_judged (earlier ++ offer (wmethod_of m) ∷ []) dropped (seen ++ m.name.text ∷ []) es
-        (with_offer earlier dropped seen (wmethod_of m) k))
+    (with_offer earlier dropped seen (wmethod_of m) k))
   where
     go : (b : Bool) → is_in seen m.name.text ≡ b
         → Judged IsTwice (behind (earlier ++ offer (wmethod_of m) ∷ []) (map wentry_of es)) (twice_in dropped (seen ++ m.name.text ∷ []) es)
@@ -132,7 +132,7 @@ twice_judged earlier dropped seen (entries.Method m ∷ es) k =
 twice_judged earlier true seen (entries.DropEnd place ∷ es) k = let x = k.marked refl in here (refl, drop_end x.0, x.1, tt)
 twice_judged earlier false seen (entries.DropEnd place ∷ es) k =
     later (λ c h. not_left earlier seen place c k h) (twice_judged (earlier ++ drop_end place ∷ []) true seen es
-        (with_drop earlier false seen place k))
+    (with_drop earlier false seen place k))
 
 pub entries_judged : (s : WrittenState) → Judged IsTwice (with_earlier (map wentry_of s.entries.items)) (twice_in false [] s.entries.items)
 entries_judged s = twice_judged [] false [] s.entries.items nothing

@@ -66,7 +66,7 @@ pub some_kept : (T : Firsts) (ss : List WrittenState)
 some_kept T [] = refl
 some_kept T (s ∷ ss) = some_append (other_method T) (kept_in s.entries.items) (kept_methods ss)
     ∙ ap (λ (o : Option Culprit). option_or o (first_some (map (other_method T) (kept_methods ss))))
-        (sym (some_in (other_method T) s.entries.items))
+    (sym (some_in (other_method T) s.entries.items))
     ∙ ap (λ (o : Option Culprit). option_or (other_in_state T s) o) (some_kept T ss)
 
 -- ---- each condition
@@ -92,20 +92,20 @@ at_methods : {Y : Type 0} (At : Y → Culprit → Type 0) (parts : WrittenMethod
     → Judged At (flat_map parts (kept_in s.entries.items)) (first_some (map (at_method find) s.entries.items))
 at_methods At parts find h s =
     subst (Judged At (flat_map parts (kept_in s.entries.items))) (sym (some_in find s.entries.items))
-        (first_judged At parts find h (kept_in s.entries.items))
+    (first_judged At parts find h (kept_in s.entries.items))
 
 unknown_all : (S : List Naming) (ss : List WrittenState)
     → Judged (IsUnknown S) (flat_map (λ (m : WMethod). leads_to m.target) (flat_map (λ (s : WState). methods_in s.entries)
-        (map wstate_of ss)))
+    (map wstate_of ss)))
     (first_some (map (unknown_state (texts S)) ss))
 unknown_all S ss =
     subst (λ (ns : List Naming). Judged (IsUnknown S) ns (first_some (map (unknown_state (texts S)) ss)))
     (sym (nested (λ (m : WMethod). leads_to m.target) ss))
     (first_judged (IsUnknown S) (λ (s : WrittenState). flat_map (λ (m : WrittenMethod). leads_to (wtarget_of m.target))
-        (kept_in s.entries.items))
+    (kept_in s.entries.items))
     (unknown_state (texts S))
     (at_methods (IsUnknown S) (λ (m : WrittenMethod). leads_to (wtarget_of m.target)) (unknown_method (texts S))
-        (λ m. unknown_there S m.target)) ss)
+    (λ m. unknown_there S m.target)) ss)
 
 judge_targets : (name : Name) (names : List Name) (ss : List WrittenState) → names ≡ texts (map state_name ss)
     → Judges (file name ss) conditions.UnknownState (first_some (map (unknown_state names) ss))

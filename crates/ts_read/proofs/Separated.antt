@@ -77,7 +77,7 @@ module _ {X : Type 0} (states : List State) (v : X → Method) where
       let L = behind_lines ys in
       let rest : take (length (y ∷ ys) - 1) ys ≡ ys = take_all (length (y ∷ ys) - 1) ys (omega arith) in
       let so_far : now ≡ (old ++ M) ++ L = done ∙ ap (λ (zs : List X). first ++ behind_lines zs) (take_all i _ all ∙ rest) ∙
-            ap (λ t. t ++ L) begun in
+      ap (λ t. t ++ L) begun in
       ap (λ t. t ++ line_feed) (ends ∙ ap (λ t. t ++ D) so_far ∙ append_assoc (old ++ M) L D ∙ append_assoc old M (L ++ D))
       ∙ append_assoc old (M ++ (L ++ D)) line_feed
       ∙ ap (λ t. old ++ t) (append_assoc M (L ++ D) line_feed

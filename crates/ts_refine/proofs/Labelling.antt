@@ -37,7 +37,7 @@ labelled_among [] zero label h = absurd (false≢true h)
 labelled_among [] (suc i) label h = absurd (false≢true h)
 labelled_among (b ∷ bs) zero label h =
     subst (Contains (b.label ∷ map (λ (b : Branch). b.label) bs)) (same_name b.label label h)
-        (here b.label (map (λ (b : Branch). b.label) bs))
+    (here b.label (map (λ (b : Branch). b.label) bs))
 labelled_among (b ∷ bs) (suc i) label h = let c = labelled_among bs i label h in (suc c.0, omega (arith, c.1), c.2)
 
 -- where labels are distinct, what stands anywhere with a label is the one of this label

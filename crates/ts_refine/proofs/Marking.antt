@@ -62,7 +62,7 @@ number_same a b x y i h k =
     let s = numbered a b x i h in
     let t = numbered a b y i k in
     let e = same_from_place s.row s.column t.row t.column (b + 1) (place_most b x.b s.column s.in_b) (place_most b y.b t.column t.in_b)
-          (s.is ∙ sym t.is) in
+    (s.is ∙ sym t.is) in
     ap (λ (p : To). record { a = p; b = x.b }) (place_same a x.a y.a s.row s.in_a (t.in_a ∙ ap Some (sym e.0)))
     ∙ ap (λ (q : To). record { a = y.a; b = q }) (place_same b x.b y.b s.column s.in_b (t.in_b ∙ ap Some (sym e.1)))
 
@@ -107,11 +107,11 @@ marked-more slot apart before after pairs x i m at now kept = record {
     | inl is ↦
         ap after is ∙ now
         ∙ sym (holds-push pairs x pair ∙ ap (λ (t : Bool). if holds pairs pair then true else t)
-            (ap (same_pair x) (apart pair x i (e ∙ ap Some is) at) ∙ same_pair-self x) ∙ or_true (holds pairs pair))
+        (ap (same_pair x) (apart pair x i (e ∙ ap Some is) at) ∙ same_pair-self x) ∙ or_true (holds pairs pair))
     | inr ne ↦
         kept k ne ∙ m.each pair k e
         ∙ sym (holds-push pairs x pair ∙ ap (λ (t : Bool). if holds pairs pair then true else t)
-            (apart-pair x pair (λ same. ne (some_is k i (sym e ∙ ap slot (sym same) ∙ at)))) ∙ or_false (holds pairs pair))
+        (apart-pair x pair (λ same. ne (some_is k i (sym e ∙ ap slot (sym same) ∙ at)))) ∙ or_false (holds pairs pair))
   ];
 }
 
@@ -121,7 +121,7 @@ marked-past slot is_marked pairs x m none = record {
   each = λ pair k e.
       m.each pair k e
       ∙ sym (holds-push pairs x pair ∙ ap (λ (t : Bool). if holds pairs pair then true else t)
-          (apart-pair x pair (λ same. none-some k (sym none ∙ ap slot same ∙ e))) ∙ or_false (holds pairs pair));
+      (apart-pair x pair (λ same. none-some k (sym none ∙ ap slot same ∙ e))) ∙ or_false (holds pairs pair));
 }
 
 -- ---- what was met
@@ -160,7 +160,7 @@ pairs-more a b before after pairs pair None m of step =
     is-marked (number a b) before after (pairs ++ pair ∷ []) (marked-past (number a b) before pairs pair m of) step
 pairs-more a b before after pairs pair (Some i) m of step =
     marked-more (number a b) (number_same a b) before after pairs pair i m of (step i ∙ ap (λ (t : Bool). if t then true else before i)
-        (eq-eqb i i refl))
+    (eq-eqb i i refl))
     (λ k ne. step k ∙ ap (λ (t : Bool). if t then true else before k) (ne_eqb i k (λ e. ne (sym e))))
 
 pub search-kept : (a b : ℕ) (before after : ℕ → Bool) (ms news : List Met) (m : Met) (o : Option ℕ) → IsSearch a b before ms

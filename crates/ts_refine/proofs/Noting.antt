@@ -41,7 +41,7 @@ blank_bit n i = ap (λ w. nat_eq (bit_at w (i % 64)) 1) (blank_word n (i / 64)) 
 numbered-too : (count a b : ℕ) (pair : Pair) (i : ℕ) → bit_number count a b pair ≡ Some i → number a b pair ≡ Some i
 numbered-too count a b pair i e =
     option_and_then_some (λ n. if nat_lt (n / 64) count then Some n else None) (number a b pair) i e
-        (λ n is within. is ∙ ap Some (if_some (nat_lt (n / 64) count) n i within).1)
+    (λ n is within. is ∙ ap Some (if_some (nat_lt (n / 64) count) n i within).1)
 
 bits-apart : (count a b : ℕ) → TellsApart (bit_number count a b)
 bits-apart count a b x y i h k = number_same a b x y i (numbered-too count a b x i h) (numbered-too count a b y i k)
@@ -57,7 +57,7 @@ pub noted-more : (count a b : ℕ) (ws news : List ℕ) (pairs : List Pair) (x :
 noted-more count a b ws news pairs x i m at lt is = subst (λ (ws : List ℕ). AreMarked (bit_number count a b) (bit ws) (pairs ++ x ∷ []))
     (sym is)
     (marked-more (bit_number count a b) (bits-apart count a b) (bit ws) (bit (with_bit ws i)) pairs x i m at (bit_now ws i lt)
-        (λ k ne. bit_kept ws i k lt ne))
+    (λ k ne. bit_kept ws i k lt ne))
 
 pub noted-past : (count a b : ℕ) (ws : List ℕ) (pairs : List Pair) (x : Pair) → AreMarked (bit_number count a b) (bit ws) pairs
     → bit_number count a b x ≡ None → AreMarked (bit_number count a b) (bit ws) (pairs ++ x ∷ [])

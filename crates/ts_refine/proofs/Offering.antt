@@ -53,7 +53,7 @@ stands-only [] (suc i) name apart h = absurd (false≢true h)
 stands-only (m ∷ ms) zero name apart h = rw h refl
 stands-only (m ∷ ms) (suc i) name apart h =
     let ne : m.name ≢ name = λ e. apart.0 (subst (Contains (map (λ (m : Method). m.name) (map method_of ms))) (sym e)
-          (named_among ms i name h)) in
+    (named_among ms i name h)) in
     rw (other_name m.name name ne) (stands-only ms i name apart.1 h)
 
 -- the labels of what is offered are distinct

@@ -43,7 +43,7 @@ pub begun : (a b : ℕ) (before after : ℕ → Bool) (p : Pair) (vs : List Visi
     → ((n : ℕ) → before n ≡ false) → o ≡ number a b p → ((k : ℕ) → after k ≡ marked before o k) → vs ≡ [] → IsSearch a b after (mets p vs)
 begun a b before after p vs o h k blank of step none =
     search-kept a b before after [] (mets p vs) (met_first p) o (search-blank a b before [] h k blank refl)
-        (λ lt. absurd (omega (arith, lt)))
+    (λ lt. absurd (omega (arith, lt)))
     (ap (λ (vs : List Visit). mets p vs) none) of step
 
 pub kept-view : (p : Pair) (vs news : List Visit) (v : Visit) → news ≡ vs ++ v ∷ [] → mets p news ≡ mets p vs ++ met_of v ∷ []
@@ -123,12 +123,25 @@ pub taken-more : (p : Pair) (vs : List Visit) (i : ℕ) (v : Visit) (ps : List P
 taken-more p vs i v ps h is e =
     ap (λ (qs : List Pair). qs ++ v.pair ∷ []) e
     ∙ ap (λ (qs : List Pair). p ∷ qs)
-        (sym (ap (map (λ (v : Visit). v.pair)) (take_more vs i v h ∙ ap (λ (w : Visit). take i vs ++ w ∷ []) (sym is)) ∙
-        push-pairs (take i vs) v))
+    (sym (ap (map (λ (v : Visit). v.pair)) (take_more vs i v h ∙ ap (λ (w : Visit). take i vs ++ w ∷ []) (sym is)) ∙
+    push-pairs (take i vs) v))
 
 pub taken-all : (p : Pair) (vs : List Visit) (i : ℕ) (ps : List Pair) → length vs ≤ i
     → ps ≡ p ∷ map (λ (v : Visit). v.pair) (take i vs) → ps ≡ p ∷ map (λ (v : Visit). v.pair) vs
 taken-all p vs i ps h e = e ∙ ap (λ (ws : List Visit). p ∷ map (λ (v : Visit). v.pair) ws) (take_all i vs h)
 
-pub ruleset pairs = (taken-more, taken-all, kept-length, first-pair, later-pair, later-within, kept-step, kept-earlier, kept-marked,
-    held-first, held-later, visits-drop, visits-past)
+pub ruleset pairs = (
+  taken-more,
+  taken-all,
+  kept-length,
+  first-pair,
+  later-pair,
+  later-within,
+  kept-step,
+  kept-earlier,
+  kept-marked,
+  held-first,
+  held-later,
+  visits-drop,
+  visits-past,
+)

@@ -43,12 +43,20 @@ no_more : (xs ys : List Pair) → AreApart xs → ((x : Pair) → Contains xs x 
 no_more [] ys apart h = omega arith
 no_more (x ∷ xs) ys apart h =
     let c = h x (here x xs) in
-    omega (arith, shorter ys c.0 c.1, no_more xs (without c.0 ys) apart.1 (λ z d. still_there ys x z c (h z (behind x xs z d))
-        (λ e. apart.0 (subst (Contains xs) (sym e) d))))
+    omega (
+      arith,
+      shorter ys c.0 c.1,
+      no_more xs (without c.0 ys) apart.1 (λ z d. still_there ys x z c (h z (behind x xs z d))
+          (λ e. apart.0 (subst (Contains xs) (sym e) d))),
+    )
 
 pub one_count : (a b : Typestate) (xs ys : List Pair) → Stands a b xs → Stands a b ys → length xs ≡ length ys
-one_count a b xs ys h k = omega (arith, no_more xs ys h.apart (λ x c. k.all x (h.only x c)), no_more ys xs k.apart
-    (λ x c. h.all x (k.only x c)))
+one_count a b xs ys h k = omega (
+  arith,
+  no_more xs ys h.apart (λ x c. k.all x (h.only x c)),
+  no_more ys xs k.apart
+      (λ x c. h.all x (k.only x c)),
+)
 
 -- ---- one path
 not_earlier : (t : Typestate) (from : To) (cs ds : List Call) → IsEarlier t from cs ds → cs ≡ ds → ⊥
@@ -88,9 +96,9 @@ one_place [] x y c d e = absurd (omega (arith, c.1))
 one_place (z ∷ names) x y c d e = go (bytes_eq z x) refl (bytes_eq z y) refl e (one_place names x y) where
   left : (n : Name) → bytes_eq z n ≡ false → Contains (z ∷ names) n → Contains names n
   left n f c = elim (first_or_behind z names n c) [ inl is ↦ absurd (yes_no (sym (name_is z) ∙ ap (bytes_eq z) is ∙ f)) | inr more ↦ more ]
-      where
-    yes_no : true ≡ false → ⊥
-    yes_no h = absurd cc
+    where
+      yes_no : true ≡ false → ⊥
+      yes_no h = absurd cc
 
   go : (s : Bool) → bytes_eq z x ≡ s → (t : Bool) → bytes_eq z y ≡ t →
       (if s then 0 else suc (place_of names x)) ≡ (if t then 0 else suc (place_of names y)) →
@@ -148,12 +156,14 @@ one_failure a b cs ds r s h k =
     let p_is : h.p ≡ k.p = some_is h.p k.p (sym h.reach.in_a ∙ ap (led a (initial a)) path ∙ k.reach.in_a) in
     let q_is : h.q ≡ k.q = some_is h.q k.q (sym h.reach.in_b ∙ ap (led b (initial b)) path ∙ k.reach.in_b) in
     let there : Fails a b h.p h.q s = subst (λ (p : To). Fails a b p h.q s) (sym p_is) (subst (λ (q : To). Fails a b k.p q s) (sym q_is)
-          k.fails) in
+    k.fails) in
     let here : Fails a b k.p k.q r = subst (λ (p : To). Fails a b p k.q r) p_is (subst (λ (q : To). Fails a b h.p q r) q_is h.fails) in
     let back : reason_place (methods_at b h.q) s ≤ reason_place (methods_at b h.q) r =
-          subst (λ (q : To). reason_place (methods_at b q) s ≤ reason_place (methods_at b q) r) (sym q_is) (k.first r here) in
-    (path, same_reason (methods_at b h.q) r s (is_among a b h.p h.q r h.fails) (is_among a b h.p h.q s there)
-        (omega (arith, h.first s there, back)))
+    subst (λ (q : To). reason_place (methods_at b q) s ≤ reason_place (methods_at b q) r) (sym q_is) (k.first r here) in (
+      path,
+      same_reason (methods_at b h.q) r s (is_among a b h.p h.q r h.fails) (is_among a b h.p h.q s there)
+          (omega (arith, h.first s there, back)),
+    )
 
 -- what stands for the other fails nowhere
 pub not_both : (a b : Typestate) (pairs : List Pair) (cs : List Call) (r : Reason) → Stands a b pairs → FailsFirst a b cs r → ⊥

@@ -31,8 +31,10 @@ first_or_behind y xs x (suc k, lt, e) = inr (k, omega (arith, lt), e)
 
 pub in_map : {X Y : Type 0} (f : X → Y) (xs : List X) (x : X) → Contains xs x → Contains (map f xs) (f x)
 in_map f [] x (k, lt, e) = absurd (omega (arith, lt))
-in_map f (y ∷ xs) x h = elim (first_or_behind y xs x h) [ inl e ↦ subst (λ z. Contains (f y ∷ map f xs) (f z)) e (here (f y) (map f xs))
-    | inr more ↦ behind (f y) (map f xs) (f x) (in_map f xs x more) ]
+in_map f (y ∷ xs) x h = elim (first_or_behind y xs x h) [
+  | inl e ↦ subst (λ z. Contains (f y ∷ map f xs) (f z)) e (here (f y) (map f xs))
+  | inr more ↦ behind (f y) (map f xs) (f x) (in_map f xs x more)
+]
 
 -- ---- tests
 some_is : {X : Type 0} (x y : X) → Some x ≡ Some y → x ≡ y
@@ -129,8 +131,11 @@ led_by-sound type (ByAnswer bs) (Some label) to named h = rw (named refl) (by_la
 led_by-complete : (count : ℕ) (type : TypeName) (target : Target) (to : To) → IsTarget count target → Contains (targets_by type target) to →
     (answer : Option Name) × (IsSome answer → is_named type ≡ true) × (led_by target answer ≡ Some to)
 led_by-complete count type (One x) to fine h =
-    elim (first_or_behind x [] to h) [ inl e ↦ (None, λ some. absurd (false≢true some), ap Some e) | inr none ↦ absurd
-        (omega (arith, none.1)) ]
+    elim (first_or_behind x [] to h) [
+      | inl e ↦ (None, λ some. absurd (false≢true some), ap Some e)
+      | inr none ↦ absurd
+          (omega (arith, none.1))
+    ]
 led_by-complete count type (ByAnswer bs) to fine h = go (is_named type) refl h where
   go : (t : Bool) → is_named type ≡ t → Contains (if t then map (λ b. b.to) bs else []) to → (answer : Option Name)
       × (IsSome answer → is_named type ≡ true) × (led_by (ByAnswer bs) answer ≡ Some to)
@@ -146,7 +151,7 @@ target_within count type (ByAnswer bs) to fine h = go (is_named type) h where
   go true among =
       let b = branch_to bs to among in
       subst (IsWithin count) b.2 (All-contains (λ (b : Branch). IsWithin count b.to) bs b.0
-          (All-from_recursion (λ (b : Branch). IsWithin count b.to) bs fine.0) b.1)
+      (All-from_recursion (λ (b : Branch). IsWithin count b.to) bs fine.0) b.1)
   go false among = absurd (omega (arith, among.1))
 
 is_named-from : (type : TypeName) (name : Name) → type ≡ types.Named name → is_named type ≡ true
@@ -181,7 +186,7 @@ module _ (t : Typestate) (proper : IsProper t.states) (q : ℕ) (s : State) (at 
   pub leads-sound : (to : To) → LeadsTo t q to → Contains (targets_in s.methods) to
   leads-sound to l =
       option_and_then_some (λ m. led_by m.target l.call.answer) (offered_in s.methods l.call.method) to
-          (sym (next-at l.call.method l.call.answer) ∙ l.goes)
+      (sym (next-at l.call.method l.call.answer) ∙ l.goes)
       (λ m offers leads.
       let found = offered_in-sound s.methods l.call.method m offers in
       let named : IsSome l.call.answer → is_named m.result ≡ true = λ some.
@@ -193,7 +198,7 @@ module _ (t : Typestate) (proper : IsProper t.states) (q : ℕ) (s : State) (at 
   leads-complete to h =
       let m = method_to s.methods to h in
       let fine : IsTarget (length t.states) m.0.target = All-contains (λ m. IsTarget (length t.states) m.target) s.methods m.0
-            (All-from_recursion (λ m. IsTarget (length t.states) m.target) s.methods state.targets) m.1 in
+      (All-from_recursion (λ m. IsTarget (length t.states) m.target) s.methods state.targets) m.1 in
       let a = led_by-complete (length t.states) m.0.result m.0.target to fine m.2 in
       record {
         call = record { method = m.0.name; answer = a.0 };
@@ -207,5 +212,5 @@ module _ (t : Typestate) (proper : IsProper t.states) (q : ℕ) (s : State) (at 
   targets_within to h =
       let m = method_to s.methods to h in
       let fine : IsTarget (length t.states) m.0.target = All-contains (λ m. IsTarget (length t.states) m.target) s.methods m.0
-            (All-from_recursion (λ m. IsTarget (length t.states) m.target) s.methods state.targets) m.1 in
+      (All-from_recursion (λ m. IsTarget (length t.states) m.target) s.methods state.targets) m.1 in
       target_within (length t.states) m.0.result m.0.target to fine m.2

@@ -56,7 +56,7 @@ visits_turn : (t : Typestate) → IsProper t.states → (marked : List Bool) (wa
     (fold visited (record { marked = marked; waiting = waiting }) (targets_in s.methods))
 visits_turn t proper marked waiting p s at wide =
     visits_all (targets_in s.methods) (record { marked = marked; waiting = waiting })
-        (λ to h. subst (λ n. IsWithin n to) (sym wide) (targets_within t proper p s at to h))
+    (λ to h. subst (λ n. IsWithin n to) (sym wide) (targets_within t proper p s at to h))
 
 -- what holds of a walk at each moment
 pub record Marking (t : Typestate) (w : Walked) : Type 0 where
@@ -79,12 +79,14 @@ goes_on t marked m [] p q h fit leads = subst (λ k. has marked k ≡ true) (sam
   same_state e = cc
 goes_on t marked m (call ∷ calls) p q h fit leads =
     option_and_then_some (λ x. led t x calls) (next_from t (tos.State p) call) (tos.State q) leads
-        (λ to. from_there (λ k there rest. goes_on t marked m calls k q there fit.1 rest) to) where
+    (λ to. from_there (λ k there rest. goes_on t marked m calls k q there fit.1 rest) to) where
       from_there : ((k : ℕ) → has marked k ≡ true → led t (tos.State k) calls ≡ Some (tos.State q) → has marked q ≡ true) → (to : To) →
           next_from t (tos.State p) call ≡ Some to → led t to calls ≡ Some (tos.State q) → has marked q ≡ true
       from_there more (tos.State k) goes rest =
-          elim (m.passed p k h (record { call = call; fits = fit.0; goes = goes })) [ inl none ↦ absurd (omega (arith, none.1))
-              | inr there ↦ more k there rest ]
+          elim (m.passed p k h (record { call = call; fits = fit.0; goes = goes })) [
+            | inl none ↦ absurd (omega (arith, none.1))
+            | inr there ↦ more k there rest
+          ]
       from_there more tos.End goes rest = absurd (no_end t q calls rest)
 
 pub marking_all : (t : Typestate) (marked : List Bool) → Marking t (record { marked = marked; waiting = [] }) → MarksReachable t marked
@@ -106,10 +108,15 @@ marking_turn t proper marked waiting p s at m =
     let v = visits_turn t proper marked waiting p s at m.wide in
     record {
       wide = v.wide ∙ m.wide;
-      only = λ q h. elim (v.only q h) [ inl old ↦ m.only q old | inr target ↦ reachable_more t p q
-          (m.only p (m.marks p (Contains-push waiting p))) (leads-complete t proper p s at (tos.State q) target) ];
-      marks = λ q h. elim (v.marks q h) [ inl old ↦ v.keeps q (m.marks q (Contains-append_left waiting (p ∷ []) q old))
-          | inr marked ↦ marked ];
+      only = λ q h. elim (v.only q h) [
+        | inl old ↦ m.only q old
+        | inr target ↦ reachable_more t p q
+            (m.only p (m.marks p (Contains-push waiting p))) (leads-complete t proper p s at (tos.State q) target)
+      ];
+      marks = λ q h. elim (v.marks q h) [
+        | inl old ↦ v.keeps q (m.marks q (Contains-append_left waiting (p ∷ []) q old))
+        | inr marked ↦ marked
+      ];
       starts = λ q e. v.keeps q (m.starts q e);
       passed = λ k q h l. elim (v.waits k h) [
         | inr waits ↦ inl waits
@@ -148,7 +155,7 @@ initial_within t = go t.states where
 pub marking_first : (t : Typestate) → Marking t (visited (record { marked = replicate (length t.states) false; waiting = [] }) (initial t))
 marking_first t =
     let v = visits_one (initial t) (record { marked = replicate (length t.states) false; waiting = [] })
-          (subst (λ n. IsWithin n (initial t)) (sym (length-replicate (length t.states) false)) (initial_within t)) in
+    (subst (λ n. IsWithin n (initial t)) (sym (length-replicate (length t.states) false)) (initial_within t)) in
     record {
       wide = v.wide ∙ length-replicate (length t.states) false;
       only = λ q h. elim (v.only q h) [ inl old ↦ absurd (both_ways _ (has-none (length t.states) q) old) | inr at ↦ at_start q at ];

@@ -30,7 +30,7 @@ pub offered_in-drop : (ms : List KeptMethod) (i : ℕ) (m : KeptMethod) (name : 
 offered_in-drop ms i m name h e =
     at_drop_more (λ xs. offered_in (map method_of xs) name) ms i m h
     ∙ ap (λ (x : KeptMethod). if bytes_eq x.name name then Some (method_of x) else offered_in (map method_of (drop (i + 1) ms)) name)
-        (sym e)
+    (sym e)
 
 -- past the last method nothing is found
 pub offered_in-past : (ms : List KeptMethod) (i : ℕ) (name : Name) → length ms ≤ i → offered_in (map method_of (drop i ms)) name ≡ None
@@ -62,6 +62,6 @@ pub next_by : (t : Typestate) (named : Name) (states xs : List KeptState) (q : �
 next_by t named states xs q s items name answer found view_is within all is these finds =
     ap (λ (t : Typestate). next t q name answer) (sym view_is)
     ∙ ap (λ (o : Option State). option_and_then (λ m. led_by m.target answer) (option_and_then (λ s. offered_in s.methods name) o))
-        (state_at t named states xs q s view_is within all is)
+    (state_at t named states xs q s view_is within all is)
     ∙ ap (λ (ms : List KeptMethod). option_and_then (λ m. led_by m.target answer) (offered_in (map method_of ms) name)) (sym these)
     ∙ ap (option_and_then (λ m. led_by m.target answer)) finds

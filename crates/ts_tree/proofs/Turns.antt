@@ -48,7 +48,7 @@ state_at : (t : Typestate) (named : Name) (items xs : List KeptState) (p : ℕ) 
     slice_get t.states p ≡ Some (state_of x)
 state_at t named items xs p x view_is all lt is =
     let at : slice_get items p ≡ Some x = ap (λ (ys : List KeptState). slice_get ys p) (sym all) ∙ slice_get_read xs (length xs) p x refl lt
-          is in
+    is in
     ap (λ (t : Typestate). slice_get t.states p) (sym view_is) ∙ slice_get-map state_of items p ∙ ap (option_map state_of) at
 
 pub below_by : (t : Typestate) (named : Name) (items xs : List KeptState) (w n : Walked) (p : ℕ) →
@@ -65,17 +65,20 @@ turn_by t named items xs ms w n p x view_is proper all is offers m same taken =
     let at = state_at t named items xs p x view_is all (below_by t named items xs w n p view_is all m taken) is in
     let fine : IsProper t.states = subst (λ (t : Typestate). IsProper t.states) view_is proper in
     subst (λ (ys : List KeptMethod). Turn t w n (map method_of ys)) (sym (offers ∙ ap (λ (y : KeptState). y.methods.items) (sym is)))
-        (turn_at t fine w n p (state_of x) at m same taken)
+    (turn_at t fine w n p (state_of x) at m same taken)
 
 pub start_by : (t : Typestate) (named : Name) (items xs : List KeptState) (w v : Walked) (to : To) →
-    record { name = named; states = map state_of items } ≡ t → xs ≡ items → w ≡ record { marked = replicate (length xs) false; waiting =
-    [] } → to ≡ initial t → v ≡ visited w to → Marking t v
+    record { name = named; states = map state_of items } ≡ t → xs ≡ items → w ≡ record {
+      marked = replicate (length xs) false;
+      waiting =
+          [];
+    } → to ≡ initial t → v ≡ visited w to → Marking t v
 start_by t named items xs w v to view_is all new first is =
     let count : length xs ≡ length t.states = ap length all ∙ sym (length-map items state_of) ∙ ap (λ (t : Typestate). length t.states)
-          view_is in
+    view_is in
     let e : v ≡ visited (record { marked = replicate (length t.states) false; waiting = [] }) (initial t) =
     is ∙ ap (visited w) first ∙ ap (λ x. visited x (initial t)) (new ∙ ap (λ k. record { marked = replicate k false; waiting = [] }) count)
-        in
+    in
     subst (Marking t) (sym e) (marking_first t)
 
 pub end_by : (t : Typestate) (w n : Walked) (marked : List Bool) → Marking t w → n.marked ≡ w.marked → w.waiting ≡ [] → marked ≡ n.marked →

@@ -54,8 +54,11 @@ visits_end w = record {
   keeps = λ q h. h;
   stays = λ q h. h;
   only = λ q h. inl h;
-  all = λ q h. elim (first_or_behind tos.End [] (tos.State q) h) [ inl e ↦ absurd (end_is_no_state q e) | inr none ↦ absurd
-      (omega (arith, none.1)) ];
+  all = λ q h. elim (first_or_behind tos.End [] (tos.State q) h) [
+    | inl e ↦ absurd (end_is_no_state q e)
+    | inr none ↦ absurd
+        (omega (arith, none.1))
+  ];
   waits = λ q h. inl h;
   marks = λ q h. inl h;
   same_left = refl;
@@ -70,8 +73,10 @@ visits_met w p met = record {
   keeps = λ q h. h;
   stays = λ q h. h;
   only = λ q h. inl h;
-  all = λ q h. elim (first_or_behind (tos.State p) [] (tos.State q) h) [ inl e ↦ subst (λ k. has w.marked k ≡ true) (same_state q e) met
-      | inr none ↦ absurd (omega (arith, none.1)) ];
+  all = λ q h. elim (first_or_behind (tos.State p) [] (tos.State q) h) [
+    | inl e ↦ subst (λ k. has w.marked k ≡ true) (same_state q e) met
+    | inr none ↦ absurd (omega (arith, none.1))
+  ];
   waits = λ q h. inl h;
   marks = λ q h. inl h;
   same_left = refl;
@@ -86,15 +91,23 @@ visits_new w p new within = record {
   wide = length-set w.marked p true;
   keeps = λ q h. has-set w.marked p q within h;
   stays = λ q h. Contains-append_left w.waiting (p ∷ []) q h;
-  only = λ q h. elim (cases_eq q p) [ inl e ↦ inr (subst (λ k. Contains (tos.State p ∷ []) (tos.State k)) (sym e) (here (tos.State p) []))
-      | inr ne ↦ inl (sym (get_or-set_other w.marked p q true false ne) ∙ h) ];
-  all = λ q h. elim (first_or_behind (tos.State p) [] (tos.State q) h) [ inl e ↦ subst (λ k. has (set w.marked p true) k ≡ true)
-      (same_state q e) (get_or-set_same w.marked p true false within) | inr none ↦ absurd (omega (arith, none.1)) ];
-  waits = λ q h. elim (cases_eq q p) [ inl e ↦ inr (subst (Contains (w.waiting ++ p ∷ [])) (sym e) (Contains-push w.waiting p))
-      | inr ne ↦ inl (sym (get_or-set_other w.marked p q true false ne) ∙ h) ];
-  marks = λ q h. elim (Contains-push_cases w.waiting p q h)
-      [ inl old ↦ inl old | inr e ↦ inr (subst (λ k. has (set w.marked p true) k ≡ true) e (get_or-set_same w.marked p true false within))
-      ];
+  only = λ q h. elim (cases_eq q p) [
+    | inl e ↦ inr (subst (λ k. Contains (tos.State p ∷ []) (tos.State k)) (sym e) (here (tos.State p) []))
+    | inr ne ↦ inl (sym (get_or-set_other w.marked p q true false ne) ∙ h)
+  ];
+  all = λ q h. elim (first_or_behind (tos.State p) [] (tos.State q) h) [
+    | inl e ↦ subst (λ k. has (set w.marked p true) k ≡ true)
+        (same_state q e) (get_or-set_same w.marked p true false within)
+    | inr none ↦ absurd (omega (arith, none.1))
+  ];
+  waits = λ q h. elim (cases_eq q p) [
+    | inl e ↦ inr (subst (Contains (w.waiting ++ p ∷ [])) (sym e) (Contains-push w.waiting p))
+    | inr ne ↦ inl (sym (get_or-set_other w.marked p q true false ne) ∙ h)
+  ];
+  marks = λ q h. elim (Contains-push_cases w.waiting p q h) [
+    | inl old ↦ inl old
+    | inr e ↦ inr (subst (λ k. has (set w.marked p true) k ≡ true) e (get_or-set_same w.marked p true false within))
+  ];
   same_left = omega (arith, missing-set w.marked p within new, length-append w.waiting (p ∷ []));
 } where
   same_state : (q : ℕ) → tos.State p ≡ tos.State q → p ≡ q
@@ -113,14 +126,19 @@ visits_append xs ys w v u a b = record {
   wide = b.wide ∙ a.wide;
   keeps = λ q h. b.keeps q (a.keeps q h);
   stays = λ q h. b.stays q (a.stays q h);
-  only = λ q h. elim (b.only q h)
-      [ inl old ↦ elim (a.only q old) [ inl first ↦ inl first | inr x ↦ inr (Contains-append_left xs ys (tos.State q) x) ]
-      | inr y ↦ inr (Contains-append_right xs ys (tos.State q) y) ];
+  only = λ q h. elim (b.only q h) [
+    | inl old ↦ elim (a.only q old) [ inl first ↦ inl first | inr x ↦ inr (Contains-append_left xs ys (tos.State q) x) ]
+    | inr y ↦ inr (Contains-append_right xs ys (tos.State q) y)
+  ];
   all = λ q h. elim (Contains-append_cases xs ys (tos.State q) h) [ inl x ↦ b.keeps q (a.all q x) | inr y ↦ b.all q y ];
-  waits = λ q h. elim (b.waits q h) [ inl old ↦ elim (a.waits q old) [ inl first ↦ inl first | inr x ↦ inr (b.stays q x) ]
-      | inr y ↦ inr y ];
-  marks = λ q h. elim (b.marks q h) [ inl old ↦ elim (a.marks q old) [ inl first ↦ inl first | inr x ↦ inr (b.keeps q x) ]
-      | inr y ↦ inr y ];
+  waits = λ q h. elim (b.waits q h) [
+    | inl old ↦ elim (a.waits q old) [ inl first ↦ inl first | inr x ↦ inr (b.stays q x) ]
+    | inr y ↦ inr y
+  ];
+  marks = λ q h. elim (b.marks q h) [
+    | inl old ↦ elim (a.marks q old) [ inl first ↦ inl first | inr x ↦ inr (b.keeps q x) ]
+    | inr y ↦ inr y
+  ];
   same_left = b.same_left ∙ a.same_left;
 }
 
@@ -167,7 +185,7 @@ pub method-within : (ms : List KeptMethod) (i : ℕ) (m : KeptMethod) (n : ℕ) 
     Contains (targets_of (method_of m)) to → IsWithin (length w.marked) to
 method-within ms i m n within lt e w wide to h =
     subst (λ k. IsWithin k to) (sym wide)
-        (within to (targets_in-from (map method_of ms) (method_of m) to (in_map method_of ms m (at_index ms i m lt e)) h))
+    (within to (targets_in-from (map method_of ms) (method_of m) to (in_map method_of ms m (at_index ms i m lt e)) h))
 
 pub methods-drop : (w : Walked) (ms : List KeptMethod) (i : ℕ) (m : KeptMethod) → i < length ms → m ≡ get_or ms i m →
     fold visited w (targets_in (map method_of (drop i ms))) ≡ fold visited (fold visited w (targets_of (method_of m)))

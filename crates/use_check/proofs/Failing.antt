@@ -39,7 +39,7 @@ module _ {X A : Type 0} (f : X → List A) (all : List A) (cs : List X) (d : X) 
       Some x ≡ slice_get all 0
   rest_first i x lt e h =
       first_of (f (get_or cs i d)) (flat_map f (drop (i + 1) cs)) x e ∙ ap (λ xs. slice_get xs 0)
-          (sym (h ∙ at_drop_more (flat_map f) cs i d lt))
+      (sym (h ∙ at_drop_more (flat_map f) cs i d lt))
 
   pub rest_end : (i : ℕ) → length cs ≤ i → all ≡ flat_map f (drop i cs) → None ≡ slice_get all 0
   rest_end i past h = ap (λ xs. slice_get xs 0) (sym (h ∙ at_drop_all (flat_map f) cs i past))

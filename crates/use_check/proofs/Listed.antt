@@ -22,7 +22,7 @@ module _ {A B : Type 0} (line : ℕ → B → Name) (view : A → B) where
       out ++ in_order line i (map view (drop i xs)) ≡ total → out' ++ in_order line (i + 1) (map view (drop (i + 1) xs)) ≡ total
   order_next xs i x out out' total lt at e h =
       one (λ (k : ℕ) (s : List A). in_order line k (map view s)) (λ k y. line k (view y)) (λ k y s. refl) (λ k. refl) i x xs out out' total
-          lt at e h
+      lt at e h
 
   pub order_next_at : (xs : List A) (i : ℕ) (d : A) (out out' total : Name) → i < length xs → out' ≡ out ++ line i (view (get_or xs i d)) →
       out ++ in_order line i (map view (drop i xs)) ≡ total → out' ++ in_order line (i + 1) (map view (drop (i + 1) xs)) ≡ total

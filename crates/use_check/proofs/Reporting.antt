@@ -32,11 +32,11 @@ one_report p a b x y =
     let r : y.reached ≡ x.reached = reached_same p y.reached x.reached y.are x.are in
     let least : Least p x.reached y.tables = subst (λ r. Least p r y.tables) r y.least in
     let same : (λ key. members (x.tables key)) ≡ (λ key. members (y.tables key)) = each_key (λ key. members (x.tables key))
-          (λ key. members (y.tables key))
+    (λ key. members (y.tables key))
     (λ key. members_same 0 (x.tables key) (y.tables key) (x.least.within y.tables least.closed key).within
-        (least.within x.tables x.least.closed key).within) in
+    (least.within x.tables x.least.closed key).within) in
     x.is ∙ ap (λ e. lines (record { program = p; reached = x.reached; elements = e })) same ∙ ap (λ r. report_text p r y.tables) (sym r) ∙
-        sym y.is
+    sym y.is
 
 pub is_report : (p : Program) (t : held.Tables) (text : Name) → AreAnswer p t → text ≡ report_text p (reached_of t) (tables_of t) →
     IsReport p text

@@ -38,7 +38,7 @@ pub field_listed : (table : FieldTable) (i : ℕ) (d : CoreField) (ds : List Cor
     d ≡ get_or ds i d →
     es' ≡ es ++ entry_if (key_in table i) (class_in d.ty) →
     es ++ listed_from (field_entry (key_in table)) i (map field_of (drop i ds)) ≡ total → es' ++ listed_from (field_entry (key_in table))
-        (i + 1) (map field_of (drop (i + 1) ds)) ≡ total
+    (i + 1) (map field_of (drop (i + 1) ds)) ≡ total
 field_listed table = turn field_of (field_entry (key_in table))
 
 pub fields_listed : (table : FieldTable) (i : ℕ) (ds : List CoreField) (es total : List Entry) → length ds ≤ i →
@@ -50,11 +50,11 @@ pub ruleset fields = (field_listed, fields_listed)
 pub state_listed : (c : ℕ) (ds : List Field) (i : ℕ) (ss : List KeptState) (es es' total : List Entry) → i < length ss →
     es' ≡ es ++ field_entries (keys.Field c i) ds →
     es ++ listed_from (state_entry c ds) i (map state_of (drop i ss)) ≡ total → es' ++ listed_from (state_entry c ds) (i + 1)
-        (map state_of (drop (i + 1) ss)) ≡ total
+    (map state_of (drop (i + 1) ss)) ≡ total
 state_listed c ds i [] es es' total lt = absurd (omega (arith, lt))
 state_listed c ds i (s ∷ ss) es es' total lt =
     turn state_of (state_entry c ds) i (get_or (s ∷ ss) i s) (s ∷ ss) es es' total lt
-        (sym (get_or_default (s ∷ ss) i (get_or (s ∷ ss) i s) s lt))
+    (sym (get_or_default (s ∷ ss) i (get_or (s ∷ ss) i s) s lt))
 
 pub states_listed : (c : ℕ) (ds : List Field) (i : ℕ) (ss : List KeptState) (es total : List Entry) → length ss ≤ i →
     es ++ listed_from (state_entry c ds) i (map state_of (drop i ss)) ≡ total → es ≡ total
@@ -66,7 +66,7 @@ pub class_listed : (p : Program) (i : ℕ) (k : CoreClass) (ks : List CoreClass)
     k ≡ get_or ks i k →
     es' ≡ es ++ class_entries p i (class_of k) →
     es ++ listed_from (class_entries p) i (map class_of (drop i ks)) ≡ total → es' ++ listed_from (class_entries p) (i + 1)
-        (map class_of (drop (i + 1) ks)) ≡ total
+    (map class_of (drop (i + 1) ks)) ≡ total
 class_listed p = turn class_of (class_entries p)
 
 pub classes_listed : (p : Program) (i : ℕ) (ks : List CoreClass) (es total : List Entry) → length ks ≤ i →
@@ -79,7 +79,7 @@ pub method_listed : (p : Program) (i : ℕ) (m : CoreMethod) (ms : List CoreMeth
     m ≡ get_or ms i m →
     es' ≡ es ++ method_entries p i (method_of m) →
     es ++ listed_from (method_entries p) i (map method_of (drop i ms)) ≡ total → es' ++ listed_from (method_entries p) (i + 1)
-        (map method_of (drop (i + 1) ms)) ≡ total
+    (map method_of (drop (i + 1) ms)) ≡ total
 method_listed p = turn method_of (method_entries p)
 
 pub methods_listed : (p : Program) (i : ℕ) (ms : List CoreMethod) (es total : List Entry) → length ms ≤ i →
@@ -91,7 +91,7 @@ pub ruleset methods = (method_listed, methods_listed)
 pub param_listed : (c : ℕ) (i : ℕ) (s : CoreSlot) (ss : List CoreSlot) (es es' total : List Entry) → i < length ss → s ≡ get_or ss i s →
     es' ≡ es ++ entry_if (keys.Param c i) (class_in s.ty) →
     es ++ listed_from (param_entry c) i (map (λ s. s.ty) (drop i ss)) ≡ total → es' ++ listed_from (param_entry c) (i + 1)
-        (map (λ s. s.ty) (drop (i + 1) ss)) ≡ total
+    (map (λ s. s.ty) (drop (i + 1) ss)) ≡ total
 param_listed c = turn (λ (s : CoreSlot). s.ty) (param_entry c)
 
 pub params_listed : (c : ℕ) (i : ℕ) (ss : List CoreSlot) (es total : List Entry) → length ss ≤ i →
@@ -115,7 +115,7 @@ pub loop_listed : (p : Program) (c : ℕ) (m : Method) (i : ℕ) (l : CoreLoop) 
     → l ≡ get_or ls i l →
     es' ≡ es ++ loop_entries p c m i (loop_of l) →
     es ++ listed_from (loop_entries p c m) i (map loop_of (drop i ls)) ≡ total → es' ++ listed_from (loop_entries p c m) (i + 1)
-        (map loop_of (drop (i + 1) ls)) ≡ total
+    (map loop_of (drop (i + 1) ls)) ≡ total
 loop_listed p c m = turn loop_of (loop_entries p c m)
 
 pub loops_listed : (p : Program) (c : ℕ) (m : Method) (i : ℕ) (ls : List CoreLoop) (es total : List Entry) → length ls ≤ i →

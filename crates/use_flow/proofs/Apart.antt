@@ -97,13 +97,16 @@ offering_rise t name k (q ∷ qs) r = picked (is_some (offered t q name)) k q (o
 state_apart : (c n q r : ℕ) → q < r → same_context (contexts.Protocol c r n) (contexts.Protocol c q n) ≡ false
 state_apart c n q r lt = unless_true (same_context (contexts.Protocol c r n) (contexts.Protocol c q n)) (λ e.
     let same = eqb-true r q (both (nat_eq r q) (nat_eq n n) (both (nat_eq c c) (nat_eq r q && nat_eq n n) e).1).0 in omega
-        (arith, same, lt))
+    (arith, same, lt))
 
 later_apart : (c n q k : ℕ) (qs : List ℕ) → q < k → Rising k qs → AllByRecursion (λ y. same_context y (contexts.Protocol c q n) ≡ false)
     (in_states c n qs)
 later_apart c n q k [] lt r = tt
-later_apart c n q k (s ∷ qs) lt r = let le : k ≤ s = r.0 in (state_apart c n q s (omega (arith, le, lt)), later_apart c n q (suc s) qs
-    (omega (arith, le, lt)) r.1)
+later_apart c n q k (s ∷ qs) lt r = let le : k ≤ s = r.0 in (
+  state_apart c n q s (omega (arith, le, lt)),
+  later_apart c n q (suc s) qs
+      (omega (arith, le, lt)) r.1,
+)
 
 states_apart : (c n k : ℕ) (qs : List ℕ) → Rising k qs → AreApart (in_states c n qs)
 states_apart c n k [] r = tt
@@ -134,8 +137,10 @@ module _ (p : Program) (reached : List (List Bool)) where
   method_apart : (n : ℕ) (m : Method) → AreApart (contexts_of p reached n m)
   method_apart n m = go m.kind
     where
-      go : (k : MethodKind) → AreApart (elim k as (λ _. List Context) [ kinds.Protocol ↦ in_states m.class n (offering m)
-          | _ ↦ contexts.Plain n ∷ [] ])
+      go : (k : MethodKind) → AreApart (elim k as (λ _. List Context) [
+        | kinds.Protocol ↦ in_states m.class n (offering m)
+        | _ ↦ contexts.Plain n ∷ []
+      ])
       go kinds.Main = (tt, tt)
       go kinds.Static = (tt, tt)
       go kinds.Helper = (tt, tt)
@@ -145,8 +150,10 @@ module _ (p : Program) (reached : List (List Bool)) where
   method_of : (n : ℕ) (m : Method) → AreOf n (contexts_of p reached n m)
   method_of n m = go m.kind
     where
-      go : (k : MethodKind) → AreOf n (elim k as (λ _. List Context) [ kinds.Protocol ↦ in_states m.class n (offering m)
-          | _ ↦ contexts.Plain n ∷ [] ])
+      go : (k : MethodKind) → AreOf n (elim k as (λ _. List Context) [
+        | kinds.Protocol ↦ in_states m.class n (offering m)
+        | _ ↦ contexts.Plain n ∷ []
+      ])
       go kinds.Main = (refl, tt)
       go kinds.Static = (refl, tt)
       go kinds.Helper = (refl, tt)
@@ -181,7 +188,7 @@ not_among : (ks rest : List Context) (x : Context) → AreApart (ks ++ x ∷ res
 not_among [] rest x a = refl
 not_among (k ∷ ks) rest x a =
     ap (λ b. b || list_any (context_eq x) ks) (same_eq x k ∙ every_middle (λ y. same_context y k ≡ false) ks rest x a.0) ∙ not_among ks rest
-        x a.1
+    x a.1
 
 pub inserted : (cs : List Context) (i : ℕ) (d : Context) (ks ks' : List Context) → i < length cs →
     ks' ≡ insert_key context_eq ks (get_or cs i d) →

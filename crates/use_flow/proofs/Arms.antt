@@ -45,7 +45,7 @@ module _ (s : Followed) (w : ℕ) (sets : List Set) (log : Log) (x : CoreExpr) w
     binary_is o is =
         is_form x (E.Binary o a b) _ is (kind-Binary o a b x.place
         ∙ ap (λ (z : CoreExpr). Binary x.place o (expr_of z) (expr_of b.value)) (sym el) ∙
-            ap (λ (z : CoreExpr). Binary x.place o (expr_of l) (expr_of z)) (sym er))
+        ap (λ (z : CoreExpr). Binary x.place o (expr_of l) (expr_of z)) (sym er))
 
     pub equals_as : (n : Now) → x.kind ≡ E.Equals a b → alike [] n la ≡ settled (eval s 0 (expr_of l) (Some sets) log) →
         evaluated_of v lv ≡ settled (eval s 0 (expr_of r) n la) → evaluated_of v lv ≡ eval s w (expr_of x) (Some sets) log
@@ -53,7 +53,7 @@ module _ (s : Followed) (w : ℕ) (sets : List Set) (log : Log) (x : CoreExpr) w
         seen_as (Equals x.place (expr_of l) (expr_of r)) _
         (is_form x (E.Equals a b) _ is (kind-Equals a b x.place
         ∙ ap (λ (z : CoreExpr). Equals x.place (expr_of z) (expr_of b.value)) (sym el) ∙
-            ap (λ (z : CoreExpr). Equals x.place (expr_of l) (expr_of z)) (sym er)))
+        ap (λ (z : CoreExpr). Equals x.place (expr_of l) (expr_of z)) (sym er)))
         (operands_from s sets log (expr_of l) (expr_of r) la lv v n en ev)
 
     pub concat_as : (n : Now) → x.kind ≡ E.Concat a b → alike [] n la ≡ settled (eval s 0 (expr_of l) (Some sets) log) →
@@ -62,7 +62,7 @@ module _ (s : Followed) (w : ℕ) (sets : List Set) (log : Log) (x : CoreExpr) w
         seen_as (Concat x.place (expr_of l) (expr_of r)) _
         (is_form x (E.Concat a b) _ is (kind-Concat a b x.place
         ∙ ap (λ (z : CoreExpr). Concat x.place (expr_of z) (expr_of b.value)) (sym el) ∙
-            ap (λ (z : CoreExpr). Concat x.place (expr_of l) (expr_of z)) (sym er)))
+        ap (λ (z : CoreExpr). Concat x.place (expr_of l) (expr_of z)) (sym er)))
         (operands_from s sets log (expr_of l) (expr_of r) la lv v n en ev)
 
     pub and_as : (o : Op) (h f : Now) → x.kind ≡ E.Binary o a b → o ≡ ops.And →
@@ -85,13 +85,13 @@ module _ (s : Followed) (w : ℕ) (sets : List Set) (log : Log) (x : CoreExpr) w
     other_as o n is none na nor en ev =
         seen_as (Binary x.place o (expr_of l) (expr_of r)) _ (binary_is o is)
         (operands_from s sets log (expr_of l) (expr_of r) la lv v n en ev ∙ binary_other s sets log w x.place o (expr_of l) (expr_of r) none
-            na nor)
+        na nor)
 
     pub test_as : (o : Op) (t : NullTest) → x.kind ≡ E.Binary o a b → Some t ≡ null_test o (expr_of l) (expr_of r) →
         evaluated_of v lv ≡ null_tested s t sets log → evaluated_of v lv ≡ eval s w (expr_of x) (Some sets) log
     test_as o t is some ev =
         seen_as (Binary x.place o (expr_of l) (expr_of r)) _ (binary_is o is) (ev ∙ binary_tests s sets log w x.place o (expr_of l)
-            (expr_of r) t some)
+        (expr_of r) t some)
 
   module _ (m : ℕ) (args : Row CoreExpr) (given : List CoreExpr) (eg : given ≡ args.items) (lv : Log) (v : Value) where
     pub protocol_as : (y : CoreVar) → x.kind ≡ E.Protocol y m args → evaluated_of v lv ≡ called_protocol s y m
@@ -100,20 +100,20 @@ module _ (s : Followed) (w : ℕ) (sets : List Set) (log : Log) (x : CoreExpr) w
     protocol_as y is ev =
         seen_as (Protocol x.place y m (exprs_of (map expr_of given))) _
         (is_form x (E.Protocol y m args) _ is (kind-Protocol y m args x.place ∙
-            ap (λ (z : List CoreExpr). Protocol x.place y m (exprs_of (map expr_of z))) (sym eg))) ev
+        ap (λ (z : List CoreExpr). Protocol x.place y m (exprs_of (map expr_of z))) (sym eg))) ev
 
     pub helper_as : x.kind ≡ E.Helper m args → evaluated_of v lv ≡ called_helper s m (exprs_of (map expr_of given)) sets log →
         evaluated_of v lv ≡ eval s w (expr_of x) (Some sets) log
     helper_as is ev =
         seen_as (Helper x.place m (exprs_of (map expr_of given))) _
         (is_form x (E.Helper m args) _ is
-            (kind-Helper m args x.place ∙ ap (λ (z : List CoreExpr). Helper x.place m (exprs_of (map expr_of z))) (sym eg))) ev
+        (kind-Helper m args x.place ∙ ap (λ (z : List CoreExpr). Helper x.place m (exprs_of (map expr_of z))) (sym eg))) ev
 
     pub static_as : x.kind ≡ E.Static m args → evaluated_of v lv ≡ called_static s m (exprs_of (map expr_of given)) sets log →
         evaluated_of v lv ≡ eval s w (expr_of x) (Some sets) log
     static_as is ev =
         seen_as (Static x.place m (exprs_of (map expr_of given))) _
         (is_form x (E.Static m args) _ is
-            (kind-Static m args x.place ∙ ap (λ (z : List CoreExpr). Static x.place m (exprs_of (map expr_of z))) (sym eg))) ev
+        (kind-Static m args x.place ∙ ap (λ (z : List CoreExpr). Static x.place m (exprs_of (map expr_of z))) (sym eg))) ev
 
 pub ruleset arms = (views, protocol_as, helper_as, static_as, neg_as, not_as, equals_as, concat_as, and_as, or_as, other_as, test_as)

@@ -40,7 +40,7 @@ inserted-any k n (x ∷ xs) = go (inserted-any k n xs) (nat_cmp n x) (ranked n x
     go : list_any (nat_eq k) (insert_key nat_cmp xs n) ≡ (nat_eq k n || list_any (nat_eq k) xs) → (o : Ordering) →
         MatchOrdering o (n < x) (n ≡ x) (x < n) →
         list_any (nat_eq k) (match_ordering o (n ∷ x ∷ xs) (x ∷ xs) (x ∷ insert_key nat_cmp xs n)) ≡
-            (nat_eq k n || (nat_eq k x || list_any (nat_eq k) xs))
+        (nat_eq k n || (nat_eq k x || list_any (nat_eq k) xs))
     go rest Less h = refl
     go rest Equal h = ap (λ y. nat_eq k y || list_any (nat_eq k) xs) (sym h) ∙ doubled (nat_eq k n) (list_any (nat_eq k) xs) ∙
         ap (λ y. nat_eq k n || (nat_eq k y || list_any (nat_eq k) xs)) h
@@ -51,7 +51,7 @@ risen-any k [] ks = refl
 risen-any k (n ∷ ns) ks =
     risen-any k ns (insert_key nat_cmp ks n) ∙ ap (λ b. list_any (nat_eq k) ns || b) (inserted-any k n ks)
     ∙ swapped (list_any (nat_eq k) ns) (nat_eq k n) (list_any (nat_eq k) ks) ∙ regrouped (nat_eq k n) (list_any (nat_eq k) ns)
-        (list_any (nat_eq k) ks)
+    (list_any (nat_eq k) ks)
   where
     regrouped : (a b c : Bool) → (a || (b || c)) ≡ ((a || b) || c)
     regrouped true b c = refl
@@ -99,7 +99,7 @@ module _ {X Y : Type 0} (g : ℕ → X → List Y) where
   chosen-same ns ms i (x ∷ xs) h =
       ap (λ b. (if b then g i x else []) ++ chosen ns (suc i) xs) (h i (omega arith))
       ∙ ap (λ r. (if list_any (nat_eq i) ms then g i x else []) ++ r)
-          (chosen-same ns ms (suc i) xs (λ j le. h j (let l : suc i ≤ j = le in omega (arith, l))))
+      (chosen-same ns ms (suc i) xs (λ j le. h j (let l : suc i ≤ j = le in omega (arith, l))))
 
   chosen-none : (i : ℕ) (xs : List X) → chosen [] i xs ≡ []
   chosen-none i [] = refl
@@ -132,22 +132,22 @@ module _ {X Y : Type 0} (g : ℕ → X → List Y) where
   chosen-each f i [] (x ∷ xs) a s = chosen-none (suc i) xs
   chosen-each f i (k ∷ ks) (x ∷ xs) a s =
       ⊎_elim (below (λ b. chosen-each f (suc i) (k ∷ ks) xs b (stands-rest f i x xs s)))
-          (here (λ b. chosen-each f (suc i) ks xs b (stands-rest f i x xs s))) (cases_lt i k)
+      (here (λ b. chosen-each f (suc i) ks xs b (stands-rest f i x xs s))) (cases_lt i k)
     where
       below : (Ascend (suc i) (k ∷ ks) → chosen (k ∷ ks) (suc i) xs ≡ flat_map f (k ∷ ks)) → i < k → chosen (k ∷ ks) i (x ∷ xs) ≡ flat_map f
           (k ∷ ks)
       below rest lt =
           ap (λ b. (if b then g i x else []) ++ chosen (k ∷ ks) (suc i) xs)
-              (above-any i (suc i) (k ∷ ks) (omega arith) ((let l : i < k = lt in omega (arith, l)), a.1))
+          (above-any i (suc i) (k ∷ ks) (omega arith) ((let l : i < k = lt in omega (arith, l)), a.1))
           ∙ rest ((let l : i < k = lt in omega (arith, l)), a.1)
 
       here : (Ascend (suc i) ks → chosen ks (suc i) xs ≡ flat_map f ks) → k ≤ i → chosen (k ∷ ks) i (x ∷ xs) ≡ flat_map f (k ∷ ks)
       here rest le =
           let same : k ≡ i = (let h = a.0 in let l : k ≤ i = le in omega (arith, h, l)) in
           ap (λ b. (if b then g i x else []) ++ chosen (k ∷ ks) (suc i) xs) (ap (λ n. nat_eq i n || list_any (nat_eq i) ks) same ∙
-              ap (λ b. b || list_any (nat_eq i) ks) (equal-same i))
+          ap (λ b. b || list_any (nat_eq i) ks) (equal-same i))
           ∙ ap (λ r. g i x ++ r) (chosen-same (k ∷ ks) ks (suc i) xs
-              (λ j h. ap (λ b. b || list_any (nat_eq j) ks) (equal-below j k (let l : suc i ≤ j = h in omega (arith, l, same))))
+          (λ j h. ap (λ b. b || list_any (nat_eq j) ks) (equal-below j k (let l : suc i ≤ j = h in omega (arith, l, same))))
           ∙ rest (subst (λ n. Ascend (suc n) ks) same a.1))
           ∙ ap (λ r. r ++ flat_map f ks) (sym (ap f same ∙ s.each 0 i (omega arith)))
 

@@ -44,7 +44,7 @@ fields-from : (to : ℕ → TableKey) (i : ℕ) (ds : List Field) → keys_in (l
 fields-from to i [] = refl
 fields-from to i (d ∷ ds) =
     joined (entry_if (to i) (class_in d.ty)) (listed_from (field_entry to) (suc i) ds) (key_if (to i) (class_in d.ty))
-        (field_keys to (suc i) ds)
+    (field_keys to (suc i) ds)
     (if-keys (to i) (class_in d.ty)) (fields-from to (suc i) ds)
 
 own-fields : (p : Program) (c : ℕ) (to : ℕ → TableKey) → keys_in (field_entries to (fields_of p c)) ≡ field_keys to 0 (fields_in p c)
@@ -54,7 +54,7 @@ params-from : (c i : ℕ) (tys : List CoreType) → keys_in (listed_from (param_
 params-from c i [] = refl
 params-from c i (ty ∷ tys) =
     joined (entry_if (keys.Param c i) (class_in ty)) (listed_from (param_entry c) (suc i) tys) (key_if (keys.Param c i) (class_in ty))
-        (param_keys c (suc i) tys)
+    (param_keys c (suc i) tys)
     (if-keys (keys.Param c i) (class_in ty)) (params-from c (suc i) tys)
 
 -- what stands for each number, whatever its place
@@ -78,7 +78,7 @@ module _ (m : Method) (c l : ℕ) (scope : List ℕ) where
 
   slot-found : (k : ℕ) (o : Option Slot) →
       key_if (keys.Loop c l k) (option_and_then class_in (option_map (λ s. s.ty) o)) ≡ elim o as (λ _. List TableKey)
-          [ None ↦ [] | Some s ↦ slot-key k s ]
+      [ None ↦ [] | Some s ↦ slot-key k s ]
   slot-found k None = refl
   slot-found k (Some s) = refl
 
@@ -87,7 +87,7 @@ module _ (m : Method) (c l : ℕ) (scope : List ℕ) where
     each = λ j k e.
         let same : k ≡ j = omega (arith, e) in
         slot-found k (slice_get m.slots k) ∙
-            ap (λ i. elim (slice_get m.slots i) as (λ _. List TableKey) [ None ↦ [] | Some s ↦ slot-key k s ]) same;
+        ap (λ i. elim (slice_get m.slots i) as (λ _. List TableKey) [ None ↦ [] | Some s ↦ slot-key k s ]) same;
   }
 
   scope-keys : keys_in (scope_entries m c l (rising scope)) ≡ slot_keys c l scope 0 m.slots
@@ -102,10 +102,14 @@ module _ (p : Program) (c : ℕ) (m : Method) where
   head-keys l = go m.kind
     where
       go : (k : MethodKind) →
-          keys_in (elim k as (λ _. List Entry) [ kinds.Protocol ↦ field_entries (head_key m c l) (fields_of p m.class) | kinds.Helper ↦
-              field_entries (head_key m c l) (fields_of p m.class) | _ ↦ [] ])
+          keys_in (elim k as (λ _. List Entry) [
+            | kinds.Protocol ↦ field_entries (head_key m c l) (fields_of p m.class)
+            | kinds.Helper ↦
+                field_entries (head_key m c l) (fields_of p m.class)
+            | _ ↦ []
+          ])
           ≡ (if elim k as (λ _. Bool) [ kinds.Protocol ↦ true | kinds.Helper ↦ true | _ ↦ false ] then field_keys
-              (λ f. keys.Loop c l (length m.slots + f)) 0 (fields_in p m.class) else [])
+          (λ f. keys.Loop c l (length m.slots + f)) 0 (fields_in p m.class) else [])
       go kinds.Protocol = own-fields p m.class (head_key m c l)
       go kinds.Helper = own-fields p m.class (head_key m c l)
       go kinds.Main = refl
@@ -116,9 +120,9 @@ module _ (p : Program) (c : ℕ) (m : Method) where
   loops-from l (x ∷ xs) =
       let heads = if is_instance m then field_keys (λ f. keys.Loop c l (length m.slots + f)) 0 (fields_in p m.class) else [] in
       joined (loop_entry p c m l x) (listed_from (loop_entry p c m) (suc l) xs) (slot_keys c l x.scope 0 m.slots ++ heads)
-          (loop_keys p c m (suc l) xs)
+      (loop_keys p c m (suc l) xs)
       (joined (scope_entries m c l (rising x.scope)) (head_entries p c m l) (slot_keys c l x.scope 0 m.slots) heads
-          (scope-keys m c l x.scope) (head-keys l))
+      (scope-keys m c l x.scope) (head-keys l))
       (loops-from (suc l) xs)
 
 -- Fields as helpers leave them.
@@ -138,7 +142,7 @@ module _ (p : Program) (ns : List ℕ) where
   leaves-chosen n [] = refl
   leaves-chosen n (m ∷ ms) =
       ap (λ r. r ++ leave_keys p ns (suc n) ms)
-          (and-if (is_helper m) (list_any (nat_eq n) ns) (field_keys (keys.Leave n) 0 (fields_in p m.class)))
+      (and-if (is_helper m) (list_any (nat_eq n) ns) (field_keys (keys.Leave n) 0 (fields_in p m.class)))
       ∙ ap (λ r. (if list_any (nat_eq n) ns then leave-key n m else []) ++ r) (leaves-chosen (suc n) ms)
 
   leaves-stand : Stands leave-key leave-at 0 p.methods
@@ -151,8 +155,10 @@ module _ (p : Program) (ns : List ℕ) where
   left-keys : (n : ℕ) (m : Method) → keys_in (leave_of p n m) ≡ leave-key n m
   left-keys n m = go m.kind
     where
-      go : (k : MethodKind) → keys_in (elim k as (λ _. List Entry) [ kinds.Helper ↦ field_entries (keys.Leave n) (fields_of p m.class)
-          | _ ↦ [] ])
+      go : (k : MethodKind) → keys_in (elim k as (λ _. List Entry) [
+        | kinds.Helper ↦ field_entries (keys.Leave n) (fields_of p m.class)
+        | _ ↦ []
+      ])
           ≡ (if elim k as (λ _. Bool) [ kinds.Helper ↦ true | _ ↦ false ] then field_keys (keys.Leave n) 0 (fields_in p m.class) else [])
       go kinds.Helper = own-fields p m.class (keys.Leave n)
       go kinds.Protocol = refl
@@ -223,7 +229,7 @@ module _ (p : Program) (reached : List (List Bool)) where
       let same : x ≡ m = cc in
       let here : k ≡ n = omega (arith, h) in
       head-start (i + length (entered n x)) (suc n) ms ∙ ap (λ y. i + length (entered n y)) same ∙ ap (λ l. i + length (entered l m))
-          (sym here)
+      (sym here)
   next-start i n (suc j) k (x ∷ ms) m e h = next-start (i + length (entered n x)) (suc n) j k ms m e (omega (arith, h))
 
   abbrev start : ℕ → ℕ
@@ -248,13 +254,13 @@ module _ (p : Program) (reached : List (List Bool)) where
         ≡ (if list_any (nat_eq n) ns then run-keys (result_class p n) i (length xs) else []) ++ result_keys p ns (i + length xs) ys
     results-of n i [] ys a =
         (let z : i ≡ i + zero = omega arith in ap (λ k. result_keys p ns k ys) z) ∙ no-part (list_any (nat_eq n) ns)
-            (result_keys p ns (i + zero) ys)
+        (result_keys p ns (i + zero) ys)
     results-of n i (x ∷ xs) ys a =
         ap (λ k. (if list_any (nat_eq k) ns then key_if (keys.Result i) (result_class p k) else []) ++ result_keys p ns (suc i) (xs ++ ys))
-            a.0
+        a.0
         ∙ ap (λ r. (if list_any (nat_eq n) ns then key_if (keys.Result i) (result_class p n) else []) ++ r) (results-of n (suc i) xs ys a.1)
         ∙ two-parts (list_any (nat_eq n) ns) (key_if (keys.Result i) (result_class p n)) (run-keys (result_class p n) (suc i) (length xs))
-            (result_keys p ns (suc i + length xs) ys)
+        (result_keys p ns (suc i + length xs) ys)
         ∙ (let z : suc i + length xs ≡ i + suc (length xs) = omega arith in
         ap (λ k. (if list_any (nat_eq n) ns then run-keys (result_class p n) i (suc (length xs)) else []) ++ result_keys p ns k ys) z)
 
@@ -267,7 +273,7 @@ module _ (p : Program) (reached : List (List Bool)) where
     results-chosen i n (m ∷ ms) s =
         results-of n i (entered n m) (contexts_from p reached (suc n) ms) (entered-of n m)
         ∙ ap (λ k. (if list_any (nat_eq n) ns then run-keys (result_class p n) k (length (entered n m)) else []) ++ result_keys p ns
-            (i + length (entered n m)) (contexts_from p reached (suc n) ms))
+        (i + length (entered n m)) (contexts_from p reached (suc n) ms))
         (sym (s.each 0 n (omega arith)))
         ∙ ap (λ r. (if list_any (nat_eq n) ns then result-key n m else []) ++ r)
         (results-chosen (i + length (entered n m)) (suc n) ms (record { each = λ j k e. s.each (suc j) k (omega (arith, e)) }))
@@ -297,7 +303,7 @@ module _ (p : Program) (reached : List (List Bool)) where
       each = λ j k e.
           let same : k ≡ j = omega (arith, e) in
           result-found k (slice_get p.methods k) refl ∙
-              ap (λ i. elim (slice_get p.methods i) as (λ _. List TableKey) [ None ↦ [] | Some m ↦ result-key k m ]) same;
+          ap (λ i. elim (slice_get p.methods i) as (λ _. List TableKey) [ None ↦ [] | Some m ↦ result-key k m ]) same;
     }
 
     results-keys : keys_in (result_entries p (starts_in p reached) (rising ns)) ≡ result_keys p ns 0 (contexts_in p reached)
@@ -316,8 +322,10 @@ enter-keys-are : (p : Program) (c : Context) (m : Method) → keys_in (enter_ent
 enter-keys-are p (contexts.Protocol c q n) m = refl
 enter-keys-are p (contexts.Plain n) m = go m.kind
   where
-    go : (k : MethodKind) → keys_in (elim k as (λ _. List Entry) [ kinds.Helper ↦ field_entries (keys.Enter n) (fields_of p m.class)
-        | _ ↦ [] ])
+    go : (k : MethodKind) → keys_in (elim k as (λ _. List Entry) [
+      | kinds.Helper ↦ field_entries (keys.Enter n) (fields_of p m.class)
+      | _ ↦ []
+    ])
         ≡ (if elim k as (λ _. Bool) [ kinds.Helper ↦ true | _ ↦ false ] then field_keys (keys.Enter n) 0 (fields_in p m.class) else [])
     go kinds.Helper = own-fields p m.class (keys.Enter n)
     go kinds.Protocol = refl
@@ -344,11 +352,11 @@ reads_with p reached c o = elim o as (λ _. List TableKey) [ None ↦ [] | Some 
 pub read_some : (p : Program) (t : held.Tables) (c : Context) (m : Method) (starts : List ℕ) (here : ℕ) (es : List Entry)
     (ks : List TableKey) →
     AreFor p t → starts ≡ starts_in p (reached_of t) → Some m ≡ slice_get p.methods (method_in c) → here ≡ number_of (view.contexts_of t) c
-        →
+    →
     es ≡ read_entries p starts here c m → ks ≡ keys_in es → ks ≡ reads p (reached_of t) c
 read_some p t c m starts here es ks a s o h e k =
     k ∙ ap keys_in (e ∙ ap (λ x. read_entries p x here c m) s ∙ ap (λ x. read_entries p (starts_in p (reached_of t)) x c m)
-        (h ∙ ap (λ cs. number_of cs c) a.contexts))
+    (h ∙ ap (λ cs. number_of cs c) a.contexts))
     ∙ asked-keys p (reached_of t) c m ∙ ap (reads_with p (reached_of t) c) o
 
 pub read_none : (p : Program) (t : held.Tables) (c : Context) (ks : List TableKey) → None ≡ slice_get p.methods (method_in c) → ks ≡ [] →

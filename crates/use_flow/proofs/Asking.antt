@@ -42,7 +42,7 @@ pub result_listed : (p : Program) (starts : List ℕ) (i n : ℕ) (ns : List ℕ
     →
     es' ≡ es ++ result_entry p starts 0 n →
     es ++ listed_from (result_entry p starts) i (drop i ns) ≡ total → es' ++ listed_from (result_entry p starts) (i + 1) (drop (i + 1) ns) ≡
-        total
+    total
 result_listed p starts = one (listed_from (result_entry p starts)) (result_entry p starts) (λ k y ys. refl) (λ k. refl)
 
 pub results_listed : (p : Program) (starts : List ℕ) (i : ℕ) (ns : List ℕ) (es total : List Entry) → length ns ≤ i →
@@ -62,7 +62,7 @@ pub loop_listed : (p : Program) (c : ℕ) (m : Method) (i : ℕ) (l : CoreLoop) 
     → l ≡ get_or ls i l →
     es' ≡ es ++ loop_entry p c m i (loop_of l) →
     es ++ listed_from (loop_entry p c m) i (map loop_of (drop i ls)) ≡ total → es' ++ listed_from (loop_entry p c m) (i + 1)
-        (map loop_of (drop (i + 1) ls)) ≡ total
+    (map loop_of (drop (i + 1) ls)) ≡ total
 loop_listed p c m = one (λ k (ys : List CoreLoop). listed_from (loop_entry p c m) k (map loop_of ys))
     (λ k (y : CoreLoop). loop_entry p c m k (loop_of y)) (λ k y ys. refl) (λ k. refl)
 
@@ -85,8 +85,8 @@ pub six_in_turn : (e a b c d f g u v w x y z : List Entry) → e ≡ [] → a �
     g ≡ u ++ (v ++ (w ++ (x ++ (y ++ z))))
 six_in_turn e a b c d f g u v w x y z e0 e1 e2 e3 e4 e5 e6 =
     in_turn e a g u (v ++ (w ++ (x ++ (y ++ z)))) e1
-        (in_turn a b g v (w ++ (x ++ (y ++ z))) e2
-        (in_turn b c g w (x ++ (y ++ z)) e3 (in_turn c d g x (y ++ z) e4 (in_turn d f g y z e5 e6))))
+    (in_turn a b g v (w ++ (x ++ (y ++ z))) e2
+    (in_turn b c g w (x ++ (y ++ z)) e3 (in_turn c d g x (y ++ z) e4 (in_turn d f g y z e5 e6))))
     ∙ ap (λ r. r ++ (u ++ (v ++ (w ++ (x ++ (y ++ z)))))) e0
 
 pub ruleset whole = (six_in_turn)

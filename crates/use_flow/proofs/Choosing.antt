@@ -34,8 +34,12 @@ use Rattle.use_flow.specs.inner.Values.{yes_of, no_of, evaluated_of, argued_of, 
 use Rattle.use_rules.proofs.Meeting.{joined-self, union-self, sets-self}
 use Rattle.use_flow.proofs.Jumping.{joined-assoc, joined-none}
 
-pub group_of-is : (g : CoreGroup) → group_of g ≡ record { labels = (out-CoreGroup g).labels.items; body =
-    stmts_of (map stmt_of (out-CoreGroup g).body.items); end = (out-CoreGroup g).end }
+pub group_of-is : (g : CoreGroup) → group_of g ≡ record {
+  labels = (out-CoreGroup g).labels.items;
+  body =
+      stmts_of (map stmt_of (out-CoreGroup g).body.items);
+  end = (out-CoreGroup g).end;
+}
 unfolding stmt_of group_of
 group_of-is g = fold_out-CoreGroup (Place → Stmt) OneGroup Stmt stmt_layer group_layer placed_stmt_layer g
 
@@ -50,7 +54,7 @@ pub noted_more : (os : List (Option ℕ)) (i : ℕ) (o : Option ℕ) (l l' total
     noted (drop i os) l ≡ total → noted (drop (i + 1) os) l' ≡ total
 noted_more os i o l l' total lt at e h =
     ap (noted (drop (i + 1) os)) e ∙ sym (at_drop_more (λ (xs : List (Option ℕ)). noted xs l) os i o lt ∙
-        ap (λ x. noted (x ∷ drop (i + 1) os) l) (sym at)) ∙ h
+    ap (λ x. noted (x ∷ drop (i + 1) os) l) (sym at)) ∙ h
 
 pub noted_all : (os : List (Option ℕ)) (i : ℕ) (l total : Labels) → length os ≤ i → noted (drop i os) l ≡ total → l ≡ total
 noted_all os i l total le h = sym (at_drop_all (λ (xs : List (Option ℕ)). noted xs l) os i le) ∙ h
@@ -65,7 +69,7 @@ groups_noted gs i g os l l' total lt at eo e h =
     ap (noted (group_labels (drop (i + 1) gs))) (e ∙ ap (λ x. noted x l) (eo ∙ sym (ap (λ (x : OneGroup). x.labels) (group_of-is g))))
     ∙ sym (noted-append (group_of g).labels (group_labels (drop (i + 1) gs)) l)
     ∙ sym (at_drop_more (λ (xs : List CoreGroup). noted (group_labels xs) l) gs i g lt ∙
-        ap (λ (x : CoreGroup). noted (group_labels (x ∷ drop (i + 1) gs)) l) (sym at)) ∙ h
+    ap (λ (x : CoreGroup). noted (group_labels (x ∷ drop (i + 1) gs)) l) (sym at)) ∙ h
 
 pub groups_all_noted : (gs : List CoreGroup) (i : ℕ) (l total : Labels) → length gs ≤ i → noted (group_labels (drop i gs)) l ≡ total →
     l ≡ total
@@ -110,9 +114,9 @@ cased-noted [] l n lt = sym (or_none (has l.cased n))
 cased-noted (None ∷ os) l n lt = cased-noted os (note_one None l) n lt
 cased-noted (Some k ∷ os) l n lt =
     cased-noted os (note_one (Some k) l) n (let e : length (slice_set l.cased k true) ≡ length l.cased = length-set l.cased k in omega
-        (arith, lt, e))
+    (arith, lt, e))
     ∙ ap (λ b. b || list_any (is_label n) os) (has-set l.cased k n lt ∙ or_turned (nat_eq k n) (has l.cased n)) ∙ or_assoc (has l.cased n)
-        (nat_eq k n) (list_any (is_label n) os)
+    (nat_eq k n) (list_any (is_label n) os)
 
 has-none : (w n : ℕ) → has (none w) n ≡ false
 has-none zero n = refl
@@ -132,9 +136,9 @@ pub uncased_is : (s : Followed) (os : List (Option ℕ)) (w n : ℕ) (nows : Lis
 uncased_is s os w n [] le = refl
 uncased_is s os w n (now ∷ nows) le =
     ap (λ b. if b then uncased_by (noted os (no_labels w)).cased (suc n) nows else joined now
-        (uncased_by (noted os (no_labels w)).cased (suc n) nows))
+    (uncased_by (noted os (no_labels w)).cased (suc n) nows))
     (cased-noted os (no_labels w) n (let e : length (none w) ≡ w = length-none w in omega (arith, le, e)) ∙
-        ap (λ b. b || list_any (is_label n) os) (has-none w n))
+    ap (λ b. b || list_any (is_label n) os) (has-none w n))
     ∙ ap (λ r. if list_any (is_label n) os then r else joined now r) (uncased_is s os w (suc n) nows (omega (arith, le)))
 
 -- What is known with sets of one variable.
@@ -166,30 +170,30 @@ module _ (cased : Set) (x : ℕ) (now : Now) (sets : List Set) (i : ℕ) (lt : i
   one_uncased s e =
       at_drop_more (λ (xs : List Set). uncased_by cased i (spread x now xs)) sets i [] lt
       ∙ ap (λ y. if has cased i then uncased_by cased (suc i) (spread x now (drop (i + 1) sets)) else joined (placed x y now)
-          (uncased_by cased (suc i) (spread x now (drop (i + 1) sets)))) (sym e)
+      (uncased_by cased (suc i) (spread x now (drop (i + 1) sets)))) (sym e)
       ∙ ap (λ k. if has cased i then uncased_by cased k (spread x now (drop (i + 1) sets)) else joined (placed x s now)
-          (uncased_by cased k (spread x now (drop (i + 1) sets)))) (sym (add-one i))
+      (uncased_by cased k (spread x now (drop (i + 1) sets)))) (sym (add-one i))
 
   pub rest_cased : has cased i ≡ true → joined (with_any x now r) (uncased_by cased i (spread x now (drop i sets))) ≡ total →
       joined (with_any x now r) after_it ≡ total
   rest_cased h e =
       ap (joined (with_any x now r))
-          (sym (one_uncased (get_or sets i []) refl ∙ ap (λ b. if b then after_it else joined (placed x (get_or sets i []) now) after_it)
-          h)) ∙ e
+      (sym (one_uncased (get_or sets i []) refl ∙ ap (λ b. if b then after_it else joined (placed x (get_or sets i []) now) after_it)
+      h)) ∙ e
 
   pub rest_uncased : (s t : Set) → has cased i ≡ false → s ≡ get_or sets i [] → t ≡ gathered r s →
       joined (with_any x now r) (uncased_by cased i (spread x now (drop i sets))) ≡ total → joined (with_any x now (Some t)) after_it ≡
-          total
+      total
   rest_uncased s t h es et e =
       ap (λ y. joined (with_any x now (Some y)) after_it) et ∙ ap (λ y. joined y after_it) (gathered_is x now r s) ∙
-          joined-assoc (with_any x now r) (placed x s now) after_it
+      joined-assoc (with_any x now r) (placed x s now) after_it
       ∙ ap (joined (with_any x now r)) (sym (one_uncased s es ∙ ap (λ b. if b then after_it else joined (placed x s now) after_it) h)) ∙ e
 
 pub rest_all : (cased : Set) (x : ℕ) (now : Now) (sets : List Set) (i : ℕ) (r : Option Set) (total : Now) → length sets ≤ i →
     joined (with_any x now r) (uncased_by cased i (spread x now (drop i sets))) ≡ total → with_any x now r ≡ total
 rest_all cased x now sets i r total le e =
     sym (joined-none (with_any x now r)) ∙ ap (joined (with_any x now r))
-        (sym (at_drop_all (λ (xs : List Set). uncased_by cased i (spread x now xs)) sets i le)) ∙ e
+    (sym (at_drop_all (λ (xs : List Set). uncased_by cased i (spread x now xs)) sets i le)) ∙ e
 
 -- Labels of a group.
 
@@ -199,14 +203,14 @@ pub label_led : (x : ℕ) (now : Now) (sets : List Set) (rest : Now) (all : Opti
 label_led x now sets rest all n s t e et =
     ap (λ y. with_any x now (Some y)) et ∙ gathered_is x now all s
     ∙ ap (λ o. joined (with_any x now all) (elim o [ None ↦ None | Some m ↦ m ])) (ap (option_map (λ y. placed x y now)) e ∙
-        sym (spread-at x now sets n))
+    sym (spread-at x now sets n))
 
 pub label_past : (x : ℕ) (now : Now) (sets : List Set) (rest : Now) (all : Option Set) (n : ℕ) → None ≡ slice_get sets n →
     with_any x now all ≡ joined (with_any x now all) (label_now rest (spread x now sets) (Some n))
 label_past x now sets rest all n e =
     sym (joined-none (with_any x now all))
     ∙ ap (λ o. joined (with_any x now all) (elim o [ None ↦ None | Some m ↦ m ])) (ap (option_map (λ y. placed x y now)) e ∙
-        sym (spread-at x now sets n))
+    sym (spread-at x now sets n))
 
 entry_one : (s : Followed) (rest : Now) (nows : List Now) (o : Option ℕ) (os : List (Option ℕ)) → entry_of s rest nows (o ∷ os) ≡ joined
     (label_now rest nows o) (entry_of s rest nows os)
@@ -218,9 +222,9 @@ module _ (s : Followed) (rest : Now) (nows : List Now) (os : List (Option ℕ)) 
       joined done (entry_of s rest nows (drop i os)) ≡ total → joined done' (entry_of s rest nows (drop (i + 1) os)) ≡ total
   entry_more o done' lt at e h =
       ap (λ y. joined y (entry_of s rest nows (drop (i + 1) os))) e ∙ joined-assoc done (label_now rest nows o)
-          (entry_of s rest nows (drop (i + 1) os))
+      (entry_of s rest nows (drop (i + 1) os))
       ∙ ap (joined done) (sym (at_drop_more (entry_of s rest nows) os i o lt ∙ ap (λ y. entry_of s rest nows (y ∷ drop (i + 1) os)) (sym at)
-          ∙ entry_one s rest nows o (drop (i + 1) os))) ∙ h
+      ∙ entry_one s rest nows o (drop (i + 1) os))) ∙ h
 
   pub entry_all : length os ≤ i → joined done (entry_of s rest nows (drop i os)) ≡ total → done ≡ total
   entry_all le h = sym (joined-none done) ∙ ap (joined done) (sym (at_drop_all (entry_of s rest nows) os i le)) ∙ h
@@ -272,7 +276,7 @@ set-twice (y ∷ b) (suc x) s t = ap (λ r. y ∷ r) (set-twice b x s t)
 -- what a label leads to, from what all labels lead to
 pub led_now : (s : Followed) (x : CoreVar) (n : ℕ) (k : Method) (ss : List Set) (known now : Now) (log : Log) (set : Set) (label : Name) →
     set ≡ known_set known (variable_at s x.var) → now ≡ joined (protocol_call s targets x n k ss known log).yes
-        (protocol_call s targets x n k ss known log).no →
+    (protocol_call s targets x n k ss known log).no →
     placed (variable_at s x.var) (led_set s x.var k set label) now ≡ led_by s x n k ss known log label
 led_now s x n k ss None now log set label es en = ap (placed (variable_at s x.var) (led_set s x.var k set label)) en
 led_now s x n k ss (Some b) now log set label es en =
@@ -341,11 +345,16 @@ module _ (s : Followed) (c : Called) (sets : List Set) (log la : Log) (b : Branc
   abbrev switch_by : Option Method → Evaluated × (List Now)
   switch_by o =
       let a = eval_all s (elim o as (λ _. List ℕ) [ None ↦ [] | Some k ↦ map (width_of s) (param_types k) ]) c.args (Some sets) log in (
-        elim o as (λ _. Evaluated) [ None ↦ alike [] a.now a.log | Some k ↦ protocol_call s targets c.receiver c.method k a.sets a.now a.log
-            ],
+        elim o as (λ _. Evaluated) [
+          | None ↦ alike [] a.now a.log
+          | Some k ↦ protocol_call s targets c.receiver c.method k a.sets a.now a.log
+        ],
         by_constants s (λ label. after
-            (elim o as (λ _. Evaluated) [ None ↦ alike [] a.now a.log | Some k ↦ protocol_call s (targets_by label) c.receiver c.method k
-            a.sets a.now a.log ]))
+            (elim o as (λ _. Evaluated) [
+              | None ↦ alike [] a.now a.log
+              | Some k ↦ protocol_call s (targets_by label) c.receiver c.method k
+                  a.sets a.now a.log
+            ]))
             (constants_of s (option_map (λ (m : Method). m.result) o)),
       )
 
@@ -376,13 +385,13 @@ module _ (s : Followed) (x : CoreVar) (n : ℕ) (k : Method) (ss : List Set) (kn
   pub led_nows : (b : Branches) (cs : List Numbered) (set : Set) → b.variable ≡ variable_at s x.var →
       b.known ≡ joined (yes_of v.ways) (no_of v.ways) → set ≡ known_set known b.variable →
       b.sets.items ≡ map (λ (c : Numbered). led_set s x.var k set (text_at s.program c.0)) cs →
-          map (λ (c : Numbered). c.0) cs ≡ constants_of s (Some k.result) →
+      map (λ (c : Numbered). c.0) cs ≡ constants_of s (Some k.result) →
       branched b ≡ by_constants s (led_by s x n k ss known log) (constants_of s (Some k.result))
   led_nows b cs set ex en es eb ec =
       ap (λ y. spread y b.known b.sets.items) ex ∙ ap (spread (variable_at s x.var) b.known) eb
       ∙ spread_by s (variable_at s x.var) b.known (λ c. led_set s x.var k set (text_at s.program c.0)) (led_by s x n k ss known log)
       (λ c. led_now s x n k ss known b.known log set (text_at s.program c.0) (es ∙ ap (known_set known) ex)
-          (en ∙ ap (λ (y : Evaluated). joined y.yes y.no) ev)) cs
+      (en ∙ ap (λ (y : Evaluated). joined y.yes y.no) ev)) cs
       ∙ ap (by_constants s (led_by s x n k ss known log)) ec
 
   pub led_log : la ≡ (protocol_call s targets x n k ss known log).log
@@ -398,11 +407,11 @@ module _ (s : Followed) (e : Expr) (sets : List Set) (log la : Log) (v : Value) 
   pub plain_nows : (b : Branches) (cs : List Numbered) (ty : Option CoreType) → ty ≡ type_dropped s e →
       b.known ≡ joined (yes_of v.ways) (no_of v.ways) → b.variable ≡ variables b.known →
       b.sets.items ≡ map (λ (c : Numbered). none 0) cs → map (λ (c : Numbered). c.0) cs ≡ constants_of s ty →
-          branched b ≡ (plain_switch s e sets log).1
+      branched b ≡ (plain_switch s e sets log).1
   plain_nows b cs ty ety en ex eb ec =
       ap (λ y. spread y b.known b.sets.items) ex ∙ ap (spread (variables b.known) b.known) eb
       ∙ spread_by s (variables b.known) b.known (λ c. none 0) (λ label. after (eval s 0 e (Some sets) log)) (λ c. placed-none b.known ∙ en ∙
-          ap (λ (y : Evaluated). joined y.yes y.no) ev) cs
+      ap (λ (y : Evaluated). joined y.yes y.no) ev) cs
       ∙ ap (by_constants s (λ label. after (eval s 0 e (Some sets) log))) (ec ∙ ap (constants_of s) ety)
 
   pub plain_log : la ≡ (plain_switch s e sets log).0.log
@@ -491,7 +500,7 @@ module _ (s : Followed) (x : Var) (k : Method) (set : Set) (cs : List Numbered) 
       done' ≡ done ++ led ∷ [] → done ++ led_all (drop i cs) ≡ total → done' ++ led_all (drop (i + 1) cs) ≡ total
   led_more c led done' total lt at el ed h =
       mapped_more (λ (c : Numbered). led_set s x k set (text_at s.program c.0)) cs i done c done' total lt at
-          (ed ∙ ap (λ y. done ++ y ∷ []) el) h
+      (ed ∙ ap (λ y. done ++ y ∷ []) el) h
 
   pub led_end : length cs ≤ i → done ++ led_all (drop i cs) ≡ led_all cs → done ≡ led_all cs
   led_end le h = mapped_all (λ (c : Numbered). led_set s x k set (text_at s.program c.0)) cs i done le h
@@ -517,11 +526,11 @@ module _ (s : Followed) (os : List (Option ℕ)) (b : Branches) (l : Labels) (w 
   rest_chosen r h =
       h ∙ ap (λ (y : Labels). uncased_by y.cased 0 (branched b)) el
       ∙ uncased_is s os w 0 (branched b) (let e : length (branched b) ≡ length b.sets.items = length-spread b.variable b.known b.sets.items
-          in omega (arith, e, ew))
+      in omega (arith, e, ew))
 
   pub past_chosen : (r : Option Set) → with_any b.variable b.known r ≡ uncased_by l.cased 0 (branched b) →
       (if l.has_default then None else with_any b.variable b.known r) ≡ (if list_any is_default os then None else uncased s os 0
-          (branched b))
+      (branched b))
   past_chosen r h =
       ap (λ v. if v then None else with_any b.variable b.known r) (ap (λ (y : Labels). y.has_default) el ∙ default-noted os (no_labels w))
       ∙ ap (λ y. if list_any is_default os then None else y) (rest_chosen r h)

@@ -75,7 +75,7 @@ pub mark_more : (ks : List ℕ) (i k : ℕ) (s s' total : Set) → i < length ks
     marked (drop (i + 1) ks) s' ≡ total
 mark_more ks i k s s' total lt at e h =
     ap (marked (drop (i + 1) ks)) e ∙ sym (at_drop_more (λ (xs : List ℕ). marked xs s) ks i k lt ∙ ap (λ x. marked (x ∷ drop (i + 1) ks) s)
-        (sym at)) ∙ h
+    (sym at)) ∙ h
 
 pub all_marked : (ks : List ℕ) (i w : ℕ) (s : Set) → length ks ≤ i → marked (drop i ks) s ≡ marked ks (none w) →
     s ≡ marked ks (none (length s))
@@ -167,7 +167,7 @@ any_reverse : (p : ℕ → Bool) (xs : List ℕ) → list_any p (reverse xs) ≡
 any_reverse p [] = refl
 any_reverse p (x ∷ xs) =
     ap (list_any p) (reverse-append (x ∷ []) xs) ∙ any_append p (reverse xs) (x ∷ []) ∙ ap (λ b. b || (p x || false)) (any_reverse p xs) ∙
-        or_both (list_any p xs) (p x)
+    or_both (list_any p xs) (p x)
 
 filter_same : (p q : ℕ → Bool) → ((k : ℕ) → p k ≡ q k) → (xs : List ℕ) → filter p xs ≡ filter q xs
 filter_same p q e [] = refl
@@ -206,7 +206,7 @@ pub jump_follows : (s : Followed) (q : Place) (to : Leads) (sc stays left : List
     Follows (jump_flow s q to sc stays sets log) scope j None c
 jump_follows s q to sc stays left sets log scope j now c el ex h es =
     let e : flow now [] (log_of c.log) ≡ exit s q (leaving sc stays) (flow (Some sets) [] log) =
-          ex [] ∙ ap (λ ks. exit s q ks (flow (Some sets) [] log)) el in
+    ex [] ∙ ap (λ ks. exit s q ks (flow (Some sets) [] log)) el in
     record {
       now-is = refl;
       log-is = ap (λ (f : Flow). f.log) e;

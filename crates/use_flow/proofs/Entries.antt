@@ -28,8 +28,13 @@ pub record ReachedSoFar (ts : List Typestate) (reached : List (List Bool)) (i : 
   pub proper : (n : ℕ) (t : Typestate) → n < i → slice_get ts n ≡ Some t → IsProper t.states
 
 pub reached_none : (ts : List Typestate) → ReachedSoFar ts [] 0
-reached_none ts = record { as_many = refl; within = omega arith; each = λ n t s e h. absurd (none n s h); proper =
-    λ n t lt e. (let no : ⊥ = omega (arith, lt) in absurd no) }
+reached_none ts = record {
+  as_many = refl;
+  within = omega arith;
+  each = λ n t s e h. absurd (none n s h);
+  proper =
+      λ n t lt e. (let no : ⊥ = omega (arith, lt) in absurd no);
+}
   where
     none : (n : ℕ) (s : List Bool) → slice_get [] n ≡ Some s → ⊥
     none n s h = cc
@@ -61,7 +66,7 @@ reached_more ts reached reached' i t s r lt at ok m e = record {
   within = omega (arith, lt);
   each = λ n u v h g. ⊎_elim (r.each n u v h) (λ w.
       subst (λ x. MarksReachable u x) w.1
-          (subst (λ x. MarksReachable x s) (same_item ts i t u at (sym (ap (slice_get ts) (w.0 ∙ r.as_many)) ∙ h)) m))
+      (subst (λ x. MarksReachable x s) (same_item ts i t u at (sym (ap (slice_get ts) (w.0 ∙ r.as_many)) ∙ h)) m))
       (pushed reached s n v (sym (ap (λ x. slice_get x n) e) ∙ g));
   proper = λ n u below h. ⊎_elim (λ l. r.proper n u l h) (λ w.
       subst (λ x. IsProper x.states) (same_item ts i t u at (sym (ap (slice_get ts) w) ∙ h)) ok) (last_or_before n i below);
@@ -115,7 +120,7 @@ pub state_refused : (c n : ℕ) (t : Typestate) (name : Name) (k : ℕ) (s : Lis
 state_refused c n t name k s cs total lt b o h =
     ap (λ m. cs ++ entered_from c n t name m (drop (k + 1) s)) (add-one k)
     ∙ ap (λ x. cs ++ x) (sym (here c n t name k s lt ∙ ap (λ v. entered_from c n t name k (v ∷ drop (k + 1) s)) b ∙ next_refused c n t name
-        k (drop (k + 1) s) o)) ∙ h
+    k (drop (k + 1) s) o)) ∙ h
 
 pub state_entered : (c n : ℕ) (t : Typestate) (name : Name) (k : ℕ) (s : List Bool) (cs cs' total : List Context) → k < length s →
     has s k ≡ true → is_some (offered t k name) ≡ true →
@@ -126,7 +131,7 @@ state_entered c n t name k s cs cs' total lt b o e h =
     ∙ ap (λ x. x ++ entered_from c n t name (suc k) (drop (k + 1) s)) e
     ∙ append_assoc cs (contexts.Protocol c k n ∷ []) (entered_from c n t name (suc k) (drop (k + 1) s))
     ∙ ap (λ x. cs ++ x) (sym (here c n t name k s lt ∙ ap (λ v. entered_from c n t name k (v ∷ drop (k + 1) s)) b ∙ next_offered c n t name
-        k (drop (k + 1) s) o)) ∙ h
+    k (drop (k + 1) s) o)) ∙ h
 
 pub states_end : (c n : ℕ) (t : Typestate) (name : Name) (k : ℕ) (s : List Bool) (cs total : List Context) → length s ≤ k →
     cs ++ entered_from c n t name k (drop k s) ≡ total → cs ≡ total
@@ -140,7 +145,7 @@ pub method_next : (p : Program) (reached : List (List Bool)) (ms : List CoreMeth
     i < length ms → m ≡ get_or ms i m →
     cs' ≡ cs ++ contexts_of p reached i (method_of m) →
     cs ++ contexts_from p reached i (map method_of (drop i ms)) ≡ total → cs' ++ contexts_from p reached (i + 1)
-        (map method_of (drop (i + 1) ms)) ≡ total
+    (map method_of (drop (i + 1) ms)) ≡ total
 method_next p reached ms i m cs cs' total lt at e h =
     ap (λ n. cs' ++ contexts_from p reached n (map method_of (drop (i + 1) ms))) (add-one i)
     ∙ ap (λ x. x ++ contexts_from p reached (suc i) (map method_of (drop (i + 1) ms))) e
@@ -152,6 +157,6 @@ pub methods_end : (p : Program) (reached : List (List Bool)) (ms : List CoreMeth
     cs ++ contexts_from p reached i (map method_of (drop i ms)) ≡ total → cs ≡ total
 methods_end p reached ms i cs total le h =
     sym (ap (λ x. cs ++ x) (at_drop_all (λ (xs : List CoreMethod). contexts_from p reached i (map method_of xs)) ms i le) ∙ append_nil cs) ∙
-        h
+    h
 
 pub ruleset methods = (method_next, methods_end)

@@ -42,9 +42,9 @@ whole_is s body scope sets value j n c log last eb ec es ev eg a h =
     ∙ ap (λ y. left s s.method.end None [] y n (log_of c.log)) (reverse-append scope (declared_here body))
     ∙ ap (λ y. left s s.method.end None [] (reverse (declared_here body) ++ reverse scope) y (log_of c.log)) a.now-is
     ∙ ap (left s s.method.end None [] (reverse (declared_here body) ++ reverse scope) (steps s (reverse scope) [] body (Some sets) log).now)
-        a.log-is
+    a.log-is
     ∙ ap (ended body scope sets) eg ∙ ap (λ y. ended body scope y quiet) es ∙ ap (λ y. ended body y (start s) quiet) ec ∙
-        ap (λ y. ended y (numbers_from 0 s.method.params) (start s) quiet) eb
+    ap (λ y. ended y (numbers_from 0 s.method.params) (start s) quiet) eb
   where
     ended : Stmts → List ℕ → List Set → Log → Log
     ended body scope sets log = let f = steps s (reverse scope) [] body (Some sets) log in left s s.method.end None []
@@ -56,7 +56,7 @@ flow_in p t c cs o = elim o as (λ _. Log) [ None ↦ quiet | Some m ↦ rules.w
 pub flow_is : (p : Program) (t : held.Tables) (c : Context) (m : Method) (l : Log) → AreFor p t → Some m ≡ slice_get p.methods (method_in c)
     →
     l ≡ whole (record { program = p; contexts = contexts_of t; context = c; method = m; held = t }) →
-        l ≡ flow_of p (reached_of t) (tables_of t) c
+    l ≡ flow_of p (reached_of t) (tables_of t) c
 flow_is p t c m l a e h = h ∙ ap (λ cs. rules.whole p cs c m (tables_of t)) a.contexts ∙ ap (flow_in p t c (contexts_in p (reached_of t))) e
 
 pub flow_none : (p : Program) (t : held.Tables) (c : Context) (l : Log) → None ≡ slice_get p.methods (method_in c) → l ≡ quiet →

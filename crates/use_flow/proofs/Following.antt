@@ -137,13 +137,13 @@ module _ (s : Followed) (sets : List Set) (log : Log) where
     -- there is no such method
     pub uncalled : (lv : Log) (v : Value) → slice_get s.program.methods n ≡ None →
         evaluated_of v lv ≡ behind (eval_all s [] args (Some sets) log) →
-            evaluated_of v lv ≡ called s n call (eval_all s (widths_of s n) args (Some sets) log)
+        evaluated_of v lv ≡ called s n call (eval_all s (widths_of s n) args (Some sets) log)
     uncalled lv v e ev = ev ∙ ap by (sym e)
 
     pub called_is : (k : Method) (types : List CoreType) (la lv : Log) (a : Arguments) (v : Value) → slice_get s.program.methods n ≡ Some k
         →
         types ≡ param_types k → argued_of a la ≡ eval_all s (map (width_of s) types) args (Some sets) log →
-            evaluated_of v lv ≡ call k a.sets a.now la →
+        evaluated_of v lv ≡ call k a.sets a.now la →
         evaluated_of v lv ≡ called s n call (eval_all s (widths_of s n) args (Some sets) log)
     called_is k types la lv a v e et ea ev =
         ev
@@ -169,7 +169,7 @@ module _ (s : Followed) (ps : List CoreSlot) (es : List CoreExpr) (i : ℕ) (e :
   rest_here : (w : ℕ) (ws : List ℕ) → map (width_of s) (map (λ p. p.ty) (drop i ps)) ≡ w ∷ ws →
       eval_all s (map (width_of s) (map (λ p. p.ty) (drop i ps))) (exprs_of (map expr_of (drop i es))) now log
       ≡ (let v = eval s w (expr_of e) now log in next v (eval_all s ws (exprs_of (map expr_of (drop (i + 1) es))) (joined v.yes v.no)
-          v.log))
+      v.log))
   rest_here w ws h =
       ap (λ us. eval_all s us (exprs_of (map expr_of (drop i es))) now log) h
       ∙ at_drop_more (λ (xs : List CoreExpr). eval_all s (w ∷ ws) (exprs_of (map expr_of xs)) now log) es i e lt
@@ -178,7 +178,7 @@ module _ (s : Followed) (ps : List CoreSlot) (es : List CoreExpr) (i : ℕ) (e :
   rest_past : map (width_of s) (map (λ p. p.ty) (drop i ps)) ≡ [] →
       eval_all s (map (width_of s) (map (λ p. p.ty) (drop i ps))) (exprs_of (map expr_of (drop i es))) now log
       ≡ (let v = eval s 0 (expr_of e) now log in next v (eval_all s [] (exprs_of (map expr_of (drop (i + 1) es))) (joined v.yes v.no)
-          v.log))
+      v.log))
   rest_past h =
       ap (λ us. eval_all s us (exprs_of (map expr_of (drop i es))) now log) h
       ∙ at_drop_more (λ (xs : List CoreExpr). eval_all s [] (exprs_of (map expr_of xs)) now log) es i e lt
@@ -188,7 +188,7 @@ module _ (s : Followed) (ps : List CoreSlot) (es : List CoreExpr) (i : ℕ) (e :
   step_from : (w : ℕ) (ws : List ℕ) (done done' : List Set) (la : Log) (v : Value) (n : Now) (total : Argued) →
       eval_all s (map (width_of s) (map (λ p. p.ty) (drop i ps))) (exprs_of (map expr_of (drop i es))) now log
       ≡ (let v = eval s w (expr_of e) now log in next v (eval_all s ws (exprs_of (map expr_of (drop (i + 1) es))) (joined v.yes v.no)
-          v.log)) →
+      v.log)) →
       map (width_of s) (map (λ p. p.ty) (drop (i + 1) ps)) ≡ ws →
       evaluated_of v la ≡ eval s w (expr_of e) now log → n ≡ joined (yes_of v.ways) (no_of v.ways) → done' ≡ done ++ v.set ∷ [] →
       rest_argued s ps es i done now log ≡ total → rest_argued s ps es (i + 1) done' n la ≡ total
@@ -203,12 +203,12 @@ module _ (s : Followed) (ps : List CoreSlot) (es : List CoreExpr) (i : ℕ) (e :
 
   pub argument_with : (p : CoreSlot) (done done' : List Set) (la : Log) (v : Value) (n : Now) (total : Argued) → Some p ≡ slice_get ps i →
       evaluated_of v la ≡ eval s (width_of s p.ty) (expr_of e) now log → n ≡ joined (yes_of v.ways) (no_of v.ways) →
-          done' ≡ done ++ v.set ∷ [] →
+      done' ≡ done ++ v.set ∷ [] →
       rest_argued s ps es i done now log ≡ total → rest_argued s ps es (i + 1) done' n la ≡ total
   argument_with p done done' la v n total there ev en ed h =
       step_from (width_of s p.ty) (map (width_of s) (map (λ p. p.ty) (drop (i + 1) ps))) done done' la v n total
       (rest_here (width_of s p.ty) (map (width_of s) (map (λ p. p.ty) (drop (i + 1) ps)))
-          (ap (λ (xs : List CoreSlot). map (width_of s) (map (λ p. p.ty) xs)) (drop_some ps i p there)))
+      (ap (λ (xs : List CoreSlot). map (width_of s) (map (λ p. p.ty) xs)) (drop_some ps i p there)))
       refl ev en ed h
 
   pub argument_without : (done done' : List Set) (la : Log) (v : Value) (n : Now) (total : Argued) → None ≡ slice_get ps i →
@@ -228,7 +228,7 @@ pub argued_end : (s : Followed) (ps : List CoreSlot) (es : List CoreExpr) (i : �
     rest_argued s ps es i done now log ≡ total → record { sets = done; now = now; log = log } ≡ total
 argued_end s ps es i done now log total le h =
     sym (ap (before done) (at_drop_all (λ (xs : List CoreExpr). eval_all s (map (width_of s) (map (λ p. p.ty) (drop i ps)))
-        (exprs_of (map expr_of xs)) now log) es i le
+    (exprs_of (map expr_of xs)) now log) es i le
     ∙ no_exprs s (map (width_of s) (map (λ p. p.ty) (drop i ps))) now log)
     ∙ ap (λ (x : List Set). record { sets = x; now = now; log = log }) (append_nil done)) ∙ h
 

@@ -40,7 +40,7 @@ module _ (s : Followed) (out scope : List ℕ) (j : Jumps) (sets : List Set) (lo
 
   pub block_as : (body : Row CoreStmt) (end : Place) (given : List CoreStmt) → given ≡ body.items → x.kind ≡ S.Block body end →
       Follows (exit s end (declared_here (stmts_of (map stmt_of given))) (steps s (reverse scope) out (stmts_of (map stmt_of given))
-          (Some sets) log)) scope j n c → DoesStep
+      (Some sets) log)) scope j n c → DoesStep
   block_as body end given eg is a =
       formed (S.Block body end) (Block x.place (stmts_of (map stmt_of given)) end) is
       (stmt-Block body end x.place ∙ ap (λ (z : List CoreStmt). Block x.place (stmts_of (map stmt_of z)) end) (sym eg)) a
@@ -74,14 +74,14 @@ module _ (s : Followed) (out scope : List ℕ) (j : Jumps) (sets : List Set) (lo
     pub leave_as : x.kind ≡ S.Return None → n ≡ None → log_of c.log ≡ left s x.place None [] (reverse scope) (Some sets) log → DoesStep
     leave_as is en h =
         quiet_as (S.Return None) (Return x.place None) (flow None [] (left s x.place None [] (reverse scope) (Some sets) log)) is
-            (stmt-Return None x.place) refl
+        (stmt-Return None x.place) refl
         (ap (λ y. flow y [] (log_of c.log)) en ∙ ap (flow None []) h)
 
     pub return_as : (e : CoreExpr) → x.kind ≡ S.Return (Some e) → n ≡ None → flow None [] (log_of c.log) ≡ returned s x.place (expr_of e)
         (reverse scope) sets log → DoesStep
     return_as e is en h =
         quiet_as (S.Return (Some e)) (Return x.place (Some (expr_of e))) (returned s x.place (expr_of e) (reverse scope) sets log) is
-            (stmt-Return (Some e) x.place) refl
+        (stmt-Return (Some e) x.place) refl
         (ap (λ y. flow y [] (log_of c.log)) en ∙ h)
 
   module _ (e : CoreExpr) (a : Box CoreStmt Global) (y : CoreStmt) (ea : y ≡ a.value) where
@@ -116,12 +116,12 @@ module _ (s : Followed) (out scope : List ℕ) (j : Jumps) (sets : List Set) (lo
       formed (S.Switch e gs end) (Switch x.place (expr_of e) groups end) is
       (stmt-Switch e gs end x.place ∙ ap (λ (z : List CoreGroup). Switch x.place (expr_of e) (groups_of (map group_of z)) end) (sym eg))
       (follows_as (switch_flow s (reverse scope) rest gone nows groups la)
-          (step s (reverse scope) out (Switch x.place (expr_of e) groups end) (Some sets) log) scope j n c
+      (step s (reverse scope) out (Switch x.place (expr_of e) groups end) (Some sets) log) scope j n c
       (ap (λ y. switch_flow s (reverse scope) y gone nows groups la) er
       ∙ ap (λ y. switch_flow s (reverse scope) (uncased s (all_labels groups) 0 nows) y nows groups la) ep
       ∙ ap (λ y. switch_flow s (reverse scope) (uncased s (all_labels groups) 0 y) (past s groups y) y groups la) en
       ∙ ap (switch_flow s (reverse scope) (uncased s (all_labels groups) 0 (switched s (expr_of e) (Some sets) log).1)
-          (past s groups (switched s (expr_of e) (Some sets) log).1)
+      (past s groups (switched s (expr_of e) (Some sets) log).1)
       (switched s (expr_of e) (Some sets) log).1 groups) el) h)
 
   pub break_as : (o : List ℕ) → out ≡ reverse o → x.kind ≡ S.Break None →
@@ -129,9 +129,9 @@ module _ (s : Followed) (out scope : List ℕ) (j : Jumps) (sets : List Set) (lo
   break_as o eo is h =
       formed (S.Break None) (Break x.place None) is (stmt-Break None x.place)
       (follows_as (jump_flow s x.place BehindSwitch (reverse scope) o sets log) (jump_flow s x.place BehindSwitch (reverse scope) out sets
-          log) scope j n c
+      log) scope j n c
       (ap (λ ks. jumped BehindSwitch (exit s x.place ks (flow (Some sets) [] log))) (sym (leaving-turned (reverse scope) o) ∙
-          ap (leaving (reverse scope)) (sym eo))) h)
+      ap (leaving (reverse scope)) (sym eo))) h)
 
   pub break_loop_as : (l : ℕ) → x.kind ≡ S.Break (Some l) →
       Follows (jump_flow s x.place (BehindLoop l) (reverse scope) (loop_scope s l) sets log) scope j n c → DoesStep

@@ -27,14 +27,14 @@ use Rattle.use_flow.proofs.Stepping.{follows_as}
 pub group_follows : (s : Followed) (out scope : List ℕ) (rest : Now) (nows : List Now) (g : CoreGroup) (body : List CoreStmt)
     (labels : List (Option ℕ)) (before entry start : Now) (log : Log) (j : Jumps) (n : Now)
     (c : Course) → body ≡ (out-CoreGroup g).body.items → labels ≡ (out-CoreGroup g).labels.items → entry ≡ entry_of s rest nows labels →
-        start ≡ joined entry before →
+    start ≡ joined entry before →
     Follows (exit s (out-CoreGroup g).end (declared_here (stmts_of (map stmt_of body)))
-        (steps s (reverse scope) out (stmts_of (map stmt_of body)) start log)) scope j n c →
+    (steps s (reverse scope) out (stmts_of (map stmt_of body)) start log)) scope j n c →
     Follows (group_flow s (reverse scope) out rest nows (group_of g) before log) scope j n c
 group_follows s out scope rest nows g body labels before entry start log j n c eb el ee es a =
     follows_as (listed body start) (group_flow s (reverse scope) out rest nows (group_of g) before log) scope j n c
     (ap (λ y. listed y start) eb ∙ ap (listed (out-CoreGroup g).body.items)
-        (es ∙ ap (λ y. joined y before) (ee ∙ ap (entry_of s rest nows) el))
+    (es ∙ ap (λ y. joined y before) (ee ∙ ap (entry_of s rest nows) el))
     ∙ ap (λ (y : OneGroup). group_flow s (reverse scope) out rest nows y before log) (sym (group_of-is g))) a
   where
     listed : List CoreStmt → Now → Flow
@@ -52,8 +52,13 @@ pub record Following (s : Followed) (scope : List ℕ) (rest : Now) (nows : List
 
 pub following_start : (s : Followed) (rest : Now) (nows : List Now) (groups : Groups) (now : Now) (c : Course) →
     Following s c.scope.items rest nows (follow s (reverse c.scope.items) rest nows groups now (log_of c.log)) c.jumps groups now c
-following_start s rest nows groups now c = record { jumped = []; is = refl; scope-is = refl; held-is =
-    λ to. sym (joined-none (held c.jumps to)) }
+following_start s rest nows groups now c = record {
+  jumped = [];
+  is = refl;
+  scope-is = refl;
+  held-is =
+      λ to. sym (joined-none (held c.jumps to));
+}
 
 module _ (s : Followed) (scope : List ℕ) (rest : Now) (nows : List Now) (total : Flow) (start : Jumps) (xs : List CoreGroup) (i : ℕ)
     (now : Now) (c : Course) where
@@ -67,13 +72,13 @@ module _ (s : Followed) (scope : List ℕ) (rest : Now) (nows : List Now) (total
       let a : Follows (group_flow s (reverse scope) (reverse scope) rest nows (group_of x) now (log_of c.log)) scope c.jumps n d =
       subst (λ o. Follows (group_flow s (reverse scope) (reverse o) rest nows (group_of x) now (log_of c.log)) scope c.jumps n d) eo
       (subst (λ sc. Follows (group_flow s (reverse sc) (reverse out) rest nows (group_of x) now (log_of c.log)) sc c.jumps n d) r.scope-is
-          a0) in
+      a0) in
       let f = group_flow s (reverse scope) (reverse scope) rest nows (group_of x) now (log_of c.log) in
       let g = follow s (reverse scope) rest nows (left_groups (i + 1)) n (log_of d.log) in
       let here : follow s (reverse scope) rest nows (left_groups i) now (log_of c.log) ≡ both_flows f g =
       at_drop_more (λ (ys : List CoreGroup). follow s (reverse scope) rest nows (groups_of (map group_of ys)) now (log_of c.log)) xs i x lt
       ∙ ap (λ (y : CoreGroup). follow s (reverse scope) rest nows (groups_of (map group_of (y ∷ drop (i + 1) xs))) now (log_of c.log))
-          (sym at)
+      (sym at)
       ∙ ap (λ y. both_flows f (follow s (reverse scope) rest nows (left_groups (i + 1)) y f.log)) (sym a.now-is)
       ∙ ap (λ y. both_flows f (follow s (reverse scope) rest nows (left_groups (i + 1)) n y)) (sym a.log-is) in
       record {
@@ -89,7 +94,7 @@ module _ (s : Followed) (scope : List ℕ) (rest : Now) (nows : List Now) (total
       let none : left_groups i ≡ NoGroup = at_drop_all (λ (ys : List CoreGroup). groups_of (map group_of ys)) xs i le in
       let e : total ≡ flow now r.jumped (log_of c.log) =
       r.is ∙ ap (λ y. both_flows (flow None r.jumped (record { outs = []; failed = [] }))
-          (follow s (reverse scope) rest nows y now (log_of c.log))) none
+      (follow s (reverse scope) rest nows y now (log_of c.log))) none
       ∙ ap (λ js. flow now js (log_of c.log)) (append_nil r.jumped) in
       follows_as (flow now r.jumped (log_of c.log)) total scope start now c (sym e)
       (record { now-is = refl; log-is = refl; scope-is = r.scope-is; jumps = r.held-is })
@@ -108,7 +113,7 @@ pub switch_follows : (s : Followed) (scope : List ℕ) (rest past : Now) (nows :
     Follows (follow s (reverse scope) rest nows groups None log) scope start n c →
     inside ≡ held c.jumps BehindSwitch → ((to : Leads) → held cut to ≡ (if same_lead BehindSwitch to then None else held c.jumps to)) →
     ((to : Leads) → held d.jumps to ≡ (if same_lead BehindSwitch to then around else held cut to)) → d.scope.items ≡ c.scope.items →
-        log_of d.log ≡ log_of c.log →
+    log_of d.log ≡ log_of c.log →
     end ≡ joined n past → m ≡ joined end inside → Follows (switch_flow s (reverse scope) rest past nows groups log) scope j m d
 switch_follows s scope rest past nows groups log j start cut around inside n end m c d ea e1 a ei e2 e3 es el en em =
     let f = follow s (reverse scope) rest nows groups None log in

@@ -83,7 +83,7 @@ was_held p e ks ks' ss ss' new is old at same = go (list_any (key_eq e.key) ks) 
 pub is_held : (p : Program) (e : Entry) (ks ks' : List TableKey) (ss ss' : List Set) (s : Set) (new : Bool) →
     new ≡ not (list_any (key_eq e.key) ks) → new ≡ true →
     ks' ≡ cond (list_any (key_eq e.key) ks) ks (ks ++ e.key ∷ []) → s ≡ start_in p e.key e.class → ss' ≡ ss ++ s ∷ [] →
-        WithEntry p e ks ss ks' ss'
+    WithEntry p e ks ss ks' ss'
 is_held p e ks ks' ss ss' s new is fresh at start more = go (list_any (key_eq e.key) ks) refl
   where
     go : (b : Bool) → list_any (key_eq e.key) ks ≡ b → WithEntry p e ks ss ks' ss'
@@ -112,7 +112,7 @@ one_held p entries i e ks ks' ss ss' here w h = record {
       w;
   has = λ n x below there. ⊎_elim (λ l. kept x.key (h.has n x l there)) (λ same.
       subst (λ y. Contains ks' y.key) (same_Some e x (sym here ∙ ap (slice_get entries) (sym same) ∙ there)) added)
-          (last_or_before n i below);
+      (last_or_before n i below);
 }
   where
     kept : (key : TableKey) → Contains ks key → Contains ks' key
@@ -158,7 +158,7 @@ found_within : (key : TableKey) (ks : List TableKey) (i : ℕ) → i < length ks
 found_within key [] i lt e = let no : ⊥ = omega (arith, lt) in absurd no
 found_within key (k ∷ ks) zero lt e =
     subst (λ n. n < length (k ∷ ks))
-        (sym (ap (λ b. cond (not b) (1 + position_or_len (same_key key) ks) 0) (ap (same_key key) e ∙ same_refl key))) (omega arith)
+    (sym (ap (λ b. cond (not b) (1 + position_or_len (same_key key) ks) 0) (ap (same_key key) e ∙ same_refl key))) (omega arith)
 found_within key (k ∷ ks) (suc i) lt e = bounded (same_key key k) (position_or_len (same_key key) ks) (length ks)
     (found_within key ks i (omega (arith, lt)) e)
 
@@ -230,6 +230,10 @@ module _ (p : Program) (r : List (List Bool)) (cs : List Context) (entries : Lis
     contexts = same ∙ all (subst AreApart (sym listed) (contexts_apart p r)) ∙ listed ∙ ap (contexts_in p) (sym reached);
     has = λ key class e.
         let n = numbered_key t.keys.keys key (key_there p t.keys.keys t.sets.items (reached_of t) whole key class e) in
-        record { number = n.number; at = n.at; within =
-            subst (λ m. n.number < m) (sym (as_many p t.keys.keys t.sets.items (reached_of t) whole)) n.within };
+        record {
+          number = n.number;
+          at = n.at;
+          within =
+              subst (λ m. n.number < m) (sym (as_many p t.keys.keys t.sets.items (reached_of t) whole)) n.within;
+        };
   }

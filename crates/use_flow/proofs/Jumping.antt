@@ -42,7 +42,7 @@ pub held_more : (to : Leads) (old mid new : Now) (js ks : List Jump) → mid ≡
     new ≡ joined old (caught to (js ++ ks))
 held_more to old mid new js ks em en =
     en ∙ ap (λ x. joined x (caught to ks)) em ∙ joined-assoc old (caught to js) (caught to ks) ∙
-        ap (joined old) (sym (caught-append to js ks))
+    ap (joined old) (sym (caught-append to js ks))
 
 -- Loops: what jumps to a loop of this number from around it is set aside while the body is followed, and put back.
 
@@ -81,27 +81,27 @@ module _ (l : ℕ) (js : List Jump) (before cleared inside behind : Leads → No
   pub behind-caught : inside (BehindLoop l) ≡ caught (BehindLoop l) js
   behind-caught =
       inside_is (same_lead (BehindLoop l) (BehindLoop l)) (same_lead (GoesOn l) (BehindLoop l)) (before (BehindLoop l))
-          (caught (BehindLoop l) js) (inside (BehindLoop l))
+      (caught (BehindLoop l) js) (inside (BehindLoop l))
       (same_self (BehindLoop l)) (inside_at (BehindLoop l))
 
   pub on-caught : inside (GoesOn l) ≡ caught (GoesOn l) js
   on-caught =
       inside_other (same_lead (BehindLoop l) (GoesOn l)) (same_lead (GoesOn l) (GoesOn l)) (before (GoesOn l)) (caught (GoesOn l) js)
-          (inside (GoesOn l))
+      (inside (GoesOn l))
       (same_self (GoesOn l)) (inside_at (GoesOn l))
 
   pub loop_held : ((to : Leads) → behind to ≡ (if same_lead (BehindLoop l) to then before (BehindLoop l) else
       (if same_lead (GoesOn l) to then before (GoesOn l) else (if same_lead (BehindLoop l) to || same_lead (GoesOn l) to then None else
-          inside to)))) →
+      inside to)))) →
       (to : Leads) → behind to ≡ joined (before to) (caught to (passing (GoesOn l) (passing (BehindLoop l) js)))
   loop_held e4 to =
       e4 to
       ∙ around_is (same_lead (BehindLoop l) to) (same_lead (GoesOn l) to) (before (BehindLoop l)) (before (GoesOn l)) (before to)
-          (caught to js) (inside to)
+      (caught to js) (inside to)
       (λ h. ap before (same_is (BehindLoop l) to h)) (λ h. ap before (same_is (GoesOn l) to h)) (inside_at to)
       ∙ ap (joined (before to))
       (sym (caught_passing (GoesOn l) to (passing (BehindLoop l) js) ∙ ap (λ n. if same_lead (GoesOn l) to then None else n)
-          (caught_passing (BehindLoop l) to js)))
+      (caught_passing (BehindLoop l) to js)))
 
 pub nat_turned : (k l : ℕ) → nat_eq k l ≡ nat_eq l k
 nat_turned zero zero = refl
@@ -187,7 +187,7 @@ pub room_end : (ns ns' old : List Now) (at end : ℕ) (n : Now) → end ≤ at �
     (l : ℕ) → slice_index_or ns' l None ≡ put_now end n l (slice_index_or old l None)
 room_end ns ns' old at end n le e h l =
     ap (λ (x : List Now). slice_index_or x l None) e ∙ placed-last ns end n l
-        (h.length-is ∙ (let k : at ≡ end = omega (arith, le, h.within) in k)) ∙ ap (put_now end n l) (h.same l)
+    (h.length-is ∙ (let k : at ≡ end = omega (arith, le, h.within) in k)) ∙ ap (put_now end n l) (h.same l)
 
 pub room_made : (ns old : List Now) (at end : ℕ) → end ≤ at → HasRoom ns old at end → HasRoom ns old end end
 room_made ns old at end le h =

@@ -31,7 +31,7 @@ slot_judged s q ks i k sets ds ds' total lt at e h =
     ap (λ r. r ++ left_open s q (drop (i + 1) ks) sets) e
     ∙ append_assoc ds (judged_variable s rules.LeftOpen q (vars.Slot k) sets) (left_open s q (drop (i + 1) ks) sets)
     ∙ ap (λ r. ds ++ r) (sym (at_drop_more (λ xs. left_open s q xs sets) ks i k lt ∙ ap (λ x. left_open s q (x ∷ drop (i + 1) ks) sets)
-        (sym at))) ∙ h
+    (sym at))) ∙ h
 
 pub slots_judged : (s : Followed) (q : Place) (ks : List ℕ) (i : ℕ) (sets : List Set) (ds total : List Demand) → length ks ≤ i →
     ds ++ left_open s q (drop i ks) sets ≡ total → ds ≡ total
@@ -58,15 +58,15 @@ pub field_opened : (s : Followed) (q : Place) (fs : List CoreField) (i f : ℕ) 
     → f ≡ i →
     ds' ≡ ds ++ judged_variable s rules.FieldOpenAtEnd q (vars.Field f) sets →
     ds ++ open_fields s q i (map field_of (drop i fs)) sets ≡ total → ds' ++ open_fields s q (i + 1) (map field_of (drop (i + 1) fs)) sets ≡
-        total
+    total
 field_opened s q [] i f sets ds ds' total lt at e h = let no : ⊥ = omega arith in absurd no
 field_opened s q (d ∷ fs) i f sets ds ds' total lt at e h =
     ap (λ r. r ++ open_fields s q (i + 1) (map field_of (drop (i + 1) (d ∷ fs))) sets)
-        (e ∙ ap (λ x. ds ++ judged_variable s rules.FieldOpenAtEnd q (vars.Field x) sets) at)
+    (e ∙ ap (λ x. ds ++ judged_variable s rules.FieldOpenAtEnd q (vars.Field x) sets) at)
     ∙ append_assoc ds (judged_variable s rules.FieldOpenAtEnd q (vars.Field i) sets)
-        (open_fields s q (i + 1) (map field_of (drop (i + 1) (d ∷ fs))) sets)
+    (open_fields s q (i + 1) (map field_of (drop (i + 1) (d ∷ fs))) sets)
     ∙ ap (λ n. ds ++ (judged_variable s rules.FieldOpenAtEnd q (vars.Field i) sets ++ open_fields s q n
-        (map field_of (drop (i + 1) (d ∷ fs))) sets)) (add-one i)
+    (map field_of (drop (i + 1) (d ∷ fs))) sets)) (add-one i)
     ∙ ap (λ r. ds ++ r) (sym (at_drop_more (λ (xs : List CoreField). open_fields s q i (map field_of xs) sets) (d ∷ fs) i d lt)) ∙ h
 
 pub fields_opened : (s : Followed) (q : Place) (fs : List CoreField) (i : ℕ) (sets : List Set) (ds total : List Demand) → length fs ≤ i →

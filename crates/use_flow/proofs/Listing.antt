@@ -183,7 +183,7 @@ module _ (p : Program) where
   in_own to c f class h =
       let k = known c f class h in
       subst (λ ds. Contains (field_entries to ds) (entry (to f) class))
-          (sym (ap (λ o. elim o as (λ _. List Field) [ None ↦ [] | Some k ↦ k.fields ]) k.at))
+      (sym (ap (λ o. elim o as (λ _. List Field) [ None ↦ [] | Some k ↦ k.fields ]) k.at))
       (in_fields to (k.within).fields f k.field class k.named k.is)
 
   module _ (reached : List (List Bool)) where
@@ -211,9 +211,9 @@ module _ (p : Program) where
       where
         go : (n : ℕ) (m : Method) → slice_get p.methods n ≡ Some m → (k : MethodKind) → m.kind ≡ k →
             AllByRecursion Sound (elim k as (λ _. List Entry) [
-          | kinds.Helper ↦ field_entries (keys.Enter n) (fields_of p m.class) ++ field_entries (keys.Leave n) (fields_of p m.class)
-          | _ ↦ []
-        ])
+              | kinds.Helper ↦ field_entries (keys.Enter n) (fields_of p m.class) ++ field_entries (keys.Leave n) (fields_of p m.class)
+              | _ ↦ []
+            ])
         go n m at kinds.Main h = tt
         go n m at kinds.Static h = tt
         go n m at kinds.Protocol h = tt
@@ -239,7 +239,7 @@ module _ (p : Program) where
           (λ i k within. every_if Sound (keys.Loop c l k) (option_and_then class_in (slot_type m k)) (λ class e.
           loop_class l k head at
           ∙ slot_class (slot_type m k) (list_any (nat_eq k) head.scope) (cond (is_instance m) (field_class p m.class (k - length m.slots))
-              None) class (any_at head.scope i k within) e))
+          None) class (any_at head.scope i k within) e))
 
       field_of_head : (l f : ℕ) (head : Loop) (d : Field) (class : ℕ) → slice_get m.loops l ≡ Some head → is_instance m ≡ true →
           slice_get (fields_of p m.class) f ≡ Some d →
@@ -275,10 +275,10 @@ module _ (p : Program) where
           every_append Sound (param_entries c (param_types m)) (entry_if (keys.Result c) (class_in m.result) ++ loops_entries p c m m.loops)
           (every_listed (param_entry c) Sound (param_types m) (λ i ty at. every_if Sound (keys.Param c i) (class_in ty) (λ class e.
           ap (option_and_then (λ (m : Method). option_and_then class_in (slice_get (param_types m) i))) here ∙ ap (option_and_then class_in)
-              at ∙ e)))
+          at ∙ e)))
           (every_append Sound (entry_if (keys.Result c) (class_in m.result)) (loops_entries p c m m.loops)
           (every_if Sound (keys.Result c) (class_in m.result) (λ class e. ap (option_and_then (λ (m : Method). class_in m.result)) here ∙
-              e))
+          e))
           (every_listed (loop_entries p c m) Sound m.loops (λ l head at.
           every_append Sound (scope_entries m c l head.scope) (head_entries p c m l) (sound_scope l head at) (sound_head l head at))))
 
@@ -318,7 +318,7 @@ module _ (p : Program) where
 
     in_methods : (n : ℕ) (m : Method) (e : Entry) → slice_get p.methods n ≡ Some m → is_helper m ≡ true →
         Contains (field_entries (keys.Enter n) (fields_of p m.class) ++ field_entries (keys.Leave n) (fields_of p m.class)) e →
-            Contains (by_methods p) e
+        Contains (by_methods p) e
     in_methods n m e at h c = in_listed (method_entries p) p.methods n m e at
         (in_helper m.kind (field_entries (keys.Enter n) (fields_of p m.class) ++ field_entries (keys.Leave n) (fields_of p m.class)) e h c)
 
@@ -356,7 +356,7 @@ module _ (p : Program) where
             Contains-append_right (scope_entries m c l head.scope) (head_entries p c m l) (entry (keys.Loop c l k) class)
             (in_instance m.kind (field_entries (head_key m c l) (fields_of p m.class)) (entry (keys.Loop c l k) class) w.0
             (subst (λ n. Contains (field_entries (head_key m c l) (fields_of p m.class)) (entry (keys.Loop c l n) class))
-                (behind_slots m k e)
+            (behind_slots m k e)
             (in_own (head_key m c l) m.class (k - length m.slots) class w.1)))
 
     of_classes : (e : Entry) → Contains (by_classes p) e → Contains (entries_in p (contexts_in p reached)) e
@@ -374,7 +374,7 @@ module _ (p : Program) where
         option_and_then (λ (m : Method). cond (is_helper m) (field_class p m.class f) None) (slice_get p.methods n) ≡ Some class →
         ((m : Method) → Contains (field_entries to (fields_of p m.class)) (entry key class) →
         Contains (field_entries (keys.Enter n) (fields_of p m.class) ++ field_entries (keys.Leave n) (fields_of p m.class))
-            (entry key class)) →
+        (entry key class)) →
         to f ≡ key → Contains (entries_in p (contexts_in p reached)) (entry key class)
     of_helper key n f class to h side is =
         let m = and_then_some (λ (m : Method). cond (is_helper m) (field_class p m.class f) None) (slice_get p.methods n) class h in
@@ -387,34 +387,34 @@ module _ (p : Program) where
     in_list (keys.Field c q f) class h = of_classes (entry (keys.Field c q f) class) (in_classes c q f class h)
     in_list (keys.Enter n f) class h = of_helper (keys.Enter n f) n f class (keys.Enter n) h
         (λ m c. Contains-append_left (field_entries (keys.Enter n) (fields_of p m.class))
-            (field_entries (keys.Leave n) (fields_of p m.class)) (entry (keys.Enter n f) class) c) refl
+        (field_entries (keys.Leave n) (fields_of p m.class)) (entry (keys.Enter n f) class) c) refl
     in_list (keys.Leave n f) class h = of_helper (keys.Leave n f) n f class (keys.Leave n) h
         (λ m c. Contains-append_right (field_entries (keys.Enter n) (fields_of p m.class))
-            (field_entries (keys.Leave n) (fields_of p m.class)) (entry (keys.Leave n f) class) c) refl
+        (field_entries (keys.Leave n) (fields_of p m.class)) (entry (keys.Leave n f) class) c) refl
     in_list (keys.Param c i) class h =
         let m = and_then_some (λ (m : Method). option_and_then class_in (slice_get (param_types m) i)) (method_at p reached c) class h in
         let ty = and_then_some class_in (slice_get (param_types m.0) i) class m.2 in
         of_contexts (entry (keys.Param c i) class) (in_contexts c m.0 (entry (keys.Param c i) class) m.1
         (Contains-append_left (param_entries c (param_types m.0)) (entry_if (keys.Result c) (class_in (m.0).result) ++ loops_entries p c m.0
-            (m.0).loops) (entry (keys.Param c i) class)
+        (m.0).loops) (entry (keys.Param c i) class)
         (in_listed (param_entry c) (param_types m.0) i ty.0 (entry (keys.Param c i) class) ty.1
-            (in_if (keys.Param c i) (class_in ty.0) class ty.2))))
+        (in_if (keys.Param c i) (class_in ty.0) class ty.2))))
     in_list (keys.Result c) class h =
         let m = and_then_some (λ (m : Method). class_in m.result) (method_at p reached c) class h in
         of_contexts (entry (keys.Result c) class) (in_contexts c m.0 (entry (keys.Result c) class) m.1
         (Contains-append_right (param_entries c (param_types m.0)) (entry_if (keys.Result c) (class_in (m.0).result) ++ loops_entries p c
-            m.0 (m.0).loops) (entry (keys.Result c) class)
+        m.0 (m.0).loops) (entry (keys.Result c) class)
         (Contains-append_left (entry_if (keys.Result c) (class_in (m.0).result)) (loops_entries p c m.0 (m.0).loops)
-            (entry (keys.Result c) class)
+        (entry (keys.Result c) class)
         (in_if (keys.Result c) (class_in (m.0).result) class m.2))))
     in_list (keys.Loop c l k) class h =
         let m = and_then_some (λ (m : Method). option_and_then (λ (head : Loop). variable_class_at p m head k) (slice_get m.loops l))
-              (method_at p reached c) class h in
+        (method_at p reached c) class h in
         let head = and_then_some (λ (head : Loop). variable_class_at p m.0 head k) (slice_get (m.0).loops l) class m.2 in
         of_contexts (entry (keys.Loop c l k) class) (in_contexts c m.0 (entry (keys.Loop c l k) class) m.1
         (Contains-append_right (param_entries c (param_types m.0)) (entry_if (keys.Result c) (class_in (m.0).result) ++ loops_entries p c
-            m.0 (m.0).loops) (entry (keys.Loop c l k) class)
+        m.0 (m.0).loops) (entry (keys.Loop c l k) class)
         (Contains-append_right (entry_if (keys.Result c) (class_in (m.0).result)) (loops_entries p c m.0 (m.0).loops)
-            (entry (keys.Loop c l k) class)
+        (entry (keys.Loop c l k) class)
         (in_listed (loop_entries p c m.0) (m.0).loops l head.0 (entry (keys.Loop c l k) class) head.1
-            (in_loop c l k m.0 head.0 class head.2)))))
+        (in_loop c l k m.0 head.0 class head.2)))))

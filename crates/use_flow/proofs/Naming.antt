@@ -66,8 +66,12 @@ module _ (ss : List CoreStmt) (i : ℕ) (ns total : List ℕ) (h : ns ++ named_i
 pub ruleset statements = (statement_named, statements_named)
 
 abbrev one_group : CoreGroup → OneGroup
-one_group g = record { labels = (out-CoreGroup g).labels.items; body = stmts_of (map stmt_of (out-CoreGroup g).body.items); end =
-    (out-CoreGroup g).end }
+one_group g = record {
+  labels = (out-CoreGroup g).labels.items;
+  body = stmts_of (map stmt_of (out-CoreGroup g).body.items);
+  end =
+      (out-CoreGroup g).end;
+}
 
 group_of-is : (g : CoreGroup) → group_of g ≡ one_group g
 unfolding stmt_of group_of
@@ -80,7 +84,7 @@ module _ (gs : List CoreGroup) (i : ℕ) (ns total : List ℕ) (h : ns ++ named_
       new ++ named_in_groups (groups_of (map group_of (drop (i + 1) gs))) ≡ total
   group_named g body new within is eb e =
       next (λ (ys : List CoreGroup). named_in_groups (groups_of (map group_of ys))) gs i ns total h g
-          (named_in_all (stmts_of (map stmt_of (out-CoreGroup g).body.items))) new within is
+      (named_in_all (stmts_of (map stmt_of (out-CoreGroup g).body.items))) new within is
       (ap (λ o. named_in_groups (groups_of (o ∷ map group_of (drop (i + 1) gs)))) (group_of-is g))
       (e ∙ ap (λ (ys : List CoreStmt). ns ++ named_in_all (stmts_of (map stmt_of ys))) eb)
 

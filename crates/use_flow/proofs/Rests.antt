@@ -44,7 +44,7 @@ pub image_take : (to : ℕ → List ℕ) (i : ℕ) (s found found' total : Set) 
 image_take to i s found found' total es h b l m e =
     ap (marked (leads_from to (i + 1) (drop (i + 1) s))) (m ∙ ap (λ x. marked x found) l)
     ∙ sym (ap (λ v. marked (leads_from to (i + 1) (drop (i + 1) s)) (marked (cond v (to i) []) found)) b) ∙ sym (image_one to i s found h) ∙
-        e
+    e
 
 pub image_end : (to : ℕ → List ℕ) (i : ℕ) (s found total : Set) → length s ≤ i → marked (leads_from to i (drop i s)) found ≡ total →
     found ≡ total
@@ -73,7 +73,7 @@ pub judged_skip : (rule : ℕ → Option DemandKind) (q : Place) (x : Name) (c i
     ds ++ judged_from rule q x c i (drop i s) ≡ total → ds ++ judged_from rule q x c (i + 1) (drop (i + 1) s) ≡ total
 judged_skip rule q x c i s ds total h b e =
     ap (λ r. ds ++ r) (sym (judged_one rule q x c i s h ∙ ap (λ v. cond v (blamed q x c i (rule i)) [] ++ judged_from rule q x c (i + 1)
-        (drop (i + 1) s)) b)) ∙ e
+    (drop (i + 1) s)) b)) ∙ e
 
 pub judged_take : (rule : ℕ → Option DemandKind) (q : Place) (x : Name) (c i : ℕ) (s : Set) (ds ds' total : List Demand)
     (k : Option DemandKind) →
@@ -83,7 +83,7 @@ judged_take rule q x c i s ds ds' total k h b r d e =
     ap (λ l. l ++ judged_from rule q x c (i + 1) (drop (i + 1) s)) (d ∙ ap (λ v. ds ++ blamed q x c i v) r)
     ∙ append_assoc ds (blamed q x c i (rule i)) (judged_from rule q x c (i + 1) (drop (i + 1) s))
     ∙ ap (λ l. ds ++ l) (sym (judged_one rule q x c i s h ∙ ap (λ v. cond v (blamed q x c i (rule i)) [] ++ judged_from rule q x c (i + 1)
-        (drop (i + 1) s)) b)) ∙ e
+    (drop (i + 1) s)) b)) ∙ e
 
 pub judged_end : (rule : ℕ → Option DemandKind) (q : Place) (x : Name) (c i : ℕ) (s : Set) (ds total : List Demand) → length s ≤ i →
     ds ++ judged_from rule q x c i (drop i s) ≡ total → ds ≡ total

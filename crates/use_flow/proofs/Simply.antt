@@ -52,7 +52,7 @@ module _ (s : Followed) (log : Log) (e : Expr) (la : Log) (n : Now) where
     pub assigned_some : (now now' : List Set) (ds' : List Demand) → Some now ≡ n → ds' ≡ la.failed ++ judged_variable s judging.Overwritten
         x.place x.var now →
         now' ≡ slice_set now (variable_at s x.var) v.set → flow (Some now') [] (record { outs = la.outs; failed = ds' }) ≡ assigned s x e
-            sets log
+        sets log
     assigned_some now now' ds' em ed es =
         ap (λ (y : List Set). flow (Some y) [] (record { outs = la.outs; failed = ds' })) es
         ∙ ap (λ (y : List Demand). flow (Some (slice_set now (variable_at s x.var) v.set)) [] (record { outs = la.outs; failed = y })) ed
@@ -83,7 +83,7 @@ module _ (s : Followed) (log : Log) (e : Expr) (la : Log) (n : Now) where
 
   pub returned_is : (q : Place) (sc : List ℕ) (sets : List Set) (v : Value) (label : Option Name) (lb : Log) →
       evaluated_of v la ≡ eval s (width_of s s.method.result) e (Some sets) log → n ≡ joined (yes_of v.ways) (no_of v.ways) →
-          label ≡ answer_of s (Some e) →
+      label ≡ answer_of s (Some e) →
       lb ≡ left s q label v.set sc n la → flow None [] lb ≡ returned s q e sc sets log
   returned_is q sc sets v label lb ev en el h =
       ap (λ y. flow None [] y) (h ∙ ap (λ y. left s q y v.set sc n la) el ∙ ap (λ y. left s q (answer_of s (Some e)) v.set sc y la) en)

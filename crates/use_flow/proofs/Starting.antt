@@ -14,14 +14,14 @@ pub param_taken : (s : Followed) (ps : List CoreSlot) (i : ℕ) (p : CoreSlot) (
     done' ++ params_from s (i + 1) (map (λ p. p.ty) (drop (i + 1) ps)) ≡ total
 param_taken s ps i p done done' total x lt at ex ed h =
     one (λ k (xs : List CoreSlot). params_from s k (map (λ p. p.ty) xs)) (λ k (p : CoreSlot). param_set s k p.ty ∷ []) (λ k x xs. refl)
-        (λ k. refl) i p ps done done' total lt at
+    (λ k. refl) i p ps done done' total lt at
     (ed ∙ ap (λ y. done ++ y ∷ []) ex) h
 
 pub params_taken : (s : Followed) (ps : List CoreSlot) (i : ℕ) (done total : List Set) → length ps ≤ i →
     done ++ params_from s i (map (λ p. p.ty) (drop i ps)) ≡ total → done ≡ total
 params_taken s ps i done total le h =
     last (λ k (xs : List CoreSlot). params_from s k (map (λ p. p.ty) xs)) (λ k (p : CoreSlot). param_set s k p.ty ∷ []) (λ k x xs. refl)
-        (λ k. refl) i ps done total le h
+    (λ k. refl) i ps done total le h
 
 pub ruleset params = (param_taken, params_taken)
 
@@ -37,7 +37,7 @@ pub empty_more : (start now now' : List Set) (n : ℕ) (x : Set) → x ≡ [] �
     now' ≡ start ++ replicate (n + 1) []
 empty_more start now now' n x ex en h =
     en ∙ ap (λ y. now ++ y ∷ []) ex ∙ ap (λ y. y ++ [] ∷ []) h ∙ append_assoc start (replicate n []) ([] ∷ []) ∙ ap (λ y. start ++ y)
-        (replicate_more n)
+    (replicate_more n)
 
 pub append_empty : (start : List Set) → start ≡ start ++ replicate 0 []
 append_empty start = sym (append_nil start)

@@ -77,13 +77,18 @@ moved F f scope j n m c d a b =
 pub beside_follows : (f : Flow) (past : Now) (scope : List ℕ) (j : Jumps) (n m : Now) (c : Course) → Follows f scope j n c →
     m ≡ joined n past →
     Follows (flow (joined f.now past) f.jumps f.log) scope j m c
-beside_follows f past scope j n m c a e = record { now-is = e ∙ ap (λ x. joined x past) a.now-is; log-is = a.log-is; scope-is =
-    a.scope-is; jumps = a.jumps }
+beside_follows f past scope j n m c a e = record {
+  now-is = e ∙ ap (λ x. joined x past) a.now-is;
+  log-is = a.log-is;
+  scope-is =
+      a.scope-is;
+  jumps = a.jumps;
+}
 
 module _ (s : Followed) (out scope : List ℕ) (j : Jumps) where
   pub if_follows : (body : Stmt) (v : Evaluated) (holds fails n m : Now) (log : Log) (c : Course) → parted holds fails log ≡ both_ways v →
       Follows (step s (reverse scope) out body holds log) scope j n c → m ≡ joined n fails → Follows (if_flow s (reverse scope) out body v)
-          scope j m c
+      scope j m c
   if_follows body v holds fails n m log c ev a em =
       follows_as (if_flow s (reverse scope) out body (parted holds fails log)) (if_flow s (reverse scope) out body v) scope j m c
       (ap (if_flow s (reverse scope) out body) ev)
@@ -99,7 +104,7 @@ module _ (s : Followed) (out scope : List ℕ) (j : Jumps) where
       let g = step s (reverse scope) out other fails f.log in
       let both = then_follows f g scope scope j n k c d a (moved (λ sc l. step s (reverse sc) out other fails l) f scope j n k c d a b) in
       follows_as (if_else_flow s (reverse scope) out body other (parted holds fails log)) (if_else_flow s (reverse scope) out body other v)
-          scope j m d
+      scope j m d
       (ap (if_else_flow s (reverse scope) out body other) ev)
       (record {
         now-is = em ∙ ap (λ x. joined x k) a.now-is ∙ ap (joined f.now) both.now-is;
@@ -145,48 +150,48 @@ module _ (s : Followed) (out scope : List ℕ) (l : ℕ) (cond' : Expr) (body : 
     (j start cut : Jumps)
     (around inside : Aside) (n m end : Now) (c d : Course) (ea : la ≡ heads s l (Some sets) log) (es : sets' ≡ at_head s l sets)
     (kept : d.scope.items ≡ c.scope.items) (x : SetsAside l j start c.jumps cut d.jumps around inside) (em : end ≡ joined n inside.going_on)
-        where
-  pub while_follows : (holds fails : Now) → parted holds fails lb ≡ both_ways (eval s 0 cond' (Some sets') la) →
-      Follows (step s (reverse scope) out body holds lb) scope start n c → log_of d.log ≡ heads s l end (log_of c.log) →
-          m ≡ joined fails inside.behind →
-      Follows (while_flow s (reverse scope) out l cond' body sets log) scope j m d
-  while_follows holds fails ev a eh er =
-      let f = step s (reverse scope) out body holds lb in
-      follows_as (while_end s (reverse scope) out l body (parted holds fails lb)) (while_flow s (reverse scope) out l cond' body sets log)
-          scope j m d
-      (ap (while_end s (reverse scope) out l body) (ev ∙ ap (λ y. both_ways (eval s 0 cond' (Some y) la)) es ∙
-          ap (λ y. both_ways (eval s 0 cond' (Some (at_head s l sets)) y)) ea))
-      (record {
-        now-is = er ∙ ap (joined fails) (behind_loop l j start c.jumps cut d.jumps around inside x f.jumps a.jumps);
-        log-is = eh ∙ ap (heads s l end) a.log-is
-            ∙ ap (λ y. heads s l y f.log) (em ∙ ap (λ y. joined y inside.going_on) a.now-is ∙ ap (joined f.now)
-                (on_loop l j start c.jumps cut d.jumps around inside x f.jumps a.jumps));
-        scope-is = kept ∙ a.scope-is;
-        jumps = past_loop l j start c.jumps cut d.jumps around inside x f.jumps a.jumps;
-      })
+  where
+    pub while_follows : (holds fails : Now) → parted holds fails lb ≡ both_ways (eval s 0 cond' (Some sets') la) →
+        Follows (step s (reverse scope) out body holds lb) scope start n c → log_of d.log ≡ heads s l end (log_of c.log) →
+        m ≡ joined fails inside.behind →
+        Follows (while_flow s (reverse scope) out l cond' body sets log) scope j m d
+    while_follows holds fails ev a eh er =
+        let f = step s (reverse scope) out body holds lb in
+        follows_as (while_end s (reverse scope) out l body (parted holds fails lb)) (while_flow s (reverse scope) out l cond' body sets log)
+        scope j m d
+        (ap (while_end s (reverse scope) out l body) (ev ∙ ap (λ y. both_ways (eval s 0 cond' (Some y) la)) es ∙
+        ap (λ y. both_ways (eval s 0 cond' (Some (at_head s l sets)) y)) ea))
+        (record {
+          now-is = er ∙ ap (joined fails) (behind_loop l j start c.jumps cut d.jumps around inside x f.jumps a.jumps);
+          log-is = eh ∙ ap (heads s l end) a.log-is
+              ∙ ap (λ y. heads s l y f.log) (em ∙ ap (λ y. joined y inside.going_on) a.now-is ∙ ap (joined f.now)
+              (on_loop l j start c.jumps cut d.jumps around inside x f.jumps a.jumps));
+          scope-is = kept ∙ a.scope-is;
+          jumps = past_loop l j start c.jumps cut d.jumps around inside x f.jumps a.jumps;
+        })
 
-  pub do_follows : (again fails : Now) → Follows (step s (reverse scope) out body (Some sets') la) scope start n c →
-      parted again fails lb ≡ both_ways (eval s 0 cond' end (log_of c.log)) → log_of d.log ≡ heads s l again lb →
-          m ≡ joined fails inside.behind →
-      Follows (do_flow s (reverse scope) out l body cond' sets log) scope j m d
-  do_follows again fails a ev eh er =
-      let f = step s (reverse scope) out body (Some sets') la in
-      follows_as (do_end s l f.jumps (parted again fails lb)) (do_flow s (reverse scope) out l body cond' sets log) scope j m d
-      (ap (do_end s l f.jumps) (ev
-      ∙ ap (λ y. both_ways (eval s 0 cond' y (log_of c.log))) (em ∙ ap (λ y. joined y inside.going_on) a.now-is ∙ ap (joined f.now)
-          (on_loop l j start c.jumps cut d.jumps around inside x f.jumps a.jumps))
-      ∙ ap (λ y. both_ways (eval s 0 cond' (joined f.now (caught (GoesOn l) f.jumps)) y)) a.log-is)
-      ∙ ap (λ y. from_start (step s (reverse scope) out body (Some y) la)) es ∙
-          ap (λ y. from_start (step s (reverse scope) out body (Some (at_head s l sets)) y)) ea)
-      (record {
-        now-is = er ∙ ap (joined fails) (behind_loop l j start c.jumps cut d.jumps around inside x f.jumps a.jumps);
-        log-is = eh;
-        scope-is = kept ∙ a.scope-is;
-        jumps = past_loop l j start c.jumps cut d.jumps around inside x f.jumps a.jumps;
-      })
-    where
-      from_start : Flow → Flow
-      from_start f = do_end s l f.jumps (eval s 0 cond' (joined f.now (caught (GoesOn l) f.jumps)) f.log)
+    pub do_follows : (again fails : Now) → Follows (step s (reverse scope) out body (Some sets') la) scope start n c →
+        parted again fails lb ≡ both_ways (eval s 0 cond' end (log_of c.log)) → log_of d.log ≡ heads s l again lb →
+        m ≡ joined fails inside.behind →
+        Follows (do_flow s (reverse scope) out l body cond' sets log) scope j m d
+    do_follows again fails a ev eh er =
+        let f = step s (reverse scope) out body (Some sets') la in
+        follows_as (do_end s l f.jumps (parted again fails lb)) (do_flow s (reverse scope) out l body cond' sets log) scope j m d
+        (ap (do_end s l f.jumps) (ev
+        ∙ ap (λ y. both_ways (eval s 0 cond' y (log_of c.log))) (em ∙ ap (λ y. joined y inside.going_on) a.now-is ∙ ap (joined f.now)
+        (on_loop l j start c.jumps cut d.jumps around inside x f.jumps a.jumps))
+        ∙ ap (λ y. both_ways (eval s 0 cond' (joined f.now (caught (GoesOn l) f.jumps)) y)) a.log-is)
+        ∙ ap (λ y. from_start (step s (reverse scope) out body (Some y) la)) es ∙
+        ap (λ y. from_start (step s (reverse scope) out body (Some (at_head s l sets)) y)) ea)
+        (record {
+          now-is = er ∙ ap (joined fails) (behind_loop l j start c.jumps cut d.jumps around inside x f.jumps a.jumps);
+          log-is = eh;
+          scope-is = kept ∙ a.scope-is;
+          jumps = past_loop l j start c.jumps cut d.jumps around inside x f.jumps a.jumps;
+        })
+      where
+        from_start : Flow → Flow
+        from_start f = do_end s l f.jumps (eval s 0 cond' (joined f.now (caught (GoesOn l) f.jumps)) f.log)
 
 -- Scopes.
 
@@ -197,14 +202,14 @@ exit_jumps s q ks (Some sets) js log = refl
 pub list_follows : (s : Followed) (q : Place) (f : Flow) (scope ds : List ℕ) (depth : ℕ) (j : Jumps) (n m : Now) (c d : Course) →
     depth ≡ length scope →
     Follows f (scope ++ ds) j n c →
-        ((js : List Jump) → flow m js (log_of d.log) ≡ exit s q (drop depth c.scope.items) (flow n js (log_of c.log))) →
+    ((js : List Jump) → flow m js (log_of d.log) ≡ exit s q (drop depth c.scope.items) (flow n js (log_of c.log))) →
     d.scope.items ≡ take depth c.scope.items → d.jumps ≡ c.jumps → Follows (exit s q ds f) scope j m d
 list_follows s q f scope ds depth j n m c d ed a ex es ej =
     let left : drop depth c.scope.items ≡ ds = ap (λ k. drop k c.scope.items) ed ∙ ap (drop (length scope)) a.scope-is ∙ drop-append_seam
-          scope ds in
+    scope ds in
     let e : flow m f.jumps (log_of d.log) ≡ exit s q ds f =
     ex f.jumps ∙ ap (λ ks. exit s q ks (flow n f.jumps (log_of c.log))) left ∙ ap (λ y. exit s q ds (flow y f.jumps (log_of c.log)))
-        a.now-is
+    a.now-is
     ∙ ap (λ y. exit s q ds (flow f.now f.jumps y)) a.log-is in
     record {
       now-is = ap (λ (g : Flow). g.now) e;
@@ -287,49 +292,50 @@ pub running_start : (s : Followed) (out : List ℕ) (body : Stmts) (now : Now) (
 running_start s out body now c = record { jumped = []; is = refl; scope-is = refl; held-is = λ to. sym (joined-none (held c.jumps to)) }
 
 module _ (s : Followed) (out : List ℕ) (total : Flow) (scope : List ℕ) (start : Jumps) (xs : List CoreStmt) (i : ℕ) (now : Now) (c : Course)
-    where
-  abbrev rest : ℕ → Stmts
-  rest k = stmts_of (map stmt_of (drop k xs))
+  where
+    abbrev rest : ℕ → Stmts
+    rest k = stmts_of (map stmt_of (drop k xs))
 
-  pub running_more : (x : CoreStmt) (n : Now) (d : Course) → i < length xs → x ≡ get_or xs i x →
-      Follows (item s (reverse c.scope.items) out (local_in (stmt_of x)) (stmt_of x) now (log_of c.log))
-          (c.scope.items ++ declared_by (local_in (stmt_of x))) c.jumps n d →
-      Running s out total scope start (rest i) now c → Running s out total scope start (rest (i + 1)) n d
-  running_more x n d lt at a r =
-      let o = local_in (stmt_of x) in
-      let f = item s (reverse c.scope.items) out o (stmt_of x) now (log_of c.log) in
-      let here : rest i ≡ before (stmt_of x) (rest (i + 1)) =
-      at_drop_more (λ (ys : List CoreStmt). stmts_of (map stmt_of ys)) xs i x lt ∙ ap (λ (y : CoreStmt). before (stmt_of y) (rest (i + 1)))
-          (sym at) in
-      let next : steps s (declared_by o ++ reverse c.scope.items) out (rest (i + 1)) f.now f.log ≡ steps s (reverse d.scope.items) out
-            (rest (i + 1)) n (log_of d.log) =
-      ap (λ sc. steps s sc out (rest (i + 1)) f.now f.log) (turned_by c.scope.items o ∙ ap reverse (sym a.scope-is))
-      ∙ ap (λ y. steps s (reverse d.scope.items) out (rest (i + 1)) y f.log) (sym a.now-is)
-      ∙ ap (λ y. steps s (reverse d.scope.items) out (rest (i + 1)) n y) (sym a.log-is) in
-      let g = steps s (reverse d.scope.items) out (rest (i + 1)) n (log_of d.log) in
-      record {
-        jumped = r.jumped ++ f.jumps;
-        is = r.is ∙ ap (λ y. flow y.now (r.jumped ++ y.jumps) y.log)
-            (ap (λ y. steps s (reverse c.scope.items) out y now (log_of c.log)) here ∙ steps_one s (reverse c.scope.items) out (stmt_of x)
-                (rest (i + 1)) now (log_of c.log) ∙ ap (both_flows f) next)
-            ∙ ap (λ js. flow g.now js g.log) (sym (append_assoc r.jumped f.jumps g.jumps));
-        scope-is = ap (λ y. y ++ declared_here (rest (i + 1))) a.scope-is ∙ append_assoc c.scope.items (declared_by o)
-            (declared_here (rest (i + 1)))
-            ∙ ap (λ y. c.scope.items ++ y) (sym (ap declared_here here ∙ declared_one (stmt_of x) (rest (i + 1)))) ∙ r.scope-is;
-        held-is = λ to. held_more to (held start to) (held c.jumps to) (held d.jumps to) r.jumped f.jumps (r.held-is to) (a.jumps to);
-      }
+    pub running_more : (x : CoreStmt) (n : Now) (d : Course) → i < length xs → x ≡ get_or xs i x →
+        Follows (item s (reverse c.scope.items) out (local_in (stmt_of x)) (stmt_of x) now (log_of c.log))
+        (c.scope.items ++ declared_by (local_in (stmt_of x))) c.jumps n d →
+        Running s out total scope start (rest i) now c → Running s out total scope start (rest (i + 1)) n d
+    running_more x n d lt at a r =
+        let o = local_in (stmt_of x) in
+        let f = item s (reverse c.scope.items) out o (stmt_of x) now (log_of c.log) in
+        let here : rest i ≡ before (stmt_of x) (rest (i + 1)) =
+        at_drop_more (λ (ys : List CoreStmt). stmts_of (map stmt_of ys)) xs i x lt ∙
+        ap (λ (y : CoreStmt). before (stmt_of y) (rest (i + 1)))
+        (sym at) in
+        let next : steps s (declared_by o ++ reverse c.scope.items) out (rest (i + 1)) f.now f.log ≡ steps s (reverse d.scope.items) out
+        (rest (i + 1)) n (log_of d.log) =
+        ap (λ sc. steps s sc out (rest (i + 1)) f.now f.log) (turned_by c.scope.items o ∙ ap reverse (sym a.scope-is))
+        ∙ ap (λ y. steps s (reverse d.scope.items) out (rest (i + 1)) y f.log) (sym a.now-is)
+        ∙ ap (λ y. steps s (reverse d.scope.items) out (rest (i + 1)) n y) (sym a.log-is) in
+        let g = steps s (reverse d.scope.items) out (rest (i + 1)) n (log_of d.log) in
+        record {
+          jumped = r.jumped ++ f.jumps;
+          is = r.is ∙ ap (λ y. flow y.now (r.jumped ++ y.jumps) y.log)
+              (ap (λ y. steps s (reverse c.scope.items) out y now (log_of c.log)) here ∙ steps_one s (reverse c.scope.items) out (stmt_of x)
+              (rest (i + 1)) now (log_of c.log) ∙ ap (both_flows f) next)
+              ∙ ap (λ js. flow g.now js g.log) (sym (append_assoc r.jumped f.jumps g.jumps));
+          scope-is = ap (λ y. y ++ declared_here (rest (i + 1))) a.scope-is ∙ append_assoc c.scope.items (declared_by o)
+              (declared_here (rest (i + 1)))
+              ∙ ap (λ y. c.scope.items ++ y) (sym (ap declared_here here ∙ declared_one (stmt_of x) (rest (i + 1)))) ∙ r.scope-is;
+          held-is = λ to. held_more to (held start to) (held c.jumps to) (held d.jumps to) r.jumped f.jumps (r.held-is to) (a.jumps to);
+        }
 
-  pub running_end : length xs ≤ i → Running s out total scope start (rest i) now c → Follows total scope start now c
-  running_end le r =
-      let none : rest i ≡ NoStmt = at_drop_all (λ (ys : List CoreStmt). stmts_of (map stmt_of ys)) xs i le in
-      let e : total ≡ flow now r.jumped (log_of c.log) =
-      r.is ∙ ap (λ y. both_flows (flow None r.jumped (record { outs = []; failed = [] }))
-          (steps s (reverse c.scope.items) out y now (log_of c.log))) none
-      ∙ ap (λ js. flow now js (log_of c.log)) (append_nil r.jumped) in
-      follows_as (flow now r.jumped (log_of c.log)) total scope start now c (sym e)
-      (record {
-        now-is = refl;
-        log-is = refl;
-        scope-is = sym (append_nil c.scope.items) ∙ ap (λ y. c.scope.items ++ declared_here y) (sym none) ∙ r.scope-is;
-        jumps = r.held-is;
-      })
+    pub running_end : length xs ≤ i → Running s out total scope start (rest i) now c → Follows total scope start now c
+    running_end le r =
+        let none : rest i ≡ NoStmt = at_drop_all (λ (ys : List CoreStmt). stmts_of (map stmt_of ys)) xs i le in
+        let e : total ≡ flow now r.jumped (log_of c.log) =
+        r.is ∙ ap (λ y. both_flows (flow None r.jumped (record { outs = []; failed = [] }))
+        (steps s (reverse c.scope.items) out y now (log_of c.log))) none
+        ∙ ap (λ js. flow now js (log_of c.log)) (append_nil r.jumped) in
+        follows_as (flow now r.jumped (log_of c.log)) total scope start now c (sym e)
+        (record {
+          now-is = refl;
+          log-is = refl;
+          scope-is = sym (append_nil c.scope.items) ∙ ap (λ y. c.scope.items ++ declared_here y) (sym none) ∙ r.scope-is;
+          jumps = r.held-is;
+        })

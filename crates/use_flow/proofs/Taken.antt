@@ -60,7 +60,7 @@ rest_one s c i ps ss p lt at within =
     ∙ ap (λ (x : CoreSlot). param_outs s c i (x.ty ∷ map (λ p. p.ty) (drop (i + 1) ps)) (drop i ss)) (sym at)
     ∙ at_drop_more (λ xs. param_outs s c i (p.ty ∷ map (λ p. p.ty) (drop (i + 1) ps)) xs) ss i [] within
     ∙ ap (λ n. here c i p.ty (slice_index_or ss i []) ++ param_outs s c n (map (λ p. p.ty) (drop (i + 1) ps)) (drop (i + 1) ss))
-        (sym (add-one i))
+    (sym (add-one i))
 
 pub param_skip : (s : Followed) (c i : ℕ) (ps : List CoreSlot) (ss : List Set) (p : CoreSlot) (out total : List Out) → i < length ps →
     p ≡ get_or ps i p → i < length ss →
@@ -113,7 +113,7 @@ pub param_short : (s : Followed) (c i : ℕ) (ps : List CoreSlot) (ss : List Set
     out ++ rest_outs s c ps ss i ≡ total → out ≡ total
 param_short s c i ps ss out total le h =
     sym (ap (λ r. out ++ r) (at_drop_all (λ xs. param_outs s c i (map (λ p. p.ty) (drop i ps)) xs) ss i le ∙
-        no_args s c i (map (λ p. p.ty) (drop i ps))) ∙ append_nil out) ∙ h
+    no_args s c i (map (λ p. p.ty) (drop i ps))) ∙ append_nil out) ∙ h
 
 pub ruleset sent = (param_skip, param_take, param_last, param_short)
 
@@ -125,11 +125,11 @@ pub state_next : (s : Followed) (n : ℕ) (k : Method) (qs : List ℕ) (i q c : 
     out ++ state_outs s n k (drop i qs) ss ≡ total → out' ++ state_outs s n k (drop (i + 1) qs) ss ≡ total
 state_next s n k qs i q c ss types out out' total lt at num tys e h =
     ap (λ r. r ++ state_outs s n k (drop (i + 1) qs) ss) (e ∙ ap (λ x. out ++ param_outs s x 0 types ss) num ∙
-        ap (λ x. out ++ param_outs s (number_of s.contexts (contexts.Protocol k.class q n)) 0 x ss) tys)
+    ap (λ x. out ++ param_outs s (number_of s.contexts (contexts.Protocol k.class q n)) 0 x ss) tys)
     ∙ append_assoc out (param_outs s (number_of s.contexts (contexts.Protocol k.class q n)) 0 (param_types k) ss)
-        (state_outs s n k (drop (i + 1) qs) ss)
+    (state_outs s n k (drop (i + 1) qs) ss)
     ∙ ap (λ r. out ++ r) (sym (at_drop_more (λ xs. state_outs s n k xs ss) qs i q lt ∙ ap (λ x. state_outs s n k (x ∷ drop (i + 1) qs) ss)
-        (sym at))) ∙ h
+    (sym at))) ∙ h
 
 pub states_last : (s : Followed) (n : ℕ) (k : Method) (qs : List ℕ) (i : ℕ) (ss : List Set) (out total : List Out) → length qs ≤ i →
     out ++ state_outs s n k (drop i qs) ss ≡ total → out ≡ total

@@ -43,7 +43,7 @@ module _ (p : Program) where
     wide = ap length e ∙ all_length n ∙ many ∙ ap length known;
     settled = λ i c at low. absurd (false≢true (sym low ∙ ap (λ s. has s i) e ∙ all_set n i
         (let a : i < length (contexts_of t) = slice_get_within (contexts_of t) i c at in
-            let b : length cs ≡ length (contexts_of t) = ap length known in omega (arith, a, b, many))));
+        let b : length cs ≡ length (contexts_of t) = ap length known in omega (arith, a, b, many))));
   }
 
   start_width : (reached : List (List Bool)) (key : TableKey) → length (start_of p reached key) ≡ width_at p reached key
@@ -61,16 +61,16 @@ module _ (p : Program) where
       subst (λ r. left p t due ≤ most_follows p r) (reached_same p (reached_of t) reached made.reached are)
       (let a : left p t due ≤ length (contexts_in p (reached_of t)) + widths_read p (reached_of t) (contexts_in p (reached_of t)) =
       subst (λ cs. left p t due ≤ length cs + widths_read p (reached_of t) cs) made.contexts
-          (potential_most p (reached_of t) (tables_of t) due 0 (contexts_of t) narrow) in
+      (potential_most p (reached_of t) (tables_of t) due 0 (contexts_of t) narrow) in
       let b : widths_read p (reached_of t) (contexts_in p (reached_of t)) ≤ costs p (reached_of t) (contexts_in p (reached_of t))
-            (once (keys_read p (reached_of t) (contexts_in p (reached_of t)))) =
+      (once (keys_read p (reached_of t) (contexts_in p (reached_of t)))) =
       widths_most p (reached_of t) (contexts_in p (reached_of t)) in omega (arith, a, b))
     where
       narrow : (key : TableKey) → missing (tables_of t key) ≤ width_at p (reached_of t) key
       narrow key =
           let a : missing (tables_of t key) ≤ length (tables_of t key) = missing_most (tables_of t key) in
           let b : length (tables_of t key) ≡ width_at p (reached_of t) key = ap length (start key) ∙ start_width (reached_of t) key in omega
-              (arith, a, b)
+          (arith, a, b)
 
   pub bound_at : (a b : ℕ) (t : held.Tables) (due : List Bool) → AreFor p t →
       ((key : TableKey) → tables_of t key ≡ start_of p (reached_of t) key) → b ≤ a + left p t due → (reached : List (List Bool)) →

@@ -128,7 +128,7 @@ module _ (p : Program) (reached : List (List Bool)) where
   costs_more c cs [] = omega arith
   costs_more c cs (k ∷ ks) =
       let a : width k * readers p reached (c ∷ cs) k ≡ if_width (list_any (same_key k) (reads p reached c)) k + width k * readers p reached
-            cs k = one_more_reader (list_any (same_key k) (reads p reached c)) k (readers p reached cs k) in
+      cs k = one_more_reader (list_any (same_key k) (reads p reached c)) k (readers p reached cs k) in
       let b : costs p reached (c ∷ cs) ks ≡ share (reads p reached c) ks + costs p reached cs ks = costs_more c cs ks in
       omega (arith, a, b)
 
@@ -137,7 +137,7 @@ module _ (p : Program) (reached : List (List Bool)) where
   costs_most [] ks h = omega arith
   costs_most (c ∷ cs) ks h =
       let a : widths p reached (reads p reached c) ≤ share (reads p reached c) ks =
-            all_shared (reads p reached c) ks (reads_rising p reached c) (h c (inl refl)) in
+      all_shared (reads p reached c) ks (reads_rising p reached c) (h c (inl refl)) in
       let b : widths_read p reached cs ≤ costs p reached cs ks = costs_most cs ks (λ x i. h x (inr i)) in
       let d : costs p reached (c ∷ cs) ks ≡ share (reads p reached c) ks + costs p reached cs ks = costs_more c cs ks in
       omega (arith, a, b, d)

@@ -52,8 +52,8 @@ with_cases n i ls m j h = ⊎_elim (λ e. same e h) (λ ne. inl (subst (Mem j) (
     same e g = ⊎_elim
         (λ lt. at n e refl (subst (Mem j) (get_or-set_same ls n _ [] lt) (subst (λ x. Mem j (list_at (with_reader n i ls) x)) e g)))
         (λ past. absurd (subst (Mem j)
-            (get_or_past (with_reader n i ls) m [] (let w : length (with_reader n i ls) ≡ length ls = with_length n i ls in omega
-            (arith, w, past, e))) g))
+        (get_or_past (with_reader n i ls) m [] (let w : length (with_reader n i ls) ≡ length ls = with_length n i ls in omega
+        (arith, w, past, e))) g))
         (cases_lt n (length ls))
 
 with_keeps : (n i : ℕ) (ls : List (List ℕ)) (m j : ℕ) → Mem j (list_at ls m) → Mem j (list_at (with_reader n i ls) m)
@@ -62,7 +62,7 @@ with_keeps n i ls m j h = ⊎_elim (λ e. same e) (λ ne. subst (Mem j) (sym (ge
     same : m ≡ n → Mem j (list_at (with_reader n i ls) m)
     same e = ⊎_elim
         (λ lt. subst (λ x. Mem j (list_at (with_reader n i ls) x)) (sym e) (subst (Mem j) (sym (get_or-set_same ls n _ [] lt))
-            (mem_left j (list_at ls n) (i ∷ []) (subst (λ x. Mem j (list_at ls x)) e h))))
+        (mem_left j (list_at ls n) (i ∷ []) (subst (λ x. Mem j (list_at ls x)) e h))))
         (λ past. absurd (subst (Mem j) (get_or_past ls m [] (omega (arith, past, e))) h))
         (cases_lt n (length ls))
 
@@ -114,7 +114,7 @@ module _ (ks : List TableKey) where
       let w : length (with_one i (position (same_key r) ks) ls) ≡ length ls = one_length i (position (same_key r) ks) ls in
       ⊎_elim
       (λ (e : key ≡ r). noted_keeps i rs _ m i (one_new i (position (same_key r) ks) ls m (ap (λ x. position (same_key x) ks) (sym e) ∙ at)
-          lt))
+      lt))
       (λ g. noted_new i rs _ m key g at (omega (arith, w, lt)))
       h
 
@@ -133,10 +133,22 @@ module _ (p : Program) (reached : List (List Bool)) (ks : List TableKey) where
       Mem j (list_at ls m) ⊎ Reads i cs m j
   gathered_cases i [] ls m j h = inl h
   gathered_cases i (c ∷ cs) ls m j h = ⊎_elim
-      (λ l. ⊎_elim inl (λ e. inr (record { place = 0; is = (let f : j ≡ i = e.0 in omega (arith, f)); context = c; there = refl; of =
-          e.1 })) (noted_cases ks i (Keys c) ls m j l))
-      (λ r. inr (record { place = suc r.place; is = (let f : j ≡ suc i + r.place = r.is in omega (arith, f)); context = r.context; there =
-          r.there; of = r.of }))
+      (λ l. ⊎_elim inl (λ e. inr (record {
+        place = 0;
+        is = (let f : j ≡ i = e.0 in omega (arith, f));
+        context = c;
+        there = refl;
+        of =
+            e.1;
+      })) (noted_cases ks i (Keys c) ls m j l))
+      (λ r. inr (record {
+        place = suc r.place;
+        is = (let f : j ≡ suc i + r.place = r.is in omega (arith, f));
+        context = r.context;
+        there =
+            r.there;
+        of = r.of;
+      }))
       (gathered_cases (suc i) cs (noted ks i (Keys c) ls) m j h)
 
   gathered_keeps : (i : ℕ) (cs : List Context) (ls : List (List ℕ)) (m j : ℕ) → Mem j (list_at ls m) →
@@ -151,11 +163,11 @@ module _ (p : Program) (reached : List (List Bool)) (ks : List TableKey) where
   gathered_new i (x ∷ cs) ls m zero c key there h at lt =
       let k : Mem key (Keys x) = subst (λ y. Mem key (Keys y)) (sym (some_is x c there)) h in
       subst (λ n. Mem n (list_at (gathered p reached ks i (x ∷ cs) ls) m)) (omega arith)
-          (gathered_keeps (suc i) cs _ m i (noted_new ks i (Keys x) ls m key k at lt))
+      (gathered_keeps (suc i) cs _ m i (noted_new ks i (Keys x) ls m key k at lt))
   gathered_new i (x ∷ cs) ls m (suc j) c key there h at lt =
       let w : length (noted ks i (Keys x) ls) ≡ length ls = noted_length ks i (Keys x) ls in
       subst (λ n. Mem n (list_at (gathered p reached ks i (x ∷ cs) ls) m)) (omega arith)
-          (gathered_new (suc i) cs _ m j c key there h at (omega (arith, w, lt)))
+      (gathered_new (suc i) cs _ m j c key there h at (omega (arith, w, lt)))
 
   blank_length : (n : ℕ) → length {A = List ℕ} (replicate n []) ≡ n
   blank_length zero = refl
@@ -172,10 +184,10 @@ module _ (p : Program) (reached : List (List Bool)) (ks : List TableKey) where
       Mem j (readers_at ks (all_readers p reached ks count cs) key)
   complete count cs j m c key there h at lt =
       subst (λ (v : Option ℕ). Mem j (elim v as (λ _. List ℕ) [ None ↦ [] | Some n ↦ list_at (all_readers p reached ks count cs) n ]))
-          (sym at)
+      (sym at)
       (subst (λ n. Mem n (list_at (all_readers p reached ks count cs) m)) (omega arith)
       (gathered_new 0 cs (replicate count []) m j c key there h at
-          (let w : length {A = List ℕ} (replicate count []) ≡ count = blank_length count in omega (arith, w, lt))))
+      (let w : length {A = List ℕ} (replicate count []) ≡ count = blank_length count in omega (arith, w, lt))))
 
   -- and its readers read it
   pub sound : (count : ℕ) (cs : List Context) (j : ℕ) (c : Context) (key : TableKey) → slice_get cs j ≡ Some c →

@@ -59,7 +59,7 @@ cleared_cases s n j h = ⊎_elim (λ e. absurd (here e)) (λ ne. sym (get_or-set
     here e = ⊎_elim
         (λ lt. false≢true (sym (get_or-set_same s n false false lt) ∙ subst (λ x. has (slice_set s n false) x ≡ true) e h))
         (λ past. false≢true (sym (get_or_past (slice_set s n false) j false
-            (let w : length (slice_set s n false) ≡ length s = length-set s n false in omega (arith, w, past, e))) ∙ h))
+        (let w : length (slice_set s n false) ≡ length s = length-set s n false in omega (arith, w, past, e))) ∙ h))
         (cases_lt n (length s))
 
 pub cleared : (s : List Bool) (n : ℕ) → has (slice_set s n false) n ≡ false
@@ -80,19 +80,19 @@ module _ (p : Program) (reached : List (List Bool)) where
   -- context by context
   pub potential_less : (t u : Tables) (due flags : List Bool) (i : ℕ) (cs : List Context) →
       ((j : ℕ) (c : Context) → slice_get cs j ≡ Some c → cost u flags (i + j) c ≤ cost t due (i + j) c) →
-          potential p reached u flags i cs ≤ potential p reached t due i cs
+      potential p reached u flags i cs ≤ potential p reached t due i cs
   potential_less t u due flags i [] h = omega arith
   potential_less t u due flags i (c ∷ cs) h =
       let a : cost u flags i c ≤ cost t due i c = subst (λ n. cost u flags n c ≤ cost t due n c) (omega arith) (h 0 c refl) in
       let b : potential p reached u flags (suc i) cs ≤ potential p reached t due (suc i) cs =
       potential_less t u due flags (suc i) cs (λ j x e. subst (λ n. cost u flags n x ≤ cost t due n x) (omega arith) (h (suc j) x e)) in
-          omega (arith, a, b)
+      omega (arith, a, b)
 
   flags_less : (t : Tables) (due : List Bool) (n i : ℕ) (cs : List Context) → potential p reached t (slice_set due n false) i cs ≤ potential
       p reached t due i cs
   flags_less t due n i cs = potential_less t t due (slice_set due n false) i cs (λ j c e.
       let a : one_if (has (slice_set due n false) (i + j)) ≤ one_if (has due (i + j)) = one_less _ _ (cleared_cases due n (i + j)) in omega
-          (arith, a))
+      (arith, a))
 
   cleared_from : (t : Tables) (due : List Bool) (n i j : ℕ) (cs : List Context) (c : Context) → n ≡ i + j → slice_get cs j ≡ Some c →
       has due n ≡ true → potential p reached t (slice_set due n false) i cs + 1 ≤ potential p reached t due i cs
@@ -100,15 +100,15 @@ module _ (p : Program) (reached : List (List Bool)) where
   cleared_from t due n i zero (x ∷ cs) c e at h =
       let f : n ≡ i = omega (arith, e) in
       let a : one_if (has (slice_set due n false) i) ≡ 0 = subst (λ k. one_if (has (slice_set due n false) k) ≡ 0) f
-            (ap one_if (cleared due n)) in
+      (ap one_if (cleared due n)) in
       let b : one_if (has due i) ≡ 1 = subst (λ k. one_if (has due k) ≡ 1) f (ap one_if h) in
       let d : potential p reached t (slice_set due n false) (suc i) cs ≤ potential p reached t due (suc i) cs =
-            flags_less t due n (suc i) cs in
+      flags_less t due n (suc i) cs in
       omega (arith, a, b, d)
   cleared_from t due n i (suc j) (x ∷ cs) c e at h =
       let a : one_if (has (slice_set due n false) i) ≤ one_if (has due i) = one_less _ _ (cleared_cases due n i) in
       let d : potential p reached t (slice_set due n false) (suc i) cs + 1 ≤ potential p reached t due (suc i) cs =
-            cleared_from t due n (suc i) j cs c (omega (arith, e)) at h in
+      cleared_from t due n (suc i) j cs c (omega (arith, e)) at h in
       omega (arith, a, d)
 
   -- a context that waited waits no more
@@ -132,7 +132,7 @@ module _ (p : Program) (reached : List (List Bool)) where
       let a : one_if (has due i) ≤ 1 = one_most (has due i) in
       let b : lack t (reads p reached c) ≤ widths p reached (reads p reached c) = lack_most t (reads p reached c) h in
       let d : potential p reached t due (suc i) cs ≤ length cs + widths_read p reached cs = potential_most t due (suc i) cs h in omega
-          (arith, a, b, d)
+      (arith, a, b, d)
 
 pub missing_most : (s : List Bool) → missing s ≤ length s
 missing_most [] = omega arith

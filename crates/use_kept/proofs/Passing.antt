@@ -58,7 +58,7 @@ use Rattle.use_kept.proofs.Fielding.{arg_roots, Matched, AreTaken, args_taken, f
 module _ (p : Program) (ok : IsCore p) (reached : List (List Bool)) (rok : AreReached p reached) (t : Tables) (solves : Solves p reached t)
     (inputs : Inputs)
     (low : Lower) (well : CallsWell p reached t low) (n : ℕ) (m : Method) (at_method : slice_get p.methods n ≡ Some m) (cx : Context)
-        (me : Me)
+    (me : Me)
     (on : IsInstance m.kind → me ≡ Nobody → ⊥) (sc : List ℕ) (locals : Row ℕ) (scope : IsScope m sc) (scoped : Scoped sc locals) where
   abbrev pub cs : List Context
   cs = contexts_in p reached
@@ -106,7 +106,7 @@ module _ (p : Program) (ok : IsCore p) (reached : List (List Bool)) (rok : AreRe
   pub first_arg : (maya mayb : Type 0) (ty : CoreType) (tys : List CoreType) (set : Set) (ws ws' : List ℕ) (v : Evaluated) (a : Argued)
       (row : Row Name) (rest : List Root) (B : Run Shared (List Value)) →
       (loosened ws' (v.set ∷ a.sets) ≡ (set ∷ loosened ws a.sets)) → FromArgs mayb tys ws (after v) a B →
-          (o : Outcome Shared (Option Value)) → Good p t (R maya ty set v row rest) o →
+      (o : Outcome Shared (Option Value)) → Good p t (R maya ty set v row rest) o →
       Good p t (ArgsResult (maya ⊎ mayb) (ty ∷ tys) ws' (record { sets = v.set ∷ a.sets; now = a.now; log = a.log }) row rest)
       (and_then (and_then o found) (λ u. B >>= λ us. give (u ∷ us)))
   first_arg maya mayb ty tys set ws ws' v a row rest B same from (Ends e es) g = g
@@ -115,7 +115,7 @@ module _ (p : Program) (ok : IsCore p) (reached : List (List Bool)) (rok : AreRe
       let c = Held (record { ty = ty; set = set; value = u }) in
       let h = at_in p t m me (side p t (Some u) v) (after v) g.fields locals (c ∷ rest) s (side_after p t (Some u) v) g.at in
       good_then p t (ArgsResult mayb tys ws a g.fields (c ∷ rest))
-          (ArgsResult (maya ⊎ mayb) (ty ∷ tys) ws' (record { sets = v.set ∷ a.sets; now = a.now; log = a.log }) row rest)
+      (ArgsResult (maya ⊎ mayb) (ty ∷ tys) ws' (record { sets = v.set ∷ a.sets; now = a.now; log = a.log }) row rest)
       (B s) (λ us. give (u ∷ us)) (from g.fields (c ∷ rest) s h)
       (λ us s' k. record {
         fields = k.fields;
@@ -123,7 +123,7 @@ module _ (p : Program) (ok : IsCore p) (reached : List (List Bool)) (rok : AreRe
         matched = subst (λ ss. Matched (ty ∷ tys) ss (u ∷ us)) (sym same) k.matched;
         at = subst (λ ss. A a.now k.fields (arg_roots (ty ∷ tys) ss (u ∷ us) ++ rest) s') (sym same)
             (at_rest p t m me a.now k.fields locals (arg_roots tys (loosened ws a.sets) us ++ (c ∷ rest))
-                (c ∷ (arg_roots tys (loosened ws a.sets) us ++ rest)) s'
+            (c ∷ (arg_roots tys (loosened ws a.sets) us ++ rest)) s'
             (to_front p t (arg_roots tys (loosened ws a.sets) us) c rest) k.at);
       })
 
@@ -154,7 +154,7 @@ module _ (p : Program) (ok : IsCore p) (reached : List (List Bool)) (rok : AreRe
   tight (ty ∷ tys) (s ∷ ss) [] rest = onto_same p t rest
   tight (ty ∷ tys) (s ∷ ss) (v ∷ vs) rest =
       onto_then p t (widen p t ty (Loose (rules.width_of p cs cx m ty) s) s v
-          (arg_roots tys (loosened (map (rules.width_of p cs cx m) tys) ss) vs ++ rest) (tight_one ty s))
+      (arg_roots tys (loosened (map (rules.width_of p cs cx m) tys) ss) vs ++ rest) (tight_one ty s))
       (under p t (Held (record { ty = ty; set = s; value = v })) (tight tys ss vs rest))
 
   tight_matched : (tys : List CoreType) (ss : List Set) (vs : List Value) → Matched tys (loosened (map (rules.width_of p cs cx m) tys) ss)
@@ -194,13 +194,13 @@ module _ (p : Program) (ok : IsCore p) (reached : List (List Bool)) (rok : AreRe
       Quiet t ((rules.static_call p cs cx m t i k a.sets a.now a.log).log) → (vs : List Value) (s : Shared) →
       ArgsResult may (param_types k) (map (rules.width_of p cs cx m) (param_types k)) a row rest vs s →
       Good p t (R may ty (Loose w (rules.static_call p cs cx m t i k a.sets a.now a.log).set)
-          (rules.static_call p cs cx m t i k a.sets a.now a.log) row rest) (low.call i None vs s)
+      (rules.static_call p cs cx m t i k a.sets a.now a.log) row rest) (low.call i None vs s)
   static_at i k ty w tys a may row rest at kind is q vs s g = go a.now q g.at
     where
       go : (now : Now) → Quiet t ((rules.static_call p cs cx m t i k a.sets now a.log).log) →
           A now g.fields (arg_roots (param_types k) (loosened (map (rules.width_of p cs cx m) (param_types k)) a.sets) vs ++ rest) s →
           Good p t (R may ty (Loose w (rules.static_call p cs cx m t i k a.sets now a.log).set)
-              (rules.static_call p cs cx m t i k a.sets now a.log) row rest) (low.call i None vs s)
+          (rules.static_call p cs cx m t i k a.sets now a.log) row rest) (low.call i None vs s)
       go None q h = absurd h
       go (Some sets) q h =
           let c = context_number p reached t (contexts.Plain i) in
@@ -209,27 +209,28 @@ module _ (p : Program) (ok : IsCore p) (reached : List (List Bool)) (rok : AreRe
           let taken = all_sent t (rules.param_outs p cs cx m c 0 (param_types k) a.sets) a.log q in
           let mt = tight_matched (param_types k) a.sets vs g.matched in
           let ready = holds_onto (onto_then p t
-                (under_all p t H (under_all p t S (onto_then p t (tight (param_types k) a.sets vs rest)
-                (args_taken p t cs cx m c 0 (param_types k) a.sets vs rest mt taken))))
+          (under_all p t H (under_all p t S (onto_then p t (tight (param_types k) a.sets vs rest)
+          (args_taken p t cs cx m c 0 (param_types k) a.sets vs rest mt taken))))
           (onto_then p t (under_all p t H (all_to_front p t S (calling.entered_args p reached t (contexts.Plain i) k vs) rest))
           (all_to_front p t H (calling.entered_args p reached t (contexts.Plain i) k vs) (S ++ rest)))) h.1 in
           good_as p t (λ r s. Holds p t s (given p t k.result (t (keys.Result c)) r (H ++ (S ++ rest))))
           (R may ty (Loose w (rules.static_call p cs cx m t i k a.sets (Some sets) a.log).set)
-              (rules.static_call p cs cx m t i k a.sets (Some sets) a.log) row rest)
+          (rules.static_call p cs cx m t i k a.sets (Some sets) a.log) row rest)
           (low.call i None vs s) (well.static i k at kind vs (H ++ (S ++ rest)) s ready)
           (λ r s' k'. record {
             fields = g.fields;
             kept = g.kept;
             at = at_in p t m me (Some sets) (side p t r (alike (rules.result_in p cs cx m t c k) (Some sets) _)) g.fields locals _ s'
                 (side_alike p t r (rules.result_in p cs cx m t c k) (Some sets) _) (
-              h.0,
-              holds_onto (onto_then p t (given_behind p reached t ok rok solves k.result (t (keys.Result c)) r H (S ++ rest))
-                  (onto_then p t (under_all p t H (given_behind p reached t ok rok solves k.result (t (keys.Result c)) r S rest))
-                  (under_all p t H (under_all p t S (onto_then p t (given_typed k.result ty (t (keys.Result c)) r rest is)
-                  (given_widen ty (t (keys.Result c)) (Loose w (rules.result_in p cs cx m t c k)) r rest
-                  (subst (λ ty. Within p t ty (t (keys.Result c)) (Loose w (rules.result_in p cs cx m t c k))) is
-                  (result_wider k.result c w (rules.result_in p cs cx m t c k) (within_refl (rules.result_in p cs cx m t c k)))))))))) k',
-            );
+                  h.0,
+                  holds_onto (onto_then p t (given_behind p reached t ok rok solves k.result (t (keys.Result c)) r H (S ++ rest))
+                      (onto_then p t (under_all p t H (given_behind p reached t ok rok solves k.result (t (keys.Result c)) r S rest))
+                      (under_all p t H (under_all p t S (onto_then p t (given_typed k.result ty (t (keys.Result c)) r rest is)
+                      (given_widen ty (t (keys.Result c)) (Loose w (rules.result_in p cs cx m t c k)) r rest
+                      (subst (λ ty. Within p t ty (t (keys.Result c)) (Loose w (rules.result_in p cs cx m t c k))) is
+                      (result_wider k.result c w (rules.result_in p cs cx m t c k) (within_refl (rules.result_in p cs cx m t c k))))))))))
+                      k',
+                );
           })
 
   from_zero : (a b c : ℕ) → a + b ≤ c → a + (0 + b) ≤ c
@@ -256,7 +257,7 @@ module _ (p : Program) (ok : IsCore p) (reached : List (List Bool)) (rok : AreRe
       within_any p t x.ty (set_of sets x.at) (set_of (rules.with_fields p cs cx m t key sets) x.at)
       (subst (λ s. IsSubset (set_of sets x.at) s)
       (sym (Rattle.use_kept.proofs.Fielding.with_fields_other p t cs cx m key 0 (rules.own_fields p cs cx m) sets x.at (omega (arith, lt))))
-          (within_refl (set_of sets x.at))))
+      (within_refl (set_of sets x.at))))
 
   split_held : (sets : List Set) (a b : List Entry) (rest : List Root) → Onto p t (held_by sets (a ++ b) ++ rest)
       (held_by sets a ++ (held_by sets b ++ rest))
@@ -274,7 +275,7 @@ module _ (p : Program) (ok : IsCore p) (reached : List (List Bool)) (rok : AreRe
   to_helper L F A rest o =
       onto_then p t (all_to_front p t L F (o ∷ (A ++ rest)))
       (onto_then p t (under_all p t F (onto_then p t (to_front p t L o (A ++ rest)) (onto_then p t (under p t o (all_to_front p t L A rest))
-          (from_front p t A o (L ++ rest)))))
+      (from_front p t A o (L ++ rest)))))
       (all_to_front p t F A (o ∷ (L ++ rest))))
 
   -- and comes back
@@ -285,11 +286,11 @@ module _ (p : Program) (ok : IsCore p) (reached : List (List Bool)) (rok : AreRe
   helper_on : (i : ℕ) (k : Method) (ty : CoreType) (w : ℕ) (a : Argued) (may : Type 0) → ((may → ⊥) → ⊥) →
       (row : Row Name) (rest : List Root) → slice_get p.methods i ≡ Some k → k.kind ≡ kinds.Helper →
       k.class ≡ m.class → IsInstance m.kind → k.result ≡ ty → Quiet t ((rules.helper_call p cs cx m t i k a.sets a.now a.log).log) →
-          (vs : List Value) (s : Shared) (fields : Row Name) →
+      (vs : List Value) (s : Shared) (fields : Row Name) →
       Matched (param_types k) a.sets vs → (me' : Me) → me ≡ me' → At p t m me' a.now fields locals (arg_roots (param_types k) a.sets vs
-          ++ rest) s →
+      ++ rest) s →
       Good p t (λ r s. Result p t m me' may ty (Loose w (rules.helper_call p cs cx m t i k a.sets a.now a.log).set)
-          (rules.helper_call p cs cx m t i k a.sets a.now a.log) row locals rest r s)
+      (rules.helper_call p cs cx m t i k a.sets a.now a.log) row locals rest r s)
       (low.call i (this_of me') vs s)
   helper_on i k ty w a may changes row rest at kind mine inst is q vs s fields matched Nobody same h = absurd (on inst same)
   helper_on i k ty w a may changes row rest at kind mine inst is q vs s fields matched (On o st name) same h = go a.now q h
@@ -297,7 +298,7 @@ module _ (p : Program) (ok : IsCore p) (reached : List (List Bool)) (rok : AreRe
       go : (now : Now) → Quiet t ((rules.helper_call p cs cx m t i k a.sets now a.log).log) → At p t m (On o st name) now fields locals
           (arg_roots (param_types k) a.sets vs ++ rest) s →
           Good p t (λ r s. Result p t m (On o st name) may ty (Loose w (rules.helper_call p cs cx m t i k a.sets now a.log).set)
-              (rules.helper_call p cs cx m t i k a.sets now a.log) row locals rest r s)
+          (rules.helper_call p cs cx m t i k a.sets now a.log) row locals rest r s)
           (low.call i (Some o) vs s)
       go None q h = absurd h
       go (Some sets) q h =
@@ -306,38 +307,38 @@ module _ (p : Program) (ok : IsCore p) (reached : List (List Bool)) (rok : AreRe
           let HL = held_by sets L in
           let F = field_entries (length m.slots) 0 own fields in
           let sent = before_sends t (rules.field_outs p cs cx m (keys.Enter i) sets)
-                (sends (rules.param_outs p cs cx m c 0 (param_types k) a.sets) a.log) q in
+          (sends (rules.param_outs p cs cx m c 0 (param_types k) a.sets) a.log) q in
           let args = args_taken p t cs cx m c 0 (param_types k) a.sets vs in
           let entering = calling.fields_held p reached t (λ f. t (keys.Enter i f)) m.class fields in
           let AR = calling.entered_args p reached t (contexts.Plain i) k vs in
           let this = Opened o m.class st name fields in
           let ready = holds_onto (onto_then p t (split_held sets L F (this ∷ (arg_roots (param_types k) a.sets vs ++ rest)))
           (onto_then p t (under_all p t HL
-              (onto_then p t (fields_taken p t cs cx m (keys.Enter i) 0 own fields sets
-              (this ∷ (arg_roots (param_types k) a.sets vs ++ rest))
+          (onto_then p t (fields_taken p t cs cx m (keys.Enter i) 0 own fields sets
+          (this ∷ (arg_roots (param_types k) a.sets vs ++ rest))
           (all_sent t (rules.field_outs p cs cx m (keys.Enter i) sets) (sends (rules.param_outs p cs cx m c 0 (param_types k) a.sets) a.log)
-              q))
+          q))
           (under_all p t entering (under p t this
-              (args rest matched (all_sent t (rules.param_outs p cs cx m c 0 (param_types k) a.sets) a.log sent))))))
+          (args rest matched (all_sent t (rules.param_outs p cs cx m c 0 (param_types k) a.sets) a.log sent))))))
           (to_helper HL entering AR rest this))) h.1 in
           let call = subst (λ cl. Holds p t s
-                (AR ++ (calling.fields_held p reached t (λ f. t (keys.Enter i f)) cl fields
-                ++ (Opened o cl st name fields ∷ (HL ++ rest))))) (sym mine) ready in
+          (AR ++ (calling.fields_held p reached t (λ f. t (keys.Enter i f)) cl fields
+          ++ (Opened o cl st name fields ∷ (HL ++ rest))))) (sym mine) ready in
           good_as p t (calling.Helped p reached t k i o st name (HL ++ rest))
           (λ r s. Result p t m (On o st name) may ty (Loose w (rules.helper_call p cs cx m t i k a.sets (Some sets) a.log).set)
-              (rules.helper_call p cs cx m t i k a.sets (Some sets) a.log) row locals rest r s)
+          (rules.helper_call p cs cx m t i k a.sets (Some sets) a.log) row locals rest r s)
           (low.call i (Some o) vs s) (well.helper i k at kind o st name fields vs (HL ++ rest) s call)
           (λ r s' b. back sets c r s' b.fields h.0 (subst (λ cl. Holds p t s' (given p t k.result (t (keys.Result c)) r
           (calling.fields_held p reached t (λ f. t (keys.Leave i f)) cl b.fields ++ (Opened o cl st name b.fields ∷ (HL ++ rest))))) mine
-              b.holds))
+          b.holds))
         where
           back : (sets : List Set) (c : ℕ) (r : Option Value) (s' : Shared) (fields' : Row Name) → length m.slots + length own ≤ length sets
               →
               Holds p t s' (given p t k.result (t (keys.Result (context_number p reached t (contexts.Plain i)))) r
               (calling.fields_held p reached t (λ f. t (keys.Leave i f)) m.class fields'
-                  ++ (Opened o m.class st name fields' ∷ (held_by sets (local_entries m locals) ++ rest)))) →
+              ++ (Opened o m.class st name fields' ∷ (held_by sets (local_entries m locals) ++ rest)))) →
               Result p t m (On o st name) may ty (Loose w (rules.helper_call p cs cx m t i k a.sets (Some sets) a.log).set)
-                  (rules.helper_call p cs cx m t i k a.sets (Some sets) a.log) row locals rest r s'
+              (rules.helper_call p cs cx m t i k a.sets (Some sets) a.log) row locals rest r s'
           back sets c0 r s' fields' wide h =
               let c = context_number p reached t (contexts.Plain i) in
               let L = local_entries m locals in
@@ -347,7 +348,7 @@ module _ (p : Program) (ok : IsCore p) (reached : List (List Bool)) (rok : AreRe
               let this = Opened o m.class st name fields' in
               let sets' = rules.with_fields p cs cx m t (keys.Leave i) sets in
               let long : length sets' ≡ length sets = Rattle.use_kept.proofs.Fielding.with_fields_length p t cs cx m (keys.Leave i) 0 own
-                    sets in
+              sets in
               let G = given p t ty (Loose w (rules.result_in p cs cx m t c k)) r rest in
               record {
                 fields = fields';
@@ -359,18 +360,18 @@ module _ (p : Program) (ok : IsCore p) (reached : List (List Bool)) (rok : AreRe
                       holds_onto (onto_then p t (given_behind p reached t ok rok solves k.result (t (keys.Result c)) r leaving
                           (this ∷ (HL ++ rest)))
                           (onto_then p t (under_all p t leaving
-                              (onto_then p t (calling.given_first p reached t ok rok solves k.result (t (keys.Result c)) r this
-                              (HL ++ rest))
+                          (onto_then p t (calling.given_first p reached t ok rok solves k.result (t (keys.Result c)) r this
+                          (HL ++ rest))
                           (under p t this (onto_then p t (given_behind p reached t ok rok solves k.result (t (keys.Result c)) r HL rest)
                           (under_all p t HL (onto_then p t (given_typed k.result ty (t (keys.Result c)) r rest is)
                           (given_widen ty (t (keys.Result c)) (Loose w (rules.result_in p cs cx m t c k)) r rest
                           (subst (λ ty. Within p t ty (t (keys.Result c)) (Loose w (rules.result_in p cs cx m t c k))) is
                           (result_wider k.result c w (rules.result_in p cs cx m t c k)
-                              (within_refl (rules.result_in p cs cx m t c k)))))))))))
+                          (within_refl (rules.result_in p cs cx m t c k)))))))))))
                           (onto_then p t (from_helper HL leaving G this)
                           (onto_then p t (locals_stay (keys.Leave i) sets (leaving ++ (this ∷ G)))
                           (onto_then p t (under_all p t (held_by sets' L) (fields_given p t cs cx m (keys.Leave i) 0 own fields' sets
-                              (this ∷ G) (from_zero (length m.slots) (length own) (length sets) wide)))
+                          (this ∷ G) (from_zero (length m.slots) (length own) (length sets) wide)))
                           (unite_held sets' L F (this ∷ G))))))) h,
                     );
               }
@@ -386,7 +387,7 @@ module _ (p : Program) (ok : IsCore p) (reached : List (List Bool)) (rok : AreRe
   offering_has y name s q target h e =
       has_member (offering_from y name) (λ q. elim (target_at y name q) as (λ _. List ℕ) [ None ↦ [] | Some k ↦ q ∷ [] ]) (λ k. refl)
       (λ k r. Rattle.use_rules.proofs.Rules.offering_takes y name (target_at y name k) k (offering_from y name (suc k) r)) (λ k r. refl) q 0
-          (states_in s) q
+      (states_in s) q
       (Rattle.use_rules.proofs.Rules.states_has y name s q ∙ h)
       (subst (λ n. Mem q (elim (target_at y name n) as (λ _. List ℕ) [ None ↦ [] | Some k ↦ n ∷ [] ])) (nothing q)
       (subst (λ o. Mem q (elim o as (λ _. List ℕ) [ None ↦ [] | Some k ↦ q ∷ [] ])) (sym e) (inl refl)))
@@ -422,7 +423,7 @@ module _ (p : Program) (ok : IsCore p) (reached : List (List Bool)) (rok : AreRe
   module _ (x : CoreVar) (i : ℕ) (k : Method) (at : slice_get p.methods i ≡ Some k) (kind : k.kind ≡ kinds.Protocol)
       (typed : variable_type p m x.var ≡ Some (types.Object k.class)) (a : Argued)
       (sets : List Set) (wide : length m.slots + length (class_fields p m.class) ≤ length sets) (fields : Row Name) (u : Value)
-          (stands : Stands p t m me fields locals x.var (types.Object k.class) u) where
+      (stands : Stands p t m me fields locals x.var (types.Object k.class) u) where
     abbrev ts : Typestate
     ts = typestate_of p k.class
 
@@ -445,12 +446,12 @@ module _ (p : Program) (ok : IsCore p) (reached : List (List Bool)) (rok : AreRe
     states_taken c [] ss q h taken = absurd h
     states_taken c (r ∷ qs) ss q h taken = ⊎_elim
         (λ e. λ key el f. taken key el
-            (flows_left (rules.param_outs p cs cx m (number_of cs (contexts.Protocol k.class r i)) 0 (param_types k) ss)
-            (rules.state_outs p cs cx m i k qs ss) key el
+        (flows_left (rules.param_outs p cs cx m (number_of cs (contexts.Protocol k.class r i)) 0 (param_types k) ss)
+        (rules.state_outs p cs cx m i k qs ss) key el
         (subst (λ q. Flows (rules.param_outs p cs cx m (number_of cs (contexts.Protocol k.class q i)) 0 (param_types k) ss) key el) e f)))
         (λ l. states_taken c qs ss q l
-            (λ key el f. taken key el (flows_right (rules.param_outs p cs cx m (number_of cs (contexts.Protocol k.class r i)) 0
-            (param_types k) ss) (rules.state_outs p cs cx m i k qs ss) key el f))) h
+        (λ key el f. taken key el (flows_right (rules.param_outs p cs cx m (number_of cs (contexts.Protocol k.class r i)) 0
+        (param_types k) ss) (rules.state_outs p cs cx m i k qs ss) key el f))) h
 
     -- the call, whatever is followed of it
     call_good : (which : Target → List To) (ss : List Set) (log : Log) → Quiet t ((PC which x i k ss (Some sets) log).log) →
@@ -460,18 +461,18 @@ module _ (p : Program) (ok : IsCore p) (reached : List (List Bool)) (rok : AreRe
     call_good which ss log q vs rest s matched h =
         let states = offering ts name (set_of sets (rules.variable_at p cs cx m x.var)) in
         let asked = before_sends t (rules.state_outs p cs cx m i k states ss)
-              (asks (rules.judged_variable p cs cx m (unless_called ts name) x.place x.var sets) log) q in
+        (asks (rules.judged_variable p cs cx m (unless_called ts name) x.place x.var sets) log) q in
         let none_fails = asked_none p ok t m me locals cs cx (unless_called ts name) x.place x.var sets
         (none_asked t (rules.judged_variable p cs cx m (unless_called ts name) x.place x.var sets) log asked) in
         let taken = all_sent t (rules.state_outs p cs cx m i k states ss)
-              (asks (rules.judged_variable p cs cx m (unless_called ts name) x.place x.var sets) log) q in
+        (asks (rules.judged_variable p cs cx m (unless_called ts name) x.place x.var sets) log) q in
         calling.protocol_good p reached t ok rok solves low well inputs n (here_of p t ok inputs low n m me) m me fields sc locals scope
-            scoped sets wide x.var i k at kind u stands s vs
+        scoped sets wide x.var i k at kind u stands s vs
         (arg_roots (param_types k) ss vs) rest none_fails
         (λ q' member rs. args_taken p t cs cx m (number_of cs (contexts.Protocol k.class q' i)) 0 (param_types k) ss vs rs matched
         (states_taken (λ c. c) states ss q'
-            (in_states q' member (calling.target_of p reached t ok rok solves ts q' name (none_fails (suc (suc (suc q'))) member))) taken))
-            h
+        (in_states q' member (calling.target_of p reached t ok rok solves ts q' name (none_fails (suc (suc (suc q'))) member))) taken))
+        h
       where
         in_states : (q' : ℕ) → has x_set (suc (suc (suc q'))) ≡ true → calling.TargetOf p reached t ok rok solves ts q' name →
             Mem q' (offering ts name (set_of sets (rules.variable_at p cs cx m x.var)))
@@ -491,7 +492,7 @@ module _ (p : Program) (ok : IsCore p) (reached : List (List Bool)) (rok : AreRe
         let states = offering ts name (set_of sets (rules.variable_at p cs cx m x.var)) in
         let S = image (width_in p (types.Object k.class)) (along which ts name) x_set in
         let member = image_has (width_in p (types.Object k.class)) (along which ts name) x_set (suc (suc (suc c.state))) (element_of c.to)
-              c.had
+        c.had
         (along_has which ts name c.state c.target c.to c.target_is follows) c.within in
         let res = t (keys.Result (context_number p reached t (contexts.Protocol k.class c.state i))) in
         let out = rules.state_results p cs cx m t i k states in
@@ -504,14 +505,14 @@ module _ (p : Program) (ok : IsCore p) (reached : List (List Bool)) (rok : AreRe
               fields locals (given p t ty (Loose w out) r rest) s
               (side_alike p t r out (rules.narrowed p cs cx m (along which ts name) x.var sets) _)
               (subst (λ now. A now fields (given p t ty (Loose w out) r rest) s)
-                  (sym (narrowed_is p ok t m me locals cs cx (along which ts name) x.var (types.Object k.class) sets typed))
+              (sym (narrowed_is p ok t m me locals cs cx (along which ts name) x.var (types.Object k.class) sets typed))
               (at_rest p t m me (Some (with_set sets (reading.number_of m x.var) S)) fields locals (given p t k.result res r rest)
-                  (given p t ty (Loose w out) r rest) s
+              (given p t ty (Loose w out) r rest) s
               (onto_then p t (given_typed k.result ty res r rest is)
               (given_widen ty res (Loose w out) r rest
               (subst (λ ty. Within p t ty res (Loose w out)) is
               (result_wider k.result (number_of cs (contexts.Protocol k.class c.state i)) w out
-                  (result_of_state 0 states c.state in_state)))))
+              (result_of_state 0 states c.state in_state)))))
               (c.at_set S member)));
         }
 
@@ -537,7 +538,7 @@ module _ (p : Program) (ok : IsCore p) (reached : List (List Bool)) (rok : AreRe
   pub call_flows : (i : ℕ) (k : Method) (call : Method → List Set → Now → Log → Evaluated) (args : Exprs) (now : Now) (log : Log) →
       slice_get p.methods i ≡ Some k →
       rules.called p cs cx m t i call (EA (rules.widths_of p cs cx m i) args now log) ≡ call k (ARG k args now log).sets
-          (ARG k args now log).now (ARG k args now log).log
+      (ARG k args now log).now (ARG k args now log).log
   call_flows i k call args now log at =
       ap (λ ws. rules.called p cs cx m t i call (EA ws args now log)) (widths_are i k at) ∙ called_is i k call (ARG k args now log) at
 
@@ -551,42 +552,42 @@ module _ (p : Program) (ok : IsCore p) (reached : List (List Bool)) (rok : AreRe
   pub static_expr : (i : ℕ) (k : Method) (ty : CoreType) (args : Exprs) (w : ℕ) → slice_get p.methods i ≡ Some k → k.kind ≡ kinds.Static →
       k.result ≡ ty → GoodA args (param_types k) →
       (sets : List Set) (log : Log) →
-          Quiet t ((rules.static_call p cs cx m t i k (ARG k args (Some sets) log).sets (ARG k args (Some sets) log).now
-          (ARG k args (Some sets) log).log).log) →
+      Quiet t ((rules.static_call p cs cx m t i k (ARG k args (Some sets) log).sets (ARG k args (Some sets) log).now
+      (ARG k args (Some sets) log).log).log) →
       (row : Row Name) (rest : List Root) (s : Shared) → A (Some sets) row rest s →
       Good p t (R (CallsHelperIn args) ty
-          (Loose w (rules.static_call p cs cx m t i k (ARG k args (Some sets) log).sets (ARG k args (Some sets) log).now
-          (ARG k args (Some sets) log).log).set)
+      (Loose w (rules.static_call p cs cx m t i k (ARG k args (Some sets) log).sets (ARG k args (Some sets) log).now
+      (ARG k args (Some sets) log).log).set)
       (rules.static_call p cs cx m t i k (ARG k args (Some sets) log).sets (ARG k args (Some sets) log).now
-          (ARG k args (Some sets) log).log) row rest) ((MA args >>= low.call i None) s)
+      (ARG k args (Some sets) log).log) row rest) ((MA args >>= low.call i None) s)
   static_expr i k ty args w at kind is good sets log q row rest s h =
       let a = ARG k args (Some sets) log in
       let V = rules.static_call p cs cx m t i k a.sets a.now a.log in
       good_then p t (ArgsResult (CallsHelperIn args) (param_types k) (widths k) a row rest) (R (CallsHelperIn args) ty (Loose w V.set) V row
-          rest) (MA args s) (low.call i None)
+      rest) (MA args s) (low.call i None)
       (good (widths k) (Some sets) log (quiet_in t a.log V.log (grown.static_more p cs cx m t t (λ key. within_refl (t key)) i k a.sets
-          a.now a.log a.log (log_refl a.log)) q) row rest s h)
+      a.now a.log a.log (log_refl a.log)) q) row rest s h)
       (λ vs s' g. static_at i k ty w (param_types k) a (CallsHelperIn args) row rest at kind is q vs s' g)
 
   pub helper_expr : (i : ℕ) (k : Method) (ty : CoreType) (args : Exprs) (w : ℕ) → slice_get p.methods i ≡ Some k → k.kind ≡ kinds.Helper →
       k.class ≡ m.class → IsInstance m.kind → k.result ≡ ty → GoodA args (param_types k) →
       (sets : List Set) (log : Log) →
-          Quiet t ((rules.helper_call p cs cx m t i k (ARG k args (Some sets) log).sets (ARG k args (Some sets) log).now
-          (ARG k args (Some sets) log).log).log) →
+      Quiet t ((rules.helper_call p cs cx m t i k (ARG k args (Some sets) log).sets (ARG k args (Some sets) log).now
+      (ARG k args (Some sets) log).log).log) →
       (row : Row Name) (rest : List Root) (s : Shared) → A (Some sets) row rest s →
       Good p t (R (Unit {0}) ty (Loose w (rules.helper_call p cs cx m t i k (ARG k args (Some sets) log).sets
-          (ARG k args (Some sets) log).now (ARG k args (Some sets) log).log).set)
+      (ARG k args (Some sets) log).now (ARG k args (Some sets) log).log).set)
       (rules.helper_call p cs cx m t i k (ARG k args (Some sets) log).sets (ARG k args (Some sets) log).now
-          (ARG k args (Some sets) log).log) row rest) ((MA args >>= low.call i (this_of me)) s)
+      (ARG k args (Some sets) log).log) row rest) ((MA args >>= low.call i (this_of me)) s)
   helper_expr i k ty args w at kind mine inst is good sets log q row rest s h =
       let a = ARG k args (Some sets) log in
       let V = rules.helper_call p cs cx m t i k a.sets a.now a.log in
       good_then p t (ArgsResult (CallsHelperIn args) (param_types k) (widths k) a row rest) (R (Unit {0}) ty (Loose w V.set) V row rest)
-          (MA args s) (low.call i (this_of me))
+      (MA args s) (low.call i (this_of me))
       (good (widths k) (Some sets) log (quiet_in t a.log V.log (grown.helper_more p cs cx m t t (λ key. within_refl (t key)) i k a.sets
-          a.now a.log a.log (log_refl a.log)) q) row rest s h)
+      a.now a.log a.log (log_refl a.log)) q) row rest s h)
       (λ vs s' g. helper_on i k ty w a (Unit {0}) (λ f. f tt) row rest at kind mine inst is q vs s' g.fields
-          (tight_matched (param_types k) a.sets vs g.matched) me refl (tight_args k a row rest vs s' g))
+      (tight_matched (param_types k) a.sets vs g.matched) me refl (tight_args k a row rest vs s' g))
 
   -- a variable stands where it stood, where its field can't have changed
   stands_on : (x : Var) (ty : CoreType) (u : Value) (row row' : Row Name) → variable_type p m x ≡ Some ty → (IsField x → row' ≡ row) →
@@ -620,75 +621,75 @@ module _ (p : Program) (ok : IsCore p) (reached : List (List Bool)) (rok : AreRe
   pub protocol_called : (which : Target → List To) (x : CoreVar) (i : ℕ) (k : Method) (at : slice_get p.methods i ≡ Some k)
       (kind : k.kind ≡ kinds.Protocol)
       (typed : variable_type p m x.var ≡ Some (types.Object k.class)) (args : Exprs) → (IsField x.var → CallsHelperIn args → ⊥) →
-          GoodA args (param_types k) → (sets : List Set) (log : Log) →
+      GoodA args (param_types k) → (sets : List Set) (log : Log) →
       Quiet t ((PC which x i k (ARG k args (Some sets) log).sets (ARG k args (Some sets) log).now (ARG k args (Some sets) log).log).log) →
-          (row : Row Name) (rest : List Root) (s : Shared) → A (Some sets) row rest s →
+      (row : Row Name) (rest : List Root) (s : Shared) → A (Some sets) row rest s →
       Good p t (Called x i k at kind typed (CallsHelperIn args) (ARG k args (Some sets) log) row rest)
       ((read p inputs low n (here_of p t ok inputs low n m me) locals x.var >>= λ v. MA args >>= λ vs. protocol_call p inputs low n
-          (here_of p t ok inputs low n m me) i v vs) s)
+      (here_of p t ok inputs low n m me) i v vs) s)
   protocol_called which x i k at kind typed args no_helper good sets log q row rest s h =
       let a = ARG k args (Some sets) log in
       let T = Called x i k at kind typed (CallsHelperIn args) a row rest in
       let earlier = quiet_in t a.log ((PC which x i k a.sets a.now a.log).log)
-            (grown.protocol_more p cs cx m t t (λ key. within_refl (t key)) which x i k a.sets a.now a.log a.log (log_refl a.log)) q in
+      (grown.protocol_more p cs cx m t t (λ key. within_refl (t key)) which x i k a.sets a.now a.log a.log (log_refl a.log)) q in
       good_then p t (λ v s. A (Some sets) row rest s × Stands p t m me row locals x.var (types.Object k.class) v) T
       (read p inputs low n (here_of p t ok inputs low n m me) locals x.var s) (λ v. MA args >>= λ vs. protocol_call p inputs low n
-          (here_of p t ok inputs low n m me) i v vs)
+      (here_of p t ok inputs low n m me) i v vs)
       (plainly_at p t ok (Stands p t m me row locals x.var (types.Object k.class)) (λ v s. A (Some sets) row rest s × Stands p t m me row
-          locals x.var (types.Object k.class) v) m me (Some sets) row locals rest s
+      locals x.var (types.Object k.class) v) m me (Some sets) row locals rest s
       (read p inputs low n (here_of p t ok inputs low n m me) locals x.var s) (read_plain p t ok inputs low n m me s row locals sets rest
-          x.var (types.Object k.class) typed h.1) h (λ v s' a st. (a, st)))
+      x.var (types.Object k.class) typed h.1) h (λ v s' a st. (a, st)))
       (λ v s1 g1. good_then p t (ArgsResult (CallsHelperIn args) (param_types k) (widths k) a row rest) T (MA args s1)
-          (λ vs. protocol_call p inputs low n (here_of p t ok inputs low n m me) i v vs)
+      (λ vs. protocol_call p inputs low n (here_of p t ok inputs low n m me) i v vs)
       (good (widths k) (Some sets) log earlier row rest s1 g1.0)
       (λ vs s2 g2. behind v g1.1 vs s2 g2.fields g2.kept (tight_matched (param_types k) a.sets vs g2.matched) a.now refl
-          (tight_args k a row rest vs s2 g2)))
+      (tight_args k a row rest vs s2 g2)))
     where
       behind : (v : Value) → Stands p t m me row locals x.var (types.Object k.class) v → (vs : List Value) (s2 : Shared) (fields : Row Name)
           → ((CallsHelperIn args → ⊥) → fields ≡ row) →
           Matched (param_types k) (ARG k args (Some sets) log).sets vs → (now : Now) → (ARG k args (Some sets) log).now ≡ now →
           A now fields (arg_roots (param_types k) (ARG k args (Some sets) log).sets vs ++ rest) s2 →
           Good p t (Called x i k at kind typed (CallsHelperIn args) (ARG k args (Some sets) log) row rest)
-              (protocol_call p inputs low n (here_of p t ok inputs low n m me) i v vs s2)
+          (protocol_call p inputs low n (here_of p t ok inputs low n m me) i v vs s2)
       behind v stands vs s2 fields kept matched None is h = absurd h
       behind v stands vs s2 fields kept matched (Some sets') is h =
           let a = ARG k args (Some sets) log in
           let st = stands_on x.var (types.Object k.class) v row fields typed (λ f. kept (no_helper f)) stands in
           good_as p t (CO x i k at kind typed a sets' h.0 fields v st rest) (Called x i k at kind typed (CallsHelperIn args) a row rest)
-              (protocol_call p inputs low n (here_of p t ok inputs low n m me) i v vs s2)
+          (protocol_call p inputs low n (here_of p t ok inputs low n m me) i v vs s2)
           (call_good x i k at kind typed a sets' h.0 fields v st which a.sets a.log
-              (subst (λ now. Quiet t ((PC which x i k a.sets now a.log).log)) is q) vs rest s2 matched h.1)
+          (subst (λ now. Quiet t ((PC which x i k a.sets now a.log).log)) is q) vs rest s2 matched h.1)
           (λ r s3 c. record { sets = sets'; is = is; wide = h.0; fields = fields; kept = kept; value = v; stands = st; called = c })
 
   -- what flows on of the targets that are followed
   pub called_followed : (which : Target → List To) (x : CoreVar) (i : ℕ) (k : Method) (at : slice_get p.methods i ≡ Some k)
       (kind : k.kind ≡ kinds.Protocol)
       (typed : variable_type p m x.var ≡ Some (types.Object k.class)) (may : Type 0) (a : Argued) (ty : CoreType) (w : ℕ) (row : Row Name)
-          (rest : List Root) (r : Option Value) (s : Shared) → k.result ≡ ty →
+      (rest : List Root) (r : Option Value) (s : Shared) → k.result ≡ ty →
       (c : Called x i k at kind typed may a row rest r s) → Mem c.called.to (which c.called.target) →
       R may ty (Loose w (PC which x i k a.sets a.now a.log).set) (PC which x i k a.sets a.now a.log) row rest r s
   called_followed which x i k at kind typed may a ty w row rest r s is c follows =
       subst (λ now. R may ty (Loose w (PC which x i k a.sets now a.log).set) (PC which x i k a.sets now a.log) row rest r s) (sym c.is)
       (call_followed x i k at kind typed a c.sets c.wide c.fields c.value c.stands which a.sets a.log ty w may row rest r s is c.kept
-          c.called follows)
+      c.called follows)
 
   pub protocol_expr : (x : CoreVar) (i : ℕ) (k : Method) (at : slice_get p.methods i ≡ Some k) (kind : k.kind ≡ kinds.Protocol)
       (typed : variable_type p m x.var ≡ Some (types.Object k.class)) (ty : CoreType) (args : Exprs) (w : ℕ) →
       k.result ≡ ty → (IsField x.var → CallsHelperIn args → ⊥) → GoodA args (param_types k) → (sets : List Set) (log : Log) →
       Quiet t ((PC targets x i k (ARG k args (Some sets) log).sets (ARG k args (Some sets) log).now (ARG k args (Some sets) log).log).log) →
-          (row : Row Name) (rest : List Root) (s : Shared) → A (Some sets) row rest s →
+      (row : Row Name) (rest : List Root) (s : Shared) → A (Some sets) row rest s →
       Good p t (R (CallsHelperIn args) ty
-          (Loose w (PC targets x i k (ARG k args (Some sets) log).sets (ARG k args (Some sets) log).now
-          (ARG k args (Some sets) log).log).set)
+      (Loose w (PC targets x i k (ARG k args (Some sets) log).sets (ARG k args (Some sets) log).now
+      (ARG k args (Some sets) log).log).set)
       (PC targets x i k (ARG k args (Some sets) log).sets (ARG k args (Some sets) log).now (ARG k args (Some sets) log).log) row rest)
       ((read p inputs low n (here_of p t ok inputs low n m me) locals x.var >>= λ v. MA args >>= λ vs. protocol_call p inputs low n
-          (here_of p t ok inputs low n m me) i v vs) s)
+      (here_of p t ok inputs low n m me) i v vs) s)
   protocol_expr x i k at kind typed ty args w is no_helper good sets log q row rest s h =
       let a = ARG k args (Some sets) log in
       good_as p t (Called x i k at kind typed (CallsHelperIn args) a row rest)
-          (R (CallsHelperIn args) ty (Loose w (PC targets x i k a.sets a.now a.log).set) (PC targets x i k a.sets a.now a.log) row rest)
+      (R (CallsHelperIn args) ty (Loose w (PC targets x i k a.sets a.now a.log).set) (PC targets x i k a.sets a.now a.log) row rest)
       ((read p inputs low n (here_of p t ok inputs low n m me) locals x.var >>= λ v. MA args >>= λ vs. protocol_call p inputs low n
-          (here_of p t ok inputs low n m me) i v vs) s)
+      (here_of p t ok inputs low n m me) i v vs) s)
       (protocol_called targets x i k at kind typed args no_helper good sets log q row rest s h)
       (λ r s' c. called_followed targets x i k at kind typed (CallsHelperIn args) a ty w row rest r s' is c
       (in_targets c.called.target (Rattle.jv_values.specs.Seen.label_in (constants_of p k.result) (answer_of r)) c.called.to c.called.led))

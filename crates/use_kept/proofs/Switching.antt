@@ -68,7 +68,7 @@ get_below (x ∷ xs) (suc i) lt = get_below xs i (omega arith)
 module _ (p : Program) (ok : IsCore p) (reached : List (List Bool)) (rok : AreReached p reached) (t : Tables) (solves : Solves p reached t)
     (inputs : Inputs)
     (low : Lower) (well : CallsWell p reached t low) (n : ℕ) (m : Method) (at_method : slice_get p.methods n ≡ Some m) (cx : Context)
-        (me : Me)
+    (me : Me)
     (on : IsInstance m.kind → me ≡ Nobody → ⊥) (setting : Setting p n m cx me) where
   abbrev cs : List Context
   cs = contexts_in p reached
@@ -141,7 +141,7 @@ module _ (p : Program) (ok : IsCore p) (reached : List (List Bool)) (rok : AreRe
   const_at of S v (Some sets) fields locals rest s h =
       const_of of S v (held_by sets (variables p m me fields locals) ++ (my_self m me fields ++ rest)) s
       (holds_onto (onto_then p t (roots.under_all p t (held_by sets (variables p m me fields locals))
-          (to_front p t (my_self m me fields) (VR (types.Enum of) S v) rest))
+      (to_front p t (my_self m me fields) (VR (types.Enum of) S v) rest))
       (to_front p t (held_by sets (variables p m me fields locals)) (VR (types.Enum of) S v) (my_self m me fields ++ rest))) h.1)
 
   label_at : (ty : CoreType) (e : ℕ) (v : Value) → ty ≡ types.Enum e → (c : IsConstant p e v) →
@@ -205,15 +205,17 @@ module _ (p : Program) (ok : IsCore p) (reached : List (List Bool)) (rok : AreRe
   abbrev by_type : Option CoreType → List ℕ
   by_type o = elim o as (λ _. List ℕ) [
     | None ↦ []
-    | Some ty ↦ elim ty as (λ _. List ℕ) [ types.Enum n ↦ elim (slice_get p.enums n) as (λ _. List ℕ) [ None ↦ [] | Some d ↦ d.constants ]
-        | _ ↦ [] ]
+    | Some ty ↦ elim ty as (λ _. List ℕ) [
+      | types.Enum n ↦ elim (slice_get p.enums n) as (λ _. List ℕ) [ None ↦ [] | Some d ↦ d.constants ]
+      | _ ↦ []
+    ]
   ]
 
   constants_are : {sc : List ℕ} {e : Expr} {of : ℕ} → Has p m sc e (types.Enum of) → (d : Enum) → slice_get p.enums of ≡ Some d →
       rules.enum_of p cs cx m e ≡ d.constants
   constants_are {e} {of} h d at =
       ap (λ j. by_type (Rattle.jv_core.specs.Meaning.type_given p j e)) (method_of cx me setting) ∙ ap by_type (enum_typed h refl) ∙
-          ap (λ o. elim o as (λ _. List ℕ) [ None ↦ [] | Some d ↦ d.constants ]) at
+      ap (λ o. elim o as (λ _. List ℕ) [ None ↦ [] | Some d ↦ d.constants ]) at
 
   -- the position that is switched on
   abbrev posed : Expr → Row ℕ → Outcome Shared (Option Value) → Outcome (Lives ℕ) ℕ
@@ -254,21 +256,21 @@ module _ (p : Program) (ok : IsCore p) (reached : List (List Bool)) (rok : AreRe
       Has p m sc e (types.Enum of) →
       Quiet t ((E 0 e (Some sets) log).log) → L sc (Some sets) rest s →
       Good p t (AtCase sc (rules.by_constants p cs cx m (λ label. after (E 0 e (Some sets) log)) (rules.enum_of p cs cx m e)) rest)
-          (posed e s.locals (eval p inputs low n here s.locals e s.shared))
+      (posed e s.locals (eval p inputs low n here s.locals e s.shared))
   switch_any sc e of sets log rest s scope h quiet l =
       let v = E 0 e (Some sets) log in
       posed_good e s.locals (λ r s'. Result p t m me (CallsHelper e) (types.Enum of) (loose p t 0 v.set) v l.fields s.locals rest r s')
-          (AtCase sc (rules.by_constants p cs cx m (λ label. after v) (rules.enum_of p cs cx m e)) rest)
+      (AtCase sc (rules.by_constants p cs cx m (λ label. after v) (rules.enum_of p cs cx m e)) rest)
       (λ name k s' g. told name k s' g (const_at of (loose p t 0 v.set) (values.Constant name k) (after v) g.fields s.locals rest s' g.at))
       (eval p inputs low n here s.locals e s.shared)
       (exprs.eval_good p ok reached rok t solves inputs low well n m at_method cx me on sc s.locals scope l.scoped h 0 (Some sets) log quiet
-          l.fields rest s.shared l.at)
+      l.fields rest s.shared l.at)
     where
       told : (name : Name) (k : ℕ) (s' : Shared) → Result p t m me (CallsHelper e) (types.Enum of) (loose p t 0 (E 0 e (Some sets) log).set)
           (E 0 e (Some sets) log) l.fields s.locals rest (Some (values.Constant name k)) s' →
           IsConstant p of (values.Constant name k) →
-              AtCase sc (rules.by_constants p cs cx m (λ label. after (E 0 e (Some sets) log)) (rules.enum_of p cs cx m e)) rest k
-              (record { locals = s.locals; shared = s' })
+          AtCase sc (rules.by_constants p cs cx m (λ label. after (E 0 e (Some sets) log)) (rules.enum_of p cs cx m e)) rest k
+          (record { locals = s.locals; shared = s' })
       told name k s' g c =
           let v = E 0 e (Some sets) log in
           let x = get_below c.enum.constants c.position c.within in
@@ -277,14 +279,14 @@ module _ (p : Program) (ok : IsCore p) (reached : List (List Bool)) (rok : AreRe
             is = by_at (λ label. after v) (rules.enum_of p cs cx m e) k ∙ ap (λ ns. option_map (λ (c : ℕ). after v) (slice_get ns k))
                 (constants_are h c.enum c.at)
                 ∙ ap (λ k. option_map (λ (c : ℕ). after v) (slice_get c.enum.constants k)) (position_is of name k c) ∙
-                    ap (option_map (λ (c : ℕ). after v)) x.1;
+                ap (option_map (λ (c : ℕ). after v)) x.1;
             lives = record {
               fields = g.fields;
               scoped = l.scoped;
               at = at_rest p t m me (after v) g.fields s.locals (VR (types.Enum of) (loose p t 0 v.set) (values.Constant name k) ∷ rest)
                   rest s'
                   (Rattle.use_kept.proofs.Running.plain_goes p t (types.Enum of) (loose p t 0 v.set) (values.Constant name k) rest refl)
-                      g.at;
+                  g.at;
             };
           }
 
@@ -292,56 +294,56 @@ module _ (p : Program) (ok : IsCore p) (reached : List (List Bool)) (rok : AreRe
       (rest : List Root) (s : Lives ℕ) → IsScope m sc → Has p m sc (trees.Protocol q x i args) (types.Enum of) →
       Quiet t ((rules.switched p cs cx m t (trees.Protocol q x i args) (Some sets) log).0.log) → L sc (Some sets) rest s →
       Good p t (AtCase sc (rules.switched p cs cx m t (trees.Protocol q x i args) (Some sets) log).1 rest)
-          (posed (trees.Protocol q x i args) s.locals (eval p inputs low n here s.locals (trees.Protocol q x i args) s.shared))
+      (posed (trees.Protocol q x i args) s.locals (eval p inputs low n here s.locals (trees.Protocol q x i args) s.shared))
   switch_call sc q x i args of sets log rest s scope (typing.protocol {k = k} v c hs e u) quiet l =
       let flows = passing.call_flows p ok reached rok t solves inputs low well n m at_method cx me on sc s.locals scope l.scoped i k
-            (rules.protocol_call p cs cx m t targets x i) args (Some sets) log c.at in
+      (rules.protocol_call p cs cx m t targets x i) args (Some sets) log c.at in
       let a = passing.ARG p ok reached rok t solves inputs low well n m at_method cx me on sc s.locals scope l.scoped k args (Some sets) log
-          in
+      in
       posed_good (trees.Protocol q x i args) s.locals (passing.Called p ok reached rok t solves inputs low well n m at_method cx me on sc
-          s.locals scope l.scoped x i k c.at c.kind_is v.type (typing.CallsHelperIn args) a l.fields rest)
+      s.locals scope l.scoped x i k c.at c.kind_is v.type (typing.CallsHelperIn args) a l.fields rest)
       (AtCase sc (rules.switched p cs cx m t (trees.Protocol q x i args) (Some sets) log).1 rest)
       (λ name kk s' g. told name kk s' g (const_at of _ (values.Constant name kk) _ _ s.locals rest s'
       (passing.called_followed p ok reached rok t solves inputs low well n m at_method cx me on sc s.locals scope l.scoped targets x i k
-          c.at c.kind_is v.type (typing.CallsHelperIn args) a (types.Enum of) 0 l.fields rest (Some (values.Constant name kk)) s' e g
+      c.at c.kind_is v.type (typing.CallsHelperIn args) a (types.Enum of) 0 l.fields rest (Some (values.Constant name kk)) s' e g
       (passing.in_targets p ok reached rok t solves inputs low well n m at_method cx me on sc s.locals scope l.scoped g.called.target
-          (label_in (constants_of p k.result) (answer_of (Some (values.Constant name kk)))) g.called.to g.called.led)).at))
+      (label_in (constants_of p k.result) (answer_of (Some (values.Constant name kk)))) g.called.to g.called.led)).at))
       (eval p inputs low n here s.locals (trees.Protocol q x i args) s.shared)
       (passing.protocol_called p ok reached rok t solves inputs low well n m at_method cx me on sc s.locals scope l.scoped targets x i k
-          c.at c.kind_is v.type args u (λ ws now log' q' row rest' s' a'. exprs.args_good p ok reached rok t solves inputs low well n m
-          at_method cx me on sc s.locals scope l.scoped hs ws now log' q' row rest' s' a') sets log
+      c.at c.kind_is v.type args u (λ ws now log' q' row rest' s' a'. exprs.args_good p ok reached rok t solves inputs low well n m
+      at_method cx me on sc s.locals scope l.scoped hs ws now log' q' row rest' s' a') sets log
       (subst (λ V. Quiet t (V.log)) flows quiet) l.fields rest s.shared l.at)
     where
       told : (name : Name) (kk : ℕ) (s' : Shared) → passing.Called p ok reached rok t solves inputs low well n m at_method cx me on sc
           s.locals scope l.scoped x i k c.at c.kind_is v.type (typing.CallsHelperIn args) (passing.ARG p ok reached rok t solves inputs low
           well n m at_method cx me on sc s.locals scope l.scoped k args (Some sets) log) l.fields rest (Some (values.Constant name kk)) s' →
           IsConstant p of (values.Constant name kk) → AtCase sc (rules.switched p cs cx m t (trees.Protocol q x i args) (Some sets) log).1
-              rest kk (record { locals = s.locals; shared = s' })
+          rest kk (record { locals = s.locals; shared = s' })
       told name kk s' g const =
           let a = passing.ARG p ok reached rok t solves inputs low well n m at_method cx me on sc s.locals scope l.scoped k args (Some sets)
-                log in
+          log in
           let y = get_below const.enum.constants const.position const.within in
           let label_name = text_at p (y.0) in
           let label = label_at k.result of (values.Constant name kk) e const ∙ mapped_at (text_at p) const.enum.constants const.position ∙
-                ap (option_map (text_at p)) y.1 in
+          ap (option_map (text_at p)) y.1 in
           let follows = by_constant g.called.target label_name g.called.to (sym (ap (led_by g.called.target) label) ∙ g.called.led) in
           let r = passing.called_followed p ok reached rok t solves inputs low well n m at_method cx me on sc s.locals scope l.scoped
-                (targets_by label_name) x i k c.at c.kind_is v.type (typing.CallsHelperIn args) a (types.Enum of) 0 l.fields rest
-                (Some (values.Constant name kk)) s' e g follows in
+          (targets_by label_name) x i k c.at c.kind_is v.type (typing.CallsHelperIn args) a (types.Enum of) 0 l.fields rest
+          (Some (values.Constant name kk)) s' e g follows in
           let flows = passing.call_flows p ok reached rok t solves inputs low well n m at_method cx me on sc s.locals scope l.scoped i k
-                (rules.protocol_call p cs cx m t (targets_by label_name) x i) args (Some sets) log c.at in
+          (rules.protocol_call p cs cx m t (targets_by label_name) x i) args (Some sets) log c.at in
           let V = passing.PC p ok reached rok t solves inputs low well n m at_method cx me on sc s.locals scope l.scoped
-                (targets_by label_name) x i k a.sets a.now a.log in
+          (targets_by label_name) x i k a.sets a.now a.log in
           let go = λ (label : Name). after (rules.called p cs cx m t i (rules.protocol_call p cs cx m t (targets_by label) x i)
-                (rules.eval_all p cs cx m t (rules.widths_of p cs cx m i) args (Some sets) log)) in
+          (rules.eval_all p cs cx m t (rules.widths_of p cs cx m i) args (Some sets) log)) in
           record {
             cur = go label_name;
             is = by_at go (rules.enum_of p cs cx m (trees.Protocol q x i args)) kk
                 ∙ ap (λ ns. option_map (λ (c : ℕ). go (text_at p c)) (slice_get ns kk))
-                    (constants_are (typing.protocol {q = q} {x = x} {n = i} {k = k} {args = args} {t = types.Enum of} v c hs e u) const.enum
-                    const.at)
+                (constants_are (typing.protocol {q = q} {x = x} {n = i} {k = k} {args = args} {t = types.Enum of} v c hs e u) const.enum
+                const.at)
                 ∙ ap (λ kk. option_map (λ (c : ℕ). go (text_at p c)) (slice_get const.enum.constants kk)) (position_is of name kk const) ∙
-                    ap (option_map (λ (c : ℕ). go (text_at p c))) y.1;
+                ap (option_map (λ (c : ℕ). go (text_at p c))) y.1;
             lives = subst (λ V. L sc (after V) rest (record { locals = s.locals; shared = s' })) (sym flows)
                 (record {
                   fields = r.fields;
@@ -349,7 +351,7 @@ module _ (p : Program) (ok : IsCore p) (reached : List (List Bool)) (rok : AreRe
                   at = at_rest p t m me (after V) r.fields s.locals (VR (types.Enum of) (loose p t 0 V.set) (values.Constant name kk) ∷
                       rest) rest s'
                       (Rattle.use_kept.proofs.Running.plain_goes p t (types.Enum of) (loose p t 0 V.set) (values.Constant name kk) rest
-                          refl) r.at;
+                      refl) r.at;
                 });
           }
 
@@ -357,7 +359,7 @@ module _ (p : Program) (ok : IsCore p) (reached : List (List Bool)) (rok : AreRe
       Has p m sc e (types.Enum of) →
       Quiet t ((rules.switched p cs cx m t e (Some sets) log).0.log) → L sc (Some sets) rest s →
       Good p t (AtCase sc (rules.switched p cs cx m t e (Some sets) log).1 rest) (Rattle.jv_core.specs.Meaning.position p inputs low n here
-          e s)
+      e s)
   switch_value sc (trees.Protocol q x i args) of sets log rest s scope h quiet l = switch_call sc q x i args of sets log rest s scope h
       quiet l
   switch_value sc e of sets log rest s scope h quiet l = switch_any sc e of sets log rest s scope h quiet l
@@ -391,7 +393,7 @@ module _ (p : Program) (ok : IsCore p) (reached : List (List Bool)) (rok : AreRe
   no_group_label w (Group labels body end more) e l i =
       let o = or_first (Rattle.jv_values.specs.Statements.any_label w labels) (has_group w more) e in
       ⊎_elim (λ a. no_label w labels o.0 l a) (λ b. no_group_label w more o.1 l b) (Rattle.use_rules.proofs.Members.mem_cases l labels
-          (rules.all_labels more) i)
+      (rules.all_labels more) i)
 
   -- a constant without a case
   uncased_has : (labels : List (Option ℕ)) (j n' : ℕ) (nows : List Now) (cur : Now) → slice_get nows j ≡ Some cur →
@@ -401,13 +403,13 @@ module _ (p : Program) (ok : IsCore p) (reached : List (List Bool)) (rok : AreRe
       let same : now ≡ cur = some_is e in
       let at : n' + 0 ≡ n' = omega arith in
       subst (λ b. NowIn cur (if b then rules.uncased p cs cx m labels (suc n') nows else joined now
-          (rules.uncased p cs cx m labels (suc n') nows)))
+      (rules.uncased p cs cx m labels (suc n') nows)))
       (sym (ap (λ k. Rattle.std.specs.List.list_any (rules.is_label k) labels) (sym at) ∙ f))
       (joined_left cur now (rules.uncased p cs cx m labels (suc n') nows) (subst (λ z. NowIn cur z) (sym same) (now_refl cur)))
   uncased_has labels (suc j) n' (now ∷ nows) cur e f =
       let at : n' + suc j ≡ suc n' + j = omega arith in
       either (Rattle.std.specs.List.list_any (rules.is_label n') labels)
-          (uncased_has labels j (suc n') nows cur e (ap (λ k. Rattle.std.specs.List.list_any (rules.is_label k) labels) (sym at) ∙ f))
+      (uncased_has labels j (suc n') nows cur e (ap (λ k. Rattle.std.specs.List.list_any (rules.is_label k) labels) (sym at) ∙ f))
     where
       either : (b : Bool) → NowIn cur (rules.uncased p cs cx m labels (suc n') nows) →
           NowIn cur (if b then rules.uncased p cs cx m labels (suc n') nows else joined now (rules.uncased p cs cx m labels (suc n') nows))
@@ -433,11 +435,11 @@ module _ (p : Program) (ok : IsCore p) (reached : List (List Bool)) (rok : AreRe
       go : (b : Bool) → nat_eq j k ≡ b → (Rattle.std.specs.Prelude.◌||◌ b (Rattle.jv_values.specs.Statements.any_label (case_at k) labels))
           ≡ true →
           (Rattle.jv_values.specs.Statements.any_label (case_at k) labels ≡ true → NowIn cur (rules.entry_of p cs cx m rn nows labels)) →
-              NowIn cur (rules.entry_of p cs cx m rn nows (Some j ∷ labels))
+          NowIn cur (rules.entry_of p cs cx m rn nows (Some j ∷ labels))
       go true is h ih = joined_left cur (elim (slice_get nows j) as (λ _. Now) [ None ↦ None | Some now ↦ now ])
           (rules.entry_of p cs cx m rn nows labels)
           (subst (λ o. NowIn cur (elim o as (λ _. Now) [ None ↦ None | Some now ↦ now ]))
-              (sym (ap (slice_get nows) (Rattle.std.proofs.lemmas.Bool.eqb-true j k is) ∙ e)) (now_refl cur))
+          (sym (ap (slice_get nows) (Rattle.std.proofs.lemmas.Bool.eqb-true j k is) ∙ e)) (now_refl cur))
       go false is h ih = joined_right cur (rules.entry_of p cs cx m rn nows labels)
           (elim (slice_get nows j) as (λ _. Now) [ None ↦ None | Some now ↦ now ]) (ih h)
 
@@ -460,30 +462,35 @@ module _ (p : Program) (ok : IsCore p) (reached : List (List Bool)) (rok : AreRe
       → AtCase sc nows rest k s →
       Quiet t ((FO sc (rules.uncased p cs cx m (rules.all_labels gs) 0 nows) nows gs None log).log) →
       ((wanted : Option ℕ → Bool) (cur : Now) → Enters (rules.uncased p cs cx m (rules.all_labels gs) 0 nows) nows wanted cur →
-          has_group wanted gs ≡ true → (s : Lives ℕ) → L sc cur rest s →
+      has_group wanted gs ≡ true → (s : Lives ℕ) → L sc cur rest s →
       Good p t (P sc sc (ASwitch ∷ ts) (FO sc (rules.uncased p cs cx m (rules.all_labels gs) 0 nows) nows gs None log) rest)
-          (XF wanted gs s)) →
+      (XF wanted gs s)) →
       Good p t (P sc sc (ASwitch ∷ ts) (flow (joined (FO sc (rules.uncased p cs cx m (rules.all_labels gs) 0 nows) nows gs None log).now
-          (rules.past p cs cx m gs nows)) (FO sc (rules.uncased p cs cx m (rules.all_labels gs) 0 nows) nows gs None log).jumps
-          (FO sc (rules.uncased p cs cx m (rules.all_labels gs) 0 nows) nows gs None log).log) rest)
+      (rules.past p cs cx m gs nows)) (FO sc (rules.uncased p cs cx m (rules.all_labels gs) 0 nows) nows gs None log).jumps
+      (FO sc (rules.uncased p cs cx m (rules.all_labels gs) 0 nows) nows gs None log).log) rest)
       ((if has_group (case_at k) gs then XF (case_at k) gs else XF Rattle.jv_values.specs.Statements.is_default gs) s)
   switch_groups sc ts gs nows log rest k s at quiet good = cased (has_group (case_at k) gs) refl
     where
       cased : (z : Bool) → has_group (case_at k) gs ≡ z →
           Good p t (P sc sc (ASwitch ∷ ts) (flow (joined (FO sc (rules.uncased p cs cx m (rules.all_labels gs) 0 nows) nows gs None log).now
-              (rules.past p cs cx m gs nows)) (FO sc (rules.uncased p cs cx m (rules.all_labels gs) 0 nows) nows gs None log).jumps
-              (FO sc (rules.uncased p cs cx m (rules.all_labels gs) 0 nows) nows gs None log).log) rest)
+          (rules.past p cs cx m gs nows)) (FO sc (rules.uncased p cs cx m (rules.all_labels gs) 0 nows) nows gs None log).jumps
+          (FO sc (rules.uncased p cs cx m (rules.all_labels gs) 0 nows) nows gs None log).log) rest)
           ((if z then XF (case_at k) gs else XF Rattle.jv_values.specs.Statements.is_default gs) s)
       cased true e =
           let f = FO sc (rules.uncased p cs cx m (rules.all_labels gs) 0 nows) nows gs None log in
           good_as p t (P sc sc (ASwitch ∷ ts) f rest)
-              (P sc sc (ASwitch ∷ ts) (flow (joined f.now (rules.past p cs cx m gs nows)) f.jumps f.log) rest) (XF (case_at k) gs s)
-          (good (case_at k) at.cur (record { enters = λ labels h. enters_case (rules.uncased p cs cx m (rules.all_labels gs) 0 nows) nows k
-              at.cur at.is labels h }) e s at.lives)
+          (P sc sc (ASwitch ∷ ts) (flow (joined f.now (rules.past p cs cx m gs nows)) f.jumps f.log) rest) (XF (case_at k) gs s)
+          (good (case_at k) at.cur (record {
+            enters = λ labels h. enters_case (rules.uncased p cs cx m (rules.all_labels gs) 0 nows) nows k
+                at.cur at.is labels h;
+          }) e s at.lives)
           (λ c s2 h2. post_in p reached t m cx me sc sc (ASwitch ∷ ts) f (flow (joined f.now (rules.past p cs cx m gs nows)) f.jumps f.log)
-              rest c s2
-          (record { now = joined_left f.now f.now (rules.past p cs cx m gs nows) (now_refl f.now); jumps =
-              λ to. now_refl (caught to f.jumps) }) h2)
+          rest c s2
+          (record {
+            now = joined_left f.now f.now (rules.past p cs cx m gs nows) (now_refl f.now);
+            jumps =
+                λ to. now_refl (caught to f.jumps);
+          }) h2)
       cased false e = other (has_group Rattle.jv_values.specs.Statements.is_default gs) refl
         where
           zeroed : 0 + k ≡ k
@@ -496,30 +503,35 @@ module _ (p : Program) (ok : IsCore p) (reached : List (List Bool)) (rok : AreRe
 
           other : (z : Bool) → has_group Rattle.jv_values.specs.Statements.is_default gs ≡ z →
               Good p t (P sc sc (ASwitch ∷ ts)
-                  (flow (joined (FO sc (rules.uncased p cs cx m (rules.all_labels gs) 0 nows) nows gs None log).now
-                  (rules.past p cs cx m gs nows)) (FO sc (rules.uncased p cs cx m (rules.all_labels gs) 0 nows) nows gs None log).jumps
-                  (FO sc (rules.uncased p cs cx m (rules.all_labels gs) 0 nows) nows gs None log).log) rest)
+              (flow (joined (FO sc (rules.uncased p cs cx m (rules.all_labels gs) 0 nows) nows gs None log).now
+              (rules.past p cs cx m gs nows)) (FO sc (rules.uncased p cs cx m (rules.all_labels gs) 0 nows) nows gs None log).jumps
+              (FO sc (rules.uncased p cs cx m (rules.all_labels gs) 0 nows) nows gs None log).log) rest)
               (XF Rattle.jv_values.specs.Statements.is_default gs s)
           other true g =
               let f = FO sc (rules.uncased p cs cx m (rules.all_labels gs) 0 nows) nows gs None log in
               good_as p t (P sc sc (ASwitch ∷ ts) f rest)
-                  (P sc sc (ASwitch ∷ ts) (flow (joined f.now (rules.past p cs cx m gs nows)) f.jumps f.log) rest)
-                  (XF Rattle.jv_values.specs.Statements.is_default gs s)
+              (P sc sc (ASwitch ∷ ts) (flow (joined f.now (rules.past p cs cx m gs nows)) f.jumps f.log) rest)
+              (XF Rattle.jv_values.specs.Statements.is_default gs s)
               (good Rattle.jv_values.specs.Statements.is_default at.cur
-                  (record { enters = λ labels h. enters_default (rules.uncased p cs cx m (rules.all_labels gs) 0 nows) nows at.cur
-                  uncased_here labels h }) g s at.lives)
+              (record {
+                enters = λ labels h. enters_default (rules.uncased p cs cx m (rules.all_labels gs) 0 nows) nows at.cur
+                    uncased_here labels h;
+              }) g s at.lives)
               (λ c s2 h2. post_in p reached t m cx me sc sc (ASwitch ∷ ts) f (flow (joined f.now (rules.past p cs cx m gs nows)) f.jumps
-                  f.log) rest c s2
-              (record { now = joined_left f.now f.now (rules.past p cs cx m gs nows) (now_refl f.now); jumps =
-                  λ to. now_refl (caught to f.jumps) }) h2)
+              f.log) rest c s2
+              (record {
+                now = joined_left f.now f.now (rules.past p cs cx m gs nows) (now_refl f.now);
+                jumps =
+                    λ to. now_refl (caught to f.jumps);
+              }) h2)
           other false g =
               let f = FO sc (rules.uncased p cs cx m (rules.all_labels gs) 0 nows) nows gs None log in
               let no_default : Rattle.std.specs.List.list_any rules.is_default (rules.all_labels gs) ≡ false =
-                    none_in_list rules.is_default (rules.all_labels gs)
-                    (λ l i. default_same l ∙ no_group_label Rattle.jv_values.specs.Statements.is_default gs g l i) in
+              none_in_list rules.is_default (rules.all_labels gs)
+              (λ l i. default_same l ∙ no_group_label Rattle.jv_values.specs.Statements.is_default gs g l i) in
               subst (λ o. Good p t (P sc sc (ASwitch ∷ ts) (flow (joined f.now (rules.past p cs cx m gs nows)) f.jumps f.log) rest) o)
-                  (sym (from_none Rattle.jv_values.specs.Statements.is_default gs s g))
+              (sym (from_none Rattle.jv_values.specs.Statements.is_default gs s g))
               (lv_in p reached t m cx me sc at.cur (joined f.now (rules.past p cs cx m gs nows)) rest s
               (joined_right at.cur (rules.past p cs cx m gs nows) f.now
-                  (subst (λ b. NowIn at.cur (if b then None else rules.uncased p cs cx m (rules.all_labels gs) 0 nows)) (sym no_default)
-                  uncased_here)) at.lives)
+              (subst (λ b. NowIn at.cur (if b then None else rules.uncased p cs cx m (rules.all_labels gs) 0 nows)) (sym no_default)
+              uncased_here)) at.lives)

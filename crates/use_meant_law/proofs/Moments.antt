@@ -48,8 +48,12 @@ record Front (results : Results) (xs ys : List Told) : Type 0 where
 
 front : (results : Results) (xs ys : List Told) → Alternates (xs ++ ys) → Front results xs ys
 front results [] ys h = record { more = calls_told results ys; calls = refl; opens = λ m e. absurd (some_none e) }
-front results (Enters n ∷ []) [] h = record { more = []; calls = refl; opens = λ m e. subst (λ z. OpenHere z [] (Some n)) (some_is e)
-    still }
+front results (Enters n ∷ []) [] h = record {
+  more = [];
+  calls = refl;
+  opens = λ m e. subst (λ z. OpenHere z [] (Some n)) (some_is e)
+      still;
+}
 front results (Enters n ∷ []) (Leaves a ∷ ys) h = record {
   more = record { method = n; answer = label_in (results n) a } ∷ calls_told results ys;
   calls = refl;
@@ -140,13 +144,13 @@ follows_so_far j typestates so_far events before h = record {
 
     path : (o : ℕ) (c : Name) → IsMade so_far o c →
         IsPath j typestates c (calls_told (results_of j c) (told o so_far ++ told o before.later))
-            (open_told (told o so_far ++ told o before.later))
+        (open_told (told o so_far ++ told o before.later))
     path o c made =
         subst (λ ts. IsPath j typestates c (calls_told (results_of j c) ts) (open_told ts)) (told_is o) (h.path o c (made_too o c made))
 
     path_so_far : (o : ℕ) (c : Name) → Alternates (told o so_far ++ told o before.later) →
         IsPath j typestates c (calls_told (results_of j c) (told o so_far ++ told o before.later))
-            (open_told (told o so_far ++ told o before.later)) →
+        (open_told (told o so_far ++ told o before.later)) →
         IsPath j typestates c (calls_told (results_of j c) (told o so_far)) (open_told (told o so_far))
     path_so_far o c alt p = record {
       typestate = p.typestate;

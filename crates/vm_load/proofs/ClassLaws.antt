@@ -33,13 +33,13 @@ is_flaw_of faults.Memory flaw h m = absurd (m refl)
 pub noted_told : (r : Result (Option LoadFault) Memory) (judged : Result (Unit {0}) LoadFault) (best wanted : Option Flaw) →
     Tells judged wanted →
     IfOk r (λ b. best_flaw b ≡ lower best (found_flaw judged)) → IfOk r (λ _. IsToldOf judged) →
-        IfOk r (λ b. best_flaw b ≡ lower best wanted)
+    IfOk r (λ b. best_flaw b ≡ lower best wanted)
 noted_told (Ok b) judged best wanted h e m = e ∙ ap (λ f. lower best f) (told_found judged wanted h m)
 noted_told (Err x) judged best wanted h e m = tt
 
 pub noted_flaw : (r : Result (Option LoadFault) Memory) (fault : LoadFault) (best : Option Flaw) (flaw : Flaw) → IsFlaw fault flaw →
     IfOk r (λ b. best_flaw b ≡ lower best (flaw_of fault)) → IfOk r (λ _. fault ≡ faults.Memory → ⊥) →
-        IfOk r (λ b. best_flaw b ≡ lower best (Some flaw))
+    IfOk r (λ b. best_flaw b ≡ lower best (Some flaw))
 noted_flaw (Ok b) fault best flaw h e m = e ∙ ap (λ f. lower best f) (is_flaw_of fault flaw h m)
 noted_flaw (Err x) fault best flaw h e m = tt
 
@@ -82,7 +82,7 @@ pub class_noted : (b0 b1 b2 b3 b4 s : Option Flaw) (fs ms bs : List Flaw) → b1
     b4 ≡ lower b0 (least (some_in (s ∷ []) ++ (fs ++ (ms ++ bs))))
 class_noted b0 b1 b2 b3 b4 s fs ms bs e1 e2 e3 e4 =
     e4 ∙ ap (λ b. lower b (least bs)) e3 ∙ ap (λ b. lower (lower b (least ms)) (least bs)) e2 ∙
-        ap (λ b. lower (lower (lower b (least fs)) (least ms)) (least bs)) e1
+    ap (λ b. lower (lower (lower b (least fs)) (least ms)) (least bs)) e1
     ∙ lower-assoc (lower (lower b0 s) (least fs)) (least ms) (least bs) ∙ lower-assoc (lower b0 s) (least fs) (lower (least ms) (least bs))
     ∙ lower-assoc b0 s (lower (least fs) (lower (least ms) (least bs)))
     ∙ ap (λ o. lower b0 o) (
@@ -104,9 +104,9 @@ class_right o p ms ns l e f g =
 -- and what is wrong with it
 pub class_wrong : (field method : Declared → Option Flaw) (o p : Outline) (b0 b1 b3 b4 s : Option Flaw) (bs : List Flaw) → b1 ≡ lower b0 s →
     b3 ≡ lower (lower b1 (least (some_in (map field o.fields)))) (least (some_in (map method o.methods))) → o ≡ p → b4 ≡ lower b3 (least bs)
-        →
+    →
     b4 ≡ lower b0 (least (some_in (s ∷ []) ++ (some_in (map field p.fields) ++ (some_in (map method p.methods) ++ bs))))
 class_wrong field method o p b0 b1 b3 b4 s bs e1 e3 same e4 =
     class_noted b0 b1 (lower b1 (least (some_in (map field p.fields)))) b3 b4 s (some_in (map field p.fields))
-        (some_in (map method p.methods)) bs e1 refl
+    (some_in (map method p.methods)) bs e1 refl
     (e3 ∙ ap (λ (x : Outline). lower (lower b1 (least (some_in (map field x.fields)))) (least (some_in (map method x.methods)))) same) e4

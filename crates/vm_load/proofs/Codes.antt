@@ -48,7 +48,7 @@ pub starts_next : (kept : List Kept) (k : ℕ) (d : Kept) (front : List ℕ) (pl
 starts_next kept k d front place w total lt e width =
     ap (λ n. (front ++ place ∷ []) ++ starts_from (place + n) (instrs_of (drop (k + 1) kept))) width
     ∙ append_assoc front (place ∷ []) (starts_from (place + length (instr_bytes place (instr_of (get_or kept k d))))
-        (instrs_of (drop (k + 1) kept)))
+    (instrs_of (drop (k + 1) kept)))
     ∙ ap (λ l. front ++ l) (sym (one_start place (instr_of (get_or kept k d)) (instrs_of (drop (k + 1) kept))))
     ∙ ap (λ is. front ++ starts_from place is) (sym (front_of kept k d lt)) ∙ e
 
@@ -56,17 +56,17 @@ pub starts_done : (kept : List Kept) (k : ℕ) (front : List ℕ) (place : ℕ) 
     front ++ starts_from place (instrs_of (drop k kept)) ≡ total → front ≡ total
 starts_done kept k front place total h e =
     sym (append-nil front) ∙ ap (λ l. front ++ l) (sym (no_start place)) ∙ ap (λ is. front ++ starts_from place is)
-        (sym (nothing_left kept k h)) ∙ e
+    (sym (nothing_left kept k h)) ∙ e
 
 module _ (os : List Outline) (pool : List Const) (starts : List ℕ) (kept : List Kept) (k : ℕ) (d : Kept) (place w : ℕ)
     (lt : k < length kept)
     (width : w ≡ length (instr_bytes place (instr_of (get_or kept k d)))) where
   rest_is : judged_from os pool starts place (instrs_of (drop k kept))
       ≡ judged_instr os pool starts place (instr_of (get_or kept k d)) ∷ judged_from os pool starts (place + w)
-          (instrs_of (drop (k + 1) kept))
+      (instrs_of (drop (k + 1) kept))
   rest_is = ap (judged_from os pool starts place) (front_of kept k d lt)
       ∙ ap (λ n. judged_instr os pool starts place (instr_of (get_or kept k d)) ∷ judged_from os pool starts (place + n)
-          (instrs_of (drop (k + 1) kept))) (sym width)
+      (instrs_of (drop (k + 1) kept))) (sym width)
 
   pub right_next : (front more total : List Instr) → front ++ right_in (judged_from os pool starts place (instrs_of (drop k kept))) ≡ total
       →
@@ -75,7 +75,7 @@ module _ (os : List Outline) (pool : List Const) (starts : List ℕ) (kept : Lis
   right_next front more total e added =
       ap (λ l. l ++ right_in (judged_from os pool starts (place + w) (instrs_of (drop (k + 1) kept)))) added
       ∙ right-more front (judged_instr os pool starts place (instr_of (get_or kept k d)))
-          (judged_from os pool starts (place + w) (instrs_of (drop (k + 1) kept)))
+      (judged_from os pool starts (place + w) (instrs_of (drop (k + 1) kept)))
       ∙ ap (λ l. front ++ right_in l) (sym rest_is) ∙ e
 
   pub wrong_next : (best more total : Option Flaw) →
@@ -85,7 +85,7 @@ module _ (os : List Outline) (pool : List Const) (starts : List ℕ) (kept : Lis
   wrong_next best more total e noted =
       ap (λ b. lower b (least (wrong_in (judged_from os pool starts (place + w) (instrs_of (drop (k + 1) kept)))))) noted
       ∙ wrong-more best (judged_instr os pool starts place (instr_of (get_or kept k d)))
-          (judged_from os pool starts (place + w) (instrs_of (drop (k + 1) kept)))
+      (judged_from os pool starts (place + w) (instrs_of (drop (k + 1) kept)))
       ∙ ap (λ l. lower best (least (wrong_in l))) (sym rest_is) ∙ e
 
 -- what is noted of an instruction that isn't right
@@ -98,7 +98,7 @@ right_err (Err e) fault wanted xs m h = tt
 pub wrong_err : (r : Result (Option LoadFault) Memory) (fault : LoadFault) (wanted : Result Instr Flaw) (best : Option Flaw) →
     IfOk r (λ _. fault ≡ faults.Memory → ⊥) →
     IfOk r (λ b. best_flaw b ≡ lower best (flaw_of fault)) → Judges model.instr_of (Err fault) wanted →
-        IfOk r (λ b. best_flaw b ≡ lower best (least (wrong_in (wanted ∷ []))))
+    IfOk r (λ b. best_flaw b ≡ lower best (least (wrong_in (wanted ∷ []))))
 wrong_err (Ok b) fault wanted best m e h = e ∙ ap (λ f. lower best f) (sym (none_right fault wanted h m).1)
 wrong_err (Err x) fault wanted best m e h = tt
 

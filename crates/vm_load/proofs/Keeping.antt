@@ -111,7 +111,7 @@ module _ (os : List Outline) (names : List Name) (same : (name : Name) → is_kn
 
   method_known : (flaw : Flaw) (b : Bool) (o : Option Typed) →
       descriptor_flaw os (Some flaw) (if b then elim o [ None ↦ None | Some s ↦ Some (types_of_signature s) ] else None) ≡ None →
-          is_method_type names o ≡ true
+      is_method_type names o ≡ true
   method_known flaw false o h = absurd cc
   method_known flaw true None h = absurd cc
   method_known flaw true (Some s) h = all_known (types_of_signature s) (none_mapped (unknown_in os (types_of_signature s)) h)
@@ -200,7 +200,7 @@ module _ (p : Program) where
         fine_if (op == 187) (judged_new name (loaded os name)) fields (made name)
         (fine_if (op == 178 || (op == 180 || op == 181)) of_fields more (fine_field op (field_at constants n))
         (fine_if (op == 182 || (op == 183 || op == 184)) of_methods rest (fine_method op (method_at constants n))
-            (fine_pushed (pushed_at constants n))))
+        (fine_pushed (pushed_at constants n))))
 
     fine_instr_args : (constants : List Const) (starts : List ℕ) (place op : ℕ) (args : file.Args) →
         fine (judged_instr_args os constants starts place op args) ≡ true
@@ -217,9 +217,9 @@ module _ (p : Program) where
     all_right constants starts place [] = refl
     all_right constants starts place (i ∷ is) =
         right_cons (length starts) (judged_instr os constants starts place i)
-            (judged_from os constants starts (place + length (instr_bytes place i)) is)
+        (judged_from os constants starts (place + length (instr_bytes place i)) is)
         (fine_op (length starts) i.op (judged_instr_args os constants starts place i.op i.args)
-            (fine_instr_args constants starts place i.op i.args))
+        (fine_instr_args constants starts place i.op i.args))
         (all_right constants starts (place + length (instr_bytes place i)) is)
 
 -- what a sound code keeps
@@ -254,7 +254,7 @@ module _ (os : List Outline) (constants : List Const) where
   methods_length (m ∷ ms) h =
       let both = split_nil (method_flaws os constants m) (flat_map (method_flaws os constants) ms) h in
       one_more (declared constants m) (code_among m.attributes) (flat_map (method_of_member os constants) ms) both.0 ∙
-          ap suc (methods_length ms both.1)
+      ap suc (methods_length ms both.1)
 
 -- where nothing is wrong with a class
 module _ (os : List Outline) (f : File) (right : class_flaws os f ≡ []) where
@@ -262,7 +262,7 @@ module _ (os : List Outline) (f : File) (right : class_flaws os f ≡ []) where
       ++ flat_map (method_flaws os f.pool) f.methods) ≡ []
   behind_super = (split_nil (some_in (super_flaw (or_empty (class_at f.pool f.super_class)) ∷ []))
       (some_in (map (field_flaw os) (outline f).fields) ++ (some_in (map (method_flaw os) (outline f).methods)
-          ++ flat_map (method_flaws os f.pool) f.methods)) right).1
+      ++ flat_map (method_flaws os f.pool) f.methods)) right).1
 
   right_fields : some_in (map (field_flaw os) (outline f).fields) ≡ []
   right_fields = (split_nil (some_in (map (field_flaw os) (outline f).fields))
@@ -304,18 +304,18 @@ module _ (os : List Outline) (p : Program) (same : (name : Name) → is_known os
   method_kept constants d None h k = absurd cc
   method_kept constants d (Some c) h k =
       let types = method_known os (class_names p) same (BadDescriptor d.descriptor) (is_main_alone d.name d.descriptor)
-            (signature_of d.descriptor) h in
+      (signature_of d.descriptor) h in
       let code = code_kept constants c.instrs k in
       let alone = main_alone os (class_names p) same (BadDescriptor d.descriptor) (is_main_alone d.name d.descriptor)
       (elim (signature_of d.descriptor) [ None ↦ None | Some s ↦ Some (types_of_signature s) ]) h in
       let described = both_true (is_main_alone d.name d.descriptor) (is_method_type (class_names p) (signature_of d.descriptor)) alone types
-          in
+      in
       let links = both_true (is_main_alone d.name d.descriptor && is_method_type (class_names p) (signature_of d.descriptor))
       (list_all (links_instr p (length (right_in (judged_code os constants c.instrs)))) (right_in (judged_code os constants c.instrs)))
       described code in
       both_true ((is_main_alone d.name d.descriptor && is_method_type (class_names p) (signature_of d.descriptor))
       && list_all (links_instr p (length (right_in (judged_code os constants c.instrs)))) (right_in (judged_code os constants c.instrs)))
-          true links refl
+      true links refl
 
   methods_kept : (constants : List Const) (ms : List Member) → some_in (map (method_flaw os) (map (declared constants) ms)) ≡ [] →
       flat_map (method_flaws os constants) ms ≡ [] → list_all (links_method p) (flat_map (method_of_member os constants) ms) ≡ true
@@ -325,13 +325,13 @@ module _ (os : List Outline) (p : Program) (same : (name : Name) → is_known os
       let both = split_nil (method_flaws os constants m) (flat_map (method_flaws os constants) ms) k in
       list_all-append (links_method p) (method_of_member os constants m) (flat_map (method_of_member os constants) ms)
       ∙ both_true (list_all (links_method p) (method_of_member os constants m))
-          (list_all (links_method p) (flat_map (method_of_member os constants) ms))
+      (list_all (links_method p) (flat_map (method_of_member os constants) ms))
       (method_kept constants (declared constants m) (code_among m.attributes) first.0 both.0) (methods_kept constants ms first.1 both.1)
 
   class_kept : (f : File) → class_flaws os f ≡ [] → links_class p (linked_class os f) ≡ true
   class_kept f h =
       both_true (list_all (links_field p) (map field_made (outline f).own))
-          (list_all (links_method p) (flat_map (method_of_member os f.pool) f.methods))
+      (list_all (links_method p) (flat_map (method_of_member os f.pool) f.methods))
       (list_all-map (links_field p) field_made (outline f).own
       ∙ all_filter (λ d. links_field p (field_made d)) is_dynamic (outline f).fields (fields_kept (outline f).fields (right_fields os f h)))
       (methods_kept f.pool f.methods (right_methods os f h) (right_codes os f h))
@@ -341,7 +341,7 @@ module _ (os : List Outline) (p : Program) (same : (name : Name) → is_known os
   classes_kept (f ∷ cs) h =
       let both = split_nil (class_flaws os f) (flat_map (class_flaws os) cs) h in
       both_true (links_class p (linked_class os f)) (list_all (links_class p) (map (linked_class os) cs)) (class_kept f both.0)
-          (classes_kept cs both.1)
+      (classes_kept cs both.1)
 
 same_names : (os : List Outline) (cs : List File) → map (λ o. o.name) (map outline cs) ≡ class_names (map (linked_class os) cs)
 same_names os [] = refl
@@ -365,7 +365,7 @@ module _ (cs : List File) (right : flat_map (class_flaws (outlines cs)) cs ≡ [
       let within = found_within (is_member m false) (outline f).own n h in
       let count = length-map (outline f).own field_made in
       ap (λ x. is_some (slice_get (program.fields_in x) n)) (class_of_number c (Some f) at) ∙ some_at (map field_made (outline f).own) n
-          (omega (arith, within, count))
+      (omega (arith, within, count))
 
   method_part : (m : Signature) (static : Bool) (c : ℕ) (o : Option File) → slice_get cs c ≡ o → (k : Option ℕ) →
       method_of_class m static (option_map outline o) ≡ k → parts (linked cs) (args_by (Method c) k) ≡ true
@@ -375,7 +375,7 @@ module _ (cs : List File) (right : flat_map (class_flaws (outlines cs)) cs ≡ [
       let within = found_within (is_member m static) (outline f).methods n h in
       let count = length-map f.methods (declared f.pool) in
       let whole = methods_length (outlines cs) f.pool f.methods
-            (right_codes (outlines cs) f (flat_at (class_flaws (outlines cs)) cs c f right at)) in
+      (right_codes (outlines cs) f (flat_at (class_flaws (outlines cs)) cs c f right at)) in
       ap (λ x. is_some (slice_get (program.methods_in x) n)) (class_of_number c (Some f) at)
       ∙ some_at (flat_map (method_of_member (outlines cs) f.pool) f.methods) n (omega (arith, within, count, whole))
 
@@ -387,13 +387,13 @@ module _ (cs : List File) (right : flat_map (class_flaws (outlines cs)) cs ≡ [
       let method : Option Args = args_by (Method c) (method_of_class m false (slice_get (outlines cs) c)) in
       let static : Option Args = args_by (Method c) (method_of_class m true (slice_get (outlines cs) c)) in
       let f : parts (linked cs) field ≡ true = field_part m c (slice_get cs c) refl (field_of_class m (slice_get (outlines cs) c))
-            (ap (field_of_class m) (sym here)) in
+      (ap (field_of_class m) (sym here)) in
       let g : parts (linked cs) method ≡ true =
       method_part m false c (slice_get cs c) refl (method_of_class m false (slice_get (outlines cs) c))
-          (ap (method_of_class m false) (sym here)) in
+      (ap (method_of_class m false) (sym here)) in
       let h : parts (linked cs) static ≡ true =
       method_part m true c (slice_get cs c) refl (method_of_class m true (slice_get (outlines cs) c))
-          (ap (method_of_class m true) (sym here)) in
+      (ap (method_of_class m true) (sym here)) in
       let last : Option Args = if op == 184 then static else None in
       let special : Option Args = if op == 183 then method else last in
       let virtual : Option Args = if op == 182 then method else special in

@@ -49,7 +49,7 @@ not_taken names name b e h = h ∙ sym (or_false (is_built_in name) (list_any (b
 pub added : (names new : List Name) (name : Name) → is_taken names name ≡ false → new ≡ with_text names name → new ≡ names ++ name ∷ []
 added names new name free e =
     let none : position (bytes_eq name) names ≡ None =
-          none_any (bytes_eq name) names (second_false (is_built_in name) (list_any (bytes_eq name) names) free) in
+    none_any (bytes_eq name) names (second_false (is_built_in name) (list_any (bytes_eq name) names) free) in
     e ∙ with_new names name none
   where
     with_new : (old : List Name) (text : Name) → position (bytes_eq text) old ≡ None → with_text old text ≡ old ++ text ∷ []
@@ -135,26 +135,28 @@ refused_at_once f os cs same h =
 module _ {X : Type 0} (name_of : X → Name) (xs : List X) (k : ℕ) (item : X) (lt : k < length xs) (is : item ≡ get_or xs k item)
     (names : List Name)
     (before : names ≡ map name_of (take k xs)) (distinct : duplicates names (map name_of (drop k xs)) ≡ duplicates [] (map name_of xs))
-        where
-  cut_here : map name_of (drop k xs) ≡ name_of item ∷ map name_of (drop (k + 1) xs)
-  cut_here = names_cut name_of xs k item lt ∙ ap (λ x. name_of x ∷ map name_of (drop (k + 1) xs)) (sym is)
+  where
+    cut_here : map name_of (drop k xs) ≡ name_of item ∷ map name_of (drop (k + 1) xs)
+    cut_here = names_cut name_of xs k item lt ∙ ap (λ x. name_of x ∷ map name_of (drop (k + 1) xs)) (sym is)
 
-  pub refused_here : (all : List Name) → all ≡ map name_of xs → is_taken names (name_of item) ≡ true → (f : LoadFault) →
-      IsFlaw f (DuplicateClass (name_of item)) →
-      (more : List Flaw) → IsLeast f (duplicates [] all ++ more)
-  refused_here all same free f h more =
-      is_least f (DuplicateClass (name_of item)) (duplicates [] all ++ more) h
-      (ap (λ l. least (duplicates [] l ++ more)) same ∙ ap (λ l. least (l ++ more)) (sym distinct)
-      ∙ ap (λ l. least (duplicates names l ++ more)) cut_here ∙ taken_first names (name_of item) (map name_of (drop (k + 1) xs)) more free)
+    pub refused_here : (all : List Name) → all ≡ map name_of xs → is_taken names (name_of item) ≡ true → (f : LoadFault) →
+        IsFlaw f (DuplicateClass (name_of item)) →
+        (more : List Flaw) → IsLeast f (duplicates [] all ++ more)
+    refused_here all same free f h more =
+        is_least f (DuplicateClass (name_of item)) (duplicates [] all ++ more) h
+        (ap (λ l. least (duplicates [] l ++ more)) same ∙ ap (λ l. least (l ++ more)) (sym distinct)
+        ∙ ap (λ l. least (duplicates names l ++ more)) cut_here ∙ taken_first names (name_of item) (map name_of (drop (k + 1) xs)) more
+        free)
 
-  pub names_on : (new : List Name) → is_taken names (name_of item) ≡ false → new ≡ with_text names (name_of item) →
-      new ≡ map name_of (take (k + 1) xs)
-  names_on new free e =
-      added names new (name_of item) free e ∙ ap (λ l. l ++ name_of item ∷ []) before ∙ ap (λ x. map name_of (take k xs) ++ name_of x ∷ [])
-          is ∙ sym (names_more name_of xs k item lt)
+    pub names_on : (new : List Name) → is_taken names (name_of item) ≡ false → new ≡ with_text names (name_of item) →
+        new ≡ map name_of (take (k + 1) xs)
+    names_on new free e =
+        added names new (name_of item) free e ∙ ap (λ l. l ++ name_of item ∷ []) before ∙
+        ap (λ x. map name_of (take k xs) ++ name_of x ∷ [])
+        is ∙ sym (names_more name_of xs k item lt)
 
-  pub distinct_on : (new : List Name) → is_taken names (name_of item) ≡ false → new ≡ with_text names (name_of item) →
-      duplicates new (map name_of (drop (k + 1) xs)) ≡ duplicates [] (map name_of xs)
-  distinct_on new free e =
-      ap (λ l. duplicates l (map name_of (drop (k + 1) xs))) (added names new (name_of item) free e)
-      ∙ sym (free_next names (name_of item) (map name_of (drop (k + 1) xs)) free) ∙ ap (duplicates names) (sym cut_here) ∙ distinct
+    pub distinct_on : (new : List Name) → is_taken names (name_of item) ≡ false → new ≡ with_text names (name_of item) →
+        duplicates new (map name_of (drop (k + 1) xs)) ≡ duplicates [] (map name_of xs)
+    distinct_on new free e =
+        ap (λ l. duplicates l (map name_of (drop (k + 1) xs))) (added names new (name_of item) free e)
+        ∙ sym (free_next names (name_of item) (map name_of (drop (k + 1) xs)) free) ∙ ap (duplicates names) (sym cut_here) ∙ distinct

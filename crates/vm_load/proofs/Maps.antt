@@ -22,7 +22,7 @@ pub mapped_more : {A C : Type 0} (f : A → C) (xs : List A) (ys zs : List C) (i
     y ≡ f (get_or xs i d) → zs ≡ map f (take (i + 1) xs)
 mapped_more f xs ys zs i d y lt e g h =
     g ∙ ap (λ l. l ++ y ∷ []) e ∙ ap (λ c. map f (take i xs) ++ c ∷ []) h ∙ sym (map-append f (take i xs) (get_or xs i d ∷ [])) ∙
-        ap (map f) (sym (take_more xs i d lt))
+    ap (map f) (sym (take_more xs i d lt))
 
 -- what an answer gives, said otherwise
 pub if_ok : {A E : Type 0} (x y : A) → x ≡ y → (r : Result A E) → IfOk r (λ n. n ≡ x) → IfOk r (λ n. n ≡ y)

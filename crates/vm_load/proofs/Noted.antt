@@ -47,13 +47,13 @@ shape false b s t = refl
 equal_found : (k q : Key) (d : Declared) → IsKey k d.name d.descriptor d.is_static → key_eq k q ≡ is_found_by q d
 equal_found k q d h =
     shape (bytes_eq (string_bytes k.name) (string_bytes q.name)) (bytes_eq (string_bytes k.descriptor) (string_bytes q.descriptor))
-        k.is_static q.is_static
+    k.is_static q.is_static
     ∙ ap (λ n. (bytes_eq n (string_bytes q.name) && bytes_eq (string_bytes k.descriptor) (string_bytes q.descriptor)) &&
-        (if q.is_static then k.is_static else not k.is_static)) h.name_is
+    (if q.is_static then k.is_static else not k.is_static)) h.name_is
     ∙ ap (λ n. (bytes_eq d.name (string_bytes q.name) && bytes_eq n (string_bytes q.descriptor)) &&
-        (if q.is_static then k.is_static else not k.is_static)) h.descriptor_is
+    (if q.is_static then k.is_static else not k.is_static)) h.descriptor_is
     ∙ ap (λ s. (bytes_eq d.name (string_bytes q.name) && bytes_eq d.descriptor (string_bytes q.descriptor)) &&
-        (if q.is_static then s else not s)) h.kind_is
+    (if q.is_static then s else not s)) h.kind_is
 
 both : (a b : Bool) → (a && b) ≡ true → (a ≡ true) × (b ≡ true)
 both true b h = (refl, h)
@@ -70,19 +70,19 @@ same_found : (k q : Key) (d : Declared) → IsKey k d.name d.descriptor d.is_sta
     is_found_by q x ≡ is_found_by k x
 same_found k q d h found x =
     let outer = both (bytes_eq d.name (string_bytes q.name) && bytes_eq d.descriptor (string_bytes q.descriptor))
-          (if q.is_static then d.is_static else not d.is_static) found in
+    (if q.is_static then d.is_static else not d.is_static) found in
     let inner = both (bytes_eq d.name (string_bytes q.name)) (bytes_eq d.descriptor (string_bytes q.descriptor)) outer.0 in
     let name : string_bytes q.name ≡ string_bytes k.name = sym ((bytes_eq-Decides d.name (string_bytes q.name)).0 inner.0) ∙ sym h.name_is
-        in
+    in
     let descriptor : string_bytes q.descriptor ≡ string_bytes k.descriptor =
-          sym ((bytes_eq-Decides d.descriptor (string_bytes q.descriptor)).0 inner.1) ∙ sym h.descriptor_is in
+    sym ((bytes_eq-Decides d.descriptor (string_bytes q.descriptor)).0 inner.1) ∙ sym h.descriptor_is in
     let kind : q.is_static ≡ k.is_static = sym (kind_same d.is_static q.is_static outer.1) ∙ sym h.kind_is in
     ap (λ n. (bytes_eq x.name n && bytes_eq x.descriptor (string_bytes q.descriptor)) &&
-        (if q.is_static then x.is_static else not x.is_static)) name
+    (if q.is_static then x.is_static else not x.is_static)) name
     ∙ ap (λ n. (bytes_eq x.name (string_bytes k.name) && bytes_eq x.descriptor n) && (if q.is_static then x.is_static else not x.is_static))
-        descriptor
+    descriptor
     ∙ ap (λ s. (bytes_eq x.name (string_bytes k.name) && bytes_eq x.descriptor (string_bytes k.descriptor)) &&
-        (if s then x.is_static else not x.is_static)) kind
+    (if s then x.is_static else not x.is_static)) kind
 
 position_as_one : {X : Type 0} (p q : X → Bool) → ((x : X) → p x ≡ q x) → (xs : List X) → position p xs ≡ position q xs
 position_as_one p q e xs = let same = pass_as_one p q e xs in grind (arith, nat_tests)

@@ -47,7 +47,7 @@ none_before p [] (suc i) h = refl
 none_before p (x ∷ xs) zero h = refl
 none_before p (x ∷ xs) (suc i) h =
     both_false (p x) (list_any p (take i xs)) (h 0 (omega arith) (omega arith))
-        (none_before p xs i (λ k lt within. h (suc k) (omega arith) (omega arith)))
+    (none_before p xs i (λ k lt within. h (suc k) (omega arith) (omega arith)))
   where
     both_false : (a b : Bool) → a ≡ false → b ≡ false → (a || b) ≡ false
     both_false a b e f = rw e f
@@ -67,7 +67,7 @@ pub no_start_at : (starts : List ℕ) (place : ℤ) → ((k : ℕ) → k < lengt
     started starts place ≡ length starts
 no_start_at starts place h =
     no_index (λ s. int_eq (pos s) place) starts (length starts) (omega arith)
-        (none_before (λ s. int_eq (pos s) place) starts (length starts) (λ k lt within. h k within))
+    (none_before (λ s. int_eq (pos s) place) starts (length starts) (λ k lt within. h k within))
 
 module _ (starts : List ℕ) (rise : AreRising starts) (p : ℕ) where
   other_place : (s : ℕ) → (s ≡ p → ⊥) → int_eq (pos s) (pos p) ≡ false
@@ -107,7 +107,7 @@ module _ (starts : List ℕ) (rise : AreRising starts) (p : ℕ) where
     where
       go : (r : Result ℕ ℕ) → MatchResult r (λ i. (i < length starts) × (get_or starts i 0 ≡ p))
           (λ i. (i ≤ length starts) × ((k : ℕ) → k < i → get_or starts k 0 < p) × ((k : ℕ) → i ≤ k → k < length starts →
-              p < get_or starts k 0)) →
+          p < get_or starts k 0)) →
           MatchResult r (λ n. started starts (pos p) ≡ n) (λ _. started starts (pos p) ≡ length starts)
       go (Ok n) f = found_number n f.0 f.1
       go (Err i) f = no_start_at starts (pos p) (λ k within. other_place (get_or starts k 0) (apart i k within f.1 f.2))

@@ -44,7 +44,7 @@ wrong_at r (b ∷ bs) (suc i) h e = wrong_at (reads r b) bs i (omega arith) e
 pub param_name_on : (d : List ℕ) (start at byte : ℕ) (params : List FieldType) (r : Option Next) → start ≤ at → at < length d →
     byte ≡ get_or d at 0 → byte ≢ 59 →
     r ≡ Some (record { stage = stages.ParamName start; param = None }) → read_param_name params (slice_range d start at) byte ≡ after_of d
-        (at + 1) params r
+    (at + 1) params r
 param_name_on d start at byte params r h lt b ne e =
     let test : (byte == 59) ≡ false = grind (arith, nat_tests) in
     rw (e, test) (ap (λ ps. ParamName ps (slice_range d start at ++ byte ∷ [])) (sym (append-nil params))
@@ -53,7 +53,7 @@ param_name_on d start at byte params r h lt b ne e =
 pub result_name_on : (d : List ℕ) (start at byte : ℕ) (params : List FieldType) (r : Option Next) → start ≤ at → at < length d →
     byte ≡ get_or d at 0 → byte ≢ 59 →
     r ≡ Some (record { stage = stages.AnswerName start; param = None }) → read_result_name params (slice_range d start at) byte ≡ after_of d
-        (at + 1) params r
+    (at + 1) params r
 result_name_on d start at byte params r h lt b ne e =
     let test : (byte == 59) ≡ false = grind (arith, nat_tests) in
     rw (e, test) (ap (λ ps. ResultName ps (slice_range d start at ++ byte ∷ [])) (sym (append-nil params))
@@ -65,7 +65,7 @@ pub read_on : (r : Reading) (d : List ℕ) (at byte : ℕ) (now after : Reading)
     fold reads r (take (at + 1) d) ≡ after
 read_on r d at byte now after lt b before step =
     ap (fold reads r) (take_more d at 0 lt) ∙ fold-append reads r (take at d) (get_or d at 0 ∷ []) ∙ ap (λ q. reads q (get_or d at 0))
-        before ∙ ap (reads now) (sym b) ∙ step
+    before ∙ ap (reads now) (sym b) ∙ step
 
 pub wrong_byte : (r : Reading) (d : List ℕ) (at byte : ℕ) (now : Reading) → at < length d → byte ≡ get_or d at 0 →
     fold reads r (take at d) ≡ now → reads now byte ≡ Wrong →

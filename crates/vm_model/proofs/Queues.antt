@@ -71,7 +71,7 @@ module _ {R X : Type 0} (g : R → List (List X)) (rows : List R) (i to : ℕ) (
   pub row_changed : i < length rows → old ≡ get_or rows i old →
       g row ≡ set (g old) to (change (or_nothing (slice_get (g old) to))) →
       map g (set rows i row) ≡ set (map g rows) i
-          (set (or_nothing (slice_get (map g rows) i)) to (change (or_nothing (slice_get (or_nothing (slice_get (map g rows) i)) to))))
+      (set (or_nothing (slice_get (map g rows) i)) to (change (or_nothing (slice_get (or_nothing (slice_get (map g rows) i)) to))))
   row_changed h e same = changed_by g rows i old (λ queues. set queues to (change (or_nothing (slice_get queues to)))) row h e same
 
 -- roles that are distinct: none of them stands among those before it
@@ -94,7 +94,7 @@ not_before (x ∷ xs) zero d h l = refl
 not_before (x ∷ xs) (suc k) d h l =
     let lt : k < length xs = omega arith in
     no_match (bytes_eq (get_or xs k d)) x (take k xs) (sym_false x (get_or xs k d) (all_at (λ y. bytes_eq x y ≡ false) xs k d h.0 lt))
-        (not_before xs k d h.1 lt)
+    (not_before xs k d h.1 lt)
 
 -- one more of distinct names goes last
 pub one_more : (roles : List (List ℕ)) (k : ℕ) (role : List ℕ) (old new : List (List ℕ)) → IsDistinct bytes_eq roles → k < length roles →

@@ -48,7 +48,7 @@ params_read : (ps ts : List FieldType) (rest : List ℕ) → AllByRecursion IsPl
 params_read ps [] rest h = ap (λ l. fold reads (Params l) rest) (sym (append-nil ps))
 params_read ps (t ∷ ts) rest h =
     ap (fold reads (Params ps)) (append_assoc (type_text t) (flat_map type_text ts) rest) ∙ one_read ps t (flat_map type_text ts ++ rest)
-        h.0
+    h.0
     ∙ params_read (ps ++ t ∷ []) ts rest h.1 ∙ ap (λ l. fold reads (Params l) rest) (append_assoc ps (t ∷ []) ts)
 
 answer_read : (ps : List FieldType) (r : Option FieldType) → IsPlainResult r → fold reads (Result ps) (result_text r) ≡ whole ps r
@@ -144,7 +144,7 @@ closed ps d s a = record {
 param_fits : (ps : List FieldType) (b : ℕ) (d : List ℕ) (s : Signature) (ends int truth named : Bool) →
     (b == 41) ≡ ends → (b == 73) ≡ int → (b == 90) ≡ truth → (b == 76) ≡ named →
     Fits (if ends then Result ps else if int then Params (ps ++ Int ∷ []) else if truth then Params (ps ++ Truth ∷ []) else if named then
-        ParamName ps [] else Wrong) d s →
+    ParamName ps [] else Wrong) d s →
     Rest ps (b ∷ d) s
 param_fits ps b d s true int truth named e1 e2 e3 e4 h = subst (λ c. Rest ps (c ∷ d) s) (sym (same b 41 e1)) (closed ps d s h)
 param_fits ps b d s false true truth named e1 e2 e3 e4 h = more ps Int (b ∷ d) d s tt (ap (λ c. c ∷ d) (same b 73 e2)) h
@@ -191,7 +191,7 @@ named_answer ps b d s e h = record {
 answer_fits : (ps : List FieldType) (b : ℕ) (d : List ℕ) (s : Signature) (nothing int truth named : Bool) →
     (b == 86) ≡ nothing → (b == 73) ≡ int → (b == 90) ≡ truth → (b == 76) ≡ named →
     Fits (if nothing then whole ps None else if int then whole ps (Some Int) else if truth then whole ps (Some Truth) else if named then
-        ResultName ps [] else Wrong) d s →
+    ResultName ps [] else Wrong) d s →
     Answer ps (b ∷ d) s
 answer_fits ps b d s true int truth named e1 e2 e3 e4 h = ended_answer ps None (b ∷ []) d s tt (ap (λ c. c ∷ []) (same b 86 e1)) h
 answer_fits ps b d s false true truth named e1 e2 e3 e4 h = ended_answer ps (Some Int) (b ∷ []) d s tt (ap (λ c. c ∷ []) (same b 73 e2)) h
@@ -247,7 +247,7 @@ main_text = codes "([Ljava/lang/String;)V"
 opened_descriptor : (d : Name) (s : Signature) → Opened d s → IsMethodDescriptor d s
 opened_descriptor d s o =
     subst (λ x. IsMethodDescriptor d x) (sym o.rest.is)
-        (types.plain o.rest.plain o.rest.plain_answer (o.text ∙ ap (λ l. 40 ∷ l) o.rest.text))
+    (types.plain o.rest.plain o.rest.plain_answer (o.text ∙ ap (λ l. 40 ∷ l) o.rest.text))
 
 method_sound : (d : Name) (s : Signature) (b : Bool) → bytes_eq d main_text ≡ b →
     (if b then Some main_signature else signature_in (fold reads Begins d)) ≡ Some s → IsMethodDescriptor d s

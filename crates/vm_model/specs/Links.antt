@@ -77,8 +77,12 @@ abbrev pub is_static : ℕ → Bool
 is_static access = bit_and access 8 == 8
 
 abbrev pub declared : List Const → Member → Declared
-declared pool m = record { name = or_empty (text_at pool m.name); descriptor = or_empty (text_at pool m.descriptor); is_static =
-    is_static m.access }
+declared pool m = record {
+  name = or_empty (text_at pool m.name);
+  descriptor = or_empty (text_at pool m.descriptor);
+  is_static =
+      is_static m.access;
+}
 
 -- a class, by what its constants say
 pub record Outline : Type 0 where
@@ -173,13 +177,13 @@ built_members =
     ∷ member (codes "mungo/lib/Session") (codes "sendInt") (codes "(Ljava/lang/String;Ljava/lang/String;I)V") 184 built.SendInt
     ∷ member (codes "mungo/lib/Session") (codes "sendBoolean") (codes "(Ljava/lang/String;Ljava/lang/String;Z)V") 184 built.SendTruth
     ∷ member (codes "mungo/lib/Session") (codes "sendString") (codes "(Ljava/lang/String;Ljava/lang/String;Ljava/lang/String;)V") 184
-        built.SendText
+    built.SendText
     ∷ member (codes "mungo/lib/Session") (codes "look") (codes "(Ljava/lang/String;)Ljava/lang/String;") 184 built.Look
     ∷ member (codes "mungo/lib/Session") (codes "take") (codes "(Ljava/lang/String;Ljava/lang/String;)V") 184 built.Take
     ∷ member (codes "mungo/lib/Session") (codes "takeInt") (codes "(Ljava/lang/String;Ljava/lang/String;)I") 184 built.TakeInt
     ∷ member (codes "mungo/lib/Session") (codes "takeBoolean") (codes "(Ljava/lang/String;Ljava/lang/String;)Z") 184 built.TakeTruth
     ∷ member (codes "mungo/lib/Session") (codes "takeString") (codes "(Ljava/lang/String;Ljava/lang/String;)Ljava/lang/String;") 184
-        built.TakeText
+    built.TakeText
     ∷ member (codes "mungo/lib/Session") (codes "refuse") (codes "(Ljava/lang/String;Ljava/lang/String;)V") 184 built.Refuse
     ∷ []
 

@@ -154,7 +154,7 @@ abbrev pub makes : Program → Messages → Machine → ℕ → List Value → S
 makes p q m class rest =
     tells q (seen.Made (length m.heap) (class_name p class))
     (next (record m { heap = m.heap ++ record { class = class; fields = map blank (fields_in (class_at p class)) } ∷ [] })
-        (rest ++ values.Object (length m.heap) ∷ []))
+    (rest ++ values.Object (length m.heap) ∷ []))
 
 -- the frame of a method: its arguments are the first locals, and the others are unset
 abbrev pub entered : Program → ℕ → ℕ → List Value → Option ℕ → Frame

@@ -207,8 +207,11 @@ returned (Some sort) result = Returned sort result ∷ []
 -- the frame that a value is returned to
 abbrev pub returning : Program → List Frame → Option Sort → Needs → Needs
 returning p [] sort n = record n { operands = 0; max_stack = 0 }
-returning p (f ∷ fs) sort n = record n { operands = length f.operands + length (returned sort None); max_stack =
-    max_stack_in (method_of_frame p f) }
+returning p (f ∷ fs) sort n = record n {
+  operands = length f.operands + length (returned sort None);
+  max_stack =
+      max_stack_in (method_of_frame p f);
+}
 
 abbrev pub return_needs : Program → Machine → Option Sort → Option FieldType → Needs
 return_needs p m sort result =

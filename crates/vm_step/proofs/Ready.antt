@@ -39,8 +39,14 @@ nothing_wrong : (n : Needs) (m : Machine) (found : List (Option BadKind)) → le
     some_of is_kind found ≡ false → n.locals ≤ n.of_locals → some_of is_member found ≡ false → n.returns ≡ true → n.operands ≤ n.max_stack →
     None ≡ wrong_by n m found
 nothing_wrong n m found enough kinds locals members returns room =
-    sym (rw (not_below (length m.frame.operands) (length n.takes) enough, kinds, not_below n.of_locals n.locals locals, members, returns,
-        not_below n.max_stack n.operands room) refl)
+    sym (rw (
+      not_below (length m.frame.operands) (length n.takes) enough,
+      kinds,
+      not_below n.of_locals n.locals locals,
+      members,
+      returns,
+      not_below n.max_stack n.operands room,
+    ) refl)
 
 int_is : (o : Option Value) (x : ℤ) → Some x ≡ int_in o → o ≡ Some (values.Int x)
 int_is (Some (values.Int y)) x e = cc
@@ -133,7 +139,7 @@ module _ (max : ℕ) (m m' : Machine) where
       λ p most me q.
           store_is p q m me sort local
           (nothing_wrong (needs p m (Store sort local)) m (None ∷ misfits p m.heap (model.Sorted sort ∷ []) (on_top 1 m.frame.operands))
-              some
+          some
           (ap (λ l. some_of is_kind (None ∷ misfits p m.heap (model.Sorted sort ∷ []) l)) (top_one m.frame.operands v some top)
           ∙ ap (λ o. some_of is_kind (None ∷ o ∷ [])) fits)
           (omega arith)
@@ -152,7 +158,7 @@ module _ (max : ℕ) (m m' : Machine) where
           (ap (λ l. some_of is_kind (None ∷ misfits p m.heap (model.Any ∷ []) l)) (top_one m.frame.operands t.value some t.is))
           (omega arith)
           (ap (λ l. some_of is_member (None ∷ misfits p m.heap (model.Any ∷ []) l)) (top_one m.frame.operands t.value some t.is)) refl
-              (omega arith))
+          (omega arith))
           ∙ ap (λ n. Went n q None) (sym is),
     )
 
@@ -166,7 +172,7 @@ module _ (max : ℕ) (m m' : Machine) where
           (ap (λ l. some_of is_kind (None ∷ misfits p m.heap (model.Any ∷ []) l)) (top_one m.frame.operands v some top))
           (omega arith)
           (ap (λ l. some_of is_member (None ∷ misfits p m.heap (model.Any ∷ []) l)) (top_one m.frame.operands v some top)) refl
-              (omega arith))
+          (omega arith))
           ∙ doubles q m m' m.frame.operands v w top same is,
     )
 
@@ -197,7 +203,7 @@ module _ (max : ℕ) (m m' : Machine) where
         λ p most me q.
             if_zero_is p q m me comparison target
             (nothing_wrong (needs p m (IfZero comparison target)) m
-                (None ∷ misfits p m.heap (model.number ∷ []) (on_top 1 m.frame.operands)) some
+            (None ∷ misfits p m.heap (model.number ∷ []) (on_top 1 m.frame.operands)) some
             (found p is_kind refl) (omega arith) (found p is_member refl) refl (omega arith))
             ∙ ap (on_zero_by q m comparison target (below 1 m.frame.operands)) (sym int)
             ∙ ap (λ k. Went (at_place m k (below 1 m.frame.operands)) q None) (sym to) ∙ ap (λ n. Went n q None) (sym is),
@@ -211,7 +217,7 @@ module _ (max : ℕ) (m m' : Machine) where
         λ p most me q.
             switch_is p q m me default low targets
             (nothing_wrong (needs p m (Switch default low targets)) m
-                (None ∷ misfits p m.heap (model.number ∷ []) (on_top 1 m.frame.operands)) some
+            (None ∷ misfits p m.heap (model.number ∷ []) (on_top 1 m.frame.operands)) some
             (found p is_kind refl) (omega arith) (found p is_member refl) refl (omega arith))
             ∙ ap (switches_by q m default low targets (below 1 m.frame.operands)) (sym int)
             ∙ ap (λ k. Went (at_place m k (below 1 m.frame.operands)) q None) (sym to) ∙ ap (λ n. Went n q None) (sym is),
@@ -226,7 +232,7 @@ module _ (max : ℕ) (m m' : Machine) where
       λ p most me q.
           if_null_is p q m me wanted target
           (nothing_wrong (needs p m (IfNull wanted target)) m (None ∷ misfits p m.heap (model.Sorted Reference ∷ [])
-              (on_top 1 m.frame.operands)) some
+          (on_top 1 m.frame.operands)) some
           (ap (λ l. some_of is_kind (None ∷ misfits p m.heap (model.Sorted Reference ∷ []) l)) (top_one m.frame.operands v some top)
           ∙ ap (λ o. some_of is_kind (None ∷ o ∷ [])) fits)
           (omega arith)
@@ -243,7 +249,7 @@ module _ (max : ℕ) (m m' : Machine) where
     found_two p test none =
         ap (λ l. some_of test (None ∷ misfits p m.heap (model.number ∷ model.number ∷ []) l))
         (top_two m.frame.operands (values.Int x) (values.Int y) some (int_is (at_top m.frame.operands 1) x first)
-            (int_is (at_top m.frame.operands 0) y second))
+        (int_is (at_top m.frame.operands 0) y second))
         ∙ (rw none refl)
 
     pub compute_alone : (operation : Operation) (z : ℤ) → Some z ≡ computed operation x y → length m.frame.operands - 1 ≤ max →
@@ -253,7 +259,7 @@ module _ (max : ℕ) (m m' : Machine) where
       λ p most me q.
           compute_is p q m me operation
           (nothing_wrong (needs p m (Compute operation)) m (None ∷ misfits p m.heap (model.number ∷ model.number ∷ [])
-              (on_top 2 m.frame.operands)) some
+          (on_top 2 m.frame.operands)) some
           (found_two p is_kind refl) (omega arith) (found_two p is_member refl) refl (omega arith))
           ∙ ap (λ o. computes_by q m operation (below 2 m.frame.operands) o (int_in (at_top m.frame.operands 0))) (sym first)
           ∙ ap (computes_by q m operation (below 2 m.frame.operands) (Some x)) (sym second)
@@ -268,7 +274,7 @@ module _ (max : ℕ) (m m' : Machine) where
       λ p most me q.
           if_both_is p q m me comparison target
           (nothing_wrong (needs p m (IfBoth comparison target)) m (None ∷ misfits p m.heap (model.number ∷ model.number ∷ [])
-              (on_top 2 m.frame.operands)) some
+          (on_top 2 m.frame.operands)) some
           (found_two p is_kind refl) (omega arith) (found_two p is_member refl) refl (omega arith))
           ∙ ap (λ o. on_both_by q m comparison target (below 2 m.frame.operands) o (int_in (at_top m.frame.operands 0))) (sym first)
           ∙ ap (on_both_by q m comparison target (below 2 m.frame.operands) (Some x)) (sym second)

@@ -16,7 +16,7 @@ SameMethod m m' = (m'.frame.class ≡ m.frame.class) × (m'.frame.method ≡ m.f
 abbrev pub Alone : (max : ℕ) → Action → (m m' : Machine) → Bool → Type 0
 Alone max a m m' true =
     SameMethod m m' × ((p : Program) → max_stack_in (method_of_frame p m.frame) ≡ max → (me : ℕ) (q : Messages) →
-        act p q m me a ≡ Went m' q None)
+    act p q m me a ≡ Went m' q None)
 Alone max a m m' false = m' ≡ m
 
 -- a step that is taken alone
@@ -27,7 +27,7 @@ StepAlone p m m' = (me : ℕ) (q : Messages) → step p me m q ≡ Went m' q Non
 abbrev pub NextAlone : (max : ℕ) → List Instr → (m m' : Machine) → Bool → Type 0
 NextAlone max code m m' true =
     SameMethod m m' × ((p : Program) → max_stack_in (method_of_frame p m.frame) ≡ max → code_in (method_of_frame p m.frame) ≡ code →
-        StepAlone p m m')
+    StepAlone p m m')
 NextAlone max code m m' false = m' ≡ m
 
 -- so many of them, one after another

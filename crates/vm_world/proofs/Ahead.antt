@@ -97,7 +97,7 @@ module _ (p : Program) where
   -- the world is that of the turns where no role that is there is ahead
   pub caught_up : (w now : World) (ahead : List ℕ) → WorldAhead p w ahead now →
       ((r k : ℕ) (before after : Role) → slice_get w.roles r ≡ Some before → get_or ahead r 0 ≡ suc k → RoleAlone p before (suc k) after →
-          ⊥) → now ≡ w
+      ⊥) → now ≡ w
   caught_up w now ahead h none =
       ap (λ l. record { roles = l; messages = now.messages; events = now.events }) (same_at_each now.roles w.roles each)
       ∙ ap (λ q. record { roles = w.roles; messages = q; events = now.events }) h.messages
@@ -138,7 +138,7 @@ module _ (p : Program) where
           some_is (sym (set_here roles r before lt) ∙ ap (slice_get (slice_set roles r before)) (sym is.1) ∙ at) in
           let second : after ≡ y =
           some_is (sym (set_here now r after (subst (λ n. r < n) (sym h.many) lt)) ∙ ap (slice_get (slice_set now r after)) (sym is.1) ∙ bt)
-              in
+          in
           let steps : k ≡ get_or (set ahead r k) i 0 =
           sym (ap (λ j. get_or (set ahead r k) j 0) is.1 ∙ get_or-set_same ahead r k 0 (subst (λ n. r < n) (sym h.as_many) lt)) in
           subst (λ (b : Role). RoleAlone p b (get_or (set ahead r k) i 0) y) first

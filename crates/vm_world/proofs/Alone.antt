@@ -44,15 +44,15 @@ module _ (p : Program) (w : World) (r : ℕ) where
       let u : World = with_role w r (running x count) in
       let here : slice_get u.roles r ≡ Some (running x count) = get_set w.roles r before (running x count) at in
       let made : turn p u r ≡ stepped u r count (Went n u.messages None) = ap (turn_at p u r) here ∙ ap (stepped u r count)
-            (one r u.messages) in
+      (one r u.messages) in
       let goes : with_role w r (running n (suc count)) ≡ turn p u r =
       ap (λ l. record { roles = l; messages = w.messages; events = w.events })
-          (sym (set_set w.roles r (running x count) (running n (suc count))))
+      (sym (set_set w.roles r (running x count) (running n (suc count))))
       ∙ ap (λ es. record { roles = slice_set u.roles r (running n (suc count)); messages = w.messages; events = es })
-          (sym (append-nil w.events))
+      (sym (append-nil w.events))
       ∙ sym made in
       let answer : Some answers.Went ≡ turned p u r =
-            sym (ap (turned_at p u r) here ∙ ap (λ (s : Stepped). Some (turned_by s)) (one r u.messages)) in
+      sym (ap (turned_at p u r) here ∙ ap (λ (s : Stepped). Some (turned_by s)) (one r u.messages)) in
       subst (λ (v : World). Advances p u r v true) (sym goes) (went p u r answer)
 
   turns_of : (m : Machine) (count k : ℕ) (n : Machine) → slice_get w.roles r ≡ Some (running m count) → AllAlone p m k n →

@@ -9,7 +9,7 @@ use Rattle.std.proofs.Math.Nat.{div-add-mod', mul-add-mod_self_right}
 mod_more : (k t n : ℕ) → (k % n + t) % n ≡ (k + t) % n
 mod_more k t n =
     sym (ap (λ m. m % n) (let e : k + t ≡ k / n * n + (k % n + t) = omega (arith, div-add-mod' k n) in e) ∙ mul-add-mod_self_right (k / n) n
-        (k % n + t))
+    (k % n + t))
 
 -- a whole cycle on is the same place
 mod_whole : (k n : ℕ) → (k + n) % n ≡ k % n

@@ -28,7 +28,7 @@ pub record Going (p : Program) (first : World) (order : List ℕ) (limit : ℕ) 
 next_mod : (k n : ℕ) → 0 < n → (k % n + 1) % n ≡ suc k % n
 next_mod k n pos =
     sym (ap (λ m. m % n) (let e : suc k ≡ k / n * n + (k % n + 1) = omega (arith, div-add-mod' k n) in e) ∙ mul-add-mod_self_right (k / n) n
-        (k % n + 1))
+    (k % n + 1))
 
 module _ (p : Program) (first : World) (order : List ℕ) (limit : ℕ) where
   pub begin : (now : Seen) → now.program ≡ p → now.world ≡ first → counted first ≡ 0 → Going p first order limit now limit 0 0
@@ -140,7 +140,7 @@ module _ (p : Program) (first : World) (order : List ℕ) (limit : ℕ) where
         let fewer : left - suc k - 1 ≡ left - suc (suc k) = omega arith in
         subst (λ n. Going p first order limit after n 0 next) fewer
         (following_count s (left - suc k) 0 next (in_a_row k s refl t (omega (arith, le))) some role at after next same a stays
-            (omega (arith, le)))
+        (omega (arith, le)))
 
     pub following_row : (k : ℕ) (after : Seen) → after.program ≡ now.program → Counts now.program now.world role k after.world → 0 < k →
         k ≤ left →

@@ -15,12 +15,12 @@ use Rattle.vm_world.proofs.Going.{Going, begin, in_order, following_idle, follow
 
 -- the moment of the turns that were counted, and the world that is ahead of it
 pub record Several (p : Program) (first : World) (order : List ℕ) (limit : ℕ) (now : Seen) (ahead : List ℕ) (left idle next : ℕ) : Type 0
-    where
-  pub so_far : World
-  pub going : Going p first order limit (record { program = p; world = so_far }) left idle next
-  pub program : now.program ≡ p
-  pub world : WorldAhead p so_far ahead now.world
-  pub due : AllDue order next left ahead
+  where
+    pub so_far : World
+    pub going : Going p first order limit (record { program = p; world = so_far }) left idle next
+    pub program : now.program ≡ p
+    pub world : WorldAhead p so_far ahead now.world
+    pub due : AllDue order next left ahead
 
 zero_there : (n r : ℕ) → get_or {A = ℕ} (replicate n 0) r 0 ≡ 0
 zero_there zero r = refl

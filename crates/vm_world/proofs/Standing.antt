@@ -53,7 +53,7 @@ module _ (p : Program) (w : World) (r : ℕ) where
       Some None ≡ option_map ending_in (slice_get w.roles r) → s ≡ waiting_in names o → Some s ≡ stand_at p w r
   running_is names o s same is h waiting =
       ap (λ x. Some x) (waiting ∙ ap (λ l. waiting_in l o) (sym same) ∙ named_wait o ∙ ap (waiting_for w) is) ∙
-          running_stand (slice_get w.roles r) h
+      running_stand (slice_get w.roles r) h
 
   -- whoever waits, waits for one of these roles
   pub peer_within : (mains : List RoleMain) (o : Option ℕ) → w.messages.roles ≡ map (λ m. m.role) mains → o ≡ waits p w r →
@@ -81,7 +81,7 @@ module _ (p : Program) (w : World) where
   stands_more r (y ∷ xs) x =
       ap (λ l. stand_of p w r y.state ∷ l) (stands_more (suc r) xs x
       ∙ ap (λ k. stands_from p w (suc r) xs ++ stand_of p w k x.state ∷ []) (let e : suc r + length xs ≡ r + suc (length xs) = omega arith
-          in e))
+      in e))
 
   -- what is told of the first roles
   pub record RanSoFar (k : ℕ) (ran : List RoleRan) : Type 0 where
@@ -105,7 +105,7 @@ module _ (p : Program) (w : World) where
   -- one role more
   pub ran_more : (k : ℕ) (old new : List RoleRan) (ran : RoleRan) → new ≡ old ++ ran ∷ [] →
       Some ran.instructions ≡ option_map (λ r. r.count) (slice_get w.roles k) → Some ran.stand ≡ stand_at p w k → RanSoFar k old →
-          RanSoFar (k + 1) new
+      RanSoFar (k + 1) new
   ran_more k old new ran grown count stand h = go (slice_get w.roles k) refl
     where
       none : slice_get w.roles k ≡ None → RanSoFar (k + 1) new
@@ -119,12 +119,12 @@ module _ (p : Program) (w : World) where
           take_more w.roles k role lt ∙ ap (λ (x : Role). take k w.roles ++ x ∷ []) (get_or_from_slice_get w.roles k role role at) in
           let same_count : ran.instructions ≡ role.count = some_is (count ∙ ap (option_map (λ (r : Role). r.count)) at) in
           let same_stand : ran.stand ≡ stand_of p w k role.state =
-                some_is (stand ∙ ap (option_map (λ (r : Role). stand_of p w k r.state)) at) in
+          some_is (stand ∙ ap (option_map (λ (r : Role). stand_of p w k r.state)) at) in
           let long : length (take k w.roles) ≡ k = taken_long k w.roles (omega (arith, lt)) in
           record {
             counts = ap (map (λ (r : RoleRan). r.instructions)) grown ∙ map-append (λ (r : RoleRan). r.instructions) old (ran ∷ [])
                 ∙ ap (λ l. l ++ ran.instructions ∷ []) h.counts ∙ ap (λ n. map (λ (r : Role). r.count) (take k w.roles) ++ n ∷ [])
-                    same_count
+                same_count
                 ∙ sym (map-append (λ (r : Role). r.count) (take k w.roles) (role ∷ [])) ∙ ap (map (λ (r : Role). r.count)) (sym taken);
             stands = ap (map (λ (r : RoleRan). r.stand)) grown ∙ map-append (λ (r : RoleRan). r.stand) old (ran ∷ [])
                 ∙ ap (λ l. l ++ ran.stand ∷ []) h.stands ∙ ap (λ s. stands_from p w 0 (take k w.roles) ++ s ∷ []) same_stand

@@ -24,8 +24,12 @@ set_same (y ∷ xs) (suc i) x at = ap (λ l. y ∷ l) (set_same xs i x at)
 
 -- the world with what a turn made of it
 abbrev pub with_outcome : World → ℕ → Outcome → World
-with_outcome w r o = record { roles = slice_set w.roles r o.role; messages = o.messages; events =
-    w.events ++ map (of_role r) (noted o.event) }
+with_outcome w r o = record {
+  roles = slice_set w.roles r o.role;
+  messages = o.messages;
+  events =
+      w.events ++ map (of_role r) (noted o.event);
+}
 
 module _ (p : Program) (w : World) (r : ℕ) (role : model.Role) (at : slice_get w.roles r ≡ Some role) where
   nothing : w ≡ record { roles = w.roles; messages = w.messages; events = w.events ++ [] }
@@ -40,8 +44,12 @@ module _ (p : Program) (w : World) (r : ℕ) (role : model.Role) (at : slice_get
       ∙ ap (λ l. record { roles = l; messages = w.messages; events = w.events ++ [] })
       (sym (set_same w.roles r (record { state = Runs m; count = role.count }) (at ∙ ap (λ x. Some x) same)))
   by_step m (Stops ending) is =
-      ap (λ es. record { roles = slice_set w.roles r (record { state = Over ending; count = suc role.count }); messages =
-          w.messages; events = es })
+      ap (λ es. record {
+        roles = slice_set w.roles r (record { state = Over ending; count = suc role.count });
+        messages =
+            w.messages;
+        events = es;
+      })
       (sym (Rattle.std.proofs.Common.append-nil w.events))
 
   by_state : (state : State) → role.state ≡ state → turn_in p w r role.count state ≡ with_outcome w r

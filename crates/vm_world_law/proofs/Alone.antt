@@ -106,7 +106,7 @@ module _ (p : Program) (first : World) (fresh : IsFresh first) where
           slice_get w.roles r ≡ Some other → (later : ℕ → List Sent) (begun : Messages) →
           Begin (behind w s (slice_set w.roles s (record { state = Runs n; count = suc role.count })) q e) r later begun →
           ComesAlone p (behind w s (slice_set w.roles s (record { state = Runs n; count = suc role.count })) q e) r later start begun
-              other.count other.state
+          other.count other.state
       others_alone r start other apart begins stands later begun begin =
           turn_to other.state (kept.alone r start other begins stands sooner begun begin')
         where
@@ -136,7 +136,7 @@ module _ (p : Program) (first : World) (fresh : IsFresh first) where
 
           turn_to : (state : State) → ComesAlone p w r sooner start begun other.count state →
               ComesAlone p (behind w s (slice_set w.roles s (record { state = Runs n; count = suc role.count })) q e) r later start begun
-                  other.count state
+              other.count state
           turn_to (Runs x) h = record {
             messages = h.messages;
             steps = subst (λ es. Steps (step p r) start begun other.count es x h.messages) (sym same_events) h.steps;
@@ -154,7 +154,7 @@ module _ (p : Program) (first : World) (fresh : IsFresh first) where
           (later : ℕ → List Sent) (begun : Messages) →
           Begin (behind w s (slice_set w.roles s (record { state = Runs n; count = suc role.count })) q e) s later begun →
           Arrives p (behind w s (slice_set w.roles s (record { state = Runs n; count = suc role.count })) q e) s later start begun
-              (suc role.count) n
+          (suc role.count) n
       own_alone start begins later begun begin =
           let begin' : Begin w s later begun = record {
             roles = begin.roles ∙ names_same;
@@ -190,24 +190,24 @@ module _ (p : Program) (first : World) (fresh : IsFresh first) where
         where
           go : (r : ℕ) (start : Machine) (other : Role) → slice_get first.roles r ≡ Some (record { state = Runs start; count = 0 }) →
               slice_get (slice_set w.roles s (record { state = Runs n; count = suc role.count })) r ≡ Some other →
-                  (later : ℕ → List Sent) (begun : Messages) →
+              (later : ℕ → List Sent) (begun : Messages) →
               Begin (behind w s (slice_set w.roles s (record { state = Runs n; count = suc role.count })) q e) r later begun →
               ((r == s) ≡ true) × (r ≡ s) ⊎ ((r == s) ≡ false) × (r ≢ s) →
               ComesAlone p (behind w s (slice_set w.roles s (record { state = Runs n; count = suc role.count })) q e) r later start begun
-                  other.count other.state
+              other.count other.state
           go r start other begins stands later begun begin (inl is) =
               let here : Some (record { state = Runs n; count = suc role.count }) ≡ Some other =
               sym (set_here w.roles s (record { state = Runs n; count = suc role.count }) (got_within w.roles s role at))
               ∙ ap (λ k. slice_get (slice_set w.roles s (record { state = Runs n; count = suc role.count })) k) (sym is.1) ∙ stands in
               subst (λ x. ComesAlone p (behind w s (slice_set w.roles s (record { state = Runs n; count = suc role.count })) q e) r later
-                  start begun x.count x.state)
+              start begun x.count x.state)
               (some_is here)
               (subst (λ k. ComesAlone p (behind w s (slice_set w.roles s (record { state = Runs n; count = suc role.count })) q e) k later
-                  start begun (suc role.count) (Runs n))
+              start begun (suc role.count) (Runs n))
               (sym is.1)
               (own_alone start (ap (λ k. slice_get first.roles k) (sym is.1) ∙ begins) later begun
               (subst (λ k. Begin (behind w s (slice_set w.roles s (record { state = Runs n; count = suc role.count })) q e) k later begun)
-                  is.1 begin)))
+              is.1 begin)))
           go r start other begins stands later begun begin (inr is) =
               others_alone r start other is.1 begins
               (sym (set_there w.roles s r (record { state = Runs n; count = suc role.count }) is.1) ∙ stands) later begun begin
@@ -269,7 +269,7 @@ module _ (p : Program) (first : World) (fresh : IsFresh first) where
           go r start other begins stands later begun begin (inr is) =
               same_alone r later start begun other.count other.state
               (kept.alone r start other begins (sym (set_there w.roles s r (record { state = Over ending; count = suc role.count }) is.1) ∙
-                  stands) later begun
+              stands) later begun
               (same_world r later begun begin))
 
     stepped_kept : (m : Machine) (out : Stepped) → role.state ≡ Runs m → step p s m w.messages ≡ out → MovesTo s w.messages out →

@@ -57,6 +57,11 @@ begun_is_fresh p mains w h =
       },
       λ r main at.
           let s = starts_there p mains w.roles r main h.roles at in
-          record { start = s.0; starts = s.1; role = s.2; name = ap (λ (l : List Name). or_nothing (slice_get l r)) names ∙ name_there mains
-              r main at },
+          record {
+            start = s.0;
+            starts = s.1;
+            role = s.2;
+            name = ap (λ (l : List Name). or_nothing (slice_get l r)) names ∙ name_there mains
+                r main at;
+          },
     )

@@ -269,8 +269,12 @@ module _ (roles : List Name) (me : ℕ) where
         go : (o : Option ℕ) → other_role me (position (bytes_eq peer) roles) ≡ o →
             DoesOne roles me (λ q. Step.refuses_from peer found (other_role me (role_named q peer)))
         go None is = record { doing = Ends _; right = tt; is = λ q same. ap (Step.refuses_from peer found) (named peer None is q same) }
-        go (Some from) is = record { doing = Ends _; right = tt; is = λ q same. ap (Step.refuses_from peer found)
-            (named peer (Some from) is q same) }
+        go (Some from) is = record {
+          doing = Ends _;
+          right = tt;
+          is = λ q same. ap (Step.refuses_from peer found)
+              (named peer (Some from) is q same);
+        }
 
     refuses : (vs : List Value) → DoesOne roles me (λ q. Step.refuses q me vs)
     refuses (values.Text peer ∷ values.Text found ∷ []) = refuses_from peer found

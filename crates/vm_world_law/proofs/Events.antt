@@ -31,7 +31,7 @@ own : (r : ℕ) (es : List Event) → events_of r (map (of_role r) es) ≡ es
 own r [] = refl
 own r (e ∷ es) =
     ap (λ b. if b then e ∷ events_of r (map (of_role r) es) else events_of r (map (of_role r) es)) (eq-eqb r r refl) ∙
-        ap (λ l. e ∷ l) (own r es)
+    ap (λ l. e ∷ l) (own r es)
 
 others : (r s : ℕ) (es : List Event) → r ≢ s → events_of r (map (of_role s) es) ≡ []
 others r s [] n = refl

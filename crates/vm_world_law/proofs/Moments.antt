@@ -145,7 +145,7 @@ module _ (p : Program) (first : World) (order : List ℕ) (limit : ℕ) where
         go : (j : ℕ) → j < suc (k + idle) → (leb k j ≡ true) × (k ≤ j) ⊎ (leb k j ≡ false) × (j < k) → StopsAt p limit (after j) → ⊥
         go j lt (inl ge) stops =
             not (subst (StopsAt p limit) (ap after (let e : j ≡ k + (j - k) = omega (arith, ge.1) in e) ∙ same_since (j - k)
-                (omega (arith, ge.1, lt))) stops)
+            (omega (arith, ge.1, lt))) stops)
         go j lt (inr less) stops = m.no_sooner j less.1 stops
 
     -- as many still turns as the order is long

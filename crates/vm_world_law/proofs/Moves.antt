@@ -149,6 +149,6 @@ module _ (me : ℕ) (later : ℕ → List Sent) where
   steps_alike p m q q' _ _ _ _ h none = record { messages = q'; steps = none; longer = h }
   steps_alike p m q q' _ _ n left h (more {m' = m1} {q' = q1} {e = e} {k = k} {events = events} first rest) =
       let alike : GoesAlike me later (Went m1 q1 e) (step p me m q') = subst (λ s. GoesAlike me later s (step p me m q')) first
-            (step_alike p m q q' h) in
+      (step_alike p m q q' h) in
       let on = steps_alike p m1 q1 alike.0 k events n left alike.2 rest in
       record { messages = on.messages; steps = more alike.1 on.steps; longer = on.longer }

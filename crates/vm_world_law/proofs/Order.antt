@@ -214,9 +214,9 @@ module _ (p : Program) (first : World) where
           y.1
           ∙ ap (λ z. Some z) (final_same (step p r) b.0 (held w r) (events_of r v.events) (events_of r w.events) y.0 x.0
           (final_of v r b.0 (held w r) y.0.count y.0.state (kept'.alone r b.0 y.0 started y.1 none_later (held w r) begin)
-              (rests' r y.0 y.1))
+          (rests' r y.0 y.1))
           (final_of w r b.0 (held w r) x.0.count x.0.state (kept.alone r b.0 x.0 started x.1 none_later (held w r) (held_all w r within))
-              (rests r x.0 x.1)))
+          (rests r x.0 x.1)))
           ∙ sym x.1
 
       pub same_all : SameForAll v w
@@ -259,6 +259,6 @@ pub orders_agree : OrdersAgree
 orders_agree p first fresh order other limit bound v w a b rests rests' =
     let both = order_is_free p first fresh (first_turns other b.taken) (first_turns order a.taken) (subst (Rests p) b.is rests') in
     let same : SameForAll v w = subst (λ x. SameForAll x w) (sym a.is)
-          (subst (λ x. SameForAll (turns p first (first_turns order a.taken)) x) (sym b.is)
+    (subst (λ x. SameForAll (turns p first (first_turns order a.taken)) x) (sym b.is)
     (both.1 (subst (Rests p) a.is rests))) in
     (same, stands_alike p v w same.messages 0 v.roles ∙ ap (stands_from p w 0) same.roles)

@@ -44,12 +44,12 @@ led_same m n q r a b h = record { machine = cc; messages = cc; event = cc }
 module _ (next : Machine → Messages → Stepped) where
   -- a run goes on behind another
   pub record GoesOn (n : Machine) (r : Messages) (k : ℕ) (es : List Event) (n' : Machine) (r' : Messages) (l : ℕ) (fs : List Event) : Type 0
-      where
-    pub left : ℕ
-    pub events : List Event
-    pub leads : Steps next n r left events n' r'
-    pub count : l ≡ k + left
-    pub all : fs ≡ es ++ events
+    where
+      pub left : ℕ
+      pub events : List Event
+      pub leads : Steps next n r left events n' r'
+      pub count : l ≡ k + left
+      pub all : fs ≡ es ++ events
 
   one_more : (n : Machine) (r : Messages) (k : ℕ) (es : List Event) (n' : Machine) (r' : Messages) (l : ℕ) (fs : List Event)
       (e : Option Event) →
@@ -72,12 +72,12 @@ module _ (next : Machine → Messages → Stepped) where
       (more {m' = c} {q' = d} {e = y} {k = l} {events = fs} first' rest') =
       let led = led_same a c b d x y (sym first ∙ first') in
       let run : Steps next a b l fs n' r' = subst (λ z. Steps next z b l fs n' r') led.machine
-            (subst (λ z. Steps next c z l fs n' r') led.messages rest') in
+      (subst (λ z. Steps next c z l fs n' r') led.messages rest') in
       go (compare a b k es n r l fs n' r' rest run) led.event
     where
       go : GoesOn n r k es n' r' l fs ⊎ GoesOn n' r' l fs n r k es → x ≡ y →
           GoesOn n r (suc k) (noted x ++ es) n' r' (suc l) (noted y ++ fs) ⊎ GoesOn n' r' (suc l) (noted y ++ fs) n r (suc k)
-              (noted x ++ es)
+          (noted x ++ es)
       go (inl h) e = inl (subst (λ o. GoesOn n r (suc k) (noted x ++ es) n' r' (suc l) (noted o ++ fs)) e
           (one_more n r k es n' r' l fs x h))
       go (inr h) e = inr (subst (λ o. GoesOn n' r' (suc l) (noted o ++ fs) n r (suc k) (noted x ++ es)) e
@@ -131,7 +131,7 @@ module _ (next : Machine → Messages → Stepped) (start : Machine) (q : Messag
   pub final_same : (es fs : List Event) (role other : Role) → Final es role → Final fs other → role ≡ other
   final_same es fs role other f g =
       go (compare next start q f.shows.steps es f.shows.last f.shows.left g.shows.steps fs g.shows.last g.shows.left f.shows.leads
-          g.shows.leads)
+      g.shows.leads)
     where
       at_same : (k l : ℕ) (m n : Machine) (a b : Messages) (x y : Stepped) → l ≡ k → n ≡ m → b ≡ a → next m a ≡ x → next n b ≡ y →
           standing k m x ≡ standing l n y

@@ -51,7 +51,7 @@ messages_by q r square square' roles ways =
         let row : x.0 ≡ y.0 = same_within x.0 y.0 (length r.roles) long long' (λ to tt.
         got x.0 y.0 to (subst (λ n. to < n) (sym long) tt) (subst (λ n. to < n) (sym long') tt)
         (sym (ap (λ o. or_nothing (slice_get (or_nothing o) to)) x.1) ∙ ways from to lt tt ∙
-            ap (λ o. or_nothing (slice_get (or_nothing o) to)) y.1)) in
+        ap (λ o. or_nothing (slice_get (or_nothing o) to)) y.1)) in
         x.1 ∙ ap (λ z. Some z) row ∙ sym y.1
 
 module _ (p : Program) (first : World) (v : World) (kept' : Kept p first v) (w : World) (kept : Kept p first w) where

@@ -30,8 +30,11 @@ turns_count p w r = go (slice_get w.roles r) refl
         (stepped w r role.count out ≡ w) × StillAt p w r ⊎ (counted (stepped w r role.count out) ≡ suc (counted w))
     by_step role m (Went n q e) at running is = inr (counted_set w.roles r role (record { state = Runs n; count = suc role.count }) at refl)
     by_step role m (Waits peer) at running is =
-        inl (refl, λ other there. subst (λ x. IsStill p w r x.state) (some_is (sym at ∙ there))
-            (subst (IsStill p w r) (sym running) (peer, is)))
+        inl (
+          refl,
+          λ other there. subst (λ x. IsStill p w r x.state) (some_is (sym at ∙ there))
+              (subst (IsStill p w r) (sym running) (peer, is)),
+        )
     by_step role m (Stops ending) at running is = inr (counted_set w.roles r role (record { state = Over ending; count = suc role.count })
         at refl)
 

@@ -92,7 +92,7 @@ module _ (p : Program) (first : World) where
         slice_get v.roles r ≡ slice_get w.roles r → Alike (turn_in p v r count state) (turn_in p w r count state) r
     turned_state count (Runs m) free lw lv stands =
         turned_step count (step p r m w.messages) (step p r m v.messages) free (step_alike r same.later p m w.messages v.messages
-            same.longer) lw lv
+        same.longer) lw lv
     turned_state count (Over ending) free lw lv stands = record { stands = stands; events = same.events }
 
     turned : waits p w r ≡ None → Alike (turn p v r) (turn p w r) r
@@ -103,7 +103,7 @@ module _ (p : Program) (first : World) where
         go None at free = record { stands = same.stands; events = same.events }
         go (Some role) at free =
             turned_state role.count role.state free (got_within w.roles r role at) (got_within v.roles r role (same.stands ∙ at))
-                same.stands
+            same.stands
 
   -- a turn of a role that waits changes nothing
   waiting_turn : (w : World) (r peer : ℕ) → waits p w r ≡ Some peer → turn p w r ≡ w
@@ -195,7 +195,7 @@ module _ (p : Program) (first : World) where
         (λ r lt. subst (λ l. r < length l) (kept_ba.names ∙ sym kept.names) lt) in
         let same : (r : ℕ) → r < length (turn p (turn p w b) a).roles →
         events_of r (turn p (turn p w a) b).events ≡ events_of r (turn p (turn p w b) a).events =
-            (λ r lt. (each r (from_roles r lt)).events) in
+        (λ r lt. (each r (from_roles r lt)).events) in
         record {
           events = same;
           roles = roles_same p first (turn p (turn p w a) b) kept_ab (turn p (turn p w b) a) kept_ba

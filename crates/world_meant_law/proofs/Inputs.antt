@@ -101,14 +101,14 @@ held_holds w r distinct within = record { peers = λ peer. at_peer peer (positio
         PeerHolds (inputs_of w r) (held w r) r [] peer
     by_role peer i is (inl same) =
         unknown (own_inputs w r peer 0 w.messages.roles i distinct (stands_at w.messages.roles peer i is)
-            (let z : 0 + i ≡ i = omega arith in z ∙ same.1))
+        (let z : 0 + i ≡ i = omega arith in z ∙ same.1))
         (ap (λ names. other_role r (position (bytes_eq peer) names)) roles_held
         ∙ ap (other_role r) is ∙ ap (λ (b : Bool). if b then None else Some i) same.0)
     by_role peer i is (inr apart) =
         let z : 0 + i ≡ i = omega arith in
         known (sent w i r) i
         (its_inputs w r peer 0 w.messages.roles i distinct (stands_at w.messages.roles peer i is) (λ e. apart.1 (sym z ∙ e)) ∙
-            ap (λ k. Some (sent w k r)) z)
+        ap (λ k. Some (sent w k r)) z)
         (ap (λ names. other_role r (position (bytes_eq peer) names)) roles_held
         ∙ ap (other_role r) is ∙ ap (λ (b : Bool). if b then None else Some i) apart.0)
         (on_held w r i within (named_within w.messages.roles peer i is))

@@ -41,7 +41,7 @@ module _ (p : Program) (first : World) (w : World) (kept : Kept p first w) (r : 
 
   is_waiting : (from : ℕ) → waits_for p w r ≡ Some from →
       (peer : Name) × (slice_get w.messages.roles from ≡ Some peer) × Means (meant (inputs_of w r)) (suc role.count) (events_of r w.events)
-          (Wait peer)
+      (Wait peer)
   is_waiting from is = by_state role.state alone (sym (ap (waits_at p w r) stands) ∙ is)
     where
       by_step : (m : Machine) (out : Stepped) → step p r m w.messages ≡ out → waits_by out ≡ Some from → step p r m w.messages ≡ Waits from
@@ -55,7 +55,7 @@ module _ (p : Program) (first : World) (w : World) (kept : Kept p first w) (r : 
 
       by_state : (state : State) → ComesAlone p w r none_later start (held w r) role.count state → waits_in p w r state ≡ Some from →
           (peer : Name) × (slice_get w.messages.roles from ≡ Some peer) × Means (meant (inputs_of w r)) (suc role.count)
-              (events_of r w.events) (Wait peer)
+          (events_of r w.events) (Wait peer)
       by_state (Runs m) h at =
           let waits : step p r m w.messages ≡ Waits from = by_step m (step p r m w.messages) refl at in
           let longer : Longer r none_later w.messages h.messages = record { roles = h.left.roles; lists = h.left.lists } in

@@ -87,7 +87,7 @@ numbered after (Some n) = Ok (number n, after)
 abbrev pub number_at : List ℕ → Front
 number_at bytes =
     numbered (drop (span is_ascii_digit bytes) bytes) (number_of (take (span is_ascii_digit bytes) bytes)
-        (drop (span is_ascii_digit bytes) bytes))
+    (drop (span is_ascii_digit bytes) bytes))
 
 -- ---- comments
 

@@ -65,7 +65,7 @@ abbrev mutual
   leaves (Do p loop s c) exit =
       (is_through exit
       && ((not (is_always_true c) && (leaves s Through || for_loop loop (λ l. leaves s (Continues l)))) || for_loop loop
-          (λ l. leaves s (Breaks l))))
+      (λ l. leaves s (Breaks l))))
       || (passes loop exit && leaves s exit)
   leaves (Switch p e groups end) exit =
       (is_through exit && (not (has_default groups) || (leaves_last groups || leaves_some groups (Breaks None))))

@@ -8,4 +8,4 @@ returns-then-end-bytes c =
     let e = length-drop (c.args.end + 1) c.args.bytes.now in
     behind_is c.args.end c.args.bytes.now _ c.if-end-bytes.true
     (take_all (length c.args.bytes.now - (c.args.end + 1)) (drop (c.args.end + 1) c.args.bytes.now) (omega (arith, e)) ∙
-        ap (λ (n : ℕ). drop n c.args.bytes.now) (add-one c.args.end))
+    ap (λ (n : ℕ). drop n c.args.bytes.now) (add-one c.args.end))

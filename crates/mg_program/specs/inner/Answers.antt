@@ -30,7 +30,7 @@ pub data TypeRefusal (names : List (List ℕ)) (sourced : Sourced) (line : List 
       → line ≡ type_line_in names condition place name → TypeRefusal names sourced line
   methods : (condition : Condition) (place : Place) (name : List ℕ) → IsTableFault sourced.program sourced.origins None
       → IsFault sourced.program (Some (condition, culprit place name)) → line ≡ type_line_in names condition place name →
-          TypeRefusal names sourced line
+      TypeRefusal names sourced line
 
 -- no type condition is at fault, or the line of the first that is
 pub record HasNoFault (sourced : Sourced) : Type 0 where

@@ -313,4 +313,4 @@ IsStep given option words step.Barred = can_follow (asked_of given) option ≡ f
 abbrev pub IsRunnable : Input → Asked → List Word → Judged → Type 0
 IsRunnable k asked files result =
     (options : List RunOption) → AreGiven options asked → Keeps k asked.folder →
-        IsJudged (verb_of k ∷ (flat_map option_words options ++ files)) result
+    IsJudged (verb_of k ∷ (flat_map option_words options ++ files)) result

@@ -52,7 +52,7 @@ abbrev mutual
   unmerged me (Says m rest) = unmerged me rest
   unmerged me (Choice place at branches rest) =
       option_or (choice_fault me place (bytes_eq at me) (projected_each me branches))
-          (option_or (unmerged_in me branches) (unmerged me rest))
+      (option_or (unmerged_in me branches) (unmerged me rest))
   unmerged me (Rec place name body rest) = option_or (unmerged me body) (unmerged me rest)
   unmerged me (Continue place name rest) = unmerged me rest
 
@@ -80,8 +80,13 @@ pub record FoundEach : Type 0 where
   pub says : Option local.Branches
 
 abbrev pub found_each : Name → List Name → Branches → FoundEach
-found_each me around bs = record { named = are_named me (said_each bs); reach = reached_in around bs; first = unmerged_in me bs; says =
-    projected_each me bs }
+found_each me around bs = record {
+  named = are_named me (said_each bs);
+  reach = reached_in around bs;
+  first = unmerged_in me bs;
+  says =
+      projected_each me bs;
+}
 
 -- of no statements, and of no branches
 abbrev pub nothing : Found

@@ -43,7 +43,7 @@ abbrev mutual
   does me n (Says m rest) = Passes (message_of m) ∷ does me n rest
   does me n (Choice place at branches rest) =
       look_unless (bytes_eq at me) n branches ++ (does_in me (opened (bytes_eq at me) n) branches
-          ++ does me (next_in me (opened (bytes_eq at me) n) branches) rest)
+      ++ does me (next_in me (opened (bytes_eq at me) n) branches) rest)
   does me n (Rec place name body rest) = does me n body ++ does me (next me n body) rest
   does me n (Continue place name rest) = does me n rest
 
@@ -60,4 +60,4 @@ abbrev pub firsts_of : Name → List Name → List Doing → List Doing
 firsts_of me seen [] = []
 firsts_of me seen (doing ∷ more) =
     first_before (is_some (position (bytes_eq (call_of me doing)) seen)) doing (firsts_of me seen more)
-        (firsts_of me (seen ++ call_of me doing ∷ []) more)
+    (firsts_of me (seen ++ call_of me doing ∷ []) more)

@@ -53,10 +53,18 @@ protocol = record {
         } ∷ [];
         drops = false;
       } ∷
-      record { name = codes "Read"; methods = record { result = written.Void; name = codes "read"; params = []; target = One (tos.State 1) }
-          ∷ []; drops = false } ∷
-      record { name = codes "Close"; methods = record { result = written.Void; name = codes "close"; params = []; target = One tos.End } ∷
-          []; drops = false } ∷
+      record {
+        name = codes "Read";
+        methods = record { result = written.Void; name = codes "read"; params = []; target = One (tos.State 1) }
+            ∷ [];
+        drops = false;
+      } ∷
+      record {
+        name = codes "Close";
+        methods = record { result = written.Void; name = codes "close"; params = []; target = One tos.End } ∷
+            [];
+        drops = false;
+      } ∷
       [];
 }
 
@@ -89,7 +97,7 @@ abbrev methods : List Method
 methods =
     method_of 8 (types.Enum 0) (Then (sets_left (Int q (pos 2))) (Then (Return q (Some (Constant q 0 0))) NoStmt)) ∷
     method_of 9 (types.Enum 1) (Then (If q (Binary q ops.Gt left (Int q (pos 0))) (Block q (Then (Return q (Some (Constant q 1 0))) NoStmt)
-        q))
+    q))
     (Then (Return q (Some (Constant q 1 1))) NoStmt)) ∷
     method_of 10 types.Void (Then (Print q (Binary q ops.Add (Text q (codes "line ")) left))
     (Then (sets_left (Binary q ops.Sub left (Int q (pos 1)))) NoStmt)) ∷
@@ -129,7 +137,7 @@ main_of last = record {
   body = Declare q 0 (New q 0) (Then (Switch q (call 0)
       (Group (Some 0 ∷ []) (Then (Do q 0 (Block q (Then (Switch q (call 1)
       (Group (Some 0 ∷ []) (Then (Eval q (call 2)) (Then (Continue q 0) NoStmt)) q (Group (Some 1 ∷ []) last q NoGroup)) q) NoStmt) q)
-          (Truth q true))
+      (Truth q true))
       (Then (Break q None) NoStmt)) q
       (Group (Some 1 ∷ []) (Then (Break q None) NoStmt) q NoGroup)) q) NoStmt);
 }

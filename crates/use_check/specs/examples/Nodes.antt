@@ -24,10 +24,23 @@ abbrev protocol : Typestate
 protocol = record {
   name = codes "NodeProtocol";
   states =
-      record { name = codes "Fresh"; methods = record { result = written.Void; name = codes "link"; params =
-          written.Int ∷ written.Named (codes "Node") ∷ []; target = One (tos.State 1) } ∷ []; drops = false } ∷
-      record { name = codes "Open"; methods = record { result = written.Void; name = codes "close"; params = []; target = One tos.End } ∷
-          []; drops = false } ∷
+      record {
+        name = codes "Fresh";
+        methods = record {
+          result = written.Void;
+          name = codes "link";
+          params =
+              written.Int ∷ written.Named (codes "Node") ∷ [];
+          target = One (tos.State 1);
+        } ∷ [];
+        drops = false;
+      } ∷
+      record {
+        name = codes "Open";
+        methods = record { result = written.Void; name = codes "close"; params = []; target = One tos.End } ∷
+            [];
+        drops = false;
+      } ∷
       [];
 }
 

@@ -31,8 +31,13 @@ pub record Followed : Type 0 where
   pub held : held.Tables
 
 abbrev pub seen : Scene → Followed
-seen s = record { program = tree_of s.core.now; contexts = contexts_of s.tables.now; context = s.context; method = method_of s.method.now;
-    held = s.tables.now }
+seen s = record {
+  program = tree_of s.core.now;
+  contexts = contexts_of s.tables.now;
+  context = s.context;
+  method = method_of s.method.now;
+  held = s.tables.now;
+}
 
 -- the typestate that there may be
 abbrev pub typestate_or_end : Option Typestate → Typestate

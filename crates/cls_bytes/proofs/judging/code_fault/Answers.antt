@@ -27,7 +27,7 @@ returns-in_default c = right c.in-Ok.ensures.found (rw (← c.as_slice.ensures.i
 pub overflow_add-result : goal.overflow_add-result
 overflow_add-result c =
     let e : first_misnamed (is_bad_entry c.args.bytes.now c.args.places.now) 0 (instrs_of c.as_slice.result.now) ≡ _ =
-          sym c.in-Some.ensures in
+    sym c.in-Some.ensures in
     let k = misnamed_within (is_bad_entry c.args.bytes.now c.args.places.now) (instrs_of c.as_slice.result.now) 0 c.in-Some.place e in
     let r = code_right c.args.code.now (instrs_of c.in-Ok.instrs.items) c.in-Ok.ensures.found in
     let e2 = ap (λ is. length (code_bytes (instrs_of is))) c.as_slice.ensures.items in

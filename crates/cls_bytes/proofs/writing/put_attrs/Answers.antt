@@ -27,10 +27,10 @@ pub returns-in_err-put_attr : goal.returns-in_err-put_attr
 returns-in_err-put_attr c =
     let p = err_from_is_err_and c.from_residual-in_err-put_attr.result c.from_residual-in_err-put_attr.ensures.1 in
     rw (p.1, p.2) (passed_on c.in_err-put_attr.field-0.0 (attr_refusal (attr_of c.attribute-item.result) None)
-        (attrs_refusal (map attr_of c.args.attributes.now) None) c.in_err-put_attr.ensures
+    (attrs_refusal (map attr_of c.args.attributes.now) None) c.in_err-put_attr.ensures
     (left_refused attr_of attr_bytes FitsAttr (λ a. attr_refusal a None) (λ xs. attrs_refusal xs None) attr_step c.args.attributes.now
-        c.loop-attribute.attribute-index c.attribute-item.result _ c.loop-attribute.out c.loop-attribute-test.true c.attribute-item.is
-        c.loop-attribute.invariant))
+    c.loop-attribute.attribute-index c.attribute-item.result _ c.loop-attribute.out c.loop-attribute-test.true c.attribute-item.is
+    c.loop-attribute.invariant))
 
 pub returns : goal.returns
 returns c = left_last attr_of attr_bytes FitsAttr (λ a. attr_refusal a None) (λ xs. attrs_refusal xs None) attr_step c.args.attributes.now

@@ -8,15 +8,15 @@ use Rattle.cls_bytes.proofs.writing.put_inners.Goals as goal
 pub put_inner-requires : goal.put_inner-requires
 put_inner-requires c =
     let e = map_drop_is inner_of c.args.attributes.now c.loop-attribute.attribute-index c.attribute-item.result c.loop-attribute-test.true
-          c.attribute-item.is in
+    c.attribute-item.is in
     first_fits FitsInner (map inner_of (drop c.loop-attribute.attribute-index c.args.attributes.now))
-        (map inner_of (drop (c.loop-attribute.attribute-index + 1) c.args.attributes.now)) (inner_of c.attribute-item.result) e
-        c.loop-attribute.invariant.fits
+    (map inner_of (drop (c.loop-attribute.attribute-index + 1) c.args.attributes.now)) (inner_of c.attribute-item.result) e
+    c.loop-attribute.invariant.fits
 
 pub loop-attribute-preserved : goal.loop-attribute-preserved
 loop-attribute-preserved c =
     let e = map_drop_is inner_of c.args.attributes.now c.loop-attribute.attribute-index c.attribute-item.result c.loop-attribute-test.true
-          c.attribute-item.is in
+    c.attribute-item.is in
     record {
       so_far = more inner_bytes (map inner_of (drop c.loop-attribute.attribute-index c.args.attributes.now))
           (map inner_of (drop (c.loop-attribute.attribute-index + 1) c.args.attributes.now)) (inner_of c.attribute-item.result)

@@ -27,10 +27,10 @@ pub returns-in_err-put_member : goal.returns-in_err-put_member
 returns-in_err-put_member c =
     let p = err_from_is_err_and c.from_residual-in_err-put_member.result c.from_residual-in_err-put_member.ensures.1 in
     rw (p.1, p.2) (passed_on c.in_err-put_member.field-0.0 (attrs_refusal (member_of c.member-item.result).attributes None)
-        (members_refusal (map member_of c.args.members.now) None) c.in_err-put_member.ensures
+    (members_refusal (map member_of c.args.members.now) None) c.in_err-put_member.ensures
     (left_refused member_of member_bytes FitsMember (λ m. attrs_refusal m.attributes None) (λ ms. members_refusal ms None) member_step
-        c.args.members.now c.loop-member.member-index c.member-item.result _ c.loop-member.out c.loop-member-test.true c.member-item.is
-        c.loop-member.invariant))
+    c.args.members.now c.loop-member.member-index c.member-item.result _ c.loop-member.out c.loop-member-test.true c.member-item.is
+    c.loop-member.invariant))
 
 pub returns : goal.returns
 returns c = left_last member_of member_bytes FitsMember (λ m. attrs_refusal m.attributes None) (λ ms. members_refusal ms None) member_step

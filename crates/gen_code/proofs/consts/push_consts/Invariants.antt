@@ -7,4 +7,4 @@ use Rattle.gen_code.proofs.consts.push_consts.Given as goal
 abbrev pub invariant-loop-key : goal.invariant-loop-key
 invariant-loop-key l =
     (l.entries.items ++ map const_of (drop l.key-index l.fn.keys) ≡ l.fn.entries.items ++ map const_of l.fn.keys)
-        × IsFrontOf l.fn.entries.items l.entries.items
+    × IsFrontOf l.fn.entries.items l.entries.items

@@ -34,7 +34,7 @@ pub returns-in_err-field_in_file-clause-fault : goal.returns-in_err-field_in_fil
 returns-in_err-field_in_file-clause-fault c =
     let e = err_from_is_err_and c.from_residual.result c.from_residual.ensures.1 in
     rw (e.1, e.2) (kept_fails (tree_of c.args.core.now) (class_of c.args.class.now) field_of (field_in_file (tree_of c.args.core.now))
-        OfField
+    OfField
     (λ x pool. refl) c.args.class.now.fields.items c.loop-field.field-index c.field-item.result _ _ _ _
     (subst (λ xs. c.loop-field.field-index < length xs) c.as_slice-field-items.ensures.items c.loop-field-test.true)
     (c.field-item.is ∙ ap (λ xs. get_or xs c.loop-field.field-index c.field-item.result) c.as_slice-field-items.ensures.items)

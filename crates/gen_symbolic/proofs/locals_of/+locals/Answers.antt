@@ -6,4 +6,4 @@ pub locals_of_groups-loop-group-preserved : goal.locals_of_groups-loop-group-pre
 locals_of_groups-loop-group-preserved t c =
     group_taken_more c.args.groups.now c.loop-group.group-index c.args.taken c.loop-group.most _ c.loop-group.invariant c.group-item.result
     c.as_slice.result.now c.in_ok-next.next c.max-most.result (omega arith) c.group-item.is c.as_slice.ensures.items c.in_ok-next.ensures
-        (search)
+    (search)

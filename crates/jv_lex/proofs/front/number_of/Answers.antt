@@ -12,6 +12,6 @@ pub returns-in-Some : goal.returns-in-Some
 returns-in-Some c =
     number_shown c.args.bytes.now c.split_at.result.0.now c.split_at.result.1.now c.digits_len-len.result c.in-Some.value
     c.digits_len-len.ensures.value c.split_at.ensures.front c.split_at.ensures.back c.split_at.ensures.front_len
-        (omega (arith, c.digits_len-len.ensures.value, c.requires))
+    (omega (arith, c.digits_len-len.ensures.value, c.requires))
     (sym c.is_tailed.ensures ∙ c.if-is_tailed.false) (sym c.has_leading_zero.ensures ∙ c.if-has_leading_zero.false)
-        (sym c.in-Some.is ∙ c.value_of.ensures)
+    (sym c.in-Some.is ∙ c.value_of.ensures)

@@ -21,5 +21,5 @@ returns-in_default c =
       | in_default-via-in_default w ↦ absurd (w.in_default.not-Some s e)
     ] in
     let first = first_of_text c.args.bytes.now c.args.at c.requires.ill (none_before c.args.bytes.now c.args.at c.stop_of.result
-          c.stop_of.ensures behind) in
+    c.stop_of.ensures behind) in
     rw (c.fault_at-in_default.ensures, c.place_of-in_default.ensures) (refused causes.BadByte c.args.at c.requires.bound first)

@@ -20,7 +20,7 @@ overflow_add-offset c =
     let long : 0 < length c.pieces.rest.now = omega (arith, false-eqb _ 0 c.pieces-test.ensures) in
     let s = stop_told c.in-Err.field-0 c.pieces.rest.now long (sym c.in-Err.is ∙ c.piece_of.ensures) in
     let within = stop_within c.args.bytes.now c.pieces.offset c.pieces.rest.now c.in-Err.field-0.cause c.in-Err.field-0.at s
-          c.pieces.invariant.so_far.reached in
+    c.pieces.invariant.so_far.reached in
     omega (arith, within, c.requires.bound)
 
 pub place_of-requires-clause-within : goal.place_of-requires-clause-within
@@ -28,7 +28,7 @@ place_of-requires-clause-within c =
     let long : 0 < length c.pieces.rest.now = omega (arith, false-eqb _ 0 c.pieces-test.ensures) in
     let s = stop_told c.in-Err.field-0 c.pieces.rest.now long (sym c.in-Err.is ∙ c.piece_of.ensures) in
     let within = stop_within c.args.bytes.now c.pieces.offset c.pieces.rest.now c.in-Err.field-0.cause c.in-Err.field-0.at s
-          c.pieces.invariant.so_far.reached in
+    c.pieces.invariant.so_far.reached in
     omega (arith, within)
 
 pub returns-in-Err : goal.returns-in-Err
@@ -36,11 +36,11 @@ returns-in-Err c =
     let long : 0 < length c.pieces.rest.now = omega (arith, false-eqb _ 0 c.pieces-test.ensures) in
     let s = stop_told c.in-Err.field-0 c.pieces.rest.now long (sym c.in-Err.is ∙ c.piece_of.ensures) in
     let stopped = reached_stop c.args.bytes.now c.pieces.offset c.pieces.rest.now c.in-Err.field-0.cause c.in-Err.field-0.at s
-          c.pieces.invariant.so_far.reached in
+    c.pieces.invariant.so_far.reached in
     let first = first_of_pieces c.args.bytes.now c.in-Err.field-0.cause (c.pieces.offset + c.in-Err.field-0.at) c.requires.utf8 stopped in
     rw (c.fault_at.ensures, c.place_of.ensures)
     (told_answers c.in-Err.field-0.cause _ (Outcome c.args.file c.args.bytes.now)
-        (refused c.in-Err.field-0.cause (c.pieces.offset + c.in-Err.field-0.at) c.requires.bound first))
+    (refused c.in-Err.field-0.cause (c.pieces.offset + c.in-Err.field-0.at) c.requires.bound first))
 
 pub split_at-requires : goal.split_at-requires
 split_at-requires c =
@@ -52,7 +52,7 @@ put-requires c =
     let long : 0 < length c.pieces.rest.now = omega (arith, false-eqb _ 0 c.pieces-test.ensures) in
     rw c.split_at.ensures.front
     (front_readable c.in-Ok.piece c.pieces.rest.now (front_of c.in-Ok.piece c.pieces.rest.now long (sym c.in-Ok.is ∙ c.piece_of.ensures))
-        c.pieces.invariant.utf8)
+    c.pieces.invariant.utf8)
 
 pub pieces-smaller : goal.pieces-smaller
 pieces-smaller c =
@@ -65,7 +65,7 @@ pieces-preserved c =
     let long : 0 < length c.pieces.rest.now = omega (arith, false-eqb _ 0 c.pieces-test.ensures) in
     let f = front_of c.in-Ok.piece c.pieces.rest.now long (sym c.in-Ok.is ∙ c.piece_of.ensures) in
     let more = so_far_more c.in-Ok.piece c.pieces.rest.now f c.args.file c.args.bytes.now c.pieces.found.items c.pieces.place
-          c.pieces.offset c.pieces.invariant.so_far in
+    c.pieces.offset c.pieces.invariant.so_far in
     let some : 0 < c.in-Ok.piece.len = front_long c.in-Ok.piece c.pieces.rest.now f in
     record {
       so_far = rw (c.in_ok-put.ensures, c.after-place.ensures.place, c.split_at.ensures.front, c.split_at.ensures.back) more;
@@ -79,4 +79,4 @@ returns c =
     let empty : length c.pieces.rest.now ≡ 0 = eqb-true _ 0 (sym c.pieces-test.ensures) in
     lexed c.pieces.found.items c.requires.bound
     (so_far_whole c.args.file c.args.bytes.now c.pieces.found.items c.pieces.place c.pieces.offset c.pieces.rest.now empty c.requires.utf8
-        c.pieces.invariant.so_far)
+    c.pieces.invariant.so_far)

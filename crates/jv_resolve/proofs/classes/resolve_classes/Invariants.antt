@@ -9,4 +9,4 @@ abbrev pub invariant-loop-entry : goal.invariant-loop-entry
 invariant-loop-entry l =
     classes (tables_seen l.tables) l.initial.names (map entry_seen l.entries)
     ≡ with_done (map (class_of) l.resolved.items) (threaded (class (tables_seen l.tables)) l.names
-        (map (entry_seen) (drop l.entry-index l.entries)))
+    (map (entry_seen) (drop l.entry-index l.entries)))

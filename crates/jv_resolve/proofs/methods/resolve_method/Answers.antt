@@ -13,7 +13,7 @@ pub returns-in_err-signature : goal.returns-in_err-signature
 returns-in_err-signature c =
     let p = err_from_is_err_and c.from_residual.result c.from_residual.ensures.1 in
     rw (p.1, p.2) (method_signature_fails (tables_seen c.args.tables.now) c.args.names (entry_seen c.args.entry.now)
-        (source_method c.args.method.now) c.in_err-signature.field-0.0 c.in_err-signature.ensures.it)
+    (source_method c.args.method.now) c.in_err-signature.field-0.0 c.in_err-signature.ensures.it)
 
 pub returns-in_err-stmts : goal.returns-in_err-stmts
 returns-in_err-stmts c =
@@ -21,13 +21,13 @@ returns-in_err-stmts c =
     rw (p.1, p.2)
     (method_body_fails (tables_seen c.args.tables.now) c.args.names (entry_seen c.args.entry.now) (source_method c.args.method.now)
     (naming (signature_seen c.in_ok-signature.signature) c.signature_of.new.names) c.in_ok-signature.ensures.it c.new-body.result.locals
-        (counted_seen c.new-body.result) c.new-body.ensures.locals c.new-body.ensures.counted
+    (counted_seen c.new-body.result) c.new-body.ensures.locals c.new-body.ensures.counted
     c.in_err-stmts.field-0.0 c.in_err-stmts.ensures)
 
 pub returns : goal.returns
 returns c =
     method_made (tables_seen c.args.tables.now) c.args.names (entry_seen c.args.entry.now) (source_method c.args.method.now)
     (naming (signature_seen c.in_ok-signature.signature) c.signature_of.new.names) c.in_ok-signature.ensures.it c.new-body.result.locals
-        (counted_seen c.new-body.result) c.new-body.ensures.locals c.new-body.ensures.counted
+    (counted_seen c.new-body.result) c.new-body.ensures.locals c.new-body.ensures.counted
     (counting (map stmt_of c.in_ok-stmts.stmts.items) (counted_seen c.resolve_body.new.body)) c.in_ok-signature.signature.params
-        c.kind_of-kind.result c.in_ok-stmts.ensures c.in_ok-signature.ensures.params c.kind_of-kind.ensures
+    c.kind_of-kind.result c.in_ok-stmts.ensures c.in_ok-signature.ensures.params c.kind_of-kind.ensures

@@ -13,7 +13,7 @@ pub returns : goal.returns
 returns c =
     let d = c.args.declaration in
     ap (λ o. o >>= λ more. Some (itemed (Core.Local d.place d.local.slot (expr_of d.value)) more (counted_seen c.args.body.now)))
-        c.in_ok-declare.ensures.ok
+    c.in_ok-declare.ensures.ok
     ∙ ap (λ s. Some (itemed s c.declare.new.self (counted_seen c.args.body.now))) (sym c.local_stmt.ensures)
 
 pub returns-in_err-declare : goal.returns-in_err-declare
@@ -22,5 +22,5 @@ returns-in_err-declare c =
     let d = c.args.declaration in
     rw (p.1, p.2)
     (fails_then c.in_err-declare.field-0.0 (declared (known c.args.name.now d.local) c.args.body.now.locals)
-        (λ more. Some (itemed (Core.Local d.place d.local.slot (expr_of d.value)) more (counted_seen c.args.body.now)))
-        c.in_err-declare.ensures.err)
+    (λ more. Some (itemed (Core.Local d.place d.local.slot (expr_of d.value)) more (counted_seen c.args.body.now)))
+    c.in_err-declare.ensures.err)

@@ -31,7 +31,7 @@ invariant-resolve_stmts-loop-stmt l = record {
       (around_seen l.around) l.initial.body.locals (counted_seen l.initial.body)
       ≡ with_stmts (map stmt_of l.resolved.items)
       (left_stmts (tables_seen l.scope.tables.now) (standing_seen l.scope) (around_seen l.around) (drop l.stmt-index l.stmts) l.body.locals
-          (counted_seen l.body));
+      (counted_seen l.body));
   scope : Extends l.initial.body.locals l.body.locals;
 }
 
@@ -42,6 +42,6 @@ invariant-resolve_groups-loop-group l = record {
       (counted_seen l.initial.body)
       ≡ with_groups (tables_seen l.scope.tables.now) (standing_seen l.scope) (around_seen l.around) (map group_of l.resolved.items)
       (left_groups (tables_seen l.scope.tables.now) (standing_seen l.scope) (around_seen l.around) (source.enum_of l.of.of.now)
-          (drop l.group-index l.groups) l.body.locals (counted_seen l.body));
+      (drop l.group-index l.groups) l.body.locals (counted_seen l.body));
   locals : l.body.locals ≡ l.initial.body.locals;
 }

@@ -14,11 +14,11 @@ returns-in_err-check_class c =
     let r = err_from_is_err_and c.from_residual.result c.from_residual.ensures.1 in
     rw (r.1, r.2)
     (class_wrong (program_in c.args.table.now) c.args.classes.now c.loop-class.class-index (map class_in c.args.classes.now)
-        c.loop-class.invariant c.class-item.result c.loop-class-test.true c.class-item.is
+    c.loop-class.invariant c.class-item.result c.loop-class-test.true c.class-item.is
     c.in_err-check_class.field-0.0 c.in_err-check_class.ensures)
 
 pub loop-class-preserved : goal.loop-class-preserved
 loop-class-preserved c =
     class_more (program_in c.args.table.now) c.args.classes.now c.loop-class.class-index (map class_in c.args.classes.now)
-        c.loop-class.invariant c.class-item.result c.loop-class-test.true c.class-item.is
+    c.loop-class.invariant c.class-item.result c.loop-class-test.true c.class-item.is
     c.in_ok-check_class.ensures

@@ -16,7 +16,7 @@ returns-in_err-check_params c =
     rw (r.1, r.2)
     (params_wrong p k m c.as_slice.result.now (stmts_of (map stmt_of c.args.method.now.body.items)) c.as_slice.ensures.items refl
     c.in_err-check_params.field-0.0 _ (ap (λ l. record (entered p k m) { locals = l }) c.new-locals.ensures)
-        c.in_err-check_params.ensures.told)
+    c.in_err-check_params.ensures.told)
 
 pub returns-in_err-check_stmts : goal.returns-in_err-check_stmts
 returns-in_err-check_stmts c =
@@ -26,9 +26,9 @@ returns-in_err-check_stmts c =
     let m = method_of c.args.method.now in
     rw (r.1, r.2)
     (body_wrong p k m c.as_slice.result.now (stmts_of (map stmt_of c.as_slice-2.result.now)) c.as_slice.ensures.items
-        (ap (λ xs. stmts_of (map stmt_of xs)) c.as_slice-2.ensures.items)
+    (ap (λ xs. stmts_of (map stmt_of xs)) c.as_slice-2.ensures.items)
     _ _ (ap (λ l. record (entered p k m) { locals = l }) c.new-locals.ensures) c.in_ok-check_params.ensures.scope
-        c.in_ok-check_params.ensures.told
+    c.in_ok-check_params.ensures.told
     c.in_err-check_stmts.field-0.0 c.in_err-check_stmts.ensures.told)
 
 pub returns : goal.returns
@@ -37,7 +37,7 @@ returns c =
     let k = class_in c.args.class.now in
     let m = method_of c.args.method.now in
     end_tells p k m c.as_slice.result.now (stmts_of (map stmt_of c.as_slice-2.result.now)) c.as_slice.ensures.items
-        (ap (λ xs. stmts_of (map stmt_of xs)) c.as_slice-2.ensures.items)
+    (ap (λ xs. stmts_of (map stmt_of xs)) c.as_slice-2.ensures.items)
     _ _ (ap (λ l. record (entered p k m) { locals = l }) c.new-locals.ensures) c.in_ok-check_params.ensures.scope
-        c.in_ok-check_params.ensures.told
+    c.in_ok-check_params.ensures.told
     c.in_ok-check_stmts.ensures.told c.check_end.result c.check_end.ensures

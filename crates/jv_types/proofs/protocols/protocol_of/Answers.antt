@@ -9,7 +9,7 @@ invariant_of-result c =
     let t = c.args.typestate.now in
     let all : offers_seen c.in_ok-offers.offers.items ≡ offers_in t.states =
     c.in_ok-offers.ensures ∙ ap offers_in (states_are t c.typestate.inside.name c.typestate.inside.states.items c.typestate.view_is
-        c.as_slice.result.now c.as_slice.ensures.items) in
+    c.as_slice.result.now c.as_slice.ensures.items) in
     record {
       all = all;
       first = made_first (offers_in t.states) _ _ c.as_slice-2.result.now c.in_ok-offers.offers.items c.new-names.ensures

@@ -17,12 +17,12 @@ returns-then-line-end-ne32 c = λ what says. c.if-line-end-ne32.true
 pub returns-then-not-is_word : goal.returns-then-not-is_word
 returns-then-not-is_word c =
     no_label c.args.line.now c.word_end-end.result c.word_end-end.ensures.value c.requires c.if-end-line.false _
-        (tail_is c.args.line.now c.word_end-end.result) (refuted c.if-not-is_word.ensures.1)
+    (tail_is c.args.line.now c.word_end-end.result) (refuted c.if-not-is_word.ensures.1)
 
 pub returns : goal.returns
 returns c =
     let within : c.word_end-end.result < length c.args.line.now = within_is c.word_end-end.result (length c.args.line.now)
-          c.word_end-end.ensures.bound c.if-end-line.false in
+    c.word_end-end.ensures.bound c.if-end-line.false in
     with_label c.args.line.now c.word_end-end.result c.word_end-end.ensures.value c.requires c.word-method.result.now c.word.result.now
-        within c.if-line-end-ne32.false c.word-method.ensures (c.word.ensures ∙ tail_is c.args.line.now c.word_end-end.result)
+    within c.if-line-end-ne32.false c.word-method.ensures (c.word.ensures ∙ tail_is c.args.line.now c.word_end-end.result)
     (subst IsWord (sym c.word.ensures) (c.if-not-is_word.ensures.0 refl))

@@ -12,7 +12,7 @@ write_all-requires-clause-spelled c =
     subst (AllByRecursion IsSpelled) (sym (ap (map file_of) c.as_slice.ensures.items))
     (all_spelled c.spelled_is_shaped.ensures c.core_is_kept.ensures c.written_cores_are_held.ensures c.members_are_few.ensures.few
     c.files_fit.ensures.cores (tree_of c.args.core.now) c.requires (map file_of c.in-Ok.classes.items) c.in-Ok.ensures.made
-        c.in-Ok.ensures.fine)
+    c.in-Ok.ensures.fine)
 
 pub write_all-requires-clause-same : goal.write_all-requires-clause-same
 write_all-requires-clause-same c =

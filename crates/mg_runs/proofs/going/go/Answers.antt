@@ -7,7 +7,7 @@ pub run-requires-clause-numbers : goal.run-requires-clause-numbers
 run-requires-clause-numbers c = λ i r at.
     let w = c.in_ok-world.world in
     subst (λ n. r < n) (sym (begun_many w.program c.args.mains.now w.world.roles c.in_ok-world.ensures.begun.roles))
-        (c.requires.order.numbers i r at)
+    (c.requires.order.numbers i r at)
 
 pub run-requires-clause-named : goal.run-requires-clause-named
 run-requires-clause-named c = λ r lt.

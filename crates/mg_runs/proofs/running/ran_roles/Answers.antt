@@ -11,7 +11,7 @@ returns-in_err-program c =
     let e = err_from_is_err_and c.from_residual.result c.from_residual.ensures.1 in
     rw (e.1, e.2)
     (run_unaccepted (sources c.args.names.now c.args.contents.now) c.args.mains.now c.args.order.now c.args.limit c.args.named c.args.traced
-        _
+    _
     c.in_err-program.ensures.answered)
 
 pub bounds-mains-number : goal.bounds-mains-number
@@ -24,7 +24,7 @@ pub returns-in-Some : goal.returns-in-Some
 returns-in-Some c =
     let files = sources c.args.names.now c.args.contents.now in
     run_no_main files c.args.mains.now c.args.order.now c.args.limit c.args.named c.args.traced (tree_of c.in_ok-program.program.core)
-        c.in-Some.number
+    c.in-Some.number
     _ c.no_main.result c.in_ok-program.ensures.answered.files_are c.in-Some.ensures c.no_main.ensures
 
 pub returns-in_err-files : goal.returns-in_err-files
@@ -33,7 +33,7 @@ returns-in_err-files c =
     rw (e.1, e.2)
     (run_exceeded c.args.names.now c.args.contents.now c.args.mains.now c.args.order.now c.args.limit c.args.named c.args.traced
     (tree_of c.in_ok-program.program.core) _ c.requires.same c.in_ok-program.ensures.answered.files_are c.in-None.ensures
-        c.in_err-files.ensures)
+    c.in_err-files.ensures)
 
 pub returns-in_err-ran : goal.returns-in_err-ran
 returns-in_err-ran c =

@@ -49,4 +49,4 @@ returns c =
     let was = c.loop-part.invariant in
     let none : into_iter_items c.loop-part.part-iterator ≡ [] = nothing_left _ (sym was.count ∙ c.in-None.ensures.steps.0) in
     made_end (subst (λ (z : List KeptPart). MadeSoFar (map part_of c.args.parts.items) c.loop-part.number (map part_of z)
-        (sourced_of c.loop-part.sources)) none was.made)
+    (sourced_of c.loop-part.sources)) none was.made)

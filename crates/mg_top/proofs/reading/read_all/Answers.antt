@@ -9,8 +9,13 @@ abbrev failed : Unread → Result (Row (List ℕ)) Unread
 failed f = Err f
 
 pub loop-name-init : goal.loop-name-init
-loop-name-init g c = record { read = none_read c.args.limit (g.F.Folder.files c.args.folder.now) c.new-contents.result.items
-    c.new-contents.ensures; files = refl; reads = refl; writes = refl }
+loop-name-init g c = record {
+  read = none_read c.args.limit (g.F.Folder.files c.args.folder.now) c.new-contents.result.items
+      c.new-contents.ensures;
+  files = refl;
+  reads = refl;
+  writes = refl;
+}
 
 pub returns-in_err-push-in-Ok : goal.returns-in_err-push-in-Ok
 returns-in_err-push-in-Ok g c = λ o e.
@@ -18,7 +23,7 @@ returns-in_err-push-in-Ok g c = λ o e.
     let l = c.loop-name.invariant in
     let f = err_from_is_err_and c.from_residual.result c.from_residual.ensures.1 in
     no_memory c.args.limit _ _ _ c.from_residual.result (f.1 ∙ ap failed f.2)
-        (unchanged _ _ _ _ _ _ o e (r.files ∙ l.files) (r.failed_reads ∙ append-nil _ ∙ l.reads) (r.failed_writes ∙ l.writes))
+    (unchanged _ _ _ _ _ _ o e (r.files ∙ l.files) (r.failed_reads ∙ append-nil _ ∙ l.reads) (r.failed_writes ∙ l.writes))
 
 pub returns-in-Err-Failed : goal.returns-in-Err-Failed
 returns-in-Err-Failed g c = λ o e.

@@ -13,7 +13,7 @@ returns-in-Err c = not_read _ c.args.word.now _ _ c.as_str-text.ensures c.parse.
 pub returns-then-steps-le-MOST_STEPS : goal.returns-then-steps-le-MOST_STEPS
 returns-then-steps-le-MOST_STEPS c =
     read_steps _ _ c.args.word.now _ c.in-Ok.steps c.as_bytes.ensures.value c.as_str-text.ensures (c.if-not-starts_number.ensures.0 refl)
-        c.parse.ensures.value.0 c.in-Ok.is c.if-steps-le-MOST_STEPS.true
+    c.parse.ensures.value.0 c.in-Ok.is c.if-steps-le-MOST_STEPS.true
 
 pub returns-else-steps-le-MOST_STEPS : goal.returns-else-steps-le-MOST_STEPS
 returns-else-steps-le-MOST_STEPS c = too_many _ c.args.word.now _ c.in-Ok.steps c.as_str-text.ensures c.parse.ensures.value.0 c.in-Ok.is

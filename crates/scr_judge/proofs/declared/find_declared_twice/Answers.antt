@@ -27,14 +27,14 @@ pub returns-then-is_otherwise : goal.returns-then-is_otherwise
 returns-then-is_otherwise c =
     subst (λ k. Judged DeclaredTwice (with_earlier c.args.types.now) (Some k)) (sym c.culprit_at.ensures)
     (left_here DeclaredTwice c.loop-i.invariant.left c.index-types-i.result c.loop-i-test.true c.index-types-i.is _
-        (refl, inl (c.if-is_otherwise.ensures.0 refl)))
+    (refl, inl (c.if-is_otherwise.ensures.0 refl)))
 
 pub bounds-types-first : goal.bounds-types-first
 bounds-types-first c =
     let seen : get_by_text c.loop-i.firsts c.index-types-i.result.alias ≡ Some c.in-Some.first.now =
     ap (get_by_text c.loop-i.firsts) (sym c.as_str.ensures) ∙ sym c.in-Some.ensures.value in
     below alias_of class_of c.loop-i.firsts c.args.types.now c.loop-i.i c.index-types-i.result c.loop-i-test.true c.index-types-i.is
-        c.loop-i.invariant.indexes c.in-Some.first.now seen
+    c.loop-i.invariant.indexes c.in-Some.first.now seen
 
 pub offset_bounds-types-first : goal.offset_bounds-types-first
 offset_bounds-types-first c = let within = bounds-types-first c in search rules
@@ -49,7 +49,7 @@ returns-then-ne c =
       inr (differs alias_of class_of c.loop-i.firsts c.args.types.now c.loop-i.i c.index-types-i.result c.loop-i-test.true
           c.index-types-i.is c.loop-i.invariant.indexes c.in-Some.first.now seen
           c.index-types-first.result c.index-types-first.is (λ same. unequal _ _ c.if-ne.ensures (sym (ap class_of c.index-types-first.is) ∙
-              same))),
+          same))),
     ))
 
 pub loop-i-preserved : goal.loop-i-preserved
@@ -59,16 +59,16 @@ loop-i-preserved c =
           let seen : get_by_text c.loop-i.firsts c.index-types-i.result.alias ≡ Some w.in-Some.first.now =
           ap (get_by_text c.loop-i.firsts) (sym c.as_str.ensures) ∙ sym w.in-Some.ensures.value in
           let same : w.index-types-first.result.class ≡ c.index-types-i.result.class = ap class_of w.index-types-first.is ∙
-                equal _ _ w.if-ne.ensures in
+          equal _ _ w.if-ne.ensures in
           record {
             indexes = subst (λ m. Indexes alias_of class_of m (take (c.loop-i.i + 1) c.args.types.now)) (sym w.firsts-is)
                 (same_indexes alias_of class_of c.loop-i.firsts c.args.types.now c.loop-i.i c.index-types-i.result c.loop-i-test.true
-                    c.index-types-i.is c.loop-i.invariant.indexes
+                c.index-types-i.is c.loop-i.invariant.indexes
                 w.in-Some.first.now seen w.index-types-first.result w.index-types-first.is same);
             left = left_later DeclaredTwice c.loop-i.invariant.left c.index-types-i.result c.loop-i-test.true c.index-types-i.is
                 (λ k a. ⊎_elim (λ o. true≢false (sym (c.if-is_otherwise.ensures.1 o)))
                 (same_fine alias_of class_of c.loop-i.firsts c.args.types.now c.loop-i.i c.index-types-i.result c.loop-i-test.true
-                    c.index-types-i.is c.loop-i.invariant.indexes
+                c.index-types-i.is c.loop-i.invariant.indexes
                 w.in-Some.first.now seen w.index-types-first.result w.index-types-first.is same) a.1);
           }
       | in-None+in_ok-key-in-None+in_ok-insert-in-None w ↦
@@ -77,13 +77,13 @@ loop-i-preserved c =
           record {
             indexes = subst (λ m. Indexes alias_of class_of m (take (c.loop-i.i + 1) c.args.types.now)) (sym w.firsts-is)
                 (new_indexed alias_of class_of c.loop-i.firsts c.args.types.now c.loop-i.i c.index-types-i.result c.loop-i-test.true
-                    c.index-types-i.is c.loop-i.invariant.indexes none
+                c.index-types-i.is c.loop-i.invariant.indexes none
                 w.insert.new.self w.in_ok-key-in-None.key (w.in_ok-key-in-None.ensures.ok ∙ w.as_str-in-None.ensures)
-                    w.in_ok-insert-in-None.ensures.updates);
+                w.in_ok-insert-in-None.ensures.updates);
             left = left_later DeclaredTwice c.loop-i.invariant.left c.index-types-i.result c.loop-i-test.true c.index-types-i.is
                 (λ k a. ⊎_elim (λ o. true≢false (sym (c.if-is_otherwise.ensures.1 o)))
                 (none_fine alias_of class_of c.loop-i.firsts c.args.types.now c.loop-i.i c.index-types-i.result c.loop-i-test.true
-                    c.index-types-i.is c.loop-i.invariant.indexes none) a.1);
+                c.index-types-i.is c.loop-i.invariant.indexes none) a.1);
           }
     ]
 

@@ -11,7 +11,7 @@ pub loop-role-preserved : goal.loop-role-preserved
 loop-role-preserved c =
     let same : string_bytes c.in_ok-name.name ≡ c.role-item.result.name = c.in_ok-name.ensures.ok ∙ c.as_str.ensures in
     has_one_more role_name (contains_text c.loop-role.names) c.args.roles.now c.loop-role.role-index c.role-item.result
-        c.loop-role-test.true c.role-item.is c.loop-role.invariant
+    c.loop-role-test.true c.role-item.is c.loop-role.invariant
     (string_bytes c.in_ok-name.name) same (contains_text c.add_name.new.names) c.in_ok-add_name.ensures.names
 
 pub returns : goal.returns

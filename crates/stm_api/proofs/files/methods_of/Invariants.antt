@@ -10,4 +10,4 @@ abbrev pub invariant-loop-doing : goal.invariant-loop-doing
 invariant-loop-doing l =
     map (method_of l.place (tree_of l.local).me) (firsts_of (tree_of l.local).me [] (map doing_of l.doings))
     ≡ map kept_method l.methods.items ++ map (method_of l.place (tree_of l.local).me)
-        (firsts_of (tree_of l.local).me l.seen (map doing_of (drop l.doing-index l.doings)))
+    (firsts_of (tree_of l.local).me l.seen (map doing_of (drop l.doing-index l.doings)))

@@ -54,5 +54,5 @@ returns-in-Some c =
           (sym c.in-Some.is ∙ c.in_ok-demand.ensures) a);
       fault = subst (IsFault p) (sym c.fault_of.ensures)
           (is_fault p c.in_ok-tables.tables c.in-Some.demand c.in_ok-tables.ensures.made c.in_ok-tables.ensures.least
-              (sym c.in-Some.is ∙ c.in_ok-demand.ensures));
+          (sym c.in-Some.is ∙ c.in_ok-demand.ensures));
     }

@@ -10,7 +10,7 @@ use Rattle.use_flow.proofs.calling.image_along.Goals.{then-has, else-has}
 pub loop-element-preserved : goal.loop-element-preserved
 loop-element-preserved c =
     let to : ℕ → List ℕ = along (which_of (option_map (λ l. l.now) c.args.label))
-          (typestate_or_end (option_map (λ t. t.now) c.args.typestate)) c.args.method.now in
+    (typestate_or_end (option_map (λ t. t.now) c.args.typestate)) c.args.method.now in
     elim c.if-has.branch [
       | then-has w ↦ image_take to c.loop-element.element c.args.set.now c.loop-element.found c.if-has.found _ (to c.loop-element.element)
           (omega arith)

@@ -13,7 +13,7 @@ pub loop-method-preserved : goal.loop-method-preserved
 loop-method-preserved c =
     let within : c.loop-method.method-index < length c.args.methods.now = search rules in
     some_next c.args.methods.now c.loop-method.method-index _ within (λ d. method_flaw (outlines_of c.args.outlines.now) (declared_of d)) _
-        _ _ c.loop-method.invariant
+    _ _ c.loop-method.invariant
     (c.in_ok-best.ensures _ c.judge_method-judged.ensures)
 
 pub returns : goal.returns
@@ -21,8 +21,8 @@ returns c =
     let past : length c.args.methods.now ≤ c.loop-method.method-index = search rules in
     sym (lower-none (best_flaw c.loop-method.best))
     ∙ ap (λ l. lower (best_flaw c.loop-method.best)
-        (least (some_in (map (λ d. method_flaw (outlines_of c.args.outlines.now) (declared_of d)) l))))
-        (sym (drop_whole c.args.methods.now c.loop-method.method-index past))
+    (least (some_in (map (λ d. method_flaw (outlines_of c.args.outlines.now) (declared_of d)) l))))
+    (sym (drop_whole c.args.methods.now c.loop-method.method-index past))
     ∙ c.loop-method.invariant
     ∙ ap (λ l. lower (best_flaw c.args.first) (least (some_in l)))
-        (sym (map-map (method_flaw (outlines_of c.args.outlines.now)) declared_of c.args.methods.now))
+    (sym (map-map (method_flaw (outlines_of c.args.outlines.now)) declared_of c.args.methods.now))

@@ -13,11 +13,11 @@ loop-instr-preserved c =
       right = right_on (outlines_of c.args.outlines.now) c.args.pool.now c.args.starts.now c.args.instrs.now c.loop-instr.instr-index
           c.instr-item.result c.loop-instr.place
           c.width-place.result within c.instr-item.is w _ _ _ c.loop-instr.invariant.right
-              (c.in_ok-best.ensures.right _ c.judge_instr-judged.ensures.judges);
+          (c.in_ok-best.ensures.right _ c.judge_instr-judged.ensures.judges);
       wrong = wrong_on (outlines_of c.args.outlines.now) c.args.pool.now c.args.starts.now c.args.instrs.now c.loop-instr.instr-index
           c.instr-item.result c.loop-instr.place
           c.width-place.result within c.instr-item.is w _ _ _ c.loop-instr.invariant.wrong
-              (c.in_ok-best.ensures.wrong _ c.judge_instr-judged.ensures.judges);
+          (c.in_ok-best.ensures.wrong _ c.judge_instr-judged.ensures.judges);
       bound = omega (arith, c.width-place.ensures.bound);
       known = c.judge_instr-judged.ensures.known;
     }

@@ -26,4 +26,4 @@ returns-clause-rising c =
     let past : length c.args.instrs.now ≤ c.loop-instr.instr-index = search rules in
     starts_rise (instrs_of c.args.instrs.now) c.loop-instr.starts.items
     (starts_done c.args.instrs.now c.loop-instr.instr-index c.loop-instr.starts.items c.loop-instr.place _ past
-        c.loop-instr.invariant.whole)
+    c.loop-instr.invariant.whole)

@@ -25,15 +25,15 @@ loop-class-preserved c =
       wrong = flaws_next c.args.classes.now c.loop-class.class-index c.class-item.result within
           (λ k. class_flaws (outlines_of c.args.outlines.now) (class_of k)) (best_flaw c.loop-class.best) _ _ c.loop-class.invariant.wrong
           (c.in_ok-one.ensures.wrong ∙ ap
-              (λ k. lower (best_flaw c.loop-class.best) (least (class_flaws (outlines_of c.args.outlines.now) (class_of k))))
-              c.class-item.is);
+          (λ k. lower (best_flaw c.loop-class.best) (least (class_flaws (outlines_of c.args.outlines.now) (class_of k))))
+          c.class-item.is);
     }
 
 pub returns-clause-right : goal.returns-clause-right
 returns-clause-right c =
     let past : length c.args.classes.now ≤ c.loop-class.class-index = search rules in
     mapped_twice (linked_class (outlines_of c.args.outlines.now)) class_of c.args.classes.now _ c.loop-class.class-index
-        c.loop-class.invariant.right past
+    c.loop-class.invariant.right past
 
 pub returns-clause-wrong : goal.returns-clause-wrong
 returns-clause-wrong c =

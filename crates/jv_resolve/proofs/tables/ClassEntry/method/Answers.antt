@@ -10,6 +10,6 @@ returns-in-None c = not_called method_of (λ x. x.name) (λ n m. record { method
 pub returns-in-Some-get : goal.returns-in-Some-get
 returns-in-Some-get c =
     called_got method_of (λ x. x.name) (λ n m. record { method = m; number = c.args.self.now.first_method + n })
-        c.args.self.now.class.now.methods.items c.args.self.now.methods c.args.self.now.named_methods c.args.name.now c.in-Some.place
-        c.in-Some.ensures c.as_slice.result.now c.as_slice.ensures.items
+    c.args.self.now.class.now.methods.items c.args.self.now.methods c.args.self.now.named_methods c.args.name.now c.in-Some.place
+    c.in-Some.ensures c.as_slice.result.now c.as_slice.ensures.items
     c.in-Some-get.method c.in-Some-get.ensures.lookup

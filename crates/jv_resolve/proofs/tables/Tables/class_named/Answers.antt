@@ -9,5 +9,5 @@ returns-in-None c = not_picked entry_seen (λ e. e.class.name) (λ n e. e) c.arg
 pub returns-in-Some : goal.returns-in-Some
 returns-in-Some c =
     picked_got entry_seen (λ e. e.class.name) (λ n e. e) c.args.self.now.classes.items c.args.self.now.class_names
-        c.args.self.now.named_classes c.args.name.now c.in-Some.number c.in-Some.ensures c.as_slice.result.now c.as_slice.ensures.value
+    c.args.self.now.named_classes c.args.name.now c.in-Some.number c.in-Some.ensures c.as_slice.result.now c.as_slice.ensures.value
     c.get.result c.get.ensures.lookup

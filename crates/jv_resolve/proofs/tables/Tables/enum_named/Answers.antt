@@ -9,6 +9,6 @@ returns-in-None c = not_called (λ e. enum_of e.of.now) (λ x. x.name) (λ n e. 
 pub returns-in-Some-get : goal.returns-in-Some-get
 returns-in-Some-get c =
     called_got (λ e. enum_of e.of.now) (λ x. x.name) (λ n e. record { number = n; enum = e }) c.args.self.now.enums.items
-        c.args.self.now.enum_names c.args.self.now.named_enums c.args.name.now c.in-Some.number c.in-Some.ensures c.as_slice.result.now
-        c.as_slice.ensures.value
+    c.args.self.now.enum_names c.args.self.now.named_enums c.args.name.now c.in-Some.number c.in-Some.ensures c.as_slice.result.now
+    c.as_slice.ensures.value
     c.in-Some-get.entry c.in-Some-get.ensures.lookup

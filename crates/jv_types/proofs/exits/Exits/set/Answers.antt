@@ -14,5 +14,5 @@ returns-in_ok-insert-in-Some c = λ l.
     let new : Exits = record { alloc = c.args.self.now.alloc; plain = c.args.self.now.plain; labelled = c.insert.new.self } in
     set_named c.args.self.now new c.in-Some.name.now c.args.jumps refl
     (subst (λ n. UpdatesBy string_eq (λ k. bytes_eq n (string_bytes k)) c.args.self.now.labelled c.insert.new.self (Some c.args.jumps)) key
-        c.in_ok-insert-in-Some.ensures.updates) l
+    c.in_ok-insert-in-Some.ensures.updates) l
     ∙ ap (λ z. with_jumps (met_at c.args.self.now) (option_map (λ n. n.now) z) c.args.jumps l) (sym c.in-Some.is)

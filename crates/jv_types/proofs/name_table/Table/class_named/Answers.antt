@@ -8,7 +8,7 @@ returns-in-Some-clause-class c = class_found c.args.self.now.tabled c.args.name.
 pub returns-in-Some-clause-entry : goal.returns-in-Some-clause-entry
 returns-in-Some-clause-entry c =
     entry_at c.args.self.now.tabled c.in-Some.number.0 c.index.result.now (class_within c.args.self.now.tabled c.args.name.now
-        c.in-Some.number.0 c.in-Some.ensures) c.index.ensures
+    c.in-Some.number.0 c.in-Some.ensures) c.index.ensures
 
 pub returns-in-None-clause-class : goal.returns-in-None-clause-class
 returns-in-None-clause-class c = class_missing c.args.self.now.tabled c.args.name.now c.in-None.ensures

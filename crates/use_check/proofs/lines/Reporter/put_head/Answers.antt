@@ -17,8 +17,8 @@ returns c =
     (c.in_ok-put_slots.ensures
     ∙ ap (λ (xs : List CoreSlot). string_bytes c.args.out.now
     ++ flat_map (slot_line (seen c.args.self.now) c.args.front.now c.args.context c.args.loop_number (map slot_of xs))
-        c.as_slice-scope.result.now) c.as_slice-slots.ensures.items
+    c.as_slice-scope.result.now) c.as_slice-slots.ensures.items
     ∙ ap (λ (ks : List ℕ). string_bytes c.args.out.now
     ++ flat_map (slot_line (seen c.args.self.now) c.args.front.now c.args.context c.args.loop_number
-        (map slot_of c.args.method.now.slots.items)) ks) c.as_slice-scope.ensures.items)
+    (map slot_of c.args.method.now.slots.items)) ks) c.as_slice-scope.ensures.items)
     e) c.put_head_fields.ensures

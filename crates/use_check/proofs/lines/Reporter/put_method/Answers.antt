@@ -13,4 +13,4 @@ pub returns : goal.returns
 returns c =
     on_ok_weaker c.put_named.result (λ e. e ∙ ap (λ (n : List ℕ). string_bytes c.args.out.now
     ++ named_lines (seen c.args.self.now) n c.args.context_number c.args.context (method_of c.args.method.now))
-        (c.as_str.ensures.value ∙ c.in_ok-name.ensures)) c.put_named.ensures
+    (c.as_str.ensures.value ∙ c.in_ok-name.ensures)) c.put_named.ensures

@@ -8,7 +8,7 @@ use Rattle.vm_world.proofs.world.World.run_several.Goals as goal
 pub loop-left-init : goal.loop-left-init
 loop-left-init c =
     begin_several c.args.self.now.program c.args.self.now.world c.args.order.now c.args.limit c.args.self.now c.args.ahead.now refl refl
-        c.requires.fresh
+    c.requires.fresh
     c.requires.ahead
 
 pub bounds-ahead-place : goal.bounds-ahead-place
@@ -22,7 +22,7 @@ loop-left-preserved-then-ahead-place-gt0 c =
     down_several c.args.self.now.program c.args.self.now.world c.args.order.now c.args.limit c.loop-left.self c.loop-left.ahead
     c.loop-left.left c.loop-left.idle c.loop-left.next c.loop-left.invariant c.if-idle-order.true c.requires.numbers
     (get_or c.args.order.now c.loop-left.next 0) refl c.following-next.result c.following-next.ensures c.if-ahead-place-gt0.true
-        c.loop-left-test.true
+    c.loop-left-test.true
 
 pub take_at_once-requires-clause-number : goal.take_at_once-requires-clause-number
 take_at_once-requires-clause-number c =
@@ -73,4 +73,4 @@ pub returns-after-loop-left-clause-run : goal.returns-after-loop-left-clause-run
 returns-after-loop-left-clause-run c =
     several_stopped c.args.self.now.program c.args.self.now.world c.args.order.now c.args.limit c.loop-left.self c.loop-left.ahead
     c.loop-left.left c.loop-left.idle c.loop-left.next c.loop-left.invariant c.requires.named
-        (inl (zero_is c.loop-left.left c.loop-left-test.false))
+    (inl (zero_is c.loop-left.left c.loop-left-test.false))

@@ -7,7 +7,7 @@ use Rattle.vm_world.proofs.world.World.take_turns.Goals as goal
 pub returns-then-taken-gt0-clause-turns : goal.returns-then-taken-gt0-clause-turns
 returns-then-taken-gt0-clause-turns c =
     counts_some c.args.self.now.program c.args.self.now.world c.turns_alone-taken.new.self.world c.args.role c.turns_alone-taken.result
-        c.if-taken-gt0.true
+    c.if-taken-gt0.true
     c.turns_alone-taken.ensures.turns
 
 pub advance-requires-clause-number : goal.advance-requires-clause-number
@@ -31,7 +31,7 @@ returns-then-counted-clause-turns c =
     none_taken c.args.self.now c.turns_alone-taken.new.self c.args.role c.turns_alone-taken.result c.turns_alone-taken.ensures.program
     c.turns_alone-taken.ensures.turns c.if-taken-gt0.false in
     counts_one c.args.self.now c.turns_alone-taken.new.self c.args.role c.advance.new.self.world c.in_ok-counted.counted same
-        c.if-counted.true
+    c.if-counted.true
     c.in_ok-counted.ensures.advances
 
 pub returns-else-counted-clause-turns : goal.returns-else-counted-clause-turns
@@ -40,5 +40,5 @@ returns-else-counted-clause-turns c =
     none_taken c.args.self.now c.turns_alone-taken.new.self c.args.role c.turns_alone-taken.result c.turns_alone-taken.ensures.program
     c.turns_alone-taken.ensures.turns c.if-taken-gt0.false in
     counts_none c.args.self.now c.turns_alone-taken.new.self c.args.role c.advance.new.self.world c.in_ok-counted.counted same
-        c.if-counted.false
+    c.if-counted.false
     c.in_ok-counted.ensures.advances
