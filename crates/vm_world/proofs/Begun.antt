@@ -23,11 +23,8 @@ start_more p (x ∷ mains) (role ∷ roles) main m h start = (h.0, start_more p 
 -- the next role of the list begins
 pub next_begun : (p : Program) (mains : List RoleMain) (roles new : List Kept) (k : ℕ) (main : RoleMain) (m : Running) → k < length mains →
     main ≡ get_or mains k main →
-    StartAt p (take k mains) (roles_of roles) → IsStart p main.class m.machine → new ≡ roles ++ record {
-      state = states.Runs m;
-      count =
-          0;
-    } ∷ [] →
+    StartAt p (take k mains) (roles_of roles) → IsStart p main.class m.machine →
+    new ≡ roles ++ record { state = states.Runs m; count = 0 } ∷ [] →
     StartAt p (take (k + 1) mains) (roles_of new)
 next_begun p mains roles new k main m lt is h start added =
     let taken : take (k + 1) mains ≡ take k mains ++ main ∷ [] =
