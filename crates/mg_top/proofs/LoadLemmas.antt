@@ -1,5 +1,6 @@
 -- What the command of a workload answers.
-use Rattle.std.proofs.Common.{◌≡◌, ◌∙◌, ◌<◌, ◌^◌, ℕ, zero, suc, Bool, true, false, map, List, [], ◌∷◌, ◌++◌, length, get_or, slice_get, All, Contains, Some, None, codes, refl, sym, ap, subst, arith}
+use Rattle.std.proofs.Common.{◌≡◌, ◌∙◌, ◌<◌, ◌^◌, ℕ, zero, suc, Bool, true, false, map, List, [], ◌∷◌, ◌++◌, length, get_or, slice_get, All}
+use Rattle.std.proofs.Common.{Contains, Some, None, codes, refl, sym, ap, subst, arith}
 use Rattle.std.specs.Prelude.{IfOk, Result}
 use Rattle.std.specs.List.{IsDistinct}
 use Rattle.std.specs.Str.{bytes_eq}
@@ -37,7 +38,8 @@ kinds_of_load names e =
     subst HaveKinds (sym e)
     (All-cons IsKind (codes "A.scr") _ (Scribble, (codes "A", refl))
     (All-cons IsKind (codes "B.scr") _ (Scribble, (codes "B", refl))
-    (All-cons IsKind (codes "AMain.java") _ (Java, (codes "AMain", refl)) (All-one IsKind (codes "BMain.java") (Java, (codes "BMain", refl))))))
+    (All-cons IsKind (codes "AMain.java") _ (Java, (codes "AMain", refl))
+    (All-one IsKind (codes "BMain.java") (Java, (codes "BMain", refl))))))
 
 pub as_many : (names : List Word) (contents : List (List ℕ)) (n seed : ℕ) → names ≡ file_names → contents ≡ file_texts n seed →
     length names ≡ length contents
@@ -86,7 +88,8 @@ each_numbered mains order e o r less =
 
 -- ---- what is done about it
 
-abbrev shown_so : (n seed : ℕ) (text : List ℕ) (messages : ℕ) (trace : List ℕ) (names : List Word) (counts : List ℕ) → List Stand → List Action
+abbrev shown_so : (n seed : ℕ) (text : List ℕ) (messages : ℕ) (trace : List ℕ) (names : List Word) (counts : List ℕ) → List Stand →
+    List Action
 shown_so n seed text messages trace names counts all =
     Print (text ++ loaded_line n seed messages) ∷ Say (trace ++ role_lines names counts all) ∷ []
 

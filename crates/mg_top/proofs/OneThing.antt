@@ -182,7 +182,8 @@ run_once (ran r h) (not_run q) e ne = absurd (ne e)
 run_once (not_run r) z e ne = absurd (ne refl)
 
 abbrev load_actions : (n seed : ℕ) → Course → List Action
-load_actions n seed r = Print (run_printed load_asked r ++ loaded_line n seed (messages_in r.last.events)) ∷ Say (run_said load_asked r) ∷ []
+load_actions n seed r = Print (run_printed load_asked r ++ loaded_line n seed (messages_in r.last.events)) ∷ Say (run_said load_asked r) ∷
+    []
 
 load_once : {n seed : ℕ} {a b : List Action} {m k : Status} → LoadGives n seed a m → LoadGives n seed b k → m ≡ k → m ≢ statuses.Refused →
     a ≡ b

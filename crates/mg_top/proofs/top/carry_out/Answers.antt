@@ -89,4 +89,5 @@ load-requires-clause-some c =
 pub load-requires-clause-most : goal.load-requires-clause-most
 load-requires-clause-most c =
     let known = c.requires.known in
-    (workload_of known.0 c.in-Load.branches c.in-Load.seed (subst (λ (z : Command). IsCommand (command_of z) known.0) c.in-Load.is known.1)).most
+    (workload_of known.0 c.in-Load.branches c.in-Load.seed
+    (subst (λ (z : Command). IsCommand (command_of z) known.0) c.in-Load.is known.1)).most
