@@ -4,7 +4,7 @@ use Rattle.std.specs.Fmt.{decimal}
 use Rattle.std.proofs.lemmas.Fmt.{decimal_injective}
 use Rattle.mg_words.specs.Words.{Word, Command, Translate, Conform, Check, Compile, Run, Exec, Refine, Project, Load, IsWorkload, IsBehind}
 use Rattle.mg_words.specs.Words.{IsCommand, AreCommand, CanBegin, AreWrong}
-use Rattle.mg_words.specs.inner.Judging.{IsNumber, IsUpTo, IsKnown}
+use Rattle.mg_words.specs.inner.Judging.{IsNumber, IsUpTo}
 use Rattle.mg_words.proofs.Verbs.{load, translate_load, conform_load, check_load, compile_load, run_load, exec_load, refine_load}
 use Rattle.mg_words.proofs.Verbs.{project_load}
 use Rattle.mg_words.proofs.WordsLemmas.{head_is, tail_is, filled, empty_is, few, wrong_at}
