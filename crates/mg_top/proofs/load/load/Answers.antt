@@ -23,3 +23,18 @@ run_roles-requires-clause-numbers c = numbers_below _ _ (c.as_slice-roles.ensure
 
 pub run_roles-requires-clause-order : goal.run_roles-requires-clause-order
 run_roles-requires-clause-order c = each_numbered _ _ (c.as_slice-roles.ensures.items ∙ c.in_ok-mains.ensures) refl
+
+pub returns-in-Ok : goal.returns-in-Ok
+returns-in-Ok c = λ read.
+    load_given c.args.branches c.args.seed read c.as_slice.result.now c.as_slice-2.result.now _ _ c.in-Ok.ran c.show.result
+    (c.as_slice.ensures.items ∙ c.in_ok-workload.ensures.names) (c.as_slice-2.ensures.items ∙ c.in_ok-workload.ensures.contents)
+    (c.as_slice-roles.ensures.items ∙ c.in_ok-mains.ensures) refl c.in-Ok.ensures.answered c.show.ensures.actions c.show.ensures.status
+
+pub returns-in-Err-Refused : goal.returns-in-Err-Refused
+returns-in-Err-Refused c = λ read.
+    let h = rw c.in-Err-Refused.field-0-is at c.in-Err-Refused.ensures in
+    let a = rw c.in-Err-Refused.field-0-is at c.said.ensures.actions in
+    gives _ read _ _ c.said.result a c.said.ensures.status
+    (refusal_given c.args.branches c.args.seed read c.as_slice.result.now c.as_slice-2.result.now _ _
+    (c.as_slice.ensures.items ∙ c.in_ok-workload.ensures.names) (c.as_slice-2.ensures.items ∙ c.in_ok-workload.ensures.contents)
+    (c.as_slice-roles.ensures.items ∙ c.in_ok-mains.ensures) h.answered)
