@@ -15,6 +15,7 @@ use Rattle.jv_core.specs.Tree as Core
 use Rattle.use_check.specs.Report.{IsReport}
 use Rattle.use_check.proofs.Reporting.{one_report}
 use Rattle.mg_words.specs.Words.{Word, Asked, limit_of, order_of, Command, Exec}
+use Rattle.vm_world_law.specs.Turns.{stands_in}
 use Rattle.mg_sources.specs.Files.{Source}
 use Rattle.mg_sources.specs.Faults.{fault_line, AreAlike}
 use Rattle.mg_sources.specs.Reading.{Protocol, States}
@@ -257,16 +258,16 @@ compile_alike {files = files} (not_compiled {line = l} r) (not_compiled {line = 
 run_alike : {asked : Asked} {files : List Source} {a b : List Action} {m n : Status} → RunGives asked files a m → RunGives asked files b n →
     m ≡ n →
     SameActions a b
-run_alike (ran r h) (ran s k) e = inl (run_once (ran r h) (ran s k) e (never_refused _))
-run_alike (ran r h) (not_run q) e = absurd (never_refused _ e)
-run_alike (not_run r) (ran s k) e = absurd (never_refused _ (sym e))
+run_alike (ran r h) (ran s k) e = inl (run_once (ran r h) (ran s k) e (never_refused (stands_in r.program r.last)))
+run_alike (ran r h) (not_run q) e = absurd (never_refused (stands_in r.program r.last) e)
+run_alike (not_run r) (ran s k) e = absurd (never_refused (stands_in s.program s.last) (sym e))
 run_alike {asked = asked} {files = files} (not_run {line = l} r) (not_run {line = k} q) e =
     say l k (runs_alike.same_refusal files (role_mains_of asked) l k r q)
 
 load_alike : {n seed : ℕ} {a b : List Action} {m k : Status} → LoadGives n seed a m → LoadGives n seed b k → m ≡ k → SameActions a b
-load_alike (loaded r h) (loaded s k) e = inl (load_once (loaded r h) (loaded s k) e (never_refused _))
-load_alike (loaded r h) (not_loaded q) e = absurd (never_refused _ e)
-load_alike (not_loaded r) (loaded s k) e = absurd (never_refused _ (sym e))
+load_alike (loaded r h) (loaded s k) e = inl (load_once (loaded r h) (loaded s k) e (never_refused (stands_in r.program r.last)))
+load_alike (loaded r h) (not_loaded q) e = absurd (never_refused (stands_in r.program r.last) e)
+load_alike (not_loaded r) (loaded s k) e = absurd (never_refused (stands_in s.program s.last) (sym e))
 load_alike {n = n} {seed = seed} (not_loaded {line = l} r) (not_loaded {line = k} q) e =
     say l k (runs_alike.same_refusal (load_sources n seed) (role_mains_of load_asked) l k r q)
 
