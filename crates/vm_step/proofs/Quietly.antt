@@ -1,5 +1,6 @@
--- Fields, calls and returns where nothing is wrong with them and they tell nothing.
-use Rattle.std.proofs.Common.{◌≡◌, ℕ, zero, suc, ◌+◌, ◌-◌, ◌<◌, ◌≤◌, Bool, true, false, List, [], ◌∷◌, ◌++◌, length, map, drop, get_or, set, slice_get}
+-- Fields, calls, returns and `equals` where nothing is wrong with them and they tell nothing.
+use Rattle.std.proofs.Common.{◌≡◌, ℕ, zero, suc, ◌+◌, ◌-◌, ◌<◌, ◌≤◌, Bool, true, false, List, [], ◌∷◌, ◌++◌, length, map, drop, get_or, set}
+use Rattle.std.proofs.Common.{slice_get}
 use Rattle.std.proofs.Common.{Option, Some, None, refl, sym, ap, ◌∙◌, subst, arith, add-zero, add-one, add-suc}
 use Rattle.std.specs.Prelude.{option_map, ◌||◌, codes}
 use Rattle.std.specs.Bool.{OnTrue, OnFalse}
@@ -11,28 +12,31 @@ use Rattle.mg_text.specs.declared.event.BadKind.{BadKind}
 use Rattle.vm_model.specs.declared.value.Value.{Value}
 use Rattle.vm_model.specs.declared.value.Value.TheVariants as values
 use Rattle.vm_model.specs.Program.{Program, class_name, field_at, method_at}
-use Rattle.vm_model.specs.Messages.{Messages}
 use Rattle.vm_model.specs.Machine as model
 use Rattle.vm_model.specs.Machine.{Machine, Frame, Went}
 use Rattle.vm_model.specs.Types.{FieldType, Named, signature_of}
-use Rattle.vm_model.specs.Actions.{Action, Sort, Read, Write, Call, Return, Static, Silent}
+use Rattle.vm_model.specs.declared.linked.Built.TheVariants as built
+use Rattle.vm_model.specs.Actions.{Action, Sort, Reference, Read, Write, Call, Return, Use, Static, Silent}
 use Rattle.vm_model.specs.Tests.{Want, Typed, Returned, needs, wrong, taking, returning, returned, call_needs, call_takes, below, on_top}
-use Rattle.vm_model.specs.Tests.{misfit, misfits, misfit_class, misfit_type, misfit_sort, first_of, some_of, is_kind, is_member, is_sort, type_in}
+use Rattle.vm_model.specs.Tests.{misfit, misfits, misfit_class, misfit_type, misfit_sort, first_of, some_of, is_kind, is_member, is_sort}
+use Rattle.vm_model.specs.Tests.{type_in, text}
 use Rattle.vm_model.specs.Tests.{object_name, params_in, descriptor_in, result_in, max_stack_in, max_locals_in, method_of_frame}
-use Rattle.vm_model.specs.Step.{act, calls, calls_in, left, next}
+use Rattle.vm_model.specs.Step.{calls, calls_in, left, next, same_text, truth}
 use Rattle.vm_frames.specs.Frames.{entered, left_to, IsNearest}
 use Rattle.vm_step.specs.Alone.{Quiet, QuietStep, StepAlone, AllAlone}
-use Rattle.vm_step.specs.inner.Tops.{at_top}
+use Rattle.vm_step.specs.inner.Tops.{at_top, text_in}
+use Rattle.vm_step.specs.inner.Builts.{equals_by}
 use Rattle.vm_step.specs.inner.Objects.{field_in, reads_at, reads_by}
 use Rattle.vm_step.specs.inner.Calls.{HasRoom}
 use Rattle.vm_step.proofs.Acts.{on_top_next}
 use Rattle.vm_step.proofs.Calling.{calls_is, returns_is}
 use Rattle.vm_step.proofs.Frames.{writes_is}
 use Rattle.vm_step.proofs.Ready.{nothing_wrong, top_one, top_two, some_is}
-use Rattle.vm_step.proofs.Whole.{read_is, write_is, call_is, return_none_is, return_some_is}
+use Rattle.vm_step.proofs.Whole.{equals_is, read_is, write_is, call_is, return_none_is, return_some_is}
 
 -- an object of the class of a name is one of that name
-name_is : (p : Program) (o : Option model.Object) (class : ℕ) → option_map (λ o. o.class) o ≡ Some class → object_name p o ≡ class_name p class
+name_is : (p : Program) (o : Option model.Object) (class : ℕ) → option_map (λ o. o.class) o ≡ Some class →
+    object_name p o ≡ class_name p class
 name_is p None class e = absurd (cc e)
 name_is p (Some o) class e = ap (class_name p) (some_is o.class class e)
 
@@ -50,6 +54,23 @@ of_class p heap class n e =
 pub has_class : (o : Option model.Object) (class : ℕ) → option_map (λ o. o.class) o ≡ Some class → (k : model.Object) × (o ≡ Some k)
 has_class None class e = absurd (cc e)
 has_class (Some o) class e = (o, refl)
+
+text_is : (o : Option Value) (t : List ℕ) → Some t ≡ text_in o → o ≡ Some (values.Text t)
+text_is (Some (values.Text u)) t e = cc
+text_is (Some (values.Int x)) t e = absurd (cc e)
+text_is (Some values.Null) t e = absurd (cc e)
+text_is (Some values.Out) t e = absurd (cc e)
+text_is (Some (values.Object n)) t e = absurd (cc e)
+text_is None t e = absurd (cc e)
+
+-- each value that is no int may be compared with a text
+any_object : (p : Program) (heap : List model.Object) (w : Value) → misfit_sort Reference w ≡ None →
+    misfit_class p heap (codes "java/lang/Object") w ≡ None
+any_object p heap (values.Int x) e = absurd (cc e)
+any_object p heap (values.Text u) e = refl
+any_object p heap values.Null e = refl
+any_object p heap values.Out e = refl
+any_object p heap (values.Object n) e = refl
 
 -- one operand more is looked at, and nothing is wrong with it
 pub one_less : {A : Type 0} (g : A → FieldType) (p : Program) (heap : List model.Object) (test : Option BadKind → Bool) (xs : List A)
@@ -100,7 +121,8 @@ module _ (p : Program) (m new : Machine) where
       ∙ ap (λ o. some_of test (None ∷ o ∷ [])) (of_class p m.heap class n is) ∙ (rw none refl) in
       read_is p q m me class field
       (nothing_wrong (needs p m (Read class field)) m
-      (None ∷ misfits p m.heap (Typed (Named (class_name p class)) ∷ []) (on_top 1 m.frame.operands)) some (found is_kind refl) (omega arith)
+      (None ∷ misfits p m.heap (Typed (Named (class_name p class)) ∷ []) (on_top 1 m.frame.operands)) some (found is_kind refl)
+      (omega arith)
       (found is_member refl) refl (omega arith))
       ∙ ap (reads_by q m field (below 1 m.frame.operands)) top ∙ ap (reads_at q m (below 1 m.frame.operands)) (sym holds)
       ∙ ap (λ k. Went k q None) (sym made)
@@ -123,9 +145,28 @@ module _ (p : Program) (m new : Machine) where
       ∙ ap (λ t. some_of test (None ∷ None ∷ t ∷ [])) fits ∙ (rw none refl) in
       write_is p q m me class field
       (nothing_wrong (needs p m (Write class field)) m
-      (None ∷ misfits p m.heap (Typed (Named (class_name p class)) ∷ type_in (field_at p class field) ∷ []) (on_top 2 m.frame.operands)) some
+      (None ∷ misfits p m.heap (Typed (Named (class_name p class)) ∷ type_in (field_at p class field) ∷ []) (on_top 2 m.frame.operands))
+      some
       (found is_kind refl) (omega arith) (found is_member refl) refl (omega arith))
       ∙ writes_is q m new m.frame.operands field n w o first (sym second) object made
+
+  pub quiet_equals : (t : List ℕ) (w : Value) → 2 ≤ length m.frame.operands →
+      length m.frame.operands - 1 ≤ max_stack_in (method_of_frame p m.frame) → Some t ≡ text_in (at_top m.frame.operands 1) →
+      at_top m.frame.operands 0 ≡ Some w → misfit_sort Reference w ≡ None →
+      new ≡ next m (below 2 m.frame.operands ++ truth (same_text t w) ∷ []) → Quiet p (Use built.Equals) m new true
+  quiet_equals t w some room first second sorted made = λ me q.
+      let found : (test : Option BadKind → Bool) → test None ≡ false →
+      some_of test (None ∷ misfits p m.heap (text ∷ Typed (Named (codes "java/lang/Object")) ∷ []) (on_top 2 m.frame.operands))
+      ≡ false =
+      λ test none. ap (λ l. some_of test (None ∷ misfits p m.heap (text ∷ Typed (Named (codes "java/lang/Object")) ∷ []) l))
+      (top_two m.frame.operands (values.Text t) w some (text_is (at_top m.frame.operands 1) t first) second)
+      ∙ ap (λ o. some_of test (None ∷ None ∷ o ∷ [])) (any_object p m.heap w sorted) ∙ (rw none refl) in
+      equals_is p q m me
+      (nothing_wrong (needs p m (Use built.Equals)) m
+      (None ∷ misfits p m.heap (text ∷ Typed (Named (codes "java/lang/Object")) ∷ []) (on_top 2 m.frame.operands)) some
+      (found is_kind refl) (omega arith) (found is_member refl) refl (omega arith))
+      ∙ ap (λ o. equals_by q m (below 2 m.frame.operands) o (at_top m.frame.operands 0)) (sym first)
+      ∙ ap (equals_by q m (below 2 m.frame.operands) (Some t)) second ∙ ap (λ k. Went k q None) (sym made)
 
   -- the tests of a call that takes these
   call_right : (a : Action) (takes : List Want) (class method : ℕ) → needs p m a ≡ call_needs p m takes (method_at p class method) →

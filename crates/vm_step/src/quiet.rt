@@ -1,10 +1,11 @@
-//! Fields, calls and returns where nothing is wrong with them and they tell nothing, by the cells where they lie.
+//! Fields, calls, returns and `equals` where nothing is wrong with them and they tell nothing, by the cells where they lie.
 //! What isn't right, tells something or finds no memory is left to the general tests.
 
 ghost use Rattle.std.specs.Prelude.{◌≡◌, ◌-◌, ◌<◌, ◌≤◌, ◌^◌, Bool, false, Option, None, Some, length, map, option_map, slice_get, IfSome};
 ghost use Rattle.std.specs.Bool.{OnTrue, OnFalse};
 ghost use Rattle.mg_text.specs.declared.event.BadKind.{BadKind};
 ghost use Rattle.vm_model.specs.Program.{method_at};
+ghost use Rattle.vm_model.specs.declared.linked.Built.TheVariants as builts;
 ghost use Rattle.vm_model.specs.Actions as actions;
 ghost use Rattle.vm_model.specs.Kept.{type_kept};
 ghost use Rattle.vm_model.specs.Tests.{Typed, max_stack_in, method_of_frame, misfits, on_top, some_of};
@@ -16,12 +17,15 @@ ghost use Rattle.vm_step.specs.Alone.{Quiet, QuietStep, AllAlone};
 ghost use Rattle.vm_step.specs.inner.Calls.{HasRoom};
 
 use crate::action::{Action, Calling, Sort, action_of};
+use crate::built::is_text;
 use crate::frequent::{is_of_sort, steps_here};
 use crate::needs::{Want, misfit_type};
+use crate::operands::text_at;
 use crate::program::{field_at, max_stack, method_at, result_type};
+use crate::session::truth;
 use crate::step::{field_want, next_instr};
 use vm_frames::{Callee, Cell, State};
-use vm_model::{Linked, LinkedType};
+use vm_model::{Built, Linked, LinkedType};
 
 /// The number of an object, where a value is one of the class of this number.
 #[inline(always)]
@@ -97,10 +101,36 @@ fn write(state: &mut State, linked: &Linked, class: u32, field: u32) -> bool
     true
 }
 
+/// Compares the text under the value on top with it.
+fn equals(state: &mut State, linked: &Linked) -> bool
+    requires { state.old.machine.frame.place < 2 ^ 32 - 1 }
+    ensures { Quiet (classes_of linked.now.classes.items) (actions.Use builts.Equals) (state_of state.old) (state_of state.new) result }
+{
+    let count = state.depth();
+    if count < 2 {
+        return false;
+    }
+    if count - 1 > room(linked, state) {
+        return false;
+    }
+    let Some(text) = text_at(state, 1) else {
+        return false;
+    };
+    let value = state.operand(0);
+    if !is_of_sort(Sort::Reference, value) {
+        return false;
+    }
+    let same = truth(is_text(state, text, value));
+    let place = state.place() + 1;
+    state.put(2, same, place);
+    true
+}
+
 /// Whether the operands on top meet these types.
 fn fit(linked: &Linked, state: &State, params: &[LinkedType]) -> bool
     requires { length params.now ≤ length (operands_of state.now) }
-    ensures { OnTrue result ((test : Option BadKind → Bool) → test None ≡ false → some_of test (misfits (classes_of linked.now.classes.items)
+    ensures { OnTrue result ((test : Option BadKind → Bool) → test None ≡ false →
+        some_of test (misfits (classes_of linked.now.classes.items)
         (state_of state.now).heap (map Typed (map type_kept params.now)) (on_top (length params.now) (operands_of state.now))) ≡ false) }
 {
     for (at, param) in params.iter().enumerate() {
@@ -263,8 +293,8 @@ fn call(state: &mut State, linked: &Linked, calling: Calling, class: u32, method
     }
 }
 
-/// Takes the next step, where it works on a field, calls or returns, nothing is wrong with it and it
-/// tells nothing. Else nothing changes.
+/// Takes the next step, where it works on a field, calls, returns or compares texts, nothing is wrong
+/// with it and it tells nothing. Else nothing changes.
 pub(crate) fn step_quietly(state: &mut State, linked: &Linked) -> bool
     ensures { QuietStep (classes_of linked.now.classes.items) (state_of state.old) (state_of state.new) result }
 {
@@ -275,6 +305,7 @@ pub(crate) fn step_quietly(state: &mut State, linked: &Linked) -> bool
         Some(Action::Return(sort)) => return_from(state, linked, sort),
         Some(Action::Read { class, field }) => read(state, linked, class, field),
         Some(Action::Write { class, field }) => write(state, linked, class, field),
+        Some(Action::Use(Built::Equals)) => equals(state, linked),
         Some(
             Action::Call {
                 calling,

@@ -1,4 +1,4 @@
-use Rattle.std.proofs.Common.{◌≡◌, ◌-◌, length, drop, map, Some, slice_get, sym, ap, ◌∙◌, arith}
+use Rattle.std.proofs.Common.{◌≡◌, ◌-◌, length, drop, map, Some, slice_get, sym, ap, ◌∙◌}
 use Rattle.std.proofs.lemmas.List.{drop_all}
 use Rattle.vm_model.specs.Kept.{type_kept}
 use Rattle.vm_model.specs.Tests.{Typed, misfits, on_top, some_of}
@@ -18,7 +18,8 @@ loop-at-preserved c =
     taken_at (operands_of c.args.state.now) (length c.args.params.now) c.loop-at.at c.loop-at-test.true c.requires
     ∙ c.operand-cell.ensures.value in
     λ test none.
-    one_less type_kept (classes_of c.args.linked.now.classes.items) (state_of c.args.state.now).heap test c.args.params.now tops c.loop-at.at
+    one_less type_kept (classes_of c.args.linked.now.classes.items) (state_of c.args.state.now).heap test c.args.params.now tops
+    c.loop-at.at
     c.index-params-at.result v c.loop-at-test.true (sym c.index-params-at.is) there
     (rw c.field_type.ensures at (sym c.misfit_type.ensures ∙ c.in_default.is)) none
     ∙ c.loop-at.invariant test none

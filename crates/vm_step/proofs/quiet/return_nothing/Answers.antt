@@ -1,4 +1,4 @@
-use Rattle.std.proofs.Common.{◌≡◌, None, Some, sym, ap, ◌∙◌, arith}
+use Rattle.std.proofs.Common.{◌≡◌, None, sym, ap, ◌∙◌}
 use Rattle.std.specs.Option.{option_map}
 use Rattle.vm_model.specs.Program.{method_at}
 use Rattle.vm_model.specs.Types.{signature_of}
@@ -6,9 +6,7 @@ use Rattle.vm_model.specs.Descriptors.{type_view}
 use Rattle.vm_model.specs.Actions.{Return}
 use Rattle.vm_model.specs.Tests.{result_in, descriptor_in, method_of_frame}
 use Rattle.vm_model.specs.View.{classes_of}
-use Rattle.vm_frames.specs.Seen.{value_in}
 use Rattle.vm_step.specs.State.{state_of}
-use Rattle.vm_step.specs.Table.{sort_of}
 use Rattle.vm_step.proofs.Ready.{when_true}
 use Rattle.vm_step.proofs.Quietly.{quiet_if, quiet_return}
 use Rattle.vm_step.proofs.quiet.return_nothing.Goals as goal

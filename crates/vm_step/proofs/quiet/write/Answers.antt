@@ -25,7 +25,7 @@ returns c =
     (c.operand.ensures.value ∙ ap (λ x. Some (value_in c.args.state.now.texts x)) c.in-Some.ensures.object)
     c.operand-cell.ensures.value c.in-Some.ensures.class o.1
     (ap type_in (sym c.field_at.ensures) ∙ sym c.field_want.ensures ∙ ap want_of c.in-Typed.is)
-    (sym c.misfit_type.ensures ∙ c.in_default.is)
+    (sym c.misfit_type.ensures ∙ c.in_default-misfit_type.is)
     (c.drop.ensures.machine
     ∙ (λ i. at_place (written i) ((c.place-place.ensures ∙ ap (λ (k : Machine). k.frame.place) written) i + 1)
     (below 2 (written i).frame.operands)))
