@@ -10,12 +10,13 @@ use Rattle.mg_words.specs.declared.runs.Input.TheVariants as input
 use Rattle.mg_words.specs.declared.options.Named.{Named}
 use Rattle.mg_words.specs.declared.options.Named.TheVariants as named
 use Rattle.mg_words.specs.Words.{Word, RoleClass, Roles, Alone, Several, role_names, Command, Translate, Conform, Check, Compile, Run, Exec}
-use Rattle.mg_words.specs.Words.{Refine, Project, Asked, RunOption, Main, Role, Order, Steps, Trace, Out, option_words, IsOption}
+use Rattle.mg_words.specs.Words.{Refine, Project, Verify, Asked, RunOption, Main, Role, Order, Steps, Trace, Out, option_words, IsOption}
 use Rattle.mg_words.specs.Words.{AreOptions, IsCommand, AreCommand, CanBegin, AreWrong}
 use Rattle.mg_words.specs.inner.Judging.{IsFirstOther, has_name, AreGiven, word_of, kind_of, IsPlain, IsNewRole, Fits, IsNoValue}
 use Rattle.mg_words.specs.inner.Judging.{can_follow, are_whole, roles_more, with_more, made, verb_of, IsFor, AreFor, Keeps, is_barred}
 use Rattle.mg_words.proofs.WordsLemmas.{head_is, tail_is, filled, nothing_behind, All-first, All-rest, All-push, All-mid, none_yet}
 use Rattle.mg_words.proofs.WordsLemmas.{some_for, for_named, some_class, classed, pushed_filled, IsRunBehind, is_run, run_is, first_wrong}
+use Rattle.mg_words.proofs.VerifyLemmas.{same_verify}
 use Rattle.mg_words.proofs.WordsLemmas.{same_translate, same_conform, same_check, same_compile}
 use Rattle.mg_words.proofs.RefineLemmas.{same_refine}
 use Rattle.mg_words.proofs.ProjectLemmas.{same_project}
@@ -448,3 +449,4 @@ same_command words (Run asked files) b (rest, e, (options, words_are, how, are))
 same_command words (Refine files) b (rest, e, behind) is = same_refine b files rest behind (subst (IsCommand b) e is)
 same_command words (Project folder files) b (rest, e, behind) is = same_project b folder files rest behind (subst (IsCommand b) e is)
 same_command words (Exec asked files) b (rest, e, behind) is = same_run input.Classes b asked files rest behind (subst (IsCommand b) e is)
+same_command words (Verify files) b (rest, e, behind) is = same_verify b files rest behind (subst (IsCommand b) e is)

@@ -77,6 +77,8 @@ pub data Command : Type 0 where
   Refine : (files : List Word) → Command
   -- write the local protocols of the roles of this file's global protocol, into a folder where one is named
   Project : (folder : Option Word) → (files : List Word) → Command
+  -- tell how many methods these class files have, where each has a typing
+  Verify : (files : List Word) → Command
 
 -- the files that a command reads, in their order
 abbrev pub files_of : Command → List Word
@@ -88,6 +90,7 @@ files_of (Run asked files) = files
 files_of (Exec asked files) = files
 files_of (Refine files) = files
 files_of (Project folder files) = files
+files_of (Verify files) = files
 
 -- no name of a file or folder is empty or begins with "-"
 abbrev pub IsFileName : Word → Type 0
@@ -223,6 +226,7 @@ verb (Run asked files) = codes "run"
 verb (Exec asked files) = codes "exec"
 verb (Refine files) = codes "refine"
 verb (Project folder files) = codes "project"
+verb (Verify files) = codes "verify"
 
 -- the words behind the first: options and then files
 abbrev pub IsBehind : Command → List Word → Type 0
@@ -232,6 +236,7 @@ IsBehind (Check files) rest = (rest ≡ files) × AreSourceNames files
 IsBehind (Compile folder files) rest = (rest ≡ out_words folder ++ files) × IfSome folder IsFileName × AreSourceNames files
 IsBehind (Refine files) rest = (rest ≡ files) × AreTwoTypestates files
 IsBehind (Project folder files) rest = (rest ≡ out_words folder ++ files) × IfSome folder IsFileName × IsOneProtocol files
+IsBehind (Verify files) rest = (rest ≡ files) × AreFilesOf (codes ".class") files
 IsBehind (Run asked files) rest = (options : List Word) × (rest ≡ options ++ files) × AreOptions asked options × AreSourceNames files
 IsBehind (Exec asked files) rest =
     (options : List Word) × (rest ≡ options ++ files) × AreOptions asked options × (asked.folder ≡ None) × AreFilesOf (codes ".class") files

@@ -50,6 +50,10 @@ pub enum Command<'a> {
         folder: Option<&'a Text>,
         files: &'a [Text],
     },
+    /// `verify`, and the class files.
+    Verify {
+        files: &'a [Text],
+    },
 }
 
 impl<'a> Command<'a> {
@@ -66,6 +70,7 @@ impl<'a> Command<'a> {
             Command::Exec { files, .. } => files,
             Command::Refine { files } => files,
             Command::Project { files, .. } => files,
+            Command::Verify { files } => files,
         }
     }
 }
@@ -101,6 +106,8 @@ pub fn judge(words: &[Text]) -> Judged<'_>
                 judge_refine(rest)
             } else if is_word(command, "project") {
                 judge_project(rest)
+            } else if is_word(command, "verify") {
+                judge_verify(rest)
             } else {
                 Judged::Wrong(Some(command))
             }
@@ -272,6 +279,19 @@ fn judge_check(files: &[Text]) -> Judged<'_>
         return Judged::Wrong(None);
     }
     Judged::Known(Command::Check { files })
+}
+
+// The same of the words behind `verify`, which are its class files.
+fn judge_verify(files: &[Text]) -> Judged<'_>
+    ensures { IsJudged (codes "verify" ∷ files.now) result }
+{
+    if let Some(word) = other_file(files, b".class") {
+        return Judged::Wrong(Some(word));
+    }
+    if files.is_empty() {
+        return Judged::Wrong(None);
+    }
+    Judged::Known(Command::Verify { files })
 }
 
 // The same of the words behind `compile`.
