@@ -19,6 +19,7 @@ use crate::reading::{Unread, read_all};
 use crate::refine::refine;
 use crate::run::run;
 use crate::translate::translate;
+use crate::verify::verify;
 use crate::{Status, lines};
 use mg_io::{Folder, Sink};
 use mg_text::{Bytes, Memory, Text};
@@ -56,6 +57,8 @@ const CLASS_LIMIT: usize = 16_777_217;
 /// `exec [--steps N] [--order A,B,..] [--trace] (--main C | --role R=C ..) F..` runs class files as they
 /// are, in the same way: nothing is asked of how they were made, so that a role may also end at a null
 /// or because its code is wrong. What a method answered is told as a number in the trace.
+/// `verify F..` tells how many methods the class files have, where each of them has a typing: no role
+/// ends because of wrong code where such files are run.
 pub fn mungo<F: Folder, O: Sink, E: Sink>(
     alloc: Global,
     words: &[Text],
@@ -112,7 +115,7 @@ fn read_limit(command: &Command<'_>) -> usize
         | Command::Run { .. }
         | Command::Refine { .. }
         | Command::Project { .. } => SOURCE_LIMIT,
-        Command::Exec { .. } => CLASS_LIMIT,
+        Command::Exec { .. } | Command::Verify { .. } => CLASS_LIMIT,
     }
 }
 
@@ -138,5 +141,6 @@ fn carry_out(alloc: Global, command: &Command<'_>, contents: &[Bytes]) -> Result
         Command::Exec { asked, files } => exec(alloc, &asked, files, contents),
         Command::Refine { files } => refine(alloc, files, contents),
         Command::Project { folder, files } => project(alloc, folder, files, contents),
+        Command::Verify { files } => verify(alloc, files, contents),
     }
 }

@@ -28,10 +28,14 @@ not_refused files line said h (unverified program class method is first told) =
     let same : h.program ≡ program = one_program files h.program program h.linked is in
     none_untypable program class method (subst AllTypable same h.typable) first
 
+-- one line is told of files
+pub one_line : (files : List Source) (line other : List ℕ) → AreVerified files line → AreVerified files other → line ≡ other
+one_line files line other h k =
+    h.told ∙ ap (λ p. verified_line (methods_of p)) (one_program files h.program k.program h.linked k.linked) ∙ sym k.told
+
 pub only_line : (files : List Source) (result : Result (List ℕ) Stop) → IsAnswer files result → (line : List ℕ) → AreVerified files line →
     IsThat line result
-only_line files (Ok told) h line v =
-    h.told ∙ ap (λ p. verified_line (methods_of p)) (one_program files h.program v.program h.linked v.linked) ∙ sym v.told
+only_line files (Ok told) h line v = one_line files told line h v
 only_line files (Err (stops.Refused told)) h line v = not_refused files line told v h
 only_line files (Err stops.Memory) h line v = tt
 
