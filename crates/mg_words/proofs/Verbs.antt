@@ -26,6 +26,9 @@ refine = codes "refine"
 abbrev pub project : Word
 project = codes "project"
 
+abbrev pub load : Word
+load = codes "load"
+
 abbrev pub verify : Word
 verify = codes "verify"
 
@@ -113,6 +116,30 @@ exec_project e = absurd (omega (arith, ap length e))
 pub refine_project : {P : Type 0} → refine ≡ project → P
 refine_project e = absurd (omega (arith, ap length e))
 
+pub translate_load : {P : Type 0} → translate ≡ load → P
+translate_load e = absurd (omega (arith, ap length e))
+
+pub conform_load : {P : Type 0} → conform ≡ load → P
+conform_load e = absurd (omega (arith, ap length e))
+
+pub check_load : {P : Type 0} → check ≡ load → P
+check_load e = absurd (omega (arith, ap length e))
+
+pub compile_load : {P : Type 0} → compile ≡ load → P
+compile_load e = absurd (omega (arith, ap length e))
+
+pub run_load : {P : Type 0} → run ≡ load → P
+run_load e = absurd (omega (arith, ap length e))
+
+pub exec_load : {P : Type 0} → exec ≡ load → P
+exec_load e = absurd (omega (arith, ap (λ (w : Word). get_or w 0 0) e))
+
+pub refine_load : {P : Type 0} → refine ≡ load → P
+refine_load e = absurd (omega (arith, ap length e))
+
+pub project_load : {P : Type 0} → project ≡ load → P
+project_load e = absurd (omega (arith, ap length e))
+
 pub translate_verify : {P : Type 0} → translate ≡ verify → P
 translate_verify e = absurd (omega (arith, ap length e))
 
@@ -136,3 +163,6 @@ refine_verify e = absurd (omega (arith, ap (λ (w : Word). get_or w 0 0) e))
 
 pub project_verify : {P : Type 0} → project ≡ verify → P
 project_verify e = absurd (omega (arith, ap length e))
+
+pub load_verify : {P : Type 0} → load ≡ verify → P
+load_verify e = absurd (omega (arith, ap length e))

@@ -1,10 +1,11 @@
 -- Which words are the command `verify`, and which can't follow.
 use Rattle.std.proofs.Common.{◌≡◌, List, [], ◌∷◌, ◌++◌, All, length, Some, None, codes, refl, sym, ap, ◌∙◌, subst, append_assoc}
-use Rattle.mg_words.specs.Words.{Word, Command, Translate, Conform, Check, Compile, Run, Exec, Refine, Project, Verify, IsFileOf, AreFilesOf}
+use Rattle.mg_words.specs.Words.{Word, Command, Translate, Conform, Check, Compile, Run, Exec, Refine, Project, Load, Verify, IsFileOf}
+use Rattle.mg_words.specs.Words.{AreFilesOf}
 use Rattle.mg_words.specs.Words.{IsBehind, IsCommand, AreCommand, CanBegin, AreWrong}
 use Rattle.mg_words.specs.inner.Judging.{IsFirstOther}
 use Rattle.mg_words.proofs.Verbs.{verify, translate_verify, conform_verify, check_verify, compile_verify, run_verify, exec_verify}
-use Rattle.mg_words.proofs.Verbs.{refine_verify, project_verify}
+use Rattle.mg_words.proofs.Verbs.{refine_verify, project_verify, load_verify}
 use Rattle.mg_words.proofs.WordsLemmas.{head_is, tail_is, few, pushed_filled, none_yet, All-push, All-mid}
 
 named : IsFileOf (codes ".class") (codes "P.class")
@@ -38,6 +39,7 @@ is_verify (Run asked files) rest (r, e, b) = run_verify (sym (head_is e))
 is_verify (Exec asked files) rest (r, e, b) = exec_verify (sym (head_is e))
 is_verify (Refine files) rest (r, e, b) = refine_verify (sym (head_is e))
 is_verify (Project folder files) rest (r, e, b) = project_verify (sym (head_is e))
+is_verify (Load branches seed) rest (r, e, b) = load_verify (sym (head_is e))
 is_verify (Verify files) rest (r, e, b) = (files, refl, subst (IsBehind (Verify files)) (sym (tail_is e)) b)
 
 -- what stands behind it are class files
@@ -60,7 +62,8 @@ wrong_class_file files word (before, after, is, each, isnt) = record {
   found (more, (command, k)) =
       let split : ((verify ∷ before) ++ word ∷ []) ++ more ≡ verify ∷ (before ++ word ∷ more) =
       append_assoc (verify ∷ before) (word ∷ []) more in
-      All-mid (IsFileOf (codes ".class")) before word more (verify_files command (before ++ word ∷ more) (subst (IsCommand command) split k)).1
+      All-mid (IsFileOf (codes ".class")) before word more
+      (verify_files command (before ++ word ∷ more) (subst (IsCommand command) split k)).1
 
 pub same_verify : (command : Command) (files rest : List Word) → IsBehind (Verify files) rest → IsCommand command (verify ∷ rest)
     → Verify files ≡ command

@@ -77,6 +77,8 @@ pub data Command : Type 0 where
   Refine : (files : List Word) → Command
   -- write the local protocols of the roles of this file's global protocol, into a folder where one is named
   Project : (folder : Option Word) → (files : List Word) → Command
+  -- run the workload of so many branches, whose order a number picks
+  Load : (branches seed : ℕ) → Command
   -- tell how many methods these class files have, where each has a typing
   Verify : (files : List Word) → Command
 
@@ -90,6 +92,7 @@ files_of (Run asked files) = files
 files_of (Exec asked files) = files
 files_of (Refine files) = files
 files_of (Project folder files) = files
+files_of (Load branches seed) = []
 files_of (Verify files) = files
 
 -- no name of a file or folder is empty or begins with "-"
@@ -134,6 +137,12 @@ pub record IsOneProtocol (files : List Word) : Type 0 where
   pub file : Word
   pub one : files ≡ file ∷ []
   pub scribble : IsFileOf (codes ".scr") file
+
+-- how many branches a workload may have, and which numbers may pick their order
+pub record IsWorkload (branches seed : ℕ) : Type 0 where
+  pub some : 1 ≤ branches
+  pub most : branches ≤ 400
+  pub picks : seed ≤ 18446744073709551615
 
 -- the option that names a folder
 abbrev pub out_words : Option Word → List Word
@@ -226,9 +235,10 @@ verb (Run asked files) = codes "run"
 verb (Exec asked files) = codes "exec"
 verb (Refine files) = codes "refine"
 verb (Project folder files) = codes "project"
+verb (Load branches seed) = codes "load"
 verb (Verify files) = codes "verify"
 
--- the words behind the first: options and then files
+-- the words behind the first: options and then files, or numbers
 abbrev pub IsBehind : Command → List Word → Type 0
 IsBehind (Translate folder files) rest = (rest ≡ out_words folder ++ files) × IfSome folder IsFileName × AreFilesOf (codes ".scr") files
 IsBehind (Conform files) rest = (rest ≡ files) × AreProtocolAndCalls files
@@ -236,6 +246,7 @@ IsBehind (Check files) rest = (rest ≡ files) × AreSourceNames files
 IsBehind (Compile folder files) rest = (rest ≡ out_words folder ++ files) × IfSome folder IsFileName × AreSourceNames files
 IsBehind (Refine files) rest = (rest ≡ files) × AreTwoTypestates files
 IsBehind (Project folder files) rest = (rest ≡ out_words folder ++ files) × IfSome folder IsFileName × IsOneProtocol files
+IsBehind (Load branches seed) rest = (rest ≡ decimal branches ∷ decimal seed ∷ []) × IsWorkload branches seed
 IsBehind (Verify files) rest = (rest ≡ files) × AreFilesOf (codes ".class") files
 IsBehind (Run asked files) rest = (options : List Word) × (rest ≡ options ++ files) × AreOptions asked options × AreSourceNames files
 IsBehind (Exec asked files) rest =
