@@ -268,7 +268,8 @@ compile_alike {files = files} (not_compiled {line = l} r) (not_compiled {line = 
 run_alike : {asked : Asked} {files : List Source} {a b : List Action} {m n : Status} → RunGives asked files a m → RunGives asked files b n →
     m ≡ n →
     SameActions a b
-run_alike (ran r h) (ran s k) e = inl (run_once (ran r h) (ran s k) e (never_refused (stands_in r.program r.last)))
+run_alike {asked = asked} {files = files} (ran r h) (ran s k) e =
+    inl (run_once {asked = asked} {files = files} (ran r h) (ran s k) e (never_refused (stands_in r.program r.last)))
 run_alike (ran r h) (not_run q) e = absurd (never_refused (stands_in r.program r.last) e)
 run_alike (not_run r) (ran s k) e = absurd (never_refused (stands_in s.program s.last) (sym e))
 run_alike {asked = asked} {files = files} (not_run {line = l} r) (not_run {line = k} q) e =
