@@ -1,6 +1,6 @@
 -- Class files have one line that tells their methods, and files that are refused have none.
 use Rattle.std.proofs.Common.{◌≡◌, ℕ, List, Some, Result, Ok, Err, sym, ap, ◌∙◌, subst}
-use Rattle.std.specs.Prelude.{OnOk}
+use Rattle.std.specs.Prelude.{IfOk, OnOk}
 use Rattle.mg_read.proofs.Judging.{no_both}
 use Rattle.mg_text.specs.Call.{Name}
 use Rattle.vm_model.specs.Program.{Program}
@@ -12,6 +12,8 @@ use Rattle.mg_sources.specs.declared.stop.Stop.{Stop}
 use Rattle.mg_sources.specs.declared.stop.Stop.TheVariants as stops
 use Rattle.mg_exec.proofs.Apart.{one_files, one_program, no_flaw}
 use Rattle.mg_exec.proofs.FilesRead.{none_refused}
+use Rattle.world_typed_law.proofs.Suiting.{worlds_never_bad}
+use Rattle.mg_verified.specs.Sound.{NeverEndBadly}
 use Rattle.mg_verified.specs.Verified.{AreVerified, Refusal, unread, unlinked, unverified, methods_of, verified_line}
 use Rattle.mg_verified.specs.View.{IsAnswer, IsThat}
 
@@ -43,3 +45,10 @@ pub refused_line : (files : List Source) (result : Result (List ℕ) Stop) → I
     OnOk result ⊥
 refused_line files (Ok told) h line refused = not_refused files told line h refused
 refused_line files (Err stop) h line refused = tt
+
+-- no role of a world of such files ends badly
+pub never_badly : (files : List Source) (result : Result (List ℕ) Stop) → IsAnswer files result → IfOk result (λ line. NeverEndBadly files)
+never_badly files (Ok told) h = λ program is mains first begun picks r role at kind bad.
+    worlds_never_bad program (subst AllTypable (one_program files h.program program h.linked is) h.typable) mains first begun picks r role at
+    kind bad
+never_badly files (Err stop) h = tt

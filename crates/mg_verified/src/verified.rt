@@ -4,6 +4,7 @@ ghost use Rattle.std.specs.Prelude.{◌≡◌, ℕ, List as Seq, length, map, su
 ghost use Rattle.vm_model.specs.View.{classes_of};
 ghost use Rattle.cls_verify.specs.Typing.{AllTypable};
 ghost use Rattle.mg_sources.specs.Files.{sources};
+ghost use Rattle.mg_verified.specs.Sound.{NeverEndBadly};
 ghost use Rattle.mg_verified.specs.Verified.{AreVerified, Refusal, methods_of};
 ghost use Rattle.mg_verified.specs.View.{IsAnswer, IsThat, IsTried};
 
@@ -28,6 +29,8 @@ pub fn verify_files(alloc: Global, names: &[Text], contents: &[Bytes]) -> Result
     ensures answered { IsAnswer (sources names.now contents.now) result }
     // Files whose methods all have typings are answered by their number, unless memory runs out.
     ensures only { (line : Seq ℕ) → AreVerified (sources names.now contents.now) line → IsThat line result }
+    // Where such files are run no role ends badly, whatever turns are taken.
+    ensures sound { IfOk result (λ _. NeverEndBadly (sources names.now contents.now)) }
     // Of files that are refused no number is told.
     ensures refused { (line : Seq ℕ) → Refusal (sources names.now contents.now) line → OnOk result ⊥ }
 {
