@@ -1,5 +1,5 @@
 -- Class files have one line that tells their methods, and files that are refused have none.
-use Rattle.std.proofs.Common.{◌≡◌, ℕ, List, Some, Result, Ok, Err, sym, ap, ◌∙◌, subst}
+use Rattle.std.proofs.Common.{◌≡◌, ℕ, List, Result, Ok, Err, sym, ap, ◌∙◌, subst}
 use Rattle.std.specs.Prelude.{IfOk, OnOk}
 use Rattle.mg_read.proofs.Judging.{no_both}
 use Rattle.mg_text.specs.Call.{Name}
@@ -49,6 +49,7 @@ refused_line files (Err stop) h line refused = tt
 -- no role of a world of such files ends badly
 pub never_badly : (files : List Source) (result : Result (List ℕ) Stop) → IsAnswer files result → IfOk result (λ line. NeverEndBadly files)
 never_badly files (Ok told) h = λ program is mains first begun picks r role at kind bad.
-    worlds_never_bad program (subst AllTypable (one_program files h.program program h.linked is) h.typable) mains first begun picks r role at
+    worlds_never_bad program (subst AllTypable (one_program files h.program program h.linked is) h.typable) mains first begun picks r role
+    at
     kind bad
 never_badly files (Err stop) h = tt
