@@ -1,0 +1,47 @@
+//! Why a command goes no further with its files.
+
+use crate::refusal::Refusal;
+use mg_text::Memory;
+use std::alloc::{AllocError, AllocFailed};
+
+/// Why a command goes no further with its files.
+#[derive(Debug, Drop)]
+pub enum Stop {
+    /// They are refused.
+    Refused(Refusal),
+    /// Want of memory.
+    Memory,
+}
+
+impl From<Memory> for Stop {
+    ghost use Rattle.std.specs.Prelude.{◌≡◌};
+    ghost use Rattle.mg_refusal.specs.declared.stop.Stop.TheVariants as E;
+
+    ghost from_gives = { λ _ e. e ≡ E.Memory };
+
+    fn from(_memory: Memory) -> Stop {
+        Stop::Memory
+    }
+}
+
+impl From<AllocError> for Stop {
+    ghost use Rattle.std.specs.Prelude.{◌≡◌};
+    ghost use Rattle.mg_refusal.specs.declared.stop.Stop.TheVariants as E;
+
+    ghost from_gives = { λ _ e. e ≡ E.Memory };
+
+    fn from(_error: AllocError) -> Stop {
+        Stop::Memory
+    }
+}
+
+impl<T: Drop> From<AllocFailed<T>> for Stop {
+    ghost use Rattle.std.specs.Prelude.{◌≡◌};
+    ghost use Rattle.mg_refusal.specs.declared.stop.Stop.TheVariants as E;
+
+    ghost from_gives = { λ _ e. e ≡ E.Memory };
+
+    fn from(_error: AllocFailed<T>) -> Stop {
+        Stop::Memory
+    }
+}
