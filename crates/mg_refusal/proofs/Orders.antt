@@ -1,8 +1,9 @@
 -- Laws of the first refusal.
-use Rattle.std.proofs.Common.{◌≡◌, Option, Some, None, Result, Ok, Err, refl, sym, ◌∙◌, ap, subst, inl}
+use Rattle.std.proofs.Common.{◌≡◌, ℕ, [], codes, Option, Some, None, Result, Ok, Err, refl, sym, ◌∙◌, ap, subst, inl, inr}
 use Rattle.std.specs.Prelude.{OnOk}
-use Rattle.mg_refusal.specs.Refusals.{Refusal, AreAlike}
-use Rattle.mg_refusal.specs.Order.{Finds, Then, at_first, at_next, Answers, AnswersOnly, IsStopOf}
+use Rattle.mg_text.specs.declared.place.Place.{Place}
+use Rattle.mg_refusal.specs.Refusals.{Refusal, refusal_at, in_file, AreAlike}
+use Rattle.mg_refusal.specs.Order.{Finds, InFile, Then, at_first, at_next, Answers, AnswersOnly, IsStopOf, stop_in}
 use Rattle.mg_refusal.specs.declared.stop.Stop.{Stop}
 use Rattle.mg_refusal.specs.declared.stop.Stop.TheVariants as stops
 
@@ -10,6 +11,21 @@ use Rattle.mg_refusal.specs.declared.stop.Stop.TheVariants as stops
 pub finds_alike : {F : Type 0} (Is : F → Type 0) (refusal_of : F → Refusal) → ((f g : F) → Is f → Is g → f ≡ g) →
     (r q : Refusal) → Finds Is refusal_of r → Finds Is refusal_of q → AreAlike r q
 finds_alike Is refusal_of one r q (f, is, says) (g, is', says') = inl (says ∙ ap refusal_of (one f g is is') ∙ sym says')
+
+-- the same is said of one file
+pub same_in : (file : ℕ) (r q s t : Refusal) → s ≡ t → r ≡ in_file file s → q ≡ in_file file t → AreAlike r q
+same_in file r q s t same e d = inl (e ∙ ap (in_file file) same ∙ sym d)
+
+-- Syntax is said of one file
+pub syntax_in : (file : ℕ) (r q s t : Refusal) (first second : Place) → s ≡ refusal_at (codes "Syntax") first [] →
+    t ≡ refusal_at (codes "Syntax") second [] → r ≡ in_file file s → q ≡ in_file file t → AreAlike r q
+syntax_in file r q s t first second h k e d = inr (record {
+  first = record first { file = file };
+  second = record second { file = file };
+  one_file = refl;
+  says = e ∙ ap (in_file file) h;
+  also = d ∙ ap (in_file file) k;
+})
 
 module _ {A : Type 0} {First : Refusal → Type 0} {Passes : A → Type 0} {Next : A → Refusal → Type 0} where
   -- two first refusals are alike, where what passes is one thing and isn't refused
@@ -54,3 +70,12 @@ stop_refused Comes Right First (Some f) (stops.Refused r) h go = go f r refl h
 stop_refused Comes Right First (Some f) stops.Memory h go = absurd h
 stop_refused Comes Right First None (stops.Refused r) h go = absurd h
 stop_refused Comes Right First None stops.Memory h go = tt
+
+-- and in a file
+pub stop_in_file : {A F : Type 0} (file : ℕ) (Comes : F → Refusal → Type 0) (Right : A → Type 0) (First : Refusal → Type 0) (told : Option F)
+    (stop : Stop) → IsStopOf Comes told stop → ((f : F) (r : Refusal) → told ≡ Some f → InFile file (Comes f) r → First r) →
+    Answers Right First (Err (stop_in file stop))
+stop_in_file file Comes Right First (Some f) (stops.Refused r) h go = go f (in_file file r) refl (r, h, refl)
+stop_in_file file Comes Right First (Some f) stops.Memory h go = absurd h
+stop_in_file file Comes Right First None (stops.Refused r) h go = absurd h
+stop_in_file file Comes Right First None stops.Memory h go = tt

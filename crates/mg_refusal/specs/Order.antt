@@ -1,12 +1,16 @@
 -- The order of work: which refusal is the first, and what a call answers of it.
-use Rattle.std.specs.Prelude.{◌≡◌, Option, Some, None, Result, Ok, Err}
-use Rattle.mg_refusal.specs.Refusals.{Refusal}
+use Rattle.std.specs.Prelude.{◌≡◌, ℕ, Option, Some, None, Result, Ok, Err}
+use Rattle.mg_refusal.specs.Refusals.{Refusal, in_file}
 use Rattle.mg_refusal.specs.declared.stop.Stop.{Stop}
 use Rattle.mg_refusal.specs.declared.stop.Stop.TheVariants as stops
 
 -- what is found, and how it is refused
 abbrev pub Finds : {F : Type 0} → (Is : F → Type 0) → (refusal_of : F → Refusal) → Refusal → Type 0
 Finds {F} Is refusal_of r = (f : F) × Is f × (r ≡ refusal_of f)
+
+-- what is said of the text of this number is refused there
+abbrev pub InFile : (file : ℕ) → (Said : Refusal → Type 0) → Refusal → Type 0
+InFile file Said r = Finds Said (in_file file) r
 
 -- The first refusal of two steps of work: that of the first step, or, where this passes with some value, that of the next over the value.
 pub data Then {A : Type 0} (First : Refusal → Type 0) (Passes : A → Type 0) (Next : A → Refusal → Type 0) (r : Refusal) : Type 0 where
@@ -29,3 +33,7 @@ IsStopOf Comes (Some f) (stops.Refused r) = Comes f r
 IsStopOf Comes (Some f) stops.Memory = ⊥
 IsStopOf Comes None (stops.Refused r) = ⊥
 IsStopOf Comes None stops.Memory = Unit {0}
+
+abbrev pub stop_in : (file : ℕ) → Stop → Stop
+stop_in file (stops.Refused r) = stops.Refused (in_file file r)
+stop_in file stops.Memory = stops.Memory

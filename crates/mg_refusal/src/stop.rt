@@ -13,6 +13,21 @@ pub enum Stop {
     Memory,
 }
 
+impl Stop {
+    ghost use Rattle.std.specs.Prelude.{◌≡◌};
+    ghost use Rattle.mg_refusal.specs.Order.{stop_in};
+
+    /// The same at that place of the text of this number.
+    pub fn in_file(self, file: u32) -> Stop
+        ensures { result ≡ stop_in file self }
+    {
+        match self {
+            Stop::Refused(refusal) => Stop::Refused(refusal.in_file(file)),
+            Stop::Memory => Stop::Memory,
+        }
+    }
+}
+
 impl From<Memory> for Stop {
     ghost use Rattle.std.specs.Prelude.{◌≡◌};
     ghost use Rattle.mg_refusal.specs.declared.stop.Stop.TheVariants as E;

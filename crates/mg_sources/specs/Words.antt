@@ -1,6 +1,5 @@
 -- The word for each condition of each reader.
-use Rattle.std.specs.Prelude.{ℕ, List, [], codes, Option, Some, None}
-use Rattle.mg_text.specs.Call.{Name}
+use Rattle.std.specs.Prelude.{ℕ, List, codes}
 use Rattle.scr_tree.specs.declared.condition.Condition.{Condition as OfProtocols}
 use Rattle.scr_tree.specs.declared.condition.Condition.TheVariants as protocols
 use Rattle.ts_read.specs.declared.condition.Condition.{Condition as OfTypestates}
@@ -30,7 +29,3 @@ typestate_word typestates.DuplicateMethod = codes "DuplicateMethod"
 typestate_word typestates.SignatureDiffers = codes "SignatureDiffers"
 typestate_word typestates.DuplicateLabel = codes "DuplicateLabel"
 typestate_word typestates.ReservedEnd = codes "ReservedEnd"
-
-abbrev pub name_told : Option Name → List ℕ
-name_told (Some name) = name
-name_told None = []
