@@ -44,7 +44,8 @@ passes_told directions.From peer label kind p l = (p, l)
 module _ (me : Name) where
   -- what stands behind a branch is clean
   behind_clean : (way : Way) (at : Name) (earlier : List Statements) (b : Statements) (more : Branches)
-      → Clean (ReservedLabel me) (branch_spots way at earlier (Branch b more)) → Clean (ReservedLabel me) (branch_spots way at (b ∷ earlier) more)
+      → Clean (ReservedLabel me) (branch_spots way at earlier (Branch b more)) →
+      Clean (ReservedLabel me) (branch_spots way at (b ∷ earlier) more)
   behind_clean way at earlier b more h =
       (clean_both (ReservedLabel me) (spots (Enters at earlier ∷ way) b) (branch_spots way at (b ∷ earlier) more) h).1
 

@@ -75,7 +75,8 @@ pub files_fine : (local : LocalTree) (files : List ApiText) â†’ IsValid local â†
 files_fine local files valid api =
     let p : Place = start_of local.file in
     let me : IsRoleName local.me = of_each IsRoleName local.roles local.me valid.written.roles valid.me_listed in
-    let told : AllByRecursion IsTold (does local.me 1 local.body) = does_told local.me [] local.body 1 valid.written.body valid.labels_free in
+    let told : AllByRecursion IsTold (does local.me 1 local.body) = does_told local.me [] local.body 1 valid.written.body valid.labels_free
+    in
     let all : AllByRecursion IsTold (doings (protocol_of local)) = subst (AllByRecursion IsTold) (does_same local.me local.body 1) told in
     subst (AllByRecursion IsFineFile) (sym api.are_files)
     (class_fine p local.me api.firsts me (firsts_told api.are_firsts all), enums_fine p local.me (doings (protocol_of local)) me all)

@@ -39,7 +39,8 @@ module _ {A : Type 0} {First : Refusal → Type 0} {Passes : A → Type 0} {Next
       next b p' r q (subst (λ (z : A). Next z r) (one a b p p') h) k
 
   -- where the steps pass nothing is refused
-  pub then_never : ((r : Refusal) → First r → ⊥) → ((a : A) → Passes a → (r : Refusal) → Next a r → ⊥) → (r : Refusal) → Then First Passes Next r → ⊥
+  pub then_never : ((r : Refusal) → First r → ⊥) → ((a : A) → Passes a → (r : Refusal) → Next a r → ⊥) → (r : Refusal) →
+      Then First Passes Next r → ⊥
   then_never first next r (at_first h) = first r h
   then_never first next r (at_next a p h) = next a p r h
 
@@ -64,7 +65,8 @@ never_ok Right First (Ok a) h never = never a h
 never_ok Right First (Err stop) h never = tt
 
 -- the refusal by a fault that is told
-pub stop_refused : {A F : Type 0} (Comes : F → Refusal → Type 0) (Right : A → Type 0) (First : Refusal → Type 0) (told : Option F) (stop : Stop) →
+pub stop_refused : {A F : Type 0} (Comes : F → Refusal → Type 0) (Right : A → Type 0) (First : Refusal → Type 0) (told : Option F)
+    (stop : Stop) →
     IsStopOf Comes told stop → ((f : F) (r : Refusal) → told ≡ Some f → Comes f r → First r) → Answers Right First (Err stop)
 stop_refused Comes Right First (Some f) (stops.Refused r) h go = go f r refl h
 stop_refused Comes Right First (Some f) stops.Memory h go = absurd h
@@ -72,7 +74,8 @@ stop_refused Comes Right First None (stops.Refused r) h go = absurd h
 stop_refused Comes Right First None stops.Memory h go = tt
 
 -- and in a file
-pub stop_in_file : {A F : Type 0} (file : ℕ) (Comes : F → Refusal → Type 0) (Right : A → Type 0) (First : Refusal → Type 0) (told : Option F)
+pub stop_in_file : {A F : Type 0} (file : ℕ) (Comes : F → Refusal → Type 0) (Right : A → Type 0) (First : Refusal → Type 0)
+    (told : Option F)
     (stop : Stop) → IsStopOf Comes told stop → ((f : F) (r : Refusal) → told ≡ Some f → InFile file (Comes f) r → First r) →
     Answers Right First (Err (stop_in file stop))
 stop_in_file file Comes Right First (Some f) (stops.Refused r) h go = go f (in_file file r) refl (r, h, refl)

@@ -20,8 +20,10 @@ pub data Part : Type 0 where
   Classes : File → Part
 
 pub data Reads (source : Source) : Part → Type 0 where
-  protocol : {local : LocalTree} → IsOf Scribble source → scribble.Outcome source.number source.bytes (scribble.Protocol local) → Reads source (Protocol local)
-  states : {typestate : Typestate} → IsOf Typestates source → typestates.Outcome source.number source.bytes (typestates.Read typestate) → Reads source (States typestate)
+  protocol : {local : LocalTree} → IsOf Scribble source → scribble.Outcome source.number source.bytes (scribble.Protocol local) →
+      Reads source (Protocol local)
+  states : {typestate : Typestate} → IsOf Typestates source → typestates.Outcome source.number source.bytes (typestates.Read typestate) →
+      Reads source (States typestate)
   classes : {file : File} → IsOf Java source → java.Outcome source.number source.bytes (java.Read file) → Reads source (Classes file)
 
 -- each of the files spells one of these, in their order

@@ -16,7 +16,8 @@ use Rattle.mg_sources.specs.Reading.{Part, Protocol, States, Classes, Reads, Eac
 -- the Java files and the typestates that a part of a program stands for
 pub data Stands : Part → List File → List Typestate → Type 0 where
   -- a protocol: its API class and then its enums, and its typestate
-  protocol : {local : LocalTree} {api : List ApiText} → IsApi local api → Stands (Protocol local) (map (λ f. f.tree) api) (typestate_of local ∷ [])
+  protocol : {local : LocalTree} {api : List ApiText} → IsApi local api → Stands (Protocol local) (map (λ f. f.tree) api)
+      (typestate_of local ∷ [])
   states : {typestate : Typestate} → Stands (States typestate) [] (typestate ∷ [])
   classes : {file : File} → Stands (Classes file) (file ∷ []) []
 
@@ -39,7 +40,8 @@ adding number files typestates s = record {
 pub data Spell : List Source → Sourced → Type 0 where
   none : Spell [] empty
   one : {source : Source} {sources : List Source} {part : Part} {files : List File} {typestates : List Typestate} {rest : Sourced} →
-      Reads source part → Stands part files typestates → Spell sources rest → Spell (source ∷ sources) (adding source.number files typestates rest)
+      Reads source part → Stands part files typestates → Spell sources rest →
+      Spell (source ∷ sources) (adding source.number files typestates rest)
 
 -- the file spells a protocol of this role
 abbrev pub IsOfRole : Source → List ℕ → Type 0
@@ -62,4 +64,5 @@ pub record AreProgram (files : List Source) (sourced : Sourced) : Type 0 where
 -- The first refusal of these files: by the reader of the first file that is refused, or else at the first file whose protocol is of a role
 -- that an earlier file's is of.
 abbrev pub FirstRefusal : List Source → Refusal → Type 0
-FirstRefusal files = Then (λ r. Judged Refuses files (Some r)) (EachSpells files) (λ parts r. Judged SharesRole (with_earlier files) (Some r))
+FirstRefusal files = Then (λ r. Judged Refuses files (Some r)) (EachSpells files) (λ parts r. Judged SharesRole (with_earlier files)
+    (Some r))

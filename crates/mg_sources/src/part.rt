@@ -31,7 +31,8 @@ pub enum Part {
 /// What one file spells, or its fault.
 pub(crate) fn read_part(alloc: Global, number: u32, name: &Text, bytes: &[u8]) -> Result<Part, Stop>
     requires { (kind : Kind) × IsOf kind (source_of number name.now bytes.now) }
-    ensures { Answers (λ part. Reads (source_of number name.now bytes.now) (part_of part)) (Refuses (source_of number name.now bytes.now)) result }
+    ensures { Answers (λ part. Reads (source_of number name.now bytes.now) (part_of part)) (Refuses (source_of number name.now bytes.now))
+        result }
 {
     if ends_with(name, b".scr") {
         return read_scribble(alloc, number, bytes);

@@ -45,7 +45,8 @@ pub fn read_program(alloc: Global, names: &[Text], contents: &[Bytes]) -> Result
     requires count { length contents.now < 2 ^ 32 }
     requires kinds { HaveKinds names.now }
     // What is answered is the program that the files are, or their first refusal.
-    ensures answered { Answers (λ s. AreProgram (sources names.now contents.now) (sourced_of s)) (FirstRefusal (sources names.now contents.now)) result }
+    ensures answered { Answers (λ s. AreProgram (sources names.now contents.now) (sourced_of s))
+        (FirstRefusal (sources names.now contents.now)) result }
     // The program that the files are is answered, unless memory runs out.
     ensures only { (s : Sourced) → AreProgram (sources names.now contents.now) s → AnswersOnly (λ k. sourced_of k ≡ s) result }
     // Files that are refused are no program.
@@ -59,7 +60,8 @@ fn program_of(alloc: Global, names: &[Text], contents: &[Bytes]) -> Result<Sourc
     requires same { length names.now ≡ length contents.now }
     requires count { length contents.now < 2 ^ 32 }
     requires kinds { HaveKinds names.now }
-    ensures { Answers (λ s. AreProgram (sources names.now contents.now) (sourced_of s)) (FirstRefusal (sources names.now contents.now)) result }
+    ensures { Answers (λ s. AreProgram (sources names.now contents.now) (sourced_of s)) (FirstRefusal (sources names.now contents.now))
+        result }
 {
     let parts = read_parts(alloc, names, contents)?;
     check_roles(alloc, parts.as_slice())?;

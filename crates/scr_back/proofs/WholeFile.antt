@@ -1,5 +1,6 @@
 -- A printed local protocol is read as the same protocol.
-use Rattle.std.proofs.Common.{◌≡◌, None, ℕ, suc, max, ◌≤◌, ⊎_elim, inl, List, [], ◌∷◌, ◌++◌, refl, sym, ap, subst, ◌∙◌, codes, arith, Contains, append_assoc, length}
+use Rattle.std.proofs.Common.{◌≡◌, None, ℕ, suc, max, ◌≤◌, ⊎_elim, inl, List, [], ◌∷◌, ◌++◌, refl, sym, ap, subst, ◌∙◌, codes, arith}
+use Rattle.std.proofs.Common.{Contains, append_assoc, length}
 use Rattle.std.specs.List.{AllByRecursion}
 use Rattle.std.proofs.lemmas.List.{append-nil}
 use Rattle.std.proofs.lemmas.List.Elements.{Contains-append_cases, Contains-push_cases}
@@ -44,15 +45,19 @@ mutual
 listed_name : (names : List Name) (name : Name) → AllByRecursion IsName names → Contains names name → IsName name
 listed_name [] name h c = absurd (omega (arith, c.1))
 listed_name (x ∷ xs) name h c =
-    ⊎_elim (λ one. ⊎_elim (λ none. absurd (omega (arith, none.1))) (λ same. subst IsName same h.0) (Contains-push_cases [] x name one)) (λ more. listed_name xs name h.1 more)
+    ⊎_elim (λ one. ⊎_elim (λ none. absurd (omega (arith, none.1))) (λ same. subst IsName same h.0) (Contains-push_cases [] x name one))
+    (λ more. listed_name xs name h.1 more)
     (Contains-append_cases (x ∷ []) xs name c)
 
 -- ---- the file
 
 abbrev FileParts : LocalTree → List Tok → Type 0
 FileParts local =
-    Behind (λ a. marked a marks.Local) (Behind (λ a. marked a marks.Protocol) (Behind (λ a. named a local.name) (Behind (λ a. marked a marks.At) (Behind (λ a. named a local.me)
-    (Behind (λ a. marked a marks.OpenParen) (Both (RolesTold local.roles) (Behind (λ a. marked a marks.CloseParen) (Both (Blocked local.body) (λ ts. ts ≡ [])))))))))
+    Behind (λ a. marked a marks.Local)
+    (Behind (λ a. marked a marks.Protocol)
+    (Behind (λ a. named a local.name) (Behind (λ a. marked a marks.At) (Behind (λ a. named a local.me)
+    (Behind (λ a. marked a marks.OpenParen)
+    (Both (RolesTold local.roles) (Behind (λ a. marked a marks.CloseParen) (Both (Blocked local.body) (λ ts. ts ≡ [])))))))))
 
 file_told : (local : LocalTree) → IsWritten local → Contains local.roles local.me → Told Any (FileParts local) (layout local)
 file_told local w listed =
@@ -85,7 +90,8 @@ pub record Printed (file : ℕ) (local : LocalTree) : Type 0 where
 -- what is told of the tokens is the grammar's
 file_back : (file : ℕ) (local : LocalTree) → IsWritten local → Whole file (FileParts local) (layout local) → Printed file local
 file_back file local w h =
-    let l = h.holds in let p = l.3 in let n = p.3 in let a = n.3 in let m = a.3 in let o = m.3 in let rs = o.3 in let k = rs.4 in let b = k.3 in
+    let l = h.holds in let p = l.3 in let n = p.3 in let a = n.3 in let m = a.3 in let o = m.3 in let rs = o.3 in let k = rs.4 in
+    let b = k.3 in
     let roles = rs.3 in let body = b.3 in
     record {
       written = record {
@@ -111,7 +117,8 @@ file_back file local w h =
           local_at = l.0;
           protocol_at = p.0;
           name_at = n.0;
-          tokens = l.2 ∙ on (p.2 ∙ on (n.2 ∙ on (a.2 ∙ on (m.2 ∙ on (o.2 ∙ on (rs.2 ∙ ap (λ z. rs.0 ++ z) (k.2 ∙ on (b.2 ∙ ap (λ z. b.0 ++ z) b.4 ∙ append-nil b.0))
+          tokens = l.2 ∙ on (p.2 ∙ on (n.2 ∙
+              on (a.2 ∙ on (m.2 ∙ on (o.2 ∙ on (rs.2 ∙ ap (λ z. rs.0 ++ z) (k.2 ∙ on (b.2 ∙ ap (λ z. b.0 ++ z) b.4 ∙ append-nil b.0))
               ∙ sym (append_assoc rs.0 (marked k.0 marks.CloseParen ∷ []) b.0)))))));
           starts = inl refl;
           declares = refl;
@@ -130,5 +137,15 @@ printed file local w listed = file_back file local w (whole file (file_told loca
 pub printed_spells : (file : ℕ) (local : LocalTree) → IsWritten local → Contains local.roles local.me → length (layout local) ≤ 1048576 →
     (w : WrittenTree) × Spells file (layout local) w × IsSame local (local_of w)
 printed_spells file local w listed size =
-    let h = printed file local w listed in
-    (h.written, record { same_file = h.same_file; tokens = h.tokens; separates = record { size = size; cut = h.cut }; supported = h.supported; spelled = h.spelled }, h.same)
+    let h = printed file local w listed in (
+      h.written,
+      record {
+        same_file = h.same_file;
+        tokens = h.tokens;
+        separates = record { size = size; cut = h.cut };
+        supported =
+            h.supported;
+        spelled = h.spelled;
+      },
+      h.same,
+    )

@@ -1,5 +1,6 @@
 -- The actions of a statement alone, and behind it.
-use Rattle.std.proofs.Common.{◌≡◌, ℕ, ◌+◌, ◌<◌, get_or, drop, length, Bool, true, false, if◌then◌else◌, List, [], ◌∷◌, ◌++◌, Option, Some, None, refl, sym, ap, ◌∙◌, append_assoc}
+use Rattle.std.proofs.Common.{◌≡◌, ℕ, ◌+◌, ◌<◌, get_or, drop, length, Bool, true, false, if◌then◌else◌, List, [], ◌∷◌, ◌++◌, Option, Some}
+use Rattle.std.proofs.Common.{None, refl, sym, ap, ◌∙◌, append_assoc}
 use Rattle.std.specs.Str.{bytes_eq}
 use Rattle.std.proofs.lemmas.List.{append-nil}
 use Rattle.std.proofs.lemmas.Grind.{common_steps}
@@ -18,12 +19,14 @@ use Rattle.scr_tree.proofs.Behind.{each_front, statements-step, statements-past,
 
 module _ (me : Name) (n : ℕ) where
   pub next-front : (s : Statement) (rest : Statements) → next me n (front s rest) ≡ next me (next me n (front s Nothing)) rest
-  next-front s rest = each_front (λ f. next me n (f rest) ≡ next me (next me n (f Nothing)) rest) (λ m. refl) (λ p at bs. refl) (λ p name body. refl) (λ p name. refl) s
+  next-front s rest = each_front (λ f. next me n (f rest) ≡ next me (next me n (f Nothing)) rest) (λ m. refl) (λ p at bs. refl)
+      (λ p name body. refl) (λ p name. refl) s
 
   alone-choice : (a b r : List Action) → a ++ (b ++ r) ≡ (a ++ (b ++ [])) ++ r
   alone-choice a b r = ap (λ x. a ++ (x ++ r)) (sym (append-nil b)) ∙ sym (append_assoc a (b ++ []) r)
 
-  pub actions-front : (s : Statement) (rest : Statements) → actions me n (front s rest) ≡ actions me n (front s Nothing) ++ actions me (next me n (front s Nothing)) rest
+  pub actions-front : (s : Statement) (rest : Statements) → actions me n (front s rest) ≡ actions me n (front s Nothing)
+      ++ actions me (next me n (front s Nothing)) rest
   actions-front s rest =
       each_front (λ f. actions me n (f rest) ≡ actions me n (f Nothing) ++ actions me (next me n (f Nothing)) rest) (λ m. refl)
       (λ p at bs. alone-choice (looked_unless (bytes_eq at me) me n p (peer_in bs)) (actions_in me (opened (bytes_eq at me) n) bs) _)
@@ -37,7 +40,8 @@ module _ (me : Name) (n : ℕ) where
   next-Message m = ap (λ f. next me n (f Nothing)) (front-Message m)
 
   pub actions-Choice : (p : _) (at : Name) (bs : Row (Row Statement)) (self : Bool) → bytes_eq at me ≡ self →
-      actions me n (front (kinds.Choice p at bs) Nothing) ≡ looked_unless self me n p (peer_in (bodies bs.items)) ++ actions_in me (opened self n) (bodies bs.items)
+      actions me n (front (kinds.Choice p at bs) Nothing) ≡ looked_unless self me n p (peer_in (bodies bs.items)) ++ actions_in me
+      (opened self n) (bodies bs.items)
   actions-Choice p at bs self e =
       ap (λ f. actions me n (f Nothing)) (front-Choice p at bs)
       ∙ ap (λ b. looked_unless b me n p (peer_in (bodies bs.items)) ++ (actions_in me (opened b n) (bodies bs.items) ++ [])) e
@@ -45,12 +49,15 @@ module _ (me : Name) (n : ℕ) where
 
   pub next-Choice : (p : _) (at : Name) (bs : Row (Row Statement)) (self : Bool) → bytes_eq at me ≡ self →
       next me n (front (kinds.Choice p at bs) Nothing) ≡ next_in me (opened self n) (bodies bs.items)
-  next-Choice p at bs self e = ap (λ f. next me n (f Nothing)) (front-Choice p at bs) ∙ ap (λ b. next_in me (opened b n) (bodies bs.items)) e
+  next-Choice p at bs self e = ap (λ f. next me n (f Nothing)) (front-Choice p at bs) ∙ ap (λ b. next_in me (opened b n) (bodies bs.items))
+      e
 
-  pub actions-Rec : (p : _) (name : Name) (body : Row Statement) → actions me n (front (kinds.Rec p name body) Nothing) ≡ actions me n (statements body.items)
+  pub actions-Rec : (p : _) (name : Name) (body : Row Statement) → actions me n (front (kinds.Rec p name body) Nothing) ≡ actions me n
+      (statements body.items)
   actions-Rec p name body = ap (λ f. actions me n (f Nothing)) (front-Rec p name body) ∙ append-nil _
 
-  pub next-Rec : (p : _) (name : Name) (body : Row Statement) → next me n (front (kinds.Rec p name body) Nothing) ≡ next me n (statements body.items)
+  pub next-Rec : (p : _) (name : Name) (body : Row Statement) → next me n (front (kinds.Rec p name body) Nothing) ≡ next me n
+      (statements body.items)
   next-Rec p name body = ap (λ f. next me n (f Nothing)) (front-Rec p name body)
 
   -- the step of a walk over statements
@@ -58,11 +65,13 @@ module _ (me : Name) (n : ℕ) where
     pub next-step : next me n (statements (drop i ss)) ≡ next me (next me n (front x Nothing)) (statements (drop (i + 1) ss))
     next-step = ap (next me n) (statements-step ss i x within is) ∙ next-front x _
 
-    pub actions-step : actions me n (statements (drop i ss)) ≡ actions me n (front x Nothing) ++ actions me (next me n (front x Nothing)) (statements (drop (i + 1) ss))
+    pub actions-step : actions me n (statements (drop i ss)) ≡ actions me n (front x Nothing) ++ actions me (next me n (front x Nothing))
+        (statements (drop (i + 1) ss))
     actions-step = ap (actions me n) (statements-step ss i x within is) ∙ actions-front x _
     -- the first peer
 
-pub peers-said : (ss : Statements) (more : Branches) (o : Option Message) → first_said ss ≡ o → peer_in (Branch ss more) ≡ elim o [ None ↦ None | Some m ↦ Some m.peer ]
+pub peers-said : (ss : Statements) (more : Branches) (o : Option Message) → first_said ss ≡ o →
+    peer_in (Branch ss more) ≡ elim o [ None ↦ None | Some m ↦ Some m.peer ]
 peers-said Nothing more o e = ap (λ o. elim o [ None ↦ None | Some m ↦ Some m.peer ]) e
 peers-said (Says m rest) more o e = ap (λ o. elim o [ None ↦ None | Some m ↦ Some m.peer ]) e
 peers-said (Choice p at bs rest) more o e = ap (λ o. elim o [ None ↦ None | Some m ↦ Some m.peer ]) e
@@ -71,7 +80,18 @@ peers-said (Continue p name rest) more o e = ap (λ o. elim o [ None ↦ None | 
 
 pub ruleset peers = (common_steps, peers-said)
 
-pub ruleset alone = (common_steps, front-Continue, actions-Message, next-Message, actions-Choice, next-Choice, actions-Rec, next-Rec, append_assoc, append-nil)
+pub ruleset alone = (
+  common_steps,
+  front-Continue,
+  actions-Message,
+  next-Message,
+  actions-Choice,
+  next-Choice,
+  actions-Rec,
+  next-Rec,
+  append_assoc,
+  append-nil,
+)
 
 pub ruleset all_steps = (common_steps, next-step, actions-step, statements-past, append_assoc, append-nil)
 

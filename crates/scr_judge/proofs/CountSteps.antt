@@ -15,17 +15,21 @@ use Rattle.scr_tree.specs.View.{bodies}
 use Rattle.scr_tree.proofs.Behind.{each_front, statements-step, statements-past, bodies-step, bodies-past}
 
 module _ (me : Name) (first : Bool) (n : ℕ) where
-  counted-front : (s : Statement) (rest : Statements) → counted me first n (front s rest) ≡ counted me false (counted me first n (front s Nothing)) rest
-  counted-front s rest = each_front (λ f. counted me first n (f rest) ≡ counted me false (counted me first n (f Nothing)) rest) (λ m. refl) (λ p at bs. refl) (λ p name body. refl) (λ p name. refl) s
+  counted-front : (s : Statement) (rest : Statements) → counted me first n (front s rest) ≡ counted me false
+      (counted me first n (front s Nothing)) rest
+  counted-front s rest = each_front (λ f. counted me first n (f rest) ≡ counted me false (counted me first n (f Nothing)) rest) (λ m. refl)
+      (λ p at bs. refl) (λ p name body. refl) (λ p name. refl) s
 
   pub counted-step : (ss : List Statement) (i : ℕ) (x : Statement) → i < length ss → x ≡ get_or ss i x →
       counted me first n (statements (drop i ss)) ≡ counted me false (counted me first n (front x Nothing)) (statements (drop (i + 1) ss))
   counted-step ss i x within is = ap (counted me first n) (statements-step ss i x within is) ∙ counted-front x _
 
-  pub counted-Choice : (p : _) (at : Name) (bs : Row (Row Statement)) → counted me first n (front (kinds.Choice p at bs) Nothing) ≡ counted_in me (bytes_eq at me) (up n) (bodies bs.items)
+  pub counted-Choice : (p : _) (at : Name) (bs : Row (Row Statement)) → counted me first n (front (kinds.Choice p at bs) Nothing) ≡
+      counted_in me (bytes_eq at me) (up n) (bodies bs.items)
   counted-Choice p at bs = ap (λ f. counted me first n (f Nothing)) (front-Choice p at bs)
 
-  pub counted-Rec : (p : _) (name : Name) (body : Row Statement) → counted me first n (front (kinds.Rec p name body) Nothing) ≡ counted me false n (statements body.items)
+  pub counted-Rec : (p : _) (name : Name) (body : Row Statement) → counted me first n (front (kinds.Rec p name body) Nothing) ≡ counted me
+      false n (statements body.items)
   counted-Rec p name body = ap (λ f. counted me first n (f Nothing)) (front-Rec p name body)
 
   pub counted-Message : (m : Message) → counted me first n (front (kinds.Message m) Nothing) ≡ (if first then n else up n)

@@ -1,5 +1,6 @@
 -- A file without a fault is a valid local protocol.
-use Rattle.std.proofs.Common.{◌≡◌, ⊎_elim, List, [], ◌∷◌, ◌++◌, map, Option, None, Bool, true, false, Contains, refl, sym, subst, ◌∙◌, true≢false}
+use Rattle.std.proofs.Common.{◌≡◌, ⊎_elim, List, [], ◌∷◌, ◌++◌, map, Option, None, Bool, true, false, Contains, refl, sym, subst, ◌∙◌}
+use Rattle.std.proofs.Common.{true≢false}
 use Rattle.std.specs.List.{list_any}
 use Rattle.std.specs.Str.{bytes_eq}
 use Rattle.std.proofs.lemmas.List.Elements.{Contains-push, Contains-append_left}
@@ -25,7 +26,11 @@ split {K} {C} {Of} {k} {ks} p = go _ _ p refl refl
     go ls r none e n = let no : ⊥ = cc in absurd no
     go ls r (this a) e n = let no : ⊥ = cc in absurd no
     go ls r (next {k = j} {ks = js} a q) e n =
-        let same : j ≡ k = cc in let rest : js ≡ ks = cc in (subst (λ z. Of z None) same a, subst (λ s. FirstOf Of ks s) n (subst (λ zs. FirstOf Of zs r) rest q))
+        let same : j ≡ k = cc in let rest : js ≡ ks = cc in (
+          subst (λ z. Of z None) same a,
+          subst (λ s. FirstOf Of ks s) n
+              (subst (λ zs. FirstOf Of zs r) rest q),
+        )
 
 module _ {X C : Type 0} (At : X → C → Type 0) where
   clean_behind : (xs ys : List X) → Clean At (xs ++ ys) → Clean At ys
@@ -37,20 +42,24 @@ module _ {X C : Type 0} (At : X → C → Type 0) where
   clean_map f (y ∷ ys) h = (h.0, clean_map f ys h.1)
 
 -- roles
-clash : (seen : List Entry) (rs : List Role) (r : Role) → Contains seen (lists r) → Clean DuplicateName (behind seen (map lists rs)) → Contains (map role_name rs) r.name → ⊥
+clash : (seen : List Entry) (rs : List Role) (r : Role) → Contains seen (lists r) → Clean DuplicateName (behind seen (map lists rs)) →
+    Contains (map role_name rs) r.name → ⊥
 clash seen [] r listed h c = Contains-nil r.name c
 clash seen (x ∷ rs) r listed h c =
     ⊎_elim (λ same. h.0 (culprit x.place x.name) (refl, r, listed, sym same))
-    (λ more. clash (seen ++ lists x ∷ []) rs r (Contains-append_left seen (lists x ∷ []) (lists r) listed) h.1 more) (Contains-cons_cases (map role_name rs) x.name r.name c)
+    (λ more. clash (seen ++ lists x ∷ []) rs r (Contains-append_left seen (lists x ∷ []) (lists r) listed) h.1 more)
+    (Contains-cons_cases (map role_name rs) x.name r.name c)
 
 distinct : (seen : List Entry) (rs : List Role) → Clean DuplicateName (behind seen (map lists rs)) → AreDistinct (map role_name rs)
 distinct seen [] h = tt
 distinct seen (r ∷ rs) h = (clash (seen ++ lists r ∷ []) rs r (Contains-push seen (lists r)) h.1, distinct (seen ++ lists r ∷ []) rs h.1)
 
-pub roles_differ : (ds : List Declaration) (rs : List Role) → Clean DuplicateName (with_earlier (map declares ds ++ map lists rs)) → AreDistinct (map role_name rs)
+pub roles_differ : (ds : List Declaration) (rs : List Role) → Clean DuplicateName (with_earlier (map declares ds ++ map lists rs)) →
+    AreDistinct (map role_name rs)
 roles_differ ds rs h =
     distinct (map declares ds) rs
-    (clean_behind DuplicateName (with_earlier (map declares ds)) _ (subst (λ qs. Clean DuplicateName qs) (behind-append [] (map declares ds) (map lists rs)) h))
+    (clean_behind DuplicateName (with_earlier (map declares ds)) _
+    (subst (λ qs. Clean DuplicateName qs) (behind-append [] (map declares ds) (map lists rs)) h))
 
 -- what is not unlisted is listed
 is_listed : (names : List Name) (name : Name) → ((Contains names name → ⊥) → ⊥) → Contains names name

@@ -38,7 +38,8 @@ pub fn find_listed_twice(alloc: Global, roles: &[Role]) -> Result<Option<Culprit
 /// The first place where a role is named that is not listed: the role itself, a peer, or that of a
 /// choice.
 pub fn find_unknown_role(alloc: Global, written: &Written) -> Result<Option<Culprit<'_>>, Memory>
-    ensures { IfOk result (λ r. Judged (UnknownRole (map role_name written.now.roles.items)) (itself written.now.me ∷ map within (spots [] (statements written.now.body.items))) (culprit_of r)) }
+    ensures { IfOk result (λ r. Judged (UnknownRole (map role_name written.now.roles.items))
+        (itself written.now.me ∷ map within (spots [] (statements written.now.body.items))) (culprit_of r)) }
 {
     let listed = listed_roles(alloc, written.roles.as_slice())?;
     let me = &written.me;

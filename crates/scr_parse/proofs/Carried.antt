@@ -9,7 +9,8 @@ use Rattle.scr_tree.specs.declared.syntax.Message.{Message}
 use Rattle.scr_tree.specs.declared.written.Declaration.{Declaration}
 use Rattle.scr_tree.specs.Tree.{Statements, Nothing, Says, Choice, Rec, Continue, Branches, NoBranch, Branch}
 use Rattle.scr_tree.specs.Written.{Carries}
-use Rattle.scr_parse.specs.Grammar.{Behind, IsNaming, direction_mark, AreTypes, IsMessage, carried, IsBraced, AreStatements, AreBranches, AreOthers}
+use Rattle.scr_parse.specs.Grammar.{Behind, IsNaming, direction_mark, AreTypes, IsMessage, carried, IsBraced, AreStatements, AreBranches}
+use Rattle.scr_parse.specs.Grammar.{AreOthers}
 use Rattle.scr_parse.specs.inner.Reading.{is_at, names_up, carries_in}
 
 -- ---- the types of a message

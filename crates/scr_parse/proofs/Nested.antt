@@ -1,5 +1,6 @@
 -- Statements are read where the grammar spells them, and nowhere else.
-use Rattle.std.proofs.Common.{◌≡◌, ℕ, zero, suc, ◌<◌, ◌≤◌, List, [], ◌∷◌, ◌++◌, length, map, true, false, Some, refl, sym, ap, ◌∙◌, subst, append_assoc, arith, inl, inr}
+use Rattle.std.proofs.Common.{◌≡◌, ℕ, zero, suc, ◌<◌, ◌≤◌, List, [], ◌∷◌, ◌++◌, length, map, true, false, Some, refl, sym, ap, ◌∙◌, subst}
+use Rattle.std.proofs.Common.{append_assoc, arith, inl, inr}
 use Rattle.mg_text.specs.Call.{Name}
 use Rattle.mg_text.specs.declared.place.Place.{Place}
 use Rattle.mg_read.specs.Reader.{Reader, ◌>>=◌, all_of}
@@ -16,9 +17,12 @@ use Rattle.scr_tree.specs.Tree.{Statements, Nothing, Says, Choice, Rec, Continue
 use Rattle.scr_tree.specs.View.{branches_of}
 use Rattle.scr_tree.specs.Valid.{depth, depth_in}
 use Rattle.scr_tree.specs.Written.{Carries}
-use Rattle.scr_parse.specs.Grammar.{Listed, IsNaming, direction_mark, AreTypes, IsMessage, carried, IsBraced, AreStatements, AreBranches, AreOthers}
+use Rattle.scr_parse.specs.Grammar.{Listed, IsNaming, direction_mark, AreTypes, IsMessage, carried, IsBraced, AreStatements, AreBranches}
+use Rattle.scr_parse.specs.Grammar.{AreOthers}
 use Rattle.scr_parse.specs.inner.View.{joined}
-use Rattle.scr_parse.specs.inner.Reading.{is_at, mark_at, name_at, names_at, direction_at, payload_at, message_at, continue_at, not_closed, block_with, other_with, branches_with, choice_with, rec_with, says_at, statement_with, statement_at}
+use Rattle.scr_parse.specs.inner.Reading.{is_at, mark_at, name_at, names_at, direction_at, payload_at, message_at, continue_at, not_closed}
+use Rattle.scr_parse.specs.inner.Reading.{block_with, other_with, branches_with, choice_with, rec_with, says_at, statement_with}
+use Rattle.scr_parse.specs.inner.Reading.{statement_at}
 use Rattle.scr_parse.proofs.Steps.{Anything, after, mark_is, name_is}
 use Rattle.scr_parse.proofs.Turns.{front_sound, front_complete, shorter}
 use Rattle.scr_parse.proofs.Names.{names_sound, names_complete}

@@ -12,7 +12,8 @@ use Rattle.scr_tree.specs.Valid.{depth}
 use Rattle.scr_tree.specs.Written.{Carries, WrittenTree}
 use Rattle.scr_parse.specs.Grammar.{IsType, IsBraced, AreStatements, IsSpelled}
 use Rattle.scr_parse.specs.inner.View.{joined}
-use Rattle.scr_parse.specs.inner.Reading.{mark_at, name_at, is_at, after_module, type_at, types_at, title_at, header_at, block_with, statement_at, carries_in, if_last, only_block_at, body_at, file_at}
+use Rattle.scr_parse.specs.inner.Reading.{mark_at, name_at, is_at, after_module, type_at, types_at, title_at, header_at, block_with}
+use Rattle.scr_parse.specs.inner.Reading.{statement_at, carries_in, if_last, only_block_at, body_at, file_at}
 use Rattle.scr_parse.proofs.Steps.{Anything, after, mark_is, name_is}
 use Rattle.scr_parse.proofs.Names.{module_sound, module_complete, type_exact, type_starts}
 use Rattle.scr_parse.proofs.Heads.{header_sound, header_complete}
@@ -136,7 +137,8 @@ file_sound ts w e =
         local_at = title.holds.0;
         protocol_at = title.holds.1;
         name_at = title.holds.2;
-        tokens = file_parts start.front types.front header.front ts m.0 t.0.1 n.0.1 h.0.1 _ _ _ start.parts types.parts named_here header.parts;
+        tokens = file_parts start.front types.front header.front ts m.0 t.0.1 n.0.1 h.0.1 _ _ _ start.parts types.parts named_here
+            header.parts;
         starts = start.holds;
         declares = types.holds;
         heads = header.holds;
@@ -155,7 +157,8 @@ pub file_complete : (w : WrittenTree) (ts : List Tok) → IsSpelled w ts → fil
 unfolding file_at title_at
 file_complete w ts h =
     let s = h.spelled in
-    let title : List Tok → List Tok = λ r. marked s.local_at marks.Local ∷ marked s.protocol_at marks.Protocol ∷ named s.name_at w.name ∷ r in
+    let title : List Tok → List Tok = λ r. marked s.local_at marks.Local ∷ marked s.protocol_at marks.Protocol ∷ named s.name_at w.name ∷ r
+    in
     let head = title (s.header ++ s.block) in
     let start = module_complete s.start (s.types ++ head)
     (types_stop w.types s.types (marked s.protocol_at marks.Protocol ∷ named s.name_at w.name ∷

@@ -91,7 +91,8 @@ AreTypes (name ∷ names) ts = Listed marks.Comma IsNaming (name ∷ names) ts
 abbrev pub IsMessage : List Declaration → Message → (types : List Name) → List Tok → Type 0
 IsMessage declared m types ts =
     (a b c d e : Place) × (us : List Tok)
-    × (ts ≡ named m.place m.label ∷ marked a marks.OpenParen ∷ (us ++ marked b marks.CloseParen ∷ marked c (direction_mark m.direction) ∷ named d m.peer ∷ marked e marks.Semicolon ∷ []))
+    × (ts ≡ named m.place m.label ∷ marked a marks.OpenParen ∷ (us ++ marked b marks.CloseParen ∷ marked c (direction_mark m.direction) ∷
+    named d m.peer ∷ marked e marks.Semicolon ∷ []))
     × AreTypes types us × (m.payload ≡ kind_of declared types)
 
 -- what a message carries
@@ -151,7 +152,8 @@ pub record IsFile (w : WrittenTree) (ts : List Tok) : Type 0 where
   pub local_at : Place
   pub protocol_at : Place
   pub name_at : Place
-  pub tokens : ts ≡ start ++ (types ++ marked local_at marks.Local ∷ marked protocol_at marks.Protocol ∷ named name_at w.name ∷ (header ++ block))
+  pub tokens : ts ≡ start ++ (types ++ marked local_at marks.Local ∷ marked protocol_at marks.Protocol ∷ named name_at w.name ∷
+      (header ++ block))
   pub starts : IsModule start
   pub declares : Each IsType w.types types
   pub heads : IsAtHeader w.me w.roles header ⊎ IsSelfHeader w.me w.roles header

@@ -54,25 +54,30 @@ module _ (level : ℕ) where
       indent level ++ (codes "rec " ++ (name ++ (codes " " ++ (block level (statements body.items) ++ codes "\n"))))
   lines-Rec p name body = ap (λ f. lines level (f Nothing)) (front-Rec p name body)
 
-  pub lines-Continue : (p : Place) (name : Name) → lines level (front (kinds.Continue p name) Nothing) ≡ indent level ++ (codes "continue " ++ (name ++ codes ";\n"))
+  pub lines-Continue : (p : Place) (name : Name) → lines level (front (kinds.Continue p name) Nothing) ≡ indent level
+      ++ (codes "continue " ++ (name ++ codes ";\n"))
   lines-Continue p name = ap (λ f. lines level (f Nothing)) (front-Continue p name)
 
 -- the branch at an index, and those behind it
-pub branches-step : (before : List ℕ) (level : ℕ) (bs : List (Row Statement)) (i : ℕ) (x : Row Statement) → i < length bs → x ≡ get_or bs i x →
-    branch_lines before level (bodies (drop i bs)) ≡ before ++ (block level (statements x.items) ++ branch_lines (codes " or ") level (bodies (drop (i + 1) bs)))
+pub branches-step : (before : List ℕ) (level : ℕ) (bs : List (Row Statement)) (i : ℕ) (x : Row Statement) → i < length bs →
+    x ≡ get_or bs i x →
+    branch_lines before level (bodies (drop i bs)) ≡ before ++ (block level (statements x.items) ++ branch_lines (codes " or ") level
+    (bodies (drop (i + 1) bs)))
 branches-step before level bs i x within is = ap (branch_lines before level) (bodies-step bs i x within is)
 
 -- the role at an index, and those behind it
 pub roles-step : (before : List ℕ) (rs : List Name) (i : ℕ) (x : Name) → i < length rs → x ≡ get_or rs i x →
     role_list before (drop i rs) ≡ before ++ (codes "role " ++ (x ++ role_list (codes ", ") (drop (i + 1) rs)))
 roles-step before rs i x within is =
-    at_drop_more (role_list before) rs i x within ∙ ap (λ y. before ++ (codes "role " ++ (y ++ role_list (codes ", ") (drop (i + 1) rs)))) (sym is)
+    at_drop_more (role_list before) rs i x within ∙ ap (λ y. before ++ (codes "role " ++ (y ++ role_list (codes ", ") (drop (i + 1) rs))))
+    (sym is)
 
 pub roles-past : (before : List ℕ) (rs : List Name) (i : ℕ) → length rs ≤ i → role_list before (drop i rs) ≡ []
 roles-past before rs i h = at_drop_all (role_list before) rs i h
 
 -- one more role is written
-pub role_more : (out new before : List ℕ) (rs : List Name) (i : ℕ) (x y : Name) → i < length rs → x ≡ get_or rs i x → y ≡ x → new ≡ out ++ (before ++ (codes "role " ++ (y ++ []))) →
+pub role_more : (out new before : List ℕ) (rs : List Name) (i : ℕ) (x y : Name) → i < length rs → x ≡ get_or rs i x → y ≡ x →
+    new ≡ out ++ (before ++ (codes "role " ++ (y ++ []))) →
     out ++ role_list before (drop i rs) ≡ new ++ role_list (codes ", ") (drop (i + 1) rs)
 role_more out new before rs i x y within is same e =
     ap (λ z. out ++ z) (roles-step before rs i x within is) ∙ four out before (codes "role ") x (role_list (codes ", ") (drop (i + 1) rs))

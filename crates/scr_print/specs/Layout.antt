@@ -23,7 +23,8 @@ direction_word directions.To = codes "to"
 direction_word directions.From = codes "from"
 
 abbrev pub message_text : Message → List ℕ
-message_text m = m.label ++ (codes "(" ++ (payload_word m.payload ++ (codes ") " ++ (direction_word m.direction ++ (codes " " ++ (m.peer ++ codes ";"))))))
+message_text m = m.label ++ (codes "("
+    ++ (payload_word m.payload ++ (codes ") " ++ (direction_word m.direction ++ (codes " " ++ (m.peer ++ codes ";"))))))
 
 -- lines between braces; the closing brace is at the level of the opening line
 abbrev pub braced : ℕ → List ℕ → List ℕ
@@ -57,4 +58,5 @@ role_list before (role ∷ roles) = before ++ (codes "role " ++ (role ++ role_li
 -- the text of a local protocol
 abbrev pub layout : LocalTree → List ℕ
 layout local =
-    codes "local protocol " ++ (local.name ++ (codes " at " ++ (local.me ++ (codes "(" ++ (role_list [] local.roles ++ (codes ") " ++ (block 0 local.body ++ codes "\n")))))))
+    codes "local protocol " ++ (local.name
+    ++ (codes " at " ++ (local.me ++ (codes "(" ++ (role_list [] local.roles ++ (codes ") " ++ (block 0 local.body ++ codes "\n")))))))

@@ -43,13 +43,15 @@ module _ {names : List Name} {way : Way} (a : AreOnWay names way) where
 
   enters_way : (at : Name) (earlier : List Statements) → AreOnWay names (Enters at earlier ∷ way)
   enters_way at earlier = record {
-    names_of = λ name c. ⊎_elim (λ (e : Enters at earlier ≡ Opens name). cc e) (λ d. a.names_of name d) (first_or_later (Enters at earlier) way (Opens name) c);
+    names_of = λ name c. ⊎_elim (λ (e : Enters at earlier ≡ Opens name). cc e) (λ d. a.names_of name d)
+        (first_or_later (Enters at earlier) way (Opens name) c);
     opens_of = λ name c. later_in (Enters at earlier) way (Opens name) (a.opens_of name c);
   }
 
   opens_way : (other : Name) → AreOnWay (other ∷ names) (Opens other ∷ way)
   opens_way other = record {
-    names_of = λ name c. ⊎_elim (λ (e : Opens other ≡ Opens name). let f : other ≡ name = cc e in first_in other names name f) (λ d. later_in other names name (a.names_of name d))
+    names_of = λ name c. ⊎_elim (λ (e : Opens other ≡ Opens name). let f : other ≡ name = cc e in first_in other names name f)
+        (λ d. later_in other names name (a.names_of name d))
         (first_or_later (Opens other) way (Opens name) c);
     opens_of = λ name c. ⊎_elim (λ (e : other ≡ name). let f : Opens other ≡ Opens name = cc e in first_in (Opens other) way (Opens name) f)
         (λ d. later_in (Opens other) way (Opens name) (a.opens_of name d)) (first_or_later other names name c);
@@ -71,7 +73,8 @@ module _ (roles : List Name) (me : Name) where
     differ = clean_append DuplicateRec xs ys h.differ k.differ;
   }
 
-  with_one : (s : Spot) (xs : List Spot) → ((c : Culprit) → UnknownRole roles s c → ⊥) → ((c : Culprit) → PeerIsSelf me s c → ⊥) → ((c : Culprit) → UnknownRec s c → ⊥) →
+  with_one : (s : Spot) (xs : List Spot) → ((c : Culprit) → UnknownRole roles s c → ⊥) → ((c : Culprit) → PeerIsSelf me s c → ⊥) →
+      ((c : Culprit) → UnknownRec s c → ⊥) →
       ((c : Culprit) → DuplicateRec s c → ⊥) → AllClean xs → AllClean (s ∷ xs)
   with_one s xs u p k d h = record { listed = (u, h.listed); apart = (p, h.apart); known = (k, h.known); differ = (d, h.differ) }
 
@@ -82,16 +85,21 @@ module _ (roles : List Name) (me : Name) where
         with_one _ _ (λ c x. x.1 h.2) (λ c x. h.3 x.1) (λ c x. x) (λ c x. x) (all_clean names _ rest (past_way a (Says m Nothing)) h.4)
     all_clean names way (Choice place at branches rest) a h =
         with_one _ _ (λ c x. x.1 h.1) (λ c x. x) (λ c x. x) (λ c x. x)
-        (with_more _ _ (each_clean names way at [] branches a h.3) (all_clean names _ rest (past_way a (Choice place at branches Nothing)) h.4))
+        (with_more _ _ (each_clean names way at [] branches a h.3) (all_clean names _ rest (past_way a (Choice place at branches Nothing))
+        h.4))
     all_clean names way (Rec place name body rest) a h =
         with_one _ _ (λ c x. x) (λ c x. x) (λ c x. x) (λ c x. h.1 (a.names_of name x.1))
-        (with_more _ _ (all_clean (name ∷ names) _ body (opens_way a name) h.2) (all_clean names _ rest (past_way a (Rec place name body Nothing)) h.3))
+        (with_more _ _ (all_clean (name ∷ names) _ body (opens_way a name) h.2)
+        (all_clean names _ rest (past_way a (Rec place name body Nothing)) h.3))
     all_clean names way (Continue place name rest) a h =
-        with_one _ _ (λ c x. x) (λ c x. x) (λ c x. x.1 (a.opens_of name h.1)) (λ c x. x) (all_clean names _ rest (past_way a (Continue place name Nothing)) h.2)
+        with_one _ _ (λ c x. x) (λ c x. x) (λ c x. x.1 (a.opens_of name h.1)) (λ c x. x)
+        (all_clean names _ rest (past_way a (Continue place name Nothing)) h.2)
 
-    each_clean : (names : List Name) (way : Way) (at : Name) (earlier : List Statements) (bs : Branches) → AreOnWay names way → KeepEach roles me names bs → AllClean (branch_spots way at earlier bs)
+    each_clean : (names : List Name) (way : Way) (at : Name) (earlier : List Statements) (bs : Branches) → AreOnWay names way →
+        KeepEach roles me names bs → AllClean (branch_spots way at earlier bs)
     each_clean names way at earlier NoBranch a h = record { listed = tt; apart = tt; known = tt; differ = tt }
-    each_clean names way at earlier (Branch b more) a h = with_more _ _ (all_clean names _ b (enters_way a at earlier) h.0) (each_clean names way at (b ∷ earlier) more a h.1)
+    each_clean names way at earlier (Branch b more) a h = with_more _ _ (all_clean names _ b (enters_way a at earlier) h.0)
+        (each_clean names way at (b ∷ earlier) more a h.1)
 
   mutual
     pub are_written : (names : List Name) (s : Statements) → Keeps roles me names s → AreWritten s
@@ -109,23 +117,29 @@ module _ (roles : List Name) (me : Name) where
 
 in_push : (xs : List Entry) (y x : Entry) → Contains (xs ++ y ∷ []) x → Contains xs x ⊎ (y ≡ x)
 in_push [] y x c = ⊎_elim (λ e. inr e) (λ k. absurd (none_contained x k)) (first_or_later y [] x c)
-in_push (z ∷ xs) y x c = ⊎_elim (λ e. inl (first_in z xs x e)) (λ k. ⊎_elim (λ l. inl (later_in z xs x l)) (λ e. inr e) (in_push xs y x k)) (first_or_later z (xs ++ y ∷ []) x c)
+in_push (z ∷ xs) y x c = ⊎_elim (λ e. inl (first_in z xs x e)) (λ k. ⊎_elim (λ l. inl (later_in z xs x l)) (λ e. inr e) (in_push xs y x k))
+    (first_or_later z (xs ++ y ∷ []) x c)
 
 module _ (file : ℕ) where
-  twice : (seen : List Entry) (before : List Name) (names : List Name) → ((r : Role) → Contains seen (lists r) → Contains before r.name) → ((name : Name) → Contains names name → Contains before name → ⊥) →
+  twice : (seen : List Entry) (before : List Name) (names : List Name) → ((r : Role) → Contains seen (lists r) → Contains before r.name) →
+      ((name : Name) → Contains names name → Contains before name → ⊥) →
       AreDistinct names → Clean DuplicateName (behind seen (map lists (map (listed file) names)))
   twice seen before [] from apart d = tt
   twice seen before (name ∷ names) from apart d = (
     (λ c x. apart name (first_in name names name refl) (subst (Contains before) x.3 (from x.1 x.2))),
     twice (seen ++ lists (listed file name) ∷ []) (name ∷ before) names grown
-        (λ other c k. ⊎_elim (λ (e : name ≡ other). d.0 (subst (Contains names) (sym e) c)) (λ l. apart other (later_in name names other c) l) (first_or_later name before other k)) d.1,
+        (λ other c k. ⊎_elim (λ (e : name ≡ other). d.0 (subst (Contains names) (sym e) c))
+        (λ l. apart other (later_in name names other c) l) (first_or_later name before other k)) d.1,
   )
     where
       grown : (r : Role) → Contains (seen ++ lists (listed file name) ∷ []) (lists r) → Contains (name ∷ before) r.name
-      grown r c = ⊎_elim (λ k. later_in name before r.name (from r k)) (λ (e : lists (listed file name) ≡ lists r). let f : listed file name ≡ r = cc e in first_in name before r.name (ap (λ (q : Role). q.name) f))
+      grown r c = ⊎_elim (λ k. later_in name before r.name (from r k))
+          (λ (e : lists (listed file name) ≡ lists r). let f : listed file name ≡ r = cc e in first_in name before r.name
+          (ap (λ (q : Role). q.name) f))
           (in_push seen (lists (listed file name)) (lists r) c)
 
-pub roles_clean : (file : ℕ) (names : List Name) → AreDistinct names → Clean DuplicateName (with_earlier (map lists (map (listed file) names)))
+pub roles_clean : (file : ℕ) (names : List Name) → AreDistinct names →
+    Clean DuplicateName (with_earlier (map lists (map (listed file) names)))
 roles_clean file names d = twice file [] [] names (λ r c. absurd (none_contained (lists r) c)) (λ name c k. none_contained name k) d
 
 -- ---- the conditions that needn't be asked
@@ -135,7 +149,8 @@ mentions_clean roles [] h = tt
 mentions_clean roles (x ∷ xs) h = (h.0, mentions_clean roles xs h.1)
 
 -- a condition that has no culprit is left out
-left_out : {K C : Type 0} {Of : K → Option C → Type 0} {k : K} {ks : List K} {r : Option (K × C)} → ((c : C) → Of k (Some c) → ⊥) → FirstOf Of (k ∷ ks) r → FirstOf Of ks r
+left_out : {K C : Type 0} {Of : K → Option C → Type 0} {k : K} {ks : List K} {r : Option (K × C)} → ((c : C) → Of k (Some c) → ⊥) →
+    FirstOf Of (k ∷ ks) r → FirstOf Of ks r
 left_out {K} {C} {Of} {k} {ks} never p = go _ _ p refl
   where
     go : (ls : List K) (r : Option (K × C)) → FirstOf Of ls r → ls ≡ k ∷ ks → FirstOf Of ks r
@@ -173,5 +188,6 @@ module _ (t : LocalTree) (h : AreEarlyClean t) where
 
   pub all_of_them : (r : Option (Condition × Culprit)) → IsOpenFault t r → IsFault (parts t) r
   all_of_them r f =
-      next (clean-judged _ duplicates) (next (clean-judged (mentions (parts t)) mentioned) (next (clean-judged (spots [] t.body) h.body.apart) (next clean (next clean
+      next (clean-judged _ duplicates) (next (clean-judged (mentions (parts t)) mentioned)
+      (next (clean-judged (spots [] t.body) h.body.apart) (next clean (next clean
       (next (clean-judged (spots [] t.body) h.body.known) (next (clean-judged (spots [] t.body) h.body.differ) f))))))

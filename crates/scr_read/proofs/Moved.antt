@@ -25,21 +25,26 @@ names_again file (name ∷ names) = ap (λ (l : List Name). name ∷ l) (names_a
 
 -- what the parts mean are the parts
 pub meant : (t : LocalTree) → local_of (parts t) ≡ t
-meant t = ap (λ (roles : List Name). record { file = t.file; name = t.name; me = t.me; roles = roles; body = t.body }) (names_again t.file t.roles)
+meant t = ap (λ (roles : List Name). record { file = t.file; name = t.name; me = t.me; roles = roles; body = t.body })
+    (names_again t.file t.roles)
 
-pub parts_valid : (t : LocalTree) (w : WrittenTree) (fault : Option Fault) → w ≡ parts t → ∥ IsWritten t ∥₁ → IsFault w (fault_of fault) → fault ≡ None → ∥ IsValid (local_of w) ∥₁
+pub parts_valid : (t : LocalTree) (w : WrittenTree) (fault : Option Fault) → w ≡ parts t → ∥ IsWritten t ∥₁ → IsFault w (fault_of fault) →
+    fault ≡ None → ∥ IsValid (local_of w) ∥₁
 parts_valid t w fault same written first none =
     ∥∥₁_elim written squash₁ (λ i. ∣ faultless w (subst (λ (f : Option Fault). IsFault w (fault_of f)) none first)
     (subst (λ (v : WrittenTree). IsWritten (local_of v)) (sym same) (subst IsWritten (sym (meant t)) i)) ∣₁)
 
-pub parts_refused : (t : LocalTree) (w : WrittenTree) (fault : Option Fault) (f : Fault) (s : ScrFault) → w ≡ parts t → IsFault w (fault_of fault) → fault ≡ Some f
-    → fault_answer s ≡ Some (Refused f.condition f.place (told f.condition f.name)) → (a : Answer) → fault_answer s ≡ Some a → IsRefused (parts t) a
+pub parts_refused : (t : LocalTree) (w : WrittenTree) (fault : Option Fault) (f : Fault) (s : ScrFault) → w ≡ parts t →
+    IsFault w (fault_of fault) → fault ≡ Some f
+    → fault_answer s ≡ Some (Refused f.condition f.place (told f.condition f.name)) → (a : Answer) → fault_answer s ≡ Some a →
+    IsRefused (parts t) a
 parts_refused t w fault f s same first some says a answered =
     subst (IsRefused (parts t)) (some_is _ a (sym says ∙ answered))
     (refused (subst (λ (v : WrittenTree). IsFault v (Some (f.condition, culprit f.place f.name))) same
     (subst (λ (o : Option Fault). IsFault w (fault_of o)) some first)))
 
-pub parts_made : (t made : LocalTree) (w : WrittenTree) (fault : Option Fault) → w ≡ parts t → IsFault w (fault_of fault) → fault ≡ None → made ≡ local_of w → (made ≡ t) × IsFault (parts t) None
+pub parts_made : (t made : LocalTree) (w : WrittenTree) (fault : Option Fault) → w ≡ parts t → IsFault w (fault_of fault) → fault ≡ None →
+    made ≡ local_of w → (made ≡ t) × IsFault (parts t) None
 parts_made t made w fault same first none e = (
   e ∙ ap local_of same ∙ meant t,
   subst (λ (v : WrittenTree). IsFault v None) same (subst (λ (f : Option Fault). IsFault w (fault_of f)) none first),

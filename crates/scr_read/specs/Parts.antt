@@ -20,7 +20,16 @@ listed file name = record { place = start_of file; name = name }
 
 -- the file that says these parts: types are named in none of them
 abbrev pub parts : LocalTree → WrittenTree
-parts t = record { file = t.file; types = []; name = t.name; me = listed t.file t.me; roles = map (listed t.file) t.roles; carries = []; body = t.body }
+parts t = record {
+  file = t.file;
+  types = [];
+  name = t.name;
+  me = listed t.file t.me;
+  roles = map (listed t.file) t.roles;
+  carries =
+      [];
+  body = t.body;
+}
 
 -- the parts don't meet a condition
 pub data IsRefused (w : WrittenTree) : Answer → Type 0 where

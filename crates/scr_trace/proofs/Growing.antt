@@ -1,5 +1,6 @@
 -- Laying out keeps the numbers of the recs that are there.
-use Rattle.std.proofs.Common.{◌≡◌, ℕ, suc, ◌+◌, ◌<◌, ◌≤◌, length, get_or, Bool, true, false, List, [], ◌∷◌, ◌++◌, refl, sym, ap, subst, ◌∙◌, arith, get_or-set_other, set}
+use Rattle.std.proofs.Common.{◌≡◌, ℕ, suc, ◌+◌, ◌<◌, ◌≤◌, length, get_or, Bool, true, false, List, [], ◌∷◌, ◌++◌, refl, sym, ap, subst, ◌∙◌}
+use Rattle.std.proofs.Common.{arith, get_or-set_other, set}
 use Rattle.std.specs.Prelude.{slice_set}
 use Rattle.std.specs.Str.{bytes_eq}
 use Rattle.std.proofs.lemmas.List.{length-append, get_or_append_left}
@@ -7,7 +8,8 @@ use Rattle.std.proofs.Math.ListN.{length-set}
 use Rattle.mg_text.specs.Call.{Name}
 use Rattle.scr_tree.specs.declared.syntax.Message.{Message as Said}
 use Rattle.scr_tree.specs.Tree.{Statements, Nothing, Says, Choice, Rec, Continue, Branches, NoBranch, Branch}
-use Rattle.scr_trace.specs.inner.Laying.{Draft, Cell, Work, Known, Gathered, lay, lay_in, branch_laid, turned, said, opened, closed, chosen, gathering, hop_named, joined}
+use Rattle.scr_trace.specs.inner.Laying.{Draft, Cell, Work, Known, Gathered, lay, lay_in, branch_laid, turned, said, opened, closed, chosen}
+use Rattle.scr_trace.specs.inner.Laying.{gathering, hop_named, joined}
 
 -- a list is kept: the other has its elements, and perhaps more
 pub record Keeps (xs ys : List ℕ) : Type 0 where
@@ -68,12 +70,15 @@ mutual
       keeps_more _ _ _ (keeps me around w rest) (keeps_rec v _ (keeps me _ (opened v) body))
   keeps me around w (Continue place name rest) = keeps me around w rest
 
-  pub keeps_in : (me : Name) (around : List Known) (self : Bool) (behind : _) (g : Gathered) (bs : Branches) → Keeps g.work.loops (lay_in me around self behind g bs).work.loops
+  pub keeps_in : (me : Name) (around : List Known) (self : Bool) (behind : _) (g : Gathered) (bs : Branches) →
+      Keeps g.work.loops (lay_in me around self behind g bs).work.loops
   keeps_in me around self behind g NoBranch = keeps_all g.work.loops
   keeps_in me around self behind g (Branch b more) =
-      keeps_more _ _ _ (keeps_in me around self behind g more) (keeps_branch me around self b (turned behind (lay_in me around self behind g more)))
+      keeps_more _ _ _ (keeps_in me around self behind g more)
+      (keeps_branch me around self b (turned behind (lay_in me around self behind g more)))
 
-  pub keeps_branch : (me : Name) (around : List Known) (self : Bool) (b : Statements) (g : Gathered) → Keeps g.work.loops (branch_laid self me around b g).work.loops
+  pub keeps_branch : (me : Name) (around : List Known) (self : Bool) (b : Statements) (g : Gathered) →
+      Keeps g.work.loops (branch_laid self me around b g).work.loops
   keeps_branch me around self (Says m rest) g =
       keeps_more _ _ _ (keeps me around g.work rest) (keeps_joined self m _)
   keeps_branch me around self Nothing g = keeps_all g.work.loops
@@ -82,15 +87,18 @@ mutual
   keeps_branch me around self (Continue place name rest) g = keeps_all g.work.loops
 
 -- the number of a rec whose body is laid out stands for one
-pub number_within : (me : Name) (around : List Known) (w : Work) (t : Statements) → length w.loops < length (lay me around (opened w) t).loops
+pub number_within : (me : Name) (around : List Known) (w : Work) (t : Statements) →
+    length w.loops < length (lay me around (opened w) t).loops
 unfolding opened
 number_within me around w t =
     let l = (keeps me around (opened w) t).longer in
     let n = length-append w.loops (0 ∷ []) in
     omega arith
 
-pub closes : (me : Name) (around : List Known) (w o u : Work) (t : Statements) (number : ℕ) → number ≡ length w.loops → o ≡ opened w → u ≡ lay me around o t → number < length u.loops
+pub closes : (me : Name) (around : List Known) (w o u : Work) (t : Statements) (number : ℕ) → number ≡ length w.loops → o ≡ opened w →
+    u ≡ lay me around o t → number < length u.loops
 closes me around w o u t number is opens laid =
-    let e : length u.loops ≡ length (lay me around (opened w) t).loops = ap (λ (x : Work). length x.loops) laid ∙ ap (λ (x : Work). length (lay me around x t).loops) opens in
+    let e : length u.loops ≡ length (lay me around (opened w) t).loops = ap (λ (x : Work). length x.loops) laid ∙
+    ap (λ (x : Work). length (lay me around x t).loops) opens in
     let h = number_within me around w t in
     omega arith

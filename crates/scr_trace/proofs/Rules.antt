@@ -39,7 +39,8 @@ abbrev mutual
   Sound around Nothing = Unit {0}
   Sound around (Says m rest) = Sound around rest
   Sound around (Choice place at branches rest) = SoundIn around branches × Sound around rest
-  Sound around (Rec place name body rest) = Guards name body × Sound (name ∷ around) body × (stays body ≡ true → rest ≡ Nothing) × Sound around rest
+  Sound around (Rec place name body rest) = Guards name body × Sound (name ∷ around) body × (stays body ≡ true → rest ≡ Nothing)
+      × Sound around rest
   Sound around (Continue place name rest) = (is_among name around ≡ true) × (rest ≡ Nothing)
 
   pub SoundIn : List Name → Branches → Type 0

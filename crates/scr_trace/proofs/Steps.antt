@@ -1,5 +1,6 @@
 -- The step of each loop that lays out.
-use Rattle.std.proofs.Common.{Bool, ◌≡◌, ℕ, suc, ◌+◌, ◌<◌, ◌≤◌, length, get_or, drop, List, [], ◌∷◌, ◌++◌, map, reverse, refl, sym, ap, subst, ◌∙◌, add-one}
+use Rattle.std.proofs.Common.{Bool, ◌≡◌, ℕ, suc, ◌+◌, ◌<◌, ◌≤◌, length, get_or, drop, List, [], ◌∷◌, ◌++◌, map, reverse, refl, sym, ap}
+use Rattle.std.proofs.Common.{subst, ◌∙◌, add-one}
 use Rattle.std.specs.Str.{bytes_eq}
 use Rattle.std.proofs.lemmas.List.{at_drop_more, at_drop_all, map-append, length-map, length-append, reverse-append, length-reverse}
 use Rattle.std.proofs.lemmas.Grind.{common_steps}
@@ -14,39 +15,49 @@ use Rattle.scr_tree.specs.View.{Front, front, statements}
 use Rattle.scr_tree.proofs.ViewLemmas.{each_kind, front-Message, front-Choice, front-Rec, front-Continue}
 use Rattle.scr_trace.specs.declared.arrow.Arrow.{Arrow}
 use Rattle.scr_trace.specs.declared.arrow.Exits.{Exits}
-use Rattle.scr_trace.specs.inner.Laying.{Draft, Cell, Work, Known, Gathered, lay, lay_in, branch_laid, turned, said, opened, closed, chosen, gathering, hop_named, joined}
+use Rattle.scr_trace.specs.inner.Laying.{Draft, Cell, Work, Known, Gathered, lay, lay_in, branch_laid, turned, said, opened, closed, chosen}
+use Rattle.scr_trace.specs.inner.Laying.{gathering, hop_named, joined}
 use Rattle.scr_trace.specs.inner.View.{draft_of, drafts_of, cell_of, cells_of, bodies}
 
 -- what holds of each statement in front of others holds of each that a program has
 pub each_front : (P : Front → Type 0) → ((m : _) → P (Says m)) → ((p : _) (at : Name) (bs : Branches) → P (Choice p at bs)) →
-    ((p : _) (name : Name) (body : Statements) → P (Rec p name body)) → ((p : _) (name : Name) → P (Continue p name)) → (s : Statement) → P (front s)
+    ((p : _) (name : Name) (body : Statements) → P (Rec p name body)) → ((p : _) (name : Name) → P (Continue p name)) → (s : Statement) →
+    P (front s)
 each_front P said choice recursion continued =
-    each_kind (λ s. P (front s)) (λ m. subst P (sym (front-Message m)) (said m)) (λ p at bs. subst P (sym (front-Choice p at bs)) (choice p at _))
-    (λ p name body. subst P (sym (front-Rec p name body)) (recursion p name _)) (λ p name. subst P (sym (front-Continue p name)) (continued p name))
+    each_kind (λ s. P (front s)) (λ m. subst P (sym (front-Message m)) (said m)) (λ p at bs. subst P (sym (front-Choice p at bs))
+    (choice p at _))
+    (λ p name body. subst P (sym (front-Rec p name body)) (recursion p name _)) (λ p name. subst P (sym (front-Continue p name))
+    (continued p name))
 
 module _ (me : Name) (around : List Known) (w : Work) where
-  pub lay-front : (s : Statement) (rest : Statements) → lay me around w (front s rest) ≡ lay me around (lay me around w rest) (front s Nothing)
+  pub lay-front : (s : Statement) (rest : Statements) → lay me around w (front s rest) ≡ lay me around (lay me around w rest)
+      (front s Nothing)
   lay-front s rest =
-      each_front (λ f. lay me around w (f rest) ≡ lay me around (lay me around w rest) (f Nothing)) (λ m. refl) (λ p at bs. refl) (λ p name body. refl) (λ p name. refl) s
+      each_front (λ f. lay me around w (f rest) ≡ lay me around (lay me around w rest) (f Nothing)) (λ m. refl) (λ p at bs. refl)
+      (λ p name body. refl) (λ p name. refl) s
 
   -- a statement alone
   pub lay-Message : (m : Said) → lay me around w (front (kinds.Message m) Nothing) ≡ said m w
   lay-Message m = ap (λ f. lay me around w (f Nothing)) (front-Message m)
 
   pub lay-Choice : (p : Place) (at : Name) (bs : Row (Row Statement)) →
-      lay me around w (front (kinds.Choice p at bs) Nothing) ≡ chosen (bytes_eq at me) (lay_in me around (bytes_eq at me) w.next (gathering w) (bodies bs.items))
+      lay me around w (front (kinds.Choice p at bs) Nothing) ≡ chosen (bytes_eq at me)
+      (lay_in me around (bytes_eq at me) w.next (gathering w) (bodies bs.items))
   lay-Choice p at bs = ap (λ f. lay me around w (f Nothing)) (front-Choice p at bs)
 
   pub lay-Rec : (p : Place) (name : Name) (body : Row Statement) →
-      lay me around w (front (kinds.Rec p name body) Nothing) ≡ closed (length w.loops) (lay me (record { name = name; number = length w.loops } ∷ around) (opened w) (statements body.items))
+      lay me around w (front (kinds.Rec p name body) Nothing) ≡ closed (length w.loops)
+      (lay me (record { name = name; number = length w.loops } ∷ around) (opened w) (statements body.items))
   lay-Rec p name body = ap (λ f. lay me around w (f Nothing)) (front-Rec p name body)
 
-  pub lay-Continue : (p : Place) (name : Name) → lay me around w (front (kinds.Continue p name) Nothing) ≡ record w { next = hop_named name around }
+  pub lay-Continue : (p : Place) (name : Name) → lay me around w (front (kinds.Continue p name) Nothing) ≡ record w
+      { next = hop_named name around }
   lay-Continue p name = ap (λ f. lay me around w (f Nothing)) (front-Continue p name)
 
   -- a branch
   pub branch-Message : (self : Bool) (m : Said) (rest : Statements) (g : Gathered) →
-      branch_laid self me around (front (kinds.Message m) rest) g ≡ joined self m (record { work = lay me around g.work rest; drafts = g.drafts })
+      branch_laid self me around (front (kinds.Message m) rest) g ≡ joined self m
+      (record { work = lay me around g.work rest; drafts = g.drafts })
   branch-Message self m rest g = ap (λ f. branch_laid self me around (f rest) g) (front-Message m)
 
   pub branch-Choice : (self : Bool) (p : Place) (at : Name) (bs : Row (Row Statement)) (rest : Statements) (g : Gathered) →
@@ -66,14 +77,16 @@ module _ (me : Name) (around : List Known) (w : Work) where
     statements-step : statements (drop i ss) ≡ front x (statements (drop (i + 1) ss))
     statements-step = at_drop_more statements ss i x within ∙ ap (λ y. front y (statements (drop (i + 1) ss))) (sym is)
 
-    pub lay-step : lay me around w (statements (drop i ss)) ≡ lay me around (lay me around w (statements (drop (i + 1) ss))) (front x Nothing)
+    pub lay-step : lay me around w (statements (drop i ss)) ≡ lay me around (lay me around w (statements (drop (i + 1) ss)))
+        (front x Nothing)
     lay-step = ap (lay me around w) statements-step ∙ lay-front x _
 
   pub lay-past : (ss : List Statement) (i : ℕ) → length ss ≤ i → lay me around w (statements (drop i ss)) ≡ w
   lay-past ss i h = at_drop_all (λ r. lay me around w (statements r)) ss i h
 
 -- the branch at an index, and those behind it
-pub bodies-step : (bs : List (Row Statement)) (i : ℕ) (x : Row Statement) → i < length bs → x ≡ get_or bs i x → bodies (drop i bs) ≡ Branch (statements x.items) (bodies (drop (i + 1) bs))
+pub bodies-step : (bs : List (Row Statement)) (i : ℕ) (x : Row Statement) → i < length bs → x ≡ get_or bs i x →
+    bodies (drop i bs) ≡ Branch (statements x.items) (bodies (drop (i + 1) bs))
 bodies-step bs i x within is = at_drop_more bodies bs i x within ∙ ap (λ y. Branch (statements y.items) (bodies (drop (i + 1) bs))) (sym is)
 
 pub bodies-past : (bs : List (Row Statement)) (i : ℕ) → length bs ≤ i → bodies (drop i bs) ≡ NoBranch

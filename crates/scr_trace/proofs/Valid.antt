@@ -1,5 +1,6 @@
 -- A valid local protocol has what the layout needs.
-use Rattle.std.proofs.Common.{◌≡◌, ℕ, zero, suc, ◌+◌, ◌<◌, List, [], ◌∷◌, ◌++◌, length, Some, None, refl, sym, ap, ◌∙◌, subst, inl, inr, ◌⊎◌, ⊎_elim, Bool, true, false, ◌&&◌, ◌||◌, arith, append_assoc}
+use Rattle.std.proofs.Common.{◌≡◌, ℕ, zero, suc, ◌+◌, ◌<◌, List, [], ◌∷◌, ◌++◌, length, Some, None, refl, sym, ap, ◌∙◌, subst, inl, inr}
+use Rattle.std.proofs.Common.{◌⊎◌, ⊎_elim, Bool, true, false, ◌&&◌, ◌||◌, arith, append_assoc}
 use Rattle.std.specs.Prelude.{Contains, slice_index_or, IsTrue}
 use Rattle.std.specs.Str.{bytes_eq}
 use Rattle.std.proofs.Math.Logic.{∥∥₁_elim}
@@ -58,7 +59,8 @@ passes_are Nothing e = refl
 passes_are (Says m rest) e = cc
 passes_are (Choice place at bs rest) e = cc
 passes_are (Rec place name body rest) e =
-    let both = and_true (passes body) (passes rest) e in both_true (control.passes body) (control.passes rest) (passes_are body both.0) (passes_are rest both.1)
+    let both = and_true (passes body) (passes rest) e in both_true (control.passes body) (control.passes rest) (passes_are body both.0)
+    (passes_are rest both.1)
 passes_are (Continue place name rest) e = cc
 
 or_true : (a b : Bool) → (a || b) ≡ true → (a ≡ true) ⊎ (b ≡ true)
@@ -78,7 +80,8 @@ stays_not Nothing e = cc
 stays_not (Says m rest) e = stays_not rest e
 stays_not (Choice place at bs rest) e = cc
 stays_not (Rec place name body rest) e =
-    ⊎_elim (λ h. first_false (falls body) (falls rest) (stays_not body h)) (λ h. second_false (falls body) (falls rest) (stays_not rest h)) (or_true (stays body) (stays rest) e)
+    ⊎_elim (λ h. first_false (falls body) (falls rest) (stays_not body h)) (λ h. second_false (falls body) (falls rest) (stays_not rest h))
+    (or_true (stays body) (stays rest) e)
 stays_not (Continue place name rest) e = refl
 
 -- nothing stands behind what doesn't fall
@@ -95,21 +98,26 @@ guarded name (Says m rest) way q h = tt
 guarded name (Choice place at bs rest) way q h = tt
 guarded name (Rec place other body rest) way q h = (
   guarded name body (Opens other ∷ way) (opening q) (clean_front Unguarded (spots (Opens other ∷ way) body) _ h.1),
-  λ e. guarded name rest (Past (Rec place other body Nothing) ∷ way) (past (both_true (control.passes body) true (passes_are body e) refl) q)
+  λ e. guarded name rest (Past (Rec place other body Nothing) ∷ way) (past (both_true (control.passes body) true (passes_are body e) refl)
+      q)
       (clean_behind Unguarded (spots (Opens other ∷ way) body) _ h.1),
 )
 guarded name (Continue place other rest) way q h =
-    ⊎_elim (λ e. let same = (bytes_eq-Decides name other).0 e in absurd (h.0 (culprit place other) (refl, subst (λ n. Quietly n way) same q))) (λ e. e) (true_or_false (bytes_eq name other))
+    ⊎_elim (λ e. let same = (bytes_eq-Decides name other).0 e in absurd
+    (h.0 (culprit place other) (refl, subst (λ n. Quietly n way) same q))) (λ e. e) (true_or_false (bytes_eq name other))
 
 -- the recs that open on a way are among these names
 abbrev Opened : List Name → Way → Type 0
 Opened names way = (name : Name) → Contains way (Opens name) → is_among name names ≡ true
 
 opened_past : (names : List Name) (way : Way) (s : Statements) → Opened names way → Opened names (Past s ∷ way)
-opened_past names way s h name c = ⊎_elim (λ (e : Past s ≡ Opens name). cc e) (λ later. h name later) (first_or_later (Past s) way (Opens name) c)
+opened_past names way s h name c = ⊎_elim (λ (e : Past s ≡ Opens name). cc e) (λ later. h name later)
+    (first_or_later (Past s) way (Opens name) c)
 
-opened_enters : (names : List Name) (way : Way) (at : Name) (earlier : List Statements) → Opened names way → Opened names (Enters at earlier ∷ way)
-opened_enters names way at earlier h name c = ⊎_elim (λ (e : Enters at earlier ≡ Opens name). cc e) (λ later. h name later) (first_or_later (Enters at earlier) way (Opens name) c)
+opened_enters : (names : List Name) (way : Way) (at : Name) (earlier : List Statements) → Opened names way →
+    Opened names (Enters at earlier ∷ way)
+opened_enters names way at earlier h name c = ⊎_elim (λ (e : Enters at earlier ≡ Opens name). cc e) (λ later. h name later)
+    (first_or_later (Enters at earlier) way (Opens name) c)
 
 true_or : (a b : Bool) → a ≡ true → (a || b) ≡ true
 true_or true b e = refl
@@ -122,7 +130,8 @@ or_second false b e = e
 opened_opens : (names : List Name) (way : Way) (other : Name) → Opened names way → Opened (other ∷ names) (Opens other ∷ way)
 opened_opens names way other h name c =
     ⊎_elim
-    (λ (e : Opens other ≡ Opens name). let f : other ≡ name = cc e in true_or (bytes_eq name other) (is_among name names) ((bytes_eq-Decides name other).1 (sym f)))
+    (λ (e : Opens other ≡ Opens name). let f : other ≡ name = cc e in true_or (bytes_eq name other) (is_among name names)
+    ((bytes_eq-Decides name other).1 (sym f)))
     (λ later. or_second (bytes_eq name other) (is_among name names) (h name later)) (first_or_later (Opens other) way (Opens name) c)
 
 -- the conditions on the spots of statements
@@ -136,22 +145,37 @@ clean_rest : (s : Spot) (xs : List Spot) → AreClean (s ∷ xs) → AreClean xs
 clean_rest s xs h = record { known = h.known.1; guards = h.guards.1; reached = h.reached.1; starts = h.starts.1 }
 
 front_clean : (xs ys : List Spot) → AreClean (xs ++ ys) → AreClean xs
-front_clean xs ys h = record { known = clean_front UnknownRec xs ys h.known; guards = clean_front Unguarded xs ys h.guards; reached = clean_front Unreachable xs ys h.reached; starts = clean_front BranchStart xs ys h.starts }
+front_clean xs ys h = record {
+  known = clean_front UnknownRec xs ys h.known;
+  guards = clean_front Unguarded xs ys h.guards;
+  reached =
+      clean_front Unreachable xs ys h.reached;
+  starts = clean_front BranchStart xs ys h.starts;
+}
 
 behind_clean : (xs ys : List Spot) → AreClean (xs ++ ys) → AreClean ys
-behind_clean xs ys h = record { known = clean_behind UnknownRec xs ys h.known; guards = clean_behind Unguarded xs ys h.guards; reached = clean_behind Unreachable xs ys h.reached; starts = clean_behind BranchStart xs ys h.starts }
+behind_clean xs ys h = record {
+  known = clean_behind UnknownRec xs ys h.known;
+  guards = clean_behind Unguarded xs ys h.guards;
+  reached =
+      clean_behind Unreachable xs ys h.reached;
+  starts = clean_behind BranchStart xs ys h.starts;
+}
 
 mutual
   sound : (t : Statements) (names : List Name) (way : Way) → Opened names way → AreClean (spots way t) → Sound names t
   sound Nothing names way o h = tt
   sound (Says m rest) names way o h = sound rest names (Past (Says m Nothing) ∷ way) (opened_past names way _ o) (clean_rest _ _ h)
   sound (Choice place at bs rest) names way o h =
-      let both = clean_rest (spot way (Choice place at bs rest)) (branch_spots way at [] bs ++ spots (Past (Choice place at bs Nothing) ∷ way) rest) h in (
+      let both = clean_rest (spot way (Choice place at bs rest))
+      (branch_spots way at [] bs ++ spots (Past (Choice place at bs Nothing) ∷ way) rest) h in (
         sound_in bs names way at [] o (λ e. h.starts.0 (culprit place []) (inl (refl, e))) (front_clean (branch_spots way at [] bs) _ both),
-        sound rest names (Past (Choice place at bs Nothing) ∷ way) (opened_past names way _ o) (behind_clean (branch_spots way at [] bs) _ both),
+        sound rest names (Past (Choice place at bs Nothing) ∷ way) (opened_past names way _ o)
+            (behind_clean (branch_spots way at [] bs) _ both),
       )
   sound (Rec place name body rest) names way o h =
-      let both = clean_rest (spot way (Rec place name body rest)) (spots (Opens name ∷ way) body ++ spots (Past (Rec place name body Nothing) ∷ way) rest) h in
+      let both = clean_rest (spot way (Rec place name body rest))
+      (spots (Opens name ∷ way) body ++ spots (Past (Rec place name body Nothing) ∷ way) rest) h in
       let inside = front_clean (spots (Opens name ∷ way) body) (spots (Past (Rec place name body Nothing) ∷ way) rest) both in
       let behind = behind_clean (spots (Opens name ∷ way) body) (spots (Past (Rec place name body Nothing) ∷ way) rest) both in (
         guarded name body (Opens name ∷ way) opened inside.guards,
@@ -160,21 +184,25 @@ mutual
         sound rest names (Past (Rec place name body Nothing) ∷ way) (opened_past names way _ o) behind,
       )
   sound (Continue place name rest) names way o h = (
-    ⊎_elim (λ e. e) (λ e. absurd (h.known.0 (culprit place name) (refl, λ c. let f = o name c in cc))) (true_or_false (is_among name names)),
+    ⊎_elim (λ e. e) (λ e. absurd (h.known.0 (culprit place name) (refl, λ c. let f = o name c in cc)))
+        (true_or_false (is_among name names)),
     last (Continue place name Nothing) rest way refl h.reached.1,
   )
 
-  sound_in : (bs : Branches) (names : List Name) (way : Way) (at : Name) (earlier : List Statements) → Opened names way → (HasEmpty bs → ⊥) → AreClean (branch_spots way at earlier bs) → SoundIn names bs
+  sound_in : (bs : Branches) (names : List Name) (way : Way) (at : Name) (earlier : List Statements) → Opened names way → (HasEmpty bs → ⊥)
+      → AreClean (branch_spots way at earlier bs) → SoundIn names bs
   sound_in NoBranch names way at earlier o none h = tt
   sound_in (Branch b more) names way at earlier o none h = (
     sound_first b names way at earlier o (λ e. none (inl e)) (front_clean (spots (Enters at earlier ∷ way) b) _ h),
     sound_in more names way at (b ∷ earlier) o (λ e. none (inr e)) (behind_clean (spots (Enters at earlier ∷ way) b) _ h),
   )
 
-  sound_first : (b : Statements) (names : List Name) (way : Way) (at : Name) (earlier : List Statements) → Opened names way → (b ≡ Nothing → ⊥) → AreClean (spots (Enters at earlier ∷ way) b) → SoundFirst names b
+  sound_first : (b : Statements) (names : List Name) (way : Way) (at : Name) (earlier : List Statements) → Opened names way →
+      (b ≡ Nothing → ⊥) → AreClean (spots (Enters at earlier ∷ way) b) → SoundFirst names b
   sound_first Nothing names way at earlier o none h = none refl
   sound_first (Says m rest) names way at earlier o none h =
-      sound rest names (Past (Says m Nothing) ∷ Enters at earlier ∷ way) (opened_past names (Enters at earlier ∷ way) _ (opened_enters names way at earlier o)) (clean_rest _ _ h)
+      sound rest names (Past (Says m Nothing) ∷ Enters at earlier ∷ way)
+      (opened_past names (Enters at earlier ∷ way) _ (opened_enters names way at earlier o)) (clean_rest _ _ h)
   sound_first (Choice place other bs rest) names way at earlier o none h = h.starts.0 (culprit place []) (inr (place, refl, refl, tt))
   sound_first (Rec place name body rest) names way at earlier o none h = h.starts.0 (culprit place []) (inr (place, refl, refl, tt))
   sound_first (Continue place name rest) names way at earlier o none h = h.starts.0 (culprit place []) (inr (place, refl, refl, tt))

@@ -14,7 +14,8 @@ abbrev mutual
   states_in part around (ChoiceHere branches rest) =
       (Left (ChoiceHere branches rest) part ∷ around) ∷ (states_here (Left rest part ∷ around) branches ++ states_in part around rest)
   states_in part around (ChoiceThere number branches rest) =
-      (Left (ChoiceThere number branches rest) part ∷ around) ∷ (states_there (Left rest part ∷ around) branches ++ states_in part around rest)
+      (Left (ChoiceThere number branches rest) part ∷ around) ∷ (states_there (Left rest part ∷ around) branches ++ states_in part around
+      rest)
   states_in part around (Rec name body rest) = states_in (BodyOf name body) (Left rest part ∷ around) body ++ states_in part around rest
   states_in part around (Continue name rest) = states_in part around rest
 

@@ -122,7 +122,8 @@ fn lay_branches<'a>(
     arrows: &mut List<Arrow<'a>>,
     branches: &'a [List<Statement>],
 ) -> Result<(), Memory>
-    ensures { OnOk result (gathered out.new arrows.new ≡ lay_in me.now (known_of around.now) at_self (work_of out.old).next (gathered out.old arrows.old) (bodies branches.now)) }
+    ensures { OnOk result (gathered out.new arrows.new ≡ lay_in me.now (known_of around.now) at_self (work_of out.old).next
+        (gathered out.old arrows.old) (bodies branches.now)) }
 {
     let behind = out.next;
     let mut i = branches.len();
@@ -153,7 +154,8 @@ fn lay_branch<'a>(
     arrows: &mut List<Arrow<'a>>,
     branch: &'a [Statement],
 ) -> Result<(), Memory>
-    ensures { OnOk result (gathered out.new arrows.new ≡ branch_laid at_self me.now (known_of around.now) (statements branch.now) (gathered out.old arrows.old)) }
+    ensures { OnOk result (gathered out.new arrows.new ≡ branch_laid at_self me.now (known_of around.now) (statements branch.now)
+        (gathered out.old arrows.old)) }
 {
     let Some((statement, rest)) = branch.split_first() else {
         return Ok(());

@@ -8,7 +8,8 @@ use Rattle.scr_tree.specs.declared.syntax.Payload.{Payload}
 use Rattle.scr_tree.specs.declared.syntax.Message.{Message as Said}
 use Rattle.scr_tree.specs.Tree.{Statements, Branches as Written, LocalTree}
 use Rattle.scr_tree.specs.Tree as tree
-use Rattle.scr_tree.specs.Protocol.{Message, Send, Take, Protocol, Done, Does, ChoiceHere, ChoiceThere, Rec, Continue, Branches, NoMore, Branch}
+use Rattle.scr_tree.specs.Protocol.{Message, Send, Take, Protocol, Done, Does, ChoiceHere, ChoiceThere, Rec, Continue, Branches, NoMore}
+use Rattle.scr_tree.specs.Protocol.{Branch}
 
 abbrev pub towards : Direction → Name → Name → Payload → Message
 towards directions.To peer label kind = Send peer label kind

@@ -6,7 +6,8 @@ use Rattle.mg_read.specs.First.{Clean, with_earlier}
 use Rattle.scr_tree.specs.Tree.{LocalTree, Statements, Nothing, Says, Choice, Rec, Continue, Branches, NoBranch, Branch}
 use Rattle.scr_tree.specs.Words.{IsName}
 use Rattle.scr_tree.specs.Spots.{spots}
-use Rattle.scr_tree.specs.Conditions.{UnknownRole, PeerIsSelf, UnknownRec, DuplicateRec, Unguarded, Unreachable, BranchStart, MixedChoice, SameLabel, ReservedLabel}
+use Rattle.scr_tree.specs.Conditions.{UnknownRole, PeerIsSelf, UnknownRec, DuplicateRec, Unguarded, Unreachable, BranchStart, MixedChoice}
+use Rattle.scr_tree.specs.Conditions.{SameLabel, ReservedLabel}
 use Rattle.scr_tree.specs.Actions.{NameClash, actions}
 use Rattle.scr_tree.specs.States.{TooManyStates}
 

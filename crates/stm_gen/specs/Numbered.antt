@@ -6,7 +6,8 @@ use Rattle.std.specs.Prelude.{ℕ, suc, List, [], ◌∷◌, ◌++◌, if◌then
 use Rattle.std.specs.Str.{bytes_eq}
 use Rattle.mg_text.specs.Call.{Name}
 use Rattle.scr_tree.specs.Tree.{LocalTree}
-use Rattle.scr_tree.specs.Protocol.{peer_of, label_of, Protocol, Done, Does, ChoiceHere, ChoiceThere, Rec, Continue, Branches, NoMore, Branch}
+use Rattle.scr_tree.specs.Protocol.{peer_of, label_of, Protocol, Done, Does, ChoiceHere, ChoiceThere, Rec, Continue, Branches, NoMore}
+use Rattle.scr_tree.specs.Protocol.{Branch}
 use Rattle.scr_tree.specs.Meaning.{protocol_of}
 use Rattle.scr_trace.specs.declared.standing.Standing.{Standing}
 use Rattle.scr_trace.specs.declared.standing.Standing.TheVariants as standings
@@ -52,7 +53,8 @@ abbrev pub start_of : Name → List Start → Standing
 start_of name [] = standings.End
 start_of name (start ∷ starts) = if bytes_eq name start.name then start.to else start_of name starts
 
--- Where these statements begin, if their states are numbered from n on, `follow` is what follows them, and the recs around begin at `starts`.
+-- Where these statements begin, if their states are numbered from n on, `follow` is what follows them, and the recs around begin at
+-- `starts`.
 abbrev pub first : ℕ → Standing → List Start → Protocol → Standing
 first n follow starts Done = follow
 first n follow starts (Does message rest) = standings.State n

@@ -1,4 +1,5 @@
--- For private clauses: reading from left to right, where a global protocol differs from a local one. Each function gives a value and the tokens behind it.
+-- For private clauses: reading from left to right, where a global protocol differs from a local one. Each function gives a value and the
+-- tokens behind it.
 use Rattle.std.specs.Prelude.{ℕ, zero, suc, List, [], ◌∷◌, map, Option, Some, None, if◌then◌else◌}
 use Rattle.mg_text.specs.Call.{Name}
 use Rattle.mg_read.specs.Reader.{Reader, ◌>>=◌, all_of}
@@ -8,7 +9,8 @@ use Rattle.scr_tree.specs.declared.token.Mark.TheVariants as marks
 use Rattle.scr_tree.specs.declared.written.Declaration.{Declaration}
 use Rattle.scr_tree.specs.declared.written.Role.{Role}
 use Rattle.scr_tree.specs.Written.{Carries, kind_of}
-use Rattle.scr_parse.specs.inner.Reading.{mark_at, name_at, is_at, after_module, types_at, roles_at, payload_at, not_closed, carries_in, if_last}
+use Rattle.scr_parse.specs.inner.Reading.{mark_at, name_at, is_at, after_module, types_at, roles_at, payload_at, not_closed, carries_in}
+use Rattle.scr_parse.specs.inner.Reading.{if_last}
 use Rattle.scr_global.specs.Tree.{Told, Statements, Nothing, Says, Choice, Rec, Continue}
 use Rattle.scr_global_tree.specs.View.{branches_of}
 use Rattle.scr_global_tree.specs.Written.{WrittenTree}

@@ -39,7 +39,8 @@ abbrev mutual
   pub unreachable : Statements → Option Culprit
   unreachable Nothing = None
   unreachable (Says m rest) = unreachable rest
-  unreachable (Choice p at branches rest) = option_or (unreachable_in branches) (if some_falls branches then unreachable rest else stands rest)
+  unreachable (Choice p at branches rest) = option_or (unreachable_in branches) (if some_falls branches then unreachable rest else stands
+      rest)
   unreachable (Rec p name body rest) = option_or (unreachable body) (if falls body then unreachable rest else stands rest)
   unreachable (Continue p name rest) = stands rest
 
@@ -72,7 +73,8 @@ abbrev mutual
 
   pub same_in : Name → Name → Names → Branches → Option Culprit
   same_in me at has NoBranch = None
-  same_in me at has (Branch b more) = option_or (head_fault me at has b) (option_or (same me b) (same_in me at (with_head me at has b) more))
+  same_in me at has (Branch b more) =
+      option_or (head_fault me at has b) (option_or (same me b) (same_in me at (with_head me at has b) more))
 
 -- the first message of statements that begin with one
 abbrev pub first_said : Statements → Option Message

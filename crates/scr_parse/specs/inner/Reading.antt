@@ -254,7 +254,10 @@ message_at declared ts = do
   direction ← direction_at close_paren.1
   peer ← name_at direction.1
   end ← mark_at marks.Semicolon peer.1
-  Some (record { place = label.0.0; direction = direction.0; peer = peer.0.1; label = label.0.1; payload = kind_of declared types.0 }, end.1)
+  Some (
+    record { place = label.0.0; direction = direction.0; peer = peer.0.1; label = label.0.1; payload = kind_of declared types.0 },
+    end.1,
+  )
 
 -- "continue" name ";"
 unfoldable pub continue_at : Reader Tok Statements

@@ -8,7 +8,8 @@ use Rattle.scr_judge.proofs.guards.+guards.Given as goal
 
 abbrev pub invariant-unguarded_all-loop-statement : goal.invariant-unguarded_all-loop-statement
 invariant-unguarded_all-loop-statement l = record {
-  first : unguarded (names_of l.names) (statements l.body) ≡ unguarded (kept l.quiet (names_of l.names)) (statements (drop l.statement-index l.body));
+  first : unguarded (names_of l.names) (statements l.body) ≡ unguarded (kept l.quiet (names_of l.names))
+      (statements (drop l.statement-index l.body));
   passes : passes (statements l.body) ≡ (l.quiet && passes (statements (drop l.statement-index l.body)));
 }
 

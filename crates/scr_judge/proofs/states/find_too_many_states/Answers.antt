@@ -8,7 +8,8 @@ use Rattle.scr_judge.proofs.states.find_too_many_states.Goals as goal
 
 pub returns-then-has_too_many_states : goal.returns-then-has_too_many_states
 returns-then-has_too_many_states c =
-    subst (λ p. Judged (TooManyStates c.args.file c.args.me.now) (statements c.args.body.now ∷ []) (Some (culprit p []))) (sym c.start.ensures)
+    subst (λ p. Judged (TooManyStates c.args.file c.args.me.now) (statements c.args.body.now ∷ []) (Some (culprit p [])))
+    (sym c.start.ensures)
     (judged_file c.args.file c.args.me.now (statements c.args.body.now) true c.if-has_too_many_states.ensures)
 
 pub returns : goal.returns
