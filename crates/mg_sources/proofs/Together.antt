@@ -15,14 +15,14 @@ use Rattle.stm_api.specs.Doings.{Doing, doings, call_of, Firsts}
 use Rattle.stm_api.specs.Doings as doing
 use Rattle.std.specs.Prelude.{Contains}
 use Rattle.mg_sources.specs.Files.{Source, sources_from}
-use Rattle.mg_sources.specs.Reading.{Part, Reads}
-use Rattle.mg_sources.specs.Sources.{Sourced, empty, adding, Stands, Spell, AreProgram, Refusal, IsRefused}
+use Rattle.mg_sources.specs.Reading.{Part, Reads, EachSpells, Refuses}
+use Rattle.mg_sources.specs.Sources.{Sourced, empty, adding, Stands, Spell, AreProgram, FirstRefusal}
 use Rattle.mg_sources.specs.Sources as together
-use Rattle.mg_sources.specs.Parts.{EachSpells}
+use Rattle.mg_refusal.specs.Refusals.{Refusal}
+use Rattle.mg_refusal.specs.Order.{at_first, at_next}
 use Rattle.mg_sources.specs.inner.Answers.{Make, Appends}
 use Rattle.mg_sources.specs.inner.Answers as answers
-use Rattle.mg_sources.proofs.OneKind.{one_part}
-use Rattle.mg_sources.proofs.PartLemmas.{not_refused}
+use Rattle.mg_sources.proofs.OneKind.{one_part, excludes}
 
 -- what files spell, one after another, is what they spell together
 pub spelled_from : (n : ℕ) (names contents : List (List ℕ)) (parts : List Part) (sourced : Sourced) →
@@ -37,13 +37,13 @@ spelled_from n (x ∷ xs) (b ∷ bs) (l ∷ ls) sourced (reads, more) (answers.o
     together.one reads st (spelled_from (suc n) xs bs ls rest more make)
 
 -- files that spell a program aren't refused
-pub none_refused_of : {files : List Source} {sourced : Sourced} → Spell files sourced → Judged IsRefused files None
+pub none_refused_of : {files : List Source} {sourced : Sourced} → Spell files sourced → Judged Refuses files None
 none_refused_of together.none = clean
-none_refused_of (together.one {source = f} {part = l} reads st more) = later (λ line. not_refused f l line reads) (none_refused_of more)
+none_refused_of (together.one {source = f} {part = l} reads st more) = later (λ r. excludes f l r reads) (none_refused_of more)
 
-pub not_both : {files : List Source} {sourced : Sourced} {line : List ℕ} → AreProgram files sourced → Refusal files line → ⊥
-not_both are (together.refused h) = no_both (none_refused_of are.spell) h
-not_both are (together.same_role nobody h) = no_both are.apart h
+pub not_both : {files : List Source} {sourced : Sourced} {r : Refusal} → AreProgram files sourced → FirstRefusal files r → ⊥
+not_both are (at_first h) = no_both (none_refused_of are.spell) h
+not_both are (at_next parts each h) = no_both are.apart h
 
 -- ---- there is one program
 
