@@ -3,7 +3,7 @@ use Rattle.std.proofs.Common.{◌≡◌, ℕ, [], codes, Option, Some, None, Res
 use Rattle.std.specs.Prelude.{OnOk}
 use Rattle.mg_text.specs.declared.place.Place.{Place}
 use Rattle.mg_refusal.specs.Refusals.{Refusal, refusal_at, in_file, AreAlike}
-use Rattle.mg_refusal.specs.Order.{Finds, InFile, Then, at_first, at_next, Answers, AnswersOnly, IsStopOf, stop_in}
+use Rattle.mg_refusal.specs.Order.{Finds, InFile, Then, at_first, at_next, Answers, AnswersOnly, IsStopOf, IsStopBy, stop_in}
 use Rattle.mg_refusal.specs.declared.stop.Stop.{Stop}
 use Rattle.mg_refusal.specs.declared.stop.Stop.TheVariants as stops
 
@@ -72,6 +72,12 @@ stop_refused Comes Right First (Some f) (stops.Refused r) h go = go f r refl h
 stop_refused Comes Right First (Some f) stops.Memory h go = absurd h
 stop_refused Comes Right First None (stops.Refused r) h go = absurd h
 stop_refused Comes Right First None stops.Memory h go = tt
+
+-- or for which memory may lack
+pub stop_refused_by : {A F : Type 0} (Comes : F → Refusal → Type 0) (Right : A → Type 0) (First : Refusal → Type 0) (told : Option F)
+    (stop : Stop) → IsStopBy Comes told stop → ((f : F) (r : Refusal) → told ≡ Some f → Comes f r → First r) → Answers Right First (Err stop)
+stop_refused_by Comes Right First told (stops.Refused r) h go = go h.0 r h.1 h.2
+stop_refused_by Comes Right First told stops.Memory h go = tt
 
 -- and in a file
 pub stop_in_file : {A F : Type 0} (file : ℕ) (Comes : F → Refusal → Type 0) (Right : A → Type 0) (First : Refusal → Type 0)

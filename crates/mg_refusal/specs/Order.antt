@@ -34,6 +34,11 @@ IsStopOf Comes (Some f) stops.Memory = ⊥
 IsStopOf Comes None (stops.Refused r) = ⊥
 IsStopOf Comes None stops.Memory = Unit {0}
 
+-- the same, or want of memory for the refusal itself
+abbrev pub IsStopBy : {F : Type 0} → (Comes : F → Refusal → Type 0) → (told : Option F) → Stop → Type 0
+IsStopBy {F} Comes told (stops.Refused r) = (f : F) × (told ≡ Some f) × Comes f r
+IsStopBy Comes told stops.Memory = Unit {0}
+
 abbrev pub stop_in : (file : ℕ) → Stop → Stop
 stop_in file (stops.Refused r) = stops.Refused (in_file file r)
 stop_in file stops.Memory = stops.Memory

@@ -1,4 +1,4 @@
--- The line of a demand that fails.
+-- A demand that fails, as a refusal.
 use Rattle.std.specs.Prelude.{ℕ, Bool, true, false, List, ◌++◌, codes, if◌then◌else◌}
 use Rattle.jv_core.specs.Tree as Core
 use Rattle.use_rules.specs.declared.demand.Demand.{Demand}
@@ -6,9 +6,7 @@ use Rattle.use_rules.specs.declared.demand.DemandKind.{DemandKind}
 use Rattle.use_rules.specs.declared.demand.DemandKind.TheVariants as demands
 use Rattle.use_rules.specs.Keys.{typestate_of}
 use Rattle.use_check.specs.Report.{element_text}
-use Rattle.mg_sources.specs.Faults.{fault_at, fault_line}
-use Rattle.mg_sources.specs.Files.{Source}
-use Rattle.mg_program.specs.Program.{file_name}
+use Rattle.mg_refusal.specs.Refusals.{Refusal, refusal_at}
 
 -- the word for each kind of demand
 abbrev pub demand_word : DemandKind → List ℕ
@@ -36,6 +34,6 @@ element_of core d = element_text (typestate_of core d.class) d.element
 abbrev pub demand_name : Core.Program → Demand → List ℕ
 demand_name core d = if tells_element d.kind then d.slot ++ (codes " " ++ element_of core d) else d.slot
 
--- the line of a demand that fails, in the file where it stands
-abbrev pub demand_line : List Source → Core.Program → Demand → List ℕ
-demand_line files core d = fault_line (file_name files d.place.file) (fault_at (demand_word d.kind) d.place (demand_name core d))
+-- a demand that fails, as a refusal
+abbrev pub demand_refusal : Core.Program → Demand → Refusal
+demand_refusal core d = refusal_at (demand_word d.kind) d.place (demand_name core d)
