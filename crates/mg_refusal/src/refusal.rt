@@ -24,15 +24,15 @@ pub struct Refusal {
 }
 
 impl Model for Refusal {
-    ghost use Rattle.mg_refusal.specs.Refusals.{Refusal as Seen, name_or_none};
+    ghost use Rattle.mg_refusal.specs.Refusals.{Refusal as Seen};
 
     ghost Value = { Seen };
 
-    ghost view = { λ r. record { kind = r.kind.now; spot = r.spot; name = name_or_none r.name } };
+    ghost view = { λ r. record { kind = r.kind.now; spot = r.spot; name = r.name } };
 }
 
 impl Refusal {
-    ghost use Rattle.std.specs.Prelude.{◌≡◌, []};
+    ghost use Rattle.std.specs.Prelude.{◌≡◌, [], option_map};
     ghost use Rattle.mg_refusal.specs.Refusals.{refusal_at, refusal_in_bytes, refusal_nowhere, in_file};
 
     /// At a place of a text, where nothing is named.
@@ -46,14 +46,19 @@ impl Refusal {
         }
     }
 
-    /// At a place of a text, with what is named there.
+    /// At a place of a text, with what is named there; an empty name names nothing.
     pub fn named(kind: &'static str, place: Place, name: Text) -> Refusal
         ensures { result ≡ refusal_at kind.now place name }
     {
+        let name = if name.as_str().is_empty() {
+            None
+        } else {
+            Some(name)
+        };
         Refusal {
             kind,
             spot: Spot::Text(place),
-            name: Some(name),
+            name,
         }
     }
 
@@ -105,13 +110,10 @@ impl Refusal {
         self.spot
     }
 
-    /// What is named, which is empty where nothing is.
-    pub fn name(&self) -> &str
-        ensures { result.now ≡ self.now.name }
+    /// What is named, if anything is.
+    pub fn name(&self) -> Option<&Text>
+        ensures { option_map (λ n. n.now) result ≡ self.now.name }
     {
-        match &self.name {
-            Some(name) => name.as_str(),
-            None => "",
-        }
+        self.name.as_ref()
     }
 }
