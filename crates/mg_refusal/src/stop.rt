@@ -1,7 +1,7 @@
 //! Why a command goes no further with its files.
 
 use crate::refusal::Refusal;
-use mg_text::Memory;
+use mg_text::{Memory, Place, Text};
 use std::alloc::{AllocError, AllocFailed};
 
 /// Why a command goes no further with its files.
@@ -14,8 +14,23 @@ pub enum Stop {
 }
 
 impl Stop {
-    ghost use Rattle.std.specs.Prelude.{◌≡◌};
+    ghost use Rattle.std.specs.Prelude.{◌≡◌, []};
+    ghost use Rattle.mg_refusal.specs.Refusals.{refusal_at};
     ghost use Rattle.mg_refusal.specs.Order.{stop_in};
+
+    /// The refusal at a place of a text, where nothing is named.
+    pub fn at(kind: &'static str, place: Place) -> Stop
+        ensures { result ≡ Stop.Refused (refusal_at kind.now place []) }
+    {
+        Stop::Refused(Refusal::at(kind, place))
+    }
+
+    /// The refusal at a place of a text, with what is named there; an empty name names nothing.
+    pub fn named(kind: &'static str, place: Place, name: Text) -> Stop
+        ensures { result ≡ Stop.Refused (refusal_at kind.now place name) }
+    {
+        Stop::Refused(Refusal::named(kind, place, name))
+    }
 
     /// The same at that place of the text of this number.
     pub fn in_file(self, file: u32) -> Stop

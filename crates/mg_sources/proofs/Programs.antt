@@ -64,14 +64,14 @@ is_program names contents parts s each apart make = record { spell = spelled_fro
 -- ---- what follows from its being one answer
 
 module _ (files : List Source) (answer : Result KeptSources Stop) (h : Answers (λ s. AreProgram files (sourced_of s)) (FirstRefusal files) answer)
-    where
-  pub that_alone : (s : Sourced) → AreProgram files s → AnswersOnly (λ k. sourced_of k ≡ s) answer
-  that_alone s are =
-      unless_refused (λ s. AreProgram files (sourced_of s)) (FirstRefusal files) (λ k. sourced_of k ≡ s) answer h
-      (λ k is. one_program files (sourced_of k) s is are) (λ r first. not_both are first)
+  where
+    pub that_alone : (s : Sourced) → AreProgram files s → AnswersOnly (λ k. sourced_of k ≡ s) answer
+    that_alone s are =
+        unless_refused (λ s. AreProgram files (sourced_of s)) (FirstRefusal files) (λ k. sourced_of k ≡ s) answer h
+        (λ k is. one_program files (sourced_of k) s is are) (λ r first. not_both are first)
 
-  pub no_program : (r : Refusal) → FirstRefusal files r → OnOk answer ⊥
-  no_program r first = never_ok (λ s. AreProgram files (sourced_of s)) (FirstRefusal files) answer h (λ k is. not_both is first)
+    pub no_program : (r : Refusal) → FirstRefusal files r → OnOk answer ⊥
+    no_program r first = never_ok (λ s. AreProgram files (sourced_of s)) (FirstRefusal files) answer h (λ k is. not_both is first)
 
 -- ---- what a part stands for is appended
 

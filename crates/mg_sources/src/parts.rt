@@ -11,7 +11,7 @@ ghost use Rattle.mg_sources.specs.Parts.{part_of};
 ghost use Rattle.mg_sources.specs.inner.Answers.{role_in};
 
 use crate::part::{Part, read_part};
-use mg_refusal::{Refusal, Stop};
+use mg_refusal::Stop;
 use mg_text::{Bytes, List, Place, Text};
 use std::alloc::Global;
 use std::collections::HashSet;
@@ -55,7 +55,7 @@ pub fn check_roles(alloc: Global, parts: &[Part]) -> Result<(), Stop>
         if !roles.insert(String::from_str(alloc, role.as_str())?)? {
             let place = Place::start(number as u32);
             let name = role.copy()?;
-            return Err(Stop::Refused(Refusal::named("SameRole", place, name)));
+            return Err(Stop::named("SameRole", place, name));
         }
     }
     Ok(())
