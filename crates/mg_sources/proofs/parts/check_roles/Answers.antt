@@ -1,8 +1,12 @@
-use Rattle.std.proofs.Common.{◌≡◌, ◌∙◌, ℕ, List, [], ◌∷◌, ◌++◌, map, take, sym, ap, subst, arith, codes, string_bytes, refl}
+use Rattle.std.proofs.Common.{◌≡◌, ◌∙◌, ℕ, List, [], ◌∷◌, ◌++◌, map, take, sym, ap, subst, arith, codes, string_bytes, refl, Some, None, Err}
 use Rattle.std.proofs.lemmas.List.{append-nil}
 use Rattle.std.proofs.lemmas.Map.Text.{hash_set_updates_text}
 use Rattle.mg_read.proofs.Scanning.{left_start}
+use Rattle.mg_read.specs.First.{Judged, with_earlier}
 use Rattle.mg_refusal.specs.Refusals.{refusal_at}
+use Rattle.mg_refusal.specs.Order.{Answers}
+use Rattle.mg_refusal.specs.declared.stop.Stop.{Stop}
+use Rattle.mg_sources.specs.Files.{sources}
 use Rattle.mg_sources.specs.Sources.{SharesRole}
 use Rattle.mg_sources.specs.Parts.{part_of}
 use Rattle.mg_sources.proofs.RoleLemmas.{HasExactly, roles, nothing_yet, end_of, shared, apart, exact_next, without_role, roles_next}
@@ -30,11 +34,13 @@ loop-number-preserved-in-None c =
 pub returns-in_ok-name-then-not-branch : goal.returns-in_ok-name-then-not-branch
 returns-in_ok-name-then-not-branch c = λ names contents each.
     let key_is : string_bytes c.in_ok-from_str.field-0 ≡ c.in-Some.role.now = c.in_ok-from_str.ensures.ok ∙ c.as_str.ensures in
-    shared c.args.parts.now c.loop-number.number names contents each (c.loop-number.invariant.left names contents each)
+    subst (λ (z : Stop). Answers (λ (done : Unit). Judged SharesRole (with_earlier (sources names contents)) None)
+    (λ r. Judged SharesRole (with_earlier (sources names contents)) (Some r)) (Err z)) (sym c.named.ensures)
+    (shared c.args.parts.now c.loop-number.number names contents each (c.loop-number.invariant.left names contents each)
     c.loop-number-test.true c.index-parts-number.result c.index-parts-number.is
     c.loop-number.roles c.loop-number.invariant.exact c.in-Some.role.now c.in-Some.ensures.some (string_bytes c.in_ok-from_str.field-0) key_is
-    (sym c.in_ok-insert.ensures.added ∙ c.if-not-branch.true) c.named.result
-    (c.named.ensures ∙ (λ i. refusal_at (codes "SameRole") (c.start-place.ensures i) (c.in_ok-name.ensures i)))
+    (sym c.in_ok-insert.ensures.added ∙ c.if-not-branch.true) _
+    (λ i. refusal_at (codes "SameRole") (c.start-place.ensures i) (c.in_ok-name.ensures i)))
 
 pub loop-number-preserved : goal.loop-number-preserved
 loop-number-preserved c =
