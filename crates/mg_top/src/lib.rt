@@ -18,6 +18,7 @@ mod status;
 mod top;
 mod translate;
 
+pub use lines::refused;
 pub use status::Status;
 pub use top::mungo;
 

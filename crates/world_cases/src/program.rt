@@ -9,7 +9,7 @@ use cases::{File, files_of};
 use cls_bytes::{ClassFault, read_class};
 use cls_tree::Class;
 use mg_compile::{ClassFile, compile};
-use mg_sources::Stop;
+use mg_refusal::Stop;
 use mg_text::{Bytes, List, Text};
 use std::alloc::{AllocError, Global};
 use std::fs;
