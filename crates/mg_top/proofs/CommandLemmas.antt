@@ -22,7 +22,7 @@ use Rattle.mg_runs.specs.Runs.{names_of}
 use Rattle.mg_runs.specs.Headline.{Course}
 use Rattle.mg_runs.specs.View.{Shows, IsOfRun}
 use Rattle.mg_top.specs.Commands.{prints, kept_in, role_mains_of, run_said, run_printed, status_of, Gives, checked, ran, refined, refined_status}
-use Rattle.mg_top.specs.Commands.{IsRefused, Yields, gives, refused}
+use Rattle.mg_top.specs.Commands.{IsRefused, judged_names, Yields, gives, refused}
 use Rattle.mg_refined.specs.Refined.{AreJudged}
 use Rattle.mg_read.specs.First.{Judged, with_earlier}
 use Rattle.mg_refusal.specs.Refusals.{Refusal}
@@ -164,16 +164,15 @@ pub given_yields : (command : Command) (contents : List (List ℕ)) (d : Deliver
 given_yields command contents d y = gives y
 
 -- and of a refusal its line
-pub refusal_yields : (command : Command) (contents : List (List ℕ)) (r : Refusal) (names : List Word) (line : List ℕ)
-    (answer : Result Delivery Memory) → IsRefused command contents r → names ≡ files_of command → line ≡ refusal_line names r →
+pub refusal_yields : (command : Command) (contents : List (List ℕ)) (r : Refusal) (line : List ℕ)
+    (answer : Result Delivery Memory) → IsRefused command contents r → line ≡ refusal_line (judged_names command) r →
     IfOk answer (λ d. d.actions.items ≡ Say line ∷ []) → IfOk answer (λ d. d.status ≡ statuses.Refused) →
     IfOk answer (λ d. Yields command contents d.actions.items d.status)
-refusal_yields command contents r names line (Ok d) h named is a s =
-    let said : d.actions.items ≡ Say (refusal_line (files_of command) r) ∷ []
-    = a ∙ ap (λ (z : List ℕ). Say z ∷ []) (is ∙ ap (λ (z : List Word). refusal_line z r) named) in
+refusal_yields command contents r line (Ok d) h is a s =
+    let said : d.actions.items ≡ Say (refusal_line (judged_names command) r) ∷ [] = a ∙ ap (λ (z : List ℕ). Say z ∷ []) is in
     subst (λ (z : List Action). Yields command contents z d.status) (sym said)
-    (subst (λ (z : Status). Yields command contents (Say (refusal_line (files_of command) r) ∷ []) z) (sym s) (refused h))
-refusal_yields command contents r names line (Err e) h named is a s = tt
+    (subst (λ (z : Status). Yields command contents (Say (refusal_line (judged_names command) r) ∷ []) z) (sym s) (refused h))
+refusal_yields command contents r line (Err e) h is a s = tt
 
 -- ---- what is due
 

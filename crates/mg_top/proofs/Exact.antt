@@ -34,8 +34,8 @@ use Rattle.mg_runs.specs.Headline.{Course, IsRun}
 use Rattle.mg_exec.proofs.Apart.{not_refused as not_stopped, one_course}
 use Rattle.vm_world_law.specs.declared.role.RoleMain.{RoleMain}
 use Rattle.mg_top.specs.Translation.{AreTranslated}
-use Rattle.mg_top.specs.Commands.{Gives, translated, conforms, checked, compiled, ran, executed, refined, projected, refined_status}
-use Rattle.mg_top.specs.Commands.{role_mains_of, status_of, IsRefused, Yields, gives, refused}
+use Rattle.mg_top.specs.Commands.{Gives, translated, conforms, checked, compiled, ran, executed, refined, projected, loaded, refined_status}
+use Rattle.mg_top.specs.Commands.{load_asked, load_sources, role_mains_of, status_of, IsRefused, Yields, gives, refused}
 use Rattle.mg_top.specs.Commands as commands
 use Rattle.mg_top.specs.Promises.{IsYielded}
 use Rattle.mg_top.proofs.SourceLemmas.{none_refused_of_translated}
@@ -119,6 +119,8 @@ not_both {contents = contents} {r = r} (refined {files = files} a) (commands.ref
     none_spelled (sources files contents) _ r a.spell h
 not_both {contents = contents} {r = r} (projected {files = files} written a) (commands.project h) =
     not_unprojected (sources files contents) written r a h
+not_both {r = r} (loaded {branches = n} {seed = seed} course is) (commands.load h) =
+    not_halted (load_sources n seed) (role_mains_of load_asked) (order_of load_asked) (limit_of load_asked) course r is h
 
 -- ---- one status
 
@@ -147,6 +149,8 @@ gives_status {contents = contents} (executed {asked = asked} {files = files} r h
 gives_status {contents = contents} (refined {files = files} {text = x} {stands = s} h) (refined {text = y} {stands = t} k) =
     ap refined_status (one_telling (sources files contents) x y s t h k).1
 gives_status (projected written h) (projected written' h') = refl
+gives_status (loaded {branches = n} {seed = seed} r h) (loaded s k) =
+    ap status_of (one_stand (load_sources n seed) (role_mains_of load_asked) (order_of load_asked) (limit_of load_asked) r s h k)
 
 pub one_status : {command : Command} {contents : List (List ℕ)} {xa xb : List Action} {m n : Status} → Yields command contents xa m →
     Yields command contents xb n → m ≡ n
@@ -201,6 +205,7 @@ gives_proper (ran r h) = stands_proper (stands_in r.program r.last)
 gives_proper (executed r h) = stands_proper (stands_in r.program r.last)
 gives_proper (refined {stands = stands} h) = told_proper stands
 gives_proper (projected written h) = done_proper
+gives_proper (loaded r h) = stands_proper (stands_in r.program r.last)
 
 pub proper : {command : Command} {contents : List (List ℕ)} {actions : List Action} {status : Status} →
     Yields command contents actions status → IsYielded status
@@ -249,6 +254,7 @@ gives_says (ran r h) e = absurd (never_refused (stands_in r.program r.last) e)
 gives_says (executed r h) e = absurd (never_refused (stands_in r.program r.last) e)
 gives_says (refined {text = text} {stands = stands} h) e = told_says h.a h.b text stands h.tells e
 gives_says (projected written h) e = absurd cc
+gives_says (loaded r h) e = absurd (never_refused (stands_in r.program r.last) e)
 
 pub refusal_says : {command : Command} {contents : List (List ℕ)} {actions : List Action} {status : Status} →
     Yields command contents actions status → status ≡ statuses.Refused → SaysRefusal actions
@@ -287,6 +293,11 @@ gives_whole {contents = contents} (ran {asked = asked} {files = files} r h) e =
     (none_broken (sources files contents) (role_mains_of asked) (order_of asked) (limit_of asked) r h) e)
 gives_whole (refined {stands = stands} h) e = absurd (told_whole stands e)
 gives_whole (projected written h) e = absurd cc
+gives_whole (loaded {branches = n} {seed = seed} r h) e =
+    let all : List Stand = stands_in r.program r.last in
+    absurd (tests_whole (list_any is_bound all) (list_any is_broken all) (list_any is_zero all) (list_any is_mismatch all)
+    (list_any is_waiting all)
+    (none_broken (load_sources n seed) (role_mains_of load_asked) (order_of load_asked) (limit_of load_asked) r h) e)
 gives_whole (executed {asked = asked} {files = files} r h) e = (asked, files, refl)
 
 pub broken_command : {command : Command} {contents : List (List ℕ)} {actions : List Action} {status : Status} →

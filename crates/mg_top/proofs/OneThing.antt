@@ -14,7 +14,7 @@ use Rattle.mg_calls.proofs.Laws.{one_list}
 use Rattle.jv_core.specs.Tree as Core
 use Rattle.use_check.specs.Report.{IsReport}
 use Rattle.use_check.proofs.Reporting.{one_report}
-use Rattle.mg_words.specs.Words.{Word, Asked, limit_of, order_of, Command, Exec, files_of}
+use Rattle.mg_words.specs.Words.{Word, Asked, limit_of, order_of, Command, Exec}
 use Rattle.mg_refusal.specs.Refusals.{Refusal, refusal_at, in_file, AreAlike}
 use Rattle.mg_refusal.proofs.Orders.{then_alike}
 use Rattle.mg_sources.specs.Files.{Source, source_of, sources}
@@ -26,7 +26,9 @@ use Rattle.mg_program.proofs.Apart.{one_core}
 use Rattle.mg_accepted.proofs.Alike as accepted_alike
 use Rattle.mg_compile.proofs.Apart.{one_compiled}
 use Rattle.mg_compile.proofs.Alike as compiled_alike
+use Rattle.mg_load.specs.Workload.{loaded_line}
 use Rattle.mg_runs.specs.Headline.{Course}
+use Rattle.mg_runs.specs.Runs.{messages_in}
 use Rattle.mg_runs.proofs.Apart.{one_of_run}
 use Rattle.mg_runs.proofs.Alike as runs_alike
 use Rattle.mg_exec.specs.Runs as executing
@@ -43,7 +45,7 @@ use Rattle.mg_top.specs.Writing.{classes_written, roles_written}
 use Rattle.mg_top.specs.Translation.{IsTypestateFile, api_written, IsTranslation, Translates, EachTranslates, none, one}
 use Rattle.mg_top.specs.Lines.{refusal_line, not_offered_line}
 use Rattle.mg_top.specs.Conformance.{calls_of, Conforms, complete, unfinished, not_offered, Lists, IsNoList, too_large, bad_line, ConformRefusal}
-use Rattle.mg_top.specs.Commands.{prints, kept_in, role_mains_of, run_said, run_printed, exec_said, exec_printed}
+use Rattle.mg_top.specs.Commands.{loaded, load_asked, load_sources, judged_names, prints, kept_in, role_mains_of, run_said, run_printed, exec_said, exec_printed}
 use Rattle.mg_top.specs.Commands.{Gives, translated, conforms, checked, compiled, ran, executed, refined, projected, IsRefused, Yields, gives, refused}
 use Rattle.mg_top.specs.Commands as commands
 use Rattle.mg_top.specs.Once.{SameActions, YieldsOnce}
@@ -93,6 +95,9 @@ each_once {folder = folder} (one {source = s} {writes = a} {sources = ss} {actio
 
 abbrev run_actions : Asked → Course → List Action
 run_actions asked r = kept_in asked.folder r.written ++ (prints (run_printed asked r) ++ Say (run_said asked r) ∷ [])
+
+abbrev load_actions : (n seed : ℕ) → Course → List Action
+load_actions n seed r = Print (run_printed load_asked r ++ loaded_line n seed (messages_in r.last.events)) ∷ Say (run_said load_asked r) ∷ []
 
 abbrev exec_actions : Asked → executing.Course → List Action
 exec_actions asked r = prints (exec_printed asked r) ++ Say (exec_said asked r) ∷ []
@@ -194,6 +199,15 @@ given_once {contents = contents} (refined {files = files} {text = x} {stands = s
     ap (λ (text : List ℕ). Print text ∷ []) (one_telling (sources files contents) x y s t h k).0
 given_once {contents = contents} (projected {folder = folder} {files = files} written h) (projected written' k) e =
     ap (roles_written folder) (written_once (sources files contents) written written' h k)
+given_once (loaded {branches = n} {seed = seed} r h) (loaded s k) e =
+    let same = one_of_run (load_sources n seed) (role_mains_of load_asked) (order_of load_asked) (limit_of load_asked) r s h k in
+    λ i. load_actions n seed (record {
+      core = same.core i;
+      written = same.written i;
+      program = same.program i;
+      first = r.first;
+      last = same.last i;
+    })
 
 -- ---- what is refused
 
@@ -214,6 +228,8 @@ refused_alike {contents = contents} {r = r} {q = q} (commands.refine {files = fi
     sources_alike.first_alike h k refl refl refl
 refused_alike {contents = contents} {r = r} {q = q} (commands.project {files = files} h) (commands.project k) ne =
     projected_alike.same_refusal (sources files contents) r q h k
+refused_alike {r = r} {q = q} (commands.load {branches = n} {seed = seed} h) (commands.load k) ne =
+    runs_alike.same_refusal (load_sources n seed) (role_mains_of load_asked) r q h k
 
 say : (names : List Word) (r q : Refusal) → AreAlike r q → SameActions (Say (refusal_line names r) ∷ []) (Say (refusal_line names q) ∷ [])
 say names r q (inl e) = inl (ap (λ (z : Refusal). Say (refusal_line names z) ∷ []) e)
@@ -231,7 +247,7 @@ yields_alike : {command : Command} {contents : List (List ℕ)} {a b : List Acti
 yields_alike (gives y) (gives z) e ne = inl (given_once y z e)
 yields_alike (gives y) (refused r) e ne = absurd (not_both y r)
 yields_alike (refused r) (gives y) e ne = absurd (not_both y r)
-yields_alike {command = command} (refused {r = r} h) (refused {r = q} k) e ne = say (files_of command) r q (refused_alike h k ne)
+yields_alike {command = command} (refused {r = r} h) (refused {r = q} k) e ne = say (judged_names command) r q (refused_alike h k ne)
 
 pub yields_once : YieldsOnce
 yields_once command contents a b m n y z =

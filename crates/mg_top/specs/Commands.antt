@@ -1,5 +1,5 @@
 -- What each command gives: what it does about the contents that were read of its files, in their order, and the status that it then has.
-use Rattle.std.specs.Prelude.{ℕ, Bool, true, false, List, [], ◌∷◌, ◌++◌, map, Option, Some, None, if◌then◌else◌}
+use Rattle.std.specs.Prelude.{ℕ, Bool, true, false, List, [], ◌∷◌, ◌++◌, map, codes, Option, Some, None, if◌then◌else◌}
 use Rattle.std.specs.List.{list_any}
 use Rattle.scr_tree.specs.Tree.{LocalTree}
 use Rattle.mg_calls.specs.Calls.{CallAt}
@@ -15,12 +15,13 @@ use Rattle.vm_world_law.specs.declared.stand.Stand.{Stand}
 use Rattle.vm_world_law.specs.Turns.{stands_in, is_bound, is_broken, is_zero, is_mismatch, is_waiting}
 use Rattle.mg_trace.specs.Trace.{trace, plain_trace, printed}
 use Rattle.mg_runs.specs.Lines.{role_lines}
-use Rattle.mg_runs.specs.Runs.{names_of}
+use Rattle.mg_runs.specs.Runs.{names_of, messages_in}
 use Rattle.mg_runs.specs.Headline.{Course, IsRun}
 use Rattle.mg_runs.specs.Commanded as running
 use Rattle.mg_refined.specs.Refined.{AreJudged}
 use Rattle.mg_refined.specs.Refined as refining
 use Rattle.mg_exec.specs.Runs as executing
+use Rattle.mg_load.specs.Workload.{file_names, file_texts, loaded_line}
 use Rattle.mg_projected.specs.declared.files.RoleFile.{RoleFile}
 use Rattle.mg_projected.specs.Told.{AreWritten}
 use Rattle.mg_projected.specs.Told as projecting
@@ -30,9 +31,9 @@ use Rattle.mg_top.specs.declared.status.Status.TheVariants as statuses
 use Rattle.mg_top.specs.declared.delivery.Action.{Action}
 use Rattle.mg_top.specs.declared.delivery.Action.TheVariants.{Print, Say}
 use Rattle.mg_words.specs.Words.{Word, RoleClass, Asked, limit_of, mains_of, order_of, are_named, Command, Translate, Conform, Check}
-use Rattle.mg_words.specs.Words.{Compile, Run, Exec, Refine, Project, files_of}
+use Rattle.mg_words.specs.Words.{Compile, Run, Exec, Refine, Project, Load, Several}
 use Rattle.mg_refusal.specs.Refusals.{Refusal}
-use Rattle.mg_sources.specs.Files.{source_of, sources}
+use Rattle.mg_sources.specs.Files.{Source, source_of, sources}
 use Rattle.mg_sources.specs.Reading.{Protocol, Reads}
 use Rattle.mg_sources.specs.Sources as reading
 use Rattle.mg_top.specs.Writing.{classes_written, roles_written}
@@ -86,6 +87,20 @@ exec_said asked r =
 abbrev pub exec_printed : Asked → executing.Course → List ℕ
 exec_printed asked r = printed (are_named asked) (names_of (role_mains_of asked)) r.last.events
 
+-- what is asked for of a workload: the two roles of its classes take turns, up to 20,000,000 instructions
+abbrev pub load_asked : Asked
+load_asked = record {
+  roles = Several (record { role = codes "A"; class = codes "AMain" } ∷ record { role = codes "B"; class = codes "BMain" } ∷ []);
+  order = None;
+  steps = Some 20000000;
+  traced = false;
+  folder = None;
+}
+
+-- its files, as if they had been read
+abbrev pub load_sources : (branches seed : ℕ) → List Source
+load_sources branches seed = sources file_names (file_texts branches seed)
+
 -- the status of an answer
 abbrev pub refined_status : Bool → Status
 refined_status true = Done
@@ -115,6 +130,12 @@ pub data Gives : Command → List (List ℕ) → List Action → Status → Type
   -- the files of the roles of a global protocol: each has the text of its role's projection, of which the laws of projection speak
   projected : {folder : Option Word} {files : List Word} {contents : List (List ℕ)} (written : List RoleFile) →
       AreWritten (sources files contents) written → Gives (Project folder files) contents (roles_written folder written) Done
+  -- a workload is run as other files are; behind what is printed stands the line that tells how large it was
+  loaded : {branches seed : ℕ} {contents : List (List ℕ)} (r : Course) →
+      IsRun (load_sources branches seed) (role_mains_of load_asked) (order_of load_asked) (limit_of load_asked) r →
+      Gives (Load branches seed) contents
+      (Print (run_printed load_asked r ++ loaded_line branches seed (messages_in r.last.events)) ∷ Say (run_said load_asked r) ∷ [])
+      (status_of (stands_in r.program r.last))
 
 -- The first refusal of a command's files: one case a command.
 pub data IsRefused : Command → List (List ℕ) → Refusal → Type 0 where
@@ -135,8 +156,22 @@ pub data IsRefused : Command → List (List ℕ) → Refusal → Type 0 where
       refining.FirstRefusal (sources files contents) r → IsRefused (Refine files) contents r
   project : {folder : Option Word} {files : List Word} {contents : List (List ℕ)} {r : Refusal} →
       projecting.FirstRefusal (sources files contents) r → IsRefused (Project folder files) contents r
+  load : {branches seed : ℕ} {contents : List (List ℕ)} {r : Refusal} →
+      running.FirstRefusal (load_sources branches seed) (role_mains_of load_asked) r → IsRefused (Load branches seed) contents r
+
+-- the names of the files that a command judges
+abbrev pub judged_names : Command → List Word
+judged_names (Translate folder files) = files
+judged_names (Conform files) = files
+judged_names (Check files) = files
+judged_names (Compile folder files) = files
+judged_names (Run asked files) = files
+judged_names (Exec asked files) = files
+judged_names (Refine files) = files
+judged_names (Project folder files) = files
+judged_names (Load branches seed) = file_names
 
 -- A command gives this, or says the line of the first refusal of its files.
 pub data Yields (command : Command) (contents : List (List ℕ)) : List Action → Status → Type 0 where
   gives : {actions : List Action} {status : Status} → Gives command contents actions status → Yields command contents actions status
-  refused : {r : Refusal} → IsRefused command contents r → Yields command contents (Say (refusal_line (files_of command) r) ∷ []) Refused
+  refused : {r : Refusal} → IsRefused command contents r → Yields command contents (Say (refusal_line (judged_names command) r) ∷ []) Refused

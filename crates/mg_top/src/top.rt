@@ -3,7 +3,8 @@
 ghost use Rattle.std.specs.Prelude.{◌≡◌, ◌<◌, ◌^◌, length, IfOk};
 ghost use Rattle.mg_words.specs.Words.{files_of};
 ghost use Rattle.mg_top.specs.Outside.{Stream, outside, stream};
-ghost use Rattle.mg_top.specs.Commands.{Yields};
+ghost use Rattle.mg_top.specs.Commands.{Yields, judged_names};
+ghost use Rattle.mg_top.specs.Lines.{refusal_line};
 ghost use Rattle.mg_top.specs.Ending.{read_limit};
 ghost use Rattle.mg_top.specs.Promises.{Promises};
 ghost use Rattle.mg_words.specs.inner.Judging.{command_of, IsKnown};
@@ -14,6 +15,7 @@ use crate::compile::compile;
 use crate::conform::conform;
 use crate::delivery::{Delivery, deliver, starve};
 use crate::exec::exec;
+use crate::load::load;
 use crate::project::project;
 use crate::reading::{Unread, read_all};
 use crate::refine::refine;
@@ -21,7 +23,8 @@ use crate::run::run;
 use crate::translate::translate;
 use crate::{Status, lines};
 use mg_io::{Folder, Sink};
-use mg_refusal::Stop;
+use mg_load::file_names;
+use mg_refusal::{Refusal, Stop};
 use mg_text::{Bytes, Memory, Text};
 use mg_words::{Command, Judged, judge};
 use std::alloc::Global;
@@ -57,6 +60,10 @@ const CLASS_LIMIT: usize = 16_777_217;
 /// `exec [--steps N] [--order A,B,..] [--trace] (--main C | --role R=C ..) F..` runs class files as they
 /// are, in the same way: nothing is asked of how they were made, so that a role may also end at a null
 /// or because its code is wrong. What a method answered is told as a number in the trace.
+/// `load N SEED` makes the files of a workload of two roles that answer each other, over a choice of
+/// N branches, from 1 to 400, in 4 * N rounds that the number SEED picks, and runs them as `run` does,
+/// up to 20,000,000 instructions. Behind what was printed stands how many rounds and messages there
+/// were. It reads and writes no file.
 pub fn mungo<F: Folder, O: Sink, E: Sink>(
     alloc: Global,
     words: &[Text],
@@ -112,7 +119,8 @@ fn read_limit(command: &Command<'_>) -> usize
         | Command::Compile { .. }
         | Command::Run { .. }
         | Command::Refine { .. }
-        | Command::Project { .. } => SOURCE_LIMIT,
+        | Command::Project { .. }
+        | Command::Load { .. } => SOURCE_LIMIT,
         Command::Exec { .. } => CLASS_LIMIT,
     }
 }
@@ -127,10 +135,23 @@ fn carry_out(alloc: Global, command: &Command<'_>, contents: &[Bytes]) -> Result
     match carried_out(alloc, command, contents) {
         Ok(delivery) => Ok(delivery),
         Err(Stop::Refused(refusal)) => {
-            let line = lines::refused(alloc, command.files(), &refusal)?;
+            let line = line_of(alloc, command, &refusal)?;
             Delivery::said(alloc, line, Status::Refused)
         }
         Err(Stop::Memory) => Err(Memory),
+    }
+}
+
+// The line of a refusal of the files that a command judges.
+fn line_of(alloc: Global, command: &Command<'_>, refusal: &Refusal) -> Result<Text, Memory>
+    ensures { IfOk result (λ t. t ≡ refusal_line (judged_names (command_of command.now)) refusal.now) }
+{
+    match *command {
+        Command::Load { .. } => {
+            let names = file_names(alloc)?;
+            lines::refused(alloc, names.as_slice(), refusal)
+        }
+        _ => lines::refused(alloc, command.files(), refusal),
     }
 }
 
@@ -152,5 +173,6 @@ fn carried_out(alloc: Global, command: &Command<'_>, contents: &[Bytes]) -> Resu
         Command::Exec { asked, .. } => exec(alloc, &asked, contents),
         Command::Refine { files } => refine(alloc, files, contents),
         Command::Project { folder, .. } => project(alloc, folder, contents),
+        Command::Load { branches, seed } => load(alloc, branches, seed),
     }
 }

@@ -9,6 +9,5 @@ returns-in-Ok c = given_yields (command_of c.args.command.now) c.args.contents.n
 pub returns-in_ok-line-in-Err-Refused : goal.returns-in_ok-line-in-Err-Refused
 returns-in_ok-line-in-Err-Refused c =
     let h = rw c.in-Err-Refused.field-0-is at c.in-Err-Refused.ensures in
-    refusal_yields (command_of c.args.command.now) c.args.contents.now c.in-Err-Refused.refusal c.files.result.now
-    c.in_ok-line-in-Err-Refused.line c.said.result h c.files.ensures c.in_ok-line-in-Err-Refused.ensures c.said.ensures.actions
-    c.said.ensures.status
+    refusal_yields (command_of c.args.command.now) c.args.contents.now c.in-Err-Refused.refusal c.in_ok-line-in-Err-Refused.line
+    c.said.result h c.in_ok-line-in-Err-Refused.ensures c.said.ensures.actions c.said.ensures.status
