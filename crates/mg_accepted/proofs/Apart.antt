@@ -1,5 +1,5 @@
 -- Files that are refused aren't accepted.
-use Rattle.std.proofs.Common.{◌≡◌, ℕ, List, Bool, Option, Some, None, slice_get, sym, ap, ◌∙◌, subst}
+use Rattle.std.proofs.Common.{◌≡◌, List, Bool, Option, Some, None, slice_get, sym, ap, ◌∙◌, subst}
 use Rattle.jv_core.specs.Tree as Core
 use Rattle.use_rules.specs.declared.demand.Demand.{Demand}
 use Rattle.use_rules.specs.Tables.{Solves}

@@ -1,7 +1,6 @@
 -- What writing class files answers.
-use Rattle.std.proofs.Common.{◌≡◌, List, Option, Some, None, Result, Ok, Err, sym, ◌∙◌, subst}
+use Rattle.std.proofs.Common.{◌≡◌, List, Option, Some, None, Result, Ok, Err, ◌∙◌, subst}
 use Rattle.mg_text.specs.Row.{Row}
-use Rattle.jv_core.specs.Core.{tree_of}
 use Rattle.jv_core.specs.Tree as Core
 use Rattle.gen_rules.specs.Limits.{Excess, IsFirstExcess}
 use Rattle.gen_rules.specs.inner.Files.{excess_of}
@@ -15,7 +14,6 @@ use Rattle.mg_refusal.specs.declared.stop.Stop.{Stop}
 use Rattle.mg_refusal.specs.declared.stop.Stop.TheVariants as stops
 use Rattle.mg_refusal.proofs.Orders.{refused_by, stop_refused}
 use Rattle.mg_sources.specs.Files.{Source}
-use Rattle.mg_accepted.specs.declared.accepted.AcceptedProgram.{AcceptedProgram}
 use Rattle.mg_accepted.specs.Accepted.{AreAccepted}
 use Rattle.mg_accepted.specs.Accepted as accepted
 use Rattle.mg_accepted.specs.View.{IsProgramOf}

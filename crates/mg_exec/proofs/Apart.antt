@@ -1,5 +1,5 @@
 -- Class files have one run of these roles, and files that are refused have none.
-use Rattle.std.proofs.Common.{◌≡◌, ℕ, List, [], ◌∷◌, ◌++◌, Bool, Option, Some, None, Result, Ok, Err, map, if◌then◌else◌, sym, ap, ap₂, ◌∙◌}
+use Rattle.std.proofs.Common.{◌≡◌, ℕ, List, [], ◌∷◌, ◌++◌, Bool, Option, Some, None, Result, map, if◌then◌else◌, sym, ap, ap₂, ◌∙◌}
 use Rattle.std.proofs.Common.{subst, refl}
 use Rattle.std.specs.Prelude.{OnOk}
 use Rattle.mg_read.proofs.Judging.{no_both}

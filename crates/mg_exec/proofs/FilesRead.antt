@@ -1,6 +1,6 @@
 -- Class files that are read one after another.
 use Rattle.std.proofs.Common.{◌≡◌, ◌<◌, ◌≤◌, ◌+◌, ℕ, zero, suc, List, [], ◌∷◌, ◌++◌, length, get_or, take, drop, map, Option, Some, None}
-use Rattle.std.proofs.Common.{Result, Err, refl, sym, ap, ◌∙◌, subst, arith, drop-cons, add-one, All}
+use Rattle.std.proofs.Common.{Result, Err, sym, ap, ◌∙◌, subst, arith, drop-cons, add-one, All}
 use Rattle.std.proofs.lemmas.List.{take_more, take_all, get_or_past, map-append}
 use Rattle.mg_text.specs.Row.{Row}
 use Rattle.mg_read.specs.First.{Judged, clean, here, later}
@@ -9,7 +9,6 @@ use Rattle.cls_tree.specs.Fits.{IsU1}
 use Rattle.cls_tree.specs.View.{class_of as file_of}
 use Rattle.cls_tree.specs.declared.class.Class.{Class}
 use Rattle.cls_bytes.specs.declared.ClassFault.{ClassFault}
-use Rattle.cls_bytes.specs.Faults.{Fails}
 use Rattle.cls_bytes.specs.Spelling.{ClassSpells, IsTheirFault}
 use Rattle.cls_bytes.proofs.Single.{no_fault}
 use Rattle.cls_bytes.proofs.SpelledClasses.{spelled_right}
@@ -86,7 +85,7 @@ module _ {files : List Source} {i : ℕ} {classes : List Class} (so_far : ReadSo
   pub read_more : (class : Class) → IsFile f (file_of class) → ReadSoFar files (i + 1) (classes ++ class ∷ [])
   read_more class only = record {
     left = λ r j. so_far.left r (subst (λ (z : List Source). Judged Refuses z r) (sym next)
-        (later (λ r. not_refused f (file_of class) line only) (subst (λ (k : ℕ). Judged Refuses (drop k files) r) (add-one i) j)));
+        (later (λ r. not_refused f (file_of class) r only) (subst (λ (k : ℕ). Judged Refuses (drop k files) r) (add-one i) j)));
     each = subst (λ (z : List File). AreFiles (take (i + 1) files) z) (sym (map-append file_of classes (class ∷ [])))
         (subst (λ (z : List Source). AreFiles z (map file_of classes ++ file_of class ∷ []))
         (sym (take_more files i f within ∙ ap (λ (z : Source). take i files ++ z ∷ []) (sym is)))

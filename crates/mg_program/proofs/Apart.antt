@@ -1,6 +1,6 @@
 -- A program has one core, and files that are refused are no well typed program.
 use Rattle.std.proofs.Common.{◌≡◌, ℕ, List, Option, None, Some, sym, ap, ◌∙◌, subst}
-use Rattle.mg_read.specs.Culprit.{Culprit, culprit}
+use Rattle.mg_read.specs.Culprit.{Culprit}
 use Rattle.mg_read.proofs.Judging.{no_both, no_both_first}
 use Rattle.jv_core.specs.Tree as Core
 use Rattle.jv_resolve_law.specs.Members.{resolving}

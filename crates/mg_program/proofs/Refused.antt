@@ -5,7 +5,6 @@ use Rattle.jv_rules.specs.Faults.{IsTableFault, IsFault}
 use Rattle.jv_rules.specs.declared.condition.Condition.{Condition}
 use Rattle.jv_types.specs.declared.fault.TypeFault.{TypeFault}
 use Rattle.jv_types.specs.Outcome.{fault_told, TellsFault}
-use Rattle.mg_refusal.specs.Refusals.{Refusal}
 use Rattle.mg_refusal.specs.Order.{Answers, IsStopOf, at_first, at_next}
 use Rattle.mg_refusal.specs.declared.stop.Stop.{Stop}
 use Rattle.mg_refusal.proofs.Orders.{stop_refused}

@@ -1,5 +1,5 @@
 -- What judging and resolving the program of a command answer.
-use Rattle.std.proofs.Common.{◌≡◌, ℕ, List, length, Option, Some, None, Result, Ok, Err, refl, sym, ap, ◌∙◌, subst}
+use Rattle.std.proofs.Common.{◌≡◌, ℕ, List, length, Option, Some, None, Result, Err, refl, sym, ap, ◌∙◌, subst}
 use Rattle.std.specs.Prelude.{OnOk}
 use Rattle.ts_tree.specs.Typestate.{Typestate}
 use Rattle.jv_tree.specs.declared.tree.File.{File as KeptFile}

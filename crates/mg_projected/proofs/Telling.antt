@@ -1,5 +1,5 @@
 -- What is told of a fault is said of the answer that it is.
-use Rattle.std.proofs.Common.{◌≡◌, inl, inr, ℕ, List, [], ◌∷◌, ◌++◌, length, codes, Some, Result, Ok, Err, refl, sym, ap, ◌∙◌}
+use Rattle.std.proofs.Common.{◌≡◌, inl, inr, ℕ, List, [], ◌∷◌, ◌++◌, length, codes, Some, Result, Err, refl, sym, ap, ◌∙◌}
 use Rattle.std.proofs.Common.{subst, get_or, arith}
 use Rattle.std.specs.Prelude.{OnOk}
 use Rattle.mg_text.specs.Call.{Name}

@@ -6,7 +6,7 @@ ghost use Rattle.scr_global_read.specs.Outcome.{fault_answer as global_answer};
 ghost use Rattle.scr_project.specs.Outcome as projects;
 ghost use Rattle.mg_refusal.specs.Refusals.{Refusal as Told};
 ghost use Rattle.mg_refusal.specs.Order.{Answers, AnswersOnly, IsStopOf, IsStopBy};
-ghost use Rattle.mg_sources.specs.Files.{source_of, sources};
+ghost use Rattle.mg_sources.specs.Files.{sources};
 ghost use Rattle.mg_projected.specs.Projected.{fault_answer};
 ghost use Rattle.mg_projected.specs.Told.{IsSaidOfGlobal, AreWritten, FirstRefusal};
 ghost use Rattle.mg_projected.specs.inner.Saying.{IsToldOfProjection, IsTold, written_alone};

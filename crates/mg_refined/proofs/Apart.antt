@@ -1,5 +1,5 @@
 -- Of two files one thing is told, and of files that are refused nothing.
-use Rattle.std.proofs.Common.{◌≡◌, ℕ, Bool, List, [], ◌∷◌, Some, Result, Ok, Err, refl, ap, ap₂, subst}
+use Rattle.std.proofs.Common.{◌≡◌, ℕ, Bool, List, [], ◌∷◌, Result, refl, ap, ap₂, subst}
 use Rattle.std.specs.Prelude.{OnOk}
 use Rattle.mg_text.specs.Call.{Call}
 use Rattle.mg_read.proofs.Judging.{no_both}

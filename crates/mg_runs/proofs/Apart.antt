@@ -1,5 +1,5 @@
 -- Files have one run of these roles, and files that are refused have none.
-use Rattle.std.proofs.Common.{◌≡◌, ◌≢◌, ℕ, List, [], ◌∷◌, ◌++◌, Bool, map, Some, None, Result, Ok, Err, if◌then◌else◌, sym, ap, ◌∙◌, subst}
+use Rattle.std.proofs.Common.{◌≡◌, ◌≢◌, ℕ, List, [], ◌∷◌, ◌++◌, Bool, map, Some, None, Result, if◌then◌else◌, sym, ap, ◌∙◌, subst}
 use Rattle.std.specs.Prelude.{OnOk}
 use Rattle.vm_model.specs.Program.{Program}
 use Rattle.vm_model.specs.Links.{linked}

@@ -1,5 +1,5 @@
 -- What running roles answers.
-use Rattle.std.proofs.Common.{◌≡◌, ℕ, zero, suc, List, [], ◌∷◌, ◌++◌, Bool, Some, Err, length, take, drop, get_or, slice_get, sym, ap, ◌∙◌}
+use Rattle.std.proofs.Common.{◌≡◌, ℕ, zero, suc, List, [], ◌∷◌, ◌++◌, Bool, Some, Result, Err, take, drop, get_or, slice_get, ap, ◌∙◌}
 use Rattle.std.proofs.lemmas.Option.{get_or_from_slice_get}
 use Rattle.jv_core.specs.Tree as Core
 use Rattle.vm_world_law.specs.declared.role.RoleMain.{RoleMain}

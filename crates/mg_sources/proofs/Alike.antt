@@ -1,14 +1,14 @@
 -- Two first refusals of files are one, but for the place of Syntax.
-use Rattle.std.proofs.Common.{◌≡◌, ℕ, List, Option, Some, None, codes, refl, sym, ap, ◌∙◌, subst, inl}
+use Rattle.std.proofs.Common.{◌≡◌, ℕ, List, Option, Some, codes, refl, sym, ap, ◌∙◌, subst, inl}
 use Rattle.mg_text.specs.Places.{start_of}
-use Rattle.mg_read.specs.First.{Judged, clean, here, later, with_earlier}
+use Rattle.mg_read.specs.First.{Judged, clean, here, later}
 use Rattle.mg_read.specs.FirstLaws.{IsSingle}
 use Rattle.mg_read.proofs.Judging.{no_both, one_answer}
 use Rattle.scr_tree.specs.Tree.{LocalTree}
 use Rattle.mg_refusal.specs.Refusals.{Refusal, refusal_at, AreAlike}
 use Rattle.mg_refusal.specs.Order.{at_first, at_next}
 use Rattle.mg_sources.specs.Files.{Source}
-use Rattle.mg_sources.specs.Reading.{Part, Protocol, EachSpells, Refuses}
+use Rattle.mg_sources.specs.Reading.{Protocol, Refuses}
 use Rattle.mg_sources.specs.Sources.{SharesRole, FirstRefusal}
 use Rattle.mg_sources.proofs.OneKind.{one_part, alike}
 use Rattle.mg_sources.proofs.PartLemmas.{none_refused}

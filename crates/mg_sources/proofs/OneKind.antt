@@ -1,5 +1,5 @@
 -- A file is of one kind, and spells one part at most.
-use Rattle.std.proofs.Common.{arith, ◌≡◌, ℕ, List, [], ◌∷◌, ◌++◌, codes, Option, Some, None, refl, sym, ap, ◌∙◌, subst, inl, inr}
+use Rattle.std.proofs.Common.{arith, ◌≡◌, ℕ, List, [], ◌∷◌, ◌++◌, codes, Option, Some, None, refl, sym, ap, ◌∙◌, subst}
 use Rattle.scr_tree.specs.Tree.{LocalTree}
 use Rattle.ts_tree.specs.Typestate.{Typestate}
 use Rattle.jv_tree.specs.Source.{File}
@@ -10,7 +10,6 @@ use Rattle.scr_read.proofs.Unique as protocols_unique
 use Rattle.ts_read.proofs.Unique as states_unique
 use Rattle.jv_read.proofs.Unique as classes_unique
 use Rattle.mg_sources.specs.Files.{Source, Kind, Scribble, Typestates, Java, suffix_of, IsOf}
-use Rattle.mg_text.specs.declared.place.Place.{Place}
 use Rattle.mg_refusal.specs.Refusals.{Refusal, AreAlike}
 use Rattle.mg_refusal.specs.Order.{InFile}
 use Rattle.mg_refusal.proofs.Orders.{same_in, syntax_in}

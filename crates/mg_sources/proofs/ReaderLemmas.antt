@@ -1,8 +1,6 @@
 -- What the readers refuse: what is told of a fault is said of the answer that it is.
-use Rattle.std.proofs.Common.{◌≡◌, ◌⊎◌, ℕ, List, Option, Some, None, Err, refl, sym, ap, ◌∙◌, subst}
+use Rattle.std.proofs.Common.{◌≡◌, Some, Err, subst}
 use Rattle.mg_text.specs.declared.place.Place.{Place}
-use Rattle.scr_tree.specs.declared.local.Local.{Local}
-use Rattle.scr_tree.specs.Local.{tree_of}
 use Rattle.scr_read.specs.declared.ScrFault.{ScrFault}
 use Rattle.scr_read.specs.declared.ScrFault.TheVariants as protocols
 use Rattle.ts_read.specs.declared.fault.TsFault.{TsFault}
@@ -13,14 +11,12 @@ use Rattle.scr_read.specs.Outcome as of_protocols
 use Rattle.ts_read.specs.Outcome as of_typestates
 use Rattle.jv_read.specs.Outcome as of_java
 use Rattle.mg_refusal.specs.Refusals.{Refusal}
-use Rattle.mg_refusal.specs.Order.{InFile, Answers, IsStopOf, stop_in}
+use Rattle.mg_refusal.specs.Order.{Answers, IsStopOf, stop_in}
 use Rattle.mg_refusal.specs.declared.stop.Stop.{Stop}
 use Rattle.mg_refusal.proofs.Orders.{stop_in_file}
 use Rattle.mg_sources.specs.Files.{Source, Scribble, Typestates, Java, IsOf}
-use Rattle.mg_sources.specs.Reading.{Protocol, Reads, IsIn, IsSaidOfProtocol, IsSaidOfTypestate, IsSaidOfJava, Refuses}
+use Rattle.mg_sources.specs.Reading.{Protocol, IsIn, IsSaidOfProtocol, IsSaidOfTypestate, IsSaidOfJava, Refuses}
 use Rattle.mg_sources.specs.Reading as reading
-use Rattle.mg_sources.specs.Parts.{part_of}
-use Rattle.mg_sources.specs.declared.part.Part.{Part as KeptPart}
 
 -- ---- what is said stays said where more places may be those of Syntax
 

@@ -1,6 +1,6 @@
 -- Which of the files are protocols of one role: roles that are put into a set, one after another.
 use Rattle.std.proofs.Common.{◌≡◌, ◌↔◌, ◌<◌, ◌≤◌, ◌+◌, ℕ, zero, suc, Bool, true, false, not, List, [], ◌∷◌, ◌++◌, map, length, get_or, take}
-use Rattle.std.proofs.Common.{Contains, IsTrue, String, Some, None, Err, refl, sym, ap, ◌∙◌, subst, arith, true≢false, Decides, cond}
+use Rattle.std.proofs.Common.{Contains, IsTrue, String, Some, None, refl, sym, ap, ◌∙◌, subst, arith, true≢false, Decides, cond}
 use Rattle.std.proofs.Common.{⊎_elim, codes}
 use Rattle.std.proofs.lemmas.List.{take_more, length-map, append-nil}
 use Rattle.std.proofs.lemmas.List.Elements.{Contains-push, Contains-push_cases, Contains-append_left, Contains-append_right}

@@ -1,6 +1,6 @@
 //! What one file spells, by the reader of its kind.
 
-ghost use Rattle.std.specs.Prelude.{◌≡◌, ◌↔◌, IsTrue, ℕ, List as Seq};
+ghost use Rattle.std.specs.Prelude.{◌↔◌, IsTrue, ℕ, List as Seq};
 ghost use Rattle.scr_tree.specs.Local.{tree_of};
 ghost use Rattle.mg_refusal.specs.Order.{Answers};
 ghost use Rattle.mg_sources.specs.Files.{EndsWith, Kind, Scribble, Typestates, Java, IsOf, source_of};

@@ -15,7 +15,7 @@ use Rattle.mg_top.specs.declared.status.Status.{Status}
 use Rattle.mg_top.specs.declared.status.Status.TheVariants as statuses
 use Rattle.mg_top.specs.declared.delivery.Action.{Action}
 use Rattle.mg_top.specs.declared.delivery.Action.TheVariants.{Print, Say}
-use Rattle.mg_top.specs.Lines.{refusal_line, not_offered_line}
+use Rattle.mg_top.specs.Lines.{not_offered_line}
 use Rattle.mg_refusal.specs.Refusals.{Refusal}
 use Rattle.mg_refusal.proofs.Orders.{then_never}
 use Rattle.mg_sources.specs.Files.{Source, source_of, sources}

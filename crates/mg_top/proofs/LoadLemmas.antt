@@ -1,6 +1,6 @@
 -- What the command of a workload answers.
-use Rattle.std.proofs.Common.{◌≡◌, ◌∙◌, ◌<◌, ◌^◌, ℕ, zero, suc, Bool, true, false, map, List, [], ◌∷◌, ◌++◌, length, get_or, slice_get, All}
-use Rattle.std.proofs.Common.{Contains, Some, None, codes, refl, sym, ap, subst, arith}
+use Rattle.std.proofs.Common.{◌≡◌, ◌∙◌, ◌<◌, ◌^◌, ℕ, zero, suc, true, false, map, List, [], ◌∷◌, ◌++◌, length, get_or, slice_get}
+use Rattle.std.proofs.Common.{Contains, Some, codes, refl, sym, ap, subst, arith}
 use Rattle.std.specs.List.{IsDistinct}
 use Rattle.std.specs.Str.{bytes_eq}
 use Rattle.std.proofs.lemmas.Map.Keys.{IsDistinct-from_apart}
@@ -8,7 +8,7 @@ use Rattle.mg_refusal.specs.Refusals.{Refusal}
 use Rattle.vm_world_law.specs.declared.role.RoleMain.{RoleMain}
 use Rattle.vm_world_law.specs.declared.stand.Stand.{Stand}
 use Rattle.vm_world_law.specs.Turns.{stands_in}
-use Rattle.mg_sources.specs.Files.{Source, sources, Kind, Scribble, Java, suffix_of, EndsWith, HaveKinds}
+use Rattle.mg_sources.specs.Files.{sources, Kind, Scribble, Java, suffix_of, EndsWith, HaveKinds}
 use Rattle.mg_load.specs.Workload.{file_names, file_texts, loaded_line}
 use Rattle.mg_runs.specs.Lines.{role_lines}
 use Rattle.mg_runs.specs.Runs.{names_of, messages_in}

@@ -18,7 +18,7 @@ use Rattle.mg_words.specs.Words.{Word, Asked, limit_of, order_of, Command, Exec}
 use Rattle.mg_refusal.specs.Refusals.{Refusal, refusal_at, in_file, AreAlike}
 use Rattle.mg_refusal.proofs.Orders.{then_alike}
 use Rattle.mg_sources.specs.Files.{Source, source_of, sources}
-use Rattle.mg_sources.specs.Reading.{Protocol, Reads}
+use Rattle.mg_sources.specs.Reading.{Protocol}
 use Rattle.mg_sources.proofs.OneKind.{one_part, excludes, alike}
 use Rattle.mg_sources.proofs.Together.{one_api}
 use Rattle.mg_sources.proofs.Alike as sources_alike
@@ -44,7 +44,7 @@ use Rattle.mg_top.specs.Files.{Output}
 use Rattle.mg_top.specs.Writing.{classes_written, roles_written}
 use Rattle.mg_top.specs.Translation.{IsTypestateFile, api_written, IsTranslation, Translates, EachTranslates, none, one}
 use Rattle.mg_top.specs.Lines.{refusal_line, not_offered_line}
-use Rattle.mg_top.specs.Conformance.{calls_of, Conforms, complete, unfinished, not_offered, Lists, IsNoList, too_large, bad_line, ConformRefusal}
+use Rattle.mg_top.specs.Conformance.{calls_of, Conforms, complete, unfinished, not_offered, IsNoList, too_large, bad_line, ConformRefusal}
 use Rattle.mg_top.specs.Commands.{loaded, load_asked, load_sources, judged_names, prints, kept_in, role_mains_of, run_said, run_printed, exec_said, exec_printed}
 use Rattle.mg_top.specs.Commands.{Gives, translated, conforms, checked, compiled, ran, executed, refined, projected, IsRefused, Yields, gives, refused}
 use Rattle.mg_top.specs.Commands as commands

@@ -1,7 +1,7 @@
 //! The command `load`: a workload of any size is run by its two roles. Its files are made, and nothing
 //! is read.
 
-ghost use Rattle.std.specs.Prelude.{◌≡◌, ◌++◌, ◌∷◌, [], ◌<◌, ◌≤◌, ◌^◌, ℕ, List as Seq, length, map, IfOk};
+ghost use Rattle.std.specs.Prelude.{◌≡◌, ◌++◌, ◌∷◌, [], ◌<◌, ◌≤◌, ℕ, List as Seq, map, IfOk};
 ghost use Rattle.mg_load.specs.Workload.{loaded_line};
 ghost use Rattle.mg_runs.specs.Lines.{role_lines};
 ghost use Rattle.mg_runs.specs.Runs.{names_of};

@@ -1,5 +1,5 @@
 -- What the functions that prepare a delivery may answer.
-use Rattle.std.specs.Prelude.{◌≡◌, ◌≢◌, ℕ, ◌⊎◌, List, [], ◌∷◌, ◌++◌, codes, Option, Some, None, Result, Ok, Err}
+use Rattle.std.specs.Prelude.{◌≡◌, ℕ, ◌⊎◌, List, [], ◌∷◌, ◌++◌, codes, Option, Some, None, Result, Ok, Err}
 use Rattle.mg_text.specs.Row.{Row}
 use Rattle.mg_text.specs.declared.memory.Memory.{Memory}
 use Rattle.scr_tree.specs.Tree.{LocalTree}

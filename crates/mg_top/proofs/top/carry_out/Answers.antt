@@ -1,4 +1,3 @@
-use Rattle.std.proofs.lemmas.Result.{err_from_is_err_and}
 use Rattle.mg_words.specs.inner.Judging.{command_of}
 use Rattle.mg_top.proofs.CommandLemmas.{given_yields, refusal_yields}
 use Rattle.mg_top.proofs.top.carry_out.Goals as goal

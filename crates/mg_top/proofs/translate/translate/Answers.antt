@@ -1,4 +1,4 @@
-use Rattle.std.proofs.Common.{Some, None, map, option_map, ap, ◌∙◌}
+use Rattle.std.proofs.Common.{Some, None, map, option_map, ap}
 use Rattle.std.proofs.lemmas.Result.{err_from_is_err_and}
 use Rattle.mg_text.specs.Row.{Row}
 use Rattle.mg_read.specs.First.{Judged, with_earlier}
