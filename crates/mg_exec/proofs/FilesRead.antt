@@ -41,7 +41,7 @@ pub none_refused : (files : List Source) (classes : List File) → AreFiles file
 none_refused [] [] each = clean
 none_refused [] (k ∷ ks) each = absurd each
 none_refused (f ∷ fs) [] each = absurd each
-none_refused (f ∷ fs) (k ∷ ks) (first, rest) = later (λ r. not_refused f k line first) (none_refused fs ks rest)
+none_refused (f ∷ fs) (k ∷ ks) (first, rest) = later (λ r. not_refused f k r first) (none_refused fs ks rest)
 
 pub read_right : (source : Source) (class : Class) → ((i : ℕ) → get_or source.bytes i 0 < 256) → length source.bytes ≤ most_bytes →
     ClassSpells source.bytes (file_of class) → IsFile source (file_of class)
