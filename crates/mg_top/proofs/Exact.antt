@@ -15,7 +15,7 @@ use Rattle.mg_top.specs.declared.status.Status.{Status}
 use Rattle.mg_top.specs.declared.status.Status.TheVariants as statuses
 use Rattle.mg_top.specs.declared.delivery.Action.{Action}
 use Rattle.mg_top.specs.declared.delivery.Action.TheVariants.{Print, Say}
-use Rattle.mg_top.specs.Lines.{not_offered_line}
+use Rattle.mg_top.specs.Lines.{refusal_line, not_offered_line}
 use Rattle.mg_refusal.specs.Refusals.{Refusal}
 use Rattle.mg_refusal.proofs.Orders.{then_never}
 use Rattle.mg_sources.specs.Files.{Source, source_of, sources}
@@ -35,7 +35,7 @@ use Rattle.mg_exec.proofs.Apart.{not_refused as not_stopped, one_course}
 use Rattle.vm_world_law.specs.declared.role.RoleMain.{RoleMain}
 use Rattle.mg_top.specs.Translation.{AreTranslated}
 use Rattle.mg_top.specs.Commands.{Gives, translated, conforms, checked, compiled, ran, executed, refined, projected, loaded, refined_status}
-use Rattle.mg_top.specs.Commands.{load_asked, load_sources, role_mains_of, status_of, IsRefused, Yields, gives, refused}
+use Rattle.mg_top.specs.Commands.{load_asked, load_sources, role_mains_of, status_of, IsRefused, judged_names, Yields, gives, refused}
 use Rattle.mg_top.specs.Commands as commands
 use Rattle.mg_top.specs.Promises.{IsYielded}
 use Rattle.mg_top.proofs.SourceLemmas.{none_refused_of_translated}
@@ -259,7 +259,7 @@ gives_says (loaded r h) e = absurd (never_refused (stands_in r.program r.last) e
 pub refusal_says : {command : Command} {contents : List (List ℕ)} {actions : List Action} {status : Status} →
     Yields command contents actions status → status ≡ statuses.Refused → SaysRefusal actions
 refusal_says (gives y) e = gives_says y e
-refusal_says (refused {r = r} h) e = inl (_, refl)
+refusal_says {command = command} (refused {r = r} h) e = inl (refusal_line (judged_names command) r, refl)
 
 -- ---- no command is broken but that of class files
 
