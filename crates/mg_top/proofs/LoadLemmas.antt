@@ -34,9 +34,9 @@ IsKind name = (kind : Kind) × EndsWith (suffix_of kind) name
 pub kinds_of_load : (names : List Word) → names ≡ file_names → HaveKinds names
 kinds_of_load names e =
     subst HaveKinds (sym e)
-    (All-cons IsKind (codes "A.scr") _ (Scribble, (codes "A", refl))
-    (All-cons IsKind (codes "B.scr") _ (Scribble, (codes "B", refl))
-    (All-cons IsKind (codes "AMain.java") _ (Java, (codes "AMain", refl))
+    (All-cons IsKind (codes "A.scr") (codes "B.scr" ∷ codes "AMain.java" ∷ codes "BMain.java" ∷ []) (Scribble, (codes "A", refl))
+    (All-cons IsKind (codes "B.scr") (codes "AMain.java" ∷ codes "BMain.java" ∷ []) (Scribble, (codes "B", refl))
+    (All-cons IsKind (codes "AMain.java") (codes "BMain.java" ∷ []) (Java, (codes "AMain", refl))
     (All-one IsKind (codes "BMain.java") (Java, (codes "BMain", refl))))))
 
 pub as_many : (names : List Word) (contents : List (List ℕ)) (n seed : ℕ) → names ≡ file_names → contents ≡ file_texts n seed →

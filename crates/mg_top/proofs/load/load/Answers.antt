@@ -1,4 +1,4 @@
-use Rattle.std.proofs.Common.{refl, ◌∙◌}
+use Rattle.std.proofs.Common.{[], ◌∷◌, true, false, refl, ◌∙◌}
 use Rattle.std.proofs.lemmas.Result.{err_from_is_err_and}
 use Rattle.mg_sources.specs.Files.{sources}
 use Rattle.mg_runs.specs.Commanded.{FirstRefusal}
@@ -46,7 +46,7 @@ returns-in_err-ran c = λ read.
     let mains = c.as_slice-roles.result.now in
     let e = err_from_is_err_and c.from_residual-in_err-ran.result c.from_residual-in_err-ran.ensures.1 in
     rw (e.1, e.2)
-    (stopped_so (Load c.args.branches c.args.seed) read (IsOfRun (sources names contents) mains _ _ _ _) (FirstRefusal (sources names contents) mains)
+    (stopped_so (Load c.args.branches c.args.seed) read (IsOfRun (sources names contents) mains (0 ∷ 1 ∷ []) 20000000 true false) (FirstRefusal (sources names contents) mains)
     (λ r h. refusal_given c.args.branches c.args.seed read names contents mains r
     (c.as_slice.ensures.items ∙ c.in_ok-workload.ensures.names) (c.as_slice-2.ensures.items ∙ c.in_ok-workload.ensures.contents)
     (c.as_slice-roles.ensures.items ∙ c.in_ok-mains.ensures) h) _ c.in_err-ran.ensures.answered)
@@ -58,7 +58,7 @@ returns-in_err-delivery c = λ read.
 
 pub returns : goal.returns
 returns c = λ read.
-    load_given c.args.branches c.args.seed read _ _ _ _ c.in_ok-ran.ran c.in_ok-delivery.delivery
+    load_given c.args.branches c.args.seed read c.as_slice.result.now c.as_slice-2.result.now c.as_slice-roles.result.now _ c.in_ok-ran.ran c.in_ok-delivery.delivery
     (c.as_slice.ensures.items ∙ c.in_ok-workload.ensures.names) (c.as_slice-2.ensures.items ∙ c.in_ok-workload.ensures.contents)
     (c.as_slice-roles.ensures.items ∙ c.in_ok-mains.ensures) refl c.in_ok-ran.ensures.answered c.in_ok-delivery.ensures.actions
     c.in_ok-delivery.ensures.status
