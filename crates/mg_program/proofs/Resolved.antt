@@ -52,14 +52,14 @@ module _ (s : KeptSources) {fs : List KeptFile} {ts : List Typestate} {os : List
 
   module _ (fault : TypeFault) (stop : Stop) (stops : IsStopOf (λ f r. r ≡ type_refusal f) (fault_told fault) stop) where
     pub table_failed : TellsFault (IsTableFault (program_of fs ts) os) fault →
-        Answers (λ (done : Unit). HasNoFault (sourced_of s)) (TypeRefusal (sourced_of s)) (Err stop)
+        Answers (λ (done : Unit {0}). HasNoFault (sourced_of s)) (TypeRefusal (sourced_of s)) (Err stop)
     table_failed h =
         table_refused (sourced_of s) fault stop stops
         (subst (λ (z : Sourced). TellsFault (IsTableFault z.program z.origins) fault)
         (λ i. record { program = same_program i; origins = are.origins i }) h)
 
     pub method_failed : (program : Program) → program ≡ program_of fs ts → IsTableFault (program_of fs ts) os None →
-        TellsFault (IsFault program) fault → Answers (λ (done : Unit). HasNoFault (sourced_of s)) (TypeRefusal (sourced_of s)) (Err stop)
+        TellsFault (IsFault program) fault → Answers (λ (done : Unit {0}). HasNoFault (sourced_of s)) (TypeRefusal (sourced_of s)) (Err stop)
     method_failed program e clean h =
         method_refused (sourced_of s) fault stop stops (table_is None clean) (subst (λ (z : Program). TellsFault (IsFault z) fault)
         (e ∙ same_program) h)
@@ -115,10 +115,10 @@ module _ (files : List Source) (stop : Stop) (answer : Result Core Stop) (is : a
       (FirstRefusal files) (λ r first. at_first first) stop h answer is
 
   pub judge_failed : (sourced : Sourced) → AreProgram files sourced →
-      Answers (λ (done : Unit). HasNoFault sourced) (TypeRefusal sourced) (Err stop) →
+      Answers (λ (done : Unit {0}). HasNoFault sourced) (TypeRefusal sourced) (Err stop) →
       Answers (λ core. HaveCore files (tree_of core)) (FirstRefusal files) answer
   judge_failed sourced are h =
-      refused_by (λ (done : Unit). HasNoFault sourced) (TypeRefusal sourced) (λ core. HaveCore files (tree_of core))
+      refused_by (λ (done : Unit {0}). HasNoFault sourced) (TypeRefusal sourced) (λ core. HaveCore files (tree_of core))
       (FirstRefusal files) (λ r found. at_next sourced are found) stop h answer is
 
 module _ (files : List Source) (answer : Result Core Stop) (h : Answers (λ core. HaveCore files (tree_of core)) (FirstRefusal files) answer) where

@@ -37,7 +37,7 @@ pub record HaveCore (files : List Source) (core : Core.Program) : Type 0 where
 abbrev pub TypeRefusal : Sourced → Refusal → Type 0
 TypeRefusal sourced =
     Then (Finds (λ f. IsTableFault sourced.program sourced.origins (Some f)) type_refusal)
-    (λ (done : Unit). IsTableFault sourced.program sourced.origins None)
+    (λ (done : Unit {0}). IsTableFault sourced.program sourced.origins None)
     (λ done. Finds (λ f. IsFault sourced.program (Some f)) type_refusal)
 
 -- The first refusal of these files: by their readers, or because two are protocols of one role; or else by their types.

@@ -31,4 +31,4 @@ pub record LacksMain (core : Core.Program) (mains : List RoleMain) (r : Refusal)
 abbrev pub FirstRefusal : List Source → List RoleMain → Refusal → Type 0
 FirstRefusal files mains =
     Then (accepted.FirstRefusal files) (AreAccepted files) (λ core.
-    Then (LacksMain core mains) (λ (done : Unit). HaveMains core mains) (λ done. ExcessRefusal core))
+    Then (LacksMain core mains) (λ (done : Unit {0}). HaveMains core mains) (λ done. ExcessRefusal core))

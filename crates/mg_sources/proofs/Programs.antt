@@ -38,10 +38,10 @@ module _ (files : List Source) (stop : Stop) (answer : Result KeptSources Stop) 
       refused_by (λ (parts : Row KeptPart). EachSpells files (map part_of parts.items)) (λ r. Judged Refuses files (Some r))
       (λ s. AreProgram files (sourced_of s)) (FirstRefusal files) (λ r j. at_first j) stop h answer is
 
-  pub roles_failed : (parts : List Part) → EachSpells files parts → Answers (λ (done : Unit). Judged SharesRole (with_earlier files) None)
+  pub roles_failed : (parts : List Part) → EachSpells files parts → Answers (λ (done : Unit {0}). Judged SharesRole (with_earlier files) None)
       (λ r. Judged SharesRole (with_earlier files) (Some r)) (Err stop) → Answers (λ s. AreProgram files (sourced_of s)) (FirstRefusal files) answer
   roles_failed parts each h =
-      refused_by (λ (done : Unit). Judged SharesRole (with_earlier files) None) (λ r. Judged SharesRole (with_earlier files) (Some r))
+      refused_by (λ (done : Unit {0}). Judged SharesRole (with_earlier files) None) (λ r. Judged SharesRole (with_earlier files) (Some r))
       (λ s. AreProgram files (sourced_of s)) (FirstRefusal files) (λ r j. at_next parts each j) stop h answer is
 
 -- as many parts as names

@@ -31,10 +31,10 @@ loop-number-preserved-in-None c =
           c.index-parts-number.is ∙ ap (λ (z : List (List ℕ)). was ++ z) none ∙ append-nil was)) c.loop-number.invariant.exact;
     }
 
-pub returns-in_ok-name-then-not-branch : goal.returns-in_ok-name-then-not-branch
-returns-in_ok-name-then-not-branch c = λ names contents each.
+pub returns-then-not-branch : goal.returns-then-not-branch
+returns-then-not-branch c = λ names contents each.
     let key_is : string_bytes c.in_ok-from_str.field-0 ≡ c.in-Some.role.now = c.in_ok-from_str.ensures.ok ∙ c.as_str.ensures in
-    subst (λ (z : Stop). Answers (λ (done : Unit). Judged SharesRole (with_earlier (sources names contents)) None)
+    subst (λ (z : Stop). Answers (λ (done : Unit {0}). Judged SharesRole (with_earlier (sources names contents)) None)
     (λ r. Judged SharesRole (with_earlier (sources names contents)) (Some r)) (Err z)) (sym c.named.ensures)
     (shared c.args.parts.now c.loop-number.number names contents each (c.loop-number.invariant.left names contents each)
     c.loop-number-test.true c.index-parts-number.result c.index-parts-number.is

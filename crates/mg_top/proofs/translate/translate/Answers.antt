@@ -35,7 +35,7 @@ returns-in_err-check_roles c =
     let e = err_from_is_err_and c.from_residual-in_err-check_roles.result c.from_residual-in_err-check_roles.ensures.1 in
     rw (e.1, e.2)
     (stopped_so (Translate (option_map (λ f. f.now) c.args.folder) c.args.names.now) c.args.contents.now
-    (λ (done : Unit). Judged SharesRole (with_earlier files) None) (λ r. Judged SharesRole (with_earlier files) (Some r))
+    (λ (done : Unit {0}). Judged SharesRole (with_earlier files) None) (λ r. Judged SharesRole (with_earlier files) (Some r))
     (λ r h. commands.translate (at_next (map part_of c.as_slice.result.now) each h)) _
     (c.in_err-check_roles.ensures c.args.names.now c.args.contents.now each))
 
