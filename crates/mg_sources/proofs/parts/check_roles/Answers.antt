@@ -40,7 +40,7 @@ returns-then-not-branch c = λ names contents each.
     c.loop-number-test.true c.index-parts-number.result c.index-parts-number.is
     c.loop-number.roles c.loop-number.invariant.exact c.in-Some.role.now c.in-Some.ensures.some (string_bytes c.in_ok-from_str.field-0) key_is
     (sym c.in_ok-insert.ensures.added ∙ c.if-not-branch.true) _
-    (λ i. refusal_at (codes "SameRole") (c.start-place.ensures i) (c.in_ok-name-then-not-branch.ensures i)))
+    (λ i. refusal_at (codes "SameRole") (c.start-place.ensures i) (c.in_ok-name.ensures i)))
 
 pub loop-number-preserved : goal.loop-number-preserved
 loop-number-preserved c =
