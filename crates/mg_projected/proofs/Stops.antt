@@ -10,6 +10,7 @@ use Rattle.scr_global_read.specs.Outcome as reads
 use Rattle.scr_global_read.specs.declared.fault.GlobalFault.{GlobalFault}
 use Rattle.scr_project.specs.Outcome as projects
 use Rattle.scr_project.specs.declared.fault.ProjectFault.{ProjectFault}
+use Rattle.scr_project.specs.declared.fault.ProjectFault.TheVariants as project_faults
 use Rattle.mg_refusal.specs.Refusals.{Refusal, refusal_at}
 use Rattle.mg_refusal.specs.Order.{IsStopOf, IsStopBy}
 use Rattle.mg_refusal.specs.declared.stop.Stop.{Stop}
@@ -41,6 +42,14 @@ pub unprojected_stop : (fault : ProjectedFault) (inner : ProjectFault) (stop : S
     IsStopBy IsToldOfProjection (projects.fault_answer inner) stop → IsStopBy IsTold (fault_answer fault) stop
 unprojected_stop fault inner stop is h =
     subst (λ (z : ProjectedFault). IsStopBy IsTold (fault_answer z) stop) (sym is) (by_projection (projects.fault_answer inner) stop h)
+
+-- the choice isn't merged
+pub unmerged_stop : (fault : ProjectFault) (place : Place) (role : Name) (stop : Stop) → fault ≡ project_faults.NotMergeable place role →
+    stop ≡ stops.Refused (refusal_at (codes "NotMergeable") place role) → IsStopBy IsToldOfProjection (projects.fault_answer fault) stop
+unmerged_stop fault place role stop is e =
+    subst (λ (z : ProjectFault). IsStopBy IsToldOfProjection (projects.fault_answer z) stop) (sym is)
+    (subst (λ (z : Stop). IsStopBy IsToldOfProjection (Some (projects.NotMergeable place role)) z) (sym e)
+    (projects.NotMergeable place role, refl, refl))
 
 -- what is said of a place of Syntax is dropped
 less_said : (Is : Place → Type 0) (a : scr.Answer) (r : Refusal) → IsSaidOfProtocol Is a r → IsSaidOfProtocol (λ at. Unit {0}) a r
