@@ -39,7 +39,7 @@ one_files (f ∷ fs) (c ∷ cs) (b ∷ bs) (first, rest) (other, others) =
     (one_spelled c b first.spells.file other.spells.file (sym first.spells.layout ∙ other.spells.layout)) (one_files fs cs bs rest others)
 
 -- and one program
-one_program : (files : List Source) (p q : Program) → IsProgram files p → IsProgram files q → p ≡ q
+pub one_program : (files : List Source) (p q : Program) → IsProgram files p → IsProgram files q → p ≡ q
 one_program files p q (cs, are, links) (bs, others, links') =
     let same : cs ≡ bs = one_files files cs bs are others in
     links.program ∙ ap linked same ∙ sym links'.program
@@ -56,7 +56,7 @@ lacks_none program [] main rest h = h.0
 lacks_none program (x ∷ front) main rest h = lacks_none program front main rest h.1
 
 -- files that are a program are not refused
-program_not_refused : (files : List Source) (program : Program) → IsProgram files program → (r : Refusal) → NoProgram files r → ⊥
+pub program_not_refused : (files : List Source) (program : Program) → IsProgram files program → (r : Refusal) → NoProgram files r → ⊥
 program_not_refused files program (classes, are, links) = then_never (λ r judged. no_both (none_refused files classes are) judged)
     (λ others those r found.
     let same : classes ≡ others = one_files files classes others are those in

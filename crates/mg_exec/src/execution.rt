@@ -89,8 +89,12 @@ fn ran_roles(
     Ok(ran)
 }
 
-// The program of these files.
-fn program(alloc: Global, contents: &[Bytes]) -> Result<Linked, Stop>
+/// The program that these class files link to.
+///
+/// # Errors
+/// `Refused` with the first file that is over 16,777,216 bytes or that isn't a class file; else with
+/// the first flaw of the lowest number, where the files don't link. `Memory` where memory is wanted.
+pub fn program(alloc: Global, contents: &[Bytes]) -> Result<Linked, Stop>
     requires { length contents.now < 2 ^ 32 }
     ensures { (names : Seq (Seq ℕ)) → length names ≡ length contents.now →
         Answers (λ linked. IsProgram (sources names contents.now) (classes_of linked.classes.items)) (NoProgram (sources names contents.now)) result }

@@ -7,7 +7,8 @@ use Rattle.mg_top.specs.declared.status.Status.TheVariants as statuses
 use Rattle.mg_top.specs.declared.delivery.Action.{Action}
 use Rattle.mg_top.specs.declared.delivery.Action.TheVariants.{Print, Say}
 use Rattle.mg_top.specs.declared.delivery.Delivery.{Delivery}
-use Rattle.mg_words.specs.Words.{Word, Asked, limit_of, order_of, are_named, Command, Check, Run, Refine, files_of, IsCommand, IsFileOf}
+use Rattle.mg_words.specs.Words.{Word, Asked, limit_of, order_of, are_named, Command, Check, Run, Refine, Verify, files_of, IsCommand}
+use Rattle.mg_words.specs.Words.{IsFileOf}
 use Rattle.mg_top.specs.Lines.{refusal_line, read_line, memory_line}
 use Rattle.mg_compile.specs.declared.files.ClassFile.{ClassFile}
 use Rattle.vm_world_law.specs.declared.role.RoleMain.{RoleMain}
@@ -22,6 +23,8 @@ use Rattle.mg_runs.specs.Runs.{names_of}
 use Rattle.mg_runs.specs.Headline.{Course}
 use Rattle.mg_runs.specs.View.{Shows, IsOfRun}
 use Rattle.mg_top.specs.Commands.{prints, kept_in, role_mains_of, run_said, run_printed, status_of, Gives, checked, ran, refined, refined_status}
+use Rattle.mg_top.specs.Commands.{verified}
+use Rattle.mg_verified.specs.Verified.{AreVerified}
 use Rattle.mg_top.specs.Commands.{IsRefused, judged_names, Yields, gives, refused}
 use Rattle.mg_refined.specs.Refined.{AreJudged}
 use Rattle.mg_read.specs.First.{Judged, with_earlier}
@@ -65,6 +68,13 @@ pub report_given : (files : List Word) (contents : List (List ℕ)) (core : Core
     IsReported core d.actions.items d.status → Gives (Check files) contents d.actions.items d.status
 report_given files contents core d a k =
     gives_so (Check files) contents (prints k.text) statuses.Done d k.says k.done (checked core a k.report)
+
+-- how many methods were verified
+pub verified_given : (files : List Word) (contents : List (List ℕ)) (line given : List ℕ) (d : Delivery) → given ≡ line →
+    AreVerified (sources files contents) line → d.actions.items ≡ Print given ∷ [] → d.status ≡ statuses.Done →
+    Gives (Verify files) contents d.actions.items d.status
+verified_given files contents line given d e h a s =
+    gives_so (Verify files) contents (Print line ∷ []) statuses.Done d (a ∙ ap (λ (t : List ℕ). Print t ∷ []) e) s (verified h)
 
 -- what is told of two typestates
 pub told_given : (files : List Word) (contents : List (List ℕ)) (text given : List ℕ) (stands : Bool) (status : Status) (d : Delivery) →

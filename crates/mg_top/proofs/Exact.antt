@@ -34,7 +34,8 @@ use Rattle.mg_runs.specs.Headline.{Course, IsRun}
 use Rattle.mg_exec.proofs.Apart.{not_refused as not_stopped, one_course}
 use Rattle.vm_world_law.specs.declared.role.RoleMain.{RoleMain}
 use Rattle.mg_top.specs.Translation.{AreTranslated}
-use Rattle.mg_top.specs.Commands.{Gives, translated, conforms, checked, compiled, ran, executed, refined, projected, loaded, refined_status}
+use Rattle.mg_top.specs.Commands.{Gives, translated, conforms, checked, compiled, ran, executed, refined, projected, loaded, verified}
+use Rattle.mg_top.specs.Commands.{refined_status}
 use Rattle.mg_top.specs.Commands.{load_asked, load_sources, role_mains_of, status_of, IsRefused, judged_names, Yields, gives, refused}
 use Rattle.mg_top.specs.Commands as commands
 use Rattle.mg_top.specs.Promises.{IsYielded}
@@ -44,6 +45,7 @@ use Rattle.ts_refine.specs.declared.verdict.Reason.{Reason}
 use Rattle.mg_refined.specs.Refined.{Tells, yes_told, no_told, no_text}
 use Rattle.mg_refined.proofs.Apart.{one_telling, none_spelled}
 use Rattle.mg_projected.proofs.Telling.{not_refused as not_unprojected}
+use Rattle.mg_verified.proofs.Apart.{not_refused as not_unverified}
 
 -- files that are refused aren't translated
 not_untranslated : (folder : Option Word) (files : List Source) (actions : List Action) (r : Refusal) → AreTranslated folder files actions →
@@ -121,6 +123,8 @@ not_both {contents = contents} {r = r} (projected {files = files} written a) (co
     not_unprojected (sources files contents) written r a h
 not_both {r = r} (loaded {branches = n} {seed = seed} course is) (commands.load h) =
     not_halted (load_sources n seed) (role_mains_of load_asked) (order_of load_asked) (limit_of load_asked) course r is h
+not_both {contents = contents} {r = r} (verified {files = files} {line = line} a) (commands.verify h) =
+    not_unverified (sources files contents) line r a h
 
 -- ---- one status
 
@@ -151,6 +155,7 @@ gives_status {contents = contents} (refined {files = files} {text = x} {stands =
 gives_status (projected written h) (projected written' h') = refl
 gives_status (loaded {branches = n} {seed = seed} r h) (loaded s k) =
     ap status_of (one_stand (load_sources n seed) (role_mains_of load_asked) (order_of load_asked) (limit_of load_asked) r s h k)
+gives_status (verified h) (verified k) = refl
 
 pub one_status : {command : Command} {contents : List (List ℕ)} {xa xb : List Action} {m n : Status} → Yields command contents xa m →
     Yields command contents xb n → m ≡ n
@@ -206,6 +211,7 @@ gives_proper (executed r h) = stands_proper (stands_in r.program r.last)
 gives_proper (refined {stands = stands} h) = told_proper stands
 gives_proper (projected written h) = done_proper
 gives_proper (loaded r h) = stands_proper (stands_in r.program r.last)
+gives_proper (verified h) = done_proper
 
 pub proper : {command : Command} {contents : List (List ℕ)} {actions : List Action} {status : Status} →
     Yields command contents actions status → IsYielded status
@@ -255,6 +261,7 @@ gives_says (executed r h) e = absurd (never_refused (stands_in r.program r.last)
 gives_says (refined {text = text} {stands = stands} h) e = told_says h.a h.b text stands h.tells e
 gives_says (projected written h) e = absurd cc
 gives_says (loaded r h) e = absurd (never_refused (stands_in r.program r.last) e)
+gives_says (verified h) e = absurd cc
 
 pub refusal_says : {command : Command} {contents : List (List ℕ)} {actions : List Action} {status : Status} →
     Yields command contents actions status → status ≡ statuses.Refused → SaysRefusal actions
@@ -299,6 +306,7 @@ gives_whole (loaded {branches = n} {seed = seed} r h) e =
     (list_any is_waiting all)
     (none_broken (load_sources n seed) (role_mains_of load_asked) (order_of load_asked) (limit_of load_asked) r h) e)
 gives_whole (executed {asked = asked} {files = files} r h) e = (asked, files, refl)
+gives_whole (verified h) e = absurd cc
 
 pub broken_command : {command : Command} {contents : List (List ℕ)} {actions : List Action} {status : Status} →
     Yields command contents actions status → status ≡ statuses.Broken → (asked : Asked) × (files : List Word) × (command ≡ Exec asked files)

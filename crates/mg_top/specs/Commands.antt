@@ -21,6 +21,8 @@ use Rattle.mg_runs.specs.Commanded as running
 use Rattle.mg_refined.specs.Refined.{AreJudged}
 use Rattle.mg_refined.specs.Refined as refining
 use Rattle.mg_exec.specs.Runs as executing
+use Rattle.mg_verified.specs.Verified.{AreVerified}
+use Rattle.mg_verified.specs.Verified as verifying
 use Rattle.mg_load.specs.Workload.{file_names, file_texts, loaded_line}
 use Rattle.mg_projected.specs.declared.files.RoleFile.{RoleFile}
 use Rattle.mg_projected.specs.Told.{AreWritten}
@@ -31,7 +33,7 @@ use Rattle.mg_top.specs.declared.status.Status.TheVariants as statuses
 use Rattle.mg_top.specs.declared.delivery.Action.{Action}
 use Rattle.mg_top.specs.declared.delivery.Action.TheVariants.{Print, Say}
 use Rattle.mg_words.specs.Words.{Word, RoleClass, Asked, limit_of, mains_of, order_of, are_named, Command, Translate, Conform, Check}
-use Rattle.mg_words.specs.Words.{Compile, Run, Exec, Refine, Project, Load, Several}
+use Rattle.mg_words.specs.Words.{Compile, Run, Exec, Refine, Project, Load, Verify, Several}
 use Rattle.mg_refusal.specs.Refusals.{Refusal}
 use Rattle.mg_sources.specs.Files.{Source, source_of, sources}
 use Rattle.mg_sources.specs.Reading.{Protocol, Reads}
@@ -136,6 +138,9 @@ pub data Gives : Command → List (List ℕ) → List Action → Status → Type
       Gives (Load branches seed) contents
       (Print (run_printed load_asked r ++ loaded_line branches seed (messages_in r.last.events)) ∷ Say (run_said load_asked r) ∷ [])
       (status_of (stands_in r.program r.last))
+  -- how many methods class files have, where each has a typing
+  verified : {files : List Word} {contents : List (List ℕ)} {line : List ℕ} → AreVerified (sources files contents) line →
+      Gives (Verify files) contents (Print line ∷ []) Done
 
 -- The first refusal of a command's files: one case a command.
 pub data IsRefused : Command → List (List ℕ) → Refusal → Type 0 where
@@ -158,6 +163,8 @@ pub data IsRefused : Command → List (List ℕ) → Refusal → Type 0 where
       projecting.FirstRefusal (sources files contents) r → IsRefused (Project folder files) contents r
   load : {branches seed : ℕ} {contents : List (List ℕ)} {r : Refusal} →
       running.FirstRefusal (load_sources branches seed) (role_mains_of load_asked) r → IsRefused (Load branches seed) contents r
+  verify : {files : List Word} {contents : List (List ℕ)} {r : Refusal} →
+      verifying.FirstRefusal (sources files contents) r → IsRefused (Verify files) contents r
 
 -- the names of the files that a command judges
 abbrev pub judged_names : Command → List Word
@@ -170,6 +177,7 @@ judged_names (Exec asked files) = files
 judged_names (Refine files) = files
 judged_names (Project folder files) = files
 judged_names (Load branches seed) = file_names
+judged_names (Verify files) = files
 
 -- A command gives this, or says the line of the first refusal of its files.
 pub data Yields (command : Command) (contents : List (List ℕ)) : List Action → Status → Type 0 where

@@ -18,6 +18,7 @@ mod run;
 mod status;
 mod top;
 mod translate;
+mod verify;
 
 pub use lines::refused;
 pub use status::Status;

@@ -10,5 +10,6 @@ pub mod Added
 pub mod Calling
 pub mod Places
 pub mod Mains
+pub mod Quietly
 pub mod Waiting
 pub mod Awaited

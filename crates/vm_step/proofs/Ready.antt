@@ -31,7 +31,7 @@ use Rattle.vm_step.proofs.Whole.{if_null_is, go_is, switch_is}
 not_below : (a b : ℕ) → b ≤ a → nat_lt a b ≡ false
 not_below a b h = grind (arith, nat_tests)
 
-nothing_wrong : (n : Needs) (m : Machine) (found : List (Option BadKind)) → length n.takes ≤ length m.frame.operands →
+pub nothing_wrong : (n : Needs) (m : Machine) (found : List (Option BadKind)) → length n.takes ≤ length m.frame.operands →
     some_of is_kind found ≡ false → n.locals ≤ n.of_locals → some_of is_member found ≡ false → n.returns ≡ true → n.operands ≤ n.max_stack →
     None ≡ wrong_by n m found
 nothing_wrong n m found enough kinds locals members returns room =
@@ -69,11 +69,11 @@ two : Option Value → Option Value → List Value
 two (Some v) (Some w) = v ∷ w ∷ []
 two _ _ = []
 
-top_one : (vs : List Value) (v : Value) → 1 ≤ length vs → at_top vs 0 ≡ Some v → on_top 1 vs ≡ v ∷ []
+pub top_one : (vs : List Value) (v : Value) → 1 ≤ length vs → at_top vs 0 ≡ Some v → on_top 1 vs ≡ v ∷ []
 unfolding one
 top_one vs v h e = by_one (λ l. l) one (λ w. refl) vs h ∙ ap one e
 
-top_two : (vs : List Value) (v w : Value) → 2 ≤ length vs → at_top vs 1 ≡ Some v → at_top vs 0 ≡ Some w → on_top 2 vs ≡ v ∷ w ∷ []
+pub top_two : (vs : List Value) (v w : Value) → 2 ≤ length vs → at_top vs 1 ≡ Some v → at_top vs 0 ≡ Some w → on_top 2 vs ≡ v ∷ w ∷ []
 unfolding two
 top_two vs v w h e f = by_two (λ l. l) two (λ u t. refl) vs h ∙ ap (λ o. two o (at_top vs 0)) e ∙ ap (two (Some v)) f
 

@@ -34,3 +34,13 @@ NextAlone max code m m' false = m' ≡ m
 abbrev pub AllAlone : Program → Machine → ℕ → Machine → Type 0
 AllAlone p m zero m' = m' ≡ m
 AllAlone p m (suc k) m' = (n : Machine) × (AllAlone p m k n × StepAlone p n m')
+
+-- An action of a program leads from one machine to another and tells nothing, or nothing has changed.
+abbrev pub Quiet : Program → Action → (m m' : Machine) → Bool → Type 0
+Quiet p a m m' true = (me : ℕ) (q : Messages) → act p q m me a ≡ Went m' q None
+Quiet p a m m' false = m' ≡ m
+
+-- The same of the next step.
+abbrev pub QuietStep : Program → (m m' : Machine) → Bool → Type 0
+QuietStep p m m' true = StepAlone p m m'
+QuietStep p m m' false = m' ≡ m

@@ -24,7 +24,7 @@ use vm_model::{Linked, LinkedInstr};
 
 /// Whether a value is of this sort.
 #[inline(always)]
-fn is_of_sort(sort: Sort, cell: Cell) -> bool
+pub(crate) fn is_of_sort(sort: Sort, cell: Cell) -> bool
     ensures { OnTrue result ((texts : List Name) → misfit_sort (sort_of sort) (value_in texts cell) ≡ None) }
 {
     match sort {
@@ -328,7 +328,7 @@ fn next_alone(state: &mut State, max: u16, code: &[LinkedInstr]) -> bool
 
 /// Takes steps that stay in their frame, at most so many, up to the first with which something is
 /// wrong, and answers how many they were.
-pub(crate) fn steps_alone(state: &mut State, linked: &Linked, most: u32) -> u32
+pub(crate) fn steps_here(state: &mut State, linked: &Linked, most: u32) -> u32
     ensures most { result ≤ most }
     ensures steps { AllAlone (classes_of linked.now.classes.items) (state_of state.old) result (state_of state.new) }
 {

@@ -13,6 +13,7 @@ mod objects;
 mod operands;
 mod plain;
 mod program;
+mod quiet;
 mod returns;
 mod session;
 mod step;

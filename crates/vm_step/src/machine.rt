@@ -14,8 +14,8 @@ ghost use Rattle.vm_step.specs.Main.{HasMain};
 ghost use Rattle.vm_step.specs.Steady.{is_steady, next_action};
 ghost use Rattle.vm_frames.specs.Lying.{AllLie};
 
-use crate::frequent::steps_alone;
 use crate::program::{class_at, max_locals, method_at};
+use crate::quiet::steps_alone;
 use crate::step::take_step;
 use crate::stepped::Stepped;
 use crate::waits::waits;
@@ -151,7 +151,8 @@ impl Machine {
     }
 
     /// Takes frequent steps with which nothing is wrong, at most so many, and answers how many they
-    /// were: steps that stay in their frame, tell nothing and look at no message. Nothing is allocated.
+    /// were: steps that tell nothing and look at no message. Only a call takes memory, and where it
+    /// lacks the call isn't among them.
     pub fn steps_alone(&mut self, linked: &Linked, most: u32) -> u32
         ensures most { result ≤ most }
         ensures steps { AllAlone (classes_of linked.now.classes.items) self.old.machine result self.new.machine }

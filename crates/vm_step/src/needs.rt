@@ -132,7 +132,7 @@ fn misfit_class(linked: &Linked, state: &State, name: &str, cell: Cell) -> Optio
 }
 
 /// Why a value doesn't meet a type.
-fn misfit_type(
+pub(crate) fn misfit_type(
     linked: &Linked,
     state: &State,
     field_type: FieldType<'_>,

@@ -156,7 +156,7 @@ fn act_read(state: &mut State, linked: &Linked, class: u32, field: u32) -> Resul
 }
 
 /// What a field takes.
-fn field_want<'a>(field: Option<&'a LinkedField>) -> Want<'a>
+pub(crate) fn field_want<'a>(field: Option<&'a LinkedField>) -> Want<'a>
     ensures { want_of result ≡ tests.type_in (option_map (λ f. field_of f.now) field.entry) }
 {
     let Some(field) = field else {

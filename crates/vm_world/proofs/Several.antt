@@ -75,7 +75,7 @@ module _ (p : Program) (first : World) (order : List ℕ) (limit : ℕ) where
       within : next < length order
       within = in_order p first order limit before left idle next h.going more
 
-      lt : role < length first.roles
+      pub lt : role < length first.roles
       lt = numbers next role (slice_get-get_or order next 0 within ∙ ap (λ r. Some r) (sym at))
 
       pub within_ahead : role < length ahead

@@ -5,9 +5,11 @@
 //! Steps that a role takes alone change nothing but its machine, so they are the same whether the
 //! turns of other roles come before them or behind. A role whose turn comes takes as many of them at
 //! once as turns of its own are sure to come, and is then that many turns ahead: when they come
-//! they are counted, and nothing is left to do.
+//! they are counted, and nothing is left to do. A role that was found still isn't asked again before a
+//! turn that may have moved a message.
 
-ghost use Rattle.std.specs.Prelude.{◌≡◌, ◌⊎◌, ◌<◌, ◌≤◌, ◌^◌, ◌-◌, ◌+◌, ◌*◌, ◌%◌, ℕ, Contains, length, replicate, slice_get, IfOk, IfSome};
+ghost use Rattle.std.specs.Prelude.{◌≡◌, ◌⊎◌, ◌<◌, ◌≤◌, ◌^◌, ◌-◌, ◌+◌, ◌*◌, ◌%◌, ◌≢◌, ℕ, Contains, length, replicate, slice_get, IfOk};
+ghost use Rattle.std.specs.Prelude.{IfSome};
 ghost use Rattle.vm_world_law.specs.Turns.{counted, Advances, IsRun};
 ghost use Rattle.vm_world.specs.Alone.{Counts};
 
@@ -36,6 +38,16 @@ fn most_at_once(count: usize, left: u32) -> u32
 {
     let cycles = left as usize / count;
     if cycles > 1 { cycles as u32 } else { 1 }
+}
+
+/// The version of the messages behind turns that counted so many instructions: several of them move
+/// no message.
+fn version_behind(version: u64, counted: u32) -> u64
+    requires { version < 2 ^ 64 - 1 }
+    ensures one { counted ≡ 1 → result ≡ version + 1 }
+    ensures several { counted ≢ 1 → result ≡ version }
+{
+    if counted == 1 { version + 1 } else { version }
 }
 
 impl World {
@@ -120,24 +132,28 @@ impl World {
     }
 
     /// Turns of several roles. `ahead` says of each how many turns it is ahead of those that were
-    /// counted, which is none at first.
+    /// counted, and `asked` at which version of the messages it was last found still: none at first.
+    /// While the version is the same, who was still is.
     fn run_several(
         &mut self,
         alloc: Global,
         order: &[u32],
         limit: u32,
         ahead: &mut [u32],
+        asked: &mut [u64],
     ) -> Result<(), Memory>
         requires numbers { (i : ℕ) (r : ℕ) → slice_get order.now i ≡ Some r → r < length self.old.world.roles }
         requires named { (r : ℕ) → r < length self.old.world.roles → Contains order.now r }
         requires fresh { counted self.old.world ≡ 0 }
         requires ahead { ahead.old ≡ replicate (length self.old.world.roles) 0 }
+        requires asked { asked.old ≡ replicate (length self.old.world.roles) 0 }
         ensures program { self.new.program ≡ self.old.program }
         ensures run { IfOk result (λ u. IsRun self.old.program self.old.world order.now limit self.new.world) }
     {
         let mut left = limit;
         let mut idle = 0;
         let mut next = 0;
+        let mut version = 1;
         while left > 0 && idle < order.len() {
             let role = order[next];
             let place = role as usize;
@@ -148,11 +164,17 @@ impl World {
                 idle = 0;
                 continue;
             }
-            let counted = self.take_at_once(alloc, role, order.len(), left)?;
-            if counted == 0 {
+            if asked[place] == version {
                 idle += 1;
                 continue;
             }
+            let counted = self.take_at_once(alloc, role, order.len(), left)?;
+            if counted == 0 {
+                asked[place] = version;
+                idle += 1;
+                continue;
+            }
+            version = version_behind(version, counted);
             ahead[place] = counted - 1;
             left -= 1;
             idle = 0;
@@ -176,6 +198,13 @@ impl World {
             return self.run_one(alloc, order, limit);
         }
         let mut ahead = vec![in alloc; 0u32; self.roles.len()]?;
-        self.run_several(alloc, order, limit, ahead.as_mut_slice())
+        let mut asked = vec![in alloc; 0u64; self.roles.len()]?;
+        self.run_several(
+            alloc,
+            order,
+            limit,
+            ahead.as_mut_slice(),
+            asked.as_mut_slice(),
+        )
     }
 }

@@ -90,6 +90,11 @@ returns-in-Exec c =
     c.exec.ensures c.in-Exec.files.now
     (subst (λ (z : Command). length (files_of (command_of z)) ≡ length c.args.contents.now) c.in-Exec.is c.requires.same)
 
+pub returns-in-Verify : goal.returns-in-Verify
+returns-in-Verify c =
+    c.verify.ensures c.in-Verify.files.now
+    (subst (λ (z : Command). length (files_of (command_of z)) ≡ length c.args.contents.now) c.in-Verify.is c.requires.same)
+
 pub load-requires-clause-some : goal.load-requires-clause-some
 load-requires-clause-some c =
     let known = c.requires.known in

@@ -3,7 +3,7 @@ use Rattle.vm_model.specs.Program.{method_at}
 use Rattle.vm_model.specs.View.{classes_of, method_of, instr_of}
 use Rattle.vm_step.specs.State.{state_of}
 use Rattle.vm_step.proofs.Ready.{more_alone, all_alone}
-use Rattle.vm_step.proofs.frequent.steps_alone.Goals as goal
+use Rattle.vm_step.proofs.frequent.steps_here.Goals as goal
 
 pub loop-taken-preserved : goal.loop-taken-preserved
 loop-taken-preserved c =

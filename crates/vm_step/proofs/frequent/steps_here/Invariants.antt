@@ -1,7 +1,7 @@
 use Rattle.vm_model.specs.View.{classes_of}
 use Rattle.vm_step.specs.State.{state_of}
 use Rattle.vm_step.specs.Alone.{SameMethod, AllAlone}
-use Rattle.vm_step.proofs.frequent.steps_alone.Given as goal
+use Rattle.vm_step.proofs.frequent.steps_here.Given as goal
 
 abbrev pub invariant-loop-taken : goal.invariant-loop-taken
 invariant-loop-taken l =

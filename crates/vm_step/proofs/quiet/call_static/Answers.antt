@@ -1,0 +1,30 @@
+use Rattle.std.proofs.Common.{◌≡◌, List, Some, length, map, sym, ap, ◌∙◌, arith}
+use Rattle.std.proofs.lemmas.List.{length-map}
+use Rattle.vm_model.specs.Program.{method_at}
+use Rattle.vm_model.specs.Types.{FieldType, signature_of}
+use Rattle.vm_model.specs.Kept.{type_kept}
+use Rattle.vm_model.specs.Actions.{Call, Static}
+use Rattle.vm_model.specs.Tests.{params_in, descriptor_in, max_locals_in}
+use Rattle.vm_model.proofs.KeptTypes.{params_are}
+use Rattle.vm_model.specs.View.{classes_of, method_of}
+use Rattle.vm_step.specs.State.{state_of}
+use Rattle.vm_step.proofs.Ready.{when_true}
+use Rattle.vm_step.proofs.Quietly.{quiet_call, quiet_static}
+use Rattle.vm_step.proofs.quiet.call_static.Goals as goal
+
+pub returns : goal.returns
+returns c =
+    let p = classes_of c.args.linked.now.classes.items in
+    let m = state_of c.args.state.now in
+    let called = c.in-Some.called.now in
+    let e : Some (method_of called) ≡ method_at p c.args.class c.args.method = rw c.in-Some.is at c.method_at.ensures in
+    let types : List FieldType = map type_kept c.as_slice-params.result.now in
+    let params : params_in (signature_of (descriptor_in (method_at p c.args.class c.args.method))) ≡ types =
+    (λ i. params_in (signature_of (descriptor_in (sym e i)))) ∙
+    sym (params_are called.params.items (signature_of called.descriptor) called.takes)
+    ∙ ap (map type_kept) (sym c.as_slice-params.ensures.items) in
+    quiet_call p (Call Static c.args.class c.args.method) m (state_of c.enter.new.state) c.enter.result c.enter.ensures.yes
+    c.enter.ensures.no
+    (λ is. quiet_static p m (state_of c.enter.new.state) c.args.class c.args.method called.max_locals types params (ap max_locals_in e)
+    (length c.as_slice-params.result.now) (length-map c.as_slice-params.result.now type_kept) (omega arith) (omega arith)
+    (when_true c.fit.result c.if-not-fit.false c.fit.ensures) is)
