@@ -1,6 +1,6 @@
 //! From class files to the line that tells how many methods they have.
 
-ghost use Rattle.std.specs.Prelude.{◌≡◌, ◌<◌, ◌^◌, ℕ, List as Seq, length, map, sum, IfOk, OnOk};
+ghost use Rattle.std.specs.Prelude.{◌≡◌, ◌<◌, ◌^◌, ℕ, List as Seq, length, IfOk, OnOk};
 ghost use Rattle.vm_model.specs.View.{classes_of};
 ghost use Rattle.mg_sources.specs.Files.{sources};
 ghost use Rattle.mg_refusal.specs.Refusals.{Refusal};
