@@ -24,8 +24,8 @@ returns-in_err-refusal-in-Some c = λ names same.
     let e = err_from_is_err_and c.from_residual-in_err-refusal-in-Some.result c.from_residual-in_err-refusal-in-Some.ensures.1 in
     rw (e.1, e.2) tt
 
-pub returns-in_ok-refusal-in-Some : goal.returns-in_ok-refusal-in-Some
-returns-in_ok-refusal-in-Some c = λ names same.
+pub returns-in-Some : goal.returns-in-Some
+returns-in-Some c = λ names same.
     run_no_main (sources names c.args.contents.now) c.args.mains.now c.args.order.now c.args.limit c.args.named c.args.traced
     (classes_of c.in_ok-linked.linked.classes.items) c.in-Some.number _ c.in_ok-refusal-in-Some.refusal (c.in_ok-linked.ensures names same)
     c.in-Some.ensures c.in_ok-refusal-in-Some.ensures

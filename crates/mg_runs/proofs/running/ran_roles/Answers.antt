@@ -25,8 +25,8 @@ returns-in_err-refusal-in-Some c =
     let e = err_from_is_err_and c.from_residual-in_err-refusal-in-Some.result c.from_residual-in_err-refusal-in-Some.ensures.1 in
     rw (e.1, e.2) tt
 
-pub returns-in_ok-refusal-in-Some : goal.returns-in_ok-refusal-in-Some
-returns-in_ok-refusal-in-Some c =
+pub returns-in-Some : goal.returns-in-Some
+returns-in-Some c =
     run_no_main (sources c.args.names.now c.args.contents.now) c.args.mains.now c.args.order.now c.args.limit c.args.named c.args.traced
     (tree_of c.in_ok-program.program.core) c.in-Some.number _ c.in_ok-refusal-in-Some.refusal c.in_ok-program.ensures.answered.files_are
     c.in-Some.ensures c.in_ok-refusal-in-Some.ensures
