@@ -19,7 +19,7 @@ use Rattle.stm_gen.specs.Numbered.{typestate_of}
 -- ---- how a protocol and a typestate are written down
 
 abbrev local : (me other : Name) → Statements → LocalTree
-local me other body = record { file = 0; name = codes "P"; me = me; roles = me ∷ other ∷ []; body = body }
+local me other body = record { file = 0; name = codes "P"; me = me; roles = me ∷ other ∷ []; body = body; others = [] }
 
 abbrev method : TypeName → Name → List TypeName → To → Method
 method result name params to = record { result = result; name = name; params = params; target = One to }
