@@ -9,14 +9,14 @@ use Rattle.scr_tree.specs.declared.syntax.Statement.{Statement}
 use Rattle.scr_tree.specs.declared.syntax.Statement.TheVariants as kinds
 use Rattle.scr_tree.specs.Tree.{Statements, Nothing}
 use Rattle.scr_tree.specs.View.{front, statements}
-use Rattle.scr_tree.proofs.ViewLemmas.{front-Message, front-Choice, front-Rec, front-Continue}
+use Rattle.scr_tree.proofs.ViewLemmas.{front-Message, front-Choice, front-Rec, front-Continue, front-Do}
 use Rattle.scr_judge.specs.inner.Counting.{counted, counted_in, up}
 use Rattle.scr_tree.specs.View.{bodies}
 use Rattle.scr_tree.proofs.Behind.{each_front, statements-step, statements-past, bodies-step, bodies-past}
 
 module _ (me : Name) (first : Bool) (n : ℕ) where
   counted-front : (s : Statement) (rest : Statements) → counted me first n (front s rest) ≡ counted me false (counted me first n (front s Nothing)) rest
-  counted-front s rest = each_front (λ f. counted me first n (f rest) ≡ counted me false (counted me first n (f Nothing)) rest) (λ m. refl) (λ p at bs. refl) (λ p name body. refl) (λ p name. refl) s
+  counted-front s rest = each_front (λ f. counted me first n (f rest) ≡ counted me false (counted me first n (f Nothing)) rest) (λ m. refl) (λ p at bs. refl) (λ p name body. refl) (λ p name. refl) (λ p name. refl) s
 
   pub counted-step : (ss : List Statement) (i : ℕ) (x : Statement) → i < length ss → x ≡ get_or ss i x →
       counted me first n (statements (drop i ss)) ≡ counted me false (counted me first n (front x Nothing)) (statements (drop (i + 1) ss))
@@ -31,7 +31,7 @@ module _ (me : Name) (first : Bool) (n : ℕ) where
   pub counted-Message : (m : Message) → counted me first n (front (kinds.Message m) Nothing) ≡ (if first then n else up n)
   counted-Message m = ap (λ f. counted me first n (f Nothing)) (front-Message m)
 
-pub ruleset alone = (common_steps, counted-Message, counted-Choice, counted-Rec, front-Continue)
+pub ruleset alone = (common_steps, counted-Message, counted-Choice, counted-Rec, front-Continue, front-Do)
 
 pub ruleset all_steps = (common_steps, counted-step, statements-past)
 

@@ -1,7 +1,7 @@
 -- There is one answer.
 use Rattle.std.proofs.Common.{◌≡◌, ⊎_elim, List, [], ◌∷◌, Option, Some, map, refl, sym, ap, ◌∙◌}
 use Rattle.mg_text.specs.Call.{Name}
-use Rattle.scr_tree.specs.Tree.{Statements, Nothing, Says, Choice, Rec, Continue}
+use Rattle.scr_tree.specs.Tree.{Statements, Nothing, Says, Choice, Rec, Continue, Do}
 use Rattle.mg_read.specs.FirstLaws.{IsSingle}
 use Rattle.mg_read.proofs.Judging.{one_answer, one_first}
 use Rattle.scr_tree.specs.Spots.{Past, Opens, Enters, Way, spot, head_place}
@@ -26,6 +26,7 @@ role_single roles (spot way (Says m rest)) c d a b = two _ c d a.0 b.0
 role_single roles (spot way (Choice p at bs rest)) c d a b = two _ c d a.0 b.0
 role_single roles (spot way (Rec p name body rest)) c d a b = absurd a
 role_single roles (spot way (Continue p name rest)) c d a b = absurd a
+role_single roles (spot way (Do p name rest)) c d a b = absurd a
 
 mention_single : (roles : List Name) → IsSingle (listing.UnknownRole roles)
 mention_single roles (itself me) c d a b = two _ c d a.0 b.0
@@ -45,6 +46,7 @@ self_single me (spot way (Says m rest)) c d a b = two _ c d a.0 b.0
 self_single me (spot way (Choice p at bs rest)) c d a b = absurd a
 self_single me (spot way (Rec p name body rest)) c d a b = absurd a
 self_single me (spot way (Continue p name rest)) c d a b = absurd a
+self_single me (spot way (Do p name rest)) c d a b = absurd a
 
 -- where a statement begins a branch, the place that is named is its own
 other_place : (way : Way) (ss : Statements) (c : Culprit) → OtherStart (spot way ss) c → (place : Place) × (head_place ss ≡ Some place) × (c ≡ culprit place [])
@@ -59,6 +61,7 @@ empty_place way (Says m rest) c a = absurd a
 empty_place way (Choice p at bs rest) c a = (p, refl, a.0)
 empty_place way (Rec p name body rest) c a = absurd a
 empty_place way (Continue p name rest) c a = absurd a
+empty_place way (Do p name rest) c a = absurd a
 
 start_single : IsSingle BranchStart
 start_single (spot way ss) c d a b =
@@ -75,6 +78,7 @@ label_single me (spot (Enters at earlier ∷ way) (Says m rest)) c d a b = two _
 label_single me (spot (Enters at earlier ∷ way) (Choice p x bs rest)) c d a b = absurd a
 label_single me (spot (Enters at earlier ∷ way) (Rec p name body rest)) c d a b = absurd a
 label_single me (spot (Enters at earlier ∷ way) (Continue p name rest)) c d a b = absurd a
+label_single me (spot (Enters at earlier ∷ way) (Do p name rest)) c d a b = absurd a
 
 rec_single : IsSingle UnknownRec
 rec_single (spot way Nothing) c d a b = absurd a
@@ -82,6 +86,7 @@ rec_single (spot way (Says m rest)) c d a b = absurd a
 rec_single (spot way (Choice p at bs rest)) c d a b = absurd a
 rec_single (spot way (Rec p name body rest)) c d a b = absurd a
 rec_single (spot way (Continue p name rest)) c d a b = two _ c d a.0 b.0
+rec_single (spot way (Do p name rest)) c d a b = absurd a
 
 twice_single : IsSingle DuplicateRec
 twice_single (spot way Nothing) c d a b = absurd a
@@ -89,6 +94,7 @@ twice_single (spot way (Says m rest)) c d a b = absurd a
 twice_single (spot way (Choice p at bs rest)) c d a b = absurd a
 twice_single (spot way (Rec p name body rest)) c d a b = two _ c d a.0 b.0
 twice_single (spot way (Continue p name rest)) c d a b = absurd a
+twice_single (spot way (Do p name rest)) c d a b = absurd a
 
 quiet_single : IsSingle Unguarded
 quiet_single (spot way Nothing) c d a b = absurd a
@@ -96,6 +102,7 @@ quiet_single (spot way (Says m rest)) c d a b = absurd a
 quiet_single (spot way (Choice p at bs rest)) c d a b = absurd a
 quiet_single (spot way (Rec p name body rest)) c d a b = absurd a
 quiet_single (spot way (Continue p name rest)) c d a b = two _ c d a.0 b.0
+quiet_single (spot way (Do p name rest)) c d a b = absurd a
 
 reach_single : IsSingle Unreachable
 reach_single (spot [] ss) c d a b = absurd a
@@ -110,6 +117,7 @@ mixed_single me (spot way (Says m rest)) c d a b = absurd a
 mixed_single me (spot way (Choice p at bs rest)) c d a b = two _ c d a.0 b.0
 mixed_single me (spot way (Rec p name body rest)) c d a b = absurd a
 mixed_single me (spot way (Continue p name rest)) c d a b = absurd a
+mixed_single me (spot way (Do p name rest)) c d a b = absurd a
 
 same_single : (me : Name) → IsSingle (SameLabel me)
 same_single me (spot [] ss) c d a b = absurd a
@@ -120,6 +128,7 @@ same_single me (spot (Enters at earlier ∷ way) (Says m rest)) c d a b = two _ 
 same_single me (spot (Enters at earlier ∷ way) (Choice p x bs rest)) c d a b = absurd a
 same_single me (spot (Enters at earlier ∷ way) (Rec p name body rest)) c d a b = absurd a
 same_single me (spot (Enters at earlier ∷ way) (Continue p name rest)) c d a b = absurd a
+same_single me (spot (Enters at earlier ∷ way) (Do p name rest)) c d a b = absurd a
 
 pub one_of : (w : WrittenTree) (k : Condition) (r s : Option Culprit) → Of w k r → Of w k s → r ≡ s
 one_of w conditions.DuplicateName r s = one_answer name_single

@@ -4,7 +4,7 @@ use Rattle.std.specs.Str.{bytes_eq}
 use Rattle.std.proofs.lemmas.Slice.Eq.{bytes_eq-Decides}
 use Rattle.mg_text.specs.Call.{Name}
 use Rattle.mg_text.specs.declared.place.Place.{Place}
-use Rattle.scr_tree.specs.Tree.{Statements, Nothing, Says, Choice, Rec, Continue, Branches, NoBranch, Branch}
+use Rattle.scr_tree.specs.Tree.{Statements, Nothing, Says, Choice, Rec, Continue, Do, Branches, NoBranch, Branch}
 use Rattle.mg_read.specs.First.{Judged, clean, here, later}
 use Rattle.mg_read.proofs.Judging.{judged-append}
 use Rattle.scr_tree.specs.Spots.{Past, Opens, Enters, Way, Spot, spot, spots, branch_spots}
@@ -78,6 +78,7 @@ mutual
       (quiet_exact (kept (passes body) names) _ rest (past_open h (passes body) (Rec p name body Nothing) (and_true _))))
   quiet_exact names way (Continue p name rest) h =
       found_or (is_among name names) names way p name rest _ _ h refl (quiet_exact [] _ rest (past_open h false (Continue p name Nothing) refl))
+  quiet_exact names way (Do p name rest) h = later (λ c x. x) (quiet_exact [] _ rest (past_open h false (Do p name Nothing) refl))
 
   quiet_exact_in : (names : List Name) (way : Way) (at : Name) (earlier : List Statements) (bs : Branches) → AreOpen names way →
       Judged Unguarded (branch_spots way at earlier bs) (unguarded_in names bs)

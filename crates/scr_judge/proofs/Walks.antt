@@ -8,7 +8,7 @@ use Rattle.scr_tree.specs.declared.syntax.Statement.{Statement}
 use Rattle.scr_tree.specs.declared.syntax.Statement.TheVariants as kinds
 use Rattle.scr_tree.specs.Tree.{Statements, Nothing}
 use Rattle.scr_tree.specs.View.{front, statements}
-use Rattle.scr_tree.proofs.ViewLemmas.{each_kind, front-Message, front-Choice, front-Rec, front-Continue}
+use Rattle.scr_tree.proofs.ViewLemmas.{each_kind, front-Message, front-Choice, front-Rec, front-Continue, front-Do}
 use Rattle.mg_read.specs.Culprit.{Culprit, culprit}
 use Rattle.scr_tree.specs.Control.{passes, some_passes}
 use Rattle.scr_tree.proofs.Behind.{each_front, statements-step, statements-past, bodies-step, bodies-past}
@@ -32,7 +32,7 @@ found_here false c r = refl
 pub passes-front : (s : Statement) (rest : Statements) → passes (front s rest) ≡ (passes (front s Nothing) && passes rest)
 passes-front s rest =
     each_front (λ f. passes (f rest) ≡ (passes (f Nothing) && passes rest)) (λ m. refl) (λ p at bs. ap (λ b. b && passes rest) (and_true (some_passes bs)))
-    (λ p name body. ap (λ b. b && passes rest) (and_true (passes body))) (λ p name. refl) s
+    (λ p name body. ap (λ b. b && passes rest) (and_true (passes body))) (λ p name. refl) (λ p name. refl) s
 
 pub unguarded-front : (names : List Name) (s : Statement) (rest : Statements) →
     unguarded names (front s rest) ≡ option_or (unguarded names (front s Nothing)) (unguarded (kept (passes (front s Nothing)) names) rest)
@@ -41,7 +41,7 @@ unguarded-front names s rest =
     (λ m. refl)
     (λ p at bs i. option_or (or_none (unguarded_in names bs) i) (unguarded (kept (and_true (some_passes bs) i) names) rest))
     (λ p name body i. option_or (or_none (unguarded (name ∷ names) body) i) (unguarded (kept (and_true (passes body) i) names) rest))
-    (λ p name. found_here (is_among name names) (culprit p name) (unguarded [] rest)) s
+    (λ p name. found_here (is_among name names) (culprit p name) (unguarded [] rest)) (λ p name. refl) s
 
 -- the statement at an index, and those behind it
 module _ (ss : List Statement) (i : ℕ) (x : Statement) (within : i < length ss) (is : x ≡ get_or ss i x) where
@@ -98,7 +98,7 @@ module _ (names : List Name) (ss : List Statement) (i : ℕ) (x : Statement) (wi
   pub unguarded_here : (c : Culprit) → Some c ≡ unguarded (kept quiet names) (front x Nothing) → unguarded (kept quiet names) (statements (drop i ss)) ≡ Some c
   unguarded_here c e = unguarded-step ss i x within is (kept quiet names) ∙ ap (λ o. option_or o (unguarded (kept (passes (front x Nothing)) (kept quiet names)) (statements (drop (i + 1) ss)))) (sym e)
 
-pub ruleset fronts = (common_steps, front-Message, front-Choice, front-Rec, front-Continue, unguarded-Choice, passes-Choice, unguarded-Rec, passes-Rec)
+pub ruleset fronts = (common_steps, front-Message, front-Choice, front-Rec, front-Continue, front-Do, unguarded-Choice, passes-Choice, unguarded-Rec, passes-Rec)
 
 pub ruleset all_steps = (common_steps, unguarded_later, passes_later, unguarded_here, statements-past, and_true)
 

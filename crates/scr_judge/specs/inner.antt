@@ -5,3 +5,5 @@ pub mod OnSpot
 pub mod Counting
 pub mod Listed
 pub mod View
+pub mod Own
+pub mod Gone

@@ -59,6 +59,7 @@ fn unguarded_at<'a>(names: &Names<'_>, statement: &'a Statement) -> Result<bool,
             }
             Ok(false)
         }
+        Statement::Do { .. } => Ok(false),
     }
 }
 

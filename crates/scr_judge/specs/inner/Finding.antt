@@ -2,7 +2,7 @@
 use Rattle.std.specs.Prelude.{Bool, if◌then◌else◌, List, [], ◌∷◌, Option, Some, None}
 use Rattle.std.specs.Option.{option_or}
 use Rattle.mg_text.specs.Call.{Name}
-use Rattle.scr_tree.specs.Tree.{Statements, Nothing, Says, Choice, Rec, Continue, Branches, NoBranch, Branch}
+use Rattle.scr_tree.specs.Tree.{Statements, Nothing, Says, Choice, Rec, Continue, Do, Branches, NoBranch, Branch}
 use Rattle.mg_read.specs.Culprit.{Culprit, culprit}
 use Rattle.scr_tree.specs.Control.{falls, some_falls, passes, some_passes}
 use Rattle.scr_tree.specs.declared.syntax.Message.{Message}
@@ -22,6 +22,7 @@ abbrev mutual
   unguarded names (Choice p at branches rest) = option_or (unguarded_in names branches) (unguarded (kept (some_passes branches) names) rest)
   unguarded names (Rec p name body rest) = option_or (unguarded (name ∷ names) body) (unguarded (kept (passes body) names) rest)
   unguarded names (Continue p name rest) = if is_among name names then Some (culprit p name) else unguarded [] rest
+  unguarded names (Do p name rest) = unguarded [] rest
 
   pub unguarded_in : List Name → Branches → Option Culprit
   unguarded_in names NoBranch = None
@@ -34,6 +35,7 @@ stands (Says m rest) = Some (culprit m.place [])
 stands (Choice p at branches rest) = Some (culprit p [])
 stands (Rec p name body rest) = Some (culprit p [])
 stands (Continue p name rest) = Some (culprit p [])
+stands (Do p name rest) = Some (culprit p [])
 
 abbrev mutual
   pub unreachable : Statements → Option Culprit
@@ -42,6 +44,7 @@ abbrev mutual
   unreachable (Choice p at branches rest) = option_or (unreachable_in branches) (if some_falls branches then unreachable rest else stands rest)
   unreachable (Rec p name body rest) = option_or (unreachable body) (if falls body then unreachable rest else stands rest)
   unreachable (Continue p name rest) = stands rest
+  unreachable (Do p name rest) = stands rest
 
   pub unreachable_in : Branches → Option Culprit
   unreachable_in NoBranch = None
@@ -69,6 +72,7 @@ abbrev mutual
   same me (Choice p at branches rest) = option_or (same_in me at none branches) (same me rest)
   same me (Rec p name body rest) = option_or (same me body) (same me rest)
   same me (Continue p name rest) = same me rest
+  same me (Do p name rest) = same me rest
 
   pub same_in : Name → Name → Names → Branches → Option Culprit
   same_in me at has NoBranch = None

@@ -11,6 +11,9 @@ use Rattle.scr_judge.specs.declared.actions.Deed.TheVariants as deeds
 use Rattle.scr_judge.specs.declared.culprit.Named.{Named}
 use Rattle.scr_judge.specs.declared.culprit.Culprit.{Culprit as Told}
 use Rattle.scr_judge.specs.declared.guards.Names.{Names}
+use Rattle.scr_judge.specs.declared.opening.First.{First as KeptFirst}
+use Rattle.scr_judge.specs.declared.opening.First.TheVariants as firsts
+use Rattle.scr_judge.specs.inner.Gone.{First, Neither, Deed as IsDeed, Goes}
 use Rattle.scr_judge.specs.declared.guards.Names.TheVariants.{Outside, Inside'}
 
 abbrev pub names_of : Names → List Name
@@ -56,3 +59,9 @@ does a = deed_of a.deed
 
 abbrev pub clashing : CodeAction → Culprit
 clashing a = culprit a.place a.call
+
+-- what comes first, as definitions speak of it
+abbrev pub first_seen : KeptFirst → First
+first_seen firsts.Neither = Neither
+first_seen firsts.Deed = IsDeed
+first_seen (firsts.Goes place) = Goes place
