@@ -27,3 +27,6 @@ pub mod CountSteps
 pub mod OneFault
 pub mod Lasting
 pub mod Gone
+pub mod Ranks
+pub mod Sought
+pub mod Starting

@@ -7,3 +7,4 @@ pub mod Listed
 pub mod View
 pub mod Own
 pub mod Gone
+pub mod Round

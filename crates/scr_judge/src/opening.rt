@@ -24,7 +24,7 @@ pub enum First {
 
 /// The name of the first protocol, where others stand behind it and it has no message and no
 /// choice; or its `do` before them all.
-#[tactic(auto, using(crate::proofs::Opening::judged))]
+#[tactic(auto, using(crate::proofs::Starting::judged))]
 pub fn find_starts_with_do(written: &Written) -> Option<Culprit<'_>>
     ensures { Judged StartsWithDo (first_of_several (written_of 0 written.now).first (written_of 0 written.now).others) (culprit_of result) }
 {
@@ -49,7 +49,7 @@ fn find_start(part: &WrittenPart) -> Option<Culprit<'_>> {
 }
 
 // Whether statements have a message or a choice.
-#[tactic(auto, using(crate::proofs::Opening::act_steps))]
+#[tactic(auto, using(crate::proofs::Starting::act_steps))]
 #[cycle(deeds)]
 fn has_deed(body: &[Statement]) -> bool
     ensures { result ≡ acts (statements body.now) }
@@ -62,7 +62,7 @@ fn has_deed(body: &[Statement]) -> bool
     found
 }
 
-#[tactic(auto, using(crate::proofs::Opening::act_alone))]
+#[tactic(auto, using(crate::proofs::Starting::act_alone))]
 #[cycle(deeds)]
 fn is_deed(statement: &Statement) -> bool
     ensures { result ≡ acts (front statement.now Nothing) }
@@ -77,7 +77,7 @@ fn is_deed(statement: &Statement) -> bool
 }
 
 // What comes first in statements.
-#[tactic(auto, using(crate::proofs::Opening::first_steps))]
+#[tactic(auto, using(crate::proofs::Starting::first_steps))]
 #[cycle(firsts)]
 fn first_of(body: &[Statement]) -> First
     ensures { first_seen result ≡ first_of (statements body.now) }
@@ -93,7 +93,7 @@ fn first_of(body: &[Statement]) -> First
     First::Neither
 }
 
-#[tactic(auto, using(crate::proofs::Opening::first_alone))]
+#[tactic(auto, using(crate::proofs::Starting::first_alone))]
 #[cycle(firsts)]
 fn first_at(statement: &Statement) -> First
     ensures { first_seen result ≡ first_of (front statement.now Nothing) }

@@ -8,6 +8,7 @@ use Rattle.scr_tree.specs.Control.{falls, some_falls, passes, some_passes}
 use Rattle.scr_tree.specs.declared.syntax.Message.{Message}
 use Rattle.scr_tree.specs.Conditions.{key}
 use Rattle.scr_judge.specs.inner.Names.{is_among}
+use Rattle.scr_judge.specs.inner.Round.{is_goal, kept_goal}
 use Rattle.scr_judge.specs.inner.Seen.{Names, none, with_name}
 
 -- these names, unless no path without a message leads on
@@ -15,18 +16,21 @@ abbrev pub kept : Bool → List Name → List Name
 kept quiet names = if quiet then names else []
 
 abbrev mutual
-  -- `names` are those of the recs from whose openings a path without a message leads here
-  pub unguarded : List Name → Statements → Option Culprit
-  unguarded names Nothing = None
-  unguarded names (Says m rest) = unguarded [] rest
-  unguarded names (Choice p at branches rest) = option_or (unguarded_in names branches) (unguarded (kept (some_passes branches) names) rest)
-  unguarded names (Rec p name body rest) = option_or (unguarded (name ∷ names) body) (unguarded (kept (passes body) names) rest)
-  unguarded names (Continue p name rest) = if is_among name names then Some (culprit p name) else unguarded [] rest
-  unguarded names (Do p name rest) = unguarded [] rest
+  -- `names` are those of the recs from whose openings a path without a message leads here; `goal` is the name of a `do` that is at fault,
+  -- where one leads here from the opening of the protocol
+  pub unguarded : List Name → Option Name → Statements → Option Culprit
+  unguarded names goal Nothing = None
+  unguarded names goal (Says m rest) = unguarded [] None rest
+  unguarded names goal (Choice p at branches rest) =
+      option_or (unguarded_in names goal branches) (unguarded (kept (some_passes branches) names) (kept_goal (some_passes branches) goal) rest)
+  unguarded names goal (Rec p name body rest) =
+      option_or (unguarded (name ∷ names) goal body) (unguarded (kept (passes body) names) (kept_goal (passes body) goal) rest)
+  unguarded names goal (Continue p name rest) = if is_among name names then Some (culprit p name) else unguarded [] None rest
+  unguarded names goal (Do p name rest) = if is_goal goal name then Some (culprit p name) else unguarded [] None rest
 
-  pub unguarded_in : List Name → Branches → Option Culprit
-  unguarded_in names NoBranch = None
-  unguarded_in names (Branch b more) = option_or (unguarded names b) (unguarded_in names more)
+  pub unguarded_in : List Name → Option Name → Branches → Option Culprit
+  unguarded_in names goal NoBranch = None
+  unguarded_in names goal (Branch b more) = option_or (unguarded names goal b) (unguarded_in names goal more)
 
 -- what is at fault where control does not come to statements
 abbrev pub stands : Statements → Option Culprit
