@@ -30,3 +30,4 @@ pub mod Gone
 pub mod Ranks
 pub mod Sought
 pub mod Starting
+pub mod Leaving

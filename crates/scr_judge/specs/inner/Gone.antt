@@ -78,6 +78,10 @@ not_last_at followed more (Rec place name body rest) = not_last (followed || mor
 not_last_at followed more (Continue place name rest) = None
 not_last_at followed more (Do place name rest) = if followed then Some (culprit place name) else None
 
+-- of a protocol
+abbrev pub not_last_in_part : Part → Option Culprit
+not_last_in_part p = not_last false (statements p.body.items)
+
 -- ---- what stands first
 
 -- what comes first of messages, choices and `do`s

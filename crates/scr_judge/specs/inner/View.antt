@@ -25,6 +25,10 @@ names_of (Inside' name p around) = name.now ∷ names_of around
 abbrev pub goal_of : Option (Bor Name) → Option Name
 goal_of goal = option_map (λ g. g.now) goal
 
+-- names that are told
+abbrev pub told_names : List (Bor Name) → List Name
+told_names names = map (λ n. n.now) names
+
 -- the choice whose branch begins
 abbrev pub begins_of : Option (Bor Name) → Option Name
 begins_of begins = option_map (λ at. at.now) begins
