@@ -37,7 +37,7 @@ named_again has (p ∷ ps) = if has p.name then Some (culprit p.place p.name) el
 
 abbrev pub same_names : List Name → List Name → Bool
 same_names [] [] = true
-same_names (a ∷ as) (b ∷ bs) = bytes_eq a b && same_names as bs
+same_names (x ∷ xs) (y ∷ ys) = bytes_eq x y && same_names xs ys
 same_names _ _ = false
 
 abbrev pub names_of_roles : Part → List Name
