@@ -4,7 +4,7 @@ use Rattle.std.specs.Str.{bytes_eq}
 use Rattle.mg_text.specs.Call.{Name}
 use Rattle.scr_tree.specs.declared.syntax.Message.{Message as Said}
 use Rattle.scr_tree.specs.Meaning.{message_of}
-use Rattle.scr_tree.specs.Tree.{Statements, Nothing, Says, Choice, Rec, Continue, Do, Branches, NoBranch, Branch}
+use Rattle.scr_tree.specs.Tree.{PartTree, Statements, Nothing, Says, Choice, Rec, Continue, Do, Branches, NoBranch, Branch}
 use Rattle.scr_tree.specs.Actions.{opened, next, next_in}
 use Rattle.stm_api.specs.Doings.{Doing, Passes, Asks, call_of}
 
@@ -51,6 +51,9 @@ abbrev mutual
   pub does_in : Name → ℕ → Branches → List Doing
   does_in me n NoBranch = []
   does_in me n (Branch b more) = does me n b ++ does_in me (next me n b) more
+
+abbrev pub part_body : PartTree → Statements
+part_body p = p.body
 
 -- what is done in protocols of a role, one after another
 abbrev pub all_does : Name → ℕ → List Statements → List Doing
