@@ -10,7 +10,7 @@ use Rattle.mg_read.specs.First.{Judged, clean, here, later}
 use Rattle.mg_read.proofs.Judging.{judged-append, judged-found}
 use Rattle.scr_tree.specs.Tree.{Statements, Nothing, Says, Choice, Rec, Continue, Do, Branches, NoBranch, Branch}
 use Rattle.scr_tree.specs.Spots.{Past, Opens, Enters, Way, Spot, spot, spots, branch_spots}
-use Rattle.scr_tree.specs.Control.{passes, some_passes, AtOnce, past, opening, entering}
+use Rattle.scr_tree.specs.Control.{passes, some_passes, AtOnce, passing, into_rec, into_branch}
 use Rattle.scr_tree.specs.Conditions as says
 use Rattle.scr_judge.specs.inner.Finding.{kept, unguarded, unguarded_in}
 use Rattle.scr_judge.specs.inner.Names.{is_among}
@@ -70,23 +70,23 @@ pub record IsOnce (at_once : Bool) (way : Way) : Type 0 where
   pub from : AtOnce way → at_once ≡ true
 
 past_at : {s : Statements} {way : Way} (w : Way) → AtOnce w → w ≡ Past s ∷ way → IsTrue (passes s) × AtOnce way
-past_at w (past {s = t} {way = v} p a) e = let same : t ≡ _ = cc in let rest : v ≡ _ = cc in (subst (λ x. IsTrue (passes x)) same p, subst AtOnce rest a)
+past_at w (passing {s = t} {way = v} p a) e = let same : t ≡ _ = cc in let rest : v ≡ _ = cc in (subst (λ x. IsTrue (passes x)) same p, subst AtOnce rest a)
 past_at w _ e = cc
 
 opens_at : {name : Name} {way : Way} (w : Way) → AtOnce w → w ≡ Opens name ∷ way → AtOnce way
-opens_at w (opening {way = v} a) e = let rest : v ≡ _ = cc in subst AtOnce rest a
+opens_at w (into_rec {way = v} a) e = let rest : v ≡ _ = cc in subst AtOnce rest a
 opens_at w _ e = cc
 
 enters_at : {at : Name} {earlier : List Statements} {way : Way} (w : Way) → AtOnce w → w ≡ Enters at earlier ∷ way → AtOnce way
-enters_at w (entering {way = v} a) e = let rest : v ≡ _ = cc in subst AtOnce rest a
+enters_at w (into_branch {way = v} a) e = let rest : v ≡ _ = cc in subst AtOnce rest a
 enters_at w _ e = cc
 
 pub once_past : {at_once : Bool} {way : Way} (s : Statements) (b : Bool) → passes s ≡ b → IsOnce at_once way → IsOnce (b && at_once) (Past s ∷ way)
-once_past s true e h = record { to = λ t. past e (h.to t); from = λ a. h.from (past_at _ a refl).1 }
+once_past s true e h = record { to = λ t. passing e (h.to t); from = λ a. h.from (past_at _ a refl).1 }
 once_past s false e h = record { to = λ t. absurd (true≢false (sym t)); from = λ a. absurd (true≢false (sym (past_at _ a refl).0 ∙ e)) }
 
 pub once_opens : {at_once : Bool} {way : Way} (name : Name) → IsOnce at_once way → IsOnce at_once (Opens name ∷ way)
-once_opens name h = record { to = λ t. opening (h.to t); from = λ a. h.from (opens_at _ a refl) }
+once_opens name h = record { to = λ t. into_rec (h.to t); from = λ a. h.from (opens_at _ a refl) }
 
 pub once_enters : {at_once : Bool} {way : Way} (at : Name) (earlier : List Statements) → IsOnce at_once way → IsOnce at_once (Enters at earlier ∷ way)
-once_enters at earlier h = record { to = λ t. entering (h.to t); from = λ a. h.from (enters_at _ a refl) }
+once_enters at earlier h = record { to = λ t. into_branch (h.to t); from = λ a. h.from (enters_at _ a refl) }

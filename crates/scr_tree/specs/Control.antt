@@ -42,6 +42,6 @@ pub data Quietly (name : Name) : Way → Type 0 where
 -- control can come here from the opening of the protocol with no message on its path
 pub data AtOnce : Way → Type 0 where
   starting : AtOnce []
-  past : {s : Statements} {way : Way} → IsTrue (passes s) → AtOnce way → AtOnce (Past s ∷ way)
-  opening : {name : Name} {way : Way} → AtOnce way → AtOnce (Opens name ∷ way)
-  entering : {at : Name} {earlier : List Statements} {way : Way} → AtOnce way → AtOnce (Enters at earlier ∷ way)
+  passing : {s : Statements} {way : Way} → IsTrue (passes s) → AtOnce way → AtOnce (Past s ∷ way)
+  into_rec : {name : Name} {way : Way} → AtOnce way → AtOnce (Opens name ∷ way)
+  into_branch : {at : Name} {earlier : List Statements} {way : Way} → AtOnce way → AtOnce (Enters at earlier ∷ way)

@@ -6,19 +6,19 @@ use Rattle.mg_read.specs.First.{Judged, FirstOf, with_earlier}
 use Rattle.scr_tree.specs.declared.condition.Condition.{Condition}
 use Rattle.scr_tree.specs.declared.condition.Condition.TheVariants as conditions
 use Rattle.scr_tree.specs.Tree.{body_in}
-use Rattle.scr_tree.specs.Spots.{all_spots, spots_of}
+use Rattle.scr_tree.specs.Spots.{Spot, all_spots, spots_of}
 use Rattle.scr_tree.specs.Conditions as says
 use Rattle.scr_tree.specs.Going.{Unguarded, UnknownProtocol, DuplicateProtocol, RolesDiffer, told_in, NotLast, all_held, StartsWithDo, first_of_several}
 use Rattle.scr_tree.specs.Actions.{NameClash, all_actions}
 use Rattle.scr_tree.specs.States.{TooManyStates, all_states}
-use Rattle.scr_tree.specs.Written.{WrittenTree, parts_in, roles_in, me_in, name_in, body_of, title_of}
-use Rattle.scr_tree.specs.Listing.{DuplicateName, entries, UnknownRole, mentions, UnknownType, typed, PayloadCount, all_carries}
+use Rattle.scr_tree.specs.Written.{WrittenPart, WrittenTree, parts_in, roles_in, me_in, name_in, body_of, title_of}
+use Rattle.scr_tree.specs.Listing.{DuplicateName, entries, UnknownRole, Mention, mentions, UnknownType, typed, PayloadCount, all_carries}
 
 -- what the first place is at which a condition doesn't hold; each protocol is judged by its own role and roles
 abbrev pub Of : WrittenTree → Condition → Option Culprit → Type 0
 Of w conditions.DuplicateName = Judged DuplicateName (entries w)
-Of w conditions.UnknownRole = Judged (λ q. UnknownRole (roles_in q.0) q.1) (mentions w)
-Of w conditions.PeerIsSelf = Judged (λ q. says.PeerIsSelf (me_in q.0) q.1) (spots_of body_of (parts_in w))
+Of w conditions.UnknownRole = Judged (λ (q : WrittenPart × Mention). UnknownRole (roles_in q.0) q.1) (mentions w)
+Of w conditions.PeerIsSelf = Judged (λ (q : WrittenPart × Spot). says.PeerIsSelf (me_in q.0) q.1) (spots_of body_of (parts_in w))
 Of w conditions.UnknownType = Judged (UnknownType w.types) (typed w)
 Of w conditions.PayloadCount = Judged PayloadCount (all_carries w)
 Of w conditions.UnknownRec = Judged says.UnknownRec (all_spots (map body_of (parts_in w)))
@@ -26,9 +26,9 @@ Of w conditions.DuplicateRec = Judged says.DuplicateRec (all_spots (map body_of 
 Of w conditions.Unguarded = Judged (Unguarded (map title_of (parts_in w))) (spots_of body_in (map title_of (parts_in w)))
 Of w conditions.Unreachable = Judged says.Unreachable (all_spots (map body_of (parts_in w)))
 Of w conditions.BranchStart = Judged says.BranchStart (all_spots (map body_of (parts_in w)))
-Of w conditions.MixedChoice = Judged (λ q. says.MixedChoice (me_in q.0) q.1) (spots_of body_of (parts_in w))
-Of w conditions.SameLabel = Judged (λ q. says.SameLabel (me_in q.0) q.1) (spots_of body_of (parts_in w))
-Of w conditions.ReservedLabel = Judged (λ q. says.ReservedLabel (me_in q.0) q.1) (spots_of body_of (parts_in w))
+Of w conditions.MixedChoice = Judged (λ (q : WrittenPart × Spot). says.MixedChoice (me_in q.0) q.1) (spots_of body_of (parts_in w))
+Of w conditions.SameLabel = Judged (λ (q : WrittenPart × Spot). says.SameLabel (me_in q.0) q.1) (spots_of body_of (parts_in w))
+Of w conditions.ReservedLabel = Judged (λ (q : WrittenPart × Spot). says.ReservedLabel (me_in q.0) q.1) (spots_of body_of (parts_in w))
 Of w conditions.NameClash = Judged NameClash (with_earlier (all_actions me_in body_of 1 (parts_in w)))
 Of w conditions.TooManyStates = Judged (TooManyStates w.file) (all_states me_in body_of (parts_in w) ∷ [])
 Of w conditions.UnknownProtocol = Judged (UnknownProtocol (map name_in (parts_in w))) (all_spots (map body_of (parts_in w)))

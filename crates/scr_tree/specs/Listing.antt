@@ -70,7 +70,7 @@ carried_by m = map (carried m.place) m.types
 
 -- what the messages of a file carry
 abbrev pub all_carries : WrittenTree → List Carries
-all_carries w = flat_map (λ p. p.carries) (parts_in w)
+all_carries w = flat_map (λ (p : WrittenPart). p.carries) (parts_in w)
 
 abbrev pub typed : WrittenTree → List Typed
 typed w = map declared w.types ++ flat_map carried_by (all_carries w)

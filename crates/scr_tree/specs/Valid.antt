@@ -64,7 +64,7 @@ pub record IsWritten (local : LocalTree) : Type 0 where
 
 -- the names of the protocols
 abbrev pub names_in : LocalTree → List Name
-names_in local = map (λ t. t.name) (titled local)
+names_in local = map (λ (t : Titled). t.name) (titled local)
 
 -- a valid local protocol
 pub record IsValid (local : LocalTree) : Type 0 where
@@ -81,8 +81,8 @@ pub record IsValid (local : LocalTree) : Type 0 where
   pub uniform : Clean (MixedChoice local.me) (all_spots (bodies_in local))
   pub labels_differ : Clean (SameLabel local.me) (all_spots (bodies_in local))
   pub labels_free : Clean (ReservedLabel local.me) (all_spots (bodies_in local))
-  pub one_action : Clean NameClash (with_earlier (all_actions (λ t. local.me) body_in 1 (titled local)))
-  pub few_states : Clean (TooManyStates local.file) (all_states (λ t. local.me) body_in (titled local) ∷ [])
+  pub one_action : Clean NameClash (with_earlier (all_actions (λ (t : Titled). local.me) body_in 1 (titled local)))
+  pub few_states : Clean (TooManyStates local.file) (all_states (λ (t : Titled). local.me) body_in (titled local) ∷ [])
   pub protocols_known : Clean (UnknownProtocol (names_in local)) (all_spots (bodies_in local))
   pub protocols_differ : AreDistinct (names_in local)
   pub last : Clean NotLast (all_held (bodies_in local))
