@@ -1,10 +1,10 @@
 //! The class files that a case is about: those that an earlier command wrote, and changes of their
 //! bytes.
 
+use crate::calling::status_of;
 use crate::given::{line_of, words_of};
 use mg_io::{FileList, MemFolder, MemSink, NumberList};
 use mg_text::Memory;
-use mg_top::mungo;
 use std::alloc::Global;
 
 /// The files in which the command of a case runs: these, or where a command runs before it, those
@@ -24,7 +24,7 @@ fn left_by(alloc: Global, first: &str, head: &str, kept: FileList) -> Result<Fil
     let mut out = MemSink::new(alloc, NumberList::new(alloc));
     let mut err = MemSink::new(alloc, NumberList::new(alloc));
     let words = words_of(alloc, first)?;
-    let _status = mungo(alloc, words.as_slice(), &mut folder, &mut out, &mut err);
+    let _status = status_of(alloc, words.as_slice(), &mut folder, &mut out, &mut err);
     let mut left = FileList::new(alloc);
     for name in line_of(head, "mungo ").split(' ') {
         if let Some(bytes) = folder.content(name) {

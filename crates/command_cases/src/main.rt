@@ -23,6 +23,7 @@
 //! ```
 #![tactic(auto)]
 
+mod calling;
 mod classes;
 mod given;
 mod torn;
@@ -35,7 +36,7 @@ use std::alloc::Global;
 use std::rt::Files;
 
 /// The files of cases, in the order in which they are answered.
-const FILES: [&str; 12] = [
+const FILES: [&str; 13] = [
     "translate.txt",
     "conform.txt",
     "check.txt",
@@ -47,6 +48,7 @@ const FILES: [&str; 12] = [
     "exec.txt",
     "faults.txt",
     "refine.txt",
+    "project.txt",
     "words.txt",
 ];
 

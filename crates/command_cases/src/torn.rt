@@ -1,9 +1,10 @@
 //! Class files that are cut and changed everywhere: `exec` refuses each front of one as cut, and ends
 //! on each change with a status that it may have.
 
+use crate::calling::status_of;
 use mg_io::{FileList, MemFolder, MemSink, NumberList};
 use mg_text::{Memory, Text};
-use mg_top::{Status, mungo};
+use mg_top::Status;
 use std::alloc::Global;
 
 /// How a command ended, and what it put on standard error.
@@ -104,6 +105,6 @@ fn run_with(
     let mut folder = MemFolder::new(alloc, files, NumberList::new(alloc))?;
     let mut out = MemSink::new(alloc, NumberList::new(alloc));
     let mut err = MemSink::new(alloc, NumberList::new(alloc));
-    let status = mungo(alloc, words, &mut folder, &mut out, &mut err);
+    let status = status_of(alloc, words, &mut folder, &mut out, &mut err);
     Ok(Ended { status, err })
 }

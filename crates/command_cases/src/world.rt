@@ -1,12 +1,13 @@
 //! A folder and sinks in memory, in which a command is run, and what it leaves, as lines: its
 //! status, how often the folder was called, what was put on the sinks, and files.
 
+use crate::calling::status_of;
 use crate::classes::files_for;
 use crate::given::{are_clear, line_of, numbers_of, words_of};
 use crate::torn::{each_bit, each_front};
 use mg_io::{FileList, Folder, HostFolder, IoFault, MemFolder, MemSink, NumberList};
 use mg_text::Memory;
-use mg_top::{Status, mungo};
+use mg_top::Status;
 use std::alloc::{AllocError, Global};
 use std::rt::Files;
 
@@ -172,7 +173,7 @@ impl World {
     fn run(&mut self, alloc: Global, head: &str) -> Result<Status, Memory> {
         let words = words_of(alloc, line_of(head, "mungo "))?;
         let words = words.as_slice();
-        Ok(mungo(alloc, words, &mut self.folder, &mut self.out, &mut self.err))
+        Ok(status_of(alloc, words, &mut self.folder, &mut self.out, &mut self.err))
     }
 
     // What a run left, with the contents of the files of these names.

@@ -177,6 +177,9 @@ fn a_stream_takes_a_piece_bit_by_bit_or_fails(rt: HostRuntime) -> Result<(), Fai
 // How many bytes stand in the large file, and in the large piece.
 const LARGE: usize = 300_000;
 
+// How many bytes a source may have. One more is read, so that a larger one shows.
+const SOURCE: usize = 1_048_576;
+
 #[test]
 fn a_large_file_is_kept_whole_and_then_replaced(rt: HostRuntime) -> Result<(), Fail> {
     let alloc = rt.alloc();
@@ -198,13 +201,29 @@ fn a_large_file_is_kept_whole_and_then_replaced(rt: HostRuntime) -> Result<(), F
     Ok(())
 }
 
-// Whether a large piece is put whole over a writer that takes so many bytes at a time.
-fn takes_large(alloc: Global, width: usize) -> Result<bool, Fail> {
-    let text = vec![in alloc; b'x'; LARGE]?;
+#[test]
+fn a_file_as_large_as_a_source_is_read_whole(rt: HostRuntime) -> Result<(), Fail> {
+    let alloc = rt.alloc();
+    let text = vec![in alloc; b'x'; SOURCE]?;
+    let mut folder = HostFolder::new(alloc, &rt);
+    let written = folder.write(alloc, "mg_io_source_file", text.as_slice());
+    assert!(rt; written.is_ok());
+    match folder.read(alloc, "mg_io_source_file", SOURCE + 1) {
+        Ok(bytes) => assert!(rt; bytes.as_slice() == text.as_slice()),
+        Err(_) => assert!(rt; false),
+    }
+    fs::remove_file(&rt, "mg_io_source_file")?;
+    assert_eq!(rt; folder.failed_reads().len(), 0);
+    Ok(())
+}
+
+// Whether a piece of so many bytes is put whole over a writer that takes so many at a time.
+fn takes_large(alloc: Global, size: usize, width: usize) -> Result<bool, Fail> {
+    let text = vec![in alloc; b'x'; size]?;
     let mut narrow = Narrow {
         taken: Vec::new(alloc),
         width,
-        room: LARGE,
+        room: size,
     };
     let mut sink = HostSink::new(&mut narrow);
     let is_put = sink.put(text.as_slice()).is_ok() && sink.faults() == 0;
@@ -213,8 +232,10 @@ fn takes_large(alloc: Global, width: usize) -> Result<bool, Fail> {
 
 #[test]
 fn a_stream_takes_a_large_piece(rt: HostRuntime) -> Result<(), Fail> {
-    assert!(rt; takes_large(rt.alloc(), LARGE)?);
-    assert!(rt; takes_large(rt.alloc(), 1_000)?);
+    assert!(rt; takes_large(rt.alloc(), LARGE, LARGE)?);
+    assert!(rt; takes_large(rt.alloc(), LARGE, 1_000)?);
+    assert!(rt; takes_large(rt.alloc(), SOURCE + 1, SOURCE + 1)?);
+    assert!(rt; takes_large(rt.alloc(), SOURCE + 1, 70_000)?);
     Ok(())
 }
 

@@ -1,6 +1,6 @@
 -- What a writer that tells its bytes holds after several writes.
-use Rattle.std.proofs.Common.{◌≡◌, ℕ, List, ◌++◌, ◌-◌, length, length-drop, take, drop, Option, Some, None, ap, sym, subst, ◌∙◌, append_assoc}
-use Rattle.std.specs.Io.KnownBytes.{Appends, Keeps}
+use Rattle.std.proofs.Common.{◌≡◌, ℕ, List, ◌++◌, ◌-◌, length, length-drop, take, drop, Option, Some, None, Result, Ok, Err, refl, ap, sym, subst, ◌∙◌, append_assoc}
+use Rattle.std.specs.Io.KnownBytes.{Appends, Keeps, WriteAppends}
 use Rattle.std.proofs.lemmas.List.{take-append-drop}
 use Rattle.std.proofs.Math.Seq.{take-append_seam, take-length}
 
@@ -45,3 +45,18 @@ written_kept old between new bytes rest w q = record { front = w.front; cut = w.
 pub front_from_written : (old new : Option (List ℕ)) (bytes rest : List ℕ) → Written old new bytes rest → (k : ℕ) × Appends old new (take k bytes)
 front_from_written old new bytes rest w =
     (length w.front, subst (Appends old new) (sym (take-append_seam w.front rest) ∙ ap (take (length w.front)) w.cut) w.appends)
+
+-- whatever a write answered, a front of the bytes is written behind it
+pub front_after_write : {E : Type 0} (old between new : Option (List ℕ)) (bytes rest : List ℕ) (answer : Result ℕ E)
+    → Written old between bytes rest → WriteAppends between new answer rest → (k : ℕ) × Appends old new (take k bytes)
+front_after_write old between new bytes rest (Ok n) w q =
+    front_from_written old new bytes (drop n rest) (written_more old between new bytes rest (drop n rest) n w q refl)
+front_after_write old between new bytes rest (Err e) w q =
+    front_from_written old new bytes rest (written_kept old between new bytes rest w q)
+
+-- a write that took some bytes leaves what stands behind these
+pub left_after_write : {E : Type 0} (old between new : Option (List ℕ)) (bytes rest : List ℕ) (answer : Result ℕ E) (n : ℕ)
+    → Written old between bytes rest → WriteAppends between new answer rest → answer ≡ Ok n
+    → Written old new bytes (take (length rest - n) (drop n rest))
+left_after_write old between new bytes rest answer n w q e =
+    written_more_sliced old between new bytes rest n w (subst (λ a. WriteAppends between new a rest) e q)

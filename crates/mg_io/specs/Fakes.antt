@@ -50,7 +50,7 @@ abbrev pub counted : ℕ → ℕ
 counted n = min (n + 1) (2 ^ 64 - 1)
 
 -- the count of faults after a call: one more where it failed
-abbrev pub counted_if_failed : Result Unit IoFault → ℕ → ℕ
+abbrev pub counted_if_failed : {X : Type 0} → Result X IoFault → ℕ → ℕ
 counted_if_failed (Ok _) n = n
 counted_if_failed (Err Failed) n = counted n
 counted_if_failed (Err Memory) n = n

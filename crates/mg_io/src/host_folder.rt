@@ -1,15 +1,17 @@
 //! The real files.
 //! The adapter tells no content; the names that failed are kept.
 
-ghost use Rattle.std.specs.Prelude.{◌≡◌, ◌≤◌, ◌<◌, ◌++◌, [], length, take, IfOk, IfSome, IsErr, IsErrOf};
+ghost use Rattle.std.specs.Prelude.{◌≡◌, ◌≤◌, ◌++◌, [], length, take, ⊤, None, IsOk, IfOk, IfSome, IsErr, IsErrOf};
 ghost use Rattle.std.specs.Io.KnownBytes.{Appends};
-ghost use Rattle.mg_io.specs.Outside.{name_if_failed};
+ghost use Rattle.mg_io.specs.Outside.{name_if_failed, Writes};
+ghost use Rattle.mg_io.specs.Fakes.{counted_if_failed};
 
-use crate::front::{Tried, read_front};
-use crate::refusal::answered;
+use crate::front::read_front;
+use crate::refusal::Refusals;
+use crate::refused_names::RefusedNames;
 use crate::whole::write_whole;
 use crate::{Folder, IoFault};
-use mg_text::{Bytes, List, Text};
+use mg_text::{Bytes, Text};
 use std::alloc::Global;
 use std::fs;
 use std::io::{self, Read, Write};
@@ -20,8 +22,8 @@ use std::rt::Files;
 #[derive(Drop)]
 pub struct HostFolder<'a, R: Files> {
     rt: &'a R,
-    failed_reads: List<Text>,
-    failed_writes: List<Text>,
+    failed_reads: RefusedNames,
+    failed_writes: RefusedNames,
 }
 
 impl<'a, R: Files> Model for HostFolder<'a, R> {
@@ -29,7 +31,7 @@ impl<'a, R: Files> Model for HostFolder<'a, R> {
 
     ghost Value = { FailedNames };
 
-    ghost view = { λ f. record { reads = f.failed_reads.items; writes = f.failed_writes.items } };
+    ghost view = { λ f. record { reads = f.failed_reads.names.items; writes = f.failed_writes.names.items } };
 }
 
 impl<'a, R: Files> HostFolder<'a, R> {
@@ -39,8 +41,8 @@ impl<'a, R: Files> HostFolder<'a, R> {
     {
         HostFolder {
             rt,
-            failed_reads: List::new(alloc),
-            failed_writes: List::new(alloc),
+            failed_reads: RefusedNames::new(alloc),
+            failed_writes: RefusedNames::new(alloc),
         }
     }
 
@@ -68,85 +70,73 @@ impl<'a, R: Files> Folder for HostFolder<'a, R> {
 
     ghost failed_writes = { λ f. f.writes };
 
-    fn read(&mut self, alloc: Global, name: &str, limit: usize) -> Result<Bytes, IoFault> {
+    /// Answers the front of a file that was opened. `Failed` exactly where the system refuses that.
+    /// No files are told, so nothing is said of these.
+    fn read(&mut self, alloc: Global, name: &str, limit: usize) -> Result<Bytes, IoFault>
+        ensures limit { IfOk result (λ bytes. length bytes ≤ limit) }
+        ensures content { IfOk result (λ _. ⊤) }
+        ensures front { IfOk result (λ bytes. (file : R.File)
+            × IfSome (R.File.remaining file) (λ all. bytes ≡ take limit all)) }
+        ensures failed_reads { self.new.reads ≡ self.old.reads ++ name_if_failed result name.now }
+        ensures failed_writes { self.new.writes ≡ self.old.writes }
+    {
         let kept = Text::of(alloc, name)?;
-        self.failed_reads.reserve(1)?;
-        let result = read_file(alloc, self.rt, name, limit);
-        if let Err(IoFault::Failed) = result {
-            self.failed_reads.add(kept);
-        }
-        result
+        self.failed_reads.reserve()?;
+        let mut refusals = Refusals::none();
+        let opened = fs::open(self.rt, name);
+        let result = read_opened(alloc, opened, &mut refusals, limit);
+        self.failed_reads.noted(kept, &refusals, result)
     }
 
-    fn write(&mut self, alloc: Global, name: &str, bytes: &[u8]) -> Result<(), IoFault> {
+    /// Hands all bytes to a file that was made. `Failed` exactly where the system refuses that.
+    fn write(&mut self, alloc: Global, name: &str, bytes: &[u8]) -> Result<(), IoFault>
+        ensures files { Writes name.now bytes.now result None None }
+        ensures handed { IsOk result → (made : R.File) × (file : R.File)
+            × Appends (R.File.contents made) (R.File.contents file) bytes.now }
+        ensures failed_writes { self.new.writes ≡ self.old.writes ++ name_if_failed result name.now }
+        ensures failed_reads { self.new.reads ≡ self.old.reads }
+    {
         let kept = Text::of(alloc, name)?;
-        self.failed_writes.reserve(1)?;
-        write_noted(self.rt, &mut self.failed_writes, kept, name, bytes)
+        self.failed_writes.reserve()?;
+        let mut refusals = Refusals::none();
+        let made = fs::create(self.rt, name);
+        let written = write_opened(made, &mut refusals, bytes);
+        self.failed_writes.noted(kept, &refusals, written)?;
+        Ok(())
     }
 }
 
-/// Writes a file, and notes the name where that failed. There is room for it, so no memory is taken.
-fn write_noted<R: Files>(
-    rt: &R,
-    failed: &mut List<Text>,
-    kept: Text,
-    name: &str,
-    bytes: &[u8],
-) -> Result<(), IoFault>
-    requires room { 0 < failed.old.spare }
-    requires kept { kept ≡ name.now }
-    ensures memory { IsErrOf result IoFault.Memory → ⊥ }
-    ensures failed { failed.new.items ≡ failed.old.items ++ name_if_failed result name.now }
-{
-    match write_file(rt, name, bytes) {
-        Ok(_file) => Ok(()),
-        Err(_) => {
-            failed.add(kept);
-            Err(IoFault::Failed)
-        }
-    }
-}
-
-/// The first `limit` bytes of a file. `Failed` where it can't be opened or read.
-fn read_file<R: Files>(alloc: Global, rt: &R, name: &str, limit: usize) -> Result<Bytes, IoFault>
-    ensures { IfOk result (λ bytes. length bytes ≤ limit) }
-{
-    read_opened(alloc, fs::open(rt, name), limit)
-}
-
-/// The same of a file that was to be opened.
+/// The first `limit` bytes of a file that was to be opened. `Failed` where it can't be opened or read.
 fn read_opened<F: Read + Drop>(
     alloc: Global,
     opened: io::Result<F>,
+    refusals: &mut Refusals,
     limit: usize,
 ) -> Result<Bytes, IoFault>
     ensures limit { IfOk result (λ bytes. length bytes ≤ limit) }
     ensures content { IfOk opened
         (λ file. IfOk result (λ bytes. IfSome (F.remaining file) (λ all. bytes ≡ take limit all))) }
     ensures refused { IsErr opened → IsErrOf result IoFault.Failed }
+    ensures counted { refusals.new ≡ counted_if_failed result refusals.old }
 {
-    let mut tried = Tried::new(answered(opened)?);
-    read_front(alloc, &mut tried, limit)
-}
-
-/// Makes a file hold these bytes, and answers it. `Failed` where the system didn't take them all.
-fn write_file<R: Files>(rt: &R, name: &str, bytes: &[u8]) -> Result<R::File, IoFault>
-    ensures { IsErrOf result IoFault.Memory → ⊥ }
-{
-    write_opened(fs::create(rt, name), bytes)
+    let mut reader = refusals.noted(opened)?;
+    read_front(alloc, &mut reader, refusals, limit)
 }
 
 /// Hands these bytes to a file that was to be made, and answers it where it took them all.
-fn write_opened<F: Write + Drop>(opened: io::Result<F>, bytes: &[u8]) -> Result<F, IoFault>
+/// `Failed` where it can't be made, or refuses a write.
+fn write_opened<F: Write + Drop>(
+    opened: io::Result<F>,
+    refusals: &mut Refusals,
+    bytes: &[u8],
+) -> Result<F, IoFault>
     ensures handed { IfOk opened
         (λ made. IfOk result (λ file. Appends (F.contents made) (F.contents file) bytes.now)) }
     ensures refused { IsErr opened → IsErrOf result IoFault.Failed }
     ensures memory { IsErrOf result IoFault.Memory → ⊥ }
+    ensures counted { refusals.new ≡ counted_if_failed result refusals.old }
 {
-    let mut file = answered(opened)?;
-    if write_whole(&mut file, bytes) {
-        Ok(file)
-    } else {
-        Err(IoFault::Failed)
-    }
+    let mut file = refusals.noted(opened)?;
+    write_whole(&mut file, refusals, bytes)?;
+    Ok(file)
 }

@@ -12,6 +12,7 @@ mod mem_folder;
 mod mem_sink;
 mod number_list;
 mod refusal;
+mod refused_names;
 mod sink;
 mod whole;
 

@@ -10,7 +10,8 @@ use use_meant_law::sources_keep_typestates;
 
 /// For each class with `main` of accepted files, whatever the other roles sent and whatever the budget: no null is
 /// dereferenced and each step has a case; at each moment the calls of each object follow its class's typestate, also with
-/// one that is open; and where `main` returns each object is at the end of its typestate.
+/// one that is open; and where `main` returns each object is at the end of its typestate or in a state that is
+/// marked `drop: end`.
 pub fn accepted_keep_typestates()
     ensures { AcceptedKeepTypestates }
 {

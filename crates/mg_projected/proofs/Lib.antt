@@ -1,3 +1,5 @@
 pub mod Once
 pub mod Rest
 pub mod Staged
+pub mod Followed
+pub mod Telling

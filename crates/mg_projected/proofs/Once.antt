@@ -1,9 +1,7 @@
 -- Projecting the global protocol of a file gives one answer at most.
-use Rattle.std.proofs.Common.{◌≡◌, ◌⊎◌, inl, inr, ⊎_elim, ℕ, List, [], ◌∷◌, Option, None, Some, Result, Ok, Err, refl, sym, ap, subst, ◌∙◌}
-use Rattle.std.specs.Prelude.{option_map}
+use Rattle.std.proofs.Common.{◌≡◌, inl, inr, ⊎_elim, ℕ, List, [], ◌∷◌, Option, None, Some, Result, refl, sym, ap, subst, ◌∙◌}
 use Rattle.mg_text.specs.Call.{Name}
 use Rattle.mg_text.specs.Row.{Row}
-use Rattle.mg_read.proofs.Steps.{some_is, none_is_not}
 use Rattle.scr_tree.specs.Tree.{LocalTree}
 use Rattle.scr_global_tree.specs.Tree.{GlobalTree}
 use Rattle.scr_global_read.specs.Outcome as reads
@@ -12,14 +10,13 @@ use Rattle.scr_project.specs.Outcome as projects
 use Rattle.scr_project.proofs.Answered as projecting
 use Rattle.mg_projected.specs.declared.files.RoleFile.{RoleFile}
 use Rattle.mg_projected.specs.declared.fault.ProjectedFault.{ProjectedFault}
-use Rattle.mg_projected.specs.declared.fault.ProjectedFault.TheVariants as faults
 use Rattle.mg_projected.specs.Projected.{file_of, AreFiles, IsRefusal, IsRefused, Answer, Files, Unread, Unprojected, IsUnread, Outcome, unread, unprojected, written, answer_of, IsAnswered}
 use Rattle.mg_projected.specs.inner.Stages.{Stage}
 
-protocol_is : (s t : LocalTree) → projects.Protocol s ≡ projects.Protocol t → s ≡ t
+pub protocol_is : (s t : LocalTree) → projects.Protocol s ≡ projects.Protocol t → s ≡ t
 protocol_is s t e = cc
 
-tree_is : (g h : GlobalTree) → reads.Protocol g ≡ reads.Protocol h → g ≡ h
+pub tree_is : (g h : GlobalTree) → reads.Protocol g ≡ reads.Protocol h → g ≡ h
 tree_is g h e = cc
 
 module _ (g : GlobalTree) where
@@ -27,7 +24,7 @@ module _ (g : GlobalTree) where
   not_both : (role : Name) (local : LocalTree) (a : projects.Answer) → projects.Outcome g role (projects.Protocol local) → projects.Outcome g role a → IsRefusal a → ⊥
   not_both role local a h k r = subst IsRefusal (sym (projecting.one_outcome g role (projects.Protocol local) a h k)) r
 
-  files_once : (roles : List Name) (fs hs : List RoleFile) → AreFiles g roles fs → AreFiles g roles hs → fs ≡ hs
+  pub files_once : (roles : List Name) (fs hs : List RoleFile) → AreFiles g roles fs → AreFiles g roles hs → fs ≡ hs
   files_once [] fs hs a b = a ∙ sym b
   files_once (role ∷ roles) fs hs a b =
       let same = protocol_is a.0 b.0 (projecting.one_outcome g role (projects.Protocol a.0) (projects.Protocol b.0) a.3 b.3) in

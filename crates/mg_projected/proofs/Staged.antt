@@ -1,5 +1,5 @@
 -- What each step of projecting a file answers.
-use Rattle.std.proofs.Common.{◌≡◌, ◌≢◌, ◌⊎◌, ⊎_elim, ℕ, List, Option, None, Some, Result, Ok, Err, refl, sym, ap, subst, ◌∙◌}
+use Rattle.std.proofs.Common.{◌≡◌, ◌≢◌, ⊎_elim, ℕ, List, Option, None, Some, Ok, Err, refl, sym, ap, subst, ◌∙◌}
 use Rattle.std.specs.Prelude.{option_map}
 use Rattle.mg_text.specs.Row.{Row}
 use Rattle.mg_read.proofs.Steps.{some_is, none_is_not}
@@ -13,7 +13,7 @@ use Rattle.scr_project.specs.Outcome as projects
 use Rattle.mg_projected.specs.declared.files.RoleFile.{RoleFile}
 use Rattle.mg_projected.specs.declared.fault.ProjectedFault.{ProjectedFault}
 use Rattle.mg_projected.specs.declared.fault.ProjectedFault.TheVariants as faults
-use Rattle.mg_projected.specs.Projected.{Answer, Files, Unread, Unprojected, Outcome, unread, unprojected, written, IsUnread, AreFiles, IsRefused}
+use Rattle.mg_projected.specs.Projected.{Files, Unread, Unprojected, Outcome, unread, unprojected, written, IsUnread, AreFiles, IsRefused}
 use Rattle.mg_projected.specs.inner.Stages.{Says, Stage, IsTold}
 
 -- a fault of reading says what is no protocol, or is want of memory

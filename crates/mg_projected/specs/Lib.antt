@@ -1,2 +1,4 @@
 pub mod Projected
+pub mod Laws
+pub mod Told
 pub mod inner

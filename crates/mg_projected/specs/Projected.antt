@@ -1,11 +1,12 @@
 -- What projecting the global protocol of a file gives: the files of its roles, or the first refusal.
-use Rattle.std.specs.Prelude.{◌≡◌, ◌⊎◌, ℕ, List, [], ◌∷◌, ◌++◌, Option, Some, None, option_map, Result, Ok, Err, codes}
+use Rattle.std.specs.Prelude.{◌≡◌, ◌⊎◌, ℕ, List, [], ◌∷◌, ◌++◌, Option, Some, None, option_map, map, Result, Ok, Err, codes}
 use Rattle.mg_text.specs.Call.{Name}
 use Rattle.mg_text.specs.Row.{Row}
 use Rattle.scr_tree.specs.Tree.{LocalTree}
 use Rattle.scr_print.specs.Layout.{layout}
 use Rattle.scr_global_tree.specs.Tree.{GlobalTree}
 use Rattle.scr_global_read.specs.Outcome as reads
+use Rattle.scr_project.specs.Laws.{AreProjected}
 use Rattle.scr_project.specs.Outcome as projects
 use Rattle.mg_projected.specs.declared.files.RoleFile.{RoleFile}
 use Rattle.mg_projected.specs.declared.fault.ProjectedFault.{ProjectedFault}
@@ -20,6 +21,12 @@ abbrev pub AreFiles : GlobalTree → List Name → List RoleFile → Type 0
 AreFiles g [] files = files ≡ []
 AreFiles g (role ∷ roles) files =
     (local : LocalTree) × (more : List RoleFile) × (files ≡ file_of role local ∷ more) × projects.Outcome g role (projects.Protocol local) × AreFiles g roles more
+
+-- Files of the roles of a global protocol, in their order: each has the text of what its role does, so that the laws of projection speak of them.
+pub record IsProjected (g : GlobalTree) (files : List RoleFile) : Type 0 where
+  pub locals : Name → LocalTree
+  pub projected : AreProjected g locals
+  pub written : files ≡ map (λ role. file_of role (locals role)) g.roles
 
 -- an answer that is no protocol
 abbrev pub IsRefusal : projects.Answer → Type 0

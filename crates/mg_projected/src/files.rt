@@ -1,6 +1,6 @@
 //! From the bytes of a file to the texts of its roles' local protocols.
 
-ghost use Rattle.std.specs.Prelude.{◌≡◌, ◌++◌, Some, None, IfOk, Contains, codes};
+ghost use Rattle.std.specs.Prelude.{◌≡◌, ◌++◌, Some, None, Err, IfOk, Contains, codes};
 ghost use Rattle.scr_global_tree.specs.Global.{tree_of};
 ghost use Rattle.scr_tree.specs.Local.{tree_of as local_of};
 ghost use Rattle.mg_projected.specs.Projected.{file_of, Answer, Outcome, answer_of, IsAnswered};
@@ -113,6 +113,8 @@ pub fn projected(alloc: Global, file: u32, bytes: &[u8]) -> Result<List<RoleFile
     ensures answered { (a : Answer) → answer_of result ≡ Some a → Outcome file bytes.now a }
     // What projecting the file gives is answered, unless memory runs out.
     ensures only { (a : Answer) → Outcome file bytes.now a → IsAnswered a result }
+    // Nothing is answered only where memory ran out.
+    ensures nothing { answer_of result ≡ None → result ≡ Err faults.Memory }
 {
     projected_of(alloc, file, bytes)
 }

@@ -59,17 +59,20 @@ one_telling files x y s t h k =
     let moved : Tells k.a k.b x s = subst (λ (b : Typestate). Tells k.a b x s) (seconds h.a h.b k.a k.b e) (subst (λ (a : Typestate). Tells a h.b x s) (firsts h.a h.b k.a k.b e) h.tells) in
     tells_one k.a k.b x y s t moved k.tells
 
-pub none_spelled : (files : List Source) (parts : List Part) (line : List ℕ) → EachSpells files parts → Judged IsRefused files (Some line) → ⊥
+pub none_spelled : (files : List Source) (parts : List Part) (line : List ℕ) → EachSpells files parts → Judged IsRefused files (Some line)
+    → ⊥
 none_spelled [] parts line h j = elim j [ ]
 none_spelled (f ∷ files) [] line h j = absurd h
 none_spelled (f ∷ files) (p ∷ parts) line h (here r) = excludes f p r.0 h.0 r.1
 none_spelled (f ∷ files) (p ∷ parts) line h (later n rest) = none_spelled files parts line h.1 rest
 
-pub judged_answered : (files : List Source) (answer : Result Told Stop) → IsAnswer files answer → (text : List ℕ) (stands : Bool) → AreJudged files text stands → IsThat text stands answer
+pub judged_answered : (files : List Source) (answer : Result Told Stop) → IsAnswer files answer → (text : List ℕ) (stands : Bool)
+    → AreJudged files text stands → IsThat text stands answer
 judged_answered files (Ok told) h text stands k = one_telling files told.text text told.stands stands h k
 judged_answered files (Err (stops.Refused line)) h text stands k = none_spelled files (States k.a ∷ States k.b ∷ []) line k.spell h
 judged_answered files (Err stops.Memory) h text stands k = tt
 
-pub refused_untold : (files : List Source) (answer : Result Told Stop) → IsAnswer files answer → (line : List ℕ) → Refusal files line → OnOk answer ⊥
+pub refused_untold : (files : List Source) (answer : Result Told Stop) → IsAnswer files answer → (line : List ℕ) → Refusal files line
+    → OnOk answer ⊥
 refused_untold files (Ok told) h line r = none_spelled files (States h.a ∷ States h.b ∷ []) line h.spell r
 refused_untold files (Err stop) h line r = tt

@@ -10,7 +10,8 @@ nothing_behind [] = refl
 nothing_behind (c ∷ text) = ap (λ (t : List ℕ). c ∷ t) (nothing_behind text)
 
 -- one line more
-pub line_put : (calls : List PathCall) (i : ℕ) (call : PathCall) (before after whole : List ℕ) → i < length calls → call ≡ get_or calls i call → after ≡ before ++ call_line (call_of call)
+pub line_put : (calls : List PathCall) (i : ℕ) (call : PathCall) (before after whole : List ℕ) → i < length calls
+    → call ≡ get_or calls i call → after ≡ before ++ call_line (call_of call)
     → before ++ calls_text (map call_of (drop i calls)) ≡ whole → after ++ calls_text (map call_of (drop (i + 1) calls)) ≡ whole
 line_put calls i call before after whole lt is e rest =
     ap (λ (t : List ℕ). t ++ calls_text (map call_of (drop (i + 1) calls))) e
@@ -20,6 +21,7 @@ line_put calls i call before after whole lt is e rest =
     ∙ rest
 
 -- no line is left
-pub lines_end : (calls : List PathCall) (i : ℕ) (before whole : List ℕ) → length calls ≤ i → before ++ calls_text (map call_of (drop i calls)) ≡ whole → before ≡ whole
+pub lines_end : (calls : List PathCall) (i : ℕ) (before whole : List ℕ) → length calls ≤ i
+    → before ++ calls_text (map call_of (drop i calls)) ≡ whole → before ≡ whole
 lines_end calls i before whole past rest =
     sym (nothing_behind before) ∙ ap (λ (t : List ℕ). before ++ t) (sym (at_drop_all (λ cs. calls_text (map call_of cs)) calls i past)) ∙ rest

@@ -35,7 +35,8 @@ ends_r name (front, e) = ap last_of e ∙ last_behind front 46 (codes "scr")
 ends_a : (name : List ℕ) → EndsWith (codes ".java") name → last_of name ≡ Some 97
 ends_a name (front, e) = ap last_of e ∙ last_behind front 46 (codes "java")
 
-pub state_part : (source : Source) (part : Part) → EndsWith (codes ".protocol") source.name → Reads source part → (t : Typestate) × (part ≡ States t)
+pub state_part : (source : Source) (part : Part) → EndsWith (codes ".protocol") source.name → Reads source part
+    → (t : Typestate) × (part ≡ States t)
 state_part source part is (reading.protocol of_scr o) = differ 108 114 (sym (ends_l source.name is) ∙ ends_r source.name of_scr) (λ k. absurd (omega (arith, k)))
 state_part source part is (reading.states {typestate = t} of_states o) = (t, refl)
 state_part source part is (reading.classes of_java o) = differ 108 97 (sym (ends_l source.name is) ∙ ends_a source.name of_java) (λ k. absurd (omega (arith, k)))
@@ -46,7 +47,8 @@ pub record AreTwo (parts : List Part) : Type 0 where
   pub b : Typestate
   pub are : parts ≡ States a ∷ States b ∷ []
 
-pub two_states : (names contents : List (List ℕ)) (parts : List Part) → length names ≡ 2 → length contents ≡ 2 → All (EndsWith (codes ".protocol")) names → EachSpells (sources names contents) parts → AreTwo parts
+pub two_states : (names contents : List (List ℕ)) (parts : List Part) → length names ≡ 2 → length contents ≡ 2
+    → All (EndsWith (codes ".protocol")) names → EachSpells (sources names contents) parts → AreTwo parts
 two_states (n ∷ m ∷ []) (c ∷ d ∷ []) (p ∷ q ∷ []) two same kinds h =
     let s = state_part (source_of 0 n c) p (All-contains (EndsWith (codes ".protocol")) (n ∷ m ∷ []) n kinds (first_of n (m ∷ []))) h.0 in
     let t = state_part (source_of 1 m d) q (All-contains (EndsWith (codes ".protocol")) (n ∷ m ∷ []) m kinds (later_of n (m ∷ []) m (first_of m []))) h.1.0 in
@@ -64,7 +66,9 @@ two_states (n ∷ m ∷ []) (c ∷ d ∷ e ∷ more) parts two same kinds h = ab
 pub have_kinds : (names : List (List ℕ)) → All (EndsWith (codes ".protocol")) names → HaveKinds names
 have_kinds names h = All-weaker (EndsWith (codes ".protocol")) (λ name. (kind : Kind) × EndsWith (suffix_of kind) name) (λ name is. (Typestates, is)) names h
 
-pub told_of : (names contents : List (List ℕ)) (parts slice : List Part) (text : List ℕ) (stands : Bool) → length names ≡ 2 → length contents ≡ 2 → All (EndsWith (codes ".protocol")) names → EachSpells (sources names contents) parts → slice ≡ parts → ((a b : Typestate) → slice ≡ States a ∷ States b ∷ [] → Tells a b text stands) → AreJudged (sources names contents) text stands
+pub told_of : (names contents : List (List ℕ)) (parts slice : List Part) (text : List ℕ) (stands : Bool) → length names ≡ 2
+    → length contents ≡ 2 → All (EndsWith (codes ".protocol")) names → EachSpells (sources names contents) parts → slice ≡ parts
+    → ((a b : Typestate) → slice ≡ States a ∷ States b ∷ [] → Tells a b text stands) → AreJudged (sources names contents) text stands
 told_of names contents parts slice text stands two same kinds h is tells =
     let t = two_states names contents parts two same kinds h in
     record { a = t.a; b = t.b; spell = subst (EachSpells (sources names contents)) t.are h; tells = tells t.a t.b (is ∙ t.are) }
@@ -83,7 +87,8 @@ state_in d (Some (States t)) = t
 state_in d (Some (Classes file)) = d
 
 -- what is told of the typestates that stand there is told of these two
-pub told_same : (parts : List Part) (x y : Typestate) (r : Result Told Memory) → slice_get parts 0 ≡ Some (States x) → slice_get parts 1 ≡ Some (States y) → IfOk r (λ t. Tells x y t.text t.stands)
+pub told_same : (parts : List Part) (x y : Typestate) (r : Result Told Memory) → slice_get parts 0 ≡ Some (States x)
+    → slice_get parts 1 ≡ Some (States y) → IfOk r (λ t. Tells x y t.text t.stands)
     → IfOk r (λ t. (a b : Typestate) → parts ≡ States a ∷ States b ∷ [] → Tells a b t.text t.stands)
 told_same parts x y (Ok t) f s k = λ a b e.
     let one : x ≡ a = ap (state_in x) (sym f ∙ first_there parts a b e) in

@@ -34,7 +34,7 @@ use Rattle.mg_exec.proofs.Apart.{not_refused as not_stopped, one_course}
 use Rattle.vm_world_law.specs.declared.role.RoleMain.{RoleMain}
 use Rattle.mg_top.specs.Translation.{AreTranslated}
 use Rattle.mg_top.specs.Commands.{TranslateGives, translated, not_translated, ConformGives, conforms, no_protocol, no_calls, CheckGives, checked, not_checked}
-use Rattle.mg_top.specs.Commands.{CompileGives, compiled, not_compiled, RunGives, ran, not_run, ExecGives, executed, not_executed, RefineGives, refined, not_refined, refined_status, role_mains_of, status_of, Yields}
+use Rattle.mg_top.specs.Commands.{CompileGives, compiled, not_compiled, RunGives, ran, not_run, ExecGives, executed, not_executed, RefineGives, refined, not_refined, refined_status, ProjectGives, projected, not_projected, role_mains_of, status_of, Yields}
 use Rattle.mg_top.specs.Commands as commands
 use Rattle.mg_top.specs.Promises.{IsYielded}
 use Rattle.mg_top.proofs.SourceLemmas.{none_refused_of_translated}
@@ -42,6 +42,7 @@ use Rattle.ts_tree.specs.Typestate.{Typestate}
 use Rattle.ts_refine.specs.declared.verdict.Reason.{Reason}
 use Rattle.mg_refined.specs.Refined.{Tells, yes_told, no_told, no_text}
 use Rattle.mg_refined.proofs.Apart.{one_telling, none_spelled}
+use Rattle.mg_projected.proofs.Telling.{not_refused as not_unprojected}
 
 -- files that are refused aren't translated
 not_both : (folder : Option Word) (files : List Source) (actions : List Action) (line : List ℕ) → AreTranslated folder files actions → Refusal files line → ⊥
@@ -87,6 +88,12 @@ refine_status {files = files} (refined {text = x} {stands = s} h) (refined {text
 refine_status {files = files} (refined h) (not_refined {line = line} r) = absurd (none_spelled files (States h.a ∷ States h.b ∷ []) line h.spell r)
 refine_status {files = files} (not_refined {line = line} r) (refined h) = absurd (none_spelled files (States h.a ∷ States h.b ∷ []) line h.spell r)
 refine_status (not_refined r) (not_refined q) = refl
+
+project_status : {folder : Option Word} {files : List Source} {xa xb : List Action} {m n : Status} → ProjectGives folder files xa m → ProjectGives folder files xb n → m ≡ n
+project_status (projected written h) (projected written' h') = refl
+project_status {files = files} (projected written h) (not_projected {line = line} r) = absurd (not_unprojected files written line h r)
+project_status {files = files} (not_projected {line = line} r) (projected written h) = absurd (not_unprojected files written line h r)
+project_status (not_projected r) (not_projected q) = refl
 
 -- the command conform
 
@@ -158,6 +165,7 @@ one_status (commands.compile y) (commands.compile z) = compile_status y z
 one_status (commands.run y) (commands.run z) = run_status y z
 one_status (commands.exec y) (commands.exec z) = exec_status y z
 one_status (commands.refine y) (commands.refine z) = refine_status y z
+one_status (commands.project y) (commands.project z) = project_status y z
 
 -- ---- the statuses that a command may have
 
@@ -209,6 +217,8 @@ proper (commands.exec (executed r h)) = stands_proper (stands_in r.program r.las
 proper (commands.exec (not_executed r)) = refused_proper
 proper (commands.refine (refined {stands = stands} h)) = told_proper stands
 proper (commands.refine (not_refined r)) = refused_proper
+proper (commands.project (projected written h)) = done_proper
+proper (commands.project (not_projected r)) = refused_proper
 
 -- ---- what is said of a refusal
 
@@ -256,6 +266,8 @@ refusal_says (commands.exec (executed r h)) e = absurd (never_refused (stands_in
 refusal_says (commands.exec (not_executed {line = line} r)) e = inl (line, refl)
 refusal_says (commands.refine (refined {text = text} {stands = stands} h)) e = told_says h.a h.b text stands h.tells e
 refusal_says (commands.refine (not_refined {line = line} r)) e = inl (line, refl)
+refusal_says (commands.project (projected written h)) e = absurd cc
+refusal_says (commands.project (not_projected {line = line} r)) e = inl (line, refl)
 
 -- ---- no command is broken but that of class files
 
@@ -294,4 +306,6 @@ broken_command (commands.run {asked = asked} {files = files} {contents = content
 broken_command (commands.run (not_run r)) e = absurd cc
 broken_command (commands.refine (refined {stands = stands} h)) e = absurd (told_whole stands e)
 broken_command (commands.refine (not_refined r)) e = absurd cc
+broken_command (commands.project (projected written h)) e = absurd cc
+broken_command (commands.project (not_projected r)) e = absurd cc
 broken_command (commands.exec {asked = asked} {files = files} y) e = (asked, files, refl)

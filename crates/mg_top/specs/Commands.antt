@@ -21,16 +21,19 @@ use Rattle.mg_runs.specs.Commanded as running
 use Rattle.mg_refined.specs.Refined.{AreJudged}
 use Rattle.mg_refined.specs.Refined as refining
 use Rattle.mg_exec.specs.Runs as executing
+use Rattle.mg_projected.specs.declared.files.RoleFile.{RoleFile}
+use Rattle.mg_projected.specs.Told.{AreWritten}
+use Rattle.mg_projected.specs.Told as projecting
 use Rattle.mg_top.specs.declared.status.Status.{Status}
 use Rattle.mg_top.specs.declared.status.Status.TheVariants.{Done, Refused}
 use Rattle.mg_top.specs.declared.status.Status.TheVariants as statuses
 use Rattle.mg_top.specs.declared.delivery.Action.{Action}
 use Rattle.mg_top.specs.declared.delivery.Action.TheVariants.{Print, Say}
-use Rattle.mg_words.specs.Words.{Word, RoleClass, Asked, limit_of, mains_of, order_of, are_named, Command, Translate, Conform, Check, Compile, Run, Exec, Refine}
+use Rattle.mg_words.specs.Words.{Word, RoleClass, Asked, limit_of, mains_of, order_of, are_named, Command, Translate, Conform, Check, Compile, Run, Exec, Refine, Project}
 use Rattle.mg_sources.specs.Files.{Source, source_of, sources}
 use Rattle.mg_sources.specs.Reading.{Protocol, Reads}
 use Rattle.mg_sources.specs.Sources.{IsRefused, Refusal}
-use Rattle.mg_top.specs.Writing.{classes_written}
+use Rattle.mg_top.specs.Writing.{classes_written, roles_written}
 use Rattle.mg_top.specs.Translation.{AreTranslated}
 use Rattle.mg_top.specs.Conformance.{Lists, IsNoList, Conforms}
 
@@ -121,6 +124,11 @@ pub data RefineGives (files : List Source) : List Action → Status → Type 0 w
   refined : {text : List ℕ} {stands : Bool} → AreJudged files text stands → RefineGives files (Print text ∷ []) (refined_status stands)
   not_refined : {line : List ℕ} → refining.Refusal files line → RefineGives files (Say line ∷ []) Refused
 
+-- the files of the roles of a global protocol: each has the text of its role's projection, of which the laws of projection speak
+pub data ProjectGives (folder : Option Word) (files : List Source) : List Action → Status → Type 0 where
+  projected : (written : List RoleFile) → AreWritten files written → ProjectGives folder files (roles_written folder written) Done
+  not_projected : {line : List ℕ} → projecting.Refusal files line → ProjectGives folder files (Say line ∷ []) Refused
+
 -- A command gives this: one case a command.
 pub data Yields : Command → List (List ℕ) → List Action → Status → Type 0 where
   translate : {folder : Option Word} {files : List Word} {contents : List (List ℕ)} {actions : List Action} {status : Status} →
@@ -138,3 +146,5 @@ pub data Yields : Command → List (List ℕ) → List Action → Status → Typ
       ExecGives asked (sources files contents) actions status → Yields (Exec asked files) contents actions status
   refine : {files : List Word} {contents : List (List ℕ)} {actions : List Action} {status : Status} →
       RefineGives (sources files contents) actions status → Yields (Refine files) contents actions status
+  project : {folder : Option Word} {files : List Word} {contents : List (List ℕ)} {actions : List Action} {status : Status} →
+      ProjectGives folder (sources files contents) actions status → Yields (Project folder files) contents actions status

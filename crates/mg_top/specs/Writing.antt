@@ -1,6 +1,7 @@
 -- The files that are written, by their names in a folder.
 use Rattle.std.specs.Prelude.{List, map, ◌++◌, codes, Option, Some, None}
 use Rattle.mg_compile.specs.declared.files.ClassFile.{ClassFile}
+use Rattle.mg_projected.specs.declared.files.RoleFile.{RoleFile}
 use Rattle.mg_top.specs.declared.delivery.Action.{Action}
 use Rattle.mg_top.specs.declared.delivery.Action.TheVariants.{Write}
 use Rattle.mg_words.specs.Words.{Word}
@@ -16,3 +17,10 @@ class_written folder file = Write (record { name = in_folder folder file.name; t
 
 abbrev pub classes_written : Option Word → List ClassFile → List Action
 classes_written folder files = map (class_written folder) files
+
+-- the same of the file of a role
+abbrev pub role_written : Option Word → RoleFile → Action
+role_written folder file = Write (record { name = in_folder folder file.name; text = file.text })
+
+abbrev pub roles_written : Option Word → List RoleFile → List Action
+roles_written folder files = map (role_written folder) files

@@ -8,6 +8,7 @@ mod conform;
 mod delivery;
 mod exec;
 mod lines;
+mod project;
 mod reading;
 mod refine;
 mod run;

@@ -14,6 +14,7 @@ use crate::compile::compile;
 use crate::conform::conform;
 use crate::delivery::{Delivery, deliver, starve};
 use crate::exec::exec;
+use crate::project::project;
 use crate::reading::{Unread, read_all};
 use crate::refine::refine;
 use crate::run::run;
@@ -36,6 +37,8 @@ const CLASS_LIMIT: usize = 16_777_217;
 /// `translate [--out D] F..` reads the local protocols in the files and writes the typestates of
 /// their roles and the classes by which programs play them, into the folder D where one is named.
 /// `conform F CALLS` tells whether the calls of the second file follow the protocol of the first.
+/// `project [--out D] F` reads the global protocol in the file and writes the local protocols of its
+/// roles, into the folder D where one is named.
 /// `refine A B` tells whether the typestate of the first file stands for that of the second: `yes`
 /// and how many pairs of their places calls lead to; or `no`, the calls to where it fails, and why.
 /// `check F..` tells what the least tables of the files' program have, where some tables solve it.
@@ -107,7 +110,8 @@ fn read_limit(command: &Command<'_>) -> usize
         | Command::Check { .. }
         | Command::Compile { .. }
         | Command::Run { .. }
-        | Command::Refine { .. } => SOURCE_LIMIT,
+        | Command::Refine { .. }
+        | Command::Project { .. } => SOURCE_LIMIT,
         Command::Exec { .. } => CLASS_LIMIT,
     }
 }
@@ -133,5 +137,6 @@ fn carry_out(alloc: Global, command: &Command<'_>, contents: &[Bytes]) -> Result
         Command::Run { asked, files } => run(alloc, &asked, files, contents),
         Command::Exec { asked, files } => exec(alloc, &asked, files, contents),
         Command::Refine { files } => refine(alloc, files, contents),
+        Command::Project { folder, files } => project(alloc, folder, files, contents),
     }
 }

@@ -1,5 +1,7 @@
+pub mod Verbs
 pub mod WordsLemmas
 pub mod RefineLemmas
+pub mod ProjectLemmas
 pub mod NameLemmas
 pub mod RoleLemmas
 pub mod OptionLemmas

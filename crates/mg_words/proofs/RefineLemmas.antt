@@ -1,8 +1,9 @@
 -- Which words are the command `refine`, and which can't follow.
-use Rattle.std.proofs.Common.{◌≡◌, List, [], ◌∷◌, ◌++◌, All, length, Some, None, codes, refl, sym, ap, ◌∙◌, subst}
+use Rattle.std.proofs.Common.{◌≡◌, List, [], ◌∷◌, All, length, Some, None, codes, refl, sym, ap, ◌∙◌, subst}
 use Rattle.mg_sources.specs.Files.{EndsWith}
-use Rattle.mg_words.specs.Words.{Word, Command, Refine, IsFileOf, AreTwoTypestates, IsBehind, IsCommand, AreCommand, CanBegin, AreWrong}
-use Rattle.mg_words.proofs.WordsLemmas.{refine, head_is, tail_is, filled, empty_is, All-cons, All-one, is_refine, few, wrong_at}
+use Rattle.mg_words.specs.Words.{Word, Command, Translate, Conform, Check, Compile, Run, Exec, Refine, Project, IsFileOf, AreTwoTypestates, IsBehind, IsCommand, AreCommand, CanBegin, AreWrong}
+use Rattle.mg_words.proofs.Verbs.{refine, translate_refine, conform_refine, check_refine, compile_refine, run_refine, exec_refine, refine_project}
+use Rattle.mg_words.proofs.WordsLemmas.{head_is, tail_is, filled, empty_is, All-cons, All-one, few, wrong_at}
 
 some_typestate : Word
 some_typestate = codes "P.protocol"
@@ -29,6 +30,17 @@ begins_refine : CanBegin AreCommand (refine ∷ [])
 begins_refine = let b = begins_first (codes "P.protocol") named in (codes "P.protocol" ∷ b.0, b.1)
 
 -- ---- what stands behind the word
+
+pub is_refine : (command : Command) (rest : List Word) → IsCommand command (refine ∷ rest)
+    → (files : List Word) × (command ≡ Refine files) × IsBehind (Refine files) rest
+is_refine (Translate folder files) rest (r, e, b) = translate_refine (sym (head_is e))
+is_refine (Conform files) rest (r, e, b) = conform_refine (sym (head_is e))
+is_refine (Check files) rest (r, e, b) = check_refine (sym (head_is e))
+is_refine (Compile folder files) rest (r, e, b) = compile_refine (sym (head_is e))
+is_refine (Run asked files) rest (r, e, b) = run_refine (sym (head_is e))
+is_refine (Exec asked files) rest (r, e, b) = exec_refine (sym (head_is e))
+is_refine (Refine files) rest (r, e, b) = (files, refl, subst (IsBehind (Refine files)) (sym (tail_is e)) b)
+is_refine (Project folder files) rest (r, e, b) = refine_project (head_is e)
 
 first_word : (command : Command) (p : Word) (more : List Word) → IsCommand command (refine ∷ p ∷ more) → IsFileOf (codes ".protocol") p
 first_word command p more is =

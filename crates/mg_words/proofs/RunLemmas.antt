@@ -8,10 +8,11 @@ use Rattle.mg_words.specs.declared.runs.Input.{Input}
 use Rattle.mg_words.specs.declared.runs.Input.TheVariants as input
 use Rattle.mg_words.specs.declared.options.Named.{Named}
 use Rattle.mg_words.specs.declared.options.Named.TheVariants as named
-use Rattle.mg_words.specs.Words.{Word, RoleClass, Roles, Alone, Several, role_names, Command, Translate, Conform, Check, Compile, Run, Exec, Refine, Asked, RunOption, Main, Role, Order, Steps, Trace, Out, option_words, IsOption, AreOptions, IsBehind, IsCommand, AreCommand, CanBegin, AreWrong}
+use Rattle.mg_words.specs.Words.{Word, RoleClass, Roles, Alone, Several, role_names, Command, Translate, Conform, Check, Compile, Run, Exec, Refine, Project, Asked, RunOption, Main, Role, Order, Steps, Trace, Out, option_words, IsOption, AreOptions, IsCommand, AreCommand, CanBegin, AreWrong}
 use Rattle.mg_words.specs.inner.Judging.{IsFirstOther, has_name, AreGiven, word_of, kind_of, IsPlain, IsNewRole, Fits, IsNoValue, can_follow, are_whole, roles_more, with_more, made, verb_of, IsFor, AreFor, Keeps, is_barred}
 use Rattle.mg_words.proofs.WordsLemmas.{head_is, tail_is, filled, nothing_behind, All-first, All-rest, All-push, All-mid, none_yet, some_for, for_named, some_class, classed, pushed_filled, IsRunBehind, is_run, run_is, first_wrong, same_translate, same_conform, same_check, same_compile}
 use Rattle.mg_words.proofs.RefineLemmas.{same_refine}
+use Rattle.mg_words.proofs.ProjectLemmas.{same_project}
 use Rattle.mg_words.proofs.NameLemmas.{here, one_of, in_none, has_is, is_has, have_all, never_both, All-itself, names_push}
 use Rattle.mg_words.proofs.RoleLemmas.{words_of}
 use Rattle.mg_words.proofs.OptionLemmas.{AreAll, values_of, begins_with, same_kind, same_option, no_word, no_option, at_end, given_more, must_fit, keeps_more, keeps_main, keeps_role, not_barred}
@@ -426,4 +427,5 @@ same_command words (Compile folder files) b (rest, e, behind) is = same_compile 
 same_command words (Run asked files) b (rest, e, (options, words_are, how, are)) is =
     same_run input.Sources b asked files rest (options, words_are, how, tt, are) (subst (IsCommand b) e is)
 same_command words (Refine files) b (rest, e, behind) is = same_refine b files rest behind (subst (IsCommand b) e is)
+same_command words (Project folder files) b (rest, e, behind) is = same_project b folder files rest behind (subst (IsCommand b) e is)
 same_command words (Exec asked files) b (rest, e, behind) is = same_run input.Classes b asked files rest behind (subst (IsCommand b) e is)

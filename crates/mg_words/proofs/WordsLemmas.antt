@@ -7,34 +7,14 @@ use Rattle.std.specs.List.{ends_with, list_all}
 use Rattle.mg_read.specs.Passes.{AllPasses}
 use Rattle.scr_tree.specs.Words.{reserved, IsName}
 use Rattle.mg_sources.specs.Files.{EndsWith, Kind, Scribble, Typestates, Java, suffix_of, HaveKinds}
-use Rattle.mg_words.specs.Words.{Word, Command, Translate, Conform, Check, Compile, Run, Exec, Refine, Asked, AreOptions, AreProtocolAndCalls, IsFileName, IsFileOf, IsSourceName, AreSourceNames, AreFilesOf, out_words, verb, IsBehind, IsCommand, AreCommand, CanBegin, AreWrong}
+use Rattle.mg_words.specs.Words.{Word, Command, Translate, Conform, Check, Compile, Run, Exec, Refine, Project, Asked, AreOptions, AreProtocolAndCalls, IsFileName, IsFileOf, IsSourceName, AreSourceNames, AreFilesOf, out_words, verb, IsBehind, IsCommand, AreCommand, CanBegin, AreWrong}
+use Rattle.mg_words.proofs.Verbs.{translate, conform, check, compile, run, exec, refine, project, translate_conform, translate_check, translate_compile, translate_run, conform_check, conform_compile, conform_run, check_compile, check_run, compile_run, translate_exec, conform_exec, check_exec, compile_exec, run_exec, translate_refine, conform_refine, check_refine, compile_refine, run_refine, exec_refine, translate_project, conform_project, check_project, compile_project, run_project, exec_project}
 use Rattle.mg_words.specs.declared.runs.Input.{Input}
 use Rattle.mg_words.specs.declared.runs.Input.TheVariants as input
 use Rattle.mg_words.specs.inner.Judging.{IsFirstOther, made, verb_of, IsFor, AreFor, Keeps}
 
-abbrev pub translate : Word
-translate = codes "translate"
-
 abbrev pub out : Word
 out = codes "--out"
-
-abbrev pub conform : Word
-conform = codes "conform"
-
-abbrev pub check : Word
-check = codes "check"
-
-abbrev pub compile : Word
-compile = codes "compile"
-
-abbrev pub run : Word
-run = codes "run"
-
-abbrev pub exec : Word
-exec = codes "exec"
-
-abbrev pub refine : Word
-refine = codes "refine"
 
 abbrev pub some_source : Word
 some_source = codes "P.scr"
@@ -60,69 +40,6 @@ empty_is (x ∷ xs) e = absurd (omega (arith, e))
 pub nothing_behind : (xs : List Word) → xs ++ [] ≡ xs
 nothing_behind [] = refl
 nothing_behind (x ∷ xs) = ap (λ (z : List Word). x ∷ z) (nothing_behind xs)
-
-translate_conform : {P : Type 0} → translate ≡ conform → P
-translate_conform e = absurd (omega (arith, ap length e))
-
-translate_check : {P : Type 0} → translate ≡ check → P
-translate_check e = absurd (omega (arith, ap length e))
-
-translate_compile : {P : Type 0} → translate ≡ compile → P
-translate_compile e = absurd (omega (arith, ap length e))
-
-translate_run : {P : Type 0} → translate ≡ run → P
-translate_run e = absurd (omega (arith, ap length e))
-
-conform_check : {P : Type 0} → conform ≡ check → P
-conform_check e = absurd (omega (arith, ap length e))
-
-conform_compile : {P : Type 0} → conform ≡ compile → P
-conform_compile e = absurd (omega (arith, ap (λ (w : Word). get_or w 2 0) e))
-
-conform_run : {P : Type 0} → conform ≡ run → P
-conform_run e = absurd (omega (arith, ap length e))
-
-check_compile : {P : Type 0} → check ≡ compile → P
-check_compile e = absurd (omega (arith, ap length e))
-
-check_run : {P : Type 0} → check ≡ run → P
-check_run e = absurd (omega (arith, ap length e))
-
-compile_run : {P : Type 0} → compile ≡ run → P
-compile_run e = absurd (omega (arith, ap length e))
-
-translate_exec : {P : Type 0} → translate ≡ exec → P
-translate_exec e = absurd (omega (arith, ap length e))
-
-conform_exec : {P : Type 0} → conform ≡ exec → P
-conform_exec e = absurd (omega (arith, ap length e))
-
-check_exec : {P : Type 0} → check ≡ exec → P
-check_exec e = absurd (omega (arith, ap length e))
-
-compile_exec : {P : Type 0} → compile ≡ exec → P
-compile_exec e = absurd (omega (arith, ap length e))
-
-run_exec : {P : Type 0} → run ≡ exec → P
-run_exec e = absurd (omega (arith, ap length e))
-
-translate_refine : {P : Type 0} → translate ≡ refine → P
-translate_refine e = absurd (omega (arith, ap length e))
-
-conform_refine : {P : Type 0} → conform ≡ refine → P
-conform_refine e = absurd (omega (arith, ap length e))
-
-check_refine : {P : Type 0} → check ≡ refine → P
-check_refine e = absurd (omega (arith, ap length e))
-
-compile_refine : {P : Type 0} → compile ≡ refine → P
-compile_refine e = absurd (omega (arith, ap length e))
-
-run_refine : {P : Type 0} → run ≡ refine → P
-run_refine e = absurd (omega (arith, ap length e))
-
-exec_refine : {P : Type 0} → exec ≡ refine → P
-exec_refine e = absurd (omega (arith, ap length e))
 
 -- all of one word, and of some words and one more
 pub All-one : {A : Type 0} (P : A → Type 0) (x : A) → P x → All P (x ∷ [])
@@ -273,14 +190,15 @@ begins_class_out = let b = begins_classes (Some some_class) [] is_name (none_yet
 -- its first word is one of the verbs
 first_word : (command : Command)
     → (verb command ≡ translate) ⊎ (verb command ≡ conform) ⊎ (verb command ≡ check) ⊎ (verb command ≡ compile) ⊎ (verb command ≡ run)
-    ⊎ (verb command ≡ exec) ⊎ (verb command ≡ refine)
+    ⊎ (verb command ≡ exec) ⊎ (verb command ≡ refine) ⊎ (verb command ≡ project)
 first_word (Translate folder files) = inl refl
 first_word (Conform files) = inr (inl refl)
 first_word (Check files) = inr (inr (inl refl))
 first_word (Compile folder files) = inr (inr (inr (inl refl)))
 first_word (Run asked files) = inr (inr (inr (inr (inl refl))))
 first_word (Exec asked files) = inr (inr (inr (inr (inr (inl refl)))))
-first_word (Refine files) = inr (inr (inr (inr (inr (inr refl)))))
+first_word (Refine files) = inr (inr (inr (inr (inr (inr (inl refl))))))
+first_word (Project folder files) = inr (inr (inr (inr (inr (inr (inr refl))))))
 
 none_is_none : (command : Command) → IsCommand command [] → ⊥
 none_is_none command (rest, e, b) = filled e
@@ -295,6 +213,7 @@ is_translate (Compile folder files) rest (r, e, b) = translate_compile (head_is 
 is_translate (Run asked files) rest (r, e, b) = translate_run (head_is e)
 is_translate (Exec asked files) rest (r, e, b) = translate_exec (head_is e)
 is_translate (Refine files) rest (r, e, b) = translate_refine (head_is e)
+is_translate (Project folder files) rest (r, e, b) = translate_project (head_is e)
 
 pub is_conform : (command : Command) (rest : List Word) → IsCommand command (conform ∷ rest)
     → (files : List Word) × (command ≡ Conform files) × IsBehind (Conform files) rest
@@ -305,6 +224,7 @@ is_conform (Compile folder files) rest (r, e, b) = conform_compile (head_is e)
 is_conform (Run asked files) rest (r, e, b) = conform_run (head_is e)
 is_conform (Exec asked files) rest (r, e, b) = conform_exec (head_is e)
 is_conform (Refine files) rest (r, e, b) = conform_refine (head_is e)
+is_conform (Project folder files) rest (r, e, b) = conform_project (head_is e)
 
 pub is_check : (command : Command) (rest : List Word) → IsCommand command (check ∷ rest)
     → (files : List Word) × (command ≡ Check files) × IsBehind (Check files) rest
@@ -315,6 +235,7 @@ is_check (Compile folder files) rest (r, e, b) = check_compile (head_is e)
 is_check (Run asked files) rest (r, e, b) = check_run (head_is e)
 is_check (Exec asked files) rest (r, e, b) = check_exec (head_is e)
 is_check (Refine files) rest (r, e, b) = check_refine (head_is e)
+is_check (Project folder files) rest (r, e, b) = check_project (head_is e)
 
 pub is_compile : (command : Command) (rest : List Word) → IsCommand command (compile ∷ rest)
     → (folder : Option Word) × (files : List Word) × (command ≡ Compile folder files) × IsBehind (Compile folder files) rest
@@ -325,6 +246,7 @@ is_compile (Compile folder files) rest (r, e, b) = (folder, files, refl, subst (
 is_compile (Run asked files) rest (r, e, b) = compile_run (head_is e)
 is_compile (Exec asked files) rest (r, e, b) = compile_exec (head_is e)
 is_compile (Refine files) rest (r, e, b) = compile_refine (head_is e)
+is_compile (Project folder files) rest (r, e, b) = compile_project (head_is e)
 
 -- what stands behind the word of a run
 abbrev pub IsRunBehind : Input → Asked → (files rest : List Word) → Type 0
@@ -339,6 +261,7 @@ is_run input.Sources (Compile folder files) rest (r, e, b) = compile_run (sym (h
 is_run input.Sources (Run asked files) rest (r, e, (options, is, how, are)) = (asked, files, refl, (options, tail_is e ∙ is, how, tt, are))
 is_run input.Sources (Exec asked files) rest (r, e, b) = run_exec (head_is e)
 is_run input.Sources (Refine files) rest (r, e, b) = run_refine (head_is e)
+is_run input.Sources (Project folder files) rest (r, e, b) = run_project (head_is e)
 is_run input.Classes (Translate folder files) rest (r, e, b) = translate_exec (sym (head_is e))
 is_run input.Classes (Conform files) rest (r, e, b) = conform_exec (sym (head_is e))
 is_run input.Classes (Check files) rest (r, e, b) = check_exec (sym (head_is e))
@@ -346,16 +269,7 @@ is_run input.Classes (Compile folder files) rest (r, e, b) = compile_exec (sym (
 is_run input.Classes (Run asked files) rest (r, e, b) = run_exec (sym (head_is e))
 is_run input.Classes (Exec asked files) rest (r, e, (options, is, how, none, are)) = (asked, files, refl, (options, tail_is e ∙ is, how, none, are))
 is_run input.Classes (Refine files) rest (r, e, b) = exec_refine (head_is e)
-
-pub is_refine : (command : Command) (rest : List Word) → IsCommand command (refine ∷ rest)
-    → (files : List Word) × (command ≡ Refine files) × IsBehind (Refine files) rest
-is_refine (Translate folder files) rest (r, e, b) = translate_refine (sym (head_is e))
-is_refine (Conform files) rest (r, e, b) = conform_refine (sym (head_is e))
-is_refine (Check files) rest (r, e, b) = check_refine (sym (head_is e))
-is_refine (Compile folder files) rest (r, e, b) = compile_refine (sym (head_is e))
-is_refine (Run asked files) rest (r, e, b) = run_refine (sym (head_is e))
-is_refine (Exec asked files) rest (r, e, b) = exec_refine (sym (head_is e))
-is_refine (Refine files) rest (r, e, b) = (files, refl, subst (IsBehind (Refine files)) (sym (tail_is e)) b)
+is_run input.Classes (Project folder files) rest (r, e, b) = exec_project (head_is e)
 
 -- and such words are that command
 pub run_is : (k : Input) (asked : Asked) (files rest : List Word) → IsRunBehind k asked files rest → IsCommand (made k asked files) (verb_of k ∷ rest)
@@ -363,14 +277,14 @@ run_is input.Sources asked files rest (options, is, how, keeps, are) = (rest, re
 run_is input.Classes asked files rest h = (rest, refl, h)
 
 -- the option isn't a file
-no_file : (rest : List Word) → AreFilesOf (codes ".scr") (out ∷ rest) → ⊥
+pub no_file : (rest : List Word) → AreFilesOf (codes ".scr") (out ∷ rest) → ⊥
 no_file rest (_, each) = let first : IsFileOf (codes ".scr") out = All-first (IsFileOf (codes ".scr")) out rest each in first.0 refl
 
 pub no_source : (rest : List Word) → AreSourceNames (out ∷ rest) → ⊥
 no_source rest (_, each) = let first : IsSourceName out = All-first IsSourceName out rest each in first.0 refl
 
 -- what stands behind the option of a folder, or where it isn't, are the files
-files_behind : (Q : List Word → Type 0) → ((r : List Word) → Q (out ∷ r) → ⊥)
+pub files_behind : (Q : List Word → Type 0) → ((r : List Word) → Q (out ∷ r) → ⊥)
     → (d : Option Word) (files : List Word) (folder : Option Word) (rest : List Word)
     → (folder ≡ None → (r : List Word) → rest ≡ out ∷ r → ⊥) → out_words folder ++ rest ≡ out_words d ++ files → Q files → Q rest
 files_behind Q never None files None rest plain e q = subst Q (sym e) q
@@ -379,19 +293,19 @@ files_behind Q never None files (Some f) rest plain e q = absurd (never (f ∷ r
 files_behind Q never (Some d) files (Some f) rest plain e q = subst Q (sym (tail_is (tail_is e))) q
 
 -- behind "--out" stands a folder
-folder_behind : (Q : List Word → Type 0) → ((r : List Word) → Q (out ∷ r) → ⊥)
+pub folder_behind : (Q : List Word → Type 0) → ((r : List Word) → Q (out ∷ r) → ⊥)
     → (d : Option Word) (files : List Word) (f : Word) (rest : List Word)
     → out ∷ f ∷ rest ≡ out_words d ++ files → IfSome d IsFileName → Q files → IsFileName f
 folder_behind Q never None files f rest e name q = absurd (never (f ∷ rest) (subst Q (sym e) q))
 folder_behind Q never (Some d) files f rest e name q = subst IsFileName (sym (head_is (tail_is e))) name
 
-folder_lacks : (Q : List Word → Type 0) → ((r : List Word) → Q (out ∷ r) → ⊥) → (d : Option Word) (files : List Word)
+pub folder_lacks : (Q : List Word → Type 0) → ((r : List Word) → Q (out ∷ r) → ⊥) → (d : Option Word) (files : List Word)
     → out ∷ [] ≡ out_words d ++ files → Q files → ⊥
 folder_lacks Q never None files e q = never [] (subst Q (sym e) q)
 folder_lacks Q never (Some d) files e q = filled (tail_is e)
 
 -- the folder and the files are known by the words
-same_folder : (Q : List Word → Type 0) → ((r : List Word) → Q (out ∷ r) → ⊥) → (c d : Option Word) (f g : List Word)
+pub same_folder : (Q : List Word → Type 0) → ((r : List Word) → Q (out ∷ r) → ⊥) → (c d : Option Word) (f g : List Word)
     → out_words c ++ f ≡ out_words d ++ g → Q f → Q g → (c ≡ d) × (f ≡ g)
 same_folder Q never None None f g e q q' = (refl, e)
 same_folder Q never None (Some d) f g e q q' = absurd (never (d ∷ g) (subst Q e q))
@@ -514,20 +428,24 @@ wrong_at before rest word more e can cannot = subst (λ (ws : List Word). AreWro
 pub wrong_command : (rest : List Word) (word : Word) (more : List Word) → rest ≡ word ∷ more → (word ≡ translate → ⊥)
     → (word ≡ conform → ⊥)
     → (word ≡ check → ⊥) → (word ≡ compile → ⊥) → (word ≡ run → ⊥) → (word ≡ exec → ⊥) → (word ≡ refine → ⊥)
-    → AreWrong rest (Some word)
-wrong_command rest word more e is_no_translate is_no_conform is_no_check is_no_compile is_no_run is_no_exec is_no_refine =
+    → (word ≡ project → ⊥) → AreWrong rest (Some word)
+wrong_command rest word more e is_no_translate is_no_conform is_no_check is_no_compile is_no_run is_no_exec is_no_refine is_no_project =
     wrong_at [] rest word more e begins_empty (λ b. cannot b.0 b.1.0 b.1.1) where
-      neither : (word ≡ translate) ⊎ (word ≡ conform) ⊎ (word ≡ check) ⊎ (word ≡ compile) ⊎ (word ≡ run) ⊎ (word ≡ exec) ⊎ (word ≡ refine) → ⊥
+      neither : (word ≡ translate) ⊎ (word ≡ conform) ⊎ (word ≡ check) ⊎ (word ≡ compile) ⊎ (word ≡ run) ⊎ (word ≡ exec) ⊎ (word ≡ refine)
+          ⊎ (word ≡ project) → ⊥
       neither (inl h) = is_no_translate h
       neither (inr (inl h)) = is_no_conform h
       neither (inr (inr (inl h))) = is_no_check h
       neither (inr (inr (inr (inl h)))) = is_no_compile h
       neither (inr (inr (inr (inr (inl h))))) = is_no_run h
       neither (inr (inr (inr (inr (inr (inl h)))))) = is_no_exec h
-      neither (inr (inr (inr (inr (inr (inr h)))))) = is_no_refine h
+      neither (inr (inr (inr (inr (inr (inr (inl h))))))) = is_no_refine h
+      neither (inr (inr (inr (inr (inr (inr (inr h))))))) = is_no_project h
 
       cannot : (after : List Word) (command : Command) → IsCommand command (word ∷ after) → ⊥
-      cannot after command (r, is, behind) = neither (subst (λ (w : Word). (w ≡ translate) ⊎ (w ≡ conform) ⊎ (w ≡ check) ⊎ (w ≡ compile) ⊎ (w ≡ run) ⊎ (w ≡ exec) ⊎ (w ≡ refine)) (sym (head_is is)) (first_word command))
+      cannot after command (r, is, behind) = neither
+          (subst (λ (w : Word). (w ≡ translate) ⊎ (w ≡ conform) ⊎ (w ≡ check) ⊎ (w ≡ compile) ⊎ (w ≡ run) ⊎ (w ≡ exec) ⊎ (w ≡ refine) ⊎ (w ≡ project))
+          (sym (head_is is)) (first_word command))
 
 pub wrong_protocol : (rest : List Word) (word : Word) (more : List Word) → rest ≡ word ∷ more → (IsFileOf (codes ".scr") word → ⊥)
     → AreWrong (conform ∷ rest) (Some word)

@@ -74,6 +74,8 @@ pub data Command : Type 0 where
   Exec : (asked : Asked) → (files : List Word) → Command
   -- tell whether the typestate of the first file stands for that of the second
   Refine : (files : List Word) → Command
+  -- write the local protocols of the roles of this file's global protocol, into a folder where one is named
+  Project : (folder : Option Word) → (files : List Word) → Command
 
 -- the files that a command reads, in their order
 abbrev pub files_of : Command → List Word
@@ -84,6 +86,7 @@ files_of (Compile folder files) = files
 files_of (Run asked files) = files
 files_of (Exec asked files) = files
 files_of (Refine files) = files
+files_of (Project folder files) = files
 
 -- no name of a file or folder is empty or begins with "-"
 abbrev pub IsFileName : Word → Type 0
@@ -121,6 +124,12 @@ pub record AreTwoTypestates (files : List Word) : Type 0 where
   pub two : files ≡ first ∷ second ∷ []
   pub of_first : IsFileOf (codes ".protocol") first
   pub of_second : IsFileOf (codes ".protocol") second
+
+-- the name of one file of a protocol
+pub record IsOneProtocol (files : List Word) : Type 0 where
+  pub file : Word
+  pub one : files ≡ file ∷ []
+  pub scribble : IsFileOf (codes ".scr") file
 
 -- the option that names a folder
 abbrev pub out_words : Option Word → List Word
@@ -212,6 +221,7 @@ verb (Compile folder files) = codes "compile"
 verb (Run asked files) = codes "run"
 verb (Exec asked files) = codes "exec"
 verb (Refine files) = codes "refine"
+verb (Project folder files) = codes "project"
 
 -- the words behind the first: options and then files
 abbrev pub IsBehind : Command → List Word → Type 0
@@ -220,6 +230,7 @@ IsBehind (Conform files) rest = (rest ≡ files) × AreProtocolAndCalls files
 IsBehind (Check files) rest = (rest ≡ files) × AreSourceNames files
 IsBehind (Compile folder files) rest = (rest ≡ out_words folder ++ files) × IfSome folder IsFileName × AreSourceNames files
 IsBehind (Refine files) rest = (rest ≡ files) × AreTwoTypestates files
+IsBehind (Project folder files) rest = (rest ≡ out_words folder ++ files) × IfSome folder IsFileName × IsOneProtocol files
 IsBehind (Run asked files) rest = (options : List Word) × (rest ≡ options ++ files) × AreOptions asked options × AreSourceNames files
 IsBehind (Exec asked files) rest =
     (options : List Word) × (rest ≡ options ++ files) × AreOptions asked options × (asked.folder ≡ None) × AreFilesOf (codes ".class") files

@@ -45,6 +45,11 @@ pub enum Command<'a> {
     Refine {
         files: &'a [Text],
     },
+    /// `project`, a folder where `--out` names one, and the file of a global protocol.
+    Project {
+        folder: Option<&'a Text>,
+        files: &'a [Text],
+    },
 }
 
 impl<'a> Command<'a> {
@@ -60,6 +65,7 @@ impl<'a> Command<'a> {
             Command::Run { files, .. } => files,
             Command::Exec { files, .. } => files,
             Command::Refine { files } => files,
+            Command::Project { files, .. } => files,
         }
     }
 }
@@ -93,6 +99,8 @@ pub fn judge(words: &[Text]) -> Judged<'_>
                 judge_run(Input::Classes, rest)
             } else if is_word(command, "refine") {
                 judge_refine(rest)
+            } else if is_word(command, "project") {
+                judge_project(rest)
             } else {
                 Judged::Wrong(Some(command))
             }
@@ -195,6 +203,59 @@ fn judge_refine(words: &[Text]) -> Judged<'_>
                         Some((word, _)) => Judged::Wrong(Some(word)),
                     }
                 }
+            }
+        }
+    }
+}
+
+// The same of the words behind `project`.
+fn judge_project(words: &[Text]) -> Judged<'_>
+    ensures { IsJudged (codes "project" ∷ words.now) result }
+{
+    match words.split_first() {
+        None => Judged::Wrong(None),
+        Some((option, rest)) => {
+            if is_word(option, "--out") {
+                judge_role_folder(rest)
+            } else {
+                judge_global(None, words)
+            }
+        }
+    }
+}
+
+// The same of the words behind `project --out`.
+fn judge_role_folder(words: &[Text]) -> Judged<'_>
+    ensures { IsJudged (codes "project" ∷ codes "--out" ∷ words.now) result }
+{
+    match words.split_first() {
+        None => Judged::Wrong(None),
+        Some((folder, rest)) => {
+            if is_file_name(folder) {
+                judge_global(Some(folder), rest)
+            } else {
+                Judged::Wrong(Some(folder))
+            }
+        }
+    }
+}
+
+// The same of the words behind the options of `project`, which are its file.
+fn judge_global<'a>(folder: Option<&'a Text>, files: &'a [Text]) -> Judged<'a>
+    requires name { IfSome folder (λ f. IsFileName f.now) }
+    requires option { folder ≡ None → (rest : List Word) → files.now ≡ codes "--out" ∷ rest → ⊥ }
+    ensures { IsJudged (codes "project"
+        ∷ (out_words (option_map (λ f. f.now) folder.entry) ++ files.now)) result }
+{
+    match files.split_first() {
+        None => Judged::Wrong(None),
+        Some((file, surplus)) => {
+            if !is_file(file, b".scr") {
+                return Judged::Wrong(Some(file));
+            }
+            match surplus.split_first() {
+                None => Judged::Known(Command::Project { folder, files }),
+                Some((word, _)) => Judged::Wrong(Some(word)),
             }
         }
     }

@@ -1,16 +1,16 @@
 -- Numbers tell pairs apart, and marks by them tell which pairs were met.
-use Rattle.std.proofs.Common.{◌≡◌, ◌≢◌, ℕ, zero, suc, ◌+◌, ◌*◌, ◌^◌, ◌<◌, Bool, true, false, List, [], ◌∷◌, ◌++◌, length, get_or, map, replicate, Option, Some, None, option_map, option_and_then, if◌then◌else◌, refl, sym, ap, subst, ◌∙◌, arith, inl, inr}
+use Rattle.std.proofs.Common.{◌≡◌, ◌≢◌, ℕ, zero, suc, ◌+◌, ◌*◌, ◌^◌, ◌<◌, Bool, true, false, List, [], ◌∷◌, ◌++◌, length, map, replicate, Option, Some, None, option_map, option_and_then, if◌then◌else◌, refl, sym, ap, subst, ◌∙◌, arith, inl, inr}
 use Rattle.std.specs.Prelude.{nat_lt, slice_set, IfSome}
 use Rattle.std.proofs.lemmas.Bool.{cases_eq, ltb-true}
-use Rattle.std.proofs.lemmas.Option.{none-some, slice_get-get_or}
+use Rattle.std.proofs.lemmas.Option.{none-some}
 use Rattle.std.proofs.lemmas.List.{get_or-set_same, get_or-set_other}
 use Rattle.std.proofs.lemmas.Nat.{same_from_place}
 use Rattle.mg_sets.specs.Sets.{has}
 use Rattle.ts_tree.specs.declared.parts.To.{To}
 use Rattle.ts_tree.specs.declared.parts.To.TheVariants as tos
 use Rattle.ts_refine.specs.declared.verdict.Pair.{Pair}
-use Rattle.ts_refine.specs.declared.search.Met.{Met}
 use Rattle.ts_refine.specs.inner.Judging.{same_pair, holds}
+use Rattle.ts_refine.specs.inner.Keeping.{Met}
 use Rattle.ts_refine.specs.inner.Marking.{place_number, number, marked, AreMarked, AreRooted, IsSearch}
 use Rattle.ts_refine.proofs.Relating.{some_is}
 use Rattle.ts_refine.proofs.Closing.{same_pair-self, same_pair-sound}
@@ -46,11 +46,13 @@ record IsNumbered (a b : ℕ) (pair : Pair) (i : ℕ) : Type 0 where
 
 numbered : (a b : ℕ) (pair : Pair) (i : ℕ) → number a b pair ≡ Some i → IsNumbered a b pair i
 numbered a b pair i h = rows (place_number a pair.a) refl h where
-  columns : (row : ℕ) → place_number a pair.a ≡ Some row → (o : Option ℕ) → place_number b pair.b ≡ o → option_map (λ j. row * (b + 1) + j) o ≡ Some i → IsNumbered a b pair i
+  columns : (row : ℕ) → place_number a pair.a ≡ Some row → (o : Option ℕ) → place_number b pair.b ≡ o →
+      option_map (λ j. row * (b + 1) + j) o ≡ Some i → IsNumbered a b pair i
   columns row e (Some column) f k = record { row = row; column = column; in_a = e; in_b = f; is = some_is (row * (b + 1) + column) i k }
   columns row e None f k = absurd (none-some i k)
 
-  rows : (o : Option ℕ) → place_number a pair.a ≡ o → option_and_then (λ i. option_map (λ j. i * (b + 1) + j) (place_number b pair.b)) o ≡ Some i → IsNumbered a b pair i
+  rows : (o : Option ℕ) → place_number a pair.a ≡ o →
+      option_and_then (λ i. option_map (λ j. i * (b + 1) + j) (place_number b pair.b)) o ≡ Some i → IsNumbered a b pair i
   rows (Some row) e k = columns row e (place_number b pair.b) refl k
   rows None e k = absurd (none-some i k)
 
@@ -73,7 +75,8 @@ holds-push [] x y = go (same_pair x y) where
   go true = refl
   go false = refl
 holds-push (p ∷ ps) x y = go (same_pair p y) (holds-push ps x y) where
-  go : (t : Bool) → holds (ps ++ x ∷ []) y ≡ (if holds ps y then true else same_pair x y) → (if t then true else holds (ps ++ x ∷ []) y) ≡ (if (if t then true else holds ps y) then true else same_pair x y)
+  go : (t : Bool) → holds (ps ++ x ∷ []) y ≡ (if holds ps y then true else same_pair x y) →
+      (if t then true else holds (ps ++ x ∷ []) y) ≡ (if (if t then true else holds ps y) then true else same_pair x y)
   go true e = refl
   go false e = e
 
@@ -95,7 +98,9 @@ apart-pair x y ne = not-true (same_pair x y) (λ t. ne (same_pair-sound x y t))
 pub blank-marked : (slot : Pair → Option ℕ) (is_marked : ℕ → Bool) → ((i : ℕ) → is_marked i ≡ false) → AreMarked slot is_marked []
 blank-marked slot is_marked blank = record { each = λ pair i e. blank i }
 
-pub marked-more : (slot : Pair → Option ℕ) → TellsApart slot → (before after : ℕ → Bool) (pairs : List Pair) (x : Pair) (i : ℕ) → AreMarked slot before pairs → slot x ≡ Some i → after i ≡ true → ((k : ℕ) → k ≢ i → after k ≡ before k) → AreMarked slot after (pairs ++ x ∷ [])
+pub marked-more : (slot : Pair → Option ℕ) → TellsApart slot → (before after : ℕ → Bool) (pairs : List Pair) (x : Pair) (i : ℕ)
+    → AreMarked slot before pairs → slot x ≡ Some i → after i ≡ true → ((k : ℕ) → k ≢ i → after k ≡ before k)
+    → AreMarked slot after (pairs ++ x ∷ [])
 marked-more slot apart before after pairs x i m at now kept = record {
   each = λ pair k e. elim (cases_eq k i) [
     | inl is ↦
@@ -107,7 +112,8 @@ marked-more slot apart before after pairs x i m at now kept = record {
   ];
 }
 
-pub marked-past : (slot : Pair → Option ℕ) (is_marked : ℕ → Bool) (pairs : List Pair) (x : Pair) → AreMarked slot is_marked pairs → slot x ≡ None → AreMarked slot is_marked (pairs ++ x ∷ [])
+pub marked-past : (slot : Pair → Option ℕ) (is_marked : ℕ → Bool) (pairs : List Pair) (x : Pair) → AreMarked slot is_marked pairs
+    → slot x ≡ None → AreMarked slot is_marked (pairs ++ x ∷ [])
 marked-past slot is_marked pairs x m none = record {
   each = λ pair k e.
       m.each pair k e
@@ -139,7 +145,8 @@ blank-has zero i = refl
 blank-has (suc n) zero = refl
 blank-has (suc n) (suc i) = blank-has n i
 
-pub search-blank : (a b : ℕ) (marks : List Bool) (ms : List Met) → a < 2 ^ 32 → b < 2 ^ 32 → marks ≡ replicate ((a + 1) * (b + 1)) false → ms ≡ [] → IsSearch a b marks ms
+pub search-blank : (a b : ℕ) (marks : List Bool) (ms : List Met) → a < 2 ^ 32 → b < 2 ^ 32 → marks ≡ replicate ((a + 1) * (b + 1)) false
+    → ms ≡ [] → IsSearch a b marks ms
 search-blank a b marks ms h k e none = record {
   few_a = h;
   few_b = k;
@@ -148,7 +155,9 @@ search-blank a b marks ms h k e none = record {
   rooted = subst AreRooted (sym none) rooted-none;
 }
 
-pub search-more : (a b : ℕ) (marks : List Bool) (ms news : List Met) (m : Met) (o : Option ℕ) (i : ℕ) → IsSearch a b marks ms → (0 < length ms → m.parent < length ms) → news ≡ ms ++ m ∷ [] → o ≡ number a b m.pair → o ≡ Some i → i < length marks → IsSearch a b (slice_set marks i true) news
+pub search-more : (a b : ℕ) (marks : List Bool) (ms news : List Met) (m : Met) (o : Option ℕ) (i : ℕ) → IsSearch a b marks ms
+    → (0 < length ms → m.parent < length ms) → news ≡ ms ++ m ∷ [] → o ≡ number a b m.pair → o ≡ Some i → i < length marks
+    → IsSearch a b (slice_set marks i true) news
 search-more a b marks ms news m o i s fine is of some lt = subst (IsSearch a b (slice_set marks i true)) (sym is) (record {
   few_a = s.few_a;
   few_b = s.few_b;
@@ -162,7 +171,8 @@ search-more a b marks ms news m o i s fine is of some lt = subst (IsSearch a b (
   length-set (x ∷ marks) zero = refl
   length-set (x ∷ marks) (suc i) = ap suc (length-set marks i)
 
-pub search-past : (a b : ℕ) (marks : List Bool) (ms news : List Met) (m : Met) (o : Option ℕ) → IsSearch a b marks ms → (0 < length ms → m.parent < length ms) → news ≡ ms ++ m ∷ [] → o ≡ number a b m.pair → o ≡ None → IsSearch a b marks news
+pub search-past : (a b : ℕ) (marks : List Bool) (ms news : List Met) (m : Met) (o : Option ℕ) → IsSearch a b marks ms
+    → (0 < length ms → m.parent < length ms) → news ≡ ms ++ m ∷ [] → o ≡ number a b m.pair → o ≡ None → IsSearch a b marks news
 search-past a b marks ms news m o s fine is of none = subst (IsSearch a b marks) (sym is) (record {
   few_a = s.few_a;
   few_b = s.few_b;
@@ -171,15 +181,15 @@ search-past a b marks ms news m o s fine is of none = subst (IsSearch a b marks)
   rooted = rooted-more ms m s.rooted fine;
 })
 
-pub search-kept : (a b : ℕ) (marks news_marks : List Bool) (ms news : List Met) (m : Met) (o : Option ℕ) → IsSearch a b marks ms → (0 < length ms → m.parent < length ms) → news ≡ ms ++ m ∷ [] → o ≡ number a b m.pair → IfSome o (λ n. n < (a + 1) * (b + 1)) → news_marks ≡ marked marks o → IsSearch a b news_marks news
+pub search-kept : (a b : ℕ) (marks news_marks : List Bool) (ms news : List Met) (m : Met) (o : Option ℕ) → IsSearch a b marks ms
+    → (0 < length ms → m.parent < length ms) → news ≡ ms ++ m ∷ [] → o ≡ number a b m.pair → IfSome o (λ n. n < (a + 1) * (b + 1))
+    → news_marks ≡ marked marks o → IsSearch a b news_marks news
 search-kept a b marks news_marks ms news m o s fine is of bound e = subst (λ (z : List Bool). IsSearch a b z news) (sym e) (go o of bound) where
   go : (o : Option ℕ) → o ≡ number a b m.pair → IfSome o (λ n. n < (a + 1) * (b + 1)) → IsSearch a b (marked marks o) news
   go (Some i) of lt = search-more a b marks ms news m (Some i) i s fine is of refl (subst (λ w. i < w) (sym s.wide) lt)
   go None of lt = search-past a b marks ms news m None s fine is of refl
 
 -- what is marked was met
-pub marked-is : (a b : ℕ) (marks : List Bool) (ms : List Met) (pair : Pair) (o : Option ℕ) (i : ℕ) → IsSearch a b marks ms → o ≡ number a b pair → o ≡ Some i → has marks i ≡ holds (map (λ (m : Met). m.pair) ms) pair
+pub marked-is : (a b : ℕ) (marks : List Bool) (ms : List Met) (pair : Pair) (o : Option ℕ) (i : ℕ) → IsSearch a b marks ms
+    → o ≡ number a b pair → o ≡ Some i → has marks i ≡ holds (map (λ (m : Met). m.pair) ms) pair
 marked-is a b marks ms pair o i s of some = s.marked.each pair i (sym of ∙ some)
-
-pub parent-before : (ms : List Met) (i : ℕ) (m : Met) → AreRooted ms → i < length ms → 0 < i → m ≡ get_or ms i m → m.parent < i
-parent-before ms i m r lt some is = r.each i m (slice_get-get_or ms i m lt ∙ ap Some (sym is)) some

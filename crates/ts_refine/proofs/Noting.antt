@@ -46,11 +46,14 @@ bits-apart count a b x y i h k = number_same a b x y i (numbered-too count a b x
 pub noted-none : (slot : Pair → Option ℕ) (ws : List ℕ) (n : ℕ) → ws ≡ replicate n 0 → AreMarked slot (bit ws) []
 noted-none slot ws n is = subst (λ (ws : List ℕ). AreMarked slot (bit ws) []) (sym is) (blank-marked slot (bit (replicate n 0)) (blank_bit n))
 
-pub noted-more : (count a b : ℕ) (ws news : List ℕ) (pairs : List Pair) (x : Pair) (i : ℕ) → AreMarked (bit_number count a b) (bit ws) pairs → bit_number count a b x ≡ Some i → i / 64 < length ws → news ≡ with_bit ws i → AreMarked (bit_number count a b) (bit news) (pairs ++ x ∷ [])
+pub noted-more : (count a b : ℕ) (ws news : List ℕ) (pairs : List Pair) (x : Pair) (i : ℕ)
+    → AreMarked (bit_number count a b) (bit ws) pairs → bit_number count a b x ≡ Some i → i / 64 < length ws → news ≡ with_bit ws i
+    → AreMarked (bit_number count a b) (bit news) (pairs ++ x ∷ [])
 noted-more count a b ws news pairs x i m at lt is = subst (λ (ws : List ℕ). AreMarked (bit_number count a b) (bit ws) (pairs ++ x ∷ [])) (sym is)
     (marked-more (bit_number count a b) (bits-apart count a b) (bit ws) (bit (with_bit ws i)) pairs x i m at (bit_now ws i lt) (λ k ne. bit_kept ws i k lt ne))
 
-pub noted-past : (count a b : ℕ) (ws : List ℕ) (pairs : List Pair) (x : Pair) → AreMarked (bit_number count a b) (bit ws) pairs → bit_number count a b x ≡ None → AreMarked (bit_number count a b) (bit ws) (pairs ++ x ∷ [])
+pub noted-past : (count a b : ℕ) (ws : List ℕ) (pairs : List Pair) (x : Pair) → AreMarked (bit_number count a b) (bit ws) pairs
+    → bit_number count a b x ≡ None → AreMarked (bit_number count a b) (bit ws) (pairs ++ x ∷ [])
 noted-past count a b ws pairs x m none = marked-past (bit_number count a b) (bit ws) pairs x m none
 
 pub wide-still : (ws : List ℕ) (i : ℕ) → length (with_bit ws i) ≡ length ws

@@ -87,7 +87,9 @@ one_place (z ∷ names) x y c d e = go (bytes_eq z x) refl (bytes_eq z y) refl e
     yes_no : true ≡ false → ⊥
     yes_no h = absurd cc
 
-  go : (s : Bool) → bytes_eq z x ≡ s → (t : Bool) → bytes_eq z y ≡ t → (if s then 0 else suc (place_of names x)) ≡ (if t then 0 else suc (place_of names y)) → (Contains names x → Contains names y → place_of names x ≡ place_of names y → x ≡ y) → x ≡ y
+  go : (s : Bool) → bytes_eq z x ≡ s → (t : Bool) → bytes_eq z y ≡ t →
+      (if s then 0 else suc (place_of names x)) ≡ (if t then 0 else suc (place_of names y)) →
+      (Contains names x → Contains names y → place_of names x ≡ place_of names y → x ≡ y) → x ≡ y
   go true f true g e rest = sym (same_name z x f) ∙ same_name z y g
   go true f false g e rest = absurd (omega (arith, e))
   go false f true g e rest = absurd (omega (arith, e))
@@ -111,7 +113,8 @@ is_among a b p q (reasons.SignatureDiffers name) (signature l m n e f d) = among
 is_among a b p q (reasons.LabelsDiffer name) (labels l m n e f d g) = among b q name m e
 is_among a b p q reasons.NotFinished h = tt
 
-same_reason : (ms : List Method) (r s : Reason) → IsAmong (method_names ms) r → IsAmong (method_names ms) s → reason_place ms r ≡ reason_place ms s → r ≡ s
+same_reason : (ms : List Method) (r s : Reason) → IsAmong (method_names ms) r → IsAmong (method_names ms) s
+    → reason_place ms r ≡ reason_place ms s → r ≡ s
 same_reason ms (reasons.NoMethod x) (reasons.NoMethod y) c d e = ap reasons.NoMethod (one_place (method_names ms) x y c d (omega (arith, e)))
 same_reason ms (reasons.NoMethod x) (reasons.SignatureDiffers y) c d e = absurd (omega (arith, e))
 same_reason ms (reasons.NoMethod x) (reasons.LabelsDiffer y) c d e = absurd (omega (arith, e))

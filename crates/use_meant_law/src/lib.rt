@@ -11,7 +11,8 @@ use use_kept::keeps_typestates;
 
 /// Where tables solve the core of well typed sources, for each class with `main`, whatever the other roles sent and whatever
 /// the budget: no null is dereferenced and each step has a case; at each moment the calls of each object follow its class's
-/// typestate, also with one that is open; and where `main` returns each object is at the end of its typestate.
+/// typestate, also with one that is open; and where `main` returns each object is at the end of its typestate or
+/// in a state that is marked `drop: end`.
 pub fn sources_keep_typestates()
     ensures { SourcesKeepTypestates }
 {

@@ -6,7 +6,7 @@ use Rattle.std.specs.List.{IsDistinct, list_any, list_all, slice_split, before_f
 use Rattle.std.specs.Str.{bytes_eq}
 use Rattle.mg_words.specs.declared.asked.Asked.{Asked as Kept}
 use Rattle.mg_words.specs.declared.asked.RoleClass.{RoleClass as KeptRole}
-use Rattle.mg_words.specs.Words.{Word, RoleClass, Roles, Alone, Several, role_names, Asked, Command, Translate, Conform, Check, Compile, Run, Exec, Refine, IsFileOf, IsSourceName, IsCommand, AreWrong, RunOption, Main, Role, Order, Steps, Trace, Out, option_words, IsOption, class_in, role_in, order_in, steps_in, is_trace, folder_in, AreOptions}
+use Rattle.mg_words.specs.Words.{Word, RoleClass, Roles, Alone, Several, role_names, Asked, Command, Translate, Conform, Check, Compile, Run, Exec, Refine, Project, IsFileOf, IsSourceName, IsCommand, AreWrong, RunOption, Main, Role, Order, Steps, Trace, Out, option_words, IsOption, class_in, role_in, order_in, steps_in, is_trace, folder_in, AreOptions}
 use Rattle.mg_words.specs.declared.words.Command.{Command as Found}
 use Rattle.mg_words.specs.declared.words.Command.TheVariants as found
 use Rattle.mg_words.specs.declared.words.Judged.{Judged}
@@ -86,6 +86,7 @@ command_of (found.Compile folder files) = Compile (option_map (λ w. w.now) fold
 command_of (found.Run asked files) = Run (asked_of asked) files.now
 command_of (found.Exec asked files) = Exec (asked_of asked) files.now
 command_of (found.Refine files) = Refine files.now
+command_of (found.Project folder files) = Project (option_map (λ w. w.now) folder) files.now
 
 -- the command that runs this, with what is asked for
 abbrev pub made : Input → Asked → (files : List Word) → Command

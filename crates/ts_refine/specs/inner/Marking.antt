@@ -5,8 +5,9 @@ use Rattle.mg_sets.specs.Words.{bit}
 use Rattle.ts_tree.specs.declared.parts.To.{To}
 use Rattle.ts_tree.specs.declared.parts.To.TheVariants as tos
 use Rattle.ts_refine.specs.declared.verdict.Pair.{Pair}
-use Rattle.ts_refine.specs.declared.search.Met.{Met}
+use Rattle.ts_refine.specs.declared.search.Step.{Step}
 use Rattle.ts_refine.specs.inner.Judging.{holds}
+use Rattle.ts_refine.specs.inner.Keeping.{Met, mets}
 
 -- the number of a place of so many states, the end after them; a state past them has none
 abbrev pub place_number : ℕ → To → Option ℕ
@@ -41,6 +42,11 @@ pub record IsSearch (a b : ℕ) (marks : List Bool) (ms : List Met) : Type 0 whe
   pub wide : length marks ≡ (a + 1) * (b + 1)
   pub marked : AreMarked (number a b) (has marks) (map (λ m. m.pair) ms)
   pub rooted : AreRooted ms
+
+-- pairs with a step beside each, and their marks
+pub record IsKept (a b : ℕ) (marks : List Bool) (pairs : List Pair) (steps : List Step) : Type 0 where
+  pub even : length pairs ≡ length steps
+  pub search : IsSearch a b marks (mets pairs steps)
 
 -- pairs of a list, with a bit for each that has one
 pub record AreKnown (a b : ℕ) (words : List ℕ) (pairs : List Pair) : Type 0 where

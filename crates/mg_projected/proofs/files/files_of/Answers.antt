@@ -1,7 +1,7 @@
 use Rattle.std.proofs.Common.{List, subst, sym, ◌∙◌}
 use Rattle.scr_global_tree.specs.Global.{tree_of}
 use Rattle.mg_projected.specs.declared.files.RoleFile.{RoleFile}
-use Rattle.mg_projected.proofs.Rest.{Rest, rest_start, rest_end, rest_more, rest_fault}
+use Rattle.mg_projected.proofs.Rest.{Rest, rest_start, rest_end}
 use Rattle.mg_projected.proofs.files.files_of.Goals as goal
 
 pub loop-role-init : goal.loop-role-init

@@ -5,6 +5,7 @@ use Rattle.mg_words.specs.inner.Judging.{command_of, asked_of}
 use Rattle.mg_words.proofs.LawLemmas.{asked_of_run, asked_of_exec}
 use Rattle.mg_words.proofs.WordsLemmas.{kinds_of, kinds_of_classes, kinds_of_run, protocols_of, protocol_of_two}
 use Rattle.mg_words.proofs.RefineLemmas.{two_files, kinds_of_two}
+use Rattle.mg_words.proofs.ProjectLemmas.{one_file}
 use Rattle.mg_top.proofs.top.carry_out.Goals as goal
 
 pub translate-requires-clause-scribble : goal.translate-requires-clause-scribble
@@ -60,3 +61,16 @@ pub refine-requires-clause-kinds : goal.refine-requires-clause-kinds
 refine-requires-clause-kinds c =
     let known = c.requires.known in
     kinds_of_two known.0 c.in-Refine.files.now (subst (λ (z : Command). IsCommand (command_of z) known.0) c.in-Refine.is known.1)
+
+pub project-requires-clause-one : goal.project-requires-clause-one
+project-requires-clause-one c =
+    let known = c.requires.known in
+    one_file known.0 (option_map (λ w. w.now) c.in-Project.folder) c.in-Project.files.now
+    (subst (λ (z : Command). IsCommand (command_of z) known.0) c.in-Project.is known.1)
+
+pub project-requires-clause-same : goal.project-requires-clause-same
+project-requires-clause-same c =
+    let known = c.requires.known in
+    sym (subst (λ (z : Command). length (files_of (command_of z)) ≡ length c.args.contents.now) c.in-Project.is c.requires.same)
+    ∙ one_file known.0 (option_map (λ w. w.now) c.in-Project.folder) c.in-Project.files.now
+    (subst (λ (z : Command). IsCommand (command_of z) known.0) c.in-Project.is known.1)

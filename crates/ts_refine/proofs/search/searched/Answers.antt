@@ -14,5 +14,5 @@ loop-next-preserved c =
 
 pub returns : goal.returns
 returns c =
-    ends c.args.a.now c.args.b.now c.loop-next.search c.loop-next.search c.loop-next.next c.in_ok-pairs.pairs.items
-    c.loop-next.invariant (omega (arith, c.loop-next-test.false, c.len.ensures.value)) refl c.in_ok-pairs.ensures
+    ends c.args.a.now c.args.b.now c.loop-next.search c.loop-next.search c.loop-next.next c.into_pairs.result.items
+    c.loop-next.invariant (omega (arith, c.loop-next-test.false, c.len.ensures.value)) refl c.into_pairs.ensures

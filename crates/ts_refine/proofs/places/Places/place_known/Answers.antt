@@ -1,8 +1,0 @@
-use Rattle.ts_refine.proofs.Offering.{stood}
-use Rattle.ts_refine.proofs.places.Places.place_known.Goals as goal
-
-pub returns-then-stands_at : goal.returns-then-stands_at
-returns-then-stands_at c = stood c.args.methods.now _ c.args.name.now c.stands_at.result c.requires c.stands_at.ensures c.if-stands_at.true
-
-pub returns-then-stands_at-2 : goal.returns-then-stands_at-2
-returns-then-stands_at-2 c = stood c.args.methods.now _ c.args.name.now c.stands_at-2.result c.requires c.stands_at-2.ensures c.if-stands_at-2.true
