@@ -51,6 +51,11 @@ protocol_said (protocols.ReservedLabel place name) f e = (_, refl, same_fault _ 
 protocol_said (protocols.NameClash place name) f e = (_, refl, same_fault _ f e)
 protocol_said (protocols.TooManyStates place) f e = (_, refl, same_fault _ f e)
 protocol_said protocols.Memory f e = not_said f e
+protocol_said (protocols.UnknownProtocol place name) f e = (_, refl, same_fault _ f e)
+protocol_said (protocols.DuplicateProtocol place name) f e = (_, refl, same_fault _ f e)
+protocol_said (protocols.RolesDiffer place name) f e = (_, refl, same_fault _ f e)
+protocol_said (protocols.NotLast place name) f e = (_, refl, same_fault _ f e)
+protocol_said (protocols.StartsWithDo place name) f e = (_, refl, same_fault _ f e)
 
 typestate_said : (fault : TsFault) (f : Fault) → said_of_typestate fault ≡ Some f →
     (answer : of_typestates.Answer) × (of_typestates.answer_of (Err fault) ≡ Some answer) × IsSaidOfTypestate answer f

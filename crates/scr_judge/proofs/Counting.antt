@@ -5,7 +5,7 @@ use Rattle.std.specs.Str.{bytes_eq}
 use Rattle.std.proofs.lemmas.List.Elements.{filter-append}
 use Rattle.std.proofs.lemmas.Bool.Decides.{nat_tests}
 use Rattle.mg_text.specs.Call.{Name}
-use Rattle.scr_tree.specs.Tree.{Statements, Nothing, Says, Choice, Rec, Continue, Branches, NoBranch, Branch}
+use Rattle.scr_tree.specs.Tree.{Statements, Nothing, Says, Choice, Rec, Continue, Do, Branches, NoBranch, Branch}
 use Rattle.scr_tree.specs.Spots.{Past, Opens, Enters, Way, Spot, spot, spots, branch_spots}
 use Rattle.mg_read.specs.Culprit.{culprit}
 use Rattle.mg_read.specs.First.{Judged, clean, here, later}
@@ -92,6 +92,7 @@ module _ (me : Name) where
         let inner : Counts n (many (spots (Opens name ∷ way) body)) (counted me false n body) = counted_exact false n (Opens name ∷ way) body refl h in
         passed n _ _ (spots (Opens name ∷ way) body) (spots (Past (Rec p name body Nothing) ∷ way) rest) (spot way (Rec p name body rest)) refl inner (counted_exact false _ (Past (Rec p name body Nothing) ∷ way) rest refl (below _ _ _ inner))
     counted_exact first n way (Continue p name rest) e h = passed n n _ [] (spots (Past (Continue p name Nothing) ∷ way) rest) (spot way (Continue p name rest)) refl (nothing n h) (counted_exact false n (Past (Continue p name Nothing) ∷ way) rest refl h)
+    counted_exact first n way (Do p name rest) e h = passed n n _ [] (spots (Past (Do p name Nothing) ∷ way) rest) (spot way (Do p name rest)) refl (nothing n h) (counted_exact false n (Past (Do p name Nothing) ∷ way) rest refl h)
 
     pub counted_in_exact : (n : ℕ) (way : Way) (at : Name) (earlier : List Statements) (bs : Branches) → n ≤ 1001 → Counts n (many (branch_spots way at earlier bs)) (counted_in me (bytes_eq at me) n bs)
     counted_in_exact n way at earlier NoBranch h = nothing n h

@@ -19,8 +19,15 @@ pub mod KeySteps
 pub mod Duplicates
 pub mod SpotWalk
 pub mod SpotSteps
+pub mod Owned
 pub mod Asking
 pub mod Numbers
 pub mod Counting
 pub mod CountSteps
 pub mod OneFault
+pub mod Lasting
+pub mod Gone
+pub mod Ranks
+pub mod Sought
+pub mod Starting
+pub mod Leaving

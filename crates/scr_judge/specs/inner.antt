@@ -5,3 +5,6 @@ pub mod OnSpot
 pub mod Counting
 pub mod Listed
 pub mod View
+pub mod Own
+pub mod Gone
+pub mod Round
