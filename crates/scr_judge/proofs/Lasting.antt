@@ -38,9 +38,6 @@ mutual
   last_exact_in followed NoBranch = clean
   last_exact_in followed (Branch b more) = judged-append (last_exact followed b) (last_exact_in followed more)
 
-pub first_not_last : (ss : Statements) (r : Option Culprit) → r ≡ not_last false ss → Judged NotLast (held false ss) r
-first_not_last ss r e = subst (Judged NotLast (held false ss)) (sym e) (last_exact false ss)
-
 -- ---- one statement, and those behind it
 
 found_or : (b : Bool) (c : Culprit) (r : Option Culprit) → (if b then Some c else r) ≡ option_or (if b then Some c else None) r

@@ -26,8 +26,13 @@ pub mod Counting
 pub mod CountSteps
 pub mod OneFault
 pub mod Lasting
-pub mod Gone
+pub mod Naming
 pub mod Ranks
+pub mod Edges
+pub mod Coming
+pub mod Searching
 pub mod Sought
 pub mod Starting
 pub mod Leaving
+pub mod Guarded
+pub mod Files

@@ -13,6 +13,7 @@ use Rattle.scr_tree.specs.Written.{WrittenPart}
 use Rattle.scr_judge.specs.declared.culprit.Named.{Named}
 use Rattle.scr_judge.specs.declared.own.Own.{Own}
 use Rattle.scr_judge.specs.inner.Own.{OfOwn, FirstIn, none, here, later}
+use Rattle.scr_judge.specs.inner.Listed.{first_among}
 use Rattle.scr_judge.specs.inner.View.{named_of}
 
 -- an arm: the condition is known, and its culprit is given a name
@@ -21,10 +22,10 @@ own_arm p k j o r e a h = IfOk-weaker r _ _ (λ n same. subst (λ x. OfOwn x p (
 
 -- ---- a loop over protocols
 
-module _ {P : Type 0} (At : P → Option Culprit → Type 0) where
+module _ {P C : Type 0} (At : P → Option C → Type 0) where
   -- what those from an index on answer is the answer
   pub record Rest (ps : List P) (i : ℕ) : Type 0 where
-    pub left : (r : Option Culprit) → FirstIn At (drop i ps) r → FirstIn At ps r
+    pub left : (r : Option C) → FirstIn At (drop i ps) r → FirstIn At ps r
 
   pub rest_start : (ps : List P) → Rest ps 0
   rest_start ps = record { left = λ r f. f }
@@ -37,19 +38,24 @@ module _ {P : Type 0} (At : P → Option Culprit → Type 0) where
       cut : drop i ps ≡ x ∷ drop (i + 1) ps
       cut = at_drop_more (λ xs. xs) ps i x within ∙ ap (λ y. y ∷ drop (i + 1) ps) (sym is)
 
-      pub rest_here : (c : Culprit) (o : Option Culprit) → At x o → o ≡ Some c → FirstIn At ps (Some c)
+      pub rest_here : (c : C) (o : Option C) → At x o → o ≡ Some c → FirstIn At ps (Some c)
       rest_here c o a e = l.left _ (subst (λ xs. FirstIn At xs (Some c)) (sym cut) (here (subst (At x) e a)))
 
-      pub rest_later : (o : Option Culprit) → At x o → o ≡ None → Rest ps (i + 1)
+      pub rest_later : (o : Option C) → At x o → o ≡ None → Rest ps (i + 1)
       rest_later o a e = record { left = λ r f. l.left r (subst (λ xs. FirstIn At xs r) (sym cut) (later (subst (At x) e a) f)) }
 
   -- the first one, and those behind it
-  pub first_then : (p : P) (ps : List P) (o r : Option Culprit) → At p o → FirstIn At ps r → FirstIn At (p ∷ ps) (option_or o r)
+  pub first_then : (p : P) (ps : List P) (o r : Option C) → At p o → FirstIn At ps r → FirstIn At (p ∷ ps) (option_or o r)
   first_then p ps None r a f = later a f
   first_then p ps (Some c) r a f = here a
 
+  -- what each answers is right
+  pub first_in : (f : P → Option C) → ((p : P) → At p (f p)) → (ps : List P) → FirstIn At ps (first_among f ps)
+  first_in f right [] = none
+  first_in f right (p ∷ ps) = first_then p ps (f p) (first_among f ps) (right p) (first_in f right ps)
+
 -- of what they are seen as
-pub first_map : {P Q : Type 0} (At : Q → Option Culprit → Type 0) (f : P → Q) {ps : List P} {r : Option Culprit} → FirstIn (λ p. At (f p)) ps r → FirstIn At (map f ps) r
+pub first_map : {P Q C : Type 0} (At : Q → Option C → Type 0) (f : P → Q) {ps : List P} {r : Option C} → FirstIn (λ p. At (f p)) ps r → FirstIn At (map f ps) r
 first_map At f none = none
 first_map At f (here a) = here a
 first_map At f (later a more) = later a (first_map At f more)

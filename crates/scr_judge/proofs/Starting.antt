@@ -1,5 +1,5 @@
 -- What comes first in the first protocol of several.
-use Rattle.std.proofs.Common.{◌≡◌, ℕ, ◌+◌, ◌<◌, length, get_or, drop, Bool, true, false, ◌||◌, List, [], ◌∷◌, ◌++◌, Option, Some, None, refl, sym, ap, ◌∙◌}
+use Rattle.std.proofs.Common.{◌≡◌, ⊎_elim, inl, inr, ℕ, ◌+◌, ◌<◌, length, get_or, drop, Bool, true, false, ◌||◌, List, [], ◌∷◌, ◌++◌, Option, Some, None, refl, sym, ap, ◌∙◌, true≢false}
 use Rattle.std.specs.List.{list_any}
 use Rattle.std.proofs.lemmas.Grind.{common_steps}
 use Rattle.mg_text.specs.Call.{Name}
@@ -10,7 +10,11 @@ use Rattle.scr_tree.specs.declared.syntax.Statement.TheVariants as kinds
 use Rattle.scr_tree.specs.Tree.{Statements, Nothing, Says, Choice, Rec, Continue, Do, Branches, NoBranch, Branch}
 use Rattle.scr_tree.specs.Spots.{Past, Opens, Way, Spot, spot, spots}
 use Rattle.scr_tree.specs.View.{front, statements}
-use Rattle.scr_tree.specs.Going.{is_deed, has_deed, first_do}
+use Rattle.mg_read.specs.Culprit.{culprit}
+use Rattle.mg_read.specs.First.{Judged, clean, here, later}
+use Rattle.scr_tree.specs.declared.written.WrittenPart.{WrittenPart as Part}
+use Rattle.scr_tree.specs.Written.{part_written}
+use Rattle.scr_tree.specs.Going.{is_deed, has_deed, first_do, StartsWithDo}
 use Rattle.scr_tree.proofs.ViewLemmas.{front-Message, front-Choice, front-Rec, front-Continue, front-Do}
 use Rattle.scr_tree.proofs.Behind.{each_front, statements-step, statements-past}
 use Rattle.scr_judge.specs.inner.Gone.{First, Neither, Deed, Goes, first_or, first_of, acts}
@@ -89,6 +93,28 @@ first_exact way (Do p name rest) = refl
 
 pub do_place : (ss : Statements) → first_do (spots [] ss) ≡ place_in (first_of ss)
 do_place ss = row_place (spots [] ss) ∙ ap place_in (first_exact [] ss)
+
+-- ---- what is found
+
+module _ (p : Part) (ss : Statements) (same : ss ≡ statements p.body.items) where
+  -- there is no message and no choice
+  pub no_deed : acts ss ≡ false → Judged StartsWithDo (part_written p ∷ []) (Some (culprit p.place p.name))
+  no_deed e = here (inl (refl, acts_exact [] (statements p.body.items) ∙ ap acts (sym same) ∙ e))
+
+  module _ (deed : acts ss ≡ true) where
+    acted : has_deed (statements p.body.items) ≡ true
+    acted = acts_exact [] (statements p.body.items) ∙ ap acts (sym same) ∙ deed
+
+    placed : first_do (spots [] (statements p.body.items)) ≡ place_in (first_of ss)
+    placed = do_place (statements p.body.items) ∙ ap (λ t. place_in (first_of t)) (sym same)
+
+    -- a `do` stands before them all
+    pub do_first : (place : Place) → first_of ss ≡ Goes place → Judged StartsWithDo (part_written p ∷ []) (Some (culprit place p.name))
+    do_first place e = here (inr (place, refl, acted, placed ∙ ap place_in e))
+
+    -- none does
+    pub acts_first : place_in (first_of ss) ≡ None → Judged StartsWithDo (part_written p ∷ []) None
+    acts_first e = later (λ c x. ⊎_elim (λ none. true≢false (sym acted ∙ none.1)) (λ goes. let both : Some goes.0 ≡ None = sym goes.3 ∙ (placed ∙ e) in cc) x) clean
 
 -- ---- one statement, and those behind it
 

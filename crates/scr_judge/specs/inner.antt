@@ -8,3 +8,5 @@ pub mod View
 pub mod Own
 pub mod Gone
 pub mod Round
+pub mod Cycles
+pub mod Search

@@ -56,7 +56,7 @@ pub fn protocol_names(alloc: Global, written: &Written) -> Result<HashSet<String
 }
 
 // Adds the names of protocols.
-#[tactic(auto, using(crate::proofs::Gone::name_steps))]
+#[tactic(auto, using(crate::proofs::Naming::name_steps))]
 fn add_names(
     alloc: Global,
     names: &mut HashSet<String>,
@@ -85,7 +85,7 @@ pub fn find_duplicate_protocol(
 }
 
 // The first protocol whose name is in the set, or is that of one before it.
-#[tactic(auto, using(crate::proofs::Gone::again_steps))]
+#[tactic(auto, using(crate::proofs::Naming::again_steps))]
 fn find_named_again<'a>(
     alloc: Global,
     names: &mut HashSet<String>,

@@ -36,11 +36,12 @@ pub fn find_unguarded(body: &[Statement]) -> Option<Culprit<'_>>
     }
 }
 
-/// The same, or the first `do` of this name to which control can come with no message.
-pub fn find_unguarded_or<'a>(goal: &str, body: &'a [Statement]) -> Option<Culprit<'a>>
-    ensures { culprit_of result ≡ unguarded [] (Some goal.now) (statements body.now) }
+/// The same, or the first `do` of this name, if one is given, to which control can come with no
+/// message.
+pub fn find_unguarded_or<'a>(goal: Option<&str>, body: &'a [Statement]) -> Option<Culprit<'a>>
+    ensures { culprit_of result ≡ unguarded [] (goal_of goal.entry) (statements body.now) }
 {
-    match unguarded_all(&Names::Outside, Some(goal), body) {
+    match unguarded_all(&Names::Outside, goal, body) {
         Ok(_) => None,
         Err(culprit) => Some(culprit),
     }

@@ -1,10 +1,10 @@
 //! A choice or a `rec` that holds a `do` is the last statement of its list.
 
-ghost use Rattle.std.specs.Prelude.{◌≡◌, ◌||◌, false, map};
+ghost use Rattle.std.specs.Prelude.{◌≡◌, ◌||◌, map};
 ghost use Rattle.mg_read.specs.First.{Judged};
 ghost use Rattle.scr_tree.specs.View.{front, statements, bodies};
 ghost use Rattle.scr_tree.specs.Tree.{Nothing};
-ghost use Rattle.scr_tree.specs.Going.{NotLast, held, all_held};
+ghost use Rattle.scr_tree.specs.Going.{NotLast, all_held};
 ghost use Rattle.scr_tree.specs.Written.{parts_in, body_of, written_of};
 ghost use Rattle.scr_judge.specs.inner.Listed.{first_among};
 ghost use Rattle.scr_judge.specs.inner.Gone.{not_last, not_last_at, not_last_in, not_last_in_part};
@@ -15,19 +15,11 @@ use crate::truth::either;
 use mg_text::List;
 use scr_tree::{Statement, Written, WrittenPart};
 
-/// The first `do` behind whose choice or `rec` a statement stands.
-#[tactic(auto, using(crate::proofs::Lasting::first_not_last))]
-pub fn find_not_last(body: &[Statement]) -> Option<Culprit<'_>>
-    ensures { Judged NotLast (held false (statements body.now)) (culprit_of result) }
-{
-    last_all(false, body)
-}
-
-/// The same of a whole file.
+/// The first `do` of a file behind whose choice or `rec` a statement stands.
 pub fn find_not_last_in(written: &Written) -> Option<Culprit<'_>>
     ensures { Judged NotLast (all_held (map body_of (parts_in (written_of 0 written.now)))) (culprit_of result) }
 {
-    match find_not_last(written.first.body.as_slice()) {
+    match last_all(false, written.first.body.as_slice()) {
         Some(culprit) => Some(culprit),
         None => find_not_last_among(written.others.as_slice()),
     }

@@ -1,6 +1,6 @@
 //! The first protocol of several begins with a message or a choice.
 
-ghost use Rattle.std.specs.Prelude.{◌≡◌};
+ghost use Rattle.std.specs.Prelude.{◌≡◌, [], ◌∷◌};
 ghost use Rattle.mg_read.specs.First.{Judged};
 ghost use Rattle.scr_tree.specs.View.{front, statements};
 ghost use Rattle.scr_tree.specs.Tree.{Nothing};
@@ -24,7 +24,6 @@ pub enum First {
 
 /// The name of the first protocol, where others stand behind it and it has no message and no
 /// choice; or its `do` before them all.
-#[tactic(auto, using(crate::proofs::Starting::judged))]
 pub fn find_starts_with_do(written: &Written) -> Option<Culprit<'_>>
     ensures { Judged StartsWithDo (first_of_several (written_of 0 written.now).first (written_of 0 written.now).others) (culprit_of result) }
 {
@@ -35,7 +34,9 @@ pub fn find_starts_with_do(written: &Written) -> Option<Culprit<'_>>
 }
 
 // The same of the first protocol of several.
-fn find_start(part: &WrittenPart) -> Option<Culprit<'_>> {
+fn find_start(part: &WrittenPart) -> Option<Culprit<'_>>
+    ensures { Judged StartsWithDo (part_written part.now ∷ []) (culprit_of result) }
+{
     let name = part.name.as_str();
     let body = part.body.as_slice();
     if !has_deed(body) {

@@ -1,8 +1,9 @@
 //! Protocols that go on as one another with no message, as a graph: its edges, an order of its
 //! numbers, and which way leads back.
 
-ghost use Rattle.std.specs.Prelude.{◌≡◌, ◌↔◌, ◌≤◌, ℕ, IfOk, IsTrue, Contains, get_or, length};
+ghost use Rattle.std.specs.Prelude.{◌≡◌, ◌↔◌, ◌≤◌, ℕ, IfOk, OnOk, IsTrue, Contains, get_or, length, replicate};
 ghost use Rattle.scr_judge.specs.inner.Round.{Falls, Reaches};
+ghost use Rattle.scr_judge.specs.inner.Search.{Comes, Spreads, OnFalseOk};
 ghost use Rattle.scr_judge.specs.inner.View.{graph_of};
 
 use mg_text::Memory;
@@ -51,8 +52,8 @@ pub fn ranks_of(alloc: Global, targets: &[Vec<u32>]) -> Result<Vec<u32>, Memory>
     Ok(ranks)
 }
 
-// The value at an index, or 0.
-fn value_at(values: &[u32], index: usize) -> u32
+/// The value at an index, or 0.
+pub fn value_at(values: &[u32], index: usize) -> u32
     ensures { result ≡ get_or values.now index 0 }
 {
     match values.get(index) {
@@ -72,12 +73,9 @@ fn put(values: &mut [u32], index: usize, value: u32)
 
 // So many zeros.
 fn zeros(alloc: Global, count: usize) -> Result<Vec<u32>, Memory>
-    ensures { IfOk result (λ v. length v.items ≡ count) }
+    ensures { IfOk result (λ v. v.items ≡ replicate count 0) }
 {
-    let mut values = Vec::new(alloc);
-    for _ in 0..count {
-        values.push(0)?;
-    }
+    let values = vec![in alloc; 0; count]?;
     Ok(values)
 }
 
@@ -252,22 +250,55 @@ fn all_below(nodes: &[u32], ranks: &[u32], rank: u32) -> bool
 pub fn leads(alloc: Global, targets: &[Vec<u32>], from: u32, to: u32) -> Result<bool, Memory>
     ensures { IfOk result (λ b. IsTrue b ↔ Reaches (graph_of targets.now) from to) }
 {
+    if from == to {
+        return Ok(true);
+    }
     let mut seen = zeros(alloc, targets.len())?;
     let mut waiting = Vec::new(alloc);
-    waiting.push(from)?;
-    put(seen.as_mut_slice(), from as usize, 1);
-    while let Some(node) = waiting.pop() {
-        if node == to {
-            return Ok(true);
-        }
+    come_to(seen.as_mut_slice(), &mut waiting, from)?;
+    'nodes: while let Some(node) = waiting.pop() {
         if let Some(edges) = targets.get(node as usize) {
-            for target in edges.as_slice() {
-                if value_at(seen.as_slice(), *target as usize) == 0 {
-                    put(seen.as_mut_slice(), *target as usize, 1);
-                    waiting.push(*target)?;
-                }
+            if spread(edges.as_slice(), to, seen.as_mut_slice(), &mut waiting)? {
+                return Ok(true);
             }
         }
+    }
+    Ok(false)
+}
+
+// Comes to a node, which waits where it is new.
+#[tactic(auto, using(crate::proofs::Searching::comes))]
+fn come_to(seen: &mut [u32], waiting: &mut Vec<u32>, node: u32) -> Result<(), Memory>
+    ensures { OnOk result (Comes node seen.old waiting.old.items seen.new waiting.new.items) }
+{
+    let index = node as usize;
+    if index >= seen.len() {
+        return Ok(());
+    }
+    if seen[index] != 0 {
+        return Ok(());
+    }
+    seen[index] = 1;
+    waiting.push(node)?;
+    Ok(())
+}
+
+// Comes to each of these nodes; true where the one that is sought is among them.
+#[tactic(auto, using(crate::proofs::Searching::spreads))]
+fn spread(
+    nodes: &[u32],
+    to: u32,
+    seen: &mut [u32],
+    waiting: &mut Vec<u32>,
+) -> Result<bool, Memory>
+    ensures hit { IfOk result (λ b. IsTrue b → Contains nodes.now to) }
+    ensures spread { OnFalseOk result (Spreads nodes.now to seen.old waiting.old.items seen.new waiting.new.items) }
+{
+    for node in nodes {
+        if *node == to {
+            return Ok(true);
+        }
+        come_to(seen, waiting, *node)?;
     }
     Ok(false)
 }

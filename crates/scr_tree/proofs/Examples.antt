@@ -1,5 +1,5 @@
 -- Protocols that go on as one another: what they may do, and where they are at fault, computed from the definitions.
-use Rattle.std.proofs.Common.{◌≡◌, ℕ, List, [], ◌∷◌, map, codes, Some, None, inl, refl}
+use Rattle.std.proofs.Common.{◌≡◌, ℕ, List, [], ◌∷◌, map, codes, Some, None, refl, ap, arith}
 use Rattle.mg_text.specs.Call.{Name, Call}
 use Rattle.mg_text.specs.declared.place.Place.{Place}
 use Rattle.mg_read.specs.Culprit.{culprit}
@@ -93,9 +93,15 @@ runs_round = (
   refl,
 )
 
+-- how the first of some names begins
+abbrev first_byte : List Name → ℕ
+first_byte [] = 0
+first_byte ([] ∷ names) = 0
+first_byte ((byte ∷ bytes) ∷ names) = byte
+
 -- with `do Pong(S, C)`: RolesDiffer, at the `do`, with the name of the protocol behind it
 roles_differ : RolesDiffer (first (server ∷ client ∷ [])) (gives (record { place = at 3 3; name = pong; roles = server ∷ client ∷ [] })) (culprit (at 3 3) pong)
-roles_differ = (refl, λ e. cc)
+roles_differ = (refl, λ e. let one : 83 ≡ 67 = ap first_byte e in omega (arith, one))
 
 -- ---- local protocol P(self C, role S) { do P(C, S); }
 

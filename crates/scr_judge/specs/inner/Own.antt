@@ -27,8 +27,8 @@ OfOwn owns.ReservedLabel p = Judged (says.ReservedLabel (me_in p)) (spots [] p.b
 abbrev pub all_parts : Written → List Part
 all_parts w = w.first ∷ w.others.items
 
--- the first culprit of several protocols, one after another
-pub data FirstIn {P : Type 0} (At : P → Option Culprit → Type 0) : List P → Option Culprit → Type 0 where
+-- the first answer of several protocols, one after another
+pub data FirstIn {P C : Type 0} (At : P → Option C → Type 0) : List P → Option C → Type 0 where
   none : FirstIn At [] None
-  here : {p : P} {ps : List P} {c : Culprit} → At p (Some c) → FirstIn At (p ∷ ps) (Some c)
-  later : {p : P} {ps : List P} {r : Option Culprit} → At p None → FirstIn At ps r → FirstIn At (p ∷ ps) r
+  here : {p : P} {ps : List P} {c : C} → At p (Some c) → FirstIn At (p ∷ ps) (Some c)
+  later : {p : P} {ps : List P} {r : Option C} → At p None → FirstIn At ps r → FirstIn At (p ∷ ps) r

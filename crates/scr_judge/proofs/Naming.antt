@@ -41,7 +41,7 @@ pub ruleset again_steps = (common_steps, again_step, again_past)
 
 -- ---- the set has the names
 
-one_more : (has : Names) (names : List Name) (name : Name) → HasNames has names → HasNames (with_name name has) (names ++ name ∷ [])
+pub one_more : (has : Names) (names : List Name) (name : Name) → HasNames has names → HasNames (with_name name has) (names ++ name ∷ [])
 one_more has names name h = record { each = λ q. has_more (bytes_eq name q) (has q) names name q (bytes_eq-Decides name q) (h.each q) }
 
 pub has_all : (has : Names) (names more : List Name) → HasNames has names → HasNames (with_names more has) (names ++ more)
