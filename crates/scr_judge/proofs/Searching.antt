@@ -134,13 +134,13 @@ walked_start g from to n seen waiting all came = record {
 }
 
 -- a node that waited, and the edges from it
-pub walked_more : (g : Graph) (from to v : ℕ) (edges seen rest after waits : List ℕ) → get_or g v [] ≡ edges → Walked g from to seen (rest ++ v ∷ []) → Spreads edges to seen rest after waits →
+pub walked_more : (g : Graph) (from to v : ℕ) (seen rest after waits : List ℕ) → Walked g from to seen (rest ++ v ∷ []) → Spreads (get_or g v []) to seen rest after waits →
     Walked g from to after waits
-walked_more g from to v edges seen rest after waits are w s = record {
+walked_more g from to v seen rest after waits w s = record {
   size = s.came.size ∙ w.size;
   start = λ within. s.came.kept from (w.start (subst (λ n. from < n) s.came.size within));
   reached = λ u h. ⊎_elim (λ old. w.reached u (Contains-append_left rest (v ∷ []) u old))
-      (λ new. further (w.reached v (Contains-push rest v)) (subst (λ es. Contains es u) (sym are) new)) (s.came.from u h);
+      (λ new. further (w.reached v (Contains-push rest v)) new) (s.came.from u h);
   closed = λ u h. ⊎_elim (λ old. ⊎_elim
       (λ waited. ⊎_elim (λ still. inl (s.came.waiting u still)) (λ same. inr (subst (Done g to after) (sym same) popped)) (Contains-push_cases rest v u waited))
       (λ done. inr (λ x e. let d = done x e in (d.0, λ within. s.came.kept x (d.1 (subst (λ n. x < n) s.came.size within)))))
@@ -148,10 +148,10 @@ walked_more g from to v edges seen rest after waits are w s = record {
 }
   where
     popped : Done g to after v
-    popped x e = let here : Contains edges x = subst (λ es. Contains es x) are e in (s.missed x here, s.came.seen x here)
+    popped x e = (s.missed x e, s.came.seen x e)
 
-pub found_further : (g : Graph) (from to v : ℕ) (edges seen rest : List ℕ) → get_or g v [] ≡ edges → Walked g from to seen (rest ++ v ∷ []) → Contains edges to → Reaches g from to
-found_further g from to v edges seen rest are w h = further (w.reached v (Contains-push rest v)) (subst (λ es. Contains es to) (sym are) h)
+pub found_further : (g : Graph) (from to v : ℕ) (seen rest : List ℕ) → Walked g from to seen (rest ++ v ∷ []) → HasEdge g v to → Reaches g from to
+found_further g from to v seen rest w h = further (w.reached v (Contains-push rest v)) h
 
 -- an edge begins at a node that is there
 pub edge_within : (g : Graph) (v w : ℕ) → HasEdge g v w → v < length g

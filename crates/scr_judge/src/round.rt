@@ -1,8 +1,8 @@
 //! Protocols that go on as one another with no message, as a graph: its edges, an order of its
 //! numbers, and which way leads back.
 
-ghost use Rattle.std.specs.Prelude.{◌≡◌, ◌↔◌, ◌≤◌, ℕ, IfOk, OnOk, IsTrue, Contains, get_or, length, replicate};
-ghost use Rattle.scr_judge.specs.inner.Round.{Falls, Reaches};
+ghost use Rattle.std.specs.Prelude.{◌≡◌, ◌↔◌, ◌≤◌, [], ℕ, IfOk, OnOk, IsTrue, Contains, get_or, length, replicate};
+ghost use Rattle.scr_judge.specs.inner.Round.{Falls, HasEdge, Reaches};
 ghost use Rattle.scr_judge.specs.inner.Search.{Comes, Spreads, OnFalseOk};
 ghost use Rattle.scr_judge.specs.inner.View.{graph_of};
 
@@ -257,13 +257,29 @@ pub fn leads(alloc: Global, targets: &[Vec<u32>], from: u32, to: u32) -> Result<
     let mut waiting = Vec::new(alloc);
     come_to(seen.as_mut_slice(), &mut waiting, from)?;
     'nodes: while let Some(node) = waiting.pop() {
-        if let Some(edges) = targets.get(node as usize) {
-            if spread(edges.as_slice(), to, seen.as_mut_slice(), &mut waiting)? {
-                return Ok(true);
-            }
+        if follow(targets, node, to, seen.as_mut_slice(), &mut waiting)? {
+            return Ok(true);
         }
     }
     Ok(false)
+}
+
+// Comes to each node to which an edge of this one leads; true where the one that is sought is among
+// them.
+fn follow(
+    targets: &[Vec<u32>],
+    node: u32,
+    to: u32,
+    seen: &mut [u32],
+    waiting: &mut Vec<u32>,
+) -> Result<bool, Memory>
+    ensures hit { IfOk result (λ b. IsTrue b → HasEdge (graph_of targets.now) node to) }
+    ensures spread { OnFalseOk result (Spreads (get_or (graph_of targets.now) node []) to seen.old waiting.old.items seen.new waiting.new.items) }
+{
+    match targets.get(node as usize) {
+        Some(edges) => spread(edges.as_slice(), to, seen, waiting),
+        None => Ok(false),
+    }
 }
 
 // Comes to a node, which waits where it is new.
