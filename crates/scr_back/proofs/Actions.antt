@@ -17,7 +17,7 @@ use Rattle.scr_back.proofs.Spots.{Zip, zip-append, SameWay, SameSpot}
 use Rattle.scr_back.proofs.Kept.{meant_same}
 
 mutual
-  next_same : (me : Name) (n : ℕ) (s t : Statements) → AreSame s t → next me n s ≡ next me n t
+  pub next_same : (me : Name) (n : ℕ) (s t : Statements) → AreSame s t → next me n s ≡ next me n t
   next_same me n Nothing Nothing e = refl
   next_same me n (Says m r) (Says k o) e = next_same me n r o e.1
   next_same me n (Choice p at bs r) (Choice q by cs o) e =
@@ -78,7 +78,7 @@ mutual
       (subst (λ z. Zip SameAction (actions_in me (next me n b) more) (actions_in me z others)) (next_same me n b d e.0) (actions_in_same me _ more others e.1))
   actions_in_same me n _ _ e = absurd e
 
-zip_member : {X Y : Type 0} (R : X → Y → Type 0) (xs : List X) (ys : List Y) → Zip R xs ys → (y : Y) → Contains ys y → (x : X) × Contains xs x × R x y
+pub zip_member : {X Y : Type 0} (R : X → Y → Type 0) (xs : List X) (ys : List Y) → Zip R xs ys → (y : Y) → Contains ys y → (x : X) × Contains xs x × R x y
 zip_member R [] [] z y c = absurd (Contains-nil y c)
 zip_member R (x ∷ xs) (u ∷ us) z y c =
     ⊎_elim (λ same. (x, Contains-first xs x, subst (R x) same z.0)) (λ m. let o = zip_member R xs us z.1 y m in (o.0, Contains-later xs x o.0 o.1, o.2)) (Contains-cons_cases us u y c)

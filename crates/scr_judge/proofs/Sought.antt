@@ -29,20 +29,20 @@ pub record IsOnce (at_once : Bool) (way : Way) : Type 0 where
   pub to : at_once ≡ true → AtOnce way
   pub from : AtOnce way → at_once ≡ true
 
-past_at : (w : Way) → AtOnce w → (s : Statements) (way : Way) → w ≡ Past s ∷ way → IsTrue (passes s) × AtOnce way
+pub past_at : (w : Way) → AtOnce w → (s : Statements) (way : Way) → w ≡ Past s ∷ way → IsTrue (passes s) × AtOnce way
 past_at w starting s way e = let no : ⊥ = cc in absurd no
 past_at w (passing {s = t} {way = v} p a) s way e =
     let same : t ≡ s = cc in let rest : v ≡ way = cc in (subst (λ x. IsTrue (passes x)) same p, subst AtOnce rest a)
 past_at w (into_rec a) s way e = let no : ⊥ = cc in absurd no
 past_at w (into_branch a) s way e = let no : ⊥ = cc in absurd no
 
-opens_at : (w : Way) → AtOnce w → (name : Name) (way : Way) → w ≡ Opens name ∷ way → AtOnce way
+pub opens_at : (w : Way) → AtOnce w → (name : Name) (way : Way) → w ≡ Opens name ∷ way → AtOnce way
 opens_at w starting name way e = let no : ⊥ = cc in absurd no
 opens_at w (passing p a) name way e = let no : ⊥ = cc in absurd no
 opens_at w (into_rec {way = v} a) name way e = let rest : v ≡ way = cc in subst AtOnce rest a
 opens_at w (into_branch a) name way e = let no : ⊥ = cc in absurd no
 
-enters_at : (w : Way) → AtOnce w → (at : Name) (earlier : List Statements) (way : Way) → w ≡ Enters at earlier ∷ way → AtOnce way
+pub enters_at : (w : Way) → AtOnce w → (at : Name) (earlier : List Statements) (way : Way) → w ≡ Enters at earlier ∷ way → AtOnce way
 enters_at w starting at earlier way e = let no : ⊥ = cc in absurd no
 enters_at w (passing p a) at earlier way e = let no : ⊥ = cc in absurd no
 enters_at w (into_rec a) at earlier way e = let no : ⊥ = cc in absurd no
