@@ -1,6 +1,7 @@
 -- A whole file is read where the grammar spells it, and nowhere else.
 use Rattle.std.proofs.Common.{◌≡◌, ◌≤◌, ◌<◌, ◌-◌, ◌==◌, ℕ, zero, suc, List, [], ◌∷◌, ◌++◌, length, take, Bool, true, false, Some, refl, sym, ap, ◌∙◌, subst, append_assoc, append-nil, length-append, arith, true≢false, inl, inr}
 use Rattle.std.specs.List.{AllByRecursion}
+use Rattle.std.proofs.lemmas.Bool.Decides.{nat_tests}
 use Rattle.mg_text.specs.Call.{Name}
 use Rattle.mg_text.specs.declared.place.Place.{Place}
 use Rattle.mg_read.specs.Reader.{Reader, ◌>>=◌, many, all_of}
@@ -74,7 +75,7 @@ module _ (declared : List Declaration) where
       let block = (blocks_exact declared 200).sound h.0.1 b.0 b.1 in
       let row = block_row declared 200 b.0.0 block.front block.holds in
       let gathered = block_gathers declared (joined b.0.0) row.0 block.front row.1 in
-      let cut : up_to h.0.1 b.0.1 ≡ block.front = rw block.parts (up_to_is block.front b.0.1) in
+      let cut : up_to h.0.1 b.0.1 ≡ block.front = ap (λ (us : List Tok). up_to us b.0.1) block.parts ∙ up_to_is block.front b.0.1 in
       subst (λ (y : WrittenPart × List Tok). Takes (PartOf declared y.0) ts y.1) (some_is _ x b.2)
       (record {
         front = title.front ++ (header.front ++ block.front);
@@ -150,6 +151,9 @@ module _ {T A : Type 0} (go : List T → Bool) (f : Reader T A) where
   unfolding all_of
   all_stops ts x e = many_stops (suc (length ts)) ts x e
 
+positive : (n : ℕ) → false ≡ (suc n == 0)
+positive n = grind (arith, nat_tests)
+
 -- whether tokens are left, as the loop asks
 pub more_goes : (b : Bool) (ts : List Token) → b ≡ (length ts == 0) → b ≡ false → is_more (toks ts) ≡ true
 more_goes b [] e f = cc
@@ -157,7 +161,7 @@ more_goes b (t ∷ ts) e f = refl
 
 pub more_stops : (b : Bool) (ts : List Token) → b ≡ (length ts == 0) → b ≡ true → is_more (toks ts) ≡ false
 more_stops b [] e f = refl
-more_stops b (t ∷ ts) e f = let h : (length (t ∷ ts) == 0) ≡ true = sym e ∙ f in cc
+more_stops b (t ∷ ts) e f = absurd (true≢false (sym f ∙ e ∙ sym (positive (length ts))))
 
 -- ---- the file
 
