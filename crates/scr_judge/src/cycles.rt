@@ -1,6 +1,6 @@
 //! Control goes round the protocols of a file, and begins a `rec` again, only behind a message.
 
-ghost use Rattle.std.specs.Prelude.{◌≡◌, ◌↔◌, [], ◌∷◌, List, ℕ, Some, IfOk, OnOk, IsTrue, Contains, map, replicate, length, position};
+ghost use Rattle.std.specs.Prelude.{◌≡◌, ◌↔◌, [], ◌∷◌, List, ℕ, true, Some, IfOk, OnOk, IsTrue, Contains, map, replicate, length, position};
 ghost use Rattle.std.specs.Str.{bytes_eq};
 ghost use Rattle.mg_text.specs.Interned.{with_text};
 ghost use Rattle.mg_read.specs.First.{Judged};
