@@ -91,11 +91,8 @@ same_or_not v w = grind arith
 
 set_past : (g : Graph) (v : ℕ) (es : List ℕ) → length g ≤ v → set g v es ≡ g
 set_past [] v es past = refl
-set_past (x ∷ g) v es past = go v past
-  where
-    go : (v : ℕ) → length (x ∷ g) ≤ v → set (x ∷ g) v es ≡ x ∷ g
-    go zero p = absurd (omega arith)
-    go (suc v) p = ap (λ (l : Graph). x ∷ l) (set_past g v es (omega arith))
+set_past (x ∷ g) zero es past = absurd (omega arith)
+set_past (x ∷ g) (suc v) es past = ap (λ (l : Graph). x ∷ l) (set_past g v es (omega arith))
 
 within_or_past : (v n : ℕ) → (v < n) ⊎ (n ≤ v)
 within_or_past v n = grind arith

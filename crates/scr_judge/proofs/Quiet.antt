@@ -41,7 +41,7 @@ quietly_opened w (entering q) other way e differs = let no : ⊥ = cc in absurd 
 
 module _ {names : List Name} {way : Way} (h : AreOpen names way) where
   -- behind a statement
-  past_open : (b : Bool) (s : Statements) → passes s ≡ b → AreOpen (kept b names) (Past s ∷ way)
+  pub past_open : (b : Bool) (s : Statements) → passes s ≡ b → AreOpen (kept b names) (Past s ∷ way)
   past_open true s e = record { each = λ n. (λ t. past e ((h.each n).0 t), λ q. (h.each n).1 (quietly_past _ q s way refl).1) }
   past_open false s e = record { each = λ n. (λ t. absurd (true≢false (sym t)), λ q. absurd (true≢false (sym (quietly_past _ q s way refl).0 ∙ e))) }
 
@@ -51,11 +51,11 @@ module _ {names : List Name} {way : Way} (h : AreOpen names way) where
   opens_one name q false d =
       (λ i. opening ((h.each q).0 i), λ k. (h.each q).1 (quietly_opened _ k name way refl (λ same. true≢false (sym (d.1 (sym same))))))
 
-  body_open : (name : Name) → AreOpen (name ∷ names) (Opens name ∷ way)
+  pub body_open : (name : Name) → AreOpen (name ∷ names) (Opens name ∷ way)
   body_open name = record { each = λ q. opens_one name q (bytes_eq q name) (bytes_eq-Decides q name) }
 
   -- in a branch
-  branch_open : (at : Name) (earlier : List Statements) → AreOpen names (Enters at earlier ∷ way)
+  pub branch_open : (at : Name) (earlier : List Statements) → AreOpen names (Enters at earlier ∷ way)
   branch_open at earlier = record { each = λ n. (λ t. entering ((h.each n).0 t), λ q. (h.each n).1 (quietly_in _ q at earlier way refl)) }
 
 pub and_true : (b : Bool) → (b && true) ≡ b

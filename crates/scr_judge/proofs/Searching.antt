@@ -45,8 +45,8 @@ pub came_new : (seen waiting : List ℕ) (v : ℕ) → v < length seen → get_o
 came_new seen waiting v within new = record {
   size = length-set seen v 1;
   kept = λ u k. ⊎_elim (λ same. absurd (k (ap (λ n. get_or seen n 0) (sym same) ∙ new))) (λ other e. k (sym (get_or-set_other seen v u 1 0 (λ same. other (sym same))) ∙ e)) (same_or_not v u);
-  seen = λ u c inside e. let now : get_or (set seen v 1) u 0 ≡ 1 = ap (λ n. get_or (set seen v 1) n 0) (sym (one_is v u c)) ∙ get_or-set_same seen v 1 0 within in
-      let no : 1 ≡ 0 = sym now ∙ e in omega (arith, no);
+  seen = λ u c inside e. let now : ◌≡◌ {A = ℕ} (get_or (set seen v 1) u 0) 1 = ap (λ n. get_or (set seen v 1) n 0) (sym (one_is v u c)) ∙ get_or-set_same seen v 1 0 within in
+      let none : ◌≡◌ {A = ℕ} (get_or (set seen v 1) u 0) 0 = e in omega (arith, now, none);
   fresh = λ u k. ⊎_elim (λ same. inr (subst (Contains (waiting ++ v ∷ [])) same (Contains-push waiting v)))
       (λ other. inl (λ e. k (get_or-set_other seen v u 1 0 (λ same. other (sym same)) ∙ e))) (same_or_not v u);
   waiting = λ u c. Contains-append_left waiting (v ∷ []) u c;
@@ -120,7 +120,7 @@ pub record Walked (g : Graph) (from to : ℕ) (seen waiting : List ℕ) : Type 0
   pub reached : (v : ℕ) → Contains waiting v → Reaches g from v
   pub closed : (v : ℕ) → get_or seen v 0 ≢ 0 → Contains waiting v ⊎ Done g to seen v
 
-no_mark : (n v : ℕ) → get_or (replicate n 0) v 0 ≡ 0
+no_mark : (n v : ℕ) → ◌≡◌ {A = ℕ} (get_or (replicate n 0) v 0) 0
 no_mark zero v = refl
 no_mark (suc n) zero = refl
 no_mark (suc n) (suc v) = no_mark n v

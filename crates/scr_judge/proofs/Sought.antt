@@ -90,25 +90,25 @@ module _ (name : Name) where
       (λ none. nowhere name (none_gone rest) none) (Contains-cons_cases (gone false rest) other name h)
   met_do false goal p other rest r g h e = nowhere name (none_gone rest) h
 
+  met_behind : (q : Bool) (names : List Name) (goal : Option Name) (b : Bool) (rest : Statements) → Contains (gone (q && b) rest) name → unguarded names (kept_goal q goal) rest ≡ None →
+      (Contains (gone b rest) name → unguarded names goal rest ≡ None → ⊥) → ⊥
+  met_behind true names goal b rest h e go = go h e
+  met_behind false names goal b rest h e go = nowhere name (none_gone rest) h
+
   mutual
     met : (names : List Name) (goal : Option Name) (b : Bool) (ss : Statements) → goal ≡ Some name → Contains (gone b ss) name → unguarded names goal ss ≡ None → ⊥
     met names goal b Nothing g h e = Contains-nil name h
     met names goal b (Says m rest) g h e = nowhere name (none_gone rest) h
     met names goal b (Choice p at bs rest) g h e =
         let none = none_parts (unguarded_in names goal bs) (unguarded (kept (some_passes bs) names) (kept_goal (some_passes bs) goal) rest) e in
-        ⊎_elim (λ one. met_in names goal b bs g one none.0) (λ more. met_behind (some_passes bs) (kept (some_passes bs) names) goal b rest g more none.1)
+        ⊎_elim (λ one. met_in names goal b bs g one none.0) (λ more. met_behind (some_passes bs) (kept (some_passes bs) names) goal b rest more none.1 (λ c e. met (kept (some_passes bs) names) goal b rest g c e))
         (Contains-append_cases (gone_in b bs) (gone (some_passes bs && b) rest) name h)
     met names goal b (Rec p label body rest) g h e =
         let none = none_parts (unguarded (label ∷ names) goal body) (unguarded (kept (passes body) names) (kept_goal (passes body) goal) rest) e in
-        ⊎_elim (λ one. met (label ∷ names) goal b body g one none.0) (λ more. met_behind (passes body) (kept (passes body) names) goal b rest g more none.1)
+        ⊎_elim (λ one. met (label ∷ names) goal b body g one none.0) (λ more. met_behind (passes body) (kept (passes body) names) goal b rest more none.1 (λ c e. met (kept (passes body) names) goal b rest g c e))
         (Contains-append_cases (gone b body) (gone (passes body && b) rest) name h)
     met names goal b (Continue p label rest) g h e = nowhere name (none_gone rest) h
     met names goal b (Do p other rest) g h e = met_do b goal p other rest (unguarded [] None rest) g h e
-
-    met_behind : (q : Bool) (names : List Name) (goal : Option Name) (b : Bool) (rest : Statements) → goal ≡ Some name → Contains (gone (q && b) rest) name →
-        unguarded names (kept_goal q goal) rest ≡ None → ⊥
-    met_behind true names goal b rest g h e = met names goal b rest g h e
-    met_behind false names goal b rest g h e = nowhere name (none_gone rest) h
 
     met_in : (names : List Name) (goal : Option Name) (b : Bool) (bs : Branches) → goal ≡ Some name → Contains (gone_in b bs) name → unguarded_in names goal bs ≡ None → ⊥
     met_in names goal b NoBranch g h e = Contains-nil name h
@@ -146,15 +146,18 @@ module _ (Bad : Name → Type 0) where
       go zs (missed {name = name} {names = names} n more) e =
           let same : name ≡ x = cc in let rest : names ≡ xs = cc in (λ b. n (subst Bad (sym same) b), subst (UpTo goal) rest more)
 
-  up_front : {goal : Option Name} (xs ys : List Name) → UpTo goal (xs ++ ys) → UpTo goal xs
-  up_front [] ys u = ended
-  up_front {goal} (x ∷ xs) ys u = go (x ∷ (xs ++ ys)) u refl
+  up_cons : {goal : Option Name} (x : Name) (xs ys : List Name) → UpTo goal (x ∷ (xs ++ ys)) → (UpTo goal (xs ++ ys) → UpTo goal xs) → UpTo goal (x ∷ xs)
+  up_cons {goal} x xs ys u more = go (x ∷ (xs ++ ys)) u refl
     where
       go : (zs : List Name) → UpTo goal zs → zs ≡ x ∷ (xs ++ ys) → UpTo goal (x ∷ xs)
       go zs ended e = let no : ⊥ = cc in absurd no
       go zs (hit {name = name} g) e = let same : name ≡ x = cc in hit (g ∙ ap Some same)
-      go zs (missed {name = name} {names = names} n more) e =
-          let same : name ≡ x = cc in let rest : names ≡ xs ++ ys = cc in missed (λ b. n (subst Bad (sym same) b)) (up_front xs ys (subst (UpTo goal) rest more))
+      go zs (missed {name = name} {names = names} n rest) e =
+          let same : name ≡ x = cc in let are : names ≡ xs ++ ys = cc in missed (λ b. n (subst Bad (sym same) b)) (more (subst (UpTo goal) are rest))
+
+  up_front : {goal : Option Name} (xs ys : List Name) → UpTo goal (xs ++ ys) → UpTo goal xs
+  up_front [] ys u = ended
+  up_front (x ∷ xs) ys u = up_cons x xs ys u (up_front xs ys)
 
   -- behind names none of which is sought
   up_behind : {goal : Option Name} (xs ys : List Name) → ((name : Name) → goal ≡ Some name → Contains xs name → ⊥) → UpTo goal (xs ++ ys) → UpTo goal ys

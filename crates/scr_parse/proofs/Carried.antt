@@ -121,10 +121,22 @@ module _ (declared : List Declaration) where
   in_turn : (ns ms ks : List Note) (us vs rest : List Tok) → ns ≡ ms ++ ks → Gathers ms us (vs ++ rest) → Gathers ks vs rest
       → Gathers ns (us ++ vs) rest
   in_turn ns ms ks us vs rest e first second = record {
-    carried = rw (append_assoc us vs rest, first.carried, second.carried, e, carries_append ms ks,
-        append_assoc (carries_among ms) (carries_among ks) (carries_in rest)) refl;
-    given = rw (append_assoc us vs rest, first.given, second.given, e, arguments_append ms ks,
-        append_assoc (arguments_among ms) (arguments_among ks) (arguments_in rest)) refl;
+    carried = rw (
+      append_assoc us vs rest,
+      first.carried,
+      second.carried,
+      e,
+      carries_append ms ks,
+      append_assoc (carries_among ms) (carries_among ks) (carries_in rest),
+    ) refl;
+    given = rw (
+      append_assoc us vs rest,
+      first.given,
+      second.given,
+      e,
+      arguments_append ms ks,
+      append_assoc (arguments_among ms) (arguments_among ks) (arguments_in rest),
+    ) refl;
   }
 
   -- what stands between braces

@@ -80,18 +80,21 @@ module _ (declared : List Declaration) where
       (record {
         front = title.front ++ (header.front ++ block.front);
         parts = part_parts title.front header.front block.front ts n.0.1 h.0.1 b.0.1 title.parts header.parts block.parts;
-        holds = (record {
-          header = header.front;
-          block = block.front;
-          notes = row.0;
-          local_at = title.holds.0;
-          protocol_at = title.holds.1;
-          tokens = ap (λ (r : List Tok). r ++ (header.front ++ block.front)) title.holds.2;
-          heads = header.holds;
-          body = row.1;
-          carries = ap carries_in (cut ∙ sym (append-nil block.front)) ∙ gathered.carried ∙ append-nil (carries_among row.0);
-          arguments = ap arguments_in (cut ∙ sym (append-nil block.front)) ∙ gathered.given ∙ append-nil (arguments_among row.0);
-        }, row.2);
+        holds = (
+          record {
+            header = header.front;
+            block = block.front;
+            notes = row.0;
+            local_at = title.holds.0;
+            protocol_at = title.holds.1;
+            tokens = ap (λ (r : List Tok). r ++ (header.front ++ block.front)) title.holds.2;
+            heads = header.holds;
+            body = row.1;
+            carries = ap carries_in (cut ∙ sym (append-nil block.front)) ∙ gathered.carried ∙ append-nil (carries_among row.0);
+            arguments = ap arguments_in (cut ∙ sym (append-nil block.front)) ∙ gathered.given ∙ append-nil (arguments_among row.0);
+          },
+          row.2,
+        );
       })
 
   part_complete : (p : WrittenPart) (ts rest : List Tok) → Anything rest → PartOf declared p ts → part_at declared (ts ++ rest) ≡ Some (p, rest)

@@ -93,12 +93,7 @@ fn put_do(out: &mut String, roles: &[Text], name: &str) -> Result<(), Memory>
 // Statements between braces, one level further in.
 #[tactic(auto, using(crate::proofs::Laid::laid))]
 #[cycle(print)]
-fn put_block(
-    out: &mut String,
-    roles: &[Text],
-    level: u32,
-    body: &[Statement],
-) -> Result<(), Memory>
+fn put_block(out: &mut String, roles: &[Text], level: u32, body: &[Statement]) -> Result<(), Memory>
     ensures { OnOk result (string_bytes out.new ≡ string_bytes out.old ++ block roles.now level (statements body.now)) }
 {
     let Some(inside) = level.checked_add(1) else {
@@ -113,12 +108,7 @@ fn put_block(
 
 #[tactic(auto, using(crate::proofs::Laid::all_steps))]
 #[cycle(print)]
-fn put_all(
-    out: &mut String,
-    roles: &[Text],
-    level: u32,
-    body: &[Statement],
-) -> Result<(), Memory>
+fn put_all(out: &mut String, roles: &[Text], level: u32, body: &[Statement]) -> Result<(), Memory>
     ensures { OnOk result (string_bytes out.new ≡ string_bytes out.old ++ lines roles.now level (statements body.now)) }
 {
     for statement in body {

@@ -390,15 +390,18 @@ part_at declared ts = do
   title ← title_at ts
   header ← header_at title.1
   body ← block_with (statement_at declared 200) header.1
-  Some (record {
-    place = title.0.0;
-    name = title.0.1;
-    me = header.0.0;
-    roles = header.0.1;
-    carries = carries_in (up_to header.1 body.1);
-    arguments = arguments_in (up_to header.1 body.1);
-    body = joined body.0;
-  }, body.1)
+  Some (
+    record {
+      place = title.0.0;
+      name = title.0.1;
+      me = header.0.0;
+      roles = header.0.1;
+      carries = carries_in (up_to header.1 body.1);
+      arguments = arguments_in (up_to header.1 body.1);
+      body = joined body.0;
+    },
+    body.1,
+  )
 
 -- whether tokens are left
 abbrev pub is_more : List Tok → Bool
