@@ -104,21 +104,21 @@ module _ (me : Name) where
         both n (many (spots (Enters at earlier ∷ way) b)) (many (branch_spots way at (b ∷ earlier) more)) _ _ _ inner (counted_in_exact _ way at (b ∷ earlier) more (below _ _ _ inner)) (many-append (spots (Enters at earlier ∷ way) b) (branch_spots way at (b ∷ earlier) more))
 
 -- the same of protocols, one after another
-parts_count : (n : ℕ) (ps : List Part) → n ≤ 1001 → Counts n (length (all_states me_in body_of (map part_written ps))) (counted_parts n ps)
+parts_count : (ps : List Part) (n : ℕ) → n ≤ 1001 → Counts n (length (all_states me_in body_of (map part_written ps))) (counted_parts n ps)
 unfolding many
-parts_count n [] h = nothing n h
-parts_count n (p ∷ ps) h =
+parts_count [] n h = nothing n h
+parts_count (p ∷ ps) n h =
     let own : Counts n (many p.me.name (spots [] (statements p.body.items))) (counted p.me.name false n (statements p.body.items)) =
     counted_exact p.me.name false n [] (statements p.body.items) refl h in
     both n (many p.me.name (spots [] (statements p.body.items))) (length (all_states me_in body_of (map part_written ps))) _ _ _ own
-    (parts_count _ ps (below _ _ _ own))
+    (parts_count ps (counted p.me.name false n (statements p.body.items)) (below _ _ _ own))
     (sym (length-append (states p.me.name (statements p.body.items)) (all_states me_in body_of (map part_written ps))))
 
 -- whether there are more than a thousand states
 pub too_many : (p : Part) (ps : List Part) (n : ℕ) → n ≡ counted_parts (counted p.me.name false 0 (statements p.body.items)) ps →
     (1000 < n) ↔ (1000 < length (all_states me_in body_of (map part_written (p ∷ ps))))
 too_many p ps n e =
-    let c : Counts 0 (length (all_states me_in body_of (map part_written (p ∷ ps)))) (counted_parts 0 (p ∷ ps)) = parts_count 0 (p ∷ ps) (omega arith) in (
+    let c : Counts 0 (length (all_states me_in body_of (map part_written (p ∷ ps)))) (counted_parts 0 (p ∷ ps)) = parts_count (p ∷ ps) 0 (omega arith) in (
       λ l. ⊎_elim (λ small. let f = c.low small in omega (arith, l, e, f)) (λ big. omega (arith, big)) (less_or (0 + length (all_states me_in body_of (map part_written (p ∷ ps))))),
       λ l. let f = c.high (omega (arith, l)) in omega (arith, e, f),
     )

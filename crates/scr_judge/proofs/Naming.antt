@@ -1,5 +1,5 @@
 -- Names of protocols, and names in their order.
-use Rattle.std.proofs.Common.{◌≡◌, ◌↔◌, ℕ, ◌+◌, ◌<◌, ◌≤◌, Bool, true, false, ◌&&◌, ◌||◌, IsTrue, List, [], ◌∷◌, ◌++◌, map, length, get_or, drop, Contains, Decides, Option, Some, None, refl, sym, ap, subst, ◌∙◌, ⊎_elim, true≢false, append_assoc}
+use Rattle.std.proofs.Common.{◌≡◌, ◌↔◌, ℕ, ◌+◌, ◌<◌, ◌≤◌, Bool, true, false, if◌then◌else◌, ◌&&◌, ◌||◌, IsTrue, List, [], ◌∷◌, ◌++◌, map, length, get_or, drop, Contains, Decides, Option, Some, None, refl, sym, ap, subst, ◌∙◌, ⊎_elim, true≢false, append_assoc}
 use Rattle.std.specs.Str.{bytes_eq}
 use Rattle.std.proofs.lemmas.List.{at_drop_more, at_drop_all, map-append}
 use Rattle.std.proofs.lemmas.List.Elements.{Contains-append_left, Contains-push, Contains-push_cases}
@@ -27,10 +27,10 @@ module _ (has : Names) (ps : List Part) (i : ℕ) where
   names_past h = at_drop_all (λ qs. with_names (map part_name qs) has) ps i h
 
   pub again_step : (x : Part) → i < length ps → x ≡ get_or ps i x →
-      named_again has (drop i ps) ≡ elim (has x.name) [ true ↦ Some (culprit x.place x.name) | false ↦ named_again (with_name x.name has) (drop (i + 1) ps) ]
+      named_again has (drop i ps) ≡ (if has x.name then Some (culprit x.place x.name) else named_again (with_name x.name has) (drop (i + 1) ps))
   again_step x within is =
       at_drop_more (named_again has) ps i x within
-      ∙ ap (λ (y : Part). elim (has y.name) [ true ↦ Some (culprit y.place y.name) | false ↦ named_again (with_name y.name has) (drop (i + 1) ps) ]) (sym is)
+      ∙ ap (λ (y : Part). if has y.name then Some (culprit y.place y.name) else named_again (with_name y.name has) (drop (i + 1) ps)) (sym is)
 
   pub again_past : length ps ≤ i → named_again has (drop i ps) ≡ None
   again_past h = at_drop_all (named_again has) ps i h
@@ -56,7 +56,7 @@ has_all has names (name ∷ more) h =
 -- ---- protocols of one name
 
 again_or : (b : Bool) (seen : List WrittenPart) (p : Part) (has : Names) (r : Option Culprit) (rest : _) → has p.name ≡ b → HasNames has (map name_in seen) → Judged DuplicateProtocol rest r →
-    Judged DuplicateProtocol ((seen, part_written p) ∷ rest) (elim b [ true ↦ Some (culprit p.place p.name) | false ↦ r ])
+    Judged DuplicateProtocol ((seen, part_written p) ∷ rest) (if b then Some (culprit p.place p.name) else r)
 again_or true seen p has r rest e h j = here (refl, (h.each p.name).0 e)
 again_or false seen p has r rest e h j = later (λ c x. true≢false (sym ((h.each p.name).1 x.1) ∙ e)) j
 

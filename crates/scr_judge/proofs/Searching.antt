@@ -142,7 +142,7 @@ walked_more g from to v seen rest after waits w s = record {
   reached = λ u h. ⊎_elim (λ old. w.reached u (Contains-append_left rest (v ∷ []) u old))
       (λ new. further (w.reached v (Contains-push rest v)) new) (s.came.from u h);
   closed = λ u h. ⊎_elim (λ old. ⊎_elim
-      (λ waited. ⊎_elim (λ still. inl (s.came.waiting u still)) (λ same. inr (subst (Done g to after) (sym same) popped)) (Contains-push_cases rest v u waited))
+      (λ waited. ⊎_elim (λ still. inl (s.came.waiting u still)) (λ same. inr (subst (Done g to after) same popped)) (Contains-push_cases rest v u waited))
       (λ done. inr (λ x e. let d = done x e in (d.0, λ within. s.came.kept x (d.1 (subst (λ n. x < n) s.came.size within)))))
       (w.closed u old)) (λ new. inl new) (s.came.fresh u h);
 }

@@ -21,17 +21,17 @@ use Rattle.scr_judge.specs.inner.Gone.{First, Neither, Deed, Goes, first_or, fir
 
 -- ---- whether there is a message or a choice
 
-or_false : (b : Bool) → b ≡ (b || false)
+pub or_false : (b : Bool) → b ≡ (b || false)
 or_false true = refl
 or_false false = refl
 
 any_append : (xs ys : List Spot) → list_any is_deed (xs ++ ys) ≡ (list_any is_deed xs || list_any is_deed ys)
 any_append [] ys = refl
-any_append (x ∷ xs) ys = or_first (is_deed x) (any_append xs ys)
+any_append (x ∷ xs) ys = or_first (is_deed x) _ _ _ (any_append xs ys)
   where
-    or_first : (b : Bool) {p q r : Bool} → p ≡ (q || r) → (b || p) ≡ ((b || q) || r)
-    or_first true e = refl
-    or_first false e = e
+    or_first : (b p q r : Bool) → p ≡ (q || r) → (b || p) ≡ ((b || q) || r)
+    or_first true p q r e = refl
+    or_first false p q r e = e
 
 pub acts_exact : (way : Way) (ss : Statements) → list_any is_deed (spots way ss) ≡ acts ss
 acts_exact way Nothing = refl
@@ -118,7 +118,7 @@ module _ (p : Part) (ss : Statements) (same : ss ≡ statements p.body.items) wh
 
 -- ---- one statement, and those behind it
 
-or_neither : (f : First) → f ≡ first_or f Neither
+pub or_neither : (f : First) → f ≡ first_or f Neither
 or_neither Neither = refl
 or_neither Deed = refl
 or_neither (Goes place) = refl

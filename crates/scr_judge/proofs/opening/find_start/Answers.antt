@@ -6,4 +6,4 @@ use Rattle.scr_judge.proofs.opening.find_start.Goals as goal
 
 pub returns-then-not-has_deed : goal.returns-then-not-has_deed
 returns-then-not-has_deed c =
-    no_deed c.args.part.now (statements c.as_slice-body.result.now) (ap statements c.as_slice-body.ensures.items) (sym c.has_deed.ensures ∙ sym c.if-not-has_deed.ensures)
+    no_deed c.args.part.now (statements c.as_slice-body.result.now) (ap statements c.as_slice-body.ensures.items) (sym c.if-not-has_deed.ensures)

@@ -1,4 +1,4 @@
-use Rattle.std.proofs.Common.{◌≡◌, ap, ◌∙◌}
+use Rattle.std.proofs.Common.{false, ap, ◌∙◌}
 use Rattle.scr_tree.specs.View.{statements}
 use Rattle.scr_judge.specs.inner.Counting.{counted, counted_parts}
 use Rattle.scr_judge.proofs.Counting.{too_many}
