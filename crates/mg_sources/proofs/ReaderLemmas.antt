@@ -58,6 +58,11 @@ protocol_said s (protocols.ReservedLabel place name) f h e = (_, refl, same_faul
 protocol_said s (protocols.NameClash place name) f h e = (_, refl, same_fault _ f e)
 protocol_said s (protocols.TooManyStates place) f h e = (_, refl, same_fault _ f e)
 protocol_said s protocols.Memory f h e = not_said f e
+protocol_said s (protocols.UnknownProtocol place name) f h e = (_, refl, same_fault _ f e)
+protocol_said s (protocols.DuplicateProtocol place name) f h e = (_, refl, same_fault _ f e)
+protocol_said s (protocols.RolesDiffer place name) f h e = (_, refl, same_fault _ f e)
+protocol_said s (protocols.NotLast place name) f h e = (_, refl, same_fault _ f e)
+protocol_said s (protocols.StartsWithDo place name) f h e = (_, refl, same_fault _ f e)
 
 typestate_said : (s : Source) (fault : TsFault) (f : Fault) → of_typestates.HasPlace s.number s.bytes fault → said_of_typestate fault ≡ Some f →
     (answer : of_typestates.Answer) × (of_typestates.answer_of (Err fault) ≡ Some answer) × IsSaidOfTypestate s answer f

@@ -9,7 +9,7 @@ use Rattle.mg_read.specs.First.{Clean, behind}
 use Rattle.scr_tree.specs.Actions.{Action, Moves, NameClash, actions, actions_in, next, next_in, opened, looked_unless, peer_in}
 use Rattle.scr_tree.specs.CallNames.{message_call}
 use Rattle.scr_tree.specs.States.{begins, is_state}
-use Rattle.scr_tree.specs.Tree.{Statements, Nothing, Says, Choice, Rec, Continue, Branches, NoBranch, Branch}
+use Rattle.scr_tree.specs.Tree.{Statements, Nothing, Says, Choice, Rec, Continue, Do, Branches, NoBranch, Branch}
 use Rattle.scr_tree.specs.Spots.{Past, Opens, Enters, Way, Spot, spot}
 use Rattle.scr_judge.proofs.Members.{Contains-nil, Contains-cons_cases, Contains-first, Contains-later}
 use Rattle.scr_back.specs.Same.{AreSame, AreSameBranches}
@@ -17,7 +17,7 @@ use Rattle.scr_back.proofs.Spots.{Zip, zip-append, SameWay, SameSpot}
 use Rattle.scr_back.proofs.Kept.{meant_same}
 
 mutual
-  next_same : (me : Name) (n : ℕ) (s t : Statements) → AreSame s t → next me n s ≡ next me n t
+  pub next_same : (me : Name) (n : ℕ) (s t : Statements) → AreSame s t → next me n s ≡ next me n t
   next_same me n Nothing Nothing e = refl
   next_same me n (Says m r) (Says k o) e = next_same me n r o e.1
   next_same me n (Choice p at bs r) (Choice q by cs o) e =
@@ -25,6 +25,7 @@ mutual
       ∙ ap (λ z. next me z r) (next_in_same me (opened (bytes_eq by me) n) bs cs e.1) ∙ next_same me _ r o e.2
   next_same me n (Rec p name body r) (Rec q word inner o) e = ap (λ z. next me z r) (next_same me n body inner e.1) ∙ next_same me _ r o e.2
   next_same me n (Continue p name r) (Continue q word o) e = next_same me n r o e.1
+  next_same me n (Do p name r) (Do q word o) e = next_same me n r o e.1
   next_same me n _ _ e = absurd e
 
   next_in_same : (me : Name) (n : ℕ) (bs cs : Branches) → AreSameBranches bs cs → next_in me n bs ≡ next_in me n cs
@@ -39,6 +40,7 @@ peer_same (Branch (Says m r) more) (Branch (Says n o) others) e = ap Some e.0.0.
 peer_same (Branch (Choice p at ds r) more) (Branch (Choice q by cs o) others) e = refl
 peer_same (Branch (Rec p name body r) more) (Branch (Rec q word inner o) others) e = refl
 peer_same (Branch (Continue p name r) more) (Branch (Continue q word o) others) e = refl
+peer_same (Branch (Do p name r) more) (Branch (Do q word o) others) e = refl
 peer_same (Branch b more) (Branch d others) e = absurd e.0
 peer_same _ _ e = absurd e
 
@@ -66,6 +68,7 @@ mutual
       zip-append SameAction (actions me n body) _ (actions me n inner) _ (actions_same me n body inner e.1)
       (subst (λ z. Zip SameAction (actions me (next me n body) r) (actions me z o)) (next_same me n body inner e.1) (actions_same me _ r o e.2))
   actions_same me n (Continue p name r) (Continue q word o) e = actions_same me n r o e.1
+  actions_same me n (Do p name r) (Do q word o) e = actions_same me n r o e.1
   actions_same me n _ _ e = absurd e
 
   actions_in_same : (me : Name) (n : ℕ) (bs cs : Branches) → AreSameBranches bs cs → Zip SameAction (actions_in me n bs) (actions_in me n cs)
@@ -75,7 +78,7 @@ mutual
       (subst (λ z. Zip SameAction (actions_in me (next me n b) more) (actions_in me z others)) (next_same me n b d e.0) (actions_in_same me _ more others e.1))
   actions_in_same me n _ _ e = absurd e
 
-zip_member : {X Y : Type 0} (R : X → Y → Type 0) (xs : List X) (ys : List Y) → Zip R xs ys → (y : Y) → Contains ys y → (x : X) × Contains xs x × R x y
+pub zip_member : {X Y : Type 0} (R : X → Y → Type 0) (xs : List X) (ys : List Y) → Zip R xs ys → (y : Y) → Contains ys y → (x : X) × Contains xs x × R x y
 zip_member R [] [] z y c = absurd (Contains-nil y c)
 zip_member R (x ∷ xs) (u ∷ us) z y c =
     ⊎_elim (λ same. (x, Contains-first xs x, subst (R x) same z.0)) (λ m. let o = zip_member R xs us z.1 y m in (o.0, Contains-later xs x o.0 o.1, o.2)) (Contains-cons_cases us u y c)
@@ -111,6 +114,7 @@ state_same me (spot w s) (spot v t) h = go s t h.1
     go (Choice p at bs r) (Choice q by cs o) e = refl
     go (Rec p name body r) (Rec q word inner o) e = refl
     go (Continue p name r) (Continue q word o) e = refl
+    go (Do p name r) (Do q word o) e = refl
     go _ _ e = absurd e
 
 picked : (b d : Bool) → b ≡ d → (x y : Spot) (us vs : List Spot) → length us ≡ length vs → length (cond b (x ∷ us) us) ≡ length (cond d (y ∷ vs) vs)

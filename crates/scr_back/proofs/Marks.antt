@@ -72,6 +72,10 @@ pub continue_word : IsToken (codes "continue") (λ a. marked a marks.Continue)
 unfolding reserved all_of
 continue_word = spelled (codes "continue") (λ a. marked a marks.Continue) refl refl refl (λ p. refl) (supported marks.Continue refl)
 
+pub do_word : IsToken (codes "do") (λ a. marked a marks.Do)
+unfolding reserved all_of
+do_word = spelled (codes "do") (λ a. marked a marks.Do) refl refl refl (λ p. refl) (supported marks.Do refl)
+
 pub to_word : IsToken (codes "to") (λ a. marked a marks.To)
 unfolding reserved all_of
 to_word = spelled (codes "to") (λ a. marked a marks.To) refl refl refl (λ p. refl) (supported marks.To refl)

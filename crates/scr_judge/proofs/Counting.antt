@@ -1,17 +1,20 @@
 -- Counting up to one too many says whether there are too many states.
-use Rattle.std.proofs.Common.{◌≡◌, ◌↔◌, ◌⊎◌, ⊎_elim, ℕ, ◌+◌, ◌<◌, ◌≤◌, nat_lt, Bool, true, false, not, cond, IsTrue, Some, None, if◌then◌else◌, List, [], ◌∷◌, ◌++◌, length, refl, sym, ap, subst, ◌∙◌, true≢false, arith, length-append}
+use Rattle.std.proofs.Common.{◌≡◌, ◌↔◌, ◌⊎◌, ⊎_elim, ℕ, ◌+◌, ◌<◌, ◌≤◌, nat_lt, Bool, true, false, not, cond, IsTrue, Some, None, if◌then◌else◌, List, [], ◌∷◌, ◌++◌, map, length, refl, sym, ap, subst, ◌∙◌, true≢false, arith, length-append}
 use Rattle.std.specs.List.{filter}
 use Rattle.std.specs.Str.{bytes_eq}
 use Rattle.std.proofs.lemmas.List.Elements.{filter-append}
 use Rattle.std.proofs.lemmas.Bool.Decides.{nat_tests}
 use Rattle.mg_text.specs.Call.{Name}
-use Rattle.scr_tree.specs.Tree.{Statements, Nothing, Says, Choice, Rec, Continue, Branches, NoBranch, Branch}
+use Rattle.scr_tree.specs.Tree.{Statements, Nothing, Says, Choice, Rec, Continue, Do, Branches, NoBranch, Branch}
 use Rattle.scr_tree.specs.Spots.{Past, Opens, Enters, Way, Spot, spot, spots, branch_spots}
 use Rattle.mg_read.specs.Culprit.{culprit}
 use Rattle.mg_read.specs.First.{Judged, clean, here, later}
 use Rattle.mg_text.specs.Places.{start_of}
-use Rattle.scr_tree.specs.States.{TooManyStates, begins, is_state}
-use Rattle.scr_judge.specs.inner.Counting.{up, counted, counted_in}
+use Rattle.scr_tree.specs.States.{TooManyStates, begins, is_state, states, all_states}
+use Rattle.scr_tree.specs.View.{statements}
+use Rattle.scr_tree.specs.Written.{part_written, me_in, body_of}
+use Rattle.scr_tree.specs.declared.written.WrittenPart.{WrittenPart as Part}
+use Rattle.scr_judge.specs.inner.Counting.{up, counted, counted_in, counted_parts}
 
 -- r is n + k, or 1,001 where that is less
 pub record Counts (n k r : ℕ) : Type 0 where
@@ -92,6 +95,7 @@ module _ (me : Name) where
         let inner : Counts n (many (spots (Opens name ∷ way) body)) (counted me false n body) = counted_exact false n (Opens name ∷ way) body refl h in
         passed n _ _ (spots (Opens name ∷ way) body) (spots (Past (Rec p name body Nothing) ∷ way) rest) (spot way (Rec p name body rest)) refl inner (counted_exact false _ (Past (Rec p name body Nothing) ∷ way) rest refl (below _ _ _ inner))
     counted_exact first n way (Continue p name rest) e h = passed n n _ [] (spots (Past (Continue p name Nothing) ∷ way) rest) (spot way (Continue p name rest)) refl (nothing n h) (counted_exact false n (Past (Continue p name Nothing) ∷ way) rest refl h)
+    counted_exact first n way (Do p name rest) e h = passed n n _ [] (spots (Past (Do p name Nothing) ∷ way) rest) (spot way (Do p name rest)) refl (nothing n h) (counted_exact false n (Past (Do p name Nothing) ∷ way) rest refl h)
 
     pub counted_in_exact : (n : ℕ) (way : Way) (at : Name) (earlier : List Statements) (bs : Branches) → n ≤ 1001 → Counts n (many (branch_spots way at earlier bs)) (counted_in me (bytes_eq at me) n bs)
     counted_in_exact n way at earlier NoBranch h = nothing n h
@@ -99,12 +103,23 @@ module _ (me : Name) where
         let inner : Counts n (many (spots (Enters at earlier ∷ way) b)) (counted me (bytes_eq at me) n b) = counted_exact (bytes_eq at me) n (Enters at earlier ∷ way) b refl h in
         both n (many (spots (Enters at earlier ∷ way) b)) (many (branch_spots way at (b ∷ earlier) more)) _ _ _ inner (counted_in_exact _ way at (b ∷ earlier) more (below _ _ _ inner)) (many-append (spots (Enters at earlier ∷ way) b) (branch_spots way at (b ∷ earlier) more))
 
--- whether there are more than a thousand states
-pub too_many : (me : Name) (body : Statements) (n : ℕ) → n ≡ counted me false 0 body → (1000 < n) ↔ (1000 < length (filter (is_state me) (spots [] body)))
+-- the same of protocols, one after another
+parts_count : (ps : List Part) (n : ℕ) → n ≤ 1001 → Counts n (length (all_states me_in body_of (map part_written ps))) (counted_parts n ps)
 unfolding many
-too_many me body n e =
-    let c : Counts 0 (length (filter (is_state me) (spots [] body))) (counted me false 0 body) = counted_exact me false 0 [] body refl (omega arith) in (
-      λ l. ⊎_elim (λ small. let f = c.low small in omega (arith, l, e, f)) (λ big. omega (arith, big)) (less_or (0 + length (filter (is_state me) (spots [] body)))),
+parts_count [] n h = nothing n h
+parts_count (p ∷ ps) n h =
+    let own : Counts n (many p.me.name (spots [] (statements p.body.items))) (counted p.me.name false n (statements p.body.items)) =
+    counted_exact p.me.name false n [] (statements p.body.items) refl h in
+    both n (many p.me.name (spots [] (statements p.body.items))) (length (all_states me_in body_of (map part_written ps))) _ _ _ own
+    (parts_count ps (counted p.me.name false n (statements p.body.items)) (below _ _ _ own))
+    (sym (length-append (states p.me.name (statements p.body.items)) (all_states me_in body_of (map part_written ps))))
+
+-- whether there are more than a thousand states
+pub too_many : (p : Part) (ps : List Part) (n : ℕ) → n ≡ counted_parts (counted p.me.name false 0 (statements p.body.items)) ps →
+    (1000 < n) ↔ (1000 < length (all_states me_in body_of (map part_written (p ∷ ps))))
+too_many p ps n e =
+    let c : Counts 0 (length (all_states me_in body_of (map part_written (p ∷ ps)))) (counted_parts 0 (p ∷ ps)) = parts_count (p ∷ ps) 0 (omega arith) in (
+      λ l. ⊎_elim (λ small. let f = c.low small in omega (arith, l, e, f)) (λ big. omega (arith, big)) (less_or (0 + length (all_states me_in body_of (map part_written (p ∷ ps))))),
       λ l. let f = c.high (omega (arith, l)) in omega (arith, e, f),
     )
   where
@@ -112,7 +127,7 @@ too_many me body n e =
     less_or m = grind arith
 
 -- the file is judged
-pub judged_file : (file : ℕ) (me : Name) (body : Statements) (b : Bool) → (IsTrue b ↔ (1000 < length (filter (is_state me) (spots [] body)))) →
-    Judged (TooManyStates file me) (body ∷ []) (if b then Some (culprit (start_of file) []) else None)
-judged_file file me body true h = here (refl, h.0 refl)
-judged_file file me body false h = later (λ c x. true≢false (sym (h.1 x.1))) clean
+pub judged_file : (file : ℕ) (found : List Spot) (b : Bool) → (IsTrue b ↔ (1000 < length found)) →
+    Judged (TooManyStates file) (found ∷ []) (if b then Some (culprit (start_of file) []) else None)
+judged_file file found true h = here (refl, h.0 refl)
+judged_file file found false h = later (λ c x. true≢false (sym (h.1 x.1))) clean

@@ -81,6 +81,10 @@ declares_push xs x = map-append declares xs (x ∷ [])
 lists_push : (ds : List Declaration) (xs : List Role) (x : Role) → (map declares ds ++ map lists (xs ++ x ∷ [])) ≡ (map declares ds ++ map lists xs) ++ lists x ∷ []
 lists_push ds xs x = ap (λ ys. map declares ds ++ ys) (map-append lists xs (x ∷ [])) ∙ sym (append_assoc (map declares ds) (map lists xs) (lists x ∷ []))
 
+-- the roles that another protocol lists
+pub listed_alone : (rs : List Role) {r : Option Culprit} → Judged ListedTwice (with_earlier rs) r → Judged DuplicateName (with_earlier (map lists rs)) r
+listed_alone rs q = judged-behind lists (λ xs. map declares [] ++ map lists xs) (lists_push []) (listed_to []) (listed_from []) [] rs q
+
 -- first the declarations are judged, and then the roles
 pub duplicate_name : (ds : List Declaration) (rs : List Role) {r s : Option Culprit} → Judged DeclaredTwice (with_earlier ds) r → Judged ListedTwice (with_earlier rs) s →
     Judged DuplicateName (with_earlier (map declares ds ++ map lists rs)) (option_or r s)

@@ -8,7 +8,7 @@ use Rattle.scr_tree.specs.declared.syntax.Statement.{Statement}
 use Rattle.scr_tree.specs.declared.syntax.Statement.TheVariants as kinds
 use Rattle.scr_tree.specs.Tree.{Statements, Nothing}
 use Rattle.scr_tree.specs.View.{front, statements}
-use Rattle.scr_tree.proofs.ViewLemmas.{front-Message, front-Choice, front-Rec, front-Continue}
+use Rattle.scr_tree.proofs.ViewLemmas.{front-Message, front-Choice, front-Rec, front-Continue, front-Do}
 use Rattle.mg_read.specs.Culprit.{Culprit}
 use Rattle.scr_tree.specs.Control.{falls, some_falls}
 use Rattle.scr_judge.specs.inner.Finding.{unreachable, unreachable_in, unreachable_behind, stands}
@@ -19,7 +19,7 @@ use Rattle.scr_tree.proofs.Behind.{each_front, statements-step, statements-past,
 pub falls-front : (s : Statement) (rest : Statements) → falls (front s rest) ≡ (falls (front s Nothing) && falls rest)
 falls-front s rest =
     each_front (λ f. falls (f rest) ≡ (falls (f Nothing) && falls rest)) (λ m. refl) (λ p at bs. ap (λ b. b && falls rest) (and_true (some_falls bs)))
-    (λ p name body. ap (λ b. b && falls rest) (and_true (falls body))) (λ p name. refl) s
+    (λ p name body. ap (λ b. b && falls rest) (and_true (falls body))) (λ p name. refl) (λ p name. refl) s
 
 behind_nothing : (b : Bool) → None ≡ unreachable_behind b Nothing
 behind_nothing true = refl
@@ -32,7 +32,7 @@ alone o b rest i = option_or ((or_none o ∙ ap (option_or o) (behind_nothing b)
 pub unreachable-front : (s : Statement) (rest : Statements) → unreachable (front s rest) ≡ option_or (unreachable (front s Nothing)) (unreachable_behind (falls (front s Nothing)) rest)
 unreachable-front s rest =
     each_front (λ f. unreachable (f rest) ≡ option_or (unreachable (f Nothing)) (unreachable_behind (falls (f Nothing)) rest))
-    (λ m. refl) (λ p at bs. alone (unreachable_in bs) (some_falls bs) rest) (λ p name body. alone (unreachable body) (falls body) rest) (λ p name. refl) s
+    (λ m. refl) (λ p at bs. alone (unreachable_in bs) (some_falls bs) rest) (λ p name body. alone (unreachable body) (falls body) rest) (λ p name. refl) (λ p name. refl) s
 
 -- a statement alone
 pub unreachable-Choice : (p : _) (at : Name) (bs : Row (Row Statement)) → unreachable (front (kinds.Choice p at bs) Nothing) ≡ unreachable_in (bodies bs.items)
@@ -49,7 +49,7 @@ falls-Rec p name body = ap (λ f. falls (f Nothing)) (front-Rec p name body) ∙
 
 -- the place of a statement does not depend on what stands behind it
 pub stands-front : (s : Statement) (rest : Statements) → stands (front s rest) ≡ stands (front s Nothing)
-stands-front s rest = each_front (λ f. stands (f rest) ≡ stands (f Nothing)) (λ m. refl) (λ p at bs. refl) (λ p name body. refl) (λ p name. refl) s
+stands-front s rest = each_front (λ f. stands (f rest) ≡ stands (f Nothing)) (λ m. refl) (λ p at bs. refl) (λ p name body. refl) (λ p name. refl) (λ p name. refl) s
 
 -- the step of a walk over statements
 module _ (ss : List Statement) (i : ℕ) (x : Statement) (within : i < length ss) (is : x ≡ get_or ss i x) where
@@ -71,7 +71,7 @@ module _ (ss : List Statement) (i : ℕ) (x : Statement) (within : i < length ss
   pub stands_here : (c : Culprit) → stands (front x Nothing) ≡ Some c → stands (statements (drop i ss)) ≡ Some c
   stands_here c e = ap stands (statements-step ss i x within is) ∙ stands-front x _ ∙ e
 
-pub ruleset falls_alone = (common_steps, front-Message, front-Choice, front-Rec, front-Continue, unreachable-Choice, falls-Choice, unreachable-Rec, falls-Rec)
+pub ruleset falls_alone = (common_steps, front-Message, front-Choice, front-Rec, front-Continue, front-Do, unreachable-Choice, falls-Choice, unreachable-Rec, falls-Rec)
 
 pub ruleset falls_steps = (common_steps, unreachable_later, falls_later, unreachable_here, stands_here, statements-past, and_true)
 

@@ -59,4 +59,4 @@ module _ (g : GlobalTree) (me : Name) (s : Statements) (e : projected me g.body 
 
 -- parts that are those of the projection make it
 pub same_parts : (g : GlobalTree) (me : Name) (s : Statements) (t : LocalTree) → t.file ≡ g.file → t.name ≡ g.name → t.me ≡ me → t.roles ≡ g.roles → t.body ≡ s → t ≡ projection_of g me s
-same_parts g me s t file name role roles body = λ i. record { file = file i; name = name i; me = role i; roles = roles i; body = body i }
+same_parts g me s t file name role roles body = λ i. record { file = file i; name = name i; me = role i; roles = roles i; body = body i; others = [] }

@@ -2,7 +2,7 @@
 use Rattle.std.proofs.Common.{◌≡◌, ℕ, zero, suc, ◌+◌, List, [], ◌∷◌, ◌++◌, length, Some, None, refl, sym, ap, ◌∙◌, subst, Bool, true, false, if◌then◌else◌, arith}
 use Rattle.std.specs.Prelude.{slice_set, slice_index_or, Option}
 use Rattle.scr_tree.specs.declared.syntax.Message.{Message as Said}
-use Rattle.scr_tree.specs.Protocol.{Protocol, Done, Does, ChoiceHere, ChoiceThere, Rec, Continue, Branches, NoMore, Branch}
+use Rattle.scr_tree.specs.Protocol.{Protocol, Done, Does, ChoiceHere, ChoiceThere, Rec, Continue, Do, Branches, NoMore, Branch}
 use Rattle.scr_tree.specs.Steps.{Position}
 use Rattle.scr_trace.specs.declared.arrow.Hop.{Hop}
 use Rattle.scr_trace.specs.declared.arrow.Hop.TheVariants as hops
@@ -40,6 +40,10 @@ first-rec false around name x y = refl
 pub first-continue : (self : Bool) (around : Position) (name : _) (x : Protocol) → first_in self around (Continue name x) ≡ []
 first-continue true around name x = refl
 first-continue false around name x = refl
+
+pub first-do : (self : Bool) (around : Position) (name : _) (x : Protocol) → first_in self around (Do name x) ≡ []
+first-do true around name x = refl
+first-do false around name x = refl
 
 pub first-done : (self : Bool) (around : Position) → first_in self around Done ≡ []
 first-done true around = refl

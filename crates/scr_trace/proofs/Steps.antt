@@ -1,5 +1,6 @@
 -- The step of each loop that lays out.
 use Rattle.std.proofs.Common.{Bool, ◌≡◌, ℕ, suc, ◌+◌, ◌<◌, ◌≤◌, length, get_or, drop, List, [], ◌∷◌, ◌++◌, map, reverse, refl, sym, ap, subst, ◌∙◌, add-one}
+use Rattle.std.specs.Prelude.{Option}
 use Rattle.std.specs.Str.{bytes_eq}
 use Rattle.std.proofs.lemmas.List.{at_drop_more, at_drop_all, map-append, length-map, length-append, reverse-append, length-reverse}
 use Rattle.std.proofs.lemmas.Grind.{common_steps}
@@ -9,68 +10,76 @@ use Rattle.mg_text.specs.declared.place.Place.{Place}
 use Rattle.scr_tree.specs.declared.syntax.Message.{Message as Said}
 use Rattle.scr_tree.specs.declared.syntax.Statement.{Statement}
 use Rattle.scr_tree.specs.declared.syntax.Statement.TheVariants as kinds
-use Rattle.scr_tree.specs.Tree.{Statements, Nothing, Says, Choice, Rec, Continue, Branches, NoBranch, Branch}
+use Rattle.scr_tree.specs.Tree.{Statements, Nothing, Says, Choice, Rec, Continue, Do, Branches, NoBranch, Branch}
 use Rattle.scr_tree.specs.View.{Front, front, statements}
-use Rattle.scr_tree.proofs.ViewLemmas.{each_kind, front-Message, front-Choice, front-Rec, front-Continue}
+use Rattle.scr_tree.proofs.ViewLemmas.{each_kind, front-Message, front-Choice, front-Rec, front-Continue, front-Do}
 use Rattle.scr_trace.specs.declared.arrow.Arrow.{Arrow}
 use Rattle.scr_trace.specs.declared.arrow.Exits.{Exits}
-use Rattle.scr_trace.specs.inner.Laying.{Draft, Cell, Work, Known, Gathered, lay, lay_in, branch_laid, turned, said, opened, closed, chosen, gathering, hop_named, joined}
+use Rattle.scr_trace.specs.inner.Laying.{Draft, Cell, Work, Known, Gathered, lay, lay_in, branch_laid, turned, said, opened, closed, chosen, gathering, hop_named, hop_to, joined}
 use Rattle.scr_trace.specs.inner.View.{draft_of, drafts_of, cell_of, cells_of, bodies}
 
 -- what holds of each statement in front of others holds of each that a program has
 pub each_front : (P : Front → Type 0) → ((m : _) → P (Says m)) → ((p : _) (at : Name) (bs : Branches) → P (Choice p at bs)) →
-    ((p : _) (name : Name) (body : Statements) → P (Rec p name body)) → ((p : _) (name : Name) → P (Continue p name)) → (s : Statement) → P (front s)
-each_front P said choice recursion continued =
+    ((p : _) (name : Name) (body : Statements) → P (Rec p name body)) → ((p : _) (name : Name) → P (Continue p name)) → ((p : _) (name : Name) → P (Do p name)) →
+    (s : Statement) → P (front s)
+each_front P said choice recursion continued goes_on =
     each_kind (λ s. P (front s)) (λ m. subst P (sym (front-Message m)) (said m)) (λ p at bs. subst P (sym (front-Choice p at bs)) (choice p at _))
     (λ p name body. subst P (sym (front-Rec p name body)) (recursion p name _)) (λ p name. subst P (sym (front-Continue p name)) (continued p name))
+    (λ p name. subst P (sym (front-Do p name)) (goes_on p name))
 
-module _ (me : Name) (around : List Known) (w : Work) where
-  pub lay-front : (s : Statement) (rest : Statements) → lay me around w (front s rest) ≡ lay me around (lay me around w rest) (front s Nothing)
+module _ (me : Name) (entry : Name → Option ℕ) (around : List Known) (w : Work) where
+  pub lay-front : (s : Statement) (rest : Statements) → lay me entry around w (front s rest) ≡ lay me entry around (lay me entry around w rest) (front s Nothing)
   lay-front s rest =
-      each_front (λ f. lay me around w (f rest) ≡ lay me around (lay me around w rest) (f Nothing)) (λ m. refl) (λ p at bs. refl) (λ p name body. refl) (λ p name. refl) s
+      each_front (λ f. lay me entry around w (f rest) ≡ lay me entry around (lay me entry around w rest) (f Nothing)) (λ m. refl) (λ p at bs. refl) (λ p name body. refl) (λ p name. refl) (λ p name. refl) s
 
   -- a statement alone
-  pub lay-Message : (m : Said) → lay me around w (front (kinds.Message m) Nothing) ≡ said m w
-  lay-Message m = ap (λ f. lay me around w (f Nothing)) (front-Message m)
+  pub lay-Message : (m : Said) → lay me entry around w (front (kinds.Message m) Nothing) ≡ said m w
+  lay-Message m = ap (λ f. lay me entry around w (f Nothing)) (front-Message m)
 
   pub lay-Choice : (p : Place) (at : Name) (bs : Row (Row Statement)) →
-      lay me around w (front (kinds.Choice p at bs) Nothing) ≡ chosen (bytes_eq at me) (lay_in me around (bytes_eq at me) w.next (gathering w) (bodies bs.items))
-  lay-Choice p at bs = ap (λ f. lay me around w (f Nothing)) (front-Choice p at bs)
+      lay me entry around w (front (kinds.Choice p at bs) Nothing) ≡ chosen (bytes_eq at me) (lay_in me entry around (bytes_eq at me) w.next (gathering w) (bodies bs.items))
+  lay-Choice p at bs = ap (λ f. lay me entry around w (f Nothing)) (front-Choice p at bs)
 
   pub lay-Rec : (p : Place) (name : Name) (body : Row Statement) →
-      lay me around w (front (kinds.Rec p name body) Nothing) ≡ closed (length w.loops) (lay me (record { name = name; number = length w.loops } ∷ around) (opened w) (statements body.items))
-  lay-Rec p name body = ap (λ f. lay me around w (f Nothing)) (front-Rec p name body)
+      lay me entry around w (front (kinds.Rec p name body) Nothing) ≡ closed (length w.loops) (lay me entry (record { name = name; number = length w.loops } ∷ around) (opened w) (statements body.items))
+  lay-Rec p name body = ap (λ f. lay me entry around w (f Nothing)) (front-Rec p name body)
 
-  pub lay-Continue : (p : Place) (name : Name) → lay me around w (front (kinds.Continue p name) Nothing) ≡ record w { next = hop_named name around }
-  lay-Continue p name = ap (λ f. lay me around w (f Nothing)) (front-Continue p name)
+  pub lay-Continue : (p : Place) (name : Name) → lay me entry around w (front (kinds.Continue p name) Nothing) ≡ record w { next = hop_named name around }
+  lay-Continue p name = ap (λ f. lay me entry around w (f Nothing)) (front-Continue p name)
+
+  pub lay-Do : (p : Place) (name : Name) → lay me entry around w (front (kinds.Do p name) Nothing) ≡ record w { next = hop_to (entry name) }
+  lay-Do p name = ap (λ f. lay me entry around w (f Nothing)) (front-Do p name)
 
   -- a branch
   pub branch-Message : (self : Bool) (m : Said) (rest : Statements) (g : Gathered) →
-      branch_laid self me around (front (kinds.Message m) rest) g ≡ joined self m (record { work = lay me around g.work rest; drafts = g.drafts })
-  branch-Message self m rest g = ap (λ f. branch_laid self me around (f rest) g) (front-Message m)
+      branch_laid me entry self around (front (kinds.Message m) rest) g ≡ joined self m (record { work = lay me entry around g.work rest; drafts = g.drafts })
+  branch-Message self m rest g = ap (λ f. branch_laid me entry self around (f rest) g) (front-Message m)
 
   pub branch-Choice : (self : Bool) (p : Place) (at : Name) (bs : Row (Row Statement)) (rest : Statements) (g : Gathered) →
-      branch_laid self me around (front (kinds.Choice p at bs) rest) g ≡ g
-  branch-Choice self p at bs rest g = ap (λ f. branch_laid self me around (f rest) g) (front-Choice p at bs)
+      branch_laid me entry self around (front (kinds.Choice p at bs) rest) g ≡ g
+  branch-Choice self p at bs rest g = ap (λ f. branch_laid me entry self around (f rest) g) (front-Choice p at bs)
 
   pub branch-Rec : (self : Bool) (p : Place) (name : Name) (body : Row Statement) (rest : Statements) (g : Gathered) →
-      branch_laid self me around (front (kinds.Rec p name body) rest) g ≡ g
-  branch-Rec self p name body rest g = ap (λ f. branch_laid self me around (f rest) g) (front-Rec p name body)
+      branch_laid me entry self around (front (kinds.Rec p name body) rest) g ≡ g
+  branch-Rec self p name body rest g = ap (λ f. branch_laid me entry self around (f rest) g) (front-Rec p name body)
 
   pub branch-Continue : (self : Bool) (p : Place) (name : Name) (rest : Statements) (g : Gathered) →
-      branch_laid self me around (front (kinds.Continue p name) rest) g ≡ g
-  branch-Continue self p name rest g = ap (λ f. branch_laid self me around (f rest) g) (front-Continue p name)
+      branch_laid me entry self around (front (kinds.Continue p name) rest) g ≡ g
+  branch-Continue self p name rest g = ap (λ f. branch_laid me entry self around (f rest) g) (front-Continue p name)
+
+  pub branch-Do : (self : Bool) (p : Place) (name : Name) (rest : Statements) (g : Gathered) → branch_laid me entry self around (front (kinds.Do p name) rest) g ≡ g
+  branch-Do self p name rest g = ap (λ f. branch_laid me entry self around (f rest) g) (front-Do p name)
 
   -- the step of a walk over statements, from the last on
   module _ (ss : List Statement) (i : ℕ) (x : Statement) (within : i < length ss) (is : x ≡ get_or ss i x) where
     statements-step : statements (drop i ss) ≡ front x (statements (drop (i + 1) ss))
     statements-step = at_drop_more statements ss i x within ∙ ap (λ y. front y (statements (drop (i + 1) ss))) (sym is)
 
-    pub lay-step : lay me around w (statements (drop i ss)) ≡ lay me around (lay me around w (statements (drop (i + 1) ss))) (front x Nothing)
-    lay-step = ap (lay me around w) statements-step ∙ lay-front x _
+    pub lay-step : lay me entry around w (statements (drop i ss)) ≡ lay me entry around (lay me entry around w (statements (drop (i + 1) ss))) (front x Nothing)
+    lay-step = ap (lay me entry around w) statements-step ∙ lay-front x _
 
-  pub lay-past : (ss : List Statement) (i : ℕ) → length ss ≤ i → lay me around w (statements (drop i ss)) ≡ w
-  lay-past ss i h = at_drop_all (λ r. lay me around w (statements r)) ss i h
+  pub lay-past : (ss : List Statement) (i : ℕ) → length ss ≤ i → lay me entry around w (statements (drop i ss)) ≡ w
+  lay-past ss i h = at_drop_all (λ r. lay me entry around w (statements r)) ss i h
 
 -- the branch at an index, and those behind it
 pub bodies-step : (bs : List (Row Statement)) (i : ℕ) (x : Row Statement) → i < length bs → x ≡ get_or bs i x → bodies (drop i bs) ≡ Branch (statements x.items) (bodies (drop (i + 1) bs))
@@ -91,10 +100,10 @@ cells-length exits = length-reverse (map cell_of exits) ∙ length-map exits cel
 
 pub ruleset all_steps = (common_steps, lay-step, lay-past)
 
-pub ruleset alone = (common_steps, lay-Message, lay-Choice, lay-Rec, lay-Continue)
+pub ruleset alone = (common_steps, lay-Message, lay-Choice, lay-Rec, lay-Continue, lay-Do)
 
 pub ruleset in_steps = (common_steps, bodies-step, bodies-past)
 
-pub ruleset branch_steps = (common_steps, branch-Message, branch-Choice, branch-Rec, branch-Continue)
+pub ruleset branch_steps = (common_steps, branch-Message, branch-Choice, branch-Rec, branch-Continue, branch-Do)
 
 pub ruleset pushes = (common_steps, drafts-push, cells-push, cells-length, add-one)

@@ -12,7 +12,7 @@ use Rattle.scr_tree.specs.Tree.{Statements, Nothing}
 use Rattle.scr_tree.specs.View.{front, statements, bodies}
 use Rattle.scr_tree.specs.Meaning.{message_of}
 use Rattle.scr_tree.specs.Actions.{next, next_in, opened}
-use Rattle.scr_tree.proofs.ViewLemmas.{front-Message, front-Choice, front-Rec, front-Continue}
+use Rattle.scr_tree.proofs.ViewLemmas.{front-Message, front-Choice, front-Rec, front-Continue, front-Do}
 use Rattle.scr_tree.proofs.Behind.{each_front, statements-step, statements-past, bodies-step, bodies-past}
 use Rattle.stm_api.specs.Doings.{Doing, Passes}
 use Rattle.stm_api.specs.inner.Does.{does, does_in, look_unless, first_said, label_before, labels_in}
@@ -78,9 +78,25 @@ said-Rec p name body rest = ap (λ f. first_said (f rest)) (front-Rec p name bod
 pub said-Continue : (p : _) (name : Name) (rest : Statements) → first_said (front (kinds.Continue p name) rest) ≡ None
 said-Continue p name rest = ap (λ f. first_said (f rest)) (front-Continue p name)
 
-pub ruleset firsts = (common_steps, said-Message, said-Choice, said-Rec, said-Continue)
+pub said-Do : (p : _) (name : Name) (rest : Statements) → first_said (front (kinds.Do p name) rest) ≡ None
+said-Do p name rest = ap (λ f. first_said (f rest)) (front-Do p name)
 
-pub ruleset alone = (common_steps, front-Continue, does-Message, next-Message, does-Choice, next-Choice, does-Rec, next-Rec, append_assoc, append-nil)
+pub ruleset firsts = (common_steps, said-Message, said-Choice, said-Rec, said-Continue, said-Do)
+
+-- the protocol at an index, and those behind it
+pub part-step : (me : Name) (n : ℕ) (ps : List Part) (i : ℕ) (x : Part) → i < length ps → x ≡ get_or ps i x →
+    all_does me n (map part_body (map part_of (drop i ps))) ≡
+    does me n (statements x.body.items) ++ all_does me (next me n (statements x.body.items)) (map part_body (map part_of (drop (i + 1) ps)))
+part-step me n ps i x within is =
+    at_drop_more (λ qs. all_does me n (map part_body (map part_of qs))) ps i x within
+    ∙ ap (λ (y : Part). does me n (statements y.body.items) ++ all_does me (next me n (statements y.body.items)) (map part_body (map part_of (drop (i + 1) ps)))) (sym is)
+
+pub part-past : (me : Name) (n : ℕ) (ps : List Part) (i : ℕ) → length ps ≤ i → all_does me n (map part_body (map part_of (drop i ps))) ≡ []
+part-past me n ps i h = at_drop_all (λ qs. all_does me n (map part_body (map part_of qs))) ps i h
+
+pub ruleset part_steps = (common_steps, part-step, part-past, append_assoc, append-nil)
+
+pub ruleset alone = (common_steps, front-Continue, front-Do, does-Message, next-Message, does-Choice, next-Choice, does-Rec, next-Rec, append_assoc, append-nil)
 
 pub ruleset all_steps = (common_steps, next-step, does-step, statements-past, append_assoc, append-nil)
 

@@ -12,7 +12,7 @@ use Rattle.mg_text.proofs.Numbered.{list_any-position}
 use Rattle.scr_tree.specs.declared.syntax.Direction.{Direction}
 use Rattle.scr_tree.specs.declared.syntax.Direction.TheVariants as directions
 use Rattle.scr_tree.specs.declared.syntax.Payload.{Payload}
-use Rattle.scr_tree.specs.Tree.{LocalTree, Statements, Nothing, Says, Choice, Rec, Continue, NoBranch, Branch}
+use Rattle.scr_tree.specs.Tree.{LocalTree, Statements, Nothing, Says, Choice, Rec, Continue, Do, NoBranch, Branch}
 use Rattle.scr_tree.specs.Tree as tree
 use Rattle.scr_tree.specs.Protocol.{Protocol, ChoiceHere, ChoiceThere, peer_of, label_of, Branch as Way}
 use Rattle.scr_tree.specs.Protocol as protocol
@@ -37,6 +37,7 @@ mutual
       ∙ opening (bytes_eq at me) n (choices_in me bs) (choices me rest)
   next_is me (Rec place name body rest) n = next_is me rest (next me n body) ∙ ap (λ k. k + choices me rest) (next_is me body n) ∙ (let e : (n + choices me body) + choices me rest ≡ n + (choices me body + choices me rest) = omega arith in e)
   next_is me (Continue place name rest) n = next_is me rest n
+  next_is me (Do place name rest) n = next_is me rest n
 
   next_in_is : (me : Name) (bs : tree.Branches) (n : ℕ) → next_in me n bs ≡ n + choices_in me bs
   next_in_is me NoBranch n = omega arith
@@ -70,6 +71,7 @@ module _ (me : Name) where
   labels_same (Branch (Choice p at bs rest) more) n = labels_same more _ ∙ sym (no_label (bytes_eq at me) n _ _ _ _ _)
   labels_same (Branch (Rec p name body rest) more) n = labels_same more _
   labels_same (Branch (Continue p name rest) more) n = labels_same more _
+  labels_same (Branch (Do p name rest) more) n = labels_same more _
 
   look_same : (bs : tree.Branches) (k n : ℕ) → here.look_at k (here.peer_in bs) (here.labels_in bs) ≡ look k (numbered_in me n bs)
   look_same NoBranch k n = refl
@@ -80,6 +82,7 @@ module _ (me : Name) where
   look_same (Branch (Choice p at bs rest) more) k n = sym (no_look (bytes_eq at me) k n _ _ _ _ _)
   look_same (Branch (Rec p name body rest) more) k n = refl
   look_same (Branch (Continue p name rest) more) k n = refl
+  look_same (Branch (Do p name rest) more) k n = refl
 
   -- ---- doings
 
@@ -106,6 +109,7 @@ module _ (me : Name) where
         ap (λ x. x ++ here.does me (next me n body) rest) (does_same body n) ∙ ap (λ k. doings (numbered me n body) ++ here.does me k rest) (next_is me body n)
         ∙ ap (λ x. doings (numbered me n body) ++ x) (does_same rest (n + choices me body))
     does_same (Continue place name rest) n = does_same rest n
+    does_same (Do place name rest) n = does_same rest n
 
     does_in_same : (bs : tree.Branches) (n : ℕ) → here.does_in me n bs ≡ doings_in (numbered_in me n bs)
     does_in_same NoBranch n = refl

@@ -10,7 +10,7 @@ use Rattle.mg_read.specs.First.{Clean, behind, with_earlier}
 use Rattle.scr_tree.specs.declared.syntax.Payload.{Payload}
 use Rattle.scr_tree.specs.declared.syntax.Payload.TheVariants as payloads
 use Rattle.scr_tree.specs.declared.syntax.Message.{Message as Said}
-use Rattle.scr_tree.specs.Tree.{LocalTree, Statements, Nothing, Says, Choice, Rec, Continue, NoBranch, Branch}
+use Rattle.scr_tree.specs.Tree.{LocalTree, Statements, Nothing, Says, Choice, Rec, Continue, Do, NoBranch, Branch}
 use Rattle.scr_tree.specs.Tree as tree
 use Rattle.scr_tree.specs.Actions.{Action, Deed, said, peer_in, looked, opened, looked_unless, next, next_in, actions, actions_in, NameClash}
 use Rattle.scr_tree.specs.Actions as deeds
@@ -53,6 +53,7 @@ mutual
       ∙ opening (bytes_eq at me) n (choices_in me bs) (choices me rest)
   next_is me (Rec place name body rest) n = next_is me rest (next me n body) ∙ ap (λ k. k + choices me rest) (next_is me body n) ∙ (let e : (n + choices me body) + choices me rest ≡ n + (choices me body + choices me rest) = omega arith in e)
   next_is me (Continue place name rest) n = next_is me rest n
+  next_is me (Do place name rest) n = next_is me rest n
 
   next_in_is : (me : Name) (bs : tree.Branches) (n : ℕ) → next_in me n bs ≡ n + choices_in me bs
   next_in_is me NoBranch n = omega arith
@@ -114,6 +115,7 @@ module _ (me : Name) (all : List Action) where
   sends_acted (Branch (Choice place at bs rest) more) names h n m around w = absurd h.0
   sends_acted (Branch (Rec place name body rest) more) names h n m around w = absurd h.0
   sends_acted (Branch (Continue place name rest) more) names h n m around w = absurd h.0
+  sends_acted (Branch (Do place name rest) more) names h n m around w = absurd h.0
 
   -- the looks at a choice, which are at one peer
   looks_acted : (steps : List Onward) (n : ℕ) (peer : Name) → AllLook n peer steps → (a : Action) → Among all a → a.call ≡ label_call me n peer → a.deed ≡ deeds.Looks n → AllActed me all steps
@@ -138,6 +140,7 @@ module _ (me : Name) (all : List Action) where
   look_here (Branch (Choice p at bs rest) more) names h place n m around xs one w = absurd h.0
   look_here (Branch (Rec p name body rest) more) names h place n m around xs one w = absurd h.0
   look_here (Branch (Continue p name rest) more) names h place n m around xs one w = absurd h.0
+  look_here (Branch (Do p name rest) more) names h place n m around xs one w = absurd h.0
 
   told_front : (ps qs : List Position) → AllTold me (ps ++ qs) → AllTold me ps
   told_front [] qs t = tt
@@ -215,6 +218,7 @@ module _ (me : Name) (all : List Action) where
     acted_first (Choice place at bs rest) names h self n out w told = absurd h
     acted_first (Rec place name body rest) names h self n out w told = absurd h
     acted_first (Continue place name rest) names h self n out w told = absurd h
+    acted_first (Do place name rest) names h self n out w told = absurd h
 
 -- ---- no two actions of one name
 

@@ -7,7 +7,7 @@ use Rattle.std.proofs.lemmas.List.Elements.{filter-append}
 use Rattle.mg_text.specs.Call.{Name}
 use Rattle.mg_text.specs.Places.{start_of}
 use Rattle.mg_read.specs.Culprit.{culprit}
-use Rattle.scr_tree.specs.Tree.{LocalTree, Statements, Nothing, Says, Choice, Rec, Continue, NoBranch, Branch}
+use Rattle.scr_tree.specs.Tree.{LocalTree, Statements, Nothing, Says, Choice, Rec, Continue, Do, NoBranch, Branch}
 use Rattle.scr_tree.specs.Tree as tree
 use Rattle.scr_tree.specs.Meaning.{choices, choices_in, numbered, numbered_in, message_of, protocol_of}
 use Rattle.scr_tree.specs.Protocol.{Protocol, Does, ChoiceHere, ChoiceThere}
@@ -95,6 +95,7 @@ module _ (me : Name) where
     counts_first (Choice p other bs rest) names h way at earlier c around = absurd h
     counts_first (Rec p name body rest) names h way at earlier c around = absurd h
     counts_first (Continue p name rest) names h way at earlier c around = absurd h
+    counts_first (Do p name rest) names h way at earlier c around = absurd h
 
 at_most : (k : ℕ) → (1000 < k → ⊥) → k ≤ 1000
 at_most k h = ⊎_elim (λ l. l) (λ g. absurd (h g)) (or_more k)

@@ -6,7 +6,7 @@ use Rattle.std.proofs.lemmas.List.{append-nil, length-append, get_or-set_same, g
 use Rattle.std.proofs.lemmas.Slice.Eq.{bytes_eq-Decides}
 use Rattle.mg_text.specs.Call.{Name}
 use Rattle.scr_tree.specs.declared.syntax.Message.{Message as Said}
-use Rattle.scr_tree.specs.Tree.{LocalTree, Statements, Nothing, Says, Choice, Rec, Continue, NoBranch, Branch}
+use Rattle.scr_tree.specs.Tree.{LocalTree, Statements, Nothing, Says, Choice, Rec, Continue, Do, NoBranch, Branch}
 use Rattle.scr_tree.specs.Tree as tree
 use Rattle.scr_tree.specs.Meaning.{choices, choices_in, numbered, numbered_in, message_of, protocol_of}
 use Rattle.scr_tree.specs.Protocol.{Message, peer_of, label_of, Protocol, Does, ChoiceHere, ChoiceThere, Branches, NoMore}
@@ -351,6 +351,7 @@ module _ (me : Name) (total : Work) where
     fits_first (Choice place at bs rest) names h known self g n d number mark follow starts nums final chs comes rets acts = absurd h
     fits_first (Rec place name body rest) names h known self g n d number mark follow starts nums final chs comes rets acts = absurd h
     fits_first (Continue place name rest) names h known self g n d number mark follow starts nums final chs comes rets acts = absurd h
+    fits_first (Do place name rest) names h known self g n d number mark follow starts nums final chs comes rets acts = absurd h
     fits_first (Says q rest) names h known true g n d number mark follow starts nums final chs comes rets acts =
         let x = lay me known g.work rest in
         let r : Protocol = numbered me d rest in

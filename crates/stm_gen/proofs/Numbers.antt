@@ -5,7 +5,7 @@ use Rattle.mg_text.specs.Call.{Name}
 use Rattle.scr_tree.specs.Tree.{Statements}
 use Rattle.scr_tree.specs.Tree as tree
 use Rattle.scr_tree.specs.Meaning.{numbered, numbered_in}
-use Rattle.scr_tree.specs.Protocol.{Protocol, Done, Does, ChoiceHere, ChoiceThere, Rec, Continue, Branches, NoMore, Branch}
+use Rattle.scr_tree.specs.Protocol.{Protocol, Done, Does, ChoiceHere, ChoiceThere, Rec, Continue, Do, Branches, NoMore, Branch}
 use Rattle.scr_tree.specs.Steps.{Part, Plain, BodyOf, Left, Position}
 use Rattle.scr_trace.specs.declared.standing.Standing.{Standing}
 use Rattle.scr_trace.specs.declared.arrow.Hop.{Hop}
@@ -38,6 +38,7 @@ mutual
       let c = length-append (states_in (BodyOf name body) (Left rest part ∷ around) body) (states_in part around rest) in
       omega arith
   after_is (Continue name rest) n part around = after_is rest n part around
+  after_is (Do name rest) n part around = after_is rest n part around
 
   here_is : (bs : Branches) (n : ℕ) (around : Position) → after_here n bs ≡ n + length (positions_here around bs)
   here_is NoMore n around = omega arith
@@ -54,6 +55,7 @@ mutual
   behind_is (ChoiceThere number bs rest) n around = omega arith
   behind_is (Rec name body rest) n around = omega arith
   behind_is (Continue name rest) n around = omega arith
+  behind_is (Do name rest) n around = omega arith
 
   there_is : (bs : Branches) (n : ℕ) (around : Position) → after_there n bs ≡ n + length (positions_there around bs)
   there_is NoMore n around = omega arith
@@ -70,6 +72,7 @@ mutual
   from_is (ChoiceThere number bs rest) n around = omega arith
   from_is (Rec name body rest) n around = omega arith
   from_is (Continue name rest) n around = omega arith
+  from_is (Do name rest) n around = omega arith
 
 module _ (me : Name) where
   mutual
@@ -102,6 +105,7 @@ module _ (me : Name) where
         let d = length-append (states me n next inside body) (states me k follow starts rest) in
         omega arith
     as_many (Continue name rest) n follow starts part around = as_many rest n follow starts part around
+    as_many (Do name rest) n follow starts part around = as_many rest n follow starts part around
 
     here_many : (bs : Branches) (n : ℕ) (follow : Standing) (starts : List Start) (around : Position) → length (states_here me n follow starts bs) ≡ length (positions_here around bs)
     here_many NoMore n follow starts around = refl
@@ -119,6 +123,7 @@ module _ (me : Name) where
     behind_many (ChoiceThere number bs rest) n follow starts around = refl
     behind_many (Rec name body rest) n follow starts around = refl
     behind_many (Continue name rest) n follow starts around = refl
+    behind_many (Do name rest) n follow starts around = refl
 
     there_many : (bs : Branches) (n : ℕ) (follow : Standing) (starts : List Start) (around : Position) → length (states_there me n follow starts bs) ≡ length (positions_there around bs)
     there_many NoMore n follow starts around = refl
@@ -136,6 +141,7 @@ module _ (me : Name) where
     from_many (ChoiceThere number bs rest) n follow starts around = refl
     from_many (Rec name body rest) n follow starts around = refl
     from_many (Continue name rest) n follow starts around = refl
+    from_many (Do name rest) n follow starts around = refl
 
 -- ---- the branches of a choice, at self or elsewhere
 

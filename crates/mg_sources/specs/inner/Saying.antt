@@ -29,6 +29,11 @@ said_of_protocol (protocols.ReservedLabel place name) = Some (fault_at (codes "R
 said_of_protocol (protocols.NameClash place name) = Some (fault_at (codes "NameClash") place name)
 said_of_protocol (protocols.TooManyStates place) = Some (fault_at (codes "TooManyStates") place [])
 said_of_protocol protocols.Memory = None
+said_of_protocol (protocols.UnknownProtocol place name) = Some (fault_at (codes "UnknownProtocol") place name)
+said_of_protocol (protocols.DuplicateProtocol place name) = Some (fault_at (codes "DuplicateProtocol") place name)
+said_of_protocol (protocols.RolesDiffer place name) = Some (fault_at (codes "RolesDiffer") place name)
+said_of_protocol (protocols.NotLast place name) = Some (fault_at (codes "NotLast") place name)
+said_of_protocol (protocols.StartsWithDo place name) = Some (fault_at (codes "StartsWithDo") place name)
 
 abbrev pub said_of_typestate : TsFault → Option Fault
 said_of_typestate (typestates.TooLarge place) = Some (fault_at (codes "TooLarge") place [])

@@ -17,7 +17,7 @@ use Rattle.scr_trace.specs.Graph.{Edge, Graph}
 use Rattle.scr_trace.specs.declared.laying.Laying.{Laying}
 use Rattle.scr_trace.specs.declared.laying.Around.{Around}
 use Rattle.scr_trace.specs.declared.laying.Around.TheVariants.{Outside, Inside'}
-use Rattle.scr_trace.specs.inner.Laying.{Draft, Cell, Work, Known, Gathered}
+use Rattle.scr_trace.specs.inner.Laying.{Draft, Cell, Work, Known, Gathered, entry_at}
 
 abbrev pub draft_of : Arrow → Draft
 draft_of a = record { message = a.message.now; to = a.to }
@@ -32,7 +32,7 @@ abbrev pub cells_of : List Exits → List Cell
 cells_of exits = reverse (map cell_of exits)
 
 abbrev pub work_of : Laying → Work
-work_of l = record { cells = cells_of l.exits.items; loops = l.loops.items; choices = l.choices; next = l.next }
+work_of l = record { cells = cells_of l.exits.items; loops = l.loops.items; entries = l.entries.items; choices = l.choices; next = l.next }
 
 abbrev pub gathered : Laying → Row Arrow → Gathered
 gathered l arrows = record { work = work_of l; drafts = drafts_of arrows.items }
@@ -46,11 +46,17 @@ bodies branches = branches_of (map (λ b. statements b.items) branches)
 
 -- ---- the automaton that is laid out
 
--- where a hop leads, where so many states are laid out
+-- where a hop leads that isn't to a protocol, where so many states are laid out
+abbrev pub plain_standing : Work → Hop → Standing
+plain_standing w (hops.State n) = standings.State (length w.cells - n)
+plain_standing w (hops.Loop k) = standings.State (length w.cells - slice_index_or w.loops k 0)
+plain_standing w (hops.Part k) = standings.End
+plain_standing w hops.End = standings.End
+
+-- where a hop leads; no entry of a protocol leads to another one
 abbrev pub standing_of : Work → Hop → Standing
-standing_of w (hops.State n) = standings.State (length w.cells - n)
-standing_of w (hops.Loop k) = standings.State (length w.cells - slice_index_or w.loops k 0)
-standing_of w hops.End = standings.End
+standing_of w (hops.Part k) = plain_standing w (entry_at k w.entries)
+standing_of w hop = plain_standing w hop
 
 -- what is seen of a step by this message, of a state with this number
 abbrev pub act_of : Work → Option ℕ → Said → Act
