@@ -1,4 +1,6 @@
 pub mod Steps
+pub mod Ending
+pub mod Naming
 pub mod Growing
 pub mod Following
 pub mod Rules

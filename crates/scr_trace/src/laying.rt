@@ -7,7 +7,7 @@ ghost use Rattle.scr_tree.specs.Tree.{Nothing, other};
 ghost use Rattle.scr_tree.specs.Local.{tree_of};
 ghost use Rattle.scr_tree.specs.Meaning.{protocol_of};
 ghost use Rattle.scr_trace.specs.Graph.{Automates};
-ghost use Rattle.scr_trace.specs.inner.Laying.{lay, lay_in, branch_laid, part_laid, parts_laid, laid_out, joined, said, opened, closed, chosen, hop_named, hop_to};
+ghost use Rattle.scr_trace.specs.inner.Laying.{lay, lay_in, branch_laid, part_laid, parts_laid, LaidOut, joined, said, opened, closed, chosen, hop_named, hop_to};
 ghost use Rattle.scr_trace.specs.inner.View.{known_of, work_of, gathered, bodies, graph_of_work};
 
 use crate::arrow::{Arrow, Exits, Hop};
@@ -260,7 +260,7 @@ impl<'a> Laying<'a> {
     /// What is laid out of a local protocol: its automaton.
     /// The only error is `Memory`, where there is too little of it.
     pub fn of(alloc: Global, local: &'a Local) -> Result<Laying<'a>, Memory>
-        ensures laid { IfOk result (λ l. work_of l ≡ laid_out (tree_of local.now)) }
+        ensures laid { IfOk result (λ l. LaidOut (tree_of local.now) (work_of l)) }
         ensures automaton { IfOk result (λ l. Automates (protocol_of (tree_of local.now)) (graph_of_work (work_of l))) }
     {
         let names = numbers_of(alloc, local)?;
