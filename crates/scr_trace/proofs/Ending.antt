@@ -2,9 +2,10 @@
 use Rattle.std.proofs.Common.{◌≡◌, ◌≢◌, ◌⊎◌, ⊎_elim, inl, inr, ℕ, zero, suc, ◌+◌, ◌-◌, ◌<◌, ◌≤◌, List, [], ◌∷◌, length, get_or, set, refl, sym, ap, subst, ◌∙◌, arith}
 use Rattle.std.proofs.lemmas.List.{length-set, get_or-set_same, get_or-set_other, get_or_past}
 use Rattle.std.proofs.lemmas.Bool.{cases_eq, cases_lt}
+use Rattle.scr_tree.specs.Tree.{LocalTree}
 use Rattle.scr_trace.specs.declared.arrow.Hop.{Hop}
 use Rattle.scr_trace.specs.declared.arrow.Hop.TheVariants as hops
-use Rattle.scr_trace.specs.inner.Laying.{entry_at, IsPlain, Ends, stops, onward, Settled}
+use Rattle.scr_trace.specs.inner.Laying.{Work, entry_at, IsPlain, Ends, stops, onward, Settled, laid_parts, LaidOut}
 use Rattle.scr_trace.specs.inner.Entries.{Along, here, next, IsWritten}
 
 -- ---- one end
@@ -214,3 +215,11 @@ writing_all old now from end at left w stop within = ⊎_elim
     (λ f. f within)
     (λ v. absurd (⊎_elim (λ (z : left ≡ 0). let e = v.1 in omega (arith, e, z, within)) (λ (past : length now ≤ at). let e = v.0 in let s = w.as_many in omega (arith, e, s, past, within)) stop))
     w.first
+
+-- ---- what is laid out
+
+pub settled_out : (local : LocalTree) (before after : Work) → before ≡ laid_parts local → record after { entries = before.entries } ≡ before → Settled before.entries after.entries → LaidOut local after
+settled_out local before after is same settled = record {
+  parts = ap (λ (w : Work). record after { entries = w.entries }) (sym is) ∙ same ∙ is;
+  settled = subst (λ (w : Work). Settled w.entries after.entries) is settled;
+}
