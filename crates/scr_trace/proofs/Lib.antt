@@ -1,6 +1,7 @@
 pub mod Steps
 pub mod Ending
 pub mod Naming
+pub mod Placing
 pub mod Growing
 pub mod Following
 pub mod Rules

@@ -80,10 +80,10 @@ abbrev Distinct : List Name → Type 0
 Distinct [] = Unit {0}
 Distinct (name ∷ names) = Differs name names × Distinct names
 
-contains_later : {X : Type 0} (y : X) (ys : List X) (x : X) → Contains ys x → Contains (y ∷ ys) x
+pub contains_later : {X : Type 0} (y : X) (ys : List X) (x : X) → Contains ys x → Contains (y ∷ ys) x
 contains_later y ys x c = (suc c.0, omega (arith, c.1), c.2)
 
-contains_first : {X : Type 0} (y : X) (ys : List X) → Contains (y ∷ ys) y
+pub contains_first : {X : Type 0} (y : X) (ys : List X) → Contains (y ∷ ys) y
 contains_first y ys = (0, omega arith, refl)
 
 module _ (me : Name) where

@@ -9,6 +9,7 @@ use Rattle.scr_trace.specs.declared.arrow.Hop.{Hop}
 use Rattle.scr_trace.specs.declared.arrow.Hop.TheVariants as hops
 use Rattle.scr_trace.specs.inner.Laying.{Work, nothing, number_in, part_laid, parts_laid, laid_parts, Settled}
 use Rattle.scr_trace.specs.inner.View.{number_by, cells_of, work_of}
+use Rattle.scr_trace.proofs.Automaton.{automates}
 use Rattle.scr_trace.proofs.Ending.{settled_out}
 use Rattle.scr_trace.proofs.laying.Laying.of.Goals as goal
 
@@ -33,3 +34,6 @@ returns-clause-laid c =
     settled_out (tree_of c.args.local.now) (work_of c.lay_part.new.out)
     (record { cells = cells_of c.lay_part.new.out.exits.items; loops = c.lay_part.new.out.loops.items; entries = written; choices = c.lay_part.new.out.choices; next = c.lay_part.new.out.next })
     laid refl settled
+
+pub returns-clause-automaton : goal.returns-clause-automaton
+returns-clause-automaton c = automates (tree_of c.args.local.now) c.args.local.now.valid _ (returns-clause-laid c)
