@@ -2,6 +2,7 @@ pub mod Steps
 pub mod Ending
 pub mod Naming
 pub mod Placing
+pub mod Entering
 pub mod Growing
 pub mod Following
 pub mod Rules

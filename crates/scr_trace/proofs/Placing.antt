@@ -18,9 +18,8 @@ use Rattle.scr_trace.specs.inner.Laying.{Work, Known, Gathered, nothing, lay, la
 use Rattle.scr_trace.proofs.Growing.{Keeps, keeps_all, keeps_more, keeps}
 use Rattle.scr_trace.proofs.Counting.{counted, numbers}
 use Rattle.scr_trace.proofs.Rules.{Sound}
-use Rattle.scr_trace.proofs.Valid.{AllSound, first_or_later}
+use Rattle.scr_trace.proofs.Valid.{AllSound, contains_first, contains_later}
 use Rattle.scr_trace.proofs.Leading.{true_or_false}
-use Rattle.scr_trace.proofs.Telling.{contains_first, contains_later}
 
 -- ---- statements leave the entries as they are
 
@@ -105,8 +104,7 @@ counted_all me entry (t ∷ more) n w =
     omega arith
 
 -- what is laid out of the last ones is the first part of what is laid out of all
-pub record Reached (me : Name) (ts xs : List Titled) : Type 0 where
-  pub n : ℕ
+pub record Reached (me : Name) (ts xs : List Titled) (n : ℕ) : Type 0 where
   pub nums : n + (parts_laid me (number_among ts) xs nothing).choices ≡ suc (raw me ts).choices
   pub front : List Position
   pub all_is : positions me ts ≡ front ++ state_positions (numbered_parts me n xs)
@@ -144,22 +142,21 @@ skip_body z t me n more e =
 skip_number : (z : Name) (t : Titled) (more : List Titled) → bytes_eq z t.name ≡ false → number_among (t ∷ more) z ≡ number_among more z
 skip_number z t more e = ap (λ b. if b then Some (length more) else number_among more z) e
 
-next_reached : (me : Name) (ts : List Titled) (t : Titled) (more : List Titled) (protocols : List Name) → Sound protocols [] t.body → Reached me ts (t ∷ more) → Reached me ts more
-next_reached me ts t more protocols h r =
+pub next_reached : (me : Name) (ts : List Titled) (t : Titled) (more : List Titled) (protocols : List Name) → Sound protocols [] t.body → (n : ℕ) → Reached me ts (t ∷ more) n → Reached me ts more (n + choices me t.body)
+next_reached me ts t more protocols h n r =
     let entry : Name → Option ℕ = number_among ts in
     let v = parts_laid me (number_among ts) more nothing in
     let u = lay me (number_among ts) [] (before v) t.body in
     let many = numbers me (number_among ts) protocols t.body [] h [] (before v) in
     record {
-      n = r.n + choices me t.body;
       nums = let a = r.nums in omega (arith, a, many);
-      front = r.front ++ states_in Plain [] (numbered me r.n t.body);
-      all_is = r.all_is ∙ sym (append_assoc r.front (states_in Plain [] (numbered me r.n t.body)) (state_positions (numbered_parts me (r.n + choices me t.body) more)));
+      front = r.front ++ states_in Plain [] (numbered me n t.body);
+      all_is = r.all_is ∙ sym (append_assoc r.front (states_in Plain [] (numbered me n t.body)) (state_positions (numbered_parts me (n + choices me t.body) more)));
       later = u.next ∷ r.later;
       entries_are = r.entries_are ∙ append_assoc u.entries (u.next ∷ []) r.later ∙ ap (λ es. es ++ u.next ∷ r.later) (same_entries me (number_among ts) t.body [] (before v));
       size = as_many me (number_among ts) more nothing ∙ omega arith;
       loops = keeps_more v.loops u.loops (raw me ts).loops (keeps me (number_among ts) [] (before v) t.body) r.loops;
-      body = λ z c. r.body z (contains_later t.name (names more) z c) ∙ skip_body z t me r.n more (other_name t more r.distinct z c);
+      body = λ z c. r.body z (contains_later t.name (names more) z c) ∙ skip_body z t me n more (other_name t more r.distinct z c);
       number = λ z c. r.number z (contains_later t.name (names more) z c) ∙ skip_number z t more (other_name t more r.distinct z c);
       distinct = r.distinct.1;
     }
@@ -168,9 +165,8 @@ pub sound_from : (protocols : List Name) (ts xs : List Titled) → From ts xs �
 sound_from protocols ts xs all_of h = h
 sound_from protocols ts xs (rest_of {t} {more} f) h = (sound_from protocols ts (t ∷ more) f h).1
 
-pub reached : (me : Name) (protocols : List Name) (ts xs : List Titled) → AllSound protocols ts → AreDistinct (names ts) → From ts xs → Reached me ts xs
-reached me protocols ts xs h d all_of = record {
-  n = 1;
+pub reached_all : (me : Name) (ts : List Titled) → AreDistinct (names ts) → Reached me ts ts 1
+reached_all me ts d = record {
   nums = omega arith;
   front = [];
   all_is = refl;
@@ -182,8 +178,12 @@ reached me protocols ts xs h d all_of = record {
   number = λ z c. refl;
   distinct = d;
 }
+
+pub reached : (me : Name) (protocols : List Name) (ts xs : List Titled) → AllSound protocols ts → AreDistinct (names ts) → From ts xs → (n : ℕ) × Reached me ts xs n
+reached me protocols ts xs h d all_of = (1, reached_all me ts d)
 reached me protocols ts xs h d (rest_of {t} {more} f) =
-    next_reached me ts t more protocols (sound_from protocols ts (t ∷ more) f h).0 (reached me protocols ts (t ∷ more) h d f)
+    let r = reached me protocols ts (t ∷ more) h d f in
+    (r.0 + choices me t.body, next_reached me ts t more protocols (sound_from protocols ts (t ∷ more) f h).0 r.0 r.1)
 
 -- ---- the first of the last ones
 
@@ -191,11 +191,11 @@ get_at : {A : Type 0} (xs : List A) (y : A) (zs : List A) (d : A) (k : ℕ) → 
 get_at [] y zs d k e = ap (λ i. get_or (y ∷ zs) i d) e
 get_at (x ∷ xs) y zs d k e = ap (λ i. get_or (x ∷ (xs ++ y ∷ zs)) i d) e ∙ get_at xs y zs d (length xs) refl
 
-module _ (me : Name) (ts : List Titled) (t : Titled) (more : List Titled) (r : Reached me ts (t ∷ more)) where
-  pub body_here : body_named t.name (numbered_parts me 1 ts) ≡ Some (numbered me r.n t.body)
+module _ (me : Name) (ts : List Titled) (t : Titled) (more : List Titled) (n : ℕ) (r : Reached me ts (t ∷ more) n) where
+  pub body_here : body_named t.name (numbered_parts me 1 ts) ≡ Some (numbered me n t.body)
   body_here =
       r.body t.name (contains_first t.name (names more))
-      ∙ ap (λ b. elim b as (λ (v : Bool). Option Protocol) [ true ↦ Some (numbered me r.n t.body) | false ↦ body_named t.name (numbered_parts me (r.n + choices me t.body) more) ])
+      ∙ ap (λ b. elim b as (λ (v : Bool). Option Protocol) [ true ↦ Some (numbered me n t.body) | false ↦ body_named t.name (numbered_parts me (n + choices me t.body) more) ])
       ((bytes_eq-Decides t.name t.name).1 refl)
 
   pub number_here : number_among ts t.name ≡ Some (length more)
