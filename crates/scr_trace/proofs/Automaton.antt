@@ -23,8 +23,6 @@ use Rattle.scr_trace.proofs.Rules.{opens_known}
 use Rattle.scr_trace.proofs.Matching.{Fit, Final, matches, fit_both, fit_all}
 use Rattle.scr_trace.proofs.Valid.{AllSound, clean_once, valid_sound}
 use Rattle.scr_trace.proofs.Placing.{names, raw, before, positions, From, all_of, rest_of, Reached, next_reached, reached_all}
-use Rattle.scr_trace.proofs.Telling.{valid_told}
-use Rattle.scr_trace.proofs.Following.{AllSettled}
 use Rattle.scr_trace.proofs.Entering.{total, as_many, lies_here, part_leads, enters}
 
 distinct_once : (ns : List Name) (a b : AreDistinct ns) → a ≡ b
