@@ -142,7 +142,7 @@ ahead_of : (parts : Parts) (all : List Position) → AllSettled parts all → {p
 ahead_of parts all sets (at_state {number = n} {position = p} e) k place is there =
     let same : n ≡ k = state_same n k is in
     let f : p ≡ place = some_same (subst (λ j. slice_get all j ≡ Some p) same e) there in
-    subst (λ q. Ahead p (steps_at q)) f (settled (settled_at all sets n p e).settled)
+    subst (λ q. Ahead parts p (steps_at q)) f (settled (settled_at all sets n p e).settled)
   where
     some_same : {A : Type 0} {a b : A} {o : Option A} → o ≡ Some a → o ≡ Some b → a ≡ b
     some_same e f = cc
