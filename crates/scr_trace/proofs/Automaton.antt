@@ -1,23 +1,27 @@
 -- What is laid out of a valid local protocol is its automaton.
-use Rattle.std.proofs.Common.{◌≡◌, ℕ, suc, ◌+◌, List, [], ◌∷◌, ◌++◌, ◌-◌, ◌<◌, ◌≤◌, length, map, refl, sym, ap, ◌∙◌, subst, inl, inr, ◌⊎◌, Bool, true, false, ◌||◌, arith}
+use Rattle.std.proofs.Common.{◌≡◌, ℕ, suc, ◌+◌, List, [], ◌∷◌, ◌++◌, ◌-◌, ◌<◌, ◌≤◌, length, map, refl, sym, ap, ◌∙◌, subst, inl, inr, ◌⊎◌, ⊎_elim, Bool, true, false, ◌||◌, if◌then◌else◌, arith}
+use Rattle.std.specs.List.{list_any}
+use Rattle.std.specs.Str.{bytes_eq}
+use Rattle.std.proofs.lemmas.List.{append-nil, length-append}
 use Rattle.std.specs.Prelude.{Contains}
 use Rattle.std.proofs.Math.Logic.{∥∥₁_elim}
 use Rattle.mg_text.specs.Call.{Name}
 use Rattle.mg_read.specs.First.{Clean}
-use Rattle.scr_tree.specs.Tree.{LocalTree, Titled, titled, body_in, bodies_in, other, Statements, Nothing, Says, Choice, Rec, Continue, Do}
-use Rattle.scr_tree.specs.Spots.{all_spots, spots_of}
-use Rattle.scr_tree.specs.Going.{Unguarded, UnknownProtocol}
-use Rattle.scr_tree.specs.Meaning.{protocol_of, choices, numbered, numbered_parts}
-use Rattle.scr_tree.specs.Steps.{Plain, Position, start}
+use Rattle.scr_tree.specs.Tree.{LocalTree, PartTree, Titled, titled, body_in, bodies_in, other, Statements, Nothing, Says, Choice, Rec, Continue, Do}
+use Rattle.scr_tree.specs.Spots.{Past, Opens, Way, spots, all_spots, spots_of}
+use Rattle.scr_tree.specs.Going.{Unguarded, UnknownProtocol, is_deed, has_deed}
+use Rattle.scr_tree.specs.Meaning.{protocol_of, choices, choices_in, numbered, numbered_in, numbered_parts}
+use Rattle.scr_tree.specs.Protocol.{Protocol, ChoiceHere, ChoiceThere}
+use Rattle.scr_tree.specs.Steps.{Part, Plain, BodyOf, Left, Position}
 use Rattle.scr_tree.specs.Valid.{IsValid, AreDistinct, names_in}
 use Rattle.scr_trace.specs.declared.arrow.Hop.{Hop}
 use Rattle.scr_trace.specs.declared.arrow.Hop.TheVariants as hops
 use Rattle.scr_trace.specs.Positions.{states_in, state_positions, at_end}
 use Rattle.scr_trace.specs.Graph.{Automates}
-use Rattle.scr_trace.specs.inner.Laying.{Work, nothing, lay, parts_laid, number_among, laid_parts, LaidOut, Settled}
+use Rattle.scr_trace.specs.inner.Laying.{Work, nothing, lay, parts_laid, number_among, number_in, laid_parts, LaidOut, Settled}
 use Rattle.scr_trace.specs.inner.View.{standing_of, graph_of_work}
 use Rattle.scr_trace.specs.declared.standing.Standing.TheVariants as standings
-use Rattle.scr_trace.proofs.Begins.{Begins, at_first, through, back, begins}
+use Rattle.scr_trace.proofs.Begins.{Begins, HasNone, at_first, through, back, begins}
 use Rattle.scr_trace.proofs.Counting.{numbers}
 use Rattle.scr_trace.proofs.Rules.{opens_known}
 use Rattle.scr_trace.proofs.Matching.{Fit, Final, matches, fit_both, fit_all}
@@ -25,7 +29,7 @@ use Rattle.scr_trace.proofs.Valid.{AllSound, clean_once, valid_sound}
 use Rattle.scr_trace.proofs.Placing.{names, raw, before, positions, From, all_of, rest_of, Reached, next_reached, reached_all}
 use Rattle.scr_trace.proofs.Entering.{total, as_many, lies_here, part_leads, enters}
 
-distinct_once : (ns : List Name) (a b : AreDistinct ns) → a ≡ b
+pub distinct_once : (ns : List Name) (a b : AreDistinct ns) → a ≡ b
 distinct_once [] a b = refl
 distinct_once (n ∷ ns) a b = λ i. ((λ c. let p : a.0 c ≡ b.0 c = absurd (a.0 c) in p i), distinct_once ns a.1 b.1 i)
 
@@ -75,3 +79,73 @@ automates local v w e = subst (λ (x : Work). Automates (protocol_of local) (gra
     (∥∥₁_elim v (distinct_once (names_in local)) (λ i. i.protocols_differ))
     (∥∥₁_elim v (clean_once (Unguarded (titled local)) (spots_of body_in (titled local))) (λ i. i.guarded))
     (∥∥₁_elim v (clean_once (UnknownProtocol (names_in local)) (all_spots (bodies_in local))) (λ i. i.protocols_known)))
+
+-- ---- the first state
+
+or_true : (a b : Bool) → (a || b) ≡ true → (a ≡ true) ⊎ (b ≡ true)
+or_true true b e = inl refl
+or_true false b e = inr e
+
+any_both : {A : Type 0} (test : A → Bool) (xs ys : List A) → list_any test (xs ++ ys) ≡ true → (list_any test xs ≡ true) ⊎ (list_any test ys ≡ true)
+any_both test [] ys e = inr e
+any_both test (x ∷ xs) ys e = ⊎_elim
+    (λ here. inl (ap (λ b. b || list_any test xs) here))
+    (λ later. ⊎_elim (λ front. inl (true_behind (test x) (list_any test xs) front)) (λ back. inr back) (any_both test xs ys later))
+    (or_true (test x) (list_any test (xs ++ ys)) e)
+  where
+    true_behind : (a b : Bool) → b ≡ true → (a || b) ≡ true
+    true_behind true b f = refl
+    true_behind false b f = f
+
+-- a message or a choice is a state
+deed_states : (me : Name) (t : Statements) (way : Way) (n : ℕ) (part : Part) (around : Position) → list_any is_deed (spots way t) ≡ true → states_in part around (numbered me n t) ≡ [] → ⊥
+deed_states me Nothing way n part around e none = cc
+deed_states me (Says m rest) way n part around e none = cc
+deed_states me (Choice place at bs rest) way n part around e none = go (bytes_eq at me) none
+  where
+    go : (b : Bool) → states_in part around (if b then ChoiceHere (numbered_in me n bs) (numbered me (n + choices_in me bs) rest) else ChoiceThere n (numbered_in me (suc n) bs) (numbered me (suc n + choices_in me bs) rest)) ≡ [] → ⊥
+    go true f = cc
+    go false f = cc
+deed_states me (Rec place name body rest) way n part around e none =
+    let p : Protocol = numbered me n body in
+    let r : Protocol = numbered me (n + choices me body) rest in
+    let size = length-append (states_in (BodyOf name p) (Left r part ∷ around) p) (states_in part around r) in
+    let zero_long = ap length none in
+    ⊎_elim
+    (λ b. deed_states me body (Opens name ∷ way) n (BodyOf name p) (Left r part ∷ around) b (no_length _ (omega (arith, size, zero_long))))
+    (λ b. deed_states me rest (Past (Rec place name body Nothing) ∷ way) (n + choices me body) part around b (no_length _ (omega (arith, size, zero_long))))
+    (any_both is_deed (spots (Opens name ∷ way) body) (spots (Past (Rec place name body Nothing) ∷ way) rest) e)
+  where
+    no_length : (ps : List Position) → length ps ≡ 0 → ps ≡ []
+    no_length [] f = refl
+    no_length (q ∷ ps) f = absurd (let z : ⊥ = omega (arith, f) in z)
+deed_states me (Continue place name rest) way n part around e none = deed_states me rest (Past (Continue place name Nothing) ∷ way) n part around e none
+deed_states me (Do place name rest) way n part around e none = deed_states me rest (Past (Do place name Nothing) ∷ way) n part around e none
+
+-- the first protocol of several has a message or a choice
+acts : (local : LocalTree) → ∥ IsValid local ∥₁ → (p : PartTree) (ps : List PartTree) → local.others ≡ p ∷ ps → has_deed local.body ≡ true
+acts local v p ps e = go (has_deed local.body) refl
+  where
+    go : (b : Bool) → has_deed local.body ≡ b → b ≡ true
+    go true f = refl
+    go false f = absurd (∥∥₁_elim v (λ a b. absurd a) (λ i. let g = (i.acts_first (λ none. cc)).0 in let z : ⊥ = cc in z))
+
+-- a protocol that has states comes to the first
+pub first_state : (local : LocalTree) → ∥ IsValid local ∥₁ → (w : Work) → LaidOut local w → ((graph_of_work w).initial ≡ standings.State 0) ⊎ (state_positions (protocol_of local) ≡ [])
+first_state local v w e =
+    let ts : List Titled = map other local.others in
+    let u : Work = lay local.me (number_in local) [] (before (parts_laid local.me (number_in local) ts nothing)) local.body in
+    subst (λ (x : Work). ((graph_of_work x).initial ≡ standings.State 0) ⊎ (state_positions (protocol_of local) ≡ [])) (sym (laid_is local w e))
+    (go u (begins local.me (number_in local) (names_in local) local.body [] (valid_sound local v).0 [] (before (parts_laid local.me (number_in local) ts nothing))))
+  where
+    none_behind : (os : List PartTree) → local.others ≡ os → HasNone local.me (number_in local) local.body → state_positions (protocol_of local) ≡ []
+    none_behind [] f none =
+        ap (λ (xs : List PartTree). states_in Plain [] (numbered local.me 1 local.body) ++ state_positions (numbered_parts local.me (1 + choices local.me local.body) (map other xs))) f
+        ∙ append-nil (states_in Plain [] (numbered local.me 1 local.body)) ∙ none 1 Plain []
+    none_behind (p ∷ ps) f none = absurd (deed_states local.me local.body [] 1 Plain [] (acts local v p ps f) (none 1 Plain []))
+
+    go : (u : Work) → Begins local.me (number_in local) local.body (before (parts_laid local.me (number_in local) (map other local.others) nothing)) u →
+        (standing_of (record u { entries = w.entries }) u.next ≡ standings.State 0) ⊎ (state_positions (protocol_of local) ≡ [])
+    go u (at_first f) = inl (ap (standing_of (record u { entries = w.entries })) f ∙ ap standings.State (let z : length u.cells - length u.cells ≡ 0 = omega arith in z))
+    go u (through none cells next) = inr (none_behind local.others refl none)
+    go u (back none cells s) = inr (none_behind local.others refl none)

@@ -112,7 +112,7 @@ at_once_in (Do place name rest) way z a o = record {
 
 -- ---- the protocols of a list
 
-from_contains : (ts xs : List Titled) → From ts xs → (t : Titled) → Contains xs t → Contains ts t
+pub from_contains : (ts xs : List Titled) → From ts xs → (t : Titled) → Contains xs t → Contains ts t
 from_contains ts xs all_of t c = c
 from_contains ts xs (rest_of {t = s} {more = more} f) t c = from_contains ts (s ∷ more) f t (contains_later s more t c)
 
@@ -126,7 +126,7 @@ find : (ts xs : List Titled) → From ts xs → (z : Name) → Contains (names x
 find ts [] f z c = absurd (none_contained z c)
 find ts (t ∷ more) f z c = ⊎_elim (λ e. record { t = t; more = more; from = f; name = e }) (λ later. find ts more (rest_of f) z later) (first_or_later t.name (names more) z c)
 
-map_contains : {A B : Type 0} (g : A → B) (xs : List A) (x : A) → Contains xs x → Contains (map g xs) (g x)
+pub map_contains : {A B : Type 0} (g : A → B) (xs : List A) (x : A) → Contains xs x → Contains (map g xs) (g x)
 map_contains g [] x c = absurd (none_contained x c)
 map_contains g (y ∷ ys) x c = ⊎_elim
     (λ e. subst (λ z. Contains (g y ∷ map g ys) (g z)) e (contains_first (g y) (map g ys)))
@@ -200,13 +200,90 @@ settled_standing : (w : Work) (old : List Hop) → Settled old w.entries → {ho
 settled_standing w old settled {hop} (stops p) = plain_same w hop p
 settled_standing w old settled {hop} {end} (laying.onward {k} r) = ap (plain_standing w) (settled k end (laying.onward r))
 
+-- a `do` of this name leads somewhere at last
+pub record Arrives (me : Name) (ts : List Titled) (z : Name) : Type 0 where
+  pub end : Hop
+  pub ends : Ends (raw me ts).entries (hop_to (number_among ts z)) end
+
+some_end : (me : Name) (ts : List Titled) (t : Statements) (w : Work) (hop : Hop) → w.next ≡ hops.End → Begun (number_among ts) t w hop → ((z : Name) → Opens z t → Arrives me ts z) →
+    (end : Hop) × Ends (raw me ts).entries hop end
+some_end me ts t w hop e (follows f g) ends = (hop, stops (subst IsPlain (sym (g ∙ e)) tt))
+some_end me ts t w hop e (plainly p) ends = (hop, stops p)
+some_end me ts t w hop e (goes_on z o g) ends = let d = ends z o in (d.end, subst (λ h. Ends (raw me ts).entries h d.end) (sym g) d.ends)
+
+-- where a protocol begins, and where that leads at last
+record Begins (me : Name) (ts : List Titled) (t : Titled) (more : List Titled) : Type 0 where
+  end : Hop
+  here : Ends (raw me ts).entries (lay me (number_among ts) [] (before (parts_laid me (number_among ts) more nothing)) t.body).next end
+  ends : Ends (raw me ts).entries (hop_to (number_among ts t.name)) end
+
+begins_here : (me : Name) (ts : List Titled) (t : Titled) (more : List Titled) (n : ℕ) → Reached me ts (t ∷ more) n → ((z : Name) → Opens z t.body → Arrives me ts z) → Begins me ts t more
+begins_here me ts t more n r ends =
+    let w = before (parts_laid me (number_among ts) more nothing) in
+    let e = some_end me ts t.body w (lay me (number_among ts) [] w t.body).next refl (begun me (number_among ts) t.body [] w) ends in
+    record {
+      end = e.0;
+      here = e.1;
+      ends = subst (λ o. Ends (raw me ts).entries (hop_to o) e.0) (sym (number_here me ts t more n r))
+          (laying.onward (subst (λ h. Ends (raw me ts).entries h e.0) (sym (entry_here me ts t more n r)) e.1));
+    }
+
+-- ---- protocols that go on as others, in an order
+
+module _ (ts : List Titled) (sound : AllSound (names ts) ts) (guarded : Clean (Unguarded ts) (spots_of body_in ts)) (named : Clean (UnknownProtocol (names ts)) (all_spots (map body_in ts))) where
+  goes_on_at_once : (t : Titled) (more : List Titled) → From ts (t ∷ more) → (z : Name) → Opens z t.body → GoesOn ts t.name z
+  goes_on_at_once t more f z o =
+      let i = at_once_in t.body [] z starting o in
+      record { body = t.body; there = from_contains ts (t ∷ more) f t (contains_first t more); way = i.to; place = i.place; rest = i.rest; stands = i.stands; at_once = i.at_once }
+
+  no_way_back : (t : Titled) (more : List Titled) → From ts (t ∷ more) → (z : Name) → Opens z t.body → Leads ts z t.name → ⊥
+  no_way_back t more f z o l =
+      let i = at_once_in t.body [] z starting o in
+      let own = clean_front (Unguarded ts) (map (λ (x : Spot). (t, x)) (spots [] t.body)) (spots_of body_in more) (clean_from ts (t ∷ more) f guarded) in
+      clean_at (Unguarded ts) (map (λ (x : Spot). (t, x)) (spots [] t.body)) own (t, spot i.to (Do i.place z i.rest))
+      (map_contains (λ (x : Spot). (t, x)) (spots [] t.body) (spot i.to (Do i.place z i.rest)) i.stands) (culprit i.place z) (refl, i.at_once, l)
+
+  goes_known : (from to : Name) → GoesOn ts from to → Contains (names ts) to
+  goes_known from to g =
+      listed (names ts) to (λ unlisted. clean_at (UnknownProtocol (names ts)) (all_spots (map body_in ts)) named (spot g.way (Do g.place to g.rest))
+      (spots_contain ts (record { name = from; body = g.body }) (spot g.way (Do g.place to g.rest)) g.there g.stands) (culprit g.place to) (refl, unlisted))
+
+  leads_known : {from to : Name} → Leads ts from to → Contains (names ts) from → Contains (names ts) to
+  leads_known there c = c
+  leads_known (onward {from} {next} g l) c = leads_known l (goes_known from next g)
+
+  -- what holds of a protocol if it does of those that it goes on as at once
+  abbrev pub Passes : (Name → Type 0) → Type 0
+  Passes P = (t : Titled) (more : List Titled) → From ts (t ∷ more) → ((z : Name) → Opens z t.body → P z) → P t.name
+
+  -- only these names are come to from the protocol
+  by_names : (P : Name → Type 0) → Passes P → (fuel : ℕ) (left : List Name) → length left ≤ fuel → (z : Name) → Contains (names ts) z → ((y : Name) → Leads ts z y → Contains left y) → P z
+  by_names P step zero left few z c reach = absurd (let k = reach z there in let within = k.1 in omega (arith, few, within))
+  by_names P step (suc fuel) left few z c reach =
+      let f = find ts ts all_of z c in
+      let reach' : (y : Name) → Leads ts f.t.name y → Contains left y = λ y l. reach y (subst (λ n. Leads ts n y) f.name l) in
+      let less = fewer f.t.name left (reach' f.t.name there) in
+      subst P f.name
+      (step f.t f.more f.from (λ y o. by_names P step fuel (without f.t.name left) (omega (arith, less, few)) y
+      (opens_known (names ts) f.t.body [] (sound_from (names ts) ts (f.t ∷ f.more) f.from sound).0 y o)
+      (λ x l. still_there f.t.name left x (reach' x (onward (goes_on_at_once f.t f.more f.from y o) l))
+      (⊎_elim (λ (e : bytes_eq f.t.name x ≡ true). absurd (no_way_back f.t f.more f.from y o (subst (Leads ts y) (sym ((bytes_eq-Decides f.t.name x).0 e)) l))) (λ e. e) (true_or_false (bytes_eq f.t.name x))))))
+
+  pub each_name : (P : Name → Type 0) → Passes P → (z : Name) → Contains (names ts) z → P z
+  each_name P step z c = by_names P step (length (names ts)) (names ts) (omega arith) z c (λ y l. leads_known l c)
+
+  pub each_arrives : (me : Name) → AreDistinct (names ts) → (z : Name) → Contains (names ts) z → Arrives me ts z
+  each_arrives me distinct = each_name (Arrives me ts) (λ t more f ends.
+      let r = reached me (names ts) ts (t ∷ more) sound distinct f in
+      let b = begins_here me ts t more r.0 r.1 ends in
+      record { end = b.end; ends = b.ends })
+
 -- a `do` of this name comes to a state or the end
 record Ended (me : Name) (ts : List Titled) (es : List Hop) (z : Name) : Type 0 where
   body : Protocol
   known : body_named z (numbered_parts me 1 ts) ≡ Some body
-  end : Hop
-  ends : Ends (raw me ts).entries (hop_to (number_among ts z)) end
-  comes : ComesTo (numbered_parts me 1 ts) (positions me ts) (whole body) (plain_standing (total me ts es) end)
+  arrives : Arrives me ts z
+  comes : ComesTo (numbered_parts me 1 ts) (positions me ts) (whole body) (plain_standing (total me ts es) arrives.end)
 
 module _ (me : Name) (ts : List Titled) (es : List Hop) (settled : Settled (raw me ts).entries es) (sound : AllSound (names ts) ts) (distinct : AreDistinct (names ts))
     (guarded : Clean (Unguarded ts) (spots_of body_in ts)) (named : Clean (UnknownProtocol (names ts)) (all_spots (map body_in ts))) where
@@ -214,7 +291,7 @@ module _ (me : Name) (ts : List Titled) (es : List Hop) (settled : Settled (raw 
   entered z e = record {
     body = e.body;
     known = e.known;
-    comes = subst (λ s. ComesTo (numbered_parts me 1 ts) (positions me ts) (whole e.body) s) (sym (settled_standing (total me ts es) (raw me ts).entries settled e.ends)) e.comes;
+    comes = subst (λ s. ComesTo (numbered_parts me 1 ts) (positions me ts) (whole e.body) s) (sym (settled_standing (total me ts es) (raw me ts).entries settled e.arrives.ends)) e.comes;
   }
 
   -- the states of a protocol lie behind those in front of it
@@ -236,61 +313,18 @@ module _ (me : Name) (ts : List Titled) (es : List Hop) (settled : Settled (raw 
       leads (numbered_parts me 1 ts) me (number_among ts) (names ts) (total me ts es) (positions me ts) (as_many me ts) t.body [] h enters [] (before (parts_laid me (number_among ts) more nothing)) n Plain []
       (lies_here t more n r) (λ e. at_end) (λ z among. cc among)
 
-  some_end : (t : Statements) (w : Work) (hop : Hop) → w.next ≡ hops.End → Begun (number_among ts) t w hop → ((z : Name) → Opens z t → Ended me ts es z) → (end : Hop) × Ends (raw me ts).entries hop end
-  some_end t w hop e (follows f g) ends = (hop, stops (subst IsPlain (sym (g ∙ e)) tt))
-  some_end t w hop e (plainly p) ends = (hop, stops p)
-  some_end t w hop e (goes_on z o g) ends = let d = ends z o in (d.end, subst (λ h. Ends (raw me ts).entries h d.end) (sym g) d.ends)
-
   ended_here : (t : Titled) (more : List Titled) → From ts (t ∷ more) → ((z : Name) → Opens z t.body → Ended me ts es z) → Ended me ts es t.name
   ended_here t more f ends =
       let r = reached me (names ts) ts (t ∷ more) sound distinct f in
-      let w = before (parts_laid me (number_among ts) more nothing) in
-      let u = lay me (number_among ts) [] (before (parts_laid me (number_among ts) more nothing)) t.body in
-      let e = some_end t.body w u.next refl (begun me (number_among ts) t.body [] w) ends in
+      let b = begins_here me ts t more r.0 r.1 (λ z o. (ends z o).arrives) in
       record {
         body = numbered me r.0 t.body;
         known = body_here me ts t more r.0 r.1;
-        end = e.0;
-        ends = subst (λ o. Ends (raw me ts).entries (hop_to o) e.0) (sym (number_here me ts t more r.0 r.1))
-            (laying.onward (subst (λ h. Ends (raw me ts).entries h e.0) (sym (entry_here me ts t more r.0 r.1)) e.1));
-        comes = subst (λ s. ComesTo (numbered_parts me 1 ts) (positions me ts) (whole (numbered me r.0 t.body)) s) (settled_standing (total me ts es) (raw me ts).entries settled e.1)
+        arrives = record { end = b.end; ends = b.ends };
+        comes = subst (λ s. ComesTo (numbered_parts me 1 ts) (positions me ts) (whole (numbered me r.0 t.body)) s) (settled_standing (total me ts es) (raw me ts).entries settled b.here)
             (part_leads t more r.0 r.1 (sound_from (names ts) ts (t ∷ more) f sound).0 (λ z o. entered z (ends z o)));
       }
 
-  goes_on_at_once : (t : Titled) (more : List Titled) → From ts (t ∷ more) → (z : Name) → Opens z t.body → GoesOn ts t.name z
-  goes_on_at_once t more f z o =
-      let i = at_once_in t.body [] z starting o in
-      record { body = t.body; there = from_contains ts (t ∷ more) f t (contains_first t more); way = i.to; place = i.place; rest = i.rest; stands = i.stands; at_once = i.at_once }
-
-  no_way_back : (t : Titled) (more : List Titled) → From ts (t ∷ more) → (z : Name) → Opens z t.body → Leads ts z t.name → ⊥
-  no_way_back t more f z o l =
-      let i = at_once_in t.body [] z starting o in
-      let own = clean_front (Unguarded ts) (map (λ (x : Spot). (t, x)) (spots [] t.body)) (spots_of body_in more) (clean_from ts (t ∷ more) f guarded) in
-      clean_at (Unguarded ts) (map (λ (x : Spot). (t, x)) (spots [] t.body)) own (t, spot i.to (Do i.place z i.rest))
-      (map_contains (λ (x : Spot). (t, x)) (spots [] t.body) (spot i.to (Do i.place z i.rest)) i.stands) (culprit i.place z) (refl, i.at_once, l)
-
-  -- a protocol from which only these can be come to
-  ended : (fuel : ℕ) (left : List Name) → length left ≤ fuel → (z : Name) → Contains (names ts) z → ((y : Name) → Leads ts z y → Contains left y) → Ended me ts es z
-  ended zero left few z c reach = absurd (let k = reach z there in let within = k.1 in omega (arith, few, within))
-  ended (suc fuel) left few z c reach =
-      let f = find ts ts all_of z c in
-      let reach' : (y : Name) → Leads ts f.t.name y → Contains left y = λ y l. reach y (subst (λ n. Leads ts n y) f.name l) in
-      let less = fewer f.t.name left (reach' f.t.name there) in
-      subst (Ended me ts es) f.name
-      (ended_here f.t f.more f.from (λ y o. ended fuel (without f.t.name left) (omega (arith, less, few)) y
-      (opens_known (names ts) f.t.body [] (sound_from (names ts) ts (f.t ∷ f.more) f.from sound).0 y o)
-      (λ x l. still_there f.t.name left x (reach' x (onward (goes_on_at_once f.t f.more f.from y o) l))
-      (⊎_elim (λ (e : bytes_eq f.t.name x ≡ true). absurd (no_way_back f.t f.more f.from y o (subst (Leads ts y) (sym ((bytes_eq-Decides f.t.name x).0 e)) l))) (λ e. e) (true_or_false (bytes_eq f.t.name x))))))
-
-  goes_known : (from to : Name) → GoesOn ts from to → Contains (names ts) to
-  goes_known from to g =
-      listed (names ts) to (λ unlisted. clean_at (UnknownProtocol (names ts)) (all_spots (map body_in ts)) named (spot g.way (Do g.place to g.rest))
-      (spots_contain ts (record { name = from; body = g.body }) (spot g.way (Do g.place to g.rest)) g.there g.stands) (culprit g.place to) (refl, unlisted))
-
-  leads_known : {from to : Name} → Leads ts from to → Contains (names ts) from → Contains (names ts) to
-  leads_known there c = c
-  leads_known (onward {from} {next} g l) c = leads_known l (goes_known from next g)
-
   -- each name of a protocol is come to
   pub enters : (z : Name) → Contains (names ts) z → Entered (numbered_parts me 1 ts) me (number_among ts) (names ts) (total me ts es) (positions me ts) (as_many me ts) z
-  enters z c = entered z (ended (length (names ts)) (names ts) (omega arith) z c (λ y l. leads_known l c))
+  enters z c = entered z (each_name ts sound guarded named (Ended me ts es) ended_here z c)

@@ -13,6 +13,7 @@ pub mod Leading
 pub mod Matching
 pub mod Valid
 pub mod Automaton
+pub mod Arriving
 pub mod Pieces
 pub mod Telling
 pub mod Searching

@@ -116,7 +116,7 @@ pub record Reached (me : Name) (ts xs : List Titled) (n : ℕ) : Type 0 where
   pub number : (z : Name) → Contains (names xs) z → number_among ts z ≡ number_among xs z
   pub distinct : AreDistinct (names xs)
 
-as_many : (me : Name) (entry : Name → Option ℕ) (xs : List Titled) (w : Work) → length (parts_laid me entry xs w).entries ≡ length xs + length w.entries
+pub as_many : (me : Name) (entry : Name → Option ℕ) (xs : List Titled) (w : Work) → length (parts_laid me entry xs w).entries ≡ length xs + length w.entries
 as_many me entry [] w = omega arith
 as_many me entry (t ∷ more) w =
     let v = parts_laid me entry more w in

@@ -10,6 +10,7 @@ use Rattle.scr_trace.specs.declared.arrow.Hop.TheVariants as hops
 use Rattle.scr_trace.specs.inner.Laying.{Work, nothing, number_in, part_laid, parts_laid, laid_parts, Settled}
 use Rattle.scr_trace.specs.inner.View.{number_by, cells_of, work_of}
 use Rattle.scr_trace.proofs.Automaton.{automates}
+use Rattle.scr_trace.proofs.Arriving.{laid_exists}
 use Rattle.scr_trace.proofs.Ending.{settled_out}
 use Rattle.scr_trace.proofs.laying.Laying.of.Goals as goal
 
