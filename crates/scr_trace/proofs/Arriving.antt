@@ -1,6 +1,5 @@
 -- Each entry of a valid local protocol leads somewhere at last, so what is laid out of it can be settled.
-use Rattle.std.proofs.Common.{◌≡◌, ℕ, zero, suc, ◌+◌, ◌<◌, ◌≤◌, List, [], ◌∷◌, length, get_or, map, Some, refl, sym, ap, ◌∙◌, subst, ⊎_elim, arith}
-use Rattle.std.specs.Prelude.{Contains}
+use Rattle.std.proofs.Common.{◌≡◌, ℕ, zero, suc, ◌<◌, List, [], ◌∷◌, length, map, refl, sym, subst, ⊎_elim, arith}
 use Rattle.std.proofs.Math.Logic.{∥∥₁_elim}
 use Rattle.std.proofs.lemmas.Bool.{cases_eq}
 use Rattle.mg_text.specs.Call.{Name}
@@ -11,7 +10,7 @@ use Rattle.scr_tree.specs.Going.{Unguarded, UnknownProtocol}
 use Rattle.scr_tree.specs.Valid.{IsValid, AreDistinct, names_in}
 use Rattle.scr_trace.specs.declared.arrow.Hop.{Hop}
 use Rattle.scr_trace.specs.declared.arrow.Hop.TheVariants as hops
-use Rattle.scr_trace.specs.inner.Laying.{Work, nothing, hop_to, entry_at, number_among, laid_parts, LaidOut, IsPlain, Ends, stops, onward, Settled}
+use Rattle.scr_trace.specs.inner.Laying.{Work, nothing, hop_to, entry_at, number_among, laid_parts, LaidOut, Ends, stops, onward}
 use Rattle.scr_trace.proofs.Ending.{of_part}
 use Rattle.scr_trace.proofs.Valid.{AllSound, clean_once, contains_first, valid_sound}
 use Rattle.scr_trace.proofs.Placing.{names, raw, From, all_of, rest_of, reached, as_many, number_here}

@@ -1,9 +1,8 @@
 -- What is laid out of a valid local protocol is its automaton.
-use Rattle.std.proofs.Common.{◌≡◌, ℕ, suc, ◌+◌, List, [], ◌∷◌, ◌++◌, ◌-◌, ◌<◌, ◌≤◌, length, map, refl, sym, ap, ◌∙◌, subst, inl, inr, ◌⊎◌, ⊎_elim, Bool, true, false, ◌||◌, if◌then◌else◌, arith}
+use Rattle.std.proofs.Common.{◌≡◌, ℕ, suc, ◌+◌, List, [], ◌∷◌, ◌++◌, ◌-◌, length, map, refl, sym, ap, ◌∙◌, subst, inl, inr, ◌⊎◌, ⊎_elim, Bool, true, false, ◌||◌, if◌then◌else◌, arith}
 use Rattle.std.specs.List.{list_any}
 use Rattle.std.specs.Str.{bytes_eq}
 use Rattle.std.proofs.lemmas.List.{append-nil, length-append}
-use Rattle.std.specs.Prelude.{Contains}
 use Rattle.std.proofs.Math.Logic.{∥∥₁_elim}
 use Rattle.mg_text.specs.Call.{Name}
 use Rattle.mg_read.specs.First.{Clean}
@@ -15,7 +14,6 @@ use Rattle.scr_tree.specs.Protocol.{Protocol, ChoiceHere, ChoiceThere}
 use Rattle.scr_tree.specs.Steps.{Part, Plain, BodyOf, Left, Position}
 use Rattle.scr_tree.specs.Valid.{IsValid, AreDistinct, names_in}
 use Rattle.scr_trace.specs.declared.arrow.Hop.{Hop}
-use Rattle.scr_trace.specs.declared.arrow.Hop.TheVariants as hops
 use Rattle.scr_trace.specs.Positions.{states_in, state_positions, at_end}
 use Rattle.scr_trace.specs.Graph.{Automates}
 use Rattle.scr_trace.specs.inner.Laying.{Work, nothing, lay, parts_laid, number_among, number_in, laid_parts, LaidOut, Settled}
@@ -26,7 +24,7 @@ use Rattle.scr_trace.proofs.Counting.{numbers}
 use Rattle.scr_trace.proofs.Rules.{opens_known}
 use Rattle.scr_trace.proofs.Matching.{Fit, Final, matches, fit_both, fit_all}
 use Rattle.scr_trace.proofs.Valid.{AllSound, clean_once, valid_sound}
-use Rattle.scr_trace.proofs.Placing.{names, raw, before, positions, From, all_of, rest_of, Reached, next_reached, reached_all}
+use Rattle.scr_trace.proofs.Placing.{names, raw, before, positions, Reached, next_reached, reached_all}
 use Rattle.scr_trace.proofs.Entering.{total, as_many, lies_here, part_leads, enters}
 
 pub distinct_once : (ns : List Name) (a b : AreDistinct ns) → a ≡ b

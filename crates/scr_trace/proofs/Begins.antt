@@ -1,15 +1,14 @@
 -- Where statements begin: at the first state in them, where they have one.
-use Rattle.std.proofs.Common.{◌≡◌, ℕ, suc, ◌+◌, List, [], ◌∷◌, ◌++◌, length, refl, sym, ap, ◌∙◌, subst, Bool, true, false, ◌||◌, Option}
+use Rattle.std.proofs.Common.{◌≡◌, ℕ, ◌+◌, List, [], ◌∷◌, ◌++◌, length, refl, sym, ap, ◌∙◌, Bool, true, false, ◌||◌, Option}
 use Rattle.std.specs.Str.{bytes_eq}
 use Rattle.mg_text.specs.Call.{Name}
 use Rattle.scr_tree.specs.Tree.{Statements, Nothing, Says, Choice, Rec, Continue, Do}
 use Rattle.scr_tree.specs.Meaning.{choices, numbered}
 use Rattle.scr_tree.specs.Protocol.{Protocol}
 use Rattle.scr_tree.specs.Steps.{Part, BodyOf, Left, Position}
-use Rattle.scr_trace.specs.declared.arrow.Hop.{Hop}
 use Rattle.scr_trace.specs.declared.arrow.Hop.TheVariants as hops
 use Rattle.scr_trace.specs.Positions.{states_in}
-use Rattle.scr_trace.specs.inner.Laying.{Work, Known, lay, lay_in, said, opened, closed, chosen, gathering}
+use Rattle.scr_trace.specs.inner.Laying.{Work, Known, lay, lay_in, opened, closed, gathering}
 use Rattle.scr_trace.proofs.Parts
 use Rattle.scr_trace.proofs.Rules.{Sound, stays}
 

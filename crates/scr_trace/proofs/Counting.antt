@@ -1,16 +1,16 @@
 -- How many states and choices are laid out.
-use Rattle.std.proofs.Common.{◌≡◌, ℕ, zero, suc, ◌+◌, List, [], ◌∷◌, ◌++◌, length, refl, sym, ap, ◌∙◌, subst, Bool, true, false, if◌then◌else◌, Option, arith}
+use Rattle.std.proofs.Common.{◌≡◌, ℕ, suc, ◌+◌, List, [], ◌∷◌, length, ap, ◌∙◌, Bool, true, false, if◌then◌else◌, Option, arith}
 use Rattle.std.specs.Str.{bytes_eq}
 use Rattle.std.proofs.lemmas.List.{length-append}
 use Rattle.mg_text.specs.Call.{Name}
 use Rattle.scr_tree.specs.Tree.{Statements, Nothing, Says, Choice, Rec, Continue, Do, NoBranch}
 use Rattle.scr_tree.specs.Tree as tree
 use Rattle.scr_tree.specs.Meaning.{choices, choices_in, numbered, numbered_in}
-use Rattle.scr_tree.specs.Protocol.{Protocol, ChoiceHere, ChoiceThere, Branches}
+use Rattle.scr_tree.specs.Protocol.{Protocol, ChoiceHere, ChoiceThere}
 use Rattle.scr_tree.specs.Steps.{Part, Plain, BodyOf, Left, Position}
 use Rattle.scr_trace.specs.declared.arrow.Hop.{Hop}
 use Rattle.scr_trace.specs.Positions.{states_in}
-use Rattle.scr_trace.specs.inner.Laying.{Work, Known, Gathered, lay, lay_in, branch_laid, turned, said, opened, closed, chosen, joined, gathering}
+use Rattle.scr_trace.specs.inner.Laying.{Work, Known, Gathered, lay, lay_in, branch_laid, turned, opened, chosen, joined, gathering}
 use Rattle.scr_trace.proofs.Parts
 use Rattle.scr_trace.proofs.Rules.{Sound, SoundIn, SoundFirst}
 

@@ -1,6 +1,6 @@
 -- Each `do` comes to where its protocol begins: past protocols that only go on as others there is a state or the end, since no cycle of them
 -- is without a message.
-use Rattle.std.proofs.Common.{◌≡◌, ℕ, zero, suc, ◌+◌, ◌<◌, ◌≤◌, List, [], ◌∷◌, ◌++◌, length, map, Some, None, refl, sym, ap, ◌∙◌, subst, inl, inr, ◌⊎◌, ⊎_elim, Bool, true, false, if◌then◌else◌, Option, arith}
+use Rattle.std.proofs.Common.{◌≡◌, ℕ, zero, suc, ◌+◌, ◌<◌, ◌≤◌, List, [], ◌∷◌, length, map, Some, refl, sym, ap, ◌∙◌, subst, inl, inr, ⊎_elim, Bool, true, false, if◌then◌else◌, Option, arith}
 use Rattle.std.specs.Prelude.{Contains}
 use Rattle.std.specs.Str.{bytes_eq}
 use Rattle.std.proofs.lemmas.List.Elements.{Contains-append_left, Contains-append_right}
@@ -16,7 +16,7 @@ use Rattle.scr_tree.specs.Control as control
 use Rattle.scr_tree.specs.Going.{GoesOn, Leads, there, onward, Unguarded, UnknownProtocol}
 use Rattle.scr_tree.specs.Meaning.{choices, numbered, numbered_parts}
 use Rattle.scr_tree.specs.Protocol.{Protocol}
-use Rattle.scr_tree.specs.Steps.{Plain, Position, whole, body_named}
+use Rattle.scr_tree.specs.Steps.{Plain, whole, body_named}
 use Rattle.scr_tree.specs.Valid.{AreDistinct}
 use Rattle.scr_trace.specs.declared.arrow.Hop.{Hop}
 use Rattle.scr_trace.specs.declared.arrow.Hop.TheVariants as hops
@@ -25,7 +25,6 @@ use Rattle.scr_trace.specs.inner.Laying.{Work, Known, Gathered, nothing, lay, la
 use Rattle.scr_trace.specs.inner.Laying as laying
 use Rattle.scr_trace.specs.inner.View.{plain_standing, standing_of}
 use Rattle.scr_trace.proofs.Parts
-use Rattle.scr_trace.proofs.Counting.{numbers}
 use Rattle.scr_trace.proofs.Rules.{passes, Opens, Sound, opens_known}
 use Rattle.scr_trace.proofs.Valid.{AllSound, first_or_later, none_contained, contains_first, contains_later, clean_front, clean_behind, clean_at, passes_are, both_true, listed}
 use Rattle.scr_trace.proofs.Leading.{Entered, Lies, leads, true_or_false}

@@ -1,14 +1,14 @@
 -- Where a position comes to says which steps it has, and silent moves keep it.
-use Rattle.std.proofs.Common.{◌≡◌, ℕ, zero, suc, List, [], ◌∷◌, ◌++◌, Some, None, refl, sym, ap, ◌∙◌, subst, inl, inr, ◌⊎◌, ⊎_elim}
+use Rattle.std.proofs.Common.{◌≡◌, ℕ, zero, suc, List, [], ◌∷◌, ◌++◌, Some, refl, ap, subst, inl, inr, ⊎_elim}
 use Rattle.std.specs.Prelude.{slice_get, Option}
 use Rattle.scr_tree.specs.Protocol.{Message, peer_of, label_of, Protocol, Done, Does, ChoiceHere, ChoiceThere, Rec, Continue, Do, Branches, NoMore, Branch, Parts}
-use Rattle.scr_tree.specs.Steps.{Act, Moves, Looks, Part, Plain, BodyOf, Left, Position, whole, Silent, ends, begins, continues, goes_on, HasBranch, this, later, Step, silently as stepping, moves, chooses, looks as looking, Finished, nothing_left, after_silent}
+use Rattle.scr_tree.specs.Steps.{Act, Moves, Looks, Part, Plain, Left, Position, whole, Silent, ends, begins, continues, goes_on, HasBranch, this, later, Step, silently as stepping, moves, chooses, looks as looking, Finished, nothing_left, after_silent}
 use Rattle.scr_trace.specs.declared.standing.Standing.{Standing}
 use Rattle.scr_trace.specs.declared.standing.Standing.TheVariants as standings
 use Rattle.scr_trace.specs.Positions.{states_in, states_here, states_behind, states_there, states_from, state_positions, ComesTo, at_state, at_end, silently}
 use Rattle.scr_trace.specs.Onward.{Onward, sends, looks, steps_at}
 use Rattle.scr_trace.specs.inner.Goes.{Among}
-use Rattle.scr_trace.specs.Graph.{Edge, Graph, IsStep, AreSteps, AreStates, Automates}
+use Rattle.scr_trace.specs.Graph.{Edge, IsStep, AreSteps, AreStates}
 
 -- ---- silent moves
 

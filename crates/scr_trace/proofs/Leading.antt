@@ -1,5 +1,5 @@
 -- Statements come to the state where they are laid out to begin.
-use Rattle.std.proofs.Common.{◌≡◌, ℕ, zero, suc, ◌+◌, ◌-◌, ◌<◌, ◌≤◌, List, [], ◌∷◌, ◌++◌, length, get_or, Some, None, refl, sym, ap, ◌∙◌, subst, inl, inr, ◌⊎◌, ⊎_elim, Bool, true, false, ◌&&◌, ◌||◌, if◌then◌else◌, arith, append_assoc}
+use Rattle.std.proofs.Common.{◌≡◌, ℕ, suc, ◌+◌, ◌-◌, List, [], ◌∷◌, ◌++◌, length, Some, refl, sym, ap, ◌∙◌, subst, inl, inr, ◌⊎◌, ⊎_elim, Bool, true, false, ◌&&◌, ◌||◌, if◌then◌else◌, arith, append_assoc}
 use Rattle.std.specs.Prelude.{slice_get, Option}
 use Rattle.std.specs.Str.{bytes_eq}
 use Rattle.std.proofs.lemmas.List.{length-append}
@@ -8,18 +8,14 @@ use Rattle.mg_text.specs.Call.{Name}
 use Rattle.scr_tree.specs.Tree.{Statements, Nothing, Says, Choice, Rec, Continue, Do}
 use Rattle.scr_tree.specs.Tree as tree
 use Rattle.scr_tree.specs.Meaning.{choices, choices_in, numbered, numbered_in, message_of}
-use Rattle.scr_tree.specs.Protocol.{Protocol, Done, Does, ChoiceHere, ChoiceThere, Branches, Parts as Protocols}
-use Rattle.scr_tree.specs.Protocol as protocol
-use Rattle.scr_tree.specs.Steps.{Part, Plain, BodyOf, Frame, Left, Position, whole, body_named, again, ends, begins, continues, goes_on}
-use Rattle.scr_trace.specs.declared.standing.Standing.{Standing}
-use Rattle.scr_trace.specs.declared.standing.Standing.TheVariants as standings
-use Rattle.scr_trace.specs.declared.arrow.Hop.{Hop}
+use Rattle.scr_tree.specs.Protocol.{Protocol, Done, Does, ChoiceHere, ChoiceThere, Parts as Protocols}
+use Rattle.scr_tree.specs.Steps.{Part, Plain, BodyOf, Left, Position, whole, body_named, again, ends, begins, continues, goes_on}
 use Rattle.scr_trace.specs.declared.arrow.Hop.TheVariants as hops
-use Rattle.scr_trace.specs.Positions.{states_in, ComesTo, at_state, at_end, silently}
-use Rattle.scr_trace.specs.inner.Laying.{Work, Known, Gathered, lay, lay_in, said, opened, closed, chosen, gathering, hop_named, hop_to}
+use Rattle.scr_trace.specs.Positions.{states_in, ComesTo, at_state, silently}
+use Rattle.scr_trace.specs.inner.Laying.{Work, Known, Gathered, lay, lay_in, opened, chosen, gathering, hop_named, hop_to}
 use Rattle.scr_trace.specs.inner.View.{standing_of}
 use Rattle.scr_trace.proofs.Parts
-use Rattle.scr_trace.proofs.Counting.{counted, counted_in}
+use Rattle.scr_trace.proofs.Counting.{counted}
 use Rattle.scr_trace.proofs.Rules.{passes, Guards, is_among, Opens, Sound}
 
 -- ---- names and frames

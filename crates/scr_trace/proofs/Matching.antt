@@ -1,6 +1,6 @@
 -- Each state is laid out with the steps of its position, which lead where they are laid out to lead.
-use Rattle.std.proofs.Common.{◌≡◌, ℕ, zero, suc, ◌+◌, ◌-◌, ◌<◌, ◌≤◌, List, [], ◌∷◌, ◌++◌, length, get_or, map, Some, None, refl, sym, ap, ◌∙◌, subst, inl, inr, ◌⊎◌, ⊎_elim, Bool, true, false, if◌then◌else◌, arith}
-use Rattle.std.specs.Prelude.{slice_get, slice_set, Option, Contains}
+use Rattle.std.proofs.Common.{◌≡◌, ℕ, suc, ◌+◌, ◌-◌, ◌<◌, ◌≤◌, List, [], ◌∷◌, ◌++◌, length, get_or, map, Some, None, refl, sym, ap, ◌∙◌, subst, inr, ⊎_elim, Bool, true, false, if◌then◌else◌, arith}
+use Rattle.std.specs.Prelude.{slice_set, Option, Contains}
 use Rattle.std.specs.Str.{bytes_eq}
 use Rattle.std.proofs.lemmas.List.{length-append, get_or-set_same, get_or-set_other, length-set}
 use Rattle.std.proofs.lemmas.Slice.Eq.{bytes_eq-Decides}
@@ -16,15 +16,15 @@ use Rattle.scr_trace.specs.declared.arrow.Hop.{Hop}
 use Rattle.scr_trace.specs.declared.arrow.Hop.TheVariants as hops
 use Rattle.scr_trace.specs.Positions.{states_in, states_here, states_there, ComesTo}
 use Rattle.scr_trace.specs.Onward.{Onward, sends, looks, steps_at}
-use Rattle.scr_trace.specs.Graph.{Edge, IsStep, AreSteps, AreStates}
-use Rattle.scr_trace.specs.inner.Laying.{Draft, Cell, Work, Known, Gathered, lay, lay_in, branch_laid, turned, said, opened, closed, chosen, joined, gathering, hop_named}
+use Rattle.scr_trace.specs.Graph.{IsStep, AreSteps, AreStates}
+use Rattle.scr_trace.specs.inner.Laying.{Cell, Work, Known, Gathered, lay, lay_in, branch_laid, turned, said, opened, closed, chosen, joined, gathering}
 use Rattle.scr_trace.specs.inner.View.{standing_of, act_of, edge_of, edges_of}
 use Rattle.scr_trace.proofs.Parts
-use Rattle.scr_trace.proofs.Growing.{Keeps, keeps_all, keeps_more, keeps, keeps_in, keeps_branch, keeps_said, keeps_chosen, keeps_joined, keeps_rec, number_within}
-use Rattle.scr_trace.proofs.Counting.{counted, counted_in, counted_first, numbers, numbers_in}
-use Rattle.scr_trace.proofs.Rules.{passes, Guards, is_among, Opens, Sound, SoundIn, SoundFirst, opens_known, stays}
-use Rattle.scr_trace.proofs.Begins.{Begins, at_first, through, back, HasNone, begins}
-use Rattle.scr_trace.proofs.Leading.{Entered, Lies, lies_behind, lies_before, lies_rest, lies_same, comes_first, Back, back_past, back_in, Returns, returns_in, leads, again_here, hop_here, true_or_false, among_rest}
+use Rattle.scr_trace.proofs.Growing.{Keeps, keeps_all, keeps_more, keeps, keeps_in, keeps_branch, keeps_chosen, keeps_rec, number_within}
+use Rattle.scr_trace.proofs.Counting.{counted, counted_in, numbers, numbers_in}
+use Rattle.scr_trace.proofs.Rules.{is_among, Opens, Sound, SoundIn, SoundFirst, opens_known}
+use Rattle.scr_trace.proofs.Begins.{Begins, at_first, through, back, begins}
+use Rattle.scr_trace.proofs.Leading.{Entered, Lies, lies_behind, lies_before, lies_rest, comes_first, Back, back_past, back_in, Returns, returns_in, leads, again_here, hop_here, true_or_false, among_rest}
 
 -- what is seen of the first message of a branch
 abbrev pub seen : Bool → ℕ → Message → Act

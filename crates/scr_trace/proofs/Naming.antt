@@ -1,5 +1,5 @@
 -- The numbers of protocols, one name after another.
-use Rattle.std.proofs.Common.{◌≡◌, ℕ, ◌+◌, ◌<◌, ◌≤◌, List, [], ◌∷◌, length, get_or, drop, map, refl, sym, ap, ◌∙◌, Bool, true, false, cond, if◌then◌else◌, Option, Some, None, length-drop, arith}
+use Rattle.std.proofs.Common.{◌≡◌, ℕ, ◌+◌, ◌<◌, ◌≤◌, List, ◌∷◌, length, get_or, drop, map, refl, sym, ap, ◌∙◌, Bool, true, false, cond, if◌then◌else◌, Option, Some, None, length-drop, arith}
 use Rattle.std.specs.Str.{bytes_eq}
 use Rattle.std.specs.Map.{update}
 use Rattle.std.proofs.lemmas.List.{at_drop_more, at_drop_all, length-map}

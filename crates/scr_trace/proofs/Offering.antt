@@ -1,32 +1,31 @@
 -- Offers are the calls of the steps of a state.
-use Rattle.std.proofs.Common.{◌≡◌, ℕ, zero, suc, ◌+◌, ◌-◌, ◌<◌, ◌≤◌, List, [], ◌∷◌, ◌++◌, length, get_or, drop, map, reverse, Some, None, Option, refl, sym, ap, ◌∙◌, subst, inl, inr, ◌⊎◌, ⊎_elim, arith, append_assoc, append-nil}
-use Rattle.std.specs.Prelude.{slice_get, Contains, ◌↔◌}
+use Rattle.std.proofs.Common.{◌≡◌, ℕ, zero, suc, ◌+◌, ◌-◌, ◌<◌, ◌≤◌, List, [], ◌∷◌, ◌++◌, length, get_or, drop, map, Some, None, Option, refl, sym, ap, ◌∙◌, subst, inl, inr, ⊎_elim, arith, append_assoc, append-nil}
+use Rattle.std.specs.Prelude.{slice_get, Contains}
 use Rattle.std.proofs.lemmas.List.{at_drop_more, at_drop_all, map-append, reverse-append}
 use Rattle.std.proofs.lemmas.Grind.{common_steps}
 use Rattle.mg_text.specs.Call.{Name, Call}
 use Rattle.scr_tree.specs.Tree.{LocalTree}
-use Rattle.scr_tree.specs.CallNames.{message_call, label_call, call_of}
+use Rattle.scr_tree.specs.CallNames.{message_call, label_call}
 use Rattle.scr_tree.specs.Meaning.{message_of, protocol_of}
 use Rattle.scr_tree.specs.Local.{tree_of}
 use Rattle.scr_tree.specs.Protocol.{Parts}
 use Rattle.scr_tree.specs.Valid.{AreDistinct}
-use Rattle.scr_tree.specs.Steps.{Act, Moves, Looks, Position, Step, Silent}
+use Rattle.scr_tree.specs.Steps.{Act, Moves, Looks, Position, Step}
 use Rattle.scr_trace.specs.declared.arrow.Arrow.{Arrow}
 use Rattle.scr_trace.specs.declared.arrow.Exits.{Exits}
 use Rattle.scr_trace.specs.declared.call.Offer.{Offer}
 use Rattle.scr_trace.specs.declared.standing.Standing.{Standing}
 use Rattle.scr_trace.specs.declared.standing.Standing.TheVariants as standings
 use Rattle.scr_trace.specs.declared.walk.Walk.{Walk}
-use Rattle.scr_trace.specs.Positions.{state_positions, ComesTo, at_state, at_end, silently}
-use Rattle.scr_trace.specs.Onward.{Onward, steps_at, Ahead, settled, behind, calls_of}
-use Rattle.scr_trace.specs.Graph.{Edge, IsStep, AreSteps}
+use Rattle.scr_trace.specs.Positions.{ComesTo, at_state, at_end, silently}
+use Rattle.scr_trace.specs.Onward.{Onward, steps_at, Ahead, settled, behind}
 use Rattle.scr_trace.specs.Walking.{graph_of, Stands, Offered, calls_in, answered, calls_offered}
 use Rattle.scr_trace.specs.inner.Goes.{Among}
 use Rattle.scr_trace.specs.inner.Laying.{Work, Cell, Draft}
 use Rattle.scr_trace.specs.inner.Offering.{edge_calls, labels_in, methods_of, messages_in, AreApart, SamePeer}
 use Rattle.scr_trace.specs.inner.View.{draft_of, drafts_of, cell_of, work_of, act_of, edge_of, edges_of}
-use Rattle.scr_trace.proofs.Following.{IsSettled, AllSettled, states_settled, step_listed, listed_step, settled_at, edges_there, position_there, step_of_edge, StepsFrom, steps_from, steps_to}
-use Rattle.scr_trace.proofs.Telling.{OneChoice, moving, looking, AllLook, AllMove, DiffersFrom, AllDiffer, Told, AllTold, valid_told}
+use Rattle.scr_trace.proofs.Following.{AllSettled, step_listed, listed_step, settled_at, edges_there, position_there, step_of_edge, steps_from, steps_to}
+use Rattle.scr_trace.proofs.Telling.{OneChoice, moving, looking, AllLook, AllMove, DiffersFrom, AllDiffer}
 use Rattle.scr_trace.proofs.Valid.{first_or_later, none_contained}
 use Rattle.scr_trace.proofs.Walks.{get_map, get_none, told_at, all_of, settled_of, edge_among, walk_told, state_same, calls_edges}
 

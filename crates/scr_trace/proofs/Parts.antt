@@ -1,13 +1,12 @@
 -- What the parts of the layout do.
-use Rattle.std.proofs.Common.{◌≡◌, ℕ, zero, suc, ◌+◌, List, [], ◌∷◌, ◌++◌, length, Some, None, refl, sym, ap, ◌∙◌, subst, Bool, true, false, if◌then◌else◌, arith}
-use Rattle.std.specs.Prelude.{slice_set, slice_index_or, Option}
+use Rattle.std.proofs.Common.{◌≡◌, ℕ, suc, List, [], ◌∷◌, ◌++◌, length, Some, None, refl, Bool, true, false, if◌then◌else◌}
+use Rattle.std.specs.Prelude.{slice_set}
 use Rattle.scr_tree.specs.declared.syntax.Message.{Message as Said}
-use Rattle.scr_tree.specs.Protocol.{Protocol, Done, Does, ChoiceHere, ChoiceThere, Rec, Continue, Do, Branches, NoMore, Branch}
+use Rattle.scr_tree.specs.Protocol.{Protocol, Done, ChoiceHere, ChoiceThere, Rec, Continue, Do, Branches, NoMore, Branch}
 use Rattle.scr_tree.specs.Steps.{Position}
-use Rattle.scr_trace.specs.declared.arrow.Hop.{Hop}
 use Rattle.scr_trace.specs.declared.arrow.Hop.TheVariants as hops
 use Rattle.scr_trace.specs.Positions.{states_here, states_behind, states_there, states_from}
-use Rattle.scr_trace.specs.inner.Laying.{Draft, Cell, Work, Known, Gathered, said, opened, closed, chosen, joined}
+use Rattle.scr_trace.specs.inner.Laying.{Work, Gathered, said, opened, closed, chosen, joined}
 
 -- the states in the branches of a choice, at self or elsewhere, and those of one branch
 abbrev pub within : Bool → Position → Branches → List Position

@@ -1,5 +1,5 @@
 -- Protocols one after another: what is laid out of each stays, with its number, its states and its entry.
-use Rattle.std.proofs.Common.{◌≡◌, ℕ, suc, ◌+◌, ◌<◌, ◌≤◌, List, [], ◌∷◌, ◌++◌, length, get_or, map, Some, None, refl, sym, ap, ◌∙◌, subst, Bool, true, false, if◌then◌else◌, Option, arith, append_assoc}
+use Rattle.std.proofs.Common.{◌≡◌, ℕ, suc, ◌+◌, List, [], ◌∷◌, ◌++◌, length, get_or, map, Some, refl, sym, ap, ◌∙◌, subst, Bool, true, false, if◌then◌else◌, Option, arith, append_assoc}
 use Rattle.std.specs.Prelude.{Contains}
 use Rattle.std.specs.Str.{bytes_eq}
 use Rattle.std.proofs.lemmas.List.{append-nil, length-append}
@@ -19,7 +19,6 @@ use Rattle.scr_trace.proofs.Growing.{Keeps, keeps_all, keeps_more, keeps}
 use Rattle.scr_trace.proofs.Counting.{counted, numbers}
 use Rattle.scr_trace.proofs.Rules.{Sound}
 use Rattle.scr_trace.proofs.Valid.{AllSound, contains_first, contains_later}
-use Rattle.scr_trace.proofs.Leading.{true_or_false}
 
 -- ---- statements leave the entries as they are
 

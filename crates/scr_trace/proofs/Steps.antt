@@ -2,7 +2,7 @@
 use Rattle.std.proofs.Common.{Bool, ◌≡◌, ◌≢◌, ℕ, suc, ◌+◌, ◌<◌, ◌≤◌, length, get_or, drop, List, [], ◌∷◌, ◌++◌, map, reverse, refl, sym, ap, subst, ◌∙◌, add-one}
 use Rattle.std.specs.Prelude.{Option}
 use Rattle.std.specs.Str.{bytes_eq}
-use Rattle.std.proofs.lemmas.List.{at_drop_more, at_drop_all, map-append, length-map, length-append, reverse-append, length-reverse}
+use Rattle.std.proofs.lemmas.List.{at_drop_more, at_drop_all, map-append, length-map, reverse-append, length-reverse}
 use Rattle.std.proofs.lemmas.Grind.{common_steps}
 use Rattle.mg_text.specs.Call.{Name}
 use Rattle.mg_text.specs.Row.{Row}
@@ -16,7 +16,7 @@ use Rattle.scr_tree.specs.View.{Front, front, statements, part_of}
 use Rattle.scr_tree.proofs.ViewLemmas.{each_kind, front-Message, front-Choice, front-Rec, front-Continue, front-Do}
 use Rattle.scr_trace.specs.declared.arrow.Arrow.{Arrow}
 use Rattle.scr_trace.specs.declared.arrow.Exits.{Exits}
-use Rattle.scr_trace.specs.inner.Laying.{Draft, Cell, Work, Known, Gathered, lay, lay_in, branch_laid, part_laid, parts_laid, said, opened, closed, chosen, gathering, hop_named, hop_to, joined}
+use Rattle.scr_trace.specs.inner.Laying.{Work, Known, Gathered, lay, lay_in, branch_laid, part_laid, parts_laid, said, opened, closed, chosen, gathering, hop_named, hop_to, joined}
 use Rattle.scr_trace.specs.inner.View.{draft_of, drafts_of, cell_of, cells_of, bodies}
 
 -- what holds of each statement in front of others holds of each that a program has

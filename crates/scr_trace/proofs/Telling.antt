@@ -1,29 +1,28 @@
 -- The steps of a state are told apart by their calls, and all looks at a choice are at one peer.
-use Rattle.std.proofs.Common.{◌≡◌, ◌≢◌, ℕ, zero, suc, ◌+◌, ◌<◌, List, [], ◌∷◌, ◌++◌, length, map, Some, None, refl, sym, ap, ◌∙◌, subst, inl, inr, ◌⊎◌, ⊎_elim, Bool, true, false, if◌then◌else◌, arith}
-use Rattle.std.specs.Prelude.{Contains, Option, slice_index_or}
+use Rattle.std.proofs.Common.{◌≡◌, ◌≢◌, ℕ, suc, ◌+◌, List, [], ◌∷◌, ◌++◌, map, Some, refl, sym, ap, ◌∙◌, subst, inl, inr, ◌⊎◌, ⊎_elim, Bool, true, false, if◌then◌else◌}
+use Rattle.std.specs.Prelude.{Contains}
 use Rattle.std.specs.Str.{bytes_eq}
 use Rattle.std.proofs.Math.Logic.{∥∥₁_elim}
 use Rattle.std.proofs.lemmas.Slice.Eq.{bytes_eq-Decides}
 use Rattle.mg_text.specs.Call.{Name, Call}
-use Rattle.mg_read.specs.Culprit.{Culprit, culprit}
+use Rattle.mg_read.specs.Culprit.{culprit}
 use Rattle.mg_read.specs.First.{Clean}
-use Rattle.scr_tree.specs.declared.syntax.Direction.TheVariants as directions
 use Rattle.scr_tree.specs.declared.syntax.Message.{Message as Said}
 use Rattle.scr_tree.specs.Tree.{LocalTree, Titled, titled, body_in, bodies_in, Statements, Nothing, Says, Choice, Rec, Continue, Do, NoBranch, Branch}
 use Rattle.scr_tree.specs.Tree as tree
 use Rattle.scr_tree.specs.Spots.{Spot, spot, Past, Opens, Enters, Way, spots, branch_spots, all_spots}
 use Rattle.scr_tree.specs.Conditions.{MixedChoice, SameLabel, key, first_key, AllFrom, AllSend, IsUniform}
-use Rattle.scr_tree.specs.CallNames.{message_call, label_call, call_of}
-use Rattle.scr_tree.specs.Meaning.{choices, choices_in, numbered, numbered_in, numbered_parts, message_of, towards, protocol_of}
+use Rattle.scr_tree.specs.CallNames.{message_call, call_of}
+use Rattle.scr_tree.specs.Meaning.{choices, choices_in, numbered, numbered_in, numbered_parts, message_of, protocol_of}
 use Rattle.scr_tree.specs.Protocol.{Message, peer_of, label_of, Protocol, Done, Does, ChoiceHere, ChoiceThere, Branches}
 use Rattle.scr_tree.specs.Protocol as protocol
-use Rattle.scr_tree.specs.Steps.{Act, Moves, Looks, Part, Plain, BodyOf, Left, Position}
+use Rattle.scr_tree.specs.Steps.{Moves, Looks, Part, Plain, BodyOf, Left, Position}
 use Rattle.scr_tree.specs.Valid.{IsValid}
-use Rattle.scr_trace.specs.Positions.{states_in, states_here, states_behind, states_there, states_from, state_positions}
+use Rattle.scr_trace.specs.Positions.{states_in, states_here, states_there, state_positions}
 use Rattle.scr_trace.specs.Onward.{Onward, sends, looks, steps_at}
 use Rattle.scr_trace.proofs.Parts
 use Rattle.scr_trace.proofs.Matching.{peer_is, label_is}
-use Rattle.scr_trace.proofs.Valid.{clean_once, clean_front, clean_behind, first_or_later, none_contained, contains_first, contains_later}
+use Rattle.scr_trace.proofs.Valid.{clean_once, clean_front, clean_behind, contains_first, contains_later}
 
 -- a call is none of these
 abbrev pub DiffersFrom : Call → List Call → Type 0

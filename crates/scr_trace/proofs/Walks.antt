@@ -1,7 +1,6 @@
 -- How walks follow the protocol.
-use Rattle.std.proofs.Common.{◌≡◌, ◌≢◌, ℕ, zero, suc, ◌+◌, ◌-◌, List, [], ◌∷◌, ◌++◌, length, map, reverse, Some, None, refl, sym, ap, ◌∙◌, subst, inl, inr, ◌⊎◌, ⊎_elim, Bool, true, false, ◌&&◌, if◌then◌else◌, Option, arith}
-use Rattle.std.specs.Prelude.{slice_get, option_map, ◌↔◌, IsTrue}
-use Rattle.std.specs.Borrow.{Bor}
+use Rattle.std.proofs.Common.{◌≡◌, ◌≢◌, ℕ, zero, suc, ◌-◌, List, [], ◌∷◌, ◌++◌, map, reverse, Some, None, refl, sym, ap, ◌∙◌, subst, inl, inr, ◌⊎◌, ⊎_elim, Bool, true, false, ◌&&◌, if◌then◌else◌, Option}
+use Rattle.std.specs.Prelude.{slice_get}
 use Rattle.std.specs.Str.{bytes_eq}
 use Rattle.std.proofs.lemmas.List.{reverse-append, map-append}
 use Rattle.std.proofs.lemmas.Slice.Eq.{bytes_eq-Decides}
@@ -10,7 +9,7 @@ use Rattle.scr_tree.specs.Tree.{LocalTree}
 use Rattle.scr_tree.specs.Local.{tree_of}
 use Rattle.scr_tree.specs.Meaning.{protocol_of, message_of}
 use Rattle.scr_tree.specs.Protocol.{Parts}
-use Rattle.scr_tree.specs.Steps.{Act, Moves, Looks, Position, start, Step, Run, stays, goes, Finished}
+use Rattle.scr_tree.specs.Steps.{Act, Position, start, Step, Run, stays, goes, Finished}
 use Rattle.scr_tree.specs.CallNames.{message_call, label_call, call_of}
 use Rattle.scr_tree.specs.Traces.{Trace, Complete}
 use Rattle.scr_trace.specs.declared.arrow.Arrow.{Arrow}
@@ -21,13 +20,13 @@ use Rattle.scr_trace.specs.declared.standing.Standing.TheVariants as standings
 use Rattle.scr_trace.specs.declared.walk.Walk.{Walk}
 use Rattle.scr_trace.specs.Positions.{state_positions, ComesTo}
 use Rattle.scr_trace.specs.Onward.{Onward, steps_at}
-use Rattle.scr_trace.specs.Graph.{Edge, Graph, IsStep, AreSteps, AreStates, Automates}
+use Rattle.scr_trace.specs.Graph.{Edge, IsStep, AreSteps, Automates}
 use Rattle.scr_trace.specs.Walking.{graph_of, Stands, StepsOn, HasTaken}
 use Rattle.scr_trace.specs.inner.Goes.{Among, Edged, Taken, Goes}
-use Rattle.scr_trace.specs.inner.Laying.{Work, Cell, Draft}
-use Rattle.scr_trace.specs.inner.View.{draft_of, drafts_of, cell_of, cells_of, work_of, standing_of, act_of, edge_of, edges_of, graph_of_work}
+use Rattle.scr_trace.specs.inner.Laying.{Work}
+use Rattle.scr_trace.specs.inner.View.{draft_of, drafts_of, cell_of, work_of, standing_of, edge_of, edges_of}
 use Rattle.scr_trace.specs.inner.Search.{first_led, is_said, is_looked, led_if}
-use Rattle.scr_trace.proofs.Following.{AllSettled, all_settled, step_listed, listed_step, settled_at, edges_there, edge_of_step, step_of_edge, position_there, StepsFrom, steps_from, steps_to, finished_end, end_finished}
+use Rattle.scr_trace.proofs.Following.{AllSettled, all_settled, step_listed, listed_step, settled_at, edges_there, edge_of_step, step_of_edge, position_there, steps_from, steps_to, finished_end, end_finished}
 use Rattle.scr_trace.proofs.Telling.{DiffersFrom, AllDiffer, calls_from, Told, AllTold, valid_told}
 
 -- ---- lists

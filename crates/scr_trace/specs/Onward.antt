@@ -1,5 +1,5 @@
 -- The steps of a position in the order of the text.
-use Rattle.std.specs.Prelude.{◌≡◌, ℕ, List, [], ◌∷◌, map}
+use Rattle.std.specs.Prelude.{ℕ, List, [], ◌∷◌, map}
 use Rattle.mg_text.specs.Call.{Name, Call}
 use Rattle.scr_tree.specs.Protocol.{peer_of, label_of, Does, ChoiceHere, ChoiceThere, Branches, NoMore, Branch, Parts}
 use Rattle.scr_tree.specs.Steps.{Act, Moves, Looks, Plain, Left, Position, Silent}

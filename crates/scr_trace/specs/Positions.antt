@@ -1,7 +1,7 @@
 -- The positions that are the states of a protocol, in the order of its text, which runs through all its parts, and to which of them silent
 -- moves lead.
 use Rattle.std.specs.Prelude.{◌≡◌, ℕ, List, [], ◌∷◌, ◌++◌, Some, slice_get}
-use Rattle.scr_tree.specs.Protocol.{Protocol, Done, Does, ChoiceHere, ChoiceThere, Rec, Continue, Do, Branches, NoMore, Branch, Named, Parts}
+use Rattle.scr_tree.specs.Protocol.{Protocol, Done, Does, ChoiceHere, ChoiceThere, Rec, Continue, Do, Branches, NoMore, Branch, Parts}
 use Rattle.scr_tree.specs.Steps.{Part, Plain, BodyOf, Left, Position, Silent}
 use Rattle.scr_trace.specs.declared.standing.Standing.{Standing}
 use Rattle.scr_trace.specs.declared.standing.Standing.TheVariants as standings

@@ -11,7 +11,7 @@ use Rattle.scr_trace.specs.declared.call.Offer.{Offer}
 use Rattle.scr_trace.specs.declared.walk.Walk.{Walk}
 use Rattle.scr_trace.specs.Onward.{Onward, Ahead, calls_of}
 use Rattle.scr_trace.specs.Positions.{state_positions, ComesTo}
-use Rattle.scr_trace.specs.Graph.{Edge, Graph, Automates}
+use Rattle.scr_trace.specs.Graph.{Graph, Automates}
 use Rattle.scr_trace.specs.inner.View.{work_of, graph_of_work}
 
 -- the call that a program's value says

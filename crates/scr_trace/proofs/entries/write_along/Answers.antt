@@ -1,7 +1,7 @@
-use Rattle.std.proofs.Common.{ap, inl, inr, ◌∙◌, arith}
+use Rattle.std.proofs.Common.{◌∙◌}
 use Rattle.std.proofs.lemmas.List.{get_or_default}
 use Rattle.scr_trace.specs.declared.arrow.Hop.TheVariants as hops
-use Rattle.scr_trace.proofs.Ending.{writing_none, written_more, first_more, writing_more, writing_all}
+use Rattle.scr_trace.proofs.Ending.{writing_none, writing_more}
 use Rattle.scr_trace.proofs.entries.write_along.Goals as goal
 
 pub loop-left-init : goal.loop-left-init

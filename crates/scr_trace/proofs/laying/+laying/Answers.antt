@@ -1,6 +1,6 @@
-use Rattle.std.proofs.Common.{OnOk, ◌≡◌, ◌+◌, ◌<◌, ◌≤◌, ◌∙◌, ap, sym, subst, length, arith, drop, ℕ, ◌∷◌}
+use Rattle.std.proofs.Common.{OnOk, ◌≡◌, ◌∙◌, ap, subst, arith, drop, ℕ, ◌∷◌}
 use Rattle.scr_tree.specs.View.{statements}
-use Rattle.scr_trace.specs.inner.Laying.{Gathered, Work, lay, lay_in}
+use Rattle.scr_trace.specs.inner.Laying.{Gathered, lay_in}
 use Rattle.scr_trace.specs.inner.View.{number_by, known_of, work_of, gathered, bodies}
 use Rattle.std.proofs.lemmas.Grind.{common_steps}
 use Rattle.scr_trace.proofs.Growing.{closes}

@@ -1,16 +1,14 @@
-use Rattle.std.proofs.Common.{◌≡◌, ◌∙◌, ℕ, ap, sym, subst, map, length, List, Option, refl}
+use Rattle.std.proofs.Common.{◌≡◌, ◌∙◌, ap, sym, subst, map, length, List, refl}
 use Rattle.std.specs.Vec.{with_items}
 use Rattle.std.proofs.lemmas.List.{with_items_is}
-use Rattle.mg_text.specs.Call.{Name}
 use Rattle.scr_tree.specs.Local.{tree_of}
-use Rattle.scr_tree.specs.Tree.{Statements, PartTree, other}
+use Rattle.scr_tree.specs.Tree.{other}
 use Rattle.scr_tree.specs.View.{statements, part_of}
 use Rattle.scr_trace.specs.declared.arrow.Hop.{Hop}
 use Rattle.scr_trace.specs.declared.arrow.Hop.TheVariants as hops
 use Rattle.scr_trace.specs.inner.Laying.{Work, nothing, number_in, part_laid, parts_laid, laid_parts, Settled}
 use Rattle.scr_trace.specs.inner.View.{number_by, cells_of, work_of}
 use Rattle.scr_trace.proofs.Automaton.{automates}
-use Rattle.scr_trace.proofs.Arriving.{laid_exists}
 use Rattle.scr_trace.proofs.Ending.{settled_out}
 use Rattle.scr_trace.proofs.laying.Laying.of.Goals as goal
 
