@@ -231,7 +231,7 @@ module _ (w : Written) (front behind old : List CodeAction) (n : ℕ) where
   pub all_texts : old ≡ [] → map act front ≡ map act old ++ actions w.first.me.name 1 (statements w.first.body.items) → n ≡ next w.first.me.name 1 (statements w.first.body.items) →
       map act behind ≡ map act front ++ all_actions me_in body_of n (map part_written w.others.items) →
       map act behind ≡ map act old ++ all_actions me_in body_of 1 (parts_in (written_of 0 w))
-  all_texts none first number rest =
+  all_texts empty first number rest =
       rest ∙ ap (λ l. l ++ all_actions me_in body_of n (map part_written w.others.items)) first
       ∙ append_assoc (map act old) (actions w.first.me.name 1 (statements w.first.body.items)) (all_actions me_in body_of n (map part_written w.others.items))
       ∙ ap (λ k. map act old ++ (actions w.first.me.name 1 (statements w.first.body.items) ++ all_actions me_in body_of k (map part_written w.others.items))) number

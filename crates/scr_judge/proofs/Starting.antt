@@ -17,7 +17,10 @@ use Rattle.scr_tree.specs.Written.{part_written}
 use Rattle.scr_tree.specs.Going.{is_deed, has_deed, first_do, StartsWithDo}
 use Rattle.scr_tree.proofs.ViewLemmas.{front-Message, front-Choice, front-Rec, front-Continue, front-Do}
 use Rattle.scr_tree.proofs.Behind.{each_front, statements-step, statements-past}
+use Rattle.scr_judge.specs.declared.opening.First.{First as KeptFirst}
+use Rattle.scr_judge.specs.declared.opening.First.TheVariants as firsts
 use Rattle.scr_judge.specs.inner.Gone.{First, Neither, Deed, Goes, first_or, first_of, acts}
+use Rattle.scr_judge.specs.inner.View.{first_seen}
 
 -- ---- whether there is a message or a choice
 
@@ -138,6 +141,18 @@ module _ (ss : List Statement) (i : ℕ) (x : Statement) (within : i < length ss
 
   pub first-step : first_of (statements (drop i ss)) ≡ first_or (first_of (front x Nothing)) (first_of (statements (drop (i + 1) ss)))
   first-step = ap first_of (statements-step ss i x within is) ∙ first-front x _
+
+  module _ (r : KeptFirst) (found : first_seen r ≡ first_of (front x Nothing)) where
+    -- nothing comes first in this statement
+    pub passed_neither : r ≡ firsts.Neither → first_of (statements (drop i ss)) ≡ first_of (statements (drop (i + 1) ss))
+    passed_neither e = first-step ∙ ap (λ f. first_or f (first_of (statements (drop (i + 1) ss)))) (sym found ∙ ap first_seen e)
+
+    -- something does
+    pub met_deed : r ≡ firsts.Deed → first_seen r ≡ first_of (statements (drop i ss))
+    met_deed e = ap first_seen e ∙ sym (first-step ∙ ap (λ f. first_or f (first_of (statements (drop (i + 1) ss)))) (sym found ∙ ap first_seen e))
+
+    pub met_do : (place : Place) → r ≡ firsts.Goes place → first_seen r ≡ first_of (statements (drop i ss))
+    met_do place e = ap first_seen e ∙ sym (first-step ∙ ap (λ f. first_or f (first_of (statements (drop (i + 1) ss)))) (sym found ∙ ap first_seen e))
 
 pub or-or : (a b d : Bool) → ((a || b) || d) ≡ (a || (b || d))
 or-or true b d = refl

@@ -213,7 +213,7 @@ impl Search {
         ensures { length self.new.ranks.items ≡ length self.old.ranks.items }
     {
         self.rank = self.rank.saturating_add(1);
-        while let Some(other) = self.open.pop() {
+        'open: while let Some(other) = self.open.pop() {
             put(self.ranks.as_mut_slice(), other as usize, self.rank);
             if other == node {
                 return;
