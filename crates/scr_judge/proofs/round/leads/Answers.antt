@@ -16,7 +16,7 @@ nodes-init c =
     subst (λ (l : List ℕ). Walked (graph_of c.args.targets.now) c.args.from c.args.to l c.come_to.new.waiting.items)
     (sym (written_all c.come_to.new.seen c.in_ok-seen.seen.items c.in_ok-seen.seen.len size (omega (arith, c.in_ok-seen.seen.ok.0))))
     (walked_first (graph_of c.args.targets.now) c.args.from c.args.to _ c.as_mut_slice.result.now c.new-waiting.result.items c.come_to.new.seen c.come_to.new.waiting.items
-    (zeros ∙ c.in_ok-seen.ensures) c.new-waiting.ensures.items (sym (length-map _ c.args.targets.now)) c.in_ok-come_to.ensures)
+    (zeros ∙ c.in_ok-seen.ensures) c.new-waiting.ensures.items (sym (length-map c.args.targets.now _)) c.in_ok-come_to.ensures)
 
 pub returns-then-branch : goal.returns-then-branch
 returns-then-branch c = (
