@@ -1,5 +1,5 @@
 -- What stands in a list.
-use Rattle.std.proofs.Common.{◌≡◌, ◌⊎◌, ⊎_elim, inl, inr, ℕ, zero, suc, ◌<◌, length, get_or, List, [], ◌∷◌, map, Contains, refl, subst, arith}
+use Rattle.std.proofs.Common.{◌≡◌, ◌⊎◌, ⊎_elim, inl, inr, List, [], ◌∷◌, map, Contains, subst, arith}
 use Rattle.std.proofs.lemmas.List.Elements.{Contains-push, Contains-push_cases, Contains-append_left, Contains-append_right, Contains-append_cases}
 
 -- nothing stands in no list
@@ -27,9 +27,3 @@ pub Contains-origin : {X Y : Type 0} (f : X → Y) (xs : List X) (z : Y) → Con
 Contains-origin f [] z h = absurd (Contains-nil z h)
 Contains-origin {X} f (y ∷ xs) z h =
     ⊎_elim (λ e. (y, Contains-first xs y, e)) (λ more. let o = Contains-origin f xs z more in (o.0, Contains-later xs y o.0 o.1, o.2)) (Contains-cons_cases (map f xs) (f y) z h)
-
--- what stands at an index doesn't ask what would stand past the end
-pub same_at : {X : Type 0} (xs : List X) (i : ℕ) (d e : X) → i < length xs → get_or xs i d ≡ get_or xs i e
-same_at [] i d e h = absurd (omega arith)
-same_at (x ∷ xs) zero d e h = refl
-same_at (x ∷ xs) (suc i) d e h = same_at xs i d e (omega arith)

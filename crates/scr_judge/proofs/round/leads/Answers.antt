@@ -1,4 +1,5 @@
-use Rattle.std.proofs.Common.{◌≡◌, ℕ, ◌++◌, ◌∷◌, [], ◌-◌, List, length, get_or, take, vec_len, refl, sym, ap, subst, ◌∙◌, arith, true≢false, length-map}
+use Rattle.std.proofs.Common.{◌≡◌, ℕ, ◌++◌, ◌∷◌, [], ◌-◌, List, length, get_or, take, vec_len, refl, sym, ap, subst, ◌∙◌, arith, true≢false}
+use Rattle.std.proofs.lemmas.List.{length-map}
 use Rattle.mg_text.specs.declared.memory.Memory.{Memory}
 use Rattle.scr_judge.specs.inner.Round.{Graph, Reaches, there}
 use Rattle.scr_judge.specs.inner.Search.{Spreads}
