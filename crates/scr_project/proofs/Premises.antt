@@ -1,10 +1,11 @@
 -- What `project` may rest on, by what a global protocol keeps by its type.
-use Rattle.std.proofs.Common.{◌≡◌, ◌≤◌, List, [], ◌∷◌, Some, refl, arith}
+use Rattle.std.proofs.Common.{◌≡◌, ◌≤◌, false, List, [], ◌∷◌, Some, refl, arith}
 use Rattle.std.specs.Prelude.{Contains}
 use Rattle.std.proofs.Math.Logic.{∥∥₁_elim}
 use Rattle.mg_text.specs.Call.{Name}
 use Rattle.mg_read.specs.First.{Clean}
 use Rattle.scr_tree.specs.Conditions.{UnknownRole, PeerIsSelf, UnknownRec, DuplicateRec}
+use Rattle.scr_tree.specs.Going.{UnknownProtocol, NotLast, held}
 use Rattle.scr_tree.specs.Spots.{spots}
 use Rattle.scr_tree.specs.Tree.{LocalTree, Statements}
 use Rattle.scr_tree.specs.Valid.{AreDistinct, IsWritten}

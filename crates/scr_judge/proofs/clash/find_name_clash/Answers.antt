@@ -16,3 +16,6 @@ returns-in-None c =
     (c.in_ok-next.ensures.next ∙ ap (λ b. next c.args.written.now.first.me.name 1 (statements b)) c.as_slice.ensures.items)
     (c.in_ok-collect_parts.ensures ∙ ap (λ ps. map act c.collect_all.new.out.items ++ all_actions me_in body_of c.in_ok-next.next (map part_written ps)) c.as_slice-2.ensures.items))
     (ap clash_of c.in-None.is) c.in_ok-first_clash.ensures
+
+pub returns : goal.returns
+returns c = ?

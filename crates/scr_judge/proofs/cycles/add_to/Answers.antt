@@ -1,5 +1,7 @@
-use Rattle.std.proofs.Common.{◌≡◌}
+use Rattle.std.proofs.Common.{◌≡◌, rules}
+use Rattle.scr_judge.proofs.Adding.{graph_past, graph_more}
 use Rattle.scr_judge.proofs.cycles.add_to.Goals as goal
 
 pub returns : goal.returns
-returns c = ?
+returns c =
+    graph_more c.args.targets.now c.args.node _ c.extend_from_slice.new.self _ (omega arith) ?
