@@ -176,7 +176,7 @@ module _ (ps : List Part) where
         let one = goes_from from next g in
         let via = numbered next to more w f in
         round.onward (edge_graph names ps v via.0 one.0 one.1
-            (subst (λ n. position (bytes_eq n) names ≡ Some v) (sym one.2) e, numbers_from names (gone true (statements one.0.body.items)) next via.0 one.3 via.1))
+        (subst (λ n. position (bytes_eq n) names ≡ Some v) (sym one.2) e, numbers_from names (gone true (statements one.0.body.items)) next via.0 one.3 via.1))
         (comes_to next to via.0 w more via.1 f)
 
     -- both ways

@@ -80,7 +80,7 @@ pub numbers_from : (names sought : List Name) (name : Name) (j : ℕ) → Contai
 numbers_from names [] name j h e = absurd (Contains-nil name h)
 numbers_from names (first ∷ sought) name j h e =
     ⊎_elim (λ same. Contains-append_left (number_of (position (bytes_eq first) names)) (numbers_of names sought) j
-        (subst (λ o. Contains (number_of o) j) (sym (ap (λ (n : Name). position (bytes_eq n) names) same ∙ e)) (Contains-first [] j)))
+    (subst (λ o. Contains (number_of o) j) (sym (ap (λ (n : Name). position (bytes_eq n) names) same ∙ e)) (Contains-first [] j)))
     (λ more. Contains-append_right (number_of (position (bytes_eq first) names)) (numbers_of names sought) j (numbers_from names sought name j more e))
     (Contains-cons_cases sought first name h)
 

@@ -167,7 +167,12 @@ fn edges_of(alloc: Global, names: &Names, written: &Written) -> Result<Vec<Vec<u
 {
     let mut targets = no_edges(alloc, names.len())?;
     add_edges(alloc, names, targets.as_mut_slice(), &written.first)?;
-    add_all_edges(alloc, names, targets.as_mut_slice(), written.others.as_slice())?;
+    add_all_edges(
+        alloc,
+        names,
+        targets.as_mut_slice(),
+        written.others.as_slice(),
+    )?;
     Ok(targets)
 }
 
@@ -219,11 +224,7 @@ impl Round {
     }
 
     // The name of the first `do` of a protocol that is on a cycle.
-    fn goal_of<'a>(
-        &self,
-        alloc: Global,
-        part: &'a WrittenPart,
-    ) -> Result<Option<&'a str>, Memory>
+    fn goal_of<'a>(&self, alloc: Global, part: &'a WrittenPart) -> Result<Option<&'a str>, Memory>
         ensures { IfOk result (λ g. (ps : List Part) → IsRound ps self.now → Contains ps part.now →
             FirstIn (FoundBad (λ n. Leads (titles ps) n part.now.name)) (gone true (statements part.now.body.items)) (goal_of g)) }
     {
