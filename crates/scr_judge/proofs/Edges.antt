@@ -1,10 +1,9 @@
 -- The graph of a file has an edge for each `do` to which control can come with no message.
 use Rattle.std.proofs.Common.{◌≡◌, ◌≢◌, ◌⊎◌, ⊎_elim, inl, inr, ℕ, zero, suc, ◌+◌, ◌<◌, ◌≤◌, Bool, true, false, if◌then◌else◌, List, [], ◌∷◌, ◌++◌, length, get_or, set, drop, map, replicate, Contains, Option, Some, None, position, refl, sym, ap, subst, ◌∙◌, arith, true≢false, append_assoc}
-use Rattle.std.specs.List.{list_any}
 use Rattle.std.specs.Option.{is_some}
 use Rattle.std.specs.Str.{bytes_eq}
 use Rattle.std.proofs.Math.ListN.{length-set, length-replicate}
-use Rattle.std.proofs.lemmas.List.{at_drop_more, at_drop_all, append-nil, get_or-set_same, get_or-set_other}
+use Rattle.std.proofs.lemmas.List.{at_drop_more, at_drop_all, get_or-set_same, get_or-set_other}
 use Rattle.std.proofs.lemmas.List.Elements.{Contains-push, Contains-append_left, Contains-append_right, Contains-append_cases, Contains-get_or}
 use Rattle.std.proofs.lemmas.List.Quantifiers.{position-Some}
 use Rattle.std.proofs.lemmas.Slice.Eq.{bytes_eq-Decides}
@@ -17,8 +16,7 @@ use Rattle.scr_tree.specs.declared.written.WrittenPart.{WrittenPart as Part}
 use Rattle.scr_judge.specs.inner.Gone.{part_name}
 use Rattle.scr_judge.specs.inner.Round.{Graph, HasEdge, with_texts, number_of, numbers_of, leaves_to, edges_at, with_edges, all_edges}
 use Rattle.scr_judge.specs.inner.View.{told_names}
-use Rattle.scr_judge.proofs.Members.{Contains-nil, Contains-cons_cases, Contains-first, Contains-later, Contains-image}
-use Rattle.scr_judge.proofs.Searching.{row_past}
+use Rattle.scr_judge.proofs.Members.{Contains-nil, Contains-cons_cases, Contains-first, Contains-later}
 use Rattle.scr_judge.proofs.Words.{any_from}
 
 -- ---- names by their numbers

@@ -1,4 +1,4 @@
-use Rattle.std.proofs.Common.{◌≡◌, ◌++◌, [], map, Some, sym, ap, subst, ◌∙◌}
+use Rattle.std.proofs.Common.{◌++◌, map, Some, sym, ap, ◌∙◌}
 use Rattle.mg_text.specs.Call.{Name}
 use Rattle.mg_read.specs.Culprit.{culprit}
 use Rattle.scr_tree.specs.Actions.{actions, all_actions, next}

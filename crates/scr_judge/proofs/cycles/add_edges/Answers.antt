@@ -3,7 +3,7 @@ use Rattle.std.specs.Option.{option_map}
 use Rattle.std.specs.Str.{bytes_eq}
 use Rattle.std.proofs.lemmas.Result.{on_ok_weaker}
 use Rattle.mg_text.specs.Call.{Name}
-use Rattle.scr_judge.specs.inner.Round.{edges_at, leaves_to}
+use Rattle.scr_judge.specs.inner.Round.{edges_at}
 use Rattle.scr_judge.specs.inner.View.{graph_of}
 use Rattle.scr_judge.proofs.cycles.add_edges.Goals as goal
 

@@ -1,4 +1,4 @@
-use Rattle.std.proofs.Common.{◌≡◌, rules}
+use Rattle.std.proofs.Common.{rules}
 use Rattle.scr_judge.proofs.Adding.{graph_more}
 use Rattle.scr_judge.proofs.cycles.add_to.Goals as goal
 

@@ -1,9 +1,7 @@
-use Rattle.std.proofs.Common.{◌≡◌, [], Some, None, get_or, sym, ap, ◌∙◌}
+use Rattle.std.proofs.Common.{◌≡◌, [], None, get_or, sym, ap, ◌∙◌}
 use Rattle.std.specs.Borrow.{Bor}
 use Rattle.std.specs.Option.{option_map}
 use Rattle.mg_text.specs.Call.{Name}
-use Rattle.scr_judge.specs.inner.Round.{numbers_of}
-use Rattle.scr_judge.specs.inner.View.{told_names}
 use Rattle.scr_judge.proofs.Edges.{numbers_more}
 use Rattle.std.proofs.lemmas.List.{append-nil, get_or_default}
 use Rattle.scr_judge.proofs.cycles.numbers_of.Goals as goal

@@ -1,8 +1,7 @@
-use Rattle.std.proofs.Common.{ap, sym, subst, ◌∙◌, None, IfOk}
+use Rattle.std.proofs.Common.{ap, subst}
 use Rattle.std.proofs.lemmas.Result.{IfOk-weaker}
-use Rattle.std.specs.Option.{option_or}
 use Rattle.scr_tree.specs.Written.{part_written}
-use Rattle.scr_judge.specs.inner.Own.{OfOwn, FirstIn, all_parts, here, later}
+use Rattle.scr_judge.specs.inner.Own.{OfOwn, FirstIn, here, later}
 use Rattle.scr_judge.specs.inner.View.{named_of}
 use Rattle.scr_judge.proofs.own.find_own.Goals as goal
 
