@@ -1,5 +1,5 @@
 -- The laws of global protocols, for what `project` answers.
-use Rattle.std.proofs.Common.{◌≡◌, ◌≢◌, List, [], ◌∷◌, ◌++◌, map, Option, Some, None, refl, sym, ap, subst, ◌∙◌}
+use Rattle.std.proofs.Common.{◌≡◌, ◌≢◌, List, [], ◌∷◌, Option, Some, None, refl, sym, ap, subst, ◌∙◌}
 use Rattle.std.specs.Prelude.{Contains}
 use Rattle.std.proofs.Math.Logic.{∥∥₁_elim}
 use Rattle.mg_text.specs.Call.{Name}
@@ -11,9 +11,7 @@ use Rattle.scr_tree.specs.declared.condition.Condition.TheVariants as conditions
 use Rattle.scr_tree.specs.Conditions.{Unguarded}
 use Rattle.scr_tree.specs.Faults.{Of}
 use Rattle.scr_tree.specs.Meaning.{numbered}
-use Rattle.scr_tree.specs.Going as going
-use Rattle.scr_tree.specs.Spots.{Spot, spot, spots as local_spots}
-use Rattle.scr_tree.specs.Tree as local
+use Rattle.scr_tree.specs.Spots.{spots as local_spots}
 use Rattle.scr_tree.specs.Tree.{LocalTree, Titled}
 use Rattle.scr_read.specs.Parts.{parts}
 use Rattle.scr_global.specs.Conditions.{AreClean, HaveBranches, HaveBranchesIn, UnknownRole, PeerIsSelf, UnknownRec, DuplicateRec, Unguarded as IsUnguarded, Unreachable, BranchStart, MixedChoice, SameLabel}
@@ -24,7 +22,7 @@ use Rattle.scr_global.specs.Texts.{projected}
 use Rattle.scr_global.specs.Tree.{Statements, Nothing, Says, Choice, Rec, Continue, Branches, NoBranch, Branch, said}
 use Rattle.scr_global.proofs.Followed as followed
 use Rattle.scr_global.proofs.Stuck as stuck
-use Rattle.scr_global.proofs.Valid.{clean_is_valid}
+use Rattle.scr_global.proofs.Valid.{clean_is_valid, first_guarded}
 use Rattle.scr_global.proofs.Written.{text_is_projected}
 use Rattle.scr_global_tree.specs.Tree.{GlobalTree}
 use Rattle.scr_global_tree.specs.Valid.{IsValid}
@@ -80,30 +78,17 @@ first_clean {K} {C} {Of} {k} {ks} p = go _ _ p refl refl
 protocol_is : (s t : LocalTree) → Protocol s ≡ Protocol t → s ≡ t
 protocol_is s t e = cc
 
--- what guards a protocol in its file guards it alone
-alone : (all : List Titled) (t : Titled) (s : Spot) (c : Culprit) → Unguarded s c → going.Unguarded all (t, s) c
-alone all t (spot way local.Nothing) c a = a
-alone all t (spot way (local.Says m rest)) c a = a
-alone all t (spot way (local.Choice place at bs rest)) c a = a
-alone all t (spot way (local.Rec place name body rest)) c a = a
-alone all t (spot way (local.Continue place name rest)) c a = a
-alone all t (spot way (local.Do place name rest)) c a = absurd a
-
-all_alone : (all : List Titled) (t : Titled) (xs : List Spot) (more : List (Titled × Spot)) → Clean (going.Unguarded all) (map (λ x. (t, x)) xs ++ more) → Clean Unguarded xs
-all_alone all t [] more h = tt
-all_alone all t (x ∷ xs) more h = ((λ c a. h.0 c (alone all t x c a)), all_alone all t xs more h.1)
-
-guarded_alone : (t : LocalTree) → Of (parts t) conditions.Unguarded None → Clean Unguarded (local_spots [] t.body)
-guarded_alone t j =
+own_guarded : (t : LocalTree) → Of (parts t) conditions.Unguarded None → Clean Unguarded (local_spots [] t.body)
+own_guarded t j =
     let one : Titled = record { name = t.name; body = t.body } in
-    all_alone (one ∷ []) one (local_spots [] t.body) [] (judged-clean j)
+    first_guarded (one ∷ []) [] one (judged-clean j)
 
 kept : (g : GlobalTree) (me : Name) (a : Answer) → Outcome g me a → (t : LocalTree) → a ≡ Protocol t → Kept g me t
 kept g me a (not_mergeable e j) t f = absurd cc
 kept g me a (unprojected e j) t f = absurd cc
 kept g me a (found {body = s} e j) t f =
     let same = protocol_is (projection_of g me s) t f in
-    subst (Kept g me) same (record { own = refl; body = e; guarded = guarded_alone (projection_of g me s) (first_clean j) })
+    subst (Kept g me) same (record { own = refl; body = e; guarded = own_guarded (projection_of g me s) (first_clean j) })
 
 pub are_projections : (g : GlobalTree) (locals : Name → LocalTree) → AreProjected g locals → AreProjections g.roles (said g.body) locals
 are_projections g locals are = record {
