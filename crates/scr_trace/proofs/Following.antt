@@ -35,9 +35,9 @@ abbrev pub AllSettled : Parts → List Position → Type 0
 AllSettled parts [] = Unit {0}
 AllSettled parts (p ∷ ps) = IsState parts p × AllSettled parts ps
 
-settled_both : {parts : Parts} (ps qs : List Position) → AllSettled parts ps → AllSettled parts qs → AllSettled parts (ps ++ qs)
-settled_both [] qs a b = b
-settled_both (p ∷ ps) qs a b = (a.0, settled_both ps qs a.1 b)
+settled_both : (parts : Parts) (ps qs : List Position) → AllSettled parts ps → AllSettled parts qs → AllSettled parts (ps ++ qs)
+settled_both parts [] qs a b = b
+settled_both parts (p ∷ ps) qs a b = (a.0, settled_both parts ps qs a.1 b)
 
 does_settled : {parts : Parts} {m : Message} {rest : Protocol} {part : Part} {around : Position} → IsState parts (Left (Does m rest) part ∷ around)
 does_settled = record { settled = λ q s. elim s [ ]; left = λ e. cc e }
@@ -52,15 +52,15 @@ mutual
   pub states_settled : (parts : Parts) (t : Protocol) (part : Part) (around : Position) → AllSettled parts (states_in part around t)
   states_settled parts Done part around = tt
   states_settled parts (Does m rest) part around = (does_settled, states_settled parts rest part around)
-  states_settled parts (ChoiceHere bs rest) part around = (here_settled, settled_both (states_here _ bs) _ (here_all_settled parts bs _) (states_settled parts rest part around))
-  states_settled parts (ChoiceThere n bs rest) part around = (there_settled, settled_both (states_there _ bs) _ (there_all_settled parts bs _) (states_settled parts rest part around))
-  states_settled parts (Rec name body rest) part around = settled_both (states_in _ _ body) _ (states_settled parts body _ _) (states_settled parts rest part around)
+  states_settled parts (ChoiceHere bs rest) part around = (here_settled, settled_both parts (states_here _ bs) _ (here_all_settled parts bs _) (states_settled parts rest part around))
+  states_settled parts (ChoiceThere n bs rest) part around = (there_settled, settled_both parts (states_there _ bs) _ (there_all_settled parts bs _) (states_settled parts rest part around))
+  states_settled parts (Rec name body rest) part around = settled_both parts (states_in _ _ body) _ (states_settled parts body _ _) (states_settled parts rest part around)
   states_settled parts (Continue name rest) part around = states_settled parts rest part around
   states_settled parts (Do name rest) part around = states_settled parts rest part around
 
   here_all_settled : (parts : Parts) (bs : Branches) (around : Position) → AllSettled parts (states_here around bs)
   here_all_settled parts NoMore around = tt
-  here_all_settled parts (Branch b more) around = settled_both (states_behind around b) _ (behind_settled parts b around) (here_all_settled parts more around)
+  here_all_settled parts (Branch b more) around = settled_both parts (states_behind around b) _ (behind_settled parts b around) (here_all_settled parts more around)
 
   behind_settled : (parts : Parts) (b : Protocol) (around : Position) → AllSettled parts (states_behind around b)
   behind_settled parts (Does m rest) around = states_settled parts rest Plain around
@@ -73,7 +73,7 @@ mutual
 
   there_all_settled : (parts : Parts) (bs : Branches) (around : Position) → AllSettled parts (states_there around bs)
   there_all_settled parts NoMore around = tt
-  there_all_settled parts (Branch b more) around = settled_both (states_from around b) _ (from_settled parts b around) (there_all_settled parts more around)
+  there_all_settled parts (Branch b more) around = settled_both parts (states_from around b) _ (from_settled parts b around) (there_all_settled parts more around)
 
   from_settled : (parts : Parts) (b : Protocol) (around : Position) → AllSettled parts (states_from around b)
   from_settled parts (Does m rest) around = (does_settled, states_settled parts rest Plain around)
@@ -83,6 +83,11 @@ mutual
   from_settled parts (Rec name body rest) around = tt
   from_settled parts (Continue name rest) around = tt
   from_settled parts (Do name rest) around = tt
+
+-- no state of a whole protocol has a silent move
+pub all_settled : (parts ps : Parts) → AllSettled parts (state_positions ps)
+all_settled parts [] = tt
+all_settled parts (part ∷ ps) = settled_both parts (states_in Plain [] part.body) (state_positions ps) (states_settled parts part.body Plain []) (all_settled parts ps)
 
 pub settled_at : {parts : Parts} (ps : List Position) → AllSettled parts ps → (k : ℕ) (p : Position) → slice_get ps k ≡ Some p → IsState parts p
 settled_at [] a k p e = cc

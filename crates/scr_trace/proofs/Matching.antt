@@ -65,7 +65,7 @@ module _ (parts : Protocols) (me : Name) (entry : Name → Option ℕ) (protocol
   Fit (p ∷ ps) [] ds = ⊥
   Fit (p ∷ ps) (c ∷ cs) ds = AreSteps parts all (steps_at p) (edges_of total c) × Fit ps cs ds
 
-  fit_both : (ps qs : List Position) (cs ds es : List Cell) → Fit ps cs ds → Fit qs ds es → Fit (ps ++ qs) cs es
+  pub fit_both : (ps qs : List Position) (cs ds es : List Cell) → Fit ps cs ds → Fit qs ds es → Fit (ps ++ qs) cs es
   fit_both [] qs cs ds es a b = subst (λ xs. Fit qs xs es) (sym a) b
   fit_both (p ∷ ps) qs [] ds es a b = absurd a
   fit_both (p ∷ ps) qs (c ∷ cs) ds es a b = (a.0, fit_both ps qs cs ds es a.1 b)

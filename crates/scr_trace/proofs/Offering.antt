@@ -8,6 +8,7 @@ use Rattle.scr_tree.specs.Tree.{LocalTree}
 use Rattle.scr_tree.specs.CallNames.{message_call, label_call, call_of}
 use Rattle.scr_tree.specs.Meaning.{message_of, protocol_of}
 use Rattle.scr_tree.specs.Local.{tree_of}
+use Rattle.scr_tree.specs.Protocol.{Parts}
 use Rattle.scr_tree.specs.Valid.{AreDistinct}
 use Rattle.scr_tree.specs.Steps.{Act, Moves, Looks, Position, Step, Silent}
 use Rattle.scr_trace.specs.declared.arrow.Arrow.{Arrow}
@@ -137,78 +138,79 @@ among_contains : {A : Type 0} (xs : List A) (x : A) → Among xs x → Contains 
 among_contains [] x a = absurd a
 among_contains (y ∷ ys) x a = ⊎_elim (λ e. (0, omega arith, e)) (λ b. let r = among_contains ys x b in (suc r.0, omega (arith, r.1), r.2)) a
 
-ahead_of : (all : List Position) → AllSettled all → {p : Position} {s : Standing} → ComesTo all p s → (k : ℕ) (place : Position) → s ≡ standings.State k → slice_get all k ≡ Some place → Ahead p (steps_at place)
-ahead_of all sets (at_state {number = n} {position = p} e) k place is there =
+ahead_of : (parts : Parts) (all : List Position) → AllSettled parts all → {p : Position} {s : Standing} → ComesTo parts all p s → (k : ℕ) (place : Position) → s ≡ standings.State k → slice_get all k ≡ Some place → Ahead parts p (steps_at place)
+ahead_of parts all sets (at_state {number = n} {position = p} e) k place is there =
     let same : n ≡ k = state_same n k is in
     let f : p ≡ place = some_same (subst (λ j. slice_get all j ≡ Some p) same e) there in
-    subst (λ q. Ahead p (steps_at q)) f (settled (settled_at all sets n p e).settled)
+    subst (λ q. Ahead parts p (steps_at q)) f (settled (settled_at all sets n p e).settled)
   where
     some_same : {A : Type 0} {a b : A} {o : Option A} → o ≡ Some a → o ≡ Some b → a ≡ b
     some_same e f = cc
-ahead_of all sets at_end k place is there = cc is
-ahead_of all sets (silently m c) k place is there = behind m (ahead_of all sets c k place is there)
+ahead_of parts all sets at_end k place is there = cc is
+ahead_of parts all sets (silently m c) k place is there = behind m (ahead_of parts all sets c k place is there)
 
-ahead_end : (all : List Position) {p : Position} {s : Standing} → ComesTo all p s → s ≡ standings.End → Ahead p []
-ahead_end all (at_state e) is = cc is
-ahead_end all at_end is = settled (λ to m. elim m [ ])
-ahead_end all (silently m c) is = behind m (ahead_end all c is)
+ahead_end : (parts : Parts) (all : List Position) {p : Position} {s : Standing} → ComesTo parts all p s → s ≡ standings.End → Ahead parts p []
+ahead_end parts all (at_state e) is = cc is
+ahead_end parts all at_end is = settled (λ to m. elim m [ ])
+ahead_end parts all (silently m c) is = behind m (ahead_end parts all c is)
 
 pub offered_at : (local : LocalTree) (walk : Walk) (position : Position) (number : ℕ) (cell : Cell) (calls : List Call) → Stands local walk position → walk.standing ≡ standings.State number → Some cell ≡ slice_get (work_of walk.laid).cells number →
     calls ≡ edge_calls (tree_of walk.local.now).me (edges_of (work_of walk.laid) cell) → Offered local position calls
 offered_at local walk position number cell calls h at there is =
+    let parts = protocol_of local in
     let all = all_of local in
     let sets = settled_of local in
     let w : Work = work_of walk.laid in
-    let place = state_place all h.comes number at in
-    let r = edges_there all all (graph_of walk).states h.along.states number place.0 place.1 in
+    let place = state_place parts all h.comes number at in
+    let r = edges_there parts all all (graph_of walk).states h.along.states number place.0 place.1 in
     let same : edges_of w cell ≡ r.0 = some_same (get_map (edges_of w) w.cells number cell (sym there)) r.1 in
     let at_me : (tree_of walk.local.now).me ≡ local.me = ap (λ (t : LocalTree). t.me) h.of in
     record {
       steps = steps_at place.0;
-      ahead = ahead_of all sets h.comes number place.0 at place.1;
+      ahead = ahead_of parts all sets h.comes number place.0 at place.1;
       each = λ act to. (
-        λ c. steps_to all sets h.comes number place.0 at place.1 (listed_step place.0 _ (contains_among (steps_at place.0) (record { act = act; to = to }) c)),
+        λ c. steps_to parts all sets h.comes number place.0 at place.1 (listed_step place.0 _ (contains_among (steps_at place.0) (record { act = act; to = to }) c)),
         λ st.
-            let f = steps_from all sets h.comes st in
+            let f = steps_from parts all sets h.comes st in
             let n : f.number ≡ number = state_same f.number number (sym f.is_state ∙ at) in
             let p : f.place ≡ place.0 = some_same (subst (λ k. slice_get all k ≡ Some f.place) n f.there) place.1 in
             among_contains (steps_at place.0) (record { act = act; to = to }) (subst (λ q. Among (steps_at q) (record { act = act; to = to })) p (step_listed f.step (settled_at all sets f.number f.place f.there).settled)),
       );
-      named = sym (calls_edges local.me all (steps_at place.0) r.0 r.2) ∙ ap (edge_calls local.me) (sym same) ∙ ap (λ m. edge_calls m (edges_of w cell)) (sym at_me) ∙ sym is;
+      named = sym (calls_edges local.me parts all (steps_at place.0) r.0 r.2) ∙ ap (edge_calls local.me) (sym same) ∙ ap (λ m. edge_calls m (edges_of w cell)) (sym at_me) ∙ sym is;
     }
   where
     some_same : {A : Type 0} {a b : A} {o : Option A} → o ≡ Some a → o ≡ Some b → a ≡ b
     some_same e f = cc
 
-    state_place : (all : List Position) {p : Position} {s : Standing} → ComesTo all p s → (k : ℕ) → s ≡ standings.State k → (q : Position) × (slice_get all k ≡ Some q)
-    state_place all (at_state {number = n} {position = p} e) k f = (p, subst (λ j. slice_get all j ≡ Some p) (state_same n k f) e)
-    state_place all at_end k f = cc f
-    state_place all (silently m c) k f = state_place all c k f
+    state_place : (parts : Parts) (all : List Position) {p : Position} {s : Standing} → ComesTo parts all p s → (k : ℕ) → s ≡ standings.State k → (q : Position) × (slice_get all k ≡ Some q)
+    state_place parts all (at_state {number = n} {position = p} e) k f = (p, subst (λ j. slice_get all j ≡ Some p) (state_same n k f) e)
+    state_place parts all at_end k f = cc f
+    state_place parts all (silently m c) k f = state_place parts all c k f
 
-no_step_at_end : (all : List Position) → AllSettled all → {p q : Position} {s : Standing} {act : Act} → ComesTo all p s → s ≡ standings.End → Step p act q → ⊥
-no_step_at_end all sets c e st = let f = (steps_from all sets c st).is_state in cc
+no_step_at_end : (parts : Parts) (all : List Position) → AllSettled parts all → {p q : Position} {s : Standing} {act : Act} → ComesTo parts all p s → s ≡ standings.End → Step parts p act q → ⊥
+no_step_at_end parts all sets c e st = let f = (steps_from parts all sets c st).is_state in cc
 
 pub offered_end : (local : LocalTree) (walk : Walk) (position : Position) → Stands local walk position → walk.standing ≡ standings.End → Offered local position []
 offered_end local walk position h at = record {
   steps = [];
-  ahead = ahead_end (all_of local) h.comes at;
-  each = λ act to. (λ c. absurd (contains_among [] (record { act = act; to = to }) c), λ st. absurd (no_step_at_end (all_of local) (settled_of local) h.comes at st));
+  ahead = ahead_end (protocol_of local) (all_of local) h.comes at;
+  each = λ act to. (λ c. absurd (contains_among [] (record { act = act; to = to }) c), λ st. absurd (no_step_at_end (protocol_of local) (all_of local) (settled_of local) h.comes at st));
   named = refl;
 }
 
 -- the state at which a walk stands is there
 pub offered_past : (local : LocalTree) (walk : Walk) (position : Position) (number : ℕ) → Stands local walk position → walk.standing ≡ standings.State number → None ≡ slice_get (work_of walk.laid).cells number → ⊥
 offered_past local walk position number h at none =
-    let place = state_place (all_of local) h.comes number at in
-    let r = edges_there (all_of local) (all_of local) (graph_of walk).states h.along.states number place.0 place.1 in
+    let place = state_place (protocol_of local) (all_of local) h.comes number at in
+    let r = edges_there (protocol_of local) (all_of local) (all_of local) (graph_of walk).states h.along.states number place.0 place.1 in
     let e : slice_get (graph_of walk).states number ≡ None = get_none (edges_of (work_of walk.laid)) (work_of walk.laid).cells number none in
     let f = r.1 in
     cc
   where
-    state_place : (all : List Position) {p : Position} {s : Standing} → ComesTo all p s → (k : ℕ) → s ≡ standings.State k → (q : Position) × (slice_get all k ≡ Some q)
-    state_place all (at_state {number = n} {position = p} e) k f = (p, subst (λ j. slice_get all j ≡ Some p) (state_same n k f) e)
-    state_place all at_end k f = cc f
-    state_place all (silently m c) k f = state_place all c k f
+    state_place : (parts : Parts) (all : List Position) {p : Position} {s : Standing} → ComesTo parts all p s → (k : ℕ) → s ≡ standings.State k → (q : Position) × (slice_get all k ≡ Some q)
+    state_place parts all (at_state {number = n} {position = p} e) k f = (p, subst (λ j. slice_get all j ≡ Some p) (state_same n k f) e)
+    state_place parts all at_end k f = cc f
+    state_place parts all (silently m c) k f = state_place parts all c k f
 
 look_peer : (n k : ℕ) (p q l m : Name) → Looks n p l ≡ Looks k q m → p ≡ q
 look_peer n k p q l m e = cc
@@ -229,10 +231,10 @@ pub peers_same : (local : LocalTree) (walk : Walk) (position : Position) (number
 peers_same local walk position number c exits h at there counted a b ma mb =
     let w : Work = work_of walk.laid in
     let e = get_map (edges_of w) w.cells number (cell_of exits) (sym there) in
-    let place = position_there (all_of local) (all_of local) (graph_of walk).states h.along.states number (edges_of w (cell_of exits)) e in
+    let place = position_there (protocol_of local) (all_of local) (all_of local) (graph_of walk).states h.along.states number (edges_of w (cell_of exits)) e in
     let told = told_at local.me (all_of local) (walk_told local walk h.of) number place.0 place.1 in
-    let sa = step_of_edge (all_of local) (steps_at place.0) (edges_of w (cell_of exits)) place.2 (edge_of w exits.number (draft_of a)) (edge_among w exits.number exits.arrows.items a ma) in
-    let sb = step_of_edge (all_of local) (steps_at place.0) (edges_of w (cell_of exits)) place.2 (edge_of w exits.number (draft_of b)) (edge_among w exits.number exits.arrows.items b mb) in
+    let sa = step_of_edge (protocol_of local) (all_of local) (steps_at place.0) (edges_of w (cell_of exits)) place.2 (edge_of w exits.number (draft_of a)) (edge_among w exits.number exits.arrows.items a ma) in
+    let sb = step_of_edge (protocol_of local) (all_of local) (steps_at place.0) (edges_of w (cell_of exits)) place.2 (edge_of w exits.number (draft_of b)) (edge_among w exits.number exits.arrows.items b mb) in
     go (steps_at place.0) told.one sa.0 sb.0 sa.1 sb.1 (sym sa.2.act ∙ ap (λ (o : Option ℕ). act_of w o a.message.now) counted) (sym sb.2.act ∙ ap (λ (o : Option ℕ). act_of w o b.message.now) counted)
   where
     go : (steps : List Onward) → OneChoice steps → (x y : Onward) → Among steps x → Among steps y → {k j : ℕ} {l m : Name} → x.act ≡ Looks k a.message.now.peer l → y.act ≡ Looks j b.message.now.peer m → a.message.now.peer ≡ b.message.now.peer
@@ -288,9 +290,9 @@ state_differs : (local : LocalTree) (walk : Walk) (position : Position) (number 
 state_differs local walk position number cell h there =
     let w : Work = work_of walk.laid in
     let e = get_map (edges_of w) w.cells number cell (sym there) in
-    let place = position_there (all_of local) (all_of local) (graph_of walk).states h.along.states number (edges_of w cell) e in
+    let place = position_there (protocol_of local) (all_of local) (all_of local) (graph_of walk).states h.along.states number (edges_of w cell) e in
     let told = told_at local.me (all_of local) (walk_told local walk h.of) number place.0 place.1 in
-    subst AllDiffer (sym (calls_edges local.me (all_of local) (steps_at place.0) (edges_of w cell) place.2)) told.differ
+    subst AllDiffer (sym (calls_edges local.me (protocol_of local) (all_of local) (steps_at place.0) (edges_of w cell) place.2)) told.differ
 
 pub offers_distinct : (local : LocalTree) (walk : Walk) (position : Position) (number : ℕ) (exits : Exits) (offers : List Offer) → Stands local walk position →
     Some (cell_of exits) ≡ slice_get (work_of walk.laid).cells number → AreApart exits.number (drafts_of exits.arrows.items) offers → AreDistinct (methods_of offers)

@@ -1,5 +1,5 @@
 -- A valid local protocol has what the layout needs.
-use Rattle.std.proofs.Common.{◌≡◌, ℕ, zero, suc, ◌+◌, ◌<◌, List, [], ◌∷◌, ◌++◌, length, Some, None, refl, sym, ap, ◌∙◌, subst, inl, inr, ◌⊎◌, ⊎_elim, Bool, true, false, ◌&&◌, ◌||◌, arith, append_assoc}
+use Rattle.std.proofs.Common.{◌≡◌, ℕ, zero, suc, ◌+◌, ◌<◌, List, [], ◌∷◌, ◌++◌, length, map, Some, None, refl, sym, ap, ◌∙◌, subst, inl, inr, ◌⊎◌, ⊎_elim, Bool, true, false, ◌&&◌, ◌||◌, arith, append_assoc}
 use Rattle.std.specs.Prelude.{Contains, slice_index_or, IsTrue}
 use Rattle.std.specs.Str.{bytes_eq}
 use Rattle.std.proofs.Math.Logic.{∥∥₁_elim}
@@ -45,17 +45,28 @@ first_or_later {X} y ys x c = go c.0 c.1 c.2
 pub none_contained : {X : Type 0} (x : X) → Contains [] x → ⊥
 none_contained x c = let h = c.1 in omega arith
 
+pub contains_later : {X : Type 0} (y : X) (ys : List X) (x : X) → Contains ys x → Contains (y ∷ ys) x
+contains_later y ys x c = (suc c.0, omega (arith, c.1), c.2)
+
+pub contains_first : {X : Type 0} (y : X) (ys : List X) → Contains (y ∷ ys) y
+contains_first y ys = (0, omega arith, refl)
+
+-- no element of a clean list is at fault
+pub clean_at : {X C : Type 0} (At : X → C → Type 0) (xs : List X) → Clean At xs → (x : X) → Contains xs x → (c : C) → At x c → ⊥
+clean_at At [] h x k c a = none_contained x k
+clean_at At (y ∷ ys) h x k c a = ⊎_elim (λ e. h.0 c (subst (λ z. At z c) (sym e) a)) (λ later. clean_at At ys h.1 x later c a) (first_or_later y ys x k)
+
 -- ---- the rules
 
 and_true : (a b : Bool) → (a && b) ≡ true → (a ≡ true) × (b ≡ true)
 and_true true b e = (refl, e)
 and_true false b e = cc
 
-both_true : (a b : Bool) → a ≡ true → b ≡ true → (a && b) ≡ true
+pub both_true : (a b : Bool) → a ≡ true → b ≡ true → (a && b) ≡ true
 both_true true b e f = f
 both_true false b e f = cc
 
-passes_are : (t : Statements) → passes t ≡ true → control.passes t ≡ true
+pub passes_are : (t : Statements) → passes t ≡ true → control.passes t ≡ true
 passes_are Nothing e = refl
 passes_are (Says m rest) e = cc
 passes_are (Choice place at bs rest) e = cc
@@ -108,7 +119,7 @@ guarded name (Continue place other rest) way q h =
 guarded name (Do place other rest) way q h = tt
 
 -- what isn't unlisted is listed
-listed : (names : List Name) (name : Name) → ((Contains names name → ⊥) → ⊥) → Contains names name
+pub listed : (names : List Name) (name : Name) → ((Contains names name → ⊥) → ⊥) → Contains names name
 listed [] name h = absurd (h (none_contained name))
 listed (other ∷ names) name h =
     ⊎_elim (λ e. subst (Contains (other ∷ names)) (sym ((bytes_eq-Decides name other).0 e)) (0, omega arith, refl))

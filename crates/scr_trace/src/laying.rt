@@ -1,14 +1,13 @@
 //! Lays out the states of a protocol from the end of its text on, so that what follows a statement is there before it.
 
 ghost use Rattle.std.specs.Prelude.{◌≡◌, ◌<◌, ◌-◌, [], map, OnOk, IfOk, length};
-ghost use Rattle.std.specs.HashMap.{get_by_text};
 ghost use Rattle.scr_tree.specs.View.{statements, front, part_of};
 ghost use Rattle.scr_tree.specs.Tree.{Nothing, other};
 ghost use Rattle.scr_tree.specs.Local.{tree_of};
 ghost use Rattle.scr_tree.specs.Meaning.{protocol_of};
 ghost use Rattle.scr_trace.specs.Graph.{Automates};
-ghost use Rattle.scr_trace.specs.inner.Laying.{lay, lay_in, branch_laid, part_laid, parts_laid, laid_out, joined, said, opened, closed, chosen, hop_named, hop_to};
-ghost use Rattle.scr_trace.specs.inner.View.{known_of, work_of, gathered, bodies, graph_of_work};
+ghost use Rattle.scr_trace.specs.inner.Laying.{lay, lay_in, branch_laid, part_laid, parts_laid, LaidOut, joined, said, opened, closed, chosen, hop_named, hop_to};
+ghost use Rattle.scr_trace.specs.inner.View.{number_by, known_of, work_of, gathered, bodies, graph_of_work};
 
 use crate::arrow::{Arrow, Exits, Hop};
 use crate::entries::{numbers_of, settle};
@@ -56,8 +55,9 @@ fn hop_named(name: &str, around: &Around<'_>) -> Hop
 }
 
 // Where a `do` of this name leads.
+#[tactic(auto, unfolding(crate::specs::inner::View::number_by))]
 fn hop_to(name: &str, names: &HashMap<String, u32>) -> Hop
-    ensures { result ≡ hop_to (get_by_text names.now name.now) }
+    ensures { result ≡ hop_to (number_by names.now name.now) }
 {
     match names.get(name) {
         Some(number) => Hop::Part(*number),
@@ -76,7 +76,7 @@ fn lay_all<'a>(
     out: &mut Laying<'a>,
     body: &'a [Statement],
 ) -> Result<(), Memory>
-    ensures { OnOk result (work_of out.new ≡ lay me.now (get_by_text names.now) (known_of around.now) (work_of out.old) (statements body.now)) }
+    ensures { OnOk result (work_of out.new ≡ lay me.now (number_by names.now) (known_of around.now) (work_of out.old) (statements body.now)) }
 {
     let mut i = body.len();
     while i > 0 {
@@ -96,7 +96,7 @@ fn lay_at<'a>(
     out: &mut Laying<'a>,
     statement: &'a Statement,
 ) -> Result<(), Memory>
-    ensures { OnOk result (work_of out.new ≡ lay me.now (get_by_text names.now) (known_of around.now) (work_of out.old) (front statement.now Nothing)) }
+    ensures { OnOk result (work_of out.new ≡ lay me.now (number_by names.now) (known_of around.now) (work_of out.old) (front statement.now Nothing)) }
 {
     match statement {
         Statement::Message(message) => out.put_message(alloc, message),
@@ -145,7 +145,7 @@ fn lay_branches<'a>(
     arrows: &mut List<Arrow<'a>>,
     branches: &'a [List<Statement>],
 ) -> Result<(), Memory>
-    ensures { OnOk result (gathered out.new arrows.new ≡ lay_in me.now (get_by_text names.now) (known_of around.now) at_self (work_of out.old).next (gathered out.old arrows.old) (bodies branches.now)) }
+    ensures { OnOk result (gathered out.new arrows.new ≡ lay_in me.now (number_by names.now) (known_of around.now) at_self (work_of out.old).next (gathered out.old arrows.old) (bodies branches.now)) }
 {
     let behind = out.next;
     let mut i = branches.len();
@@ -166,7 +166,6 @@ fn lay_branches<'a>(
     Ok(())
 }
 
-#[tactic(auto, using(crate::proofs::Steps::branch_steps))]
 #[cycle(laying)]
 fn lay_branch<'a>(
     alloc: Global,
@@ -178,21 +177,16 @@ fn lay_branch<'a>(
     arrows: &mut List<Arrow<'a>>,
     branch: &'a [Statement],
 ) -> Result<(), Memory>
-    ensures { OnOk result (gathered out.new arrows.new ≡ branch_laid me.now (get_by_text names.now) at_self (known_of around.now) (statements branch.now) (gathered out.old arrows.old)) }
+    ensures { OnOk result (gathered out.new arrows.new ≡ branch_laid me.now (number_by names.now) at_self (known_of around.now) (statements branch.now) (gathered out.old arrows.old)) }
 {
     let Some((statement, rest)) = branch.split_first() else {
         return Ok(());
     };
-    match statement {
-        Statement::Message(message) => {
-            lay_all(alloc, me, names, around, out, rest)?;
-            join(alloc, at_self, out, arrows, message)
-        }
-        Statement::Choice { .. }
-        | Statement::Rec { .. }
-        | Statement::Continue { .. }
-        | Statement::Do { .. } => Ok(()),
-    }
+    let Statement::Message(message) = statement else {
+        return Ok(());
+    };
+    lay_all(alloc, me, names, around, out, rest)?;
+    join(alloc, at_self, out, arrows, message)
 }
 
 // The first message of a branch, in front of what stands behind it.
@@ -230,7 +224,7 @@ fn lay_others<'a>(
     out: &mut Laying<'a>,
     others: &'a [Part],
 ) -> Result<(), Memory>
-    ensures { OnOk result (work_of out.new ≡ parts_laid me.now (get_by_text names.now) (map other (map part_of others.now)) (work_of out.old)) }
+    ensures { OnOk result (work_of out.new ≡ parts_laid me.now (number_by names.now) (map other (map part_of others.now)) (work_of out.old)) }
 {
     let mut i = others.len();
     while i > 0 {
@@ -248,7 +242,7 @@ fn lay_part<'a>(
     out: &mut Laying<'a>,
     body: &'a [Statement],
 ) -> Result<(), Memory>
-    ensures { OnOk result (work_of out.new ≡ part_laid me.now (get_by_text names.now) (statements body.now) (work_of out.old)) }
+    ensures { OnOk result (work_of out.new ≡ part_laid me.now (number_by names.now) (statements body.now) (work_of out.old)) }
 {
     out.next = Hop::End;
     lay_all(alloc, me, names, &Around::Outside, out, body)?;
@@ -260,7 +254,7 @@ impl<'a> Laying<'a> {
     /// What is laid out of a local protocol: its automaton.
     /// The only error is `Memory`, where there is too little of it.
     pub fn of(alloc: Global, local: &'a Local) -> Result<Laying<'a>, Memory>
-        ensures laid { IfOk result (λ l. work_of l ≡ laid_out (tree_of local.now)) }
+        ensures laid { IfOk result (λ l. LaidOut (tree_of local.now) (work_of l)) }
         ensures automaton { IfOk result (λ l. Automates (protocol_of (tree_of local.now)) (graph_of_work (work_of l))) }
     {
         let names = numbers_of(alloc, local)?;

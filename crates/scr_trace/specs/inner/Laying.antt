@@ -1,9 +1,9 @@
 -- What laying out makes of statements, in front of what is there.
-use Rattle.std.specs.Prelude.{ℕ, zero, suc, List, [], ◌∷◌, ◌++◌, map, length, get_or, slice_set, Option, Some, None, Bool, true, false, if◌then◌else◌}
+use Rattle.std.specs.Prelude.{◌≡◌, ℕ, suc, List, [], ◌∷◌, ◌++◌, length, get_or, slice_set, Option, Some, None, Bool, true, false, if◌then◌else◌}
 use Rattle.std.specs.Str.{bytes_eq}
 use Rattle.mg_text.specs.Call.{Name}
 use Rattle.scr_tree.specs.declared.syntax.Message.{Message as Said}
-use Rattle.scr_tree.specs.Tree.{LocalTree, Titled, other, Statements, Nothing, Says, Choice, Rec, Continue, Do, Branches, NoBranch, Branch}
+use Rattle.scr_tree.specs.Tree.{LocalTree, Titled, titled, Statements, Nothing, Says, Choice, Rec, Continue, Do, Branches, NoBranch, Branch}
 use Rattle.scr_trace.specs.declared.arrow.Hop.{Hop}
 use Rattle.scr_trace.specs.declared.arrow.Hop.TheVariants as hops
 
@@ -118,25 +118,32 @@ number_among [] name = None
 number_among (t ∷ more) name = if bytes_eq name t.name then Some (length more) else number_among more name
 
 abbrev pub number_in : LocalTree → Name → Option ℕ
-number_in local = number_among (record { name = local.name; body = local.body } ∷ map other local.others)
+number_in local = number_among (titled local)
 
 -- ---- what entries lead to
 
 abbrev pub entry_at : ℕ → List Hop → Hop
 entry_at k entries = get_or entries k hops.End
 
--- where a hop leads behind at most so many protocols; those that lead round and round lead nowhere
-abbrev pub followed : ℕ → List Hop → Hop → Hop
-followed zero entries (hops.Part k) = hops.End
-followed zero entries hop = hop
-followed (suc n) entries (hops.Part k) = followed n entries (entry_at k entries)
-followed (suc n) entries hop = hop
+-- the hop leads to no protocol
+abbrev pub IsPlain : Hop → Type 0
+IsPlain (hops.Part k) = ⊥
+IsPlain hop = Unit {0}
 
-abbrev pub settled : List Hop → List Hop
-settled entries = map (followed (length entries) entries) entries
+-- where a hop leads at last, past protocols that only go on as others
+pub data Ends (entries : List Hop) : Hop → Hop → Type 0 where
+  stops : {hop : Hop} → IsPlain hop → Ends entries hop hop
+  onward : {k : ℕ} {end : Hop} → Ends entries (entry_at k entries) end → Ends entries (hops.Part k) end
 
--- what is laid out of a local protocol
-abbrev pub laid_out : LocalTree → Work
-laid_out local =
-    let w = parts_laid local.me (number_in local) (record { name = local.name; body = local.body } ∷ map other local.others) nothing in
-    record w { entries = settled w.entries }
+-- each entry leads where it led at last, if it did
+abbrev pub Settled : List Hop → List Hop → Type 0
+Settled old new = (k : ℕ) (end : Hop) → Ends old (hops.Part k) end → entry_at k new ≡ end
+
+-- a local protocol with its entries as they are laid out
+abbrev pub laid_parts : LocalTree → Work
+laid_parts local = parts_laid local.me (number_in local) (titled local) nothing
+
+-- what is laid out of a local protocol: no entry leads to another protocol
+pub record LaidOut (local : LocalTree) (w : Work) : Type 0 where
+  pub parts : record w { entries = (laid_parts local).entries } ≡ laid_parts local
+  pub settled : Settled (laid_parts local).entries w.entries

@@ -1,5 +1,8 @@
 -- What the program's values say.
-use Rattle.std.specs.Prelude.{ℕ, ◌-◌, Option, Some, None, List, [], ◌∷◌, map, reverse, length, slice_index_or}
+use Rattle.std.specs.Prelude.{ℕ, ◌-◌, String, Option, Some, None, List, [], ◌∷◌, map, reverse, length, slice_index_or}
+use Rattle.std.specs.HashMap.{HashMap, get_by_text}
+
+use Rattle.mg_text.specs.Call.{Name}
 use Rattle.mg_text.specs.Row.{Row}
 use Rattle.scr_tree.specs.declared.syntax.Message.{Message as Said}
 use Rattle.scr_tree.specs.Tree.{Branches}
@@ -40,6 +43,10 @@ gathered l arrows = record { work = work_of l; drafts = drafts_of arrows.items }
 abbrev pub known_of : Around → List Known
 known_of Outside = []
 known_of (Inside' name number p around) = record { name = name.now; number = number } ∷ known_of around
+
+-- the numbers of protocols, by their names
+unfoldable pub number_by : {A S : Type 0} → HashMap (String A) ℕ S → Name → Option ℕ
+number_by numbers name = get_by_text numbers name
 
 abbrev pub bodies : List (Row Statement) → Branches
 bodies branches = branches_of (map (λ b. statements b.items) branches)
