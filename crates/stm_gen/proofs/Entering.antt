@@ -1,5 +1,5 @@
 -- Parts begin where they are laid out to begin.
-use Rattle.std.proofs.Common.{◌≡◌, ℕ, zero, suc, ◌+◌, ◌-◌, ◌<◌, ◌≤◌, List, [], ◌∷◌, ◌++◌, length, get_or, map, Contains, Option, Some, None, refl, sym, ap, ◌∙◌, subst, ⊎_elim, Bool, true, false, ◌||◌, if◌then◌else◌, arith}
+use Rattle.std.proofs.Common.{◌≡◌, ℕ, zero, suc, ◌+◌, ◌-◌, ◌<◌, ◌≤◌, List, [], ◌∷◌, ◌++◌, length, get_or, map, Contains, Option, Some, None, refl, sym, ap, ◌∙◌, subst, ⊎_elim, Bool, true, false, ◌&&◌, ◌||◌, if◌then◌else◌, arith}
 use Rattle.std.specs.Option.{option_or}
 use Rattle.std.specs.Str.{bytes_eq}
 use Rattle.std.proofs.lemmas.List.{length-append, get_or_at}
@@ -102,12 +102,12 @@ module _ (me : Name) (parts : Name → Option ℕ) (protocols : List Name) (tota
   opens_behind place name body rest w v o x u n c none own same quiet xn on un (stands some plain at) =
       let all : u.next ≡ v.next = un ∙ xn ∙ on in
       stands (or_second (has_state (numbered me c body)) (has_state (numbered me (c + choices me body) rest)) some) (subst IsPlain (sym all) plain) (ap (standing_of total) all ∙ at ∙ ap standings.State same)
-  opens_behind place name body rest w v o x u n c none own same quiet xn on un (passed some goes stay pass next) =
+  opens_behind place name body rest w v o x u n c none own same quiet xn on un (passed some gone stay pass next) =
       passed (or_none (has_state (numbered me c body)) (has_state (numbered me (c + choices me body) rest)) none some)
-      (ap (λ d. option_or d (do_in (numbered me (c + choices me body) rest))) own ∙ goes) (stay ∙ same) (both_true (passes body) (passes rest) quiet pass) (un ∙ xn ∙ on ∙ next)
-  opens_behind place name body rest w v o x u n c none own same quiet xn on un (leaves to known some goes stay left next) =
+      (ap (λ d. option_or d (do_in (numbered me (c + choices me body) rest))) own ∙ gone) (stay ∙ same) (both_true (passes body) (passes rest) quiet pass) (un ∙ xn ∙ on ∙ next)
+  opens_behind place name body rest w v o x u n c none own same quiet xn on un (leaves to known some gone stay left next) =
       leaves to known (or_none (has_state (numbered me c body)) (has_state (numbered me (c + choices me body) rest)) none some)
-      (ap (λ d. option_or d (do_in (numbered me (c + choices me body) rest))) own ∙ goes) (stay ∙ same) (or_second (stays body) (stays rest) left) (un ∙ xn ∙ on ∙ next)
+      (ap (λ d. option_or d (do_in (numbered me (c + choices me body) rest))) own ∙ gone) (stay ∙ same) (or_second (stays body) (stays rest) left) (un ∙ xn ∙ on ∙ next)
 
   -- a rec, by its body
   opens_rec : (place : _) (name : Name) (body rest : Statements) (w v o x u : Work) (n c : ℕ) → (stays body ≡ true → rest ≡ Nothing) → o.next ≡ v.next → u.next ≡ x.next →
