@@ -111,6 +111,11 @@ unmet_said place role (protocols.ReservedLabel at name) f b e u said = subst (λ
 unmet_said place role (protocols.NameClash at name) f b e u said = subst (λ (z : scr.Answer). IsSaidOfProjection (projects.Unprojected place role z) f) (some_is _ b e) said
 unmet_said place role (protocols.TooManyStates at) f b e u said = subst (λ (z : scr.Answer). IsSaidOfProjection (projects.Unprojected place role z) f) (some_is _ b e) said
 unmet_said place role protocols.Memory f b e u said = absurd (none_is_not b e)
+unmet_said place role (protocols.UnknownProtocol at name) f b e u said = subst (λ (z : scr.Answer). IsSaidOfProjection (projects.Unprojected place role z) f) (some_is _ b e) said
+unmet_said place role (protocols.DuplicateProtocol at name) f b e u said = subst (λ (z : scr.Answer). IsSaidOfProjection (projects.Unprojected place role z) f) (some_is _ b e) said
+unmet_said place role (protocols.RolesDiffer at name) f b e u said = subst (λ (z : scr.Answer). IsSaidOfProjection (projects.Unprojected place role z) f) (some_is _ b e) said
+unmet_said place role (protocols.NotLast at name) f b e u said = subst (λ (z : scr.Answer). IsSaidOfProjection (projects.Unprojected place role z) f) (some_is _ b e) said
+unmet_said place role (protocols.StartsWithDo at name) f b e u said = subst (λ (z : scr.Answer). IsSaidOfProjection (projects.Unprojected place role z) f) (some_is _ b e) said
 
 -- ---- the line of a fault is that of a refusal
 

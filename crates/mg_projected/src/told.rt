@@ -163,5 +163,10 @@ fn word_of(fault: &ScrFault) -> &str
         ScrFault::NameClash { .. } => "NameClash",
         ScrFault::TooManyStates { .. } => "TooManyStates",
         ScrFault::Memory => "",
+        ScrFault::UnknownProtocol { .. } => "UnknownProtocol",
+        ScrFault::DuplicateProtocol { .. } => "DuplicateProtocol",
+        ScrFault::RolesDiffer { .. } => "RolesDiffer",
+        ScrFault::NotLast { .. } => "NotLast",
+        ScrFault::StartsWithDo { .. } => "StartsWithDo",
     }
 }

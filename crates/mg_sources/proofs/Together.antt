@@ -11,7 +11,7 @@ use Rattle.jv_tree.specs.Source.{File}
 use Rattle.mg_text.specs.Places.{start_of}
 use Rattle.stm_gen.specs.Numbered.{typestate_of}
 use Rattle.stm_api.specs.Api.{ApiText, IsApi, class_file, enum_files}
-use Rattle.stm_api.specs.Doings.{Doing, doings, call_of, Firsts}
+use Rattle.stm_api.specs.Doings.{Doing, all_doings, call_of, Firsts}
 use Rattle.stm_api.specs.Doings as doing
 use Rattle.std.specs.Prelude.{Contains}
 use Rattle.mg_sources.specs.Files.{Source, sources_from}
@@ -71,7 +71,7 @@ one_first me (doing.first {doing = d} {more = ds} new more) (doing.first {doing 
 pub one_api : (local : LocalTree) (a b : List ApiText) → IsApi local a → IsApi local b → a ≡ b
 one_api local a b p q =
     p.are_files
-    ∙ ap (λ (z : List Doing). class_file (start_of local.file) local.me z ∷ enum_files (start_of local.file) local.me (doings (protocol_of local)))
+    ∙ ap (λ (z : List Doing). class_file (start_of local.file) local.me z ∷ enum_files (start_of local.file) local.me (all_doings (protocol_of local)))
     (one_first local.me p.are_firsts q.are_firsts refl refl)
     ∙ sym q.are_files
 

@@ -134,8 +134,16 @@ fn told_of_protocol(fault: &ScrFault) -> Option<(&str, Place, &str)>
         ScrFault::NameClash { place, name } => Some(("NameClash", *place, name.as_str())),
         ScrFault::TooManyStates { place } => Some(("TooManyStates", *place, "")),
         ScrFault::Memory => None,
-        ScrFault::UnknownProtocol { place, name } => Some(("UnknownProtocol", *place, name.as_str())),
-        ScrFault::DuplicateProtocol { place, name } => Some(("DuplicateProtocol", *place, name.as_str())),
+        ScrFault::UnknownProtocol { place, name } => Some((
+            "UnknownProtocol",
+            *place,
+            name.as_str(),
+        )),
+        ScrFault::DuplicateProtocol { place, name } => Some((
+            "DuplicateProtocol",
+            *place,
+            name.as_str(),
+        )),
         ScrFault::RolesDiffer { place, name } => Some(("RolesDiffer", *place, name.as_str())),
         ScrFault::NotLast { place, name } => Some(("NotLast", *place, name.as_str())),
         ScrFault::StartsWithDo { place, name } => Some(("StartsWithDo", *place, name.as_str())),

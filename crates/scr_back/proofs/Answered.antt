@@ -165,16 +165,16 @@ any_same (x ∷ xs) [] z = absurd z
 
 none_first : (xs ys : List Spot) → Zip SameSpot xs ys → first_do xs ≡ None → first_do ys ≡ None
 none_first [] [] z e = refl
-none_first (spot w s ∷ xs) (spot v t ∷ ys) z e = go s t z.0.1 e
+none_first (spot w s ∷ xs) (spot v t ∷ ys) z e = go s t (none_first xs ys z.1) z.0.1 e
   where
-    go : (s t : Statements) → AreSame s t → first_do (spot w s ∷ xs) ≡ None → first_do (spot v t ∷ ys) ≡ None
-    go Nothing Nothing g e = none_first xs ys z.1 e
-    go (Says m r) (Says n o) g e = refl
-    go (Choice p at bs r) (Choice q by cs o) g e = refl
-    go (Rec p name body r) (Rec q word inner o) g e = none_first xs ys z.1 e
-    go (Continue p name r) (Continue q word o) g e = none_first xs ys z.1 e
-    go (Do p name r) (Do q word o) g e = let no : ⊥ = cc in absurd no
-    go _ _ g e = absurd g
+    go : (s t : Statements) → (first_do xs ≡ None → first_do ys ≡ None) → AreSame s t → first_do (spot w s ∷ xs) ≡ None → first_do (spot v t ∷ ys) ≡ None
+    go Nothing Nothing more g e = more e
+    go (Says m r) (Says n o) more g e = refl
+    go (Choice p at bs r) (Choice q by cs o) more g e = refl
+    go (Rec p name body r) (Rec q word inner o) more g e = more e
+    go (Continue p name r) (Continue q word o) more g e = more e
+    go (Do p name r) (Do q word o) more g e = let no : ⊥ = cc in absurd no
+    go _ _ more g e = absurd g
 none_first [] (y ∷ ys) z e = absurd z
 none_first (x ∷ xs) [] z e = absurd z
 
@@ -198,7 +198,7 @@ names_apart seen (p ∷ ps) far d = (
   λ c x. let o = Contains-origin name_in seen p.name x.1 in far p o.0 o.1 (Contains-first ps p) o.2,
   names_apart (seen ++ p ∷ []) ps
       (λ u q has inside same. ⊎_elim (λ old. far u q old (Contains-later ps p u inside) same)
-      (λ new. d.0 (subst (Contains (map name_in ps)) (sym (ap name_in (sym new) ∙ same)) (Contains-image name_in ps u inside)))
+      (λ new. d.0 (subst (Contains (map name_in ps)) (sym (subst (λ (z : WrittenPart). z.name ≡ u.name) (sym new) same)) (Contains-image name_in ps u inside)))
       (Contains-push_cases seen p q has)) d.1,
 )
 
@@ -306,9 +306,9 @@ module _ (me : Name) (roles : List Name) where
       heads_clean : (c : Culprit) → RolesDiffer first (heads p) c → ⊥
       heads_clean c x = ⊎_elim (λ n. n (sym h.0.roles_same ∙ rs)) (λ n. n (sym h.0.me_same ∙ m)) x.1
 
-      given_clean : (as : List Arguments) → GivenAll roles as → Clean (RolesDiffer first) (map gives as)
+      given_clean : (xs : List Arguments) → GivenAll roles xs → Clean (RolesDiffer first) (map gives xs)
       given_clean [] g = tt
-      given_clean (a ∷ as) g = ((λ c x. x.1 (g.0 ∙ rs)), given_clean as g.1)
+      given_clean (a ∷ xs) g = ((λ c x. x.1 (g.0 ∙ rs)), given_clean xs g.1)
   told_clean first rs m [] (p ∷ ps) h = absurd h
   told_clean first rs m (t ∷ ts) [] h = absurd h
 

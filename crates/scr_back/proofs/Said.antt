@@ -1,5 +1,5 @@
 -- Printed statements are read as the same statements.
-use Rattle.std.proofs.Common.{◌≡◌, ◌≢◌, Option, Some, None, ℕ, ◌+◌, ◌*◌, List, [], ◌∷◌, ◌++◌, refl, ap, ◌∙◌, codes, arith}
+use Rattle.std.proofs.Common.{◌≡◌, ◌≢◌, Option, Some, None, ℕ, ◌+◌, ◌*◌, List, [], ◌∷◌, ◌++◌, refl, sym, ap, subst, ◌∙◌, append_assoc, codes, arith}
 use Rattle.std.specs.List.{AllByRecursion}
 use Rattle.mg_text.specs.Call.{Name}
 use Rattle.mg_text.specs.declared.place.Place.{Place}
@@ -40,9 +40,9 @@ IsPlainNote roles (gives a) = a.roles ≡ roles
 abbrev pub ArePlain : List Name → List Note → Type 0
 ArePlain roles = AllByRecursion (IsPlainNote roles)
 
-plain-append : {roles : List Name} (cs ds : List Note) → ArePlain roles cs → ArePlain roles ds → ArePlain roles (cs ++ ds)
-plain-append [] ds h g = g
-plain-append (c ∷ cs) ds h g = (h.0, plain-append cs ds h.1 g)
+plain-append : (roles : List Name) (cs ds : List Note) → ArePlain roles cs → ArePlain roles ds → ArePlain roles (cs ++ ds)
+plain-append roles [] ds h g = g
+plain-append roles (c ∷ cs) ds h g = (h.0, plain-append roles cs ds h.1 g)
 
 -- of the notes, what messages carry and what `do`s are given
 abbrev pub PlainCarried : List Carries → Type 0
@@ -51,15 +51,15 @@ PlainCarried = AllByRecursion (λ m. IsPlain m.types)
 abbrev pub GivenAll : List Name → List Arguments → Type 0
 GivenAll roles = AllByRecursion (λ a. a.roles ≡ roles)
 
-pub plain_carried : {roles : List Name} (ns : List Note) → ArePlain roles ns → PlainCarried (carries_among ns)
-plain_carried [] h = tt
-plain_carried (carries c ∷ ns) h = (h.0, plain_carried ns h.1)
-plain_carried (gives a ∷ ns) h = plain_carried ns h.1
+pub plain_carried : (roles : List Name) (ns : List Note) → ArePlain roles ns → PlainCarried (carries_among ns)
+plain_carried roles [] h = tt
+plain_carried roles (carries c ∷ ns) h = (h.0, plain_carried roles ns h.1)
+plain_carried roles (gives a ∷ ns) h = plain_carried roles ns h.1
 
-pub given_all : {roles : List Name} (ns : List Note) → ArePlain roles ns → GivenAll roles (arguments_among ns)
-given_all [] h = tt
-given_all (carries c ∷ ns) h = given_all ns h.1
-given_all (gives a ∷ ns) h = (h.0, given_all ns h.1)
+pub given_all : (roles : List Name) (ns : List Note) → ArePlain roles ns → GivenAll roles (arguments_among ns)
+given_all roles [] h = tt
+given_all roles (carries c ∷ ns) h = given_all roles ns h.1
+given_all roles (gives a ∷ ns) h = (h.0, given_all roles ns h.1)
 
 abbrev Typed : Payload → List Tok → Type 0
 Typed payload ts = (types : List Name) × AreTypes types ts × (payload ≡ kind_of [] types) × IsPlain types
@@ -166,13 +166,13 @@ choice_form : (roles : List Name) (place : Place) (at : Name) (bs : Branches) (r
     Sign marks.Choice (Sign marks.At (Behind (λ a. named a at) (Both (Branched roles bs) (Stated roles rest)))) ts → Stated roles (Choice place at bs rest) ts
 choice_form roles place at bs rest ts h =
     let a = h.3 in let n = a.3 in let b = n.3 in let l = b.3 in let r = b.4 in
-    (Choice h.0 at l.0 r.0, l.1 ++ r.1, (refl, l.2, r.2), (a.0, n.0, l.1, r.1, b.0, b.1, refl, h.2 ∙ on (a.2 ∙ on (n.2 ∙ on b.2)), l.3, r.3), plain-append l.1 r.1 l.4 r.4)
+    (Choice h.0 at l.0 r.0, l.1 ++ r.1, (refl, l.2, r.2), (a.0, n.0, l.1, r.1, b.0, b.1, refl, h.2 ∙ on (a.2 ∙ on (n.2 ∙ on b.2)), l.3, r.3), plain-append roles l.1 r.1 l.4 r.4)
 
 rec_form : (roles : List Name) (place : Place) (name : Name) (body rest : Statements) (ts : List Tok) →
     Sign marks.Rec (Behind (λ a. named a name) (Both (Blocked roles body) (Stated roles rest))) ts → Stated roles (Rec place name body rest) ts
 rec_form roles place name body rest ts h =
     let n = h.3 in let b = n.3 in let l = b.3 in let r = b.4 in
-    (Rec h.0 name l.0 r.0, l.1 ++ r.1, (refl, l.2, r.2), (n.0, l.1, r.1, b.0, b.1, refl, h.2 ∙ on (n.2 ∙ on b.2), l.3, r.3), plain-append l.1 r.1 l.4 r.4)
+    (Rec h.0 name l.0 r.0, l.1 ++ r.1, (refl, l.2, r.2), (n.0, l.1, r.1, b.0, b.1, refl, h.2 ∙ on (n.2 ∙ on b.2), l.3, r.3), plain-append roles l.1 r.1 l.4 r.4)
 
 continue_form : (roles : List Name) (place : Place) (name : Name) (rest : Statements) (ts : List Tok) →
     Sign marks.Continue (Behind (λ a. named a name) (Sign marks.Semicolon (Stated roles rest))) ts → Stated roles (Continue place name rest) ts
@@ -199,17 +199,24 @@ block_form roles body ts h =
 
 branches_form : (roles : List Name) (b : Statements) (more : Branches) (ts : List Tok) → Both (Blocked roles b) (Others roles more) ts → Branched roles (Branch b more) ts
 branches_form roles b more ts h =
-    let l = h.3 in let r = h.4 in (Branch l.0 r.0, l.1 ++ r.1, (l.2, r.2), (l.1, r.1, h.0, h.1, refl, h.2, l.3, r.3), plain-append l.1 r.1 l.4 r.4)
+    let l = h.3 in let r = h.4 in (Branch l.0 r.0, l.1 ++ r.1, (l.2, r.2), (l.1, r.1, h.0, h.1, refl, h.2, l.3, r.3), plain-append roles l.1 r.1 l.4 r.4)
 
 others_form : (roles : List Name) (b : Statements) (more : Branches) (ts : List Tok) → Sign marks.Or (Both (Blocked roles b) (Others roles more)) ts → Others roles (Branch b more) ts
 others_form roles b more ts h =
-    let g = h.3 in let l = g.3 in let r = g.4 in (Branch l.0 r.0, l.1 ++ r.1, (l.2, r.2), (h.0, l.1, r.1, g.0, g.1, refl, h.2 ∙ on g.2, l.3, r.3), plain-append l.1 r.1 l.4 r.4)
+    let g = h.3 in let l = g.3 in let r = g.4 in (Branch l.0 r.0, l.1 ++ r.1, (l.2, r.2), (h.0, l.1, r.1, g.0, g.1, refl, h.2 ∙ on g.2, l.3, r.3), plain-append roles l.1 r.1 l.4 r.4)
 
 -- braces round what is told
 in_braces : (roles : List Name) (level : ℕ) (body : Statements) (inside : List ℕ) → Told Any (Stated roles body) inside → Told Any (Blocked roles body) (braced level inside)
 in_braces roles level body inside h =
     convert (block_form roles body) (sign_then 123 marks.OpenBrace refl refl (omega arith) refl (blank_then 10 refl (omega arith)
     (both h (λ bytes o. tt) (indented (4 * level) (sign_then 125 marks.CloseBrace refl refl (omega arith) refl nothing)))))
+
+-- the line of a `do`, as its tokens stand in it
+do_line : (roles : List Name) (name : Name) (more : List ℕ) →
+    codes "do" ++ 32 ∷ (name ++ 40 ∷ (argument_list [] roles ++ 41 ∷ 59 ∷ 10 ∷ more)) ≡ do_text roles name ++ (codes "\n" ++ more)
+do_line roles name more =
+    sym (ap (λ z. codes "do " ++ z) (append_assoc name (codes "(" ++ (argument_list [] roles ++ codes ");")) (codes "\n" ++ more)
+    ∙ ap (λ z. name ++ (codes "(" ++ z)) (append_assoc (argument_list [] roles) (codes ");") (codes "\n" ++ more))))
 
 mutual
   pub told : (roles : List Name) → AllByRecursion IsName roles → HasName roles → (level : ℕ) (ss : Statements) → AreWritten ss → Told Any (Stated roles ss) (lines roles level ss)
@@ -233,13 +240,13 @@ mutual
       (word_then name (λ a. named a name) (naming name w.0) (λ bytes o. refl)
       (sign_then 59 marks.Semicolon refl refl (omega arith) refl (blank_then 10 refl (omega arith) (told roles fine some_role level rest w.1)))))))
   told roles fine some_role level (Do place name rest) w =
-      indented (4 * level) (convert (do_form roles place name rest)
+      indented (4 * level) (subst (Told Any (Stated roles (Do place name rest))) (do_line roles name (lines roles level rest)) (convert (do_form roles place name rest)
       (word_then (codes "do") (λ a. marked a marks.Do) do_word (λ bytes o. refl) (blank_then 32 refl (omega arith)
       (word_then name (λ a. named a name) (naming name w.0) (λ bytes o. refl)
       (sign_then 40 marks.OpenParen refl refl (omega arith) refl
       (both (arguments roles fine some_role) (λ bytes o. refl)
       (sign_then 41 marks.CloseParen refl refl (omega arith) refl
-      (sign_then 59 marks.Semicolon refl refl (omega arith) refl (blank_then 10 refl (omega arith) (told roles fine some_role level rest w.1))))))))))
+      (sign_then 59 marks.Semicolon refl refl (omega arith) refl (blank_then 10 refl (omega arith) (told roles fine some_role level rest w.1)))))))))))
 
   branches : (roles : List Name) → AllByRecursion IsName roles → HasName roles → (level : ℕ) (bs : Branches) → HasBranches bs → AreWrittenIn bs → Told Any (Branched roles bs) (branch_lines roles [] level bs)
   branches roles fine some_role level NoBranch has w = absurd has

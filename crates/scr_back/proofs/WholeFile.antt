@@ -112,8 +112,8 @@ part_back me roles t P ts l =
         me_same = refl;
         roles_same = sym listed.1;
         body = body.2;
-        carried = plain_carried body.1 body.4;
-        given = given_all body.1 body.4;
+        carried = plain_carried roles body.1 body.4;
+        given = given_all roles body.1 body.4;
       };
       behind = b.4;
     }
@@ -139,13 +139,27 @@ part_told me roles t P rest names listed name body behind =
     some_name [] c = absurd (omega (arith, c.1))
     some_name (n ∷ ns) c = tt
 
-    regroup : Told Any (PartTold me roles t P) (codes "local protocol " ++ (t.name ++ (codes " at " ++ (me ++ (codes "(" ++ (role_list [] roles ++ (codes ") " ++ (block roles 0 t.body ++ (codes "\n" ++ rest))))))))) →
-        Told Any (PartTold me roles t P) (part_text me roles t ++ rest)
-    regroup h = subst (Told Any (PartTold me roles t P)) (sym (
-      append_assoc (codes "local protocol ") _ rest ∙ ap (λ z. codes "local protocol " ++ z) (append_assoc t.name _ rest ∙ ap (λ z. t.name ++ z) (append_assoc (codes " at ") _ rest
-          ∙ ap (λ z. codes " at " ++ z) (append_assoc me _ rest ∙ ap (λ z. me ++ z) (append_assoc (codes "(") _ rest ∙ ap (λ z. codes "(" ++ z) (append_assoc (role_list [] roles) _ rest
-          ∙ ap (λ z. role_list [] roles ++ z) (append_assoc (codes ") ") _ rest ∙ ap (λ z. codes ") " ++ z) (append_assoc (block roles 0 t.body) (codes "\n") rest)))))))
-    )) h
+    end : List ℕ
+    end = block roles 0 t.body ++ codes "\n"
+
+    listed_end : List ℕ
+    listed_end = role_list [] roles ++ (codes ") " ++ end)
+
+    grouped : part_text me roles t ++ rest ≡
+        codes "local protocol " ++ (t.name ++ (codes " at " ++ (me ++ (codes "(" ++ (role_list [] roles ++ (codes ") " ++ (block roles 0 t.body ++ (codes "\n" ++ rest))))))))
+    grouped =
+        append_assoc (codes "local protocol ") (t.name ++ (codes " at " ++ (me ++ (codes "(" ++ listed_end)))) rest
+        ∙ ap (λ z. codes "local protocol " ++ z) (append_assoc t.name (codes " at " ++ (me ++ (codes "(" ++ listed_end))) rest)
+        ∙ ap (λ z. codes "local protocol " ++ (t.name ++ z)) (append_assoc (codes " at ") (me ++ (codes "(" ++ listed_end)) rest)
+        ∙ ap (λ z. codes "local protocol " ++ (t.name ++ (codes " at " ++ z))) (append_assoc me (codes "(" ++ listed_end) rest)
+        ∙ ap (λ z. codes "local protocol " ++ (t.name ++ (codes " at " ++ (me ++ z)))) (append_assoc (codes "(") listed_end rest)
+        ∙ ap (λ z. codes "local protocol " ++ (t.name ++ (codes " at " ++ (me ++ (codes "(" ++ z)))))
+        (append_assoc (role_list [] roles) (codes ") " ++ end) rest ∙ ap (λ z. role_list [] roles ++ z) (append_assoc (codes ") ") end rest
+        ∙ ap (λ z. codes ") " ++ z) (append_assoc (block roles 0 t.body) (codes "\n") rest)))
+
+    regroup : Told Any (PartTold me roles t P) (codes "local protocol " ++ (t.name ++ (codes " at " ++ (me ++ (codes "(" ++ (role_list [] roles
+        ++ (codes ") " ++ (block roles 0 t.body ++ (codes "\n" ++ rest))))))))) → Told Any (PartTold me roles t P) (part_text me roles t ++ rest)
+    regroup h = subst (Told Any (PartTold me roles t P)) (sym grouped) h
 
 -- several protocols
 abbrev PartsTold : Name → List Name → List Titled → List Tok → Type 0

@@ -1,5 +1,5 @@
 -- Protocols lead from one name to another exactly where edges lead from its number to that of the other.
-use Rattle.std.proofs.Common.{◌≡◌, ◌≢◌, ◌↔◌, ◌⊎◌, ⊎_elim, inl, inr, ℕ, ◌<◌, ◌≤◌, Bool, true, false, ◌&&◌, if◌then◌else◌, IsTrue, List, [], ◌∷◌, ◌++◌, length, get_or, map, replicate, Contains, Option, Some, None, position, refl, sym, ap, subst, ◌∙◌, arith, true≢false}
+use Rattle.std.proofs.Common.{◌≡◌, ◌↔◌, ⊎_elim, ℕ, Bool, true, false, ◌&&◌, if◌then◌else◌, IsTrue, List, [], ◌∷◌, ◌++◌, get_or, map, Contains, Some, None, position, refl, sym, ap, subst, ◌∙◌, true≢false}
 use Rattle.std.specs.Str.{bytes_eq}
 use Rattle.std.proofs.lemmas.List.Elements.{Contains-append_left, Contains-append_right, Contains-append_cases}
 use Rattle.mg_text.specs.Call.{Name}
@@ -15,7 +15,7 @@ use Rattle.scr_judge.specs.inner.Gone.{part_name}
 use Rattle.scr_judge.specs.inner.Round.{gone, gone_in, Graph, HasEdge, Reaches, leaves_to, titles, with_texts}
 use Rattle.scr_judge.specs.inner.Round as round
 use Rattle.scr_judge.proofs.Edges.{at_number, has_number, texts_have, numbers_to, numbers_from, graph_for, graph_edge, edge_graph}
-use Rattle.scr_judge.proofs.Leaving.{none_gone, none_gone_in}
+use Rattle.scr_judge.proofs.Leaving.{none_gone}
 use Rattle.scr_judge.proofs.Members.{Contains-nil, Contains-cons_cases, Contains-first, Contains-later, Contains-image, Contains-origin}
 use Rattle.scr_judge.proofs.Quiet.{and_true}
 use Rattle.scr_judge.proofs.Sought.{IsOnce, once_start, once_past, once_opens, once_enters}
@@ -176,7 +176,7 @@ module _ (ps : List Part) where
         let one = goes_from from next g in
         let via = numbered next to more w f in
         round.onward (edge_graph names ps v via.0 one.0 one.1
-            (subst (λ n. position (bytes_eq n) names ≡ Some v) (sym one.2) e, numbers_from names (gone true (statements one.0.body.items)) next via.0 one.3 via.1))
+        (subst (λ n. position (bytes_eq n) names ≡ Some v) (sym one.2) e, numbers_from names (gone true (statements one.0.body.items)) next via.0 one.3 via.1))
         (comes_to next to via.0 w more via.1 f)
 
     -- both ways

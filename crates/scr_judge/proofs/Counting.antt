@@ -12,7 +12,8 @@ use Rattle.mg_read.specs.First.{Judged, clean, here, later}
 use Rattle.mg_text.specs.Places.{start_of}
 use Rattle.scr_tree.specs.States.{TooManyStates, begins, is_state, states, all_states}
 use Rattle.scr_tree.specs.View.{statements}
-use Rattle.scr_tree.specs.Written.{part_written, me_in, body_of}
+use Rattle.scr_tree.specs.Written.{part_written, parts_in, me_in, body_of, written_of}
+use Rattle.scr_tree.specs.declared.written.Written.{Written}
 use Rattle.scr_tree.specs.declared.written.WrittenPart.{WrittenPart as Part}
 use Rattle.scr_judge.specs.inner.Counting.{up, counted, counted_in, counted_parts}
 
@@ -114,10 +115,9 @@ parts_count (p ∷ ps) n h =
     (parts_count ps (counted p.me.name false n (statements p.body.items)) (below _ _ _ own))
     (sym (length-append (states p.me.name (statements p.body.items)) (all_states me_in body_of (map part_written ps))))
 
--- whether there are more than a thousand states
-pub too_many : (p : Part) (ps : List Part) (n : ℕ) → n ≡ counted_parts (counted p.me.name false 0 (statements p.body.items)) ps →
+too_many_in : (p : Part) (ps : List Part) (n : ℕ) → n ≡ counted_parts (counted p.me.name false 0 (statements p.body.items)) ps →
     (1000 < n) ↔ (1000 < length (all_states me_in body_of (map part_written (p ∷ ps))))
-too_many p ps n e =
+too_many_in p ps n e =
     let c : Counts 0 (length (all_states me_in body_of (map part_written (p ∷ ps)))) (counted_parts 0 (p ∷ ps)) = parts_count (p ∷ ps) 0 (omega arith) in (
       λ l. ⊎_elim (λ small. let f = c.low small in omega (arith, l, e, f)) (λ big. omega (arith, big)) (less_or (0 + length (all_states me_in body_of (map part_written (p ∷ ps))))),
       λ l. let f = c.high (omega (arith, l)) in omega (arith, e, f),
@@ -125,6 +125,11 @@ too_many p ps n e =
   where
     less_or : (m : ℕ) → (m < 1001) ⊎ (1001 ≤ m)
     less_or m = grind arith
+
+-- whether there are more than a thousand states
+pub too_many : (w : Written) (n : ℕ) → n ≡ counted_parts (counted w.first.me.name false 0 (statements w.first.body.items)) w.others.items →
+    (1000 < n) ↔ (1000 < length (all_states me_in body_of (parts_in (written_of 0 w))))
+too_many w n e = too_many_in w.first w.others.items n e
 
 -- the file is judged
 pub judged_file : (file : ℕ) (found : List Spot) (b : Bool) → (IsTrue b ↔ (1000 < length found)) →

@@ -1,10 +1,9 @@
 -- The graph of a file has an edge for each `do` to which control can come with no message.
-use Rattle.std.proofs.Common.{◌≡◌, ◌≢◌, ◌⊎◌, ⊎_elim, inl, inr, ℕ, zero, suc, ◌+◌, ◌<◌, ◌≤◌, Bool, true, false, if◌then◌else◌, List, [], ◌∷◌, ◌++◌, length, get_or, set, drop, map, replicate, Contains, Option, Some, None, position, refl, sym, ap, subst, ◌∙◌, arith, true≢false}
-use Rattle.std.specs.List.{list_any}
+use Rattle.std.proofs.Common.{◌≡◌, ◌≢◌, ◌⊎◌, ⊎_elim, inl, inr, ℕ, zero, suc, ◌+◌, ◌<◌, ◌≤◌, Bool, true, false, if◌then◌else◌, List, [], ◌∷◌, ◌++◌, length, get_or, set, drop, map, replicate, Contains, Option, Some, None, position, refl, sym, ap, subst, ◌∙◌, arith, true≢false, append_assoc}
 use Rattle.std.specs.Option.{is_some}
 use Rattle.std.specs.Str.{bytes_eq}
 use Rattle.std.proofs.Math.ListN.{length-set, length-replicate}
-use Rattle.std.proofs.lemmas.List.{at_drop_more, at_drop_all, append-nil, get_or-set_same, get_or-set_other}
+use Rattle.std.proofs.lemmas.List.{at_drop_more, at_drop_all, get_or-set_same, get_or-set_other}
 use Rattle.std.proofs.lemmas.List.Elements.{Contains-push, Contains-append_left, Contains-append_right, Contains-append_cases, Contains-get_or}
 use Rattle.std.proofs.lemmas.List.Quantifiers.{position-Some}
 use Rattle.std.proofs.lemmas.Slice.Eq.{bytes_eq-Decides}
@@ -17,8 +16,7 @@ use Rattle.scr_tree.specs.declared.written.WrittenPart.{WrittenPart as Part}
 use Rattle.scr_judge.specs.inner.Gone.{part_name}
 use Rattle.scr_judge.specs.inner.Round.{Graph, HasEdge, with_texts, number_of, numbers_of, leaves_to, edges_at, with_edges, all_edges}
 use Rattle.scr_judge.specs.inner.View.{told_names}
-use Rattle.scr_judge.proofs.Members.{Contains-nil, Contains-cons_cases, Contains-first, Contains-later, Contains-image}
-use Rattle.scr_judge.proofs.Searching.{row_past}
+use Rattle.scr_judge.proofs.Members.{Contains-nil, Contains-cons_cases, Contains-first, Contains-later}
 use Rattle.scr_judge.proofs.Words.{any_from}
 
 -- ---- names by their numbers
@@ -80,7 +78,7 @@ pub numbers_from : (names sought : List Name) (name : Name) (j : ℕ) → Contai
 numbers_from names [] name j h e = absurd (Contains-nil name h)
 numbers_from names (first ∷ sought) name j h e =
     ⊎_elim (λ same. Contains-append_left (number_of (position (bytes_eq first) names)) (numbers_of names sought) j
-        (subst (λ o. Contains (number_of o) j) (sym (ap (λ (n : Name). position (bytes_eq n) names) same ∙ e)) (Contains-first [] j)))
+    (subst (λ o. Contains (number_of o) j) (sym (ap (λ (n : Name). position (bytes_eq n) names) same ∙ e)) (Contains-first [] j)))
     (λ more. Contains-append_right (number_of (position (bytes_eq first) names)) (numbers_of names sought) j (numbers_from names sought name j more e))
     (Contains-cons_cases sought first name h)
 
@@ -89,7 +87,7 @@ numbers_from names (first ∷ sought) name j h e =
 same_or_not : (v w : ℕ) → (v ≡ w) ⊎ (v ≢ w)
 same_or_not v w = grind arith
 
-set_past : (g : Graph) (v : ℕ) (es : List ℕ) → length g ≤ v → set g v es ≡ g
+pub set_past : (g : Graph) (v : ℕ) (es : List ℕ) → length g ≤ v → set g v es ≡ g
 set_past [] v es past = refl
 set_past (x ∷ g) zero es past = absurd (omega arith)
 set_past (x ∷ g) (suc v) es past = ap (λ (l : Graph). x ∷ l) (set_past g v es (omega arith))
@@ -197,6 +195,15 @@ pub numbers_step : (names : List Name) (sought : List (Bor Name)) (i : ℕ) (x :
 numbers_step names sought i x within is =
     at_drop_more (λ qs. numbers_of names (told_names qs)) sought i x within
     ∙ ap (λ (y : Bor Name). number_of (position (bytes_eq y.now) names) ++ numbers_of names (told_names (drop (i + 1) sought))) (sym is)
+
+-- what is there with the number of one more
+pub numbers_more : (names : List Name) (sought : List (Bor Name)) (i : ℕ) (x : Bor Name) → i < length sought → x ≡ get_or sought i x → (all old new : List ℕ) (o : Option ℕ) →
+    all ≡ old ++ numbers_of names (told_names (drop i sought)) → o ≡ position (bytes_eq x.now) names → new ≡ old ++ number_of o →
+    all ≡ new ++ numbers_of names (told_names (drop (i + 1) sought))
+numbers_more names sought i x within is all old new o before e f =
+    let rest : List ℕ = numbers_of names (told_names (drop (i + 1) sought)) in
+    before ∙ ap (λ (l : List ℕ). old ++ l) (numbers_step names sought i x within is) ∙ sym (append_assoc old (number_of (position (bytes_eq x.now) names)) rest)
+    ∙ ap (λ (l : List ℕ). l ++ rest) (ap (λ p. old ++ number_of p) (sym e) ∙ sym f)
 
 pub numbers_past : (names : List Name) (sought : List (Bor Name)) (i : ℕ) → length sought ≤ i → numbers_of names (told_names (drop i sought)) ≡ []
 numbers_past names sought i h = at_drop_all (λ qs. numbers_of names (told_names qs)) sought i h

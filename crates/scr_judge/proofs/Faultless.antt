@@ -11,7 +11,7 @@ use Rattle.mg_read.specs.First.{FirstOf, none, this, next, Clean, with_earlier, 
 use Rattle.mg_read.proofs.Judging.{judged-clean}
 use Rattle.scr_tree.specs.declared.written.Declaration.{Declaration}
 use Rattle.scr_tree.specs.declared.written.Role.{Role}
-use Rattle.scr_tree.specs.Actions.{NameClash, actions, all_actions, next}
+use Rattle.scr_tree.specs.Actions.{NameClash, actions, all_actions, next as next_number}
 use Rattle.scr_tree.specs.Conditions as says
 use Rattle.scr_tree.specs.Faults.{IsFault}
 use Rattle.scr_tree.specs.Going.{Unguarded, UnknownProtocol, DuplicateProtocol, RolesDiffer, told_in, NotLast, all_held, StartsWithDo, first_of_several, has_deed, first_do}
@@ -155,8 +155,8 @@ actions_meant : (first : WrittenPart) (n : ℕ) (ps : List WrittenPart) → AllB
     all_actions me_in body_of n ps ≡ all_actions (λ (t : Titled). me_in first) body_in n (map title_of ps)
 actions_meant first n [] a = refl
 actions_meant first n (p ∷ ps) a =
-    ap (λ me. actions me n p.body ++ all_actions me_in body_of (next me n p.body) ps) a.0.0
-    ∙ ap (λ l. actions (me_in first) n p.body ++ l) (actions_meant first (next (me_in first) n p.body) ps a.1)
+    ap (λ me. actions me n p.body ++ all_actions me_in body_of (next_number me n p.body) ps) a.0.0
+    ∙ ap (λ l. actions (me_in first) n p.body ++ l) (actions_meant first (next_number (me_in first) n p.body) ps a.1)
 
 states_meant : (first : WrittenPart) (ps : List WrittenPart) → AllByRecursion (Alike first) ps →
     all_states me_in body_of ps ≡ all_states (λ (t : Titled). me_in first) body_in (map title_of ps)

@@ -1,5 +1,5 @@
 -- What a file answers, from what its protocols answer one after another.
-use Rattle.std.proofs.Common.{◌≡◌, ◌≢◌, ◌↔◌, ◌⊎◌, ⊎_elim, inl, inr, ℕ, Bool, true, false, ◌&&◌, IsTrue, List, [], ◌∷◌, ◌++◌, map, Contains, Option, Some, None, refl, sym, ap, subst, ◌∙◌, true≢false, append_assoc}
+use Rattle.std.proofs.Common.{◌≡◌, ◌↔◌, ◌⊎◌, ⊎_elim, inl, inr, ℕ, Bool, true, false, ◌&&◌, IsTrue, List, [], ◌∷◌, ◌++◌, map, Contains, Option, Some, None, refl, sym, ap, subst, ◌∙◌, true≢false, append_assoc}
 use Rattle.std.specs.List.{flat_map}
 use Rattle.std.specs.Option.{option_or}
 use Rattle.std.specs.Str.{bytes_eq}
@@ -7,15 +7,15 @@ use Rattle.std.proofs.lemmas.List.{map-append}
 use Rattle.std.proofs.lemmas.Slice.Eq.{bytes_eq-Decides}
 use Rattle.mg_text.specs.Call.{Name}
 use Rattle.mg_read.specs.Culprit.{Culprit, culprit}
-use Rattle.mg_read.specs.First.{Judged, clean, here, later, with_earlier}
-use Rattle.mg_read.proofs.Judging.{judged-append, judged-found, judged-map}
-use Rattle.scr_tree.specs.Actions.{Action, NameClash, actions, all_actions, next}
-use Rattle.scr_tree.specs.Going.{UnknownProtocol, DuplicateProtocol, Told, heads, gives, told_in, RolesDiffer, NotLast, held, all_held}
+use Rattle.mg_read.specs.First.{Judged, clean, later, with_earlier}
+use Rattle.mg_read.proofs.Judging.{judged-append, judged-found}
+use Rattle.scr_tree.specs.Actions.{actions, all_actions, next}
+use Rattle.scr_tree.specs.Going.{UnknownProtocol, DuplicateProtocol, heads, gives, told_in, RolesDiffer, NotLast, all_held}
 use Rattle.scr_tree.specs.Listing.{declares, lists, listed, entries, DuplicateName, UnknownType, PayloadCount, declared, carried_by, typed, all_carries}
-use Rattle.scr_tree.specs.Spots.{Spot, spot, spots, all_spots, Way}
+use Rattle.scr_tree.specs.Spots.{spot, all_spots, Way}
 use Rattle.scr_tree.specs.Tree.{Statements, Nothing, Says, Choice, Rec, Continue, Do}
 use Rattle.scr_tree.specs.View.{statements}
-use Rattle.scr_tree.specs.Written.{WrittenPart, part_written, parts_in, written_of, carries_of, arguments_of, role_name, roles_in, me_in, name_in, body_of}
+use Rattle.scr_tree.specs.Written.{WrittenPart, part_written, parts_in, written_of, carries_of, arguments_of, me_in, name_in, body_of}
 use Rattle.scr_tree.specs.declared.written.Arguments.{Arguments as Given}
 use Rattle.scr_tree.specs.declared.written.Carries.{Carries as Kept}
 use Rattle.scr_tree.specs.declared.written.Declaration.{Declaration}
@@ -24,22 +24,20 @@ use Rattle.scr_tree.specs.declared.written.Written.{Written}
 use Rattle.scr_tree.specs.declared.written.WrittenPart.{WrittenPart as Part}
 use Rattle.scr_judge.specs.declared.actions.Action.{Action as CodeAction}
 use Rattle.scr_judge.specs.inner.Gone.{part_name, with_names, unknown_in, named_again, same_names, names_of_roles, same_header, arguments_differ, roles_differ, not_last_in_part}
-use Rattle.scr_judge.specs.inner.Listed.{Clash, ListedTwice, alias_of, first_among, unsupported, undeclared_in, undeclared_by, many, many_by}
-use Rattle.scr_judge.specs.inner.OnSpot.{asks_protocol, unknown_protocol, walk, unless}
+use Rattle.scr_judge.specs.inner.Listed.{ListedTwice, alias_of, first_among, unsupported, undeclared_in, undeclared_by, many, many_by}
+use Rattle.scr_judge.specs.inner.OnSpot.{asks_protocol, unknown_protocol, unless}
 use Rattle.scr_judge.specs.inner.Own as own
 use Rattle.scr_judge.specs.inner.Own.{FirstIn, all_parts}
 use Rattle.scr_judge.specs.inner.Seen.{Names, none, with_name}
-use Rattle.scr_judge.specs.inner.View.{act, call_of, does, clashing}
+use Rattle.scr_judge.specs.inner.View.{act}
 use Rattle.scr_judge.proofs.Asking.{unless_right}
-use Rattle.scr_judge.proofs.Clashes.{clashes}
 use Rattle.scr_judge.proofs.Duplicates.{HasNames, has_none}
 use Rattle.scr_judge.proofs.Earlier.{listed_alone}
 use Rattle.scr_judge.proofs.Lasting.{last_exact}
 use Rattle.scr_judge.proofs.Members.{Contains-nil}
 use Rattle.scr_judge.proofs.Naming.{one_more, has_all, again_exact}
-use Rattle.scr_judge.proofs.Owned.{first_in, first_map, all_judged}
-use Rattle.scr_judge.proofs.SpotWalk.{Answers, AsksRight, AreAround, first_asked}
-use Rattle.scr_judge.proofs.Tables.{row, table, unknown_type, payload_count}
+use Rattle.scr_judge.proofs.SpotWalk.{Answers, AsksRight, first_asked}
+use Rattle.scr_judge.proofs.Tables.{row, unknown_type, payload_count}
 
 -- ---- the first answer of a list
 
@@ -231,7 +229,7 @@ module _ (w : Written) (front behind old : List CodeAction) (n : ℕ) where
   pub all_texts : old ≡ [] → map act front ≡ map act old ++ actions w.first.me.name 1 (statements w.first.body.items) → n ≡ next w.first.me.name 1 (statements w.first.body.items) →
       map act behind ≡ map act front ++ all_actions me_in body_of n (map part_written w.others.items) →
       map act behind ≡ map act old ++ all_actions me_in body_of 1 (parts_in (written_of 0 w))
-  all_texts none first number rest =
+  all_texts empty first number rest =
       rest ∙ ap (λ l. l ++ all_actions me_in body_of n (map part_written w.others.items)) first
       ∙ append_assoc (map act old) (actions w.first.me.name 1 (statements w.first.body.items)) (all_actions me_in body_of n (map part_written w.others.items))
       ∙ ap (λ k. map act old ++ (actions w.first.me.name 1 (statements w.first.body.items) ++ all_actions me_in body_of k (map part_written w.others.items))) number

@@ -1,14 +1,13 @@
 -- The protocols of a file are guarded, one after another.
-use Rattle.std.proofs.Common.{◌≡◌, ◌↔◌, ℕ, Bool, true, false, true≢false, IsTrue, List, [], ◌∷◌, map, Contains, Option, Some, None, position, refl, sym, ap, subst, ◌∙◌, arith}
-use Rattle.std.specs.Borrow.{Bor}
+use Rattle.std.proofs.Common.{◌≡◌, ◌↔◌, ℕ, Bool, true, false, true≢false, IsTrue, List, [], map, Contains, Option, Some, None, position, refl, sym, subst, ◌∙◌}
 use Rattle.std.specs.Str.{bytes_eq}
 use Rattle.mg_text.specs.Call.{Name}
-use Rattle.mg_read.specs.Culprit.{Culprit, culprit}
+use Rattle.mg_read.specs.Culprit.{Culprit}
 use Rattle.mg_read.specs.First.{Judged}
 use Rattle.mg_read.proofs.Judging.{judged-same}
 use Rattle.scr_tree.specs.Going.{Leads, Unguarded}
 use Rattle.scr_tree.specs.Spots.{Spot, spot, spots, spots_of}
-use Rattle.scr_tree.specs.Tree.{Titled, body_in, Statements, Nothing, Says, Choice, Rec, Continue, Do}
+use Rattle.scr_tree.specs.Tree.{Titled, body_in, Nothing, Says, Choice, Rec, Continue, Do}
 use Rattle.scr_tree.specs.View.{statements}
 use Rattle.scr_tree.specs.Written.{part_written, title_of, parts_in, written_of}
 use Rattle.scr_tree.specs.declared.written.Written.{Written}

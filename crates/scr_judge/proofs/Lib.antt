@@ -36,3 +36,4 @@ pub mod Starting
 pub mod Leaving
 pub mod Guarded
 pub mod Files
+pub mod Adding

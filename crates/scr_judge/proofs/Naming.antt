@@ -1,8 +1,7 @@
 -- Names of protocols, and names in their order.
-use Rattle.std.proofs.Common.{◌≡◌, ◌↔◌, ℕ, ◌+◌, ◌<◌, ◌≤◌, Bool, true, false, if◌then◌else◌, ◌&&◌, ◌||◌, IsTrue, List, [], ◌∷◌, ◌++◌, map, length, get_or, drop, Contains, Decides, Option, Some, None, refl, sym, ap, subst, ◌∙◌, ⊎_elim, true≢false, append_assoc}
+use Rattle.std.proofs.Common.{◌≡◌, ℕ, ◌+◌, ◌<◌, ◌≤◌, Bool, true, false, if◌then◌else◌, List, [], ◌∷◌, ◌++◌, map, length, get_or, drop, Option, Some, None, refl, sym, ap, subst, ◌∙◌, true≢false, append_assoc}
 use Rattle.std.specs.Str.{bytes_eq}
 use Rattle.std.proofs.lemmas.List.{at_drop_more, at_drop_all, map-append}
-use Rattle.std.proofs.lemmas.List.Elements.{Contains-append_left, Contains-push, Contains-push_cases}
 use Rattle.std.proofs.lemmas.Grind.{common_steps}
 use Rattle.std.proofs.lemmas.Slice.Eq.{bytes_eq-Decides}
 use Rattle.mg_text.specs.Call.{Name}
@@ -12,9 +11,8 @@ use Rattle.scr_tree.specs.Going.{DuplicateProtocol}
 use Rattle.scr_tree.specs.Written.{WrittenPart, name_in, part_written}
 use Rattle.scr_tree.specs.declared.written.WrittenPart.{WrittenPart as Part}
 use Rattle.scr_judge.specs.inner.Gone.{part_name, with_names, named_again}
-use Rattle.scr_judge.specs.inner.Seen.{Names, none, with_name}
-use Rattle.scr_judge.proofs.Duplicates.{HasNames, has_more, has_none}
-use Rattle.scr_judge.proofs.Members.{Contains-nil}
+use Rattle.scr_judge.specs.inner.Seen.{Names, with_name}
+use Rattle.scr_judge.proofs.Duplicates.{HasNames, has_more}
 
 -- ---- the loops
 

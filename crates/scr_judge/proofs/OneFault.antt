@@ -11,8 +11,8 @@ use Rattle.scr_tree.specs.Listing as listing
 use Rattle.scr_tree.specs.Listing.{DuplicateName, declares, lists, itself, within, UnknownType, declared, carried}
 use Rattle.scr_tree.specs.declared.written.Declaration.{Declaration}
 use Rattle.mg_text.specs.declared.place.Place.{Place}
-use Rattle.scr_tree.specs.Going.{Unguarded as Round, UnknownProtocol, DuplicateProtocol, RolesDiffer, heads, gives, NotLast, StartsWithDo}
-use Rattle.scr_tree.specs.Written.{WrittenPart, WrittenTree, parts_in, roles_in, me_in, name_in, title_of, role_name}
+use Rattle.scr_tree.specs.Going.{Unguarded as Round, UnknownProtocol, RolesDiffer, heads, gives, StartsWithDo}
+use Rattle.scr_tree.specs.Written.{WrittenPart, WrittenTree, parts_in, roles_in, me_in, name_in, title_of}
 use Rattle.scr_tree.specs.Faults.{Of, IsFault}
 use Rattle.scr_tree.specs.declared.condition.Condition.{Condition}
 use Rattle.scr_tree.specs.declared.condition.Condition.TheVariants as conditions

@@ -1,5 +1,5 @@
 -- Where no edge leads to a higher rank, an edge to a lower one is on no cycle.
-use Rattle.std.proofs.Common.{◌≡◌, ℕ, ◌<◌, ◌≤◌, List, get_or, arith}
+use Rattle.std.proofs.Common.{ℕ, ◌<◌, ◌≤◌, List, get_or, arith}
 use Rattle.scr_judge.specs.inner.Round.{Graph, HasEdge, Reaches, there, onward, Falls}
 
 pub falls_all : (g : Graph) (ranks : List ℕ) → Falls g ranks → {v w : ℕ} → Reaches g v w → get_or ranks w 0 ≤ get_or ranks v 0

@@ -1,13 +1,12 @@
 -- A search comes to every node to which edges lead.
-use Rattle.std.proofs.Common.{◌≡◌, ◌≢◌, ◌⊎◌, ⊎_elim, inl, inr, ℕ, suc, zero, ◌+◌, ◌*◌, ◌<◌, ◌≤◌, ◌==◌, Bool, true, false, cond, List, [], ◌∷◌, ◌++◌, length, get_or, set, take, map, replicate, count_by, Contains, refl, sym, ap, subst, ◌∙◌, arith, true≢false}
+use Rattle.std.proofs.Common.{Ok, drop, take_all, ◌≡◌, ◌≢◌, ◌⊎◌, ⊎_elim, inl, inr, ℕ, suc, zero, ◌+◌, ◌*◌, ◌<◌, ◌≤◌, ◌==◌, Bool, true, false, cond, List, [], ◌∷◌, ◌++◌, length, get_or, set, take, map, replicate, Contains, refl, sym, ap, subst, ◌∙◌, arith, true≢false}
 use Rattle.std.proofs.Math.ListN.{length-set, length-replicate, length-append}
-use Rattle.std.proofs.lemmas.List.{take_more, get_or-set_same, get_or-set_other}
+use Rattle.std.proofs.lemmas.List.{take_more, at_drop_all, append-nil, get_or-set_same, get_or-set_other}
 use Rattle.std.proofs.lemmas.List.Elements.{Contains-push, Contains-push_cases, Contains-append_left, Contains-append_right, Contains-append_cases}
 use Rattle.std.proofs.lemmas.List.Sums.{sum_by-set}
-use Rattle.std.proofs.lemmas.Bool.Decides.{nat_tests}
 use Rattle.std.proofs.lemmas.Grind.{common_steps}
 use Rattle.scr_judge.specs.inner.Round.{Graph, HasEdge, Reaches, there, onward}
-use Rattle.scr_judge.specs.inner.Search.{unseen, IsSeen, Came, Spreads}
+use Rattle.scr_judge.specs.inner.Search.{unseen, IsSeen, Came, Spreads, OnFalseOk}
 use Rattle.scr_judge.proofs.Members.{Contains-nil, Contains-cons_cases}
 use Rattle.scr_judge.proofs.Ranks.{further}
 
@@ -57,7 +56,7 @@ came_new seen waiting v within new = record {
     counted : unseen (set seen v 1) + cond (get_or seen v 0 == 0) 1 0 ≡ unseen seen + cond (1 == 0) 1 0
     counted = sum_by-set (λ x. cond (x == 0) 1 0) seen v 1 0 within
 
-    was : cond (get_or seen v 0 == 0) 1 0 ≡ 1
+    was : ◌≡◌ {A = ℕ} (cond (get_or seen v 0 == 0) 1 0) 1
     was = ap (λ n. cond (n == 0) 1 0) new
 
     fewer : 2 * unseen (set seen v 1) + length (waiting ++ v ∷ []) ≤ 2 * unseen seen + length waiting
@@ -133,6 +132,13 @@ walked_start g from to n seen waiting all came = record {
   closed = λ v h. ⊎_elim (λ old. absurd (old (no_mark n v))) (λ new. inl new) (came.fresh v h);
 }
 
+-- the same of what the program has
+pub walked_first : (g : Graph) (from to n : ℕ) (zeros none seen waiting : List ℕ) → zeros ≡ replicate n 0 → none ≡ [] → n ≡ length g → Came (from ∷ []) zeros none seen waiting →
+    Walked g from to seen waiting
+walked_first g from to n zeros none seen waiting e f all came =
+    walked_start g from to n seen waiting all
+    (subst (λ l. Came (from ∷ []) (replicate n 0) l seen waiting) f (subst (λ l. Came (from ∷ []) l none seen waiting) e came))
+
 -- a node that waited, and the edges from it
 pub walked_more : (g : Graph) (from to v : ℕ) (seen rest after waits : List ℕ) → Walked g from to seen (rest ++ v ∷ []) → Spreads (get_or g v []) to seen rest after waits →
     Walked g from to after waits
@@ -181,3 +187,15 @@ pub row_past : {Y : Type 0} (ys : List Y) (i : ℕ) (d : Y) → length ys ≤ i 
 row_past [] i d past = refl
 row_past (y ∷ ys) zero d past = absurd (omega arith)
 row_past (y ∷ ys) (suc i) d past = row_past ys i d (omega arith)
+
+-- ---- what the program has
+
+-- all of a list is written over
+pub written_all : (new items : List ℕ) (len : ℕ) → length new ≡ length items → len ≡ length items → take len (new ++ drop (length new) items) ≡ new
+written_all new items len same all =
+    ap (λ (l : List ℕ). take len (new ++ l)) (at_drop_all (λ (l : List ℕ). l) items (length new) (omega arith))
+    ∙ ap (take len) (append-nil new) ∙ take_all len new (omega arith)
+
+pub on_false : (E P : Type 0) (b : Bool) → b ≡ false → OnFalseOk {E = E} (Ok b) P → P
+on_false E P true e h = absurd (true≢false e)
+on_false E P false e h = h

@@ -1,5 +1,5 @@
 -- What comes first in the first protocol of several.
-use Rattle.std.proofs.Common.{◌≡◌, ⊎_elim, inl, inr, ℕ, ◌+◌, ◌<◌, length, get_or, drop, Bool, true, false, ◌||◌, List, [], ◌∷◌, ◌++◌, Option, Some, None, refl, sym, ap, ◌∙◌, true≢false}
+use Rattle.std.proofs.Common.{◌≡◌, ⊎_elim, inl, inr, ℕ, suc, ◌+◌, ◌<◌, arith, map, length, get_or, drop, Bool, true, false, ◌||◌, List, [], ◌∷◌, ◌++◌, Option, Some, None, refl, sym, ap, ◌∙◌, true≢false}
 use Rattle.std.specs.List.{list_any}
 use Rattle.std.proofs.lemmas.Grind.{common_steps}
 use Rattle.mg_text.specs.Call.{Name}
@@ -7,17 +7,20 @@ use Rattle.mg_text.specs.Row.{Row}
 use Rattle.mg_text.specs.declared.place.Place.{Place}
 use Rattle.scr_tree.specs.declared.syntax.Statement.{Statement}
 use Rattle.scr_tree.specs.declared.syntax.Statement.TheVariants as kinds
-use Rattle.scr_tree.specs.Tree.{Statements, Nothing, Says, Choice, Rec, Continue, Do, Branches, NoBranch, Branch}
+use Rattle.scr_tree.specs.Tree.{Statements, Nothing, Says, Choice, Rec, Continue, Do}
 use Rattle.scr_tree.specs.Spots.{Past, Opens, Way, Spot, spot, spots}
 use Rattle.scr_tree.specs.View.{front, statements}
 use Rattle.mg_read.specs.Culprit.{culprit}
 use Rattle.mg_read.specs.First.{Judged, clean, here, later}
 use Rattle.scr_tree.specs.declared.written.WrittenPart.{WrittenPart as Part}
-use Rattle.scr_tree.specs.Written.{part_written}
-use Rattle.scr_tree.specs.Going.{is_deed, has_deed, first_do, StartsWithDo}
+use Rattle.scr_tree.specs.Written.{WrittenPart, part_written}
+use Rattle.scr_tree.specs.Going.{is_deed, has_deed, first_do, first_of_several, StartsWithDo}
 use Rattle.scr_tree.proofs.ViewLemmas.{front-Message, front-Choice, front-Rec, front-Continue, front-Do}
 use Rattle.scr_tree.proofs.Behind.{each_front, statements-step, statements-past}
+use Rattle.scr_judge.specs.declared.opening.First.{First as KeptFirst}
+use Rattle.scr_judge.specs.declared.opening.First.TheVariants as firsts
 use Rattle.scr_judge.specs.inner.Gone.{First, Neither, Deed, Goes, first_or, first_of, acts}
+use Rattle.scr_judge.specs.inner.View.{first_seen}
 
 -- ---- whether there is a message or a choice
 
@@ -138,6 +141,23 @@ module _ (ss : List Statement) (i : ℕ) (x : Statement) (within : i < length ss
 
   pub first-step : first_of (statements (drop i ss)) ≡ first_or (first_of (front x Nothing)) (first_of (statements (drop (i + 1) ss)))
   first-step = ap first_of (statements-step ss i x within is) ∙ first-front x _
+
+  module _ (r : KeptFirst) (found : first_seen r ≡ first_of (front x Nothing)) where
+    -- nothing comes first in this statement
+    pub passed_neither : r ≡ firsts.Neither → first_of (statements (drop i ss)) ≡ first_of (statements (drop (i + 1) ss))
+    passed_neither e = first-step ∙ ap (λ f. first_or f (first_of (statements (drop (i + 1) ss)))) (sym found ∙ ap first_seen e)
+
+    -- something does
+    pub met_deed : r ≡ firsts.Deed → first_seen r ≡ first_of (statements (drop i ss))
+    met_deed e = ap first_seen e ∙ sym (first-step ∙ ap (λ f. first_or f (first_of (statements (drop (i + 1) ss)))) (sym found ∙ ap first_seen e))
+
+    pub met_do : (place : Place) → r ≡ firsts.Goes place → first_seen r ≡ first_of (statements (drop i ss))
+    met_do place e = ap first_seen e ∙ sym (first-step ∙ ap (λ f. first_or f (first_of (statements (drop (i + 1) ss)))) (sym found ∙ ap first_seen e))
+
+-- one protocol stands alone
+pub one_alone : (p : WrittenPart) (ps now : List Part) → now ≡ ps → length now ≡ 0 → Judged StartsWithDo (first_of_several p (map part_written ps)) None
+one_alone p [] now e h = clean
+one_alone p (q ∷ qs) now e h = absurd (let f : suc (length qs) ≡ 0 = sym (ap length e) ∙ h in omega (arith, f))
 
 pub or-or : (a b d : Bool) → ((a || b) || d) ≡ (a || (b || d))
 or-or true b d = refl

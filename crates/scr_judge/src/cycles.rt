@@ -13,7 +13,7 @@ ghost use Rattle.scr_tree.specs.declared.written.WrittenPart.{WrittenPart as Par
 ghost use Rattle.scr_judge.specs.inner.Cycles.{IsRound};
 ghost use Rattle.scr_judge.specs.inner.Gone.{part_name};
 ghost use Rattle.scr_judge.specs.inner.Own.{FirstIn, all_parts};
-ghost use Rattle.scr_judge.specs.inner.Round.{Falls, Reaches, FoundBad, IsGuarded, all_edges, gone, leaves_to, numbers_of, titles, with_edges, with_texts};
+ghost use Rattle.scr_judge.specs.inner.Round.{Falls, Reaches, FoundBad, IsGuarded, all_edges, edges_at, gone, leaves_to, numbers_of, titles, with_edges, with_texts};
 ghost use Rattle.scr_judge.specs.inner.View.{culprit_of, goal_of, graph_of, told_names};
 
 use crate::culprit::Culprit;
@@ -89,8 +89,9 @@ fn numbers_of(alloc: Global, names: &Names, sought: &[&str]) -> Result<Vec<u32>,
 {
     let mut numbers = Vec::new(alloc);
     for name in sought {
-        if let Some(number) = names.find(name) {
-            numbers.push(number.0)?;
+        match names.find(name) {
+            Some(number) => numbers.push(number.0)?,
+            None => {}
         }
     }
     Ok(numbers)
@@ -118,9 +119,18 @@ fn add_edges(
         return Ok(());
     };
     let more = leaves_to(alloc, names, part)?;
-    if let Some(edges) = targets.get_mut(from.0 as usize) {
-        edges.extend_from_slice(more.as_slice())?;
+    add_to(targets, from.0, more.as_slice())
+}
+
+// Adds edges of a node, if there is such a node.
+fn add_to(targets: &mut [Vec<u32>], node: u32, more: &[u32]) -> Result<(), Memory>
+    ensures { OnOk result (graph_of targets.new ≡ edges_at (Some node) more.now (graph_of targets.old)) }
+{
+    let index = node as usize;
+    if index >= targets.len() {
+        return Ok(());
     }
+    targets[index].extend_from_slice(more)?;
     Ok(())
 }
 
@@ -157,7 +167,12 @@ fn edges_of(alloc: Global, names: &Names, written: &Written) -> Result<Vec<Vec<u
 {
     let mut targets = no_edges(alloc, names.len())?;
     add_edges(alloc, names, targets.as_mut_slice(), &written.first)?;
-    add_all_edges(alloc, names, targets.as_mut_slice(), written.others.as_slice())?;
+    add_all_edges(
+        alloc,
+        names,
+        targets.as_mut_slice(),
+        written.others.as_slice(),
+    )?;
     Ok(targets)
 }
 
@@ -186,8 +201,11 @@ impl Round {
         ensures { IfOk result (λ r. (ps : List Part) → IsRound ps self.now → ((p : Part) → Contains parts.now p → Contains ps p) → FirstIn (IsGuarded ps) parts.now (culprit_of r)) }
     {
         for part in parts {
-            if let Some(culprit) = self.find_in(alloc, part)? {
-                return Ok(Some(culprit));
+            match self.find_in(alloc, part)? {
+                Some(culprit) => {
+                    return Ok(Some(culprit));
+                }
+                None => {}
             }
         }
         Ok(None)
@@ -206,20 +224,30 @@ impl Round {
     }
 
     // The name of the first `do` of a protocol that is on a cycle.
-    fn goal_of<'a>(
-        &self,
-        alloc: Global,
-        part: &'a WrittenPart,
-    ) -> Result<Option<&'a str>, Memory>
+    fn goal_of<'a>(&self, alloc: Global, part: &'a WrittenPart) -> Result<Option<&'a str>, Memory>
         ensures { IfOk result (λ g. (ps : List Part) → IsRound ps self.now → Contains ps part.now →
             FirstIn (FoundBad (λ n. Leads (titles ps) n part.now.name)) (gone true (statements part.now.body.items)) (goal_of g)) }
     {
-        let Some(own) = self.names.find(part.name.as_str()) else {
-            return Ok(None);
-        };
+        match self.names.find(part.name.as_str()) {
+            Some(own) => self.goal_from(alloc, own.0, part),
+            None => Ok(None),
+        }
+    }
+
+    // The first name that a protocol goes on to with no message and that leads back to that of this
+    // number.
+    fn goal_from<'a>(
+        &self,
+        alloc: Global,
+        own: u32,
+        part: &'a WrittenPart,
+    ) -> Result<Option<&'a str>, Memory>
+        ensures { IfOk result (λ g. (ps : List Part) (to : List ℕ) → IsRound ps self.now → position (bytes_eq to) self.now.names ≡ Some own →
+            FirstIn (FoundBad (λ n. Leads (titles ps) n to)) (gone true (statements part.now.body.items)) (goal_of g)) }
+    {
         let mut names = Vec::new(alloc);
         gone_all(true, &mut names, part.body.as_slice())?;
-        self.first_back(alloc, own.0, names.as_slice())
+        self.first_back(alloc, own, names.as_slice())
     }
 
     // The first name that leads back to that of this number.
@@ -232,9 +260,10 @@ impl Round {
         ensures { IfOk result (λ g. (ps : List Part) (to : List ℕ) → IsRound ps self.now → position (bytes_eq to) self.now.names ≡ Some own →
             FirstIn (FoundBad (λ n. Leads (titles ps) n to)) (told_names names.now) (goal_of g)) }
     {
-        for name in names {
-            if self.goes_back(alloc, name, own)? {
-                return Ok(Some(*name));
+        for (i, name) in names.iter().enumerate() {
+            let back = self.goes_back(alloc, name, own)?;
+            if back {
+                return Ok(Some(names[i]));
             }
         }
         Ok(None)

@@ -44,7 +44,8 @@ fn find_start(part: &WrittenPart) -> Option<Culprit<'_>>
         return Some(Culprit { place, name });
     }
     match first_of(body) {
-        First::Neither | First::Deed => None,
+        First::Neither => None,
+        First::Deed => None,
         First::Goes(place) => Some(Culprit { place, name }),
     }
 }

@@ -72,7 +72,6 @@ fn is_same_header(first: &WrittenPart, part: &WrittenPart) -> bool
 }
 
 // Whether roles have the same names in the same order.
-#[tactic(auto, using(crate::proofs::Naming::pairs))]
 fn are_same_roles(roles: &[Role], others: &[Role]) -> bool
     ensures { result ≡ same_names (map role_name roles.now) (map role_name others.now) }
 {
@@ -92,7 +91,6 @@ fn are_same_roles(roles: &[Role], others: &[Role]) -> bool
 }
 
 // Whether these are the names of the roles in their order.
-#[tactic(auto, using(crate::proofs::Naming::pairs))]
 fn are_roles(names: &[Text], roles: &[Role]) -> bool
     ensures { result ≡ same_names names.now (map role_name roles.now) }
 {

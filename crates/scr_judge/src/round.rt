@@ -213,7 +213,7 @@ impl Search {
         ensures { length self.new.ranks.items ≡ length self.old.ranks.items }
     {
         self.rank = self.rank.saturating_add(1);
-        while let Some(other) = self.open.pop() {
+        'open: while let Some(other) = self.open.pop() {
             put(self.ranks.as_mut_slice(), other as usize, self.rank);
             if other == node {
                 return;
@@ -301,12 +301,7 @@ fn come_to(seen: &mut [u32], waiting: &mut Vec<u32>, node: u32) -> Result<(), Me
 
 // Comes to each of these nodes; true where the one that is sought is among them.
 #[tactic(auto, using(crate::proofs::Searching::spreads))]
-fn spread(
-    nodes: &[u32],
-    to: u32,
-    seen: &mut [u32],
-    waiting: &mut Vec<u32>,
-) -> Result<bool, Memory>
+fn spread(nodes: &[u32], to: u32, seen: &mut [u32], waiting: &mut Vec<u32>) -> Result<bool, Memory>
     ensures hit { IfOk result (λ b. IsTrue b → Contains nodes.now to) }
     ensures spread { OnFalseOk result (Spreads nodes.now to seen.old waiting.old.items seen.new waiting.new.items) }
 {

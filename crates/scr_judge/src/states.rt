@@ -34,15 +34,16 @@ pub fn find_too_many_states(file: u32, written: &Written) -> Option<Culprit<'_>>
 fn has_too_many_states(written: &Written) -> bool
     ensures { IsTrue result ↔ (1000 < length (all_states me_in body_of (parts_in (written_of 0 written.now)))) }
 {
-    count_file(&written.first, written.others.as_slice()) > MAX_STATES
+    count_file(written) > MAX_STATES
 }
 
 // Counts up to one state too many in all protocols.
-fn count_file(first: &WrittenPart, others: &[WrittenPart]) -> u32
-    ensures { result ≡ counted_parts (counted first.now.me.name false 0 (statements first.now.body.items)) others.now }
+fn count_file(written: &Written) -> u32
+    ensures { result ≡ counted_parts (counted written.now.first.me.name false 0 (statements written.now.first.body.items)) written.now.others.items }
 {
+    let first = &written.first;
     let count = count_all(&first.me.name, false, 0, first.body.as_slice());
-    count_parts(count, others)
+    count_parts(count, written.others.as_slice())
 }
 
 // Counts up to one state too many in protocols.

@@ -10,7 +10,7 @@ use Rattle.scr_tree.specs.declared.syntax.Message.{Message as Said}
 use Rattle.scr_tree.specs.Meaning.{message_of, towards}
 use Rattle.scr_tree.specs.Protocol.{Protocol, Does, ChoiceHere, ChoiceThere, Branches as Told}
 use Rattle.scr_tree.specs.Protocol as protocol
-use Rattle.scr_tree.specs.Tree.{Statements, Nothing, Says, Choice, Rec, Continue, Branches, NoBranch, Branch}
+use Rattle.scr_tree.specs.Tree.{Statements, Nothing, Says, Choice, Rec, Continue, Do, Branches, NoBranch, Branch}
 use Rattle.scr_judge.specs.inner.Seen.{Names, none, with_name}
 use Rattle.scr_global.specs.Projection.{first_labels}
 use Rattle.scr_global.specs.Projecting.{is_among, all_take, all_differ, first_peer, tells_apart}
@@ -117,6 +117,7 @@ module _ (me : Name) (peer : Name) where
       sym (ap (λ (z : Bool). z && fresh has (first_labels (spoken_each me (Branch (Choice p at bs rest) more)))) (not_take (bytes_eq at me) peer (spoken_each me bs) (spoken me rest) (spoken_each me more)))
   tells_is has (Branch (Rec p name body rest) more) = refl
   tells_is has (Branch (Continue p name rest) more) = refl
+  tells_is has (Branch (Do p name rest) more) = refl
 
   pub tells_none : (bs : Branches) → tells peer none bs ≡ tells_apart peer (spoken_each me bs)
   tells_none bs = tells_is none bs ∙ ap (λ (z : Bool). all_take peer (spoken_each me bs) && z) (fresh_none (first_labels (spoken_each me bs)))
@@ -151,3 +152,4 @@ module _ (me : Name) where
   telling_is (Choice p at bs rest) more = none_tells (bytes_eq at me) (spoken_each me bs) (spoken me rest) (spoken_each me more)
   telling_is (Rec p name body rest) more = refl
   telling_is (Continue p name rest) more = refl
+  telling_is (Do p name rest) more = refl

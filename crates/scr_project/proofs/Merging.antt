@@ -13,7 +13,7 @@ use Rattle.scr_tree.specs.declared.syntax.Statement.TheVariants as kinds
 use Rattle.scr_tree.specs.Tree.{Statements, Nothing, Says, Choice, Rec, Continue, Branches, NoBranch, Branch}
 use Rattle.scr_tree.specs.View.{front, statements, bodies}
 use Rattle.scr_tree.proofs.Behind.{bodies-step, bodies-past}
-use Rattle.scr_tree.proofs.ViewLemmas.{front-Message, front-Choice, front-Rec, front-Continue}
+use Rattle.scr_tree.proofs.ViewLemmas.{front-Message, front-Choice, front-Rec, front-Continue, front-Do}
 use Rattle.scr_judge.specs.inner.Seen.{Names, none, with_name}
 use Rattle.scr_global.specs.Projecting.{is_same, all_same, mapped, tells_apart, first_peer}
 use Rattle.scr_global.specs.Texts.{spoken, spoken_each, behind, merged_text}
@@ -72,6 +72,9 @@ taken-Rec p name body rest = ap (λ (f : Statements → Statements). first_taken
 pub taken-Continue : (p : Place) (name : Name) (rest : Statements) → first_taken (front (kinds.Continue p name) rest) ≡ None
 taken-Continue p name rest = ap (λ (f : Statements → Statements). first_taken (f rest)) (front-Continue p name)
 
+pub taken-Do : (p : Place) (name : Name) (rest : Statements) → first_taken (front (kinds.Do p name) rest) ≡ None
+taken-Do p name rest = ap (λ (f : Statements → Statements). first_taken (f rest)) (front-Do p name)
+
 -- what is left of branches, by the message that the first of them takes
 abbrev pub tells_by : Name → Names → Branches → Option Said → Bool
 tells_by peer has more None = false
@@ -112,4 +115,4 @@ pub ruleset agreeing = (common_steps, agreed-step, agreed-past)
 
 pub ruleset telling_steps = (common_steps, tells-step, tells-past)
 
-pub ruleset takings = (common_steps, taken-Message, taken-Choice, taken-Rec, taken-Continue)
+pub ruleset takings = (common_steps, taken-Message, taken-Choice, taken-Rec, taken-Continue, taken-Do)

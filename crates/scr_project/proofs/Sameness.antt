@@ -12,10 +12,10 @@ use Rattle.scr_tree.specs.declared.syntax.Statement.TheVariants as kinds
 use Rattle.scr_tree.specs.Meaning.{message_of}
 use Rattle.scr_tree.specs.Protocol.{Message, Protocol, Done, Does, ChoiceHere, ChoiceThere, Branches as Told}
 use Rattle.scr_tree.specs.Protocol as protocol
-use Rattle.scr_tree.specs.Tree.{Statements, Nothing, Says, Choice, Rec, Continue, Branches, NoBranch, Branch}
+use Rattle.scr_tree.specs.Tree.{Statements, Nothing, Says, Choice, Rec, Continue, Do, Branches, NoBranch, Branch}
 use Rattle.scr_tree.specs.View.{front, statements, bodies}
 use Rattle.scr_tree.proofs.Behind.{each_front, statements-step, statements-past, bodies-step, bodies-past}
-use Rattle.scr_tree.proofs.ViewLemmas.{front-Message, front-Choice, front-Rec, front-Continue}
+use Rattle.scr_tree.proofs.ViewLemmas.{front-Message, front-Choice, front-Rec, front-Continue, front-Do}
 use Rattle.scr_global.specs.Projecting.{is_same, are_same, same_message}
 use Rattle.scr_global.specs.Texts.{spoken, spoken_each}
 use Rattle.scr_project.specs.inner.Merge.{same_truth}
@@ -58,6 +58,14 @@ continued_not : (b : Bool) (name : Name) (p : Protocol) (bs : Told) (q : Protoco
 continued_not true name p bs q = refl
 continued_not false name p bs q = refl
 
+not_gone : (b : Bool) (name : Name) (p : Protocol) (bs : Told) (q : Protocol) → is_same (protocol.Do name p) (said_at b bs q) ≡ false
+not_gone true name p bs q = refl
+not_gone false name p bs q = refl
+
+gone_not : (b : Bool) (name : Name) (p : Protocol) (bs : Told) (q : Protocol) → is_same (said_at b bs q) (protocol.Do name p) ≡ false
+gone_not true name p bs q = refl
+gone_not false name p bs q = refl
+
 both_false : (a b c : Bool) → a ≡ false → b ≡ false → a ≡ (b && c)
 both_false a b c e f = e ∙ ap (λ z. z && c) (sym f)
 
@@ -81,21 +89,29 @@ module _ (me : Name) (a b : Statements) where
       (λ m. each_front (Splits (Says m))
       (λ n. ap (λ z. z && same_rest) (and_true (same_message (message_of m) (message_of n))))
       (λ p at bs. both_false _ _ same_rest (not_said (bytes_eq at me) (message_of m) (spoken me a) (spoken_each me bs) (spoken me b)) (not_said (bytes_eq at me) (message_of m) Done (spoken_each me bs) Done))
-      (λ p name body. refl) (λ p name. refl) y)
+      (λ p name body. refl) (λ p name. refl) (λ p name. refl) y)
       (λ p at bs. each_front (Splits (Choice p at bs))
       (λ n. both_false _ _ same_rest (said_not (bytes_eq at me) (message_of n) (spoken me b) (spoken_each me bs) (spoken me a)) (said_not (bytes_eq at me) (message_of n) Done (spoken_each me bs) Done))
       (λ q other cs. same_choices (bytes_eq at me) (bytes_eq other me) (spoken_each me bs) (spoken_each me cs) (spoken me a) (spoken me b))
       (λ q name body. both_false _ _ same_rest (turned_not (bytes_eq at me) name (spoken me body) (spoken me b) (spoken_each me bs) (spoken me a)) (turned_not (bytes_eq at me) name (spoken me body) Done (spoken_each me bs) Done))
-      (λ q name. both_false _ _ same_rest (continued_not (bytes_eq at me) name (spoken me b) (spoken_each me bs) (spoken me a)) (continued_not (bytes_eq at me) name Done (spoken_each me bs) Done)) y)
+      (λ q name. both_false _ _ same_rest (continued_not (bytes_eq at me) name (spoken me b) (spoken_each me bs) (spoken me a)) (continued_not (bytes_eq at me) name Done (spoken_each me bs) Done))
+      (λ q name. both_false _ _ same_rest (gone_not (bytes_eq at me) name (spoken me b) (spoken_each me bs) (spoken me a)) (gone_not (bytes_eq at me) name Done (spoken_each me bs) Done)) y)
       (λ p name body. each_front (Splits (Rec p name body))
       (λ n. refl)
       (λ q at bs. both_false _ _ same_rest (not_turned (bytes_eq at me) name (spoken me body) (spoken me a) (spoken_each me bs) (spoken me b)) (not_turned (bytes_eq at me) name (spoken me body) Done (spoken_each me bs) Done))
       (λ q other inner. regroup (bytes_eq name other) (is_same (spoken me body) (spoken me inner)) same_rest)
-      (λ q other. refl) y)
+      (λ q other. refl) (λ q other. refl) y)
       (λ p name. each_front (Splits (Continue p name))
       (λ n. refl)
       (λ q at bs. both_false _ _ same_rest (not_continued (bytes_eq at me) name (spoken me a) (spoken_each me bs) (spoken me b)) (not_continued (bytes_eq at me) name Done (spoken_each me bs) Done))
       (λ q other inner. refl)
+      (λ q other. ap (λ z. z && same_rest) (and_true (bytes_eq name other)))
+      (λ q other. refl) y)
+      (λ p name. each_front (Splits (Do p name))
+      (λ n. refl)
+      (λ q at bs. both_false _ _ same_rest (not_gone (bytes_eq at me) name (spoken me a) (spoken_each me bs) (spoken me b)) (not_gone (bytes_eq at me) name Done (spoken_each me bs) Done))
+      (λ q other inner. refl)
+      (λ q other. refl)
       (λ q other. ap (λ z. z && same_rest) (and_true (bytes_eq name other))) y)
       x
 
@@ -110,11 +126,11 @@ done_chosen false bs p = refl
 
 front_none : (me : Name) (x : Statement) (a : Statements) → is_same (spoken me (front x a)) Done ≡ false
 front_none me x a =
-    each_front (λ f. is_same (spoken me (f a)) Done ≡ false) (λ m. refl) (λ p at bs. chosen_done (bytes_eq at me) (spoken_each me bs) (spoken me a)) (λ p name body. refl) (λ p name. refl) x
+    each_front (λ f. is_same (spoken me (f a)) Done ≡ false) (λ m. refl) (λ p at bs. chosen_done (bytes_eq at me) (spoken_each me bs) (spoken me a)) (λ p name body. refl) (λ p name. refl) (λ p name. refl) x
 
 none_front : (me : Name) (x : Statement) (a : Statements) → is_same Done (spoken me (front x a)) ≡ false
 none_front me x a =
-    each_front (λ f. is_same Done (spoken me (f a)) ≡ false) (λ m. refl) (λ p at bs. done_chosen (bytes_eq at me) (spoken_each me bs) (spoken me a)) (λ p name body. refl) (λ p name. refl) x
+    each_front (λ f. is_same Done (spoken me (f a)) ≡ false) (λ m. refl) (λ p at bs. done_chosen (bytes_eq at me) (spoken_each me bs) (spoken me a)) (λ p name body. refl) (λ p name. refl) (λ p name. refl) x
 
 -- ---- turns of the loops
 
@@ -243,6 +259,33 @@ module _ (me : Name) where
   pub Continue-Continue : (p : Place) (name : Name) (q : Place) (other : Name) → one_same me (kinds.Continue p name) (kinds.Continue q other) ≡ bytes_eq name other
   Continue-Continue p name q other = alike _ _ _ _ (front-Continue p name) (front-Continue q other) ∙ sym (and_true _)
 
+  pub Message-Do : (m : Said) (p : Place) (name : Name) → one_same me (kinds.Message m) (kinds.Do p name) ≡ false
+  Message-Do m p name = alike _ _ _ _ (front-Message m) (front-Do p name)
+
+  pub Choice-Do : (p : Place) (at : Name) (bs : Row (Row Statement)) (q : Place) (name : Name) → one_same me (kinds.Choice p at bs) (kinds.Do q name) ≡ false
+  Choice-Do p at bs q name = alike _ _ _ _ (front-Choice p at bs) (front-Do q name) ∙ gone_not (bytes_eq at me) name Done _ Done
+
+  pub Rec-Do : (p : Place) (name : Name) (body : Row Statement) (q : Place) (other : Name) → one_same me (kinds.Rec p name body) (kinds.Do q other) ≡ false
+  Rec-Do p name body q other = alike _ _ _ _ (front-Rec p name body) (front-Do q other)
+
+  pub Continue-Do : (p : Place) (name : Name) (q : Place) (other : Name) → one_same me (kinds.Continue p name) (kinds.Do q other) ≡ false
+  Continue-Do p name q other = alike _ _ _ _ (front-Continue p name) (front-Do q other)
+
+  pub Do-Message : (p : Place) (name : Name) (n : Said) → one_same me (kinds.Do p name) (kinds.Message n) ≡ false
+  Do-Message p name n = alike _ _ _ _ (front-Do p name) (front-Message n)
+
+  pub Do-Choice : (p : Place) (name : Name) (q : Place) (at : Name) (bs : Row (Row Statement)) → one_same me (kinds.Do p name) (kinds.Choice q at bs) ≡ false
+  Do-Choice p name q at bs = alike _ _ _ _ (front-Do p name) (front-Choice q at bs) ∙ not_gone (bytes_eq at me) name Done _ Done
+
+  pub Do-Rec : (p : Place) (name : Name) (q : Place) (other : Name) (inner : Row Statement) → one_same me (kinds.Do p name) (kinds.Rec q other inner) ≡ false
+  Do-Rec p name q other inner = alike _ _ _ _ (front-Do p name) (front-Rec q other inner)
+
+  pub Do-Continue : (p : Place) (name : Name) (q : Place) (other : Name) → one_same me (kinds.Do p name) (kinds.Continue q other) ≡ false
+  Do-Continue p name q other = alike _ _ _ _ (front-Do p name) (front-Continue q other)
+
+  pub Do-Do : (p : Place) (name : Name) (q : Place) (other : Name) → one_same me (kinds.Do p name) (kinds.Do q other) ≡ bytes_eq name other
+  Do-Do p name q other = alike _ _ _ _ (front-Do p name) (front-Do q other) ∙ sym (and_true _)
+
   -- two choices, each at the role or elsewhere
   pub Choice-Choice : (p : Place) (at : Name) (bs : Row (Row Statement)) (q : Place) (other : Name) (cs : Row (Row Statement)) →
       one_same me (kinds.Choice p at bs) (kinds.Choice q other cs) ≡ (same_truth (bytes_eq at me) (bytes_eq other me) && branches_same me bs.items cs.items)
@@ -274,6 +317,15 @@ pub ruleset alone = (
   Continue-Choice,
   Continue-Rec,
   Continue-Continue,
+  Message-Do,
+  Choice-Do,
+  Rec-Do,
+  Continue-Do,
+  Do-Message,
+  Do-Choice,
+  Do-Rec,
+  Do-Continue,
+  Do-Do,
 )
 
 pub ruleset in_steps = (common_steps, branches_later, branches_differ, branches_short, branches_end)

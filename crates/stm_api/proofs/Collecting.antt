@@ -1,25 +1,26 @@
 -- What a statement does alone, and with those behind it.
-use Rattle.std.proofs.Common.{◌≡◌, ℕ, ◌+◌, ◌<◌, get_or, drop, length, Bool, List, [], ◌∷◌, ◌++◌, Some, None, refl, sym, ap, ◌∙◌, append_assoc}
+use Rattle.std.proofs.Common.{◌≡◌, ℕ, ◌+◌, ◌<◌, ◌≤◌, get_or, drop, length, map, Bool, List, [], ◌∷◌, ◌++◌, Some, None, refl, sym, ap, ◌∙◌, append_assoc}
 use Rattle.std.specs.Str.{bytes_eq}
-use Rattle.std.proofs.lemmas.List.{append-nil}
+use Rattle.std.proofs.lemmas.List.{append-nil, at_drop_more, at_drop_all}
 use Rattle.std.proofs.lemmas.Grind.{common_steps}
 use Rattle.mg_text.specs.Call.{Name}
 use Rattle.mg_text.specs.Row.{Row}
 use Rattle.scr_tree.specs.declared.syntax.Message.{Message}
+use Rattle.scr_tree.specs.declared.syntax.Part.{Part}
 use Rattle.scr_tree.specs.declared.syntax.Statement.{Statement}
 use Rattle.scr_tree.specs.declared.syntax.Statement.TheVariants as kinds
 use Rattle.scr_tree.specs.Tree.{Statements, Nothing}
-use Rattle.scr_tree.specs.View.{front, statements, bodies}
+use Rattle.scr_tree.specs.View.{front, statements, bodies, part_of}
 use Rattle.scr_tree.specs.Meaning.{message_of}
 use Rattle.scr_tree.specs.Actions.{next, next_in, opened}
 use Rattle.scr_tree.proofs.ViewLemmas.{front-Message, front-Choice, front-Rec, front-Continue, front-Do}
 use Rattle.scr_tree.proofs.Behind.{each_front, statements-step, statements-past, bodies-step, bodies-past}
 use Rattle.stm_api.specs.Doings.{Doing, Passes}
-use Rattle.stm_api.specs.inner.Does.{does, does_in, look_unless, first_said, label_before, labels_in}
+use Rattle.stm_api.specs.inner.Does.{does, does_in, all_does, part_body, look_unless, first_said, label_before, labels_in}
 
 module _ (me : Name) (n : ℕ) where
   pub next-front : (s : Statement) (rest : Statements) → next me n (front s rest) ≡ next me (next me n (front s Nothing)) rest
-  next-front s rest = each_front (λ f. next me n (f rest) ≡ next me (next me n (f Nothing)) rest) (λ m. refl) (λ p at bs. refl) (λ p name body. refl) (λ p name. refl) s
+  next-front s rest = each_front (λ f. next me n (f rest) ≡ next me (next me n (f Nothing)) rest) (λ m. refl) (λ p at bs. refl) (λ p name body. refl) (λ p name. refl) (λ p name. refl) s
 
   alone-choice : (a b r : List Doing) → a ++ (b ++ r) ≡ (a ++ (b ++ [])) ++ r
   alone-choice a b r = ap (λ x. a ++ (x ++ r)) (sym (append-nil b)) ∙ sym (append_assoc a (b ++ []) r)
@@ -28,7 +29,7 @@ module _ (me : Name) (n : ℕ) where
   does-front s rest =
       each_front (λ f. does me n (f rest) ≡ does me n (f Nothing) ++ does me (next me n (f Nothing)) rest) (λ m. refl)
       (λ p at bs. alone-choice (look_unless (bytes_eq at me) n bs) (does_in me (opened (bytes_eq at me) n) bs) _)
-      (λ p name body. ap (λ x. x ++ does me (next me n body) rest) (sym (append-nil (does me n body)))) (λ p name. refl) s
+      (λ p name body. ap (λ x. x ++ does me (next me n body) rest) (sym (append-nil (does me n body)))) (λ p name. refl) (λ p name. refl) s
 
   pub does-Message : (m : Message) → does me n (front (kinds.Message m) Nothing) ≡ Passes (message_of m) ∷ []
   does-Message m = ap (λ f. does me n (f Nothing)) (front-Message m)

@@ -1,5 +1,5 @@
 -- What the text does is what its protocol does; the doings whose calls weren't seen are the first ones.
-use Rattle.std.proofs.Common.{◌≡◌, ℕ, suc, ◌+◌, Bool, true, false, if◌then◌else◌, List, [], ◌∷◌, ◌++◌, position, refl, sym, ap, ◌∙◌, arith, add-one}
+use Rattle.std.proofs.Common.{◌≡◌, ℕ, suc, ◌+◌, Bool, true, false, if◌then◌else◌, List, [], ◌∷◌, ◌++◌, map, position, refl, sym, ap, ◌∙◌, arith, add-one}
 use Rattle.std.specs.Prelude.{Contains, is_some}
 use Rattle.std.specs.List.{list_any}
 use Rattle.std.specs.Str.{bytes_eq}
@@ -12,13 +12,13 @@ use Rattle.mg_text.proofs.Numbered.{list_any-position}
 use Rattle.scr_tree.specs.declared.syntax.Direction.{Direction}
 use Rattle.scr_tree.specs.declared.syntax.Direction.TheVariants as directions
 use Rattle.scr_tree.specs.declared.syntax.Payload.{Payload}
-use Rattle.scr_tree.specs.Tree.{LocalTree, Statements, Nothing, Says, Choice, Rec, Continue, Do, NoBranch, Branch}
+use Rattle.scr_tree.specs.Tree.{LocalTree, PartTree, Statements, Nothing, Says, Choice, Rec, Continue, Do, NoBranch, Branch, other}
 use Rattle.scr_tree.specs.Tree as tree
 use Rattle.scr_tree.specs.Protocol.{Protocol, ChoiceHere, ChoiceThere, peer_of, label_of, Branch as Way}
 use Rattle.scr_tree.specs.Protocol as protocol
-use Rattle.scr_tree.specs.Meaning.{choices, choices_in, numbered, numbered_in, message_of, towards, protocol_of}
+use Rattle.scr_tree.specs.Meaning.{choices, choices_in, numbered, numbered_in, numbered_parts, message_of, towards, protocol_of}
 use Rattle.scr_tree.specs.Actions.{opened, next, next_in}
-use Rattle.stm_api.specs.Doings.{Doing, Passes, Asks, labels_in, look, doings, doings_in, call_of, Firsts, none, again, first}
+use Rattle.stm_api.specs.Doings.{Doing, Passes, Asks, labels_in, look, doings, doings_in, all_doings, call_of, Firsts, none, again, first}
 use Rattle.stm_api.specs.inner.Does as here
 
 -- ---- the numbers of choices
@@ -140,6 +140,28 @@ are_firsts me (doing ∷ more) seen =
 
 -- ---- the whole
 
-pub all_done : (t : LocalTree) (out before : List Doing) (me : Name) (ss : Statements) → before ≡ [] → me ≡ t.me → ss ≡ t.body → out ≡ before ++ here.does me 1 ss → out ≡ doings (protocol_of t)
-all_done t out before me ss eb em es e =
-    e ∙ ap (λ x. x ++ here.does me 1 ss) eb ∙ ap (λ m. here.does m 1 ss) em ∙ ap (here.does t.me 1) es ∙ does_same t.me t.body 1
+-- protocols behind the first
+all_same : (me : Name) (ps : List PartTree) (n : ℕ) → here.all_does me n (map here.part_body ps) ≡ all_doings (numbered_parts me n (map other ps))
+all_same me [] n = refl
+all_same me (p ∷ ps) n =
+    ap (λ x. x ++ here.all_does me (next me n p.body) (map here.part_body ps)) (does_same me p.body n)
+    ∙ ap (λ k. doings (numbered me n p.body) ++ here.all_does me k (map here.part_body ps)) (next_is me p.body n)
+    ∙ ap (λ x. doings (numbered me n p.body) ++ x) (all_same me ps (n + choices me p.body))
+
+whole_same : (t : LocalTree) → here.does t.me 1 t.body ++ here.all_does t.me (next t.me 1 t.body) (map here.part_body t.others) ≡ all_doings (protocol_of t)
+whole_same t =
+    ap (λ x. x ++ here.all_does t.me (next t.me 1 t.body) (map here.part_body t.others)) (does_same t.me t.body 1)
+    ∙ ap (λ k. doings (numbered t.me 1 t.body) ++ here.all_does t.me k (map here.part_body t.others)) (next_is t.me t.body 1)
+    ∙ ap (λ x. doings (numbered t.me 1 t.body) ++ x) (all_same t.me t.others (1 + choices t.me t.body))
+
+module _ (t : LocalTree) (out front before : List Doing) (me : Name) (n : ℕ) (ss : Statements) (ps : List PartTree) where
+  pub all_done : before ≡ [] → me ≡ t.me → ss ≡ t.body → ps ≡ t.others → front ≡ before ++ here.does me 1 ss → n ≡ next me 1 ss →
+      out ≡ front ++ here.all_does me n (map here.part_body ps) → out ≡ all_doings (protocol_of t)
+  all_done eb em es eo ef en e =
+      e
+      ∙ ap (λ k. front ++ here.all_does me k (map here.part_body ps)) en
+      ∙ ap (λ x. x ++ here.all_does me (next me 1 ss) (map here.part_body ps)) (ef ∙ ap (λ x. x ++ here.does me 1 ss) eb)
+      ∙ ap (λ m. here.does m 1 ss ++ here.all_does m (next m 1 ss) (map here.part_body ps)) em
+      ∙ ap (λ s. here.does t.me 1 s ++ here.all_does t.me (next t.me 1 s) (map here.part_body ps)) es
+      ∙ ap (λ os. here.does t.me 1 t.body ++ here.all_does t.me (next t.me 1 t.body) (map here.part_body os)) eo
+      ∙ whole_same t

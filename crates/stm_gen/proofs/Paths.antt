@@ -4,7 +4,7 @@ use Rattle.std.specs.Prelude.{Option, option_and_then, if◌then◌else◌}
 use Rattle.std.specs.Str.{bytes_eq}
 use Rattle.std.proofs.lemmas.Slice.Eq.{bytes_eq-Decides}
 use Rattle.mg_text.specs.Call.{Name, Call}
-use Rattle.scr_tree.specs.Protocol.{Message}
+use Rattle.scr_tree.specs.Protocol.{Message, Parts}
 use Rattle.scr_tree.specs.Steps.{Act, Moves, Looks, Position}
 use Rattle.scr_tree.specs.CallNames.{message_call, label_call, call_of}
 use Rattle.scr_trace.specs.Onward.{Onward}
@@ -41,21 +41,21 @@ pub data OneKind : List Edge → Type 0 where
   messages : {edges : List Edge} → AllMessages edges → OneKind edges
   looks : {edges : List Edge} (n : ℕ) (peer : Name) → AllLooks n peer edges → OneKind edges
 
-edges_move : (all : List Position) (steps : List Onward) (edges : List Edge) → AreSteps all steps edges → AllMove steps → AllMessages edges
-edges_move all [] [] h m = tt
-edges_move all [] (e ∷ edges) h m = absurd h
-edges_move all (s ∷ steps) [] h m = absurd h
-edges_move all (s ∷ steps) (e ∷ edges) h m = ((m.0.0, h.0.act ∙ m.0.1), edges_move all steps edges h.1 m.1)
+edges_move : (parts : Parts) (all : List Position) (steps : List Onward) (edges : List Edge) → AreSteps parts all steps edges → AllMove steps → AllMessages edges
+edges_move parts all [] [] h m = tt
+edges_move parts all [] (e ∷ edges) h m = absurd h
+edges_move parts all (s ∷ steps) [] h m = absurd h
+edges_move parts all (s ∷ steps) (e ∷ edges) h m = ((m.0.0, h.0.act ∙ m.0.1), edges_move parts all steps edges h.1 m.1)
 
-edges_look : (all : List Position) (n : ℕ) (peer : Name) (steps : List Onward) (edges : List Edge) → AreSteps all steps edges → AllLook n peer steps → AllLooks n peer edges
-edges_look all n peer [] [] h m = tt
-edges_look all n peer [] (e ∷ edges) h m = absurd h
-edges_look all n peer (s ∷ steps) [] h m = absurd h
-edges_look all n peer (s ∷ steps) (e ∷ edges) h m = ((m.0.0, h.0.act ∙ m.0.1), edges_look all n peer steps edges h.1 m.1)
+edges_look : (parts : Parts) (all : List Position) (n : ℕ) (peer : Name) (steps : List Onward) (edges : List Edge) → AreSteps parts all steps edges → AllLook n peer steps → AllLooks n peer edges
+edges_look parts all n peer [] [] h m = tt
+edges_look parts all n peer [] (e ∷ edges) h m = absurd h
+edges_look parts all n peer (s ∷ steps) [] h m = absurd h
+edges_look parts all n peer (s ∷ steps) (e ∷ edges) h m = ((m.0.0, h.0.act ∙ m.0.1), edges_look parts all n peer steps edges h.1 m.1)
 
-pub one_kind : (all : List Position) (steps : List Onward) (edges : List Edge) → AreSteps all steps edges → OneChoice steps → OneKind edges
-one_kind all steps edges h (moving m) = messages (edges_move all steps edges h m)
-one_kind all steps edges h (looking n peer l) = looks n peer (edges_look all n peer steps edges h l)
+pub one_kind : (parts : Parts) (all : List Position) (steps : List Onward) (edges : List Edge) → AreSteps parts all steps edges → OneChoice steps → OneKind edges
+one_kind parts all steps edges h (moving m) = messages (edges_move parts all steps edges h m)
+one_kind parts all steps edges h (looking n peer l) = looks n peer (edges_look parts all n peer steps edges h l)
 
 -- the calls of edges, none twice
 abbrev pub calls : Name → List Edge → List Call

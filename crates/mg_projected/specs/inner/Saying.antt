@@ -35,6 +35,11 @@ word_of (protocols.ReservedLabel place name) = codes "ReservedLabel"
 word_of (protocols.NameClash place name) = codes "NameClash"
 word_of (protocols.TooManyStates place) = codes "TooManyStates"
 word_of protocols.Memory = []
+word_of (protocols.UnknownProtocol place name) = codes "UnknownProtocol"
+word_of (protocols.DuplicateProtocol place name) = codes "DuplicateProtocol"
+word_of (protocols.RolesDiffer place name) = codes "RolesDiffer"
+word_of (protocols.NotLast place name) = codes "NotLast"
+word_of (protocols.StartsWithDo place name) = codes "StartsWithDo"
 
 abbrev pub said_of_global : GlobalFault → Option Fault
 said_of_global (globals.TooLarge place) = Some (fault_at (codes "TooLarge") place [])

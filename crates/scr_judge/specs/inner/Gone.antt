@@ -11,7 +11,7 @@ use Rattle.scr_tree.specs.Tree.{Statements, Nothing, Says, Choice, Rec, Continue
 use Rattle.scr_tree.specs.View.{statements}
 use Rattle.scr_tree.specs.Written.{role_name}
 use Rattle.scr_tree.specs.Going.{is_some_statement}
-use Rattle.scr_judge.specs.inner.Seen.{Names, none, with_name}
+use Rattle.scr_judge.specs.inner.Seen.{Names, with_name}
 use Rattle.scr_judge.specs.inner.Listed.{first_among}
 use Rattle.scr_judge.specs.inner.OnSpot.{asks_protocol, walk, unless}
 

@@ -1,4 +1,5 @@
-use Rattle.std.proofs.Common.{◌≡◌, ◌++◌, [], map, Some, sym, ap, subst, ◌∙◌}
+use Rattle.std.proofs.Common.{◌++◌, map, Some, sym, ap, ◌∙◌}
+use Rattle.mg_text.specs.Call.{Name}
 use Rattle.mg_read.specs.Culprit.{culprit}
 use Rattle.scr_tree.specs.Actions.{actions, all_actions, next}
 use Rattle.scr_tree.specs.View.{statements}
@@ -16,3 +17,12 @@ returns-in-None c =
     (c.in_ok-next.ensures.next ∙ ap (λ b. next c.args.written.now.first.me.name 1 (statements b)) c.as_slice.ensures.items)
     (c.in_ok-collect_parts.ensures ∙ ap (λ ps. map act c.collect_all.new.out.items ++ all_actions me_in body_of c.in_ok-next.next (map part_written ps)) c.as_slice-2.ensures.items))
     (ap clash_of c.in-None.is) c.in_ok-first_clash.ensures
+
+pub returns : goal.returns
+returns c =
+    clashes c.as_slice-3.result.now c.collect_parts.new.out.items c.new-actions.result.items _ _ _ c.as_slice-3.ensures.value c.new-actions.ensures.items
+    (all_texts c.args.written.now c.collect_all.new.out.items c.collect_parts.new.out.items c.new-actions.result.items c.in_ok-next.next c.new-actions.ensures.items
+    (c.in_ok-next.ensures.actions ∙ ap (λ b. map act c.new-actions.result.items ++ actions c.args.written.now.first.me.name 1 (statements b)) c.as_slice.ensures.items)
+    (c.in_ok-next.ensures.next ∙ ap (λ b. next c.args.written.now.first.me.name 1 (statements b)) c.as_slice.ensures.items)
+    (c.in_ok-collect_parts.ensures ∙ ap (λ ps. map act c.collect_all.new.out.items ++ all_actions me_in body_of c.in_ok-next.next (map part_written ps)) c.as_slice-2.ensures.items))
+    (ap clash_of c.in-Some.is ∙ ap (λ (n : Name). Some (culprit c.in-Some.action.now.place n)) (sym c.in_ok-name-in-Some.ensures)) c.in_ok-first_clash.ensures

@@ -1,4 +1,4 @@
-use Rattle.std.proofs.Common.{[], ◌∷◌, map, ap, subst, sym, ◌∙◌}
+use Rattle.std.proofs.Common.{[]}
 use Rattle.std.proofs.lemmas.Result.{IfOk-weaker}
 use Rattle.scr_tree.specs.Conditions as says
 use Rattle.scr_tree.specs.Listing.{UnknownRole, mentions_in}
@@ -7,7 +7,6 @@ use Rattle.scr_tree.specs.Written.{WrittenPart, written_of, part_written, roles_
 use Rattle.scr_tree.specs.declared.condition.Condition.TheVariants as conditions
 use Rattle.scr_judge.specs.declared.own.Own.TheVariants as owns
 use Rattle.scr_judge.specs.inner.Own.{OfOwn}
-use Rattle.scr_judge.specs.inner.View.{culprit_of, named_of}
 use Rattle.scr_judge.proofs.Numbers.{arm, arm_named}
 use Rattle.scr_judge.proofs.Owned.{first_map, each_judged, all_judged}
 use Rattle.scr_judge.proofs.fault.judge.Goals as goal

@@ -1,8 +1,8 @@
-use Rattle.std.proofs.Common.{sym, ap, ◌∙◌}
+use Rattle.std.proofs.Common.{ap, ◌∙◌}
 use Rattle.std.proofs.lemmas.Result.{IfOk-weaker}
 use Rattle.std.specs.HashSet.{contains_text}
 use Rattle.scr_judge.specs.inner.Gone.{named_again}
-use Rattle.scr_judge.specs.inner.Seen.{none, with_name}
+use Rattle.scr_judge.specs.inner.Seen.{with_name}
 use Rattle.scr_judge.specs.inner.View.{culprit_of}
 use Rattle.scr_judge.proofs.Files.{file_again}
 use Rattle.scr_judge.proofs.going.find_duplicate_protocol.Goals as goal

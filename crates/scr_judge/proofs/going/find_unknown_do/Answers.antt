@@ -14,8 +14,8 @@ returns-in-Some c =
     (or_here _ _ _ (ap (λ b. walk (asks_protocol (contains_text c.in_ok-names.names)) None [] (statements b)) (sym c.as_slice.ensures.items) ∙ sym c.find_unknown_protocol.ensures
     ∙ ap culprit_of c.in-Some.is))
 
-pub returns-in-None : goal.returns-in-None
-returns-in-None c =
+pub returns : goal.returns
+returns c =
     file_going c.args.written.now (contains_text c.in_ok-names.names) c.in_ok-names.ensures _
     (or_behind _ _ _ (ap (λ b. walk (asks_protocol (contains_text c.in_ok-names.names)) None [] (statements b)) (sym c.as_slice.ensures.items) ∙ sym c.find_unknown_protocol.ensures
     ∙ ap culprit_of c.in-None.is) (c.find_unknown_in.ensures ∙ ap (first_among (unknown_in (contains_text c.in_ok-names.names))) c.as_slice-in-None.ensures.items))

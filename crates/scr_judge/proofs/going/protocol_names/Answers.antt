@@ -1,6 +1,6 @@
-use Rattle.std.proofs.Common.{[], ◌∷◌, map, sym, ap, ◌∙◌}
+use Rattle.std.proofs.Common.{map, ◌∙◌}
 use Rattle.scr_judge.specs.inner.Gone.{part_name, with_names}
-use Rattle.scr_judge.specs.inner.Seen.{none, with_name}
+use Rattle.scr_judge.specs.inner.Seen.{with_name}
 use Rattle.scr_judge.proofs.going.protocol_names.Goals as goal
 
 pub returns : goal.returns

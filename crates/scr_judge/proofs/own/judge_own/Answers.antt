@@ -11,9 +11,9 @@ use Rattle.scr_judge.proofs.own.judge_own.Goals as goal
 
 pub returns-in_ok-culprit-in-UnknownRole : goal.returns-in_ok-culprit-in-UnknownRole
 returns-in_ok-culprit-in-UnknownRole c =
-    own_arm (part_written c.args.part.now) c.args.own owns.UnknownRole _ c.with_name-in-UnknownRole.result c.in-UnknownRole.is
+    own_arm (part_written c.args.part.now) c.args.own owns.UnknownRole _ c.with_name.result c.in-UnknownRole.is
     c.in_ok-culprit-in-UnknownRole.ensures
-    c.with_name-in-UnknownRole.ensures
+    c.with_name.ensures
 
 pub returns-in-PeerIsSelf : goal.returns-in-PeerIsSelf
 returns-in-PeerIsSelf c =

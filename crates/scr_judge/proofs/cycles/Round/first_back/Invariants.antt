@@ -9,6 +9,6 @@ use Rattle.scr_judge.specs.inner.Round.{FoundBad, titles}
 use Rattle.scr_judge.proofs.Owned.{Rest}
 use Rattle.scr_judge.proofs.cycles.Round.first_back.Given as goal
 
-abbrev pub invariant-loop-name : goal.invariant-loop-name
-invariant-loop-name l = (ps : List Part) (to : List ℕ) → IsRound ps l.self → position (bytes_eq to) l.self.names ≡ Some l.own →
-    Rest (λ (b : Bor Name). FoundBad (λ n. Leads (titles ps) n to) b.now) l.names l.name-index
+abbrev pub invariant-loop-i : goal.invariant-loop-i
+invariant-loop-i l = (ps : List Part) (to : List ℕ) → IsRound ps l.self → position (bytes_eq to) l.self.names ≡ Some l.own →
+    Rest (λ (b : Bor Name). FoundBad (λ n. Leads (titles ps) n to) b.now) l.names l.i
