@@ -2,7 +2,7 @@
 
 use cases::{Answer, fault_text};
 use cls_tree::Code;
-use gen_method::{GenFault, Pool, gen_method};
+use gen_code::{GenFault, Pool, gen_method};
 use jv_core::Core;
 use mg_text::Memory;
 use std::alloc::Global;

@@ -1,9 +1,2 @@
-mod Aiming
-mod Drafts
-mod Follows
-mod Framing
-mod Loops
-mod Seen
-mod Stating
-mod Whole
-mod Written
+pub mod Fronting
+pub mod Emitting

@@ -14,10 +14,10 @@ use Rattle.jv_core.specs.Tree as Core
 use Rattle.jv_core.specs.View.{exprs_of}
 use Rattle.jv_names.proofs.Tables.{some_is, none_some}
 use Rattle.jv_kept.proofs.Slots.{all_holds}
-use Rattle.jv_resolving.specs.Tables.{◌>>=◌, Tables, Callee, Numbered, class_called, enum_called, enum_names, method_called, type_meant}
-use Rattle.jv_resolving.specs.Expressions.{Given, OfNull, Of, Resolved, Known, Standing, Found, Receiver, OnThis, OnClass, OnValue, variable_in, only, text_call, session_named, session_call}
-use Rattle.jv_resolving.specs.Expressions.{constant, initial, static_call, helper_call, object_call, call_class, call_protocol, call_typed, own_found, call_own, call_on, found, variable_at, constant_at, member, named_receiver, receiver, resolved, resolved_all}
-use Rattle.jv_resolving.proofs.Steps.{bound, mapped}
+use Rattle.jv_resolve_law.specs.Tables.{◌>>=◌, Tables, Callee, Numbered, class_called, enum_called, enum_names, method_called, type_meant}
+use Rattle.jv_resolve_law.specs.Expressions.{Given, OfNull, Of, Resolved, Known, Standing, Found, Receiver, OnThis, OnClass, OnValue, variable_in, only, text_call, session_named, session_call}
+use Rattle.jv_resolve_law.specs.Expressions.{constant, initial, static_call, helper_call, object_call, call_class, call_protocol, call_typed, own_found, call_own, call_on, found, variable_at, constant_at, member, named_receiver, receiver, resolved, resolved_all}
+use Rattle.jv_resolve_law.proofs.Steps.{bound, mapped}
 use Rattle.jv_back.proofs.Exprs.{IsWritten, AreWritten}
 use Rattle.gen_fits.specs.Held.{HoldsExpr, HoldsExprs}
 use Rattle.gen_held.proofs.Words.{int_fits}

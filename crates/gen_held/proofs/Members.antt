@@ -6,11 +6,11 @@ use Rattle.jv_tree.specs.declared.tree.Param.{Param}
 use Rattle.jv_tree.specs.Source
 use Rattle.jv_core.specs.Tree as Core
 use Rattle.jv_names.proofs.Tables.{some_is}
-use Rattle.jv_resolving.specs.Tables.{Entry, Tables, type_meant, interned}
-use Rattle.jv_resolving.specs.Expressions.{Known, Standing, initial}
-use Rattle.jv_resolving.specs.Statements.{Counted, slot_more, declared, stmts}
-use Rattle.jv_resolving.specs.Members.{Naming, Opened, all_interned, enum, enums, begins_with, field, fields, class, classes, params, method, methods_of, methods}
-use Rattle.jv_resolving.proofs.Steps.{bound, mapped}
+use Rattle.jv_resolve_law.specs.Tables.{Entry, Tables, type_meant, interned}
+use Rattle.jv_resolve_law.specs.Expressions.{Known, Standing, initial}
+use Rattle.jv_resolve_law.specs.Statements.{Counted, slot_more, declared, stmts}
+use Rattle.jv_resolve_law.specs.Members.{Naming, Opened, all_interned, enum, enums, begins_with, field, fields, class, classes, params, method, methods_of, methods}
+use Rattle.jv_resolve_law.proofs.Steps.{bound, mapped}
 use Rattle.jv_back.proofs.Told.{IsNamed}
 use Rattle.jv_back.proofs.Stmts.{IsWrittenValue}
 use Rattle.jv_back.proofs.Members.{IsWrittenField, IsWrittenParam, AreWrittenParams, IsWrittenMethod}

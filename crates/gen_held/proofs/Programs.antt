@@ -16,9 +16,9 @@ use Rattle.jv_meaning.specs.Program.{class_in, enum_in, classes_of, enums_of}
 use Rattle.jv_rules.specs.Program.{Program}
 use Rattle.jv_core.specs.Tree as Core
 use Rattle.jv_names.proofs.Tables.{some_is, none_some}
-use Rattle.jv_resolving.specs.Tables.{Entry, Tables, followed, entries_from, tables_of}
-use Rattle.jv_resolving.specs.Members.{enums, classes, methods}
-use Rattle.jv_resolving.proofs.Steps.{bound}
+use Rattle.jv_resolve_law.specs.Tables.{Entry, Tables, followed, entries_from, tables_of}
+use Rattle.jv_resolve_law.specs.Members.{enums, classes, methods}
+use Rattle.jv_resolve_law.proofs.Steps.{bound}
 use Rattle.stm_api.specs.Api.{ApiText}
 use Rattle.jv_back.proofs.Kept.{tokens_good}
 use Rattle.jv_back.proofs.KeptFiles.{file_kept}

@@ -8,10 +8,10 @@ use Rattle.jv_tree.specs.Source
 use Rattle.jv_core.specs.Tree as Core
 use Rattle.jv_core.specs.View.{OneGroup, before, stmts_of, groups_of}
 use Rattle.jv_names.proofs.Tables.{some_is}
-use Rattle.jv_resolving.specs.Tables.{Tables, type_meant, interned}
-use Rattle.jv_resolving.specs.Expressions.{Resolved, Known, Standing, variable_in, resolved}
-use Rattle.jv_resolving.specs.Statements.{Counted, Around, InLoop, InSwitch, Counting, Item, labels_at, loop_more, declared, slot_more, left_by, gone_on_by, enum_given, given_back, local, item, stmt, stmts, groups}
-use Rattle.jv_resolving.proofs.Steps.{bound, mapped}
+use Rattle.jv_resolve_law.specs.Tables.{Tables, type_meant, interned}
+use Rattle.jv_resolve_law.specs.Expressions.{Resolved, Known, Standing, variable_in, resolved}
+use Rattle.jv_resolve_law.specs.Statements.{Counted, Around, InLoop, InSwitch, Counting, Item, labels_at, loop_more, declared, slot_more, left_by, gone_on_by, enum_given, given_back, local, item, stmt, stmts, groups}
+use Rattle.jv_resolve_law.proofs.Steps.{bound, mapped}
 use Rattle.jv_back.proofs.Told.{IsNamed}
 use Rattle.jv_back.proofs.Exprs.{IsWritten}
 use Rattle.jv_back.proofs.Stmts.{IsWrittenValue, IsWrittenLocal, IsWrittenStmt, AreWrittenStmts, AreWrittenGroups}

@@ -10,8 +10,8 @@ use Rattle.jv_lex.specs.Letters.{is_word_byte}
 use Rattle.jv_lex.proofs.Utf8.{word_low, passing_ascii}
 use Rattle.jv_back.proofs.Told.{IsNamed}
 use Rattle.jv_back.proofs.Texts.{IsPrinted}
-use Rattle.jv_resolving.specs.Tables.{Interned, interned}
-use Rattle.jv_resolving.proofs.Steps.{bound}
+use Rattle.jv_resolve_law.specs.Tables.{Interned, interned}
+use Rattle.jv_resolve_law.proofs.Steps.{bound}
 use Rattle.jv_names.proofs.Tables.{some_is}
 use Rattle.gen_links.specs.Files.{IsPlainName}
 

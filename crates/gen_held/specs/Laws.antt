@@ -2,7 +2,7 @@
 use Rattle.std.specs.Prelude.{◌≡◌, List, Some}
 use Rattle.jv_core.specs.Tree as Core
 use Rattle.jv_names.specs.Resolves.{AreBounded}
-use Rattle.jv_resolving.specs.Members.{resolving}
+use Rattle.jv_resolve_law.specs.Members.{resolving}
 use Rattle.gen_links.specs.Files.{HasPlainNames}
 use Rattle.gen_fits.specs.Held.{IsHeld}
 use Rattle.mg_sources.specs.Files.{Source}

@@ -4,10 +4,10 @@ ghost use Rattle.std.specs.Prelude.{◌≡◌, ◌++◌, IfOk, OnOk, map};
 ghost use Rattle.jv_core.specs.Tree.{Program};
 ghost use Rattle.jv_core.specs.View.{class_of, field_of};
 ghost use Rattle.gen_rules.specs.Classes.{initialised, all_initialised, constructor_code};
-ghost use Rattle.gen_code.specs.View.{instrs_of};
+ghost use Rattle.gen_symbolic.specs.View.{instrs_of};
 
 use crate::pushed::{plain, push_constant};
-use gen_code::{BuiltIn, Operand, Symbolic};
+use gen_symbolic::{BuiltIn, Operand, Symbolic};
 use jv_core::{CoreClass, CoreField};
 use mg_text::{List, Memory};
 use std::alloc::Global;

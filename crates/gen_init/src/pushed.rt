@@ -5,9 +5,9 @@ ghost use Rattle.jv_core.specs.Tree.{Program};
 ghost use Rattle.jv_core.specs.View.{expr_of};
 ghost use Rattle.gen_rules.specs.Symbolic.{plain, push, push_truth};
 ghost use Rattle.gen_rules.specs.Classes.{push_constant};
-ghost use Rattle.gen_code.specs.View.{instr_of};
+ghost use Rattle.gen_symbolic.specs.View.{instr_of};
 
-use gen_code::{Operand, Symbolic};
+use gen_symbolic::{Operand, Symbolic};
 use jv_core::{CoreExpr, CoreExprKind};
 use mg_text::Memory;
 

@@ -12,9 +12,9 @@ use Rattle.cls_tree.specs.Tree as file
 use Rattle.cls_tree.specs.Layout.{pad, s4, highest, args_bytes, instr_bytes}
 use Rattle.jv_core.specs.Tree.{Program}
 use Rattle.gen_rules.specs.Symbolic.{Operand, Nothing, Number, Constant, Local, Jump, Table, Class, Field, Method}
-use Rattle.gen_code.specs.declared.symbolic.BuiltIn.{BuiltIn}
-use Rattle.gen_code.specs.declared.symbolic.BuiltIn.TheVariants as built
-use Rattle.gen_code.specs.View.{built_in_of}
+use Rattle.gen_symbolic.specs.declared.symbolic.BuiltIn.{BuiltIn}
+use Rattle.gen_symbolic.specs.declared.symbolic.BuiltIn.TheVariants as built
+use Rattle.gen_symbolic.specs.View.{built_in_of}
 use Rattle.gen_layout.specs.Laid.{size_at}
 use Rattle.gen_layout.specs.Sizes.{number_size, local_size, jump_size, table_size, pool_size, sized}
 

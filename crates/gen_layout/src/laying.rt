@@ -2,13 +2,13 @@
 
 ghost use Rattle.std.specs.Prelude.{◌≡◌, IfOk, OnOk};
 ghost use Rattle.jv_core.specs.Core.{tree_of};
-ghost use Rattle.gen_code.specs.View.{instrs_of};
+ghost use Rattle.gen_symbolic.specs.View.{instrs_of};
 ghost use Rattle.gen_pool.specs.Made.{IsMade, IsFrontOf};
 ghost use Rattle.gen_layout.specs.Laid.{laid};
 ghost use Rattle.gen_layout.specs.Kept.{laid_of, IsOneMore};
 
 use crate::sizes::size_at;
-use gen_code::Symbolic;
+use gen_symbolic::Symbolic;
 use gen_pool::Pool;
 use gen_refs::constant;
 use jv_core::Core;

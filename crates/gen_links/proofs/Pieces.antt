@@ -6,7 +6,7 @@ use Rattle.std.proofs.lemmas.Bool.Decides.{nat_tests}
 use Rattle.std.specs.List.{AllByRecursion, list_all}
 use Rattle.jv_core.specs.declared.program.CoreType.{CoreType}
 use Rattle.jv_core.specs.Tree.{Groups, NoGroup, Group}
-use Rattle.jv_mean.specs.Statements.{is_default, case_at, any_label}
+use Rattle.jv_values.specs.Statements.{is_default, case_at, any_label}
 use Rattle.vm_model.specs.Actions.{jump_action, plain_action, local_action}
 use Rattle.vm_model.specs.Links.{Outline}
 use Rattle.gen_rules.specs.Symbolic as symbolic

@@ -5,7 +5,7 @@ ghost use Rattle.cls_tree.specs.View.{code_of, member_of};
 ghost use Rattle.cls_tree.specs.Tree as file;
 ghost use Rattle.jv_core.specs.Core.{tree_of};
 ghost use Rattle.jv_core.specs.Tree.{Program, Class as CoreClass};
-ghost use Rattle.gen_code.specs.View.{instrs_of};
+ghost use Rattle.gen_symbolic.specs.View.{instrs_of};
 ghost use Rattle.gen_rules.specs.Classes.{code_in_file, method_in_file};
 ghost use Rattle.gen_rules.specs.Limits.{OfMethod, exceeded_by, exceeded_by_code};
 ghost use Rattle.gen_pool.specs.Made.{IsMade, IsFrontOf};
@@ -15,7 +15,7 @@ ghost use Rattle.gen_members.specs.Parts.{compiled_of, part_excess, excess_at};
 
 use crate::faults::{GenFault, Telling, judge};
 use cls_tree::{Attr, Code, Member};
-use gen_code::Symbolic;
+use gen_symbolic::Symbolic;
 use gen_layout::{Laid, final_code, lay_out};
 use gen_pool::{Pool, short};
 use jv_core::Core;

@@ -4,14 +4,14 @@ ghost use Rattle.std.specs.Prelude.{◌≡◌, IfOk, map, slice_get, option_map,
 ghost use Rattle.jv_core.specs.Core.{tree_of};
 ghost use Rattle.jv_core.specs.View.{field_of};
 ghost use Rattle.gen_rules.specs.Members.{field_reference, method_reference};
-ghost use Rattle.gen_code.specs.View.{operand_of, built_in_of};
+ghost use Rattle.gen_symbolic.specs.View.{operand_of, built_in_of};
 ghost use Rattle.gen_pool.specs.Made.{IsMade, IsFrontOf};
 ghost use Rattle.gen_refs.specs.Constants.{constant_of, field_of_reference, method_of_reference};
 
 use crate::descriptors::{field_descriptor, method_descriptor};
 use crate::names::class_name;
 use crate::session::{session_descriptor, session_name};
-use gen_code::{BuiltIn, Operand};
+use gen_symbolic::{BuiltIn, Operand};
 use gen_pool::{Pool, class_const, field_const, int_const, method_const, text_const};
 use jv_core::{Core, CoreField, name_text};
 use mg_text::Memory;

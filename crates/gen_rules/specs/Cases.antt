@@ -1,7 +1,7 @@
 -- Where the table of a switch leads.
 use Rattle.std.specs.Prelude.{ℕ, List, [], ◌∷◌, length, map, max}
 use Rattle.std.specs.Prelude.{Bool, Option, Some, None, unwrap_or, option_and_then, slice_get, if◌then◌else◌}
-use Rattle.jv_mean.specs.Statements.{is_default, case_at, any_label}
+use Rattle.jv_values.specs.Statements.{is_default, case_at, any_label}
 use Rattle.jv_core.specs.declared.program.CoreType.{CoreType}
 use Rattle.jv_core.specs.Tree.{Groups, NoGroup, Group, Enum, Program}
 use Rattle.jv_core.specs.Numbering.{numbers_from}

@@ -4,8 +4,8 @@ use Rattle.mg_text.specs.Call.{Name}
 use Rattle.mg_text.specs.declared.event.Event.{Event}
 use Rattle.mg_text.specs.declared.event.Ending.{Ending}
 use Rattle.mg_text.specs.declared.event.Ending.TheVariants as endings
-use Rattle.jv_mean.specs.Values.{Finish, Done, Zero, Null, Mismatch, NoPeer, Wait, More, Wrong}
-use Rattle.jv_mean.specs.Alike.{Prefix}
+use Rattle.jv_values.specs.Values.{Finish, Done, Zero, Null, Mismatch, NoPeer, Wait, More, Wrong}
+use Rattle.jv_values.specs.Alike.{Prefix}
 use Rattle.vm_model.specs.Messages.{Messages, role_named}
 use Rattle.vm_model.specs.Machine.{Machine, Stepped, Went, Waits, Stops, Steps, none, more, noted}
 use Rattle.vm_model.specs.Runs.{Runs}

@@ -2,11 +2,11 @@
 use Rattle.std.proofs.Common.{◌≡◌, ◌≢◌, ℕ, zero, suc, ◌≤◌, max, true, List, [], length, replicate, reverse, Option, Some, None, refl, sym, ap, ◌∙◌, subst, append-nil, arith}
 use Rattle.std.specs.Prelude.{slice_get, if◌then◌else◌, map, option_map, Contains, ◌++◌}
 use Rattle.std.proofs.lemmas.List.{length-replicate}
-use Rattle.jv_mean.specs.Values.{Value, Row, Shared, Inputs, Here, Lives, bound, Wrong}
-use Rattle.jv_mean.specs.Doing.{Outcome, Gives, Ends, and_then, found, stop}
-use Rattle.jv_mean.specs.Statements.{Completion, Normal, Breaks, Continues, Returns}
-use Rattle.jv_mean.specs.Calls.{returned, result, body_from, suits, called}
-use Rattle.jv_mean.specs.Budget.{below, ended}
+use Rattle.jv_values.specs.Values.{Value, Row, Shared, Inputs, Here, Lives, bound, Wrong}
+use Rattle.jv_values.specs.Doing.{Outcome, Gives, Ends, and_then, found, stop}
+use Rattle.jv_values.specs.Statements.{Completion, Normal, Breaks, Continues, Returns}
+use Rattle.jv_values.specs.Calls.{returned, result, body_from, suits, called}
+use Rattle.jv_values.specs.Budget.{below, ended}
 use Rattle.jv_core.specs.declared.program.CoreType.{CoreType}
 use Rattle.jv_core.specs.declared.program.CoreType.TheVariants as types
 use Rattle.jv_core.specs.declared.program.MethodKind.TheVariants as kinds

@@ -3,10 +3,10 @@ use Rattle.std.proofs.Common.{◌≡◌, ◌≢◌, ℕ, ◌+◌, ◌-◌, ◌�
 use Rattle.std.specs.Prelude.{slice_get, if◌then◌else◌, Bool, false, Contains}
 use Rattle.mg_text.specs.declared.event.Event.{Event}
 use Rattle.mg_text.specs.declared.event.Event.TheVariants as seen
-use Rattle.jv_mean.specs.Values.{Value, Shared, Inputs}
-use Rattle.jv_mean.specs.Values as values
-use Rattle.jv_mean.specs.Objects.{answer_of, telling}
-use Rattle.jv_mean.specs.Doing.{Outcome, Gives, Ends}
+use Rattle.jv_values.specs.Values.{Value, Shared, Inputs}
+use Rattle.jv_values.specs.Values as values
+use Rattle.jv_values.specs.Objects.{answer_of, telling}
+use Rattle.jv_values.specs.Doing.{Outcome, Gives, Ends}
 use Rattle.jv_core.specs.declared.program.CoreType.{CoreType}
 use Rattle.jv_core.specs.declared.program.MethodKind.{MethodKind}
 use Rattle.jv_core.specs.declared.program.MethodKind.TheVariants as kinds
@@ -14,7 +14,7 @@ use Rattle.jv_core.specs.Tree.{Method, Program}
 use Rattle.jv_core.specs.Lookup.{text_at, param_types}
 use Rattle.jv_core.specs.Members.{IsResult}
 use Rattle.jv_core.specs.Conditions.{IsMethod, IsCore}
-use Rattle.jv_mean.specs.Calls.{suits}
+use Rattle.jv_values.specs.Calls.{suits}
 use Rattle.jv_core.specs.Meaning.{Lower, runs_on_object}
 use Rattle.vm_model.specs.declared.value.Value.{Value as Held}
 use Rattle.vm_model.specs.declared.value.Value.TheVariants as held

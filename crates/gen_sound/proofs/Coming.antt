@@ -2,7 +2,7 @@
 use Rattle.std.proofs.Common.{◌≡◌, ℕ, suc, List, [], Some}
 use Rattle.std.specs.Prelude.{slice_get, Contains}
 use Rattle.mg_text.specs.Call.{Name}
-use Rattle.jv_mean.specs.Values.{Inputs, Ended}
+use Rattle.jv_values.specs.Values.{Inputs, Ended}
 use Rattle.jv_core.specs.Tree.{Method, Program}
 use Rattle.jv_core.specs.Conditions.{IsCore}
 use Rattle.jv_core.specs.Meaning.{as_run, main_of, cmean}

@@ -1,10 +1,10 @@
 -- Comparisons of two values that are ints in the machine.
 use Rattle.std.proofs.Common.{◌≡◌, Bool, true, false, refl, sym, ap, ◌∙◌, subst, ℤ, pos}
 use Rattle.std.specs.Prelude.{nat_eq, if◌then◌else◌}
-use Rattle.jv_mean.specs.Values.{Value, Shared}
-use Rattle.jv_mean.specs.Values as values
-use Rattle.jv_mean.specs.Doing.{Gives, give, stop}
-use Rattle.jv_mean.specs.Operators.{same, int_same}
+use Rattle.jv_values.specs.Values.{Value, Shared}
+use Rattle.jv_values.specs.Values as values
+use Rattle.jv_values.specs.Doing.{Gives, give, stop}
+use Rattle.jv_values.specs.Operators.{same, int_same}
 use Rattle.jv_core.specs.declared.program.CoreType.{CoreType}
 use Rattle.jv_core.specs.Tree.{Program}
 use Rattle.jv_core.specs.Types.{IsCompared}

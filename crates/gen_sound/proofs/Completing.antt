@@ -2,10 +2,10 @@
 use Rattle.std.proofs.Common.{◌≡◌, ℕ, suc, ◌+◌, ◌≤◌, ◌<◌, Bool, List, [], ◌∷◌, ◌++◌, length, drop, Option, Some, None, ◌∙◌, arith}
 use Rattle.std.specs.Prelude.{slice_get, slice_set}
 use Rattle.std.proofs.lemmas.List.{length-set}
-use Rattle.jv_mean.specs.Values.{Value, Row, Shared, Inputs, Lives}
-use Rattle.jv_mean.specs.Values as values
-use Rattle.jv_mean.specs.Doing.{Run, Outcome, Gives, Ends, and_then, found, truth, kept, uncovered}
-use Rattle.jv_mean.specs.Statements.{Completion, Normal, Breaks, Continues, Returns}
+use Rattle.jv_values.specs.Values.{Value, Row, Shared, Inputs, Lives}
+use Rattle.jv_values.specs.Values as values
+use Rattle.jv_values.specs.Doing.{Run, Outcome, Gives, Ends, and_then, found, truth, kept, uncovered}
+use Rattle.jv_values.specs.Statements.{Completion, Normal, Breaks, Continues, Returns}
 use Rattle.jv_core.specs.declared.program.CoreType.{CoreType}
 use Rattle.jv_core.specs.declared.program.MethodKind.{MethodKind}
 use Rattle.jv_core.specs.declared.program.MethodKind.TheVariants as kinds

@@ -1,9 +1,9 @@
 -- Branches, loops and lists of statements: code of their parts makes the code of the whole.
 use Rattle.std.proofs.Common.{◌≡◌, ℕ, suc, Bool, true, false, List, [], ◌∷◌, Option, Some, None, subst}
 use Rattle.std.specs.Prelude.{slice_get, nat_eq, if◌then◌else◌}
-use Rattle.jv_mean.specs.Values.{Inputs, Lives}
-use Rattle.jv_mean.specs.Doing.{Run, Outcome, Gives, Ends, and_then, ◌>>=◌, give}
-use Rattle.jv_mean.specs.Statements.{Completion, Normal, Breaks, Continues, Returns, Does, next_do, after_body, while_turn, do_turn}
+use Rattle.jv_values.specs.Values.{Inputs, Lives}
+use Rattle.jv_values.specs.Doing.{Run, Outcome, Gives, Ends, and_then, ◌>>=◌, give}
+use Rattle.jv_values.specs.Statements.{Completion, Normal, Breaks, Continues, Returns, Does, next_do, after_body, while_turn, do_turn}
 use Rattle.jv_core.specs.Tree.{Method, Program}
 use Rattle.jv_core.specs.Conditions.{IsCore}
 use Rattle.jv_core.specs.Meaning.{mine}

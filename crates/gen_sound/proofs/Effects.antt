@@ -2,10 +2,10 @@
 use Rattle.std.proofs.Common.{◌≡◌, ℕ, suc, ◌+◌, ◌≤◌, List, [], ◌∷◌, ◌++◌, length, Option, Some, sym, subst, arith, refl}
 use Rattle.std.specs.Prelude.{slice_get, unwrap_or}
 use Rattle.mg_text.specs.declared.event.Event.TheVariants as seen
-use Rattle.jv_mean.specs.Values.{Value, Row, Shared, Inputs, Here, Lives}
-use Rattle.jv_mean.specs.Doing.{Run, Outcome, and_then, ◌>>=◌, give, found, valued, within, kept, note}
-use Rattle.jv_mean.specs.Operators.{shown, print}
-use Rattle.jv_mean.specs.Statements.{Completion, Normal}
+use Rattle.jv_values.specs.Values.{Value, Row, Shared, Inputs, Here, Lives}
+use Rattle.jv_values.specs.Doing.{Run, Outcome, and_then, ◌>>=◌, give, found, valued, within, kept, note}
+use Rattle.jv_values.specs.Operators.{shown, print}
+use Rattle.jv_values.specs.Statements.{Completion, Normal}
 use Rattle.jv_core.specs.declared.program.CoreType.{CoreType}
 use Rattle.jv_core.specs.declared.program.CoreType.TheVariants as types
 use Rattle.jv_core.specs.Tree.{Expr, Method, Program}

@@ -3,8 +3,8 @@ use Rattle.std.proofs.Common.{◌≡◌, ◌≢◌, ℕ, zero, suc, ◌+◌, ◌
 use Rattle.std.specs.Prelude.{slice_get}
 use Rattle.std.specs.List.{AllByRecursion}
 use Rattle.std.proofs.lemmas.List.{length-append, length-map, length-replicate, length-reverse}
-use Rattle.jv_mean.specs.Values.{Value, Row, bound}
-use Rattle.jv_mean.specs.Calls.{suits}
+use Rattle.jv_values.specs.Values.{Value, Row, bound}
+use Rattle.jv_values.specs.Calls.{suits}
 use Rattle.jv_core.specs.declared.program.CoreType.{CoreType}
 use Rattle.jv_core.specs.declared.program.CoreType.TheVariants as types
 use Rattle.jv_core.specs.declared.program.MethodKind.{MethodKind}

@@ -1,10 +1,10 @@
 -- The code of plain statements does what they mean.
 use Rattle.std.proofs.Common.{◌≡◌, ℕ, suc, ◌≤◌, max, Bool, true, false, List, [], ◌∷◌, Option, Some, None, refl, sym, subst, arith, ◌∙◌}
 use Rattle.std.specs.Prelude.{slice_get, if◌then◌else◌, length, ◌+◌}
-use Rattle.jv_mean.specs.Values.{Value, Row, Shared, Inputs, Here, Lives}
-use Rattle.jv_mean.specs.Values as values
-use Rattle.jv_mean.specs.Doing.{◌>>=◌, and_then, give, kept, valued, truth}
-use Rattle.jv_mean.specs.Statements.{Completion, Normal, Breaks, Continues, Returns, Does, any_label, next_do}
+use Rattle.jv_values.specs.Values.{Value, Row, Shared, Inputs, Here, Lives}
+use Rattle.jv_values.specs.Values as values
+use Rattle.jv_values.specs.Doing.{◌>>=◌, and_then, give, kept, valued, truth}
+use Rattle.jv_values.specs.Statements.{Completion, Normal, Breaks, Continues, Returns, Does, any_label, next_do}
 use Rattle.jv_core.specs.declared.tree.Var.{Var}
 use Rattle.jv_core.specs.declared.tree.Var.TheVariants as vars
 use Rattle.jv_core.specs.declared.program.CoreType.{CoreType}

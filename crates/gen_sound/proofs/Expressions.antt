@@ -6,16 +6,16 @@ use Rattle.std.proofs.lemmas.List.{length-append}
 use Rattle.std.specs.Prelude.{slice_get, option_map, nat_eq, None, Contains}
 use Rattle.jv_tree.specs.declared.tree.Op.{Op}
 use Rattle.jv_tree.specs.declared.tree.Op.TheVariants as ops
-use Rattle.jv_mean.specs.Values.{Value, Row, Shared, Inputs, Here, find}
+use Rattle.jv_values.specs.Values.{Value, Row, Shared, Inputs, Here, find}
 use Rattle.jv_core.specs.declared.tree.Var.{Var}
 use Rattle.jv_core.specs.declared.tree.Var.TheVariants as vars
-use Rattle.jv_mean.specs.Values as values
-use Rattle.jv_mean.specs.Doing.{Run, Outcome, Gives, Ends, and_then, ◌>>=◌, give, found, valuing}
-use Rattle.jv_mean.specs.Calls.{suits}
-use Rattle.jv_mean.specs.Objects.{object_of, telling, make}
+use Rattle.jv_values.specs.Values as values
+use Rattle.jv_values.specs.Doing.{Run, Outcome, Gives, Ends, and_then, ◌>>=◌, give, found, valuing}
+use Rattle.jv_values.specs.Calls.{suits}
+use Rattle.jv_values.specs.Objects.{object_of, telling, make}
 use Rattle.mg_text.specs.Call.{Name}
-use Rattle.jv_mean.specs.Messages.{session}
-use Rattle.jv_mean.specs.Operators.{applied, Plus, Minus, Times, Divide, Remain, Equal, Unequal, equal_texts, joined_texts}
+use Rattle.jv_values.specs.Messages.{session}
+use Rattle.jv_values.specs.Operators.{applied, Plus, Minus, Times, Divide, Remain, Equal, Unequal, equal_texts, joined_texts}
 use Rattle.jv_core.specs.declared.program.CoreType.{CoreType}
 use Rattle.jv_core.specs.declared.program.CoreType.TheVariants as types
 use Rattle.jv_core.specs.Tree.{Expr, Null, Variable, Constant, Binary, Protocol, Helper, Static, New}
@@ -27,7 +27,7 @@ use Rattle.jv_core.specs.Conditions.{IsCore}
 use Rattle.jv_core.specs.Types.{IsShown, IsArithmetic, IsLogic, IsOrder, IsEquality, IsCompared, IsVariable, IsCalled, Has, HasAll, HasTypestate}
 use Rattle.jv_core.specs.Types.{session_params, session_result}
 use Rattle.jv_core.specs.Types
-use Rattle.jv_mean.specs.Operators.{operator_of}
+use Rattle.jv_values.specs.Operators.{operator_of}
 use Rattle.jv_core.specs.Meaning.{Lower, session_of, result_of, runs_on_object, read, protocol_call, eval, eval_all, new_fields}
 use Rattle.vm_model.specs.declared.value.Value.{Value as Held}
 use Rattle.vm_model.specs.declared.value.Value.TheVariants as held

@@ -5,10 +5,10 @@ use Rattle.std.specs.Str.{bytes_eq}
 use Rattle.mg_text.specs.Call.{Name}
 use Rattle.mg_text.specs.declared.event.BadKind.TheVariants as bad
 use Rattle.ts_tree.specs.Proper.{AreDistinct}
-use Rattle.jv_mean.specs.Values.{Value, Row, Shared, Instance, Inputs, find, put, over}
-use Rattle.jv_mean.specs.Values as values
-use Rattle.jv_mean.specs.Doing.{Run, Gives, and_then, ◌>>=◌, give, found, valuing, objects, with_objects}
-use Rattle.jv_mean.specs.Objects.{object_of, read_field, write_field}
+use Rattle.jv_values.specs.Values.{Value, Row, Shared, Instance, Inputs, find, put, over}
+use Rattle.jv_values.specs.Values as values
+use Rattle.jv_values.specs.Doing.{Run, Gives, and_then, ◌>>=◌, give, found, valuing, objects, with_objects}
+use Rattle.jv_values.specs.Objects.{object_of, read_field, write_field}
 use Rattle.jv_core.specs.declared.tree.Var.TheVariants as vars
 use Rattle.jv_core.specs.declared.program.CoreType.{CoreType}
 use Rattle.jv_core.specs.declared.program.CoreType.TheVariants as types

@@ -4,7 +4,7 @@ use Rattle.std.specs.Prelude.{if◌then◌else◌, slice_get, Some, unwrap_or, �
 use Rattle.std.specs.List.{AllByRecursion}
 use Rattle.std.specs.Str.{bytes_eq}
 use Rattle.mg_text.specs.Call.{Name}
-use Rattle.jv_mean.specs.Values.{Value, Shared, Instance}
+use Rattle.jv_values.specs.Values.{Value, Shared, Instance}
 use Rattle.jv_core.specs.declared.program.CoreType.{CoreType}
 use Rattle.jv_core.specs.declared.program.CoreType.TheVariants as types
 use Rattle.jv_core.specs.Tree.{Class, Program}

@@ -3,9 +3,9 @@ use Rattle.std.proofs.Common.{◌≡◌, ℕ, suc, ◌+◌, ◌≤◌, Bool, tru
 use Rattle.std.proofs.Common.{subst, append-nil, arith, pos}
 use Rattle.std.specs.Prelude.{slice_get, if◌then◌else◌}
 use Rattle.std.proofs.lemmas.List.{length-append}
-use Rattle.jv_mean.specs.Values.{Value, Shared, Inputs, Finish}
-use Rattle.jv_mean.specs.Values as values
-use Rattle.jv_mean.specs.Doing.{Run, Outcome, Gives, Ends, and_then, ◌>>=◌, found, valued, truth}
+use Rattle.jv_values.specs.Values.{Value, Shared, Inputs, Finish}
+use Rattle.jv_values.specs.Values as values
+use Rattle.jv_values.specs.Doing.{Run, Outcome, Gives, Ends, and_then, ◌>>=◌, found, valued, truth}
 use Rattle.jv_core.specs.declared.program.CoreType.TheVariants as types
 use Rattle.jv_core.specs.Tree.{Method, Program}
 use Rattle.jv_core.specs.Conditions.{IsCore}

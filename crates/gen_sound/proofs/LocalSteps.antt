@@ -3,8 +3,8 @@ use Rattle.std.proofs.Common.{◌≡◌, ℕ, ◌+◌, ◌-◌, ◌≤◌, ◌<�
 use Rattle.std.specs.Prelude.{slice_get, slice_set, nat_eq}
 use Rattle.std.proofs.lemmas.List.{length-append}
 use Rattle.std.proofs.lemmas.Option.{slice_get_within}
-use Rattle.jv_mean.specs.Values.{Value, Row, Shared, Inputs, find}
-use Rattle.jv_mean.specs.Doing.{give, found, valuing}
+use Rattle.jv_values.specs.Values.{Value, Row, Shared, Inputs, find}
+use Rattle.jv_values.specs.Doing.{give, found, valuing}
 use Rattle.jv_core.specs.declared.program.CoreType.{CoreType}
 use Rattle.jv_core.specs.Tree.{Method, Program}
 use Rattle.jv_core.specs.Conditions.{IsCore}

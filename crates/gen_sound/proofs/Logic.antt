@@ -1,10 +1,10 @@
 -- `!`, `&&` and `||`: jumps of jumps.
 use Rattle.std.proofs.Common.{◌≡◌, ℕ, Bool, true, false, not, List, Option, Some, None, refl, sym, subst, arith, max}
 use Rattle.std.specs.Prelude.{if◌then◌else◌}
-use Rattle.jv_mean.specs.Values.{Value, Shared, Inputs}
-use Rattle.jv_mean.specs.Values as values
-use Rattle.jv_mean.specs.Doing.{Run, Outcome, Gives, Ends, and_then, ◌>>=◌, give, found, valued, valuing, truth}
-use Rattle.jv_mean.specs.Operators.{opposite, unless_decided}
+use Rattle.jv_values.specs.Values.{Value, Shared, Inputs}
+use Rattle.jv_values.specs.Values as values
+use Rattle.jv_values.specs.Doing.{Run, Outcome, Gives, Ends, and_then, ◌>>=◌, give, found, valued, valuing, truth}
+use Rattle.jv_values.specs.Operators.{opposite, unless_decided}
 use Rattle.jv_core.specs.declared.program.CoreType.TheVariants as types
 use Rattle.jv_core.specs.Tree.{Method, Program}
 use Rattle.jv_core.specs.Conditions.{IsCore}

@@ -5,8 +5,8 @@ use Rattle.std.specs.Str.{bytes_eq}
 use Rattle.std.proofs.lemmas.List.{length-map, length-append}
 use Rattle.mg_text.specs.Call.{Name}
 use Rattle.mg_text.specs.declared.event.Event.TheVariants as seen
-use Rattle.jv_mean.specs.Values.{Value, Row, Shared, Instance, Inputs}
-use Rattle.jv_mean.specs.Values as values
+use Rattle.jv_values.specs.Values.{Value, Row, Shared, Instance, Inputs}
+use Rattle.jv_values.specs.Values as values
 use Rattle.jv_core.specs.declared.program.CoreType.{CoreType}
 use Rattle.jv_core.specs.declared.program.CoreType.TheVariants as types
 use Rattle.jv_core.specs.Tree.{Class, Field, Method, Program, Expr, Int, Truth, Text, Null, Variable, Constant, Neg, Not, Binary, Protocol, Helper, Static, Equals, Concat, Session, New, Then, NoStmt, Eval}

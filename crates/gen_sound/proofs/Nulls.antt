@@ -2,10 +2,10 @@
 use Rattle.std.proofs.Common.{◌≡◌, ℕ, suc, ◌+◌, ◌≤◌, Bool, true, false, not, List, [], ◌∷◌, ◌++◌, length, Option, Some, None, refl, sym, subst, arith}
 use Rattle.std.specs.Prelude.{slice_get, if◌then◌else◌}
 use Rattle.jv_tree.specs.declared.tree.Op.TheVariants as ops
-use Rattle.jv_mean.specs.Values.{Value, Shared, Inputs}
-use Rattle.jv_mean.specs.Values as values
-use Rattle.jv_mean.specs.Doing.{Run, Outcome, Gives, Ends, and_then, ◌>>=◌, give, stop, found, truth}
-use Rattle.jv_mean.specs.Operators.{applied, Equal, Unequal}
+use Rattle.jv_values.specs.Values.{Value, Shared, Inputs}
+use Rattle.jv_values.specs.Values as values
+use Rattle.jv_values.specs.Doing.{Run, Outcome, Gives, Ends, and_then, ◌>>=◌, give, stop, found, truth}
+use Rattle.jv_values.specs.Operators.{applied, Equal, Unequal}
 use Rattle.jv_core.specs.declared.program.CoreType.TheVariants as types
 use Rattle.jv_core.specs.Tree.{Method, Program}
 use Rattle.jv_core.specs.Conditions.{IsCore}

@@ -4,16 +4,16 @@ use Rattle.std.proofs.Common.{◌∙◌, subst, arith, ℤ, pos, append_assoc}
 use Rattle.std.specs.Prelude.{if◌then◌else◌, slice_get, int_div, int_rem, int_lt, int_le}
 use Rattle.jv_tree.specs.declared.tree.Op.{Op}
 use Rattle.jv_tree.specs.declared.tree.Op.TheVariants as ops
-use Rattle.jv_mean.specs.Values.{Value, Shared, Inputs}
-use Rattle.jv_mean.specs.Values as values
-use Rattle.jv_mean.specs.Doing.{Run, Outcome, and_then, ◌>>=◌, give, stop, valuing, truth}
-use Rattle.jv_mean.specs.Operators.{applied, Minus, Times, Divide, Remain, Plus, Equal, Unequal, equal_texts, joined_texts, int_same, wrap}
+use Rattle.jv_values.specs.Values.{Value, Shared, Inputs}
+use Rattle.jv_values.specs.Values as values
+use Rattle.jv_values.specs.Doing.{Run, Outcome, and_then, ◌>>=◌, give, stop, valuing, truth}
+use Rattle.jv_values.specs.Operators.{applied, Minus, Times, Divide, Remain, Plus, Equal, Unequal, equal_texts, joined_texts, int_same, wrap}
 use Rattle.jv_core.specs.declared.program.CoreType.{CoreType}
 use Rattle.jv_core.specs.declared.program.CoreType.TheVariants as types
 use Rattle.jv_core.specs.Tree.{Method, Program}
 use Rattle.jv_core.specs.Conditions.{IsCore}
 use Rattle.jv_core.specs.Types.{IsOrder, IsCompared}
-use Rattle.jv_mean.specs.Operators.{operator_of}
+use Rattle.jv_values.specs.Operators.{operator_of}
 use Rattle.vm_model.specs.declared.value.Value.{Value as Held}
 use Rattle.vm_model.specs.declared.value.Value.TheVariants as held
 use Rattle.vm_model.specs.declared.linked.Built.TheVariants as built

@@ -11,8 +11,8 @@ use Rattle.mg_text.specs.Call.{Name}
 use Rattle.mg_text.specs.declared.event.Event.{Event}
 use Rattle.mg_text.specs.declared.event.Event.TheVariants as seen
 use Rattle.mg_text.specs.declared.event.Sent.{Sent}
-use Rattle.jv_mean.specs.Values.{Inputs}
-use Rattle.jv_mean.specs.Messages.{taken, takes_from}
+use Rattle.jv_values.specs.Values.{Inputs}
+use Rattle.jv_values.specs.Messages.{taken, takes_from}
 use Rattle.vm_model.specs.Messages.{Messages, or_nothing, sent_by, on_way, with_list, sending, role_named}
 use Rattle.vm_model.specs.Step.{other_role}
 use Rattle.jv_sound.proofs.Lists.{some_is}

@@ -5,8 +5,8 @@ use Rattle.mg_text.specs.Call.{Name}
 use Rattle.mg_text.specs.declared.event.Event.{Event}
 use Rattle.mg_text.specs.declared.event.Ending.{Ending}
 use Rattle.mg_text.specs.declared.event.Ending.TheVariants as endings
-use Rattle.jv_mean.specs.Values.{Finish, Wait, More, Inputs, Ended, Wrong}
-use Rattle.jv_mean.specs.Budget.{ran}
+use Rattle.jv_values.specs.Values.{Finish, Wait, More, Inputs, Ended, Wrong}
+use Rattle.jv_values.specs.Budget.{ran}
 use Rattle.jv_core.specs.declared.program.MethodKind.TheVariants as kinds
 use Rattle.jv_core.specs.Tree.{Method, Program}
 use Rattle.jv_core.specs.Conditions.{IsCore}

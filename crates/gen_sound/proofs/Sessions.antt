@@ -8,10 +8,10 @@ use Rattle.mg_text.specs.declared.event.Ending.TheVariants as endings
 use Rattle.mg_text.specs.declared.event.Sent.{Sent}
 use Rattle.mg_text.specs.declared.event.Carried.{Carried}
 use Rattle.mg_text.specs.declared.event.Carried.TheVariants as carried
-use Rattle.jv_mean.specs.Values.{Value, Shared, Inputs, Mismatch, NoPeer, Wait}
-use Rattle.jv_mean.specs.Values as values
-use Rattle.jv_mean.specs.Doing.{Run, Outcome, and_then, ◌>>=◌, give, stop, note, happened}
-use Rattle.jv_mean.specs.Messages.{messages_of, taken, there_or, sends, looks, takes, refuses, nothing_in, int_in, truth_in, text_in, session}
+use Rattle.jv_values.specs.Values.{Value, Shared, Inputs, Mismatch, NoPeer, Wait}
+use Rattle.jv_values.specs.Values as values
+use Rattle.jv_values.specs.Doing.{Run, Outcome, and_then, ◌>>=◌, give, stop, note, happened}
+use Rattle.jv_values.specs.Messages.{messages_of, taken, there_or, sends, looks, takes, refuses, nothing_in, int_in, truth_in, text_in, session}
 use Rattle.jv_core.specs.declared.tree.SessionCall.{SessionCall}
 use Rattle.jv_core.specs.declared.tree.SessionCall.TheVariants as calls
 use Rattle.jv_core.specs.Tree.{Method, Program}

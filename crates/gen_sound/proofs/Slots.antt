@@ -1,7 +1,7 @@
 -- Locals of a method: where they stand, and how they are read.
 use Rattle.std.proofs.Common.{◌≡◌, ℕ, zero, suc, ◌+◌, Bool, true, false, List, length, Option, Some, None, refl, ap, ◌∙◌, subst, arith}
 use Rattle.std.specs.Prelude.{slice_get, nat_eq, nat_le, if◌then◌else◌}
-use Rattle.jv_mean.specs.Values.{Value, Row, find}
+use Rattle.jv_values.specs.Values.{Value, Row, find}
 use Rattle.jv_core.specs.declared.program.CoreType.{CoreType}
 use Rattle.jv_core.specs.declared.program.CoreType.TheVariants as types
 use Rattle.jv_core.specs.declared.program.MethodKind.{MethodKind}

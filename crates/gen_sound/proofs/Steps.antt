@@ -2,8 +2,8 @@
 use Rattle.std.proofs.Common.{◌≡◌, ℕ, suc, ◌+◌, ◌≤◌, List, [], ◌++◌, Option, sym, ap, ◌∙◌, subst, append_assoc, append-nil, arith}
 use Rattle.mg_text.specs.Call.{Name}
 use Rattle.mg_text.specs.declared.event.Event.{Event}
-use Rattle.jv_mean.specs.Values.{Finish, Done, Zero, Null, Mismatch, NoPeer, Wait, More, Wrong}
-use Rattle.jv_mean.specs.Doing.{Outcome, Gives, Ends, and_then}
+use Rattle.jv_values.specs.Values.{Finish, Done, Zero, Null, Mismatch, NoPeer, Wait, More, Wrong}
+use Rattle.jv_values.specs.Doing.{Outcome, Gives, Ends, and_then}
 use Rattle.vm_model.specs.Messages.{Messages}
 use Rattle.vm_model.specs.Machine.{Machine, Stepped, Went, Steps, none, more, noted}
 use Rattle.gen_sound.specs.Following.{Moment, Comes, Leads, Stopped, Waiting, Spent, EndsAlike, Follows}

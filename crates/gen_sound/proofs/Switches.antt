@@ -5,10 +5,10 @@ use Rattle.std.specs.Str.{bytes_eq}
 use Rattle.std.proofs.lemmas.Bool.{eqb-true}
 use Rattle.std.proofs.lemmas.List.Elements.{Contains-append_left, Contains-append_right}
 use Rattle.mg_text.specs.Call.{Name}
-use Rattle.jv_mean.specs.Values.{Value, Row, Shared, Inputs, Here, Lives, Wrong}
-use Rattle.jv_mean.specs.Values as values
-use Rattle.jv_mean.specs.Doing.{Run, Outcome, Gives, Ends, and_then, ◌>>=◌, give, stop, found, kept, constant}
-use Rattle.jv_mean.specs.Statements.{Completion, Normal, Breaks, Continues, Returns, Does, is_default, case_at, any_label, next_do, after_switch}
+use Rattle.jv_values.specs.Values.{Value, Row, Shared, Inputs, Here, Lives, Wrong}
+use Rattle.jv_values.specs.Values as values
+use Rattle.jv_values.specs.Doing.{Run, Outcome, Gives, Ends, and_then, ◌>>=◌, give, stop, found, kept, constant}
+use Rattle.jv_values.specs.Statements.{Completion, Normal, Breaks, Continues, Returns, Does, is_default, case_at, any_label, next_do, after_switch}
 use Rattle.jv_core.specs.declared.program.CoreType.{CoreType}
 use Rattle.jv_core.specs.declared.program.CoreType.TheVariants as types
 use Rattle.jv_core.specs.Tree.{Expr, Groups, NoGroup, Group, Method, Program}

@@ -2,9 +2,9 @@
 use Rattle.std.proofs.Common.{◌≡◌, ℕ, suc, ◌+◌, ◌≤◌, ◌<◌, Bool, true, false, List, [], ◌∷◌, ◌++◌, length, Option, Some, refl, sym, ap, ◌∙◌, subst, arith}
 use Rattle.std.specs.Prelude.{slice_get, slice_set, nat_eq, if◌then◌else◌}
 use Rattle.std.proofs.lemmas.Option.{slice_get_within}
-use Rattle.jv_mean.specs.Values.{Value, Row, Shared, Inputs, Here, Lives, find, put, Wrong}
-use Rattle.jv_mean.specs.Doing.{Run, Outcome, Gives, Ends, and_then, ◌>>=◌, give, stop, within, declared}
-use Rattle.jv_mean.specs.Statements.{Completion, Returns, Does, assigned}
+use Rattle.jv_values.specs.Values.{Value, Row, Shared, Inputs, Here, Lives, find, put, Wrong}
+use Rattle.jv_values.specs.Doing.{Run, Outcome, Gives, Ends, and_then, ◌>>=◌, give, stop, within, declared}
+use Rattle.jv_values.specs.Statements.{Completion, Returns, Does, assigned}
 use Rattle.jv_core.specs.declared.tree.Var.TheVariants as vars
 use Rattle.jv_core.specs.declared.program.CoreType.{CoreType}
 use Rattle.jv_core.specs.declared.program.CoreType.TheVariants as types

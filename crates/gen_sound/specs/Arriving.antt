@@ -1,6 +1,6 @@
 -- Where the machine comes to behind the code of an expression.
 use Rattle.std.specs.Prelude.{ℕ, List, ◌++◌, Bool, true, false, Option}
-use Rattle.jv_mean.specs.Values.{Value, Shared, Inputs}
+use Rattle.jv_values.specs.Values.{Value, Shared, Inputs}
 use Rattle.jv_core.specs.Tree.{Program}
 use Rattle.vm_model.specs.declared.value.Value.{Value as Held}
 use Rattle.vm_model.specs.Program as linked

@@ -3,8 +3,8 @@ use Rattle.std.specs.Prelude.{◌≡◌, ◌≤◌, ◌<◌, ℕ, List, ◌++◌
 use Rattle.mg_text.specs.Call.{Name}
 use Rattle.mg_text.specs.declared.event.Event.{Event}
 use Rattle.mg_text.specs.declared.event.Ending.TheVariants as endings
-use Rattle.jv_mean.specs.Values.{Finish, Done, Zero, Null, Mismatch, NoPeer, Wait, More, Wrong}
-use Rattle.jv_mean.specs.Doing.{Outcome, Gives, Ends}
+use Rattle.jv_values.specs.Values.{Finish, Done, Zero, Null, Mismatch, NoPeer, Wait, More, Wrong}
+use Rattle.jv_values.specs.Doing.{Outcome, Gives, Ends}
 use Rattle.vm_model.specs.Messages.{Messages, role_named}
 use Rattle.vm_model.specs.Machine.{Machine, Stepped, Waits, Stops, Steps}
 

@@ -1,7 +1,7 @@
 -- What is proved: runs of each class with a `main` (`MainsAgree`).
 use Rattle.std.specs.Prelude.{◌≡◌, ℕ, List, [], Some, slice_get}
 use Rattle.mg_text.specs.Call.{Name}
-use Rattle.jv_mean.specs.Values.{Inputs}
+use Rattle.jv_values.specs.Values.{Inputs}
 use Rattle.jv_core.specs.Tree.{Method, Program}
 use Rattle.jv_core.specs.Conditions.{IsCore}
 use Rattle.jv_core.specs.Meaning.{as_run, main_of, cmean}

@@ -1,7 +1,7 @@
 -- How the state of a meaning lies in the machine.
 use Rattle.std.specs.Prelude.{◌≡◌, ◌+◌, ℕ, pos, List, [], ◌∷◌, length, map, Option, Some, None, unwrap_or}
 use Rattle.std.specs.Prelude.{slice_get}
-use Rattle.jv_mean.specs.Values.{Value, Int, Truth, Text, Null, Object, Constant, Row, Instance, Shared}
+use Rattle.jv_values.specs.Values.{Value, Int, Truth, Text, Null, Object, Constant, Row, Instance, Shared}
 use Rattle.jv_core.specs.Tree.{Program}
 use Rattle.jv_core.specs.Lookup.{class_numbered}
 use Rattle.vm_model.specs.declared.value.Value.{Value as Held}

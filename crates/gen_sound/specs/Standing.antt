@@ -1,7 +1,7 @@
 -- Where the machine comes to behind the code of a statement.
 use Rattle.std.specs.Prelude.{◌≡◌, ℕ, List, [], length, Option, Some, None, slice_get}
-use Rattle.jv_mean.specs.Values.{Value, Row, Inputs, Lives}
-use Rattle.jv_mean.specs.Statements.{Completion, Normal, Breaks, Continues, Returns}
+use Rattle.jv_values.specs.Values.{Value, Row, Inputs, Lives}
+use Rattle.jv_values.specs.Statements.{Completion, Normal, Breaks, Continues, Returns}
 use Rattle.jv_core.specs.declared.program.CoreType.{CoreType}
 use Rattle.jv_core.specs.Tree.{Method, Program}
 use Rattle.jv_core.specs.Lookup.{IsInstance}

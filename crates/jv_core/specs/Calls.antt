@@ -5,8 +5,8 @@ use Rattle.mg_text.specs.Call.{Name, Call}
 use Rattle.mg_text.specs.declared.event.Event.{Event}
 use Rattle.ts_tree.specs.Typestate.{Typestate}
 use Rattle.ts_tree.specs.Calls.{Path, MayBeLeft}
-use Rattle.jv_mean.specs.Seen.{Results, Classes, told, calls_told}
-use Rattle.jv_mean.specs.Seen as seen
+use Rattle.jv_values.specs.Seen.{Results, Classes, told, calls_told}
+use Rattle.jv_values.specs.Seen as seen
 use Rattle.jv_core.specs.declared.program.CoreType.{CoreType}
 use Rattle.jv_core.specs.declared.program.CoreType.TheVariants as types
 use Rattle.jv_core.specs.Tree.{Class, Method, Program}

@@ -3,15 +3,15 @@
 use Rattle.std.specs.Prelude.{ℕ, Bool, true, false, List, [], ◌∷◌, Option, Some, None, ◌||◌, ◌&&◌, suc, pos, nat_eq, slice_get, if◌then◌else◌, option_map, option_and_then}
 use Rattle.std.specs.Str.{bytes_eq}
 use Rattle.mg_text.specs.Call.{Name}
-use Rattle.jv_mean.specs.Values.{Value, Row, Shared, Lives, Here, Inputs, Ended, Wrong, find, put}
-use Rattle.jv_mean.specs.Values as values
-use Rattle.jv_mean.specs.Doing.{Run, ◌>>=◌, give, stop, found, valued, valuing, within, declared, truth, constant}
-use Rattle.jv_mean.specs.Operators.{operator_of, binary, negative, opposite, equal_texts, joined_texts, print}
-use Rattle.jv_mean.specs.Objects.{object_of, read_field, write_field, make, receiver, telling}
-use Rattle.jv_mean.specs.Messages.{session}
-use Rattle.jv_mean.specs.Messages as messages
-use Rattle.jv_mean.specs.Statements.{Normal, Breaks, Continues, Returns, Does, next_do, assigned, Mine, while_turn, do_turn, is_default, case_at, any_label, after_switch}
-use Rattle.jv_mean.specs.Budget.{Below, Language, ran}
+use Rattle.jv_values.specs.Values.{Value, Row, Shared, Lives, Here, Inputs, Ended, Wrong, find, put}
+use Rattle.jv_values.specs.Values as values
+use Rattle.jv_values.specs.Doing.{Run, ◌>>=◌, give, stop, found, valued, valuing, within, declared, truth, constant}
+use Rattle.jv_values.specs.Operators.{operator_of, binary, negative, opposite, equal_texts, joined_texts, print}
+use Rattle.jv_values.specs.Objects.{object_of, read_field, write_field, make, receiver, telling}
+use Rattle.jv_values.specs.Messages.{session}
+use Rattle.jv_values.specs.Messages as messages
+use Rattle.jv_values.specs.Statements.{Normal, Breaks, Continues, Returns, Does, next_do, assigned, Mine, while_turn, do_turn, is_default, case_at, any_label, after_switch}
+use Rattle.jv_values.specs.Budget.{Below, Language, ran}
 use Rattle.jv_core.specs.declared.tree.Var.{Var}
 use Rattle.jv_core.specs.declared.tree.Var.TheVariants as vars
 use Rattle.jv_core.specs.declared.tree.SessionCall.{SessionCall}

@@ -6,18 +6,18 @@ use Rattle.mg_text.specs.Call.{Name}
 use Rattle.jv_tree.specs.Source.{Expr, Int, Truth, Text, Null, This, Variable, Member, Neg, Not, Binary, Call, MethodCall, New, Exprs, NoExpr, Argument}
 use Rattle.jv_tree.specs.Source.{Stmt, Block, Empty, Local, Assign, If, IfElse, While, Do, Switch, Break, Continue, Return, Print, Eval}
 use Rattle.jv_tree.specs.Source.{Stmts, NoStmt, Then, Groups, NoGroup, Group}
-use Rattle.jv_mean.specs.Values.{Value, Row, Shared, Lives, Here, Inputs, Wrong, put}
-use Rattle.jv_mean.specs.Values as values
-use Rattle.jv_mean.specs.Doing.{Run, ◌>>=◌, give, stop, found, valued, valuing, within}
-use Rattle.jv_mean.specs.Statements.{Normal, Does, next_do, is_default, any_label}
-use Rattle.jv_mean.specs.Further.{FurtherShared, FurtherLives, FurtherDoes, FurtherBelow, IsMonotone}
-use Rattle.jv_mean.proofs.Combine.{if_alike, next_alike, switch_alike, while_alike, do_alike}
-use Rattle.jv_mean.proofs.Combine as combine
-use Rattle.jv_mean.proofs.Expressions as expressions
-use Rattle.jv_mean.proofs.Further.{further_shares, lives_closed, within_further, declared_further, assigned_further, same_exits}
-use Rattle.jv_mean.proofs.Further as further
+use Rattle.jv_values.specs.Values.{Value, Row, Shared, Lives, Here, Inputs, Wrong, put}
+use Rattle.jv_values.specs.Values as values
+use Rattle.jv_values.specs.Doing.{Run, ◌>>=◌, give, stop, found, valued, valuing, within}
+use Rattle.jv_values.specs.Statements.{Normal, Does, next_do, is_default, any_label}
+use Rattle.jv_values.specs.Further.{FurtherShared, FurtherLives, FurtherDoes, FurtherBelow, IsMonotone}
+use Rattle.jv_values.proofs.Combine.{if_alike, next_alike, switch_alike, while_alike, do_alike}
+use Rattle.jv_values.proofs.Combine as combine
+use Rattle.jv_values.proofs.Expressions as expressions
+use Rattle.jv_values.proofs.Further.{further_shares, lives_closed, within_further, declared_further, assigned_further, same_exits}
+use Rattle.jv_values.proofs.Further as further
 use Rattle.jv_meaning.specs.Program.{Sources, class_named, enum_named}
-use Rattle.jv_mean.specs.Operators.{operator_of}
+use Rattle.jv_values.specs.Operators.{operator_of}
 use Rattle.jv_meaning.specs.Names.{session_named, method_of, main_of, Referent, ALocal, AField, NoVariable, referent, constant_named, new_fields}
 use Rattle.jv_meaning.specs.Meaning.{Lower, read, read_constant, member, write_own, write_member, write, mine, case_label, has_group, Target, Own, OfClass, OfValue, target_of, passed, text_call, class_call, value_call, member_call, eval, eval_all, value, test, exec, exec_all, exec_from, exec_groups, language}
 use Rattle.jv_meaning.specs.Budget.{BudgetLaw}

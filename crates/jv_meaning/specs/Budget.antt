@@ -1,8 +1,8 @@
 -- What a greater budget changes.
 use Rattle.std.specs.Prelude.{◌≡◌, ◌≢◌, ℕ, suc}
 use Rattle.mg_text.specs.Call.{Name}
-use Rattle.jv_mean.specs.Values.{Inputs, More}
-use Rattle.jv_mean.specs.Alike.{Prefix}
+use Rattle.jv_values.specs.Values.{Inputs, More}
+use Rattle.jv_values.specs.Alike.{Prefix}
 use Rattle.jv_meaning.specs.Program.{Sources}
 use Rattle.jv_meaning.specs.Meaning.{mean}
 

@@ -7,8 +7,8 @@ use Rattle.ts_tree.specs.declared.parts.TypeName.TheVariants as types
 use Rattle.ts_tree.specs.Typestate.{Typestate}
 use Rattle.ts_tree.specs.Calls.{Path, MayBeLeft}
 use Rattle.jv_tree.specs.Source.{Class}
-use Rattle.jv_mean.specs.Seen.{Results, Classes, told, calls_told}
-use Rattle.jv_mean.specs.Seen as seen
+use Rattle.jv_values.specs.Seen.{Results, Classes, told, calls_told}
+use Rattle.jv_values.specs.Seen as seen
 use Rattle.jv_meaning.specs.Program.{Sources, class_named, enum_named, method_named, typestate_named}
 
 abbrev pub unless_class : Option Class → Option (List Name) → Option (List Name)

@@ -7,9 +7,9 @@ use Rattle.ts_tree.specs.declared.parts.TypeName.{TypeName}
 use Rattle.ts_tree.specs.declared.parts.TypeName.TheVariants as types
 use Rattle.jv_tree.specs.declared.tree.Param.{Param}
 use Rattle.jv_tree.specs.Source.{Expr, Int, Truth, Text, Null, Variable, Member, Stmt, Block, Field, Method}
-use Rattle.jv_mean.specs.Values.{Value, Row, Here, find}
-use Rattle.jv_mean.specs.Values as values
-use Rattle.jv_mean.specs.Messages.{SessionCall, Send, SendInt, SendTruth, SendText, Look, Take, TakeInt, TakeTruth, TakeText, Refuse}
+use Rattle.jv_values.specs.Values.{Value, Row, Here, find}
+use Rattle.jv_values.specs.Values as values
+use Rattle.jv_values.specs.Messages.{SessionCall, Send, SendInt, SendTruth, SendText, Look, Take, TakeInt, TakeTruth, TakeText, Refuse}
 use Rattle.jv_meaning.specs.Program.{Sources, class_named, enum_named, field_named, method_named, constant_position}
 
 -- the method of the class `Session` that has this name

@@ -6,12 +6,12 @@ use Rattle.ts_tree.specs.declared.parts.TypeName.{TypeName}
 use Rattle.ts_tree.specs.declared.parts.TypeName.TheVariants as written
 use Rattle.jv_tree.specs.declared.tree.Param.{Param}
 use Rattle.jv_tree.specs.Source
-use Rattle.jv_mean.specs.Values.{Value, Row, Shared, Lives, Inputs, Wrong, More, bound}
-use Rattle.jv_mean.specs.Doing.{Outcome, Gives, Ends, Run, stop, found}
-use Rattle.jv_mean.specs.Statements.{Completion, Normal, Breaks, Continues, Returns, Does}
-use Rattle.jv_mean.specs.Calls.{returned, result, body_from, suits, called}
-use Rattle.jv_mean.specs.Budget.{below}
-use Rattle.jv_mean.specs.Alike.{Alike, Completes, SameEnd}
+use Rattle.jv_values.specs.Values.{Value, Row, Shared, Lives, Inputs, Wrong, More, bound}
+use Rattle.jv_values.specs.Doing.{Outcome, Gives, Ends, Run, stop, found}
+use Rattle.jv_values.specs.Statements.{Completion, Normal, Breaks, Continues, Returns, Does}
+use Rattle.jv_values.specs.Calls.{returned, result, body_from, suits, called}
+use Rattle.jv_values.specs.Budget.{below}
+use Rattle.jv_values.specs.Alike.{Alike, Completes, SameEnd}
 use Rattle.jv_meaning.specs.Program.{class_named}
 use Rattle.jv_meaning.specs.Names as names
 use Rattle.jv_meaning.specs.Meaning as meant

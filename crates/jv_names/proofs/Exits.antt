@@ -3,8 +3,8 @@ use Rattle.std.proofs.Common.{◌≡◌, ◌≢◌, ℕ, Bool, true, false, List
 use Rattle.std.specs.Prelude.{nat_eq, ◌||◌}
 use Rattle.mg_text.specs.Call.{Name}
 use Rattle.jv_tree.specs.Source
-use Rattle.jv_mean.specs.Statements.{is_default, case_at, any_label}
-use Rattle.jv_mean.specs.Alike.{Meet}
+use Rattle.jv_values.specs.Statements.{is_default, case_at, any_label}
+use Rattle.jv_values.specs.Alike.{Meet}
 use Rattle.jv_meaning.specs.Meaning.{mine, case_label}
 use Rattle.jv_rules.specs.Program.{Program}
 use Rattle.jv_rules.specs.Scope.{Target, Loop, Switch}

@@ -5,15 +5,15 @@ use Rattle.std.specs.Str.{bytes_eq}
 use Rattle.std.proofs.lemmas.Slice.Eq.{bytes_eq-Decides}
 use Rattle.mg_text.specs.Call.{Name}
 use Rattle.jv_tree.specs.Source
-use Rattle.jv_mean.specs.Values.{Value, Text, Row, Shared, Instance, Inputs, Wrong}
-use Rattle.jv_mean.specs.Values as values
-use Rattle.jv_mean.specs.Doing.{Outcome, Gives, Ends, Run, and_then, ◌>>=◌, give, stop, found, valued, valuing}
-use Rattle.jv_mean.specs.Operators.{operator_of, binary, equal_texts, joined_texts}
-use Rattle.jv_mean.specs.Objects.{object, object_of, make, telling}
-use Rattle.jv_mean.specs.Messages.{session}
-use Rattle.jv_mean.specs.Statements.{Completion, Does}
-use Rattle.jv_mean.specs.Alike.{Alike, SameEnd, Completes}
-use Rattle.jv_mean.proofs.Expressions as same
+use Rattle.jv_values.specs.Values.{Value, Text, Row, Shared, Instance, Inputs, Wrong}
+use Rattle.jv_values.specs.Values as values
+use Rattle.jv_values.specs.Doing.{Outcome, Gives, Ends, Run, and_then, ◌>>=◌, give, stop, found, valued, valuing}
+use Rattle.jv_values.specs.Operators.{operator_of, binary, equal_texts, joined_texts}
+use Rattle.jv_values.specs.Objects.{object, object_of, make, telling}
+use Rattle.jv_values.specs.Messages.{session}
+use Rattle.jv_values.specs.Statements.{Completion, Does}
+use Rattle.jv_values.specs.Alike.{Alike, SameEnd, Completes}
+use Rattle.jv_values.proofs.Expressions as same
 use Rattle.jv_meaning.specs.Program.{class_named, constant_position}
 use Rattle.jv_meaning.specs.Names as names
 use Rattle.jv_meaning.specs.Meaning as meant

@@ -6,11 +6,11 @@ use Rattle.std.specs.List.{position_or_len}
 use Rattle.std.proofs.lemmas.Bool.Decides.{nat_tests}
 use Rattle.mg_text.specs.Call.{Name}
 use Rattle.jv_tree.specs.Source
-use Rattle.jv_mean.specs.Values.{Value, Shared, Inputs, Ended, Wrong, Done}
-use Rattle.jv_mean.specs.Values as values
-use Rattle.jv_mean.specs.Doing.{Outcome, Gives, Ends}
-use Rattle.jv_mean.specs.Budget.{below, ended, ran}
-use Rattle.jv_mean.specs.Alike.{Alike, SameEnd}
+use Rattle.jv_values.specs.Values.{Value, Shared, Inputs, Ended, Wrong, Done}
+use Rattle.jv_values.specs.Values as values
+use Rattle.jv_values.specs.Doing.{Outcome, Gives, Ends}
+use Rattle.jv_values.specs.Budget.{below, ended, ran}
+use Rattle.jv_values.specs.Alike.{Alike, SameEnd}
 use Rattle.jv_meaning.specs.Program.{classes_of, class_named}
 use Rattle.jv_meaning.specs.Names as names
 use Rattle.jv_meaning.specs.Meaning as meant

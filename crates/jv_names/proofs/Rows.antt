@@ -6,8 +6,8 @@ use Rattle.std.proofs.lemmas.Slice.Eq.{bytes_eq-Decides}
 use Rattle.std.proofs.lemmas.Bool.Decides.{nat_tests}
 use Rattle.mg_text.specs.Call.{Name}
 use Rattle.jv_tree.specs.declared.tree.Param.{Param}
-use Rattle.jv_mean.specs.Values.{Value, Row, put, over, bound}
-use Rattle.jv_mean.specs.Values as values
+use Rattle.jv_values.specs.Values.{Value, Row, put, over, bound}
+use Rattle.jv_values.specs.Values as values
 use Rattle.jv_core.specs.Numbering.{numbers_from}
 use Rattle.jv_rules.specs.Scope.{Scope, Declared, declare, with_params}
 use Rattle.jv_names.specs.Resolves.{HasSlot, here, there, first_slots}

@@ -7,7 +7,7 @@ use Rattle.ts_tree.specs.declared.parts.TypeName.{TypeName}
 use Rattle.ts_tree.specs.Typestate.{Typestate}
 use Rattle.ts_tree.specs.Calls.{Path, MayBeLeft}
 use Rattle.jv_tree.specs.Source
-use Rattle.jv_mean.specs.Seen.{Results, Told, Enters, Leaves, told, next_answer, label_in, call_left, calls_told, open_told}
+use Rattle.jv_values.specs.Seen.{Results, Told, Enters, Leaves, told, next_answer, label_in, call_left, calls_told, open_told}
 use Rattle.jv_meaning.specs.Program.{classes_of, enum_named, method_named, typestate_named}
 use Rattle.jv_meaning.specs.Calls as on_source
 use Rattle.jv_rules.specs.Program.{Program}

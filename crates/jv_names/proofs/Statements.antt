@@ -5,14 +5,14 @@ use Rattle.std.specs.Str.{bytes_eq}
 use Rattle.std.proofs.lemmas.Slice.Eq.{bytes_eq-Decides}
 use Rattle.mg_text.specs.Call.{Name}
 use Rattle.jv_tree.specs.Source
-use Rattle.jv_mean.specs.Values.{Shared, Lives, Inputs, Wrong}
-use Rattle.jv_mean.specs.Doing.{Outcome, Ends, and_then, Run, ◌>>=◌, give, stop, found, valued, valuing, within, truth, constant}
-use Rattle.jv_mean.specs.Doing as outcomes
-use Rattle.jv_mean.specs.Operators.{print}
-use Rattle.jv_mean.specs.Statements.{Completion, Does, next_do, is_default, case_at, any_label, after_switch}
-use Rattle.jv_mean.specs.Alike.{Alike, SameEnd, Completes}
-use Rattle.jv_mean.proofs.Combine as combine
-use Rattle.jv_mean.proofs.Expressions as same
+use Rattle.jv_values.specs.Values.{Shared, Lives, Inputs, Wrong}
+use Rattle.jv_values.specs.Doing.{Outcome, Ends, and_then, Run, ◌>>=◌, give, stop, found, valued, valuing, within, truth, constant}
+use Rattle.jv_values.specs.Doing as outcomes
+use Rattle.jv_values.specs.Operators.{print}
+use Rattle.jv_values.specs.Statements.{Completion, Does, next_do, is_default, case_at, any_label, after_switch}
+use Rattle.jv_values.specs.Alike.{Alike, SameEnd, Completes}
+use Rattle.jv_values.proofs.Combine as combine
+use Rattle.jv_values.proofs.Expressions as same
 use Rattle.jv_meaning.specs.Program.{enum_named}
 use Rattle.jv_meaning.specs.Meaning as meant
 use Rattle.jv_rules.specs.Program.{Program}

@@ -5,8 +5,8 @@ use Rattle.std.proofs.lemmas.Slice.Eq.{bytes_eq-Decides}
 use Rattle.mg_text.specs.Call.{Name}
 use Rattle.ts_tree.specs.declared.parts.TypeName.{TypeName}
 use Rattle.jv_tree.specs.Source
-use Rattle.jv_mean.specs.Values.{Value, Row}
-use Rattle.jv_mean.specs.Values as values
+use Rattle.jv_values.specs.Values.{Value, Row}
+use Rattle.jv_values.specs.Values as values
 use Rattle.jv_meaning.specs.Program.{Sources, classes_of, enums_of, class_named, enum_named, method_named, constant_position}
 use Rattle.jv_meaning.specs.Names as meant
 use Rattle.jv_rules.specs.Program.{Program}

@@ -5,14 +5,14 @@ use Rattle.std.specs.Str.{bytes_eq}
 use Rattle.std.proofs.lemmas.Slice.Eq.{bytes_eq-Decides}
 use Rattle.mg_text.specs.Call.{Name}
 use Rattle.jv_tree.specs.Source
-use Rattle.jv_mean.specs.Values.{Value, Row, Shared, Lives, Here, Inputs, Wrong, put}
-use Rattle.jv_mean.specs.Values as values
-use Rattle.jv_mean.specs.Doing.{Run, ◌>>=◌, give, stop, found, valued, valuing, within}
-use Rattle.jv_mean.specs.Objects.{read_field, write_field}
-use Rattle.jv_mean.specs.Statements.{Completion, Does, assigned}
-use Rattle.jv_mean.specs.Alike.{Alike, Completes, SameEnd}
-use Rattle.jv_mean.proofs.Combine as combine
-use Rattle.jv_mean.proofs.Expressions as same
+use Rattle.jv_values.specs.Values.{Value, Row, Shared, Lives, Here, Inputs, Wrong, put}
+use Rattle.jv_values.specs.Values as values
+use Rattle.jv_values.specs.Doing.{Run, ◌>>=◌, give, stop, found, valued, valuing, within}
+use Rattle.jv_values.specs.Objects.{read_field, write_field}
+use Rattle.jv_values.specs.Statements.{Completion, Does, assigned}
+use Rattle.jv_values.specs.Alike.{Alike, Completes, SameEnd}
+use Rattle.jv_values.proofs.Combine as combine
+use Rattle.jv_values.proofs.Expressions as same
 use Rattle.jv_meaning.specs.Program.{class_named, field_named}
 use Rattle.jv_meaning.specs.Names.{ALocal, AField, NoVariable, local_or, has_field, referent}
 use Rattle.jv_meaning.specs.Meaning as meant

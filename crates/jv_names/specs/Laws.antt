@@ -2,7 +2,7 @@
 use Rattle.std.specs.Prelude.{◌≡◌, ◌≢◌, ℕ, List, None}
 use Rattle.mg_text.specs.Call.{Name}
 use Rattle.mg_text.specs.declared.event.Event.{Event}
-use Rattle.jv_mean.specs.Values.{Inputs, Wrong}
+use Rattle.jv_values.specs.Values.{Inputs, Wrong}
 use Rattle.jv_meaning.specs.Meaning.{mean}
 use Rattle.jv_meaning.specs.Names as source_names
 use Rattle.jv_meaning.specs.Calls as on_source

@@ -4,9 +4,9 @@ use Rattle.mg_text.specs.declared.place.Place.{Place}
 use Rattle.jv_tree.specs.Source
 use Rattle.jv_core.specs.Tree as Core
 use Rattle.jv_core.specs.declared.tree.CoreVar.{CoreVar}
-use Rattle.jv_resolving.specs.Tables.{◌>>=◌, Tables}
-use Rattle.jv_resolving.specs.Expressions.{Known, Standing, Resolved, resolved, variable_in}
-use Rattle.jv_resolving.specs.Statements.{Counted, Counting, stmt}
+use Rattle.jv_resolve_law.specs.Tables.{◌>>=◌, Tables}
+use Rattle.jv_resolve_law.specs.Expressions.{Known, Standing, Resolved, resolved, variable_in}
+use Rattle.jv_resolve_law.specs.Statements.{Counted, Counting, stmt}
 use Rattle.jv_resolve.specs.declared.given.Unresolved.{Unresolved}
 use Rattle.jv_resolve.specs.inner.Counted.{counting}
 use Rattle.jv_resolve.specs.inner.Gives.{Fails}

@@ -7,7 +7,7 @@ use Rattle.jv_tree.specs.Source.{Class}
 use Rattle.jv_tree.specs.Source.{Enum}
 use Rattle.jv_meaning.specs.Program.{classes_of, enums_of}
 use Rattle.jv_rules.specs.Program.{Program}
-use Rattle.jv_resolving.specs.Tables.{◌>>=◌, Entry, Tables, followed, entries_from, tables_of}
+use Rattle.jv_resolve_law.specs.Tables.{◌>>=◌, Entry, Tables, followed, entries_from, tables_of}
 use Rattle.jv_resolve.specs.declared.given.Unresolved.{Unresolved}
 use Rattle.jv_resolve.specs.inner.Building.{followed_by, entry_at, entries_by}
 use Rattle.jv_resolve.specs.inner.Gives.{Fails}

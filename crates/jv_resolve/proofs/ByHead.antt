@@ -4,8 +4,8 @@ use Rattle.std.specs.Option.{option_map}
 use Rattle.mg_text.specs.Call.{Name}
 use Rattle.mg_text.specs.declared.place.Place.{Place}
 use Rattle.jv_tree.specs.Source.{Expr, Int, Truth, Text, Null, This, Variable, Member, Neg, Not, Binary, Call, MethodCall, New, place_of}
-use Rattle.jv_resolving.specs.Tables.{◌>>=◌, Tables}
-use Rattle.jv_resolving.specs.Expressions.{Known, Standing, Resolved, OnThis, OnValue, found, own_found, variable_at, constant_at, constant, member, named_receiver, receiver, initial}
+use Rattle.jv_resolve_law.specs.Tables.{◌>>=◌, Tables}
+use Rattle.jv_resolve_law.specs.Expressions.{Known, Standing, Resolved, OnThis, OnValue, found, own_found, variable_at, constant_at, constant, member, named_receiver, receiver, initial}
 use Rattle.jv_resolve.specs.inner.Heads.{Head, ThisHead, NameHead, OtherHead, head_of}
 
 -- a test of heads, to tell them apart

@@ -7,7 +7,7 @@ use Rattle.mg_text.specs.Call.{Name}
 use Rattle.std.proofs.lemmas.Option.{slice_get-map, slice_get_read, slice_get_past}
 use Rattle.std.specs.Borrow.{Bor}
 use Rattle.std.specs.Slice.{IsItemAt}
-use Rattle.jv_resolving.specs.Tables.{◌>>=◌}
+use Rattle.jv_resolve_law.specs.Tables.{◌>>=◌}
 
 pub map-map : {X Y Z : Type 0} (f : X → Y) (g : Y → Z) (xs : List X) → map g (map f xs) ≡ map (λ x. g (f x)) xs
 map-map f g [] = refl

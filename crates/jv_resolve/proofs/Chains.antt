@@ -4,8 +4,8 @@ use Rattle.std.specs.Option.{option_map}
 use Rattle.std.specs.Prelude.{Result, Ok, Err, OnOk}
 use Rattle.jv_core.specs.declared.program.CoreType.{CoreType}
 use Rattle.jv_core.specs.Tree as Core
-use Rattle.jv_resolving.specs.Tables.{◌>>=◌}
-use Rattle.jv_resolving.specs.Expressions.{Resolved, typed}
+use Rattle.jv_resolve_law.specs.Tables.{◌>>=◌}
+use Rattle.jv_resolve_law.specs.Expressions.{Resolved, typed}
 use Rattle.jv_resolve.specs.declared.given.Unresolved.{Unresolved}
 use Rattle.jv_resolve.specs.declared.given.Unresolved.TheVariants as ends
 use Rattle.jv_resolve.specs.inner.Gives.{Fails, Gives}

@@ -6,9 +6,9 @@ use Rattle.ts_tree.specs.declared.parts.TypeName.{TypeName}
 use Rattle.jv_tree.specs.Source
 use Rattle.jv_core.specs.Tree as Core
 use Rattle.jv_core.specs.View.{OneGroup, stmts_of, groups_of}
-use Rattle.jv_resolving.specs.Tables.{◌>>=◌, Tables}
-use Rattle.jv_resolving.specs.Expressions.{Known, Standing, Resolved, resolved}
-use Rattle.jv_resolving.specs.Statements.{Counted, Counting, Around, InLoop, InSwitch, stmt, stmts, groups, loop_more, enum_given, local}
+use Rattle.jv_resolve_law.specs.Tables.{◌>>=◌, Tables}
+use Rattle.jv_resolve_law.specs.Expressions.{Known, Standing, Resolved, resolved}
+use Rattle.jv_resolve_law.specs.Statements.{Counted, Counting, Around, InLoop, InSwitch, stmt, stmts, groups, loop_more, enum_given, local}
 use Rattle.jv_resolve.specs.declared.given.Unresolved.{Unresolved}
 use Rattle.jv_resolve.specs.inner.Gives.{Fails}
 use Rattle.jv_resolve.specs.inner.Counted.{counting}

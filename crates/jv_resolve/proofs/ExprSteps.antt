@@ -13,8 +13,8 @@ use Rattle.jv_tree.specs.Source
 use Rattle.jv_tree.specs.View.{exprs_of, expr_of}
 use Rattle.jv_core.specs.Tree as Core
 use Rattle.jv_core.specs.declared.program.CoreType.TheVariants as types
-use Rattle.jv_resolving.specs.Tables.{◌>>=◌, Tables}
-use Rattle.jv_resolving.specs.Expressions.{Known, Standing, Resolved, Receiver, OfNull, typed, operator_gives, resolved, resolved_all, receiver, member, call_own, call_on, make}
+use Rattle.jv_resolve_law.specs.Tables.{◌>>=◌, Tables}
+use Rattle.jv_resolve_law.specs.Expressions.{Known, Standing, Resolved, Receiver, OfNull, typed, operator_gives, resolved, resolved_all, receiver, member, call_own, call_on, make}
 use Rattle.jv_resolve.specs.declared.given.Unresolved.{Unresolved}
 use Rattle.jv_resolve.specs.inner.Gives.{Fails}
 use Rattle.jv_resolve.specs.inner.Named.{variable_named}

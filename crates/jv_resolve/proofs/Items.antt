@@ -4,9 +4,9 @@ use Rattle.std.specs.Prelude.{Result, Ok, Err, OnOk}
 use Rattle.std.specs.Option.{option_map}
 use Rattle.jv_tree.specs.Source
 use Rattle.jv_core.specs.Tree as Core
-use Rattle.jv_resolving.specs.Tables.{◌>>=◌, Tables}
-use Rattle.jv_resolving.specs.Expressions.{Known, Standing}
-use Rattle.jv_resolving.specs.Statements.{Counted, Counting, Around, Item, stmt, local, declared}
+use Rattle.jv_resolve_law.specs.Tables.{◌>>=◌, Tables}
+use Rattle.jv_resolve_law.specs.Expressions.{Known, Standing}
+use Rattle.jv_resolve_law.specs.Statements.{Counted, Counting, Around, Item, stmt, local, declared}
 use Rattle.jv_resolve.specs.declared.given.Unresolved.{Unresolved}
 use Rattle.jv_resolve.specs.inner.Counted.{counting, itemed, item_at}
 use Rattle.jv_resolve.specs.inner.Gives.{Fails, Gives}

@@ -6,8 +6,8 @@ use Rattle.jv_tree.specs.Source
 use Rattle.jv_core.specs.Tree as Core
 use Rattle.jv_core.specs.Numbering.{numbers_from}
 use Rattle.jv_core.specs.declared.program.CoreType.{CoreType}
-use Rattle.jv_resolving.specs.Tables.{◌>>=◌, Tables, Entry, Interned, interned, type_meant}
-use Rattle.jv_resolving.specs.Members.{Naming, all_interned, enum, enums, begins_with, field, fields, class, classes}
+use Rattle.jv_resolve_law.specs.Tables.{◌>>=◌, Tables, Entry, Interned, interned, type_meant}
+use Rattle.jv_resolve_law.specs.Members.{Naming, all_interned, enum, enums, begins_with, field, fields, class, classes}
 use Rattle.jv_resolve.specs.declared.given.Unresolved.{Unresolved}
 use Rattle.jv_resolve.specs.inner.Gives.{Fails}
 use Rattle.jv_resolve.specs.inner.Interning.{with_number}

@@ -13,10 +13,10 @@ use Rattle.jv_core.specs.Tree as Core
 use Rattle.jv_core.specs.View.{stmts_of}
 use Rattle.jv_core.specs.declared.program.CoreType.{CoreType}
 use Rattle.jv_core.specs.declared.program.MethodKind.{MethodKind}
-use Rattle.jv_resolving.specs.Tables.{◌>>=◌, Tables, Entry, Interned, interned, type_meant, is_offered, kind_meant}
-use Rattle.jv_resolving.specs.Expressions.{Known, Standing}
-use Rattle.jv_resolving.specs.Statements.{Counted, Counting, declared, slot_more, stmts}
-use Rattle.jv_resolving.specs.Members.{Naming, Opened, params, method, methods_of, methods}
+use Rattle.jv_resolve_law.specs.Tables.{◌>>=◌, Tables, Entry, Interned, interned, type_meant, is_offered, kind_meant}
+use Rattle.jv_resolve_law.specs.Expressions.{Known, Standing}
+use Rattle.jv_resolve_law.specs.Statements.{Counted, Counting, declared, slot_more, stmts}
+use Rattle.jv_resolve_law.specs.Members.{Naming, Opened, params, method, methods_of, methods}
 use Rattle.jv_resolve.specs.declared.given.Unresolved.{Unresolved}
 use Rattle.jv_resolve.specs.inner.Gives.{Fails}
 use Rattle.jv_resolve.specs.inner.Interning.{with_number}

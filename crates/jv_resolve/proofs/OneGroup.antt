@@ -8,9 +8,9 @@ use Rattle.jv_tree.specs.View as source
 use Rattle.jv_core.specs.declared.tree.CoreGroup.{CoreGroup, out-CoreGroup, fold_out-CoreGroup}
 use Rattle.jv_core.specs.Tree as Core
 use Rattle.jv_core.specs.View as core
-use Rattle.jv_resolving.specs.Tables.{◌>>=◌, Tables}
-use Rattle.jv_resolving.specs.Expressions.{Known, Standing}
-use Rattle.jv_resolving.specs.Statements.{Counted, Counting, Around, stmts, labels_at}
+use Rattle.jv_resolve_law.specs.Tables.{◌>>=◌, Tables}
+use Rattle.jv_resolve_law.specs.Expressions.{Known, Standing}
+use Rattle.jv_resolve_law.specs.Statements.{Counted, Counting, Around, stmts, labels_at}
 use Rattle.jv_resolve.specs.declared.given.Unresolved.{Unresolved}
 use Rattle.jv_resolve.specs.inner.Counted.{counting, group_at}
 use Rattle.jv_resolve.specs.inner.Gives.{Fails}

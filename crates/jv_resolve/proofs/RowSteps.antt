@@ -9,7 +9,7 @@ use Rattle.jv_resolve.proofs.Called.{map-map}
 use Rattle.std.proofs.lemmas.Map.Text.{hash_map_updates_text}
 use Rattle.std.proofs.lemmas.Slice.Eq.{bytes_eq-Decides}
 use Rattle.mg_text.specs.Call.{Name}
-use Rattle.jv_resolving.specs.Expressions.{Known, known_named}
+use Rattle.jv_resolve_law.specs.Expressions.{Known, known_named}
 use Rattle.jv_resolve.specs.declared.locals.Local.{Local}
 use Rattle.jv_resolve.specs.declared.locals.Declared.{Declared}
 use Rattle.jv_resolve.specs.inner.Row.{local_seen, row_seen, kept, are_apart, AreLookedUp}

@@ -9,9 +9,9 @@ use Rattle.jv_tree.specs.View as source
 use Rattle.jv_meaning.specs.Program.{constant_position}
 use Rattle.jv_core.specs.Tree as Core
 use Rattle.jv_core.specs.View.{OneGroup, stmts_of}
-use Rattle.jv_resolving.specs.Tables.{◌>>=◌, Tables}
-use Rattle.jv_resolving.specs.Expressions.{Known, Standing, known_named}
-use Rattle.jv_resolving.specs.Statements.{Counted, Counting, Around, Item, stmt, stmts, groups, labels_at, declared, local}
+use Rattle.jv_resolve_law.specs.Tables.{◌>>=◌, Tables}
+use Rattle.jv_resolve_law.specs.Expressions.{Known, Standing, known_named}
+use Rattle.jv_resolve_law.specs.Statements.{Counted, Counting, Around, Item, stmt, stmts, groups, labels_at, declared, local}
 use Rattle.jv_resolve.specs.declared.given.Unresolved.{Unresolved}
 use Rattle.jv_resolve.specs.inner.Gives.{Fails}
 use Rattle.jv_resolve.specs.inner.Counted.{counting, item_at, group_at}

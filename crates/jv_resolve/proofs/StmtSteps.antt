@@ -6,9 +6,9 @@ use Rattle.ts_tree.specs.declared.parts.TypeName.{TypeName}
 use Rattle.jv_tree.specs.Source
 use Rattle.jv_core.specs.Tree as Core
 use Rattle.jv_core.specs.declared.program.CoreType.{CoreType}
-use Rattle.jv_resolving.specs.Tables.{◌>>=◌, Tables, type_meant, interned}
-use Rattle.jv_resolving.specs.Expressions.{Known, Standing, Resolved, resolved}
-use Rattle.jv_resolving.specs.Statements.{Counted, Counting, slot_more, local}
+use Rattle.jv_resolve_law.specs.Tables.{◌>>=◌, Tables, type_meant, interned}
+use Rattle.jv_resolve_law.specs.Expressions.{Known, Standing, Resolved, resolved}
+use Rattle.jv_resolve_law.specs.Statements.{Counted, Counting, slot_more, local}
 use Rattle.jv_resolve.specs.inner.Counted.{counting}
 use Rattle.jv_resolve.specs.inner.Interning.{with_number}
 use Rattle.jv_resolve.specs.declared.given.Unresolved.{Unresolved}

@@ -2,8 +2,8 @@
 use Rattle.std.proofs.Common.{◌≡◌, ℕ, ◌+◌, ◌<◌, ◌≤◌, List, [], ◌∷◌, ◌++◌, map, length, get_or, drop, Option, Some, None, refl, sym, ap, ◌∙◌, append_assoc, append-nil}
 use Rattle.std.proofs.lemmas.List.{map_push}
 use Rattle.mg_text.specs.Call.{Name}
-use Rattle.jv_resolving.specs.Tables.{◌>>=◌}
-use Rattle.jv_resolving.specs.Members.{Naming}
+use Rattle.jv_resolve_law.specs.Tables.{◌>>=◌}
+use Rattle.jv_resolve_law.specs.Members.{Naming}
 use Rattle.jv_resolve.specs.declared.given.Unresolved.{Unresolved}
 use Rattle.jv_resolve.specs.inner.Gives.{Fails}
 use Rattle.jv_resolve.specs.inner.Naming.{naming, threaded, with_done}

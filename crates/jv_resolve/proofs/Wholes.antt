@@ -4,8 +4,8 @@ use Rattle.mg_text.specs.Call.{Name}
 use Rattle.ts_tree.specs.Typestate.{Typestate}
 use Rattle.jv_rules.specs.Program.{Program}
 use Rattle.jv_core.specs.Tree as Core
-use Rattle.jv_resolving.specs.Tables.{◌>>=◌, Tables, tables_of}
-use Rattle.jv_resolving.specs.Members.{Naming, enums, classes, methods, resolving}
+use Rattle.jv_resolve_law.specs.Tables.{◌>>=◌, Tables, tables_of}
+use Rattle.jv_resolve_law.specs.Members.{Naming, enums, classes, methods, resolving}
 use Rattle.jv_resolve.specs.declared.given.Unresolved.{Unresolved}
 use Rattle.jv_resolve.specs.inner.Gives.{Fails}
 use Rattle.jv_resolve.specs.inner.Naming.{naming}

@@ -2,7 +2,7 @@
 //! Contracts see what was numbered so far, and what is in scope.
 
 ghost use Rattle.std.specs.Prelude.{◌≡◌, [], OnOk, IfOk, length};
-ghost use Rattle.jv_resolving.specs.Statements.{slot_more, loop_more};
+ghost use Rattle.jv_resolve_law.specs.Statements.{slot_more, loop_more};
 ghost use Rattle.jv_resolve.specs.inner.Counted.{counted_seen, counting};
 ghost use Rattle.jv_resolve.specs.inner.Gives.{Gives};
 ghost use Rattle.jv_resolve.specs.inner.Naming.{unnumbered};

@@ -4,7 +4,7 @@
 ghost use Rattle.std.specs.Prelude.{◌≡◌, ◌+◌, ◌++◌, ◌∷◌, [], IfOk, OnOk, map};
 ghost use Rattle.jv_tree.specs.View.{class_of, enum_of, decl_of, file_of};
 ghost use Rattle.jv_meaning.specs.Program.{classes_of, enums_of};
-ghost use Rattle.jv_resolving.specs.Tables.{entries_from, tables_of};
+ghost use Rattle.jv_resolve_law.specs.Tables.{entries_from, tables_of};
 ghost use Rattle.jv_resolve.specs.Program.{program_of};
 ghost use Rattle.jv_resolve.specs.inner.Building.{followed_by, entry_at, entries_by, classes_within, enums_within};
 ghost use Rattle.jv_resolve.specs.inner.Gives.{Gives};

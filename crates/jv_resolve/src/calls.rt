@@ -6,7 +6,7 @@ ghost use Rattle.jv_core.specs.Types.{session_result};
 ghost use Rattle.jv_core.specs.Tree as Core;
 ghost use Rattle.jv_core.specs.View.{expr_of};
 ghost use Rattle.jv_core.specs.declared.program.CoreType.TheVariants as types;
-ghost use Rattle.jv_resolving.specs.Expressions.{call_own, call_on, call_this, call_class, call_typed, call_protocol, static_call, helper_call, object_call, text_call, only, typed, session_call, session_named, variable_in};
+ghost use Rattle.jv_resolve_law.specs.Expressions.{call_own, call_on, call_this, call_class, call_typed, call_protocol, static_call, helper_call, object_call, text_call, only, typed, session_call, session_named, variable_in};
 ghost use Rattle.jv_resolve.specs.inner.Gives.{Gives};
 ghost use Rattle.jv_resolve.specs.inner.Seen.{tables_seen, standing_seen, callee_seen, given_seen, resolved_seen};
 ghost use Rattle.jv_resolve.specs.inner.Named.{text_called};

@@ -5,7 +5,7 @@ ghost use Rattle.std.specs.Prelude.{◌≡◌, Some, IfOk, map, option_map, leng
 ghost use Rattle.jv_tree.specs.View.{enum_of as source_enum, field_of as source_field, expr_of};
 ghost use Rattle.jv_core.specs.Numbering.{numbers_from};
 ghost use Rattle.jv_core.specs.View.{expr_of as core_expr, class_of, enum_of, field_of};
-ghost use Rattle.jv_resolving.specs.Members.{all_interned, enum as enum_meant, enums as enums_meant, begins_with, field as field_meant, fields as fields_meant, class as class_meant, classes as classes_meant};
+ghost use Rattle.jv_resolve_law.specs.Members.{all_interned, enum as enum_meant, enums as enums_meant, begins_with, field as field_meant, fields as fields_meant, class as class_meant, classes as classes_meant};
 ghost use Rattle.jv_resolve.specs.inner.Gives.{Gives};
 ghost use Rattle.jv_resolve.specs.inner.Naming.{naming};
 ghost use Rattle.jv_resolve.specs.inner.Seen.{entry_seen, tables_seen};

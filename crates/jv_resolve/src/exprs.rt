@@ -4,7 +4,7 @@
 ghost use Rattle.std.specs.Prelude.{◌≡◌, map};
 ghost use Rattle.jv_tree.specs.View.{expr_of, exprs_of};
 ghost use Rattle.jv_core.specs.View.{expr_of as core_expr};
-ghost use Rattle.jv_resolving.specs.Expressions.{resolved, resolved_all, receiver, make};
+ghost use Rattle.jv_resolve_law.specs.Expressions.{resolved, resolved_all, receiver, make};
 ghost use Rattle.jv_resolve.specs.inner.Gives.{Gives};
 ghost use Rattle.jv_resolve.specs.inner.Seen.{tables_seen, standing_seen, resolved_seen, operand_seen};
 ghost use Rattle.jv_resolve.specs.inner.Receivers.{receiver_seen};

@@ -3,7 +3,7 @@
 
 ghost use Rattle.std.specs.Prelude.{◌≡◌, IfOk};
 ghost use Rattle.jv_core.specs.View.{expr_of, stmt_of, kind_of, stmt_kind_of};
-ghost use Rattle.jv_resolving.specs.Expressions.{typed};
+ghost use Rattle.jv_resolve_law.specs.Expressions.{typed};
 ghost use Rattle.jv_resolve.specs.inner.Seen.{resolved_seen, operand_seen};
 
 use jv_core::{CoreExpr, CoreExprKind, CoreStmt, CoreStmtKind, CoreType};

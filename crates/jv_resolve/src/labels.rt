@@ -4,7 +4,7 @@
 ghost use Rattle.std.specs.Prelude.{◌≡◌};
 ghost use Rattle.jv_tree.specs.View.{enum_of};
 ghost use Rattle.jv_meaning.specs.Program.{constant_position};
-ghost use Rattle.jv_resolving.specs.Statements.{labels_at, enum_given};
+ghost use Rattle.jv_resolve_law.specs.Statements.{labels_at, enum_given};
 ghost use Rattle.jv_resolve.specs.inner.Gives.{Gives};
 ghost use Rattle.jv_resolve.specs.inner.Labels.{label_at};
 ghost use Rattle.jv_resolve.specs.inner.Seen.{tables_seen, given_seen};

@@ -7,7 +7,7 @@ ghost use Rattle.jv_tree.specs.View.{expr_of};
 ghost use Rattle.jv_core.specs.Tree as Core;
 ghost use Rattle.jv_core.specs.View.{expr_of as core_expr};
 ghost use Rattle.jv_core.specs.declared.program.CoreType.TheVariants as types;
-ghost use Rattle.jv_resolving.specs.Expressions.{OfNull, typed, constant, initial};
+ghost use Rattle.jv_resolve_law.specs.Expressions.{OfNull, typed, constant, initial};
 ghost use Rattle.jv_resolve.specs.inner.Gives.{Gives};
 ghost use Rattle.jv_resolve.specs.inner.Seen.{tables_seen, resolved_seen};
 

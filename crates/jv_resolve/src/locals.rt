@@ -2,8 +2,8 @@
 //! Contracts see them as a list, the last one first.
 
 ghost use Rattle.std.specs.Prelude.{◌≡◌, ◌∷◌, ◌-◌, [], Option, Some, None, OnOk, IfOk, IfErr, map, reverse, option_map, length, drop};
-ghost use Rattle.jv_resolving.specs.Expressions.{known_named};
-ghost use Rattle.jv_resolving.specs.Statements.{declared};
+ghost use Rattle.jv_resolve_law.specs.Expressions.{known_named};
+ghost use Rattle.jv_resolve_law.specs.Statements.{declared};
 ghost use Rattle.jv_resolve.specs.inner.Gives.{Fails};
 ghost use Rattle.jv_resolve.specs.inner.Row.{kept, known};
 
@@ -40,7 +40,7 @@ pub(crate) struct Locals<'a> {
 impl<'a> Model for Locals<'a> {
     ghost use Rattle.std.specs.Prelude.{List};
     ghost use Rattle.std.specs.HashMap.{get_by_text};
-    ghost use Rattle.jv_resolving.specs.Expressions.{Known};
+    ghost use Rattle.jv_resolve_law.specs.Expressions.{Known};
     ghost use Rattle.jv_resolve.specs.inner.Row.{AreLookedUp, row_seen};
 
     ghost Value = { List Known };

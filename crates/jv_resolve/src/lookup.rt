@@ -6,7 +6,7 @@ ghost use Rattle.std.specs.List.{list_any};
 ghost use Rattle.std.specs.Str.{bytes_eq};
 ghost use Rattle.jv_tree.specs.View.{enum_of};
 ghost use Rattle.jv_rules.specs.Program.{offers_in};
-ghost use Rattle.jv_resolving.specs.Tables.{class_called, enum_called, method_called, field_called, type_called, type_meant};
+ghost use Rattle.jv_resolve_law.specs.Tables.{class_called, enum_called, method_called, field_called, type_called, type_meant};
 ghost use Rattle.jv_resolve.specs.inner.Gives.{Gives};
 ghost use Rattle.jv_resolve.specs.inner.Seen.{entry_seen, tables_seen, callee_seen, placed_seen, numbered_seen};
 

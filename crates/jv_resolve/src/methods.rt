@@ -4,8 +4,8 @@
 ghost use Rattle.std.specs.Prelude.{◌≡◌, [], IfOk, length, map};
 ghost use Rattle.jv_tree.specs.View.{method_of as source_method};
 ghost use Rattle.jv_core.specs.View.{method_of, stmt_of};
-ghost use Rattle.jv_resolving.specs.Tables.{is_offered, kind_meant};
-ghost use Rattle.jv_resolving.specs.Members.{params as params_meant, method as method_meant, methods_of as methods_of_meant, methods as methods_meant};
+ghost use Rattle.jv_resolve_law.specs.Tables.{is_offered, kind_meant};
+ghost use Rattle.jv_resolve_law.specs.Members.{params as params_meant, method as method_meant, methods_of as methods_of_meant, methods as methods_meant};
 ghost use Rattle.jv_resolve.specs.inner.Counted.{counted_seen, counting};
 ghost use Rattle.jv_resolve.specs.inner.Gives.{Gives};
 ghost use Rattle.jv_resolve.specs.inner.Naming.{naming, with_done, opened, param_at};

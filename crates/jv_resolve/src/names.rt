@@ -3,7 +3,7 @@
 
 ghost use Rattle.std.specs.Prelude.{◌≡◌, Some, IfOk, OnOk};
 ghost use Rattle.mg_text.specs.Interned.{with_text};
-ghost use Rattle.jv_resolving.specs.Tables.{interned};
+ghost use Rattle.jv_resolve_law.specs.Tables.{interned};
 ghost use Rattle.jv_resolve.specs.inner.Interning.{with_number};
 
 use mg_text::{Memory, Name, Names};

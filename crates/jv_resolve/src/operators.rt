@@ -5,7 +5,7 @@ ghost use Rattle.std.specs.Prelude.{◌≡◌};
 ghost use Rattle.jv_core.specs.Tree as Core;
 ghost use Rattle.jv_core.specs.View.{expr_of};
 ghost use Rattle.jv_core.specs.declared.program.CoreType.TheVariants as types;
-ghost use Rattle.jv_resolving.specs.Expressions.{typed, operator_gives, is_text};
+ghost use Rattle.jv_resolve_law.specs.Expressions.{typed, operator_gives, is_text};
 ghost use Rattle.jv_resolve.specs.inner.Seen.{given_seen, resolved_seen};
 
 use crate::given::{Given, Operand, Resolved, typed};

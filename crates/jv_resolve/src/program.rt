@@ -7,8 +7,8 @@ ghost use Rattle.jv_rules.specs.Program.{Program};
 ghost use Rattle.jv_rules.specs.Shape.{IsShaped};
 ghost use Rattle.jv_core.specs.Core.{tree_of};
 ghost use Rattle.jv_names.specs.Resolves.{AreBounded, Resolves};
-ghost use Rattle.jv_resolving.specs.Members.{resolving};
-ghost use Rattle.jv_resolving.specs.Targets.{OnlyVariablesAreAssigned};
+ghost use Rattle.jv_resolve_law.specs.Members.{resolving};
+ghost use Rattle.jv_resolve_law.specs.Targets.{OnlyVariablesAreAssigned};
 ghost use Rattle.jv_resolve.specs.Program.{program_of};
 ghost use Rattle.jv_resolve.specs.inner.Gives.{Gives};
 ghost use Rattle.jv_resolve.specs.inner.HeadedSeen.{heads_seen};
@@ -24,7 +24,7 @@ use crate::methods::resolve_methods;
 use crate::tables::Tables;
 use jv_core::{Core, CoreClass, CoreEnum, CoreMethod};
 use jv_kept::core_is_kept;
-use jv_resolving::{resolving_is_right, resolving_is_total};
+use jv_resolve_law::{resolving_is_right, resolving_is_total};
 use jv_tree::File;
 use mg_text::{List, Memory, Names};
 use std::alloc::Global;
@@ -126,7 +126,7 @@ fn parts_of(alloc: Global, files: &[File], typestates: &[Typestate]) -> Result<P
 }
 
 /// The core of a well typed program, whose trees are as the grammar has them: it stands for the
-/// program, construct by construct. A program has one core, that of `jv_resolving`.
+/// program, construct by construct. A program has one core, that of `jv_resolve_law`.
 ///
 /// # Errors
 /// `Memory` only: where it is wanting, or where an enum, a method or the program as a whole has

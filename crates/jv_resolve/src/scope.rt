@@ -2,8 +2,8 @@
 //! Contracts see it as the place of code on trees.
 
 ghost use Rattle.std.specs.Prelude.{◌≡◌, option_map};
-ghost use Rattle.jv_resolving.specs.Expressions.{own_found, found};
-ghost use Rattle.jv_resolving.specs.Statements.{is_label, labelled, innermost, left_by, gone_on_by};
+ghost use Rattle.jv_resolve_law.specs.Expressions.{own_found, found};
+ghost use Rattle.jv_resolve_law.specs.Statements.{is_label, labelled, innermost, left_by, gone_on_by};
 ghost use Rattle.jv_resolve.specs.inner.Gives.{Gives};
 ghost use Rattle.jv_resolve.specs.inner.Seen.{tables_seen, standing_seen, found_seen, around_seen};
 

@@ -6,7 +6,7 @@ ghost use Rattle.jv_tree.specs.Source.{Assign, Break, Continue, Return, Print, E
 ghost use Rattle.jv_tree.specs.View.{expr_of};
 ghost use Rattle.jv_core.specs.Tree as Core;
 ghost use Rattle.jv_core.specs.View.{expr_of as core_expr, stmt_of};
-ghost use Rattle.jv_resolving.specs.Statements.{stmt, local, given_back};
+ghost use Rattle.jv_resolve_law.specs.Statements.{stmt, local, given_back};
 ghost use Rattle.jv_resolve.specs.inner.Counted.{counted_seen, counting};
 ghost use Rattle.jv_resolve.specs.inner.Declaring.{declaration_seen};
 ghost use Rattle.jv_resolve.specs.inner.Gives.{Gives};

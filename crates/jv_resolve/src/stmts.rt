@@ -4,7 +4,7 @@
 ghost use Rattle.std.specs.Prelude.{◌≡◌, OnOk, map};
 ghost use Rattle.jv_tree.specs.View.{enum_of, stmt_of as source_stmt, stmts_of as source_stmts, group_of as source_group, groups_of as source_groups};
 ghost use Rattle.jv_core.specs.View.{stmt_of, group_of};
-ghost use Rattle.jv_resolving.specs.Statements.{stmt as meant, stmts as all_meant, groups as groups_meant};
+ghost use Rattle.jv_resolve_law.specs.Statements.{stmt as meant, stmts as all_meant, groups as groups_meant};
 ghost use Rattle.jv_resolve.specs.inner.Counted.{counted_seen, counting, itemed, item_at, group_at};
 ghost use Rattle.jv_resolve.specs.inner.Gives.{Gives};
 ghost use Rattle.jv_resolve.specs.inner.Seen.{tables_seen, standing_seen, around_seen};

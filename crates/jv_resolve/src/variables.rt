@@ -3,7 +3,7 @@
 
 ghost use Rattle.std.specs.Prelude.{◌≡◌};
 ghost use Rattle.jv_tree.specs.View.{expr_of};
-ghost use Rattle.jv_resolving.specs.Expressions.{found_at, member};
+ghost use Rattle.jv_resolve_law.specs.Expressions.{found_at, member};
 ghost use Rattle.jv_resolve.specs.inner.Gives.{Gives};
 ghost use Rattle.jv_resolve.specs.inner.Named.{variable_named, own_named, member_named, receiver_named};
 ghost use Rattle.jv_resolve.specs.inner.Seen.{tables_seen, standing_seen, found_seen, resolved_seen};

@@ -13,7 +13,7 @@ use Rattle.jv_tree.specs.Files.{Member, FieldMember, MethodMember, fields_among,
 use Rattle.jv_meaning.specs.Program.{Sources, class_in, classes_of}
 use Rattle.jv_rules.specs.Scope.{is_variable}
 use Rattle.jv_rules.specs.Shape.{IsOfValues, DeclaresValues, AllDeclareValues, GroupsDeclareValues, IsShapedMethod, IsShapedClass}
-use Rattle.jv_resolving.specs.Targets.{AssignsVariables, AllAssignVariables, GroupsAssignVariables, ClassAssignsVariables}
+use Rattle.jv_resolve_law.specs.Targets.{AssignsVariables, AllAssignVariables, GroupsAssignVariables, ClassAssignsVariables}
 use Rattle.jv_shaped.specs.Laws.{IsSpelled, SpelledIsShaped}
 
 of_values : (ty : TypeName) → IsType ty → IsOfValues ty

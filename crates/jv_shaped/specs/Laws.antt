@@ -6,7 +6,7 @@ use Rattle.jv_tree.specs.Source.{File}
 use Rattle.jv_tree.specs.Files.{Spells}
 use Rattle.jv_rules.specs.Program.{Program}
 use Rattle.jv_rules.specs.Shape.{IsShaped}
-use Rattle.jv_resolving.specs.Targets.{OnlyVariablesAreAssigned}
+use Rattle.jv_resolve_law.specs.Targets.{OnlyVariablesAreAssigned}
 
 -- a file has a text
 pub record IsSpelled (file : File) : Type 0 where

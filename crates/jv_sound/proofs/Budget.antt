@@ -2,16 +2,16 @@
 use Rattle.std.proofs.Common.{◌≡◌, ℕ, Bool, List, [], ◌∷◌, Option, Some, None, slice_get, refl}
 use Rattle.std.specs.Prelude.{if◌then◌else◌, nat_eq}
 use Rattle.std.specs.Str.{bytes_eq}
-use Rattle.jv_mean.specs.Values.{Value, Row, Shared, Lives, Here, Inputs, Wrong, find, put}
-use Rattle.jv_mean.specs.Values as values
-use Rattle.jv_mean.specs.Doing.{Run, ◌>>=◌, give, stop, found, valued, valuing, within}
-use Rattle.jv_mean.specs.Statements.{Normal, Does, next_do, is_default, case_at, any_label}
-use Rattle.jv_mean.specs.Further.{FurtherShared, FurtherLives, FurtherDoes, FurtherBelow, IsMonotone}
-use Rattle.jv_mean.proofs.Combine.{if_alike, next_alike, switch_alike, while_alike, do_alike}
-use Rattle.jv_mean.proofs.Combine as combine
-use Rattle.jv_mean.proofs.Expressions as expressions
-use Rattle.jv_mean.proofs.Further.{further_shares, lives_closed, within_further, declared_further, assigned_further, same_exits}
-use Rattle.jv_mean.proofs.Further as further
+use Rattle.jv_values.specs.Values.{Value, Row, Shared, Lives, Here, Inputs, Wrong, find, put}
+use Rattle.jv_values.specs.Values as values
+use Rattle.jv_values.specs.Doing.{Run, ◌>>=◌, give, stop, found, valued, valuing, within}
+use Rattle.jv_values.specs.Statements.{Normal, Does, next_do, is_default, case_at, any_label}
+use Rattle.jv_values.specs.Further.{FurtherShared, FurtherLives, FurtherDoes, FurtherBelow, IsMonotone}
+use Rattle.jv_values.proofs.Combine.{if_alike, next_alike, switch_alike, while_alike, do_alike}
+use Rattle.jv_values.proofs.Combine as combine
+use Rattle.jv_values.proofs.Expressions as expressions
+use Rattle.jv_values.proofs.Further.{further_shares, lives_closed, within_further, declared_further, assigned_further, same_exits}
+use Rattle.jv_values.proofs.Further as further
 use Rattle.jv_core.specs.declared.tree.Var.{Var}
 use Rattle.jv_core.specs.declared.tree.Var.TheVariants as vars
 use Rattle.jv_core.specs.Tree.{Expr, Int, Truth, Text, Null, Variable, Constant, Neg, Not, Binary, Protocol, Helper, Static, Equals, Concat, Session, New}
@@ -19,7 +19,7 @@ use Rattle.jv_core.specs.Tree.{Exprs, NoExpr, Argument}
 use Rattle.jv_core.specs.Tree.{Stmt, Block, Empty, Local, Assign, If, IfElse, While, Do, Switch, Break, Continue, Return, Print, Eval}
 use Rattle.jv_core.specs.Tree.{Stmts, NoStmt, Then, Declare, Groups, NoGroup, Group, Program}
 use Rattle.jv_core.specs.Lookup.{text_at, class_text, enum_text}
-use Rattle.jv_mean.specs.Operators.{operator_of}
+use Rattle.jv_values.specs.Operators.{operator_of}
 use Rattle.jv_core.specs.Meaning.{Lower, Code, session_of, mine, new_fields, enum_given, has_group, own_field, read, write, protocol_call, eval, eval_all, value, test, position, exec, exec_all, exec_from, exec_groups, language, main_of}
 use Rattle.jv_sound.specs.Laws.{BudgetLaw}
 

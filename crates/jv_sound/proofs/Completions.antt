@@ -2,9 +2,9 @@
 use Rattle.std.proofs.Common.{◌≡◌, ◌≢◌, ◌⊎◌, inl, inr, ℕ, Bool, true, false, List, [], ◌∷◌, drop, Option, Some, None, refl, sym, ◌∙◌, subst, true≢false}
 use Rattle.std.specs.Prelude.{if◌then◌else◌, ◌||◌, Contains, nat_eq}
 use Rattle.std.proofs.lemmas.Bool.{eqb-true, eq-eqb}
-use Rattle.jv_mean.specs.Values.{Value, Row, Shared, Lives}
-use Rattle.jv_mean.specs.Doing.{Outcome, Gives, Ends, Run, give, kept, within, uncovered, declared}
-use Rattle.jv_mean.specs.Statements.{Completion, Normal, Breaks, Continues, Returns, Does, next_do, after_body, after_switch, is_default, any_label}
+use Rattle.jv_values.specs.Values.{Value, Row, Shared, Lives}
+use Rattle.jv_values.specs.Doing.{Outcome, Gives, Ends, Run, give, kept, within, uncovered, declared}
+use Rattle.jv_values.specs.Statements.{Completion, Normal, Breaks, Continues, Returns, Does, next_do, after_body, after_switch, is_default, any_label}
 use Rattle.jv_core.specs.declared.program.CoreType.{CoreType}
 use Rattle.jv_core.specs.declared.program.CoreType.TheVariants as types
 use Rattle.jv_core.specs.Tree.{Program, Method, Stmts, Groups, NoGroup, Group, Switch, Expr}

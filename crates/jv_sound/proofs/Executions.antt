@@ -3,12 +3,12 @@ use Rattle.std.proofs.Common.{◌≡◌, ◌≢◌, inl, inr, ℕ, Bool, true, f
 use Rattle.std.specs.Prelude.{if◌then◌else◌, ◌||◌, slice_get, option_map, option_and_then}
 use Rattle.std.specs.Str.{bytes_eq}
 use Rattle.mg_text.specs.declared.place.Place.{Place}
-use Rattle.jv_mean.specs.Values.{Value, Shared, Wrong, Inputs, Here, Lives}
-use Rattle.jv_mean.specs.Doing.{Run, Gives, ◌>>=◌, give, stop, found, valued, within, declared, truth, constant}
-use Rattle.jv_mean.specs.Operators.{shown, print}
-use Rattle.jv_mean.specs.Objects.{write_field}
+use Rattle.jv_values.specs.Values.{Value, Shared, Wrong, Inputs, Here, Lives}
+use Rattle.jv_values.specs.Doing.{Run, Gives, ◌>>=◌, give, stop, found, valued, within, declared, truth, constant}
+use Rattle.jv_values.specs.Operators.{shown, print}
+use Rattle.jv_values.specs.Objects.{write_field}
 use Rattle.mg_text.specs.declared.event.Event.TheVariants as seen
-use Rattle.jv_mean.specs.Statements.{Completion, Normal, Breaks, Continues, Returns, Does, next_do, assigned, after_body, after_switch, is_default, case_at, any_label}
+use Rattle.jv_values.specs.Statements.{Completion, Normal, Breaks, Continues, Returns, Does, next_do, assigned, after_body, after_switch, is_default, case_at, any_label}
 use Rattle.jv_core.specs.declared.tree.Var.{Var}
 use Rattle.jv_core.specs.declared.tree.Var.TheVariants as vars
 use Rattle.jv_core.specs.declared.tree.SessionCall.TheVariants as calls
@@ -186,7 +186,7 @@ module _ (p : Program) (ok : IsCore p) where
         (note_runs p H (noted p ok) y (seen.Print s.text))))
       where
         note : List ℕ → Run Shared (Unit {0})
-        note t = Rattle.jv_mean.specs.Doing.note (seen.Print t)
+        note t = Rattle.jv_values.specs.Doing.note (seen.Print t)
 
     -- Assignments.
 

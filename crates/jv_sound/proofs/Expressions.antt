@@ -3,13 +3,13 @@ use Rattle.std.proofs.Common.{◌≡◌, ◌≢◌, ℕ, zero, suc, true, List, 
 use Rattle.std.specs.Prelude.{slice_get, option_map, option_and_then, nat_eq}
 use Rattle.std.specs.List.{AllByRecursion}
 use Rattle.mg_text.specs.Call.{Name}
-use Rattle.jv_mean.specs.Values.{Value, Row, Shared, Wrong, Inputs, Here, find}
-use Rattle.jv_mean.specs.Values as values
-use Rattle.jv_mean.specs.Doing.{Run, ◌>>=◌, give, found, valued, valuing}
-use Rattle.jv_mean.specs.Objects.{object_of, read_field, make, receiver, telling}
-use Rattle.jv_mean.specs.Operators.{equal_texts, joined_texts, negative, opposite}
-use Rattle.jv_mean.specs.Messages.{session}
-use Rattle.jv_mean.specs.Calls.{suits}
+use Rattle.jv_values.specs.Values.{Value, Row, Shared, Wrong, Inputs, Here, find}
+use Rattle.jv_values.specs.Values as values
+use Rattle.jv_values.specs.Doing.{Run, ◌>>=◌, give, found, valued, valuing}
+use Rattle.jv_values.specs.Objects.{object_of, read_field, make, receiver, telling}
+use Rattle.jv_values.specs.Operators.{equal_texts, joined_texts, negative, opposite}
+use Rattle.jv_values.specs.Messages.{session}
+use Rattle.jv_values.specs.Calls.{suits}
 use Rattle.jv_core.specs.declared.tree.Var.{Var}
 use Rattle.jv_core.specs.declared.tree.Var.TheVariants as vars
 use Rattle.jv_core.specs.declared.tree.SessionCall.{SessionCall}

@@ -5,10 +5,10 @@ use Rattle.std.specs.List.{AllByRecursion}
 use Rattle.std.specs.Str.{bytes_eq}
 use Rattle.mg_text.specs.Call.{Name}
 use Rattle.mg_text.specs.declared.event.Event.{Event}
-use Rattle.jv_mean.specs.Values.{Value, Row, Shared, Wrong, Instance, find, put}
-use Rattle.jv_mean.specs.Values as values
-use Rattle.jv_mean.specs.Doing.{Run, Gives, and_then, ◌>>=◌, give, stop, found, note, objects, with_objects}
-use Rattle.jv_mean.specs.Objects.{object_of, read_field, write_field, make, receiver, telling, answer_of}
+use Rattle.jv_values.specs.Values.{Value, Row, Shared, Wrong, Instance, find, put}
+use Rattle.jv_values.specs.Values as values
+use Rattle.jv_values.specs.Doing.{Run, Gives, and_then, ◌>>=◌, give, stop, found, note, objects, with_objects}
+use Rattle.jv_values.specs.Objects.{object_of, read_field, write_field, make, receiver, telling, answer_of}
 use Rattle.mg_text.specs.declared.event.Event.TheVariants as seen
 use Rattle.jv_core.specs.declared.program.CoreType.{CoreType}
 use Rattle.jv_core.specs.declared.program.CoreType.TheVariants as types

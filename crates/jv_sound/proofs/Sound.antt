@@ -2,12 +2,12 @@
 use Rattle.std.proofs.Common.{◌≡◌, ◌≢◌, ℕ, zero, suc, ◌≤◌, Bool, true, false, ◌&&◌, List, [], ◌∷◌, ◌++◌, length, map, take, reverse, Option, Some, None, refl, sym, ap, ◌∙◌, subst, append_assoc, append-nil, arith}
 use Rattle.std.specs.Prelude.{if◌then◌else◌, slice_get, option_map, option_and_then, nat_eq}
 use Rattle.std.proofs.lemmas.List.{reverse-append}
-use Rattle.jv_mean.specs.Values.{Value, Row, Shared, Wrong, More, Done, Inputs, Here, Lives, bound}
-use Rattle.jv_mean.specs.Values as values
-use Rattle.jv_mean.specs.Doing.{Outcome, Gives, Ends, and_then, stop, found}
-use Rattle.jv_mean.specs.Statements.{Completion, Normal, Breaks, Continues, Returns}
-use Rattle.jv_mean.specs.Calls.{returned, result, body_from, suits, called}
-use Rattle.jv_mean.specs.Budget.{below, ended, ran}
+use Rattle.jv_values.specs.Values.{Value, Row, Shared, Wrong, More, Done, Inputs, Here, Lives, bound}
+use Rattle.jv_values.specs.Values as values
+use Rattle.jv_values.specs.Doing.{Outcome, Gives, Ends, and_then, stop, found}
+use Rattle.jv_values.specs.Statements.{Completion, Normal, Breaks, Continues, Returns}
+use Rattle.jv_values.specs.Calls.{returned, result, body_from, suits, called}
+use Rattle.jv_values.specs.Budget.{below, ended, ran}
 use Rattle.jv_core.specs.declared.program.CoreType.{CoreType}
 use Rattle.jv_core.specs.declared.program.CoreType.TheVariants as types
 use Rattle.jv_core.specs.declared.program.MethodKind.{MethodKind}

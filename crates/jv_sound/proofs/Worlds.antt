@@ -5,9 +5,9 @@ use Rattle.std.proofs.lemmas.Bool.{eq-eqb, eqb-true}
 use Rattle.std.specs.Str.{bytes_eq}
 use Rattle.mg_text.specs.Call.{Name}
 use Rattle.ts_tree.specs.Proper.{AreDistinct}
-use Rattle.jv_mean.specs.Values.{Value, Finish, Wrong, Row, find, put, over, bound, Instance, Shared, Lives}
-use Rattle.jv_mean.specs.Values as values
-use Rattle.jv_mean.specs.Doing.{Outcome, Gives, Ends, Run, and_then, ◌>>=◌, give, stop, found}
+use Rattle.jv_values.specs.Values.{Value, Finish, Wrong, Row, find, put, over, bound, Instance, Shared, Lives}
+use Rattle.jv_values.specs.Values as values
+use Rattle.jv_values.specs.Doing.{Outcome, Gives, Ends, Run, and_then, ◌>>=◌, give, stop, found}
 use Rattle.jv_core.specs.declared.program.CoreType.{CoreType}
 use Rattle.jv_core.specs.declared.program.CoreType.TheVariants as types
 use Rattle.jv_core.specs.Tree.{Program, Method, Field}

@@ -11,7 +11,7 @@ use Rattle.ts_tree.specs.declared.parts.To.TheVariants as tos
 use Rattle.ts_tree.specs.Typestate.{Typestate, State, One}
 use Rattle.ts_tree.specs.Typestate.{Method as Offered}
 use Rattle.jv_tree.specs.declared.tree.Op.TheVariants as ops
-use Rattle.jv_mean.specs.Values.{Done}
+use Rattle.jv_values.specs.Values.{Done}
 use Rattle.jv_core.specs.declared.tree.Var.TheVariants.{Slot, Field}
 use Rattle.jv_core.specs.declared.program.CoreType.TheVariants as types
 use Rattle.jv_core.specs.declared.program.MethodKind.TheVariants as kinds

@@ -1,8 +1,8 @@
 -- The laws.
 use Rattle.std.specs.Prelude.{◌≡◌, ◌≢◌, ℕ, suc, None}
 use Rattle.mg_text.specs.Call.{Name}
-use Rattle.jv_mean.specs.Values.{Inputs, More, Wrong}
-use Rattle.jv_mean.specs.Alike.{Prefix}
+use Rattle.jv_values.specs.Values.{Inputs, More, Wrong}
+use Rattle.jv_values.specs.Alike.{Prefix}
 use Rattle.jv_core.specs.Tree.{Program}
 use Rattle.jv_core.specs.Conditions.{IsCore}
 use Rattle.jv_core.specs.Meaning.{main_of, cmean}

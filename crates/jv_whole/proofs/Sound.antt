@@ -1,6 +1,6 @@
 -- Sources mean the same as their core, which is never Wrong where a class has `main`.
 use Rattle.std.proofs.Common.{◌≡◌, ◌≢◌, None, sym, ap, ◌∙◌}
-use Rattle.jv_mean.specs.Values.{Wrong}
+use Rattle.jv_values.specs.Values.{Wrong}
 use Rattle.jv_meaning.specs.Meaning.{mean}
 use Rattle.jv_core.specs.Meaning.{main_of, cmean}
 use Rattle.jv_names.proofs.Main.{mains_are_the_same, means_the_same}

@@ -1,7 +1,7 @@
 -- The laws.
 use Rattle.std.specs.Prelude.{◌≡◌, ◌≢◌, ℕ, None}
 use Rattle.mg_text.specs.Call.{Name}
-use Rattle.jv_mean.specs.Values.{Inputs, Wrong}
+use Rattle.jv_values.specs.Values.{Inputs, Wrong}
 use Rattle.jv_meaning.specs.Names.{main_of}
 use Rattle.jv_meaning.specs.Meaning.{mean}
 use Rattle.jv_rules.specs.Program.{Program}

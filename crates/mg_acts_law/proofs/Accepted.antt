@@ -4,7 +4,7 @@ use Rattle.mg_text.specs.Call.{Name}
 use Rattle.scr_tree.specs.Tree.{LocalTree}
 use Rattle.scr_tree.specs.Meaning.{protocol_of}
 use Rattle.scr_tree.specs.Valid.{IsValid}
-use Rattle.jv_mean.specs.Values.{Inputs, Ended}
+use Rattle.jv_values.specs.Values.{Inputs, Ended}
 use Rattle.jv_meaning.specs.Calls.{Follows}
 use Rattle.jv_meaning.specs.Meaning.{mean}
 use Rattle.jv_rules.specs.Program.{Program}

@@ -4,9 +4,9 @@ use Rattle.mg_text.specs.Call.{Name}
 use Rattle.mg_text.specs.declared.event.Event.{Event}
 use Rattle.scr_tree.specs.Tree.{LocalTree}
 use Rattle.scr_tree.specs.Meaning.{protocol_of}
-use Rattle.jv_mean.specs.Alike.{Prefix}
-use Rattle.jv_mean.specs.Seen.{IsMade, told, open_told}
-use Rattle.jv_mean.specs.Values.{Inputs, Ended}
+use Rattle.jv_values.specs.Alike.{Prefix}
+use Rattle.jv_values.specs.Seen.{IsMade, told, open_told}
+use Rattle.jv_values.specs.Values.{Inputs, Ended}
 use Rattle.jv_meaning.specs.Calls.{calls}
 use Rattle.jv_meaning.specs.Meaning.{mean}
 use Rattle.jv_rules.specs.Program.{Program}

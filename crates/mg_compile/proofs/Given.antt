@@ -8,7 +8,7 @@ use Rattle.gen_rules.proofs.Files.{excess_is}
 use Rattle.gen_members.specs.declared.faults.GenFault.{GenFault}
 use Rattle.gen_members.specs.declared.faults.GenFault.TheVariants as faults
 use Rattle.gen_members.specs.Told.{Tells}
-use Rattle.gen_classes.specs.First.{TellsFirst}
+use Rattle.gen_class.specs.First.{TellsFirst}
 use Rattle.mg_sources.specs.Faults.{Fault, fault_line}
 use Rattle.mg_sources.specs.Files.{Source, sources}
 use Rattle.mg_sources.specs.View.{IsStop}

@@ -4,7 +4,7 @@ ghost use Rattle.std.specs.Prelude.{◌≡◌, option_map};
 ghost use Rattle.mg_sources.specs.Faults.{fault_at};
 ghost use Rattle.mg_compile.specs.inner.Answers.{IsRefusal, said_of};
 
-use gen_classes::GenFault;
+use gen_class::GenFault;
 use mg_program::refused_at;
 use mg_sources::Stop;
 use mg_text::{Place, Text};

@@ -14,7 +14,7 @@ ghost use Rattle.mg_compile.specs.inner.Answers.{AreGiven};
 use crate::excess::refusal;
 use cls_bytes::{WriteFault, write_class};
 use cls_tree::Class;
-use gen_classes::gen_classes;
+use gen_class::gen_classes;
 use gen_fits::{files_fit, members_are_few};
 use gen_held::written_cores_are_held;
 use jv_core::{Core, CoreClass, name_text};

@@ -5,7 +5,7 @@ use Rattle.mg_read.specs.First.{Judged}
 use Rattle.cls_tree.specs.Tree.{Class as File}
 use Rattle.vm_model.specs.Program.{Program}
 use Rattle.vm_model.specs.Links.{Flaw, Links, IsUnlinked}
-use Rattle.vm_machine.specs.Main.{HasMain}
+use Rattle.vm_step.specs.Main.{HasMain}
 use Rattle.vm_world_law.specs.declared.role.RoleMain.{RoleMain}
 use Rattle.vm_world_law.specs.World.{World, IsBegun}
 use Rattle.vm_world_law.specs.Turns as turning

@@ -3,7 +3,7 @@
 ghost use Rattle.vm_model.specs.View.{classes_of};
 ghost use Rattle.mg_exec.specs.inner.Mains.{IsFirstWithout};
 
-use vm_machine::has_main;
+use vm_step::has_main;
 use vm_model::Linked;
 use vm_world::RoleMain;
 

@@ -1,7 +1,7 @@
 -- The law: files that are accepted keep to their typestates.
 use Rattle.std.specs.Prelude.{◌≢◌, ℕ, List, None}
 use Rattle.mg_text.specs.Call.{Name}
-use Rattle.jv_mean.specs.Values.{Inputs}
+use Rattle.jv_values.specs.Values.{Inputs}
 use Rattle.jv_meaning.specs.Meaning.{mean}
 use Rattle.jv_core.specs.Tree as Core
 use Rattle.jv_core.specs.Meaning.{main_of}

@@ -3,7 +3,7 @@ use Rattle.std.proofs.Common.{◌≡◌, ℕ, List, Option, None, Some, sym, ap,
 use Rattle.mg_read.specs.Culprit.{Culprit, culprit}
 use Rattle.mg_read.proofs.Judging.{no_both, no_both_first}
 use Rattle.jv_core.specs.Tree as Core
-use Rattle.jv_resolving.specs.Members.{resolving}
+use Rattle.jv_resolve_law.specs.Members.{resolving}
 use Rattle.jv_rules.specs.Program.{Program}
 use Rattle.jv_rules.specs.Faults.{Of, IsTableFault, IsFault}
 use Rattle.jv_rules.specs.declared.condition.Condition.{Condition}

@@ -9,7 +9,7 @@ use Rattle.jv_tree.specs.Source.{Class, File}
 use Rattle.jv_meaning.specs.Program.{class_in, classes_of}
 use Rattle.jv_rules.specs.Program.{Program}
 use Rattle.jv_rules.specs.Shape.{IsShapedClass, IsShaped}
-use Rattle.jv_resolving.specs.Targets.{ClassAssignsVariables, OnlyVariablesAreAssigned}
+use Rattle.jv_resolve_law.specs.Targets.{ClassAssignsVariables, OnlyVariablesAreAssigned}
 use Rattle.jv_read.proofs.Unique.{read_spells}
 use Rattle.jv_shaped.specs.Laws.{SpelledIsShaped, IsSpelled}
 use Rattle.mg_sources.specs.Files.{Source}

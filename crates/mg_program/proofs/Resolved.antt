@@ -10,8 +10,8 @@ use Rattle.jv_names.specs.Resolves.{Resolves}
 use Rattle.jv_rules.specs.Program.{Program}
 use Rattle.jv_rules.specs.Shape.{IsShaped}
 use Rattle.jv_rules.specs.Faults.{IsTableFault, IsFault, IsWellTyped}
-use Rattle.jv_resolving.specs.Members.{resolving}
-use Rattle.jv_resolving.specs.Targets.{OnlyVariablesAreAssigned}
+use Rattle.jv_resolve_law.specs.Members.{resolving}
+use Rattle.jv_resolve_law.specs.Targets.{OnlyVariablesAreAssigned}
 use Rattle.jv_shaped.specs.Laws.{SpelledIsShaped}
 use Rattle.jv_types.specs.View.{program_of}
 use Rattle.jv_types.specs.Outcome.{TellsFault}

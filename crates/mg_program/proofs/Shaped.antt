@@ -15,7 +15,7 @@ use Rattle.jv_tree.specs.Source.{Class, Stmt, Method}
 use Rattle.jv_tree.specs.View.{stmts_of}
 use Rattle.jv_meaning.specs.Program.{classes_of}
 use Rattle.jv_rules.specs.Shape.{IsOfValues, DeclaresValues, AllDeclareValues, IsShapedMethod, IsShapedClass}
-use Rattle.jv_resolving.specs.Targets.{AssignsVariables, AllAssignVariables, ClassAssignsVariables}
+use Rattle.jv_resolve_law.specs.Targets.{AssignsVariables, AllAssignVariables, ClassAssignsVariables}
 use Rattle.stm_api.specs.Doings.{Doing, Passes, Asks, all_doings}
 use Rattle.stm_api.specs.Api.{ApiText, IsApi, send_body, take_body, look_body, label_test, first_label, refusal, value_param, method_of, class_with, enum_files}
 

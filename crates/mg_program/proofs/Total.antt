@@ -1,9 +1,9 @@
 -- Files that are a well typed program have a core, where it is within the bounds.
 use Rattle.std.proofs.Common.{◌≡◌, ◌≢◌, ◌∙◌, List, length, Option, Some, None, refl, ap, subst}
 use Rattle.jv_core.specs.Tree as Core
-use Rattle.jv_resolving.specs.Laws.{ResolvingIsRight, ResolvingIsTotal}
-use Rattle.jv_resolving.specs.Members.{resolving}
-use Rattle.jv_resolving.specs.Targets.{OnlyVariablesAreAssigned}
+use Rattle.jv_resolve_law.specs.Laws.{ResolvingIsRight, ResolvingIsTotal}
+use Rattle.jv_resolve_law.specs.Members.{resolving}
+use Rattle.jv_resolve_law.specs.Targets.{OnlyVariablesAreAssigned}
 use Rattle.jv_rules.specs.Faults.{IsWellTyped}
 use Rattle.jv_rules.specs.Program.{Program}
 use Rattle.jv_shaped.specs.Laws.{SpelledIsShaped}

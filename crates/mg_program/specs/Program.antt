@@ -4,7 +4,7 @@ use Rattle.mg_text.specs.declared.place.Place.{Place}
 use Rattle.mg_read.specs.Culprit.{culprit}
 use Rattle.jv_core.specs.Tree as Core
 use Rattle.jv_names.specs.Resolves.{Resolves}
-use Rattle.jv_resolving.specs.Members.{resolving}
+use Rattle.jv_resolve_law.specs.Members.{resolving}
 use Rattle.jv_rules.specs.Program.{Program}
 use Rattle.jv_rules.specs.Faults.{IsTableFault, IsFault}
 use Rattle.jv_rules.specs.declared.condition.Condition.{Condition}

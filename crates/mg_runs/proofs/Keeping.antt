@@ -3,8 +3,8 @@ use Rattle.std.proofs.Common.{◌≡◌, ℕ, suc, List, [], sym, ap, ◌∙◌,
 use Rattle.mg_text.specs.declared.event.Event.{Event}
 use Rattle.mg_text.specs.declared.event.Ending.{Ending}
 use Rattle.mg_text.specs.declared.event.Ending.TheVariants as endings
-use Rattle.jv_mean.specs.Alike.{Prefix}
-use Rattle.jv_mean.specs.Values.{Finish, Wait, Ended, Inputs}
+use Rattle.jv_values.specs.Alike.{Prefix}
+use Rattle.jv_values.specs.Values.{Finish, Wait, Ended, Inputs}
 use Rattle.jv_meaning.specs.Calls.{Finished}
 use Rattle.jv_meaning.specs.Meaning.{mean}
 use Rattle.jv_rules.specs.Program.{Program as Sources}

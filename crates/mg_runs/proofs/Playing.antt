@@ -8,9 +8,9 @@ use Rattle.mg_text.specs.declared.event.Ending.TheVariants as endings
 use Rattle.scr_tree.specs.Tree.{LocalTree}
 use Rattle.scr_tree.specs.Meaning.{protocol_of}
 use Rattle.scr_tree.specs.Valid.{IsValid}
-use Rattle.jv_mean.specs.Alike.{Prefix}
-use Rattle.jv_mean.specs.Seen.{IsMade, told, open_told}
-use Rattle.jv_mean.specs.Values.{Mismatch, Ended, Inputs}
+use Rattle.jv_values.specs.Alike.{Prefix}
+use Rattle.jv_values.specs.Seen.{IsMade, told, open_told}
+use Rattle.jv_values.specs.Values.{Mismatch, Ended, Inputs}
 use Rattle.jv_meaning.specs.Calls.{calls}
 use Rattle.jv_meaning.specs.Meaning.{mean}
 use Rattle.jv_rules.specs.Program.{Program as Sources}

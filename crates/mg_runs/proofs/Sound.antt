@@ -9,8 +9,8 @@ use Rattle.jv_core.specs.Tree.{Class, Program}
 use Rattle.jv_core.specs.Conditions.{IsCore}
 use Rattle.jv_core.specs.Lookup.{class_numbered}
 use Rattle.jv_core.specs.Meaning.{Code, main_of, main_in, cmean}
-use Rattle.jv_mean.specs.Values as values
-use Rattle.jv_mean.specs.Values.{Ended, Inputs}
+use Rattle.jv_values.specs.Values as values
+use Rattle.jv_values.specs.Values.{Ended, Inputs}
 use Rattle.jv_meaning.specs.Meaning.{mean}
 use Rattle.jv_rules.specs.Shape.{IsShaped}
 use Rattle.jv_shaped.specs.Laws.{SpelledIsShaped}
@@ -26,7 +26,7 @@ use Rattle.vm_model.specs.Messages.{Messages}
 use Rattle.vm_model.specs.Machine.{Machine}
 use Rattle.vm_model.specs.Start.{IsStart}
 use Rattle.vm_model.specs.Step.{step}
-use Rattle.vm_machine.specs.Main as vm
+use Rattle.vm_step.specs.Main as vm
 use Rattle.gen_rules.specs.Classes.{class_files}
 use Rattle.gen_rules.specs.Linked.{linked_program}
 use Rattle.gen_links.specs.Files.{HasPlainNames, CoresLink}

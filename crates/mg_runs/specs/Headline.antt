@@ -11,8 +11,8 @@ use Rattle.stm_gen.specs.Numbered.{typestate_of}
 use Rattle.stm_gen.specs.Agreement.{Agrees}
 use Rattle.stm_acts.specs.Acts.{acts}
 use Rattle.stm_acts.specs.Played.{role_class, Plays, Refuses}
-use Rattle.jv_mean.specs.Seen.{IsMade, told, open_told}
-use Rattle.jv_mean.specs.Values.{Inputs, Ended}
+use Rattle.jv_values.specs.Seen.{IsMade, told, open_told}
+use Rattle.jv_values.specs.Values.{Inputs, Ended}
 use Rattle.jv_meaning.specs.Calls.{calls, Follows, Finished}
 use Rattle.jv_meaning.specs.Meaning.{mean}
 use Rattle.jv_rules.specs.Program.{Program as Sources}

@@ -2,7 +2,7 @@
 use Rattle.std.specs.Prelude.{◌≢◌, ℕ, List, [], map, None}
 use Rattle.mg_text.specs.Call.{Name}
 use Rattle.cls_tree.specs.Tree.{Class as File}
-use Rattle.jv_mean.specs.Values.{Inputs}
+use Rattle.jv_values.specs.Values.{Inputs}
 use Rattle.jv_meaning.specs.Meaning.{mean}
 use Rattle.jv_core.specs.Tree as Core
 use Rattle.jv_core.specs.Meaning.{main_of}
@@ -12,7 +12,7 @@ use Rattle.vm_model.specs.Machine.{Machine}
 use Rattle.vm_model.specs.Messages.{Messages}
 use Rattle.vm_model.specs.Start.{IsStart}
 use Rattle.vm_model.specs.Step.{step}
-use Rattle.vm_machine.specs.Main.{HasMain}
+use Rattle.vm_step.specs.Main.{HasMain}
 use Rattle.vm_world_law.specs.declared.role.RoleMain.{RoleMain}
 use Rattle.vm_world_law.specs.World.{World, turns, IsBegun}
 use Rattle.world_meant_law.specs.Meant.{Holds, RunsAsMeant}

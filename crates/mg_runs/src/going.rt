@@ -4,7 +4,7 @@ ghost use Rattle.std.specs.Prelude.{◌≡◌, map, IfOk};
 ghost use Rattle.std.specs.List.{IsDistinct, AllByRecursion};
 ghost use Rattle.std.specs.Str.{bytes_eq};
 ghost use Rattle.vm_model.specs.View.{classes_of};
-ghost use Rattle.vm_machine.specs.Main.{HasMain};
+ghost use Rattle.vm_step.specs.Main.{HasMain};
 ghost use Rattle.mg_runs.specs.Going.{IsOrder, IsGone};
 ghost use Rattle.mg_runs.specs.Runs.{names_of};
 

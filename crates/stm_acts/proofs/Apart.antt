@@ -12,7 +12,7 @@ use Rattle.scr_tree.specs.Protocol.{Parts}
 use Rattle.scr_tree.specs.Steps.{Act, Moves, Looks}
 use Rattle.scr_tree.specs.Tree.{LocalTree}
 use Rattle.scr_tree.specs.Valid.{IsValid}
-use Rattle.jv_mean.specs.Values.{Ended, Mismatch}
+use Rattle.jv_values.specs.Values.{Ended, Mismatch}
 use Rattle.stm_api.specs.Doings.{Asks, all_doings}
 use Rattle.stm_acts.specs.Acts.{Deed, Moved, Looked, unnumbered}
 use Rattle.stm_acts.specs.Played.{OpenActs, none_yet, its_own, Plays, Refuses, Played, plays, refuses}

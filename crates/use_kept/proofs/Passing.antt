@@ -7,9 +7,9 @@ use Rattle.mg_sets.specs.Sets.{has, IsSubset}
 use Rattle.ts_tree.specs.declared.parts.To.{To}
 use Rattle.ts_tree.specs.Typestate.{Target, One, ByAnswer, Typestate}
 use Rattle.ts_tree.specs.Calls.{led_by, by_label}
-use Rattle.jv_mean.specs.Values.{Value, Row, Shared, Inputs}
-use Rattle.jv_mean.specs.Doing.{Outcome, Gives, Ends, Run, and_then, ◌>>=◌, give, found}
-use Rattle.jv_mean.specs.Objects.{answer_of}
+use Rattle.jv_values.specs.Values.{Value, Row, Shared, Inputs}
+use Rattle.jv_values.specs.Doing.{Outcome, Gives, Ends, Run, and_then, ◌>>=◌, give, found}
+use Rattle.jv_values.specs.Objects.{answer_of}
 use Rattle.jv_core.specs.declared.tree.Var.{Var}
 use Rattle.jv_core.specs.declared.tree.CoreVar.{CoreVar}
 use Rattle.jv_core.specs.declared.program.CoreType.{CoreType}
@@ -553,4 +553,4 @@ module _ (p : Program) (ok : IsCore p) (reached : List (List Bool)) (rok : AreRe
       ((read p inputs low n (here_of p t ok inputs low n m me) locals x.var >>= λ v. MA args >>= λ vs. protocol_call p inputs low n (here_of p t ok inputs low n m me) i v vs) s)
       (protocol_called targets x i k at kind typed args no_helper good sets log q row rest s h)
       (λ r s' c. called_followed targets x i k at kind typed (CallsHelperIn args) a ty w row rest r s' is c
-      (in_targets c.called.target (Rattle.jv_mean.specs.Seen.label_in (constants_of p k.result) (answer_of r)) c.called.to c.called.led))
+      (in_targets c.called.target (Rattle.jv_values.specs.Seen.label_in (constants_of p k.result) (answer_of r)) c.called.to c.called.led))

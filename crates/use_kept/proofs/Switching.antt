@@ -6,12 +6,12 @@ use Rattle.mg_text.specs.declared.place.Place.{Place}
 use Rattle.ts_tree.specs.declared.parts.To.{To}
 use Rattle.ts_tree.specs.Typestate.{Target, One, ByAnswer}
 use Rattle.ts_tree.specs.Calls.{led_by}
-use Rattle.jv_mean.specs.Values.{Value, Row, Shared, Lives, Inputs, Here, Wrong}
-use Rattle.jv_mean.specs.Values as values
-use Rattle.jv_mean.specs.Doing.{Outcome, Gives, Ends, Run, and_then, ◌>>=◌, give, stop, found, kept, within, declared, valued}
-use Rattle.jv_mean.specs.Objects.{answer_of}
-use Rattle.jv_mean.specs.Seen.{label_in}
-use Rattle.jv_mean.specs.Statements.{Completion, Normal, Breaks, Continues, Returns, Does}
+use Rattle.jv_values.specs.Values.{Value, Row, Shared, Lives, Inputs, Here, Wrong}
+use Rattle.jv_values.specs.Values as values
+use Rattle.jv_values.specs.Doing.{Outcome, Gives, Ends, Run, and_then, ◌>>=◌, give, stop, found, kept, within, declared, valued}
+use Rattle.jv_values.specs.Objects.{answer_of}
+use Rattle.jv_values.specs.Seen.{label_in}
+use Rattle.jv_values.specs.Statements.{Completion, Normal, Breaks, Continues, Returns, Does}
 use Rattle.jv_core.specs.declared.tree.CoreVar.{CoreVar}
 use Rattle.jv_core.specs.declared.program.CoreType.{CoreType}
 use Rattle.jv_core.specs.declared.program.CoreType.TheVariants as types
@@ -109,7 +109,7 @@ module _ (p : Program) (ok : IsCore p) (reached : List (List Bool)) (rok : AreRe
 
   -- what leads to such labels is known where their group begins
   pub record Enters (rn : Now) (nows : List Now) (wanted : Option ℕ → Bool) (cur : Now) : Type 0 where
-    pub enters : (labels : List (Option ℕ)) → Rattle.jv_mean.specs.Statements.any_label wanted labels ≡ true → NowIn cur (rules.entry_of p cs cx m rn nows labels)
+    pub enters : (labels : List (Option ℕ)) → Rattle.jv_values.specs.Statements.any_label wanted labels ≡ true → NowIn cur (rules.entry_of p cs cx m rn nows labels)
 
   -- what a switch is led by
   pub record AtCase (sc : List ℕ) (nows : List Now) (rest : List Root) (k : ℕ) (s : Lives ℕ) : Type 0 where
@@ -201,7 +201,7 @@ module _ (p : Program) (ok : IsCore p) (reached : List (List Bool)) (rok : AreRe
 
   -- the position that is switched on
   abbrev posed : Expr → Row ℕ → Outcome Shared (Option Value) → Outcome (Lives ℕ) ℕ
-  posed e locals o = kept locals (and_then (and_then (and_then o found) Rattle.jv_mean.specs.Doing.constant) (λ v. found (Rattle.jv_core.specs.Meaning.enum_given p n e) >>= λ name. if Rattle.std.specs.Str.bytes_eq v.0 name then give v.1 else stop Wrong))
+  posed e locals o = kept locals (and_then (and_then (and_then o found) Rattle.jv_values.specs.Doing.constant) (λ v. found (Rattle.jv_core.specs.Meaning.enum_given p n e) >>= λ name. if Rattle.std.specs.Str.bytes_eq v.0 name then give v.1 else stop Wrong))
 
   posed_constant : (e : Expr) (locals : Row ℕ) (name : Name) (k : ℕ) (s : Shared) (Q : ℕ → Lives ℕ → Type 0) → Q k (record { locals = locals; shared = s }) → Good p t Q (posed e locals (Gives (Some (values.Constant name k)) s))
   posed_constant e locals name k s Q h = go (Rattle.jv_core.specs.Meaning.enum_given p n e)
@@ -304,7 +304,7 @@ module _ (p : Program) (ok : IsCore p) (reached : List (List Bool)) (rok : AreRe
   switch_value sc e of sets log rest s scope h quiet l = switch_any sc e of sets log rest s scope h quiet l
 
   abbrev case_at : ℕ → Option ℕ → Bool
-  case_at k l = Rattle.jv_mean.specs.Statements.case_at k l
+  case_at k l = Rattle.jv_values.specs.Statements.case_at k l
 
   abbrev has_group : (Option ℕ → Bool) → Groups → Bool
   has_group w gs = Rattle.jv_core.specs.Meaning.has_group w gs
@@ -319,14 +319,14 @@ module _ (p : Program) (ok : IsCore p) (reached : List (List Bool)) (rok : AreRe
   or_first true b e = absurd (cc)
   or_first false b e = (refl, e)
 
-  no_label : (w : Option ℕ → Bool) (ls : List (Option ℕ)) → Rattle.jv_mean.specs.Statements.any_label w ls ≡ false → (l : Option ℕ) → Mem l ls → w l ≡ false
+  no_label : (w : Option ℕ → Bool) (ls : List (Option ℕ)) → Rattle.jv_values.specs.Statements.any_label w ls ≡ false → (l : Option ℕ) → Mem l ls → w l ≡ false
   no_label w [] e l i = absurd i
-  no_label w (j ∷ ls) e l i = let o = or_first (w j) (Rattle.jv_mean.specs.Statements.any_label w ls) e in ⊎_elim (λ g. ap w g ∙ o.0) (λ k. no_label w ls o.1 l k) i
+  no_label w (j ∷ ls) e l i = let o = or_first (w j) (Rattle.jv_values.specs.Statements.any_label w ls) e in ⊎_elim (λ g. ap w g ∙ o.0) (λ k. no_label w ls o.1 l k) i
 
   no_group_label : (w : Option ℕ → Bool) (gs : Groups) → has_group w gs ≡ false → (l : Option ℕ) → Mem l (rules.all_labels gs) → w l ≡ false
   no_group_label w NoGroup e l i = absurd i
   no_group_label w (Group labels body end more) e l i =
-      let o = or_first (Rattle.jv_mean.specs.Statements.any_label w labels) (has_group w more) e in
+      let o = or_first (Rattle.jv_values.specs.Statements.any_label w labels) (has_group w more) e in
       ⊎_elim (λ a. no_label w labels o.0 l a) (λ b. no_group_label w more o.1 l b) (Rattle.use_rules.proofs.Members.mem_cases l labels (rules.all_labels more) i)
 
   -- a constant without a case
@@ -350,23 +350,23 @@ module _ (p : Program) (ok : IsCore p) (reached : List (List Bool)) (rok : AreRe
   label_same k None = refl
   label_same k (Some j) = refl
 
-  default_same : (l : Option ℕ) → rules.is_default l ≡ Rattle.jv_mean.specs.Statements.is_default l
+  default_same : (l : Option ℕ) → rules.is_default l ≡ Rattle.jv_values.specs.Statements.is_default l
   default_same None = refl
   default_same (Some j) = refl
 
   -- where a label is, what it leads to flows in
-  enters_case : (rn : Now) (nows : List Now) (k : ℕ) (cur : Now) → slice_get nows k ≡ Some cur → (labels : List (Option ℕ)) → Rattle.jv_mean.specs.Statements.any_label (case_at k) labels ≡ true → NowIn cur (rules.entry_of p cs cx m rn nows labels)
+  enters_case : (rn : Now) (nows : List Now) (k : ℕ) (cur : Now) → slice_get nows k ≡ Some cur → (labels : List (Option ℕ)) → Rattle.jv_values.specs.Statements.any_label (case_at k) labels ≡ true → NowIn cur (rules.entry_of p cs cx m rn nows labels)
   enters_case rn nows k cur e [] h = absurd (cc)
   enters_case rn nows k cur e (None ∷ labels) h = joined_right cur (rules.entry_of p cs cx m rn nows labels) rn (enters_case rn nows k cur e labels h)
   enters_case rn nows k cur e (Some j ∷ labels) h = go (nat_eq j k) refl h (λ h. enters_case rn nows k cur e labels h)
     where
-      go : (b : Bool) → nat_eq j k ≡ b → (Rattle.std.specs.Prelude.◌||◌ b (Rattle.jv_mean.specs.Statements.any_label (case_at k) labels)) ≡ true →
-          (Rattle.jv_mean.specs.Statements.any_label (case_at k) labels ≡ true → NowIn cur (rules.entry_of p cs cx m rn nows labels)) → NowIn cur (rules.entry_of p cs cx m rn nows (Some j ∷ labels))
+      go : (b : Bool) → nat_eq j k ≡ b → (Rattle.std.specs.Prelude.◌||◌ b (Rattle.jv_values.specs.Statements.any_label (case_at k) labels)) ≡ true →
+          (Rattle.jv_values.specs.Statements.any_label (case_at k) labels ≡ true → NowIn cur (rules.entry_of p cs cx m rn nows labels)) → NowIn cur (rules.entry_of p cs cx m rn nows (Some j ∷ labels))
       go true is h ih = joined_left cur (elim (slice_get nows j) as (λ _. Now) [ None ↦ None | Some now ↦ now ]) (rules.entry_of p cs cx m rn nows labels)
           (subst (λ o. NowIn cur (elim o as (λ _. Now) [ None ↦ None | Some now ↦ now ])) (sym (ap (slice_get nows) (Rattle.std.proofs.lemmas.Bool.eqb-true j k is) ∙ e)) (now_refl cur))
       go false is h ih = joined_right cur (rules.entry_of p cs cx m rn nows labels) (elim (slice_get nows j) as (λ _. Now) [ None ↦ None | Some now ↦ now ]) (ih h)
 
-  enters_default : (rn : Now) (nows : List Now) (cur : Now) → NowIn cur rn → (labels : List (Option ℕ)) → Rattle.jv_mean.specs.Statements.any_label Rattle.jv_mean.specs.Statements.is_default labels ≡ true → NowIn cur (rules.entry_of p cs cx m rn nows labels)
+  enters_default : (rn : Now) (nows : List Now) (cur : Now) → NowIn cur rn → (labels : List (Option ℕ)) → Rattle.jv_values.specs.Statements.any_label Rattle.jv_values.specs.Statements.is_default labels ≡ true → NowIn cur (rules.entry_of p cs cx m rn nows labels)
   enters_default rn nows cur i [] h = absurd (cc)
   enters_default rn nows cur i (None ∷ labels) h = joined_left cur rn (rules.entry_of p cs cx m rn nows labels) i
   enters_default rn nows cur i (Some j ∷ labels) h = joined_right cur (rules.entry_of p cs cx m rn nows labels) (elim (slice_get nows j) as (λ _. Now) [ None ↦ None | Some now ↦ now ]) (enters_default rn nows cur i labels h)
@@ -375,27 +375,27 @@ module _ (p : Program) (ok : IsCore p) (reached : List (List Bool)) (rok : AreRe
   from_none : (w : Option ℕ → Bool) (gs : Groups) (s : Lives ℕ) → has_group w gs ≡ false → XF w gs s ≡ Gives Normal s
   from_none w NoGroup s e = refl
   from_none w (Group labels body end more) s e =
-      let o = or_first (Rattle.jv_mean.specs.Statements.any_label w labels) (has_group w more) e in
-      ap (λ b. (if b then XA body >>= Rattle.jv_mean.specs.Statements.next_do (XG more) else XF w more) s) o.0 ∙ from_none w more s o.1
+      let o = or_first (Rattle.jv_values.specs.Statements.any_label w labels) (has_group w more) e in
+      ap (λ b. (if b then XA body >>= Rattle.jv_values.specs.Statements.next_do (XG more) else XF w more) s) o.0 ∙ from_none w more s o.1
 
   pub switch_groups : (sc : List ℕ) (ts : List Around) (gs : Groups) (nows : List Now) (log : Log) (rest : List Root) (k : ℕ) (s : Lives ℕ) → AtCase sc nows rest k s →
       Quiet t ((FO sc (rules.uncased p cs cx m (rules.all_labels gs) 0 nows) nows gs None log).log) →
       ((wanted : Option ℕ → Bool) (cur : Now) → Enters (rules.uncased p cs cx m (rules.all_labels gs) 0 nows) nows wanted cur → has_group wanted gs ≡ true → (s : Lives ℕ) → L sc cur rest s →
       Good p t (P sc sc (ASwitch ∷ ts) (FO sc (rules.uncased p cs cx m (rules.all_labels gs) 0 nows) nows gs None log) rest) (XF wanted gs s)) →
       Good p t (P sc sc (ASwitch ∷ ts) (flow (joined (FO sc (rules.uncased p cs cx m (rules.all_labels gs) 0 nows) nows gs None log).now (rules.past p cs cx m gs nows)) (FO sc (rules.uncased p cs cx m (rules.all_labels gs) 0 nows) nows gs None log).jumps (FO sc (rules.uncased p cs cx m (rules.all_labels gs) 0 nows) nows gs None log).log) rest)
-      ((if has_group (case_at k) gs then XF (case_at k) gs else XF Rattle.jv_mean.specs.Statements.is_default gs) s)
+      ((if has_group (case_at k) gs then XF (case_at k) gs else XF Rattle.jv_values.specs.Statements.is_default gs) s)
   switch_groups sc ts gs nows log rest k s at quiet good = cased (has_group (case_at k) gs) refl
     where
       cased : (z : Bool) → has_group (case_at k) gs ≡ z →
           Good p t (P sc sc (ASwitch ∷ ts) (flow (joined (FO sc (rules.uncased p cs cx m (rules.all_labels gs) 0 nows) nows gs None log).now (rules.past p cs cx m gs nows)) (FO sc (rules.uncased p cs cx m (rules.all_labels gs) 0 nows) nows gs None log).jumps (FO sc (rules.uncased p cs cx m (rules.all_labels gs) 0 nows) nows gs None log).log) rest)
-          ((if z then XF (case_at k) gs else XF Rattle.jv_mean.specs.Statements.is_default gs) s)
+          ((if z then XF (case_at k) gs else XF Rattle.jv_values.specs.Statements.is_default gs) s)
       cased true e =
           let f = FO sc (rules.uncased p cs cx m (rules.all_labels gs) 0 nows) nows gs None log in
           good_as p t (P sc sc (ASwitch ∷ ts) f rest) (P sc sc (ASwitch ∷ ts) (flow (joined f.now (rules.past p cs cx m gs nows)) f.jumps f.log) rest) (XF (case_at k) gs s)
           (good (case_at k) at.cur (record { enters = λ labels h. enters_case (rules.uncased p cs cx m (rules.all_labels gs) 0 nows) nows k at.cur at.is labels h }) e s at.lives)
           (λ c s2 h2. post_in p reached t m cx me sc sc (ASwitch ∷ ts) f (flow (joined f.now (rules.past p cs cx m gs nows)) f.jumps f.log) rest c s2
           (record { now = joined_left f.now f.now (rules.past p cs cx m gs nows) (now_refl f.now); jumps = λ to. now_refl (caught to f.jumps) }) h2)
-      cased false e = other (has_group Rattle.jv_mean.specs.Statements.is_default gs) refl
+      cased false e = other (has_group Rattle.jv_values.specs.Statements.is_default gs) refl
         where
           zeroed : 0 + k ≡ k
           zeroed = omega arith
@@ -405,18 +405,18 @@ module _ (p : Program) (ok : IsCore p) (reached : List (List Bool)) (rok : AreRe
               (ap (λ j. Rattle.std.specs.List.list_any (rules.is_label j) (rules.all_labels gs)) zeroed
               ∙ none_in_list (rules.is_label k) (rules.all_labels gs) (λ l i. label_same k l ∙ no_group_label (case_at k) gs e l i))
 
-          other : (z : Bool) → has_group Rattle.jv_mean.specs.Statements.is_default gs ≡ z →
+          other : (z : Bool) → has_group Rattle.jv_values.specs.Statements.is_default gs ≡ z →
               Good p t (P sc sc (ASwitch ∷ ts) (flow (joined (FO sc (rules.uncased p cs cx m (rules.all_labels gs) 0 nows) nows gs None log).now (rules.past p cs cx m gs nows)) (FO sc (rules.uncased p cs cx m (rules.all_labels gs) 0 nows) nows gs None log).jumps (FO sc (rules.uncased p cs cx m (rules.all_labels gs) 0 nows) nows gs None log).log) rest)
-              (XF Rattle.jv_mean.specs.Statements.is_default gs s)
+              (XF Rattle.jv_values.specs.Statements.is_default gs s)
           other true g =
               let f = FO sc (rules.uncased p cs cx m (rules.all_labels gs) 0 nows) nows gs None log in
-              good_as p t (P sc sc (ASwitch ∷ ts) f rest) (P sc sc (ASwitch ∷ ts) (flow (joined f.now (rules.past p cs cx m gs nows)) f.jumps f.log) rest) (XF Rattle.jv_mean.specs.Statements.is_default gs s)
-              (good Rattle.jv_mean.specs.Statements.is_default at.cur (record { enters = λ labels h. enters_default (rules.uncased p cs cx m (rules.all_labels gs) 0 nows) nows at.cur uncased_here labels h }) g s at.lives)
+              good_as p t (P sc sc (ASwitch ∷ ts) f rest) (P sc sc (ASwitch ∷ ts) (flow (joined f.now (rules.past p cs cx m gs nows)) f.jumps f.log) rest) (XF Rattle.jv_values.specs.Statements.is_default gs s)
+              (good Rattle.jv_values.specs.Statements.is_default at.cur (record { enters = λ labels h. enters_default (rules.uncased p cs cx m (rules.all_labels gs) 0 nows) nows at.cur uncased_here labels h }) g s at.lives)
               (λ c s2 h2. post_in p reached t m cx me sc sc (ASwitch ∷ ts) f (flow (joined f.now (rules.past p cs cx m gs nows)) f.jumps f.log) rest c s2
               (record { now = joined_left f.now f.now (rules.past p cs cx m gs nows) (now_refl f.now); jumps = λ to. now_refl (caught to f.jumps) }) h2)
           other false g =
               let f = FO sc (rules.uncased p cs cx m (rules.all_labels gs) 0 nows) nows gs None log in
-              let no_default : Rattle.std.specs.List.list_any rules.is_default (rules.all_labels gs) ≡ false = none_in_list rules.is_default (rules.all_labels gs) (λ l i. default_same l ∙ no_group_label Rattle.jv_mean.specs.Statements.is_default gs g l i) in
-              subst (λ o. Good p t (P sc sc (ASwitch ∷ ts) (flow (joined f.now (rules.past p cs cx m gs nows)) f.jumps f.log) rest) o) (sym (from_none Rattle.jv_mean.specs.Statements.is_default gs s g))
+              let no_default : Rattle.std.specs.List.list_any rules.is_default (rules.all_labels gs) ≡ false = none_in_list rules.is_default (rules.all_labels gs) (λ l i. default_same l ∙ no_group_label Rattle.jv_values.specs.Statements.is_default gs g l i) in
+              subst (λ o. Good p t (P sc sc (ASwitch ∷ ts) (flow (joined f.now (rules.past p cs cx m gs nows)) f.jumps f.log) rest) o) (sym (from_none Rattle.jv_values.specs.Statements.is_default gs s g))
               (lv_in p reached t m cx me sc at.cur (joined f.now (rules.past p cs cx m gs nows)) rest s
               (joined_right at.cur (rules.past p cs cx m gs nows) f.now (subst (λ b. NowIn at.cur (if b then None else rules.uncased p cs cx m (rules.all_labels gs) 0 nows)) (sym no_default) uncased_here)) at.lives)

@@ -1,6 +1,6 @@
 -- What is kept on the core of sources is kept on the sources.
 use Rattle.std.proofs.Common.{◌≢◌, None, sym, subst}
-use Rattle.jv_mean.specs.Values.{Ended, Wrong}
+use Rattle.jv_values.specs.Values.{Ended, Wrong}
 use Rattle.jv_meaning.specs.Meaning.{mean}
 use Rattle.jv_rules.specs.Program.{Program}
 use Rattle.jv_core.specs.Tree as Core

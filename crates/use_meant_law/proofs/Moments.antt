@@ -10,8 +10,8 @@ use Rattle.ts_tree.specs.declared.parts.To.{To}
 use Rattle.ts_tree.specs.declared.parts.To.TheVariants as tos
 use Rattle.ts_tree.specs.Typestate.{Typestate}
 use Rattle.ts_tree.specs.Calls.{Path, Fits, Offers, led, led_by, next_from, offered, initial}
-use Rattle.jv_mean.specs.Alike.{Prefix}
-use Rattle.jv_mean.specs.Seen.{Told, Enters, Leaves, told, told_by, label_in, Results, Alternates, AlternatesInside, IsMade, calls_told, open_told}
+use Rattle.jv_values.specs.Alike.{Prefix}
+use Rattle.jv_values.specs.Seen.{Told, Enters, Leaves, told, told_by, label_in, Results, Alternates, AlternatesInside, IsMade, calls_told, open_told}
 use Rattle.jv_meaning.specs.Program.{Sources}
 use Rattle.jv_meaning.specs.Calls.{Follows, IsPath, results_of}
 

@@ -2,8 +2,8 @@
 use Rattle.std.specs.Prelude.{◌≡◌, ◌≢◌, ℕ, List, Bool, None}
 use Rattle.mg_text.specs.Call.{Name}
 use Rattle.mg_text.specs.declared.event.Event.{Event}
-use Rattle.jv_mean.specs.Alike.{Prefix}
-use Rattle.jv_mean.specs.Values.{Inputs, Ended, Done, Null, Wrong}
+use Rattle.jv_values.specs.Alike.{Prefix}
+use Rattle.jv_values.specs.Values.{Inputs, Ended, Done, Null, Wrong}
 use Rattle.jv_meaning.specs.Calls.{Follows, Finished}
 use Rattle.jv_meaning.specs.Meaning.{mean}
 use Rattle.jv_meaning.specs.Names.{main_of}

@@ -9,7 +9,7 @@ use Rattle.vm_model.specs.Program.{Program}
 use Rattle.vm_model.specs.Messages.{Messages}
 use Rattle.vm_model.specs.Machine.{Machine, Stepped, Went, Waits, Stops, noted}
 use Rattle.vm_model.specs.Step.{step}
-use Rattle.vm_machine.specs.Alone.{StepAlone, AllAlone}
+use Rattle.vm_step.specs.Alone.{StepAlone, AllAlone}
 use Rattle.vm_world_law.specs.World.{State, Runs, Over, Role, World, of_role, turn, turn_at, turn_in, stepped, IsStill, Rests}
 use Rattle.vm_world_law.specs.Turns.{Advances, StillAt, counted}
 use Rattle.vm_world_law.proofs.Lists.{some_is, set_here, set_there, set_long, get_within, got_within, same_at_each}

@@ -4,7 +4,7 @@ use Rattle.std.proofs.lemmas.List.{map-set}
 use Rattle.vm_model.specs.Program.{Program}
 use Rattle.vm_model.specs.Messages.{Messages}
 use Rattle.vm_model.specs.Machine.{Machine, Stepped, Went}
-use Rattle.vm_machine.specs.Alone.{StepAlone, AllAlone}
+use Rattle.vm_step.specs.Alone.{StepAlone, AllAlone}
 use Rattle.vm_world_law.specs.declared.role.RoleEvent.{RoleEvent}
 use Rattle.vm_world_law.specs.declared.role.Turned.TheVariants as answers
 use Rattle.vm_world_law.specs.World as model

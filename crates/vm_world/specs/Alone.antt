@@ -1,7 +1,7 @@
 -- Turns that tell nothing and look at no message, one after another.
 use Rattle.std.specs.Prelude.{◌≡◌, ℕ, zero, suc, ◌+◌, Some, true, false, slice_get, slice_set}
 use Rattle.vm_model.specs.Program.{Program}
-use Rattle.vm_machine.specs.Alone.{AllAlone}
+use Rattle.vm_step.specs.Alone.{AllAlone}
 use Rattle.vm_world_law.specs.World.{State, Runs, Over, Role, World}
 use Rattle.vm_world_law.specs.Turns.{Advances}
 

@@ -9,7 +9,7 @@ ghost use Rattle.vm_world.specs.View.{role_of, state_of};
 
 use mg_text::{Ending, Event, Memory, Text};
 use std::alloc::Global;
-use vm_machine::{Machine, Stepped};
+use vm_step::{Machine, Stepped};
 use vm_model::{Linked, Ports};
 use vm_world_law::Turned;
 

@@ -5,7 +5,7 @@ ghost use Rattle.std.specs.Prelude.{◌≡◌, ◌+◌, ◌<◌, ◌≤◌, ◌^
 ghost use Rattle.std.specs.List.{IsDistinct, AllByRecursion};
 ghost use Rattle.std.specs.Str.{bytes_eq};
 ghost use Rattle.vm_model.specs.View.{classes_of};
-ghost use Rattle.vm_machine.specs.Main.{HasMain};
+ghost use Rattle.vm_step.specs.Main.{HasMain};
 ghost use Rattle.vm_world_law.specs.World as model;
 ghost use Rattle.vm_world_law.specs.Turns.{over_in};
 ghost use Rattle.vm_world.specs.Alone.{TurnsAlone};
@@ -17,7 +17,7 @@ use crate::role::{Role, State, Taken, take_turn, turns_alone};
 use mg_text::{Ending, Event, List, Memory, Text};
 use std::alloc::Global;
 use std::marker::Model;
-use vm_machine::Machine;
+use vm_step::Machine;
 use vm_model::{Linked, Ports};
 use vm_world_law::{RoleEvent, RoleMain, Turned};
 

@@ -15,7 +15,7 @@ use Rattle.vm_world_law.specs.Turns.{first_turns, stand_of, stands_from, OrdersA
 use Rattle.vm_world_law.specs.Laws.{Begin, Left, Arrives, ComesAlone, Longer, EventsBegin, SameForAll}
 use Rattle.vm_world_law.proofs.Lists.{get_within, replicate_there}
 use Rattle.vm_world_law.proofs.Moves.{GoesAlike, step_alike}
-use Rattle.jv_mean.specs.Alike.{Prefix}
+use Rattle.jv_values.specs.Alike.{Prefix}
 use Rattle.vm_world_law.proofs.Events.{others_more}
 use Rattle.vm_world_law.proofs.Alone.{Kept, kept_first, kept_by, turn_kept}
 use Rattle.vm_world_law.proofs.Same.{same_sent, messages_same, roles_same}

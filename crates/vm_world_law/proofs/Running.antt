@@ -5,7 +5,7 @@ use Rattle.mg_text.specs.declared.event.Event.{Event}
 use Rattle.vm_model.specs.Messages.{Messages}
 use Rattle.vm_model.specs.Machine.{Machine, Stepped, Went, Stops, Steps, none, more, noted}
 use Rattle.vm_world_law.specs.World.{Runs, Over, Role}
-use Rattle.jv_mean.specs.Alike.{Prefix}
+use Rattle.jv_values.specs.Alike.{Prefix}
 
 -- Prefixes.
 

@@ -9,7 +9,7 @@ use Rattle.vm_model.specs.Runs as whole
 use Rattle.vm_model.specs.Start.{IsStart}
 use Rattle.vm_model.specs.Step.{step}
 use Rattle.mg_text.specs.Call.{Name}
-use Rattle.jv_mean.specs.Alike.{Prefix}
+use Rattle.jv_values.specs.Alike.{Prefix}
 use Rattle.vm_world_law.specs.declared.role.RoleMain.{RoleMain}
 use Rattle.vm_world_law.specs.Doing.{DoesOne}
 use Rattle.vm_world_law.specs.World.{State, Runs, Over, Role, World, turn, turns, IsFresh, IsBegun, name_of, events_of, sent, took, waits, Rests}

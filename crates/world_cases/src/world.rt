@@ -10,7 +10,7 @@ use cls_tree::Class;
 use mg_text::{Memory, Text};
 use std::alloc::Global;
 use vm_load::{LoadFault, load};
-use vm_machine::has_main;
+use vm_step::has_main;
 use vm_model::Linked;
 use vm_world::{RoleMain, World};
 

@@ -6,7 +6,7 @@ use Rattle.std.proofs.lemmas.Bool.{eq-eqb, ne_eqb}
 use Rattle.std.proofs.lemmas.Bool.Decides.{eqb_tells}
 use Rattle.mg_text.specs.Call.{Name}
 use Rattle.mg_text.proofs.Numbered.{list_any-from_None}
-use Rattle.jv_mean.specs.Messages.{messages_of}
+use Rattle.jv_values.specs.Messages.{messages_of}
 use Rattle.vm_model.specs.Step.{other_role}
 use Rattle.vm_world_law.specs.World.{World, sent}
 use Rattle.vm_world_law.proofs.Lists.{same_name, names_differ, one_place, stands_at}

@@ -4,8 +4,8 @@ use Rattle.mg_text.specs.Call.{Name}
 use Rattle.mg_text.specs.declared.event.Event.{Event}
 use Rattle.mg_text.specs.declared.event.Ending.{Ending}
 use Rattle.mg_text.specs.declared.event.Ending.TheVariants as endings
-use Rattle.jv_mean.specs.Values.{Finish, Wait, Ended, Inputs}
-use Rattle.jv_mean.specs.Alike.{Prefix}
+use Rattle.jv_values.specs.Values.{Finish, Wait, Ended, Inputs}
+use Rattle.jv_values.specs.Alike.{Prefix}
 use Rattle.vm_model.specs.Program.{Program}
 use Rattle.vm_model.specs.Messages.{Messages, role_named, or_nothing}
 use Rattle.vm_model.specs.Machine.{Machine, Stepped, Went, Waits, Stops}

@@ -5,8 +5,8 @@ use Rattle.mg_text.specs.declared.event.Event.{Event}
 use Rattle.mg_text.specs.declared.event.Ending.{Ending}
 use Rattle.mg_text.specs.declared.event.Ending.TheVariants as endings
 use Rattle.mg_text.specs.declared.event.BadKind.{BadKind}
-use Rattle.jv_mean.specs.Values.{Finish, Wait, Ended, Inputs}
-use Rattle.jv_mean.specs.Alike.{Prefix}
+use Rattle.jv_values.specs.Values.{Finish, Wait, Ended, Inputs}
+use Rattle.jv_values.specs.Alike.{Prefix}
 use Rattle.vm_model.specs.Program.{Program}
 use Rattle.vm_model.specs.Messages.{Messages}
 use Rattle.vm_model.specs.Machine.{Machine}

@@ -11,7 +11,7 @@ use Rattle.jv_tree.specs.declared.tree.Op.TheVariants as ops
 use Rattle.jv_tree.specs.Source.{Int, Truth, Text, Variable, Member, Binary, MethodCall, New, NoExpr, Argument}
 use Rattle.jv_tree.specs.Source.{Block, Local, Assign, If, While, Do, Switch, Break, Continue, Return, Print, Eval}
 use Rattle.jv_tree.specs.Source.{NoStmt, Then, NoGroup, Group, Method, Class, Enum, ClassDecl, EnumDecl}
-use Rattle.jv_mean.specs.Values.{Inputs, Done, NoPeer, Mismatch, Wait}
+use Rattle.jv_values.specs.Values.{Inputs, Done, NoPeer, Mismatch, Wait}
 use Rattle.jv_meaning.specs.Program.{Sources}
 use Rattle.jv_meaning.specs.Meaning.{mean}
 

@@ -4,7 +4,7 @@ use Rattle.std.specs.Str.{bytes_eq}
 use Rattle.mg_text.specs.Call.{Name}
 use Rattle.jv_tree.specs.Source.{Class, Enum, Decl}
 use Rattle.jv_meaning.specs.Program.{class_in, enum_in}
-use Rattle.jv_resolving.specs.Tables.{◌>>=◌, Entry}
+use Rattle.jv_resolve_law.specs.Tables.{◌>>=◌, Entry}
 
 abbrev pub classes_within : List Decl → List Class
 classes_within decls = flat_map class_in decls

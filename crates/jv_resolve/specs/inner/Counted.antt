@@ -4,9 +4,9 @@ use Rattle.jv_tree.specs.Source.{Stmt, Enum}
 use Rattle.jv_tree.specs.View.{OneGroup as SourceGroup}
 use Rattle.jv_core.specs.View.{OneGroup, stmts_of, slot_of, loop_of}
 use Rattle.jv_core.specs.Tree as Core
-use Rattle.jv_resolving.specs.Tables.{◌>>=◌, Tables}
-use Rattle.jv_resolving.specs.Expressions.{Known, Standing}
-use Rattle.jv_resolving.specs.Statements.{Counted, Counting, Around, Item, item, stmt, stmts, labels_at}
+use Rattle.jv_resolve_law.specs.Tables.{◌>>=◌, Tables}
+use Rattle.jv_resolve_law.specs.Expressions.{Known, Standing}
+use Rattle.jv_resolve_law.specs.Statements.{Counted, Counting, Around, Item, item, stmt, stmts, labels_at}
 use Rattle.jv_resolve.specs.declared.body.Body.{Body}
 
 abbrev pub counted_seen : Body → Counted

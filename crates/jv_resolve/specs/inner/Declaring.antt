@@ -2,8 +2,8 @@
 use Rattle.mg_text.specs.Call.{Name}
 use Rattle.jv_core.specs.Tree as Core
 use Rattle.jv_core.specs.View.{expr_of}
-use Rattle.jv_resolving.specs.Expressions.{Known}
-use Rattle.jv_resolving.specs.Statements.{Counted, Counting}
+use Rattle.jv_resolve_law.specs.Expressions.{Known}
+use Rattle.jv_resolve_law.specs.Statements.{Counted, Counting}
 use Rattle.jv_resolve.specs.declared.simple.Declaration.{Declaration}
 use Rattle.jv_resolve.specs.inner.Counted.{counting}
 use Rattle.jv_resolve.specs.inner.Row.{known}

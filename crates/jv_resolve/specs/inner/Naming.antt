@@ -2,10 +2,10 @@
 use Rattle.std.specs.Prelude.{ℕ, List, [], ◌∷◌, ◌++◌, Option, Some, option_map}
 use Rattle.mg_text.specs.Call.{Name}
 use Rattle.jv_tree.specs.declared.tree.Param.{Param}
-use Rattle.jv_resolving.specs.Tables.{◌>>=◌, Tables, interned}
-use Rattle.jv_resolving.specs.Expressions.{Known}
-use Rattle.jv_resolving.specs.Statements.{Counted, declared, slot_more}
-use Rattle.jv_resolving.specs.Members.{Naming, Opened}
+use Rattle.jv_resolve_law.specs.Tables.{◌>>=◌, Tables, interned}
+use Rattle.jv_resolve_law.specs.Expressions.{Known}
+use Rattle.jv_resolve_law.specs.Statements.{Counted, declared, slot_more}
+use Rattle.jv_resolve_law.specs.Members.{Naming, Opened}
 
 -- something with the names that have numbers by then
 abbrev pub naming : {A : Type 0} → A → List Name → Naming A

@@ -1,5 +1,5 @@
 -- What the receivers of calls say as trees.
-use Rattle.jv_resolving.specs.Expressions.{Receiver as Target, OnThis, OnClass, OnValue}
+use Rattle.jv_resolve_law.specs.Expressions.{Receiver as Target, OnThis, OnClass, OnValue}
 use Rattle.jv_resolve.specs.declared.calls.Receiver.{Receiver}
 use Rattle.jv_resolve.specs.declared.calls.Receiver.TheVariants as kept
 use Rattle.jv_resolve.specs.inner.Seen.{operand_seen}

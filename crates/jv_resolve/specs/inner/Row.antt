@@ -1,7 +1,7 @@
 -- Parameters and locals in a table by name.
 use Rattle.std.specs.Prelude.{◌≡◌, List, [], ◌∷◌, map, reverse, Option, option_map, is_some, Bool, true, not, ◌&&◌}
 use Rattle.mg_text.specs.Call.{Name}
-use Rattle.jv_resolving.specs.Expressions.{Known, known_named}
+use Rattle.jv_resolve_law.specs.Expressions.{Known, known_named}
 use Rattle.jv_resolve.specs.declared.locals.Local.{Local}
 use Rattle.jv_resolve.specs.declared.locals.Declared.{Declared}
 

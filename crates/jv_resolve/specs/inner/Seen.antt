@@ -2,9 +2,9 @@
 use Rattle.std.specs.Prelude.{List, [], ◌∷◌, map, option_map}
 use Rattle.jv_tree.specs.View.{class_of, enum_of, field_of, method_of}
 use Rattle.jv_core.specs.View.{expr_of}
-use Rattle.jv_resolving.specs.Tables.{Entry, Tables as Tabled, Callee as Called, Placed, Numbered}
-use Rattle.jv_resolving.specs.Expressions.{Given as GivenType, OfNull, Of, Resolved as ResolvedExpr, Standing, Found as FoundVariable}
-use Rattle.jv_resolving.specs.Statements.{Around as Target, InLoop, InSwitch}
+use Rattle.jv_resolve_law.specs.Tables.{Entry, Tables as Tabled, Callee as Called, Placed, Numbered}
+use Rattle.jv_resolve_law.specs.Expressions.{Given as GivenType, OfNull, Of, Resolved as ResolvedExpr, Standing, Found as FoundVariable}
+use Rattle.jv_resolve_law.specs.Statements.{Around as Target, InLoop, InSwitch}
 use Rattle.jv_resolve.specs.declared.given.Given.{Given}
 use Rattle.jv_resolve.specs.declared.given.Given.TheVariants as kept_given
 use Rattle.jv_resolve.specs.declared.given.Operand.{Operand}

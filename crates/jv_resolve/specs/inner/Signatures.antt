@@ -4,10 +4,10 @@ use Rattle.mg_text.specs.Call.{Name}
 use Rattle.jv_tree.specs.Source
 use Rattle.jv_core.specs.Tree as Core
 use Rattle.jv_core.specs.declared.program.CoreType.{CoreType}
-use Rattle.jv_resolving.specs.Tables.{◌>>=◌, Tables, interned, type_meant}
-use Rattle.jv_resolving.specs.Expressions.{Known, Standing}
-use Rattle.jv_resolving.specs.Statements.{Counted, Counting, stmts}
-use Rattle.jv_resolving.specs.Members.{Naming, params}
+use Rattle.jv_resolve_law.specs.Tables.{◌>>=◌, Tables, interned, type_meant}
+use Rattle.jv_resolve_law.specs.Expressions.{Known, Standing}
+use Rattle.jv_resolve_law.specs.Statements.{Counted, Counting, stmts}
+use Rattle.jv_resolve_law.specs.Members.{Naming, params}
 use Rattle.jv_resolve.specs.inner.Naming.{naming}
 
 -- the number of a method's name, and its result

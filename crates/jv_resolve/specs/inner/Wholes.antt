@@ -3,8 +3,8 @@ use Rattle.std.specs.Prelude.{List, [], Option, Some}
 use Rattle.mg_text.specs.Call.{Name}
 use Rattle.ts_tree.specs.Typestate.{Typestate}
 use Rattle.jv_core.specs.Tree as Core
-use Rattle.jv_resolving.specs.Tables.{◌>>=◌, Tables}
-use Rattle.jv_resolving.specs.Members.{enums, classes, methods}
+use Rattle.jv_resolve_law.specs.Tables.{◌>>=◌, Tables}
+use Rattle.jv_resolve_law.specs.Members.{enums, classes, methods}
 
 -- enums and classes, and the names that have numbers by then
 pub record Headed : Type 0 where

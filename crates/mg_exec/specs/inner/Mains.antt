@@ -1,7 +1,7 @@
 -- For private clauses: the first role whose class has no `main`.
 use Rattle.std.specs.Prelude.{◌≡◌, ℕ, List, take, Option, Some, None, slice_get}
 use Rattle.vm_model.specs.Program.{Program}
-use Rattle.vm_machine.specs.Main.{HasMain}
+use Rattle.vm_step.specs.Main.{HasMain}
 use Rattle.vm_world_law.specs.declared.role.RoleMain.{RoleMain}
 use Rattle.mg_exec.specs.Runs.{HaveMains}
 

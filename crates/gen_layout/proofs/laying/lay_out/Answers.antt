@@ -1,5 +1,5 @@
 use Rattle.jv_core.specs.Core.{tree_of}
-use Rattle.gen_code.specs.View.{instrs_of}
+use Rattle.gen_symbolic.specs.View.{instrs_of}
 use Rattle.gen_layout.proofs.Assembling.{begins, lay_more, laid_done}
 use Rattle.std.proofs.Common.{subst}
 use Rattle.gen_pool.proofs.Fronts.{front_none, front_twice}

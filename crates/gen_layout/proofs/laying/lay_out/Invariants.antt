@@ -1,6 +1,6 @@
 use Rattle.std.proofs.Common.{drop}
 use Rattle.jv_core.specs.Core.{tree_of}
-use Rattle.gen_code.specs.View.{instrs_of}
+use Rattle.gen_symbolic.specs.View.{instrs_of}
 use Rattle.gen_pool.specs.Made.{IsFrontOf}
 use Rattle.gen_layout.specs.Laid.{laid}
 use Rattle.gen_layout.proofs.Assembling.{IsLeft}

@@ -2,7 +2,7 @@ use Rattle.std.proofs.Common.{ap, ◌∙◌, sym, subst}
 use Rattle.std.proofs.lemmas.List.{length-map}
 use Rattle.std.proofs.lemmas.Result.{err_from_is_err_and}
 use Rattle.jv_core.specs.Core.{tree_of}
-use Rattle.gen_code.specs.View.{instr_of, instrs_of}
+use Rattle.gen_symbolic.specs.View.{instr_of, instrs_of}
 use Rattle.gen_pool.specs.Made.{IsMade}
 use Rattle.gen_layout.specs.Kept.{laid_of}
 use Rattle.gen_layout.specs.Laid.{laid}

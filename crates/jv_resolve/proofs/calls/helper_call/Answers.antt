@@ -3,7 +3,7 @@ use Rattle.jv_core.specs.Tree as Core
 use Rattle.jv_core.specs.View.{expr_of, exprs_of, kind_of}
 use Rattle.jv_core.specs.declared.tree.CoreExprKind.TheVariants as kinds
 use Rattle.jv_core.proofs.ViewLaws.{kind-Helper}
-use Rattle.jv_resolving.specs.Tables.{type_meant}
+use Rattle.jv_resolve_law.specs.Tables.{type_meant}
 use Rattle.jv_resolve.specs.inner.Seen.{tables_seen, resolved_seen}
 use Rattle.jv_resolve.proofs.Chains.{made}
 use Rattle.jv_resolve.proofs.calls.helper_call.Goals as goal

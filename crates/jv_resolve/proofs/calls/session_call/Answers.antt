@@ -5,8 +5,8 @@ use Rattle.jv_core.specs.View.{expr_of, exprs_of}
 use Rattle.jv_core.specs.Types.{session_result}
 use Rattle.jv_core.specs.declared.tree.SessionCall.{SessionCall}
 use Rattle.jv_core.proofs.ViewLaws.{kind-Session}
-use Rattle.jv_resolving.specs.Tables.{◌>>=◌}
-use Rattle.jv_resolving.specs.Expressions.{typed}
+use Rattle.jv_resolve_law.specs.Tables.{◌>>=◌}
+use Rattle.jv_resolve_law.specs.Expressions.{typed}
 use Rattle.jv_resolve.proofs.calls.session_call.Goals as goal
 
 pub returns : goal.returns

@@ -2,7 +2,7 @@ use Rattle.std.proofs.Common.{sym, ap, ◌∙◌}
 use Rattle.std.proofs.lemmas.Result.{err_from_is_err_and}
 use Rattle.std.specs.Prelude.{map}
 use Rattle.jv_core.specs.View.{expr_of}
-use Rattle.jv_resolving.specs.Expressions.{only, text_call}
+use Rattle.jv_resolve_law.specs.Expressions.{only, text_call}
 use Rattle.jv_resolve.specs.inner.Seen.{resolved_seen}
 use Rattle.jv_resolve.proofs.Chains.{after, fails_then, gives_as}
 use Rattle.jv_resolve.proofs.calls.text_call.Goals as goal

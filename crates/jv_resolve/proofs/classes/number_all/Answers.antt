@@ -1,6 +1,6 @@
 use Rattle.std.proofs.Common.{sym, ap, ◌∙◌}
-use Rattle.jv_resolving.specs.Tables.{interned}
-use Rattle.jv_resolving.specs.Members.{all_interned}
+use Rattle.jv_resolve_law.specs.Tables.{interned}
+use Rattle.jv_resolve_law.specs.Members.{all_interned}
 use Rattle.jv_resolve.specs.inner.Naming.{numbered}
 use Rattle.jv_resolve.proofs.Threads.{loop_start, loop_more, loop_done}
 use Rattle.jv_resolve.proofs.MemberSteps.{same_interned, number_made}

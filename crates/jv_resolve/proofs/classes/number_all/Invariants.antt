@@ -1,5 +1,5 @@
 use Rattle.std.proofs.Common.{◌≡◌, drop, map}
-use Rattle.jv_resolving.specs.Members.{all_interned}
+use Rattle.jv_resolve_law.specs.Members.{all_interned}
 use Rattle.jv_resolve.specs.inner.Naming.{numbered, threaded, with_done}
 use Rattle.jv_resolve.proofs.classes.number_all.Given as goal
 

@@ -4,8 +4,8 @@ use Rattle.std.proofs.Math.ListN.{length-map}
 use Rattle.jv_tree.specs.View.{field_of as source_field, method_of as source_method}
 use Rattle.jv_core.specs.Numbering.{numbers_from}
 use Rattle.jv_core.specs.View.{field_of}
-use Rattle.jv_resolving.specs.Tables.{interned}
-use Rattle.jv_resolving.specs.Members.{fields}
+use Rattle.jv_resolve_law.specs.Tables.{interned}
+use Rattle.jv_resolve_law.specs.Members.{fields}
 use Rattle.jv_resolve.specs.inner.Seen.{entry_seen, tables_seen}
 use Rattle.jv_resolve.proofs.Chains.{fails_as}
 use Rattle.jv_resolve.proofs.MemberSteps.{class_made, class_fails}

@@ -1,7 +1,7 @@
 use Rattle.std.proofs.Common.{map}
 use Rattle.std.proofs.lemmas.Result.{err_from_is_err_and}
 use Rattle.jv_core.specs.View.{class_of}
-use Rattle.jv_resolving.specs.Members.{class, classes}
+use Rattle.jv_resolve_law.specs.Members.{class, classes}
 use Rattle.jv_resolve.specs.inner.Seen.{entry_seen, tables_seen}
 use Rattle.jv_resolve.proofs.Threads.{loop_start, loop_more, loop_fail, loop_done}
 use Rattle.jv_resolve.proofs.MemberSteps.{same_classes}

@@ -1,6 +1,6 @@
 use Rattle.std.proofs.Common.{◌≡◌, drop, map}
 use Rattle.jv_core.specs.View.{class_of}
-use Rattle.jv_resolving.specs.Members.{class, classes}
+use Rattle.jv_resolve_law.specs.Members.{class, classes}
 use Rattle.jv_resolve.specs.inner.Seen.{entry_seen, tables_seen}
 use Rattle.jv_resolve.specs.inner.Naming.{threaded, with_done}
 use Rattle.jv_resolve.proofs.classes.resolve_classes.Given as goal

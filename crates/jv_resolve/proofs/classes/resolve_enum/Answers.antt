@@ -1,7 +1,7 @@
 use Rattle.std.proofs.Common.{map, sym, ap, ◌∙◌}
 use Rattle.jv_tree.specs.View.{enum_of}
-use Rattle.jv_resolving.specs.Tables.{interned}
-use Rattle.jv_resolving.specs.Members.{all_interned}
+use Rattle.jv_resolve_law.specs.Tables.{interned}
+use Rattle.jv_resolve_law.specs.Members.{all_interned}
 use Rattle.jv_resolve.proofs.MemberSteps.{enum_made}
 use Rattle.jv_resolve.proofs.classes.resolve_enum.Goals as goal
 

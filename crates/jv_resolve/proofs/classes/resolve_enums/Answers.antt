@@ -1,7 +1,7 @@
 use Rattle.std.proofs.Common.{map}
 use Rattle.jv_tree.specs.View.{enum_of as source_enum}
 use Rattle.jv_core.specs.View.{enum_of}
-use Rattle.jv_resolving.specs.Members.{enum, enums}
+use Rattle.jv_resolve_law.specs.Members.{enum, enums}
 use Rattle.jv_resolve.proofs.Threads.{loop_start, loop_more, loop_done}
 use Rattle.jv_resolve.proofs.MemberSteps.{same_enums}
 use Rattle.jv_resolve.proofs.classes.resolve_enums.Goals as goal

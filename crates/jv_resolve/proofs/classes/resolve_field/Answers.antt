@@ -3,7 +3,7 @@ use Rattle.std.specs.Prelude.{option_map}
 use Rattle.std.proofs.lemmas.Result.{err_from_is_err_and}
 use Rattle.jv_tree.specs.View.{field_of}
 use Rattle.jv_core.specs.View.{expr_of}
-use Rattle.jv_resolving.specs.Tables.{interned}
+use Rattle.jv_resolve_law.specs.Tables.{interned}
 use Rattle.jv_resolve.specs.inner.Seen.{tables_seen}
 use Rattle.jv_resolve.proofs.MemberSteps.{field_made, field_type_fails, field_value_fails}
 use Rattle.jv_resolve.proofs.classes.resolve_field.Goals as goal

@@ -2,7 +2,7 @@ use Rattle.std.proofs.Common.{map}
 use Rattle.std.proofs.lemmas.Result.{err_from_is_err_and}
 use Rattle.jv_tree.specs.View.{field_of as source_field}
 use Rattle.jv_core.specs.View.{field_of}
-use Rattle.jv_resolving.specs.Members.{field, fields}
+use Rattle.jv_resolve_law.specs.Members.{field, fields}
 use Rattle.jv_resolve.specs.inner.Seen.{tables_seen}
 use Rattle.jv_resolve.proofs.Threads.{loop_start, loop_more, loop_fail, loop_done}
 use Rattle.jv_resolve.proofs.MemberSteps.{same_fields}

@@ -1,7 +1,7 @@
 use Rattle.std.proofs.Common.{◌≡◌, drop, map}
 use Rattle.jv_tree.specs.View.{field_of as source_field}
 use Rattle.jv_core.specs.View.{field_of}
-use Rattle.jv_resolving.specs.Members.{field, fields}
+use Rattle.jv_resolve_law.specs.Members.{field, fields}
 use Rattle.jv_resolve.specs.inner.Seen.{tables_seen}
 use Rattle.jv_resolve.specs.inner.Naming.{threaded, with_done}
 use Rattle.jv_resolve.proofs.classes.resolve_fields.Given as goal

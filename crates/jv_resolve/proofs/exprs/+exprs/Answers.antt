@@ -8,7 +8,7 @@ use Rattle.std.specs.Prelude.{map, Some, option_map}
 use Rattle.std.proofs.lemmas.Result.{err_from_is_err_and}
 use Rattle.jv_tree.specs.View.{expr_of, exprs_of}
 use Rattle.jv_core.specs.View.{expr_of as core_expr}
-use Rattle.jv_resolving.specs.Expressions.{OnValue, typed, resolved, resolved_all, receiver, member, call_own, call_on, make}
+use Rattle.jv_resolve_law.specs.Expressions.{OnValue, typed, resolved, resolved_all, receiver, member, call_own, call_on, make}
 use Rattle.jv_resolve.specs.inner.HeadsSeen.{head_seen}
 use Rattle.jv_resolve.specs.inner.Named.{variable_named, receiver_named}
 use Rattle.jv_resolve.specs.inner.Seen.{tables_seen, standing_seen, resolved_seen, operand_seen}

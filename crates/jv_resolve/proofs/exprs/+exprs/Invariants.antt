@@ -2,7 +2,7 @@ use Rattle.std.proofs.Common.{◌≡◌, ◌+◌, ◌*◌, ◌++◌, drop, map}
 use Rattle.std.specs.Option.{option_map}
 use Rattle.jv_tree.specs.View.{expr_of, exprs_of}
 use Rattle.jv_core.specs.View.{expr_of as core_expr}
-use Rattle.jv_resolving.specs.Expressions.{resolved_all}
+use Rattle.jv_resolve_law.specs.Expressions.{resolved_all}
 use Rattle.jv_resolve.specs.inner.Seen.{tables_seen, standing_seen}
 use Rattle.jv_resolve.proofs.exprs.+exprs.Given as goal
 

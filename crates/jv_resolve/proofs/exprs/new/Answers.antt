@@ -2,8 +2,8 @@ use Rattle.std.proofs.Common.{Some, sym, ap, ◌∙◌}
 use Rattle.jv_core.specs.Tree as Core
 use Rattle.jv_core.specs.declared.program.CoreType.TheVariants as types
 use Rattle.jv_core.proofs.ViewLaws.{kind-New}
-use Rattle.jv_resolving.specs.Tables.{◌>>=◌, Entry}
-use Rattle.jv_resolving.specs.Expressions.{typed}
+use Rattle.jv_resolve_law.specs.Tables.{◌>>=◌, Entry}
+use Rattle.jv_resolve_law.specs.Expressions.{typed}
 use Rattle.jv_resolve.proofs.exprs.new.Goals as goal
 
 pub returns-in-Some : goal.returns-in-Some

@@ -1,7 +1,7 @@
 use Rattle.std.proofs.Common.{◌+◌, drop, sym, ap, ◌∙◌}
 use Rattle.std.proofs.lemmas.Result.{err_from_is_err_and}
 use Rattle.jv_tree.specs.View.{enum_of}
-use Rattle.jv_resolving.specs.Statements.{labels_at}
+use Rattle.jv_resolve_law.specs.Statements.{labels_at}
 use Rattle.jv_resolve.proofs.AtIndex.{drop_at, drop_end}
 use Rattle.jv_resolve.proofs.StmtLoops.{with_labels, labels_more, labels_fail, labels_done}
 use Rattle.jv_resolve.proofs.labels.resolve_labels.Goals as goal

@@ -1,6 +1,6 @@
 use Rattle.std.proofs.Common.{◌≡◌, drop}
 use Rattle.jv_tree.specs.View.{enum_of}
-use Rattle.jv_resolving.specs.Statements.{labels_at}
+use Rattle.jv_resolve_law.specs.Statements.{labels_at}
 use Rattle.jv_resolve.proofs.StmtLoops.{with_labels}
 use Rattle.jv_resolve.proofs.labels.resolve_labels.Given as goal
 

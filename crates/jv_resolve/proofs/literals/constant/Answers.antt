@@ -5,8 +5,8 @@ use Rattle.jv_meaning.specs.Program.{constant_position}
 use Rattle.jv_core.specs.Tree as Core
 use Rattle.jv_core.specs.declared.program.CoreType.TheVariants as types
 use Rattle.jv_core.proofs.ViewLaws.{kind-Constant}
-use Rattle.jv_resolving.specs.Tables.{◌>>=◌, Numbered}
-use Rattle.jv_resolving.specs.Expressions.{typed}
+use Rattle.jv_resolve_law.specs.Tables.{◌>>=◌, Numbered}
+use Rattle.jv_resolve_law.specs.Expressions.{typed}
 use Rattle.jv_resolve.specs.inner.Seen.{numbered_seen}
 use Rattle.jv_resolve.proofs.literals.constant.Goals as goal
 

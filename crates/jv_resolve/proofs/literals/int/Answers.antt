@@ -6,7 +6,7 @@ use Rattle.jv_core.specs.View.{kind_of}
 use Rattle.jv_core.specs.declared.tree.CoreExprKind.TheVariants as kinds
 use Rattle.jv_core.specs.declared.program.CoreType.TheVariants as types
 use Rattle.jv_core.proofs.ViewLaws.{kind-Int}
-use Rattle.jv_resolving.specs.Expressions.{typed}
+use Rattle.jv_resolve_law.specs.Expressions.{typed}
 use Rattle.jv_resolve.proofs.literals.int.Goals as goal
 
 pub returns : goal.returns

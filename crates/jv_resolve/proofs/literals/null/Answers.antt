@@ -1,7 +1,7 @@
 use Rattle.std.proofs.Common.{ap, ◌∙◌}
 use Rattle.jv_core.proofs.ViewLaws.{kind-Null}
 use Rattle.jv_core.specs.Tree as Core
-use Rattle.jv_resolving.specs.Expressions.{Resolved, OfNull}
+use Rattle.jv_resolve_law.specs.Expressions.{Resolved, OfNull}
 use Rattle.jv_resolve.proofs.literals.null.Goals as goal
 
 abbrev of_null : Core.Expr → Resolved

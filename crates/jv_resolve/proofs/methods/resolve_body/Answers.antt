@@ -2,8 +2,8 @@ use Rattle.std.proofs.Common.{map, [], sym, ap, ◌∙◌}
 use Rattle.std.proofs.lemmas.Result.{err_from_is_err_and}
 use Rattle.jv_tree.specs.View.{method_of, stmt_of as source_stmt, stmts_of}
 use Rattle.jv_core.specs.View.{stmt_of}
-use Rattle.jv_resolving.specs.Statements.{stmts}
-use Rattle.jv_resolving.specs.Members.{Opened, params}
+use Rattle.jv_resolve_law.specs.Statements.{stmts}
+use Rattle.jv_resolve_law.specs.Members.{Opened, params}
 use Rattle.jv_resolve.specs.inner.Counted.{counted_seen, counting}
 use Rattle.jv_resolve.specs.inner.Naming.{opened}
 use Rattle.jv_resolve.specs.inner.Seen.{tables_seen, standing_seen}

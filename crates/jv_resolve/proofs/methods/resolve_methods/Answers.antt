@@ -1,7 +1,7 @@
 use Rattle.std.proofs.Common.{◌+◌, map, drop, sym, ap, ◌∙◌}
 use Rattle.std.proofs.lemmas.Result.{err_from_is_err_and}
 use Rattle.jv_tree.specs.View.{method_of as source_method}
-use Rattle.jv_resolving.specs.Members.{methods, methods_of}
+use Rattle.jv_resolve_law.specs.Members.{methods, methods_of}
 use Rattle.jv_core.specs.View.{method_of}
 use Rattle.jv_resolve.specs.inner.Naming.{with_done}
 use Rattle.jv_resolve.specs.inner.Seen.{entry_seen, tables_seen}

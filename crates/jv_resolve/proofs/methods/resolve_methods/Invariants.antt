@@ -1,5 +1,5 @@
 use Rattle.std.proofs.Common.{◌≡◌, drop, map}
-use Rattle.jv_resolving.specs.Members.{methods}
+use Rattle.jv_resolve_law.specs.Members.{methods}
 use Rattle.jv_core.specs.View.{method_of}
 use Rattle.jv_resolve.specs.inner.Naming.{with_done}
 use Rattle.jv_resolve.specs.inner.Seen.{entry_seen, tables_seen}

@@ -2,7 +2,7 @@ use Rattle.std.proofs.Common.{map, ap}
 use Rattle.std.proofs.lemmas.Result.{err_from_is_err_and}
 use Rattle.jv_tree.specs.View.{method_of as source_method}
 use Rattle.jv_core.specs.View.{method_of}
-use Rattle.jv_resolving.specs.Members.{method, methods_of}
+use Rattle.jv_resolve_law.specs.Members.{method, methods_of}
 use Rattle.jv_resolve.specs.inner.Seen.{entry_seen, tables_seen}
 use Rattle.jv_resolve.specs.inner.Naming.{with_done}
 use Rattle.jv_resolve.proofs.Threads.{loop_more, loop_fail, loop_done}

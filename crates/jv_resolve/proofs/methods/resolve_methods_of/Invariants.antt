@@ -1,7 +1,7 @@
 use Rattle.std.proofs.Common.{◌≡◌, drop, map}
 use Rattle.jv_tree.specs.View.{method_of as source_method}
 use Rattle.jv_core.specs.View.{method_of}
-use Rattle.jv_resolving.specs.Members.{method, methods_of}
+use Rattle.jv_resolve_law.specs.Members.{method, methods_of}
 use Rattle.jv_resolve.specs.inner.Seen.{entry_seen, tables_seen}
 use Rattle.jv_resolve.specs.inner.Naming.{threaded, with_done}
 use Rattle.jv_resolve.proofs.methods.resolve_methods_of.Given as goal

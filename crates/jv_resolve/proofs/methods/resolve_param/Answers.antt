@@ -1,6 +1,6 @@
 use Rattle.std.proofs.Common.{sym, ap, ◌∙◌}
 use Rattle.std.proofs.lemmas.Result.{err_from_is_err_and}
-use Rattle.jv_resolving.specs.Statements.{slot_more, declared}
+use Rattle.jv_resolve_law.specs.Statements.{slot_more, declared}
 use Rattle.jv_resolve.specs.inner.Counted.{counted_seen, counting}
 use Rattle.jv_resolve.specs.inner.Row.{known}
 use Rattle.jv_resolve.specs.inner.Seen.{tables_seen}

@@ -1,6 +1,6 @@
 use Rattle.std.proofs.Common.{◌+◌, drop}
 use Rattle.std.proofs.lemmas.Result.{err_from_is_err_and}
-use Rattle.jv_resolving.specs.Members.{params}
+use Rattle.jv_resolve_law.specs.Members.{params}
 use Rattle.jv_resolve.specs.inner.Counted.{counted_seen}
 use Rattle.jv_resolve.specs.inner.Naming.{opened}
 use Rattle.jv_resolve.specs.inner.Seen.{tables_seen}

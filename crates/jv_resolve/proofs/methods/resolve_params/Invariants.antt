@@ -1,5 +1,5 @@
 use Rattle.std.proofs.Common.{◌≡◌, drop}
-use Rattle.jv_resolving.specs.Members.{params}
+use Rattle.jv_resolve_law.specs.Members.{params}
 use Rattle.jv_resolve.specs.inner.Counted.{counted_seen}
 use Rattle.jv_resolve.specs.inner.Seen.{tables_seen}
 use Rattle.jv_resolve.proofs.methods.resolve_params.Given as goal

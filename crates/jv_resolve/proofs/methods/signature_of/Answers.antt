@@ -1,7 +1,7 @@
 use Rattle.std.proofs.Common.{sym, ap, ◌∙◌}
 use Rattle.std.proofs.lemmas.Result.{err_from_is_err_and}
 use Rattle.jv_tree.specs.View.{method_of}
-use Rattle.jv_resolving.specs.Tables.{interned}
+use Rattle.jv_resolve_law.specs.Tables.{interned}
 use Rattle.jv_resolve.specs.inner.Seen.{tables_seen}
 use Rattle.jv_resolve.proofs.MethodSteps.{signature_fails, signature_made}
 use Rattle.jv_resolve.proofs.methods.signature_of.Goals as goal

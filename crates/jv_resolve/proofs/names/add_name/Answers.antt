@@ -1,7 +1,7 @@
 use Rattle.std.proofs.Common.{Some, sym, ap, ◌∙◌}
 use Rattle.std.specs.Prelude.{position}
 use Rattle.std.specs.Str.{bytes_eq}
-use Rattle.jv_resolving.specs.Tables.{◌>>=◌}
+use Rattle.jv_resolve_law.specs.Tables.{◌>>=◌}
 use Rattle.jv_resolve.specs.inner.Interning.{with_number}
 use Rattle.jv_resolve.proofs.names.add_name.Goals as goal
 

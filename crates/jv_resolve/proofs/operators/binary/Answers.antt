@@ -2,7 +2,7 @@ use Rattle.std.proofs.Common.{ap, ◌∙◌}
 use Rattle.jv_core.specs.Tree as Core
 use Rattle.jv_core.specs.View.{expr_of}
 use Rattle.jv_core.proofs.ViewLaws.{kind-Binary}
-use Rattle.jv_resolving.specs.Expressions.{typed}
+use Rattle.jv_resolve_law.specs.Expressions.{typed}
 use Rattle.jv_resolve.proofs.operators.binary.Goals as goal
 
 pub returns : goal.returns

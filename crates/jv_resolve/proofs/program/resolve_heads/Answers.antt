@@ -2,7 +2,7 @@ use Rattle.std.proofs.Common.{map, sym, ap, ◌∙◌}
 use Rattle.std.proofs.lemmas.Result.{err_from_is_err_and}
 use Rattle.jv_tree.specs.View.{enum_of}
 use Rattle.jv_core.specs.View.{class_of, enum_of as core_enum}
-use Rattle.jv_resolving.specs.Members.{enums, classes}
+use Rattle.jv_resolve_law.specs.Members.{enums, classes}
 use Rattle.jv_resolve.specs.inner.Seen.{entry_seen, tables_seen}
 use Rattle.jv_resolve.proofs.Chains.{fails_as}
 use Rattle.jv_resolve.proofs.Wholes.{heads_fail, heads_made}

@@ -1,7 +1,7 @@
 use Rattle.std.proofs.Common.{map, sym, ap, ◌∙◌}
 use Rattle.std.proofs.lemmas.Result.{err_from_is_err_and}
 use Rattle.jv_core.specs.View.{method_of}
-use Rattle.jv_resolving.specs.Members.{methods}
+use Rattle.jv_resolve_law.specs.Members.{methods}
 use Rattle.jv_resolve.specs.inner.HeadedSeen.{heads_seen}
 use Rattle.jv_resolve.specs.inner.Seen.{entry_seen, tables_seen}
 use Rattle.jv_resolve.proofs.Chains.{fails_as}

@@ -2,8 +2,8 @@ use Rattle.std.proofs.Common.{Some, sym, ap, ◌∙◌}
 use Rattle.std.proofs.lemmas.Result.{err_from_is_err_and}
 use Rattle.jv_core.specs.Tree as Core
 use Rattle.jv_core.specs.View.{expr_of}
-use Rattle.jv_resolving.specs.Tables.{◌>>=◌}
-use Rattle.jv_resolving.specs.Statements.{declared}
+use Rattle.jv_resolve_law.specs.Tables.{◌>>=◌}
+use Rattle.jv_resolve_law.specs.Statements.{declared}
 use Rattle.jv_resolve.specs.inner.Counted.{counted_seen, itemed}
 use Rattle.jv_resolve.specs.inner.Row.{known}
 use Rattle.jv_resolve.proofs.Chains.{fails_then}

@@ -2,7 +2,7 @@ use Rattle.std.proofs.Common.{sym, ap, ◌∙◌}
 use Rattle.jv_core.specs.Tree as Core
 use Rattle.jv_core.specs.View.{stmt_of}
 use Rattle.jv_core.proofs.ViewLaws.{stmt-Continue}
-use Rattle.jv_resolving.specs.Statements.{gone_on_by}
+use Rattle.jv_resolve_law.specs.Statements.{gone_on_by}
 use Rattle.jv_resolve.specs.inner.Seen.{around_seen}
 use Rattle.jv_resolve.specs.inner.Counted.{counted_seen}
 use Rattle.jv_resolve.proofs.StmtSteps.{one_made}

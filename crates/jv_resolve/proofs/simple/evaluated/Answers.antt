@@ -3,7 +3,7 @@ use Rattle.jv_tree.specs.View.{expr_of}
 use Rattle.jv_core.specs.Tree as Core
 use Rattle.jv_core.specs.View.{stmt_of}
 use Rattle.jv_core.proofs.ViewLaws.{stmt-Eval}
-use Rattle.jv_resolving.specs.Expressions.{resolved, Resolved}
+use Rattle.jv_resolve_law.specs.Expressions.{resolved, Resolved}
 use Rattle.jv_resolve.specs.inner.Seen.{tables_seen, standing_seen, resolved_seen}
 use Rattle.jv_resolve.specs.inner.Counted.{counted_seen}
 use Rattle.jv_resolve.proofs.StmtSteps.{one_made}

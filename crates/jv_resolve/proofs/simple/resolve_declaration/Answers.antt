@@ -1,7 +1,7 @@
 use Rattle.std.proofs.Common.{sym, ap, ◌∙◌}
 use Rattle.std.proofs.lemmas.Result.{err_from_is_err_and}
 use Rattle.jv_tree.specs.View.{expr_of}
-use Rattle.jv_resolving.specs.Expressions.{resolved}
+use Rattle.jv_resolve_law.specs.Expressions.{resolved}
 use Rattle.jv_resolve.specs.inner.Seen.{tables_seen, standing_seen, resolved_seen}
 use Rattle.jv_resolve.specs.inner.Counted.{counted_seen, counting}
 use Rattle.jv_resolve.specs.inner.Row.{known}

@@ -4,7 +4,7 @@ use Rattle.jv_tree.specs.View.{expr_of}
 use Rattle.jv_core.specs.Tree as Core
 use Rattle.jv_core.specs.View.{stmt_of, expr_of as core_expr}
 use Rattle.jv_core.proofs.ViewLaws.{stmt-Return}
-use Rattle.jv_resolving.specs.Statements.{given_back}
+use Rattle.jv_resolve_law.specs.Statements.{given_back}
 use Rattle.jv_resolve.specs.inner.Seen.{tables_seen, standing_seen}
 use Rattle.jv_resolve.specs.inner.Counted.{counted_seen}
 use Rattle.jv_resolve.proofs.StmtSteps.{one_made}

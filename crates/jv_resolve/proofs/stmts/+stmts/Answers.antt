@@ -7,15 +7,15 @@ use Rattle.jv_tree.specs.declared.tree.Group.{out-Group}
 use Rattle.jv_tree.specs.View as source
 use Rattle.jv_core.specs.Tree as Core
 use Rattle.jv_core.specs.View.{expr_of, stmt_of, group_of, groups_of, loop_of}
-use Rattle.jv_resolving.specs.Expressions.{resolved}
-use Rattle.jv_resolving.specs.Statements.{InLoop, InSwitch, stmt, stmts, groups, local}
+use Rattle.jv_resolve_law.specs.Expressions.{resolved}
+use Rattle.jv_resolve_law.specs.Statements.{InLoop, InSwitch, stmt, stmts, groups, local}
 use Rattle.jv_resolve.specs.inner.Counted.{counted_seen, counting, itemed}
 use Rattle.jv_resolve.specs.inner.Seen.{tables_seen, standing_seen, resolved_seen, operand_seen, around_seen}
 use Rattle.jv_resolve.proofs.AtIndex.{drop_at, drop_end}
 use Rattle.jv_resolve.proofs.Chains.{gives_as, fails_as, always_ok}
 use Rattle.jv_resolve.specs.inner.Writing.{written_seen}
 use Rattle.jv_resolve.specs.inner.Counted.{group_at}
-use Rattle.jv_resolving.specs.Statements.{labels_at}
+use Rattle.jv_resolve_law.specs.Statements.{labels_at}
 use Rattle.jv_resolve.proofs.OneGroup.{source_group-is, group_made, group_labels_fail, group_body_fails}
 use Rattle.jv_resolve.proofs.Items.{item_local, item_other, in_same_scope}
 use Rattle.jv_resolve.proofs.StmtShapes as shapes

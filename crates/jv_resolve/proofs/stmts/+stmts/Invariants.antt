@@ -1,7 +1,7 @@
 use Rattle.std.proofs.Common.{◌≡◌, ◌+◌, ◌*◌, drop, map}
 use Rattle.jv_tree.specs.View as source
 use Rattle.jv_core.specs.View.{stmt_of, group_of}
-use Rattle.jv_resolving.specs.Statements.{stmts, groups}
+use Rattle.jv_resolve_law.specs.Statements.{stmts, groups}
 use Rattle.jv_resolve.specs.inner.Counted.{counted_seen}
 use Rattle.jv_resolve.specs.inner.Seen.{tables_seen, standing_seen, around_seen}
 use Rattle.jv_resolve.proofs.StmtLoops.{Extends, with_stmts, left_stmts, with_groups, left_groups}

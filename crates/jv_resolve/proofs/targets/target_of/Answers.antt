@@ -1,6 +1,6 @@
 use Rattle.std.proofs.lemmas.Result.{err_from_is_err_and}
 use Rattle.jv_tree.specs.View.{expr_of}
-use Rattle.jv_resolving.specs.Expressions.{Resolved, resolved, variable_in}
+use Rattle.jv_resolve_law.specs.Expressions.{Resolved, resolved, variable_in}
 use Rattle.jv_resolve.specs.inner.Seen.{tables_seen, standing_seen, resolved_seen}
 use Rattle.jv_resolve.proofs.Chains.{after, fails_then, gives_as}
 use Rattle.jv_resolve.proofs.targets.target_of.Goals as goal

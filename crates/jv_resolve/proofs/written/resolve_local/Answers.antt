@@ -1,8 +1,8 @@
 use Rattle.std.proofs.Common.{sym, ap, ◌∙◌}
 use Rattle.std.proofs.lemmas.Result.{err_from_is_err_and}
 use Rattle.jv_core.specs.View.{stmt_of}
-use Rattle.jv_resolving.specs.Tables.{◌>>=◌}
-use Rattle.jv_resolving.specs.Statements.{local}
+use Rattle.jv_resolve_law.specs.Tables.{◌>>=◌}
+use Rattle.jv_resolve_law.specs.Statements.{local}
 use Rattle.jv_resolve.specs.inner.Counted.{counted_seen, itemed}
 use Rattle.jv_resolve.specs.inner.Declaring.{declaration_seen}
 use Rattle.jv_resolve.specs.inner.Scoping.{scope_item}

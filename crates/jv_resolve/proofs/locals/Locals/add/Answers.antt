@@ -2,7 +2,7 @@ use Rattle.std.proofs.Common.{◌≡◌, ◌++◌, ◌∷◌, [], string_bytes, 
 use Rattle.std.specs.HashMap.{get_by_text, UpdatesBy}
 use Rattle.std.specs.Str.{bytes_eq}
 use Rattle.std.specs.String.{string_eq}
-use Rattle.jv_resolving.specs.Expressions.{known_named}
+use Rattle.jv_resolve_law.specs.Expressions.{known_named}
 use Rattle.jv_resolve.specs.declared.locals.Declared.{Declared}
 use Rattle.jv_resolve.specs.inner.Row.{known, row_seen, AreLookedUp}
 use Rattle.jv_resolve.proofs.RowSteps.{row_push, looked_up_more, changed_at}

@@ -1,5 +1,5 @@
 use Rattle.std.proofs.Common.{sym, ◌∙◌}
-use Rattle.jv_resolving.specs.Expressions.{known_named}
+use Rattle.jv_resolve_law.specs.Expressions.{known_named}
 use Rattle.jv_resolve.proofs.RowSteps.{not_known}
 use Rattle.jv_resolve.proofs.locals.Locals.declare.Goals as goal
 

@@ -1,6 +1,6 @@
 use Rattle.std.proofs.Common.{◌≡◌, sym, ap, subst, ◌∙◌}
 use Rattle.std.specs.Prelude.{map, reverse, IfOk}
-use Rattle.jv_resolving.specs.Expressions.{Known}
+use Rattle.jv_resolve_law.specs.Expressions.{Known}
 use Rattle.jv_resolve.proofs.RowSteps.{row_slots}
 use Rattle.jv_resolve.proofs.locals.Locals.slots.Goals as goal
 

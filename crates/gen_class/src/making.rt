@@ -1,0 +1,162 @@
+//! The methods of a class, with their codes.
+
+ghost use Rattle.std.specs.Prelude.{◌≡◌, [], ◌∷◌, ◌++◌, map, option_map, slice_get, filter_map, IfOk, OnOk};
+ghost use Rattle.jv_core.specs.Core.{tree_of};
+ghost use Rattle.jv_core.specs.View.{class_of, method_of};
+ghost use Rattle.gen_rules.specs.Classes.{access_of, constructor, constructors};
+ghost use Rattle.gen_rules.specs.inner.Files.{generated_method, generated_class};
+ghost use Rattle.gen_members.specs.Parts.{compiled_of};
+
+use gen_symbolic::{MethodCode, method_code};
+use gen_init::constructor_code;
+use gen_members::Making;
+use gen_refs::method_descriptor;
+use jv_core::{Core, CoreClass, CoreMethod, MethodKind, name_text};
+use mg_text::{List, Memory};
+use std::alloc::Global;
+
+const PUBLIC: u16 = 1;
+
+const PRIVATE: u16 = 2;
+
+const PUBLIC_STATIC: u16 = 9;
+
+/// The access flags of a method.
+fn access_of(kind: MethodKind) -> u16
+    ensures { result ≡ access_of kind }
+{
+    match kind {
+        MethodKind::Protocol => PUBLIC,
+        MethodKind::Helper => PRIVATE,
+        MethodKind::Main | MethodKind::Static => PUBLIC_STATIC,
+    }
+}
+
+/// A method with its code.
+pub(crate) fn method_making<'a>(
+    alloc: Global,
+    core: &'a Core,
+    method: &'a CoreMethod,
+) -> Result<Making<'a>, Memory>
+    ensures { IfOk result (λ m. compiled_of (tree_of core.now) m ≡ generated_method (tree_of core.now) (method_of method.now)) }
+{
+    let MethodCode {
+        instrs,
+        max_stack,
+        max_locals,
+    } = method_code(alloc, core, method)?;
+    let name = name_text(core, method.name);
+    Ok(Making {
+        access: access_of(method.kind),
+        name,
+        descriptor: method_descriptor(alloc, core, method)?,
+        max_stack,
+        max_locals,
+        instrs,
+        place: method.place,
+        told_as: name,
+    })
+}
+
+/// The constructor of a class.
+fn constructor_making<'a>(
+    alloc: Global,
+    core: &'a Core,
+    number: usize,
+    class: &'a CoreClass,
+) -> Result<Making<'a>, Memory>
+    ensures { IfOk result (λ m. compiled_of (tree_of core.now) m ≡ constructor (tree_of core.now) number (class_of class.now)) }
+{
+    let Ok(number) = u32::try_from(number) else {
+        return Err(Memory);
+    };
+    let instrs = constructor_code(alloc, number, class)?;
+    // Three instructions stand in the code of a constructor that sets no field.
+    let max_stack = if instrs.len() > 3 { 2 } else { 1 };
+    Ok(Making {
+        access: PUBLIC,
+        name: "<init>",
+        descriptor: String::from_str(alloc, "()V")?,
+        max_stack,
+        max_locals: 1,
+        instrs,
+        place: class.place,
+        told_as: name_text(core, class.name),
+    })
+}
+
+/// The constructor of a class that has one.
+fn constructors<'a>(
+    alloc: Global,
+    core: &'a Core,
+    number: usize,
+    class: &'a CoreClass,
+) -> Result<List<Making<'a>>, Memory>
+    ensures { IfOk result (λ ms. map (compiled_of (tree_of core.now)) ms.items
+        ≡ constructors (tree_of core.now) number (class_of class.now) class.now.typestate) }
+{
+    let mut makings = List::new(alloc);
+    match class.typestate {
+        None => Ok(makings),
+        Some(_) => {
+            makings.push(constructor_making(alloc, core, number, class)?)?;
+            Ok(makings)
+        }
+    }
+}
+
+/// The method with this number, where there is one.
+#[tactic(auto, using(crate::proofs::Programs::found_here))]
+fn method_at(core: &Core, number: u32) -> Option<&CoreMethod>
+    ensures { option_map (λ m. method_of m.now) result ≡ slice_get (tree_of core.now).methods number }
+{
+    core.methods().get(number as usize)
+}
+
+/// Appends the method with this number, where there is one.
+fn push_method<'a>(
+    alloc: Global,
+    core: &'a Core,
+    number: u32,
+    makings: &mut List<Making<'a>>,
+) -> Result<(), Memory>
+    ensures { OnOk result (map (compiled_of (tree_of core.now)) makings.new.items ≡ map (compiled_of (tree_of core.now)) makings.old.items
+        ++ map (generated_method (tree_of core.now)) (filter_map (slice_get (tree_of core.now).methods) (number ∷ []))) }
+{
+    let Some(method) = method_at(core, number) else {
+        return Ok(());
+    };
+    makings.push(method_making(alloc, core, method)?)?;
+    Ok(())
+}
+
+/// Appends the methods with these numbers.
+fn push_methods<'a>(
+    alloc: Global,
+    core: &'a Core,
+    numbers: &[u32],
+    makings: &mut List<Making<'a>>,
+) -> Result<(), Memory>
+    ensures { OnOk result (map (compiled_of (tree_of core.now)) makings.new.items ≡ map (compiled_of (tree_of core.now)) makings.old.items
+        ++ map (generated_method (tree_of core.now)) (filter_map (slice_get (tree_of core.now).methods) numbers.now)) }
+{
+    for number in numbers {
+        push_method(alloc, core, *number, makings)?;
+    }
+    Ok(())
+}
+
+/// The methods of a class, which has this number in the program: its constructor first, where it has
+/// one.
+pub(crate) fn makings<'a>(
+    alloc: Global,
+    core: &'a Core,
+    number: usize,
+    class: &'a CoreClass,
+) -> Result<List<Making<'a>>, Memory>
+    ensures { IfOk result (λ ms. map (compiled_of (tree_of core.now)) ms.items ≡ generated_class (tree_of core.now) number (class_of class.now)) }
+{
+    let mut makings = constructors(alloc, core, number, class)?;
+    push_methods(alloc, core, class.methods.as_slice(), &mut makings)?;
+    Ok(makings)
+}

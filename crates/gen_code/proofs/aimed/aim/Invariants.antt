@@ -1,8 +1,0 @@
-use Rattle.std.proofs.Common.{◌≡◌, take, map}
-use Rattle.jv_core.specs.Tree.{Program}
-use Rattle.gen_code.specs.View.{instrs_of}
-use Rattle.gen_code.specs.inner.Aimed.{aimed}
-use Rattle.gen_code.proofs.aimed.aim.Given as goal
-
-abbrev pub invariant-loop-instr : goal.invariant-loop-instr
-invariant-loop-instr l = (p : Program) → instrs_of p l.out.items ≡ map (aimed l.labels) (instrs_of p (take l.instr-index l.instrs))

@@ -1,6 +1,0 @@
-use Rattle.std.proofs.Common.{◌≡◌, take, map}
-use Rattle.gen_code.specs.inner.Aimed.{place_of}
-use Rattle.gen_code.proofs.aimed.places_of.Given as goal
-
-abbrev pub invariant-loop-label : goal.invariant-loop-label
-invariant-loop-label l = l.places.items ≡ map (place_of l.labels) (take l.label-index l.of)

@@ -1,0 +1,21 @@
+//! The code of a method of a resolved program, before it is laid out in a class file.
+//! It is written once, from left to right: jumps lead to labels, and at the end each label has its place.
+#![tactic(auto)]
+
+mod aimed;
+mod around;
+mod coder;
+mod conditions;
+mod emitted;
+mod expressions;
+mod frames;
+mod locals;
+mod locals_of;
+mod method;
+mod statements;
+mod switches;
+mod symbolic;
+mod typed;
+
+pub use method::{MethodCode, method_code};
+pub use symbolic::{BuiltIn, Operand, Symbolic};

@@ -1,0 +1,15 @@
+//! How programs are resolved, on trees: names give way to numbers.
+//! There is no running code here; each function carries a law.
+#![tactic(auto)]
+
+ghost use Rattle.jv_resolve_law.specs.Laws.{ResolvingIsRight, ResolvingIsTotal};
+
+/// What a well typed program is resolved to stands for it, where it is within the bounds.
+pub fn resolving_is_right()
+    ensures { ResolvingIsRight }
+{}
+
+/// A well typed program that assigns to variables alone is resolved.
+pub fn resolving_is_total()
+    ensures { ResolvingIsTotal }
+{}

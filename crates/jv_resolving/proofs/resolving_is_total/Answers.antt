@@ -1,5 +1,0 @@
-use Rattle.jv_resolving.proofs.TotalWhole as laws
-use Rattle.jv_resolving.proofs.resolving_is_total.Goals as goal
-
-pub returns : goal.returns
-returns c = laws.resolving_is_total

@@ -1,0 +1,187 @@
+//! The machine as other crates see it.
+//! It starts at a `main`, takes one step at a time, and says for whose message it waits.
+
+ghost use Rattle.std.specs.Prelude.{◌≡◌, ◌<◌, ◌≤◌, ◌↔◌, length, position, IsTrue, IfSome, IfOk, OnErr};
+ghost use Rattle.std.specs.Str.{bytes_eq};
+ghost use Rattle.vm_model.specs.View.{method_of, classes_of};
+ghost use Rattle.vm_model.specs.Program as program;
+ghost use Rattle.vm_model.specs.Start.{IsStart, started, class_named, main_in, is_main};
+ghost use Rattle.vm_model.specs.Step as model;
+ghost use Rattle.vm_step.specs.State.{state_of};
+ghost use Rattle.vm_step.specs.Doing.{Does, waits_in};
+ghost use Rattle.vm_step.specs.Alone.{AllAlone};
+ghost use Rattle.vm_step.specs.Main.{HasMain};
+
+use crate::calls::unset;
+use crate::frequent::steps_alone;
+use crate::program::{class_at, max_locals, method_at};
+use crate::state::{Frame, State};
+use crate::step::take_step;
+use crate::stepped::Stepped;
+use crate::waits::waits;
+use mg_text::Memory;
+use std::alloc::Global;
+use std::marker::Model;
+use vm_model::{Linked, LinkedClass, LinkedMethod, Ports};
+
+/// A machine that runs a linked program. Contracts see its frames and its objects.
+#[derive(Drop)]
+pub struct Machine {
+    state: State,
+}
+
+impl Model for Machine {
+    ghost use Rattle.vm_model.specs.Machine as model;
+
+    ghost Value = { model.Machine };
+
+    ghost use Rattle.vm_step.specs.State.{state_of};
+
+    ghost view = { λ m. state_of m.state };
+}
+
+/// Whether this is `static void main(String[])`.
+fn is_main(method: &LinkedMethod) -> bool
+    ensures { result ≡ is_main (method_of method.now) }
+{
+    method.name.as_str() == "main"
+        && method.is_static
+        && method.descriptor.as_str() == "([Ljava/lang/String;)V"
+}
+
+/// The place of the first `main`.
+fn main_place(methods: &[LinkedMethod]) -> Option<usize>
+    ensures place { result ≡ position (λ m. is_main (method_of m)) methods.now }
+    ensures within { IfSome result (λ i. i < length methods.now) }
+{
+    methods.iter().position(|method| is_main(method))
+}
+
+/// The number of the first `main` of a class.
+fn main_in(linked: &Linked, class: u32) -> Option<u32>
+    ensures { result ≡ main_in (program.class_at (classes_of linked.now.classes.items) class) }
+{
+    let Some(class) = class_at(linked, class) else {
+        return None;
+    };
+    match main_place(class.methods.as_slice()) {
+        Some(place) => Some(place as u32),
+        None => None,
+    }
+}
+
+/// The place of the first class of this name.
+fn named_place(classes: &[LinkedClass], name: &str) -> Option<usize>
+    ensures place { result ≡ position (λ c. bytes_eq c.name name.now) classes.now }
+    ensures within { IfSome result (λ i. i < length classes.now) }
+{
+    classes.iter().position(|class| class.name.as_str() == name)
+}
+
+/// The number of the first class of this name.
+fn class_named(linked: &Linked, name: &str) -> Option<u32>
+    ensures { result ≡ class_named (classes_of linked.now.classes.items) name.now }
+{
+    match named_place(linked.classes.as_slice(), name) {
+        Some(place) => Some(place as u32),
+        None => None,
+    }
+}
+
+/// Whether the program has a class of this name with a `static void main(String[])`.
+pub fn has_main(linked: &Linked, main: &str) -> bool
+    ensures { IsTrue result ↔ HasMain (classes_of linked.now.classes.items) main.now }
+{
+    match class_named(linked, main) {
+        Some(class) => main_in(linked, class).is_some(),
+        None => false,
+    }
+}
+
+/// The state at the beginning of a method.
+fn started(alloc: Global, linked: &Linked, class: u32, method: u32) -> Result<State, Memory>
+    ensures { IfOk result (λ s. state_of s ≡ started (classes_of linked.now.classes.items) class method) }
+{
+    let mut locals = Vec::new(alloc);
+    unset(&mut locals, max_locals(method_at(linked, class, method)))?;
+    let frame = Frame {
+        class,
+        method,
+        place: 0,
+        locals,
+        operands: Vec::new(alloc),
+        told: None,
+    };
+    Ok(State {
+        frame,
+        callers: Vec::new(alloc),
+        heap: Vec::new(alloc),
+    })
+}
+
+/// The state at the `main` of a class.
+fn start(alloc: Global, linked: &Linked, main: &str) -> Result<State, Memory>
+    requires { HasMain (classes_of linked.now.classes.items) main.now }
+    ensures { IfOk result (λ s. IsStart (classes_of linked.now.classes.items) main.now (state_of s)) }
+{
+    let Some(class) = class_named(linked, main) else {
+        unreachable!()
+    };
+    let Some(method) = main_in(linked, class) else {
+        unreachable!()
+    };
+    started(alloc, linked, class, method)
+}
+
+impl Machine {
+    /// A machine at the first `static void main(String[])` of the first class of this name, which
+    /// has one: one frame, whose locals are unset, and no objects.
+    ///
+    /// # Errors
+    /// `Memory` only.
+    pub fn start(alloc: Global, linked: &Linked, main: &str) -> Result<Machine, Memory>
+        requires { HasMain (classes_of linked.now.classes.items) main.now }
+        ensures { IfOk result (λ m. IsStart (classes_of linked.now.classes.items) main.now m) }
+    {
+        let state = start(alloc, linked, main)?;
+        Ok(Machine { state })
+    }
+
+    /// Takes frequent steps with which nothing is wrong, at most so many, and answers how many they
+    /// were: steps that stay in their frame, tell nothing and look at no message. Nothing is allocated.
+    pub fn steps_alone(&mut self, linked: &Linked, most: u32) -> u32
+        ensures most { result ≤ most }
+        ensures steps { AllAlone (classes_of linked.now.classes.items) self.old result self.new }
+    {
+        steps_alone(&mut self.state, linked, most)
+    }
+
+    /// Takes a step of the role `me`: the next instruction's tests in their order, and then what it
+    /// does (JVMS chapter 6). A step that waits, or that ends the run, changes neither the machine
+    /// nor the messages; so a mismatch takes none.
+    ///
+    /// # Errors
+    /// `Memory` only, and then neither has changed.
+    pub fn step(
+        &mut self,
+        alloc: Global,
+        linked: &Linked,
+        ports: &mut Ports,
+        me: u32,
+    ) -> Result<Stepped, Memory>
+        ensures ok { IfOk result (λ s. Does (model.step (classes_of linked.now.classes.items) me self.old ports.old) self.old
+            ports.old self.new ports.new s) }
+        ensures err { OnErr result (self.new ≡ self.old) }
+        ensures err_ports { OnErr result (ports.new ≡ ports.old) }
+    {
+        take_step(&mut self.state, alloc, linked, ports, me)
+    }
+
+    /// The role for whose message the next instruction waits: exactly where a step would wait for
+    /// it. Nothing is allocated and nothing changes.
+    pub fn waits(&self, linked: &Linked, ports: &Ports, me: u32) -> Option<u32>
+        ensures { result ≡ waits_in (model.step (classes_of linked.now.classes.items) me self.now ports.now) }
+    {
+        waits(&self.state, linked, ports, me)
+    }
+}

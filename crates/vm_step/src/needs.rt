@@ -1,0 +1,282 @@
+//! What instructions need of the machine, and what is wrong where it isn't there.
+//! The tests stand in one order for all instructions.
+
+ghost use Rattle.std.specs.Prelude.{◌≡◌, ◌+◌, ◌<◌, ◌≤◌, ◌||◌, false, codes, length, option_map};
+ghost use Rattle.std.specs.Str.{bytes_eq};
+ghost use Rattle.vm_model.specs.Descriptors.{type_view};
+ghost use Rattle.vm_model.specs.Tests as model;
+ghost use Rattle.vm_model.specs.View.{classes_of};
+ghost use Rattle.vm_step.specs.State.{value_of, values_of, locals_of, objects_of, state_of};
+ghost use Rattle.vm_step.specs.Table.{sort_of};
+ghost use Rattle.vm_step.specs.inner.Judged.{judged};
+ghost use Rattle.vm_step.specs.Needing.{want_of, wants_of, needs_of};
+
+use crate::action::Sort;
+use crate::operands::top;
+use crate::program::{class_name, max_stack, method_at};
+use crate::state::{Cell, Object, State};
+use mg_text::BadKind;
+use vm_model::{FieldType, Linked};
+
+/// What an operand must be.
+#[derive(Clone, Copy)]
+pub(crate) enum Want<'a> {
+    Any,
+    Sorted(Sort),
+    Typed(FieldType<'a>),
+    /// A returned value is of the opcode's sort and meets the type of the result.
+    Returned(Sort, Option<FieldType<'a>>),
+}
+
+/// What an instruction needs.
+#[derive(Clone, Copy)]
+pub(crate) struct Needs<'a> {
+    /// The operands that it takes, the topmost last.
+    pub(crate) takes: &'a [Want<'a>],
+    /// A local that it reads, and of what sort that must be.
+    pub(crate) reads: Option<(u8, Sort)>,
+    /// How many locals there must be, and how many there are.
+    pub(crate) locals: usize,
+    pub(crate) of_locals: usize,
+    /// Whether a return is of the kind that the descriptor says.
+    pub(crate) returns: bool,
+    /// How many operands stand behind it where it pushes, and how many may.
+    pub(crate) operands: usize,
+    pub(crate) max_stack: usize,
+}
+
+/// What is wrong with operands: whether one is of a wrong kind, and one of a wrong class.
+#[derive(Clone, Copy)]
+struct Found {
+    kind: bool,
+    member: bool,
+}
+
+/// An int.
+pub(crate) fn number<'a>() -> Want<'a>
+    ensures { want_of result ≡ model.number }
+{
+    Want::Sorted(Sort::Number)
+}
+
+/// A text or null.
+pub(crate) fn text<'a>() -> Want<'a>
+    ensures { want_of result ≡ model.text }
+{
+    Want::Typed(FieldType::Named("java/lang/String"))
+}
+
+/// The class of an object, of a text and of the print stream.
+fn class_of_value<'a>(linked: &'a Linked, heap: &[Object], cell: &Cell) -> &'a str
+    ensures { result.now ≡ model.class_of_value (classes_of linked.now.classes.items) (objects_of heap.now) (value_of cell.now) }
+{
+    match cell {
+        Cell::Object(number) => match heap.get(*number as usize) {
+            Some(object) => class_name(linked, object.class),
+            None => "",
+        },
+        Cell::Text(_) => "java/lang/String",
+        Cell::Out => "java/io/PrintStream",
+        Cell::Int(_) | Cell::Null => "",
+    }
+}
+
+/// Whether an object of a class is one of the class of this name.
+fn is_of(class: &str, name: &str) -> bool
+    ensures { result ≡ (bytes_eq name.now (codes "java/lang/Object") || bytes_eq name.now class.now) }
+{
+    name == "java/lang/Object" || name == class
+}
+
+fn kind_unless(right: bool) -> Option<BadKind>
+    ensures { result ≡ model.kind_unless right }
+{
+    if right { None } else { Some(BadKind::Kind) }
+}
+
+fn is_reference(cell: &Cell) -> bool
+    ensures { result ≡ model.is_reference (value_of cell.now) }
+{
+    !matches!(cell, Cell::Int(_))
+}
+
+pub(crate) fn is_null(cell: &Cell) -> bool
+    ensures { result ≡ model.is_null (value_of cell.now) }
+{
+    matches!(cell, Cell::Null)
+}
+
+/// Why a value isn't one of a class: objects and the print stream are of another class, but in place
+/// of a text, and everything else is of another kind.
+fn misfit_class(linked: &Linked, heap: &[Object], name: &str, cell: &Cell) -> Option<BadKind>
+    ensures { result ≡ model.misfit_class (classes_of linked.now.classes.items) (objects_of heap.now) name.now (value_of cell.now) }
+{
+    match cell {
+        Cell::Null => None,
+        Cell::Int(_) => Some(BadKind::Kind),
+        Cell::Text(_) => kind_unless(is_of("java/lang/String", name)),
+        Cell::Out | Cell::Object(_) => {
+            if is_of(class_of_value(linked, heap, cell), name) {
+                None
+            } else if name == "java/lang/String" {
+                Some(BadKind::Kind)
+            } else {
+                Some(BadKind::Member)
+            }
+        }
+    }
+}
+
+/// Why a value doesn't meet a type.
+fn misfit_type(
+    linked: &Linked,
+    heap: &[Object],
+    field_type: FieldType<'_>,
+    cell: &Cell,
+) -> Option<BadKind>
+    ensures { result ≡ model.misfit_type (classes_of linked.now.classes.items) (objects_of heap.now) (type_view field_type.entry)
+        (value_of cell.now) }
+{
+    match field_type {
+        FieldType::Named(name) => misfit_class(linked, heap, name, cell),
+        FieldType::Texts => kind_unless(is_null(cell)),
+        FieldType::Int | FieldType::Truth => kind_unless(!is_reference(cell)),
+    }
+}
+
+fn misfit_sort(sort: Sort, cell: &Cell) -> Option<BadKind>
+    ensures { result ≡ model.misfit_sort (sort_of sort) (value_of cell.now) }
+{
+    match sort {
+        Sort::Number => kind_unless(!is_reference(cell)),
+        Sort::Reference => kind_unless(is_reference(cell)),
+    }
+}
+
+/// Why a value isn't what an operand must be.
+fn misfit(linked: &Linked, heap: &[Object], want: &Want<'_>, cell: &Cell) -> Option<BadKind>
+    ensures { result ≡ model.misfit (classes_of linked.now.classes.items) (objects_of heap.now) (want_of want.now) (value_of cell.now) }
+{
+    match want {
+        Want::Any => None,
+        Want::Sorted(sort) => misfit_sort(*sort, cell),
+        Want::Typed(field_type) => misfit_type(linked, heap, *field_type, cell),
+        Want::Returned(sort, result) => {
+            if let Some(kind) = misfit_sort(*sort, cell) {
+                return Some(kind);
+            }
+            match result {
+                Some(field_type) => misfit_type(linked, heap, *field_type, cell),
+                None => None,
+            }
+        }
+    }
+}
+
+/// What was found, and one more.
+fn noted(found: Found, misfit: Option<BadKind>) -> Found
+    ensures kind { result.kind ≡ (found.kind || model.is_kind misfit) }
+    ensures member { result.member ≡ (found.member || model.is_member misfit) }
+{
+    Found {
+        kind: found.kind || matches!(misfit, Some(BadKind::Kind)),
+        member: found.member || matches!(misfit, Some(BadKind::Member)),
+    }
+}
+
+/// What was found, and what is wrong with the operands that are taken.
+fn misfits(
+    first: Found,
+    linked: &Linked,
+    heap: &[Object],
+    takes: &[Want<'_>],
+    top: &[Cell],
+) -> Found
+    requires { length takes.now ≡ length top.now }
+    ensures kind { result.kind ≡ (first.kind || model.some_of model.is_kind
+        (model.misfits (classes_of linked.now.classes.items) (objects_of heap.now) (wants_of takes.now) (values_of top.now))) }
+    ensures member { result.member ≡ (first.member || model.some_of model.is_member
+        (model.misfits (classes_of linked.now.classes.items) (objects_of heap.now) (wants_of takes.now) (values_of top.now))) }
+{
+    let mut found = first;
+    for (at, want) in takes.iter().enumerate() {
+        found = noted(found, misfit(linked, heap, want, &top[at]));
+    }
+    found
+}
+
+/// Why a local that is read isn't what it must be.
+fn misfit_read(reads: Option<(u8, Sort)>, locals: &[Option<Cell>]) -> Option<BadKind>
+    ensures { result ≡ model.misfit_read (option_map (λ r. (r.0, sort_of r.1)) reads) (locals_of locals.now) }
+{
+    let Some((local, sort)) = reads else {
+        return None;
+    };
+    match locals.get(usize::from(local)) {
+        Some(Some(cell)) => misfit_sort(sort, cell),
+        Some(None) => Some(BadKind::Kind),
+        None => None,
+    }
+}
+
+/// What is wrong, where there are operands enough.
+fn judged(needs: &Needs<'_>, found: Found) -> Option<BadKind>
+    ensures { result ≡ judged (needs_of needs.now) found.kind found.member }
+{
+    if found.kind {
+        Some(BadKind::Kind)
+    } else if needs.of_locals < needs.locals {
+        Some(BadKind::Local)
+    } else if found.member {
+        Some(BadKind::Member)
+    } else if !needs.returns {
+        Some(BadKind::Return)
+    } else if needs.max_stack < needs.operands {
+        Some(BadKind::Overflow)
+    } else {
+        None
+    }
+}
+
+/// What is wrong, where something is. The tests stand in this order.
+pub(crate) fn wrong(linked: &Linked, state: &State, needs: &Needs<'_>) -> Option<BadKind>
+    ensures { result ≡ model.wrong (classes_of linked.now.classes.items) (needs_of needs.now) (state_of state.now) }
+{
+    let takes = needs.takes;
+    if state.frame.operands.len() < takes.len() {
+        return Some(BadKind::Underflow);
+    }
+    let nothing = Found {
+        kind: false,
+        member: false,
+    };
+    let read = noted(
+        nothing,
+        misfit_read(needs.reads, state.frame.locals.as_slice()),
+    );
+    let operands = top(state, takes.len());
+    let found = misfits(read, linked, state.heap.as_slice(), takes, operands);
+    judged(needs, found)
+}
+
+/// An instruction takes these operands, and gives so many.
+pub(crate) fn taking<'a>(
+    linked: &Linked,
+    state: &State,
+    takes: &'a [Want<'a>],
+    gives: usize,
+) -> Needs<'a>
+    requires { gives ≤ 2 }
+    ensures { needs_of result ≡ model.taking (classes_of linked.now.classes.items) (state_of state.now) (wants_of takes.now) gives }
+{
+    let frame = &state.frame;
+    Needs {
+        takes,
+        reads: None,
+        locals: 0,
+        of_locals: frame.locals.len(),
+        returns: true,
+        operands: frame.operands.len().saturating_sub(takes.len()) + gives,
+        max_stack: max_stack(method_at(linked, frame.class, frame.method)),
+    }
+}
