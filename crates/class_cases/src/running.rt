@@ -8,8 +8,8 @@ use cases::Answer;
 use cls_tree::Class;
 use mg_text::Memory;
 use std::alloc::Global;
-use vm_step::{Machine, Stepped, has_main};
 use vm_model::{Linked, Ports};
+use vm_step::{Machine, Stepped, has_main};
 
 /// Tells what the `main` of a class does. The first line of a case says how many steps are taken at
 /// most, and the others describe the class.

@@ -9,8 +9,8 @@ ghost use Rattle.gen_layout.specs.Laid.{final_op, final_args, finals};
 
 use crate::laying::Laid;
 use cls_tree::{Args, Instr};
-use gen_symbolic::{Operand, Symbolic};
 use gen_pool::short;
+use gen_symbolic::{Operand, Symbolic};
 use mg_text::{List, Memory};
 use std::alloc::Global;
 

@@ -8,9 +8,9 @@ ghost use Rattle.gen_layout.specs.Laid.{laid};
 ghost use Rattle.gen_layout.specs.Kept.{laid_of, IsOneMore};
 
 use crate::sizes::size_at;
-use gen_symbolic::Symbolic;
 use gen_pool::Pool;
 use gen_refs::constant;
+use gen_symbolic::Symbolic;
 use jv_core::Core;
 use mg_text::Memory;
 use std::alloc::Global;

@@ -15,9 +15,9 @@ ghost use Rattle.gen_members.specs.Parts.{compiled_of, part_excess, excess_at};
 
 use crate::faults::{GenFault, Telling, judge};
 use cls_tree::{Attr, Code, Member};
-use gen_symbolic::Symbolic;
 use gen_layout::{Laid, final_code, lay_out};
 use gen_pool::{Pool, short};
+use gen_symbolic::Symbolic;
 use jv_core::Core;
 use mg_text::{List, Memory, Place};
 use std::alloc::Global;

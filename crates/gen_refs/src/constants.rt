@@ -11,8 +11,8 @@ ghost use Rattle.gen_refs.specs.Constants.{constant_of, field_of_reference, meth
 use crate::descriptors::{field_descriptor, method_descriptor};
 use crate::names::class_name;
 use crate::session::{session_descriptor, session_name};
-use gen_symbolic::{BuiltIn, Operand};
 use gen_pool::{Pool, class_const, field_const, int_const, method_const, text_const};
+use gen_symbolic::{BuiltIn, Operand};
 use jv_core::{Core, CoreField, name_text};
 use mg_text::Memory;
 use std::alloc::Global;

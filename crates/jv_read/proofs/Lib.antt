@@ -1,3 +1,3 @@
 pub mod Unique
 pub mod Staged
-mod Placed
+mod Unplaced

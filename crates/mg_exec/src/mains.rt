@@ -3,8 +3,8 @@
 ghost use Rattle.vm_model.specs.View.{classes_of};
 ghost use Rattle.mg_exec.specs.inner.Mains.{IsFirstWithout};
 
-use vm_step::has_main;
 use vm_model::Linked;
+use vm_step::has_main;
 use vm_world::RoleMain;
 
 /// The number of the first role whose class isn't there, or has no `static void main(String[])`.

@@ -2,4 +2,4 @@ pub mod Sought
 pub mod Unique
 pub mod Named
 pub mod Staged
-mod Placed
+mod Unplaced

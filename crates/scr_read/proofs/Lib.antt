@@ -3,4 +3,4 @@ pub mod Unique
 pub mod Named
 pub mod Staged
 pub mod Moved
-mod Placed
+mod Unplaced

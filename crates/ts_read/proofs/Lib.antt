@@ -7,4 +7,4 @@ pub mod Proper
 pub mod Composed
 pub mod Meant
 pub mod Unique
-mod Placed
+mod Unplaced

@@ -9,8 +9,8 @@ ghost use Rattle.vm_world.specs.View.{role_of, state_of};
 
 use mg_text::{Ending, Event, Memory, Text};
 use std::alloc::Global;
-use vm_step::{Machine, Stepped};
 use vm_model::{Linked, Ports};
+use vm_step::{Machine, Stepped};
 use vm_world_law::Turned;
 
 /// A role runs, or has ended.

@@ -17,8 +17,8 @@ use crate::role::{Role, State, Taken, take_turn, turns_alone};
 use mg_text::{Ending, Event, List, Memory, Text};
 use std::alloc::Global;
 use std::marker::Model;
-use vm_step::Machine;
 use vm_model::{Linked, Ports};
+use vm_step::Machine;
 use vm_world_law::{RoleEvent, RoleMain, Turned};
 
 /// Roles that run one program, the messages on their way, and the events of all roles in their order.

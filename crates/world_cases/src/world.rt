@@ -10,8 +10,8 @@ use cls_tree::Class;
 use mg_text::{Memory, Text};
 use std::alloc::Global;
 use vm_load::{LoadFault, load};
-use vm_step::has_main;
 use vm_model::Linked;
+use vm_step::has_main;
 use vm_world::{RoleMain, World};
 
 /// What is seen of both roles.

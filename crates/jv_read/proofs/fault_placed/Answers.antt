@@ -1,4 +1,4 @@
-use Rattle.jv_read.proofs.Placed.{no_place}
+use Rattle.jv_read.proofs.Unplaced.{no_place}
 use Rattle.jv_read.proofs.fault_placed.Goals as goal
 
 pub returns-in_default-clause-place : goal.returns-in_default-clause-place
