@@ -45,7 +45,8 @@ passes_told directions.From peer label kind p l = (p, l)
 module _ (me : Name) where
   -- what stands behind a branch is clean
   behind_clean : (way : Way) (at : Name) (earlier : List Statements) (b : Statements) (more : Branches)
-      → Clean (ReservedLabel me) (branch_spots way at earlier (Branch b more)) → Clean (ReservedLabel me) (branch_spots way at (b ∷ earlier) more)
+      → Clean (ReservedLabel me) (branch_spots way at earlier (Branch b more)) →
+      Clean (ReservedLabel me) (branch_spots way at (b ∷ earlier) more)
   behind_clean way at earlier b more h =
       (clean_both (ReservedLabel me) (spots (Enters at earlier ∷ way) b) (branch_spots way at (b ∷ earlier) more) h).1
 
@@ -117,7 +118,8 @@ module _ (me : Name) where
         (does_in_told way at (b ∷ earlier) more (next me n b) w.1 g.1)
 
   -- the same of protocols, one after another
-  pub all_told : (ts : List Titled) (n : ℕ) → AllByRecursion (λ (t : Titled). AreWritten t.body) ts → Clean (ReservedLabel me) (all_spots (map body_in ts))
+  pub all_told : (ts : List Titled) (n : ℕ) → AllByRecursion (λ (t : Titled). AreWritten t.body) ts →
+      Clean (ReservedLabel me) (all_spots (map body_in ts))
       → AllByRecursion IsTold (all_doings (numbered_parts me n ts))
   all_told [] n w h = tt
   all_told (t ∷ ts) n w h =

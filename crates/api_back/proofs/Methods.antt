@@ -24,9 +24,11 @@ use Rattle.jv_back.proofs.Parts.{IsTyped}
 use Rattle.jv_back.proofs.Stmts.{IsWrittenLocal, IsWrittenStmt, AreWrittenStmts}
 use Rattle.jv_back.proofs.Members.{IsWrittenParam, IsWrittenMethod}
 use Rattle.stm_api.specs.Doings.{Doing, Passes, Asks}
-use Rattle.stm_api.specs.Api.{session_part, send_body, take_body, label_test, first_label, found_by, refusal, look_body, value_param, message_method, look_method, method_of}
+use Rattle.stm_api.specs.Api.{session_part, send_body, take_body, label_test, first_label, found_by, refusal, look_body, value_param}
+use Rattle.stm_api.specs.Api.{message_method, look_method, method_of}
 use Rattle.jv_back.proofs.Files.{AreWrittenConstants}
-use Rattle.api_back.proofs.Names.{word_bytes, all_pass, passes_both, number_bytes, marked_name, choice_class, role_utf8, name_utf8, fixed, no_string}
+use Rattle.api_back.proofs.Names.{word_bytes, all_pass, passes_both, number_bytes, marked_name, choice_class, role_utf8, name_utf8, fixed}
+use Rattle.api_back.proofs.Names.{no_string}
 use Rattle.api_back.proofs.Doings.{IsTold, all_both}
 
 -- ---- names
@@ -114,12 +116,21 @@ send_fine : (p : Place) (peer label : Name) (kind : Payload) → IsRoleName peer
     → AllByRecursion IsFine (send_body p peer label kind)
 send_fine p peer label payloads.Nothing w l =
     ((inr ((session_named, send_named payloads.Nothing, (role_utf8 peer w, (role_utf8 label l, tt))), refl, refl), omega arith), tt)
-send_fine p peer label payloads.Int w l =
-    ((inr ((session_named, send_named payloads.Int, (role_utf8 peer w, (role_utf8 label l, (value_named, tt)))), refl, refl), omega arith), tt)
-send_fine p peer label payloads.Boolean w l =
-    ((inr ((session_named, send_named payloads.Boolean, (role_utf8 peer w, (role_utf8 label l, (value_named, tt)))), refl, refl), omega arith), tt)
-send_fine p peer label payloads.Text w l =
-    ((inr ((session_named, send_named payloads.Text, (role_utf8 peer w, (role_utf8 label l, (value_named, tt)))), refl, refl), omega arith), tt)
+send_fine p peer label payloads.Int w l = (
+  (inr ((session_named, send_named payloads.Int, (role_utf8 peer w, (role_utf8 label l, (value_named, tt)))), refl, refl), omega arith),
+  tt,
+)
+send_fine p peer label payloads.Boolean w l = (
+  (
+    inr ((session_named, send_named payloads.Boolean, (role_utf8 peer w, (role_utf8 label l, (value_named, tt)))), refl, refl),
+    omega arith,
+  ),
+  tt,
+)
+send_fine p peer label payloads.Text w l = (
+  (inr ((session_named, send_named payloads.Text, (role_utf8 peer w, (role_utf8 label l, (value_named, tt)))), refl, refl), omega arith),
+  tt,
+)
 
 take_fine : (p : Place) (peer label : Name) (kind : Payload) → IsRoleName peer → IsRoleName label
     → AllByRecursion IsFine (take_body p peer label kind)
@@ -158,7 +169,8 @@ text_typed = (tt, plain_word (codes "String") refl refl)
 look_fine : (p : Place) (enum peer : Name) (labels : List Name) → IsNamed enum → IsRoleName peer → AreWrittenConstants labels
     → AllByRecursion IsFine (look_body p enum peer labels)
 look_fine p enum peer labels e w h =
-    let looks : IsFine (found_by p peer) = (inl (text_typed, found_named, (session_named, look_named, (role_utf8 peer w, tt))), omega arith) in
+    let looks : IsFine (found_by p peer) = (inl (text_typed, found_named, (session_named, look_named, (role_utf8 peer w, tt))), omega arith)
+    in
     let refuses : IsFine (refusal p peer) =
     (inr ((session_named, refuse_named, (role_utf8 peer w, (found_named, tt))), refl, refl), omega arith) in (
       looks,

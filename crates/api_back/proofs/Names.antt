@@ -1,5 +1,6 @@
 -- Names that are generated are words of Java, and none that it reserves.
-use Rattle.std.proofs.Common.{◌≡◌, ℕ, zero, suc, ◌+◌, ◌%◌, ◌/◌, ◌<◌, ◌≤◌, List, [], ◌∷◌, ◌++◌, Bool, true, false, refl, sym, ap, subst, ◌∙◌, append_assoc, codes, arith}
+use Rattle.std.proofs.Common.{◌≡◌, ℕ, zero, suc, ◌+◌, ◌%◌, ◌/◌, ◌<◌, ◌≤◌, List, [], ◌∷◌, ◌++◌, Bool, true, false, refl, sym, ap, subst, ◌∙◌}
+use Rattle.std.proofs.Common.{append_assoc, codes, arith}
 use Rattle.std.specs.Prelude.{Contains, ◌==◌, ◌||◌, ◌&&◌, not, nat_lt, if◌then◌else◌}
 use Rattle.std.specs.Char.{is_ascii_digit}
 use Rattle.std.specs.Fmt.{decimal, digits, digits_onto, digit_glyph}
@@ -84,7 +85,8 @@ digits_pass zero n acc h = h
 digits_pass (suc k) n acc h =
     let more : AllPasses is_word_byte (digit_glyph false (n % 10) ∷ acc) = (digit_passes n, h) in
     either_passes is_word_byte (n / 10 == 0) (digit_glyph false (n % 10) ∷ acc)
-    (digits_onto k 10 false (n / 10) (digit_glyph false (n % 10) ∷ acc)) more (digits_pass k (n / 10) (digit_glyph false (n % 10) ∷ acc) more)
+    (digits_onto k 10 false (n / 10) (digit_glyph false (n % 10) ∷ acc)) more (digits_pass k (n / 10) (digit_glyph false (n % 10) ∷ acc)
+    more)
 
 pub number_bytes : (n : ℕ) → AllPasses is_word_byte (decimal n)
 unfolding digits

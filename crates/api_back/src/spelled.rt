@@ -12,5 +12,6 @@ ghost use Rattle.jv_read.specs.Spelling.{Spells};
 /// The text of each file of a valid local protocol's API spells, as any file, the file's tree,
 /// places aside, where the text is no longer than a file.
 pub fn files_are_spelled()
-    ensures { (local : LocalTree) (files : List ApiText) (f : ApiText) (file : ℕ) → IsValid local → IsApi local files → Contains files f → length f.text ≤ 1048576 → (back : File) × Spells file f.text back × (bare_file back ≡ bare_file f.tree) }
+    ensures { (local : LocalTree) (files : List ApiText) (f : ApiText) (file : ℕ) → IsValid local → IsApi local files → Contains files f →
+        length f.text ≤ 1048576 → (back : File) × Spells file f.text back × (bare_file back ≡ bare_file f.tree) }
 {}

@@ -1,5 +1,6 @@
 -- Codes and attributes: what is read is spelled so, and what is spelled so is read.
-use Rattle.std.proofs.Common.{◌≡◌, ℕ, zero, suc, ◌+◌, ◌<◌, ◌≤◌, Bool, true, false, cond, ◌&&◌, List, [], ◌∷◌, ◌++◌, length, take, drop, eqb, ltb, Option, Some, None, refl, sym, ap, subst, ◌∙◌, append_assoc, length-append, length-take, arith}
+use Rattle.std.proofs.Common.{◌≡◌, ℕ, zero, suc, ◌+◌, ◌<◌, ◌≤◌, Bool, true, false, cond, ◌&&◌, List, [], ◌∷◌, ◌++◌, length, take, drop, eqb}
+use Rattle.std.proofs.Common.{ltb, Option, Some, None, refl, sym, ap, subst, ◌∙◌, append_assoc, length-append, length-take, arith}
 use Rattle.std.proofs.lemmas.Bool.{ltb-false, le-ltb, eqb-true, eq-eqb}
 use Rattle.std.proofs.lemmas.Bool.Decides.{nat_tests}
 use Rattle.std.proofs.lemmas.List.{take_at, drop_at, take-append-drop}
@@ -16,7 +17,8 @@ use Rattle.cls_code.specs.Code.{unfit, Decodes, Instrs, Fault, whole}
 use Rattle.cls_code.specs.Inner.{instr_in, size_in}
 use Rattle.cls_code.proofs.Stands.{stands, seen}
 use Rattle.cls_code.proofs.Once.{decodes_once}
-use Rattle.cls_bytes.specs.Reading.{number_at, behind, pair_at, in_front, instrs_from, is_none, is_sound, instrs_of, run_at, inner_at, listed_at, body_at, inners_at, content_at, code_at, other_at, attr_at}
+use Rattle.cls_bytes.specs.Reading.{number_at, behind, pair_at, in_front, instrs_from, is_none, is_sound, instrs_of, run_at, inner_at}
+use Rattle.cls_bytes.specs.Reading.{listed_at, body_at, inners_at, content_at, code_at, other_at, attr_at}
 use Rattle.cls_bytes.proofs.Steps.{IsBytes, IsBytes-drop, IsBytes-take, Takes, Takes-then, IsSound, IsComplete, read, held, passed}
 use Rattle.cls_bytes.proofs.Numbers.{IsU4, u2_sound, u2_complete, u4_sound, u4_complete, behind_sound, behind_complete}
 use Rattle.cls_bytes.proofs.Consts.{pair_bytes, FitPair, pair_sound, pair_complete}
@@ -37,11 +39,17 @@ run_sound bytes x fits e =
     let p = passed (ltb (length n.rest) n.value) (Some (take n.value n.rest, drop n.value n.rest)) x n.goes_on in
     let long : n.value ≤ length n.rest = ltb-false _ _ p.0 in
     let len : length (take n.value n.rest) ≡ n.value = omega (arith, length-take n.value n.rest) in
-    let second : Takes n.rest (take n.value n.rest) (drop n.value n.rest) = record { parts = sym (take-append-drop n.value n.rest); rest_fits = IsBytes-drop n.value n.rest n.takes.rest_fits } in
+    let second : Takes n.rest (take n.value n.rest) (drop n.value n.rest) =
+    record { parts = sym (take-append-drop n.value n.rest); rest_fits = IsBytes-drop n.value n.rest n.takes.rest_fits } in
     let both = Takes-then bytes (u4 n.value) n.rest (take n.value n.rest) (drop n.value n.rest) n.takes second in
-    let all : Takes bytes (run_bytes (take n.value n.rest)) (drop n.value n.rest) = subst (λ (k : ℕ). Takes bytes (u4 k ++ take n.value n.rest) (drop n.value n.rest)) (sym len) both in
-    let run : IsRun (take n.value n.rest) = (all_bytes (take n.value n.rest) (IsBytes-take n.value n.rest n.takes.rest_fits), subst IsU4 (sym len) n.fits) in
-    subst (λ (y : List ℕ × List ℕ). Takes bytes (run_bytes y.0) y.1 × IsRun y.0) (some_is (take n.value n.rest, drop n.value n.rest) x p.1) (all, run)
+    let all : Takes bytes (run_bytes (take n.value n.rest)) (drop n.value n.rest) =
+    subst (λ (k : ℕ). Takes bytes (u4 k ++ take n.value n.rest) (drop n.value n.rest)) (sym len) both in
+    let run : IsRun (take n.value n.rest) = (
+      all_bytes (take n.value n.rest) (IsBytes-take n.value n.rest n.takes.rest_fits),
+      subst IsU4 (sym len) n.fits,
+    ) in
+    subst (λ (y : List ℕ × List ℕ). Takes bytes (run_bytes y.0) y.1 × IsRun y.0) (some_is (take n.value n.rest, drop n.value n.rest) x p.1)
+    (all, run)
 
 run_back : (run rest : List ℕ) → IsU4 (length run) → run_at (run_bytes run ++ rest) ≡ Some (run, rest)
 unfolding run_at
@@ -60,7 +68,8 @@ inner_sound bytes x fits e =
     let name = read (number_at 2) u2 IsU2 _ bytes x u2_sound fits e in
     let run = read run_at run_bytes IsRun _ name.rest x run_sound name.takes.rest_fits name.goes_on in
     let all = Takes-then bytes (u2 name.value) name.rest (run_bytes run.value) run.rest name.takes run.takes in
-    subst (λ (y : Inner × List ℕ). Takes bytes (inner_bytes y.0) y.1 × FitsInner y.0) (some_is (Unread name.value run.value, run.rest) x run.goes_on) (all, (name.fits, run.fits))
+    subst (λ (y : Inner × List ℕ). Takes bytes (inner_bytes y.0) y.1 × FitsInner y.0) (some_is (Unread name.value run.value, run.rest) x
+    run.goes_on) (all, (name.fits, run.fits))
 
 pub inner_complete : IsComplete inner_at inner_bytes FitsInner
 unfolding inner_at
@@ -69,25 +78,32 @@ inner_complete Misplaced rest ok = absurd ok
 
 -- ---- instructions
 module _ (i : Instr) (is : List Instr) where
-  front_some : (u : Option CodeFault) (r : Option (List Instr)) → in_front u i r ≡ Some is → (js : List Instr) × (u ≡ None) × (r ≡ Some js) × (is ≡ i ∷ js)
+  front_some : (u : Option CodeFault) (r : Option (List Instr)) → in_front u i r ≡ Some is → (js : List Instr) × (u ≡ None) × (r ≡ Some js)
+      × (is ≡ i ∷ js)
   front_some (Some fault) r e = absurd (none_is_not is e)
   front_some None None e = absurd (none_is_not is e)
   front_some None (Some js) e = (js, refl, refl, sym (some_is (i ∷ js) is e))
 
-instrs_from_sound : (n place : ℕ) (bytes : List ℕ) (is : List Instr) → IsBytes bytes → instrs_from n place bytes ≡ Some is → AllByRecursion FitsInstr is × (bytes ≡ code_from place is)
+instrs_from_sound : (n place : ℕ) (bytes : List ℕ) (is : List Instr) → IsBytes bytes → instrs_from n place bytes ≡ Some is →
+    AllByRecursion FitsInstr is × (bytes ≡ code_from place is)
 unfolding instrs_from
 instrs_from_sound zero place bytes is fits e = absurd (none_is_not is e)
-instrs_from_sound (suc n) place [] is fits e = subst (λ k. AllByRecursion FitsInstr k × ([] ≡ code_from place k)) (some_is [] is e) (tt, refl)
+instrs_from_sound (suc n) place [] is fits e = subst (λ k. AllByRecursion FitsInstr k × ([] ≡ code_from place k)) (some_is [] is e)
+    (tt, refl)
 instrs_from_sound (suc n) place (b ∷ bytes) is fits e =
     let i = instr_in place (b ∷ bytes) in
     let size = size_in place (b ∷ bytes) in
     let f = front_some i is (unfit place (b ∷ bytes)) (instrs_from n (place + size) (drop size (b ∷ bytes))) e in
     let s = stands place (b ∷ bytes) fits f.1 in
     let rest = instrs_from_sound n (place + size) (drop size (b ∷ bytes)) f.0 (IsBytes-drop size (b ∷ bytes) fits) f.2 in
-    subst (λ k. AllByRecursion FitsInstr k × (b ∷ bytes ≡ code_from place k)) (sym f.3)
-    ((s.fits, rest.0), s.spelled ∙ ap (λ r. instr_bytes place i ++ r) rest.1 ∙ ap (λ k. instr_bytes place i ++ code_from (place + k) f.0) s.sized)
+    subst (λ k. AllByRecursion FitsInstr k × (b ∷ bytes ≡ code_from place k)) (sym f.3) (
+      (s.fits, rest.0),
+      s.spelled ∙ ap (λ r. instr_bytes place i ++ r) rest.1 ∙ ap (λ k. instr_bytes place i ++ code_from (place + k) f.0)
+          s.sized,
+    )
 
-instrs_from_complete : (is : List Instr) (n place : ℕ) → AllByRecursion FitsInstr is → length (code_from place is) < n → instrs_from n place (code_from place is) ≡ Some is
+instrs_from_complete : (is : List Instr) (n place : ℕ) → AllByRecursion FitsInstr is → length (code_from place is) < n →
+    instrs_from n place (code_from place is) ≡ Some is
 unfolding instrs_from
 instrs_from_complete [] zero place all lt = absurd (omega arith)
 instrs_from_complete [] (suc n) place all lt = refl
@@ -97,8 +113,10 @@ instrs_from_complete (i ∷ is) (suc n) place all lt =
     let rest = code_from (place + length here) is in
     let s = seen place i rest all.0 in
     let ih = instrs_from_complete is n (place + length here) all.1 (omega (arith, length-append here rest)) in
-    ap (λ u. in_front u (instr_in place (here ++ rest)) (instrs_from n (place + size_in place (here ++ rest)) (drop (size_in place (here ++ rest)) (here ++ rest)))) s.none
-    ∙ ap (λ k. in_front None k (instrs_from n (place + size_in place (here ++ rest)) (drop (size_in place (here ++ rest)) (here ++ rest)))) s.instr
+    ap (λ u. in_front u (instr_in place (here ++ rest)) (instrs_from n (place + size_in place (here ++ rest))
+    (drop (size_in place (here ++ rest)) (here ++ rest)))) s.none
+    ∙ ap (λ k. in_front None k (instrs_from n (place + size_in place (here ++ rest)) (drop (size_in place (here ++ rest)) (here ++ rest))))
+    s.instr
     ∙ ap (λ k. in_front None i (instrs_from n (place + k) (drop k (here ++ rest)))) s.size
     ∙ ap (λ bs. in_front None i (instrs_from n (place + length here) bs)) (drop_at here rest (length here) refl)
     ∙ ap (in_front None i) ih
@@ -154,14 +172,16 @@ pub code_complete : (is : List Instr) → FitsInstrs is → IsSoundCode is → i
 unfolding instrs_of
 code_complete is fit sound =
     let short = sound.short in
-    let t : is_sound (length (code_bytes is)) is ≡ true = sound_again (length (code_bytes is)) (first_outside is) (some_bytes is fit.1) (omega arith) sound.inside in
+    let t : is_sound (length (code_bytes is)) is ≡ true = sound_again (length (code_bytes is)) (first_outside is) (some_bytes is fit.1)
+    (omega arith) sound.inside in
     rw (instrs_from_complete is (suc (length (code_bytes is))) 0 fit.0 (omega arith), t) refl
 
 -- what decoding answers
 pub decoded_some : (bytes : List ℕ) (is : List Instr) → Decodes bytes (Instrs is) → instrs_of bytes ≡ Some is
 decoded_some bytes is (whole f s e) = ap instrs_of e ∙ code_complete is f s
 
-decoded_other : (bytes : List ℕ) (fault : CodeFault) (is : List Instr) → IsBytes bytes → Decodes bytes (Fault fault) → instrs_of bytes ≡ Some is → ⊥
+decoded_other : (bytes : List ℕ) (fault : CodeFault) (is : List Instr) → IsBytes bytes → Decodes bytes (Fault fault) →
+    instrs_of bytes ≡ Some is → ⊥
 decoded_other bytes fault is fits d e =
     let s = code_sound bytes is fits e in
     let same = decodes_once bytes (Fault fault) (Instrs is) d (whole s.fits s.sound s.spelled) in
@@ -194,7 +214,8 @@ body_sound bytes x fits e =
     let s = code_sound run.value is.0 (bytes_again run.value run.fits.0) is.1 in
     let t : Takes bytes (body_bytes is.0) run.rest = subst (λ (w : List ℕ). Takes bytes (run_bytes w) run.rest) s.spelled run.takes in
     let n : IsU4 (length (code_bytes is.0)) = subst (λ (w : List ℕ). IsU4 (length w)) s.spelled run.fits.1 in
-    subst (λ (y : List Instr × List ℕ). Takes bytes (body_bytes y.0) y.1 × FitBody y.0) (some_is (is.0, run.rest) x is.2) (t, (s.fits, s.sound, n))
+    subst (λ (y : List Instr × List ℕ). Takes bytes (body_bytes y.0) y.1 × FitBody y.0) (some_is (is.0, run.rest) x is.2)
+    (t, (s.fits, s.sound, n))
 
 body_complete : (is : List Instr) (rest : List ℕ) → FitBody is → body_at (body_bytes is ++ rest) ≡ Some (is, rest)
 unfolding body_at
@@ -215,7 +236,8 @@ inners_sound bytes x fits e =
 inners_complete : IsComplete inners_at inners_bytes (FitListed FitsInner)
 unfolding inners_at
 inners_complete inners rest fit =
-    rw (behind_complete 2 0 IsU2 u2_complete (omega arith) (listed_bytes inner_bytes inners ++ rest)) (listed_complete inner_at inner_bytes FitsInner inner_complete inners rest fit)
+    rw (behind_complete 2 0 IsU2 u2_complete (omega arith) (listed_bytes inner_bytes inners ++ rest))
+    (listed_complete inner_at inner_bytes FitsInner inner_complete inners rest fit)
 
 -- ---- what a code attribute holds
 abbrev content_spell : Attr → List ℕ
@@ -236,23 +258,39 @@ content_sound name bytes x fits e =
     let body = read body_at body_bytes FitBody _ sizes.rest x body_sound sizes.takes.rest_fits sizes.goes_on in
     let inners = read inners_at inners_bytes (FitListed FitsInner) _ body.rest x inners_sound body.takes.rest_fits body.goes_on in
     let t1 = Takes-then sizes.rest (body_bytes body.value) body.rest (inners_bytes inners.value) inners.rest body.takes inners.takes in
-    let t0 = Takes-then bytes (pair_bytes sizes.value) sizes.rest (body_bytes body.value ++ inners_bytes inners.value) inners.rest sizes.takes t1 in
-    let code : Code = record { name = name; max_stack = sizes.value.0; max_locals = sizes.value.1; instrs = body.value; attributes = inners.value } in
+    let t0 = Takes-then bytes (pair_bytes sizes.value) sizes.rest (body_bytes body.value ++ inners_bytes inners.value) inners.rest
+    sizes.takes t1 in
+    let code : Code = record {
+      name = name;
+      max_stack = sizes.value.0;
+      max_locals = sizes.value.1;
+      instrs = body.value;
+      attributes =
+          inners.value;
+    } in
     let t : Takes bytes (content_bytes code) inners.rest =
     subst (λ (w : List ℕ). Takes bytes w inners.rest)
-    (regroup (u2 sizes.value.0) (u2 sizes.value.1) (u4 (length (code_bytes body.value))) (code_bytes body.value) (u2 0) (listed_bytes inner_bytes inners.value)) t0 in
-    subst (λ (y : Attr × List ℕ). Takes bytes (content_spell y.0) y.1 × FitContent name y.0) (some_is (Coded code, inners.rest) x inners.goes_on)
+    (regroup (u2 sizes.value.0) (u2 sizes.value.1) (u4 (length (code_bytes body.value))) (code_bytes body.value) (u2 0)
+    (listed_bytes inner_bytes inners.value)) t0 in
+    subst (λ (y : Attr × List ℕ). Takes bytes (content_spell y.0) y.1 × FitContent name y.0)
+    (some_is (Coded code, inners.rest) x inners.goes_on)
     (t, (refl, sizes.fits, body.fits, inners.fits))
 
-content_complete : (c : Code) (rest : List ℕ) → FitContent c.name (Coded c) → content_at c.name (content_bytes c ++ rest) ≡ Some (Coded c, rest)
+content_complete : (c : Code) (rest : List ℕ) → FitContent c.name (Coded c) → content_at c.name (content_bytes c ++ rest) ≡ Some
+    (Coded c, rest)
 unfolding content_at
 content_complete c rest fit =
-    let grouped = regroup (u2 c.max_stack) (u2 c.max_locals) (u4 (length (code_bytes c.instrs))) (code_bytes c.instrs) (u2 0) (listed_bytes inner_bytes c.attributes) in
+    let grouped = regroup (u2 c.max_stack) (u2 c.max_locals) (u4 (length (code_bytes c.instrs))) (code_bytes c.instrs) (u2 0)
+    (listed_bytes inner_bytes c.attributes) in
     let tail = inners_bytes c.attributes ++ rest in
     ap (λ (w : List ℕ). content_at c.name (w ++ rest)) (sym grouped)
     ∙ ap (content_at c.name) (append_assoc (pair_bytes (c.max_stack, c.max_locals)) (body_bytes c.instrs ++ inners_bytes c.attributes) rest
     ∙ ap (λ w. pair_bytes (c.max_stack, c.max_locals) ++ w) (append_assoc (body_bytes c.instrs) (inners_bytes c.attributes) rest))
-    ∙ rw (pair_front (c.max_stack, c.max_locals) (body_bytes c.instrs ++ tail) fit.1, body_complete c.instrs tail fit.2, inners_complete c.attributes rest fit.3) refl
+    ∙ rw (
+      pair_front (c.max_stack, c.max_locals) (body_bytes c.instrs ++ tail) fit.1,
+      body_complete c.instrs tail fit.2,
+      inners_complete c.attributes rest fit.3,
+    ) refl
   where
     pair_front : (p : ℕ × ℕ) (rest : List ℕ) → FitPair p → pair_at (pair_bytes p ++ rest) ≡ Some (p, rest)
     pair_front p rest f = pair_complete p rest f
@@ -267,7 +305,8 @@ FitCoded name (Coded c) = FitContent name (Coded c) × IsU4 (length (content_byt
 FitCoded name (Other n run) = ⊥
 
 -- the content has this length
-with_length : (name len : ℕ) (bytes front : List ℕ) (y : Attr × List ℕ) → Takes bytes (u4 len) front → IsU4 len → Takes front (content_spell y.0) y.1 → FitContent name y.0
+with_length : (name len : ℕ) (bytes front : List ℕ) (y : Attr × List ℕ) → Takes bytes (u4 len) front → IsU4 len →
+    Takes front (content_spell y.0) y.1 → FitContent name y.0
     → length front ≡ len + length y.1 → Takes bytes (code_spell y.0) y.1 × FitCoded name y.0
 with_length name len bytes front (Coded c, rest) t fit s ok long =
     let n : length front ≡ length (content_bytes c) + length rest = ap length s.parts ∙ length-append (content_bytes c) rest in
@@ -281,13 +320,15 @@ coded_sound : (name : ℕ) → IsSound (code_at name) code_spell (FitCoded name)
 unfolding code_at
 coded_sound name bytes x fits e =
     let len = read (number_at 4) u4 IsU4 _ bytes x u4_sound fits e in
-    let content = read (content_at name) content_spell (FitContent name) _ len.rest x (content_sound name) len.takes.rest_fits len.goes_on in
+    let content = read (content_at name) content_spell (FitContent name) _ len.rest x (content_sound name) len.takes.rest_fits len.goes_on
+    in
     let h = held (eqb (length len.rest) (len.value + length content.rest)) (Some (content.value, content.rest)) x content.goes_on in
     let long : length len.rest ≡ len.value + length content.rest = eqb-true _ _ h.0 in
     subst (λ (y : Attr × List ℕ). Takes bytes (code_spell y.0) y.1 × FitCoded name y.0) (some_is (content.value, content.rest) x h.1)
     (with_length name len.value bytes len.rest (content.value, content.rest) len.takes len.fits content.takes content.fits long)
 
-coded_complete : (c : Code) (rest : List ℕ) → FitCoded c.name (Coded c) → code_at c.name (code_spell (Coded c) ++ rest) ≡ Some (Coded c, rest)
+coded_complete : (c : Code) (rest : List ℕ) → FitCoded c.name (Coded c) → code_at c.name (code_spell (Coded c) ++ rest) ≡ Some
+    (Coded c, rest)
 unfolding code_at
 coded_complete c rest fit =
     let content = content_bytes c in
@@ -308,7 +349,8 @@ other_sound : (name : ℕ) → IsSound (other_at name) other_spell (FitOther nam
 unfolding other_at
 other_sound name bytes x fits e =
     let run = read run_at run_bytes IsRun _ bytes x run_sound fits e in
-    subst (λ (y : Attr × List ℕ). Takes bytes (other_spell y.0) y.1 × FitOther name y.0) (some_is (Other name run.value, run.rest) x run.goes_on) (run.takes, (refl, run.fits))
+    subst (λ (y : Attr × List ℕ). Takes bytes (other_spell y.0) y.1 × FitOther name y.0)
+    (some_is (Other name run.value, run.rest) x run.goes_on) (run.takes, (refl, run.fits))
 
 other_complete : (name : ℕ) (run rest : List ℕ) → IsRun run → other_at name (run_bytes run ++ rest) ≡ Some (Other name run, rest)
 unfolding other_at
@@ -327,16 +369,21 @@ FitsCode_of c name small f =
     }
 
 -- an attribute behind its name, by whether it is a code's
-attr_coded : (pool : List Const) (of_method : Bool) (name : ℕ) (bytes front : List ℕ) (y : Attr × List ℕ) → (of_method ≡ true) × (names_code pool name ≡ true) → IsU2 name
-    → Takes bytes (u2 name) front → Takes front (code_spell y.0) y.1 → FitCoded name y.0 → Takes bytes (attr_bytes y.0) y.1 × FileAttr pool of_method y.0
+attr_coded : (pool : List Const) (of_method : Bool) (name : ℕ) (bytes front : List ℕ) (y : Attr × List ℕ) →
+    (of_method ≡ true) × (names_code pool name ≡ true) → IsU2 name
+    → Takes bytes (u2 name) front → Takes front (code_spell y.0) y.1 → FitCoded name y.0 → Takes bytes (attr_bytes y.0) y.1
+    × FileAttr pool of_method y.0
 attr_coded pool of_method name bytes front (Coded c, rest) is small t s f = (
-  subst (λ (k : ℕ). Takes bytes (u2 k ++ code_spell (Coded c)) rest) (sym f.0.0) (Takes-then bytes (u2 name) front (code_spell (Coded c)) rest t s),
+  subst (λ (k : ℕ). Takes bytes (u2 k ++ code_spell (Coded c)) rest) (sym f.0.0) (Takes-then bytes (u2 name) front (code_spell (Coded c))
+      rest t s),
   (FitsCode_of c name small f, f.0.2.1, is.0, ap (names_code pool) f.0.0 ∙ is.1),
 )
 attr_coded pool of_method name bytes front (Other n run, rest) is small t s f = absurd f
 
-attr_other : (pool : List Const) (of_method : Bool) (name : ℕ) (bytes front : List ℕ) (y : Attr × List ℕ) → (of_method && names_code pool name) ≡ false → IsU2 name
-    → Takes bytes (u2 name) front → Takes front (other_spell y.0) y.1 → FitOther name y.0 → Takes bytes (attr_bytes y.0) y.1 × FileAttr pool of_method y.0
+attr_other : (pool : List Const) (of_method : Bool) (name : ℕ) (bytes front : List ℕ) (y : Attr × List ℕ) →
+    (of_method && names_code pool name) ≡ false → IsU2 name
+    → Takes bytes (u2 name) front → Takes front (other_spell y.0) y.1 → FitOther name y.0 → Takes bytes (attr_bytes y.0) y.1
+    × FileAttr pool of_method y.0
 attr_other pool of_method name bytes front (Coded c, rest) is small t s f = absurd f
 attr_other pool true name bytes front (Other n run, rest) is small t s f = (
   subst (λ (k : ℕ). Takes bytes (u2 k ++ run_bytes run) rest) (sym f.0) (Takes-then bytes (u2 name) front (run_bytes run) rest t s),
@@ -365,7 +412,10 @@ attr_sound pool of_method bytes x fits e =
 pub attr_complete : (pool : List Const) (of_method : Bool) → IsComplete (attr_at pool of_method) attr_bytes (FileAttr pool of_method)
 unfolding attr_at
 attr_complete pool true (Coded c) rest ok =
-    let f : FitCoded c.name (Coded c) = ((refl, (ok.0.max_stack, ok.0.max_locals), (ok.0.instrs, ok.1, ok.0.code_length), ok.0.attributes), ok.0.content_length) in
+    let f : FitCoded c.name (Coded c) = (
+      (refl, (ok.0.max_stack, ok.0.max_locals), (ok.0.instrs, ok.1, ok.0.code_length), ok.0.attributes),
+      ok.0.content_length,
+    ) in
     rw (u2_complete c.name (code_spell (Coded c) ++ rest) ok.0.name, ok.3) (coded_complete c rest f)
 attr_complete pool false (Coded c) rest ok = absurd (let e = ok.2 in cc)
 attr_complete pool true (Other name run) rest ok =
@@ -376,6 +426,7 @@ attr_complete pool false (Other name run) rest ok =
 -- the parts of a content are one
 pub content_read : (name : ℕ) (bytes r₁ r₂ r₃ : List ℕ) (sizes : ℕ × ℕ) (is : List Instr) (inners : List Inner)
     → pair_at bytes ≡ Some (sizes, r₁) → body_at r₁ ≡ Some (is, r₂) → inners_at r₂ ≡ Some (inners, r₃)
-    → content_at name bytes ≡ Some (Coded (record { name = name; max_stack = sizes.0; max_locals = sizes.1; instrs = is; attributes = inners }), r₃)
+    → content_at name bytes ≡ Some
+    (Coded (record { name = name; max_stack = sizes.0; max_locals = sizes.1; instrs = is; attributes = inners }), r₃)
 unfolding content_at
 content_read name bytes r₁ r₂ r₃ sizes is inners a b c = rw (a, b, c) refl

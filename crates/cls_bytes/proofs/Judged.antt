@@ -1,5 +1,7 @@
 -- What the fields of a class file are judged.
-use Rattle.std.proofs.Common.{◌≡◌, ℕ, ◌+◌, ◌*◌, ◌<◌, ◌≤◌, ◌^◌, List, [], ◌∷◌, ◌++◌, length, take, drop, get_or, refl, sym, ap, subst, ◌∙◌, length-append, length-take, length-drop, drop-cons, add-one, arith, Bool, true, false, Option, Some, None, inl, inr, replicate, nat_eq, nat_lt}
+use Rattle.std.proofs.Common.{◌≡◌, ℕ, ◌+◌, ◌*◌, ◌<◌, ◌≤◌, ◌^◌, List, [], ◌∷◌, ◌++◌, length, take, drop, get_or, refl, sym, ap, subst, ◌∙◌}
+use Rattle.std.proofs.Common.{length-append, length-take, length-drop, drop-cons, add-one, arith, Bool, true, false, Option, Some, None}
+use Rattle.std.proofs.Common.{inl, inr, replicate, nat_eq, nat_lt}
 use Rattle.std.proofs.lemmas.List.{drop_all, drop_more, length-replicate}
 use Rattle.std.specs.List.{flat_map, AllByRecursion}
 use Rattle.mg_read.proofs.Steps.{some_is, none_is_not, chosen}
@@ -26,7 +28,8 @@ use Rattle.cls_bytes.specs.Parts.{size}
 use Rattle.cls_bytes.specs.Row.{number, is_cut, is_bad_entry}
 use Rattle.std.specs.Prelude.{Ok, Err}
 use Rattle.std.proofs.lemmas.Bool.{ltb-false}
-use Rattle.cls_bytes.specs.Faults.{ends_here, ends_well, unless, args_misnamed, first_misnamed, judged, Judges, JudgesText, spelled, unspelled, JudgesCode, faulty, JudgesField, whole, First, clean, here, behind}
+use Rattle.cls_bytes.specs.Faults.{ends_here, ends_well, unless, args_misnamed, first_misnamed, judged, Judges, JudgesText, spelled}
+use Rattle.cls_bytes.specs.Faults.{unspelled, JudgesCode, faulty, JudgesField, whole, First, clean, here, behind}
 use Rattle.cls_bytes.specs.Judging.{extra, MovesWithin, IsMoved}
 use Rattle.cls_bytes.proofs.Modified.{letters_read, letters_given}
 
@@ -38,12 +41,14 @@ pub text_wrong : (bytes : List ℕ) (at : ℕ) → letters bytes ≡ None → Ju
 text_wrong bytes at e = unspelled (λ text ok is. none_is_not text (sym e ∙ (ap letters (sym is) ∙ letters_given text ok)))
 
 -- ---- the end of a content
-pub end_next : (later : List Field) (i : ℕ) (f : Field) → i < length later → f ≡ get_or later i f → ends_well (drop i later) ≡ ends_here f.part f.at (ends_well (drop (i + 1) later))
+pub end_next : (later : List Field) (i : ℕ) (f : Field) → i < length later → f ≡ get_or later i f → ends_well (drop i later) ≡ ends_here
+    f.part f.at (ends_well (drop (i + 1) later))
 unfolding ends_well
 end_next later i f lt e =
     ap ends_well (drop_more later i f lt) ∙ ap (λ (g : Field). ends_here g.part g.at (ends_well (drop (i + 1) later))) (sym e)
 
-pub end_here : (f : Field) (from len : ℕ) (b : Bool) → f.part ≡ parts.ContentEnd from len → ends_here f.part f.at b ≡ nat_eq f.at (from + len)
+pub end_here : (f : Field) (from len : ℕ) (b : Bool) → f.part ≡ parts.ContentEnd from len → ends_here f.part f.at b ≡ nat_eq f.at
+    (from + len)
 end_here f from len b e = ap (λ (p : Part). ends_here p f.at b) e
 
 pub no_end : (p : Part) (at : ℕ) (b : Bool) → ((from len : ℕ) → p ≡ parts.ContentEnd from len → ⊥) → ends_here p at b ≡ b
@@ -77,7 +82,8 @@ fours : (offsets : List _) → length (flat_map s4 offsets) ≡ 4 * length offse
 fours [] = refl
 fours (x ∷ xs) = let k = fours xs in omega (arith, length-append (s4 x) (flat_map s4 xs))
 
-form_length : (place : ℕ) (form : Form) (args : Args) → FitsForm form args → length (form_bytes place form args) ≡ fixed place form + extra args
+form_length : (place : ℕ) (form : Form) (args : Args) → FitsForm form args → length (form_bytes place form args) ≡ fixed place form + extra
+    args
 form_length place forms.Nothing tree.None ok = refl
 form_length place forms.Nothing other ok = absurd ok
 form_length place forms.Byte (tree.Number n) ok = refl
@@ -92,7 +98,12 @@ form_length place forms.Jump (tree.Jump n) ok = refl
 form_length place forms.Jump other ok = absurd ok
 form_length place forms.Table (tree.Table default low offsets) ok =
     let k = fours offsets in
-    omega (arith, length-replicate {A = ℕ} (pad place) 0, length-append (replicate (pad place) 0) (s4 default ++ (s4 low ++ (s4 (highest low offsets) ++ flat_map s4 offsets))))
+    omega (
+      arith,
+      length-replicate {A = ℕ} (pad place) 0,
+      length-append (replicate (pad place) 0)
+          (s4 default ++ (s4 low ++ (s4 (highest low offsets) ++ flat_map s4 offsets))),
+    )
 form_length place forms.Table other ok = absurd ok
 form_length place forms.NearConstant (tree.Pool n) ok = refl
 form_length place forms.NearConstant other ok = absurd ok
@@ -105,11 +116,13 @@ form_length place forms.Method other ok = absurd ok
 form_length place forms.Class (tree.Pool n) ok = refl
 form_length place forms.Class other ok = absurd ok
 
-pub instr_length : (place : ℕ) (i : Instr) (form : Form) → form_of i.op ≡ Some form → FitsInstr i → length (instr_bytes place i) ≡ 1 + fixed place form + extra i.args
+pub instr_length : (place : ℕ) (i : Instr) (form : Form) → form_of i.op ≡ Some form → FitsInstr i → length (instr_bytes place i) ≡ 1 + fixed
+    place form + extra i.args
 instr_length place i form e ok =
     let fits : FitsForm form i.args = subst (λ (o : Option Form). FitsArgs o i.args) e ok in
     let k = form_length place form i.args fits in
-    let n : length (args_bytes place (form_of i.op) i.args) ≡ fixed place form + extra i.args = ap (λ (o : Option Form). length (args_bytes place o i.args)) e ∙ k in
+    let n : length (args_bytes place (form_of i.op) i.args) ≡ fixed place form + extra i.args =
+    ap (λ (o : Option Form). length (args_bytes place o i.args)) e ∙ k in
     omega (arith, n)
 
 -- ---- numbers of instructions
@@ -132,24 +145,30 @@ module _ (bad : ℕ → ℕ → Bool) (is : List Instr) where
 
     pub one_few : place + length (instr_bytes place i) < 65536
     one_few =
-        let k : place + length (code_from place (i ∷ more)) < 65536 = subst (λ (l : List Instr). place + length (code_from place l) < 65536) e m.few in
+        let k : place + length (code_from place (i ∷ more)) < 65536 = subst (λ (l : List Instr). place + length (code_from place l) < 65536)
+        e m.few in
         omega (arith, k, length-append (instr_bytes place i) (code_from (place + length (instr_bytes place i)) more))
 
     pub misnaming_found : args_misnamed bad i.op i.args ≡ true → Some place ≡ first_misnamed bad 0 is
     unfolding first_misnamed
-    misnaming_found b = let k : first_misnamed bad place (i ∷ more) ≡ Some place = rw b refl in sym k ∙ (ap (first_misnamed bad place) (sym e) ∙ m.same)
+    misnaming_found b = let k : first_misnamed bad place (i ∷ more) ≡ Some place = rw b refl in sym k ∙
+        (ap (first_misnamed bad place) (sym e) ∙ m.same)
 
-    pub misnaming_more : (next : ℕ) → next ≡ place + length (instr_bytes place i) → args_misnamed bad i.op i.args ≡ false → Misnaming bad is next more
+    pub misnaming_more : (next : ℕ) → next ≡ place + length (instr_bytes place i) → args_misnamed bad i.op i.args ≡ false →
+        Misnaming bad is next more
     unfolding first_misnamed
     misnaming_more next at b = record {
-      same = let k : first_misnamed bad place (i ∷ more) ≡ first_misnamed bad next more = rw (b, at) refl in sym k ∙ (ap (first_misnamed bad place) (sym e) ∙ m.same);
+      same = let k : first_misnamed bad place (i ∷ more) ≡ first_misnamed bad next more = rw (b, at) refl in sym k ∙
+          (ap (first_misnamed bad place) (sym e) ∙ m.same);
       fits = (subst (AllByRecursion FitsInstr) e m.fits).1;
       few =
-          let k : place + length (code_from place (i ∷ more)) < 65536 = subst (λ (l : List Instr). place + length (code_from place l) < 65536) e m.few in
+          let k : place + length (code_from place (i ∷ more)) < 65536 =
+          subst (λ (l : List Instr). place + length (code_from place l) < 65536) e m.few in
           rw at (omega (arith, k, length-append (instr_bytes place i) (code_from (place + length (instr_bytes place i)) more)));
     }
 
-pub misnamed_within : (bad : ℕ → ℕ → Bool) (is : List Instr) (place p : ℕ) → first_misnamed bad place is ≡ Some p → p ≤ place + length (code_from place is)
+pub misnamed_within : (bad : ℕ → ℕ → Bool) (is : List Instr) (place p : ℕ) → first_misnamed bad place is ≡ Some p →
+    p ≤ place + length (code_from place is)
 unfolding first_misnamed
 misnamed_within bad [] place p e = absurd (none_is_not p e)
 misnamed_within bad (i ∷ is) place p e =
@@ -159,7 +178,8 @@ misnamed_within bad (i ∷ is) place p e =
       | inr f ↦ let k = misnamed_within bad is (place + length (instr_bytes place i)) p f.1 in omega (arith, k, n)
     ]
 
-outside_within : (starts : List ℕ) (is : List Instr) (place p : ℕ) → first_outside_from starts place is ≡ Some p → p ≤ place + length (code_from place is)
+outside_within : (starts : List ℕ) (is : List Instr) (place p : ℕ) → first_outside_from starts place is ≡ Some p →
+    p ≤ place + length (code_from place is)
 unfolding first_outside_from
 outside_within starts [] place p e = absurd (none_is_not p e)
 outside_within starts (i ∷ is) place p e =
@@ -170,7 +190,8 @@ outside_within starts (i ∷ is) place p e =
     ]
 
 -- ---- the fault of a code lies in its bytes
-unfit_within : (at place : ℕ) (rest : List ℕ) (fault : CodeFault) → at + place < 2 ^ 32 → unfit place rest ≡ Some fault → MovesWithin at fault
+unfit_within : (at place : ℕ) (rest : List ℕ) (fault : CodeFault) → at + place < 2 ^ 32 → unfit place rest ≡ Some fault →
+    MovesWithin at fault
 unfolding unfit
 unfit_within at place [] fault lt e = subst (MovesWithin at) (some_is (codes.Short place) fault e) lt
 unfit_within at place (op ∷ rest) fault lt e = go (form_of op) e where
@@ -184,7 +205,8 @@ unfit_within at place (op ∷ rest) fault lt e = go (form_of op) e where
     ]
   ]
 
-pub fault_within : (at : ℕ) (code : List ℕ) (fault : CodeFault) → at + length code < 2 ^ 32 → Decodes code (Fault fault) → MovesWithin at fault
+pub fault_within : (at : ℕ) (code : List ℕ) (fault : CodeFault) → at + length code < 2 ^ 32 → Decodes code (Fault fault) →
+    MovesWithin at fault
 fault_within at code fault lt (long l) = omega arith
 fault_within at code fault lt (stuck {front = front} rest short fits e some u) =
     unfit_within at (length (code_bytes front)) rest fault (omega (arith, ap length e, length-append (code_bytes front) rest)) u
@@ -213,7 +235,8 @@ decoded_within at code codes.Memory lt d = tt
 abbrev MovedSo : ℕ → CodeFault → CodeFault → Type 0
 MovedSo at fault r = IsMoved {E = ℕ} at fault (Ok r)
 
-pub code_faulty : (bad : ℕ → ℕ → Bool) (at : ℕ) (code : List ℕ) (fault r : CodeFault) → DecodedSo code fault → MovedSo at fault r → JudgesCode bad code at (Some (faults.Code r))
+pub code_faulty : (bad : ℕ → ℕ → Bool) (at : ℕ) (code : List ℕ) (fault r : CodeFault) → DecodedSo code fault → MovedSo at fault r →
+    JudgesCode bad code at (Some (faults.Code r))
 code_faulty bad at code (codes.CodeTooLong n) r d e = rw e (faulty d)
 code_faulty bad at code (codes.UnknownOpcode n) r d e = rw e (faulty d)
 code_faulty bad at code (codes.Short n) r d e = rw e (faulty d)
@@ -222,7 +245,8 @@ code_faulty bad at code (codes.JumpOutside n) r d e = rw e (faulty d)
 code_faulty bad at code codes.Memory r d e = absurd e
 
 -- ---- fields
-pub taken : (bytes rest : List ℕ) (f : Field) (len : ℕ) → is_cut bytes f ≡ false → size f.part ≡ len → rest ≡ drop f.at bytes → len ≡ length (take len rest)
+pub taken : (bytes rest : List ℕ) (f : Field) (len : ℕ) → is_cut bytes f ≡ false → size f.part ≡ len → rest ≡ drop f.at bytes →
+    len ≡ length (take len rest)
 unfolding is_cut
 taken bytes rest f len e s r =
     let k : size f.part ≤ length (drop f.at bytes) = ltb-false (length (drop f.at bytes)) (size f.part) e in
@@ -234,15 +258,19 @@ space bytes f e lt few =
     let k : size f.part ≤ length (drop f.at bytes) = ltb-false (length (drop f.at bytes)) (size f.part) e in
     omega (arith, k, length-drop f.at bytes)
 
-module _ (bytes places : List ℕ) (f : Field) (later : List Field) (r : Option ClassFault) (not_cut : is_cut bytes f ≡ false) (rest : List ℕ) (is : rest ≡ drop f.at bytes) where
-  judged_as : (p : Part) → f.part ≡ p → Judges bytes places later p f.at (number bytes f) (drop f.at bytes) r → JudgesField bytes places f later r
+module _ (bytes places : List ℕ) (f : Field) (later : List Field) (r : Option ClassFault) (not_cut : is_cut bytes f ≡ false) (rest : List ℕ)
+    (is : rest ≡ drop f.at bytes) where
+  judged_as : (p : Part) → f.part ≡ p → Judges bytes places later p f.at (number bytes f) (drop f.at bytes) r →
+      JudgesField bytes places f later r
   judged_as p e j = whole not_cut (subst (λ (q : Part). Judges bytes places later q f.at (number bytes f) (drop f.at bytes) r) (sym e) j)
 
   pub letters_judged : (len : ℕ) → f.part ≡ parts.Letters len → JudgesText (take len rest) f.at r → JudgesField bytes places f later r
   letters_judged len e j = judged_as (parts.Letters len) e (subst (λ (w : List ℕ). JudgesText (take len w) f.at r) is j)
 
-  pub code_judged : (len : ℕ) → f.part ≡ parts.Code len → JudgesCode (is_bad_entry bytes places) (take len rest) f.at r → JudgesField bytes places f later r
-  code_judged len e j = judged_as (parts.Code len) e (subst (λ (w : List ℕ). JudgesCode (is_bad_entry bytes places) (take len w) f.at r) is j)
+  pub code_judged : (len : ℕ) → f.part ≡ parts.Code len → JudgesCode (is_bad_entry bytes places) (take len rest) f.at r →
+      JudgesField bytes places f later r
+  code_judged len e j = judged_as (parts.Code len) e (subst (λ (w : List ℕ). JudgesCode (is_bad_entry bytes places) (take len w) f.at r) is
+      j)
 
   pub end_judged : f.part ≡ parts.End → r ≡ unless (nat_eq (length rest) 0) (faults.TrailingBytes f.at) → JudgesField bytes places f later r
   end_judged e j = judged_as parts.End e (j ∙ ap (λ (w : List ℕ). unless (nat_eq (length w) 0) (faults.TrailingBytes f.at)) is)
@@ -252,20 +280,24 @@ module _ (bytes places : List ℕ) (row : List Field) (i : ℕ) (d : Field) (lt 
   here_is : drop i row ≡ get_or row i d ∷ drop (i + 1) row
   here_is = drop-cons row i d lt ∙ ap (λ (n : ℕ). get_or row i d ∷ drop n row) (sym (add-one i))
 
-  pub judged_on : JudgesField bytes places (get_or row i d) (drop (i + 1) row) None → ((r : Option ClassFault) → First bytes places (drop i row) r → First bytes places row r)
+  pub judged_on : JudgesField bytes places (get_or row i d) (drop (i + 1) row) None →
+      ((r : Option ClassFault) → First bytes places (drop i row) r → First bytes places row r)
       → (r : Option ClassFault) → First bytes places (drop (i + 1) row) r → First bytes places row r
   judged_on right so_far r more = so_far r (rw here_is (behind right more))
 
-  pub judged_here : (fault : ClassFault) → JudgesField bytes places (get_or row i d) (drop (i + 1) row) (Some fault) → ((r : Option ClassFault) → First bytes places (drop i row) r → First bytes places row r)
+  pub judged_here : (fault : ClassFault) → JudgesField bytes places (get_or row i d) (drop (i + 1) row) (Some fault) →
+      ((r : Option ClassFault) → First bytes places (drop i row) r → First bytes places row r)
       → First bytes places row (Some fault)
   judged_here fault wrong so_far = so_far (Some fault) (rw here_is (here wrong))
 
-pub judged_last : (bytes places : List ℕ) (row : List Field) (i : ℕ) → length row ≤ i → ((r : Option ClassFault) → First bytes places (drop i row) r → First bytes places row r) → First bytes places row None
+pub judged_last : (bytes places : List ℕ) (row : List Field) (i : ℕ) → length row ≤ i →
+    ((r : Option ClassFault) → First bytes places (drop i row) r → First bytes places row r) → First bytes places row None
 judged_last bytes places row i le so_far = so_far None (rw (drop_all i row le) clean)
 
 -- ---- numbers of parts
 module _ (bytes places : List ℕ) (later : List Field) (at n m : ℕ) where
-  judged_same : (p : Part) → (size p ≡ 1 → n ≡ m) → (size p ≡ 2 → n ≡ m) → (size p ≡ 4 → n ≡ m) → judged bytes places later p at n ≡ judged bytes places later p at m
+  judged_same : (p : Part) → (size p ≡ 1 → n ≡ m) → (size p ≡ 2 → n ≡ m) → (size p ≡ 4 → n ≡ m) → judged bytes places later p at n ≡ judged
+      bytes places later p at m
   judged_same parts.Magic one two four = ap (judged bytes places later parts.Magic at) (four refl)
   judged_same parts.Minor one two four = ap (judged bytes places later parts.Minor at) (two refl)
   judged_same parts.Major one two four = ap (judged bytes places later parts.Major at) (two refl)
@@ -281,7 +313,8 @@ module _ (bytes places : List ℕ) (later : List Field) (at n m : ℕ) where
   judged_same (parts.Member k) one two four = refl
   judged_same (parts.AttributeCount k) one two four = refl
   judged_same parts.AttributeName one two four = ap (judged bytes places later parts.AttributeName at) (two refl)
-  judged_same (parts.MethodAttribute left seen) one two four = ap (judged bytes places later (parts.MethodAttribute left seen) at) (two refl)
+  judged_same (parts.MethodAttribute left seen) one two four = ap (judged bytes places later (parts.MethodAttribute left seen) at)
+      (two refl)
   judged_same parts.OtherLength one two four = refl
   judged_same (parts.Unread len) one two four = refl
   judged_same parts.CodeLength one two four = refl
@@ -293,7 +326,8 @@ module _ (bytes places : List ℕ) (later : List Field) (at n m : ℕ) where
 
   module _ (rest : List ℕ) (r : Option ClassFault) where
     pub judges_number : (p : Part) → ((len : ℕ) → p ≡ parts.Letters len → ⊥) → ((len : ℕ) → p ≡ parts.Code len → ⊥) → (p ≡ parts.End → ⊥)
-        → (size p ≡ 1 → n ≡ m) → (size p ≡ 2 → n ≡ m) → (size p ≡ 4 → n ≡ m) → r ≡ judged bytes places later p at n → Judges bytes places later p at m rest r
+        → (size p ≡ 1 → n ≡ m) → (size p ≡ 2 → n ≡ m) → (size p ≡ 4 → n ≡ m) → r ≡ judged bytes places later p at n →
+        Judges bytes places later p at m rest r
     judges_number parts.Magic a b c one two four e = e ∙ judged_same parts.Magic one two four
     judges_number parts.Minor a b c one two four e = e ∙ judged_same parts.Minor one two four
     judges_number parts.Major a b c one two four e = e ∙ judged_same parts.Major one two four

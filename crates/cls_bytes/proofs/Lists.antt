@@ -21,9 +21,14 @@ module _ {A : Type 0} (f : Reader ℕ A) (spell : A → List ℕ) (ok : A → Ty
   abbrev AreRead : ℕ → List ℕ → List A × List ℕ → Type 0
   AreRead n bytes x = Takes bytes (flat_map spell x.0) x.1 × (length x.0 ≡ n) × AllByRecursion ok x.0
 
-  pub counted_sound : IsSound f spell ok → (n : ℕ) (bytes : List ℕ) (x : List A × List ℕ) → IsBytes bytes → counted f n bytes ≡ Some x → AreRead n bytes x
+  pub counted_sound : IsSound f spell ok → (n : ℕ) (bytes : List ℕ) (x : List A × List ℕ) → IsBytes bytes → counted f n bytes ≡ Some x →
+      AreRead n bytes x
   unfolding counted
-  counted_sound sound zero bytes x fits e = subst (AreRead 0 bytes) (some_is ([], bytes) x e) (record { parts = refl; rest_fits = fits }, refl, tt)
+  counted_sound sound zero bytes x fits e = subst (AreRead 0 bytes) (some_is ([], bytes) x e) (
+    record { parts = refl; rest_fits = fits },
+    refl,
+    tt,
+  )
   counted_sound sound (suc n) bytes x fits e =
       let y = read f spell ok (λ y. counted f n y.1 >>= λ ys. Some (y.0 ∷ ys.0, ys.1)) bytes x sound fits e in
       let ys = bind_some (counted f n y.rest) (λ ys. Some (y.value ∷ ys.0, ys.1)) x y.goes_on in
@@ -31,11 +36,15 @@ module _ {A : Type 0} (f : Reader ℕ A) (spell : A → List ℕ) (ok : A → Ty
       let all = Takes-then bytes (spell y.value) y.rest (flat_map spell ys.0.0) ys.0.1 y.takes rests.0 in
       subst (AreRead (suc n) bytes) (some_is (y.value ∷ ys.0.0, ys.0.1) x ys.2) (all, ap suc rests.1, (y.fits, rests.2))
 
-  pub counted_complete : IsComplete f spell ok → (xs : List A) (rest : List ℕ) → AllByRecursion ok xs → counted f (length xs) (flat_map spell xs ++ rest) ≡ Some (xs, rest)
+  pub counted_complete : IsComplete f spell ok → (xs : List A) (rest : List ℕ) → AllByRecursion ok xs →
+      counted f (length xs) (flat_map spell xs ++ rest) ≡ Some (xs, rest)
   unfolding counted
   counted_complete complete [] rest all = refl
   counted_complete complete (x ∷ xs) rest all =
-      ap (counted f (suc (length xs))) (append_assoc (spell x) (flat_map spell xs) rest) ∙ rw (complete x (flat_map spell xs ++ rest) all.0, counted_complete complete xs rest all.1) refl
+      ap (counted f (suc (length xs))) (append_assoc (spell x) (flat_map spell xs) rest) ∙ rw (
+        complete x (flat_map spell xs ++ rest) all.0,
+        counted_complete complete xs rest all.1,
+      ) refl
 
   pub listed_sound : IsSound f spell ok → IsSound (listed_at f) (listed_bytes spell) (FitListed ok)
   unfolding listed_at
@@ -48,4 +57,5 @@ module _ {A : Type 0} (f : Reader ℕ A) (spell : A → List ℕ) (ok : A → Ty
   pub listed_complete : IsComplete f spell ok → IsComplete (listed_at f) (listed_bytes spell) (FitListed ok)
   unfolding listed_at
   listed_complete complete xs rest fit =
-      ap (listed_at f) (append_assoc (u2 (length xs)) (flat_map spell xs) rest) ∙ rw (u2_complete (length xs) (flat_map spell xs ++ rest) fit.1, counted_complete complete xs rest fit.0) refl
+      ap (listed_at f) (append_assoc (u2 (length xs)) (flat_map spell xs) rest) ∙
+      rw (u2_complete (length xs) (flat_map spell xs ++ rest) fit.1, counted_complete complete xs rest fit.0) refl

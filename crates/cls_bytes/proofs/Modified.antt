@@ -1,5 +1,6 @@
 -- Modified UTF-8: what is read is spelled so, and what is spelled so is read.
-use Rattle.std.proofs.Common.{◌≡◌, ◌⊎◌, ℕ, zero, suc, ◌+◌, ◌-◌, ◌/◌, ◌%◌, ◌<◌, ◌≤◌, List, [], ◌∷◌, ◌++◌, length, Bool, true, false, cond, eqb, ltb, Some, refl, sym, ap, subst, ◌∙◌, append_assoc, append-nil, length-append, arith, inl, inr}
+use Rattle.std.proofs.Common.{◌≡◌, ◌⊎◌, ℕ, zero, suc, ◌+◌, ◌-◌, ◌/◌, ◌%◌, ◌<◌, ◌≤◌, List, [], ◌∷◌, ◌++◌, length, Bool, true, false, cond}
+use Rattle.std.proofs.Common.{eqb, ltb, Some, refl, sym, ap, subst, ◌∙◌, append_assoc, append-nil, length-append, arith, inl, inr}
 use Rattle.std.specs.Prelude.{◌&&◌, encode_utf8_all}
 use Rattle.std.specs.List.{flat_map}
 use Rattle.std.specs.Char.{IsScalar}
@@ -14,7 +15,8 @@ use Rattle.mg_read.specs.Reader.{Fails, many, all_of}
 use Rattle.mg_read.proofs.Loop.{Left, Left-init, Left-more, Left-done, Left-none}
 use Rattle.mg_read.proofs.Steps.{bind_some, some_is, none_is_not, chosen}
 use Rattle.cls_tree.specs.Modified.{two_bytes, three_bytes, modified_char, modified}
-use Rattle.cls_bytes.specs.Letters.{is_tail, unless_long, unit_of_two, unit_of_three, two_at, three_at, unit_at, is_high, is_low, char_of_two, second_at, char_at, some_left, letters}
+use Rattle.cls_bytes.specs.Letters.{is_tail, unless_long, unit_of_two, unit_of_three, two_at, three_at, unit_at, is_high, is_low}
+use Rattle.cls_bytes.specs.Letters.{char_of_two, second_at, char_at, some_left, letters}
 use Rattle.cls_bytes.proofs.Steps.{held, passed}
 
 -- a unit in as few bytes as it takes; 0 takes two
@@ -49,7 +51,8 @@ tail_bounds : (b : ℕ) → is_tail b ≡ true → (128 ≤ b) × (b < 192)
 tail_bounds b e = let p = both (ltb 127 b) (ltb b 192) e in (let k = ltb-true 127 b p.0 in omega (arith, k), ltb-true b 192 p.1)
 
 a_tail : (n : ℕ) → is_tail (128 + n % 64) ≡ true
-a_tail n = both_hold (ltb 127 (128 + n % 64)) (ltb (128 + n % 64) 192) (lt-ltb 127 (128 + n % 64) (omega arith)) (lt-ltb (128 + n % 64) 192 (omega arith))
+a_tail n = both_hold (ltb 127 (128 + n % 64)) (ltb (128 + n % 64) 192) (lt-ltb 127 (128 + n % 64) (omega arith))
+    (lt-ltb (128 + n % 64) 192 (omega arith))
 
 not_long : (long : Bool) (n : ℕ) (rest : List ℕ) (x : ℕ × List ℕ) → unless_long long n rest ≡ Some x → (long ≡ false) × ((n, rest) ≡ x)
 not_long true n rest x e = absurd (none_is_not x e)
@@ -135,12 +138,20 @@ UnitGiven u rest = unit_at (unit_bytes u ++ rest) ≡ Some (u, rest)
 
 one_given : (u : ℕ) (rest : List ℕ) → 0 < u → u < 128 → UnitGiven u rest
 unfolding unit_at
-one_given u rest low high = ap (λ w. unit_at (w ++ rest)) (bytes_one u low high) ∙ rw (lt-ltb u 128 high, ne_eqb u 0 (λ h. omega (arith, h))) refl
+one_given u rest low high = ap (λ w. unit_at (w ++ rest)) (bytes_one u low high) ∙
+    rw (lt-ltb u 128 high, ne_eqb u 0 (λ h. omega (arith, h))) refl
 
 two_given : (u : ℕ) (rest : List ℕ) → (u ≡ 0) ⊎ (128 ≤ u) → u < 2048 → unit_at (two_bytes u ++ rest) ≡ Some (u, rest)
 unfolding unit_at two_at
 two_given u rest long high =
-    rw (le-ltb (192 + u / 64) 128 (omega arith), le-ltb (192 + u / 64) 192 (omega arith), lt-ltb (192 + u / 64) 224 (omega arith), a_tail u, two_on u, none u long) refl where
+    rw (
+      le-ltb (192 + u / 64) 128 (omega arith),
+      le-ltb (192 + u / 64) 192 (omega arith),
+      lt-ltb (192 + u / 64) 224 (omega arith),
+      a_tail u,
+      two_on u,
+      none u long,
+    ) refl where
       none : (u : ℕ) → (u ≡ 0) ⊎ (128 ≤ u) → (ltb 0 u && ltb u 128) ≡ false
       none u h = grind (arith, nat_tests)
 
@@ -216,12 +227,16 @@ char_read bytes x e =
           let s = unit_read u.0.1 v.0 v.1 in
           let k = held (is_low v.0.0) (Some (char_of_two u.0.0 v.0.0, v.0.1)) x v.2 in
           let l = low_bounds v.0.0 k.0 in
-          let both_parts : bytes ≡ (unit_bytes u.0.0 ++ unit_bytes v.0.0) ++ v.0.1 = r.0 ∙ (ap (λ (w : List ℕ). unit_bytes u.0.0 ++ w) s.0 ∙ sym (append_assoc (unit_bytes u.0.0) (unit_bytes v.0.0) v.0.1)) in
+          let both_parts : bytes ≡ (unit_bytes u.0.0 ++ unit_bytes v.0.0) ++ v.0.1 =
+          r.0 ∙ (ap (λ (w : List ℕ). unit_bytes u.0.0 ++ w) s.0 ∙ sym (append_assoc (unit_bytes u.0.0) (unit_bytes v.0.0) v.0.1)) in
           subst (CharRead bytes) (some_is (char_of_two u.0.0 v.0.0, v.0.1) x k.1)
           (both_parts ∙ ap (λ (w : List ℕ). w ++ v.0.1) (sym (pairs_back u.0.0 v.0.0 h.0 h.1 l.0 l.1)), above u.0.0 v.0.0 h.0 h.1 l.0 l.1)
       | inr f ↦
           let p = passed (is_low u.0.0) (Some (u.0.0, u.0.1)) x f.1 in
-          subst (CharRead bytes) (some_is (u.0.0, u.0.1) x p.1) (r.0 ∙ ap (λ (w : List ℕ). w ++ u.0.1) (sym (char_one u.0.0 r.1)), no_surrogate u.0.0 f.0 p.0 r.1)
+          subst (CharRead bytes) (some_is (u.0.0, u.0.1) x p.1) (
+            r.0 ∙ ap (λ (w : List ℕ). w ++ u.0.1) (sym (char_one u.0.0 r.1)),
+            no_surrogate u.0.0 f.0 p.0 r.1,
+          )
     ] where
       above : (u v : ℕ) → 55296 ≤ u → u < 56320 → 56320 ≤ v → v < 57344 → IsScalar (char_of_two u v)
       above u v a b c d = scalar_above (char_of_two u v) (omega arith) (omega arith)
@@ -238,7 +253,13 @@ two_char c rest low high =
     let is : char_of_two u v ≡ c = omega arith in
     ap (λ w. char_at (w ++ rest)) (char_two c low high)
     ∙ ap char_at (append_assoc (unit_bytes u) (unit_bytes v) rest)
-    ∙ rw (unit_given u (unit_bytes v ++ rest) (omega arith), first u (omega arith) (omega arith), unit_given v rest (omega arith), second v (omega arith) (omega arith), is) refl
+    ∙ rw (
+      unit_given u (unit_bytes v ++ rest) (omega arith),
+      first u (omega arith) (omega arith),
+      unit_given v rest (omega arith),
+      second v (omega arith) (omega arith),
+      is,
+    ) refl
   where
     first : (u : ℕ) → 55296 ≤ u → u < 56320 → is_high u ≡ true
     first u a b = grind (arith, nat_tests)
@@ -278,7 +299,8 @@ unit_some u = go (eqb u 0) (ltb u 128) (ltb u 2048) where
 char_some : (c : ℕ) → 0 < length (modified_char c)
 char_some c = elim (cases_lt c 65536) [
   | inl lt ↦ rw (char_one c lt) (unit_some c)
-  | inr le ↦ rw (ne_eqb c 0 (λ h. omega (arith, h)), le-ltb c 128 (omega arith), le-ltb c 2048 (omega arith), le-ltb c 65536 le) (omega arith)
+  | inr le ↦ rw (ne_eqb c 0 (λ h. omega (arith, h)), le-ltb c 128 (omega arith), le-ltb c 2048 (omega arith), le-ltb c 65536 le)
+      (omega arith)
 ]
 
 pub char_shorter : (bytes rest : List ℕ) (c : ℕ) → char_at bytes ≡ Some (c, rest) → length rest < length bytes
@@ -299,9 +321,13 @@ many_read (suc n) (b ∷ bytes) x e =
     let cs = bind_some (many some_left char_at n c.0.1) (λ xs. Some (c.0.0 ∷ xs.0, xs.1)) x c.2 in
     let one = char_read (b ∷ bytes) c.0 c.1 in
     let more = many_read n c.0.1 cs.0 cs.1 in
-    subst (AllRead (b ∷ bytes)) (some_is (c.0.0 ∷ cs.0.0, cs.0.1) x cs.2) (one.0 ∙ ap (λ (w : List ℕ). modified_char c.0.0 ++ w) more.0, both_hold (scalar c.0.0) (scalars cs.0.0) one.1 more.1)
+    subst (AllRead (b ∷ bytes)) (some_is (c.0.0 ∷ cs.0.0, cs.0.1) x cs.2) (
+      one.0 ∙ ap (λ (w : List ℕ). modified_char c.0.0 ++ w) more.0,
+      both_hold (scalar c.0.0) (scalars cs.0.0) one.1 more.1,
+    )
 
-many_given : (cs : List ℕ) (n : ℕ) → scalars cs ≡ true → length (flat_map modified_char cs) < n → many some_left char_at n (flat_map modified_char cs) ≡ Some (cs, [])
+many_given : (cs : List ℕ) (n : ℕ) → scalars cs ≡ true → length (flat_map modified_char cs) < n →
+    many some_left char_at n (flat_map modified_char cs) ≡ Some (cs, [])
 unfolding many
 many_given [] zero s lt = absurd (omega arith)
 many_given [] (suc n) s lt = refl
@@ -310,7 +336,8 @@ many_given (c ∷ cs) (suc n) s lt =
     let p = both (scalar c) (scalars cs) s in
     let size = length-append (modified_char c) (flat_map modified_char cs) in
     let some = char_some c in
-    let left : some_left (modified_char c ++ flat_map modified_char cs) ≡ true = not_empty (modified_char c ++ flat_map modified_char cs) (omega arith) in
+    let left : some_left (modified_char c ++ flat_map modified_char cs) ≡ true = not_empty (modified_char c ++ flat_map modified_char cs)
+    (omega arith) in
     rw (left, char_given c (flat_map modified_char cs) p.0, many_given cs n p.1 (omega arith)) refl
 
 -- what is read as a text is one in modified UTF-8
@@ -319,14 +346,20 @@ unfolding letters all_of modified
 letters_read bytes text e =
     let cs = bind_some (many some_left char_at (suc (length bytes)) bytes) (λ x. Some (encode_utf8_all x.0)) text e in
     let r = many_read (suc (length bytes)) bytes cs.0 cs.1 in
-    let is = some_is (encode_utf8_all cs.0.0) text cs.2 in
-    ((cs.0.0, (r.1, is)), ap (λ t. flat_map modified_char (chars t)) (sym is) ∙ ap (flat_map modified_char) (chars-encodes cs.0.0 r.1) ∙ sym r.0)
+    let is = some_is (encode_utf8_all cs.0.0) text cs.2 in (
+      (cs.0.0, (r.1, is)),
+      ap (λ t. flat_map modified_char (chars t)) (sym is) ∙ ap (flat_map modified_char) (chars-encodes cs.0.0 r.1) ∙
+          sym r.0,
+    )
 
 -- each text is read
 pub letters_given : (text : List ℕ) → IsUtf8 text → letters (modified text) ≡ Some text
 unfolding letters all_of modified
 letters_given text ok =
-    rw (many_given (chars text) (suc (length (flat_map modified_char (chars text)))) (scalars-chars text ok) (omega arith), encodes-chars text ok) refl
+    rw (
+      many_given (chars text) (suc (length (flat_map modified_char (chars text)))) (scalars-chars text ok) (omega arith),
+      encodes-chars text ok,
+    ) refl
 
 -- the number of a character is that of a character
 pub code_fits : (bytes rest : List ℕ) (c : ℕ) → char_at bytes ≡ Some (c, rest) → IsScalar c
@@ -342,22 +375,28 @@ module _ (bytes : List ℕ) where
   pub heard_first : (text : List ℕ) → text ≡ [] → Heard text bytes bytes
   heard_first text e = record { cs = []; spelled = e; left = Left-init some_left char_at bytes }
 
-  pub heard_more : (text more rest after : List ℕ) (c : ℕ) → eqb (length rest) 0 ≡ false → char_at rest ≡ Some (c, after) → more ≡ text ++ encode c → Heard text rest bytes → Heard more after bytes
+  pub heard_more : (text more rest after : List ℕ) (c : ℕ) → eqb (length rest) 0 ≡ false → char_at rest ≡ Some (c, after) →
+      more ≡ text ++ encode c → Heard text rest bytes → Heard more after bytes
   heard_more text more rest after c some is e h = record {
     cs = h.cs ++ c ∷ [];
-    spelled = e ∙ (ap (λ (t : List ℕ). t ++ encode c) h.spelled ∙ (ap (λ (t : List ℕ). encode_utf8_all h.cs ++ t) (sym (append-nil (encode c))) ∙ sym (encodes-append h.cs (c ∷ []))));
-    left = Left-more some_left char_at h.cs rest c after (all_of some_left char_at bytes) (not_empty rest (let k = eqb-false (length rest) 0 some in omega (arith, k))) is (char_shorter rest after c is) h.left;
+    spelled = e ∙ (ap (λ (t : List ℕ). t ++ encode c) h.spelled ∙
+        (ap (λ (t : List ℕ). encode_utf8_all h.cs ++ t) (sym (append-nil (encode c))) ∙ sym (encodes-append h.cs (c ∷ []))));
+    left = Left-more some_left char_at h.cs rest c after (all_of some_left char_at bytes)
+        (not_empty rest (let k = eqb-false (length rest) 0 some in omega (arith, k))) is (char_shorter rest after c is) h.left;
   }
 
   pub heard_last : (text rest : List ℕ) → eqb (length rest) 0 ≡ true → Heard text rest bytes → letters bytes ≡ Some text
   unfolding letters
-  heard_last text rest none h = rw (Left-done some_left char_at h.cs rest (all_of some_left char_at bytes) (empty rest none) h.left) (ap Some (sym h.spelled)) where
-    empty : (rest : List ℕ) → eqb (length rest) 0 ≡ true → some_left rest ≡ false
-    empty [] e = refl
-    empty (b ∷ rest) e = absurd (let k = eqb-true (suc (length rest)) 0 e in omega (arith, k))
+  heard_last text rest none h = rw (Left-done some_left char_at h.cs rest (all_of some_left char_at bytes) (empty rest none) h.left)
+      (ap Some (sym h.spelled)) where
+        empty : (rest : List ℕ) → eqb (length rest) 0 ≡ true → some_left rest ≡ false
+        empty [] e = refl
+        empty (b ∷ rest) e = absurd (let k = eqb-true (suc (length rest)) 0 e in omega (arith, k))
 
-  pub heard_fails : (err : ReadError) (text rest : List ℕ) → eqb (length rest) 0 ≡ false → Fails err (char_at rest) → Heard text rest bytes → Fails err (letters bytes)
+  pub heard_fails : (err : ReadError) (text rest : List ℕ) → eqb (length rest) 0 ≡ false → Fails err (char_at rest) → Heard text rest bytes
+      → Fails err (letters bytes)
   unfolding letters
   heard_fails errors.Memory text rest some f h = tt
   heard_fails errors.Syntax text rest some f h =
-      rw (Left-none some_left char_at h.cs rest (all_of some_left char_at bytes) (not_empty rest (let k = eqb-false (length rest) 0 some in omega (arith, k))) f h.left) refl
+      rw (Left-none some_left char_at h.cs rest (all_of some_left char_at bytes)
+      (not_empty rest (let k = eqb-false (length rest) 0 some in omega (arith, k))) f h.left) refl

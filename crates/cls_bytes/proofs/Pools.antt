@@ -1,5 +1,8 @@
 -- The pool of a row that is right is read, and its constants name what they need.
-use Rattle.std.proofs.Common.{◌≡◌, ◌⊎◌, ℕ, zero, suc, ◌+◌, ◌*◌, ◌<◌, ◌≤◌, List, [], ◌∷◌, ◌++◌, length, take, drop, get_or, refl, sym, ap, subst, ◌∙◌, append_assoc, append-nil, length-drop, length-take, get_or-drop, get_or-take, slice_index, drop-cons, add-one, arith, Bool, true, false, Option, Some, None, inl, inr, nat_eq, nat_lt, not, ◌&&◌, ◌||◌, codes}
+use Rattle.std.proofs.Common.{◌≡◌, ◌⊎◌, ℕ, zero, suc, ◌+◌, ◌*◌, ◌<◌, ◌≤◌, List, [], ◌∷◌, ◌++◌, length, take, drop, get_or, refl, sym, ap}
+use Rattle.std.proofs.Common.{subst, ◌∙◌, append_assoc, append-nil, length-drop, length-take, get_or-drop, get_or-take, slice_index}
+use Rattle.std.proofs.Common.{drop-cons, add-one, arith, Bool, true, false, Option, Some, None, inl, inr, nat_eq, nat_lt, not, ◌&&◌, ◌||◌}
+use Rattle.std.proofs.Common.{codes}
 use Rattle.std.specs.Prelude.{replicate}
 use Rattle.std.proofs.lemmas.List.{drop-drop}
 use Rattle.std.proofs.lemmas.Bool.{ltb-false, eqb-true}
@@ -40,12 +43,18 @@ entered_more parts.Tag at places = record { more = at ∷ []; is = refl }
 entered_more p at places = record { more = []; is = sym (append-nil places) }
 
 grown_twice : (a b c : List ℕ) → Grown a b → Grown b c → Grown a c
-grown_twice a b c f g = record { more = f.more ++ g.more; is = g.is ∙ (ap (λ (x : List ℕ). x ++ g.more) f.is ∙ append_assoc a f.more g.more) }
+grown_twice a b c f g = record {
+  more = f.more ++ g.more;
+  is =
+      g.is ∙ (ap (λ (x : List ℕ). x ++ g.more) f.is ∙ append_assoc a f.more g.more);
+}
 
-pub grown : (bytes places : List ℕ) (at : ℕ) (due : List Part) (row : List Field) (last : List ℕ) → Lays bytes places at due row last → Grown places last
+pub grown : (bytes places : List ℕ) (at : ℕ) (due : List Part) (row : List Field) (last : List ℕ) → Lays bytes places at due row last →
+    Grown places last
 grown bytes places at due row last complete = record { more = []; is = sym (append-nil places) }
 grown bytes places at due row last (stopped e s) = record { more = []; is = sym (append-nil places) }
-grown bytes places at (part ∷ due) (f ∷ row) last (next e s more) = grown_twice places (entered part at places) last (entered_more part at places) (grown bytes (entered part at places) _ _ row last more)
+grown bytes places at (part ∷ due) (f ∷ row) last (next e s more) = grown_twice places (entered part at places) last
+    (entered_more part at places) (grown bytes (entered part at places) _ _ row last more)
 
 -- a constant's numbers can name what they need
 abbrev pub Named : List ℕ → List ℕ → Const → Type 0
@@ -98,7 +107,10 @@ tagged n e =
                             elim (or_else (nat_eq n 9) _ e9) [
                               | inl a ↦ subst Tagged (sym (eqb-true n 9 a)) tag_field_of
                               | inr e10 ↦
-                                  elim (or_else (nat_eq n 10) _ e10) [ inl a ↦ subst Tagged (sym (eqb-true n 10 a)) tag_method_of | inr a ↦ subst Tagged (sym (eqb-true n 12 a)) tag_signature ]
+                                  elim (or_else (nat_eq n 10) _ e10) [
+                                    | inl a ↦ subst Tagged (sym (eqb-true n 10 a)) tag_method_of
+                                    | inr a ↦ subst Tagged (sym (eqb-true n 12 a)) tag_signature
+                                  ]
                             ]
                       ]
                 ]
@@ -119,7 +131,8 @@ module _ (bytes last : List ℕ) where
       let z : at + 0 ≡ at = omega arith in
       let h : get_or (drop at bytes) 0 0 ≡ get_or bytes at 0 = get_or-drop at bytes 0 0 ∙ ap (λ (m : ℕ). get_or bytes m 0) z in
       let n : get_or bytes at 0 ≡ big_number 1 (drop at bytes) = omega (arith, h) in
-      drop-cons bytes at 0 lt ∙ (ap (λ (m : ℕ). m ∷ drop (suc at) bytes) n ∙ ap (λ (m : ℕ). big_number 1 (drop at bytes) ∷ drop m bytes) (sym (add-one at)))
+      drop-cons bytes at 0 lt ∙ (ap (λ (m : ℕ). m ∷ drop (suc at) bytes) n ∙ ap (λ (m : ℕ). big_number 1 (drop at bytes) ∷ drop m bytes)
+      (sym (add-one at)))
 
   pub byte_of : (at n : ℕ) (rest : List ℕ) → drop at bytes ≡ n ∷ rest → get_or bytes at 0 ≡ n
   byte_of at n rest e =
@@ -142,7 +155,10 @@ both true b e = (refl, e)
 both false b e = absurd (cc)
 
 code_modified : modified (codes "Code") ≡ codes "Code"
-code_modified = modified_plain (codes "Code") ((omega arith, omega arith), ((omega arith, omega arith), ((omega arith, omega arith), ((omega arith, omega arith), tt))))
+code_modified = modified_plain (codes "Code") (
+  (omega arith, omega arith),
+  ((omega arith, omega arith), ((omega arith, omega arith), ((omega arith, omega arith), tt))),
+)
 
 some_is : {A : Type 0} (x y : A) → ◌≡◌ {A = Option A} (Some x) (Some y) → x ≡ y
 some_is x y e = cc
@@ -151,7 +167,8 @@ some_is x y e = cc
 one_text : (a b : List ℕ) → IsUtf8 a → IsUtf8 b → modified a ≡ modified b → a ≡ b
 one_text a b u v e = some_is a b (sym (letters_given a u) ∙ (ap letters e ∙ letters_given b v))
 
-four : (xs : List ℕ) → length xs ≡ 4 → get_or xs 0 0 ≡ 67 → get_or xs 1 0 ≡ 111 → get_or xs 2 0 ≡ 100 → get_or xs 3 0 ≡ 101 → xs ≡ codes "Code"
+four : (xs : List ℕ) → length xs ≡ 4 → get_or xs 0 0 ≡ 67 → get_or xs 1 0 ≡ 111 → get_or xs 2 0 ≡ 100 → get_or xs 3 0 ≡ 101 →
+    xs ≡ codes "Code"
 four [] n a b c d = absurd (omega arith)
 four (w ∷ []) n a b c d = absurd (omega arith)
 four (w ∷ x ∷ []) n a b c d = absurd (omega arith)
@@ -160,7 +177,8 @@ four (w ∷ x ∷ y ∷ z ∷ []) n a b c d = rw (a, b, c, d) refl
 four (w ∷ x ∷ y ∷ z ∷ v ∷ xs) n a b c d = absurd (omega arith)
 
 -- the bytes of a constant that is a text: its tag, its length in two bytes, and itself
-pub code_so : (b c : ℕ) (rest text : List ℕ) → b < 256 → c < 256 → IsUtf8 text → IsUtf8 (codes "Code") → modified text ≡ take (256 * b + c) rest → 256 * b + c ≤ length rest
+pub code_so : (b c : ℕ) (rest text : List ℕ) → b < 256 → c < 256 → IsUtf8 text → IsUtf8 (codes "Code") →
+    modified text ≡ take (256 * b + c) rest → 256 * b + c ≤ length rest
     → is_code_text (1 ∷ b ∷ c ∷ rest) ≡ bytes_eq text (codes "Code")
 code_so b c rest text b_low c_low ok code_ok m fits = same_test _ _ is_then then_is where
   short : (n : ℕ) → n ≡ 4 → (i d : ℕ) → i < 4 → get_or (take n rest) i d ≡ get_or rest i d
@@ -178,7 +196,8 @@ code_so b c rest text b_low c_low ok code_ok m fits = same_test _ _ is_then then
       let n : 256 * b + c ≡ 4 = omega arith in
       let len : length (take (256 * b + c) rest) ≡ 4 = omega (arith, length-take (256 * b + c) rest) in
       let whole_ = four (take (256 * b + c) rest) len
-      (short _ n 0 0 (omega arith) ∙ eqb-true _ 67 r.0) (short _ n 1 0 (omega arith) ∙ eqb-true _ 111 s.0) (short _ n 2 0 (omega arith) ∙ eqb-true _ 100 t.0) (short _ n 3 0 (omega arith) ∙ eqb-true _ 101 t.1) in
+      (short _ n 0 0 (omega arith) ∙ eqb-true _ 67 r.0) (short _ n 1 0 (omega arith) ∙ eqb-true _ 111 s.0)
+      (short _ n 2 0 (omega arith) ∙ eqb-true _ 100 t.0) (short _ n 3 0 (omega arith) ∙ eqb-true _ 101 t.1) in
       (bytes_eq-Decides text (codes "Code")).1 (one_text text (codes "Code") ok code_ok (m ∙ (whole_ ∙ sym code_modified)))
 
   then_is : bytes_eq text (codes "Code") ≡ true → is_code_text (1 ∷ b ∷ c ∷ rest) ≡ true
@@ -213,8 +232,10 @@ module _ (bytes last : List ℕ) (fits : IsBytes bytes) where
   bad_name tag n fault e = not_bad (is_bad_entry bytes last tag n) fault e
 
   -- what a tag with the number of a constant gives
-  one_got : (tag at : ℕ) (make : ℕ → Const) (places : List ℕ) (due : List Part) → drop at bytes ≡ tag ∷ drop (at + 1) bytes → nat_eq tag 1 ≡ false
-      → ((rest : List ℕ) → const_at (tag ∷ rest) ≡ one_at make rest) → ((n : ℕ) → tag_of (make n) ≡ tag) → ((n : ℕ) → is_code_name (text_in (make n)) ≡ false) → ((n : ℕ) → is_bad_entry bytes last 1 n ≡ false → Named bytes last (make n))
+  one_got : (tag at : ℕ) (make : ℕ → Const) (places : List ℕ) (due : List Part) → drop at bytes ≡ tag ∷ drop (at + 1) bytes →
+      nat_eq tag 1 ≡ false
+      → ((rest : List ℕ) → const_at (tag ∷ rest) ≡ one_at make rest) → ((n : ℕ) → tag_of (make n) ≡ tag) →
+      ((n : ℕ) → is_code_name (text_in (make n)) ≡ false) → ((n : ℕ) → is_bad_entry bytes last 1 n ≡ false → Named bytes last (make n))
       → Clear bytes last places (at + 1) (parts.Reference 1 ∷ due) → ConstGot places at due
   unfolding one_at
   one_got tag at make places due is other reads tags no_text name c =
@@ -224,13 +245,20 @@ module _ (bytes last : List ℕ) (fits : IsBytes bytes) where
         value = make n;
         after = at + 1 + 2;
         is = ap const_at is ∙ (reads (drop (at + 1) bytes) ∙ rw s.read refl);
-        fits = record { tag = byte_of bytes last at tag (drop (at + 1) bytes) is ∙ sym (tags n); code = no_code bytes last at tag (drop (at + 1) bytes) is other ∙ sym (no_text n); named = name n (bad_name 1 n _ s.judged) };
+        fits = record {
+          tag = byte_of bytes last at tag (drop (at + 1) bytes) is ∙ sym (tags n);
+          code =
+              no_code bytes last at tag (drop (at + 1) bytes) is other ∙ sym (no_text n);
+          named = name n (bad_name 1 n _ s.judged);
+        };
         rest = s.rest;
         kept = tt;
       }
 
-  two_got : (tag at first second : ℕ) (make : ℕ → ℕ → Const) (places : List ℕ) (due : List Part) → drop at bytes ≡ tag ∷ drop (at + 1) bytes → nat_eq tag 1 ≡ false
-      → ((rest : List ℕ) → const_at (tag ∷ rest) ≡ two_at make rest) → ((a b : ℕ) → tag_of (make a b) ≡ tag) → ((a b : ℕ) → is_code_name (text_in (make a b)) ≡ false)
+  two_got : (tag at first second : ℕ) (make : ℕ → ℕ → Const) (places : List ℕ) (due : List Part) → drop at bytes ≡ tag ∷ drop (at + 1) bytes
+      → nat_eq tag 1 ≡ false
+      → ((rest : List ℕ) → const_at (tag ∷ rest) ≡ two_at make rest) → ((a b : ℕ) → tag_of (make a b) ≡ tag) →
+      ((a b : ℕ) → is_code_name (text_in (make a b)) ≡ false)
       → ((a b : ℕ) → is_bad_entry bytes last first a ≡ false → is_bad_entry bytes last second b ≡ false → Named bytes last (make a b))
       → Clear bytes last places (at + 1) (parts.Reference first ∷ parts.Reference second ∷ due) → ConstGot places at due
   unfolding two_at pair_at
@@ -243,12 +271,19 @@ module _ (bytes last : List ℕ) (fits : IsBytes bytes) where
         value = make a b;
         after = at + 1 + 2 + 2;
         is = ap const_at is ∙ (reads (drop (at + 1) bytes) ∙ rw (s.read, t.read) refl);
-        fits = record { tag = byte_of bytes last at tag (drop (at + 1) bytes) is ∙ sym (tags a b); code = no_code bytes last at tag (drop (at + 1) bytes) is other ∙ sym (no_text a b); named = name a b (bad_name first a _ s.judged) (bad_name second b _ t.judged) };
+        fits = record {
+          tag = byte_of bytes last at tag (drop (at + 1) bytes) is ∙ sym (tags a b);
+          code =
+              no_code bytes last at tag (drop (at + 1) bytes) is other ∙ sym (no_text a b);
+          named = name a b (bad_name first a _ s.judged)
+              (bad_name second b _ t.judged);
+        };
         rest = t.rest;
         kept = tt;
       }
 
-  int_got : (at : ℕ) (places : List ℕ) (due : List Part) → drop at bytes ≡ 3 ∷ drop (at + 1) bytes → Clear bytes last places (at + 1) (parts.Int ∷ due) → ConstGot places at due
+  int_got : (at : ℕ) (places : List ℕ) (due : List Part) → drop at bytes ≡ 3 ∷ drop (at + 1) bytes →
+      Clear bytes last places (at + 1) (parts.Int ∷ due) → ConstGot places at due
   unfolding const_at tagged_at int_at
   int_got at places due is c =
       let s = step bytes last places (at + 1) parts.Int due c in
@@ -256,7 +291,12 @@ module _ (bytes last : List ℕ) (fits : IsBytes bytes) where
         value = consts.Integer (cast_signed w32 (num bytes (at + 1) parts.Int));
         after = at + 1 + 4;
         is = ap const_at is ∙ rw s.read refl;
-        fits = record { tag = byte_of bytes last at 3 (drop (at + 1) bytes) is; code = no_code bytes last at 3 (drop (at + 1) bytes) is refl; named = tt };
+        fits = record {
+          tag = byte_of bytes last at 3 (drop (at + 1) bytes) is;
+          code = no_code bytes last at 3 (drop (at + 1) bytes) is
+              refl;
+          named = tt;
+        };
         rest = s.rest;
         kept = tt;
       }
@@ -266,9 +306,11 @@ module _ (bytes last : List ℕ) (fits : IsBytes bytes) where
   text_is part at (spelled t ok e) = (t, ok, e)
 
   -- two bytes and what stands behind them
-  pub two_front : (at n : ℕ) → nat_lt (length (drop at bytes)) 2 ≡ false → n ≡ big_number 2 (drop at bytes) → (b c : ℕ) × (drop at bytes ≡ b ∷ c ∷ drop (at + 2) bytes) × (b < 256) × (c < 256) × (n ≡ 256 * b + c)
+  pub two_front : (at n : ℕ) → nat_lt (length (drop at bytes)) 2 ≡ false → n ≡ big_number 2 (drop at bytes) →
+      (b c : ℕ) × (drop at bytes ≡ b ∷ c ∷ drop (at + 2) bytes) × (b < 256) × (c < 256) × (n ≡ 256 * b + c)
   two_front at n e is = go (drop at bytes) refl (drop-drop 2 at bytes) where
-    go : (w : List ℕ) → drop at bytes ≡ w → drop 2 (drop at bytes) ≡ drop (at + 2) bytes → (b c : ℕ) × (drop at bytes ≡ b ∷ c ∷ drop (at + 2) bytes) × (b < 256) × (c < 256) × (n ≡ 256 * b + c)
+    go : (w : List ℕ) → drop at bytes ≡ w → drop 2 (drop at bytes) ≡ drop (at + 2) bytes →
+        (b c : ℕ) × (drop at bytes ≡ b ∷ c ∷ drop (at + 2) bytes) × (b < 256) × (c < 256) × (n ≡ 256 * b + c)
     go [] q d = absurd (let k : 2 ≤ length (drop at bytes) = ltb-false (length (drop at bytes)) 2 e in omega (arith, k, ap length q))
     go (b ∷ []) q d = absurd (let k : 2 ≤ length (drop at bytes) = ltb-false (length (drop at bytes)) 2 e in omega (arith, k, ap length q))
     go (b ∷ c ∷ w) q d =
@@ -276,10 +318,17 @@ module _ (bytes last : List ℕ) (fits : IsBytes bytes) where
         let first : get_or (drop at bytes) 0 0 ≡ b = ap (λ (x : List ℕ). get_or x 0 0) q in
         let second : get_or (drop at bytes) 1 0 ≡ c = ap (λ (x : List ℕ). get_or x 1 0) q in
         let low_b : get_or (drop at bytes) 0 0 < 256 = rw get_or-drop (fits (at + 0)) in
-        let low_c : get_or (drop at bytes) 1 0 < 256 = rw get_or-drop (fits (at + 1)) in
-        (b, c, q ∙ ap (λ (x : List ℕ). b ∷ c ∷ x) tail, omega (arith, first, low_b), omega (arith, second, low_c), omega (arith, is, first, second))
+        let low_c : get_or (drop at bytes) 1 0 < 256 = rw get_or-drop (fits (at + 1)) in (
+          b,
+          c,
+          q ∙ ap (λ (x : List ℕ). b ∷ c ∷ x) tail,
+          omega (arith, first, low_b),
+          omega (arith, second, low_c),
+          omega (arith, is, first, second),
+        )
 
-  text_got : (at : ℕ) (places : List ℕ) (due : List Part) → drop at bytes ≡ 1 ∷ drop (at + 1) bytes → Clear bytes last places (at + 1) (parts.TextLength ∷ due) → ConstGot places at due
+  text_got : (at : ℕ) (places : List ℕ) (due : List Part) → drop at bytes ≡ 1 ∷ drop (at + 1) bytes →
+      Clear bytes last places (at + 1) (parts.TextLength ∷ due) → ConstGot places at due
   unfolding const_at tagged_at text_at number
   text_got at places due is c =
       let s = step bytes last places (at + 1) parts.TextLength due c in
@@ -297,27 +346,34 @@ module _ (bytes last : List ℕ) (fits : IsBytes bytes) where
         is = ap const_at is ∙ rw (s.read, t.whole, read, drop-drop n a bytes) refl;
         fits = record {
           tag = byte_of bytes last at 1 (drop (at + 1) bytes) is;
-          code = ap is_code_text all ∙ code_so f.0 f.1 (drop a bytes) x.0 f.3 f.4 x.1 code_utf8 (x.2 ∙ ap (λ m. take m (drop a bytes)) f.5) (rw (← f.5) long);
+          code = ap is_code_text all ∙ code_so f.0 f.1 (drop a bytes) x.0 f.3 f.4 x.1 code_utf8 (x.2 ∙ ap (λ m. take m (drop a bytes)) f.5)
+              (rw (← f.5) long);
           named = tt;
         };
         rest = t.rest;
         kept = tt;
       }
 
-  by_tag : (tag : ℕ) → Tagged tag → (at : ℕ) (places : List ℕ) (due : List Part) → drop at bytes ≡ tag ∷ drop (at + 1) bytes → Clear bytes last places (at + 1) (holds tag ++ due) → ConstGot places at due
+  by_tag : (tag : ℕ) → Tagged tag → (at : ℕ) (places : List ℕ) (due : List Part) → drop at bytes ≡ tag ∷ drop (at + 1) bytes →
+      Clear bytes last places (at + 1) (holds tag ++ due) → ConstGot places at due
   unfolding const_at tagged_at
   by_tag tag tag_text at places due is c = text_got at places due is c
   by_tag tag tag_int at places due is c = int_got at places due is c
   by_tag tag tag_class at places due is c = one_got 7 at consts.Class places due is refl (λ r. refl) (λ n. refl) (λ n. refl) (λ n e. e) c
   by_tag tag tag_pushed at places due is c = one_got 8 at consts.Text places due is refl (λ r. refl) (λ n. refl) (λ n. refl) (λ n e. e) c
-  by_tag tag tag_field_of at places due is c = two_got 9 at 7 12 consts.Field places due is refl (λ r. refl) (λ a b. refl) (λ a b. refl) (λ a b e f. (e, f)) c
-  by_tag tag tag_method_of at places due is c = two_got 10 at 7 12 consts.Method places due is refl (λ r. refl) (λ a b. refl) (λ a b. refl) (λ a b e f. (e, f)) c
-  by_tag tag tag_signature at places due is c = two_got 12 at 1 1 consts.NameAndType places due is refl (λ r. refl) (λ a b. refl) (λ a b. refl) (λ a b e f. (e, f)) c
+  by_tag tag tag_field_of at places due is c = two_got 9 at 7 12 consts.Field places due is refl (λ r. refl) (λ a b. refl) (λ a b. refl)
+      (λ a b e f. (e, f)) c
+  by_tag tag tag_method_of at places due is c = two_got 10 at 7 12 consts.Method places due is refl (λ r. refl) (λ a b. refl) (λ a b. refl)
+      (λ a b e f. (e, f)) c
+  by_tag tag tag_signature at places due is c = two_got 12 at 1 1 consts.NameAndType places due is refl (λ r. refl) (λ a b. refl)
+      (λ a b. refl) (λ a b e f. (e, f)) c
 
-  pub const_got : (at : ℕ) (places : List ℕ) (due : List Part) → Clear bytes last places at (parts.Tag ∷ due) → ConstGot (places ++ at ∷ []) at due
+  pub const_got : (at : ℕ) (places : List ℕ) (due : List Part) → Clear bytes last places at (parts.Tag ∷ due) →
+      ConstGot (places ++ at ∷ []) at due
   const_got at places due c =
       let s = step bytes last places at parts.Tag due c in
-      by_tag (num bytes at parts.Tag) (tagged (num bytes at parts.Tag) (not_true (is_tag (num bytes at parts.Tag)) s.lasts)) at (places ++ at ∷ []) due (front bytes last at s.whole) s.rest
+      by_tag (num bytes at parts.Tag) (tagged (num bytes at parts.Tag) (not_true (is_tag (num bytes at parts.Tag)) s.lasts)) at
+      (places ++ at ∷ []) due (front bytes last at s.whole) s.rest
 
   -- ---- the pool
   pub record PoolGot (n at : ℕ) (places : List ℕ) (due : List Part) : Type 0 where
@@ -329,9 +385,19 @@ module _ (bytes last : List ℕ) (fits : IsBytes bytes) where
     pub count : length constants ≡ n
     pub rest : Clear bytes last (places ++ news) after due
 
-  pub pool_got : (n at : ℕ) (places : List ℕ) (due : List Part) → Clear bytes last places at (replicate n parts.Tag ++ due) → PoolGot n at places due
+  pub pool_got : (n at : ℕ) (places : List ℕ) (due : List Part) → Clear bytes last places at (replicate n parts.Tag ++ due) →
+      PoolGot n at places due
   unfolding counted
-  pool_got zero at places due c = record { constants = []; news = []; after = at; is = refl; pairs = tt; count = refl; rest = subst (λ (p : List ℕ). Clear bytes last p at due) (sym (append-nil places)) c }
+  pool_got zero at places due c = record {
+    constants = [];
+    news = [];
+    after = at;
+    is = refl;
+    pairs = tt;
+    count = refl;
+    rest =
+        subst (λ (p : List ℕ). Clear bytes last p at due) (sym (append-nil places)) c;
+  }
   pool_got (suc n) at places due c =
       let one = const_got at places (replicate n parts.Tag ++ due) c in
       let more = pool_got n one.after (places ++ at ∷ []) due one.rest in

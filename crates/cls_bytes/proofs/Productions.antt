@@ -1,5 +1,6 @@
 -- What stands behind the pool of a row that is right is read, and names what it needs.
-use Rattle.std.proofs.Common.{◌≡◌, ◌⊎◌, ℕ, zero, suc, ◌+◌, ◌≤◌, List, [], ◌∷◌, ◌++◌, length, take, drop, refl, sym, ap, subst, ◌∙◌, length-drop, arith, Bool, true, false, cond, Option, Some, None, inl, inr, nat_eq, nat_lt, not, ◌&&◌, codes}
+use Rattle.std.proofs.Common.{◌≡◌, ◌⊎◌, ℕ, zero, suc, ◌+◌, ◌≤◌, List, [], ◌∷◌, ◌++◌, length, take, drop, refl, sym, ap, subst, ◌∙◌}
+use Rattle.std.proofs.Common.{length-drop, arith, Bool, true, false, cond, Option, Some, None, inl, inr, nat_eq, nat_lt, not, ◌&&◌, codes}
 use Rattle.std.specs.Prelude.{count_by}
 use Rattle.std.proofs.lemmas.List.{drop-drop}
 use Rattle.std.proofs.lemmas.List.Sums.{sum_by-cons}
@@ -15,7 +16,8 @@ use Rattle.cls_tree.specs.Tree.{Args, Instr, Inner, Unread, Misplaced, Code, Att
 use Rattle.cls_tree.specs.Tree as tree
 use Rattle.cls_tree.specs.Layout.{instr_bytes}
 use Rattle.cls_tree.specs.ClassFile.{is_code_text, names_code}
-use Rattle.cls_tree.specs.WellFormed.{IsText, IsClass, NamesCode, OpNames, ArgsName, InstrNames, InnerNames, PlainNames, MethodNames, is_code as is_coded, IsField_in, IsMethod_in}
+use Rattle.cls_tree.specs.WellFormed.{IsText, IsClass, NamesCode, OpNames, ArgsName, InstrNames, InnerNames, PlainNames, MethodNames}
+use Rattle.cls_tree.specs.WellFormed.{is_code as is_coded, IsField_in, IsMethod_in}
 use Rattle.cls_bytes.specs.declared.format.Part.{Part}
 use Rattle.cls_bytes.specs.declared.format.Part.TheVariants as parts
 use Rattle.cls_bytes.specs.declared.format.Field.{Field}
@@ -23,7 +25,8 @@ use Rattle.cls_bytes.specs.declared.ClassFault.{ClassFault}
 use Rattle.cls_bytes.specs.Parts.{attributes_left, attribute_holds}
 use Rattle.cls_bytes.specs.Row.{is_bad_entry, is_code}
 use Rattle.cls_bytes.specs.Faults.{unless, judged_name, ends_well, is_misnamed, args_misnamed, first_misnamed, JudgesCode, right}
-use Rattle.cls_bytes.specs.Reading.{number_at, behind, pair_at, three_at, run_at, instrs_of, inner_at, counted, listed_at, body_at, inners_at, content_at, code_at, other_at, attr_at, member_at, members_at}
+use Rattle.cls_bytes.specs.Reading.{number_at, behind, pair_at, three_at, run_at, instrs_of, inner_at, counted, listed_at, body_at}
+use Rattle.cls_bytes.specs.Reading.{inners_at, content_at, code_at, other_at, attr_at, member_at, members_at}
 use Rattle.cls_bytes.proofs.Codes.{decoded_some}
 use Rattle.cls_bytes.proofs.Clear.{Clear, unless_none, num, step, Got, counted_got}
 
@@ -126,7 +129,8 @@ module _ (bytes last places : List ℕ) (pool : List Const) (env : Env bytes las
   text_named n fault e = env.tags 1 n (not_bad (is_bad_entry bytes last 1 n) fault e)
 
   -- ---- unread bytes behind their length
-  pub run_got : (at : ℕ) (due : List Part) (c : Clear bytes last places at (parts.OtherLength ∷ due)) → Got bytes last places run_at (λ r. Unit {0}) at due (Same c.row)
+  pub run_got : (at : ℕ) (due : List Part) (c : Clear bytes last places at (parts.OtherLength ∷ due)) →
+      Got bytes last places run_at (λ r. Unit {0}) at due (Same c.row)
   unfolding run_at
   run_got at due c =
       let s = step bytes last places at parts.OtherLength due c in
@@ -142,27 +146,47 @@ module _ (bytes last places : List ℕ) (pool : List Const) (env : Env bytes las
       }
 
   -- ---- attributes that are no code
-  pub inner_got : (at : ℕ) (due : List Part) (c : Clear bytes last places at (parts.AttributeName ∷ due)) → Got bytes last places inner_at (InnerNames pool) at due (Same c.row)
+  pub inner_got : (at : ℕ) (due : List Part) (c : Clear bytes last places at (parts.AttributeName ∷ due)) →
+      Got bytes last places inner_at (InnerNames pool) at due (Same c.row)
   unfolding inner_at
   inner_got at due c =
       let s = step bytes last places at parts.AttributeName due c in
       let n = num bytes at parts.AttributeName in
       let r = run_got (at + 2) due s.rest in
-      record { value = Unread n r.value; after = r.after; is = rw (s.read, r.is) refl; fits = text_named n _ s.judged; rest = r.rest; kept = s.ends ∙ r.kept }
+      record {
+        value = Unread n r.value;
+        after = r.after;
+        is = rw (s.read, r.is) refl;
+        fits = text_named n _ s.judged;
+        rest = r.rest;
+        kept =
+            s.ends ∙ r.kept;
+      }
 
-  pub plain_got : (at : ℕ) (due : List Part) (c : Clear bytes last places at (parts.AttributeName ∷ due)) → Got bytes last places (attr_at pool false) (PlainNames pool) at due (Any c.row)
+  pub plain_got : (at : ℕ) (due : List Part) (c : Clear bytes last places at (parts.AttributeName ∷ due)) →
+      Got bytes last places (attr_at pool false) (PlainNames pool) at due (Any c.row)
   unfolding attr_at other_at
   plain_got at due c =
       let s = step bytes last places at parts.AttributeName due c in
       let n = num bytes at parts.AttributeName in
       let r = run_got (at + 2) due s.rest in
-      record { value = Other n r.value; after = r.after; is = rw (s.read, r.is) refl; fits = text_named n _ s.judged; rest = r.rest; kept = tt }
+      record {
+        value = Other n r.value;
+        after = r.after;
+        is = rw (s.read, r.is) refl;
+        fits = text_named n _ s.judged;
+        rest = r.rest;
+        kept =
+            tt;
+      }
 
   -- ---- codes
-  pub body_right : (code : List ℕ) (at : ℕ) → JudgesCode (is_bad_entry bytes last) code at None → (is : List Instr) × (instrs_of code ≡ Some is) × AllByRecursion (InstrNames pool) is
+  pub body_right : (code : List ℕ) (at : ℕ) → JudgesCode (is_bad_entry bytes last) code at None →
+      (is : List Instr) × (instrs_of code ≡ Some is) × AllByRecursion (InstrNames pool) is
   body_right code at (right {is = is} d e) = (is, decoded_some code is d, instrs_named pool (is_bad_entry bytes last) env.tags 0 is e)
 
-  pub code_got : (name at : ℕ) → NamesCode pool name → (due : List Part) (c : Clear bytes last places at (parts.CodeLength ∷ due)) → Got bytes last places (code_at name) (MethodNames pool) at due (Any c.row)
+  pub code_got : (name at : ℕ) → NamesCode pool name → (due : List Part) (c : Clear bytes last places at (parts.CodeLength ∷ due)) →
+      Got bytes last places (code_at name) (MethodNames pool) at due (Any c.row)
   unfolding code_at content_at pair_at body_at run_at inners_at behind listed_at
   code_got name at named due c =
       let s1 = step bytes last places at parts.CodeLength due c in
@@ -182,19 +206,29 @@ module _ (bytes last places : List ℕ) (pool : List Const) (env : Env bytes las
       let s7 = step bytes last places a6 (parts.AttributeCount false) _ s6.rest in
       let n7 = num bytes a6 (parts.AttributeCount false) in
       let a7 = a6 + 2 in
-      let inners = counted_got bytes last places inner_at (InnerNames pool) parts.AttributeName Same (λ r. refl) (λ r s t p q. p ∙ q) inner_got n7 a7 (parts.ContentEnd a1 n1 ∷ due) s7.rest in
+      let inners = counted_got bytes last places inner_at (InnerNames pool) parts.AttributeName Same (λ r. refl) (λ r s t p q. p ∙ q)
+      inner_got n7 a7 (parts.ContentEnd a1 n1 ∷ due) s7.rest in
       let s8 = step bytes last places inners.after (parts.ContentEnd a1 n1) due inners.rest in
       let body = body_right (take n4 (drop a4 bytes)) a4 s5.judged in
       let none : nat_eq (num bytes a5 parts.Handlers) 0 ≡ true = unless_none _ _ s6.judged in
       let whole : ends_well s1.rest.row ≡ true = unless_none _ _ s1.judged in
-      let ends : ends_well s1.rest.row ≡ nat_eq inners.after (a1 + n1) = s2.ends ∙ (s3.ends ∙ (s4.ends ∙ (s5.ends ∙ (s6.ends ∙ (s7.ends ∙ (inners.kept ∙ s8.ends)))))) in
+      let ends : ends_well s1.rest.row ≡ nat_eq inners.after (a1 + n1) =
+      s2.ends ∙ (s3.ends ∙ (s4.ends ∙ (s5.ends ∙ (s6.ends ∙ (s7.ends ∙ (inners.kept ∙ s8.ends)))))) in
       let sum : inners.after ≡ a1 + n1 = eqb-true inners.after (a1 + n1) (sym ends ∙ whole) in
       let w = inners.rest.within in
       let test : nat_eq (length (drop a1 bytes)) (n1 + length (drop inners.after bytes)) ≡ true =
-      eq-eqb (length (drop a1 bytes)) (n1 + length (drop inners.after bytes)) (omega (arith, length-drop a1 bytes, length-drop inners.after bytes, sum, w)) in
+      eq-eqb (length (drop a1 bytes)) (n1 + length (drop inners.after bytes))
+      (omega (arith, length-drop a1 bytes, length-drop inners.after bytes, sum, w)) in
       let zero_more : inners.after + 0 ≡ inners.after = omega arith in
       record {
-        value = Coded (record { name = name; max_stack = num bytes a1 parts.Number; max_locals = num bytes a2 parts.Number; instrs = body.0; attributes = inners.value });
+        value = Coded (record {
+          name = name;
+          max_stack = num bytes a1 parts.Number;
+          max_locals = num bytes a2 parts.Number;
+          instrs =
+              body.0;
+          attributes = inners.value;
+        });
         after = inners.after;
         is = rw (s1.read, s2.read, s3.read, s4.read, s5.whole, drop-drop n4 a4 bytes, body.1, s6.read, none, s7.read, inners.is, test) refl;
         fits = record { name = named; instrs = body.2; attributes = inners.fits.0 };
@@ -219,44 +253,64 @@ module _ (bytes last places : List ℕ) (pool : List Const) (env : Env bytes las
   abbrev MethodsGot : ℕ → ℕ → Bool → List Part → List Field → Type 0
   MethodsGot n at seen due row = Got bytes last places (counted (attr_at pool true) n) (MethodOk n seen) at due (Any row)
 
-  module _ (n at : ℕ) (seen : Bool) (due : List Part) (row : List Field) (k : ℕ) (read : number_at 2 (drop at bytes) ≡ Some (k, drop (at + 2) bytes)) (text : IsText pool k)
-      (more : (at : ℕ) (seen : Bool) (c : Clear bytes last places at (attributes_left n seen ++ due)) → MethodsGot n at seen due c.row) where
-    one_other : names_code pool k ≡ false → Clear bytes last places (at + 2) (parts.OtherLength ∷ (attributes_left n seen ++ due)) → MethodsGot (suc n) at seen due row
-    unfolding counted attr_at other_at
-    one_other e c =
-        let r = run_got (at + 2) (attributes_left n seen ++ due) c in
-        let m = more r.after seen r.rest in
-        record {
-          value = Other k r.value ∷ m.value;
-          after = m.after;
-          is = rw (read, e, r.is, m.is) refl;
-          fits = record { named = ((text, not_code_named pool k e), m.fits.named); few = other_few (Other k r.value) m.value refl m.fits.few; none = λ s. other_none (Other k r.value) m.value refl (m.fits.none s) };
-          rest = m.rest;
-          kept = tt;
-        }
+  module _ (n at : ℕ) (seen : Bool) (due : List Part) (row : List Field) (k : ℕ)
+      (read : number_at 2 (drop at bytes) ≡ Some (k, drop (at + 2) bytes)) (text : IsText pool k)
+      (more : (at : ℕ) (seen : Bool) (c : Clear bytes last places at (attributes_left n seen ++ due)) → MethodsGot n at seen due c.row)
+    where
+      one_other : names_code pool k ≡ false → Clear bytes last places (at + 2) (parts.OtherLength ∷ (attributes_left n seen ++ due)) →
+          MethodsGot (suc n) at seen due row
+      unfolding counted attr_at other_at
+      one_other e c =
+          let r = run_got (at + 2) (attributes_left n seen ++ due) c in
+          let m = more r.after seen r.rest in
+          record {
+            value = Other k r.value ∷ m.value;
+            after = m.after;
+            is = rw (read, e, r.is, m.is) refl;
+            fits = record {
+              named = ((text, not_code_named pool k e), m.fits.named);
+              few = other_few (Other k r.value) m.value refl
+                  m.fits.few;
+              none = λ s. other_none (Other k r.value) m.value refl (m.fits.none s);
+            };
+            rest = m.rest;
+            kept = tt;
+          }
 
-    one_code : names_code pool k ≡ true → (seen ≡ true → ⊥) → Clear bytes last places (at + 2) (parts.CodeLength ∷ (attributes_left n true ++ due)) → MethodsGot (suc n) at seen due row
-    unfolding counted attr_at code_at content_at
-    one_code e never c =
-        let r = code_got k (at + 2) (code_named pool k e) (attributes_left n true ++ due) c in
-        let m = more r.after true r.rest in
-        let none = m.fits.none refl in
-        record {
-          value = r.value ∷ m.value;
-          after = m.after;
-          is = rw (read, e, r.is, m.is) refl;
-          fits = record { named = (r.fits, m.fits.named); few = one_at_most r.value m.value none; none = λ s. absurd (never s) };
-          rest = m.rest;
-          kept = tt;
-        }
+      one_code : names_code pool k ≡ true → (seen ≡ true → ⊥) →
+          Clear bytes last places (at + 2) (parts.CodeLength ∷ (attributes_left n true ++ due)) → MethodsGot (suc n) at seen due row
+      unfolding counted attr_at code_at content_at
+      one_code e never c =
+          let r = code_got k (at + 2) (code_named pool k e) (attributes_left n true ++ due) c in
+          let m = more r.after true r.rest in
+          let none = m.fits.none refl in
+          record {
+            value = r.value ∷ m.value;
+            after = m.after;
+            is = rw (read, e, r.is, m.is) refl;
+            fits = record { named = (r.fits, m.fits.named); few = one_at_most r.value m.value none; none = λ s. absurd (never s) };
+            rest = m.rest;
+            kept = tt;
+          }
 
-    one_more : (b : Bool) → names_code pool k ≡ b → (seen && b) ≡ false → Clear bytes last places (at + 2) (attribute_holds n seen b ++ due) → MethodsGot (suc n) at seen due row
-    one_more true e s c = one_code e (seen_not seen s) c
-    one_more false e s c = one_other e c
+      one_more : (b : Bool) → names_code pool k ≡ b → (seen && b) ≡ false →
+          Clear bytes last places (at + 2) (attribute_holds n seen b ++ due)
+          → MethodsGot (suc n) at seen due row
+      one_more true e s c = one_code e (seen_not seen s) c
+      one_more false e s c = one_other e c
 
-  pub methods_got : (n at : ℕ) (seen : Bool) (due : List Part) (c : Clear bytes last places at (attributes_left n seen ++ due)) → MethodsGot n at seen due c.row
+  pub methods_got : (n at : ℕ) (seen : Bool) (due : List Part) (c : Clear bytes last places at (attributes_left n seen ++ due)) →
+      MethodsGot n at seen due c.row
   unfolding counted
-  methods_got zero at seen due c = record { value = []; after = at; is = refl; fits = record { named = tt; few = omega arith; none = λ s. refl }; rest = c; kept = tt }
+  methods_got zero at seen due c = record {
+    value = [];
+    after = at;
+    is = refl;
+    fits =
+        record { named = tt; few = omega arith; none = λ s. refl };
+    rest = c;
+    kept = tt;
+  }
   methods_got (suc n) at seen due c =
       let s = step bytes last places at (parts.MethodAttribute n seen) due c in
       let k = num bytes at (parts.MethodAttribute n seen) in
@@ -269,7 +323,8 @@ module _ (bytes last places : List ℕ) (pool : List Const) (env : Env bytes las
   none_coded (Coded c ∷ xs) all = absurd all.0
   none_coded (Other name run ∷ xs) all = other_none (Other name run) xs refl (none_coded xs all.1)
 
-  pub field_got : (at : ℕ) (due : List Part) (c : Clear bytes last places at (parts.Member false ∷ due)) → Got bytes last places (member_at pool false) (IsField_in pool) at due (Any c.row)
+  pub field_got : (at : ℕ) (due : List Part) (c : Clear bytes last places at (parts.Member false ∷ due)) →
+      Got bytes last places (member_at pool false) (IsField_in pool) at due (Any c.row)
   unfolding member_at three_at listed_at
   field_got at due c =
       let s1 = step bytes last places at (parts.Member false) due c in
@@ -277,11 +332,18 @@ module _ (bytes last places : List ℕ) (pool : List Const) (env : Env bytes las
       let s3 = step bytes last places (at + 2 + 2) (parts.Reference 1) _ s2.rest in
       let s4 = step bytes last places (at + 2 + 2 + 2) (parts.AttributeCount false) _ s3.rest in
       let n = num bytes (at + 2 + 2 + 2) (parts.AttributeCount false) in
-      let xs = counted_got bytes last places (attr_at pool false) (PlainNames pool) parts.AttributeName Any (λ r. tt) (λ r s t p q. tt) plain_got n (at + 2 + 2 + 2 + 2) due s4.rest in
+      let xs = counted_got bytes last places (attr_at pool false) (PlainNames pool) parts.AttributeName Any (λ r. tt) (λ r s t p q. tt)
+      plain_got n (at + 2 + 2 + 2 + 2) due s4.rest in
       let none = none_coded xs.value xs.fits.0 in
       let few : nat_lt 1 (count_by is_coded xs.value) ≡ false = rw none refl in
       record {
-        value = record { access = num bytes at (parts.Member false); name = num bytes (at + 2) (parts.Reference 1); descriptor = num bytes (at + 2 + 2) (parts.Reference 1); attributes = xs.value };
+        value = record {
+          access = num bytes at (parts.Member false);
+          name = num bytes (at + 2) (parts.Reference 1);
+          descriptor =
+              num bytes (at + 2 + 2) (parts.Reference 1);
+          attributes = xs.value;
+        };
         after = xs.after;
         is = rw (s1.read, s2.read, s3.read, s4.read, xs.is, few) refl;
         fits = record { name = text_named _ _ s2.judged; descriptor = text_named _ _ s3.judged; attributes = xs.fits.0 };
@@ -289,7 +351,8 @@ module _ (bytes last places : List ℕ) (pool : List Const) (env : Env bytes las
         kept = tt;
       }
 
-  pub method_got : (at : ℕ) (due : List Part) (c : Clear bytes last places at (parts.Member true ∷ due)) → Got bytes last places (member_at pool true) (IsMethod_in pool) at due (Any c.row)
+  pub method_got : (at : ℕ) (due : List Part) (c : Clear bytes last places at (parts.Member true ∷ due)) →
+      Got bytes last places (member_at pool true) (IsMethod_in pool) at due (Any c.row)
   unfolding member_at three_at listed_at
   method_got at due c =
       let s1 = step bytes last places at (parts.Member true) due c in
@@ -300,10 +363,22 @@ module _ (bytes last places : List ℕ) (pool : List Const) (env : Env bytes las
       let xs = methods_got n (at + 2 + 2 + 2 + 2) false due s4.rest in
       let few : nat_lt 1 (count_by is_coded xs.value) ≡ false = le-ltb 1 (count_by is_coded xs.value) xs.fits.few in
       record {
-        value = record { access = num bytes at (parts.Member true); name = num bytes (at + 2) (parts.Reference 1); descriptor = num bytes (at + 2 + 2) (parts.Reference 1); attributes = xs.value };
+        value = record {
+          access = num bytes at (parts.Member true);
+          name = num bytes (at + 2) (parts.Reference 1);
+          descriptor =
+              num bytes (at + 2 + 2) (parts.Reference 1);
+          attributes = xs.value;
+        };
         after = xs.after;
         is = rw (s1.read, s2.read, s3.read, s4.read, xs.is, few) refl;
-        fits = record { name = text_named _ _ s2.judged; descriptor = text_named _ _ s3.judged; attributes = xs.fits.named; one_code = xs.fits.few };
+        fits = record {
+          name = text_named _ _ s2.judged;
+          descriptor = text_named _ _ s3.judged;
+          attributes = xs.fits.named;
+          one_code =
+              xs.fits.few;
+        };
         rest = xs.rest;
         kept = tt;
       }
@@ -328,7 +403,8 @@ module _ (bytes last places : List ℕ) (pool : List Const) (env : Env bytes las
     pub attributes_named : AllByRecursion (PlainNames pool) attributes
 
   pub behind_pool : (at : ℕ)
-      → Clear bytes last places at (parts.Number ∷ parts.Reference 7 ∷ parts.Reference 7 ∷ parts.Interfaces ∷ parts.MemberCount false ∷ parts.MemberCount true ∷ parts.AttributeCount false ∷ parts.End ∷ [])
+      → Clear bytes last places at (parts.Number ∷ parts.Reference 7 ∷ parts.Reference 7 ∷ parts.Interfaces ∷ parts.MemberCount false ∷
+      parts.MemberCount true ∷ parts.AttributeCount false ∷ parts.End ∷ [])
       → Behind at
   unfolding three_at behind members_at listed_at
   behind_pool at c =
@@ -340,13 +416,16 @@ module _ (bytes last places : List ℕ) (pool : List Const) (env : Env bytes las
       let none : nat_eq (num bytes (at + 2 + 2 + 2) parts.Interfaces) 0 ≡ true = unless_none _ _ s4.judged in
       let s5 = step bytes last places at8 (parts.MemberCount false) _ s4.rest in
       let n5 = num bytes at8 (parts.MemberCount false) in
-      let fields = counted_got bytes last places (member_at pool false) (IsField_in pool) (parts.Member false) Any (λ r. tt) (λ r s t p q. tt) field_got n5 (at8 + 2) _ s5.rest in
+      let fields = counted_got bytes last places (member_at pool false) (IsField_in pool) (parts.Member false) Any (λ r. tt)
+      (λ r s t p q. tt) field_got n5 (at8 + 2) _ s5.rest in
       let s6 = step bytes last places fields.after (parts.MemberCount true) _ fields.rest in
       let n6 = num bytes fields.after (parts.MemberCount true) in
-      let methods = counted_got bytes last places (member_at pool true) (IsMethod_in pool) (parts.Member true) Any (λ r. tt) (λ r s t p q. tt) method_got n6 (fields.after + 2) _ s6.rest in
+      let methods = counted_got bytes last places (member_at pool true) (IsMethod_in pool) (parts.Member true) Any (λ r. tt)
+      (λ r s t p q. tt) method_got n6 (fields.after + 2) _ s6.rest in
       let s7 = step bytes last places methods.after (parts.AttributeCount false) _ methods.rest in
       let n7 = num bytes methods.after (parts.AttributeCount false) in
-      let attrs = counted_got bytes last places (attr_at pool false) (PlainNames pool) parts.AttributeName Any (λ r. tt) (λ r s t p q. tt) plain_got n7 (methods.after + 2) _ s7.rest in
+      let attrs = counted_got bytes last places (attr_at pool false) (PlainNames pool) parts.AttributeName Any (λ r. tt) (λ r s t p q. tt)
+      plain_got n7 (methods.after + 2) _ s7.rest in
       let s8 = step bytes last places attrs.after parts.End [] attrs.rest in
       let six : at + 2 + 2 + 2 ≡ at + 6 = omega arith in
       let eight : at + 2 + 2 + 2 + 2 ≡ at + 8 = omega arith in
@@ -358,7 +437,11 @@ module _ (bytes last places : List ℕ) (pool : List Const) (env : Env bytes las
         methods = methods.value;
         attributes = attrs.value;
         end = attrs.after;
-        three = rw (s1.read, s2.read, s3.read) (ap (λ n. Some ((num bytes at parts.Number, num bytes (at + 2) (parts.Reference 7), num bytes (at + 2 + 2) (parts.Reference 7)), drop n bytes)) six);
+        three = rw (s1.read, s2.read, s3.read)
+            (ap (λ n. Some (
+              (num bytes at parts.Number, num bytes (at + 2) (parts.Reference 7), num bytes (at + 2 + 2) (parts.Reference 7)),
+              drop n bytes,
+            )) six);
         none = rw (← six) (rw (s4.read, none) (ap (λ n. Some (drop n bytes)) eight));
         members = rw (← eight) (rw (s5.read, fields.is, s6.read, methods.is, s7.read, attrs.is) refl);
         all = unless_none _ _ s8.judged;

@@ -1,5 +1,7 @@
 -- Bytes whose row is right spell a well-formed class, which is read.
-use Rattle.std.proofs.Common.{◌≡◌, ℕ, zero, suc, ◌+◌, ◌-◌, ◌<◌, ◌≤◌, List, [], ◌∷◌, ◌++◌, length, drop, get_or, refl, sym, ap, ◌∙◌, length-append, get_or-drop, arith, Bool, true, false, Some, None, inl, inr, nat_eq, nat_lt, not, ◌&&◌, ◌||◌, slice_get}
+use Rattle.std.proofs.Common.{◌≡◌, ℕ, zero, suc, ◌+◌, ◌-◌, ◌<◌, ◌≤◌, List, [], ◌∷◌, ◌++◌, length, drop, get_or, refl, sym, ap, ◌∙◌}
+use Rattle.std.proofs.Common.{length-append, get_or-drop, arith, Bool, true, false, Some, None, inl, inr, nat_eq, nat_lt, not, ◌&&◌, ◌||◌}
+use Rattle.std.proofs.Common.{slice_get}
 use Rattle.std.proofs.lemmas.Bool.{ltb-true, le-ltb, lt-ltb, eqb-true, ne_eqb, cases_lt}
 use Rattle.std.specs.List.{AllByRecursion}
 use Rattle.cls_tree.specs.declared.class.Const.{Const}
@@ -67,7 +69,8 @@ module _ (bytes last : List ℕ) where
   past (c ∷ cs) zero le = absurd (omega arith)
   past (c ∷ cs) (suc i) le = past cs i (omega arith)
 
-  module _ (places : List ℕ) (pool : List Const) (pairs : Pairs bytes last places pool) (g : Grown places last) (counts : pool_count bytes ≡ length pool + 1) where
+  module _ (places : List ℕ) (pool : List Const) (pairs : Pairs bytes last places pool) (g : Grown places last)
+      (counts : pool_count bytes ≡ length pool + 1) where
     tags : (tag n : ℕ) → is_bad_entry bytes last tag n ≡ false → tag_at pool n ≡ Some tag
     unfolding is_bad_entry
     tags tag zero e = absurd (cc)
@@ -79,8 +82,10 @@ module _ (bytes last : List ℕ) where
         let w = a.within in
         let inside : i < length last = omega (arith, ap length g.is, length-append places g.more, w) in
         let one : suc i - 1 ≡ i = omega arith in
-        let same : get_or last (suc i - 1) 0 ≡ get_or places i 0 = ap (λ (k : ℕ). get_or last k 0) one ∙ (ap (λ (l : List ℕ). get_or l i 0) g.is ∙ front_get places g.more i w) in
-        let test = right_tag (nat_lt (suc i - 1) (length last)) (nat_eq (get_or bytes (get_or last (suc i - 1) 0) 0) tag) p.2 (lt-ltb (suc i - 1) (length last) (omega (arith, inside))) in
+        let same : get_or last (suc i - 1) 0 ≡ get_or places i 0 = ap (λ (k : ℕ). get_or last k 0) one ∙
+        (ap (λ (l : List ℕ). get_or l i 0) g.is ∙ front_get places g.more i w) in
+        let test = right_tag (nat_lt (suc i - 1) (length last)) (nat_eq (get_or bytes (get_or last (suc i - 1) 0) 0) tag) p.2
+        (lt-ltb (suc i - 1) (length last) (omega (arith, inside))) in
         let is : get_or bytes (get_or places i 0) 0 ≡ tag = ap (λ (k : ℕ). get_or bytes k 0) (sym same) ∙ eqb-true _ tag test in
         rw a.is (ap Some (sym a.begins.tag ∙ is))
 
@@ -92,10 +97,12 @@ module _ (bytes last : List ℕ) where
           let a = pairs_at places pool pairs i lt in
           let one : suc i - 1 ≡ i = omega arith in
           let inside : nat_lt (suc i - 1) (length places) ≡ true = lt-ltb (suc i - 1) (length places) (let w = a.within in omega arith) in
-          let text : is_code_text (drop (get_or places (suc i - 1) 0) bytes) ≡ is_code_name (text_in a.constant) = ap (λ (k : ℕ). is_code_text (drop (get_or places k 0) bytes)) one ∙ a.begins.code in
+          let text : is_code_text (drop (get_or places (suc i - 1) 0) bytes) ≡ is_code_name (text_in a.constant) =
+          ap (λ (k : ℕ). is_code_text (drop (get_or places k 0) bytes)) one ∙ a.begins.code in
           rw (ne_eqb (suc i) 0 (λ h. omega (arith, h)), inside, a.is) text
       | inr le ↦
-          let outside : nat_lt (suc i - 1) (length places) ≡ false = le-ltb (suc i - 1) (length places) (let l = pairs_long places pool pairs in omega arith) in
+          let outside : nat_lt (suc i - 1) (length places) ≡ false =
+          le-ltb (suc i - 1) (length places) (let l = pairs_long places pool pairs in omega arith) in
           rw (ne_eqb (suc i) 0 (λ h. omega (arith, h)), outside, past pool i le) refl
     ]
 
@@ -121,7 +128,8 @@ module _ (bytes last : List ℕ) where
     all_named = all_named_of places pool pairs
 
 -- a right row spells a class
-pub right_spells : (bytes : List ℕ) (row : List Field) (last : List ℕ) → IsBytes bytes → LaysAll bytes row last → First bytes last row None → (c : Class) × (class_at bytes ≡ Some c) × ClassSpells bytes c
+pub right_spells : (bytes : List ℕ) (row : List Field) (last : List ℕ) → IsBytes bytes → LaysAll bytes row last → First bytes last row None
+    → (c : Class) × (class_at bytes ≡ Some c) × ClassSpells bytes c
 unfolding class_at behind_head behind pool_at number pool_count
 right_spells bytes row last fits lays all_right =
     let c : Clear bytes last [] 0 whole = record { row = row; lays = lays; clean = all_right; within = omega arith } in
@@ -143,8 +151,31 @@ right_spells bytes row last fits lays all_right =
     let k = p.count in
     omega (arith, high, low, k, some) in
     let b = behind_pool bytes last p.news p.constants (env bytes last p.news p.constants p.pairs g counts) p.after p.rest in
-    let class : Class = record { pool = p.constants; access = b.access; this_class = b.this_class; super_class = b.super_class; fields = b.fields; methods = b.methods; attributes = b.attributes } in
-    let read : class_at bytes ≡ Some class = rw (s1.read, magic, s2.read, minor, s3.read, major, s4.read, no_zero, p.is, b.three, b.none, b.members, b.all) refl in
+    let class : Class = record {
+      pool = p.constants;
+      access = b.access;
+      this_class = b.this_class;
+      super_class = b.super_class;
+      fields =
+          b.fields;
+      methods = b.methods;
+      attributes = b.attributes;
+    } in
+    let read : class_at bytes ≡ Some class = rw (
+      s1.read,
+      magic,
+      s2.read,
+      minor,
+      s3.read,
+      major,
+      s4.read,
+      no_zero,
+      p.is,
+      b.three,
+      b.none,
+      b.members,
+      b.all,
+    ) refl in
     let sound = class_sound bytes class fits read in
     let formed : IsWellFormed class = record {
       pool = all_named bytes last p.news p.constants p.pairs g counts;

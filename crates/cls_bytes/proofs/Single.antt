@@ -11,23 +11,30 @@ use Rattle.cls_bytes.specs.declared.ClassFault.{ClassFault}
 use Rattle.cls_bytes.specs.declared.ClassFault.TheVariants as faults
 use Rattle.cls_bytes.specs.Parts.{size}
 use Rattle.cls_bytes.specs.Row.{Lays, complete, stopped, next, stops, entered, due_behind}
-use Rattle.cls_bytes.specs.Faults.{first_misnamed, JudgesText, spelled, unspelled, JudgesCode, faulty, misnamed, right, Judges, JudgesField, cut, whole, First, clean, here, behind, moved, Fails}
+use Rattle.cls_bytes.specs.Faults.{first_misnamed, JudgesText, spelled, unspelled, JudgesCode, faulty, misnamed, right, Judges, JudgesField}
+use Rattle.cls_bytes.specs.Faults.{cut, whole, First, clean, here, behind, moved, Fails}
 use Rattle.cls_bytes.specs.Spelling.{IsRight}
 
 pub record SameRow (a b : List Field) (p q : List ℕ) : Type 0 where
   pub row : a ≡ b
   pub places : p ≡ q
 
-pub one_row : (bytes places : List ℕ) (at : ℕ) (due : List Part) (a b : List Field) (p q : List ℕ) → Lays bytes places at due a p → Lays bytes places at due b q → SameRow a b p q
+pub one_row : (bytes places : List ℕ) (at : ℕ) (due : List Part) (a b : List Field) (p q : List ℕ) → Lays bytes places at due a p →
+    Lays bytes places at due b q → SameRow a b p q
 one_row bytes places at due a b p q complete complete = record { row = refl; places = refl }
 one_row bytes places at (part ∷ due) (f ∷ []) [] p q (stopped e s) x = elim x [ ]
 one_row bytes places at (part ∷ due) (f ∷ a) [] p q (next e s more) x = elim x [ ]
-one_row bytes places at (part ∷ due) (f ∷ []) (g ∷ []) p q (stopped e s) (stopped d t) = record { row = ap (λ (x : Field). x ∷ []) (e ∙ sym d); places = refl }
-one_row bytes places at (part ∷ due) (f ∷ []) (g ∷ b) p q (stopped e s) (next d t more) = let k : stops bytes places g ≡ true = subst (λ (x : Field). stops bytes places x ≡ true) (e ∙ sym d) s in absurd (cc)
-one_row bytes places at (part ∷ due) (f ∷ a) (g ∷ []) p q (next e s more) (stopped d t) = let k : stops bytes places f ≡ true = subst (λ (x : Field). stops bytes places x ≡ true) (d ∙ sym e) t in absurd (cc)
+one_row bytes places at (part ∷ due) (f ∷ []) (g ∷ []) p q (stopped e s) (stopped d t) =
+    record { row = ap (λ (x : Field). x ∷ []) (e ∙ sym d); places = refl }
+one_row bytes places at (part ∷ due) (f ∷ []) (g ∷ b) p q (stopped e s) (next d t more) =
+    let k : stops bytes places g ≡ true = subst (λ (x : Field). stops bytes places x ≡ true) (e ∙ sym d) s in absurd (cc)
+one_row bytes places at (part ∷ due) (f ∷ a) (g ∷ []) p q (next e s more) (stopped d t) =
+    let k : stops bytes places f ≡ true = subst (λ (x : Field). stops bytes places x ≡ true) (d ∙ sym e) t in absurd (cc)
 one_row bytes places at (part ∷ due) (f ∷ a) (g ∷ b) p q (next e s more) (next d t rest) =
     let same : f ≡ g = e ∙ sym d in
-    let r = one_row bytes (entered part at places) _ _ a b p q more (subst (λ (x : Field). Lays bytes (entered part at places) (at + size part) (due_behind bytes places x ++ due) b q) (sym same) rest) in
+    let r = one_row bytes (entered part at places) _ _ a b p q more
+    (subst (λ (x : Field). Lays bytes (entered part at places) (at + size part) (due_behind bytes places x ++ due) b q) (sym same)
+    rest) in
     record { row = subst (λ (x : Field). f ∷ a ≡ x ∷ b) same (ap (λ (x : List Field). f ∷ x) r.row); places = r.places }
 
 one_text : (bytes : List ℕ) (at : ℕ) (r s : Option ClassFault) → JudgesText bytes at r → JudgesText bytes at s → r ≡ s
@@ -63,13 +70,15 @@ module _ (bad : ℕ → ℕ → Bool) (code : List ℕ) (at : ℕ) where
   one_code r s (right {is = is} a d) (right {is = js} b e) = refl
 
 module _ (bytes places : List ℕ) where
-  one_part : (later : List Field) (p : Part) (at n : ℕ) (rest : List ℕ) (r s : Option ClassFault) → Judges bytes places later p at n rest r → Judges bytes places later p at n rest s → r ≡ s
+  one_part : (later : List Field) (p : Part) (at n : ℕ) (rest : List ℕ) (r s : Option ClassFault) → Judges bytes places later p at n rest r
+      → Judges bytes places later p at n rest s → r ≡ s
   one_part later (parts.Letters len) at n rest r s a b = one_text _ at r s a b
   one_part later (parts.Code len) at n rest r s a b = one_code _ _ at r s a b
   one_part later parts.End at n rest r s a b = a ∙ sym b
   one_part later p at n rest r s a b = a ∙ sym b
 
-  one_field : (f : Field) (later : List Field) (r s : Option ClassFault) → JudgesField bytes places f later r → JudgesField bytes places f later s → r ≡ s
+  one_field : (f : Field) (later : List Field) (r s : Option ClassFault) → JudgesField bytes places f later r →
+      JudgesField bytes places f later s → r ≡ s
   one_field f later r s (cut e) (cut d) = refl
   one_field f later r s (cut e) (whole d j) = absurd (cc)
   one_field f later r s (whole e j) (cut d) = absurd (cc)
@@ -85,13 +94,15 @@ module _ (bytes places : List ℕ) where
 pub one_fault : (bytes : List ℕ) (a b : ClassFault) → Fails bytes a → Fails bytes b → a ≡ b
 one_fault bytes a b f g =
     let e = one_row bytes [] 0 _ f.row g.row f.places g.places f.lays g.lays in
-    let h : First bytes f.places f.row (Some b) = subst (λ (p : List ℕ). First bytes p f.row (Some b)) (sym e.places) (subst (λ (r : List Field). First bytes g.places r (Some b)) (sym e.row) g.first) in
+    let h : First bytes f.places f.row (Some b) = subst (λ (p : List ℕ). First bytes p f.row (Some b)) (sym e.places)
+    (subst (λ (r : List Field). First bytes g.places r (Some b)) (sym e.row) g.first) in
     let k : ◌≡◌ {A = Option ClassFault} (Some a) (Some b) = one_first bytes f.places f.row (Some a) (Some b) f.first h in
     cc
 
 pub no_fault : (bytes : List ℕ) (b : ClassFault) → IsRight bytes → Fails bytes b → ⊥
 no_fault bytes b f g =
     let e = one_row bytes [] 0 _ f.row g.row f.places g.places f.lays g.lays in
-    let h : First bytes f.places f.row (Some b) = subst (λ (p : List ℕ). First bytes p f.row (Some b)) (sym e.places) (subst (λ (r : List Field). First bytes g.places r (Some b)) (sym e.row) g.first) in
+    let h : First bytes f.places f.row (Some b) = subst (λ (p : List ℕ). First bytes p f.row (Some b)) (sym e.places)
+    (subst (λ (r : List Field). First bytes g.places r (Some b)) (sym e.row) g.first) in
     let k : ◌≡◌ {A = Option ClassFault} None (Some b) = one_first bytes f.places f.row None (Some b) f.first h in
     absurd (cc)

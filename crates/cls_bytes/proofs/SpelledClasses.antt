@@ -1,6 +1,8 @@
 -- Bytes that spell a well-formed class have no field that is wrong.
 use Rattle.std.specs.Prelude.{option_map}
-use Rattle.std.proofs.Common.{◌≡◌, ℕ, zero, suc, ◌+◌, ◌-◌, ◌*◌, ◌^◌, ◌<◌, ◌≤◌, List, [], ◌∷◌, length, drop, get_or, refl, sym, ap, subst, ◌∙◌, append-nil, get_or-drop, arith, true, false, Option, Some, None, nat_eq, nat_lt, not, ◌&&◌, ◌||◌, slice_get}
+use Rattle.std.proofs.Common.{◌≡◌, ℕ, zero, suc, ◌+◌, ◌-◌, ◌*◌, ◌^◌, ◌<◌, ◌≤◌, List, [], ◌∷◌, length, drop, get_or, refl, sym, ap, subst}
+use Rattle.std.proofs.Common.{◌∙◌, append-nil, get_or-drop, arith, true, false, Option, Some, None, nat_eq, nat_lt, not, ◌&&◌, ◌||◌}
+use Rattle.std.proofs.Common.{slice_get}
 use Rattle.std.proofs.lemmas.Bool.{lt-ltb, eqb-false, eq-eqb, ne_eqb}
 use Rattle.std.specs.List.{AllByRecursion}
 use Rattle.mg_read.proofs.Steps.{bind_some, some_is}
@@ -23,13 +25,15 @@ use Rattle.cls_bytes.proofs.Clear.{Clear, num}
 use Rattle.cls_bytes.proofs.Pools.{IsBytes, Named, Grown}
 use Rattle.cls_bytes.proofs.Pools as pools
 use Rattle.cls_bytes.proofs.RightRows.{codes_so}
-use Rattle.cls_bytes.proofs.SpelledRows.{Known, back, tell, past, no_less, add_none, unless_right, unless_named, attributes_goes, members_goes, field_goes, method_goes, three_told}
+use Rattle.cls_bytes.proofs.SpelledRows.{Known, back, tell, past, no_less, add_none, unless_right, unless_named, attributes_goes}
+use Rattle.cls_bytes.proofs.SpelledRows.{members_goes, field_goes, method_goes, three_told}
 use Rattle.cls_bytes.proofs.SpelledPools.{Pairs, all_stand}
 
 module _ (bytes : List ℕ) where
   -- a number that must be this one
   behind_told : (at : ℕ) (part : Part) (wanted : ℕ) (rest : List ℕ) → reading.behind (size part) wanted (drop at bytes) ≡ Some rest
-      → (nat_lt (length (drop at bytes)) (size part) ≡ false) × (nat_eq (num bytes at part) wanted ≡ true) × (drop (at + size part) bytes ≡ rest)
+      → (nat_lt (length (drop at bytes)) (size part) ≡ false) × (nat_eq (num bytes at part) wanted ≡ true)
+      × (drop (at + size part) bytes ≡ rest)
   unfolding reading.behind
   behind_told at part wanted rest e =
       let t = tell bytes [] at part _ rest e in
@@ -43,7 +47,8 @@ module _ (bytes : List ℕ) where
         let over : Clear bytes last last (at + 0) [] = record { row = []; lays = complete; clean = clean; within = rw (add_none at) w } in
         (back bytes last last at parts.End [] (no_less (length (drop at bytes))) refl over (unless_right _ _ none)).clear
 
-    members_right : (at : ℕ) (fields methods : List Member) (attrs : List Attr) (rest : List ℕ) → members_at pool (drop at bytes) ≡ Some ((fields, methods, attrs), rest) → nat_eq (length rest) 0 ≡ true → at ≤ length bytes
+    members_right : (at : ℕ) (fields methods : List Member) (attrs : List Attr) (rest : List ℕ) → members_at pool (drop at bytes) ≡ Some
+        ((fields, methods, attrs), rest) → nat_eq (length rest) 0 ≡ true → at ≤ length bytes
         → AllByRecursion (IsField_in pool) fields → AllByRecursion (IsMethod_in pool) methods → AllByRecursion (PlainNames pool) attrs
         → Clear bytes last last at (parts.MemberCount false ∷ parts.MemberCount true ∷ parts.AttributeCount false ∷ parts.End ∷ [])
     unfolding members_at
@@ -52,48 +57,72 @@ module _ (bytes : List ℕ) where
         let m = bind_some (listed_at (member_at pool true) f.0.1) _ ((fields, methods, attrs), rest) f.2 in
         let a = bind_some (listed_at (attr_at pool false) m.0.1) _ ((fields, methods, attrs), rest) m.2 in
         let z = some_is ((f.0.0, m.0.0, a.0.0), a.0.1) ((fields, methods, attrs), rest) a.2 in
-        let gf = members_goes bytes last fits pool known false at f.0.0 f.0.1 (IsField_in pool) (field_goes bytes last fits pool known) f.1 (subst (AllByRecursion (IsField_in pool)) (sym (ap (λ (t : (List Member × List Member × List Attr) × List ℕ). t.0.0) z)) all_fields) in
-        let gm = members_goes bytes last fits pool known true gf.after m.0.0 m.0.1 (IsMethod_in pool) (method_goes bytes last fits pool known) (subst (λ (t : List ℕ). listed_at (member_at pool true) t ≡ Some m.0) gf.is m.1) (subst (AllByRecursion (IsMethod_in pool)) (sym (ap (λ (t : (List Member × List Member × List Attr) × List ℕ). t.0.1) z)) all_methods) in
-        let ga = attributes_goes bytes last fits pool known gm.after a.0.0 a.0.1 (subst (λ (t : List ℕ). listed_at (attr_at pool false) t ≡ Some a.0) gm.is a.1) (subst (AllByRecursion (PlainNames pool)) (sym (ap (λ (t : (List Member × List Member × List Attr) × List ℕ). t.0.2) z)) all_attrs) in
+        let gf = members_goes bytes last fits pool known false at f.0.0 f.0.1 (IsField_in pool) (field_goes bytes last fits pool known) f.1
+        (subst (AllByRecursion (IsField_in pool)) (sym (ap (λ (t : (List Member × List Member × List Attr) × List ℕ). t.0.0) z))
+        all_fields) in
+        let gm = members_goes bytes last fits pool known true gf.after m.0.0 m.0.1 (IsMethod_in pool)
+        (method_goes bytes last fits pool known) (subst (λ (t : List ℕ). listed_at (member_at pool true) t ≡ Some m.0) gf.is m.1)
+        (subst (AllByRecursion (IsMethod_in pool)) (sym (ap (λ (t : (List Member × List Member × List Attr) × List ℕ). t.0.1) z))
+        all_methods) in
+        let ga = attributes_goes bytes last fits pool known gm.after a.0.0 a.0.1
+        (subst (λ (t : List ℕ). listed_at (attr_at pool false) t ≡ Some a.0) gm.is a.1)
+        (subst (AllByRecursion (PlainNames pool)) (sym (ap (λ (t : (List Member × List Member × List Attr) × List ℕ). t.0.2) z))
+        all_attrs) in
         let rest_is : rest ≡ drop ga.after bytes = sym (ap (λ (t : (List Member × List Member × List Attr) × List ℕ). t.1) z) ∙ ga.is in
-        let over = end_right ga.after (ga.within (gm.within (gf.within w))) (ap (λ (t : List ℕ). nat_eq (length t) 0) (sym rest_is) ∙ none) in
+        let over = end_right ga.after (ga.within (gm.within (gf.within w))) (ap (λ (t : List ℕ). nat_eq (length t) 0) (sym rest_is) ∙ none)
+        in
         let c1 = ga.build (parts.End ∷ []) over in
         let c2 = gm.build (parts.AttributeCount false ∷ parts.End ∷ []) c1.clear in
         (gf.build (parts.MemberCount true ∷ parts.AttributeCount false ∷ parts.End ∷ []) c2.clear).clear
 
-    tail_right : (at access this_class super_class : ℕ) (after_three after_none : List ℕ) → three_at (drop at bytes) ≡ Some ((access, this_class, super_class), after_three) → reading.behind 2 0 after_three ≡ Some after_none
+    tail_right : (at access this_class super_class : ℕ) (after_three after_none : List ℕ) →
+        three_at (drop at bytes) ≡ Some ((access, this_class, super_class), after_three) → reading.behind 2 0 after_three ≡ Some after_none
         → IsClass pool this_class → IsClass pool super_class → at ≤ length bytes
-        → ((a : ℕ) → after_none ≡ drop a bytes → a ≤ length bytes → Clear bytes last last a (parts.MemberCount false ∷ parts.MemberCount true ∷ parts.AttributeCount false ∷ parts.End ∷ []))
-        → Clear bytes last last at (parts.Number ∷ parts.Reference 7 ∷ parts.Reference 7 ∷ parts.Interfaces ∷ parts.MemberCount false ∷ parts.MemberCount true ∷ parts.AttributeCount false ∷ parts.End ∷ [])
+        → ((a : ℕ) → after_none ≡ drop a bytes → a ≤ length bytes →
+        Clear bytes last last a (parts.MemberCount false ∷ parts.MemberCount true ∷ parts.AttributeCount false ∷ parts.End ∷ []))
+        → Clear bytes last last at (parts.Number ∷ parts.Reference 7 ∷ parts.Reference 7 ∷ parts.Interfaces ∷ parts.MemberCount false ∷
+        parts.MemberCount true ∷ parts.AttributeCount false ∷ parts.End ∷ [])
     unfolding number
     tail_right at access this_class super_class after_three after_none e none is_class is_super w members =
-        let t = three_told bytes last fits pool known at parts.Number (parts.Reference 7) (parts.Reference 7) ((access, this_class, super_class), after_three) refl refl refl e in
+        let t = three_told bytes last fits pool known at parts.Number (parts.Reference 7) (parts.Reference 7)
+        ((access, this_class, super_class), after_three) refl refl refl e in
         let a6 = at + 2 + 2 + 2 in
-        let b = behind_told a6 parts.Interfaces 0 after_none (subst (λ (r : List ℕ). reading.behind 2 0 r ≡ Some after_none) (sym (ap (λ (z : (ℕ × ℕ × ℕ) × List ℕ). z.1) t.3)) none) in
+        let b = behind_told a6 parts.Interfaces 0 after_none (subst (λ (r : List ℕ). reading.behind 2 0 r ≡ Some after_none)
+        (sym (ap (λ (z : (ℕ × ℕ × ℕ) × List ℕ). z.1) t.3)) none) in
         let w6 = past bytes last (at + 2 + 2) 2 t.2 (past bytes last (at + 2) 2 t.1 (past bytes last at 2 t.0 w)) in
         let c = members (a6 + 2) (sym b.2) (past bytes last a6 2 b.0 w6) in
-        let class_is : IsClass pool (num bytes (at + 2) (parts.Reference 7)) = subst (IsClass pool) (sym (ap (λ (z : (ℕ × ℕ × ℕ) × List ℕ). z.0.1) t.3)) is_class in
-        let super_is : IsClass pool (num bytes (at + 2 + 2) (parts.Reference 7)) = subst (IsClass pool) (sym (ap (λ (z : (ℕ × ℕ × ℕ) × List ℕ). z.0.2) t.3)) is_super in
+        let class_is : IsClass pool (num bytes (at + 2) (parts.Reference 7)) =
+        subst (IsClass pool) (sym (ap (λ (z : (ℕ × ℕ × ℕ) × List ℕ). z.0.1) t.3)) is_class in
+        let super_is : IsClass pool (num bytes (at + 2 + 2) (parts.Reference 7)) =
+        subst (IsClass pool) (sym (ap (λ (z : (ℕ × ℕ × ℕ) × List ℕ). z.0.2) t.3)) is_super in
         let c4 = back bytes last last a6 parts.Interfaces _ b.0 (rw b.1 refl) c (unless_right _ _ b.1) in
         let c3 = back bytes last last (at + 2 + 2) (parts.Reference 7) _ t.2 refl c4.clear (unless_named _ _ (known.tags 7 _ super_is)) in
         let c2 = back bytes last last (at + 2) (parts.Reference 7) _ t.1 refl c3.clear (unless_named _ _ (known.tags 7 _ class_is)) in
         (back bytes last last at parts.Number _ t.0 refl c2.clear refl).clear
 
   -- ---- the pool's numbers
-  module _ (fits : IsBytes bytes) (places : List ℕ) (pool : List Const) (pairs : Pairs bytes fits places pool) (counts : pool_count bytes ≡ length pool + 1) where
-    pair_tag : (ps : List ℕ) (cs : List Const) → Pairs bytes fits ps cs → (i : ℕ) (c : Const) → slice_get cs i ≡ Some c → (i < length ps) × (i < length cs) × (get_or bytes (get_or ps i 0) 0 ≡ tag_of c)
+  module _ (fits : IsBytes bytes) (places : List ℕ) (pool : List Const) (pairs : Pairs bytes fits places pool)
+      (counts : pool_count bytes ≡ length pool + 1) where
+    pair_tag : (ps : List ℕ) (cs : List Const) → Pairs bytes fits ps cs → (i : ℕ) (c : Const) → slice_get cs i ≡ Some c →
+        (i < length ps) × (i < length cs) × (get_or bytes (get_or ps i 0) 0 ≡ tag_of c)
     pair_tag [] [] p i c e = absurd (cc)
     pair_tag [] (d ∷ cs) p i c e = absurd p
     pair_tag (q ∷ qs) [] p i c e = absurd p
     pair_tag (q ∷ qs) (d ∷ cs) p zero c e = (omega arith, omega arith, p.0 ∙ ap tag_of (some_is d c e))
-    pair_tag (q ∷ qs) (d ∷ cs) p (suc i) c e = let r = pair_tag qs cs p.2 i c e in (let a = r.0 in omega (arith, a), let b = r.1 in omega (arith, b), r.2)
+    pair_tag (q ∷ qs) (d ∷ cs) p (suc i) c e = let r = pair_tag qs cs p.2 i c e in (
+      let a = r.0 in omega (arith, a),
+      let b = r.1 in omega
+          (arith, b),
+      r.2,
+    )
 
     tags_back : (tag n : ℕ) → tag_at pool n ≡ Some tag → is_bad_entry bytes places tag n ≡ false
     unfolding is_bad_entry
     tags_back tag zero e = absurd (cc)
     tags_back tag (suc i) e = go (slice_get pool i) refl e where
       go : (o : Option Const) → slice_get pool i ≡ o → option_map tag_of o ≡ Some tag
-          → (nat_eq (suc i) 0 || (not (nat_lt (suc i) (pool_count bytes)) || (nat_lt (suc i - 1) (length places) && not (nat_eq (get_or bytes (get_or places (suc i - 1) 0) 0) tag)))) ≡ false
+          → (nat_eq (suc i) 0 || (not (nat_lt (suc i) (pool_count bytes)) ||
+          (nat_lt (suc i - 1) (length places) && not (nat_eq (get_or bytes (get_or places (suc i - 1) 0) 0) tag)))) ≡ false
       go None is t = absurd (cc)
       go (Some c) is t =
           let r = pair_tag places pool pairs i c is in
@@ -101,8 +130,14 @@ module _ (bytes : List ℕ) where
           let one : suc i - 1 ≡ i = omega arith in
           let r0 = r.0 in
           let r1 = r.1 in
-          let byte : get_or bytes (get_or places (suc i - 1) 0) 0 ≡ tag = ap (λ (k : ℕ). get_or bytes (get_or places k 0) 0) one ∙ (r.2 ∙ tag_is) in
-          rw (ne_eqb (suc i) 0 (λ h. omega (arith, h)), lt-ltb (suc i) (pool_count bytes) (omega (arith, counts, r1)), lt-ltb (suc i - 1) (length places) (omega (arith, r0)), eq-eqb _ tag byte) refl
+          let byte : get_or bytes (get_or places (suc i - 1) 0) 0 ≡ tag = ap (λ (k : ℕ). get_or bytes (get_or places k 0) 0) one ∙
+          (r.2 ∙ tag_is) in
+          rw (
+            ne_eqb (suc i) 0 (λ h. omega (arith, h)),
+            lt-ltb (suc i) (pool_count bytes) (omega (arith, counts, r1)),
+            lt-ltb (suc i - 1) (length places) (omega (arith, r0)),
+            eq-eqb _ tag byte,
+          ) refl
 
     named_back : (c : Const) → ConstNames pool c → Named bytes places c
     named_back (consts.Utf8 t) n = tt
@@ -117,7 +152,8 @@ module _ (bytes : List ℕ) where
     all_named [] all = tt
     all_named (c ∷ cs) all = (named_back c all.0, all_named cs all.1)
 
-    full_pairs : (ps : List ℕ) (cs : List Const) → Pairs bytes fits ps cs → AllByRecursion (Named bytes places) cs → pools.Pairs bytes places ps cs
+    full_pairs : (ps : List ℕ) (cs : List Const) → Pairs bytes fits ps cs → AllByRecursion (Named bytes places) cs →
+        pools.Pairs bytes places ps cs
     full_pairs [] [] p all = tt
     full_pairs [] (d ∷ cs) p all = absurd p
     full_pairs (q ∷ qs) [] p all = absurd p
@@ -126,7 +162,8 @@ module _ (bytes : List ℕ) where
     pub known_of : AllByRecursion (ConstNames pool) pool → Known bytes places pool
     known_of all = record {
       tags = tags_back;
-      codes_so = codes_so bytes places places pool (full_pairs places pool pairs (all_named pool all)) (record { more = []; is = sym (append-nil places) }) counts;
+      codes_so = codes_so bytes places places pool (full_pairs places pool pairs (all_named pool all))
+          (record { more = []; is = sym (append-nil places) }) counts;
     }
 
 abbrev big_two : ℕ → ℕ → ℕ
@@ -158,11 +195,17 @@ spelled_right bytes class fits s =
     let count = stand.count in
     let high : get_or (drop 8 bytes) 0 0 ≡ get_or bytes 8 0 = get_or-drop 8 bytes 0 0 in
     let low : get_or (drop 8 bytes) 1 0 ≡ get_or bytes 9 0 = get_or-drop 8 bytes 1 0 in
-    let counts : pool_count bytes ≡ length p.0.0 + 1 = counted_right (get_or bytes 8 0) (get_or bytes 9 0) (get_or (drop 8 bytes) 0 0) (get_or (drop 8 bytes) 1 0) n (length p.0.0) high low refl some count in
+    let counts : pool_count bytes ≡ length p.0.0 + 1 = counted_right (get_or bytes 8 0) (get_or bytes 9 0) (get_or (drop 8 bytes) 0 0)
+    (get_or (drop 8 bytes) 1 0) n (length p.0.0) high low refl some count in
     let known = known_of bytes fits stand.news p.0.0 stand.pairs counts formed.pool in
-    let w10 : 10 ≤ length bytes = past bytes [] 8 2 t4.all (past bytes [] 6 2 b3.0 (past bytes [] 4 2 b2.0 (past bytes [] 0 4 b1.0 (omega arith)))) in
-    let c = tail_right bytes stand.news fits p.0.0 known stand.after three.0.0.0 three.0.0.1 three.0.0.2 three.0.1 none.0 (subst (λ (r : List ℕ). three_at r ≡ Some three.0) stand.is three.1) none.1 formed.this_class formed.super_class (stand.within w10)
-    (λ a a_is a_within. members_right bytes stand.news fits p.0.0 known a members.0.0.0 members.0.0.1 members.0.0.2 members.0.1 (subst (λ (r : List ℕ). members_at p.0.0 r ≡ Some members.0) a_is members.1) test.0 a_within formed.fields formed.methods formed.attributes) in
+    let w10 : 10 ≤ length bytes = past bytes [] 8 2 t4.all
+    (past bytes [] 6 2 b3.0 (past bytes [] 4 2 b2.0 (past bytes [] 0 4 b1.0 (omega arith)))) in
+    let c = tail_right bytes stand.news fits p.0.0 known stand.after three.0.0.0 three.0.0.1 three.0.0.2 three.0.1 none.0
+    (subst (λ (r : List ℕ). three_at r ≡ Some three.0) stand.is three.1) none.1 formed.this_class formed.super_class
+    (stand.within w10)
+    (λ a a_is a_within. members_right bytes stand.news fits p.0.0 known a members.0.0.0 members.0.0.1 members.0.0.2 members.0.1
+    (subst (λ (r : List ℕ). members_at p.0.0 r ≡ Some members.0) a_is members.1) test.0 a_within formed.fields formed.methods
+    formed.attributes) in
     let c4 = stand.build stand.news [] _ (all_named bytes fits stand.news p.0.0 stand.pairs counts p.0.0 formed.pool) c in
     let d4 = back bytes stand.news [] 8 parts.PoolCount _ t4.all refl c4 (unless_right _ _ (lt-ltb 0 n (some_number n some))) in
     let d3 = back bytes stand.news [] 6 parts.Major _ b3.0 refl d4.clear (unless_right _ _ b3.1) in

@@ -33,18 +33,21 @@ sound_if false n bytes None later t h = (short n t, refl, h)
 
 sound_attr : (a : Attr) (later : Option CodeFault) → attr_refusal a later ≡ None → IsSoundAttr a × (later ≡ None)
 sound_attr (Coded c) later h =
-    let s = sound_if (nat_lt 32767 (length (code_bytes c.instrs))) (length (code_bytes c.instrs)) (code_bytes c.instrs) (first_outside c.instrs) later refl h in
+    let s = sound_if (nat_lt 32767 (length (code_bytes c.instrs))) (length (code_bytes c.instrs)) (code_bytes c.instrs)
+    (first_outside c.instrs) later refl h in
     (record { short = s.0; inside = s.1 }, s.2)
 sound_attr (Other name bytes) later h = (tt, h)
 
-sound_attrs : (attrs : List Attr) (later : Option CodeFault) → attrs_refusal attrs later ≡ None → AllByRecursion IsSoundAttr attrs × (later ≡ None)
+sound_attrs : (attrs : List Attr) (later : Option CodeFault) → attrs_refusal attrs later ≡ None → AllByRecursion IsSoundAttr attrs
+    × (later ≡ None)
 sound_attrs [] later h = (tt, h)
 sound_attrs (a ∷ attrs) later h =
     let s = sound_attr a (attrs_refusal attrs later) h in
     let t = sound_attrs attrs later s.1 in
     ((s.0, t.0), t.1)
 
-sound_members : (ms : List Member) (later : Option CodeFault) → members_refusal ms later ≡ None → AllByRecursion IsSoundMember ms × (later ≡ None)
+sound_members : (ms : List Member) (later : Option CodeFault) → members_refusal ms later ≡ None → AllByRecursion IsSoundMember ms
+    × (later ≡ None)
 sound_members [] later h = (tt, h)
 sound_members (m ∷ ms) later h =
     let s = sound_attrs m.attributes (members_refusal ms later) h in
@@ -60,7 +63,8 @@ not_named : (pool : List Const) (n : ℕ) → (NamesCode pool n → ⊥) → nam
 unfolding names_code
 not_named pool n other = go _ other
   where
-    test : (b : Bool) (text : List ℕ) → bytes_eq text (codes "Code") ≡ b → (Some text ≡ Some (codes "Code") → ⊥) → bytes_eq text (codes "Code") ≡ false
+    test : (b : Bool) (text : List ℕ) → bytes_eq text (codes "Code") ≡ b → (Some text ≡ Some (codes "Code") → ⊥) →
+        bytes_eq text (codes "Code") ≡ false
     test false text e other = e
     test true text e other = absurd (other (ap Some ((bytes_eq-Decides text (codes "Code")).0 e)))
 
@@ -140,7 +144,8 @@ can_stand c f w none =
     }
 
 -- so what is written of a well-formed class spells it
-pub written_spells : (class : Class) (result : Result (List ℕ) WriteFault) → Fits class → IsWritten (writing class) result → IsWellFormed class
+pub written_spells : (class : Class) (result : Result (List ℕ) WriteFault) → Fits class → IsWritten (writing class) result →
+    IsWellFormed class
     → IfOk result (λ bytes. ClassSpells bytes class)
 written_spells class (Err fault) f w well = tt
 written_spells class (Ok bytes) f w well = go (class_refusal class) refl w

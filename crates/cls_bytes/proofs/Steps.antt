@@ -1,5 +1,6 @@
 -- What a reader takes from the front of bytes, step by step.
-use Rattle.std.proofs.Common.{◌≡◌, ℕ, suc, ◌+◌, ◌<◌, List, [], ◌∷◌, ◌++◌, get_or, take, drop, Bool, true, false, cond, Option, Some, None, refl, sym, ap, ◌∙◌, append_assoc, append-nil, length-take, arith, inl, inr}
+use Rattle.std.proofs.Common.{◌≡◌, ℕ, suc, ◌+◌, ◌<◌, List, [], ◌∷◌, ◌++◌, get_or, take, drop, Bool, true, false, cond, Option, Some, None}
+use Rattle.std.proofs.Common.{refl, sym, ap, ◌∙◌, append_assoc, append-nil, length-take, arith, inl, inr}
 use Rattle.std.proofs.lemmas.Bool.{cases_lt}
 use Rattle.std.proofs.lemmas.List.{get_or-drop, get_or-take, get_or_past}
 use Rattle.mg_read.specs.Reader.{Reader, ◌>>=◌}
@@ -27,7 +28,11 @@ pub record Takes (bytes text rest : List ℕ) : Type 0 where
   pub rest_fits : IsBytes rest
 
 pub Takes-then : (a x b y c : List ℕ) → Takes a x b → Takes b y c → Takes a (x ++ y) c
-Takes-then a x b y c p q = record { parts = p.parts ∙ ap (λ (t : List ℕ). x ++ t) q.parts ∙ sym (append_assoc x y c); rest_fits = q.rest_fits }
+Takes-then a x b y c p q = record {
+  parts = p.parts ∙ ap (λ (t : List ℕ). x ++ t) q.parts ∙ sym (append_assoc x y c);
+  rest_fits =
+      q.rest_fits;
+}
 
 pub Takes-all : (bytes text rest : List ℕ) → Takes bytes text rest → rest ≡ [] → bytes ≡ text
 Takes-all bytes text rest t e = t.parts ∙ ap (λ (r : List ℕ). text ++ r) e ∙ append-nil text
@@ -48,7 +53,8 @@ pub record Read {A B : Type 0} (spell : A → List ℕ) (ok : A → Type 0) (nex
   pub fits : ok value
   pub goes_on : next (value, rest) ≡ Some y
 
-pub read : {A B : Type 0} (f : Reader ℕ A) (spell : A → List ℕ) (ok : A → Type 0) (next : A × List ℕ → Option B) (bytes : List ℕ) (y : B) → IsSound f spell ok → IsBytes bytes → (f bytes >>= next) ≡ Some y → Read spell ok next bytes y
+pub read : {A B : Type 0} (f : Reader ℕ A) (spell : A → List ℕ) (ok : A → Type 0) (next : A × List ℕ → Option B) (bytes : List ℕ) (y : B) →
+    IsSound f spell ok → IsBytes bytes → (f bytes >>= next) ≡ Some y → Read spell ok next bytes y
 read f spell ok next bytes y sound fits e =
     let x = bind_some (f bytes) next y e in
     let t = sound bytes x.0 fits x.1 in

@@ -1,5 +1,6 @@
 -- A class file: what is read is spelled so, and what is spelled so is read.
-use Rattle.std.proofs.Common.{◌≡◌, ℕ, List, [], ◌++◌, length, ◌+◌, append_assoc, append-nil, eqb, Some, None, refl, sym, ap, subst, ◌∙◌, arith}
+use Rattle.std.proofs.Common.{◌≡◌, ℕ, List, [], ◌++◌, length, ◌+◌, append_assoc, append-nil, eqb, Some, None, refl, sym, ap, subst, ◌∙◌}
+use Rattle.std.proofs.Common.{arith}
 use Rattle.std.proofs.lemmas.Bool.{eqb-true}
 use Rattle.std.proofs.lemmas.List.{nil_from_length}
 use Rattle.mg_read.specs.Reader.{◌>>=◌}
@@ -12,7 +13,8 @@ use Rattle.std.specs.List.{flat_map}
 use Rattle.cls_bytes.specs.Reading.{behind, behind_head, three_at, pool_at, Members, members_at, class_at}
 use Rattle.cls_bytes.proofs.Steps.{IsBytes, Takes, Takes-then, Takes-all, read, held}
 use Rattle.cls_bytes.proofs.Numbers.{IsU4, u2_sound, u2_complete, u4_sound, u4_complete, behind_sound, behind_complete}
-use Rattle.cls_bytes.proofs.Parts.{three_bytes, FitThree, three_sound, three_complete, all_members_bytes, FitMembers, all_members_sound, all_members_complete, pool_bytes, FitPool, pool_sound, pool_complete}
+use Rattle.cls_bytes.proofs.Parts.{three_bytes, FitThree, three_sound, three_complete, all_members_bytes, FitMembers, all_members_sound}
+use Rattle.cls_bytes.proofs.Parts.{all_members_complete, pool_bytes, FitPool, pool_sound, pool_complete}
 
 -- the magic number and the version
 abbrev head : List ℕ
@@ -31,20 +33,27 @@ head_sound bytes rest fits e =
 head_complete : (rest : List ℕ) → behind_head (head ++ rest) ≡ Some rest
 unfolding behind_head
 head_complete rest =
-    rw (behind_complete 4 3405691582 IsU4 u4_complete (omega arith) (u2 0 ++ (u2 49 ++ rest)), behind_complete 2 0 IsU2 u2_complete (omega arith) (u2 49 ++ rest)) (behind_complete 2 49 IsU2 u2_complete (omega arith) rest)
+    rw (
+      behind_complete 4 3405691582 IsU4 u4_complete (omega arith) (u2 0 ++ (u2 49 ++ rest)),
+      behind_complete 2 0 IsU2 u2_complete
+          (omega arith) (u2 49 ++ rest),
+    ) (behind_complete 2 49 IsU2 u2_complete (omega arith) rest)
 
 -- the parts of a class file one behind the other
-grouped : (a b c d e f g h r : List ℕ) → (a ++ (b ++ c)) ++ ((d ++ e) ++ ((f ++ (g ++ h)) ++ r)) ≡ a ++ (b ++ (c ++ (d ++ (e ++ (f ++ (g ++ (h ++ r)))))))
+grouped : (a b c d e f g h r : List ℕ) → (a ++ (b ++ c)) ++ ((d ++ e) ++ ((f ++ (g ++ h)) ++ r)) ≡ a
+    ++ (b ++ (c ++ (d ++ (e ++ (f ++ (g ++ (h ++ r)))))))
 grouped a b c d e f g h r = simp append_assoc
 
 -- a class file, part by part
 abbrev parts_of : Tree → List ℕ
 parts_of c =
-    head ++ (pool_bytes c.pool ++ (three_bytes (c.access, c.this_class, c.super_class) ++ (u2 0 ++ all_members_bytes (c.fields, c.methods, c.attributes))))
+    head ++ (pool_bytes c.pool ++ (three_bytes (c.access, c.this_class, c.super_class)
+    ++ (u2 0 ++ all_members_bytes (c.fields, c.methods, c.attributes))))
 
 spelled_as : (c : Tree) → parts_of c ≡ class_bytes c
 spelled_as c =
-    grouped (u4 3405691582) (u2 0) (u2 49) (u2 (length c.pool + 1)) (flat_map const_bytes c.pool) (u2 c.access) (u2 c.this_class) (u2 c.super_class)
+    grouped (u4 3405691582) (u2 0) (u2 49) (u2 (length c.pool + 1)) (flat_map const_bytes c.pool) (u2 c.access) (u2 c.this_class)
+    (u2 c.super_class)
     (u2 0 ++ all_members_bytes (c.fields, c.methods, c.attributes))
 
 pub class_sound : (bytes : List ℕ) (class : Tree) → IsBytes bytes → class_at bytes ≡ Some class → IsFile class × (bytes ≡ class_bytes class)
@@ -58,15 +67,28 @@ class_sound bytes class fits e =
     let z = behind_sound 2 0 IsU2 u2_sound three.rest middle.0 three.takes.rest_fits middle.1 in
     let p = pool.value in
     let members = read (members_at p) all_members_bytes (FitMembers p) _ middle.0 class (all_members_sound p) z.rest_fits middle.2 in
-    let made : Tree = record { pool = p; access = three.value.0; this_class = three.value.1; super_class = three.value.2; fields = members.value.0; methods = members.value.1; attributes = members.value.2 } in
+    let made : Tree = record {
+      pool = p;
+      access = three.value.0;
+      this_class = three.value.1;
+      super_class = three.value.2;
+      fields =
+          members.value.0;
+      methods = members.value.1;
+      attributes = members.value.2;
+    } in
     let g = held (eqb (length members.rest) 0) (Some made) class members.goes_on in
     let nothing : members.rest ≡ [] = nil_from_length members.rest (eqb-true _ _ g.0) in
     let t3 = Takes-then three.rest (u2 0) middle.0 (all_members_bytes members.value) members.rest z members.takes in
-    let t2 = Takes-then pool.rest (three_bytes three.value) three.rest (u2 0 ++ all_members_bytes members.value) members.rest three.takes t3 in
-    let t1 = Takes-then front.0 (pool_bytes p) pool.rest (three_bytes three.value ++ (u2 0 ++ all_members_bytes members.value)) members.rest pool.takes t2 in
-    let t0 = Takes-then bytes head front.0 (pool_bytes p ++ (three_bytes three.value ++ (u2 0 ++ all_members_bytes members.value))) members.rest h t1 in
+    let t2 = Takes-then pool.rest (three_bytes three.value) three.rest (u2 0 ++ all_members_bytes members.value) members.rest three.takes t3
+    in
+    let t1 = Takes-then front.0 (pool_bytes p) pool.rest (three_bytes three.value ++ (u2 0 ++ all_members_bytes members.value)) members.rest
+    pool.takes t2 in
+    let t0 = Takes-then bytes head front.0 (pool_bytes p ++ (three_bytes three.value ++ (u2 0 ++ all_members_bytes members.value)))
+    members.rest h t1 in
     let all : bytes ≡ class_bytes made =
-    Takes-all bytes (head ++ (pool_bytes p ++ (three_bytes three.value ++ (u2 0 ++ all_members_bytes members.value)))) members.rest t0 nothing ∙ spelled_as made in
+    Takes-all bytes (head ++ (pool_bytes p ++ (three_bytes three.value ++ (u2 0 ++ all_members_bytes members.value)))) members.rest t0
+    nothing ∙ spelled_as made in
     let ok : IsFile made =
     record {
       pool = pool.fits.0;
@@ -88,7 +110,8 @@ class_complete class ok =
     let members : Members = (class.fields, class.methods, class.attributes) in
     let rest = u2 0 ++ all_members_bytes members in
     let a : members_at p (all_members_bytes members) ≡ Some (members, []) =
-    ap (members_at p) (sym (append-nil (all_members_bytes members))) ∙ all_members_complete p members [] (ok.fields, ok.methods, ok.attributes) in
+    ap (members_at p) (sym (append-nil (all_members_bytes members))) ∙ all_members_complete p members []
+    (ok.fields, ok.methods, ok.attributes) in
     ap class_at (sym (spelled_as class))
     ∙ rw (
       head_complete (pool_bytes p ++ (three_bytes three ++ rest)),
@@ -99,7 +122,8 @@ class_complete class ok =
     ) refl
 
 -- bytes that one class spells and reading gives another
-pub only_one : (bytes : List ℕ) (found class : Tree) → class_at bytes ≡ Some found → IsFile class → bytes ≡ class_bytes class → found ≡ class
+pub only_one : (bytes : List ℕ) (found class : Tree) → class_at bytes ≡ Some found → IsFile class → bytes ≡ class_bytes class →
+    found ≡ class
 only_one bytes found class read_so ok e = some_is found class (sym read_so ∙ ap class_at e ∙ class_complete class ok)
 
 -- bytes that a class spells are read

@@ -1,5 +1,6 @@
 -- Which fields are wrong. The first of them in the row decides.
-use Rattle.std.specs.Prelude.{◌≡◌, ℕ, ◌+◌, List, [], ◌∷◌, length, drop, take, Option, Some, None, Bool, true, false, nat_lt, ◌&&◌, ◌==◌, not, if◌then◌else◌}
+use Rattle.std.specs.Prelude.{◌≡◌, ℕ, ◌+◌, List, [], ◌∷◌, length, drop, take, Option, Some, None, Bool, true, false, nat_lt, ◌&&◌, ◌==◌}
+use Rattle.std.specs.Prelude.{not, if◌then◌else◌}
 use Rattle.std.specs.Str.{IsUtf8}
 use Rattle.cls_tree.specs.declared.instr.Form.{Form}
 use Rattle.cls_tree.specs.declared.instr.Form.TheVariants as forms
@@ -68,7 +69,8 @@ first_misnamed bad place (i ∷ is) =
 -- A code is right, or has a fault; its numbers are judged only where the code has none.
 pub data JudgesCode (bad : ℕ → ℕ → Bool) (code : List ℕ) (at : ℕ) : Option ClassFault → Type 0 where
   faulty : {fault : CodeFault} → Decodes code (Fault fault) → JudgesCode bad code at (Some (faults.Code (moved at fault)))
-  misnamed : {is : List Instr} {place : ℕ} → Decodes code (Instrs is) → first_misnamed bad 0 is ≡ Some place → JudgesCode bad code at (Some (faults.BadIndex (at + place)))
+  misnamed : {is : List Instr} {place : ℕ} → Decodes code (Instrs is) → first_misnamed bad 0 is ≡ Some place →
+      JudgesCode bad code at (Some (faults.BadIndex (at + place)))
   right : {is : List Instr} → Decodes code (Instrs is) → first_misnamed bad 0 is ≡ None → JudgesCode bad code at None
 
 -- what a name of an attribute of a method is judged: it is a text, and code only once
@@ -102,7 +104,8 @@ module _ (bytes places : List ℕ) where
   -- what a field is judged before these others
   pub data JudgesField (f : Field) (later : List Field) : Option ClassFault → Type 0 where
     cut : is_cut bytes f ≡ true → JudgesField f later (Some (faults.Short f.at))
-    whole : {r : Option ClassFault} → is_cut bytes f ≡ false → Judges later f.part f.at (number bytes f) (drop f.at bytes) r → JudgesField f later r
+    whole : {r : Option ClassFault} → is_cut bytes f ≡ false → Judges later f.part f.at (number bytes f) (drop f.at bytes) r →
+        JudgesField f later r
 
   -- the fault of the first field that has one, or none
   pub data First : List Field → Option ClassFault → Type 0 where

@@ -1,5 +1,6 @@
 -- Reading modified UTF-8 (JVMS 4.4.7): units of one to three bytes, and characters of one unit or of two surrogates.
-use Rattle.std.specs.Prelude.{ℕ, ◌+◌, ◌-◌, ◌*◌, List, [], ◌∷◌, Option, Some, None, Bool, true, false, nat_lt, ◌==◌, ◌&&◌, encode_utf8_all, if◌then◌else◌}
+use Rattle.std.specs.Prelude.{ℕ, ◌+◌, ◌-◌, ◌*◌, List, [], ◌∷◌, Option, Some, None, Bool, true, false, nat_lt, ◌==◌, ◌&&◌, encode_utf8_all}
+use Rattle.std.specs.Prelude.{if◌then◌else◌}
 use Rattle.mg_read.specs.Reader.{Reader, ◌>>=◌, all_of}
 
 -- whether a byte goes on a unit
@@ -20,7 +21,8 @@ unit_of_three a b c = (a - 224) * 4096 + (b - 128) * 64 + (c - 128)
 -- a unit of two bytes, behind the first of them
 unfoldable pub two_at : ℕ → Reader ℕ ℕ
 two_at a [] = None
-two_at a (b ∷ rest) = if is_tail b then unless_long (nat_lt 0 (unit_of_two a b) && nat_lt (unit_of_two a b) 128) (unit_of_two a b) rest else None
+two_at a (b ∷ rest) = if is_tail b then unless_long (nat_lt 0 (unit_of_two a b) && nat_lt (unit_of_two a b) 128) (unit_of_two a b) rest else
+    None
 
 -- a unit of three bytes, behind the first of them
 unfoldable pub three_at : ℕ → Reader ℕ ℕ

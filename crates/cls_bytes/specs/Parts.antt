@@ -62,7 +62,8 @@ attribute_holds left seen false = parts.OtherLength ∷ attributes_left left see
 
 -- what a code holds: two numbers, the code behind its size, handlers and attributes, up to its length
 abbrev pub content : ℕ → ℕ → List Part
-content from length = parts.Number ∷ parts.Number ∷ parts.CodeSize ∷ parts.Handlers ∷ parts.AttributeCount false ∷ parts.ContentEnd from length ∷ []
+content from length = parts.Number ∷ parts.Number ∷ parts.CodeSize ∷ parts.Handlers ∷ parts.AttributeCount false ∷ parts.ContentEnd from
+    length ∷ []
 
 -- what is due behind a part at this place in which this number stands; named is whether it is the number of the name of code
 abbrev pub brings : Part → ℕ → ℕ → Bool → List Part

@@ -1,5 +1,6 @@
 -- Reading the bytes of a class from left to right: each function gives a value and the bytes after it.
-use Rattle.std.specs.Prelude.{ℕ, zero, suc, ◌+◌, ◌-◌, List, [], ◌∷◌, length, take, drop, Option, Some, None, Bool, true, false, nat_lt, ◌==◌, ◌&&◌, count_by, if◌then◌else◌}
+use Rattle.std.specs.Prelude.{ℕ, zero, suc, ◌+◌, ◌-◌, List, [], ◌∷◌, length, take, drop, Option, Some, None, Bool, true, false, nat_lt}
+use Rattle.std.specs.Prelude.{◌==◌, ◌&&◌, count_by, if◌then◌else◌}
 use Rattle.std.specs.Int.{cast_signed}
 use mir.Syntax.{w32}
 use Rattle.byteorder.specs.Endian.{big_number}
@@ -178,7 +179,16 @@ unfoldable pub member_at : List Const → Bool → Reader ℕ Member
 member_at pool is_method bytes = do
   three ← three_at bytes
   attributes ← listed_at (attr_at pool is_method) three.1
-  if nat_lt 1 (count_by is_code attributes.0) then None else Some (record { access = three.0.0; name = three.0.1; descriptor = three.0.2; attributes = attributes.0 }, attributes.1)
+  if nat_lt 1 (count_by is_code attributes.0) then None else Some (
+    record {
+      access = three.0.0;
+      name = three.0.1;
+      descriptor =
+          three.0.2;
+      attributes = attributes.0;
+    },
+    attributes.1,
+  )
 
 -- what stands behind the magic number and the version
 unfoldable pub behind_head : List ℕ → Option (List ℕ)
@@ -212,4 +222,13 @@ class_at bytes = do
   three ← three_at pool.1
   interfaces ← behind 2 0 three.1
   members ← members_at pool.0 interfaces
-  if length members.1 == 0 then Some (record { pool = pool.0; access = three.0.0; this_class = three.0.1; super_class = three.0.2; fields = members.0.0; methods = members.0.1; attributes = members.0.2 }) else None
+  if length members.1 == 0 then Some (record {
+    pool = pool.0;
+    access = three.0.0;
+    this_class = three.0.1;
+    super_class = three.0.2;
+    fields =
+        members.0.0;
+    methods = members.0.1;
+    attributes = members.0.2;
+  }) else None

@@ -1,5 +1,6 @@
 -- The bytes of a class file as a row of fields from left to right, as far as they can be laid out.
-use Rattle.std.specs.Prelude.{◌≡◌, ℕ, ◌+◌, ◌-◌, ◌*◌, List, [], ◌∷◌, ◌++◌, length, drop, get_or, Bool, true, false, nat_lt, ◌==◌, ◌||◌, ◌&&◌, not}
+use Rattle.std.specs.Prelude.{◌≡◌, ℕ, ◌+◌, ◌-◌, ◌*◌, List, [], ◌∷◌, ◌++◌, length, drop, get_or, Bool, true, false, nat_lt, ◌==◌, ◌||◌, ◌&&◌}
+use Rattle.std.specs.Prelude.{not}
 use Rattle.byteorder.specs.Endian.{big_number}
 use Rattle.cls_bytes.specs.declared.format.Part.{Part}
 use Rattle.cls_bytes.specs.declared.format.Part.TheVariants as parts
@@ -18,7 +19,8 @@ is_cut bytes f = nat_lt (length (drop f.at bytes)) (size f.part)
 unfoldable pub pool_count : List ℕ → ℕ
 pool_count bytes = 256 * get_or bytes 8 0 + get_or bytes 9 0
 
--- whether the constant of this number can't be one with that tag: there is none of the number, or the one that begins at its place has another
+-- whether the constant of this number can't be one with that tag: there is none of the number, or the one that begins at its place has
+-- another
 unfoldable pub is_bad_entry : List ℕ → List ℕ → ℕ → ℕ → Bool
 is_bad_entry bytes places tag n =
     (n == 0) || (not (nat_lt n (pool_count bytes))

@@ -7,7 +7,8 @@ ghost use Rattle.cls_tree.specs.Layout.{pad, instr_bytes, code_bytes};
 ghost use Rattle.cls_tree.specs.Fits.{FitsInstr, FitsInstrs};
 ghost use Rattle.cls_code.specs.Code.{fixed};
 ghost use Rattle.cls_bytes.specs.Row.{is_bad_entry};
-ghost use Rattle.cls_bytes.specs.Faults.{unless, ends_well, is_misnamed, args_misnamed, first_misnamed, judged_name, judged, JudgesText, JudgesCode, JudgesField, First};
+ghost use Rattle.cls_bytes.specs.Faults.{unless, ends_well, is_misnamed, args_misnamed, first_misnamed, judged_name, judged, JudgesText};
+ghost use Rattle.cls_bytes.specs.Faults.{JudgesCode, JudgesField, First};
 ghost use Rattle.cls_bytes.specs.Judging.{extra, MovesWithin, IsMoved};
 
 use crate::ClassFault;

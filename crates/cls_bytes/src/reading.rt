@@ -6,7 +6,9 @@ ghost use Rattle.mg_read.specs.Reader.{Gives};
 ghost use Rattle.cls_tree.specs.View.{instrs_of as instrs_seen, inner_of, attr_of, member_of, class_of};
 ghost use Rattle.cls_tree.specs.ClassFile.{names_code};
 ghost use Rattle.cls_tree.specs.WellFormed.{is_code};
-ghost use Rattle.cls_bytes.specs.Reading.{number_at, behind, text_at, tagged_at, const_at, counted, instrs_of, run_at, inner_at, body_at, inners_at, content_at, code_at, other_at, attr_at, listed_at, pair_at, three_at, member_at, members_at, behind_head, pool_at, class_at};
+ghost use Rattle.cls_bytes.specs.Reading.{number_at, behind, text_at, tagged_at, const_at, counted, instrs_of, run_at, inner_at, body_at};
+ghost use Rattle.cls_bytes.specs.Reading.{inners_at, content_at, code_at, other_at, attr_at, listed_at, pair_at, three_at, member_at};
+ghost use Rattle.cls_bytes.specs.Reading.{members_at, behind_head, pool_at, class_at};
 
 use crate::format::{MAGIC, VERSION};
 use crate::letters::text_in;
@@ -446,7 +448,8 @@ fn all_members_of<'a>(
     pool: &[Const],
     bytes: &'a [u8],
 ) -> Result<((List<Member>, List<Member>, List<Attr>), &'a [u8]), ReadError>
-    ensures { Gives (λ x. ((map member_of x.0.0.items, map member_of x.0.1.items, map attr_of x.0.2.items), x.1.now)) result (members_at pool.now bytes.now) }
+    ensures { Gives (λ x. ((map member_of x.0.0.items, map member_of x.0.1.items, map attr_of x.0.2.items), x.1.now)) result
+        (members_at pool.now bytes.now) }
 {
     let (fields, rest) = members_behind(alloc, pool, false, bytes)?;
     let (methods, rest) = members_behind(alloc, pool, true, rest)?;

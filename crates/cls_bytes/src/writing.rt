@@ -5,7 +5,8 @@ ghost use Rattle.std.specs.Prelude.{◌≡◌, ◌+◌, ◌≤◌, ◌<◌, ◌^
 ghost use Rattle.std.specs.List.{flat_map, AllByRecursion};
 ghost use Rattle.cls_tree.specs.Tree.{Coded};
 ghost use Rattle.cls_tree.specs.View.{code_of as code_seen, attr_of, inner_of, member_of, class_of, instrs_of};
-ghost use Rattle.cls_tree.specs.Layout.{u2, u4, text_bytes, const_bytes, code_bytes, inner_bytes, content_bytes, attr_bytes, attrs_bytes, member_bytes, members_bytes};
+ghost use Rattle.cls_tree.specs.Layout.{u2, u4, text_bytes, const_bytes, code_bytes, inner_bytes, content_bytes, attr_bytes, attrs_bytes};
+ghost use Rattle.cls_tree.specs.Layout.{member_bytes, members_bytes};
 ghost use Rattle.cls_tree.specs.Fits.{Fits, FitsConst, FitsInstrs, FitsInner, FitsCode, FitsAttr, FitsMember, Counted};
 ghost use Rattle.cls_tree.specs.declared.class.Const.TheVariants.{Utf8};
 ghost use Rattle.cls_code.specs.Code.{encoding};
@@ -179,7 +180,8 @@ fn put_attrs(alloc: Global, out: &mut Bytes, attributes: &[Attr]) -> Result<(), 
 
 fn put_member(alloc: Global, out: &mut Bytes, member: &Member) -> Result<(), WriteFault>
     requires { FitsMember (member_of member.now) }
-    ensures { Puts out.old out.new (member_bytes (member_of member.now)) (attrs_refusal (map attr_of member.now.attributes.items) None) result }
+    ensures { Puts out.old out.new (member_bytes (member_of member.now)) (attrs_refusal (map attr_of member.now.attributes.items) None)
+        result }
 {
     put_u2(out, member.access)?;
     put_u2(out, member.name)?;
@@ -202,7 +204,9 @@ fn put_members(alloc: Global, out: &mut Bytes, members: &[Member]) -> Result<(),
 /// Magic, version 49.0, the pool and its count plus one.
 fn put_front(alloc: Global, out: &mut Bytes, class: &Class) -> Result<(), Memory>
     requires { Fits (class_of class.now) }
-    ensures { OnOk result (out.new ≡ out.old ++ (u4 3405691582 ++ (u2 0 ++ (u2 49 ++ (u2 (length (class_of class.now).pool + 1) ++ flat_map const_bytes (class_of class.now).pool))))) }
+    ensures { OnOk result (out.new ≡ out.old
+        ++ (u4 3405691582 ++ (u2 0 ++ (u2 49
+        ++ (u2 (length (class_of class.now).pool + 1) ++ flat_map const_bytes (class_of class.now).pool))))) }
 {
     put_u4(out, MAGIC)?;
     put_u2(out, 0)?;

@@ -1,5 +1,6 @@
 -- Instructions that were laid out from the left.
-use Rattle.std.proofs.Common.{◌≡◌, ◌⊎◌, ℕ, ℤ, suc, ◌+◌, ◌<◌, ◌≤◌, List, [], ◌∷◌, ◌++◌, length, take, drop, map, get_or, Option, Some, None, refl, sym, ap, subst, ◌∙◌, append_assoc, append-nil, length-append, length-drop, add-one, arith, inl, inr}
+use Rattle.std.proofs.Common.{◌≡◌, ◌⊎◌, ℕ, ℤ, suc, ◌+◌, ◌<◌, ◌≤◌, List, [], ◌∷◌, ◌++◌, length, take, drop, map, get_or, Option, Some, None}
+use Rattle.std.proofs.Common.{refl, sym, ap, subst, ◌∙◌, append_assoc, append-nil, length-append, length-drop, add-one, arith, inl, inr}
 use Rattle.std.proofs.lemmas.List.{drop_all, drop-drop, drop_more, map-append, take_more}
 use Rattle.std.specs.List.{AllByRecursion}
 use Rattle.cls_tree.specs.declared.instr.Instr.{Instr as Kept}
@@ -45,17 +46,22 @@ read_first bytes kept starts e f =
       within = omega arith;
     }
 
-module _ (bytes : List ℕ) (fits : IsBytes bytes) (kept more : List Kept) (starts : List ℕ) (place : ℕ) (r : IsRead bytes (instrs_of kept) starts place) where
-  pub read_more : (k : Kept) (size : ℕ) → unfit place (drop place bytes) ≡ None → instr_of k ≡ instr_in place (drop place bytes) → size ≡ size_in place (drop place bytes)
+module _ (bytes : List ℕ) (fits : IsBytes bytes) (kept more : List Kept) (starts : List ℕ) (place : ℕ)
+    (r : IsRead bytes (instrs_of kept) starts place) where
+  pub read_more : (k : Kept) (size : ℕ) → unfit place (drop place bytes) ≡ None → instr_of k ≡ instr_in place (drop place bytes) →
+      size ≡ size_in place (drop place bytes)
       → more ≡ kept ++ k ∷ [] → IsRead bytes (instrs_of more) (starts ++ place ∷ []) (place + size)
   read_more k size none is sized e =
       let rest = drop place bytes in
       let i = instr_in place rest in
       let s = stands place rest (bytes_drop place bytes fits) none in
-      let all : instrs_of more ≡ instrs_of kept ++ i ∷ [] = ap instrs_of e ∙ map-append instr_of kept (k ∷ []) ∙ ap (λ x. instrs_of kept ++ x ∷ []) is in
+      let all : instrs_of more ≡ instrs_of kept ++ i ∷ [] = ap instrs_of e ∙ map-append instr_of kept (k ∷ []) ∙
+      ap (λ x. instrs_of kept ++ x ∷ []) is in
       let code : code_bytes (instrs_of more) ≡ code_bytes (instrs_of kept) ++ instr_bytes place i =
-      ap code_bytes all ∙ code_snoc 0 (instrs_of kept) i ∙ ap (λ n. code_bytes (instrs_of kept) ++ instr_bytes n i) (here (length (code_bytes (instrs_of kept))) r.at) in
-      let long : length (code_bytes (instrs_of more)) ≡ length (code_bytes (instrs_of kept)) + length (instr_bytes place i) = ap length code ∙ length-append (code_bytes (instrs_of kept)) (instr_bytes place i) in
+      ap code_bytes all ∙ code_snoc 0 (instrs_of kept) i ∙ ap (λ n. code_bytes (instrs_of kept) ++ instr_bytes n i)
+      (here (length (code_bytes (instrs_of kept))) r.at) in
+      let long : length (code_bytes (instrs_of more)) ≡ length (code_bytes (instrs_of kept)) + length (instr_bytes place i) =
+      ap length code ∙ length-append (code_bytes (instrs_of kept)) (instr_bytes place i) in
       let rest_is : drop size rest ≡ drop (place + size) bytes = drop-drop size place bytes ∙ ap (λ n. drop n bytes) (omega arith) in
       let at = r.at in
       let len = s.sized in
@@ -64,17 +70,22 @@ module _ (bytes : List ℕ) (fits : IsBytes bytes) (kept more : List Kept) (star
       let started = r.started in
       record {
         fit = subst (AllByRecursion FitsInstr) (sym all) (All-snoc FitsInstr (instrs_of kept) i r.fit s.fits);
-        spelled = r.spelled ∙ ap (λ bs. code_bytes (instrs_of kept) ++ bs) (s.spelled ∙ ap (λ n. instr_bytes place i ++ drop n rest) (sym sized) ∙ ap (λ bs. instr_bytes place i ++ bs) rest_is)
-            ∙ sym (append_assoc (code_bytes (instrs_of kept)) (instr_bytes place i) (drop (place + size) bytes)) ∙ ap (λ bs. bs ++ drop (place + size) bytes) (sym code);
+        spelled = r.spelled ∙ ap (λ bs. code_bytes (instrs_of kept) ++ bs) (s.spelled ∙ ap (λ n. instr_bytes place i ++ drop n rest)
+            (sym sized) ∙ ap (λ bs. instr_bytes place i ++ bs) rest_is)
+            ∙ sym (append_assoc (code_bytes (instrs_of kept)) (instr_bytes place i) (drop (place + size) bytes)) ∙
+            ap (λ bs. bs ++ drop (place + size) bytes) (sym code);
         at = omega arith;
-        started = ap (λ ns. ns ++ place ∷ []) started ∙ ap (λ n. starts_from 0 (instrs_of kept) ++ n ∷ []) (sym (here (length (code_bytes (instrs_of kept))) r.at)) ∙ sym (starts_snoc 0 (instrs_of kept) i) ∙ ap (starts_from 0) (sym all);
+        started = ap (λ ns. ns ++ place ∷ []) started ∙ ap (λ n. starts_from 0 (instrs_of kept) ++ n ∷ [])
+            (sym (here (length (code_bytes (instrs_of kept))) r.at)) ∙ sym (starts_snoc 0 (instrs_of kept) i) ∙ ap (starts_from 0)
+            (sym all);
         within = let w = r.within in omega arith;
       }
     where
       here : (n : ℕ) → place ≡ n → 0 + n ≡ place
       here n e = omega arith
 
-  pub read_stuck : (fault : CodeFault) → length bytes ≤ 32767 → place < length bytes → unfit place (drop place bytes) ≡ Some fault → Decodes bytes (Fault fault)
+  pub read_stuck : (fault : CodeFault) → length bytes ≤ 32767 → place < length bytes → unfit place (drop place bytes) ≡ Some fault →
+      Decodes bytes (Fault fault)
   read_stuck fault short below u =
       stuck (drop place bytes) short r.fit r.spelled (inl (omega (arith, length-drop place bytes)))
       (ap (λ n. unfit n (drop place bytes)) (sym r.at) ∙ u)
@@ -94,8 +105,10 @@ module _ (bytes : List ℕ) (fits : IsBytes bytes) (kept more : List Kept) (star
 
 -- one more instruction was written
 pub written_more : (kept : List Kept) (k : ℕ) (d : Kept) → k < length kept
-    → (code_bytes (instrs_of (take (k + 1) kept)) ≡ code_bytes (instrs_of (take k kept)) ++ instr_bytes (length (code_bytes (instrs_of (take k kept)))) (instr_of (get_or kept k d)))
-    × (starts_from 0 (instrs_of (take (k + 1) kept)) ≡ starts_from 0 (instrs_of (take k kept)) ++ length (code_bytes (instrs_of (take k kept))) ∷ [])
+    → (code_bytes (instrs_of (take (k + 1) kept)) ≡ code_bytes (instrs_of (take k kept))
+    ++ instr_bytes (length (code_bytes (instrs_of (take k kept)))) (instr_of (get_or kept k d)))
+    × (starts_from 0 (instrs_of (take (k + 1) kept)) ≡ starts_from 0 (instrs_of (take k kept))
+    ++ length (code_bytes (instrs_of (take k kept))) ∷ [])
 written_more kept k d below =
     let all : instrs_of (take (k + 1) kept) ≡ instrs_of (take k kept) ++ instr_of (get_or kept k d) ∷ [] =
     ap instrs_of (take_more kept k d below) ∙ map-append instr_of (take k kept) (get_or kept k d ∷ []) in
@@ -120,7 +133,8 @@ placed_fault bytes (faults.JumpOutside n) d = d
 placed_fault bytes faults.Memory d = tt
 
 -- the instruction that was read lies within the bytes, and takes some of them
-pub read_within : (bytes : List ℕ) (place size : ℕ) → IsBytes bytes → place ≤ length bytes → unfit place (drop place bytes) ≡ None → size ≡ size_in place (drop place bytes)
+pub read_within : (bytes : List ℕ) (place size : ℕ) → IsBytes bytes → place ≤ length bytes → unfit place (drop place bytes) ≡ None →
+    size ≡ size_in place (drop place bytes)
     → (place + size ≤ length bytes) × (0 < size)
 read_within bytes place size fits le none sized =
     let s = stands place (drop place bytes) (bytes_drop place bytes fits) none in
@@ -130,7 +144,8 @@ read_within bytes place size fits le none sized =
     (omega arith, omega arith)
 
 -- what was decoded is all that the bytes are
-exact_fault : (bytes : List ℕ) (fault : CodeFault) (decoding : Decoding) → Decodes bytes (Fault fault) → Decodes bytes decoding → decoding ≡ Fault fault
+exact_fault : (bytes : List ℕ) (fault : CodeFault) (decoding : Decoding) → Decodes bytes (Fault fault) → Decodes bytes decoding →
+    decoding ≡ Fault fault
 exact_fault bytes fault decoding d e = decodes_once bytes decoding (Fault fault) e d
 
 of_fault : (decoding : Decoding) (fault : CodeFault) → decoding ≡ Fault fault → IsDecodedOrMemory decoding (Err fault)
@@ -148,7 +163,8 @@ free : (decoding : Decoding) → IsDecodedOrMemory decoding (Err faults.Memory)
 free (Instrs is) = tt
 free (Fault fault) = tt
 
-pub exact_of : (bytes : List ℕ) (result : Result (Row Kept) CodeFault) → IsDecoded bytes result → (decoding : Decoding) → Decodes bytes decoding → IsDecodedOrMemory decoding result
+pub exact_of : (bytes : List ℕ) (result : Result (Row Kept) CodeFault) → IsDecoded bytes result → (decoding : Decoding) →
+    Decodes bytes decoding → IsDecodedOrMemory decoding result
 exact_of bytes (Ok r) found decoding d =
     subst (λ x. IsDecodedOrMemory x (Ok r)) (decodes_once bytes (Instrs (instrs_of r.items)) decoding found d) refl
 exact_of bytes (Err faults.Memory) found decoding d = free decoding
@@ -159,12 +175,14 @@ exact_of bytes (Err (faults.BadSwitch n)) found decoding d = of_fault decoding _
 exact_of bytes (Err (faults.JumpOutside n)) found decoding d = of_fault decoding _ (exact_fault bytes _ decoding found d)
 
 -- all instructions were laid out, and their jumps were judged
-pub all_inside : (bytes : List ℕ) (kept : List Kept) (starts : List ℕ) → length bytes ≤ 32767 → ArePlaced bytes (instrs_of kept) starts → None ≡ first_outside (instrs_of kept)
+pub all_inside : (bytes : List ℕ) (kept : List Kept) (starts : List ℕ) → length bytes ≤ 32767 → ArePlaced bytes (instrs_of kept) starts →
+    None ≡ first_outside (instrs_of kept)
     → Decodes bytes (Instrs (instrs_of kept))
 all_inside bytes kept starts short p none =
     whole p.fit (record { short = let n = ap length p.spelled in omega arith; inside = sym none }) p.spelled
 
-pub one_outside : (bytes : List ℕ) (kept : List Kept) (starts : List ℕ) (place : ℕ) → length bytes ≤ 32767 → ArePlaced bytes (instrs_of kept) starts → Some place ≡ first_outside (instrs_of kept)
+pub one_outside : (bytes : List ℕ) (kept : List Kept) (starts : List ℕ) (place : ℕ) → length bytes ≤ 32767 →
+    ArePlaced bytes (instrs_of kept) starts → Some place ≡ first_outside (instrs_of kept)
     → Decodes bytes (Fault (faults.JumpOutside place))
 one_outside bytes kept starts place short p some = outside (instrs_of kept) short p.fit p.spelled (sym some)
 

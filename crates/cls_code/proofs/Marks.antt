@@ -1,5 +1,7 @@
 -- The marks of starts, and the jumps that reach them.
-use Rattle.std.proofs.Common.{◌≡◌, ◌≢◌, ℕ, zero, suc, ◌+◌, ◌<◌, ◌≤◌, List, [], ◌∷◌, length, get_or, set, drop, replicate, Bool, true, false, cond, ◌||◌, not, Some, None, Option, nat_eq, pos, negsuc, ◌+ℤ◌, ℤ, refl, ap, sym, subst, ◌∙◌, arith, add-one, get_or-set_same, get_or-set_other}
+use Rattle.std.proofs.Common.{◌≡◌, ◌≢◌, ℕ, zero, suc, ◌+◌, ◌<◌, ◌≤◌, List, [], ◌∷◌, length, get_or, set, drop, replicate, Bool, true, false}
+use Rattle.std.proofs.Common.{cond, ◌||◌, not, Some, None, Option, nat_eq, pos, negsuc, ◌+ℤ◌, ℤ, refl, ap, sym, subst, ◌∙◌, arith, add-one}
+use Rattle.std.proofs.Common.{get_or-set_same, get_or-set_other}
 use Rattle.std.specs.List.{list_any, All}
 use Rattle.std.specs.Ordering.{int_eq}
 use Rattle.std.specs.Prelude.{◌==◌}
@@ -37,7 +39,8 @@ mark_one marks s i rest lt = go (nat_eq s i) refl
     go true e = let k : s ≡ i = eqb-true s i e in rw (e, ← k, get_or-set_same marks s true false lt) (both (get_or marks s false) rest)
     go false e = let ne : i ≢ s = λ k. eqb-false s i e (sym k) in rw (e, get_or-set_other marks s i true false ne) refl
 
-pub marking_on : (starts : List ℕ) (marks : List Bool) (len k : ℕ) → k < length starts → get_or starts k 0 < len → Marking starts marks len k
+pub marking_on : (starts : List ℕ) (marks : List Bool) (len k : ℕ) → k < length starts → get_or starts k 0 < len →
+    Marking starts marks len k
     → Marking starts (set marks (get_or starts k 0) true) len (k + 1)
 marking_on starts marks len k below within m =
     let s = get_or starts k 0 in
@@ -49,9 +52,13 @@ marking_on starts marks len k below within m =
           ∙ ap (λ ts. get_or marks at false || list_any (λ t. t == at) ts) (sym e) ∙ m.marked at;
     }
 
-pub marking_last : (starts : List ℕ) (marks : List Bool) (len k : ℕ) → length starts ≤ k → Marking starts marks len k → IsMarked starts marks
+pub marking_last : (starts : List ℕ) (marks : List Bool) (len k : ℕ) → length starts ≤ k → Marking starts marks len k →
+    IsMarked starts marks
 marking_last starts marks len k le m =
-    record { marked = λ at. sym (nothing (get_or marks at false)) ∙ ap (λ ts. get_or marks at false || list_any (λ t. t == at) ts) (sym (drop_all k starts le)) ∙ m.marked at }
+    record {
+      marked = λ at. sym (nothing (get_or marks at false)) ∙ ap (λ ts. get_or marks at false || list_any (λ t. t == at) ts)
+          (sym (drop_all k starts le)) ∙ m.marked at;
+    }
   where
     nothing : (b : Bool) → (b || false) ≡ b
     nothing true = refl
@@ -67,10 +74,12 @@ same_test s n =
 
 same_any : (starts : List ℕ) (n : ℕ) → list_any (λ s. s == n) starts ≡ is_start starts (pos n)
 same_any [] n = refl
-same_any (s ∷ starts) n = ap (λ b. b || list_any (λ t. t == n) starts) (same_test s n) ∙ ap (λ b. int_eq (pos s) (pos n) || b) (same_any starts n)
+same_any (s ∷ starts) n = ap (λ b. b || list_any (λ t. t == n) starts) (same_test s n) ∙ ap (λ b. int_eq (pos s) (pos n) || b)
+    (same_any starts n)
 
 -- a jump to a place
-pub reached_at : (starts : List ℕ) (marks : List Bool) (z : ℤ) (n : ℕ) → IsMarked starts marks → z ≡ pos n → get_or marks n false ≡ is_start starts z
+pub reached_at : (starts : List ℕ) (marks : List Bool) (z : ℤ) (n : ℕ) → IsMarked starts marks → z ≡ pos n →
+    get_or marks n false ≡ is_start starts z
 reached_at starts marks z n m e = m.marked n ∙ same_any starts n ∙ ap (is_start starts) (sym e)
 
 none_before : (starts : List ℕ) (n : ℕ) → is_start starts (negsuc n) ≡ false

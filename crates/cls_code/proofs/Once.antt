@@ -1,5 +1,6 @@
 -- Bytes are one code at most, or have one fault.
-use Rattle.std.proofs.Common.{◌≡◌, ◌⊎◌, ℕ, suc, ◌+◌, ◌<◌, ◌≤◌, List, [], ◌∷◌, ◌++◌, length, Option, Some, None, refl, sym, ap, subst, ◌∙◌, append_assoc, append-nil, length-append, arith, inl, inr}
+use Rattle.std.proofs.Common.{◌≡◌, ◌⊎◌, ℕ, suc, ◌+◌, ◌<◌, ◌≤◌, List, [], ◌∷◌, ◌++◌, length, Option, Some, None, refl, sym, ap, subst, ◌∙◌}
+use Rattle.std.proofs.Common.{append_assoc, append-nil, length-append, arith, inl, inr}
 use Rattle.std.specs.List.{AllByRecursion}
 use Rattle.cls_tree.specs.Tree.{Instr}
 use Rattle.cls_tree.specs.Layout.{instr_bytes, code_from, code_bytes}
@@ -38,8 +39,10 @@ same_front place p q (i ∷ is) [] r s fi fj e pe qe ep eq =
 same_front place p q (i ∷ is) (j ∷ js) r s fi fj e pe qe ep eq =
     let a = code_from (place + length (instr_bytes place i)) is in
     let b = code_from (place + length (instr_bytes place j)) js in
-    let one = same_instr place i j (a ++ r) (b ++ s) fi.0 fj.0 (sym (append_assoc (instr_bytes place i) a r) ∙ e ∙ append_assoc (instr_bytes place j) b s) in
-    let b_is : code_from (place + length (instr_bytes place j)) js ≡ code_from (place + length (instr_bytes place i)) js = ap (λ k. code_from (place + length (instr_bytes place k)) js) (sym one.0) in
+    let one = same_instr place i j (a ++ r) (b ++ s) fi.0 fj.0 (sym (append_assoc (instr_bytes place i) a r) ∙ e ∙
+    append_assoc (instr_bytes place j) b s) in
+    let b_is : code_from (place + length (instr_bytes place j)) js ≡ code_from (place + length (instr_bytes place i)) js =
+    ap (λ k. code_from (place + length (instr_bytes place k)) js) (sym one.0) in
     let n_is : length (instr_bytes place j) ≡ length (instr_bytes place i) = ap (λ k. length (instr_bytes place k)) (sym one.0) in
     let m_is = ap length b_is in
     let rest = same_front (place + length (instr_bytes place i)) p q is js r s fi.1 fj.1 (one.1 ∙ ap (λ bs. bs ++ s) b_is)
@@ -48,7 +51,8 @@ same_front place p q (i ∷ is) (j ∷ js) r s fi fj e pe qe ep eq =
 
 module _ (bytes : List ℕ) where
   -- where two layouts end, they are one
-  one_layout : (is js : List Instr) (r s : List ℕ) → AllByRecursion FitsInstr is → AllByRecursion FitsInstr js → bytes ≡ code_bytes is ++ r → bytes ≡ code_bytes js ++ s
+  one_layout : (is js : List Instr) (r s : List ℕ) → AllByRecursion FitsInstr is → AllByRecursion FitsInstr js → bytes ≡ code_bytes is ++ r
+      → bytes ≡ code_bytes js ++ s
       → Ends (length (code_bytes is)) r → Ends (length (code_bytes js)) s → (is ≡ js) × (r ≡ s)
   one_layout is js r s fi fj ei ej endi endj =
       same_front 0 (length (code_bytes is)) (length (code_bytes js)) is js r s fi fj (sym ei ∙ ej) (omega arith) (omega arith) endi endj
@@ -57,18 +61,23 @@ module _ (bytes : List ℕ) where
   no_fault place rest fault e none = absurd cc
 
   -- nothing is stuck where all is laid out
-  not_stuck : (is front : List Instr) (rest : List ℕ) (fault : CodeFault) → AllByRecursion FitsInstr is → 0 < length is → bytes ≡ code_bytes is
-      → AllByRecursion FitsInstr front → bytes ≡ code_bytes front ++ rest → (0 < length rest) ⊎ (front ≡ []) → unfit (length (code_bytes front)) rest ≡ Some fault → ⊥
+  not_stuck : (is front : List Instr) (rest : List ℕ) (fault : CodeFault) → AllByRecursion FitsInstr is → 0 < length is →
+      bytes ≡ code_bytes is
+      → AllByRecursion FitsInstr front → bytes ≡ code_bytes front ++ rest → (0 < length rest) ⊎ (front ≡ []) →
+      unfit (length (code_bytes front)) rest ≡ Some fault → ⊥
   not_stuck is front rest fault fi some ei fr er ends u =
-      let one = one_layout is front [] rest fi fr (ei ∙ sym (append-nil (code_bytes is))) er (over (length (code_bytes is))) (no_fault (length (code_bytes front)) rest fault u) in
+      let one = one_layout is front [] rest fi fr (ei ∙ sym (append-nil (code_bytes is))) er (over (length (code_bytes is)))
+      (no_fault (length (code_bytes front)) rest fault u) in
       elim ends [
         | inl lt ↦ let e = ap length one.1 in omega arith
         | inr none ↦ let e = ap length (one.0 ∙ none) in omega arith
       ]
 
-  all_same : (is js : List Instr) → AllByRecursion FitsInstr is → AllByRecursion FitsInstr js → bytes ≡ code_bytes is → bytes ≡ code_bytes js → is ≡ js
+  all_same : (is js : List Instr) → AllByRecursion FitsInstr is → AllByRecursion FitsInstr js → bytes ≡ code_bytes is →
+      bytes ≡ code_bytes js → is ≡ js
   all_same is js fi fj ei ej =
-      (one_layout is js [] [] fi fj (ei ∙ sym (append-nil (code_bytes is))) (ej ∙ sym (append-nil (code_bytes js))) (over (length (code_bytes is))) (over (length (code_bytes js)))).0
+      (one_layout is js [] [] fi fj (ei ∙ sym (append-nil (code_bytes is))) (ej ∙ sym (append-nil (code_bytes js)))
+      (over (length (code_bytes is))) (over (length (code_bytes js)))).0
 
   same_some : {A : Type 0} (x y : A) → Some x ≡ Some y → x ≡ y
   same_some x y e = cc
@@ -88,10 +97,12 @@ module _ (bytes : List ℕ) where
   once _ _ (outside is l f e o) (stuck {front = x} r {fault = p} m g d ends u) = absurd (not_stuck is x r p f.0 f.1 e g d ends u)
   once _ _ (outside is {place = p} l f e o) (outside js {place = q} m g d o') =
       ap (λ n. Fault (faults.JumpOutside n)) (same_some p q (sym o ∙ ap first_outside (all_same is js f.0 g.0 e d) ∙ o'))
-  once _ _ (outside is l f e o) (whole {is = js} g s d) = absurd (let k = sym o ∙ ap first_outside (all_same is js f.0 g.0 e d) ∙ s.inside in cc)
+  once _ _ (outside is l f e o) (whole {is = js} g s d) =
+      absurd (let k = sym o ∙ ap first_outside (all_same is js f.0 g.0 e d) ∙ s.inside in cc)
   once _ _ (whole f s e) (long h) = absurd (let n = ap length e in let k = s.short in omega arith)
   once _ _ (whole {is = is} g s d) (stuck {front = x} r {fault = p} l f e ends u) = absurd (not_stuck is x r p g.0 g.1 d f e ends u)
-  once _ _ (whole {is = js} g s d) (outside is l f e o) = absurd (let k = sym o ∙ ap first_outside (all_same is js f.0 g.0 e d) ∙ s.inside in cc)
+  once _ _ (whole {is = js} g s d) (outside is l f e o) =
+      absurd (let k = sym o ∙ ap first_outside (all_same is js f.0 g.0 e d) ∙ s.inside in cc)
   once _ _ (whole {is = is} f s e) (whole {is = js} g t d) = ap Instrs (all_same is js f.0 g.0 e d)
 
 pub decodes_once : DecodesOnce

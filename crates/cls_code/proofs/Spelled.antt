@@ -1,5 +1,6 @@
 -- Numbers of several bytes: what is read is spelled so, and what is spelled so is read.
-use Rattle.std.proofs.Common.{◌≡◌, ℕ, ℤ, suc, ◌+◌, ◌*◌, ◌^◌, ◌<◌, ◌≤◌, List, [], ◌∷◌, ◌++◌, length, take, drop, get_or, refl, sym, ap, ◌∙◌, append_assoc, length-append, length-take, arith, inl, inr, mod-eq_of_lt}
+use Rattle.std.proofs.Common.{◌≡◌, ℕ, ℤ, suc, ◌+◌, ◌*◌, ◌^◌, ◌<◌, ◌≤◌, List, [], ◌∷◌, ◌++◌, length, take, drop, get_or, refl, sym, ap, ◌∙◌}
+use Rattle.std.proofs.Common.{append_assoc, length-append, length-take, arith, inl, inr, mod-eq_of_lt}
 use Rattle.std.proofs.Math.Facts.{sfits_to_z, of_z-to_z, to_z-of_z, Fits-of_z, Fits-bits}
 use Rattle.std.proofs.lemmas.Bool.{cases_lt}
 use Rattle.std.proofs.lemmas.List.{drop_at, get_or-drop, get_or-take, get_or_past}
@@ -38,14 +39,16 @@ spelled1 (a ∷ bytes) le fits = let lt : a < 256 = fits 0 in let e : a * 1 + 0 
 pub spelled2 : IsSpelled 2
 spelled2 [] le fits = absurd (omega arith)
 spelled2 (a ∷ []) le fits = absurd (omega arith)
-spelled2 (a ∷ b ∷ bytes) le fits = be_bytes_2 (a ∷ b ∷ []) (big_number 2 (a ∷ b ∷ bytes)) refl (bytes_take 2 (a ∷ b ∷ bytes) fits) (omega arith)
+spelled2 (a ∷ b ∷ bytes) le fits = be_bytes_2 (a ∷ b ∷ []) (big_number 2 (a ∷ b ∷ bytes)) refl (bytes_take 2 (a ∷ b ∷ bytes) fits)
+    (omega arith)
 
 pub spelled4 : IsSpelled 4
 spelled4 [] le fits = absurd (omega arith)
 spelled4 (a ∷ []) le fits = absurd (omega arith)
 spelled4 (a ∷ b ∷ []) le fits = absurd (omega arith)
 spelled4 (a ∷ b ∷ c ∷ []) le fits = absurd (omega arith)
-spelled4 (a ∷ b ∷ c ∷ d ∷ bytes) le fits = be_bytes_4 (a ∷ b ∷ c ∷ d ∷ []) (big_number 4 (a ∷ b ∷ c ∷ d ∷ bytes)) refl (bytes_take 4 (a ∷ b ∷ c ∷ d ∷ bytes) fits) (omega arith)
+spelled4 (a ∷ b ∷ c ∷ d ∷ bytes) le fits = be_bytes_4 (a ∷ b ∷ c ∷ d ∷ []) (big_number 4 (a ∷ b ∷ c ∷ d ∷ bytes)) refl
+    (bytes_take 4 (a ∷ b ∷ c ∷ d ∷ bytes) fits) (omega arith)
 
 pub below1 : (bytes : List ℕ) → IsBytes bytes → big_number 1 bytes < 2 ^ 8
 below1 bytes fits = omega (arith, big_from-lt 0 1 bytes fits)
@@ -101,7 +104,8 @@ signed_back1 z rest f = ap (cast_signed w8) (back1 (cast_unsigned w8 z) rest (Fi
 pub signed_back2 : (z : ℤ) (rest : List ℕ) → FitsSigned w16 z → s2_in (s2 z ++ rest) ≡ z
 signed_back2 z rest f = ap (cast_signed w16) (back2 (cast_unsigned w16 z) rest (Fits-of_z f).fits) ∙ to_z-of_z f
 
-pub signed_back4 : (n : ℕ) (front : List ℕ) (z : ℤ) (rest : List ℕ) → length front ≡ n → FitsSigned w32 z → s4_at n (front ++ (s4 z ++ rest)) ≡ z
+pub signed_back4 : (n : ℕ) (front : List ℕ) (z : ℤ) (rest : List ℕ) → length front ≡ n → FitsSigned w32 z →
+    s4_at n (front ++ (s4 z ++ rest)) ≡ z
 signed_back4 n front z rest long f =
     ap (λ bytes. cast_signed w32 (big_number 4 bytes)) (drop_at front (s4 z ++ rest) n long)
     ∙ ap (cast_signed w32) (back4 (cast_unsigned w32 z) rest (Fits-of_z f).fits) ∙ to_z-of_z f

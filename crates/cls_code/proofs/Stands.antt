@@ -1,5 +1,6 @@
 -- One instruction: what is read is spelled so, and what is spelled so is read.
-use Rattle.std.proofs.Common.{◌≡◌, ℕ, suc, ◌+◌, ◌*◌, ◌<◌, ◌≤◌, Bool, true, false, cond, List, [], ◌∷◌, ◌++◌, length, take, drop, Option, Some, None, refl, sym, ap, subst, ◌∙◌, length-append, length-take, arith}
+use Rattle.std.proofs.Common.{◌≡◌, ℕ, suc, ◌+◌, ◌*◌, ◌<◌, ◌≤◌, Bool, true, false, cond, List, [], ◌∷◌, ◌++◌, length, take, drop, Option}
+use Rattle.std.proofs.Common.{Some, None, refl, sym, ap, subst, ◌∙◌, length-append, length-take, arith}
 use Rattle.std.proofs.Math.Seq.{take-add}
 use Rattle.std.proofs.lemmas.List.{drop_at, take-append-drop}
 use Rattle.std.proofs.lemmas.Bool.Decides.{nat_tests}
@@ -15,7 +16,8 @@ use Rattle.cls_code.specs.declared.CodeFault.{CodeFault}
 use Rattle.cls_code.specs.declared.CodeFault.TheVariants as faults
 use Rattle.cls_code.specs.Code.{room, is_bad_switch, unfit, unfit_args}
 use Rattle.cls_code.specs.Inner.{u1_in, s1_in, args_in, args_at, instr_in, room_at, size_in}
-use Rattle.cls_code.proofs.Spelled.{IsBytes, bytes_drop, spelled1, spelled2, below1, below2, signed1, signed2, told1, told2, back1, back2, signed_back1, signed_back2, long1, long2, longs1, longs2}
+use Rattle.cls_code.proofs.Spelled.{IsBytes, bytes_drop, spelled1, spelled2, below1, below2, signed1, signed2, told1, told2, back1, back2}
+use Rattle.cls_code.proofs.Spelled.{signed_back1, signed_back2, long1, long2, longs1, longs2}
 use Rattle.cls_code.proofs.Tables.{table_fits, table_told, table_back, table_room, table_good}
 
 -- what was read of arguments fits, and is spelled so
@@ -23,7 +25,8 @@ record ArgsStand (place : ℕ) (form : Form) (rest : List ℕ) : Type 0 where
   fits : FitsForm form (args_in place form rest)
   told : form_bytes place form (args_in place form rest) ≡ take (room place form rest) rest
 
-args_stand : (place : ℕ) (form : Form) (rest : List ℕ) → IsBytes rest → room place form rest ≤ length rest → is_bad_switch place form rest ≡ false → ArgsStand place form rest
+args_stand : (place : ℕ) (form : Form) (rest : List ℕ) → IsBytes rest → room place form rest ≤ length rest →
+    is_bad_switch place form rest ≡ false → ArgsStand place form rest
 args_stand place forms.Nothing rest fits long good = record { fits = tt; told = refl }
 args_stand place forms.Byte rest fits long good = record { fits = signed1 rest fits; told = told1 rest long fits }
 args_stand place forms.Short rest fits long good = record { fits = signed2 rest fits; told = told2 rest long fits }
@@ -39,7 +42,11 @@ args_stand place forms.Increment rest fits long good =
     one_less [] le = absurd (omega arith)
     one_less (b ∷ rest) le = omega arith
 args_stand place forms.Jump rest fits long good = record { fits = signed2 rest fits; told = told2 rest long fits }
-args_stand place forms.Table rest fits long good = record { fits = table_fits place rest fits long good; told = table_told place rest fits long good }
+args_stand place forms.Table rest fits long good = record {
+  fits = table_fits place rest fits long good;
+  told =
+      table_told place rest fits long good;
+}
 args_stand place forms.NearConstant rest fits long good = record { fits = below1 rest fits; told = spelled1 rest long fits }
 args_stand place forms.Constant rest fits long good = record { fits = below2 rest fits; told = spelled2 rest long fits }
 args_stand place forms.Field rest fits long good = record { fits = below2 rest fits; told = spelled2 rest long fits }
@@ -92,7 +99,8 @@ stood_args : (place op : ℕ) (rest : List ℕ) (f : Option Form) → form_of op
     → Stood place (op ∷ rest) (record { op = op; args = args_at place f rest }) (suc (room_at place f rest))
 stood_args place op rest None e fits none = absurd cc
 stood_args place op rest (Some form) e fits none =
-    let t = no_tests (nat_lt (length rest) (room place form rest)) (is_bad_switch place form rest) (faults.Short place) (faults.BadSwitch place) none in
+    let t = no_tests (nat_lt (length rest) (room place form rest)) (is_bad_switch place form rest) (faults.Short place)
+    (faults.BadSwitch place) none in
     let long : room place form rest ≤ length rest = grind (arith, nat_tests) in
     let s = args_stand place form rest fits long t.1 in
     let args = args_in place form rest in
@@ -106,7 +114,8 @@ stood_args place op rest (Some form) e fits none =
       within = omega arith;
     }
 
-pub stands : (place : ℕ) (bytes : List ℕ) → IsBytes bytes → unfit place bytes ≡ None → Stood place bytes (instr_in place bytes) (size_in place bytes)
+pub stands : (place : ℕ) (bytes : List ℕ) → IsBytes bytes → unfit place bytes ≡ None → Stood place bytes (instr_in place bytes)
+    (size_in place bytes)
 unfolding unfit instr_in size_in
 stands place [] fits none = absurd cc
 stands place (op ∷ rest) fits none = stood_args place op rest (form_of op) refl (λ i. fits (suc i)) none
@@ -124,7 +133,8 @@ seen_args place op args rest None e f = absurd f
 seen_args place op args rest (Some form) e f =
     let b = args_back place form args rest f in
     let all = form_bytes place form args ++ rest in
-    let long : nat_lt (length all) (room place form all) ≡ false = not_cut (length all) (room place form all) (omega (arith, b.size, length-append (form_bytes place form args) rest)) in (
+    let long : nat_lt (length all) (room place form all) ≡ false = not_cut (length all) (room place form all)
+    (omega (arith, b.size, length-append (form_bytes place form args) rest)) in (
       ap (λ t. cond t (Some (faults.Short place)) (cond (is_bad_switch place form all) (Some (faults.BadSwitch place)) None)) long
           ∙ ap (λ t. cond t (Some (faults.BadSwitch place)) None) b.good,
       b.is,
@@ -141,9 +151,15 @@ seen place i rest f =
     record { none = s.0; instr = ap (λ a. record { op = i.op; args = a }) s.1; size = ap suc s.2 }
 
 -- Two instructions of the same bytes are one.
-pub same_instr : (place : ℕ) (i j : Instr) (r s : List ℕ) → FitsInstr i → FitsInstr j → instr_bytes place i ++ r ≡ instr_bytes place j ++ s → (i ≡ j) × (r ≡ s)
+pub same_instr : (place : ℕ) (i j : Instr) (r s : List ℕ) → FitsInstr i → FitsInstr j → instr_bytes place i ++ r ≡ instr_bytes place j ++ s
+    → (i ≡ j) × (r ≡ s)
 same_instr place i j r s f g e =
     let is : i ≡ j = sym (seen place i r f).instr ∙ ap (instr_in place) e ∙ (seen place j s g).instr in
-    let a : drop (length (instr_bytes place i)) (instr_bytes place i ++ r) ≡ r = drop_at (instr_bytes place i) r (length (instr_bytes place i)) refl in
-    let b : drop (length (instr_bytes place j)) (instr_bytes place j ++ s) ≡ s = drop_at (instr_bytes place j) s (length (instr_bytes place j)) refl in
-    (is, sym a ∙ ap (drop (length (instr_bytes place i))) e ∙ ap (λ k. drop (length (instr_bytes place k)) (instr_bytes place j ++ s)) is ∙ b)
+    let a : drop (length (instr_bytes place i)) (instr_bytes place i ++ r) ≡ r =
+    drop_at (instr_bytes place i) r (length (instr_bytes place i)) refl in
+    let b : drop (length (instr_bytes place j)) (instr_bytes place j ++ s) ≡ s =
+    drop_at (instr_bytes place j) s (length (instr_bytes place j)) refl in (
+      is,
+      sym a ∙ ap (drop (length (instr_bytes place i))) e ∙ ap (λ k. drop (length (instr_bytes place k)) (instr_bytes place j ++ s)) is ∙
+          b,
+    )

@@ -1,5 +1,7 @@
 -- The arguments of a table: what is read is spelled so, and what is spelled so is read.
-use Rattle.std.proofs.Common.{◌≡◌, ℕ, ℤ, pos, negsuc, zero, suc, ◌+◌, ◌*◌, ◌-◌, ◌+ℤ◌, ◌-ℤ◌, ◌<◌, ◌≤◌, Bool, true, false, cond, ◌||◌, List, [], ◌∷◌, ◌++◌, length, take, drop, replicate, refl, sym, ap, ◌∙◌, append_assoc, length-append, append-nil, length-drop, length-take, subst, arith}
+use Rattle.std.proofs.Common.{◌≡◌, ℕ, ℤ, pos, negsuc, zero, suc, ◌+◌, ◌*◌, ◌-◌, ◌+ℤ◌, ◌-ℤ◌, ◌<◌, ◌≤◌, Bool, true, false, cond, ◌||◌, List}
+use Rattle.std.proofs.Common.{[], ◌∷◌, ◌++◌, length, take, drop, replicate, refl, sym, ap, ◌∙◌, append_assoc, length-append, append-nil}
+use Rattle.std.proofs.Common.{length-drop, length-take, subst, arith}
 use Rattle.std.proofs.Math.Seq.{take-add}
 use Rattle.std.proofs.lemmas.List.{drop_at, take_at, length-replicate}
 use Rattle.std.proofs.lemmas.Int.{ints}
@@ -68,7 +70,8 @@ module _ (p n : ℕ) (rest : List ℕ) where
   one_more k l e = ap (λ m. take m rest) e ∙ take-add k 4 rest
 
   parts_taken : take ((p + 12) + 4 * n) rest
-      ≡ take p rest ++ (take 4 (drop p rest) ++ (take 4 (drop (p + 4) rest) ++ (take 4 (drop (p + 8) rest) ++ take (4 * n) (drop (p + 12) rest))))
+      ≡ take p rest ++ (take 4 (drop p rest)
+      ++ (take 4 (drop (p + 4) rest) ++ (take 4 (drop (p + 8) rest) ++ take (4 * n) (drop (p + 12) rest))))
   parts_taken =
       let a = one_more (p + 8) (p + 12) (omega arith) in
       let b = one_more (p + 4) (p + 8) (omega arith) in
@@ -80,7 +83,8 @@ five_parts : (a a' b b' c c' d d' e e' : List ℕ) → a ≡ a' → b ≡ b' →
     → a ++ (b ++ (c ++ (d ++ e))) ≡ a' ++ (b' ++ (c' ++ (d' ++ e')))
 five_parts a a' b b' c c' d d' e e' p q r s t = cc
 
-module _ (place : ℕ) (rest : List ℕ) (fits : IsBytes rest) (long : room place forms.Table rest ≤ length rest) (good : is_bad_switch place forms.Table rest ≡ false) where
+module _ (place : ℕ) (rest : List ℕ) (fits : IsBytes rest) (long : room place forms.Table rest ≤ length rest)
+    (good : is_bad_switch place forms.Table rest ≡ false) where
   some_cases : 0 < cases_of place rest
   some_cases = positive (cases_of place rest) (no_or (list_any (λ b. nat_lt 0 b) (take (pad place) rest)) (cases_of place rest == 0) good).1
 
@@ -111,7 +115,8 @@ module _ (place : ℕ) (rest : List ℕ) (fits : IsBytes rest) (long : room plac
   table_told =
       let p = pad place in
       let n = cases_of place rest in
-      five_parts (replicate p 0) (take p rest) (s4 (s4_at p rest)) (take 4 (drop p rest)) (s4 (s4_at (p + 4) rest)) (take 4 (drop (p + 4) rest))
+      five_parts (replicate p 0) (take p rest) (s4 (s4_at p rest)) (take 4 (drop p rest)) (s4 (s4_at (p + 4) rest))
+      (take 4 (drop (p + 4) rest))
       (s4 (highest (s4_at (p + 4) rest) (words n (drop (p + 12) rest)))) (take 4 (drop (p + 8) rest))
       (flat_map s4 (words n (drop (p + 12) rest))) (take (4 * n) (drop (p + 12) rest))
       zeros_are
@@ -154,13 +159,16 @@ module _ (place : ℕ) (default low : ℤ) (os : List ℤ) (tail : List ℕ) (f 
 
   sizes : (length (zeros ++ s4 default) ≡ pad place + 4) × (length (zeros ++ (s4 default ++ s4 low)) ≡ pad place + 8)
       × (length (zeros ++ (s4 default ++ (s4 low ++ high))) ≡ pad place + 12)
-  sizes = long_parts zeros (s4 default) (s4 low) high (pad place) (length-replicate (pad place) 0) (longs4 default) (longs4 low) (longs4 (highest low os))
+  sizes = long_parts zeros (s4 default) (s4 low) high (pad place) (length-replicate (pad place) 0) (longs4 default) (longs4 low)
+      (longs4 (highest low os))
 
-  behind : (front back : List ℕ) (z : ℤ) (n : ℕ) → table_bytes ≡ front ++ (s4 z ++ back) → length front ≡ n → FitsSigned w32 z → s4_at n table_bytes ≡ z
+  behind : (front back : List ℕ) (z : ℤ) (n : ℕ) → table_bytes ≡ front ++ (s4 z ++ back) → length front ≡ n → FitsSigned w32 z →
+      s4_at n table_bytes ≡ z
   behind front back z n e long fit = ap (s4_at n) e ∙ signed_back4 n front z back long fit
 
   default_back : s4_at (pad place) table_bytes ≡ default
-  default_back = behind zeros (s4 low ++ (high ++ (flat_map s4 os ++ tail))) default (pad place) spelled (length-replicate (pad place) 0) f.0
+  default_back = behind zeros (s4 low ++ (high ++ (flat_map s4 os ++ tail))) default (pad place) spelled (length-replicate (pad place) 0)
+      f.0
 
   low_back : s4_at (pad place + 4) table_bytes ≡ low
   low_back =
@@ -186,7 +194,8 @@ module _ (place : ℕ) (default low : ℤ) (os : List ℤ) (tail : List ℕ) (f 
 
   pub table_back : args_in place forms.Table table_bytes ≡ Table default low os
   table_back =
-      ap (λ z. Table z (s4_at (pad place + 4) table_bytes) (words (cases_of place table_bytes) (drop (pad place + 12) table_bytes))) default_back
+      ap (λ z. Table z (s4_at (pad place + 4) table_bytes) (words (cases_of place table_bytes) (drop (pad place + 12) table_bytes)))
+      default_back
       ∙ ap (λ z. Table default z (words (cases_of place table_bytes) (drop (pad place + 12) table_bytes))) low_back
       ∙ ap (Table default low) offsets_back
 
@@ -194,7 +203,8 @@ module _ (place : ℕ) (default low : ℤ) (os : List ℤ) (tail : List ℕ) (f 
   table_room =
       ap (λ n. (pad place + 12) + 4 * n) cases_are
       ∙ sum_of (zeros ++ (s4 default ++ (s4 low ++ high))) (flat_map s4 os) (length os) sizes.2 (length-words_bytes os)
-      ∙ ap length (sym (regroup4 zeros (s4 default) (s4 low) high (flat_map s4 os) []) ∙ ap (λ bs. zeros ++ (s4 default ++ (s4 low ++ (high ++ bs)))) (append-nil (flat_map s4 os)))
+      ∙ ap length (sym (regroup4 zeros (s4 default) (s4 low) high (flat_map s4 os) []) ∙
+      ap (λ bs. zeros ++ (s4 default ++ (s4 low ++ (high ++ bs)))) (append-nil (flat_map s4 os)))
     where
       sum_of : (a b : List ℕ) (n : ℕ) → length a ≡ pad place + 12 → length b ≡ 4 * n → (pad place + 12) + 4 * n ≡ length (a ++ (b ++ []))
       sum_of a b n x y = simp length-append (omega (arith, x, y))
@@ -206,7 +216,8 @@ module _ (place : ℕ) (default low : ℤ) (os : List ℤ) (tail : List ℕ) (f 
       ∙ ap (λ n. n == 0) cases_are ∙ some_no (length os) f.4
     where
       taken : take (pad place) table_bytes ≡ zeros
-      taken = ap (take (pad place)) spelled ∙ take_at zeros (s4 default ++ (s4 low ++ (high ++ (flat_map s4 os ++ tail)))) (pad place) (length-replicate (pad place) 0)
+      taken = ap (take (pad place)) spelled ∙ take_at zeros (s4 default ++ (s4 low ++ (high ++ (flat_map s4 os ++ tail)))) (pad place)
+          (length-replicate (pad place) 0)
 
       some_no : (n : ℕ) → 0 < n → (n == 0) ≡ false
       some_no n h = grind (arith, nat_tests)

@@ -1,5 +1,6 @@
 -- Codes and their bytes, both ways: what is answered of instructions, and what of bytes (JVMS chapter 6).
-use Rattle.std.specs.Prelude.{◌≡◌, ◌≤◌, ◌<◌, ◌⊎◌, ℕ, ℤ, suc, ◌+◌, ◌*◌, ◌-ℤ◌, List, [], ◌∷◌, ◌++◌, length, drop, take, Option, Some, None, Bool, true, false, nat_lt, ◌==◌, ◌||◌, if◌then◌else◌, Result, Ok, Err}
+use Rattle.std.specs.Prelude.{◌≡◌, ◌≤◌, ◌<◌, ◌⊎◌, ℕ, ℤ, suc, ◌+◌, ◌*◌, ◌-ℤ◌, List, [], ◌∷◌, ◌++◌, length, drop, take, Option, Some, None}
+use Rattle.std.specs.Prelude.{Bool, true, false, nat_lt, ◌==◌, ◌||◌, if◌then◌else◌, Result, Ok, Err}
 use Rattle.std.specs.List.{AllByRecursion, list_any}
 use Rattle.std.specs.Int.{cast_signed}
 use Rattle.std.specs.Int.RustNames.{unsigned_abs}

@@ -1,12 +1,14 @@
 //! Instructions out of bytes: why none stands at a place, or which one stands.
 //! A code is read from the left, an instruction after the other.
 
-ghost use Rattle.std.specs.Prelude.{◌≡◌, ℕ, ◌+◌, ◌*◌, ◌<◌, ◌≤◌, ◌^◌, ◌∷◌, [], ◌++◌, length, drop, take, Some, None, Option, false, IfOk, nat_lt, ◌==◌, if◌then◌else◌};
+ghost use Rattle.std.specs.Prelude.{◌≡◌, ℕ, ◌+◌, ◌*◌, ◌<◌, ◌≤◌, ◌^◌, ◌∷◌, [], ◌++◌, length, drop, take, Some, None, Option, false, IfOk};
+ghost use Rattle.std.specs.Prelude.{nat_lt, ◌==◌, if◌then◌else◌};
 ghost use Rattle.std.specs.List.{list_any};
 ghost use Rattle.cls_tree.specs.Opcodes.{form_of as form_at};
 ghost use Rattle.cls_tree.specs.View.{args_of, instr_of, instrs_of};
 ghost use Rattle.cls_tree.specs.Layout.{pad};
-ghost use Rattle.cls_code.specs.Code.{s4_at, cases_between, cases_of, fixed, offsets, room, is_bad_switch, unfit, unfit_args, Decodes, Fault};
+ghost use Rattle.cls_code.specs.Code.{s4_at, cases_between, cases_of, fixed, offsets, room, is_bad_switch, unfit, unfit_args, Decodes};
+ghost use Rattle.cls_code.specs.Code.{Fault};
 ghost use Rattle.cls_code.specs.Inner.{u1_in, u2_in, s1_in, s2_in, words, args_in, args_at, instr_in, room_at, size_in, ArePlacedOr};
 
 use crate::CodeFault;

@@ -11,8 +11,21 @@ use Rattle.cls_tree.specs.View.{Said, layer, code_layer, said_by, instrs_of, cod
 code_folds : (c : KeptCode) → fold-Code Said Code layer code_layer c ≡ code_of c
 unfolding said_by
 code_folds c =
-    fold-roll-Code Said Code layer code_layer (record { name = c.name; max_stack = c.max_stack; max_locals = c.max_locals; instrs = c.instrs; attributes = c.attributes })
-    ∙ ap (λ inner. record { name = c.name; max_stack = c.max_stack; max_locals = c.max_locals; instrs = instrs_of c.instrs.items; attributes = inner })
+    fold-roll-Code Said Code layer code_layer (record {
+      name = c.name;
+      max_stack = c.max_stack;
+      max_locals = c.max_locals;
+      instrs =
+          c.instrs;
+      attributes = c.attributes;
+    })
+    ∙ ap (λ inner. record {
+      name = c.name;
+      max_stack = c.max_stack;
+      max_locals = c.max_locals;
+      instrs = instrs_of c.instrs.items;
+      attributes = inner;
+    })
     (map-map (λ (s : Said). s.inside) said_by c.attributes.items)
 
 pub said-Code : (c : KeptCode) → said_by (KeptCoded c) ≡ record { outside = Coded (code_of c); inside = Misplaced }
@@ -21,7 +34,11 @@ said-Code c =
     ap said_by (sym (rolls-Code c)) ∙ fold-roll-Attr Said Code layer code_layer (F-Code c)
     ∙ ap (λ k. record { outside = Coded k; inside = Misplaced }) (code_folds c)
 
-pub said-Other : (name : ℕ) (bytes : List ℕ) → said_by (KeptOther name bytes) ≡ record { outside = Other name bytes; inside = Unread name bytes }
+pub said-Other : (name : ℕ) (bytes : List ℕ) → said_by (KeptOther name bytes) ≡ record {
+  outside = Other name bytes;
+  inside =
+      Unread name bytes;
+}
 unfolding said_by
 said-Other name bytes = ap said_by (sym (rolls-Other name bytes)) ∙ fold-roll-Attr Said Code layer code_layer (F-Other name bytes)
 

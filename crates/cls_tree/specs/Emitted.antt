@@ -1,5 +1,6 @@
 -- The class file of a class whose `main` prints texts. A constant is found in the pool by equality or appended, its parts before it.
-use Rattle.std.specs.Prelude.{ℕ, suc, List, [], ◌∷◌, ◌++◌, length, Bool, false, ◌&&◌, ◌==◌, Option, Some, None, position, nat_lt, if◌then◌else◌, codes}
+use Rattle.std.specs.Prelude.{ℕ, suc, List, [], ◌∷◌, ◌++◌, length, Bool, false, ◌&&◌, ◌==◌, Option, Some, None, position, nat_lt}
+use Rattle.std.specs.Prelude.{if◌then◌else◌, codes}
 use Rattle.std.specs.Str.{bytes_eq}
 use Rattle.std.specs.Ordering.{int_eq}
 use Rattle.mg_text.specs.Call.{Name}
@@ -112,7 +113,13 @@ main_member texts = do
   d ← utf8 (codes "([Ljava/lang/String;)V")
   c ← utf8 (codes "Code")
   is ← prints texts
-  give (record { access = 9; name = n; descriptor = d; attributes = Coded (record { name = c; max_stack = depth texts; max_locals = 1; instrs = is; attributes = [] }) ∷ [] })
+  give (record {
+    access = 9;
+    name = n;
+    descriptor = d;
+    attributes =
+        Coded (record { name = c; max_stack = depth texts; max_locals = 1; instrs = is; attributes = [] }) ∷ [];
+  })
 
 -- the numbers and the method of a class, in the order in which their constants are needed
 pub record Parts : Type 0 where
@@ -131,7 +138,16 @@ parts name texts = do
 unfoldable pub class_for : Name → List (List ℕ) → Class
 class_for name texts =
     let made = parts name texts [] in
-    record { pool = made.1; access = 33; this_class = made.0.this_class; super_class = made.0.super_class; fields = []; methods = made.0.main ∷ []; attributes = [] }
+    record {
+      pool = made.1;
+      access = 33;
+      this_class = made.0.this_class;
+      super_class = made.0.super_class;
+      fields = [];
+      methods =
+          made.0.main ∷ [];
+      attributes = [];
+    }
 
 -- the code of that `main`
 abbrev pub code_of : List Member → List Instr

@@ -11,7 +11,8 @@ use Rattle.cls_tree.specs.declared.instr.Form.TheVariants as forms
 use Rattle.cls_tree.specs.Opcodes.{form_of}
 use Rattle.cls_tree.specs.Modified.{modified}
 use Rattle.cls_tree.specs.Layout.{code_bytes, content_bytes, highest}
-use Rattle.cls_tree.specs.Tree.{Args, Number, Local, Pool, Jump, Add, Table, Instr, Inner, Unread, Misplaced, Code, Attr, Coded, Other, Member, Class}
+use Rattle.cls_tree.specs.Tree.{Args, Number, Local, Pool, Jump, Add, Table, Instr, Inner, Unread, Misplaced, Code, Attr, Coded, Other}
+use Rattle.cls_tree.specs.Tree.{Member, Class}
 use Rattle.cls_tree.specs.Tree as tree
 
 abbrev pub IsU1 : ℕ → Type 0
@@ -49,7 +50,8 @@ FitsForm forms.Local (Local n) = IsU1 n
 FitsForm forms.Increment (Add local n) = IsU1 local × FitsSigned w8 n
 FitsForm forms.Jump (Jump distance) = FitsSigned w16 distance
 FitsForm forms.Table (Table default low offsets) =
-    FitsSigned w32 default × FitsSigned w32 low × FitsSigned w32 (highest low offsets) × AllByRecursion (FitsSigned w32) offsets × (0 < length offsets)
+    FitsSigned w32 default × FitsSigned w32 low × FitsSigned w32 (highest low offsets) × AllByRecursion (FitsSigned w32) offsets
+    × (0 < length offsets)
 FitsForm forms.NearConstant (Pool n) = IsU1 n
 FitsForm forms.Constant (Pool n) = IsU2 n
 FitsForm forms.Field (Pool n) = IsU2 n

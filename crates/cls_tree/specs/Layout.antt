@@ -10,7 +10,8 @@ use Rattle.cls_tree.specs.declared.instr.Form.{Form}
 use Rattle.cls_tree.specs.declared.instr.Form.TheVariants as forms
 use Rattle.cls_tree.specs.Opcodes.{form_of}
 use Rattle.cls_tree.specs.Modified.{modified}
-use Rattle.cls_tree.specs.Tree.{Args, Number, Local, Pool, Jump, Add, Table, Instr, Inner, Unread, Misplaced, Code, Attr, Coded, Other, Member, Class}
+use Rattle.cls_tree.specs.Tree.{Args, Number, Local, Pool, Jump, Add, Table, Instr, Inner, Unread, Misplaced, Code, Attr, Coded, Other}
+use Rattle.cls_tree.specs.Tree.{Member, Class}
 
 abbrev pub u1 : ℕ → List ℕ
 u1 n = big_bytes 1 n
@@ -94,7 +95,8 @@ inner_bytes Misplaced = []
 abbrev pub content_bytes : Code → List ℕ
 content_bytes c =
     let code = code_bytes c.instrs in
-    u2 c.max_stack ++ (u2 c.max_locals ++ (u4 (length code) ++ (code ++ (u2 0 ++ (u2 (length c.attributes) ++ flat_map inner_bytes c.attributes)))))
+    u2 c.max_stack ++ (u2 c.max_locals
+    ++ (u4 (length code) ++ (code ++ (u2 0 ++ (u2 (length c.attributes) ++ flat_map inner_bytes c.attributes)))))
 
 -- an attribute: name, length, content
 abbrev pub attr_bytes : Attr → List ℕ
@@ -113,5 +115,6 @@ members_bytes ms = u2 (length ms) ++ flat_map member_bytes ms
 -- magic, version 49.0, the pool and its count plus one, access, this, super, no interfaces, fields, methods, attributes
 abbrev pub class_bytes : Class → List ℕ
 class_bytes c =
-    u4 3405691582 ++ (u2 0 ++ (u2 49 ++ (u2 (length c.pool + 1) ++ (flat_map const_bytes c.pool ++ (u2 c.access ++ (u2 c.this_class ++ (u2 c.super_class
+    u4 3405691582 ++ (u2 0 ++ (u2 49
+    ++ (u2 (length c.pool + 1) ++ (flat_map const_bytes c.pool ++ (u2 c.access ++ (u2 c.this_class ++ (u2 c.super_class
     ++ (u2 0 ++ (members_bytes c.fields ++ (members_bytes c.methods ++ attrs_bytes c.attributes))))))))))

@@ -10,7 +10,8 @@ use Rattle.cls_tree.specs.declared.class.Class.{Class as KeptClass}
 use Rattle.cls_tree.specs.declared.instr.Args.{Args as KeptArgs}
 use Rattle.cls_tree.specs.declared.instr.Args.TheVariants as kept
 use Rattle.cls_tree.specs.declared.instr.Instr.{Instr as KeptInstr}
-use Rattle.cls_tree.specs.Tree.{Args, None, Number, Local, Pool, Jump, Add, Table, Instr, Inner, Unread, Misplaced, Code, Attr, Coded, Other, Member, Class}
+use Rattle.cls_tree.specs.Tree.{Args, None, Number, Local, Pool, Jump, Add, Table, Instr, Inner, Unread, Misplaced, Code, Attr, Coded}
+use Rattle.cls_tree.specs.Tree.{Other, Member, Class}
 
 abbrev pub args_of : KeptArgs → Args
 args_of kept.None = None

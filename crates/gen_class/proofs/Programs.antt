@@ -34,7 +34,8 @@ use Rattle.gen_class.specs.First.{TellsFirst, IsExcessOfCode, TellsCode}
 pub ruleset found_here = (slice_get-map, get_or_from_slice_get, get_or_past)
 
 -- a method with the code that is generated
-pub method_made : (p : Program) (m : Method) (access stack locals : ℕ) (name descriptor : Name) (code : List Instr) → access ≡ access_of m.kind →
+pub method_made : (p : Program) (m : Method) (access stack locals : ℕ) (name descriptor : Name) (code : List Instr) →
+    access ≡ access_of m.kind →
     name ≡ text_at p m.name → descriptor ≡ method_descriptor p m → stack ≡ max_stack p m → locals ≡ max_locals m → IsCode p m code →
     record {
       access = access;
@@ -143,7 +144,8 @@ module _ (p : Program) (ks : List CoreClass) (are : map class_of ks ≡ p.classe
 
 -- The code of a method alone.
 module _ (p : Program) (m : Method) (pool : List Const) where
-  pub emitted_by : (made : Compiled) (c : file.Code) (left : List Const) → made ≡ generated_method p m → IsMade c left (code_in_file made pool) →
+  pub emitted_by : (made : Compiled) (c : file.Code) (left : List Const) → made ≡ generated_method p m →
+      IsMade c left (code_in_file made pool) →
       Emits p m pool c left
   emitted_by made c left e is = record {
     code = generated p m;
@@ -164,6 +166,7 @@ module _ (p : Program) (m : Method) (pool : List Const) where
   told_by made fault e tells excess is =
       subst (λ x. Tells x fault)
       (ap (λ x. excess_at x.place x.told_as (exceeded_by_code x pool)) e
-      ∙ ap (λ code. excess_at m.place (text_at p m.name) (exceeded_by_code (compiled p m code) pool)) (sym (only_generated p m is.code is.is_code))
+      ∙ ap (λ code. excess_at m.place (text_at p m.name) (exceeded_by_code (compiled p m code) pool))
+      (sym (only_generated p m is.code is.is_code))
       ∙ sym is.is)
       tells

@@ -154,7 +154,8 @@ pub(crate) fn makings<'a>(
     number: usize,
     class: &'a CoreClass,
 ) -> Result<List<Making<'a>>, Memory>
-    ensures { IfOk result (λ ms. map (compiled_of (tree_of core.now)) ms.items ≡ generated_class (tree_of core.now) number (class_of class.now)) }
+    ensures { IfOk result (λ ms. map (compiled_of (tree_of core.now)) ms.items ≡ generated_class (tree_of core.now) number
+        (class_of class.now)) }
 {
     let mut makings = constructors(alloc, core, number, class)?;
     push_methods(alloc, core, class.methods.as_slice(), &mut makings)?;

@@ -32,7 +32,8 @@ use Rattle.gen_rules.specs.Cases as cases
 use Rattle.gen_rules.specs.Cases.{default_at, targets, positions, constants_of}
 use Rattle.gen_rules.specs.Templates.{Compared, Both, LeftAlone, RightAlone, compared}
 use Rattle.gen_rules.specs.Frames as frames
-use Rattle.gen_rules.specs.Frames.{Depths, depths_by_value, depths_by_jumps, left_by, max_locals, locals_of, locals_of_all, locals_of_groups}
+use Rattle.gen_rules.specs.Frames.{Depths, depths_by_value, depths_by_jumps, left_by, max_locals, locals_of, locals_of_all}
+use Rattle.gen_rules.specs.Frames.{locals_of_groups}
 use Rattle.gen_rules.specs.inner.Generating as pieces
 use Rattle.gen_rules.specs.inner.Generating.{Piece, Jumping, Pieces, Flowing, Grouped, aiming, empty, single}
 use Rattle.gen_rules.specs.inner.Generating.{◌and◌, within, forked, flowing, grouped, testing, comparing, generated}
@@ -280,7 +281,8 @@ module _ (p : Program) (m : Method) (c d : Depths) (a b : Pieces) (ha : AllFit c
   two_valued : (i : Instr) → IsEncodable i → AllFit (depths_by_value (frames.two_depths c d)) (pieces.valued (pieces.two_values a b i))
   two_valued i h = valued_fits (frames.two_depths c d) (pieces.two_values a b i) (two_fit i h) two_deep (omega arith)
 
-  plus_fits : (j : Bool) (s t : Option CoreType) → AllFit (depths_by_value (frames.two_depths c d)) (pieces.valued (pieces.plus p m j a b s t))
+  plus_fits : (j : Bool) (s t : Option CoreType) → AllFit (depths_by_value (frames.two_depths c d))
+      (pieces.valued (pieces.plus p m j a b s t))
   plus_fits true s t =
       let x = ha.deep in let y = hb.deep in
       valued_fits (frames.two_depths c d) (pieces.plus p m true a b s t)
@@ -292,7 +294,8 @@ module _ (p : Program) (m : Method) (c d : Depths) (a b : Pieces) (ha : AllFit c
       (omega (arith, x)) (omega (arith, y))) (omega arith)
   plus_fits false s t = two_valued _ arithmetic.add
 
-  null_jumps : (e : ℕ) (v : Piece) → Fits v → e ≤ v.size → AllFit (depths_by_jumps e) (pieces.jumped (testing v ifnonnull) (testing v ifnull))
+  null_jumps : (e : ℕ) (v : Piece) → Fits v → e ≤ v.size →
+      AllFit (depths_by_jumps e) (pieces.jumped (testing v ifnonnull) (testing v ifnull))
   null_jumps e v h le = jumped_fits e _ _ (fits_testing e v ifnonnull ifnonnull_fits h le) (fits_testing e v ifnull ifnull_fits h le)
 
   with_null_fits : (o : Op) (e : ℕ) (v : Piece) → Fits v → e ≤ v.size → AllFit (depths_by_jumps e) (pieces.with_null p m o v)
@@ -365,7 +368,8 @@ module _ (p : Program) (m : Method) (held : IsHeld p) where
   some_variable scope (vars.Slot k) = omega arith
   some_variable scope (vars.Field f) = omega arith
 
-  call_fits : (n op : ℕ) → form_of op ≡ Some forms.Method → IsEncodable (record { op = op; operand = symbolic.Method (method_reference p n) })
+  call_fits : (n op : ℕ) → form_of op ≡ Some forms.Method →
+      IsEncodable (record { op = op; operand = symbolic.Method (method_reference p n) })
   call_fits n op h = (h, method_is_written p held.names n)
 
   virtual : form_of 182 ≡ Some forms.Method
@@ -405,7 +409,8 @@ module _ (p : Program) (m : Method) (held : IsHeld p) where
     expr_fits scope (Neg q a) h room =
         let r = expr_fits scope a h room in
         let le = r.deep in
-        valued_fits (frames.depths p m a).value _ (fits_then (pieces.value p m scope a) (plain 116) r.value neg_fits) (omega (arith, le)) (omega arith)
+        valued_fits (frames.depths p m a).value _ (fits_then (pieces.value p m scope a) (plain 116) r.value neg_fits) (omega (arith, le))
+        (omega arith)
     expr_fits scope (Not q a) h room =
         let r = expr_fits scope a h room in jumped_fits (frames.depths p m a).jump _ _ r.when r.unless
     expr_fits scope (Binary q o a b) h room =
@@ -613,7 +618,8 @@ module _ (p : Program) (m : Method) (held : IsHeld p) where
               (goto_fits to)) (λ from l to. d.to ts);
           deep = max_within (frames.depths p m c).jump (max (frames.depth_of p m s) (frames.depth_of p m r)) (j.size + f.size + 1 + g.size)
               (omega (arith, x))
-              (max_within (frames.depth_of p m s) (frames.depth_of p m r) (j.size + f.size + 1 + g.size) (omega (arith, y)) (omega (arith, z)));
+              (max_within (frames.depth_of p m s) (frames.depth_of p m r) (j.size + f.size + 1 + g.size) (omega (arith, y))
+              (omega (arith, z)));
         }
     statement_fits scope (While q k c s) h room =
         let a = (expr_fits scope c h.0 (room_of scope s room)).unless in
@@ -656,7 +662,8 @@ module _ (p : Program) (m : Method) (held : IsHeld p) where
               fits_and (v and single table) (grouped g (around.Switch to ∷ ts))
               (fits_then v table a.value (table_fits (default_at gs starts to) (targets gs starts to ns)
               (some_targets gs starts to (typed.type_of p m e)))) (b.to (around.Switch to ∷ ts)));
-          deep = max_within (frames.depths p m e).value (frames.depth_of_groups p m gs) (v.size + 1 + g.size) (omega (arith, x)) (omega (arith, y));
+          deep = max_within (frames.depths p m e).value (frames.depth_of_groups p m gs) (v.size + 1 + g.size) (omega (arith, x))
+              (omega (arith, y));
         }
     statement_fits scope (Break q l) h room =
         record { to = λ ts. fits_single (goto (around.break_to ts l)) (goto_fits (around.break_to ts l)); deep = omega arith }
@@ -666,7 +673,8 @@ module _ (p : Program) (m : Method) (held : IsHeld p) where
     statement_fits scope (Return q (Some e)) h room =
         let r = expr_fits scope e h room in
         let le = r.deep in
-        steady_fits _ _ (fits_then (pieces.value p m scope e) (return_value m.result) r.value (return_value_fits m.result)) (omega (arith, le))
+        steady_fits _ _ (fits_then (pieces.value p m scope e) (return_value m.result) r.value (return_value_fits m.result))
+        (omega (arith, le))
     statement_fits scope (Print q e) h room =
         let r = expr_fits scope e h room in
         let le = r.deep in
@@ -693,7 +701,8 @@ module _ (p : Program) (m : Method) (held : IsHeld p) where
         let rest : RoomForAll (k ∷ scope) more = subst (λ n. locals_of_all n more ≤ 255) (sym (one_more scope k)) room in
         let le = takes_stmts (next_local m.kind (k ∷ scope)) more in
         flows_fit _ _ (pieces.steady (pieces.value p m scope e and pieces.store_in p m (k ∷ scope) k))
-        (pieces.statements p m (k ∷ scope) more) (declared_fits scope k e h.0 (omega (arith, le, rest))) (statements_fit (k ∷ scope) more h.1 rest)
+        (pieces.statements p m (k ∷ scope) more) (declared_fits scope k e h.0 (omega (arith, le, rest)))
+        (statements_fit (k ∷ scope) more h.1 rest)
 
     groups_fit : (scope : List ℕ) (gs : Groups) → HoldsGroups gs → RoomForGroups scope gs →
         GroupsFit (frames.depth_of_groups p m gs) (pieces.groups p m scope gs)
@@ -707,14 +716,16 @@ module _ (p : Program) (m : Method) (held : IsHeld p) where
         let g = pieces.groups p m scope more in
         record {
           to = λ ts. fits_and (flowing f ts) (grouped g ts) (a.to ts) (b.to ts);
-          deep = max_within (frames.depth_of_all p m body) (frames.depth_of_groups p m more) (f.size + g.size) (omega (arith, x)) (omega (arith, y));
+          deep = max_within (frames.depth_of_all p m body) (frames.depth_of_groups p m more) (f.size + g.size) (omega (arith, x))
+              (omega (arith, y));
         }
 
   end_fits : (t : CoreType) → Fits (pieces.end_of_method p m t)
   end_fits types.Void = fits_single return return_fits
   end_fits types.Int = fits_then (single (push (pos 0))) (return_value types.Int) zero_fits (return_value_fits types.Int)
   end_fits types.Boolean = fits_then (single (push (pos 0))) (return_value types.Boolean) zero_fits (return_value_fits types.Boolean)
-  end_fits types.Text = fits_then (single (plain 1)) (return_value types.Text) (fits_single (plain 1) null_fits) (return_value_fits types.Text)
+  end_fits types.Text = fits_then (single (plain 1)) (return_value types.Text) (fits_single (plain 1) null_fits)
+      (return_value_fits types.Text)
   end_fits (types.Object c)
       = fits_then (single (plain 1)) (return_value (types.Object c)) (fits_single (plain 1) null_fits) (return_value_fits (types.Object c))
   end_fits (types.Enum e) = fits_then (single (push (pos 0))) (return_value (types.Enum e)) zero_fits (return_value_fits (types.Enum e))

@@ -147,7 +147,11 @@ module _ (pool : List Const) (few : length pool ≤ 65534) where
 
     encoded : (op : ℕ) (o : Operand) (j : file.Instr) → Numbers pool op o j → IsEncodableBy op o →
         length (instr_bytes here (aimed_by starts here o j)) ≤ 32767 → Encoded pool (aimed_by starts here o j)
-    encoded op Nothing j n h size = subst (Encoded pool) (sym n) (record { fits = as_form pool op forms.Nothing file.None h tt; names = tt })
+    encoded op Nothing j n h size = subst (Encoded pool) (sym n) (record {
+      fits = as_form pool op forms.Nothing file.None h tt;
+      names =
+          tt;
+    })
     encoded op (Number z) j n (inl h) size =
         subst (Encoded pool) (sym n) (record { fits = as_form pool op forms.Byte (file.Number z) h.0 h.1; names = tt })
     encoded op (Number z) j n (inr h) size =
@@ -164,7 +168,8 @@ module _ (pool : List Const) (few : length pool ≤ 65534) where
         subst (λ x. Encoded pool (aimed_by starts here (Jump t) x)) (sym n)
         (record { fits = as_form pool op forms.Jump (file.Jump (distance starts here t)) h (distance_fits t); names = tt })
     encoded op (Table d ts) j n h size =
-        subst (λ x. length (instr_bytes here (aimed_by starts here (Table d ts) x)) ≤ 32767 → Encoded pool (aimed_by starts here (Table d ts) x))
+        subst (λ x. length (instr_bytes here (aimed_by starts here (Table d ts) x)) ≤ 32767 →
+        Encoded pool (aimed_by starts here (Table d ts) x))
         (sym n) (table_encoded op d ts h.0 h.1) size
     encoded op (Class name) j n h size =
         subst (Encoded pool) (sym n.1) (as_pool pool op n.0 forms.Class h.0

@@ -61,7 +61,8 @@ all_still : (names : List Name) (pool : List Const) (k : ℕ) (x : Name) → sli
     AreTexts pool names → AreTexts (without pool k) names
 all_still [] pool k x e absent h = tt
 all_still (m ∷ names) pool k x e absent h = (
-  still pool k (Utf8 x) (Utf8 m) e (h.0).0 (h.0).1 (λ same. absent (subst (Contains (m ∷ names)) (same_letters m x same) (in_first names m))),
+  still pool k (Utf8 x) (Utf8 m) e (h.0).0 (h.0).1
+      (λ same. absent (subst (Contains (m ∷ names)) (same_letters m x same) (in_first names m))),
   all_still names pool k x e (λ c. absent (Contains-append_right (m ∷ []) names x c)) h.1,
 )
 
@@ -139,7 +140,8 @@ module _ (p : Program) (core : IsCore p) where
     few_fields : length k.fields < 2 ^ 16
     few_fields =
         let names = map (λ f. text_at p f.name) k.fields in
-        let made = each_made (FieldMade p) (field_in_file p) (λ q r g d m h. field_grown p g d m h) (field_made p) k.fields (header p k []).1 in
+        let made = each_made (FieldMade p) (field_in_file p) (λ q r g d m h. field_grown p g d m h) (field_made p) k.fields
+        (header p k []).1 in
         let few = as_few names (with_fields k) (core.classes c k at).fields_apart
         (field_texts p (with_fields k) k.fields (each (field_in_file p) k.fields (header p k []).1).0 made.holds) in
         let same : length names ≡ length k.fields = length-map k.fields (λ f. text_at p f.name) in
@@ -181,7 +183,8 @@ module _ (p : Program) (core : IsCore p) where
       let room_is = room k cs first.0 in (
         record { fields = few_fields c k here cs room_is; methods = few_methods c k here cs room_is h.0 },
         all_few (suc c) ks all h.1
-            (λ i x e. let same : c + suc i ≡ suc c + i = omega arith in subst (λ n. slice_get p.classes n ≡ Some x) same (at (suc i) x e)) first.1,
+            (λ i x e. let same : c + suc i ≡ suc c + i = omega arith in subst (λ n. slice_get p.classes n ≡ Some x) same (at (suc i) x e))
+            first.1,
       )
 
 pub cores_are_small : CoresAreSmall

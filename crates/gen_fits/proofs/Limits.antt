@@ -9,7 +9,8 @@ use Rattle.cls_tree.specs.Tree as file
 use Rattle.jv_core.specs.Tree.{Field, Class, Program}
 use Rattle.gen_rules.specs.Classes.{Compiled, header, field_in_file, method_in_file, each}
 use Rattle.gen_rules.specs.Limits.{Limit, CodeTooLong, TooManyLocals, PoolFull, TextTooLong, Part, Names, OfField, OfMethod, parts_in}
-use Rattle.gen_rules.specs.Limits.{pool_behind, code_length, locals_in, is_long, exceeded, exceeded_by, Excess, told, or_else, first_in_parts}
+use Rattle.gen_rules.specs.Limits.{pool_behind, code_length, locals_in, is_long, exceeded, exceeded_by, Excess, told, or_else}
+use Rattle.gen_rules.specs.Limits.{first_in_parts}
 use Rattle.gen_rules.proofs.Pool.{Grows}
 
 pub record IsWithin (l n : ℕ) (pool more : List Const) : Type 0 where
@@ -25,7 +26,8 @@ exceeded_none : (l n : ℕ) (pool more : List Const) → exceeded l n pool more 
 exceeded_none l n pool more = go (nat_lt 32767 l) (nat_lt 255 n) (nat_lt 65534 (length pool)) (list_any is_long more) refl refl refl refl
   where
     go : (a b c d : Bool) → nat_lt 32767 l ≡ a → nat_lt 255 n ≡ b → nat_lt 65534 (length pool) ≡ c → list_any is_long more ≡ d →
-        (if a then Some CodeTooLong else if b then Some TooManyLocals else if c then Some PoolFull else if d then Some TextTooLong else None)
+        (if a then Some CodeTooLong else if b then Some TooManyLocals else if c then Some PoolFull else if d then Some TextTooLong else
+        None)
         ≡ None → IsWithin l n pool more
     go true b c d e f g h none = absurd (some-is-not none)
     go false true c d e f g h none = absurd (some-is-not none)
@@ -98,10 +100,12 @@ module _ (p : Program) (k : Class) where
   part_none : (part : Part) (more : List Part) (pool : List Const) → first_in_parts p k (part ∷ more) pool ≡ None →
       (exceeded_by p k part pool ≡ None) × (first_in_parts p k more (pool_behind p k part pool) ≡ None)
   part_none part more pool h =
-      let both = first_none (option_map (told p k part) (exceeded_by p k part pool)) (first_in_parts p k more (pool_behind p k part pool)) h in
+      let both = first_none (option_map (told p k part) (exceeded_by p k part pool)) (first_in_parts p k more (pool_behind p k part pool)) h
+      in
       (told_none (told p k part) (exceeded_by p k part pool) both.0, both.1)
 
-  pub methods_limited : ((c : Compiled) (pool : List Const) → Grows pool (method_in_file c pool).1) → (cs : List Compiled) (pool : List Const) →
+  pub methods_limited : ((c : Compiled) (pool : List Const) → Grows pool (method_in_file c pool).1) →
+      (cs : List Compiled) (pool : List Const) →
       Limited pool → first_in_parts p k (map OfMethod cs) pool ≡ None → MethodsLimited cs pool
   methods_limited grows [] pool limited none = record { limited = limited; short = tt; locals = tt }
   methods_limited grows (c ∷ cs) pool limited none =

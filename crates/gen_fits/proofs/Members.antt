@@ -67,7 +67,8 @@ method_made c pool = gives_then (utf8-gives c.name pool)
       made = ap (aimed c.code) numbers.1;
     })))))
 
-pub method_grown : {pool larger : List Const} → Grows pool larger → (c : Compiled) (m : file.Member) → MethodMade c pool m → MethodMade c larger m
+pub method_grown : {pool larger : List Const} → Grows pool larger → (c : Compiled) (m : file.Member) → MethodMade c pool m →
+    MethodMade c larger m
 method_grown g c m h = record {
   name = is-grown g m.name (Utf8 c.name) h.name;
   descriptor = is-grown g m.descriptor (Utf8 c.descriptor) h.descriptor;

@@ -44,8 +44,10 @@ stands-grown g (Utf8 text) h = h
 stands-grown g (Integer n) h = h
 stands-grown g (ClassConst n) h = (h.0, is-grown g n (Utf8 h.0) h.1)
 stands-grown g (Text n) h = (h.0, is-grown g n (Utf8 h.0) h.1)
-stands-grown g (Field a b) h = ((h.0.0, is-grown g a (ClassConst h.0.0) h.0.1), (h.1.0, h.1.1, is-grown g b (NameAndType h.1.0 h.1.1) h.1.2))
-stands-grown g (Method a b) h = ((h.0.0, is-grown g a (ClassConst h.0.0) h.0.1), (h.1.0, h.1.1, is-grown g b (NameAndType h.1.0 h.1.1) h.1.2))
+stands-grown g (Field a b) h =
+    ((h.0.0, is-grown g a (ClassConst h.0.0) h.0.1), (h.1.0, h.1.1, is-grown g b (NameAndType h.1.0 h.1.1) h.1.2))
+stands-grown g (Method a b) h =
+    ((h.0.0, is-grown g a (ClassConst h.0.0) h.0.1), (h.1.0, h.1.1, is-grown g b (NameAndType h.1.0 h.1.1) h.1.2))
 stands-grown g (NameAndType a b) h = ((h.0.0, is-grown g a (Utf8 h.0.0) h.0.1), (h.1.0, is-grown g b (Utf8 h.1.0) h.1.1))
 
 abbrev All : List Const → List Const → Type 0

@@ -20,7 +20,8 @@ use Rattle.gen_rules.specs.Frames.{max_stack, max_locals}
 use Rattle.gen_rules.specs.Templates.{IsCode}
 use Rattle.gen_rules.specs.Locals.{params_in_scope}
 use Rattle.gen_rules.specs.Classes.{Compiled, compiled, access_of, push_constant, initialised, all_initialised, constructor_code}
-use Rattle.gen_rules.specs.Classes.{constructor_stack, constructor, constructors, methods_in, AreCompiled, IsCompiledClass, AreCompiledClasses}
+use Rattle.gen_rules.specs.Classes.{constructor_stack, constructor, constructors, methods_in, AreCompiled, IsCompiledClass}
+use Rattle.gen_rules.specs.Classes.{AreCompiledClasses}
 use Rattle.gen_rules.specs.Classes.{IsCompiled, class_file, class_files, header, field_in_file, each}
 use Rattle.gen_rules.specs.Limits.{Excess, or_else, parts_in, first_in_parts, first_in_classes}
 use Rattle.gen_rules.specs.inner.Generating as pieces

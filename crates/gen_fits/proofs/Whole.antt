@@ -47,7 +47,8 @@ content_long : (c : file.Code) → c.attributes ≡ [] → length (content_bytes
 content_long c h =
     let code = code_bytes c.instrs in
     let last = flat_map inner_bytes c.attributes in
-    let a = length-append (u2 c.max_stack) (u2 c.max_locals ++ (u4 (length code) ++ (code ++ (u2 0 ++ (u2 (length c.attributes) ++ last))))) in
+    let a = length-append (u2 c.max_stack) (u2 c.max_locals ++ (u4 (length code) ++ (code ++ (u2 0 ++ (u2 (length c.attributes) ++ last)))))
+    in
     let b = length-append (u2 c.max_locals) (u4 (length code) ++ (code ++ (u2 0 ++ (u2 (length c.attributes) ++ last)))) in
     let d = length-append (u4 (length code)) (code ++ (u2 0 ++ (u2 (length c.attributes) ++ last))) in
     let e = length-append code (u2 0 ++ (u2 (length c.attributes) ++ last)) in
@@ -221,7 +222,8 @@ module _ (p : Program) (k : Class) (cs : List Compiled) (names : AllByRecursion 
   good =
       let a = (class_keeps (text_at p k.name) [] (text_written p names k.name)).good tt in
       let b = (class_keeps object_class named_pool (ascii_text object_class refl)).good a in
-      let c = each_keeps (field_in_file p) (λ d. Unit {0}) (λ d q u g. field_keeps p names d q g) k.fields header_pool (any_field k.fields) b in
+      let c = each_keeps (field_in_file p) (λ d. Unit {0}) (λ d q u g. field_keeps p names d q g) k.fields header_pool (any_field k.fields)
+      b in
       each_keeps method_in_file CanStand method_keeps cs fields_pool can c
 
   limits : MethodsLimited cs fields_pool

@@ -77,7 +77,8 @@ module _ (p : Program) (names : AllByRecursion IsUtf8 p.names) where
 
   params_written : (ts : List CoreType) → IsUtf8 (flat_map type_text (map (type_in p) ts))
   params_written [] = IsUtf8-nil
-  params_written (t ∷ ts) = IsUtf8-append (field_descriptor p t) (flat_map type_text (map (type_in p) ts)) (type_written t) (params_written ts)
+  params_written (t ∷ ts) = IsUtf8-append (field_descriptor p t) (flat_map type_text (map (type_in p) ts)) (type_written t)
+      (params_written ts)
 
   pub signature_written : (ts : List CoreType) (t : CoreType) → IsUtf8 (descriptor_of p ts t)
   signature_written ts t =

@@ -1,5 +1,6 @@
 -- What an expression that a file has is resolved to can be held.
-use Rattle.std.proofs.Common.{◌≡◌, ℕ, ◌<◌, ◌≤◌, ◌^◌, Bool, true, false, List, [], ◌∷◌, length, Option, Some, None, option_map, slice_get, position, subst, arith}
+use Rattle.std.proofs.Common.{◌≡◌, ℕ, ◌<◌, ◌≤◌, ◌^◌, Bool, true, false, List, [], ◌∷◌, length, Option, Some, None, option_map, slice_get}
+use Rattle.std.proofs.Common.{position, subst, arith}
 use Rattle.std.specs.Prelude.{codes, if◌then◌else◌}
 use Rattle.std.specs.List.{AllByRecursion}
 use Rattle.std.specs.Str.{bytes_eq}
@@ -15,8 +16,11 @@ use Rattle.jv_core.specs.View.{exprs_of}
 use Rattle.jv_names.proofs.Tables.{some_is, none_some}
 use Rattle.jv_kept.proofs.Slots.{all_holds}
 use Rattle.jv_resolve_law.specs.Tables.{◌>>=◌, Tables, Callee, Numbered, class_called, enum_called, enum_names, method_called, type_meant}
-use Rattle.jv_resolve_law.specs.Expressions.{Given, OfNull, Of, Resolved, Known, Standing, Found, Receiver, OnThis, OnClass, OnValue, variable_in, only, text_call, session_named, session_call}
-use Rattle.jv_resolve_law.specs.Expressions.{constant, initial, static_call, helper_call, object_call, call_class, call_protocol, call_typed, own_found, call_own, call_on, found, variable_at, constant_at, member, named_receiver, receiver, resolved, resolved_all}
+use Rattle.jv_resolve_law.specs.Expressions.{Given, OfNull, Of, Resolved, Known, Standing, Found, Receiver, OnThis, OnClass, OnValue}
+use Rattle.jv_resolve_law.specs.Expressions.{variable_in, only, text_call, session_named, session_call}
+use Rattle.jv_resolve_law.specs.Expressions.{constant, initial, static_call, helper_call, object_call, call_class, call_protocol}
+use Rattle.jv_resolve_law.specs.Expressions.{call_typed, own_found, call_own, call_on, found, variable_at, constant_at, member}
+use Rattle.jv_resolve_law.specs.Expressions.{named_receiver, receiver, resolved, resolved_all}
 use Rattle.jv_resolve_law.proofs.Steps.{bound, mapped}
 use Rattle.jv_back.proofs.Exprs.{IsWritten, AreWritten}
 use Rattle.gen_fits.specs.Held.{HoldsExpr, HoldsExprs}
@@ -83,10 +87,12 @@ module _ (tables : Tables) (few : AreFew tables.enums) where
       subst HoldsExpr m.gives (constant_held p of name m.item m.is)
   initial_held e x w given = absurd (none_some given)
 
-  static_held : (p : Place) (c : Callee) (args : List Core.Expr) (r : Resolved) → AllHold args → static_call tables p c args ≡ Some r → Holds r
+  static_held : (p : Place) (c : Callee) (args : List Core.Expr) (r : Resolved) → AllHold args → static_call tables p c args ≡ Some r →
+      Holds r
   static_held p c args r h e = let b = bound (type_meant tables c.method.result) _ r e in subst Holds (some_is b.gives) h
 
-  helper_held : (p : Place) (c : Callee) (args : List Core.Expr) (r : Resolved) → AllHold args → helper_call tables p c args ≡ Some r → Holds r
+  helper_held : (p : Place) (c : Callee) (args : List Core.Expr) (r : Resolved) → AllHold args → helper_call tables p c args ≡ Some r →
+      Holds r
   helper_held p c args r h e = let b = bound (type_meant tables c.method.result) _ r e in subst Holds (some_is b.gives) h
 
   one_held : (b : Bool) (p : Place) (c : Callee) (args : List Core.Expr) (r : Resolved) → AllHold args →
@@ -94,7 +100,8 @@ module _ (tables : Tables) (few : AreFew tables.enums) where
   one_held true p c args r h e = absurd (none_some e)
   one_held false p c args r h e = helper_held p c args r h e
 
-  class_held : (p : Place) (class f : Name) (args : List Core.Expr) (r : Resolved) → AllHold args → call_class tables p class f args ≡ Some r → Holds r
+  class_held : (p : Place) (class f : Name) (args : List Core.Expr) (r : Resolved) → AllHold args → call_class tables p class f args ≡ Some
+      r → Holds r
   class_held p class f args r h e =
       let k = bound (class_called tables class) _ r e in
       let c = bound (method_called k.item f) _ r k.gives in
@@ -208,7 +215,8 @@ module _ (tables : Tables) (few : AreFew tables.enums) where
         resolved_held (Source.New p class) r w e =
             let k = bound (class_called tables class) _ r e in subst Holds (some_is k.gives) tt
 
-        pub all_resolved : (args : Source.Exprs) (es : List Core.Expr) → AreWritten args → resolved_all tables at locals args ≡ Some es → AllHold es
+        pub all_resolved : (args : Source.Exprs) (es : List Core.Expr) → AreWritten args → resolved_all tables at locals args ≡ Some es →
+            AllHold es
         all_resolved Source.NoExpr es w e = subst AllHold (some_is e) tt
         all_resolved (Source.Argument x more) es w e =
             let b = bound (resolved tables at locals x) _ es e in

@@ -9,7 +9,8 @@ use Rattle.jv_names.proofs.Tables.{some_is}
 use Rattle.jv_resolve_law.specs.Tables.{Entry, Tables, type_meant, interned}
 use Rattle.jv_resolve_law.specs.Expressions.{Known, Standing, initial}
 use Rattle.jv_resolve_law.specs.Statements.{Counted, slot_more, declared, stmts}
-use Rattle.jv_resolve_law.specs.Members.{Naming, Opened, all_interned, enum, enums, begins_with, field, fields, class, classes, params, method, methods_of, methods}
+use Rattle.jv_resolve_law.specs.Members.{Naming, Opened, all_interned, enum, enums, begins_with, field, fields, class, classes, params}
+use Rattle.jv_resolve_law.specs.Members.{method, methods_of, methods}
 use Rattle.jv_resolve_law.proofs.Steps.{bound, mapped}
 use Rattle.jv_back.proofs.Told.{IsNamed}
 use Rattle.jv_back.proofs.Stmts.{IsWrittenValue}
@@ -44,7 +45,8 @@ constants_named (x ∷ xs) w = w
 -- enums with as many constants as those of the text
 pub record AreAsMany (es : List Source.Enum) (r : Naming (List Core.Enum)) : Type 0 where
   pub names : AreFine r.names
-  pub many : (limit : ℕ) → AllByRecursion (λ (e : Core.Enum). length e.constants ≤ limit) r.it → AllByRecursion (λ (e : Source.Enum). length e.constants ≤ limit) es
+  pub many : (limit : ℕ) → AllByRecursion (λ (e : Core.Enum). length e.constants ≤ limit) r.it →
+      AllByRecursion (λ (e : Source.Enum). length e.constants ≤ limit) es
 
 enum_kept : (ns : List Name) (e : Source.Enum) (r : Naming Core.Enum) → enum ns e ≡ Some r → IsWrittenEnum e → AreFine ns →
     AreFine r.names × (length r.it.constants ≡ length e.constants)
@@ -55,7 +57,8 @@ enum_kept ns e r given w f =
     (fine_with ns e.name n.item n.is (fine e.name w.name) f) in
     subst (λ (z : Naming Core.Enum). AreFine z.names × (length z.it.constants ≡ length e.constants)) (some_is cs.gives) (h.0, h.1)
 
-pub enums_kept : (ns : List Name) (es : List Source.Enum) (r : Naming (List Core.Enum)) → enums ns es ≡ Some r → AllByRecursion IsWrittenEnum es →
+pub enums_kept : (ns : List Name) (es : List Source.Enum) (r : Naming (List Core.Enum)) → enums ns es ≡ Some r →
+    AllByRecursion IsWrittenEnum es →
     AreFine ns → AreAsMany es r
 enums_kept ns [] r given w f = subst (AreAsMany []) (some_is given) (record { names = f; many = λ limit h. tt })
 enums_kept ns (e ∷ es) r given w f =
@@ -81,7 +84,8 @@ abbrev pub EntryWritten : Entry → Type 0
 EntryWritten x = IsWrittenClass x.class
 
 module _ (tables : Tables) (few : AreFew tables.enums) where
-  begins_held : (value : Option Source.Expr) (v : Option Core.Expr) → IsWrittenValue value → begins_with tables value ≡ Some v → HoldsValue v
+  begins_held : (value : Option Source.Expr) (v : Option Core.Expr) → IsWrittenValue value → begins_with tables value ≡ Some v →
+      HoldsValue v
   begins_held None v w e = subst HoldsValue (some_is e) tt
   begins_held (Some x) v w e =
       let m = mapped Some (initial tables x) v e in subst HoldsValue m.gives (initial_held tables few x m.item w m.is)
@@ -99,31 +103,36 @@ module _ (tables : Tables) (few : AreFew tables.enums) where
 
   fields_kept : (ns : List Name) (xs : List Source.Field) (r : Naming (List Core.Field)) → fields tables ns xs ≡ Some r →
       AllByRecursion IsWrittenField xs → AreFine ns → KeptWith (List Core.Field) (AllByRecursion FieldHeld) r
-  fields_kept ns [] r given w f = subst (KeptWith (List Core.Field) (AllByRecursion FieldHeld)) (some_is given) (record { names = f; it = tt })
+  fields_kept ns [] r given w f = subst (KeptWith (List Core.Field) (AllByRecursion FieldHeld)) (some_is given)
+      (record { names = f; it = tt })
   fields_kept ns (x ∷ xs) r given w f =
       let k = bound (field tables ns x) _ r given in
       let m = bound (fields tables k.item.names xs) _ r k.gives in
       let one = field_kept ns x k.item k.is w.0 f in
       let rest = fields_kept k.item.names xs m.item m.is w.1 one.names in
-      subst (KeptWith (List Core.Field) (AllByRecursion FieldHeld)) (some_is m.gives) (record { names = rest.names; it = (one.it, rest.it) })
+      subst (KeptWith (List Core.Field) (AllByRecursion FieldHeld)) (some_is m.gives)
+      (record { names = rest.names; it = (one.it, rest.it) })
 
   class_kept : (ns : List Name) (x : Entry) (r : Naming Core.Class) → class tables ns x ≡ Some r → IsWrittenClass x.class → AreFine ns →
       KeptWith Core.Class ClassHeld r
   class_kept ns x r given w f =
       let n = bound (interned ns x.class.name) _ r given in
       let fs = bound (fields tables n.item.names x.class.fields) _ r n.gives in
-      let h = fields_kept n.item.names x.class.fields fs.item fs.is w.fields (fine_with ns x.class.name n.item n.is (fine x.class.name w.name) f) in
+      let h = fields_kept n.item.names x.class.fields fs.item fs.is w.fields
+      (fine_with ns x.class.name n.item n.is (fine x.class.name w.name) f) in
       subst (KeptWith Core.Class ClassHeld) (some_is fs.gives) (record { names = h.names; it = h.it })
 
   pub classes_kept : (ns : List Name) (xs : List Entry) (r : Naming (List Core.Class)) → classes tables ns xs ≡ Some r →
       AllByRecursion EntryWritten xs → AreFine ns → KeptWith (List Core.Class) (AllByRecursion ClassHeld) r
-  classes_kept ns [] r given w f = subst (KeptWith (List Core.Class) (AllByRecursion ClassHeld)) (some_is given) (record { names = f; it = tt })
+  classes_kept ns [] r given w f = subst (KeptWith (List Core.Class) (AllByRecursion ClassHeld)) (some_is given)
+      (record { names = f; it = tt })
   classes_kept ns (x ∷ xs) r given w f =
       let k = bound (class tables ns x) _ r given in
       let m = bound (classes tables k.item.names xs) _ r k.gives in
       let one = class_kept ns x k.item k.is w.0 f in
       let rest = classes_kept k.item.names xs m.item m.is w.1 one.names in
-      subst (KeptWith (List Core.Class) (AllByRecursion ClassHeld)) (some_is m.gives) (record { names = rest.names; it = (one.it, rest.it) })
+      subst (KeptWith (List Core.Class) (AllByRecursion ClassHeld)) (some_is m.gives)
+      (record { names = rest.names; it = (one.it, rest.it) })
 
   params_named : (m : Source.Method) → AreWrittenParams m → AllByRecursion IsWrittenParam m.params
   params_named m (inl (plain, are)) = are
@@ -137,7 +146,8 @@ module _ (tables : Tables) (few : AreFew tables.enums) where
       let more = bound (declared k.item.it locals) _ o k.gives in
       params_kept ps more.item k.item.so_far o more.gives w.1 (slot_kept tables few p.ty p.name s k.item k.is w.0.1 f)
 
-  method_kept : (ns : List Name) (x : Entry) (m : Source.Method) (r : Naming Core.Method) → method tables ns x m ≡ Some r → IsWrittenMethod m →
+  method_kept : (ns : List Name) (x : Entry) (m : Source.Method) (r : Naming Core.Method) → method tables ns x m ≡ Some r →
+      IsWrittenMethod m →
       AreFine ns → KeptWith Core.Method MethodHeld r
   method_kept ns x m r given w f =
       let n = bound (interned ns m.name) _ r given in
@@ -150,19 +160,23 @@ module _ (tables : Tables) (few : AreFew tables.enums) where
       let h = stmts_kept tables few at m.body [] o.item.locals o.item.so_far b.item w.body opened b.is in
       subst (KeptWith Core.Method MethodHeld) (some_is b.gives) (record { names = h.names; it = h.it })
 
-  methods_in_kept : (ns : List Name) (x : Entry) (ms : List Source.Method) (r : Naming (List Core.Method)) → methods_of tables ns x ms ≡ Some r →
+  methods_in_kept : (ns : List Name) (x : Entry) (ms : List Source.Method) (r : Naming (List Core.Method)) →
+      methods_of tables ns x ms ≡ Some r →
       AllByRecursion IsWrittenMethod ms → AreFine ns → KeptWith (List Core.Method) (AllByRecursion MethodHeld) r
-  methods_in_kept ns x [] r given w f = subst (KeptWith (List Core.Method) (AllByRecursion MethodHeld)) (some_is given) (record { names = f; it = tt })
+  methods_in_kept ns x [] r given w f = subst (KeptWith (List Core.Method) (AllByRecursion MethodHeld)) (some_is given)
+      (record { names = f; it = tt })
   methods_in_kept ns x (y ∷ ys) r given w f =
       let k = bound (method tables ns x y) _ r given in
       let m = bound (methods_of tables k.item.names x ys) _ r k.gives in
       let one = method_kept ns x y k.item k.is w.0 f in
       let rest = methods_in_kept k.item.names x ys m.item m.is w.1 one.names in
-      subst (KeptWith (List Core.Method) (AllByRecursion MethodHeld)) (some_is m.gives) (record { names = rest.names; it = (one.it, rest.it) })
+      subst (KeptWith (List Core.Method) (AllByRecursion MethodHeld)) (some_is m.gives)
+      (record { names = rest.names; it = (one.it, rest.it) })
 
   pub methods_kept : (ns : List Name) (xs : List Entry) (r : Naming (List Core.Method)) → methods tables ns xs ≡ Some r →
       AllByRecursion EntryWritten xs → AreFine ns → KeptWith (List Core.Method) (AllByRecursion MethodHeld) r
-  methods_kept ns [] r given w f = subst (KeptWith (List Core.Method) (AllByRecursion MethodHeld)) (some_is given) (record { names = f; it = tt })
+  methods_kept ns [] r given w f = subst (KeptWith (List Core.Method) (AllByRecursion MethodHeld)) (some_is given)
+      (record { names = f; it = tt })
   methods_kept ns (x ∷ xs) r given w f =
       let k = bound (methods_of tables ns x x.class.methods) _ r given in
       let m = bound (methods tables k.item.names xs) _ r k.gives in

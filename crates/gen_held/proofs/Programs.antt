@@ -44,7 +44,8 @@ written_api [] h = tt
 written_api (f ∷ fs) h = (h.0.written, written_api fs h.1)
 
 -- a local protocol that is read is valid
-valid : (file : ℕ) (bytes : List ℕ) (local : LocalTree) (a : scribble.Answer) → scribble.Outcome file bytes a → a ≡ scribble.Protocol local → IsValid local
+valid : (file : ℕ) (bytes : List ℕ) (local : LocalTree) (a : scribble.Answer) → scribble.Outcome file bytes a → a ≡ scribble.Protocol local
+    → IsValid local
 valid file bytes local a (scribble.found {w = w} spells fine) e =
     subst IsValid (same e) (faultless w fine (can_be_written file bytes w spells))
   where
@@ -72,7 +73,8 @@ told_no_file (lexes.BadNumber place) a t = subst NotFile (some_is t) tt
 told_no_file lexes.Memory a t = absurd (none_some t)
 
 -- a Java file that is read can be written
-written_file : (number : ℕ) (bytes : List ℕ) (file : File) (a : java.Answer) → java.Outcome number bytes a → a ≡ java.Read file → IsWrittenFile file
+written_file : (number : ℕ) (bytes : List ℕ) (file : File) (a : java.Answer) → java.Outcome number bytes a → a ≡ java.Read file →
+    IsWrittenFile file
 written_file number bytes file a (java.read f s) e =
     subst IsWrittenFile (same e) (file_kept f s.tokens s.spelled.0 (tokens_good number s.tokens bytes s.cut))
   where
@@ -116,20 +118,26 @@ all_enums : (files : List File) → AllByRecursion IsWrittenFile files → AllBy
 all_enums [] h = tt
 all_enums (f ∷ fs) h = all_in_back IsWrittenEnum (flat_map enum_in f) (enums_of fs) (decl_enums f h.0) (all_enums fs h.1)
 
-entries_written : (typestates : List Typestate) (n m : ℕ) (cs : List source.Class) (xs : List Entry) → entries_from typestates n m cs ≡ Some xs →
+entries_written : (typestates : List Typestate) (n m : ℕ) (cs : List source.Class) (xs : List Entry) → entries_from typestates n m cs ≡ Some
+    xs →
     AllByRecursion IsWrittenClass cs → AllByRecursion EntryWritten xs
 entries_written typestates n m [] xs e h = subst (AllByRecursion EntryWritten) (some_is e) tt
 entries_written typestates n m (c ∷ cs) xs e h =
     let t = bound (followed typestates c.typestate) _ xs e in
     let r = bound (entries_from typestates (suc n) (m + length c.methods) cs) _ xs t.gives in
-    subst (AllByRecursion EntryWritten) (some_is r.gives) (h.0, entries_written typestates (suc n) (m + length c.methods) cs r.item r.is h.1)
+    subst (AllByRecursion EntryWritten) (some_is r.gives) (
+      h.0,
+      entries_written typestates (suc n) (m + length c.methods) cs r.item r.is
+          h.1,
+    )
 
 -- the tables of a program whose files can be written
 record TablesWritten (tables : Tables) : Type 0 where
   classes : AllByRecursion EntryWritten tables.classes
   enums : AllByRecursion IsWrittenEnum tables.enums
 
-tables_written : (program : Program) (tables : Tables) → tables_of program ≡ Some tables → AllByRecursion IsWrittenFile program.files → TablesWritten tables
+tables_written : (program : Program) (tables : Tables) → tables_of program ≡ Some tables → AllByRecursion IsWrittenFile program.files →
+    TablesWritten tables
 tables_written program tables e h =
     let b = bound (entries_from program.typestates 0 0 (classes_of program.files)) _ tables e in
     subst TablesWritten (some_is b.gives) (record {
@@ -156,7 +164,8 @@ written_cores_are_held files sourced core are e bounded =
     let tw = tables_written program t.item t.is w in
     let ek = enums_kept [] t.item.enums es.item es.is tw.enums tt in
     let few : AreFew t.item.enums = ek.many (2 ^ 31)
-    (subst (λ (c : Core.Program). AllByRecursion (λ (e : Core.Enum). length e.constants ≤ 2 ^ 31) c.enums) (sym (some_is ms.gives)) bounded.enums) in
+    (subst (λ (c : Core.Program). AllByRecursion (λ (e : Core.Enum). length e.constants ≤ 2 ^ 31) c.enums) (sym (some_is ms.gives))
+    bounded.enums) in
     let ck = classes_kept t.item few es.item.names t.item.classes cs.item cs.is tw.classes ek.names in
     let mk = methods_kept t.item few cs.item.names t.item.classes ms.item ms.is tw.classes ck.names in
     subst CanBeHeld (some_is ms.gives) (record {

@@ -10,7 +10,8 @@ use Rattle.jv_core.specs.View.{OneGroup, before, stmts_of, groups_of}
 use Rattle.jv_names.proofs.Tables.{some_is}
 use Rattle.jv_resolve_law.specs.Tables.{Tables, type_meant, interned}
 use Rattle.jv_resolve_law.specs.Expressions.{Resolved, Known, Standing, variable_in, resolved}
-use Rattle.jv_resolve_law.specs.Statements.{Counted, Around, InLoop, InSwitch, Counting, Item, labels_at, loop_more, declared, slot_more, left_by, gone_on_by, enum_given, given_back, local, item, stmt, stmts, groups}
+use Rattle.jv_resolve_law.specs.Statements.{Counted, Around, InLoop, InSwitch, Counting, Item, labels_at, loop_more, declared, slot_more}
+use Rattle.jv_resolve_law.specs.Statements.{left_by, gone_on_by, enum_given, given_back, local, item, stmt, stmts, groups}
 use Rattle.jv_resolve_law.proofs.Steps.{bound, mapped}
 use Rattle.jv_back.proofs.Told.{IsNamed}
 use Rattle.jv_back.proofs.Exprs.{IsWritten}
@@ -62,7 +63,8 @@ module _ (tables : Tables) (few : AreFew tables.enums) where
       names : AreFine r.0.so_far.names
       it : HoldsStmt r.1
 
-    local_kept : (p : Place) (ty : TypeName) (name : Name) (x : Source.Expr) (locals : List Known) (s : Counted) (r : Counting Known × Core.Stmt) →
+    local_kept : (p : Place) (ty : TypeName) (name : Name) (x : Source.Expr) (locals : List Known) (s : Counted)
+        (r : Counting Known × Core.Stmt) →
         IsNamed name → IsWritten x → AreFine s.names → local tables at p ty name x locals s ≡ Some r → LocalKept r
     local_kept p ty name x locals s r n w f e =
         let v = bound (resolved tables at locals x) _ r e in
@@ -89,7 +91,8 @@ module _ (tables : Tables) (few : AreFew tables.enums) where
         let k = h m.item m.is in
         subst ItemKept m.gives (record { names = k.names; it = k.it })
 
-    item_kept : (s : Source.Stmt) (around : List Around) (locals : List Known) (c : Counted) (r : Item) → (IsWrittenLocal s ⊎ IsWrittenStmt s) →
+    item_kept : (s : Source.Stmt) (around : List Around) (locals : List Known) (c : Counted) (r : Item) →
+        (IsWrittenLocal s ⊎ IsWrittenStmt s) →
         AreFine c.names → ((k : Counting Core.Stmt) → IsWrittenStmt s → stmt tables at s around locals c ≡ Some k → StmtKept k) →
         item tables at s locals c (stmt tables at s around locals c) ≡ Some r → ItemKept r
     item_kept s around locals c r (inl w) f h e = declared_kept s locals c (stmt tables at s around locals c) r w f e
@@ -120,7 +123,8 @@ module _ (tables : Tables) (few : AreFew tables.enums) where
           let d = bound (stmt tables at rest around locals b.item.so_far) _ r b.gives in
           let h = stmt_kept body around locals c b.item w.1 f b.is in
           let g = stmt_kept rest around locals b.item.so_far d.item w.3 h.names d.is in
-          subst StmtKept (some_is d.gives) (record { names = g.names; it = (resolved_held tables few at locals x t.item w.0 t.is, h.it, g.it) })
+          subst StmtKept (some_is d.gives)
+          (record { names = g.names; it = (resolved_held tables few at locals x t.item w.0 t.is, h.it, g.it) })
       stmt_kept (Source.While p label x body) around locals c r w f e =
           let t = bound (resolved tables at locals x) _ r e in
           let b = bound (stmt tables at body (InLoop label (length c.loops) ∷ around) locals (loop_more p locals c)) _ r t.gives in
@@ -162,7 +166,8 @@ module _ (tables : Tables) (few : AreFew tables.enums) where
           subst StmtsKept (some_is b.gives) (record { names = g.names; it = held_before a.item.stmt (stmts_of b.item.it) h.it g.it })
 
       pub groups_kept : (gs : Source.Groups) (enum : Source.Enum) (around : List Around) (locals : List Known) (c : Counted)
-          (r : Counting (List OneGroup)) → AreWrittenGroups gs → AreFine c.names → groups tables at gs enum around locals c ≡ Some r → GroupsKept r
+          (r : Counting (List OneGroup)) → AreWrittenGroups gs → AreFine c.names → groups tables at gs enum around locals c ≡ Some r →
+          GroupsKept r
       groups_kept Source.NoGroup enum around locals c r w f e = subst GroupsKept (some_is e) (record { names = f; it = tt })
       groups_kept (Source.Group labels body end more) enum around locals c r w f e =
           let l = bound (labels_at enum labels) _ r e in

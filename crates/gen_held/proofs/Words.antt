@@ -1,5 +1,6 @@
 -- Names and numbers as files have them.
-use Rattle.std.proofs.Common.{◌≡◌, ◌≢◌, ℕ, ◌≤◌, ℤ, pos, neg_ℤ, Bool, true, false, inl, inr, negsuc, Some, List, [], ◌∷◌, ◌++◌, sym, subst, arith, IsUtf8, FitsSigned, if◌then◌else◌}
+use Rattle.std.proofs.Common.{◌≡◌, ◌≢◌, ℕ, ◌≤◌, ℤ, pos, neg_ℤ, Bool, true, false, inl, inr, negsuc, Some, List, [], ◌∷◌, ◌++◌, sym, subst}
+use Rattle.std.proofs.Common.{arith, IsUtf8, FitsSigned, if◌then◌else◌}
 use Rattle.std.specs.List.{AllByRecursion}
 use Rattle.std.proofs.lemmas.Str.{IsUtf8-from_ascii}
 use mir.Syntax.{w32}
@@ -28,7 +29,8 @@ all_in_back P [] ys a b = b
 all_in_back P (x ∷ xs) ys a b = (a.0, all_in_back P xs ys a.1 b)
 
 -- a name that gets its number
-pub fine_with : (names : List Name) (name : Name) (r : Interned) → interned names name ≡ Some r → IsFine name → AreFine names → AreFine r.names
+pub fine_with : (names : List Name) (name : Name) (r : Interned) → interned names name ≡ Some r → IsFine name → AreFine names →
+    AreFine r.names
 fine_with names name r e f fs =
     let b = bound _ (λ n. Some (record { number = n; names = with_text names name })) r e in
     subst (λ (z : Interned). AreFine z.names) (some_is b.gives) (go _)
@@ -38,7 +40,11 @@ fine_with names name r e f fs =
     go false = all_in_back IsFine names (name ∷ []) fs (f, tt)
 
 plain_byte : (c : ℕ) → is_word_byte c ≡ true → (c ≢ 47) × (c ≢ 59) × (c ≢ 60)
-plain_byte c h = (λ e. absurd (no_slash (subst (λ z. is_word_byte z ≡ true) e h)), λ e. absurd (no_semicolon (subst (λ z. is_word_byte z ≡ true) e h)), λ e. absurd (no_less (subst (λ z. is_word_byte z ≡ true) e h)))
+plain_byte c h = (
+  λ e. absurd (no_slash (subst (λ z. is_word_byte z ≡ true) e h)),
+  λ e. absurd (no_semicolon (subst (λ z. is_word_byte z ≡ true) e h)),
+  λ e. absurd (no_less (subst (λ z. is_word_byte z ≡ true) e h)),
+)
   where
     no_slash : is_word_byte 47 ≡ true → ⊥
     no_slash e = cc
@@ -54,7 +60,11 @@ plain_bytes [] h = tt
 plain_bytes (c ∷ cs) h = (plain_byte c h.0, plain_bytes cs h.1)
 
 pub fine : (name : Name) → IsNamed name → IsFine name
-fine name is = record { plain = plain_bytes name is.bytes; utf8 = IsUtf8-from_ascii name (passing_ascii is_word_byte name word_low is.bytes) }
+fine name is = record {
+  plain = plain_bytes name is.bytes;
+  utf8 =
+      IsUtf8-from_ascii name (passing_ascii is_word_byte name word_low is.bytes);
+}
 
 pub all_fine : (names : List Name) → AllByRecursion IsNamed names → AllByRecursion IsFine names
 all_fine [] h = tt

@@ -24,5 +24,6 @@ module _ (p : Program) (class n : ℕ) (kept : List CoreField) where
       ∙ ap (λ fields. old ++ left n fields) (sym cut) ∙ l
 
   -- all are set
-  pub all_put : (done all : List Instr) → length kept ≤ n → done ++ all_initialised p class n (map field_of (drop n kept)) ≡ all → done ≡ all
+  pub all_put : (done all : List Instr) → length kept ≤ n → done ++ all_initialised p class n (map field_of (drop n kept)) ≡ all →
+      done ≡ all
   all_put done all past l = sym (append-nil done) ∙ ap (λ fields. done ++ left n fields) (sym (drop_all n kept past)) ∙ l

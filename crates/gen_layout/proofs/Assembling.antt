@@ -100,7 +100,8 @@ are_laid place (i ∷ is) pool =
       record {
         starts = ap (λ (xs : List ℕ). place ∷ xs) (more.0).starts;
         end = grown place n j (all_numbered is p).0 (laid (place + n) is p).0.end refl (more.0).end;
-        aimed_are = λ starts. ap₂ (λ (x : file.Instr) (xs : List file.Instr). x ∷ xs) (final_aimed starts place i.op i.operand k) ((more.0).aimed_are starts);
+        aimed_are = λ starts. ap₂ (λ (x : file.Instr) (xs : List file.Instr). x ∷ xs) (final_aimed starts place i.op i.operand k)
+            ((more.0).aimed_are starts);
         final_end = λ starts.
             let l = (laid (place + n) is p).0 in
             grown place n (final starts place i k) (finals starts l.starts is l.numbers) l.end (final_size starts place i.op i.operand k)
@@ -177,7 +178,8 @@ laid_done numbers starts end pool all l =
 -- one more of the instructions is laid
 pub lay_more : (p : Program) (kept : List Symbolic) (n : ℕ) (x : Symbolic) (old new : KeptLaid) (pool left : List Const)
     (all : Laid × List Const) (k size : ℕ) → n < length kept → x ≡ get_or kept n x →
-    IsMade k left (constant_of (operand_of p x.operand) pool) → size ≡ size_at old.end x.op (operand_of p x.operand) k → IsOneMore old new k size →
+    IsMade k left (constant_of (operand_of p x.operand) pool) → size ≡ size_at old.end x.op (operand_of p x.operand) k →
+    IsOneMore old new k size →
     IsLeft (instrs_of p (drop n kept)) old.numbers.items old.starts.items old.end pool all →
     IsLeft (instrs_of p (drop (n + 1) kept)) new.numbers.items new.starts.items new.end left all
 lay_more p kept n x old new pool left all k size within is made takes more l =
@@ -208,7 +210,8 @@ module _ (starts : List ℕ) (p : Program) (all : List file.Instr) where
   abbrev pub AreLeft : (places : List ℕ) (is : List Symbolic) (ks : List ℕ) → List file.Instr → Type 0
   AreLeft places is ks done = all ≡ done ++ finals starts places (instrs_of p is) ks
 
-  pub one_more : (here k : ℕ) (i : Symbolic) (places : List ℕ) (is : List Symbolic) (ks : List ℕ) (done new : List file.Instr) (j : file.Instr) →
+  pub one_more : (here k : ℕ) (i : Symbolic) (places : List ℕ) (is : List Symbolic) (ks : List ℕ) (done new : List file.Instr)
+      (j : file.Instr) →
       j ≡ final starts here (instr_of p i) k → new ≡ done ++ j ∷ [] →
       AreLeft (here ∷ places) (i ∷ is) (k ∷ ks) done → AreLeft places is ks new
   one_more here k i places is ks done new j e m l =

@@ -1,5 +1,6 @@
 -- The limits, one after another.
-use Rattle.std.proofs.Common.{◌≡◌, ℕ, ◌≤◌, ◌-◌, List, length, map, drop, take, nat_lt, Bool, true, false, Some, None, refl, sym, ap, ◌∙◌, arith}
+use Rattle.std.proofs.Common.{◌≡◌, ℕ, ◌≤◌, ◌-◌, List, length, map, drop, take, nat_lt, Bool, true, false, Some, None, refl, sym, ap, ◌∙◌}
+use Rattle.std.proofs.Common.{arith}
 use Rattle.std.specs.List.{list_any}
 use Rattle.std.proofs.lemmas.List.{drop-map, drop_all, length-drop, take_all}
 use Rattle.std.proofs.lemmas.Bool.Decides.{nat_tests}
@@ -10,7 +11,8 @@ use Rattle.gen_pool.specs.Keys.{const_of}
 
 module _ (keys : List Key) (pool : List Const) (old : ℕ) (seen : map const_of keys ≡ pool) where
   pub nothing_behind : length keys ≤ old → false ≡ list_any is_long (drop old pool)
-  nothing_behind past = sym (ap (list_any is_long) (ap (drop old) (sym seen) ∙ drop-map const_of old keys ∙ ap (map const_of) (drop_all old keys past)))
+  nothing_behind past = sym (ap (list_any is_long) (ap (drop old) (sym seen) ∙ drop-map const_of old keys ∙ ap (map const_of)
+      (drop_all old keys past)))
 
   -- all that stands behind them
   rest : take (length keys - old) (drop old keys) ≡ drop old keys

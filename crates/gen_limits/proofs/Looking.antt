@@ -16,7 +16,8 @@ module _ {X Y : Type 0} (test : Y → Bool) (see : X → Y) (xs : List X) (i : �
   go_on x all within is fails l = sym (next x within is ∙ ap (λ b. b || list_any test (map see (drop (i + 1) xs))) fails) ∙ l
 
   -- it is this one
-  pub is_there : (x : X) (all : Bool) → i < length xs → x ≡ get_or xs i x → test (see x) ≡ true → list_any test (map see (drop i xs)) ≡ all →
+  pub is_there : (x : X) (all : Bool) → i < length xs → x ≡ get_or xs i x → test (see x) ≡ true → list_any test (map see (drop i xs)) ≡ all
+      →
       true ≡ all
   is_there x all within is passes l = sym (next x within is ∙ ap (λ b. b || list_any test (map see (drop (i + 1) xs))) passes) ∙ l
 

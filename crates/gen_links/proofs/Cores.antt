@@ -92,7 +92,8 @@ cores_link = record {
 
 -- Jumps.
 
-all_inside : (classes : List Outline) (cs : List Compiled) → AllByRecursion (λ c. AreRight classes c.code) cs → AllByRecursion JumpsInside cs
+all_inside : (classes : List Outline) (cs : List Compiled) → AllByRecursion (λ c. AreRight classes c.code) cs →
+    AllByRecursion JumpsInside cs
 all_inside classes [] h = tt
 all_inside classes (c ∷ cs) h = ((λ pool. jumps_inside classes c.code pool h.0), all_inside classes cs h.1)
 

@@ -147,7 +147,8 @@ module _ (p : Program) (core : IsCore p) (plain : HasPlainNames p) (all : List (
       (not_main params result h r)
       ∙ ap (λ x. elim x [ None ↦ None | Some s ↦ Some (types_of_signature s) ]) read
 
-  pub method_described : (flaw : Option Flaw) (name : Name) (params : List CoreType) (result : CoreType) → AllByRecursion (IsUsable p) params →
+  pub method_described : (flaw : Option Flaw) (name : Name) (params : List CoreType) (result : CoreType) →
+      AllByRecursion (IsUsable p) params →
       IsResult p result → descriptor_flaw here flaw (method_types name (descriptor_of p params result)) ≡ None
   method_described flaw name params result h r =
       ap (descriptor_flaw here flaw) (method_types_are name params result h r)

@@ -1,12 +1,14 @@
 -- What is made of the header and of fields, and judged.
-use Rattle.std.proofs.Common.{◌≡◌, ℕ, ◌+◌, ◌<◌, ◌≤◌, get_or, List, [], ◌∷◌, ◌++◌, length, drop, map, Option, option_map, Some, None, refl, sym, ap, ap₂, ◌∙◌, subst, append_assoc}
+use Rattle.std.proofs.Common.{◌≡◌, ℕ, ◌+◌, ◌<◌, ◌≤◌, get_or, List, [], ◌∷◌, ◌++◌, length, drop, map, Option, option_map, Some, None, refl}
+use Rattle.std.proofs.Common.{sym, ap, ap₂, ◌∙◌, subst, append_assoc}
 use Rattle.std.proofs.lemmas.List.{append-nil, at_drop_more, drop_all, map-append}
 use Rattle.cls_tree.specs.declared.class.Const.{Const}
 use Rattle.cls_tree.specs.Tree as file
 use Rattle.cls_tree.specs.Emitted.{Pooled}
 use Rattle.jv_core.specs.Tree.{Class, Program}
 use Rattle.gen_rules.specs.Classes.{each}
-use Rattle.gen_rules.specs.Limits.{Excess, CodeTooLong, TooManyLocals, PoolFull, TextTooLong, Part, exceeded, exceeded_by, pool_behind, first_in_parts, or_else, told}
+use Rattle.gen_rules.specs.Limits.{Excess, CodeTooLong, TooManyLocals, PoolFull, TextTooLong, Part, exceeded, exceeded_by, pool_behind}
+use Rattle.gen_rules.specs.Limits.{first_in_parts, or_else, told}
 use Rattle.gen_pool.specs.Made.{IsMade}
 use Rattle.cls_tree.specs.declared.class.Member.{Member as KeptMember}
 use Rattle.cls_tree.specs.View.{member_of}
@@ -63,11 +65,13 @@ module _ (p : Program) (k : Class) {X : Type 0} (f : X → Pooled file.Member) (
           ∙ sym (append_assoc done (m ∷ []) (each f rest behind).0) ∙ ap (λ ys. ys ++ (each f rest behind).0) (sym grown);
       left = l.left ∙ ap (λ q. (each f rest q).1) (sym made.left);
       judged = λ more. l.judged more
-          ∙ ap₂ (λ r q. or_else (option_map (told p k (part x)) r) (first_in_parts p k (map part rest ++ more) q)) fine (same ∙ sym made.left);
+          ∙ ap₂ (λ r q. or_else (option_map (told p k (part x)) r) (first_in_parts p k (map part rest ++ more) q)) fine
+          (same ∙ sym made.left);
     }
 
   -- something in one is too large
-  pub part_fails : (x : X) (rest : List X) (done : List file.Member) (pool : List Const) (whole : List X) (begin : List Const) (excess : Excess) →
+  pub part_fails : (x : X) (rest : List X) (done : List file.Member) (pool : List Const) (whole : List X) (begin : List Const)
+      (excess : Excess) →
       part_excess p k (part x) pool ≡ Some excess → AreLeft (x ∷ rest) done pool whole begin →
       (more : List Part) → first_in_parts p k (map part whole ++ more) begin ≡ Some excess
   part_fails x rest done pool whole begin excess fails l more =

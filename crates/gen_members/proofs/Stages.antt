@@ -25,42 +25,44 @@ finals_of c l = finals l.starts l.starts c.code l.numbers
 
 -- the steps of a method: its name, its descriptor, the text `Code`, and its code
 module _ (c : Compiled) (pool p1 p2 p3 p4 : List Const) (n d k : ℕ) (l : Laid) (name : IsMade n p1 (utf8 c.name pool))
-    (descriptor : IsMade d p2 (utf8 c.descriptor p1)) (code : IsMade k p3 (utf8 (codes "Code") p2)) (lay : IsMade l p4 (laid 0 c.code p3)) where
-  abbrev before : List Const
-  before = (utf8 (codes "Code") (utf8 c.descriptor (utf8 c.name pool).1).1).1
+    (descriptor : IsMade d p2 (utf8 c.descriptor p1)) (code : IsMade k p3 (utf8 (codes "Code") p2)) (lay : IsMade l p4 (laid 0 c.code p3))
+  where
+    abbrev before : List Const
+    before = (utf8 (codes "Code") (utf8 c.descriptor (utf8 c.name pool).1).1).1
 
-  third : p3 ≡ before
-  third = code.left ∙ ap (λ q. (utf8 (codes "Code") q).1) (descriptor.left ∙ ap (λ q. (utf8 c.descriptor q).1) name.left)
+    third : p3 ≡ before
+    third = code.left ∙ ap (λ q. (utf8 (codes "Code") q).1) (descriptor.left ∙ ap (λ q. (utf8 c.descriptor q).1) name.left)
 
-  laid_here : l ≡ (laid 0 c.code before).0
-  laid_here = lay.value ∙ ap (λ q. (laid 0 c.code q).0) third
+    laid_here : l ≡ (laid 0 c.code before).0
+    laid_here = lay.value ∙ ap (λ q. (laid 0 c.code q).0) third
 
-  pool_here : p4 ≡ (method_in_file c pool).1
-  pool_here = lay.left ∙ ap (λ q. (laid 0 c.code q).1) third ∙ pool_is c.code before
+    pool_here : p4 ≡ (method_in_file c pool).1
+    pool_here = lay.left ∙ ap (λ q. (laid 0 c.code q).1) third ∙ pool_is c.code before
 
-  pub member_made : IsMade (member_with c n d k (finals_of c l)) p4 (method_in_file c pool)
-  member_made = record {
-    value =
-        ap (λ x. member_with c x d k (finals_of c l)) name.value
-        ∙ ap (λ x. member_with c (utf8 c.name pool).0 x k (finals_of c l)) (descriptor.value ∙ ap (λ q. (utf8 c.descriptor q).0) name.left)
-        ∙ ap (λ x. member_with c (utf8 c.name pool).0 (utf8 c.descriptor (utf8 c.name pool).1).0 x (finals_of c l))
-        (code.value ∙ ap (λ q. (utf8 (codes "Code") q).0) (descriptor.left ∙ ap (λ q. (utf8 c.descriptor q).1) name.left))
-        ∙ ap (λ x. member_with c (utf8 c.name pool).0 (utf8 c.descriptor (utf8 c.name pool).1).0
-        (utf8 (codes "Code") (utf8 c.descriptor (utf8 c.name pool).1).1).0 x)
-        (ap (finals_of c) laid_here ∙ code_is c.code before);
-    left = pool_here;
-  }
+    pub member_made : IsMade (member_with c n d k (finals_of c l)) p4 (method_in_file c pool)
+    member_made = record {
+      value =
+          ap (λ x. member_with c x d k (finals_of c l)) name.value
+          ∙ ap (λ x. member_with c (utf8 c.name pool).0 x k (finals_of c l)) (descriptor.value ∙ ap (λ q. (utf8 c.descriptor q).0)
+          name.left)
+          ∙ ap (λ x. member_with c (utf8 c.name pool).0 (utf8 c.descriptor (utf8 c.name pool).1).0 x (finals_of c l))
+          (code.value ∙ ap (λ q. (utf8 (codes "Code") q).0) (descriptor.left ∙ ap (λ q. (utf8 c.descriptor q).1) name.left))
+          ∙ ap (λ x. member_with c (utf8 c.name pool).0 (utf8 c.descriptor (utf8 c.name pool).1).0
+          (utf8 (codes "Code") (utf8 c.descriptor (utf8 c.name pool).1).1).0 x)
+          (ap (finals_of c) laid_here ∙ code_is c.code before);
+      left = pool_here;
+    }
 
-  -- what is judged
-  pub judged_as : (p : Program) (class : Class) (old : ℕ) → old ≡ length pool →
-      exceeded l.end c.max_locals p4 (drop old p4) ≡ exceeded_by p class (OfMethod c) pool
-  judged_as p class old o =
-      ap (λ x. exceeded x c.max_locals p4 (drop old p4)) (ap (λ x. x.end) laid_here ∙ size_is c.code before)
-      ∙ ap₂ (λ q m. exceeded (length (code_bytes (assembled c.code before).0)) c.max_locals q (drop m q)) pool_here o
+    -- what is judged
+    pub judged_as : (p : Program) (class : Class) (old : ℕ) → old ≡ length pool →
+        exceeded l.end c.max_locals p4 (drop old p4) ≡ exceeded_by p class (OfMethod c) pool
+    judged_as p class old o =
+        ap (λ x. exceeded x c.max_locals p4 (drop old p4)) (ap (λ x. x.end) laid_here ∙ size_is c.code before)
+        ∙ ap₂ (λ q m. exceeded (length (code_bytes (assembled c.code before).0)) c.max_locals q (drop m q)) pool_here o
 
-  -- each instruction has a number and a place
-  pub many : (length l.numbers ≡ length c.code) × (length l.starts ≡ length c.code)
-  many = subst (λ x. (length x.numbers ≡ length c.code) × (length x.starts ≡ length c.code)) (sym laid_here) (as_many 0 c.code before)
+    -- each instruction has a number and a place
+    pub many : (length l.numbers ≡ length c.code) × (length l.starts ≡ length c.code)
+    many = subst (λ x. (length x.numbers ≡ length c.code) × (length x.starts ≡ length c.code)) (sym laid_here) (as_many 0 c.code before)
 
 abbrev pub code_with : Compiled → (name : ℕ) → List file.Instr → file.Code
 code_with c k is = record { name = k; max_stack = c.max_stack; max_locals = c.max_locals; instrs = is; attributes = [] }

@@ -58,11 +58,13 @@ module _ (p : Program) (k : Class) (all : List Compiled) (p1 p2 p3 : List Const)
       pub behind_fields : first_in_parts p k (parts_in k all) [] ≡ first_in_parts p k (methods_part ++ []) p2
       behind_fields = behind_header ∙ fields methods_part ∙ ap (λ ps. first_in_parts p k ps p2) (sym (append-nil methods_part))
 
-      pub class_fine : ((class : Class) (more : List Part) → first_in_parts p class (methods_part ++ more) p2 ≡ first_in_parts p class more p3) →
+      pub class_fine : ((class : Class) (more : List Part) → first_in_parts p class (methods_part ++ more) p2 ≡ first_in_parts p class more
+          p3) →
           first_in_parts p k (parts_in k all) [] ≡ None
       class_fine methods = behind_fields ∙ methods k []
 
-      pub methods_fail : (e : GenFault) → ((class : Class) (more : List Part) → Tells (first_in_parts p class (methods_part ++ more) p2) e) →
+      pub methods_fail : (e : GenFault) → ((class : Class) (more : List Part) → Tells (first_in_parts p class (methods_part ++ more) p2) e)
+          →
           Tells (first_in_parts p k (parts_in k all) []) e
       methods_fail e tells = told_on (first_in_parts p k (methods_part ++ []) p2) (first_in_parts p k (parts_in k all) []) e
           (λ excess is. behind_fields ∙ is) (tells k [])

@@ -29,7 +29,8 @@ fn methods(
     makings: &[Making<'_>],
     pool: &mut Pool,
 ) -> Result<List<Member>, GenFault>
-    ensures made { IfOk result (λ ms. IsMade (map member_of ms.items) pool.new (each method_in_file (map (compiled_of (tree_of core.now)) makings.now) pool.old)) }
+    ensures made { IfOk result (λ ms. IsMade (map member_of ms.items) pool.new
+        (each method_in_file (map (compiled_of (tree_of core.now)) makings.now) pool.old)) }
     ensures fine { OnOk result ((k : CoreClassOf) →
         AreFine (tree_of core.now) k (map OfMethod (map (compiled_of (tree_of core.now)) makings.now)) pool.old pool.new) }
     ensures fault { IfErr result (λ e. (k : CoreClassOf) →
@@ -50,7 +51,8 @@ pub fn class_file(
     class: &CoreClass,
     makings: &[Making<'_>],
 ) -> Result<Class, GenFault>
-    ensures made { IfOk result (λ f. file_of f ≡ class_file (tree_of core.now) (class_of class.now) (map (compiled_of (tree_of core.now)) makings.now)) }
+    ensures made { IfOk result (λ f. file_of f ≡ class_file (tree_of core.now) (class_of class.now)
+        (map (compiled_of (tree_of core.now)) makings.now)) }
     ensures fine { OnOk result (first_in_parts (tree_of core.now) (class_of class.now)
         (parts_in (class_of class.now) (map (compiled_of (tree_of core.now)) makings.now)) [] ≡ None) }
     ensures fault { IfErr result (λ e. Tells (first_in_parts (tree_of core.now) (class_of class.now)

@@ -71,7 +71,8 @@ pub(crate) fn judge(
     old: usize,
 ) -> Result<(), GenFault>
     ensures fine { OnOk result (exceeded code_size locals pool.now (drop old pool.now) ≡ None) }
-    ensures fault { IfErr result (λ e. Tells (excess_at telling.entry.place telling.entry.name.now (exceeded code_size locals pool.now (drop old pool.now))) e) }
+    ensures fault { IfErr result (λ e. Tells
+        (excess_at telling.entry.place telling.entry.name.now (exceeded code_size locals pool.now (drop old pool.now))) e) }
 {
     match first_exceeded(code_size, locals, pool, old) {
         None => Ok(()),

@@ -39,7 +39,8 @@ pub fn header(
     class: &CoreClass,
     pool: &mut Pool,
 ) -> Result<(u16, u16), GenFault>
-    ensures made { IfOk result (λ h. IsMade (record { this_class = h.0; super_class = h.1 }) pool.new (header (tree_of core.now) (class_of class.now) pool.old)) }
+    ensures made { IfOk result (λ h. IsMade (record { this_class = h.0; super_class = h.1 }) pool.new
+        (header (tree_of core.now) (class_of class.now) pool.old)) }
     ensures fine { OnOk result (exceeded_by (tree_of core.now) (class_of class.now) Names pool.old ≡ None) }
     ensures fault { IfErr result (λ e. Tells (part_excess (tree_of core.now) (class_of class.now) Names pool.old) e) }
 {
@@ -60,7 +61,8 @@ fn field_in_file(
 ) -> Result<Member, GenFault>
     ensures made { IfOk result (λ m. IsMade (member_of m) pool.new (field_in_file (tree_of core.now) (field_of field.now) pool.old)) }
     ensures fine { OnOk result (exceeded_by (tree_of core.now) (class_of class.now) (OfField (field_of field.now)) pool.old ≡ None) }
-    ensures fault { IfErr result (λ e. Tells (part_excess (tree_of core.now) (class_of class.now) (OfField (field_of field.now)) pool.old) e) }
+    ensures fault { IfErr result (λ e. Tells (part_excess (tree_of core.now) (class_of class.now) (OfField (field_of field.now)) pool.old)
+        e) }
 {
     let old = pool.len();
     let name = pool.utf8(name_text(core, field.name))?;
@@ -82,8 +84,10 @@ pub fn fields(
     class: &CoreClass,
     pool: &mut Pool,
 ) -> Result<List<Member>, GenFault>
-    ensures made { IfOk result (λ ms. IsMade (map member_of ms.items) pool.new (each (field_in_file (tree_of core.now)) (class_of class.now).fields pool.old)) }
-    ensures fine { OnOk result (AreFine (tree_of core.now) (class_of class.now) (map OfField (class_of class.now).fields) pool.old pool.new) }
+    ensures made { IfOk result (λ ms. IsMade (map member_of ms.items) pool.new
+        (each (field_in_file (tree_of core.now)) (class_of class.now).fields pool.old)) }
+    ensures fine { OnOk result (AreFine (tree_of core.now) (class_of class.now) (map OfField (class_of class.now).fields) pool.old
+        pool.new) }
     ensures fault { IfErr result (FirstTold (tree_of core.now) (class_of class.now) (map OfField (class_of class.now).fields) pool.old) }
 {
     let mut members = List::new(alloc);

@@ -130,8 +130,10 @@ pub fn method(
     pool: &mut Pool,
 ) -> Result<Member, GenFault>
     ensures made { IfOk result (λ m. IsMade (member_of m) pool.new (method_in_file (compiled_of (tree_of core.now) making.now) pool.old)) }
-    ensures fine { OnOk result ((k : CoreClass) → exceeded_by (tree_of core.now) k (OfMethod (compiled_of (tree_of core.now) making.now)) pool.old ≡ None) }
-    ensures fault { IfErr result (λ e. (k : CoreClass) → Tells (part_excess (tree_of core.now) k (OfMethod (compiled_of (tree_of core.now) making.now)) pool.old) e) }
+    ensures fine { OnOk result ((k : CoreClass) → exceeded_by (tree_of core.now) k (OfMethod (compiled_of (tree_of core.now) making.now))
+        pool.old ≡ None) }
+    ensures fault { IfErr result (λ e. (k : CoreClass) →
+        Tells (part_excess (tree_of core.now) k (OfMethod (compiled_of (tree_of core.now) making.now)) pool.old) e) }
 {
     let text = making.descriptor.as_str();
     let instrs = making.instrs.as_slice();

@@ -1,5 +1,6 @@
 -- A pool keeps its entries at its front while others are added.
-use Rattle.std.proofs.Common.{◌≡◌, ℕ, List, [], ◌∷◌, ◌++◌, Option, Some, None, position, refl, sym, ap, ◌∙◌, subst, append_assoc, append-nil}
+use Rattle.std.proofs.Common.{◌≡◌, ℕ, List, [], ◌∷◌, ◌++◌, Option, Some, None, position, refl, sym, ap, ◌∙◌, subst, append_assoc}
+use Rattle.std.proofs.Common.{append-nil}
 use Rattle.cls_tree.specs.declared.class.Const.{Const}
 use Rattle.cls_tree.specs.Emitted.{same_const, found_or_added, number_of}
 use Rattle.gen_pool.specs.Made.{IsMade, IsFrontOf}

@@ -1,5 +1,6 @@
 -- What the set of keys does with a key is what the pool does with its constant.
-use Rattle.std.proofs.Common.{◌≡◌, ℕ, suc, ◌+◌, Bool, true, false, cond, not, ◌≢◌, ◌≤◌, Option, position, nat_eq, ◌||◌, List, [], ◌∷◌, ◌++◌, length, map, Some, None, ltb, refl, sym, ap, ◌∙◌, arith}
+use Rattle.std.proofs.Common.{◌≡◌, ℕ, suc, ◌+◌, Bool, true, false, cond, not, ◌≢◌, ◌≤◌, Option, position, nat_eq, ◌||◌, List, [], ◌∷◌, ◌++◌}
+use Rattle.std.proofs.Common.{length, map, Some, None, ltb, refl, sym, ap, ◌∙◌, arith}
 use Rattle.std.specs.List.{list_any, position_or_len}
 use Rattle.std.proofs.lemmas.List.Sums.{prefix_len-le-length}
 use Rattle.std.proofs.lemmas.Bool.Decides.{nat_tests}
@@ -38,7 +39,8 @@ module _ {X Y : Type 0} (p : Y → Bool) (q : X → Bool) (f : X → Y) (e : (x 
   -- the place of the first image is that of the first that has one
   place-map : (xs : List X) → position_or_len p (map f xs) ≡ position_or_len q xs
   place-map [] = refl
-  place-map (x ∷ xs) = ap (λ b. cond (not b) (1 + position_or_len p (map f xs)) 0) (e x) ∙ ap (λ n. cond (not (q x)) (1 + n) 0) (place-map xs)
+  place-map (x ∷ xs) = ap (λ b. cond (not b) (1 + position_or_len p (map f xs)) 0) (e x) ∙ ap (λ n. cond (not (q x)) (1 + n) 0)
+      (place-map xs)
 
 -- one passes where the place of the first is below the length
 one_more : (b r : Bool) (n len : ℕ) → r ≡ ltb n len → (b || r) ≡ ltb (cond (not b) (1 + n) 0) (suc len)
@@ -63,7 +65,8 @@ module _ (const : Const) (pool : List Const) (place : ℕ) where
   settled false last = ap (λ n. (suc n, pool ++ const ∷ [])) (sym (last refl))
 
 -- a key's constants with one more at the end, or none
-map-cond : (b : Bool) (ks : List Key) (k : Key) → map const_of (cond b ks (ks ++ k ∷ [])) ≡ cond b (map const_of ks) (map const_of ks ++ const_of k ∷ [])
+map-cond : (b : Bool) (ks : List Key) (k : Key) → map const_of (cond b ks (ks ++ k ∷ [])) ≡ cond b (map const_of ks)
+    (map const_of ks ++ const_of k ∷ [])
 map-cond true ks k = refl
 map-cond false ks k = map-append const_of ks (k ∷ [])
 
@@ -94,7 +97,8 @@ module _ (k : Key) (ks : List Key) where
       let len : length (map const_of ks) ≡ length ks = length-map ks const_of in
       let place = position_or_len (key_eq k) ks in
       let last : ltb place (length ks) ≡ false → place ≡ length (map const_of ks) = λ none. place-none (key_eq k) ks none ∙ sym len in
-      rw (at, len, list_any-position (key_eq k) ks, map-cond (ltb place (length ks)) ks k) (settled (const_of k) (map const_of ks) place (ltb place (length ks)) last)
+      rw (at, len, list_any-position (key_eq k) ks, map-cond (ltb place (length ks)) ks k)
+      (settled (const_of k) (map const_of ks) place (ltb place (length ks)) last)
 
 -- a constant that isn't one too many has its number in a class file, and leaves room there
 module _ (c : Const) (pool : List Const) (room : length pool ≤ 65534) (go_on : IsFull c pool → ⊥) where

@@ -1,5 +1,6 @@
 -- The descriptor of a method, from the slots of its parameters.
-use Rattle.std.proofs.Common.{◌≡◌, ℕ, ◌+◌, ◌<◌, ◌≤◌, List, [], ◌∷◌, ◌++◌, length, map, drop, get_or, refl, sym, ap, ◌∙◌, append_assoc, codes}
+use Rattle.std.proofs.Common.{◌≡◌, ℕ, ◌+◌, ◌<◌, ◌≤◌, List, [], ◌∷◌, ◌++◌, length, map, drop, get_or, refl, sym, ap, ◌∙◌, append_assoc}
+use Rattle.std.proofs.Common.{codes}
 use Rattle.std.proofs.lemmas.List.{append-nil, at_drop_more, drop_all}
 use Rattle.jv_core.specs.declared.program.CoreSlot.{CoreSlot}
 use Rattle.jv_core.specs.View.{slot_of}
@@ -15,7 +16,8 @@ slots_types p [] = refl
 slots_types p (s ∷ slots) = ap (λ (ts : List ℕ). type_text (type_in p s.ty) ++ ts) (slots_types p slots)
 
 -- the parts of a descriptor, one behind the other
-pub descriptor_parts : (p : Program) (slots : List Slot) (result : CoreType) (a b c d : List ℕ) → a ≡ codes "(" → b ≡ a ++ slots_text p slots
+pub descriptor_parts : (p : Program) (slots : List Slot) (result : CoreType) (a b c d : List ℕ) → a ≡ codes "(" →
+    b ≡ a ++ slots_text p slots
     → c ≡ b ++ codes ")" → d ≡ c ++ result_text (result_in p result) → d ≡ descriptor_of p (map (λ s. s.ty) slots) result
 descriptor_parts p slots result a b c d ea eb ec ed =
     ed ∙ ap (λ x. x ++ result_text (result_in p result)) (ec ∙ ap (λ x. x ++ codes ")") (eb ∙ ap (λ x. x ++ slots_text p slots) ea))

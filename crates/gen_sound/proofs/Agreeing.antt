@@ -1,5 +1,6 @@
 -- A machine has one run: so what ends, waits or goes on as a meaning says is all that it does.
-use Rattle.std.proofs.Common.{◌≡◌, ◌≢◌, ◌⊎◌, inl, inr, ℕ, zero, suc, ◌+◌, ◌≤◌, ◌<◌, List, [], ◌++◌, Option, Some, None, refl, sym, ap, ap₂, ◌∙◌, subst, append_assoc, append-nil, arith}
+use Rattle.std.proofs.Common.{◌≡◌, ◌≢◌, ◌⊎◌, inl, inr, ℕ, zero, suc, ◌+◌, ◌≤◌, ◌<◌, List, [], ◌++◌, Option, Some, None, refl, sym, ap, ap₂}
+use Rattle.std.proofs.Common.{◌∙◌, subst, append_assoc, append-nil, arith}
 use Rattle.mg_text.specs.Call.{Name}
 use Rattle.mg_text.specs.declared.event.Event.{Event}
 use Rattle.mg_text.specs.declared.event.Ending.{Ending}
@@ -40,10 +41,12 @@ module _ (step : Machine → Messages → Stepped) where
       Onward n r o t j k es fs
   onward {k = k} {fs = fs} none b le = record { rest = fs; count = k; steps = b; events = refl; counts = omega arith }
   onward (more {k = j} s a) none le = absurd (omega (arith, le))
-  onward {o = o} {t = t} (more {m' = m1} {q' = q1} {e = e} {k = j} {events = es} s a) (more {m' = m2} {q' = q2} {e = f} {k = k} {events = fs} u b)
+  onward {o = o} {t = t} (more {m' = m1} {q' = q1} {e = e} {k = j} {events = es} s a)
+      (more {m' = m2} {q' = q2} {e = f} {k = k} {events = fs} u b)
       le =
       let same : Went m2 q2 f ≡ Went m1 q1 e = sym u ∙ s in
-      let there = subst (λ m. Steps step m q1 k fs o t) (ap (machine_of m2) same) (subst (λ q. Steps step m2 q k fs o t) (ap (messages_of q2)
+      let there = subst (λ m. Steps step m q1 k fs o t) (ap (machine_of m2) same)
+      (subst (λ q. Steps step m2 q k fs o t) (ap (messages_of q2)
       same) b) in
       let h = onward a there (omega (arith, le)) in
       let c = h.counts in

@@ -1,5 +1,6 @@
 -- Whole bodies: with each budget their code comes to the instruction that returns, and the return of `main` ends the run.
-use Rattle.std.proofs.Common.{◌≡◌, ◌≢◌, ℕ, zero, suc, ◌≤◌, max, true, List, [], length, replicate, reverse, Option, Some, None, refl, sym, ap, ◌∙◌, subst, append-nil, arith}
+use Rattle.std.proofs.Common.{◌≡◌, ◌≢◌, ℕ, zero, suc, ◌≤◌, max, true, List, [], length, replicate, reverse, Option, Some, None, refl, sym}
+use Rattle.std.proofs.Common.{ap, ◌∙◌, subst, append-nil, arith}
 use Rattle.std.specs.Prelude.{slice_get, if◌then◌else◌, map, option_map, Contains, ◌++◌}
 use Rattle.std.proofs.lemmas.List.{length-replicate}
 use Rattle.jv_values.specs.Values.{Value, Row, Shared, Inputs, Here, Lives, bound, Wrong}
@@ -89,7 +90,8 @@ module _ (p : Program) (ok : IsCore p) (os : List Outline) (program : linked.Pro
     calls : CallsDo p ok os program inputs me may (suc n) (lower n)
     turns : (r : Running) (m : Method) (code : List Instr) (runs : RunsCode p os program me r m code) (this : Option ℕ) (number : ℕ)
         (at : slice_get p.methods number ≡ Some m) →
-        Turns p ok os program inputs me r m code runs this n (lower n) (lowers p ok inputs n) may calls number at (method_ok p ok number m at)
+        Turns p ok os program inputs me r m code runs this n (lower n) (lowers p ok inputs n) may calls number at
+        (method_ok p ok number m at)
 
   module _ (r : Running) (m : Method) (code : List Instr) (runs : RunsCode p os program me r m code) (this : Option ℕ) (number : ℕ)
       (at : slice_get p.methods number ≡ Some m) where
@@ -119,7 +121,8 @@ module _ (p : Program) (ok : IsCore p) (os : List Outline) (program : linked.Pro
     at_end n (types.Enum k) e never place h w c u heap b = absurd (never (λ q. cc))
 
     leaves : (n : ℕ) (place : ℕ) → end_of_method p m code m.result place (length code) → (w : World) (c : Moment) (d : Completion ℕ)
-        (u : Lives ℕ) → Heap p ok w u.shared → MayCome p ok m [] (LeavesAll m.body) w d → Complete p ok os program inputs me r m code runs this [] place c d u →
+        (u : Lives ℕ) → Heap p ok w u.shared → MayCome p ok m [] (LeavesAll m.body) w d → Complete p ok os program inputs me r m code runs
+        this [] place c d u →
         F n c (found (returned (is_result m.result) d) u.shared)
     leaves n place h w c Normal u heap g b = at_end n m.result refl (λ k. is.returns k g) place h w c u heap b
     leaves n place h w c (Breaks None) u heap g b = absurd g.1
@@ -161,9 +164,11 @@ module _ (p : Program) (ok : IsCore p) (os : List Outline) (program : linked.Pro
     left n place h sc w c (Ends f es) g b = b
 
     -- with each budget the code of a plain body comes to its return
-    body_does : (n : ℕ) → Level n → IsCode p m code → ArePlain may m.body → (w : World) (s : Lives ℕ) (ls : List (Option Held)) (q : Messages) →
+    body_does : (n : ℕ) → Level n → IsCode p m code → ArePlain may m.body → (w : World) (s : Lives ℕ) (ls : List (Option Held))
+        (q : Messages) →
         Placed p ok os program inputs me r m code runs this (params_in_scope m) w s ls q →
-        F n (moment p r 0 [] ls s.shared q) (result (is_result m.result) (exec p inputs (lower n) number here (Block m.place m.body m.end) s))
+        F n (moment p r 0 [] ls s.shared q)
+        (result (is_result m.result) (exec p inputs (lower n) number here (Block m.place m.body m.end) s))
     body_does n level compiled plain_body w s ls q a =
         let h = compiled.stands in
         left n h.0 h.2 (params_in_scope m) w (moment p r 0 [] ls s.shared q) (exec_all p inputs (lower n) number here m.body s)
@@ -318,7 +323,8 @@ module _ (p : Program) (ok : IsCore p) (os : List Outline) (program : linked.Pro
       ap (λ k. and_then (found (bound (numbers_from 0 k) [] []) nothing_yet) (λ row. if suits (runs_on_object m.kind) None then
       body_from (is_result m.result) row (exec p inputs (below (language p inputs) n) number (record { class = m.class; object = None })
       (Block m.place m.body m.end)) else stop Wrong)) main_is.params
-      ∙ ap (λ k. (if suits (runs_on_object k) None then body_from (is_result m.result) [] (exec p inputs (below (language p inputs) n) number
+      ∙ ap (λ k. (if suits (runs_on_object k) None then body_from (is_result m.result) []
+      (exec p inputs (below (language p inputs) n) number
       (record { class = m.class; object = None }) (Block m.place m.body m.end)) else stop Wrong) nothing_yet) main
 
   -- with each budget the machine that begins at a plain `main` ends as it means, waits as it waits, or goes on for as many steps
@@ -329,7 +335,8 @@ module _ (p : Program) (ok : IsCore p) (os : List Outline) (program : linked.Pro
   main_ends n compiled among q holds =
       subst (λ o. EndsAlike (step program me) (suc n) (beginning q) (ended o).finish (ended o).events) (sym (call_is n))
       (stops n (beginning q) _
-      (whole_body_does p ok os program inputs me known may plain frame m code runs None number at among n compiled [] (record { locals = []; shared = nothing_yet })
+      (whole_body_does p ok os program inputs me known may plain frame m code runs None number at among n compiled []
+      (record { locals = []; shared = nothing_yet })
       (replicate (max_locals m) None) q (record {
         mine = λ i. absurd (subst IsInstance main i);
         living = record {

@@ -1,5 +1,6 @@
 -- Calls of methods: their frames over those that wait for them, and the returns to these.
-use Rattle.std.proofs.Common.{◌≡◌, ◌≢◌, ℕ, ◌+◌, ◌-◌, ◌≤◌, true, List, [], ◌∷◌, ◌++◌, length, map, replicate, Option, Some, None, refl, sym, ap, ◌∙◌, subst, append-nil, arith}
+use Rattle.std.proofs.Common.{◌≡◌, ◌≢◌, ℕ, ◌+◌, ◌-◌, ◌≤◌, true, List, [], ◌∷◌, ◌++◌, length, map, replicate, Option, Some, None, refl, sym}
+use Rattle.std.proofs.Common.{ap, ◌∙◌, subst, append-nil, arith}
 use Rattle.std.specs.Prelude.{slice_get, if◌then◌else◌, Bool, false, Contains}
 use Rattle.mg_text.specs.declared.event.Event.{Event}
 use Rattle.mg_text.specs.declared.event.Event.TheVariants as seen
@@ -25,10 +26,12 @@ use Rattle.vm_model.specs.Messages.{Messages}
 use Rattle.vm_model.specs.Machine.{Frame, Machine, Went}
 use Rattle.vm_model.specs.Actions.{Number, Reference, Call, Return}
 use Rattle.vm_model.specs.Tests as tests
-use Rattle.vm_model.specs.Tests.{Typed, Returned, call_takes, descriptor_in, is_sort, max_locals_in, max_stack_in, misfit, misfit_class, name_of_method}
+use Rattle.vm_model.specs.Tests.{Typed, Returned, call_takes, descriptor_in, is_sort, max_locals_in, max_stack_in, misfit, misfit_class}
+use Rattle.vm_model.specs.Tests.{name_of_method}
 use Rattle.vm_model.specs.Step as machine
 use Rattle.vm_model.specs.Step.{step, left}
-use Rattle.gen_rules.specs.Symbolic.{Instr, invokestatic, invokespecial, invokevirtual, return, return_value, areturn, ireturn, is_reference}
+use Rattle.gen_rules.specs.Symbolic.{Instr, invokestatic, invokespecial, invokevirtual, return, return_value, areturn, ireturn}
+use Rattle.gen_rules.specs.Symbolic.{is_reference}
 use Rattle.gen_rules.specs.Members.{method_reference, type_in, result_in}
 use Rattle.gen_rules.specs.Frames.{max_stack, max_locals, left_by}
 use Rattle.jv_sound.proofs.Worlds.{World, Fits, AllFit, GivesA}
@@ -91,7 +94,8 @@ module _ (p : Program) (ok : IsCore p) (os : List Outline) (program : linked.Pro
   -- comes to its return, or ends as the method's body means with the budget of calls.
   pub record CallsDo (may : List ℕ) (level : ℕ) (low : Lower) : Type 0 where
     pub known : Linkage p os program me
-    pub call : (i : ℕ) (k : Method) → Contains may i → slice_get p.methods i ≡ Some k → k.kind ≢ kinds.Main → (stands : MethodStands p os program me i k) →
+    pub call : (i : ℕ) (k : Method) → Contains may i → slice_get p.methods i ≡ Some k → k.kind ≢ kinds.Main →
+        (stands : MethodStands p os program me i k) →
         (r : Running) → r.class ≡ k.class → r.method ≡ stands.method →
         (x : World) (this : Option ℕ) (vs : List Value) → Callable p ok x k this → AllFit p x vs (param_types k) →
         (s : Shared) → Heap p ok x s → (q : Messages) → Holds inputs q me s.events → (c : Moment) →
@@ -99,7 +103,8 @@ module _ (p : Program) (ok : IsCore p) (os : List Outline) (program : linked.Pro
         Follows (step program me) level (ReturnsWell r k stands.code this) c (low.call i this vs s)
 
   -- what the machine comes to may be known otherwise
-  pub follows_as : {S A : Type 0} (n : ℕ) (R R' : Moment → A → S → Type 0) (c : Moment) (o : Outcome S A) → Follows (step program me) n R c o →
+  pub follows_as : {S A : Type 0} (n : ℕ) (R R' : Moment → A → S → Type 0) (c : Moment) (o : Outcome S A) →
+      Follows (step program me) n R c o →
       ((a : A) (s : S) → R c a s → R' c a s) → Follows (step program me) n R' c o
   follows_as n R R' c (Gives a s) f k = k a s f
   follows_as n R R' c (Ends e es) f k = f
@@ -138,7 +143,8 @@ module _ (p : Program) (ok : IsCore p) (os : List Outline) (program : linked.Pro
     -- the instruction of the call, over the arguments that it wants
     pub call_is : (kind : MethodKind) → k.kind ≡ kind → kind ≢ kinds.Main → (place : ℕ) (rest args : List Held) (ls : List (Option Held))
         (s : Shared) (q : Messages) → slice_get code place ≡ Some (invoke kind (method_reference p i)) →
-        AllMeet program (heap_in p s.heap) (call_takes program (calling_of kind) k.class (linked.method_at program k.class stands.method)) args →
+        AllMeet program (heap_in p s.heap) (call_takes program (calling_of kind) k.class (linked.method_at program k.class stands.method))
+        args →
         length args ≤ max_locals k →
         step program me (moment p r place (rest ++ args) ls s q).machine q
         ≡ machine.calls program q (moment p r place (rest ++ args) ls s q).machine (calling_of kind) k.class stands.method rest args
@@ -195,16 +201,20 @@ module _ (p : Program) (ok : IsCore p) (os : List Outline) (program : linked.Pro
             step program me (moment p (callee at_call rest ls told) place (flat_given v) locals u q).machine q
             ≡ Went (moment p r at_call (rest ++ flat_given v) ls u q).machine q (left told (flat_given v))
         go t e v worlds.nothing at room =
-            step_is p os program me (callee at_call rest ls told) k stands.code (callee_runs at_call rest ls told) place [] locals u q return (Return None) at refl
-            ∙ acts_well program q (moment p (callee at_call rest ls told) place [] locals u q).machine me (Return None) [] [] refl tt refl (omega arith)
+            step_is p os program me (callee at_call rest ls told) k stands.code (callee_runs at_call rest ls told) place [] locals u q
+            return (Return None) at refl
+            ∙ acts_well program q (moment p (callee at_call rest ls told) place [] locals u q).machine me (Return None) [] [] refl tt refl
+            (omega arith)
             (ap (is_sort None) (result_there at_call rest ls told ∙ ap (result_in p) e))
             (subst (λ j. length rest + 0 ≤ j) (sym room_here) room)
         go t e v (worlds.value {v = y} f) at room =
             let result : tests.result_in (signature_of (descriptor_in (linked.method_at program k.class stands.method))) ≡ result_in p t =
             result_there at_call rest ls told ∙ ap (result_in p) e in
-            step_is p os program me (callee at_call rest ls told) k stands.code (callee_runs at_call rest ls told) place (flat y ∷ []) locals u q (return_value t)
+            step_is p os program me (callee at_call rest ls told) k stands.code (callee_runs at_call rest ls told) place (flat y ∷ [])
+            locals u q (return_value t)
             (Return (Some (sort_of t))) at (return_does t)
-            ∙ acts_well program q (moment p (callee at_call rest ls told) place (flat y ∷ []) locals u q).machine me (Return (Some (sort_of t))) [] (flat y ∷ []) refl (
+            ∙ acts_well program q (moment p (callee at_call rest ls told) place (flat y ∷ []) locals u q).machine me
+            (Return (Some (sort_of t))) [] (flat y ∷ []) refl (
               subst (λ o. misfit program (heap_in p u.heap) (Returned (sort_of t) o) (flat y) ≡ None) (sym result)
                   (returned_fits p ok os program me known x u heap y t f (subst (IsResult p) e is.result)),
               tt,
@@ -213,7 +223,8 @@ module _ (p : Program) (ok : IsCore p) (os : List Outline) (program : linked.Pro
             (subst (λ j. length rest + 1 ≤ j) (sym room_here) room)
 
     -- from the return of a call that isn't told to the place behind it
-    pub back : (this : Option ℕ) (at_call : ℕ) (rest : List Held) (ls : List (Option Held)) → length rest + left_by (Some k.result) ≤ max_stack p m →
+    pub back : (this : Option ℕ) (at_call : ℕ) (rest : List Held) (ls : List (Option Held)) → length rest + left_by (Some k.result) ≤
+        max_stack p m →
         (c : Moment) (v : Option Value) (u : Shared) → ReturnsWell (callee at_call rest ls None) k stands.code this c v u →
         Arrives p program inputs me r at_call (rest ++ flat_given v) ls c u
     back this at_call rest ls room c v u h =
@@ -224,7 +235,8 @@ module _ (p : Program) (ok : IsCore p) (os : List Outline) (program : linked.Pro
           messages = q;
           comes = comes_on (step program me) c (moment p frame b.place (flat_given v) b.locals u q)
               (moment p r at_call (rest ++ flat_given v) ls u q) b.arrives.comes
-              (lead_of (step program me) (moment p frame b.place (flat_given v) b.locals u q) (moment p r at_call (rest ++ flat_given v) ls u q)
+              (lead_of (step program me) (moment p frame b.place (flat_given v) b.locals u q)
+              (moment p r at_call (rest ++ flat_given v) ls u q)
               None (return_is h.world v u h.gives h.heap at_call rest ls None b.place b.locals q b.at
               (given_room h.world v k.result (length rest) (max_stack p m) h.gives room)) (sym (append-nil u.events))).comes;
           holds = b.arrives.holds;
@@ -296,7 +308,8 @@ module _ (p : Program) (ok : IsCore p) (os : List Outline) (program : linked.Pro
     object_meets : (x : World) (o : ℕ) (s : Shared) → Heap p ok x s → slice_get x o ≡ Some k.class →
         misfit program (heap_in p s.heap) (Typed (Named (linked.class_name program k.class))) (held.Object o) ≡ None
     object_meets x o s heap of =
-        subst (λ n. misfit_class program (heap_in p s.heap) n (held.Object o) ≡ None) (sym (calls.known.class_named k.class is.class is.class_at))
+        subst (λ n. misfit_class program (heap_in p s.heap) n (held.Object o) ≡ None)
+        (sym (calls.known.class_named k.class is.class is.class_at))
         (object_fits p ok os program me calls.known x s heap o k.class is.class of is.class_at)
 
     pub static_calls : k.kind ≡ kinds.Static → slice_get code place ≡ Some (invokestatic (method_reference p i)) →

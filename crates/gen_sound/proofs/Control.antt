@@ -78,7 +78,8 @@ module _ (p : Program) (ok : IsCore p) (os : List Outline) (program : linked.Pro
       F R c (run s) →
       ((x : World) (a : A) (u : Lives ℕ) → On p ok m this x → Living p ok m sc x u → R c a u → F R' c (f a u)) →
       F R' c (and_then (run s) f)
-  first R R' P w c s run f mine living well h k = good_then p ok os program inputs me r m code runs this (suc n) R R' (Living p ok m sc) P w c
+  first R R' P w c s run f mine living well h k = good_then p ok os program inputs me r m code runs this (suc n) R R' (Living p ok m sc) P w
+      c
       (run s) f ((well w mine).run w (same_world w) s living) h
       (λ x a u q l is got. k x a u (on_more p ok m this q mine) l got)
 
@@ -183,7 +184,8 @@ module _ (p : Program) (ok : IsCore p) (os : List Outline) (program : linked.Pro
       tested : Does_here (C ts to) mid (test >>= λ t. if t then again else give Normal)
       tested = record {
         does = λ w s ls q h. first (WhenStand from to) (C ts to) Any w (moment p r mid [] ls s.shared q) s test
-            (λ t. if t then again else give Normal) h.mine h.living well_test (dt.does w s ls q h) (branch (moment p r mid [] ls s.shared q));
+            (λ t. if t then again else give Normal) h.mine h.living well_test (dt.does w s ls q h)
+            (branch (moment p r mid [] ls s.shared q));
       }
 
   -- a statement, and what follows it where it completes normally

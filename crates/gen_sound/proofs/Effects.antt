@@ -102,7 +102,8 @@ module _ (p : Program) (ok : IsCore p) (os : List Outline) (program : linked.Pro
         let some : 1 ≤ (depths p m e).value = takes_room p m h (shown_room t shown_too) in
         follows_later (step program me) (suc n) (C ts to) (closed ts to) start c
         ((within (λ locals. valued (eval p inputs low number here locals e) >>= print) >>= λ done. give Normal) s)
-        (next_place p ok os program inputs me r m code runs 0 (λ k. Comes (step program me) start (moment p r k (held.Out ∷ []) ls s.shared q))
+        (next_place p ok os program inputs me r m code runs 0
+        (λ k. Comes (step program me) start (moment p r k (held.Out ∷ []) ls s.shared q))
         from first next (out_goes p ok os program inputs me r m code runs from ls s.shared q at_out (omega (arith, room))).comes)
         (work_then p ok os program inputs me r m code runs (suc n) (C ts to) ls mid (held.Out ∷ []) c w t s.locals
         (eval p inputs low number here s.locals e s.shared) print (λ done. give Normal)
@@ -151,17 +152,21 @@ module _ (p : Program) (ok : IsCore p) (os : List Outline) (program : linked.Pro
         };
       })
   dropped e t h plain ts place to stands row ls c holds x v u worlds.nothing a =
-      subst (λ k. S k c (record { locals = row; shared = u })) (sym (nothing_dropped e h stands)) (record { locals = ls; row = holds; arrives = a })
+      subst (λ k. S k c (record { locals = row; shared = u })) (sym (nothing_dropped e h stands))
+      (record { locals = ls; row = holds; arrives = a })
 
   pub drops : (e : Expr) (t : CoreType) → Has p m sc e t → IsPlain may e → (ts : List Around) (from mid to : ℕ) →
       templates.value p m code sc e from mid → templates.discard p m code (type_of p m e) mid to → (depths p m e).value ≤ max_stack p m →
       Does_here (C ts to) from (within (λ locals. eval p inputs low number here locals e) >>= λ v. give Normal)
   drops e t h plain ts from mid to stands_value stands_drop room = record {
-    does = λ w s ls q a. given_then p ok os program inputs me r m code runs (suc n) (C ts to) ls mid [] (moment p r from [] ls s.shared q) w t
+    does = λ w s ls q a. given_then p ok os program inputs me r m code runs (suc n) (C ts to) ls mid [] (moment p r from [] ls s.shared q) w
+        t
         s.locals (eval p inputs low number here s.locals e s.shared) (λ v. give Normal)
         ((eval_good p ok inputs low well number m at this h w a.mine a.living.locals).run w (same_world w) s.shared a.living.shared)
-        ((forms_do p ok os program inputs me r m code runs this n sc low well may calls number at e t h plain w s ls q a).value from mid [] w s.shared q
+        ((forms_do p ok os program inputs me r m code runs this n sc low well may calls number at e t h plain w s ls q a).value from mid []
+        w s.shared q
         stands_value (over_none _ _ room) (same_world w) a.living.shared a.holds)
-        (λ x v u g given heap arrives. dropped e t h plain ts mid to stands_drop s.locals ls (moment p r from [] ls s.shared q) a.row x v u given
+        (λ x v u g given heap arrives. dropped e t h plain ts mid to stands_drop s.locals ls (moment p r from [] ls s.shared q) a.row x v u
+        given
         arrives);
   }

@@ -1,5 +1,6 @@
 -- The locals of a method as it is entered: the object on which it runs and its arguments stand in the first ones.
-use Rattle.std.proofs.Common.{◌≡◌, ◌≢◌, ℕ, zero, suc, ◌+◌, ◌-◌, ◌≤◌, true, List, [], ◌∷◌, ◌++◌, length, map, replicate, take, Option, Some, None, refl, sym, ap, ◌∙◌, subst, append_assoc, arith}
+use Rattle.std.proofs.Common.{◌≡◌, ◌≢◌, ℕ, zero, suc, ◌+◌, ◌-◌, ◌≤◌, true, List, [], ◌∷◌, ◌++◌, length, map, replicate, take, Option, Some}
+use Rattle.std.proofs.Common.{None, refl, sym, ap, ◌∙◌, subst, append_assoc, arith}
 use Rattle.std.specs.Prelude.{slice_get}
 use Rattle.std.specs.List.{AllByRecursion}
 use Rattle.std.proofs.lemmas.List.{length-append, length-map, length-replicate, length-reverse}
@@ -151,7 +152,8 @@ module _ (p : Program) (ok : IsCore p) (k : Method) (is : IsMethod p k) (n : k.k
   -- the object and the arguments have room in the locals
   pub args_fit : length args ≤ max_locals k
   args_fit =
-      let taken : first_local k.kind + length (params_in_scope k) ≤ max_locals k = at_least_all (next_local k.kind (params_in_scope k)) k.body in
+      let taken : first_local k.kind + length (params_in_scope k) ≤ max_locals k = at_least_all (next_local k.kind (params_in_scope k))
+      k.body in
       fit_by (length args) (length (map flat vs)) (first_local k.kind) (length (params_in_scope k)) k.params (max_locals k)
       (object_many k.kind n this on (map flat vs))
       (length-map vs flat

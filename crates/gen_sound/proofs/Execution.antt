@@ -67,7 +67,8 @@ right_fits a b c h = omega (arith, h)
 
 module _ (p : Program) (ok : IsCore p) (os : List Outline) (program : linked.Program) (inputs : Inputs) (me : ℕ) (r : Running) (m : Method)
     (code : List Instr) (runs : RunsCode p os program me r m code) (this : Option ℕ) (n : ℕ) (low : Lower) (lows : Lowers p ok low)
-    (may : List ℕ) (calls : CallsDo p ok os program inputs me may (suc n) low) (number : ℕ) (at : slice_get p.methods number ≡ Some m) (is : IsMethod p m) where
+    (may : List ℕ) (calls : CallsDo p ok os program inputs me may (suc n) low) (number : ℕ) (at : slice_get p.methods number ≡ Some m)
+    (is : IsMethod p m) where
   abbrev here : Here ℕ
   here = record { class = m.class; object = this }
 
@@ -128,7 +129,8 @@ module _ (p : Program) (ok : IsCore p) (os : List Outline) (program : linked.Pro
   breaks : (sc : List ℕ) (ts : List Around) (from to : ℕ) (l : Option ℕ) → slice_get code from ≡ Some (goto (around.break_to ts l)) →
       Code_does (suc n) sc ts from to (give (Breaks l))
   breaks sc ts from to l h = record {
-    does = λ w s ls q a. goto_leaps p ok os program inputs me r m code runs this from (around.break_to ts l) (moment p r from [] ls s.shared q) s h
+    does = λ w s ls q a. goto_leaps p ok os program inputs me r m code runs this from (around.break_to ts l)
+        (moment p r from [] ls s.shared q) s h
         (record {
           locals = ls;
           row = a.row;
@@ -139,7 +141,8 @@ module _ (p : Program) (ok : IsCore p) (os : List Outline) (program : linked.Pro
   continues : (sc : List ℕ) (ts : List Around) (from to : ℕ) (l : ℕ) → slice_get code from ≡ Some (goto (around.continue_to ts l)) →
       Code_does (suc n) sc ts from to (give (Continues (Some l)))
   continues sc ts from to l h = record {
-    does = λ w s ls q a. goto_leaps p ok os program inputs me r m code runs this from (around.continue_to ts l) (moment p r from [] ls s.shared q)
+    does = λ w s ls q a. goto_leaps p ok os program inputs me r m code runs this from (around.continue_to ts l)
+        (moment p r from [] ls s.shared q)
         s h
         (record {
           locals = ls;
@@ -194,7 +197,8 @@ module _ (p : Program) (ok : IsCore p) (os : List Outline) (program : linked.Pro
       depth_of_assignment p m x (depths p m e).value ≤ max_stack p m →
       Code_does (suc n) sc ts from to (value p inputs low number here e >>= write p inputs low number here x)
   assigned_does sc ts (vars.Slot k) e t v h plain from to stands room =
-      assigns p ok os program inputs me r m code runs this n sc low lows.calls may calls number at k e t v h plain ts from stands.0 to stands.1 stands.2 room
+      assigns p ok os program inputs me r m code runs this n sc low lows.calls may calls number at k e t v h plain ts from stands.0 to
+      stands.1 stands.2 room
   assigned_does sc ts (vars.Field f) e t v h plain from to stands room = record {
     does = λ w s ls q a.
         let mine : Owned p ok w m.class this = a.mine v.visible in
@@ -203,15 +207,18 @@ module _ (p : Program) (ok : IsCore p) (os : List Outline) (program : linked.Pro
         let middle : Moment = moment p r stands.1.0 (object ∷ []) ls s.shared q in
         follows_later (step program me) (suc n) (C ts to) (completes_closed p ok os program inputs me r m code runs this ts to) start middle
         ((value p inputs low number here e >>= write p inputs low number here (vars.Field f)) s)
-        (next_place p ok os program inputs me r m code runs 0 (λ j. Comes (step program me) start (moment p r j (object ∷ []) ls s.shared q))
+        (next_place p ok os program inputs me r m code runs 0
+        (λ j. Comes (step program me) start (moment p r j (object ∷ []) ls s.shared q))
         from stands.1.0 stands.1.1.1
-        (load_goes p ok os program inputs me r m code runs 0 from [] ls s.shared q (types.Object 0) 0 (values.Object mine.object) stands.1.1.0
+        (load_goes p ok os program inputs me r m code runs 0 from [] ls s.shared q (types.Object 0) 0 (values.Object mine.object)
+        stands.1.1.0
         (subst (λ y. LaidObject y ls) mine.is (a.row.object v.visible)) refl (omega (arith, room))).comes)
         (used p ok os program inputs me r m code runs this n sc low lows.calls may calls number at (C ts to) e t h plain stands.1.0 stands.0
         (object ∷ []) stands.1.2 (over_object object (depths p m e).value (max_stack p m) room)
         (write p inputs low number here (vars.Field f)) w s ls q a
         (λ x u y mine_there living fits arrives.
-        field_put sc ts f t v.type stands.0 to stands.2.0 stands.2.1 s.locals ls middle x u y (mine_there v.visible) living.shared fits a.row
+        field_put sc ts f t v.type stands.0 to stands.2.0 stands.2.1 s.locals ls middle x u y (mine_there v.visible) living.shared fits
+        a.row
         (subst (λ o. Arrives p program inputs me r stands.0 (held.Object o ∷ flat u ∷ []) ls middle y)
         (some_is (sym mine.is ∙ (mine_there v.visible).is)) arrives)));
   }
@@ -243,21 +250,24 @@ module _ (p : Program) (ok : IsCore p) (os : List Outline) (program : linked.Pro
           all_do ts x plain from to (record { stands = h.stands; depth = h.depth; locals = h.locals })
       stmt_does {sc} ts Statements.empty plain from to h = stays_here sc ts from to h.stands
       stmt_does {sc} ts (Statements.local {k = k} {e = e} d) plain from to h =
-          declares p ok os program inputs me r m code runs this n sc low lows.calls may calls number at k e d.type d.is d.value plain ts from h.stands.0 to to
+          declares p ok os program inputs me r m code runs this n sc low lows.calls may calls number at k e d.type d.is d.value plain ts
+          from h.stands.0 to to
           h.stands.1 h.stands.2 h.depth h.locals (give Normal) (stays_here (k ∷ sc) ts to to refl)
       stmt_does {sc} ts (Statements.assign {x = x} {e = e} {t = t} v f) plain from to h =
           assigned_does sc ts x.var e t v f plain from to h.stands h.depth
       stmt_does {sc} ts (Statements.if_true {c = c} {s = s} f x) plain from to h =
           if_does p ok os program inputs me r m code runs this n sc ts from h.stands.0 to (test p inputs low number here c)
           (exec p inputs low number here s) (λ w o. test_well sc c f w o)
-          (test_unless p ok os program inputs me r m code runs this n sc low lows.calls may calls number at c f plain.0 to from h.stands.0 h.stands.1
+          (test_unless p ok os program inputs me r m code runs this n sc low lows.calls may calls number at c f plain.0 to from h.stands.0
+          h.stands.1
           (left_fits _ _ _ h.depth))
           (stmt_does ts x plain.1 h.stands.0 to (record { stands = h.stands.2; depth = right_fits _ _ _ h.depth; locals = h.locals }))
       stmt_does {sc} ts (Statements.if_else {c = c} {s = s} {r = z} f x y) plain from to h =
           if_else_does p ok os program inputs me r m code runs this n sc ts from h.stands.1.1.0 h.stands.1.0 h.stands.0 to
           (test p inputs low number here c) (exec p inputs low number here s) (exec p inputs low number here z)
           (λ w o. test_well sc c f w o)
-          (test_unless p ok os program inputs me r m code runs this n sc low lows.calls may calls number at c f plain.0 h.stands.0 from h.stands.1.1.0
+          (test_unless p ok os program inputs me r m code runs this n sc low lows.calls may calls number at c f plain.0 h.stands.0 from
+          h.stands.1.1.0
           h.stands.1.1.1 (left_fits _ _ _ h.depth))
           (stmt_does ts x plain.1 h.stands.1.1.0 h.stands.1.0 (record {
             stands = h.stands.1.1.2;
@@ -271,11 +281,13 @@ module _ (p : Program) (ok : IsCore p) (os : List Outline) (program : linked.Pro
             locals = right_fits _ _ _ h.locals;
           }))
       stmt_does {sc} ts (Statements.while_true {q = q} {l = l} {c = c} {s = s} d f x) plain from to h =
-          while_does p ok os program inputs me r m code runs this n sc l ts from h.stands.1.0 h.stands.0 to (test p inputs low number here c)
+          while_does p ok os program inputs me r m code runs this n sc l ts from h.stands.1.0 h.stands.0 to
+          (test p inputs low number here c)
           (exec p inputs low number here s) (low.turn here (record { method = number; stmt = While q l c s }))
           (λ w o. test_well sc c f w o)
           (λ w o. exec_good p ok inputs low lows number m at is this x w o)
-          (test_unless p ok os program inputs me r m code runs this n sc low lows.calls may calls number at c f plain.0 to from h.stands.1.0 h.stands.1.1
+          (test_unless p ok os program inputs me r m code runs this n sc low lows.calls may calls number at c f plain.0 to from h.stands.1.0
+          h.stands.1.1
           (left_fits _ _ _ h.depth))
           (stmt_does (around.Loop l to from ∷ ts) x plain.1 h.stands.1.0 h.stands.0
           (record { stands = h.stands.1.2; depth = right_fits _ _ _ h.depth; locals = h.locals }))
@@ -286,13 +298,15 @@ module _ (p : Program) (ok : IsCore p) (os : List Outline) (program : linked.Pro
           (exec p inputs low number here s) (low.turn here (record { method = number; stmt = Do q l s c }))
           (λ w o. test_well sc c f w o)
           (λ w o. exec_good p ok inputs low lows number m at is this x w o)
-          (test_when p ok os program inputs me r m code runs this n sc low lows.calls may calls number at c f plain.0 from h.stands.0 to h.stands.2
+          (test_when p ok os program inputs me r m code runs this n sc low lows.calls may calls number at c f plain.0 from h.stands.0 to
+          h.stands.2
           (right_fits _ _ _ h.depth))
           (stmt_does (around.Loop l to h.stands.0 ∷ ts) x plain.1 from h.stands.0
           (record { stands = h.stands.1; depth = left_fits _ _ _ h.depth; locals = h.locals }))
           (turns.turn sc _ ts (Do q l s c) from to (Statements.do_while d x f) plain h)
       stmt_does {sc} ts (Statements.switch {e = e} {gs = gs} {of = of} f cases g) plain from to h =
-          let known = groups_there sc (around.Switch to ∷ ts) gs h.stands.0 h.stands.1.0 to h.stands.1.2 (right_fits _ _ _ h.depth) h.locals in
+          let known = groups_there sc (around.Switch to ∷ ts) gs h.stands.0 h.stands.1.0 to h.stands.1.2 (right_fits _ _ _ h.depth) h.locals
+          in
           switch_does p ok os program inputs me r m code runs this n sc low lows.calls may calls number at ts of e gs f plain.0
           (enum_typed sc e of f) cases h.stands.0 from h.stands.1.1.0 to h.stands.1.1.1 h.stands.1.1.2.0 (left_fits _ _ _ h.depth)
           (chosen_does p ok os program inputs me r m code runs this n sc low lows.calls may calls number at ts gs h.stands.0 to
@@ -303,13 +317,16 @@ module _ (p : Program) (ok : IsCore p) (os : List Outline) (program : linked.Pro
       stmt_does {sc} ts (Statements.continue {l = l} b) plain from to h = continues sc ts from to l h.stands.0
       stmt_does {sc} ts (Statements.return {value = None} b) plain from to h = returns_none sc ts from to h.stands.0
       stmt_does {sc} ts (Statements.return {value = Some e} b) plain from to h =
-          returns p ok os program inputs me r m code runs this n sc low lows.calls may calls number at e b.1 plain ts from h.stands.0 to h.stands.1 h.stands.2.0
+          returns p ok os program inputs me r m code runs this n sc low lows.calls may calls number at e b.1 plain ts from h.stands.0 to
+          h.stands.1 h.stands.2.0
           h.depth
       stmt_does {sc} ts (Statements.print {e = e} {t = t} f i) plain from to h =
-          prints p ok os program inputs me r m code runs this n sc low lows.calls may calls number at e t f i plain ts from h.stands.1.1.0 h.stands.1.0
+          prints p ok os program inputs me r m code runs this n sc low lows.calls may calls number at e t f i plain ts from h.stands.1.1.0
+          h.stands.1.0
           h.stands.0 to h.stands.1.1.1.0 h.stands.1.1.1.1 h.stands.1.1.2 h.stands.1.2 h.stands.2.0 h.stands.2.1 h.depth
       stmt_does {sc} ts (Statements.eval {e = e} {t = t} f) plain from to h =
-          drops p ok os program inputs me r m code runs this n sc low lows.calls may calls number at e t f plain ts from h.stands.0 to h.stands.1 h.stands.2 h.depth
+          drops p ok os program inputs me r m code runs this n sc low lows.calls may calls number at e t f plain ts from h.stands.0 to
+          h.stands.1 h.stands.2 h.depth
 
       pub all_do : {sc : List ℕ} {around : List Target} {z : Stmts} (ts : List Around) → FineAll p m sc around z → ArePlain may z →
           (from to : ℕ) → Stand_there sc ts z from to → Code_does (suc n) sc ts from to (exec_all p inputs low number here z)
@@ -322,14 +339,16 @@ module _ (p : Program) (ok : IsCore p) (os : List Outline) (program : linked.Pro
           (all_do ts g plain.1 h.stands.0 to
           (record { stands = h.stands.2; depth = right_fits _ _ _ h.depth; locals = right_fits _ _ _ h.locals }))
       all_do {sc} ts (Statements.declare {k = k} {e = e} {more = more} d g) plain from to h =
-          declares p ok os program inputs me r m code runs this n sc low lows.calls may calls number at k e d.type d.is d.value plain.0 ts from
+          declares p ok os program inputs me r m code runs this n sc low lows.calls may calls number at k e d.type d.is d.value plain.0 ts
+          from
           h.stands.1.0 h.stands.0 to h.stands.1.1 h.stands.1.2 (left_fits _ _ _ h.depth)
           (let j = at_least_all (suc (next_local m.kind sc)) more in let i = h.locals in omega (arith, i, j))
           (exec_all p inputs low number here more)
           (all_do ts g plain.1 h.stands.0 to
           (record { stands = h.stands.2; depth = right_fits _ _ _ h.depth; locals = one_more sc k more h.locals }))
 
-      groups_do : {sc : List ℕ} {around : List Target} {gs : Groups} (ts : List Around) → FineGroups p m sc around gs → ArePlainGroups may gs →
+      groups_do : {sc : List ℕ} {around : List Target} {gs : Groups} (ts : List Around) → FineGroups p m sc around gs →
+          ArePlainGroups may gs →
           (starts : List ℕ) (from to : ℕ) → Groups_there sc ts gs starts from to →
           Code_does (suc n) sc ts from to (exec_groups p inputs low number here gs)
       groups_do {sc} ts Statements.no_group plain [] from to h = stays_here sc ts from to h.stands

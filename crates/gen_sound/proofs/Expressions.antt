@@ -24,7 +24,8 @@ use Rattle.jv_core.specs.declared.program.MethodKind.TheVariants as kinds
 use Rattle.jv_core.specs.Tree.{Class, Method, Program, Enum}
 use Rattle.jv_core.specs.Lookup.{text_at, class_text, param_types, IsInstance}
 use Rattle.jv_core.specs.Conditions.{IsCore}
-use Rattle.jv_core.specs.Types.{IsShown, IsArithmetic, IsLogic, IsOrder, IsEquality, IsCompared, IsVariable, IsCalled, Has, HasAll, HasTypestate}
+use Rattle.jv_core.specs.Types.{IsShown, IsArithmetic, IsLogic, IsOrder, IsEquality, IsCompared, IsVariable, IsCalled, Has, HasAll}
+use Rattle.jv_core.specs.Types.{HasTypestate}
 use Rattle.jv_core.specs.Types.{session_params, session_result}
 use Rattle.jv_core.specs.Types
 use Rattle.jv_values.specs.Operators.{operator_of}
@@ -35,13 +36,17 @@ use Rattle.vm_model.specs.Program as linked
 use Rattle.vm_model.specs.Links.{Outline}
 use Rattle.vm_model.specs.Messages.{Messages}
 use Rattle.vm_model.specs.Step.{step}
-use Rattle.gen_rules.specs.Symbolic.{Instr, load, push, push_text, aconst_null, iadd, isub, imul, idiv, irem, if_icmp, opposite, aload, getfield, invokevirtual, invokespecial, invokestatic, new, dup}
-use Rattle.gen_rules.specs.Members.{field_reference, method_reference, concat_reference, equals_reference, session_reference, class_name, init_of}
+use Rattle.gen_rules.specs.Symbolic.{Instr, load, push, push_text, aconst_null, iadd, isub, imul, idiv, irem, if_icmp, opposite, aload}
+use Rattle.gen_rules.specs.Symbolic.{getfield, invokevirtual, invokespecial, invokestatic, new, dup}
+use Rattle.gen_rules.specs.Members.{field_reference, method_reference, concat_reference, equals_reference, session_reference, class_name}
+use Rattle.gen_rules.specs.Members.{init_of}
 use Rattle.gen_rules.specs.Spans.{◌then◌, Forms, one, by_value}
 use Rattle.gen_rules.specs.Locals.{first_local, local_of}
-use Rattle.gen_rules.specs.Templates.{type_or_int, variable, plus, forms, arguments, comparison, Compared, Both, LeftAlone, RightAlone, compared}
+use Rattle.gen_rules.specs.Templates.{type_or_int, variable, plus, forms, arguments, comparison, Compared, Both, LeftAlone, RightAlone}
+use Rattle.gen_rules.specs.Templates.{compared}
 use Rattle.gen_rules.specs.Typed.{joins, type_of}
-use Rattle.gen_rules.specs.Frames.{max_stack, Depths, depths, depths_by_value, binary_depths, comparison_depths, left_by, depth_of_arguments}
+use Rattle.gen_rules.specs.Frames.{max_stack, Depths, depths, depths_by_value, binary_depths, comparison_depths, left_by}
+use Rattle.gen_rules.specs.Frames.{depth_of_arguments}
 use Rattle.jv_sound.proofs.Worlds.{World, Extends, further, Runs, Good, Fits, fits_more, AllFit, RowFits, GivesA, Finds, finds}
 use Rattle.jv_sound.proofs.Worlds as worlds
 use Rattle.jv_sound.proofs.Worlds.{stays as stays_there}
@@ -294,11 +299,13 @@ module _ (p : Program) (ok : IsCore p) (os : List Outline) (program : linked.Pro
       does_value p ok os program inputs me r m code runs n w ls
       (one code (aload 0) then one code (getfield (field_reference p m.class k))) (meant row (Variable q (vars.Field k))) 1
       (λ from to st x s q1 h room g heap holds.
-      field_reads p ok os program inputs me calls.known r m code runs n low number this k t v.type x s heap (owned_more p ok g (o v.visible))
+      field_reads p ok os program inputs me calls.known r m code runs n low number this k t v.type x s heap
+      (owned_more p ok g (o v.visible))
       row ls (own v.visible) from to st q1 h room holds)
 
   -- a local that is compared with `null`, on either side
-  variable_null : {sc : List ℕ} {row : Row ℕ} (op : Op) (q b z : _) (x : Var) (k : ℕ) → IsEquality op → IsVariable p m sc x (types.Object k) →
+  variable_null : {sc : List ℕ} {row : Row ℕ} (op : Op) (q b z : _) (x : Var) (k : ℕ) → IsEquality op → IsVariable p m sc x (types.Object k)
+      →
       (w : World) → Mine w → RowFits p m w sc row → Laid (first_local m.kind) row ls →
       D w (forms p m code sc (Binary q op (Variable b x) (Null z))) (meant row (Binary q op (Variable b x) (Null z)))
       (depths p m (Binary q op (Variable b x) (Null z)))
@@ -322,7 +329,8 @@ module _ (p : Program) (ok : IsCore p) (os : List Outline) (program : linked.Pro
   variable_null ops.Div q b z x k i v w o f l = absurd i
   variable_null ops.Rem q b z x k i v w o f l = absurd i
 
-  null_variable : {sc : List ℕ} {row : Row ℕ} (op : Op) (q z b : _) (x : Var) (k : ℕ) → IsEquality op → IsVariable p m sc x (types.Object k) →
+  null_variable : {sc : List ℕ} {row : Row ℕ} (op : Op) (q z b : _) (x : Var) (k : ℕ) → IsEquality op → IsVariable p m sc x (types.Object k)
+      →
       (w : World) → Mine w → RowFits p m w sc row → Laid (first_local m.kind) row ls →
       D w (forms p m code sc (Binary q op (Null z) (Variable b x))) (meant row (Binary q op (Null z) (Variable b x)))
       (depths p m (Binary q op (Null z) (Variable b x)))
@@ -374,7 +382,8 @@ module _ (p : Program) (ok : IsCore p) (os : List Outline) (program : linked.Pro
   after_args : (to : ℕ) (st : List Held) (R : Moment → Option Value → Shared → Type 0) → ClosedBefore (step program me) R → (c : Moment)
       (x : World) (ts : List CoreType) (o : Outcome Shared (List Value)) (g : List Value → Run Shared (Option Value)) →
       Good (Heap p ok) (λ w vs. AllFit p w vs ts) x o → Follows (step program me) n (ArgsAt to st) c o →
-      ((y : World) (vs : List Value) (s : Shared) (q : Messages) → Extends x y → AllFit p y vs ts → Heap p ok y s → Holds inputs q me s.events →
+      ((y : World) (vs : List Value) (s : Shared) (q : Messages) → Extends x y → AllFit p y vs ts → Heap p ok y s →
+      Holds inputs q me s.events →
       Follows (step program me) n R (moment p r to (st ++ map flat vs) ls s q) (g vs s)) → Follows (step program me) n R c (and_then o g)
   after_args to st R closed c x ts (Ends f es) g good h k = h
   after_args to st R closed c x ts (Gives vs s) g good h k =
@@ -417,7 +426,8 @@ module _ (p : Program) (ok : IsCore p) (os : List Outline) (program : linked.Pro
       Holds inputs q me s.events →
       Follows (step program me) n (V (place + 1) st) (moment p r place (st ++ flat v ∷ map flat vs) ls s q) (on_object i v vs s)
   protocol_last i k allowed is place st room code_at x v worlds.null vs fits s q heap holds =
-      null_calls p ok os program inputs me n low may calls i k allowed is.at r m code runs place st ls (room_for k.result (length st) (max_stack p m) room)
+      null_calls p ok os program inputs me n low may calls i k allowed is.at r m code runs place st ls
+      (room_for k.result (length st) (max_stack p m) room)
       is.kind_is code_at x vs s q fits heap
   protocol_last i k allowed is place st room code_at x v (worlds.object {o = o} of) vs fits s q heap holds =
       let class = method_ok p ok i k is.at in
@@ -455,13 +465,15 @@ module _ (p : Program) (ok : IsCore p) (os : List Outline) (program : linked.Pro
       let third : h.0 ≡ from + 1 + 1 = omega (arith, first_is, second_is) in
       let behind : from + 1 + 1 + 1 ≡ to = omega (arith, first_is, second_is, third_is) in
       let same : meant row (New here c) s ≡ Gives (Some (values.Object (length s.heap))) made =
-      ap (λ y. (found y >>= λ k. found (new_fields p k.fields) >>= λ row. valuing (make (record { class = text_at p k.name; fields = row }))) s)
+      ap (λ y. (found y >>= λ k. found (new_fields p k.fields) >>= λ row. valuing
+      (make (record { class = text_at p k.name; fields = row }))) s)
       has.at
       ∙ ap (λ y. (found y >>= λ row. valuing (make (record { class = text_at p k.name; fields = row }))) s) b.is in
       subst (Follows (step program me) n (V to st) start) (sym same) (record {
         messages = q;
         comes = subst (λ j. Comes (step program me) start (moment p r j (st ++ held.Object (length s.heap) ∷ []) ls made q)) behind
-            (new_comes p ok os program inputs me calls.known c k has.at stands s r m code runs n ls q from st b.row (b.fits []) b.is (h.1.1).0
+            (new_comes p ok os program inputs me calls.known c k has.at stands s r m code runs n ls q from st b.row (b.fits []) b.is
+            (h.1.1).0
             (subst (λ j. slice_get code j ≡ Some dup) second (h.1.2).0)
             (subst (λ j. slice_get code j ≡ Some (invokespecial (init_of (class_name p c)))) third h.2.0) room);
         holds = seen_holds inputs q me s.events (seen.Made (length s.heap) (text_at p k.name)) (λ peer. refl) holds;
@@ -494,32 +506,40 @@ module _ (p : Program) (ok : IsCore p) (os : List Outline) (program : linked.Pro
         not_does p ok os program inputs me r m code runs n w ls (forms p m code sc a) (meant row a) (depths p m a)
         (good (Types.opposite {q = q} x) w o f) (expression_does x c w o f l)
     expression_does {sc} {row = row} (Types.sum {q = q} {a = a} {b = b} x y) c w o f l =
-        plus_typed w (forms p m code sc a) (forms p m code sc b) (type_of p m a) (type_of p m b) types.Int types.Int (meant row (Binary q ops.Add a b))
+        plus_typed w (forms p m code sc a) (forms p m code sc b) (type_of p m a) (type_of p m b) types.Int types.Int
+        (meant row (Binary q ops.Add a b))
         (depths p m (Binary q ops.Add a b)) (shown_type p m sc a types.Int tt x) (shown_type p m sc b types.Int tt y)
         (value_of_two p ok os program inputs me r m code runs n w ls (forms p m code sc a) (forms p m code sc b) (meant row a) (meant row b)
         (depths p m a) (depths p m b) types.Int types.Int (applied Plus) iadd (good x w o f) (good y w o f) (expression_does x c.0 w o f l)
         (expression_does y c.1 w o f l) (plus_last p ok os program inputs me r m code runs n ls))
     expression_does {sc} {row = row} (Types.text_and {q = q} {a = a} {b = b} {t = t} x y i) c w o f l =
-        plus_typed w (forms p m code sc a) (forms p m code sc b) (type_of p m a) (type_of p m b) types.Text t (meant row (Binary q ops.Add a b))
+        plus_typed w (forms p m code sc a) (forms p m code sc b) (type_of p m a) (type_of p m b) types.Text t
+        (meant row (Binary q ops.Add a b))
         (depths p m (Binary q ops.Add a b)) (shown_type p m sc a types.Text tt x) (shown_type p m sc b t i y)
         (joins_does p ok os program inputs me r m code runs n ls w (forms p m code sc a) (forms p m code sc b) (meant row a) (meant row b)
-        (depths p m a) (depths p m b) types.Text t joining.left tt i (takes_room p m x refl) (takes_room p m y (shown_room t i)) (good x w o f)
+        (depths p m a) (depths p m b) types.Text t joining.left tt i (takes_room p m x refl) (takes_room p m y (shown_room t i))
+        (good x w o f)
         (good y w o f) (expression_does x c.0 w o f l) (expression_does y c.1 w o f l))
     expression_does {sc} {row = row} (Types.and_text {q = q} {a = a} {b = b} {t = t} x i y) c w o f l =
-        plus_typed w (forms p m code sc a) (forms p m code sc b) (type_of p m a) (type_of p m b) t types.Text (meant row (Binary q ops.Add a b))
+        plus_typed w (forms p m code sc a) (forms p m code sc b) (type_of p m a) (type_of p m b) t types.Text
+        (meant row (Binary q ops.Add a b))
         (depths p m (Binary q ops.Add a b)) (shown_type p m sc a t i x) (shown_type p m sc b types.Text tt y)
-        (joined_right w (forms p m code sc a) (forms p m code sc b) t (meant row (Binary q ops.Add a b)) (depths p m (Binary q ops.Add a b)) i
+        (joined_right w (forms p m code sc a) (forms p m code sc b) t (meant row (Binary q ops.Add a b)) (depths p m (Binary q ops.Add a b))
+        i
         (joins_does p ok os program inputs me r m code runs n ls w (forms p m code sc a) (forms p m code sc b) (meant row a) (meant row b)
-        (depths p m a) (depths p m b) t types.Text joining.right i tt (takes_room p m x (shown_room t i)) (takes_room p m y refl) (good x w o f)
+        (depths p m a) (depths p m b) t types.Text joining.right i tt (takes_room p m x (shown_room t i)) (takes_room p m y refl)
+        (good x w o f)
         (good y w o f) (expression_does x c.0 w o f l) (expression_does y c.1 w o f l)))
     expression_does (Types.computed {q = q} {o = op} {a = a} {b = b} i x y) c w o f l =
         arithmetic_does op q a b i x y w o f (expression_does x c.0 w o f l) (expression_does y c.1 w o f l)
     expression_does (Types.ordered {q = q} {o = op} {a = a} {b = b} i x y) c w o f l =
-        order_does op q a b i x y (Types.ordered {q = q} {o = op} i x y) w o f (expression_does x c.0 w o f l) (expression_does y c.1 w o f l)
+        order_does op q a b i x y (Types.ordered {q = q} {o = op} i x y) w o f (expression_does x c.0 w o f l)
+        (expression_does y c.1 w o f l)
     expression_does (Types.logic {q = q} {o = op} {a = a} {b = b} i x y) c w o f l =
         logic_does op q a b i x y (Types.logic {q = q} {o = op} i x y) w o f (expression_does x c.0 w o f l) (expression_does y c.1 w o f l)
     expression_does (Types.same {q = q} {o = op} {a = a} {b = b} {t = t} i k x y) c w o f l =
-        equality_does op q a b t i k x y (Types.same {q = q} {o = op} {t = t} i k x y) w o f (expression_does x c.0 w o f l) (expression_does
+        equality_does op q a b t i k x y (Types.same {q = q} {o = op} {t = t} i k x y) w o f (expression_does x c.0 w o f l)
+        (expression_does
         y c.1 w o f l)
     expression_does (Types.is_null {q = q} {r = b} {s = z} {o = op} {x = x} {c = k} i v) c w o f l =
         variable_null op q b z x k i v w o f l
@@ -577,7 +597,8 @@ module _ (p : Program) (ok : IsCore p) (os : List Outline) (program : linked.Pro
         regrouped R st object (map flat vs) h.0 u q1 (low.call i this vs u)
         (subst (λ t. Follows (step program me) n R (moment p r h.0 (st ++ object ∷ map flat vs) ls u q1) (low.call i t vs u)) (sym mine.is)
         (let of : slice_get y mine.object ≡ Some k.class = stays_there mine.object m.class grown mine.of ∙ ap (λ j. Some j) (sym same) in
-        helper_calls p ok os program inputs me n low may calls i k c.0 is.at r m code runs h.0 st ls (room_for k.result (length st) (max_stack p m) (omega (arith, room)))
+        helper_calls p ok os program inputs me n low may calls i k c.0 is.at r m code runs h.0 st ls
+        (room_for k.result (length st) (max_stack p m) (omega (arith, room)))
         is.kind_is h.2.0 y mine.object vs u q1 of fits
         (record {
           suits = ap (λ kind. suits (runs_on_object kind) (Some mine.object)) is.kind_is;
@@ -597,7 +618,8 @@ module _ (p : Program) (ok : IsCore p) (os : List Outline) (program : linked.Pro
         ((args_good p ok inputs low well number m at this xs (full k i is.at) w o f).run x g s heap)
         (arguments_do xs c.1 (full k i is.at) w o f l from h.0 st x s q h.1 (omega (arith, room)) g heap holds)
         (λ y vs u q1 grown fits heap1 holds1.
-        static_calls p ok os program inputs me n low may calls i k c.0 is.at r m code runs h.0 st ls (omega (arith, room, typed)) is.kind_is h.2.0
+        static_calls p ok os program inputs me n low may calls i k c.0 is.at r m code runs h.0 st ls (omega (arith, room, typed)) is.kind_is
+        h.2.0
         y vs u q1 fits
         (record {
           suits = ap (λ kind. suits (runs_on_object kind) None) is.kind_is;

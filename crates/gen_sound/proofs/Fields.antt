@@ -1,5 +1,6 @@
 -- Own fields: they are read and written in the object of the frame as in the object of the meaning.
-use Rattle.std.proofs.Common.{◌≡◌, ℕ, zero, suc, ◌+◌, ◌≤◌, Bool, true, false, List, [], ◌∷◌, ◌++◌, length, map, Option, Some, None, refl, sym, ap, ◌∙◌, subst, append-nil, arith}
+use Rattle.std.proofs.Common.{◌≡◌, ℕ, zero, suc, ◌+◌, ◌≤◌, Bool, true, false, List, [], ◌∷◌, ◌++◌, length, map, Option, Some, None, refl}
+use Rattle.std.proofs.Common.{sym, ap, ◌∙◌, subst, append-nil, arith}
 use Rattle.std.specs.Prelude.{slice_get, slice_set, if◌then◌else◌, Contains}
 use Rattle.std.specs.Str.{bytes_eq}
 use Rattle.mg_text.specs.Call.{Name}
@@ -119,7 +120,8 @@ module _ (p : Program) (ok : IsCore p) (os : List Outline) (program : linked.Pro
   object_meets : (x : World) (s : Shared) → Heap p ok x s → (o : ℕ) → slice_get x o ≡ Some m.class →
       misfit program (heap_in p s.heap) (Typed (Named (linked.class_name program m.class))) (held.Object o) ≡ None
   object_meets x s heap o of =
-      subst (λ name. misfit_class program (heap_in p s.heap) name (held.Object o) ≡ None) (sym (known.class_named m.class there.class there.at))
+      subst (λ name. misfit_class program (heap_in p s.heap) name (held.Object o) ≡ None)
+      (sym (known.class_named m.class there.class there.at))
       (object_fits p ok os program me known x s heap o m.class there.class of there.at)
 
   abbrev names_then : {B : Type 0} → Option Class → (Name × Name → Run Shared B) → Run Shared B
@@ -142,7 +144,8 @@ module _ (p : Program) (ok : IsCore p) (os : List Outline) (program : linked.Pro
     object_given : object_of (text_at p there.class.name) own.object s ≡ Gives it.instance s
     object_given = object_is p ok x own.object (text_at p there.class.name) s it.instance it.at it.object.named
 
-    pub read_is : (row : Row ℕ) → read p inputs low number (record { class = m.class; object = this }) row (vars.Field f) s ≡ Gives has.value s
+    pub read_is : (row : Row ℕ) → read p inputs low number (record { class = m.class; object = this }) row (vars.Field f) s ≡ Gives
+        has.value s
     read_is row =
         names_are (λ names. read_field names.0 this names.1) s
         ∙ ap (λ y. (found y >>= λ o. object_of (text_at p there.class.name) o >>= λ i. found
@@ -159,7 +162,8 @@ module _ (p : Program) (ok : IsCore p) (os : List Outline) (program : linked.Pro
         goes_there p ok os program inputs me r m code runs n place (st ++ held.Object own.object ∷ []) ls s q (place + 1)
         (st ++ flat has.value ∷ [])
         (step_takes p os program me r m code runs place (st ++ held.Object own.object ∷ []) ls s q (getfield (field_reference p m.class f))
-        (Read m.class f) at stands.reads st (held.Object own.object ∷ []) (Typed (Named (linked.class_name program m.class)) ∷ []) 1 refl refl
+        (Read m.class f) at stands.reads st (held.Object own.object ∷ []) (Typed (Named (linked.class_name program m.class)) ∷ []) 1 refl
+        refl
         (object_meets x s heap own.object own.of, tt) room
         ∙ ap (reads_object q state st f) it.in_heap
         ∙ ap (λ o. elim o [ None ↦ broken bad.Member | Some v ↦ goes q (next state (st ++ v ∷ [])) ])
@@ -190,7 +194,8 @@ module _ (p : Program) (ok : IsCore p) (os : List Outline) (program : linked.Pro
         (record { messages = q; comes = comes_on (step program me) start middle end loaded got; holds = holds })
 
     -- the objects once the field is set
-    abbrev puts : (v : Value) → Fits p x v t → PutsField p x there.class.fields (put bytes_eq (text_at p there.field.name) v it.instance.fields)
+    abbrev puts : (v : Value) → Fits p x v t →
+        PutsField p x there.class.fields (put bytes_eq (text_at p there.field.name) v it.instance.fields)
     puts v fits =
         puts_field p there.class.fields f there.field v apart it.object.fields there.field_at (subst (Fits p x v) (sym there.type) fits)
 
@@ -207,10 +212,12 @@ module _ (p : Program) (ok : IsCore p) (os : List Outline) (program : linked.Pro
         (slice_set heap o (record i { fields = row }))) s) own.is
         ∙ ap (λ y. and_then y (λ i. found (put bytes_eq (text_at p there.field.name) v i.fields) >>= λ row. objects >>= λ heap. with_objects
         (slice_set heap own.object (record i { fields = row })))) object_given
-        ∙ ap (λ y. (found y >>= λ row. objects >>= λ heap. with_objects (slice_set heap own.object (record it.instance { fields = row }))) s)
+        ∙ ap (λ y. (found y >>= λ row. objects >>= λ heap. with_objects (slice_set heap own.object (record it.instance { fields = row })))
+        s)
         (puts v fits).is
 
-    field_meets : (v : Value) → Fits p x v t → misfit program (heap_in p s.heap) (type_in (linked.field_at program m.class f)) (flat v) ≡ None
+    field_meets : (v : Value) → Fits p x v t → misfit program (heap_in p s.heap) (type_in (linked.field_at program m.class f)) (flat v) ≡
+        None
     field_meets v fits =
         ap (λ o. misfit program (heap_in p s.heap) (type_in o) (flat v)) stands.described
         ∙ ap (λ o. misfit program (heap_in p s.heap) (elim o [ None ↦ Any | Some type ↦ Typed type ]) (flat v)) stands.typed
@@ -234,7 +241,8 @@ module _ (p : Program) (ok : IsCore p) (os : List Outline) (program : linked.Pro
         let args : List Held = held.Object own.object ∷ flat v ∷ [] in
         let start : Moment = moment p r place args ls s q in
         lead_of (step program me) start (moment p r (place + 1) [] ls (set_to v fits) q) None
-        (step_takes p os program me r m code runs place args ls s q (putfield (field_reference p m.class f)) (Write m.class f) at stands.writes []
+        (step_takes p os program me r m code runs place args ls s q (putfield (field_reference p m.class f)) (Write m.class f) at
+        stands.writes []
         args (Typed (Named (linked.class_name program m.class)) ∷ type_in (linked.field_at program m.class f) ∷ []) 0 refl refl
         (object_meets x s heap own.object own.of, (field_meets v fits, tt)) (omega arith)
         ∙ ap (writes_object q start.machine [] own.object f (flat v)) it.in_heap

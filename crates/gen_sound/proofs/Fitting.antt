@@ -86,7 +86,8 @@ module _ (p : Program) (ok : IsCore p) (os : List Outline) (program : linked.Pro
   pub all_meet : (w : World) (s : Shared) → Heap p ok w s → (vs : List Value) (ts : List CoreType) → AllFit p w vs ts →
       AllByRecursion (IsUsable p) ts → AllMeet program (heap_in p s.heap) (map Typed (map (type_in p) ts)) (map flat vs)
   all_meet w s h vs ts worlds.no_values u = tt
-  all_meet w s h vs ts (worlds.value {v = v} {vs = more} {t = t} {ts = rest} f fs) u = (type_fits w s h v t f u.0, all_meet w s h more rest fs u.1)
+  all_meet w s h vs ts (worlds.value {v = v} {vs = more} {t = t} {ts = rest} f fs) u =
+      (type_fits w s h v t f u.0, all_meet w s h more rest fs u.1)
 
   -- a value where a method of its type returns it
   pub returned_fits : (w : World) (s : Shared) → Heap p ok w s → (v : Value) (t : CoreType) → Fits p w v t → IsResult p t →

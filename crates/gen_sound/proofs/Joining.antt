@@ -126,7 +126,8 @@ module _ (p : Program) (ok : IsCore p) (os : List Outline) (program : linked.Pro
       follows_later (step program me) n (V to st) (value_closed p ok os program inputs me r m code runs n ls to st)
       (A h.1.1.1.0 (st ++ flat v ∷ []) s1 q1) (A h.1.1.0 (st ++ held.Text (text_of v) ∷ []) s1 q1)
       (and_then (and_then (b s1) found) (λ z u. valuing (applied Plus v z) u))
-      (text_comes p ok os program inputs me r m code runs ta ia y v fv h.1.1.1.0 h.1.1.0 h.1.1.1.2 st ls s1 q1 (omega (arith, room, some_a)))
+      (text_comes p ok os program inputs me r m code runs ta ia y v fv h.1.1.1.0 h.1.1.0 h.1.1.1.2 st ls s1 q1
+      (omega (arith, room, some_a)))
       (second p ok os program inputs me r m code runs n (V to st) (value_closed p ok os program inputs me r m code runs n ls to st)
       (A h.1.1.0 (st ++ held.Text (text_of v) ∷ []) s1 q1) y tb h.1.0 ls (st ++ held.Text (text_of v) ∷ []) (b s1)
       (λ z u. valuing (applied Plus v z) u) (rb.run y (further grown more) s1 heap1)

@@ -1,5 +1,6 @@
 -- What the linked program of a core has: each class under its number, and each method under its number in its class.
-use Rattle.std.proofs.Common.{◌≡◌, ◌≢◌, ℕ, ◌+◌, Bool, true, false, ◌&&◌, not, List, [], ◌∷◌, ◌++◌, map, Some, None, slice_get, refl, sym, ap, ap₂, ◌∙◌, subst, arith, codes}
+use Rattle.std.proofs.Common.{◌≡◌, ◌≢◌, ℕ, ◌+◌, Bool, true, false, ◌&&◌, not, List, [], ◌∷◌, ◌++◌, map, Some, None, slice_get, refl, sym}
+use Rattle.std.proofs.Common.{ap, ap₂, ◌∙◌, subst, arith, codes}
 use Rattle.std.specs.Prelude.{nat_eq, if◌then◌else◌, option_and_then, position, max}
 use Rattle.std.specs.List.{AllByRecursion, filter}
 use Rattle.std.proofs.lemmas.Bool.Decides.{nat_tests}
@@ -10,7 +11,8 @@ use Rattle.vm_model.specs.Program as linked
 use Rattle.vm_model.specs.Types.{FieldType, IsPlain, IsPlainResult, signature_text, main_signature, signature_of, type_of}
 use Rattle.vm_model.specs.Types as descriptors
 use Rattle.vm_model.proofs.Spelled.{method_exact, field_exact}
-use Rattle.vm_model.specs.Links.{Outline, is_member, is_static, built_in, built_members, member_args, named_args, loaded_member, method_of_class, args_by, field_of_class, field_made}
+use Rattle.vm_model.specs.Links.{Outline, is_member, is_static, built_in, built_members, member_args, named_args, loaded_member}
+use Rattle.vm_model.specs.Links.{method_of_class, args_by, field_of_class, field_made}
 use Rattle.vm_model.specs.Actions.{Calling, Telling, Silent, Static, Call, action, Read, Write, Make}
 use Rattle.vm_model.specs.Tests.{name_of_method}
 use Rattle.jv_core.specs.declared.program.CoreType.{CoreType}
@@ -22,11 +24,13 @@ use Rattle.jv_core.specs.Lookup.{text_at, param_types, is_main}
 use Rattle.jv_core.specs.Members.{IsUsable, IsResult, IsField}
 use Rattle.jv_core.specs.Conditions.{IsMethod, IsCore}
 use Rattle.gen_rules.specs.Symbolic.{Instr, invokevirtual, invokespecial, invokestatic, getfield, putfield, new}
-use Rattle.gen_rules.specs.Members.{member, class_name, type_in, result_in, descriptor_of, method_descriptor, method_member, method_reference, field_member, field_reference, field_descriptor, init_of}
+use Rattle.gen_rules.specs.Members.{member, class_name, type_in, result_in, descriptor_of, method_descriptor, method_member}
+use Rattle.gen_rules.specs.Members.{method_reference, field_member, field_reference, field_descriptor, init_of}
 use Rattle.mg_text.specs.declared.place.Place.{Place}
 use Rattle.gen_rules.specs.Frames.{depth_of_all}
 use Rattle.gen_rules.specs.Templates.{IsCode}
-use Rattle.gen_rules.specs.Classes.{Compiled, compiled, access_of, constructors, methods_in, IsCompiledClass, IsCompiled, class_file, constructor, constructor_code, constructor_stack, all_initialised}
+use Rattle.gen_rules.specs.Classes.{Compiled, compiled, access_of, constructors, methods_in, IsCompiledClass, IsCompiled, class_file}
+use Rattle.gen_rules.specs.Classes.{constructor, constructor_code, constructor_stack, all_initialised}
 use Rattle.gen_rules.specs.Linked.{declared_method, or_nothing, outlines_of, linked_program, declared_field}
 use Rattle.jv_sound.proofs.Lists.{each_at}
 use Rattle.jv_sound.proofs.Expressions.{method_ok}
@@ -179,7 +183,8 @@ module _ (p : Program) (core : IsCore p) (plain : HasPlainNames p) (all : List (
       let d : Name = descriptor_of p (param_types k) k.result in
       ap signature_of (descriptor_is k.kind (signature_text main_signature) d n)
       ∙ (method_exact d (record { params = map (type_in p) (param_types k); result = result_in p k.result })).1
-      (descriptors.plain (types_plain (param_types k) (params_usable p core plain all made.classes k is)) (result_plain k.result is.result) refl)
+      (descriptors.plain (types_plain (param_types k) (params_usable p core plain all made.classes k is)) (result_plain k.result is.result)
+      refl)
 
   class_named : (c : ℕ) (k : Class) → slice_get p.classes c ≡ Some k → linked.class_name (linked_program p all) c ≡ text_at p k.name
   class_named c k at = ap linked.name_in (linked_class_at p os 0 p.classes all made.classes c k at).linked
@@ -247,7 +252,8 @@ module _ (p : Program) (core : IsCore p) (plain : HasPlainNames p) (all : List (
     plain_here = plain_class p core plain all made.classes m.class is.class is.class_at
 
     found : (op : ℕ) (static : Bool) → built_in op reference built_members ≡ None →
-        loaded_member os op reference.member (Some m.class) ≡ args_by (linked.Method m.class) (method_of_class reference.member static (slice_get os m.class)) →
+        loaded_member os op reference.member (Some m.class) ≡ args_by (linked.Method m.class)
+        (method_of_class reference.member static (slice_get os m.class)) →
         Fits static (access_of m.kind) → member_args os op reference ≡ Some (linked.Method m.class b.number)
     found op static none is_method fits =
         ap (named_args os op reference) none
@@ -306,11 +312,13 @@ module _ (p : Program) (core : IsCore p) (plain : HasPlainNames p) (all : List (
 
     read_found : member_args os 180 referred ≡ Some (linked.Field c f)
     read_found =
-        ap (loaded_member os 180 referred.member) (named_class p core plain all made.classes c k at) ∙ ap (args_by (linked.Field c)) field_there
+        ap (loaded_member os 180 referred.member) (named_class p core plain all made.classes c k at) ∙ ap (args_by (linked.Field c))
+        field_there
 
     write_found : member_args os 181 referred ≡ Some (linked.Field c f)
     write_found =
-        ap (loaded_member os 181 referred.member) (named_class p core plain all made.classes c k at) ∙ ap (args_by (linked.Field c)) field_there
+        ap (loaded_member os 181 referred.member) (named_class p core plain all made.classes c k at) ∙ ap (args_by (linked.Field c))
+        field_there
 
     field_stands : FieldStands p os (linked_program p all) c f d
     field_stands = record {
@@ -357,7 +365,8 @@ module _ (p : Program) (core : IsCore p) (plain : HasPlainNames p) (all : List (
       makes = ap (λ o. action 187 (or_nothing (args_by linked.Class o))) (named_class p core plain all made.classes c k at);
       called = ap (λ o. action 183 (or_nothing o)) init_found;
       runs = λ r e f.
-          let h = compiled_runs p core plain all made me c 0 lies.methods lies.class_is (constructor p c k) (ap (λ xs. slice_get xs 0) first_is) r e f in
+          let h = compiled_runs p core plain all made me c 0 lies.methods lies.class_is (constructor p c k)
+          (ap (λ xs. slice_get xs 0) first_is) r e f in
           record {
             method = h.method;
             at = h.at;

@@ -15,10 +15,12 @@ use Rattle.vm_model.specs.Actions.{action}
 use Rattle.vm_model.specs.Messages.{Messages}
 use Rattle.vm_model.specs.Machine.{Machine}
 use Rattle.vm_model.specs.Step.{act_at, act_some}
-use Rattle.gen_rules.specs.Symbolic.{Operand, Nothing, Number, Constant, Local, Jump, Table, Class as ClassOf, Field, Method as MethodOf, Instr}
+use Rattle.gen_rules.specs.Symbolic.{Operand, Nothing, Number, Constant, Local, Jump, Table, Class as ClassOf, Field, Method as MethodOf}
+use Rattle.gen_rules.specs.Symbolic.{Instr}
 use Rattle.gen_rules.specs.Assembled.{numbered, numbered_by, all_numbered, aimed_by, all_aimed}
 use Rattle.gen_rules.specs.Classes.{Compiled, compiled, method_in_file, each, AreCompiledClasses, IsCompiled}
-use Rattle.gen_rules.specs.Linked.{outlines_of, linked_operand, linked_code, linked_method, linked_methods, linked_class, linked_classes, linked_program}
+use Rattle.gen_rules.specs.Linked.{outlines_of, linked_operand, linked_code, linked_method, linked_methods, linked_class, linked_classes}
+use Rattle.gen_rules.specs.Linked.{linked_program}
 use Rattle.jv_sound.proofs.Lists.{some_is, each_at}
 use Rattle.gen_links.specs.Files.{HasPlainNames}
 use Rattle.gen_links.specs.Right.{IsRight, AreRight}
@@ -93,10 +95,12 @@ linked_at : (os : List Outline) (starts places : List ℕ) (is : List Instr) (po
 linked_at os starts places [] pool long good place i e = absurd (cc)
 linked_at os starts [] (j ∷ is) pool long good place i e = absurd (cc)
 linked_at os starts (here ∷ places) (j ∷ is) pool long good zero i e =
-    subst (LinkedAt os (linked_code os (j ∷ is) (all_aimed starts (here ∷ places) (j ∷ is) (all_numbered (j ∷ is) pool).0)) zero) (some_is e)
+    subst (LinkedAt os (linked_code os (j ∷ is) (all_aimed starts (here ∷ places) (j ∷ is) (all_numbered (j ∷ is) pool).0)) zero)
+    (some_is e)
     (record { instr = _; at = refl; does = same_action os starts here j.op j.operand pool good.0 })
 linked_at os starts (here ∷ places) (j ∷ is) pool long good (suc place) i e =
-    let h = linked_at os starts places is (numbered j pool).1 (let l : length (here ∷ places) ≡ length (j ∷ is) = long in omega (arith, l)) good.1
+    let h = linked_at os starts places is (numbered j pool).1 (let l : length (here ∷ places) ≡ length (j ∷ is) = long in omega (arith, l))
+    good.1
     place i e in
     record { instr = h.instr; at = h.at; does = h.does }
 
@@ -168,7 +172,8 @@ compiled_runs p core plain all made me class method cs class_is x method_is r e 
 
 -- so it runs the code of a method
 pub linked_runs : (p : Program) → IsCore p → HasPlainNames p → (all : List (List Compiled)) → IsCompiled p all → (me class method : ℕ)
-    (cs : List Compiled) → slice_get all class ≡ Some cs → (m : Method) (code : List Instr) → slice_get cs method ≡ Some (compiled p m code) →
+    (cs : List Compiled) → slice_get all class ≡ Some cs → (m : Method) (code : List Instr) → slice_get cs method ≡ Some (compiled p m code)
+    →
     (r : Running) → r.class ≡ class → r.method ≡ method → RunsCode p (outlines_of p p.classes all) (linked_program p all) me r m code
 linked_runs p core plain all made me class method cs class_is m code method_is r e f =
     let h = compiled_runs p core plain all made me class method cs class_is (compiled p m code) method_is r e f in

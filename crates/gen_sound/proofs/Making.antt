@@ -1,5 +1,6 @@
 -- `new`: the object is made, and its constructor sets the fields that have a written value.
-use Rattle.std.proofs.Common.{◌≡◌, ℕ, zero, suc, ◌+◌, ◌≤◌, true, false, List, [], ◌∷◌, ◌++◌, length, map, Option, Some, None, refl, sym, ap, ap₂, ◌∙◌, subst, append-nil, append_assoc, arith, pos, codes, ◌-◌, replicate}
+use Rattle.std.proofs.Common.{◌≡◌, ℕ, zero, suc, ◌+◌, ◌≤◌, true, false, List, [], ◌∷◌, ◌++◌, length, map, Option, Some, None, refl, sym, ap}
+use Rattle.std.proofs.Common.{ap₂, ◌∙◌, subst, append-nil, append_assoc, arith, pos, codes, ◌-◌, replicate}
 use Rattle.std.specs.Prelude.{slice_get, slice_set, unwrap_or, option_map, option_and_then, max}
 use Rattle.std.specs.Str.{bytes_eq}
 use Rattle.std.proofs.lemmas.List.{length-map, length-append}
@@ -9,7 +10,8 @@ use Rattle.jv_values.specs.Values.{Value, Row, Shared, Instance, Inputs}
 use Rattle.jv_values.specs.Values as values
 use Rattle.jv_core.specs.declared.program.CoreType.{CoreType}
 use Rattle.jv_core.specs.declared.program.CoreType.TheVariants as types
-use Rattle.jv_core.specs.Tree.{Class, Field, Method, Program, Expr, Int, Truth, Text, Null, Variable, Constant, Neg, Not, Binary, Protocol, Helper, Static, Equals, Concat, Session, New, Then, NoStmt, Eval}
+use Rattle.jv_core.specs.Tree.{Class, Field, Method, Program, Expr, Int, Truth, Text, Null, Variable, Constant, Neg, Not, Binary, Protocol}
+use Rattle.jv_core.specs.Tree.{Helper, Static, Equals, Concat, Session, New, Then, NoStmt, Eval}
 use Rattle.jv_core.specs.Lookup.{text_at, enum_text, class_numbered}
 use Rattle.jv_core.specs.Members.{IsUsable, IsField, MayBeginWith}
 use Rattle.jv_core.specs.Conditions.{IsCore}
@@ -25,7 +27,8 @@ use Rattle.vm_model.specs.Machine.{Machine, Stepped, Went}
 use Rattle.vm_model.specs.declared.linked.Built.TheVariants as built
 use Rattle.vm_model.specs.Actions.{Silent, Push, Make, Double, Call, Use, Write, Return}
 use Rattle.vm_model.specs.Tests as tests
-use Rattle.vm_model.specs.Tests.{Any, Typed, misfit, object_name, call_takes, descriptor_in, is_sort, max_locals_in, max_stack_in, misfit_type}
+use Rattle.vm_model.specs.Tests.{Any, Typed, misfit, object_name, call_takes, descriptor_in, is_sort, max_locals_in, max_stack_in}
+use Rattle.vm_model.specs.Tests.{misfit_type}
 use Rattle.vm_model.specs.Step.{step, blank, blank_of, writes_object}
 use Rattle.gen_rules.specs.Symbolic.{Instr, new, dup, invokespecial, return, push, push_text, aconst_null, aload, putfield}
 use Rattle.gen_rules.specs.Members.{class_name, type_in, field_descriptor, init_of, method_descriptor, field_reference, object_class}
@@ -268,12 +271,15 @@ module _ (p : Program) (ok : IsCore p) (os : List Outline) (program : linked.Pro
         (moment p r (place + 1) (st ++ held.Object (length s.heap) ∷ held.Object (length s.heap) ∷ []) ls (state row) q)
     dup_goes row place st code_at room =
         let object : Held = held.Object (length s.heap) in
-        goes_there p ok os program inputs me r m code runs n place (st ++ object ∷ []) ls (state row) q (place + 1) (st ++ object ∷ object ∷ [])
-        (step_takes p os program me r m code runs place (st ++ object ∷ []) ls (state row) q dup Double code_at refl st (object ∷ []) (Any ∷ []) 2
+        goes_there p ok os program inputs me r m code runs n place (st ++ object ∷ []) ls (state row) q (place + 1)
+        (st ++ object ∷ object ∷ [])
+        (step_takes p os program me r m code runs place (st ++ object ∷ []) ls (state row) q dup Double code_at refl st (object ∷ [])
+        (Any ∷ []) 2
         refl refl (refl, tt) room)
 
     -- the constructor is entered, and the object waits below
-    pub enter_goes : (row : Row Name) (place : ℕ) (st : List Held) → slice_get code place ≡ Some (invokespecial (init_of (class_name p c))) →
+    pub enter_goes : (row : Row Name) (place : ℕ) (st : List Held) → slice_get code place ≡ Some (invokespecial (init_of (class_name p c)))
+        →
         Leads (step program me) (moment p r place (st ++ held.Object (length s.heap) ∷ held.Object (length s.heap) ∷ []) ls (state row) q)
         (moment p (inner r (place + 1) (st ++ held.Object (length s.heap) ∷ []) ls c 0 None) 0 []
         (Some (held.Object (length s.heap)) ∷ []) (state row) q)
@@ -291,11 +297,13 @@ module _ (p : Program) (ok : IsCore p) (os : List Outline) (program : linked.Pro
         ∙ ap tests.params_in (init_read p c k) in
         let size : max_locals_in (linked.method_at program c 0) ≡ 1 = ap max_locals_in h.at ∙ h.locals in
         let meet : AllMeet program (heap_in p (state row).heap) takes (object ∷ []) =
-        subst (λ ts. AllMeet program (heap_in p (state row).heap) (Typed (Named (linked.class_name program c)) ∷ map Typed ts) (object ∷ []))
+        subst (λ ts. AllMeet program (heap_in p (state row).heap) (Typed (Named (linked.class_name program c)) ∷ map Typed ts)
+        (object ∷ []))
         (sym params) (object_meets row, tt) in
         let count : length takes ≡ 1 = as_many program (heap_in p (state row).heap) takes (object ∷ []) meet in
         lead_of (step program me) (moment p r place full ls (state row) q) (moment p frame 0 [] (Some object ∷ []) (state row) q) None
-        (step_is p os program me r m code runs place full ls (state row) q (invokespecial (init_of (class_name p c))) (Call Silent c 0) code_at
+        (step_is p os program me r m code runs place full ls (state row) q (invokespecial (init_of (class_name p c))) (Call Silent c 0)
+        code_at
         stands.called
         ∙ acts_well program q before me (Call Silent c 0) rest (object ∷ []) (sym (append_assoc st (object ∷ []) (object ∷ []))) meet refl
         (subst (λ j. length takes ≤ j) (sym size) (subst (λ j. j ≤ 1) (sym count) (omega arith))) refl (omega arith)
@@ -326,7 +334,8 @@ module _ (p : Program) (ok : IsCore p) (os : List Outline) (program : linked.Pro
         let before = moment p frame place [] (Some object ∷ []) (state row) q in
         let long : length rest ≡ length st + 1 = length-append st (object ∷ []) in
         lead_of (step program me) before (moment p r at_call rest ls (state row) q) None
-        (step_is p os program me frame (constructor_method p c k) (constructor_code p c k) h place [] (Some object ∷ []) (state row) q return
+        (step_is p os program me frame (constructor_method p c k) (constructor_code p c k) h place [] (Some object ∷ []) (state row) q
+        return
         (Return None) code_at refl
         ∙ acts_well program q before.machine me (Return None) [] [] refl tt refl (omega arith)
         (ap (is_sort None) (ap (λ o. tests.result_in (signature_of (descriptor_in o))) h.at
@@ -358,14 +367,16 @@ module _ (p : Program) (ok : IsCore p) (os : List Outline) (program : linked.Pro
     this_goes : (place : ℕ) (row : Row Name) → slice_get body place ≡ Some (aload 0) →
         Leads (step program me) (In place [] row) (In (place + 1) (obj ∷ []) row)
     this_goes place row code_at =
-        load_goes p ok os program inputs me rc mc body h n place [] cls (state row) q (types.Object 0) 0 (values.Object (length s.heap)) code_at refl
+        load_goes p ok os program inputs me rc mc body h n place [] cls (state row) q (types.Object 0) 0 (values.Object (length s.heap))
+        code_at refl
         refl one_fits
 
     super_goes : (place : ℕ) (row : Row Name) → slice_get body place ≡ Some (invokespecial (init_of object_class)) →
         Leads (step program me) (In place (obj ∷ []) row) (In (place + 1) [] row)
     super_goes place row code_at =
         goes_there p ok os program inputs me rc mc body h n place (obj ∷ []) cls (state row) q (place + 1) []
-        (step_takes p os program me rc mc body h place (obj ∷ []) cls (state row) q (invokespecial (init_of object_class)) (Use built.Init) code_at
+        (step_takes p os program me rc mc body h place (obj ∷ []) cls (state row) q (invokespecial (init_of object_class)) (Use built.Init)
+        code_at
         refl [] (obj ∷ []) (Typed (Named (codes "java/lang/Object")) ∷ []) 0 refl refl (refl, tt) (omega arith))
 
     abbrev put_to : (place : ℕ) → List machine.Object → Stepped
@@ -396,7 +407,8 @@ module _ (p : Program) (ok : IsCore p) (os : List Outline) (program : linked.Pro
         ∙ ap (λ o. misfit program heap (elim o [ None ↦ Any | Some type ↦ Typed type ]) (flat v)) there.typed
         ∙ constant_meets p program heap v d.ty fits in
         lead_of (step program me) (In place args row) (In (place + 1) [] set) None
-        (step_takes p os program me rc mc body h place args cls (state row) q (putfield (field_reference p c f)) (Write c f) code_at there.writes []
+        (step_takes p os program me rc mc body h place args cls (state row) q (putfield (field_reference p c f)) (Write c f) code_at
+        there.writes []
         args (Typed (Named (linked.class_name program c)) ∷ tests.type_in (linked.field_at program c f) ∷ []) 0 refl refl
         (object_meets row, (meets, tt)) (omega arith)
         ∙ ap (writes_object q (In place args row).machine [] (length s.heap) f (flat v)) (object_there row)
@@ -429,7 +441,8 @@ module _ (p : Program) (ok : IsCore p) (os : List Outline) (program : linked.Pro
 
     -- one field
     set_one : (f : ℕ) (d : Field) → slice_get k.fields f ≡ Some d → IsField p d → (value : Option Expr) → d.value ≡ value → (v : Value) →
-        begins_with p d.ty value ≡ Some v → Fits p [] v d.ty → (place : ℕ) (done rest : Row Name) → f ≡ length done → (more tail : List Instr) →
+        begins_with p d.ty value ≡ Some v → Fits p [] v d.ty → (place : ℕ) (done rest : Row Name) → f ≡ length done →
+        (more tail : List Instr) →
         Lies place ((initialised p c f value ++ more) ++ tail) → (set : Row Name) →
         ((later : ℕ) → Lies later (more ++ tail) → Sets later tail (done ++ (text_at p d.name, v) ∷ rest) set) →
         Sets place tail (done ++ (text_at p d.name, blank_value d.ty) ∷ rest) set
@@ -444,11 +457,13 @@ module _ (p : Program) (ok : IsCore p) (os : List Outline) (program : linked.Pro
         let fourth = more_lies (place + 1 + 1) (putfield (field_reference p c f)) (more ++ tail) third in
         let two : 2 ≤ max_stack p mc = sized_two p k.place mc (all_initialised p c 0 k.fields) (two_room p c k.fields 0 f d x of has) in
         let same : flat_row next ≡ slice_set (flat_row row) f (flat v) =
-        subst (λ j. flat_row next ≡ slice_set (flat_row row) j (flat v)) (sym many) (set_front done (text_at p d.name) (blank_value d.ty) v rest) in
+        subst (λ j. flat_row next ≡ slice_set (flat_row row) j (flat v)) (sym many) (set_front done (text_at p d.name) (blank_value d.ty) v
+        rest) in
         sets_later place (place + 1 + 1 + 1) tail row next set
         (comes_on (step program me) (In place [] row) (In (place + 1) (obj ∷ []) row) (In (place + 1 + 1 + 1) [] next)
         (this_goes place row (first_lies place (aload 0) (push_constant x ∷ putfield (field_reference p c f) ∷ (more ++ tail)) lies)).comes
-        (comes_on (step program me) (In (place + 1) (obj ∷ []) row) (In (place + 1 + 1) (obj ∷ flat v ∷ []) row) (In (place + 1 + 1 + 1) [] next)
+        (comes_on (step program me) (In (place + 1) (obj ∷ []) row) (In (place + 1 + 1) (obj ∷ flat v ∷ []) row)
+        (In (place + 1 + 1 + 1) [] next)
         (push_goes p ok os program inputs me rc mc body h n (place + 1) (obj ∷ []) cls (state row) q (push_constant x) (flat v)
         (first_lies (place + 1) (push_constant x) (putfield (field_reference p c f) ∷ (more ++ tail)) second) (pushes os p x v e) two).comes
         (set_goes f d of (place + 1 + 1) row next v
@@ -467,7 +482,8 @@ module _ (p : Program) (ok : IsCore p) (os : List Outline) (program : linked.Pro
         let longer : Row Name = done ++ (x, v) ∷ [] in
         let long : length longer ≡ suc (length done) = length-append done ((x, v) ∷ []) ∙ one_more (length done) in
         let here : length done + 0 ≡ length done = omega arith in
-        set_one (length done) d (subst (λ j. slice_get k.fields j ≡ Some d) here (there 0 d refl)) all.0 d.value refl v parts.0 fit place done
+        set_one (length done) d (subst (λ j. slice_get k.fields j ≡ Some d) here (there 0 d refl)) all.0 d.value refl v parts.0 fit place
+        done
         (blank_row p ds) refl (all_initialised p c (suc (length done)) ds) tail lies (done ++ (x, v) ∷ rest)
         (λ later l.
         subst (λ r. Sets later tail r (done ++ (x, v) ∷ rest)) (append_assoc done ((x, v) ∷ []) (blank_row p ds))
@@ -492,7 +508,8 @@ module _ (p : Program) (ok : IsCore p) (os : List Outline) (program : linked.Pro
         more_lies 0 (aload 0) (invokespecial (init_of object_class) ∷ inits) whole in
         let third : Lies (0 + 1 + 1) inits = more_lies (0 + 1) (invokespecial (init_of object_class)) inits second in
         let s = inits_do k.fields [] final (0 + 1 + 1) (return ∷ [])
-        (λ i d g. let same : i ≡ 0 + i = omega arith in subst (λ y. slice_get k.fields y ≡ Some d) same g) (ok.classes c k at).fields fits e third in
+        (λ i d g. let same : i ≡ 0 + i = omega arith in subst (λ y. slice_get k.fields y ≡ Some d) same g) (ok.classes c k at).fields fits e
+        third in
         record {
           to = s.to;
           comes = comes_on (step program me) (In 0 [] row) (In (0 + 1) (obj ∷ []) row) (In s.to [] final)
@@ -503,7 +520,8 @@ module _ (p : Program) (ok : IsCore p) (os : List Outline) (program : linked.Pro
         }
 
   -- the code of `new`
-  pub new_comes : (r : Running) (m : Method) (code : List Instr) (runs : RunsCode p os program me r m code) (n : ℕ) (ls : List (Option Held))
+  pub new_comes : (r : Running) (m : Method) (code : List Instr) (runs : RunsCode p os program me r m code) (n : ℕ)
+      (ls : List (Option Held))
       (q : Messages) (place : ℕ) (st : List Held) (final : Row Name) → FieldsFit p [] k.fields final → new_fields p k.fields ≡ Some final →
       slice_get code place ≡ Some (new (class_name p c)) → slice_get code (place + 1) ≡ Some dup →
       slice_get code (place + 1 + 1) ≡ Some (invokespecial (init_of (class_name p c))) → length st + 2 ≤ max_stack p m →

@@ -1,5 +1,6 @@
 -- Comparisons with `null`.
-use Rattle.std.proofs.Common.{◌≡◌, ℕ, suc, ◌+◌, ◌≤◌, Bool, true, false, not, List, [], ◌∷◌, ◌++◌, length, Option, Some, None, refl, sym, subst, arith}
+use Rattle.std.proofs.Common.{◌≡◌, ℕ, suc, ◌+◌, ◌≤◌, Bool, true, false, not, List, [], ◌∷◌, ◌++◌, length, Option, Some, None, refl, sym}
+use Rattle.std.proofs.Common.{subst, arith}
 use Rattle.std.specs.Prelude.{slice_get, if◌then◌else◌}
 use Rattle.jv_tree.specs.declared.tree.Op.TheVariants as ops
 use Rattle.jv_values.specs.Values.{Value, Shared, Inputs}
@@ -91,7 +92,8 @@ module _ (p : Program) (ok : IsCore p) (os : List Outline) (program : linked.Pro
   null_goes : (wanted : Bool) (place target : ℕ) (st : List Held) (s : Shared) (q : Messages) (i : Instr) →
       slice_get code place ≡ Some i → action_of os i ≡ Some (IfNull wanted target) → length st ≤ max_stack p m →
       Leads (step program me) (A place (st ++ held.Null ∷ []) s q) (A (if wanted then target else place + 1) st s q)
-  null_goes true place target st s q i at is room = goes p ok os program inputs me r m code runs n place (st ++ held.Null ∷ []) ls s q target st
+  null_goes true place target st s q i at is room = goes p ok os program inputs me r m code runs n place (st ++ held.Null ∷ []) ls s q
+      target st
       (step_takes p os program me r m code runs place (st ++ held.Null ∷ []) ls s q i (IfNull true target) at is st (held.Null ∷ [])
       (Sorted Reference ∷ []) 0 refl refl (refl, tt) (omega (arith, room)))
   null_goes false place target st s q i at is room = goes p ok os program inputs me r m code runs n place (st ++ held.Null ∷ []) ls s q
@@ -102,13 +104,16 @@ module _ (p : Program) (ok : IsCore p) (os : List Outline) (program : linked.Pro
   object_goes : (wanted : Bool) (place target k : ℕ) (st : List Held) (s : Shared) (q : Messages) (i : Instr) →
       slice_get code place ≡ Some i → action_of os i ≡ Some (IfNull wanted target) → length st ≤ max_stack p m →
       Leads (step program me) (A place (st ++ held.Object k ∷ []) s q) (A (if wanted then place + 1 else target) st s q)
-  object_goes true place target k st s q i at is room = goes p ok os program inputs me r m code runs n place (st ++ held.Object k ∷ []) ls s q
+  object_goes true place target k st s q i at is room = goes p ok os program inputs me r m code runs n place (st ++ held.Object k ∷ []) ls s
+      q
       (place + 1) st
       (step_takes p os program me r m code runs place (st ++ held.Object k ∷ []) ls s q i (IfNull true target) at is st (held.Object k ∷ [])
       (Sorted Reference ∷ []) 0 refl refl (refl, tt) (omega (arith, room)))
-  object_goes false place target k st s q i at is room = goes p ok os program inputs me r m code runs n place (st ++ held.Object k ∷ []) ls s q
+  object_goes false place target k st s q i at is room = goes p ok os program inputs me r m code runs n place (st ++ held.Object k ∷ []) ls
+      s q
       target st
-      (step_takes p os program me r m code runs place (st ++ held.Object k ∷ []) ls s q i (IfNull false target) at is st (held.Object k ∷ [])
+      (step_takes p os program me r m code runs place (st ++ held.Object k ∷ []) ls s q i (IfNull false target) at is st
+      (held.Object k ∷ [])
       (Sorted Reference ∷ []) 0 refl refl (refl, tt) (omega (arith, room)))
 
   passes : (mid to : ℕ) (st : List Held) (v : Held) (c : Moment) (s : Shared) →
@@ -186,7 +191,8 @@ module _ (p : Program) (ok : IsCore p) (os : List Outline) (program : linked.Pro
       (λ l. G.value then one code (Un l)) (λ l. G.value then one code (Wh l)) e d.value good
       (λ target from to st x s q h room grown heap holds. subst (F (U target to st) (A from st s q)) (sym (test s))
       (value_tested (U target to st) t h.0 st (A from st s q) g is
-      (λ v u b. null_unless t target h.0 to st (A from st s q) (Un target) h.2.0 (un_is target) h.2.1 (room_left st d.value room) v u b) (a s)
+      (λ v u b. null_unless t target h.0 to st (A from st s q) (Un target) h.2.0 (un_is target) h.2.1 (room_left st d.value room) v u b)
+      (a s)
       (does.value from h.0 st x s q h.1 room grown heap holds)))
       (λ target from to st x s q h room grown heap holds. subst (F (W target to st) (A from st s q)) (sym (test s))
       (value_tested (W target to st) t h.0 st (A from st s q) g is

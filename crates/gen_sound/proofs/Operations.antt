@@ -7,7 +7,8 @@ use Rattle.jv_tree.specs.declared.tree.Op.TheVariants as ops
 use Rattle.jv_values.specs.Values.{Value, Shared, Inputs}
 use Rattle.jv_values.specs.Values as values
 use Rattle.jv_values.specs.Doing.{Run, Outcome, and_then, ◌>>=◌, give, stop, valuing, truth}
-use Rattle.jv_values.specs.Operators.{applied, Minus, Times, Divide, Remain, Plus, Equal, Unequal, equal_texts, joined_texts, int_same, wrap}
+use Rattle.jv_values.specs.Operators.{applied, Minus, Times, Divide, Remain, Plus, Equal, Unequal, equal_texts, joined_texts, int_same}
+use Rattle.jv_values.specs.Operators.{wrap}
 use Rattle.jv_core.specs.declared.program.CoreType.{CoreType}
 use Rattle.jv_core.specs.declared.program.CoreType.TheVariants as types
 use Rattle.jv_core.specs.Tree.{Method, Program}

@@ -128,9 +128,11 @@ sent_holds inputs q me to message es e no_take h = record {
 pub took_holds : (inputs : Inputs) (q : Messages) (me from : ℕ) (peer label : Name) (payload : _) (x : Sent) (more : List Sent)
     (es : List Event) → other_role me (role_named q peer) ≡ Some from → on_way q from me ≡ x ∷ more → Holds inputs q me es →
     Holds inputs (with_list q from me more) me (es ++ seen.Take peer label payload ∷ [])
-took_holds inputs q me from peer label payload x more es named way h = record { peers = λ name. go name (bytes_eq name peer) refl (h.peers name) }
+took_holds inputs q me from peer label payload x more es named way h =
+    record { peers = λ name. go name (bytes_eq name peer) refl (h.peers name) }
   where
-    go : (name : Name) (b : Bool) → bytes_eq name peer ≡ b → PeerHolds inputs q me es name → PeerHolds inputs (with_list q from me more) me (es ++ seen.Take peer label payload ∷ []) name
+    go : (name : Name) (b : Bool) → bytes_eq name peer ≡ b → PeerHolds inputs q me es name → PeerHolds inputs (with_list q from me more) me
+        (es ++ seen.Take peer label payload ∷ []) name
     go name b is (meaning.unknown a k) = meaning.unknown a k
     go name true is (meaning.known sent other a k c) =
         let same : name ≡ peer = (bytes_eq-Decides name peer).0 is in
@@ -145,4 +147,5 @@ took_holds inputs q me from peer label payload x more es named way h = record { 
         let apart : other ≢ from = (λ g. absurd (true≢false (sym ((bytes_eq-Decides name peer).1
         (one_name q name peer from (there.is ∙ ap (λ i. Some i) g) here.is)) ∙ is))) in
         meaning.known sent other a k
-        (still_on_way q other from me me more apart ∙ c ∙ ap (λ i. drop i sent) (sym (taken_still name es (seen.Take peer label payload) is)))
+        (still_on_way q other from me me more apart ∙ c ∙ ap (λ i. drop i sent)
+        (sym (taken_still name es (seen.Take peer label payload) is)))

@@ -1,6 +1,7 @@
 -- The constructs of which the laws speak: all, where methods call none but these.
 use Rattle.std.specs.Prelude.{ℕ, List, Some, None, Contains}
-use Rattle.jv_core.specs.Tree.{Expr, Int, Truth, Text, Null, Variable, Constant, Neg, Not, Binary, Equals, Concat, Session, Protocol, Helper, Static, New}
+use Rattle.jv_core.specs.Tree.{Expr, Int, Truth, Text, Null, Variable, Constant, Neg, Not, Binary, Equals, Concat, Session, Protocol}
+use Rattle.jv_core.specs.Tree.{Helper, Static, New}
 use Rattle.jv_core.specs.Tree.{Exprs, NoExpr, Argument}
 use Rattle.jv_core.specs.Tree.{Stmt, Block, Empty, Local, Assign, If, IfElse, While, Do, Switch, Break, Continue, Return, Print, Eval}
 use Rattle.jv_core.specs.Tree.{Stmts, NoStmt, Then, Declare, Groups, NoGroup, Group}

@@ -44,7 +44,8 @@ linked_code_runs p ok plain all made class method m code h me r e f =
 -- from the `main` of these numbers
 run_from : (p : Program) → IsCore p → HasPlainNames p → (all : List (List Compiled)) → IsCompiled p all → (number : ℕ) (m : Method) →
     slice_get p.methods number ≡ Some m → m.kind ≡ kinds.Main → (may : List ℕ) → Contains may number →
-    ((n : ℕ) (m : Method) → Contains may n → slice_get p.methods n ≡ Some m → ArePlain may m.body) → (class method : ℕ) (code : List Instr) →
+    ((n : ℕ) (m : Method) → Contains may n → slice_get p.methods n ≡ Some m → ArePlain may m.body) → (class method : ℕ) (code : List Instr)
+    →
     StandsAs p all class method m code → (inputs : Inputs) (me : ℕ) (q : Messages) → Holds inputs q me [] → (budget : ℕ) →
     DoesWithin me (linked_program p all) budget (begun (started (linked_program p all) class method) q)
     (ran (language p inputs) (Some (as_run p number m)) budget)
@@ -61,20 +62,25 @@ run_from p ok names all made number m at main may among plain class method code 
       messages = q;
       events = [];
     }) meant.finish meant.events) (sym (ap max_locals_in runs.at ∙ runs.locals))
-    (Bodies.main_ends p ok (outlines_of p p.classes all) program inputs me (linkage p ok names all made me) may plain class method m code runs
+    (Bodies.main_ends p ok (outlines_of p p.classes all) program inputs me (linkage p ok names all made me) may plain class method m code
+    runs
     number at main budget h.is_code among q holds)
 
 pub plain_mains_run : PlainMainsRun
 plain_mains_run p ok names all made class main inputs me q holds start is budget =
     let h = main_stands p ok names all made class main.number main.method main.at main.is in
     let same_class : is.class ≡ h.class = some_is (sym is.main.has_class ∙ h.main.has_class) in
-    let same_method : is.method ≡ h.method = some_is (sym is.main.has_main ∙ ap (λ c. main_in (class_at (linked_program p all) c)) same_class
+    let same_method : is.method ≡ h.method = some_is (sym is.main.has_main ∙ ap (λ c. main_in (class_at (linked_program p all) c))
+    same_class
     ∙ h.main.has_main) in
-    let machine : start ≡ started (linked_program p all) h.class h.method = is.machine ∙ ap₂ (started (linked_program p all)) same_class same_method in
+    let machine : start ≡ started (linked_program p all) h.class h.method = is.machine ∙ ap₂ (started (linked_program p all)) same_class
+    same_method in
     subst (λ r. DoesWithin me (linked_program p all) budget (begun start q) r) (ap (λ r. ran (language p inputs) r budget) (sym main.is))
-    (subst (λ s. DoesWithin me (linked_program p all) budget (begun s q) (ran (language p inputs) (Some (as_run p main.number main.method)) budget))
+    (subst (λ s. DoesWithin me (linked_program p all) budget (begun s q) (ran (language p inputs) (Some (as_run p main.number main.method))
+    budget))
     (sym machine)
-    (run_from p ok names all made main.number main.method main.at h.kind main.may main.among main.plain h.class h.method h.code h.stands inputs me q holds budget))
+    (run_from p ok names all made main.number main.method main.at h.kind main.may main.among main.plain h.class h.method h.code h.stands
+    inputs me q holds budget))
 
 finish_is : {a b : Finish} → Some a ≡ Some b → a ≡ b
 finish_is e = cc
@@ -87,7 +93,8 @@ module _ (p : Program) (name : Name) (program : linked.Program) (inputs : Inputs
   abbrev c : Moment
   c = record { machine = start; messages = q; events = [] }
 
-  same_ended : (r : Ended) (events : List Event) (f : Finish) → r.events ≡ events → r.finish ≡ f → r ≡ record { events = events; finish = f }
+  same_ended : (r : Ended) (events : List Event) (f : Finish) → r.events ≡ events → r.finish ≡ f →
+      r ≡ record { events = events; finish = f }
   same_ended r events f e g = ap₂ (λ x y. record { events = x; finish = y }) e g
 
   stopped_runs : (events : List Event) (e : Ending) → Stopped (step program me) c events (Stops e) →
@@ -127,7 +134,8 @@ module _ (p : Program) (name : Name) (program : linked.Program) (inputs : Inputs
   agrees = record {
     ended = λ count events ending runs.
         let r = cmean p name inputs (suc count) in
-        let so = ended_so (step program me) start q (suc (suc count)) r.finish r.events events ending count (omega arith) (meant (suc count))
+        let so = ended_so (step program me) start q (suc (suc count)) r.finish r.events events ending count (omega arith)
+        (meant (suc count))
         (fine (suc count)) runs in
         (r.finish, so.is, same_ended r events r.finish so.events_are refl);
     waiting = λ count events m messages from steps waits.

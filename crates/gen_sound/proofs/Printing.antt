@@ -1,5 +1,6 @@
 -- Texts of values, `println`, and values that are dropped.
-use Rattle.std.proofs.Common.{◌≡◌, ◌⊎◌, inl, inr, ℕ, ◌+◌, ◌≤◌, true, false, List, [], ◌∷◌, ◌++◌, length, Option, Some, None, refl, sym, subst, arith}
+use Rattle.std.proofs.Common.{◌≡◌, ◌⊎◌, inl, inr, ℕ, ◌+◌, ◌≤◌, true, false, List, [], ◌∷◌, ◌++◌, length, Option, Some, None, refl, sym}
+use Rattle.std.proofs.Common.{subst, arith}
 use Rattle.std.specs.Prelude.{slice_get, unwrap_or}
 use Rattle.mg_text.specs.declared.event.Event.TheVariants as seen
 use Rattle.jv_values.specs.Values.{Value, Row, Shared, Inputs, Here, Lives}
@@ -144,22 +145,28 @@ module _ (p : Program) (ok : IsCore p) (os : List Outline) (program : linked.Pro
       Come (moment p r from (st ++ flat v ∷ []) ls s q) (moment p r to (st ++ held.Text (unwrap_or (shown v) []) ∷ []) ls s q)
   text_comes types.Int i x v (worlds.int {z = z}) from to stands st ls s q room =
       next_place p ok os program inputs me r m code runs 0
-      (λ k. Come (moment p r from (st ++ held.Int z ∷ []) ls s q) (moment p r k (st ++ held.Text (unwrap_or (shown (values.Int z)) []) ∷ []) ls s q)) from to stands.1
-      (goes p ok os program inputs me r m code runs 0 from (st ++ held.Int z ∷ []) ls s q (from + 1) (st ++ held.Text (unwrap_or (shown (values.Int z)) []) ∷ [])
+      (λ k. Come (moment p r from (st ++ held.Int z ∷ []) ls s q) (moment p r k (st ++ held.Text (unwrap_or (shown (values.Int z)) []) ∷ [])
+      ls s q)) from to stands.1
+      (goes p ok os program inputs me r m code runs 0 from (st ++ held.Int z ∷ []) ls s q (from + 1)
+      (st ++ held.Text (unwrap_or (shown (values.Int z)) []) ∷ [])
       (step_takes p os program me r m code runs from (st ++ held.Int z ∷ []) ls s q (invokestatic value_of_int) (Use built.ValueOfInt)
       stands.0 refl st (held.Int z ∷ []) (number ∷ []) 1 refl refl (refl, tt) room)).comes
   text_comes types.Boolean i x v (worlds.truth {b = true}) from to stands st ls s q room =
       next_place p ok os program inputs me r m code runs 0
-      (λ k. Come (moment p r from (st ++ flat (values.Truth true) ∷ []) ls s q) (moment p r k (st ++ held.Text (unwrap_or (shown (values.Truth true)) []) ∷ []) ls s q)) from to
+      (λ k. Come (moment p r from (st ++ flat (values.Truth true) ∷ []) ls s q)
+      (moment p r k (st ++ held.Text (unwrap_or (shown (values.Truth true)) []) ∷ []) ls s q)) from to
       stands.1
-      (goes p ok os program inputs me r m code runs 0 from (st ++ flat (values.Truth true) ∷ []) ls s q (from + 1) (st ++ held.Text (unwrap_or (shown (values.Truth true)) []) ∷ [])
+      (goes p ok os program inputs me r m code runs 0 from (st ++ flat (values.Truth true) ∷ []) ls s q (from + 1)
+      (st ++ held.Text (unwrap_or (shown (values.Truth true)) []) ∷ [])
       (step_takes p os program me r m code runs from (st ++ flat (values.Truth true) ∷ []) ls s q (invokestatic value_of_truth)
       (Use built.ValueOfTruth) stands.0 refl st (flat (values.Truth true) ∷ []) (number ∷ []) 1 refl refl (refl, tt) room)).comes
   text_comes types.Boolean i x v (worlds.truth {b = false}) from to stands st ls s q room =
       next_place p ok os program inputs me r m code runs 0
-      (λ k. Come (moment p r from (st ++ flat (values.Truth false) ∷ []) ls s q) (moment p r k (st ++ held.Text (unwrap_or (shown (values.Truth false)) []) ∷ []) ls s q)) from to
+      (λ k. Come (moment p r from (st ++ flat (values.Truth false) ∷ []) ls s q)
+      (moment p r k (st ++ held.Text (unwrap_or (shown (values.Truth false)) []) ∷ []) ls s q)) from to
       stands.1
-      (goes p ok os program inputs me r m code runs 0 from (st ++ flat (values.Truth false) ∷ []) ls s q (from + 1) (st ++ held.Text (unwrap_or (shown (values.Truth false)) []) ∷ [])
+      (goes p ok os program inputs me r m code runs 0 from (st ++ flat (values.Truth false) ∷ []) ls s q (from + 1)
+      (st ++ held.Text (unwrap_or (shown (values.Truth false)) []) ∷ [])
       (step_takes p os program me r m code runs from (st ++ flat (values.Truth false) ∷ []) ls s q (invokestatic value_of_truth)
       (Use built.ValueOfTruth) stands.0 refl st (flat (values.Truth false) ∷ []) (number ∷ []) 1 refl refl (refl, tt) room)).comes
   text_comes types.Text i x v (worlds.text {t = t}) from to stands st ls s q room =

@@ -1,5 +1,6 @@
 -- Locals of a method as they are set: the variables of a row stand in them.
-use Rattle.std.proofs.Common.{◌≡◌, ◌≢◌, ℕ, zero, suc, ◌+◌, ◌≤◌, ◌<◌, Bool, true, false, List, [], ◌∷◌, length, drop, Option, Some, None, refl}
+use Rattle.std.proofs.Common.{◌≡◌, ◌≢◌, ℕ, zero, suc, ◌+◌, ◌≤◌, ◌<◌, Bool, true, false, List, [], ◌∷◌, length, drop, Option, Some, None}
+use Rattle.std.proofs.Common.{refl}
 use Rattle.std.proofs.Common.{sym, ap, ◌∙◌, subst, arith}
 use Rattle.std.specs.Prelude.{slice_get, slice_set, nat_eq, nat_le, if◌then◌else◌}
 use Rattle.jv_values.specs.Values.{Value, Row, put, over}
@@ -143,7 +144,8 @@ module _ (p : Program) (m : Method) where
           let o = over_is (j, u) (put nat_eq k v row) set i in
           let a = ih o.rest o.is lt in
           let place : ℕ = local_of kind sc k in
-          let differs : first_local kind + length o.rest ≢ place = (λ e. absurd (let h = a.below in let g = a.long in omega (arith, e, h, g))) in
+          let differs : first_local kind + length o.rest ≢ place =
+          (λ e. absurd (let h = a.below in let g = a.long in omega (arith, e, h, g))) in
           let here : slice_get ls (first_local kind + length o.rest) ≡ Some (Some (flat u)) =
           subst (λ n. slice_get ls (first_local kind + n) ≡ Some (Some (flat u))) (sym a.long) l.0 in
           subst (PutAt (first_local kind) ls place v ((j, u) ∷ row)) o.row_is

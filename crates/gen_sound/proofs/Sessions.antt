@@ -1,5 +1,6 @@
 -- Calls of `Session`: the machine sends, looks, takes, waits and refuses as is meant.
-use Rattle.std.proofs.Common.{◌≡◌, ℕ, zero, suc, ◌+◌, ◌≤◌, Bool, true, false, List, [], ◌∷◌, ◌++◌, length, map, drop, Option, Some, None, refl, sym, ap, ◌∙◌, subst, append-nil}
+use Rattle.std.proofs.Common.{◌≡◌, ℕ, zero, suc, ◌+◌, ◌≤◌, Bool, true, false, List, [], ◌∷◌, ◌++◌, length, map, drop, Option, Some, None}
+use Rattle.std.proofs.Common.{refl, sym, ap, ◌∙◌, subst, append-nil}
 use Rattle.std.specs.Prelude.{slice_get, option_map, if◌then◌else◌}
 use Rattle.std.specs.Str.{bytes_eq}
 use Rattle.mg_text.specs.Call.{Name}
@@ -11,7 +12,8 @@ use Rattle.mg_text.specs.declared.event.Carried.TheVariants as carried
 use Rattle.jv_values.specs.Values.{Value, Shared, Inputs, Mismatch, NoPeer, Wait}
 use Rattle.jv_values.specs.Values as values
 use Rattle.jv_values.specs.Doing.{Run, Outcome, and_then, ◌>>=◌, give, stop, note, happened}
-use Rattle.jv_values.specs.Messages.{messages_of, taken, there_or, sends, looks, takes, refuses, nothing_in, int_in, truth_in, text_in, session}
+use Rattle.jv_values.specs.Messages.{messages_of, taken, there_or, sends, looks, takes, refuses, nothing_in, int_in, truth_in, text_in}
+use Rattle.jv_values.specs.Messages.{session}
 use Rattle.jv_core.specs.declared.tree.SessionCall.{SessionCall}
 use Rattle.jv_core.specs.declared.tree.SessionCall.TheVariants as calls
 use Rattle.jv_core.specs.Tree.{Method, Program}
@@ -138,7 +140,8 @@ module _ (p : Program) (ok : IsCore p) (os : List Outline) (program : linked.Pro
       (λ ms. happened >>= λ events. there_or (Wait peer) (slice_get ms (taken peer events)))) go
 
   -- the machine looks for the next message of a peer: there is no such role, no message, or one
-  next_goes : (R : Moment → Option Value → Shared → Type 0) (c : Moment) (peer : Name) (s : Shared) (q : Messages) (go : Sent → Run Shared (Option Value))
+  next_goes : (R : Moment → Option Value → Shared → Type 0) (c : Moment) (peer : Name) (s : Shared) (q : Messages) (go : Sent →
+      Run Shared (Option Value))
       (from_to : Option ℕ → Stepped) (with_list_of : ℕ → List Sent → Stepped) → c.messages ≡ q → c.events ≡ s.events →
       step program me c.machine q ≡ from_to (other_role me (role_named q peer)) →
       from_to None ≡ vm.Stops (endings.NoPeer peer) → ((from : ℕ) → from_to (Some from) ≡ with_list_of from (on_way q from me)) →
@@ -208,7 +211,8 @@ module _ (p : Program) (ok : IsCore p) (os : List Outline) (program : linked.Pro
         holds = took_holds inputs q me from peer x.label x.payload x more s.events b w holds;
       }
 
-  takes_go : (carries : Payload) (within : Carried → Option (Option Value)) → ((c : Carried) → taken_as carries c ≡ option_map flat_given (within c)) →
+  takes_go : (carries : Payload) (within : Carried → Option (Option Value)) →
+      ((c : Carried) → taken_as carries c ≡ option_map flat_given (within c)) →
       (place : ℕ) (st args : List Held) (peer label : Name) (s : Shared) (q : Messages) →
       step program me (A place (st ++ args) s q).machine q
       ≡ machine.takes_from q (A place (st ++ args) s q).machine me carries st peer label (other_role me (role_named q peer)) →
@@ -228,10 +232,12 @@ module _ (p : Program) (ok : IsCore p) (os : List Outline) (program : linked.Pro
       step program me (A place (st ++ args) s q).machine q ≡ machine.refuses_from peer label (other_role me (role_named q peer)) →
       PeerHolds inputs q me s.events peer → F (V (place + 1) st) (A place (st ++ args) s q) (refuses inputs peer label s)
   refuses_go place st args peer label s q is (meaning.unknown a b) =
-      subst (λ o. F (V (place + 1) st) (A place (st ++ args) s q) (and_then (there_or (NoPeer peer) o s) (λ ms. stop (Mismatch peer label))))
+      subst (λ o. F (V (place + 1) st) (A place (st ++ args) s q)
+      (and_then (there_or (NoPeer peer) o s) (λ ms. stop (Mismatch peer label))))
       (sym a) (stopped (A place (st ++ args) s q) _ (is ∙ ap (machine.refuses_from peer label) b))
   refuses_go place st args peer label s q is (meaning.known sent to a b w) =
-      subst (λ o. F (V (place + 1) st) (A place (st ++ args) s q) (and_then (there_or (NoPeer peer) o s) (λ ms. stop (Mismatch peer label))))
+      subst (λ o. F (V (place + 1) st) (A place (st ++ args) s q)
+      (and_then (there_or (NoPeer peer) o s) (λ ms. stop (Mismatch peer label))))
       (sym a) (stopped (A place (st ++ args) s q) _ (is ∙ ap (machine.refuses_from peer label) b))
 
   -- the call, over its arguments
@@ -239,63 +245,90 @@ module _ (p : Program) (ok : IsCore p) (os : List Outline) (program : linked.Pro
       slice_get code place ≡ Some (invokestatic (session_reference p call)) → AllFit p x vs (session_params call) →
       length st + left_by (Some (session_result call)) ≤ max_stack p m → Holds inputs q me s.events →
       F (V (place + 1) st) (A place (st ++ map flat vs) s q) (session inputs (session_of call) vs s)
-  session_last calls.Send place st x vs s q at (worlds.value (worlds.text {t = a}) (worlds.value (worlds.text {t = b}) worlds.no_values)) room holds =
+  session_last calls.Send place st x vs s q at (worlds.value (worlds.text {t = a}) (worlds.value (worlds.text {t = b}) worlds.no_values))
+      room holds =
       sends_go place st (held.Text a ∷ held.Text b ∷ []) a b carried.Nothing s q
       (step_takes p os program me r m code runs place (st ++ held.Text a ∷ held.Text b ∷ []) ls s q
-      (invokestatic (session_reference p calls.Send)) (Use built.Send) at refl st (held.Text a ∷ held.Text b ∷ []) (text ∷ text ∷ []) 0 refl refl (refl, (refl, tt)) room)
+      (invokestatic (session_reference p calls.Send)) (Use built.Send) at refl st (held.Text a ∷ held.Text b ∷ []) (text ∷ text ∷ []) 0 refl
+      refl (refl, (refl, tt)) room)
       holds (holds.peers a)
-  session_last calls.SendInt place st x vs s q at (worlds.value (worlds.text {t = a}) (worlds.value (worlds.text {t = b}) (worlds.value (worlds.int {z = z}) worlds.no_values))) room holds =
+  session_last calls.SendInt place st x vs s q at
+      (worlds.value (worlds.text {t = a}) (worlds.value (worlds.text {t = b}) (worlds.value (worlds.int {z = z}) worlds.no_values))) room
+      holds =
       sends_go place st (held.Text a ∷ held.Text b ∷ held.Int z ∷ []) a b (carried.Int z) s q
       (step_takes p os program me r m code runs place (st ++ held.Text a ∷ held.Text b ∷ held.Int z ∷ []) ls s q
-      (invokestatic (session_reference p calls.SendInt)) (Use built.SendInt) at refl st (held.Text a ∷ held.Text b ∷ held.Int z ∷ []) (text ∷ text ∷ number ∷ []) 0 refl refl (refl, (refl, (refl, tt))) room)
+      (invokestatic (session_reference p calls.SendInt)) (Use built.SendInt) at refl st (held.Text a ∷ held.Text b ∷ held.Int z ∷ [])
+      (text ∷ text ∷ number ∷ []) 0 refl refl (refl, (refl, (refl, tt))) room)
       holds (holds.peers a)
-  session_last calls.SendBoolean place st x vs s q at (worlds.value (worlds.text {t = a}) (worlds.value (worlds.text {t = b}) (worlds.value (worlds.truth {b = true}) worlds.no_values))) room holds =
+  session_last calls.SendBoolean place st x vs s q at
+      (worlds.value (worlds.text {t = a}) (worlds.value (worlds.text {t = b}) (worlds.value (worlds.truth {b = true}) worlds.no_values)))
+      room holds =
       sends_go place st (held.Text a ∷ held.Text b ∷ flat (values.Truth true) ∷ []) a b (carried.Truth true) s q
       (step_takes p os program me r m code runs place (st ++ held.Text a ∷ held.Text b ∷ flat (values.Truth true) ∷ []) ls s q
-      (invokestatic (session_reference p calls.SendBoolean)) (Use built.SendTruth) at refl st (held.Text a ∷ held.Text b ∷ flat (values.Truth true) ∷ []) (text ∷ text ∷ number ∷ []) 0 refl refl (refl, (refl, (refl, tt))) room)
+      (invokestatic (session_reference p calls.SendBoolean)) (Use built.SendTruth) at refl st
+      (held.Text a ∷ held.Text b ∷ flat (values.Truth true) ∷ []) (text ∷ text ∷ number ∷ []) 0 refl refl (refl, (refl, (refl, tt)))
+      room)
       holds (holds.peers a)
-  session_last calls.SendBoolean place st x vs s q at (worlds.value (worlds.text {t = a}) (worlds.value (worlds.text {t = b}) (worlds.value (worlds.truth {b = false}) worlds.no_values))) room holds =
+  session_last calls.SendBoolean place st x vs s q at
+      (worlds.value (worlds.text {t = a}) (worlds.value (worlds.text {t = b}) (worlds.value (worlds.truth {b = false}) worlds.no_values)))
+      room holds =
       sends_go place st (held.Text a ∷ held.Text b ∷ flat (values.Truth false) ∷ []) a b (carried.Truth false) s q
       (step_takes p os program me r m code runs place (st ++ held.Text a ∷ held.Text b ∷ flat (values.Truth false) ∷ []) ls s q
-      (invokestatic (session_reference p calls.SendBoolean)) (Use built.SendTruth) at refl st (held.Text a ∷ held.Text b ∷ flat (values.Truth false) ∷ []) (text ∷ text ∷ number ∷ []) 0 refl refl (refl, (refl, (refl, tt))) room)
+      (invokestatic (session_reference p calls.SendBoolean)) (Use built.SendTruth) at refl st
+      (held.Text a ∷ held.Text b ∷ flat (values.Truth false) ∷ []) (text ∷ text ∷ number ∷ []) 0 refl refl (refl, (refl, (refl, tt)))
+      room)
       holds (holds.peers a)
-  session_last calls.SendString place st x vs s q at (worlds.value (worlds.text {t = a}) (worlds.value (worlds.text {t = b}) (worlds.value (worlds.text {t = c}) worlds.no_values))) room holds =
+  session_last calls.SendString place st x vs s q at
+      (worlds.value (worlds.text {t = a}) (worlds.value (worlds.text {t = b}) (worlds.value (worlds.text {t = c}) worlds.no_values))) room
+      holds =
       sends_go place st (held.Text a ∷ held.Text b ∷ held.Text c ∷ []) a b (carried.Text c) s q
       (step_takes p os program me r m code runs place (st ++ held.Text a ∷ held.Text b ∷ held.Text c ∷ []) ls s q
-      (invokestatic (session_reference p calls.SendString)) (Use built.SendText) at refl st (held.Text a ∷ held.Text b ∷ held.Text c ∷ []) (text ∷ text ∷ text ∷ []) 0 refl refl (refl, (refl, (refl, tt))) room)
+      (invokestatic (session_reference p calls.SendString)) (Use built.SendText) at refl st (held.Text a ∷ held.Text b ∷ held.Text c ∷ [])
+      (text ∷ text ∷ text ∷ []) 0 refl refl (refl, (refl, (refl, tt))) room)
       holds (holds.peers a)
   session_last calls.Look place st x vs s q at (worlds.value (worlds.text {t = a}) worlds.no_values) room holds =
       looks_go place st (held.Text a ∷ []) a s q
       (step_takes p os program me r m code runs place (st ++ held.Text a ∷ []) ls s q
-      (invokestatic (session_reference p calls.Look)) (Use built.Look) at refl st (held.Text a ∷ []) (text ∷ []) 1 refl refl (refl, tt) room)
+      (invokestatic (session_reference p calls.Look)) (Use built.Look) at refl st (held.Text a ∷ []) (text ∷ []) 1 refl refl (refl, tt)
+      room)
       holds
-  session_last calls.Take place st x vs s q at (worlds.value (worlds.text {t = a}) (worlds.value (worlds.text {t = b}) worlds.no_values)) room
+  session_last calls.Take place st x vs s q at (worlds.value (worlds.text {t = a}) (worlds.value (worlds.text {t = b}) worlds.no_values))
+      room
       holds =
       takes_go NoPayload nothing_in nothing_taken place st (held.Text a ∷ held.Text b ∷ []) a b s q
       (step_takes p os program me r m code runs place (st ++ held.Text a ∷ held.Text b ∷ []) ls s q
-      (invokestatic (session_reference p calls.Take)) (Use built.Take) at refl st (held.Text a ∷ held.Text b ∷ []) (text ∷ text ∷ []) 0 refl refl (refl, (refl, tt)) room)
+      (invokestatic (session_reference p calls.Take)) (Use built.Take) at refl st (held.Text a ∷ held.Text b ∷ []) (text ∷ text ∷ []) 0 refl
+      refl (refl, (refl, tt)) room)
       holds
-  session_last calls.TakeInt place st x vs s q at (worlds.value (worlds.text {t = a}) (worlds.value (worlds.text {t = b}) worlds.no_values)) room
+  session_last calls.TakeInt place st x vs s q at (worlds.value (worlds.text {t = a}) (worlds.value (worlds.text {t = b}) worlds.no_values))
+      room
       holds =
       takes_go IntPayload int_in int_taken place st (held.Text a ∷ held.Text b ∷ []) a b s q
       (step_takes p os program me r m code runs place (st ++ held.Text a ∷ held.Text b ∷ []) ls s q
-      (invokestatic (session_reference p calls.TakeInt)) (Use built.TakeInt) at refl st (held.Text a ∷ held.Text b ∷ []) (text ∷ text ∷ []) 1 refl refl (refl, (refl, tt)) room)
+      (invokestatic (session_reference p calls.TakeInt)) (Use built.TakeInt) at refl st (held.Text a ∷ held.Text b ∷ []) (text ∷ text ∷ [])
+      1 refl refl (refl, (refl, tt)) room)
       holds
-  session_last calls.TakeBoolean place st x vs s q at (worlds.value (worlds.text {t = a}) (worlds.value (worlds.text {t = b}) worlds.no_values)) room
+  session_last calls.TakeBoolean place st x vs s q at
+      (worlds.value (worlds.text {t = a}) (worlds.value (worlds.text {t = b}) worlds.no_values)) room
       holds =
       takes_go TruthPayload truth_in truth_taken place st (held.Text a ∷ held.Text b ∷ []) a b s q
       (step_takes p os program me r m code runs place (st ++ held.Text a ∷ held.Text b ∷ []) ls s q
-      (invokestatic (session_reference p calls.TakeBoolean)) (Use built.TakeTruth) at refl st (held.Text a ∷ held.Text b ∷ []) (text ∷ text ∷ []) 1 refl refl (refl, (refl, tt)) room)
+      (invokestatic (session_reference p calls.TakeBoolean)) (Use built.TakeTruth) at refl st (held.Text a ∷ held.Text b ∷ [])
+      (text ∷ text ∷ []) 1 refl refl (refl, (refl, tt)) room)
       holds
-  session_last calls.TakeString place st x vs s q at (worlds.value (worlds.text {t = a}) (worlds.value (worlds.text {t = b}) worlds.no_values)) room
+  session_last calls.TakeString place st x vs s q at
+      (worlds.value (worlds.text {t = a}) (worlds.value (worlds.text {t = b}) worlds.no_values)) room
       holds =
       takes_go TextPayload text_in text_taken place st (held.Text a ∷ held.Text b ∷ []) a b s q
       (step_takes p os program me r m code runs place (st ++ held.Text a ∷ held.Text b ∷ []) ls s q
-      (invokestatic (session_reference p calls.TakeString)) (Use built.TakeText) at refl st (held.Text a ∷ held.Text b ∷ []) (text ∷ text ∷ []) 1 refl refl (refl, (refl, tt)) room)
+      (invokestatic (session_reference p calls.TakeString)) (Use built.TakeText) at refl st (held.Text a ∷ held.Text b ∷ [])
+      (text ∷ text ∷ []) 1 refl refl (refl, (refl, tt)) room)
       holds
-  session_last calls.Refuse place st x vs s q at (worlds.value (worlds.text {t = a}) (worlds.value (worlds.text {t = b}) worlds.no_values)) room
+  session_last calls.Refuse place st x vs s q at (worlds.value (worlds.text {t = a}) (worlds.value (worlds.text {t = b}) worlds.no_values))
+      room
       holds =
       refuses_go place st (held.Text a ∷ held.Text b ∷ []) a b s q
       (step_takes p os program me r m code runs place (st ++ held.Text a ∷ held.Text b ∷ []) ls s q
-      (invokestatic (session_reference p calls.Refuse)) (Use built.Refuse) at refl st (held.Text a ∷ held.Text b ∷ []) (text ∷ text ∷ []) 0 refl refl (refl, (refl, tt)) room)
+      (invokestatic (session_reference p calls.Refuse)) (Use built.Refuse) at refl st (held.Text a ∷ held.Text b ∷ []) (text ∷ text ∷ []) 0
+      refl refl (refl, (refl, tt)) room)
       (holds.peers a)

@@ -1,5 +1,6 @@
 -- Where the machine starts is the `main` of the class: linking and the core find the same one.
-use Rattle.std.proofs.Common.{◌≡◌, ℕ, zero, suc, ◌+◌, Bool, true, false, ◌&&◌, List, [], ◌∷◌, ◌++◌, map, get_or, Option, Some, None, filter, filter_map, position, slice_get, refl, sym, ap, ap₂, ◌∙◌, subst, arith, codes}
+use Rattle.std.proofs.Common.{◌≡◌, ℕ, zero, suc, ◌+◌, Bool, true, false, ◌&&◌, List, [], ◌∷◌, ◌++◌, map, get_or, Option, Some, None, filter}
+use Rattle.std.proofs.Common.{filter_map, position, slice_get, refl, sym, ap, ap₂, ◌∙◌, subst, arith, codes}
 use Rattle.std.specs.Prelude.{option_and_then, nat_eq, if◌then◌else◌}
 use Rattle.std.specs.List.{AllByRecursion}
 use Rattle.std.specs.Str.{bytes_eq}
@@ -20,7 +21,8 @@ use Rattle.vm_model.specs.Start as start
 use Rattle.gen_rules.specs.Symbolic.{Instr}
 use Rattle.gen_rules.specs.Members.{descriptor_of}
 use Rattle.gen_rules.specs.Templates.{IsCode}
-use Rattle.gen_rules.specs.Classes.{Compiled, compiled, access_of, constructors, methods_in, method_in_file, each, AreCompiled, IsCompiledClass, AreCompiledClasses, IsCompiled, class_file}
+use Rattle.gen_rules.specs.Classes.{Compiled, compiled, access_of, constructors, methods_in, method_in_file, each, AreCompiled}
+use Rattle.gen_rules.specs.Classes.{IsCompiledClass, AreCompiledClasses, IsCompiled, class_file}
 use Rattle.gen_rules.specs.Linked.{outline_of, outlines_of, linked_method, linked_methods, linked_class, linked_classes, linked_program}
 use Rattle.jv_sound.proofs.Lists.{some_is, name_is}
 use Rattle.jv_sound.proofs.Expressions.{method_ok}
@@ -120,7 +122,8 @@ pub record Behind (cs : List Compiled) (x : Compiled) : Type 0 where
   pub number : ℕ
   pub at : slice_get cs number ≡ Some x
 
-pub behind : (p : Program) (c : ℕ) (k : Class) (t : Option ℕ) (methods : List Compiled) (i : ℕ) (x : Compiled) → slice_get methods i ≡ Some x →
+pub behind : (p : Program) (c : ℕ) (k : Class) (t : Option ℕ) (methods : List Compiled) (i : ℕ) (x : Compiled) →
+    slice_get methods i ≡ Some x →
     Behind (constructors p c k t ++ methods) x
 behind p c k None methods i x e = record { number = i; at = e }
 behind p c k (Some t) methods i x e = record { number = suc i; at = e }
@@ -133,7 +136,8 @@ all_apart p c k (Some t) methods plain apart = (none_is_init (map (λ c. c.name)
 
 -- whether this is how a `main` is told
 abbrev told : Program → Method → Name → MethodKind → Bool
-told p m name kind = bytes_eq name (codes "main") && (is_static (access_of kind) && bytes_eq (if is_main kind then signature_text main_signature
+told p m name kind = bytes_eq name (codes "main") &&
+    (is_static (access_of kind) && bytes_eq (if is_main kind then signature_text main_signature
     else descriptor_of p (param_types m) m.result) (codes "([Ljava/lang/String;)V"))
 
 -- a `main` of a core in the linked program, under the numbers at which a run begins
@@ -161,7 +165,8 @@ module _ (p : Program) (core : IsCore p) (plain : HasPlainNames p) (all : List (
   stands_there c number k m name at named of mine kind =
       let main : IsMain p m = is_main_method p core m m.kind (method_ok p core number m of).kind kind in
       let l = linked_class_at p os 0 p.classes all made.classes c k at in
-      let class : IsCompiledClass p c k l.methods = let same : 0 + c ≡ c = omega arith in subst (λ y. IsCompiledClass p y k l.methods) same l.compiled in
+      let class : IsCompiledClass p c k l.methods = let same : 0 + c ≡ c = omega arith in subst (λ y. IsCompiledClass p y k l.methods) same
+      l.compiled in
       let a = among c p.methods number m of mine in
       let in_methods : slice_get (methods_in p k) a.number ≡ Some m = ap (λ ms. slice_get ms a.number) (in_class c k at) ∙ a.at in
       let x = compiled_at p (methods_in p k) class.methods class.made a.number m in_methods in
@@ -180,7 +185,8 @@ module _ (p : Program) (core : IsCore p) (plain : HasPlainNames p) (all : List (
       subst (λ cs. AreDistinct (map (λ c. c.name) cs)) (sym class.all_are) (all_apart p c k k.typestate class.methods all_plain apart) in
       let found_class : start.class_named (linked_program p all) name ≡ Some c =
       passes_at (λ c. c.name) (λ c. bytes_eq c.name name) (linked_program p all) c (linked_class p os k l.methods)
-      (subst AreDistinct (sym (linked_names p os 0 p.classes all made.classes)) (classes_apart p core plain all made.classes)) l.linked named
+      (subst AreDistinct (sym (linked_names p os 0 p.classes all made.classes)) (classes_apart p core plain all made.classes)) l.linked
+      named
       (λ d t. name_is d.name name t ∙ sym (name_is (text_at p k.name) name named)) in
       let found_main : start.main_in (Some (linked_class p os k l.methods)) ≡ Some b.number =
       passes_at (λ m. m.name) start.is_main (linked_methods os l.methods (class_file p k l.methods).methods) b.number

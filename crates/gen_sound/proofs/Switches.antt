@@ -1,5 +1,6 @@
 -- Switches: the table leads to the group of a constant, to `default`, or behind the switch.
-use Rattle.std.proofs.Common.{◌≡◌, ◌⊎◌, inl, inr, ℕ, zero, suc, ◌+◌, ◌≤◌, ◌<◌, max, Bool, true, false, ◌||◌, List, [], ◌∷◌, ◌++◌, length, map, Option, Some, None, refl, sym, ap, ◌∙◌, subst, append-nil, arith, pos, ◌-ℤ◌}
+use Rattle.std.proofs.Common.{◌≡◌, ◌⊎◌, inl, inr, ℕ, zero, suc, ◌+◌, ◌≤◌, ◌<◌, max, Bool, true, false, ◌||◌, List, [], ◌∷◌, ◌++◌, length}
+use Rattle.std.proofs.Common.{map, Option, Some, None, refl, sym, ap, ◌∙◌, subst, append-nil, arith, pos, ◌-ℤ◌}
 use Rattle.std.specs.Prelude.{slice_get, nat_eq, if◌then◌else◌, Contains, unwrap_or, option_and_then}
 use Rattle.std.specs.Str.{bytes_eq}
 use Rattle.std.proofs.lemmas.Bool.{eqb-true}
@@ -8,7 +9,8 @@ use Rattle.mg_text.specs.Call.{Name}
 use Rattle.jv_values.specs.Values.{Value, Row, Shared, Inputs, Here, Lives, Wrong}
 use Rattle.jv_values.specs.Values as values
 use Rattle.jv_values.specs.Doing.{Run, Outcome, Gives, Ends, and_then, ◌>>=◌, give, stop, found, kept, constant}
-use Rattle.jv_values.specs.Statements.{Completion, Normal, Breaks, Continues, Returns, Does, is_default, case_at, any_label, next_do, after_switch}
+use Rattle.jv_values.specs.Statements.{Completion, Normal, Breaks, Continues, Returns, Does, is_default, case_at, any_label, next_do}
+use Rattle.jv_values.specs.Statements.{after_switch}
 use Rattle.jv_core.specs.declared.program.CoreType.{CoreType}
 use Rattle.jv_core.specs.declared.program.CoreType.TheVariants as types
 use Rattle.jv_core.specs.Tree.{Expr, Groups, NoGroup, Group, Method, Program}
@@ -72,7 +74,8 @@ label_in k [] e = absurd (cc)
 label_in k (None ∷ ls) e = in_more None (Some k) ls (label_in k ls e)
 label_in k (Some j ∷ ls) e = go (λ h. label_in k ls h) (nat_eq j k) refl e
   where
-    go : (any_label (case_at k) ls ≡ true → Contains ls (Some k)) → (b : Bool) → nat_eq j k ≡ b → (b || any_label (case_at k) ls) ≡ true → Contains (Some j ∷ ls) (Some k)
+    go : (any_label (case_at k) ls ≡ true → Contains ls (Some k)) → (b : Bool) → nat_eq j k ≡ b → (b || any_label (case_at k) ls) ≡ true →
+        Contains (Some j ∷ ls) (Some k)
     go ih true is h = subst (λ i. Contains (Some i ∷ ls) (Some k)) (sym (eqb-true j k is)) (is_first (Some k) ls)
     go ih false is h = in_more (Some j) (Some k) ls (ih h)
 
@@ -80,9 +83,11 @@ some_label : (k : ℕ) (gs : Groups) (starts : List ℕ) (start : ℕ) → group
     Contains (labels_in gs) (Some k)
 some_label k NoGroup starts start e = absurd (cc)
 some_label k (Group labels body end more) [] start e = absurd (cc)
-some_label k (Group labels body end more) (first ∷ starts) start e = go (λ h. some_label k more starts start h) (any_label (case_at k) labels) refl e
+some_label k (Group labels body end more) (first ∷ starts) start e = go (λ h. some_label k more starts start h)
+    (any_label (case_at k) labels) refl e
   where
-    go : (group_at (case_at k) more starts ≡ Some start → Contains (labels_in more) (Some k)) → (b : Bool) → any_label (case_at k) labels ≡ b → (if b then Some first else group_at (case_at k) more starts) ≡ Some start →
+    go : (group_at (case_at k) more starts ≡ Some start → Contains (labels_in more) (Some k)) → (b : Bool) →
+        any_label (case_at k) labels ≡ b → (if b then Some first else group_at (case_at k) more starts) ≡ Some start →
         Contains (labels ++ labels_in more) (Some k)
     go ih true is h = Contains-append_left labels (labels_in more) (Some k) (label_in k labels is)
     go ih false is h = Contains-append_right labels (labels_in more) (Some k) (ih h)
@@ -105,9 +110,11 @@ some_has : (wanted : Option ℕ → Bool) (gs : Groups) (starts : List ℕ) (sta
     has_group wanted gs ≡ true
 some_has wanted NoGroup starts start e = absurd (cc)
 some_has wanted (Group labels body end more) [] start e = absurd (cc)
-some_has wanted (Group labels body end more) (first ∷ starts) start e = go (λ h. some_has wanted more starts start h) (any_label wanted labels) e
+some_has wanted (Group labels body end more) (first ∷ starts) start e = go (λ h. some_has wanted more starts start h)
+    (any_label wanted labels) e
   where
-    go : (group_at wanted more starts ≡ Some start → has_group wanted more ≡ true) → (b : Bool) → (if b then Some first else group_at wanted more starts) ≡ Some start → (b || has_group wanted more) ≡ true
+    go : (group_at wanted more starts ≡ Some start → has_group wanted more ≡ true) → (b : Bool) →
+        (if b then Some first else group_at wanted more starts) ≡ Some start → (b || has_group wanted more) ≡ true
     go ih true h = refl
     go ih false h = ih h
 
@@ -117,7 +124,8 @@ none_has wanted NoGroup starts h e = refl
 none_has wanted (Group labels body end more) [] h e = absurd h
 none_has wanted (Group labels body end more) (first ∷ starts) h e = go (λ g. none_has wanted more starts h g) (any_label wanted labels) e
   where
-    go : (group_at wanted more starts ≡ None → has_group wanted more ≡ false) → (b : Bool) → (if b then Some first else group_at wanted more starts) ≡ None → (b || has_group wanted more) ≡ false
+    go : (group_at wanted more starts ≡ None → has_group wanted more ≡ false) → (b : Bool) →
+        (if b then Some first else group_at wanted more starts) ≡ None → (b || has_group wanted more) ≡ false
     go ih true g = absurd (cc)
     go ih false g = ih g
 
@@ -207,7 +215,8 @@ module _ (p : Program) (ok : IsCore p) (os : List Outline) (program : linked.Pro
   none_runs wanted NoGroup starts h e = refl
   none_runs wanted (Group labels body end more) [] h e = absurd h
   none_runs wanted (Group labels body end more) (first ∷ starts) h e =
-      go (λ g. none_runs wanted more starts h g) (exec_all p inputs low number_of here body >>= next_do (exec_groups p inputs low number_of here more))
+      go (λ g. none_runs wanted more starts h g) (exec_all p inputs low number_of here body
+      >>= next_do (exec_groups p inputs low number_of here more))
       (any_label wanted labels) e
     where
       go : (group_at wanted more starts ≡ None → exec_from p inputs low number_of here wanted more ≡ give Normal) → (x : Does ℕ) →
@@ -265,13 +274,15 @@ module _ (p : Program) (ok : IsCore p) (os : List Outline) (program : linked.Pro
         position_then (C ts to) ls mid c w (types.Enum of) s.locals (enum_given p number_of e)
         (eval p inputs low number_of here s.locals e s.shared) (λ k. chosen gs k >>= after_switch)
         ((eval_good p ok inputs low well number_of m at this h w a.mine a.living.locals).run w (same_world w) s.shared a.living.shared)
-        ((forms_do p ok os program inputs me r m code runs this n sc low well may calls number_of at e (types.Enum of) h plain w s ls q a).value from mid []
+        ((forms_do p ok os program inputs me r m code runs this n sc low well may calls number_of at e (types.Enum of) h plain w s ls q
+        a).value from mid []
         w s.shared q stands_value (over_none _ _ room) (same_world w) a.living.shared a.holds)
         (λ x k u g heap arrives.
         let place : ℕ = constant_at gs starts to k in
         let leads : Leads (step program me) (moment p r mid (held.Int (pos k) ∷ []) ls u arrives.messages)
         (moment p r place [] ls u arrives.messages) =
-        table_goes mid (default_at gs starts to) k place (targets gs starts to (positions p (type_of p m e))) ls u arrives.messages stands_table
+        table_goes mid (default_at gs starts to) k place (targets gs starts to (positions p (type_of p m e))) ls u arrives.messages
+        stands_table
         (ap (target_at (default_at gs starts to) (targets gs starts to (positions p (type_of p m e)))) (from_none k)
         ∙ look_up (constant_at gs starts to) (default_at gs starts to) (max 1 (constants_of p (type_of p m e))) k
         (λ le. beyond of gs starts to k (type_of p m e) type cases le)) in

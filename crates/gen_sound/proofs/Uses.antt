@@ -1,5 +1,6 @@
 -- Statements that use the value of an expression, or its test.
-use Rattle.std.proofs.Common.{◌≡◌, ℕ, suc, ◌+◌, ◌≤◌, ◌<◌, Bool, true, false, List, [], ◌∷◌, ◌++◌, length, Option, Some, refl, sym, ap, ◌∙◌, subst, arith}
+use Rattle.std.proofs.Common.{◌≡◌, ℕ, suc, ◌+◌, ◌≤◌, ◌<◌, Bool, true, false, List, [], ◌∷◌, ◌++◌, length, Option, Some, refl, sym, ap, ◌∙◌}
+use Rattle.std.proofs.Common.{subst, arith}
 use Rattle.std.specs.Prelude.{slice_get, slice_set, nat_eq, if◌then◌else◌}
 use Rattle.std.proofs.lemmas.Option.{slice_get_within}
 use Rattle.jv_values.specs.Values.{Value, Row, Shared, Inputs, Here, Lives, find, put, Wrong}
@@ -81,12 +82,14 @@ module _ (p : Program) (ok : IsCore p) (os : List Outline) (program : linked.Pro
   Place = Placed p ok os program inputs me r m code runs this sc
 
   -- the code of an expression, over these locals
-  pub forms_do : (e : Expr) (t : CoreType) → Has p m sc e t → IsPlain may e → (w : World) (s : Lives ℕ) (ls : List (Option Held)) (q : Messages) →
+  pub forms_do : (e : Expr) (t : CoreType) → Has p m sc e t → IsPlain may e → (w : World) (s : Lives ℕ) (ls : List (Option Held))
+      (q : Messages) →
       Place w s ls q →
       DoesForms p ok os program inputs me r m code runs (suc n) w ls (templates.forms p m code sc e)
       (eval p inputs low number here s.locals e) (depths p m e)
   forms_do e t h plain w s ls q a =
-      expression_does p ok os program inputs me r m code runs (suc n) low well may calls number at this ls a.row.object h plain w a.mine a.living.locals a.row.laid
+      expression_does p ok os program inputs me r m code runs (suc n) low well may calls number at this ls a.row.object h plain w a.mine
+      a.living.locals a.row.laid
 
   -- a value over these operands, and what uses it
   pub used : {A : Type 0} (R : Moment → A → Lives ℕ → Type 0) (e : Expr) (t : CoreType) → Has p m sc e t → IsPlain may e → (from to : ℕ)
@@ -121,7 +124,8 @@ module _ (p : Program) (ok : IsCore p) (os : List Outline) (program : linked.Pro
       templates.unless p m code sc e target from to → (depths p m e).jump ≤ max_stack p m →
       Does_here sc (UnlessStand p ok os program inputs me r m code runs this n sc target to) from (test p inputs low number here e)
   test_unless e h plain target from to stands room = record {
-    does = λ w s ls q a. subst (F (UnlessStand p ok os program inputs me r m code runs this n sc target to) (moment p r from [] ls s.shared q))
+    does = λ w s ls q a. subst (F (UnlessStand p ok os program inputs me r m code runs this n sc target to)
+        (moment p r from [] ls s.shared q))
         (then_give (test p inputs low number here e s))
         (test_then p ok os program inputs me r m code runs this (suc n)
         (UnlessStand p ok os program inputs me r m code runs this n sc target to)
@@ -137,7 +141,8 @@ module _ (p : Program) (ok : IsCore p) (os : List Outline) (program : linked.Pro
       templates.when p m code sc e target from to → (depths p m e).jump ≤ max_stack p m →
       Does_here sc (WhenStand p ok os program inputs me r m code runs this n sc target to) from (test p inputs low number here e)
   test_when e h plain target from to stands room = record {
-    does = λ w s ls q a. subst (F (WhenStand p ok os program inputs me r m code runs this n sc target to) (moment p r from [] ls s.shared q))
+    does = λ w s ls q a. subst (F (WhenStand p ok os program inputs me r m code runs this n sc target to)
+        (moment p r from [] ls s.shared q))
         (then_give (test p inputs low number here e s))
         (test_then p ok os program inputs me r m code runs this (suc n)
         (WhenStand p ok os program inputs me r m code runs this n sc target to)
@@ -178,7 +183,8 @@ module _ (p : Program) (ok : IsCore p) (os : List Outline) (program : linked.Pro
         (completes_closed p ok os program inputs me r m code runs this ts to) in_scope rest d (moment p r from [] ls s.shared q) x
         (record { locals = (k, v) ∷ s.locals; shared = u }) mine
         (record { locals = worlds.more is fits living.locals; shared = living.shared })
-        (stored p ok os program inputs me r m code runs this mid in_scope place t ls v (moment p r from [] ls s.shared q) ((k, v) ∷ s.locals) u
+        (stored p ok os program inputs me r m code runs this mid in_scope place t ls v (moment p r from [] ls s.shared q)
+        ((k, v) ∷ s.locals) u
         code_at stands_store.1 inside (fits_sort p x v t fits)
         (row_set m this s.locals ((k, v) ∷ s.locals) ls place (Some (flat v)) a.row (omega arith) laid) arrives)));
   }
@@ -188,7 +194,8 @@ module _ (p : Program) (ok : IsCore p) (os : List Outline) (program : linked.Pro
       (from mid to : ℕ) → templates.value p m code sc e from mid → store_in p m code sc k mid to → (depths p m e).value ≤ max_stack p m →
       Does_here sc (C ts to) from (value p inputs low number here e >>= write p inputs low number here (vars.Slot k))
   assigns k e t is h plain ts from mid to stands_value stands_store room = record {
-    does = λ w s ls q a. used (C ts to) e t h plain from mid [] stands_value (over_none _ _ room) (write p inputs low number here (vars.Slot k)) w s ls q a
+    does = λ w s ls q a. used (C ts to) e t h plain from mid [] stands_value (over_none _ _ room)
+        (write p inputs low number here (vars.Slot k)) w s ls q a
         (λ x v u mine living fits arrives.
         let place : ℕ = local_of m.kind sc k in
         let had : Finds p x t (find nat_eq k s.locals) = finds p m k living.locals is.visible is.type in
@@ -209,6 +216,7 @@ module _ (p : Program) (ok : IsCore p) (os : List Outline) (program : linked.Pro
       templates.value p m code sc e from mid → slice_get code mid ≡ Some (return_value m.result) → (depths p m e).value ≤ max_stack p m →
       Does_here sc (C ts to) from (value p inputs low number here e >>= λ v. give (Returns (Some v)))
   returns e h plain ts from mid to stands_value at_return room = record {
-    does = λ w s ls q a. used (C ts to) e m.result h plain from mid [] stands_value (over_none _ _ room) (λ v. give (Returns (Some v))) w s ls q a
+    does = λ w s ls q a. used (C ts to) e m.result h plain from mid [] stands_value (over_none _ _ room) (λ v. give (Returns (Some v))) w s
+        ls q a
         (λ x v u mine living fits arrives. record { place = mid; locals = ls; at = at_return; arrives = arrives });
   }

@@ -50,7 +50,8 @@ module _ (step : Machine → Messages → Stepped) where
     pub events_are : moment.events ≡ events
     pub enough : budget ≤ comes.count
 
-  -- The machine ends as the meaning does. Where the budget is spent it goes on for as many steps. Of Wrong nothing is said: no class with a `main` means it.
+  -- The machine ends as the meaning does. Where the budget is spent it goes on for as many steps. Of Wrong nothing is said: no class with a
+  -- `main` means it.
   abbrev pub EndsAlike : (budget : ℕ) → Moment → Finish → List Event → Type 0
   EndsAlike n c Done events = Stopped c events (Stops endings.Done)
   EndsAlike n c Zero events = Stopped c events (Stops endings.Zero)

@@ -19,7 +19,8 @@ use Rattle.jv_core.specs.Tree.{Exprs, NoExpr, Argument}
 use Rattle.jv_core.specs.Tree.{Stmt, Block, Empty, Local, Assign, If, IfElse, While, Do, Switch, Break, Continue, Return, Print, Eval}
 use Rattle.jv_core.specs.Tree.{Stmts, NoStmt, Then, Declare, Groups, NoGroup, Group, Method, Program}
 use Rattle.cls_tree.specs.Pool.{Int as Number'}
-use Rattle.gen_rules.specs.Symbolic.{Instr, Number, Constant as Pushes, Local as Local', plain, jump, push, iconst, lies_within, if_icmp, opposite, goto, tableswitch}
+use Rattle.gen_rules.specs.Symbolic.{Instr, Number, Constant as Pushes, Local as Local', plain, jump, push, iconst, lies_within, if_icmp}
+use Rattle.gen_rules.specs.Symbolic.{opposite, goto, tableswitch}
 use Rattle.gen_rules.specs.Symbolic.{load, store, aload, iload, astore, istore, with_local, is_reference, return_value, areturn, ireturn}
 use Rattle.gen_rules.specs.Typed.{joins, type_of}
 use Rattle.gen_rules.specs.Around.{Around, break_to, continue_to}
@@ -32,9 +33,11 @@ use Rattle.gen_rules.specs.Templates as templates
 use Rattle.gen_rules.specs.Templates.{IsCode, Compared, Both, LeftAlone, RightAlone, compared}
 use Rattle.gen_rules.specs.Locals.{local_of, params_in_scope}
 use Rattle.gen_symbolic.specs.inner.Aimed.{place_of, aimed}
-use Rattle.gen_symbolic.specs.inner.Drafting.{Draft, Step, skip, ◌then◌, emit, next_label, with_label, with_label_here, placed, ahead, behind, with_labels, count}
+use Rattle.gen_symbolic.specs.inner.Drafting.{Draft, Step, skip, ◌then◌, emit, next_label, with_label, with_label_here, placed, ahead}
+use Rattle.gen_symbolic.specs.inner.Drafting.{behind, with_labels, count}
 use Rattle.gen_symbolic.specs.inner.Drafting as drafts
-use Rattle.gen_symbolic.proofs.Follows.{Grows, grows_none, grows_more, grows_label, Final, Follows, follows_as, follows_skip, follows_emit, follows_then, follows_ahead, follows_behind}
+use Rattle.gen_symbolic.proofs.Follows.{Grows, grows_none, grows_more, grows_label, Final, Follows, follows_as, follows_skip, follows_emit}
+use Rattle.gen_symbolic.proofs.Follows.{follows_then, follows_ahead, follows_behind}
 
 -- jumps by their opcodes
 icmp_is : (o : Op) (l : ℕ) → jump (drafts.icmp_op o) l ≡ if_icmp o l
@@ -111,7 +114,8 @@ module _ (p : Program) (m : Method) (final : List Instr) (ls : List ℕ) where
       let short : Instr = record { op = 17; operand = Number n } in
       let near : Instr = record { op = 16; operand = Number n } in
       stays_if (lies_within (negsuc 0) (pos 5) n) (plain (iconst n)) _ refl
-      (stays_if (lies_within (negsuc 127) (pos 127) n) near _ refl (stays_if (lies_within (negsuc 32767) (pos 32767) n) short far refl refl))
+      (stays_if (lies_within (negsuc 127) (pos 127) n) near _ refl (stays_if (lies_within (negsuc 32767) (pos 32767) n) short far refl
+      refl))
 
   local_stays : (short long k : ℕ) → aimed ls (with_local short long k) ≡ with_local short long k
   local_stays short long k = stays_if (nat_le k 3) (plain (short + k)) (record { op = long; operand = Local' k }) refl refl
@@ -145,7 +149,8 @@ module _ (p : Program) (m : Method) (final : List Instr) (ls : List ℕ) where
   literal_follows true = record { value = emits _ refl; unless = λ l. skips; when = λ l. jumps_to 167 l }
   literal_follows false = record { value = emits _ refl; unless = λ l. jumps_to 167 l; when = λ l. skips }
 
-  null_follows : (o : Op) (v : Step) (V : Span) → F v V → AllFollow (drafts.by_jumps (drafts.with_null o v)) (templates.with_null p m final o V)
+  null_follows : (o : Op) (v : Step) (V : Span) → F v V → AllFollow (drafts.by_jumps (drafts.with_null o v))
+      (templates.with_null p m final o V)
   null_follows ops.Ne v V h = jumped (λ l. and_then h (jumps_to 198 l)) (λ l. and_then h (jumps_to 199 l))
   null_follows ops.Or v V h = jumped (λ l. and_then h (jumps_to 199 l)) (λ l. and_then h (jumps_to 198 l))
   null_follows ops.And v V h = jumped (λ l. and_then h (jumps_to 199 l)) (λ l. and_then h (jumps_to 198 l))
@@ -401,11 +406,13 @@ module _ (p : Program) (m : Method) (final : List Instr) (ls : List ℕ) where
           labels = (let n = placed_labels first d in omega (arith, n, body_grows.labels, rest_grows.labels));
           low = λ l lt there.
               let n = placed_labels first d in
-              rest_grows.low l (omega (arith, lt)) (omega (arith, there, n, body_grows.labels)) ∙ body_grows.kept l (omega (arith, there, n))
+              rest_grows.low l (omega (arith, lt)) (omega (arith, there, n, body_grows.labels)) ∙ body_grows.kept l
+              (omega (arith, there, n))
               ∙ placed_other first l d (λ e. less_apart l lt e);
           high = λ l le there.
               let n = placed_labels first d in
-              rest_grows.high l (omega (arith, le)) (omega (arith, there, n, body_grows.labels)) ∙ body_grows.kept l (omega (arith, there, n))
+              rest_grows.high l (omega (arith, le)) (omega (arith, there, n, body_grows.labels)) ∙ body_grows.kept l
+              (omega (arith, there, n))
               ∙ placed_other first l d (λ e. more_apart l le e);
         }
           where
@@ -460,7 +467,8 @@ module _ (p : Program) (m : Method) (final : List Instr) (ls : List ℕ) where
     -- so many labels
     labels_grow : (n : ℕ) (d : Draft) → Grows d (with_labels n d)
     labels_grow zero d = grows_none d
-    labels_grow (suc n) d = grows_more d (with_label 0 d) (with_labels n (with_label 0 d)) (grows_label d 0) (labels_grow n (with_label 0 d))
+    labels_grow (suc n) d = grows_more d (with_label 0 d) (with_labels n (with_label 0 d)) (grows_label d 0)
+        (labels_grow n (with_label 0 d))
 
     label_long : (d : Draft) → length (with_label 0 d).labels ≡ suc (length d.labels)
     unfolding with_label
@@ -483,91 +491,98 @@ module _ (p : Program) (m : Method) (final : List Instr) (ls : List ℕ) where
     next_long d = refl
 
     -- a table and its groups
-    module _ (gs : Groups) (x : ℕ) (ns : List ℕ) (step : (first : ℕ) → Step) (S : (starts : List ℕ) → Span) (hg : GroupsFollow gs step S) where
-      abbrev tabled : (to : ℕ) → Span
-      tabled to' from to = (starts : List ℕ) × (one final (tableswitch (default_at gs starts to') (targets gs starts to' ns)) before S starts) from to
+    module _ (gs : Groups) (x : ℕ) (ns : List ℕ) (step : (first : ℕ) → Step) (S : (starts : List ℕ) → Span) (hg : GroupsFollow gs step S)
+      where
+        abbrev tabled : (to : ℕ) → Span
+        tabled to' from to = (starts : List ℕ) × (one final (tableswitch (default_at gs starts to') (targets gs starts to' ns)) before S
+            starts) from to
 
-      module _ (d : Draft) where
-        abbrev labelled : Draft
-        labelled = with_labels (count gs) d
+        module _ (d : Draft) where
+          abbrev labelled : Draft
+          labelled = with_labels (count gs) d
 
-        abbrev the_table : Step
-        the_table = drafts.table p m gs (next_label d) (count gs) x ns
+          abbrev the_table : Step
+          the_table = drafts.table p m gs (next_label d) (count gs) x ns
 
-        abbrev past_table : Draft
-        past_table = the_table labelled
+          abbrev past_table : Draft
+          past_table = the_table labelled
 
-        abbrev past_groups : Draft
-        past_groups = step (next_label d) past_table
+          abbrev past_groups : Draft
+          past_groups = step (next_label d) past_table
 
-        abbrev starts : List ℕ
-        starts = map at (numbers_from (next_label d) (count gs))
+          abbrev starts : List ℕ
+          starts = map at (numbers_from (next_label d) (count gs))
 
-        table_follows : F the_table (one final (tableswitch (default_at gs starts (at x)) (targets gs starts (at x) ns)))
-        table_follows = follows_emit final ls _ _ (table_led gs (numbers_from (next_label d) (count gs)) x ns)
+          table_follows : F the_table (one final (tableswitch (default_at gs starts (at x)) (targets gs starts (at x) ns)))
+          table_follows = follows_emit final ls _ _ (table_led gs (numbers_from (next_label d) (count gs)) x ns)
 
-        table_grows : Grows labelled past_table
-        table_grows = table_follows.grows labelled
+          table_grows : Grows labelled past_table
+          table_grows = table_follows.grows labelled
 
-        room : next_label d + count gs ≤ length past_table.labels
-        room = let n = labels_long (count gs) d in let k = next_long d in omega (arith, n, k, table_grows.labels)
+          room : next_label d + count gs ≤ length past_table.labels
+          room = let n = labels_long (count gs) d in let k = next_long d in omega (arith, n, k, table_grows.labels)
 
-        groups_grow : GroupsGrow (next_label d) (next_label d + count gs) past_table past_groups
-        groups_grow = hg.grows (next_label d) past_table room
+          groups_grow : GroupsGrow (next_label d) (next_label d + count gs) past_table past_groups
+          groups_grow = hg.grows (next_label d) past_table room
 
-        to_table : Grows d past_table
-        to_table = grows_more d labelled past_table (labels_grow (count gs) d) table_grows
+          to_table : Grows d past_table
+          to_table = grows_more d labelled past_table (labels_grow (count gs) d) table_grows
 
-        all_grown : Grows d past_groups
-        all_grown = record {
-          code = omega (arith, to_table.code, groups_grow.code);
-          same = λ i lt. groups_grow.same i (omega (arith, lt, to_table.code)) ∙ to_table.same i lt;
-          labels = omega (arith, to_table.labels, groups_grow.labels);
-          kept = λ l lt.
-              let k = next_long d in
-              groups_grow.low l (omega (arith, lt, k)) (omega (arith, lt, to_table.labels)) ∙ to_table.kept l lt;
-        }
-
-        module _ (h : Final final ls d past_groups) where
-          long : length labelled.code ≡ length d.code
-          long = ap length (labels_same (count gs) d)
-
-          table_final : Final final ls labelled past_table
-          table_final = record {
-            code = λ i low high.
-                h.code i (omega (arith, low, long)) (omega (arith, high, groups_grow.code)) ∙ ap (option_map (aimed ls)) (groups_grow.same i high);
-            labels = λ l low high.
-                let n = labels_long (count gs) d in
+          all_grown : Grows d past_groups
+          all_grown = record {
+            code = omega (arith, to_table.code, groups_grow.code);
+            same = λ i lt. groups_grow.same i (omega (arith, lt, to_table.code)) ∙ to_table.same i lt;
+            labels = omega (arith, to_table.labels, groups_grow.labels);
+            kept = λ l lt.
                 let k = next_long d in
-                h.labels l (omega (arith, low, n)) (omega (arith, high, groups_grow.labels))
-                ∙ groups_grow.high l (omega (arith, low, n, k)) high;
+                groups_grow.low l (omega (arith, lt, k)) (omega (arith, lt, to_table.labels)) ∙ to_table.kept l lt;
           }
 
-          groups_final : GroupsFinal (next_label d) (next_label d + count gs) past_table past_groups
-          groups_final = record {
-            code = λ i low high. h.code i (omega (arith, low, to_table.code)) high;
-            own = λ l low high. (let k = next_long d in h.labels l (omega (arith, low, k)) (omega (arith, high, room, groups_grow.labels)));
-            labels = λ l low high. h.labels l (omega (arith, low, to_table.labels)) high;
-          }
+          module _ (h : Final final ls d past_groups) where
+            long : length labelled.code ≡ length d.code
+            long = ap length (labels_same (count gs) d)
 
-          tabled_holds : tabled (at x) (length d.code) (length past_groups.code)
-          tabled_holds = (
-            starts,
-            (
-              length past_table.code,
-              subst (λ k. one final (tableswitch (default_at gs starts (at x)) (targets gs starts (at x) ns)) k (length past_table.code)) long
-                  (table_follows.holds labelled table_final),
-              hg.holds (next_label d) past_table room groups_final,
-            ),
-          )
+            table_final : Final final ls labelled past_table
+            table_final = record {
+              code = λ i low high.
+                  h.code i (omega (arith, low, long)) (omega (arith, high, groups_grow.code)) ∙ ap (option_map (aimed ls))
+                  (groups_grow.same i high);
+              labels = λ l low high.
+                  let n = labels_long (count gs) d in
+                  let k = next_long d in
+                  h.labels l (omega (arith, low, n)) (omega (arith, high, groups_grow.labels))
+                  ∙ groups_grow.high l (omega (arith, low, n, k)) high;
+            }
 
-      switched_follows : F (drafts.switched p m gs step x ns) (tabled (at x))
-      switched_follows = record { grows = all_grown; holds = tabled_holds }
+            groups_final : GroupsFinal (next_label d) (next_label d + count gs) past_table past_groups
+            groups_final = record {
+              code = λ i low high. h.code i (omega (arith, low, to_table.code)) high;
+              own = λ l low high. (let k = next_long d in h.labels l (omega (arith, low, k))
+                  (omega (arith, high, room, groups_grow.labels)));
+              labels = λ l low high. h.labels l (omega (arith, low, to_table.labels)) high;
+            }
+
+            tabled_holds : tabled (at x) (length d.code) (length past_groups.code)
+            tabled_holds = (
+              starts,
+              (
+                length past_table.code,
+                subst (λ k. one final (tableswitch (default_at gs starts (at x)) (targets gs starts (at x) ns)) k (length past_table.code))
+                    long
+                    (table_follows.holds labelled table_final),
+                hg.holds (next_label d) past_table room groups_final,
+              ),
+            )
+
+        switched_follows : F (drafts.switched p m gs step x ns) (tabled (at x))
+        switched_follows = record { grows = all_grown; holds = tabled_holds }
 
     -- the value, then the table
     value_tabled : (gs : Groups) (ns : List ℕ) (V : Span) (S : (to : ℕ) (starts : List ℕ) → Span) (to' from to : ℕ) →
-        (V before (λ a b. (starts : List ℕ) × (one final (tableswitch (default_at gs starts to') (targets gs starts to' ns)) before S to' starts) a b)) from to →
-        (starts : List ℕ) × (V before one final (tableswitch (default_at gs starts to') (targets gs starts to' ns)) before S to' starts) from to
+        (V before (λ a b. (starts : List ℕ) × (one final (tableswitch (default_at gs starts to') (targets gs starts to' ns)) before S to'
+        starts) a b)) from to →
+        (starts : List ℕ) × (V before one final (tableswitch (default_at gs starts to') (targets gs starts to' ns)) before S to' starts)
+        from to
     value_tabled gs ns V S to' from to h = ((h.2).0, (((h.2).1).0, (h.0, h.1, ((h.2).1).1), ((h.2).1).2))
 
     into_group : (scope : List ℕ) (ts : List Around) (labels : List (Option ℕ)) (body : Stmts) (end : Place) (more : Groups)
@@ -590,8 +605,10 @@ module _ (p : Program) (m : Method) (final : List Instr) (ls : List ℕ) where
           (λ l. and_then ((expr_follows scope c).unless l) (statement_follows scope ts s))
       statement_follows scope ts (IfElse q c s r) =
           follows_ahead final ls
-          (λ n. ahead (λ l. drafts.jump p m scope c false l then drafts.statement p m scope ts s then emit (goto n)) then drafts.statement p m scope ts r)
-          (λ t. (λ from l. (templates.unless p m final scope c l before templates.statement p m final scope (led ts) s before one final (goto t)) from l)
+          (λ n. ahead (λ l. drafts.jump p m scope c false l then drafts.statement p m scope ts s then emit (goto n)) then drafts.statement p
+          m scope ts r)
+          (λ t. (λ from l. (templates.unless p m final scope c l before templates.statement p m final scope (led ts) s before one final
+          (goto t)) from l)
           before templates.statement p m final scope (led ts) r)
           (λ n. and_then
           (follows_ahead final ls (λ l. drafts.jump p m scope c false l then drafts.statement p m scope ts s then emit (goto n))
@@ -607,7 +624,8 @@ module _ (p : Program) (m : Method) (final : List Instr) (ls : List ℕ) where
           (λ x. drafts.jump p m scope c false x then drafts.statement p m scope (around.Loop n x h ∷ ts) s then emit (goto h))
           (λ t. templates.unless p m final scope c t before templates.statement p m final scope (around.Loop n t (at h) ∷ led ts) s
           before one final (goto (at h)))
-          (λ x. and_then (and_then ((expr_follows scope c).unless x) (statement_follows scope (around.Loop n x h ∷ ts) s)) (jumps_to 167 h)))
+          (λ x. and_then (and_then ((expr_follows scope c).unless x) (statement_follows scope (around.Loop n x h ∷ ts) s))
+          (jumps_to 167 h)))
       statement_follows scope ts (Do q n s c) =
           follows_behind final ls
           (λ h. ahead (λ x. ahead (λ k. drafts.statement p m scope (around.Loop n x k ∷ ts) s) then drafts.jump p m scope c true h))
@@ -615,7 +633,8 @@ module _ (p : Program) (m : Method) (final : List Instr) (ls : List ℕ) where
           before templates.when p m final scope c h) from to)
           (λ h. follows_ahead final ls
           (λ x. ahead (λ k. drafts.statement p m scope (around.Loop n x k ∷ ts) s) then drafts.jump p m scope c true h)
-          (λ t. (λ a k. templates.statement p m final scope (around.Loop n t k ∷ led ts) s a k) before templates.when p m final scope c (at h))
+          (λ t. (λ a k. templates.statement p m final scope (around.Loop n t k ∷ led ts) s a k) before templates.when p m final scope c
+          (at h))
           (λ x. and_then
           (follows_ahead final ls (λ k. drafts.statement p m scope (around.Loop n x k ∷ ts) s)
           (λ k. templates.statement p m final scope (around.Loop n (at x) k ∷ led ts) s)
@@ -674,7 +693,8 @@ module _ (p : Program) (m : Method) where
   drafted_is_code =
       let ls = the_draft.labels in
       let begins : place_of ls 0 ≡ 0 = method_grows.kept 0 (omega arith) in
-      let s = and_then p m the_code ls (statements_follow p m the_code ls begins (params_in_scope m) [] m.body) (end_follows p m the_code ls m.result) in
+      let s = and_then p m the_code ls (statements_follow p m the_code ls begins (params_in_scope m) [] m.body)
+      (end_follows p m the_code ls m.result) in
       let all : Final the_code ls beginning the_draft = record {
         code = λ i low high. slice_get-map (aimed ls) the_draft.code i;
         labels = λ l low high. refl;

@@ -6,7 +6,8 @@ use Rattle.std.proofs.lemmas.List.{get_or_append_left, get_or_push, get_or-set_s
 use Rattle.gen_rules.specs.Symbolic.{Instr}
 use Rattle.gen_rules.specs.Spans.{Span, nothing, ◌then◌ as ◌before◌, one}
 use Rattle.gen_symbolic.specs.inner.Aimed.{place_of, aimed}
-use Rattle.gen_symbolic.specs.inner.Drafting.{Draft, Step, skip, ◌then◌, emit, next_label, with_label, with_label_here, placed, ahead, behind}
+use Rattle.gen_symbolic.specs.inner.Drafting.{Draft, Step, skip, ◌then◌, emit, next_label, with_label, with_label_here, placed, ahead}
+use Rattle.gen_symbolic.specs.inner.Drafting.{behind}
 
 -- what was written stays, and labels keep their places
 pub record Grows (d e : Draft) : Type 0 where
@@ -138,7 +139,8 @@ module _ (final : List Instr) (ls : List ℕ) where
     unfolding placed next_label
     label_there =
         let n = length-set e.labels (length d.labels) (length e.code) in
-        h.labels (length d.labels) (omega arith) (omega (arith, n, within)) ∙ get_or-set_same e.labels (length d.labels) (length e.code) 0 within
+        h.labels (length d.labels) (omega arith) (omega (arith, n, within)) ∙ get_or-set_same e.labels (length d.labels) (length e.code) 0
+        within
 
     final_inside : Final final ls (with_label 0 d) e
     unfolding placed next_label with_label
@@ -185,7 +187,8 @@ module _ (final : List Instr) (ls : List ℕ) where
         let g = (s l).grows b in
         let r : R (place_of ls l) (length b.code) (length e.code) = (s l).holds b (final_inside d e g h) in
         subst (λ t. R t (length d.code) (length (placed l e).code)) (label_there d e g h)
-        (subst (λ k. R (place_of ls l) (length d.code) k) (sym (placed_code l e)) (subst (λ k. R (place_of ls l) k (length e.code)) (label_code 0 d) r));
+        (subst (λ k. R (place_of ls l) (length d.code) k) (sym (placed_code l e)) (subst (λ k. R (place_of ls l) k (length e.code))
+        (label_code 0 d) r));
   }
 
   here_label : (d : Draft) → place_of (with_label_here d).labels (next_label d) ≡ length d.code
@@ -200,7 +203,8 @@ module _ (final : List Instr) (ls : List ℕ) where
   pub follows_behind : (f : (label : ℕ) → Step) (R : (target : ℕ) → Span) → ((l : ℕ) → Follows (f l) (R (place_of ls l))) →
       Follows (behind f) (λ from to. R from from to)
   follows_behind f R s = record {
-    grows = λ d. grows_more d (with_label_here d) (f (next_label d) (with_label_here d)) (grows_here d) ((s (next_label d)).grows (with_label_here d));
+    grows = λ d. grows_more d (with_label_here d) (f (next_label d) (with_label_here d)) (grows_here d)
+        ((s (next_label d)).grows (with_label_here d));
     holds = λ d h.
         let l = next_label d in
         let b = with_label_here d in
@@ -208,6 +212,7 @@ module _ (final : List Instr) (ls : List ℕ) where
         let g = (s l).grows b in
         let r : R (place_of ls l) (length b.code) (length e.code) = (s l).holds b (final_rest d b e (grows_here d) h) in
         let inside = here_within d in
-        let there : place_of ls l ≡ length d.code = h.labels l (next_is d) (omega (arith, inside, g.labels)) ∙ g.kept l inside ∙ here_label d in
+        let there : place_of ls l ≡ length d.code = h.labels l (next_is d) (omega (arith, inside, g.labels)) ∙ g.kept l inside ∙
+        here_label d in
         subst (λ t. R t (length d.code) (length e.code)) there (subst (λ k. R (place_of ls l) k (length e.code)) (here_code d) r);
   }

@@ -16,7 +16,8 @@ use Rattle.gen_rules.specs.Locals.{first_local}
 use Rattle.gen_rules.specs.Templates.{compared, RightAlone}
 use Rattle.gen_symbolic.specs.inner.Held.{is_null}
 use Rattle.gen_rules.specs.Frames.{Depths, comparison_depths, depths_by_jumps, max_locals}
-use Rattle.gen_rules.specs.Frames.{depths, depth_of_arguments, depth_of, depth_of_all, depth_of_groups, locals_of, locals_of_all, locals_of_groups}
+use Rattle.gen_rules.specs.Frames.{depths, depth_of_arguments, depth_of, depth_of_all, depth_of_groups, locals_of, locals_of_all}
+use Rattle.gen_rules.specs.Frames.{locals_of_groups}
 use Rattle.gen_symbolic.specs.inner.Held.{taken_behind}
 use Rattle.gen_symbolic.proofs.Loops.{drop_at, drop_done, group_of-is}
 
@@ -28,11 +29,13 @@ max_none a = omega arith
 
 module _ (p : Program) (m : Method) where
   pub argument_depth : (es : List CoreExpr) (i j : ℕ) (e : CoreExpr) (v deep old new : ℕ) → j + 1 ≡ i → i ≤ length es → e ≡ get_or es j e →
-      v ≡ (depths p m (expr_of e)).value → old ≡ depth_of_arguments p m (exprs_of (map expr_of (drop i es))) → deep ≡ suc old → new ≡ max v deep →
+      v ≡ (depths p m (expr_of e)).value → old ≡ depth_of_arguments p m (exprs_of (map expr_of (drop i es))) → deep ≡ suc old →
+      new ≡ max v deep →
       new ≡ depth_of_arguments p m (exprs_of (map expr_of (drop j es)))
   argument_depth es i j e v deep old new ej le is ev eo ed en =
       en ∙ ap (λ x. max x deep) ev
-      ∙ ap (max (depths p m (expr_of e)).value) (ed ∙ ap suc (eo ∙ ap (λ k. depth_of_arguments p m (exprs_of (map expr_of (drop k es)))) (sym ej)))
+      ∙ ap (max (depths p m (expr_of e)).value)
+      (ed ∙ ap suc (eo ∙ ap (λ k. depth_of_arguments p m (exprs_of (map expr_of (drop k es)))) (sym ej)))
       ∙ sym (ap (λ (ys : List CoreExpr). depth_of_arguments p m (exprs_of (map expr_of ys))) (drop_at es j e (omega (arith, ej, le)) is))
 
   depth_before : (s : Stmt) (more : Stmts) → depth_of_all p m (before s more) ≡ max (depth_of p m s) (depth_of_all p m more)
@@ -52,12 +55,15 @@ module _ (p : Program) (m : Method) where
   depth_before (Eval q e) more = refl
 
   module _ (xs : List CoreStmt) (i old total : ℕ) (h : max old (depth_of_all p m (stmts_of (map stmt_of (drop i xs)))) ≡ total) where
-    pub depth_more : (x : CoreStmt) (next new : ℕ) → i < length xs → x ≡ get_or xs i x → next ≡ depth_of p m (stmt_of x) → new ≡ max next old →
+    pub depth_more : (x : CoreStmt) (next new : ℕ) → i < length xs → x ≡ get_or xs i x → next ≡ depth_of p m (stmt_of x) →
+        new ≡ max next old →
         max new (depth_of_all p m (stmts_of (map stmt_of (drop (i + 1) xs)))) ≡ total
     depth_more x next new within is en e =
         let more = stmts_of (map stmt_of (drop (i + 1) xs)) in
-        ap (λ n. max n (depth_of_all p m more)) (e ∙ ap (λ n. max n old) en) ∙ sym (max_parts old (depth_of p m (stmt_of x)) (depth_of_all p m more))
-        ∙ sym (ap (max old) (ap (λ (ys : List CoreStmt). depth_of_all p m (stmts_of (map stmt_of ys))) (drop_at xs i x within is) ∙ depth_before (stmt_of x) more))
+        ap (λ n. max n (depth_of_all p m more)) (e ∙ ap (λ n. max n old) en) ∙
+        sym (max_parts old (depth_of p m (stmt_of x)) (depth_of_all p m more))
+        ∙ sym (ap (max old) (ap (λ (ys : List CoreStmt). depth_of_all p m (stmts_of (map stmt_of ys))) (drop_at xs i x within is) ∙
+        depth_before (stmt_of x) more))
         ∙ h
 
     pub depth_done : length xs ≤ i → old ≡ total
@@ -80,7 +86,8 @@ module _ (p : Program) (m : Method) where
 
     pub group_depth_done : length gs ≤ i → old ≡ total
     group_depth_done le =
-        sym (ap (λ (ys : List CoreGroup). max old (depth_of_groups p m (groups_of (map group_of ys)))) (drop_done gs i le) ∙ max_none old) ∙ h
+        sym (ap (λ (ys : List CoreGroup). max old (depth_of_groups p m (groups_of (map group_of ys)))) (drop_done gs i le) ∙ max_none old) ∙
+        h
 
 -- locals
 at_least : (n : ℕ) (ss : Stmts) → n ≤ locals_of_all n ss
@@ -88,7 +95,8 @@ at_least n NoStmt = omega arith
 at_least n (Then s more) = let k = at_least n more in omega (arith, k)
 at_least n (Declare q k e more) = let j = at_least (suc n) more in omega (arith, j)
 
-taken_before : (n : ℕ) (s : Stmt) (more : Stmts) → locals_of_all n (before s more) ≡ max (locals_of n s) (locals_of_all (taken_behind n s) more)
+taken_before : (n : ℕ) (s : Stmt) (more : Stmts) → locals_of_all n (before s more) ≡ max (locals_of n s)
+    (locals_of_all (taken_behind n s) more)
 taken_before n (Local q k e) more = let j = at_least (suc n) more in omega (arith, j)
 taken_before n (Block q body end) more = refl
 taken_before n (Empty q) more = refl
@@ -128,7 +136,8 @@ pub record AreTaken (most taken : ℕ) (rest all : ℕ) : Type 0 where
 pub taken_start : (n : ℕ) (ss : Stmts) → AreTaken n n (locals_of_all n ss) (locals_of_all n ss)
 taken_start n ss = record { left = (let k = at_least n ss in omega (arith, k)); low = omega arith }
 
-module _ (xs : List CoreStmt) (i taken old total : ℕ) (h : AreTaken old taken (locals_of_all taken (stmts_of (map stmt_of (drop i xs)))) total) where
+module _ (xs : List CoreStmt) (i taken old total : ℕ) (h : AreTaken old taken (locals_of_all taken (stmts_of (map stmt_of (drop i xs))))
+    total) where
   pub taken_more : (x : CoreStmt) (next new taken' : ℕ) → i < length xs → x ≡ get_or xs i x → next ≡ locals_of taken (stmt_of x) →
       new ≡ max next old → taken' ≡ taken_behind taken (stmt_of x) →
       AreTaken new taken' (locals_of_all taken' (stmts_of (map stmt_of (drop (i + 1) xs)))) total
@@ -159,7 +168,8 @@ groups_at_least n (Group labels body end more) = let k = groups_at_least n more 
 pub groups_start : (n : ℕ) (gs : Groups) → AreTaken n n (locals_of_groups n gs) (locals_of_groups n gs)
 groups_start n gs = record { left = (let k = groups_at_least n gs in omega (arith, k)); low = omega arith }
 
-module _ (gs : List CoreGroup) (i taken old total : ℕ) (h : AreTaken old taken (locals_of_groups taken (groups_of (map group_of (drop i gs)))) total) where
+module _ (gs : List CoreGroup) (i taken old total : ℕ)
+    (h : AreTaken old taken (locals_of_groups taken (groups_of (map group_of (drop i gs)))) total) where
   pub group_taken_more : (g : CoreGroup) (body : List CoreStmt) (next new : ℕ) → i < length gs → g ≡ get_or gs i g →
       body ≡ (out-CoreGroup g).body.items → next ≡ locals_of_all taken (stmts_of (map stmt_of body)) → new ≡ max next old →
       AreTaken new taken (locals_of_groups taken (groups_of (map group_of (drop (i + 1) gs)))) total
@@ -172,7 +182,8 @@ module _ (gs : List CoreGroup) (i taken old total : ℕ) (h : AreTaken old taken
             ap (λ n. max n (locals_of_groups taken more))
             (e ∙ ap (λ n. max n old) (en ∙ ap (λ (ys : List CoreStmt). locals_of_all taken (stmts_of (map stmt_of ys))) eb))
             ∙ sym (max_parts old first (locals_of_groups taken more))
-            ∙ sym (ap (max old) (ap (λ (ys : List CoreGroup). locals_of_groups taken (groups_of (map group_of ys))) (drop_at gs i g within is)
+            ∙ sym (ap (max old) (ap (λ (ys : List CoreGroup). locals_of_groups taken (groups_of (map group_of ys)))
+            (drop_at gs i g within is)
             ∙ ap (λ o. locals_of_groups taken (groups_of (o ∷ map group_of (drop (i + 1) gs)))) (group_of-is g)))
             ∙ h.left;
         low = omega (arith, low, e);
@@ -190,7 +201,8 @@ null_alone (Null q) (Null r) h k = absurd (false≢true (sym h))
 null_alone (Null q) _ h k = refl
 null_alone _ _ h k = absurd (false≢true k)
 
-pub null_left : (a b : Expr) (A B : Depths) → is_null b ≡ false → is_null a ≡ true → depths_by_jumps B.value ≡ comparison_depths (compared a b) A B
+pub null_left : (a b : Expr) (A B : Depths) → is_null b ≡ false → is_null a ≡ true → depths_by_jumps B.value ≡ comparison_depths
+    (compared a b) A B
 null_left a b A B h k = ap (λ c. comparison_depths c A B) (sym (null_alone a b h k))
 
 -- the parameters

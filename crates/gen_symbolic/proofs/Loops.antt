@@ -1,8 +1,10 @@
 -- Loops: what is left of a list, and what was passed.
-use Rattle.std.proofs.Common.{◌≡◌, ◌<◌, ◌≤◌, ℕ, zero, suc, ◌+◌, ◌-◌, List, [], ◌∷◌, ◌++◌, length, map, drop, take, get_or, Bool, true, false}
+use Rattle.std.proofs.Common.{◌≡◌, ◌<◌, ◌≤◌, ℕ, zero, suc, ◌+◌, ◌-◌, List, [], ◌∷◌, ◌++◌, length, map, drop, take, get_or, Bool, true}
+use Rattle.std.proofs.Common.{false}
 use Rattle.std.proofs.Common.{Option, Some, None, refl, sym, ap, ◌∙◌, arith, if◌then◌else◌, nat_eq, ◌||◌, max, add-one}
 use Rattle.std.specs.Prelude.{reverse}
-use Rattle.std.proofs.lemmas.List.{at_drop_more, at_drop_all, take_more, reverse-append, length-reverse, length-take-le, take_all, map-append}
+use Rattle.std.proofs.lemmas.List.{at_drop_more, at_drop_all, take_more, reverse-append, length-reverse, length-take-le, take_all}
+use Rattle.std.proofs.lemmas.List.{map-append}
 use Rattle.jv_values.specs.Statements.{any_label}
 use Rattle.jv_core.specs.declared.program.MethodKind.{MethodKind}
 use Rattle.jv_core.specs.declared.tree.CoreExpr.{CoreExpr}
@@ -10,7 +12,8 @@ use Rattle.jv_core.specs.declared.tree.CoreStmt.{CoreStmt}
 use Rattle.jv_core.specs.declared.tree.CoreGroup.{CoreGroup, out-CoreGroup, fold_out-CoreGroup}
 use Rattle.mg_text.specs.declared.place.Place.{Place}
 use Rattle.jv_core.specs.Tree.{Expr, Stmt, Stmts, Groups, Program, Method}
-use Rattle.jv_core.specs.View.{expr_of, exprs_of, stmt_of, stmts_of, group_of, groups_of, OneGroup, stmt_layer, group_layer, placed_stmt_layer}
+use Rattle.jv_core.specs.View.{expr_of, exprs_of, stmt_of, stmts_of, group_of, groups_of, OneGroup, stmt_layer, group_layer}
+use Rattle.jv_core.specs.View.{placed_stmt_layer}
 use Rattle.jv_core.specs.Numbering.{numbers_from}
 use Rattle.gen_rules.specs.Locals.{first_local, next_local, local_of}
 use Rattle.gen_rules.specs.Cases.{group_at}
@@ -41,7 +44,8 @@ module _ (w : Option ℕ → Bool) (ls : List (Option ℕ)) (i : ℕ) (total : B
 abbrev one_group : List (Option ℕ) → List Stmt → Place → OneGroup
 one_group labels body end = record { labels = labels; body = stmts_of body; end = end }
 
-pub group_of-is : (g : CoreGroup) → group_of g ≡ one_group (out-CoreGroup g).labels.items (map stmt_of (out-CoreGroup g).body.items) (out-CoreGroup g).end
+pub group_of-is : (g : CoreGroup) → group_of g ≡ one_group (out-CoreGroup g).labels.items (map stmt_of (out-CoreGroup g).body.items)
+    (out-CoreGroup g).end
 unfolding stmt_of group_of
 group_of-is g = fold_out-CoreGroup (Place → Stmt) OneGroup Stmt stmt_layer group_layer placed_stmt_layer g
 
@@ -62,14 +66,16 @@ module _ (w : Option ℕ → Bool) (gs : List CoreGroup) (i k : ℕ) (total : Op
     at_here =
         sym (ap (λ x. group_at w x (numbers_from k (length gs - i))) (groups_at gs i g within is)
         ∙ ap (λ x. group_at w (groups_of (x ∷ map group_of (drop (i + 1) gs))) (numbers_from k (length gs - i))) (group_of-is g)
-        ∙ ap (group_at w (groups_of (one_group (out-CoreGroup g).labels.items (map stmt_of (out-CoreGroup g).body.items) (out-CoreGroup g).end ∷ map group_of (drop (i + 1) gs))))
+        ∙ ap (group_at w (groups_of (one_group (out-CoreGroup g).labels.items (map stmt_of (out-CoreGroup g).body.items)
+        (out-CoreGroup g).end ∷ map group_of (drop (i + 1) gs))))
         (numbers_more k (length gs) i within)) ∙ h
 
     pub group_found : (labels : List (Option ℕ)) → labels ≡ (out-CoreGroup g).labels.items → any_label w labels ≡ true → Some k ≡ total
     group_found labels e t =
         ap (λ b. if b then Some k else after) (sym (sym (ap (any_label w) e) ∙ t)) ∙ at_here
 
-    pub group_passed : (labels : List (Option ℕ)) (k' : ℕ) → labels ≡ (out-CoreGroup g).labels.items → any_label w labels ≡ false → k' ≡ k + 1 →
+    pub group_passed : (labels : List (Option ℕ)) (k' : ℕ) → labels ≡ (out-CoreGroup g).labels.items → any_label w labels ≡ false →
+        k' ≡ k + 1 →
         group_at w (groups_of (map group_of (drop (i + 1) gs))) (numbers_from k' (length gs - (i + 1))) ≡ total
     group_passed labels k' e t ek =
         ap (λ j. group_at w (groups_of (map group_of (drop (i + 1) gs))) (numbers_from j (length gs - (i + 1)))) (ek ∙ add-one k)
@@ -116,7 +122,8 @@ numbers_end k (suc n) =
     ∙ (let e : suc k + n ≡ k + suc n = omega arith in ap (λ j. k ∷ numbers_from (suc k) n ++ j ∷ []) e)
 
 numbers_last : (n : ℕ) → numbers_from 0 (n + 1) ≡ numbers_from 0 n ++ n ∷ []
-numbers_last n = ap (numbers_from 0) (add-one n) ∙ numbers_end 0 n ∙ (let e : 0 + n ≡ n = omega arith in ap (λ j. numbers_from 0 n ++ j ∷ []) e)
+numbers_last n = ap (numbers_from 0) (add-one n) ∙ numbers_end 0 n ∙
+    (let e : 0 + n ≡ n = omega arith in ap (λ j. numbers_from 0 n ++ j ∷ []) e)
 
 pub params_more : (n : ℕ) (s t : List ℕ) → s ≡ reverse (numbers_from 0 n) → t ≡ n ∷ s → t ≡ reverse (numbers_from 0 (n + 1))
 params_more n s t is e =
@@ -128,7 +135,8 @@ mapped_more F k x xs ys h e is =
     e ∙ ap (λ zs. zs ++ x ∷ []) h ∙ ap (λ z. map F (numbers_from 0 k) ++ z ∷ []) is
     ∙ sym (ap (map F) (numbers_last k) ∙ map-append F (numbers_from 0 k) (k ∷ []))
 
-pub slots_all : (kind : MethodKind) (slots : List ℕ) (slot : ℕ) → local_of kind (reverse (take (length slots) slots)) slot ≡ local_of kind (reverse slots) slot
+pub slots_all : (kind : MethodKind) (slots : List ℕ) (slot : ℕ) → local_of kind (reverse (take (length slots) slots)) slot ≡ local_of kind
+    (reverse slots) slot
 slots_all kind slots slot = ap (λ xs. local_of kind (reverse xs) slot) (take_all (length slots) slots (omega arith))
 
 pub ruleset scopes = (slot_found, slot_passed, slots_all)

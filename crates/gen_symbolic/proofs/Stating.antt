@@ -7,7 +7,8 @@ use Rattle.jv_core.specs.Tree.{Stmt, Block, Empty, Local, Assign, If, IfElse, Wh
 use Rattle.jv_core.specs.Tree.{Stmts, Groups, Program, Method}
 use Rattle.jv_core.specs.View.{stmt_of, stmts_of, group_of, groups_of, before}
 use Rattle.gen_rules.specs.Around.{Around}
-use Rattle.gen_symbolic.specs.inner.Drafting.{Draft, statement, statements, groups, placed, next_label, with_label, with_labels, value, table, switched, switch, count}
+use Rattle.gen_symbolic.specs.inner.Drafting.{Draft, statement, statements, groups, placed, next_label, with_label, with_labels, value}
+use Rattle.gen_symbolic.specs.inner.Drafting.{table, switched, switch, count}
 use Rattle.gen_rules.specs.Around as around
 use Rattle.gen_rules.specs.Cases.{constants_of, positions}
 use Rattle.gen_rules.specs.Typed.{type_of}
@@ -81,7 +82,11 @@ module _ (p : Program) (m : Method) (ts : List Around) where
               ∙ sym (ap (λ (ys : List CoreStmt). statements p m now ts (stmts_of (map stmt_of ys)) e) (drop_at xs i x within is)
               ∙ before_is now (stmt_of x) more e)
               ∙ h.left;
-          locals = extends_more old now new h.locals (record { more = (behind_extends (stmt_of x) now).more; is = en' ∙ (behind_extends (stmt_of x) now).is });
+          locals = extends_more old now new h.locals (record {
+            more = (behind_extends (stmt_of x) now).more;
+            is =
+                en' ∙ (behind_extends (stmt_of x) now).is;
+          });
         }
 
     pub written_done : length xs ≤ i → e ≡ statements p m old ts all d
@@ -91,7 +96,8 @@ module _ (p : Program) (m : Method) (ts : List Around) where
   dropped : (more l : List ℕ) → drop (length (more ++ l) - length l) (more ++ l) ≡ l
   dropped [] l = let k : length l - length l ≡ zero = omega arith in ap (λ n. drop n l) k
   dropped (d ∷ more) l =
-      let k : suc (length (more ++ l)) - length l ≡ suc (length (more ++ l) - length l) = (let n = length-append more l in omega (arith, n)) in
+      let k : suc (length (more ++ l)) - length l ≡ suc (length (more ++ l) - length l) = (let n = length-append more l in omega (arith, n))
+      in
       ap (λ n. drop n (d ∷ more ++ l)) k ∙ dropped more l
 
   pub all_dropped : (a b : List ℕ) → Extends a b → drop (length b - length a) b ≡ a
@@ -100,8 +106,10 @@ module _ (p : Program) (m : Method) (ts : List Around) where
   -- the groups of a switch
   module _ (gs : List CoreGroup) (i k : ℕ) (scope : List ℕ) (d total : Draft)
       (h : groups p m scope ts (groups_of (map group_of (drop i gs))) k d ≡ total) where
-    pub groups_more : (g : CoreGroup) (body : List CoreStmt) (scope' : List ℕ) (k' : ℕ) (d1 d2 : Draft) → i < length gs → g ≡ get_or gs i g →
-        body ≡ (out-CoreGroup g).body.items → d1 ≡ placed k d → d2 ≡ statements p m scope ts (stmts_of (map stmt_of body)) d1 → scope' ≡ scope →
+    pub groups_more : (g : CoreGroup) (body : List CoreStmt) (scope' : List ℕ) (k' : ℕ) (d1 d2 : Draft) → i < length gs → g ≡ get_or gs i g
+        →
+        body ≡ (out-CoreGroup g).body.items → d1 ≡ placed k d → d2 ≡ statements p m scope ts (stmts_of (map stmt_of body)) d1 →
+        scope' ≡ scope →
         k' ≡ k + 1 → groups p m scope' ts (groups_of (map group_of (drop (i + 1) gs))) k' d2 ≡ total
     groups_more g body scope' k' d1 d2 within is eb e1 e2 es ek =
         let more = groups_of (map group_of (drop (i + 1) gs)) in
@@ -130,11 +138,15 @@ pub switch_is : (p : Program) (m : Method) (scope : List ℕ) (ts : List Around)
 switch_is p m scope ts e gs end first n d0 d1 d2 d3 d4 d5 d6 e0 e1 e2 e3 e4 e5 e6 e7 e8 =
     let all = groups_of (map group_of gs) in
     e8 ∙ ap (placed end) (e7 ∙ ap (groups p m scope (around.Switch end ∷ ts) all first)
-    (e6 ∙ ap (λ k. table p m all first (length gs) end (numbers_from 0 k) d3) e5 ∙ ap (table p m all first (length gs) end (positions p (type_of p m e))) e4
+    (e6 ∙ ap (λ k. table p m all first (length gs) end (numbers_from 0 k) d3) e5 ∙
+    ap (table p m all first (length gs) end (positions p (type_of p m e))) e4
     ∙ sym (ap (λ k. table p m all first k end (positions p (type_of p m e)) (with_labels k d2)) (count_is gs))))
-    ∙ ap (λ f. placed end (groups p m scope (around.Switch end ∷ ts) all f (table p m all f (count all) end (positions p (type_of p m e)) (with_labels (count all) d2)))) e3
-    ∙ ap (λ (d : Draft). placed end (switched p m all (λ f. groups p m scope (around.Switch end ∷ ts) all f) end (positions p (type_of p m e)) d)) (e2 ∙ ap (value p m scope e) e1)
-    ∙ ap (λ x. placed x (switched p m all (λ f. groups p m scope (around.Switch x ∷ ts) all f) x (positions p (type_of p m e)) (value p m scope e (with_label 0 d0)))) e0
+    ∙ ap (λ f. placed end (groups p m scope (around.Switch end ∷ ts) all f (table p m all f (count all) end (positions p (type_of p m e))
+    (with_labels (count all) d2)))) e3
+    ∙ ap (λ (d : Draft). placed end (switched p m all (λ f. groups p m scope (around.Switch end ∷ ts) all f) end
+    (positions p (type_of p m e)) d)) (e2 ∙ ap (value p m scope e) e1)
+    ∙ ap (λ x. placed x (switched p m all (λ f. groups p m scope (around.Switch x ∷ ts) all f) x (positions p (type_of p m e))
+    (value p m scope e (with_label 0 d0)))) e0
 
 pub ruleset switches = (switch_is)
 

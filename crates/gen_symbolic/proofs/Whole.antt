@@ -17,5 +17,6 @@ pub method_is : (c : Coder) (d : KeptDraft) (is : List Instr) (ls : List ℕ) (x
 unfolding draft_in
 method_is c d is ls xs h el ex e =
     subst (IsCode (program_in c) (method_in c))
-    (sym (e ∙ ap (λ z. map (aimed z) (instrs_of (program_in c) xs)) el ∙ ap (λ z. map (aimed d.labels.items) (instrs_of (program_in c) z)) ex
+    (sym (e ∙ ap (λ z. map (aimed z) (instrs_of (program_in c) xs)) el ∙ ap (λ z. map (aimed d.labels.items) (instrs_of (program_in c) z))
+    ex
     ∙ ap (λ (x : Draft). map (aimed x.labels) x.code) h)) (drafted_is_code (program_in c) (method_in c))

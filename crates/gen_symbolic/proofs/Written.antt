@@ -25,7 +25,8 @@ module _ (c : Coder) (d e : KeptDraft) where
       ap (λ xs. record { code = instrs_of (program_in c) xs; labels = e.labels.items }) h
       ∙ ap (λ ls. record { code = instrs_of (program_in c) d.instrs.items; labels = ls }) k
 
-  pub mark_is : (place : ℕ) → place ≡ length d.instrs.items → e.instrs.items ≡ d.instrs.items → e.labels.items ≡ d.labels.items ++ place ∷ [] →
+  pub mark_is : (place : ℕ) → place ≡ length d.instrs.items → e.instrs.items ≡ d.instrs.items → e.labels.items ≡ d.labels.items
+      ++ place ∷ [] →
       draft_in c e ≡ with_label_here (draft_in c d)
   unfolding draft_in with_label_here
   mark_is place is h k =
@@ -34,7 +35,8 @@ module _ (c : Coder) (d e : KeptDraft) where
       ∙ ap (λ n. record { code = instrs_of (program_in c) d.instrs.items; labels = d.labels.items ++ n ∷ [] })
       (is ∙ sym (length-map d.instrs.items (instr_of (program_in c))))
 
-  pub close_is : (place l : ℕ) → place ≡ length d.instrs.items → e.instrs.items ≡ d.instrs.items → e.labels.items ≡ slice_set d.labels.items l place →
+  pub close_is : (place l : ℕ) → place ≡ length d.instrs.items → e.instrs.items ≡ d.instrs.items → e.labels.items ≡ slice_set d.labels.items
+      l place →
       draft_in c e ≡ placed l (draft_in c d)
   unfolding draft_in placed
   close_is place l is h k =
@@ -45,13 +47,15 @@ module _ (c : Coder) (d e : KeptDraft) where
 
 pub close_past : (c : Coder) (d : KeptDraft) (l : ℕ) → length d.labels.items ≤ l → draft_in c d ≡ placed l (draft_in c d)
 unfolding draft_in placed
-close_past c d l le = ap (λ ls. record { code = instrs_of (program_in c) d.instrs.items; labels = ls }) (sym (set_past d.labels.items l (length (instrs_of (program_in c) d.instrs.items)) le))
+close_past c d l le = ap (λ ls. record { code = instrs_of (program_in c) d.instrs.items; labels = ls })
+    (sym (set_past d.labels.items l (length (instrs_of (program_in c) d.instrs.items)) le))
 
 pub number_is : (c : Coder) (d : KeptDraft) (n : ℕ) → n ≡ length d.labels.items → n ≡ next_label (draft_in c d)
 unfolding draft_in next_label
 number_is c d n h = h
 
-pub begin_is : (c : Coder) (d : KeptDraft) → d.instrs.items ≡ [] → d.labels.items ≡ 0 ∷ [] → draft_in c d ≡ record { code = []; labels = 0 ∷ [] }
+pub begin_is : (c : Coder) (d : KeptDraft) → d.instrs.items ≡ [] → d.labels.items ≡ 0 ∷ [] →
+    draft_in c d ≡ record { code = []; labels = 0 ∷ [] }
 unfolding draft_in
 begin_is c d h k =
     ap (λ xs. record { code = instrs_of (program_in c) xs; labels = d.labels.items }) h ∙ ap (λ ls. record { code = []; labels = ls }) k

@@ -5,7 +5,8 @@ ghost use Rattle.jv_core.specs.Lookup.{slot_type, field_type, variable_type};
 ghost use Rattle.gen_rules.specs.Symbolic.{jump as jump_to, plain};
 ghost use Rattle.gen_symbolic.specs.View.{operand_of};
 ghost use Rattle.gen_symbolic.specs.inner.Held.{draft_in, program_in, method_in};
-ghost use Rattle.gen_symbolic.specs.inner.Drafting.{emit, with_label, with_label_here, with_labels, next_label, placed, variable_type_of, variable};
+ghost use Rattle.gen_symbolic.specs.inner.Drafting.{emit, with_label, with_label_here, with_labels, next_label, placed, variable_type_of};
+ghost use Rattle.gen_symbolic.specs.inner.Drafting.{variable};
 ghost use Rattle.jv_core.specs.declared.tree.Var.TheVariants as vars;
 
 use crate::symbolic::{Operand, Symbolic};
@@ -61,7 +62,8 @@ impl<'a> Coder<'a> {
         op: u8,
         operand: Operand<'a>,
     ) -> Result<(), Memory>
-        ensures { OnOk result (draft_in self.now draft.new ≡ emit (record { op = op; operand = operand_of (program_in self.now) operand.entry }) (draft_in self.now draft.old)) }
+        ensures { OnOk result (draft_in self.now draft.new
+            ≡ emit (record { op = op; operand = operand_of (program_in self.now) operand.entry }) (draft_in self.now draft.old)) }
     {
         draft.instrs.push(Symbolic { op, operand })?;
         Ok(())

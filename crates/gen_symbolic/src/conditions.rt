@@ -5,7 +5,8 @@ ghost use Rattle.std.specs.Prelude.{◌≡◌, OnOk, not};
 ghost use Rattle.jv_core.specs.View.{expr_of};
 ghost use Rattle.gen_rules.specs.Templates.{compared};
 ghost use Rattle.gen_symbolic.specs.inner.Held.{draft_in, program_in, method_in};
-ghost use Rattle.gen_symbolic.specs.inner.Drafting.{emit, value, tested_binary, binary_forms, forms, jump, literal_jump, test, null_op, compare_op, with_null, comparison, past};
+ghost use Rattle.gen_symbolic.specs.inner.Drafting.{emit, value, tested_binary, binary_forms, forms, jump, literal_jump, test, null_op};
+ghost use Rattle.gen_symbolic.specs.inner.Drafting.{compare_op, with_null, comparison, past};
 
 use crate::coder::{Coder, Draft};
 use crate::emitted::{GOTO, IFEQ, IFNE, IFNONNULL, IFNULL};
@@ -83,7 +84,8 @@ impl<'a> Coder<'a> {
         holds: bool,
         label: u32,
     ) -> Result<(), Memory>
-        ensures { OnOk result (draft_in self.now draft.new ≡ jump (program_in self.now) (method_in self.now) locals.now (expr_of expr.now) holds label (draft_in self.now draft.old)) }
+        ensures { OnOk result (draft_in self.now draft.new ≡ jump (program_in self.now) (method_in self.now) locals.now
+            (expr_of expr.now) holds label (draft_in self.now draft.old)) }
     {
         match &expr.kind {
             CoreExprKind::Truth(truth) => self.jump_literal(draft, *truth, holds, label),
@@ -143,7 +145,8 @@ impl<'a> Coder<'a> {
         holds: bool,
         label: u32,
     ) -> Result<(), Memory>
-        ensures { OnOk result (draft_in self.now draft.new ≡ emit (test holds label) (value (program_in self.now) (method_in self.now) locals.now (expr_of expr.now) (draft_in self.now draft.old))) }
+        ensures { OnOk result (draft_in self.now draft.new ≡ emit (test holds label)
+            (value (program_in self.now) (method_in self.now) locals.now (expr_of expr.now) (draft_in self.now draft.old))) }
     {
         self.value(draft, locals, expr)?;
         self.put_test(draft, holds, label)
@@ -161,7 +164,9 @@ impl<'a> Coder<'a> {
         holds: bool,
         label: u32,
     ) -> Result<(), Memory>
-        ensures { OnOk result (draft_in self.now draft.new ≡ (binary_forms (program_in self.now) (method_in self.now) locals.now op (expr_of left.now) (expr_of right.now)).jump holds label (draft_in self.now draft.old)) }
+        ensures { OnOk result (draft_in self.now draft.new
+            ≡ (binary_forms (program_in self.now) (method_in self.now) locals.now op (expr_of left.now) (expr_of right.now)).jump holds
+            label (draft_in self.now draft.old)) }
     {
         match op {
             CoreOp::Add | CoreOp::Sub | CoreOp::Mul | CoreOp::Div | CoreOp::Rem => {
@@ -189,7 +194,8 @@ impl<'a> Coder<'a> {
         holds: bool,
         label: u32,
     ) -> Result<(), Memory>
-        ensures { OnOk result (draft_in self.now draft.new ≡ tested_binary (program_in self.now) (method_in self.now) locals.now op (expr_of left.now) (expr_of right.now) holds label (draft_in self.now draft.old)) }
+        ensures { OnOk result (draft_in self.now draft.new ≡ tested_binary (program_in self.now) (method_in self.now) locals.now op
+            (expr_of left.now) (expr_of right.now) holds label (draft_in self.now draft.old)) }
     {
         match op {
             CoreOp::Or => {
@@ -224,7 +230,9 @@ impl<'a> Coder<'a> {
         holds: bool,
         label: u32,
     ) -> Result<(), Memory>
-        ensures { OnOk result (draft_in self.now draft.new ≡ jump (program_in self.now) (method_in self.now) locals.now (expr_of right.now) holds label (jump (program_in self.now) (method_in self.now) locals.now (expr_of left.now) holds label (draft_in self.now draft.old))) }
+        ensures { OnOk result (draft_in self.now draft.new ≡ jump (program_in self.now) (method_in self.now) locals.now
+            (expr_of right.now) holds label (jump (program_in self.now) (method_in self.now) locals.now (expr_of left.now) holds label
+            (draft_in self.now draft.old))) }
     {
         self.jump(draft, locals, left, holds, label)?;
         self.jump(draft, locals, right, holds, label)
@@ -241,7 +249,9 @@ impl<'a> Coder<'a> {
         holds: bool,
         label: u32,
     ) -> Result<(), Memory>
-        ensures { OnOk result (draft_in self.now draft.new ≡ past (jump (program_in self.now) (method_in self.now) locals.now (expr_of left.now) (not holds)) (jump (program_in self.now) (method_in self.now) locals.now (expr_of right.now) holds label) (draft_in self.now draft.old)) }
+        ensures { OnOk result (draft_in self.now draft.new
+            ≡ past (jump (program_in self.now) (method_in self.now) locals.now (expr_of left.now) (not holds))
+            (jump (program_in self.now) (method_in self.now) locals.now (expr_of right.now) holds label) (draft_in self.now draft.old)) }
     {
         let end = self.open(draft)?;
         self.jump(draft, locals, left, !holds, end)?;
@@ -261,7 +271,9 @@ impl<'a> Coder<'a> {
         holds: bool,
         label: u32,
     ) -> Result<(), Memory>
-        ensures { OnOk result (draft_in self.now draft.new ≡ comparison op (compared (expr_of left.now) (expr_of right.now)) (forms (program_in self.now) (method_in self.now) locals.now (expr_of left.now)) (forms (program_in self.now) (method_in self.now) locals.now (expr_of right.now)) holds label (draft_in self.now draft.old)) }
+        ensures { OnOk result (draft_in self.now draft.new ≡ comparison op (compared (expr_of left.now) (expr_of right.now))
+            (forms (program_in self.now) (method_in self.now) locals.now (expr_of left.now))
+            (forms (program_in self.now) (method_in self.now) locals.now (expr_of right.now)) holds label (draft_in self.now draft.old)) }
     {
         if is_null(right) {
             return self.compare_null(draft, locals, op, left, holds, label);
@@ -284,7 +296,9 @@ impl<'a> Coder<'a> {
         holds: bool,
         label: u32,
     ) -> Result<(), Memory>
-        ensures { OnOk result (draft_in self.now draft.new ≡ with_null op (value (program_in self.now) (method_in self.now) locals.now (expr_of expr.now)) holds label (draft_in self.now draft.old)) }
+        ensures { OnOk result (draft_in self.now draft.new
+            ≡ with_null op (value (program_in self.now) (method_in self.now) locals.now (expr_of expr.now)) holds label
+            (draft_in self.now draft.old)) }
     {
         self.value(draft, locals, expr)?;
         self.put_jump(draft, null_op(op, holds), label)

@@ -1,7 +1,8 @@
 //! Instructions for ints, texts and locals, and the names of opcodes.
 
 ghost use Rattle.std.specs.Prelude.{◌≡◌, ◌≤◌, OnOk, pos};
-ghost use Rattle.gen_rules.specs.Symbolic.{push, push_truth, push_text, load, store, aload, is_reference, return_value, with_local, Nothing, Field, Method};
+ghost use Rattle.gen_rules.specs.Symbolic.{push, push_truth, push_text, load, store, aload, is_reference, return_value, with_local};
+ghost use Rattle.gen_rules.specs.Symbolic.{Nothing, Field, Method};
 ghost use Rattle.gen_rules.specs.Members.{field_reference, method_reference};
 ghost use Rattle.gen_symbolic.specs.inner.Held.{draft_in, program_in, method_in};
 ghost use Rattle.gen_symbolic.specs.inner.Drafting.{emit, variable, store_in, text, discard};
@@ -207,7 +208,8 @@ impl<'a> Coder<'a> {
         locals: &Locals,
         of: Var,
     ) -> Result<(), Memory>
-        ensures { OnOk result (draft_in self.now draft.new ≡ variable (program_in self.now) (method_in self.now) locals.now of (draft_in self.now draft.old)) }
+        ensures { OnOk result (draft_in self.now draft.new ≡ variable (program_in self.now) (method_in self.now) locals.now of
+            (draft_in self.now draft.old)) }
     {
         match of {
             Var::Slot(slot) => {
@@ -223,7 +225,9 @@ impl<'a> Coder<'a> {
 
     /// An instruction of an own field.
     pub(crate) fn put_field(&self, draft: &mut Draft<'a>, op: u8, field: u32) -> Result<(), Memory>
-        ensures { OnOk result (draft_in self.now draft.new ≡ emit (record { op = op; operand = Field (field_reference (program_in self.now) (method_in self.now).class field) }) (draft_in self.now draft.old)) }
+        ensures { OnOk result (draft_in self.now draft.new
+            ≡ emit (record { op = op; operand = Field (field_reference (program_in self.now) (method_in self.now).class field) })
+            (draft_in self.now draft.old)) }
     {
         let class = self.method.class;
         self.put(draft, op, Operand::Field { class, field })
@@ -236,7 +240,8 @@ impl<'a> Coder<'a> {
         locals: &Locals,
         slot: u32,
     ) -> Result<(), Memory>
-        ensures { OnOk result (draft_in self.now draft.new ≡ store_in (program_in self.now) (method_in self.now) locals.now slot (draft_in self.now draft.old)) }
+        ensures { OnOk result (draft_in self.now draft.new ≡ store_in (program_in self.now) (method_in self.now) locals.now slot
+            (draft_in self.now draft.old)) }
     {
         let local = locals.local_of(self.method.kind, slot)?;
         self.put_store(draft, self.type_of_slot(slot), local)
@@ -244,7 +249,8 @@ impl<'a> Coder<'a> {
 
     /// A call of a method of this number.
     pub(crate) fn put_call(&self, draft: &mut Draft<'a>, op: u8, method: u32) -> Result<(), Memory>
-        ensures { OnOk result (draft_in self.now draft.new ≡ emit (record { op = op; operand = Method (method_reference (program_in self.now) method) }) (draft_in self.now draft.old)) }
+        ensures { OnOk result (draft_in self.now draft.new
+            ≡ emit (record { op = op; operand = Method (method_reference (program_in self.now) method) }) (draft_in self.now draft.old)) }
     {
         self.put(draft, op, Operand::Method(method))
     }
@@ -255,7 +261,8 @@ impl<'a> Coder<'a> {
         draft: &mut Draft<'a>,
         ty: Option<CoreType>,
     ) -> Result<(), Memory>
-        ensures { OnOk result (draft_in self.now draft.new ≡ text (program_in self.now) (method_in self.now) ty (draft_in self.now draft.old)) }
+        ensures { OnOk result (draft_in self.now draft.new ≡ text (program_in self.now) (method_in self.now) ty
+            (draft_in self.now draft.old)) }
     {
         let Some(ty) = ty else {
             return Ok(());
@@ -278,7 +285,8 @@ impl<'a> Coder<'a> {
         draft: &mut Draft<'a>,
         ty: Option<CoreType>,
     ) -> Result<(), Memory>
-        ensures { OnOk result (draft_in self.now draft.new ≡ discard (program_in self.now) (method_in self.now) ty (draft_in self.now draft.old)) }
+        ensures { OnOk result (draft_in self.now draft.new ≡ discard (program_in self.now) (method_in self.now) ty
+            (draft_in self.now draft.old)) }
     {
         let Some(ty) = ty else {
             return self.put_plain(draft, POP);

@@ -5,7 +5,8 @@ ghost use Rattle.jv_core.specs.View.{expr_of, exprs_of};
 ghost use Rattle.gen_rules.specs.Symbolic.{plain};
 ghost use Rattle.gen_symbolic.specs.View.{operand_of, built_in_of};
 ghost use Rattle.gen_symbolic.specs.inner.Held.{draft_in, program_in, method_in};
-ghost use Rattle.gen_symbolic.specs.inner.Drafting.{emit, value, arguments, truth_at, truth_of, tested_binary, binary_forms, summed, called_on, called_own, created, two_values, forms, jump};
+ghost use Rattle.gen_symbolic.specs.inner.Drafting.{emit, value, arguments, truth_at, truth_of, tested_binary, binary_forms, summed};
+ghost use Rattle.gen_symbolic.specs.inner.Drafting.{called_on, called_own, created, two_values, forms, jump};
 
 use crate::coder::{Coder, Draft};
 use crate::emitted::{
@@ -31,7 +32,8 @@ impl<'a> Coder<'a> {
         locals: &Locals,
         expr: &'a CoreExpr,
     ) -> Result<(), Memory>
-        ensures { OnOk result (draft_in self.now draft.new ≡ value (program_in self.now) (method_in self.now) locals.now (expr_of expr.now) (draft_in self.now draft.old)) }
+        ensures { OnOk result (draft_in self.now draft.new ≡ value (program_in self.now) (method_in self.now) locals.now (expr_of expr.now)
+            (draft_in self.now draft.old)) }
     {
         match &expr.kind {
             CoreExprKind::Int(number) => self.put_int(draft, *number),
@@ -72,7 +74,8 @@ impl<'a> Coder<'a> {
 
     // A new object of a class.
     fn put_new(&self, draft: &mut Draft<'a>, class: u32) -> Result<(), Memory>
-        ensures { OnOk result (draft_in self.now draft.new ≡ created (program_in self.now) (method_in self.now) class (draft_in self.now draft.old)) }
+        ensures { OnOk result (draft_in self.now draft.new ≡ created (program_in self.now) (method_in self.now) class
+            (draft_in self.now draft.old)) }
     {
         self.put(draft, NEW, Operand::Class(class))?;
         self.put_plain(draft, DUP)?;
@@ -88,7 +91,8 @@ impl<'a> Coder<'a> {
         expr: &'a CoreExpr,
         op: u8,
     ) -> Result<(), Memory>
-        ensures { OnOk result (draft_in self.now draft.new ≡ emit (plain op) (value (program_in self.now) (method_in self.now) locals.now (expr_of expr.now) (draft_in self.now draft.old))) }
+        ensures { OnOk result (draft_in self.now draft.new ≡ emit (plain op)
+            (value (program_in self.now) (method_in self.now) locals.now (expr_of expr.now) (draft_in self.now draft.old))) }
     {
         self.value(draft, locals, expr)?;
         self.put_plain(draft, op)
@@ -103,7 +107,8 @@ impl<'a> Coder<'a> {
         left: &'a CoreExpr,
         right: &'a CoreExpr,
     ) -> Result<(), Memory>
-        ensures { OnOk result (draft_in self.now draft.new ≡ value (program_in self.now) (method_in self.now) locals.now (expr_of right.now) (value (program_in self.now) (method_in self.now) locals.now (expr_of left.now) (draft_in self.now draft.old))) }
+        ensures { OnOk result (draft_in self.now draft.new ≡ value (program_in self.now) (method_in self.now) locals.now (expr_of right.now)
+            (value (program_in self.now) (method_in self.now) locals.now (expr_of left.now) (draft_in self.now draft.old))) }
     {
         self.value(draft, locals, left)?;
         self.value(draft, locals, right)
@@ -119,7 +124,9 @@ impl<'a> Coder<'a> {
         right: &'a CoreExpr,
         op: u8,
     ) -> Result<(), Memory>
-        ensures { OnOk result (draft_in self.now draft.new ≡ two_values (forms (program_in self.now) (method_in self.now) locals.now (expr_of left.now)) (forms (program_in self.now) (method_in self.now) locals.now (expr_of right.now)) (plain op) (draft_in self.now draft.old)) }
+        ensures { OnOk result (draft_in self.now draft.new
+            ≡ two_values (forms (program_in self.now) (method_in self.now) locals.now (expr_of left.now))
+            (forms (program_in self.now) (method_in self.now) locals.now (expr_of right.now)) (plain op) (draft_in self.now draft.old)) }
     {
         self.two_values(draft, locals, left, right)?;
         self.put_plain(draft, op)
@@ -135,7 +142,10 @@ impl<'a> Coder<'a> {
         right: &'a CoreExpr,
         called: BuiltIn,
     ) -> Result<(), Memory>
-        ensures { OnOk result (draft_in self.now draft.new ≡ two_values (forms (program_in self.now) (method_in self.now) locals.now (expr_of left.now)) (forms (program_in self.now) (method_in self.now) locals.now (expr_of right.now)) (record { op = 182; operand = built_in_of (program_in self.now) called }) (draft_in self.now draft.old)) }
+        ensures { OnOk result (draft_in self.now draft.new
+            ≡ two_values (forms (program_in self.now) (method_in self.now) locals.now (expr_of left.now))
+            (forms (program_in self.now) (method_in self.now) locals.now (expr_of right.now))
+            (record { op = 182; operand = built_in_of (program_in self.now) called }) (draft_in self.now draft.old)) }
     {
         self.two_values(draft, locals, left, right)?;
         self.put(draft, INVOKEVIRTUAL, Operand::BuiltIn(called))
@@ -150,7 +160,8 @@ impl<'a> Coder<'a> {
         left: &'a CoreExpr,
         right: &'a CoreExpr,
     ) -> Result<(), Memory>
-        ensures { OnOk result (draft_in self.now draft.new ≡ summed (program_in self.now) (method_in self.now) locals.now (expr_of left.now) (expr_of right.now) (draft_in self.now draft.old)) }
+        ensures { OnOk result (draft_in self.now draft.new ≡ summed (program_in self.now) (method_in self.now) locals.now (expr_of left.now)
+            (expr_of right.now) (draft_in self.now draft.old)) }
     {
         let left_type = self.type_of(left);
         let right_type = self.type_of(right);
@@ -174,7 +185,9 @@ impl<'a> Coder<'a> {
         left: &'a CoreExpr,
         right: &'a CoreExpr,
     ) -> Result<(), Memory>
-        ensures { OnOk result (draft_in self.now draft.new ≡ (binary_forms (program_in self.now) (method_in self.now) locals.now op (expr_of left.now) (expr_of right.now)).value (draft_in self.now draft.old)) }
+        ensures { OnOk result (draft_in self.now draft.new
+            ≡ (binary_forms (program_in self.now) (method_in self.now) locals.now op (expr_of left.now) (expr_of right.now)).value
+            (draft_in self.now draft.old)) }
     {
         match op {
             CoreOp::Add => self.sum(draft, locals, left, right),
@@ -212,7 +225,9 @@ impl<'a> Coder<'a> {
         locals: &Locals,
         inner: &'a CoreExpr,
     ) -> Result<(), Memory>
-        ensures { OnOk result (draft_in self.now draft.new ≡ truth_of (λ h l. jump (program_in self.now) (method_in self.now) locals.now (expr_of inner.now) (not h) l) (draft_in self.now draft.old)) }
+        ensures { OnOk result (draft_in self.now draft.new
+            ≡ truth_of (λ h l. jump (program_in self.now) (method_in self.now) locals.now (expr_of inner.now) (not h) l)
+            (draft_in self.now draft.old)) }
     {
         let end = self.open(draft)?;
         let fails = self.open(draft)?;
@@ -230,7 +245,9 @@ impl<'a> Coder<'a> {
         left: &'a CoreExpr,
         right: &'a CoreExpr,
     ) -> Result<(), Memory>
-        ensures { OnOk result (draft_in self.now draft.new ≡ truth_of (tested_binary (program_in self.now) (method_in self.now) locals.now op (expr_of left.now) (expr_of right.now)) (draft_in self.now draft.old)) }
+        ensures { OnOk result (draft_in self.now draft.new
+            ≡ truth_of (tested_binary (program_in self.now) (method_in self.now) locals.now op (expr_of left.now) (expr_of right.now))
+            (draft_in self.now draft.old)) }
     {
         let end = self.open(draft)?;
         let fails = self.open(draft)?;
@@ -247,7 +264,8 @@ impl<'a> Coder<'a> {
         locals: &Locals,
         args: &'a [CoreExpr],
     ) -> Result<(), Memory>
-        ensures { OnOk result (draft_in self.now draft.new ≡ arguments (program_in self.now) (method_in self.now) locals.now (exprs_of (map expr_of args.now)) (draft_in self.now draft.old)) }
+        ensures { OnOk result (draft_in self.now draft.new ≡ arguments (program_in self.now) (method_in self.now) locals.now
+            (exprs_of (map expr_of args.now)) (draft_in self.now draft.old)) }
     {
         for arg in args {
             self.value(draft, locals, arg)?;
@@ -264,7 +282,10 @@ impl<'a> Coder<'a> {
         args: &'a [CoreExpr],
         called: Operand<'a>,
     ) -> Result<(), Memory>
-        ensures { OnOk result (draft_in self.now draft.new ≡ emit (record { op = 184; operand = operand_of (program_in self.now) called.entry }) (arguments (program_in self.now) (method_in self.now) locals.now (exprs_of (map expr_of args.now)) (draft_in self.now draft.old))) }
+        ensures { OnOk result (draft_in self.now draft.new
+            ≡ emit (record { op = 184; operand = operand_of (program_in self.now) called.entry })
+            (arguments (program_in self.now) (method_in self.now) locals.now (exprs_of (map expr_of args.now))
+            (draft_in self.now draft.old))) }
     {
         self.arguments(draft, locals, args)?;
         self.put(draft, INVOKESTATIC, called)
@@ -280,7 +301,8 @@ impl<'a> Coder<'a> {
         method: u32,
         args: &'a [CoreExpr],
     ) -> Result<(), Memory>
-        ensures { OnOk result (draft_in self.now draft.new ≡ called_on (program_in self.now) (method_in self.now) locals.now receiver method (exprs_of (map expr_of args.now)) (draft_in self.now draft.old)) }
+        ensures { OnOk result (draft_in self.now draft.new ≡ called_on (program_in self.now) (method_in self.now) locals.now receiver method
+            (exprs_of (map expr_of args.now)) (draft_in self.now draft.old)) }
     {
         self.put_variable(draft, locals, receiver)?;
         self.arguments(draft, locals, args)?;
@@ -296,7 +318,8 @@ impl<'a> Coder<'a> {
         method: u32,
         args: &'a [CoreExpr],
     ) -> Result<(), Memory>
-        ensures { OnOk result (draft_in self.now draft.new ≡ called_own (program_in self.now) (method_in self.now) locals.now method (exprs_of (map expr_of args.now)) (draft_in self.now draft.old)) }
+        ensures { OnOk result (draft_in self.now draft.new ≡ called_own (program_in self.now) (method_in self.now) locals.now method
+            (exprs_of (map expr_of args.now)) (draft_in self.now draft.old)) }
     {
         self.put_own(draft)?;
         self.arguments(draft, locals, args)?;

@@ -3,7 +3,9 @@
 ghost use Rattle.std.specs.Prelude.{◌≡◌, IfOk, map, max, suc};
 ghost use Rattle.jv_core.specs.View.{expr_of, exprs_of, stmt_of, stmts_of, group_of, groups_of};
 ghost use Rattle.gen_rules.specs.Templates.{compared};
-ghost use Rattle.gen_rules.specs.Frames.{binary_depths, depths, depth_of_arguments, depth_of_assignment, depth_of, depth_of_all, depth_of_groups, left_by, max_stack, depths_by_value, depths_by_jumps, two_depths, comparison_depths};
+ghost use Rattle.gen_rules.specs.Frames.{binary_depths, depths, depth_of_arguments, depth_of_assignment, depth_of, depth_of_all};
+ghost use Rattle.gen_rules.specs.Frames.{depth_of_groups, left_by, max_stack, depths_by_value, depths_by_jumps, two_depths};
+ghost use Rattle.gen_rules.specs.Frames.{comparison_depths};
 ghost use Rattle.gen_symbolic.specs.inner.Held.{program_in, method_in, depths_of};
 ghost use Rattle.gen_symbolic.specs.inner.Drafting.{value, jump, groups};
 
@@ -117,7 +119,8 @@ impl<'a> Coder<'a> {
     // Arguments on an object.
     #[cycle(depths)]
     fn depths_on(&self, args: &[CoreExpr]) -> Result<Depths, Memory>
-        ensures { IfOk result (λ d. depths_of d ≡ depths_by_value (suc (depth_of_arguments (program_in self.now) (method_in self.now) (exprs_of (map expr_of args.now))))) }
+        ensures { IfOk result (λ d. depths_of d ≡ depths_by_value
+            (suc (depth_of_arguments (program_in self.now) (method_in self.now) (exprs_of (map expr_of args.now))))) }
     {
         let depth = self.arguments_depth(args)?;
         let depth = deeper(depth)?;
@@ -127,7 +130,8 @@ impl<'a> Coder<'a> {
     // Arguments of a call that needs no object and leaves so much.
     #[cycle(depths)]
     fn depths_with(&self, left: u32, args: &[CoreExpr]) -> Result<Depths, Memory>
-        ensures { IfOk result (λ d. depths_of d ≡ depths_by_value (max (depth_of_arguments (program_in self.now) (method_in self.now) (exprs_of (map expr_of args.now))) left)) }
+        ensures { IfOk result (λ d. depths_of d ≡ depths_by_value
+            (max (depth_of_arguments (program_in self.now) (method_in self.now) (exprs_of (map expr_of args.now))) left)) }
     {
         let depth = self.arguments_depth(args)?;
         Ok(Depths::by_value(depth.max(left)))
@@ -136,7 +140,9 @@ impl<'a> Coder<'a> {
     // Two values and an instruction.
     #[cycle(depths)]
     fn depths_of_two(&self, left: &CoreExpr, right: &CoreExpr) -> Result<Depths, Memory>
-        ensures { IfOk result (λ d. depths_of d ≡ depths_by_value (two_depths (depths (program_in self.now) (method_in self.now) (expr_of left.now)) (depths (program_in self.now) (method_in self.now) (expr_of right.now)))) }
+        ensures { IfOk result (λ d. depths_of d ≡ depths_by_value
+            (two_depths (depths (program_in self.now) (method_in self.now) (expr_of left.now))
+            (depths (program_in self.now) (method_in self.now) (expr_of right.now)))) }
     {
         let left = self.depths(left)?;
         let right = self.depths(right)?;
@@ -146,7 +152,9 @@ impl<'a> Coder<'a> {
 
     #[cycle(depths)]
     fn binary_depths(&self, op: CoreOp, left: &CoreExpr, right: &CoreExpr) -> Result<Depths, Memory>
-        ensures { IfOk result (λ d. depths_of d ≡ binary_depths op (compared (expr_of left.now) (expr_of right.now)) (depths (program_in self.now) (method_in self.now) (expr_of left.now)) (depths (program_in self.now) (method_in self.now) (expr_of right.now))) }
+        ensures { IfOk result (λ d. depths_of d ≡ binary_depths op (compared (expr_of left.now) (expr_of right.now))
+            (depths (program_in self.now) (method_in self.now) (expr_of left.now))
+            (depths (program_in self.now) (method_in self.now) (expr_of right.now))) }
     {
         match op {
             CoreOp::Or | CoreOp::And => {
@@ -166,7 +174,9 @@ impl<'a> Coder<'a> {
     #[tactic(auto, using(crate::proofs::Framing::comparisons))]
     #[cycle(depths)]
     fn comparison_depths(&self, left: &CoreExpr, right: &CoreExpr) -> Result<Depths, Memory>
-        ensures { IfOk result (λ d. depths_of d ≡ comparison_depths (compared (expr_of left.now) (expr_of right.now)) (depths (program_in self.now) (method_in self.now) (expr_of left.now)) (depths (program_in self.now) (method_in self.now) (expr_of right.now))) }
+        ensures { IfOk result (λ d. depths_of d ≡ comparison_depths (compared (expr_of left.now) (expr_of right.now))
+            (depths (program_in self.now) (method_in self.now) (expr_of left.now))
+            (depths (program_in self.now) (method_in self.now) (expr_of right.now))) }
     {
         if is_null(right) {
             let left = self.depths(left)?;
@@ -252,7 +262,8 @@ impl<'a> Coder<'a> {
     // A condition and a statement.
     #[cycle(statement_depths)]
     fn guarded_depth(&self, condition: &CoreExpr, inner: &CoreStmt) -> Result<u32, Memory>
-        ensures { IfOk result (λ n. n ≡ max (depths (program_in self.now) (method_in self.now) (expr_of condition.now)).jump (depth_of (program_in self.now) (method_in self.now) (stmt_of inner.now))) }
+        ensures { IfOk result (λ n. n ≡ max (depths (program_in self.now) (method_in self.now) (expr_of condition.now)).jump
+            (depth_of (program_in self.now) (method_in self.now) (stmt_of inner.now))) }
     {
         let condition = self.depths(condition)?;
         let inner = self.depth_of(inner)?;

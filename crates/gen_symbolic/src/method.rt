@@ -31,7 +31,8 @@ pub struct MethodCode<'a> {
 impl<'a> Coder<'a> {
     // The end of the method, whether it is reached or not.
     fn put_end(&self, draft: &mut Draft<'a>) -> Result<(), Memory>
-        ensures { OnOk result (draft_in self.now draft.new ≡ end_of_method (program_in self.now) (method_in self.now) (method_in self.now).result (draft_in self.now draft.old)) }
+        ensures { OnOk result (draft_in self.now draft.new ≡ end_of_method (program_in self.now) (method_in self.now)
+            (method_in self.now).result (draft_in self.now draft.old)) }
     {
         let result = self.method.result;
         match result {

@@ -53,7 +53,8 @@ fn has_label(labels: &[Option<u32>], position: Option<u32>) -> bool
 // The label at which the first group with this position begins.
 #[tactic(auto, using(crate::proofs::Loops::starts))]
 fn group_at(groups: &[CoreGroup], first: u32, position: Option<u32>) -> Result<Option<u32>, Memory>
-    ensures { IfOk result (λ o. o ≡ group_at (wanted position) (groups_of (map group_of groups.now)) (numbers_from first (length groups.now))) }
+    ensures { IfOk result (λ o. o ≡ group_at (wanted position) (groups_of (map group_of groups.now))
+        (numbers_from first (length groups.now))) }
 {
     let mut label = first;
     for group in groups {
@@ -74,7 +75,8 @@ impl<'a> Coder<'a> {
         position: Option<u32>,
         otherwise: u32,
     ) -> Result<u32, Memory>
-        ensures { IfOk result (λ n. n ≡ unwrap_or (group_at (wanted position) (groups_of (map group_of groups.now)) (numbers_from first (length groups.now))) otherwise) }
+        ensures { IfOk result (λ n. n ≡ unwrap_or
+            (group_at (wanted position) (groups_of (map group_of groups.now)) (numbers_from first (length groups.now))) otherwise) }
     {
         let Some(label) = group_at(groups, first, position)? else {
             return Ok(otherwise);
@@ -91,7 +93,8 @@ impl<'a> Coder<'a> {
         end: u32,
         constants: usize,
     ) -> Result<(), Memory>
-        ensures { OnOk result (draft_in self.now draft.new ≡ table (program_in self.now) (method_in self.now) (groups_of (map group_of groups.now)) first (length groups.now) end (numbers_from 0 constants) (draft_in self.now draft.old)) }
+        ensures { OnOk result (draft_in self.now draft.new ≡ table (program_in self.now) (method_in self.now)
+            (groups_of (map group_of groups.now)) first (length groups.now) end (numbers_from 0 constants) (draft_in self.now draft.old)) }
     {
         let default = self.label_at(groups, first, None, end)?;
         let targets = self.targets(groups, first, default, constants)?;
@@ -106,7 +109,9 @@ impl<'a> Coder<'a> {
         default: u32,
         constants: usize,
     ) -> Result<List<u32>, Memory>
-        ensures { IfOk result (λ l. l.items ≡ map (target_by (groups_of (map group_of groups.now)) (numbers_from first (length groups.now)) default) (numbers_from 0 constants)) }
+        ensures { IfOk result (λ l. l.items
+            ≡ map (target_by (groups_of (map group_of groups.now)) (numbers_from first (length groups.now)) default)
+            (numbers_from 0 constants)) }
     {
         let Ok(count) = u32::try_from(constants) else {
             return Err(Memory);

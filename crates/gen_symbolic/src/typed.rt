@@ -104,7 +104,8 @@ impl<'a> Coder<'a> {
     // The type of an expression with two operands. Only `+` looks at theirs.
     #[cycle(types)]
     fn binary_type(&self, op: CoreOp, left: &CoreExpr, right: &CoreExpr) -> CoreType
-        ensures { result ≡ operator_type op (joins op (type_of (program_in self.now) (method_in self.now) (expr_of left.now)) (type_of (program_in self.now) (method_in self.now) (expr_of right.now))) }
+        ensures { result ≡ operator_type op (joins op (type_of (program_in self.now) (method_in self.now) (expr_of left.now))
+            (type_of (program_in self.now) (method_in self.now) (expr_of right.now))) }
     {
         match op {
             CoreOp::Add => {
@@ -121,7 +122,8 @@ impl<'a> Coder<'a> {
 
     /// How many constants a switch over an expression tells apart: one at least.
     pub(crate) fn constants(&self, expr: &CoreExpr) -> usize
-        ensures { result ≡ max 1 (constants_of (program_in self.now) (type_of (program_in self.now) (method_in self.now) (expr_of expr.now))) }
+        ensures { result ≡ max 1 (constants_of (program_in self.now)
+            (type_of (program_in self.now) (method_in self.now) (expr_of expr.now))) }
     {
         let Some(ty) = self.type_of(expr) else {
             return 1;

@@ -1,10 +1,12 @@
 -- Places don't change how deep a tree is.
 use Rattle.std.proofs.Common.{◌≡◌, ℕ, suc, max, List, [], ◌∷◌, map, Option, Some, None, refl, sym, ap, ap₂, ◌∙◌}
 use Rattle.std.specs.Prelude.{option_map}
-use Rattle.jv_tree.specs.Source.{Expr, Int, Truth, Text, Null, This, Variable, Member, Neg, Not, Binary, Call, MethodCall, New, Exprs, NoExpr, Argument}
+use Rattle.jv_tree.specs.Source.{Expr, Int, Truth, Text, Null, This, Variable, Member, Neg, Not, Binary, Call, MethodCall, New, Exprs}
+use Rattle.jv_tree.specs.Source.{NoExpr, Argument}
 use Rattle.jv_tree.specs.Source.{Stmt, Block, Empty, Local, Assign, If, IfElse, While, Do, Switch, Break, Continue, Return, Print, Eval}
 use Rattle.jv_tree.specs.Source.{Stmts, NoStmt, Then, Groups, NoGroup, Group, Field, Method, Decl, ClassDecl, EnumDecl, File}
-use Rattle.jv_tree.specs.Depth.{depth, depth_of_args, depth_of_value, depth_of_stmt, depth_of_stmts, depth_of_groups, depth_of_fields, depth_of_methods, depth_of_decl, depth_of_file}
+use Rattle.jv_tree.specs.Depth.{depth, depth_of_args, depth_of_value, depth_of_stmt, depth_of_stmts, depth_of_groups, depth_of_fields}
+use Rattle.jv_tree.specs.Depth.{depth_of_methods, depth_of_decl, depth_of_file}
 use Rattle.jv_back.specs.Bare.{bare, bare_args, bare_stmt, bare_stmts, bare_groups, bare_field, bare_method, bare_decl, bare_file}
 
 deeper : {a b : ℕ} → a ≡ b → suc a ≡ suc b

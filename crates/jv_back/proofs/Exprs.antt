@@ -1,5 +1,6 @@
 -- The text of an expression is told as the same expression, places aside.
-use Rattle.std.proofs.Common.{◌≡◌, ℕ, zero, suc, ◌≤◌, max, inl, inr, List, [], ◌∷◌, ◌++◌, Bool, true, false, eqb, refl, sym, ap, ap₂, subst, ◌∙◌, arith, codes, true≢false}
+use Rattle.std.proofs.Common.{◌≡◌, ℕ, zero, suc, ◌≤◌, max, inl, inr, List, [], ◌∷◌, ◌++◌, Bool, true, false, eqb, refl, sym, ap, ap₂, subst}
+use Rattle.std.proofs.Common.{◌∙◌, arith, codes, true≢false}
 use Rattle.std.specs.Prelude.{◌||◌, ◌==◌, not, ℤ}
 use Rattle.std.specs.Char.{is_ascii_digit}
 use Rattle.std.specs.Fmt.{decimal, signed_decimal}
@@ -13,16 +14,19 @@ use Rattle.jv_tree.specs.declared.tree.Op.TheVariants as ops
 use Rattle.jv_tree.specs.declared.token.Sign.{Sign}
 use Rattle.jv_tree.specs.declared.token.Sign.TheVariants as signs
 use Rattle.jv_tree.specs.declared.token.Token.{Token}
-use Rattle.jv_tree.specs.Source.{Expr, Int, Truth, Text, Null, This, Variable, Member, Neg, Not, Binary, Call, MethodCall, New, Exprs, NoExpr, Argument, place_of}
+use Rattle.jv_tree.specs.Source.{Expr, Int, Truth, Text, Null, This, Variable, Member, Neg, Not, Binary, Call, MethodCall, New, Exprs}
+use Rattle.jv_tree.specs.Source.{NoExpr, Argument, place_of}
 use Rattle.jv_tree.specs.Depth.{depth, depth_of_args}
 use Rattle.jv_tree.specs.Tokens as tokens
-use Rattle.jv_tree.specs.Expressions.{Language, AreMoreArgs, AreArgs, AreArguments, is_number_kind, starts_number, sign_of, looseness, IsChain, IsSimple, IsPrimary, IsPost, IsUnary, IsBinary, IsWhole, IsInner, IsExpr}
+use Rattle.jv_tree.specs.Expressions.{Language, AreMoreArgs, AreArgs, AreArguments, is_number_kind, starts_number, sign_of, looseness}
+use Rattle.jv_tree.specs.Expressions.{IsChain, IsSimple, IsPrimary, IsPost, IsUnary, IsBinary, IsWhole, IsInner, IsExpr}
 use Rattle.jv_lex.specs.Letters.{is_word_start}
 use Rattle.jv_lex.specs.Signs.{goes_on}
 use Rattle.jv_print.specs.Layout.{expr_text, args_text, op_text, quoted_text, has_operator, is_apart}
 use Rattle.jv_print.specs.Layout as layout
 use Rattle.jv_back.specs.Bare.{bare, bare_args, nowhere}
-use Rattle.jv_back.proofs.Told.{NoWord, NoTail, tail_word, Told, nothing, convert, within, space_then, Front, sign_then, mark_then, IsWord, word_then, word_told, plain_word, IsNamed, named, Both, both}
+use Rattle.jv_back.proofs.Told.{NoWord, NoTail, tail_word, Told, nothing, convert, within, space_then, Front, sign_then, mark_then, IsWord}
+use Rattle.jv_back.proofs.Told.{word_then, word_told, plain_word, IsNamed, named, Both, both}
 use Rattle.jv_back.proofs.Texts.{text_told, IsPrinted, int_told, digit_first}
 
 -- ---- expressions that can be written

@@ -1,5 +1,6 @@
 -- The text of a file is told as the same file, places aside.
-use Rattle.std.proofs.Common.{◌≡◌, ℕ, ◌≤◌, max, inl, List, [], ◌∷◌, ◌++◌, map, Option, Some, None, refl, sym, ap, ap₂, subst, ◌∙◌, append_assoc, arith, codes}
+use Rattle.std.proofs.Common.{◌≡◌, ℕ, ◌≤◌, max, inl, List, [], ◌∷◌, ◌++◌, map, Option, Some, None, refl, sym, ap, ap₂, subst, ◌∙◌}
+use Rattle.std.proofs.Common.{append_assoc, arith, codes}
 use Rattle.std.specs.List.{AllByRecursion, flat_map}
 use Rattle.std.specs.Str.{IsUtf8}
 use Rattle.mg_text.specs.Call.{Name}
@@ -9,10 +10,12 @@ use Rattle.jv_tree.specs.declared.token.Token.{Token}
 use Rattle.jv_tree.specs.Source.{Field, Method, Class, Enum, Decl, ClassDecl, EnumDecl, File}
 use Rattle.jv_tree.specs.Depth.{depth_of_fields, depth_of_methods, depth_of_decl, depth_of_file}
 use Rattle.jv_tree.specs.Tokens as tokens
-use Rattle.jv_tree.specs.Files.{Member, FieldMember, MethodMember, fields_among, methods_among, AreMembers, IsAnnotation, IsClass, AreMoreNames, AreNames, IsEnum, IsDecl, AreDecls, IsFile}
+use Rattle.jv_tree.specs.Files.{Member, FieldMember, MethodMember, fields_among, methods_among, AreMembers, IsAnnotation, IsClass}
+use Rattle.jv_tree.specs.Files.{AreMoreNames, AreNames, IsEnum, IsDecl, AreDecls, IsFile}
 use Rattle.jv_print.specs.Layout.{field_line, method_lines, annotation, class_lines, names_text, enum_lines, decl_lines, layout}
 use Rattle.jv_back.specs.Bare.{bare_field, bare_method, bare_class, bare_enum, bare_decl, bare_file, nowhere}
-use Rattle.jv_back.proofs.Told.{Any, NoWord, Told, nothing, convert, space_then, line_then, Front, mark_then, IsWord, word_then, plain_word, IsNamed, named, Both, both}
+use Rattle.jv_back.proofs.Told.{Any, NoWord, Told, nothing, convert, space_then, line_then, Front, mark_then, IsWord, word_then, plain_word}
+use Rattle.jv_back.proofs.Told.{IsNamed, named, Both, both}
 use Rattle.jv_back.proofs.Texts.{text_told}
 use Rattle.jv_back.proofs.Parts.{on, past}
 use Rattle.jv_back.proofs.Members.{IsWrittenField, FieldPart, field_told, IsWrittenMethod, MethodPart, method_told}
@@ -113,7 +116,8 @@ enum_word = plain_word (codes "enum") refl refl
 -- fields, and then methods, in front of a brace
 abbrev MembersPart : Class → List Token → Type 0
 MembersPart c ts =
-    (gs : List Field) × (ns : List Method) × (map bare_field gs ≡ map bare_field c.fields) × (map bare_method ns ≡ map bare_method c.methods)
+    (gs : List Field) × (ns : List Method) × (map bare_field gs ≡ map bare_field c.fields)
+    × (map bare_method ns ≡ map bare_method c.methods)
     × AreMembers (map FieldMember gs ++ map MethodMember ns) ts
 
 members_told : (c : Class) → IsWrittenClass c → max (depth_of_fields c.fields) (depth_of_methods c.methods) ≤ 399
@@ -154,7 +158,22 @@ class_told c w d =
         let all = map FieldMember ms.0 ++ map MethodMember ms.1 in (
           record { place = p; name = c.name; typestate = c.typestate; fields = ms.0; methods = ms.1 },
           (λ i. record { place = nowhere; name = c.name; typestate = c.typestate; fields = ms.2 i; methods = ms.3 i }),
-          (w.name.name, a, b, g, us, tokens.word m (codes "public") ∷ [], ws, parts, note, refl, all, ms.4, only_fields ms.0 ms.1, only_methods ms.0 ms.1),
+          (
+            w.name.name,
+            a,
+            b,
+            g,
+            us,
+            tokens.word m (codes "public") ∷ [],
+            ws,
+            parts,
+            note,
+            refl,
+            all,
+            ms.4,
+            only_fields ms.0 ms.1,
+            only_methods ms.0 ms.1,
+          ),
         )
 
 -- ---- enums

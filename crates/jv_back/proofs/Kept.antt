@@ -9,10 +9,12 @@ use Rattle.jv_tree.specs.declared.token.Sign.TheVariants as signs
 use Rattle.jv_tree.specs.declared.token.TokenKind.{TokenKind}
 use Rattle.jv_tree.specs.declared.token.TokenKind.TheVariants as kinds
 use Rattle.jv_tree.specs.declared.token.Token.{Token}
-use Rattle.jv_tree.specs.Source.{Expr, Int, Truth, Text, Null, This, Variable, Member, Neg, Not, Binary, Call, MethodCall, New, Exprs, NoExpr, Argument}
+use Rattle.jv_tree.specs.Source.{Expr, Int, Truth, Text, Null, This, Variable, Member, Neg, Not, Binary, Call, MethodCall, New, Exprs}
+use Rattle.jv_tree.specs.Source.{NoExpr, Argument}
 use Rattle.jv_tree.specs.Tokens as tokens
 use Rattle.jv_tree.specs.Tokens.{IsName}
-use Rattle.jv_tree.specs.Expressions.{Language, IsInParens, AreMoreArgs, AreArgs, AreArguments, sign_of, IsChain, IsSimple, IsPrimary, IsPost, IsUnary, IsBinary, IsInner, IsExpr}
+use Rattle.jv_tree.specs.Expressions.{Language, IsInParens, AreMoreArgs, AreArgs, AreArguments, sign_of, IsChain, IsSimple, IsPrimary}
+use Rattle.jv_tree.specs.Expressions.{IsPost, IsUnary, IsBinary, IsInner, IsExpr}
 use Rattle.jv_lex.specs.Letters.{is_word_start, is_word_byte}
 use Rattle.jv_lex.specs.Pieces.{Piece, blank, line, block, word, number, text, sign, spell, Cut, tokens_from, AreTokens}
 use Rattle.jv_lex.proofs.Utf8.{after_piece, text_utf8}

@@ -10,7 +10,9 @@ use Rattle.jv_tree.specs.declared.token.Token.{Token}
 use Rattle.jv_tree.specs.Source.{Expr, Field, Method, Class, Enum, Decl, ClassDecl, EnumDecl, File}
 use Rattle.jv_tree.specs.Tokens as tokens
 use Rattle.jv_tree.specs.Statements.{type_word}
-use Rattle.jv_tree.specs.Files.{Member, FieldMember, MethodMember, fields_among, methods_among, IsInitialiser, IsField, IsParam, AreMoreParams, AreParams, AreParamsOf, IsResult, IsMethod, AreMembers, IsAnnotation, IsClass, AreMoreNames, AreNames, IsEnum, IsDecl, AreDecls, IsFile}
+use Rattle.jv_tree.specs.Files.{Member, FieldMember, MethodMember, fields_among, methods_among, IsInitialiser, IsField, IsParam}
+use Rattle.jv_tree.specs.Files.{AreMoreParams, AreParams, AreParamsOf, IsResult, IsMethod, AreMembers, IsAnnotation, IsClass, AreMoreNames}
+use Rattle.jv_tree.specs.Files.{AreNames, IsEnum, IsDecl, AreDecls, IsFile}
 use Rattle.jv_lex.specs.Letters.{is_word_start, is_word_byte}
 use Rattle.jv_back.proofs.Told.{IsWord, plain_word, IsNamed}
 use Rattle.jv_back.proofs.Kept.{AreGood, in_front, in_back, named}

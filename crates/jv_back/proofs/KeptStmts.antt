@@ -15,14 +15,16 @@ use Rattle.jv_tree.specs.Source.{Stmt, Block, Empty, Local, Assign, If, IfElse, 
 use Rattle.jv_tree.specs.Source.{Stmts, NoStmt, Then, Groups, NoGroup, Group}
 use Rattle.jv_tree.specs.Tokens as tokens
 use Rattle.jv_tree.specs.Sugar.{is_out, only_argument, printed, is_call}
-use Rattle.jv_tree.specs.Statements.{IsFree, IsCondition, type_word, IsType, IsOptionalName, IsLabel, IsTarget, IsAssign, IsLocal, IsCase, AreMoreCases, AreCases, IsOptionalExpr, IsStmt, AreItems, AreGroups}
+use Rattle.jv_tree.specs.Statements.{IsFree, IsCondition, type_word, IsType, IsOptionalName, IsLabel, IsTarget, IsAssign, IsLocal, IsCase}
+use Rattle.jv_tree.specs.Statements.{AreMoreCases, AreCases, IsOptionalExpr, IsStmt, AreItems, AreGroups}
 use Rattle.jv_lex.specs.Letters.{is_word_start, is_word_byte}
 use Rattle.jv_back.proofs.Told.{IsWord, plain_word, IsNamed}
 use Rattle.jv_back.proofs.Told as told
 use Rattle.jv_back.proofs.Exprs.{IsWritten, AreWritten}
 use Rattle.jv_back.proofs.Kept.{AreGood, in_front, in_back, named, Keeps, expr_kept, condition_kept}
 use Rattle.jv_back.proofs.Parts.{IsWrittenTarget, IsTyped}
-use Rattle.jv_back.proofs.Stmts.{IsWrittenName, AreWrittenNames, AreWrittenLabels, IsWrittenValue, IsWrittenLocal, IsWrittenStmt, AreWrittenStmts, AreWrittenGroups}
+use Rattle.jv_back.proofs.Stmts.{IsWrittenName, AreWrittenNames, AreWrittenLabels, IsWrittenValue, IsWrittenLocal, IsWrittenStmt}
+use Rattle.jv_back.proofs.Stmts.{AreWrittenStmts, AreWrittenGroups}
 
 pub free_kept : Keeps IsFree
 free_kept = expr_kept 400

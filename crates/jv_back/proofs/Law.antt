@@ -19,8 +19,18 @@ pub written_spells : (file : ℕ) (tree : File) → AllByRecursion IsWrittenDecl
 written_spells file tree written shallow size =
     let w = whole file (file_told tree written (omega (arith, shallow))) in
     let part = w.holds in
-    let deep : depth_of_file part.0 ≤ 200 = omega (arith, depth_kept tree part.0 part.1, shallow) in
-    (part.0, record { size = size; tokens = w.tokens; cut = w.cut; supported = none_unsupported w.tokens w.supported; spelled = (part.2, deep) }, part.1)
+    let deep : depth_of_file part.0 ≤ 200 = omega (arith, depth_kept tree part.0 part.1, shallow) in (
+      part.0,
+      record {
+        size = size;
+        tokens = w.tokens;
+        cut = w.cut;
+        supported = none_unsupported w.tokens w.supported;
+        spelled =
+            (part.2, deep);
+      },
+      part.1,
+    )
 
 pub printed_reads_back : (file source : ℕ) (bytes : List ℕ) (tree : File) → Spells source bytes tree → length (layout tree) ≤ 1048576
     → (back : File) × Spells file (layout tree) back × (bare_file back ≡ bare_file tree)

@@ -1,5 +1,6 @@
 -- The text of a field and of a method is told as the same, places aside.
-use Rattle.std.proofs.Common.{◌≡◌, ℕ, ◌≤◌, inl, inr, List, [], ◌∷◌, ◌++◌, map, Bool, true, false, Option, Some, None, refl, sym, ap, ap₂, ◌∙◌, codes}
+use Rattle.std.proofs.Common.{◌≡◌, ℕ, ◌≤◌, inl, inr, List, [], ◌∷◌, ◌++◌, map, Bool, true, false, Option, Some, None, refl, sym, ap, ap₂}
+use Rattle.std.proofs.Common.{◌∙◌, codes}
 use Rattle.std.specs.Prelude.{option_map, ◌⊎◌}
 use Rattle.std.specs.List.{AllByRecursion}
 use Rattle.std.proofs.lemmas.List.{append-nil as append_nil}
@@ -12,10 +13,12 @@ use Rattle.jv_tree.specs.Depth.{depth_of_value, depth_of_stmts}
 use Rattle.jv_tree.specs.Tokens as tokens
 use Rattle.jv_tree.specs.Tokens.{is_name, IsName}
 use Rattle.jv_tree.specs.Statements.{type_word}
-use Rattle.jv_tree.specs.Files.{AreModifiers, has_static, modifiers, IsInitialiser, IsField, IsParam, AreMoreParams, AreParams, IsArgs, IsMain, IsResult, IsMethod}
+use Rattle.jv_tree.specs.Files.{AreModifiers, has_static, modifiers, IsInitialiser, IsField, IsParam, AreMoreParams, AreParams, IsArgs}
+use Rattle.jv_tree.specs.Files.{IsMain, IsResult, IsMethod}
 use Rattle.jv_print.specs.Layout.{lines, braced, field_value, field_line, param_text, params_text, all_params, static_text, method_lines}
 use Rattle.jv_back.specs.Bare.{bare, bare_field, bare_param, bare_method, nowhere}
-use Rattle.jv_back.proofs.Told.{Any, NoWord, NoTail, Told, nothing, convert, regroup, space_then, line_then, Front, sign_then, mark_then, IsWord, word_then, word_told, plain_word, IsNamed, named, Both, both}
+use Rattle.jv_back.proofs.Told.{Any, NoWord, NoTail, Told, nothing, convert, regroup, space_then, line_then, Front, sign_then, mark_then}
+use Rattle.jv_back.proofs.Told.{IsWord, word_then, word_told, plain_word, IsNamed, named, Both, both}
 use Rattle.jv_back.proofs.Parts.{on, past, free_told, IsTyped, type_then}
 use Rattle.jv_back.proofs.Stmts.{IsWrittenValue, AreWrittenStmts, ItemsPart, Braces, braces_told, items_told}
 
@@ -227,5 +230,20 @@ method_told m w d =
         takes_args = m.takes_args;
         body = body.1 i;
       }),
-      (w.result, w.name.name, a, c, g, k, us, vs, ws, e1 ∙ past us (e2 ∙ on (e3 ∙ on (e4 ∙ on (e5 ∙ past vs (e6 ∙ on e7))))), mods.0, mods.1, ps.2, body.2),
+      (
+        w.result,
+        w.name.name,
+        a,
+        c,
+        g,
+        k,
+        us,
+        vs,
+        ws,
+        e1 ∙ past us (e2 ∙ on (e3 ∙ on (e4 ∙ on (e5 ∙ past vs (e6 ∙ on e7))))),
+        mods.0,
+        mods.1,
+        ps.2,
+        body.2,
+      ),
     )

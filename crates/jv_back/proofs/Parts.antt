@@ -1,5 +1,6 @@
 -- Parts of statements are told as they are printed: conditions, targets, calls, types, names.
-use Rattle.std.proofs.Common.{◌≡◌, ℕ, suc, ◌+◌, ◌≤◌, inl, inr, List, [], ◌∷◌, ◌++◌, Bool, true, false, Option, Some, None, refl, sym, ap, ◌∙◌, append_assoc, arith, codes}
+use Rattle.std.proofs.Common.{◌≡◌, ℕ, suc, ◌+◌, ◌≤◌, inl, inr, List, [], ◌∷◌, ◌++◌, Bool, true, false, Option, Some, None, refl, sym, ap}
+use Rattle.std.proofs.Common.{◌∙◌, append_assoc, arith, codes}
 use Rattle.std.specs.Prelude.{option_map, ◌&&◌, if◌then◌else◌}
 use Rattle.std.specs.Str.{bytes_eq}
 use Rattle.std.proofs.lemmas.List.{append-nil}
@@ -17,7 +18,8 @@ use Rattle.jv_tree.specs.Expressions.{IsInParens, AreArguments, IsInner, IsExpr}
 use Rattle.jv_tree.specs.Statements.{IsFree, IsCondition, type_word, IsType, IsTarget}
 use Rattle.jv_print.specs.Layout.{expr_text, type_text, body_start, behind}
 use Rattle.jv_back.specs.Bare.{bare, bare_args}
-use Rattle.jv_back.proofs.Told.{NoWord, NoTail, Told, convert, regroup, space_then, line_then, indent_then, Front, mark_then, IsWord, word_then, word_told, plain_word, IsNamed, named, Both, both}
+use Rattle.jv_back.proofs.Told.{NoWord, NoTail, Told, convert, regroup, space_then, line_then, indent_then, Front, mark_then, IsWord}
+use Rattle.jv_back.proofs.Told.{word_then, word_told, plain_word, IsNamed, named, Both, both}
 use Rattle.jv_back.proofs.Exprs.{IsWritten, Part, expr_told, whole_of}
 
 -- behind a token

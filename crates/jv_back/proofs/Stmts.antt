@@ -1,5 +1,6 @@
 -- The text of a statement is told as the same statement, places aside.
-use Rattle.std.proofs.Common.{◌≡◌, ℕ, ◌+◌, ◌≤◌, inl, inr, List, [], ◌∷◌, ◌++◌, true, false, Option, Some, None, refl, sym, ap, ap₂, subst, ◌∙◌, append_assoc, arith, codes}
+use Rattle.std.proofs.Common.{◌≡◌, ℕ, ◌+◌, ◌≤◌, inl, inr, List, [], ◌∷◌, ◌++◌, true, false, Option, Some, None, refl, sym, ap, ap₂, subst}
+use Rattle.std.proofs.Common.{◌∙◌, append_assoc, arith, codes}
 use Rattle.std.specs.Prelude.{◌⊎◌}
 use Rattle.mg_text.specs.Call.{Name}
 use Rattle.mg_text.specs.declared.place.Place.{Place}
@@ -13,12 +14,16 @@ use Rattle.jv_tree.specs.Depth.{depth, depth_of_value, depth_of_stmt, depth_of_s
 use Rattle.jv_tree.specs.Tokens as tokens
 use Rattle.jv_tree.specs.Tokens.{IsName, BeginsAt, first_place}
 use Rattle.jv_tree.specs.Sugar.{printed, is_call, takes_else, is_one_group}
-use Rattle.jv_tree.specs.Statements.{IsFree, IsCondition, type_word, IsOptionalName, IsLabel, IsTarget, IsLocal, IsCase, AreMoreCases, AreCases, IsStmt, AreItems, AreGroups}
-use Rattle.jv_print.specs.Layout.{expr_text, type_text, label_text, case_text, case_lines, target_text, value_text, is_block, body_start, body_level, body_text, behind, braced, stmt_text, lines, group_lines}
+use Rattle.jv_tree.specs.Statements.{IsFree, IsCondition, type_word, IsOptionalName, IsLabel, IsTarget, IsLocal, IsCase, AreMoreCases}
+use Rattle.jv_tree.specs.Statements.{AreCases, IsStmt, AreItems, AreGroups}
+use Rattle.jv_print.specs.Layout.{expr_text, type_text, label_text, case_text, case_lines, target_text, value_text, is_block, body_start}
+use Rattle.jv_print.specs.Layout.{body_level, body_text, behind, braced, stmt_text, lines, group_lines}
 use Rattle.jv_back.specs.Bare.{bare_stmt, bare_stmts, bare_groups, nowhere}
-use Rattle.jv_back.proofs.Told.{Any, NoWord, Told, nothing, convert, regroup, space_then, line_then, indent_then, Front, sign_then, mark_then, IsWord, word_then, plain_word, IsNamed, named, Both, both}
+use Rattle.jv_back.proofs.Told.{Any, NoWord, Told, nothing, convert, regroup, space_then, line_then, indent_then, Front, sign_then}
+use Rattle.jv_back.proofs.Told.{mark_then, IsWord, word_then, plain_word, IsNamed, named, Both, both}
 use Rattle.jv_back.proofs.Exprs.{IsWritten, Part}
-use Rattle.jv_back.proofs.Parts.{on, past, free_told, condition_then, IsWrittenTarget, target_told, call_kept, unprinted_kept, Prints, print_then, IsTyped, type_then, start_then, behind_then, start_follows, begins}
+use Rattle.jv_back.proofs.Parts.{on, past, free_told, condition_then, IsWrittenTarget, target_told, call_kept, unprinted_kept, Prints}
+use Rattle.jv_back.proofs.Parts.{print_then, IsTyped, type_then, start_then, behind_then, start_follows, begins}
 
 -- ---- statements that can be written
 

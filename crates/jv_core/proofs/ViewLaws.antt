@@ -18,9 +18,11 @@ use Rattle.jv_core.specs.declared.tree.CoreGroup.{CoreGroup, roll-CoreGroup, fol
 use Rattle.jv_core.specs.declared.tree.CoreStmtKind.{CoreStmtKind, fold-roll-CoreStmtKind}
 use Rattle.jv_core.specs.declared.tree.CoreStmtKind.TheOpen as FS
 use Rattle.jv_core.specs.declared.tree.CoreStmtKind.TheVariants as S
-use Rattle.jv_core.specs.Tree.{Expr, Int, Truth, Text, Null, Variable, Constant, Neg, Not, Binary, Protocol, Helper, Static, Equals, Concat, Session, New}
+use Rattle.jv_core.specs.Tree.{Expr, Int, Truth, Text, Null, Variable, Constant, Neg, Not, Binary, Protocol, Helper, Static, Equals, Concat}
+use Rattle.jv_core.specs.Tree.{Session, New}
 use Rattle.jv_core.specs.Tree.{Stmt, Block, Empty, Local, Assign, If, IfElse, While, Do, Switch, Break, Continue, Return, Print, Eval}
-use Rattle.jv_core.specs.View.{exprs_of, stmts_of, groups_of, OneGroup, expr_layer, placed_layer, expr_of, kind_of, stmt_layer, group_layer, placed_stmt_layer, stmt_of, group_of, stmt_kind_of}
+use Rattle.jv_core.specs.View.{exprs_of, stmts_of, groups_of, OneGroup, expr_layer, placed_layer, expr_of, kind_of, stmt_layer, group_layer}
+use Rattle.jv_core.specs.View.{placed_stmt_layer, stmt_of, group_of, stmt_kind_of}
 
 pub expr_of-is : (e : CoreExpr) → expr_of e ≡ kind_of e.kind e.place
 unfolding expr_of kind_of

@@ -1,7 +1,8 @@
 -- Which statements can complete. Each statement is reached where the one before it in its list completes;
 -- the value of a condition counts only where it is the literal `true`.
 use Rattle.std.specs.Prelude.{◌≡◌, ◌≢◌, ◌⊎◌, ℕ, Option, Some, None, Contains, true}
-use Rattle.jv_core.specs.Tree.{Expr, Truth, Stmt, Block, Empty, Local, Assign, If, IfElse, While, Do, Switch, Break, Continue, Return, Print, Eval}
+use Rattle.jv_core.specs.Tree.{Expr, Truth, Stmt, Block, Empty, Local, Assign, If, IfElse, While, Do, Switch, Break, Continue, Return}
+use Rattle.jv_core.specs.Tree.{Print, Eval}
 use Rattle.jv_core.specs.Tree.{Stmts, NoStmt, Then, Declare, Groups, NoGroup, Group}
 
 -- how control may leave a statement that is reached, but for the end of the method

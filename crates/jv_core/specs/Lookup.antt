@@ -1,5 +1,6 @@
 -- What numbers and names stand for in a program.
-use Rattle.std.specs.Prelude.{◌≡◌, ℕ, List, [], get_or, map, take, Option, Some, slice_get, option_map, option_and_then, position, Bool, true, false}
+use Rattle.std.specs.Prelude.{◌≡◌, ℕ, List, [], get_or, map, take, Option, Some, slice_get, option_map, option_and_then, position, Bool}
+use Rattle.std.specs.Prelude.{true, false}
 use Rattle.std.specs.Str.{bytes_eq}
 use Rattle.mg_text.specs.Call.{Name}
 use Rattle.jv_core.specs.declared.tree.Var.{Var}

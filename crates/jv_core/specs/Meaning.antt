@@ -1,6 +1,7 @@
 -- What a core means: by cases on its trees, over numbers. Places mean nothing.
 -- Values hold the names of classes and enums, which the core takes from its tables.
-use Rattle.std.specs.Prelude.{ℕ, Bool, true, false, List, [], ◌∷◌, Option, Some, None, ◌||◌, ◌&&◌, suc, pos, nat_eq, slice_get, if◌then◌else◌, option_map, option_and_then}
+use Rattle.std.specs.Prelude.{ℕ, Bool, true, false, List, [], ◌∷◌, Option, Some, None, ◌||◌, ◌&&◌, suc, pos, nat_eq, slice_get}
+use Rattle.std.specs.Prelude.{if◌then◌else◌, option_map, option_and_then}
 use Rattle.std.specs.Str.{bytes_eq}
 use Rattle.mg_text.specs.Call.{Name}
 use Rattle.jv_values.specs.Values.{Value, Row, Shared, Lives, Here, Inputs, Ended, Wrong, find, put}
@@ -10,7 +11,8 @@ use Rattle.jv_values.specs.Operators.{operator_of, binary, negative, opposite, e
 use Rattle.jv_values.specs.Objects.{object_of, read_field, write_field, make, receiver, telling}
 use Rattle.jv_values.specs.Messages.{session}
 use Rattle.jv_values.specs.Messages as messages
-use Rattle.jv_values.specs.Statements.{Normal, Breaks, Continues, Returns, Does, next_do, assigned, Mine, while_turn, do_turn, is_default, case_at, any_label, after_switch}
+use Rattle.jv_values.specs.Statements.{Normal, Breaks, Continues, Returns, Does, next_do, assigned, Mine, while_turn, do_turn, is_default}
+use Rattle.jv_values.specs.Statements.{case_at, any_label, after_switch}
 use Rattle.jv_values.specs.Budget.{Below, Language, ran}
 use Rattle.jv_core.specs.declared.tree.Var.{Var}
 use Rattle.jv_core.specs.declared.tree.Var.TheVariants as vars
@@ -20,7 +22,8 @@ use Rattle.jv_core.specs.declared.program.CoreType.{CoreType}
 use Rattle.jv_core.specs.declared.program.CoreType.TheVariants as types
 use Rattle.jv_core.specs.declared.program.MethodKind.{MethodKind}
 use Rattle.jv_core.specs.declared.program.MethodKind.TheVariants as kinds
-use Rattle.jv_core.specs.Tree.{Expr, Int, Truth, Text, Null, Variable, Constant, Neg, Not, Binary, Protocol, Helper, Static, Equals, Concat, Session, New}
+use Rattle.jv_core.specs.Tree.{Expr, Int, Truth, Text, Null, Variable, Constant, Neg, Not, Binary, Protocol, Helper, Static, Equals, Concat}
+use Rattle.jv_core.specs.Tree.{Session, New}
 use Rattle.jv_core.specs.Tree.{Exprs, NoExpr, Argument}
 use Rattle.jv_core.specs.Tree.{Stmt, Block, Empty, Local, Assign, If, IfElse, While, Do, Switch, Break, Continue, Return, Print, Eval}
 use Rattle.jv_core.specs.Tree.{Stmts, NoStmt, Then, Declare, Groups, NoGroup, Group, Field, Method, Program}

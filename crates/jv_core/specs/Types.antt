@@ -12,7 +12,8 @@ use Rattle.jv_core.specs.declared.program.CoreType.{CoreType}
 use Rattle.jv_core.specs.declared.program.CoreType.TheVariants as types
 use Rattle.jv_core.specs.declared.program.MethodKind.{MethodKind}
 use Rattle.jv_core.specs.declared.program.MethodKind.TheVariants as kinds
-use Rattle.jv_core.specs.Tree.{Expr, Int, Truth, Text, Null, Variable, Constant, Neg, Not, Binary, Protocol, Helper, Static, Equals, Concat, Session, New}
+use Rattle.jv_core.specs.Tree.{Expr, Int, Truth, Text, Null, Variable, Constant, Neg, Not, Binary, Protocol, Helper, Static, Equals, Concat}
+use Rattle.jv_core.specs.Tree.{Session, New}
 use Rattle.jv_core.specs.Tree.{Exprs, NoExpr, Argument, Class, Enum, Method, Program}
 use Rattle.jv_core.specs.Lookup.{variable_type, param_types, IsInstance}
 

@@ -18,7 +18,8 @@ use Rattle.jv_core.specs.declared.program.CoreEnum.{CoreEnum}
 use Rattle.jv_core.specs.declared.program.CoreSlot.{CoreSlot}
 use Rattle.jv_core.specs.declared.program.CoreLoop.{CoreLoop}
 use Rattle.jv_core.specs.declared.program.CoreMethod.{CoreMethod}
-use Rattle.jv_core.specs.Tree.{Expr, Int, Truth, Text, Null, Variable, Constant, Neg, Not, Binary, Protocol, Helper, Static, Equals, Concat, Session, New}
+use Rattle.jv_core.specs.Tree.{Expr, Int, Truth, Text, Null, Variable, Constant, Neg, Not, Binary, Protocol, Helper, Static, Equals, Concat}
+use Rattle.jv_core.specs.Tree.{Session, New}
 use Rattle.jv_core.specs.Tree.{Exprs, NoExpr, Argument}
 use Rattle.jv_core.specs.Tree.{Stmt, Block, Empty, Local, Assign, If, IfElse, While, Do, Switch, Break, Continue, Return, Print, Eval}
 use Rattle.jv_core.specs.Tree.{Stmts, NoStmt, Then, Declare, Groups, NoGroup, Group, Field, Class, Enum, Slot, Loop, Method, Program}

@@ -10,7 +10,8 @@ use Rattle.mg_read.specs.Culprit.{culprit}
 use Rattle.mg_read.specs.First.{Clean, behind, with_earlier}
 use Rattle.ts_tree.specs.Proper.{AreDistinct}
 use Rattle.jv_tree.specs.Source.{Field, Method, Class, Enum, ClassDecl, EnumDecl}
-use Rattle.jv_rules.specs.Members.{Sort, OfType, OfTypestate, FieldName, MethodName, ConstantName, Entry, entry, ClassMember, OfField, OfMethod}
+use Rattle.jv_rules.specs.Members.{Sort, OfType, OfTypestate, FieldName, MethodName, ConstantName, Entry, entry, ClassMember, OfField}
+use Rattle.jv_rules.specs.Members.{OfMethod}
 use Rattle.jv_rules.specs.Members.{is_before, methods_before, methods_from, merged, member_entry, entries_in}
 use Rattle.jv_rules.specs.Declarations.{DuplicateMember, IsTaken}
 use Rattle.jv_rules.proofs.Tests.{nothing_in, in_cases, in_first, in_later}
@@ -101,14 +102,16 @@ fields_in : (fs : List Field) (ms : List Method) → names_in FieldName (map mem
 fields_in [] ms = fields_none ms
 fields_in (f ∷ fs) ms =
     in_parts FieldName (map OfMethod (methods_before f.place ms)) (OfField f ∷ merged fs (methods_from f.place ms))
-    ∙ ap (λ ns. ns ++ f.name ∷ names_in FieldName (map member_entry (merged fs (methods_from f.place ms)))) (fields_none (methods_before f.place ms))
+    ∙ ap (λ ns. ns ++ f.name ∷ names_in FieldName (map member_entry (merged fs (methods_from f.place ms))))
+    (fields_none (methods_before f.place ms))
     ∙ ap (λ ns. f.name ∷ ns) (fields_in fs (methods_from f.place ms))
 
 methods_in : (fs : List Field) (ms : List Method) → names_in MethodName (map member_entry (merged fs ms)) ≡ map (λ m. m.name) ms
 methods_in [] ms = methods_all ms
 methods_in (f ∷ fs) ms =
     in_parts MethodName (map OfMethod (methods_before f.place ms)) (OfField f ∷ merged fs (methods_from f.place ms))
-    ∙ ap (λ ns. ns ++ names_in MethodName (map member_entry (merged fs (methods_from f.place ms)))) (methods_all (methods_before f.place ms))
+    ∙ ap (λ ns. ns ++ names_in MethodName (map member_entry (merged fs (methods_from f.place ms))))
+    (methods_all (methods_before f.place ms))
     ∙ ap (λ ns. map (λ (m : Method). m.name) (methods_before f.place ms) ++ ns) (methods_in fs (methods_from f.place ms))
     ∙ sym (map-append (λ (m : Method). m.name) (methods_before f.place ms) (methods_from f.place ms))
     ∙ ap (map (λ (m : Method). m.name)) (split f.place ms)
@@ -120,11 +123,13 @@ constants_in p (c ∷ cs) = ap (λ ns. c ∷ ns) (constants_in p cs)
 pub fields_apart : (c : Class) → Clean DuplicateMember (with_earlier (entries_in (ClassDecl c))) → AreDistinct (map (λ f. f.name) c.fields)
 fields_apart c h = subst AreDistinct (fields_in c.fields c.methods) (apart_in FieldName [] (entries_in (ClassDecl c)) (members_new _ h))
 
-pub methods_apart : (c : Class) → Clean DuplicateMember (with_earlier (entries_in (ClassDecl c))) → AreDistinct (map (λ m. m.name) c.methods)
+pub methods_apart : (c : Class) → Clean DuplicateMember (with_earlier (entries_in (ClassDecl c))) →
+    AreDistinct (map (λ m. m.name) c.methods)
 methods_apart c h = subst AreDistinct (methods_in c.fields c.methods) (apart_in MethodName [] (entries_in (ClassDecl c)) (members_new _ h))
 
 pub constants_apart : (e : Enum) → Clean DuplicateMember (with_earlier (entries_in (EnumDecl e))) → AreDistinct e.constants
-constants_apart e h = subst AreDistinct (constants_in e.place e.constants) (apart_in ConstantName [] (entries_in (EnumDecl e)) (members_new _ h))
+constants_apart e h = subst AreDistinct (constants_in e.place e.constants) (apart_in ConstantName [] (entries_in (EnumDecl e))
+    (members_new _ h))
 
 -- A field and a method stand among the members of their class.
 

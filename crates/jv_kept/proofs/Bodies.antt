@@ -20,7 +20,8 @@ use Rattle.jv_core.specs.Statements.{FineAll}
 use Rattle.jv_core.specs.Completes.{Completes}
 use Rattle.jv_core.specs.Members.{type_names}
 use Rattle.jv_core.specs.Numbering.{numbers_from}
-use Rattle.jv_names.specs.Resolves.{Numbers, Owned, IsType, IsStmts, AreParams, no_param, param, MethodIs, methods_of, first_slots, Resolves}
+use Rattle.jv_names.specs.Resolves.{Numbers, Owned, IsType, IsStmts, AreParams, no_param, param, MethodIs, methods_of, first_slots}
+use Rattle.jv_names.specs.Resolves.{Resolves}
 use Rattle.jv_names.specs.Resolves as is
 use Rattle.jv_names.proofs.Tables.{aligned_at, owner_at}
 use Rattle.jv_kept.proofs.BodyIs.{IsKeptBody}
@@ -51,7 +52,8 @@ params_in_scope core m [] sc n h locals =
 params_in_scope core m (p ∷ ps) sc n (param s rest) locals =
     let count : suc n + length ps ≡ n + length (p ∷ ps) = omega arith in
     subst (λ k. AreLocals sc.program core m (with_params ps (declare p.name p.ty sc)).locals (first_slots k)) count
-    (params_in_scope core m ps (declare p.name p.ty sc) (suc n) rest (declared sc.program core m sc.locals (first_slots n) p.name p.ty n s locals))
+    (params_in_scope core m ps (declare p.name p.ty sc) (suc n) rest (declared sc.program core m sc.locals (first_slots n) p.name p.ty n s
+    locals))
 
 -- a result that is void
 of_void : (program : Program) (core : Core.Program) (t : CoreType) → IsType program core written.Void t → t ≡ types.Void
@@ -104,7 +106,8 @@ module _ (program : Program) (core : Core.Program) (well : IsWellTyped program) 
         (all_right NoFaultAt (param_spots begins o.method.params)
         (stmts_spots (with_params o.method.params begins) o.method.body ++ AtEnd o.method ∷ []) spots)) in
         subst (λ slots. FineAll core k slots [] k.body) (first_slots_are k.params)
-        (are_stated core k n here sc (record { slots = first_slots k.params; loops = [] }) o.method.body k.body res names_apart runs in_scope i.result
+        (are_stated core k n here sc (record { slots = first_slots k.params; loops = [] }) o.method.body k.body res names_apart runs
+        in_scope i.result
         body clean mentions)
 
     -- the body of a method with a result can't complete
@@ -117,7 +120,8 @@ module _ (program : Program) (core : Core.Program) (well : IsWellTyped program) 
         end.0.returns (culprit o.method.end []) (
           refl,
           (λ void. some (of_void program core k.result (subst (λ ty. IsType program core ty k.result) void i.result))),
-          completing.completes_alike program core k (with_params o.method.params begins) (record { slots = first_slots k.params; loops = [] })
+          completing.completes_alike program core k (with_params o.method.params begins)
+              (record { slots = first_slots k.params; loops = [] })
               o.method.body k.body i.body completes,
         )
 

@@ -1,5 +1,6 @@
 -- What it says that nothing is at fault in the declarations of a program.
-use Rattle.std.proofs.Common.{◌≡◌, ℕ, zero, suc, List, [], ◌∷◌, ◌++◌, map, Some, None, Contains, slice_get, flat_map, subst, sym, ap, ⊎_elim}
+use Rattle.std.proofs.Common.{◌≡◌, ℕ, zero, suc, List, [], ◌∷◌, ◌++◌, map, Some, None, Contains, slice_get, flat_map, subst, sym, ap}
+use Rattle.std.proofs.Common.{⊎_elim}
 use Rattle.std.proofs.lemmas.List.Elements.{Contains-append_left, Contains-append_right}
 use Rattle.mg_read.specs.First.{FirstOf, none, next, Clean, with_earlier}
 use Rattle.jv_meaning.specs.Program.{classes_of}

@@ -57,7 +57,8 @@ module _ (program : Program) (origins : List ℕ) (clean : NoFault program origi
     names_within (more {a = c} {b = n} i rest) = (slice_get_within core.names n c i, names_within rest)
 
     enums_from : (es : List Source.Enum) (ds : List Core.Enum) → ((e : Source.Enum) → Contains es e → Contains (enums_of program.files) e) →
-        AllByRecursion (λ (d : Core.Enum). length d.constants ≤ 2 ^ 31) ds → Aligned (EnumIs program core) es ds → AllByRecursion (IsEnum core) ds
+        AllByRecursion (λ (d : Core.Enum). length d.constants ≤ 2 ^ 31) ds → Aligned (EnumIs program core) es ds →
+        AllByRecursion (IsEnum core) ds
     enums_from _ _ within few none = tt
     enums_from _ _ within few (more {a = e} {b = d} {as' = es} {bs = ds} i rest) = (
       record {

@@ -1,5 +1,6 @@
 -- The fields of a core's class.
-use Rattle.std.proofs.Common.{◌≡◌, ℕ, ◌<◌, Bool, true, false, true≢false, List, Contains, slice_get, Option, Some, None, refl, sym, ◌∙◌, subst}
+use Rattle.std.proofs.Common.{◌≡◌, ℕ, ◌<◌, Bool, true, false, true≢false, List, Contains, slice_get, Option, Some, None, refl, sym, ◌∙◌}
+use Rattle.std.proofs.Common.{subst}
 use Rattle.std.specs.List.{AllByRecursion}
 use Rattle.std.specs.Str.{bytes_eq}
 use Rattle.std.proofs.lemmas.Option.{slice_get_within}
@@ -76,7 +77,8 @@ module _ (program : Program) (origins : List ℕ) (clean : NoFault program origi
   is_constant _ _ _ _ n (is.enum_type away c) is.initial_truth = n (λ x. x)
   is_constant _ _ _ _ n (is.enum_type away c) is.initial_text = n (λ x. x)
   is_constant _ _ _ _ n (is.enum_type away c) is.initial_null = absurd (n (λ some. some away))
-  is_constant _ _ _ _ n (is.enum_type {name = name} {e = e'} {k = l} away c) (is.initial_constant {e = e} {a = a} {k = k} {n = m} {i = i} of at) =
+  is_constant _ _ _ _ n (is.enum_type {name = name} {e = e'} {k = l} away c) (is.initial_constant {e = e} {a = a} {k = k} {n = m} {i = i} of
+      at) =
       let same : e ≡ name = same_name e name (λ differ. n (λ q. differ q.0)) in
       let number : m ≡ e' = one_enum program core res (type_names_apart program core origins clean res) name m e' k l
       (subst (λ e. IsEnum program core e m k) same of) c in
@@ -102,7 +104,8 @@ module _ (program : Program) (origins : List ℕ) (clean : NoFault program origi
   begins ty t None (Some e') n type i = elim i [ ]
   begins ty t (Some e) None n type i = elim i [ ]
 
-  field_is : (class : Source.Class) (f : Source.Field) (k : Core.Field) → Contains (classes_of program.files) class → Contains class.fields f →
+  field_is : (class : Source.Class) (f : Source.Field) (k : Core.Field) → Contains (classes_of program.files) class →
+      Contains class.fields f →
       IsOfValues f.ty → FieldIs program core f k → IsField core k
   field_is class f k of has values i = record {
     name = slice_get_within core.names k.name f.name i.name;

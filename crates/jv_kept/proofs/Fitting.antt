@@ -1,5 +1,6 @@
 -- What the type of an expression says of what is resolved of it, and values that fit where they are taken.
-use Rattle.std.proofs.Common.{◌≡◌, ◌≢◌, ℕ, List, [], ◌∷◌, length, Option, Some, None, Bool, true, false, ◌==◌, Decides, refl, sym, ap, subst, ◌∙◌, true≢false}
+use Rattle.std.proofs.Common.{◌≡◌, ◌≢◌, ℕ, List, [], ◌∷◌, length, Option, Some, None, Bool, true, false, ◌==◌, Decides, refl, sym, ap}
+use Rattle.std.proofs.Common.{subst, ◌∙◌, true≢false}
 use Rattle.std.proofs.lemmas.Bool.Decides.{Decides-eqb}
 use Rattle.mg_text.specs.Call.{Name}
 use Rattle.mg_text.specs.declared.place.Place.{Place}
@@ -12,7 +13,8 @@ use Rattle.jv_tree.specs.Source
 use Rattle.jv_tree.specs.Source.{place_of}
 use Rattle.jv_meaning.specs.Program.{class_named}
 use Rattle.jv_rules.specs.Program.{Program}
-use Rattle.jv_rules.specs.Types.{ValueType, NoValue, IntType, BooleanType, TextType, EnumType, ClassType, NullType, Fits, same, meant, Signature}
+use Rattle.jv_rules.specs.Types.{ValueType, NoValue, IntType, BooleanType, TextType, EnumType, ClassType, NullType, Fits, same, meant}
+use Rattle.jv_rules.specs.Types.{Signature}
 use Rattle.jv_rules.specs.Types as rules
 use Rattle.jv_rules.specs.Scope.{Scope}
 use Rattle.jv_rules.specs.Typing.{type_of}
@@ -97,7 +99,8 @@ module _ (program : Program) (core : Core.Program) where
     one_type boolean boolean n = refl
     one_type text text n = refl
     one_type (class {name = name} {c = c} i) (class {c = d} j) n = ap types.Object (one_class program core res apart name c d i j)
-    one_type (enum {name = name} {e = c} {k = k} i) (enum {e = d} {k = l} j) n = ap types.Enum (one_enum program core res apart name c d k l i j)
+    one_type (enum {name = name} {e = c} {k = k} i) (enum {e = d} {k = l} j) n =
+        ap types.Enum (one_enum program core res apart name c d k l i j)
     one_type null null n = absurd n
 
     module _ (m : Core.Method) (slots : List ℕ) where

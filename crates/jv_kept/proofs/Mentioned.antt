@@ -1,5 +1,6 @@
 -- The types that are named in a program whose declarations have no fault.
-use Rattle.std.proofs.Common.{◌≡◌, ◌≢◌, ⊎_elim, ℕ, Bool, true, false, cond, List, [], ◌∷◌, ◌++◌, map, Contains, find, slice_get, Option, Some, None, refl, sym, subst}
+use Rattle.std.proofs.Common.{◌≡◌, ◌≢◌, ⊎_elim, ℕ, Bool, true, false, cond, List, [], ◌∷◌, ◌++◌, map, Contains, find, slice_get, Option}
+use Rattle.std.proofs.Common.{Some, None, refl, sym, subst}
 use Rattle.std.proofs.lemmas.Option.{slice_get_within}
 use Rattle.std.proofs.lemmas.List.Elements.{Contains-append_right}
 use Rattle.mg_text.specs.Call.{Name}
@@ -12,7 +13,8 @@ use Rattle.jv_tree.specs.Source
 use Rattle.jv_meaning.specs.Program.{classes_of, enums_of, class_named, enum_named}
 use Rattle.jv_rules.specs.Program.{Program}
 use Rattle.jv_rules.specs.Shape.{IsOfValues}
-use Rattle.jv_rules.specs.Members.{Written, Made, OfField, OfMethod, members_of, mentions_in_member, mentions_in_class, mentions_in_stmts, param_mention}
+use Rattle.jv_rules.specs.Members.{Written, Made, OfField, OfMethod, members_of, mentions_in_member, mentions_in_class, mentions_in_stmts}
+use Rattle.jv_rules.specs.Members.{param_mention}
 use Rattle.jv_rules.specs.Declarations.{UnknownClass, IsUsableClass}
 use Rattle.jv_rules.specs.Faults.{IsWellTyped}
 use Rattle.jv_rules.proofs.Tests.{nothing_in, in_cases, in_first, in_later}
@@ -94,7 +96,8 @@ module _ (program : Program) (origins : List ℕ) (clean : NoFault program origi
     typestate_number is.no_protocol n = absurd (n refl)
     typestate_number (is.protocol_named {t = t} at named) n = (t, refl)
 
-    usable_has_typestate : (name : Name) (c : ℕ) → IsClass program core name c → IsUsableClass (class_named program.files name) → HasTypestate core c
+    usable_has_typestate : (name : Name) (c : ℕ) → IsClass program core name c → IsUsableClass (class_named program.files name) →
+        HasTypestate core c
     usable_has_typestate name c i usable =
         let m = aligned_at res.classes c i.class i.at in
         let t = typestate_number m.is.typestate (subst IsUsableClass i.named usable) in

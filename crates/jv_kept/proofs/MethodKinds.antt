@@ -1,5 +1,6 @@
 -- The kinds of a core's methods.
-use Rattle.std.proofs.Common.{◌≡◌, ⊎_elim, ℕ, Bool, true, false, true≢false, ◌||◌, List, [], ◌∷◌, length, Contains, slice_get, option_and_then, Option, Some, None, refl, sym, ap, ◌∙◌, subst}
+use Rattle.std.proofs.Common.{◌≡◌, ⊎_elim, ℕ, Bool, true, false, true≢false, ◌||◌, List, [], ◌∷◌, length, Contains, slice_get}
+use Rattle.std.proofs.Common.{option_and_then, Option, Some, None, refl, sym, ap, ◌∙◌, subst}
 use Rattle.std.specs.List.{list_any}
 use Rattle.std.specs.Str.{bytes_eq}
 use Rattle.std.proofs.lemmas.Slice.Eq.{bytes_eq-Decides}
@@ -97,7 +98,8 @@ pub runs_on_object : (program : Program) (core : Core.Program) (c : Source.Class
     IsInstance (kind_of program core c m)
 runs_on_object program core c m e = instance_kind m.is_static m.takes_args (is_of_protocol program c m.name) e
 
-pub is_no_static : (program : Program) (core : Core.Program) (c : Source.Class) (m : Source.Method) → IsInstance (kind_of program core c m) →
+pub is_no_static : (program : Program) (core : Core.Program) (c : Source.Class) (m : Source.Method) → IsInstance (kind_of program core c m)
+    →
     m.is_static ≡ false
 is_no_static program core c m h = static_of_kind m.is_static m.takes_args (is_of_protocol program c m.name) h
 
@@ -177,4 +179,5 @@ module _ (program : Program) (core : Core.Program) (res : Resolves program core)
     -- a method is of its kind
     pub kind_kept : IsShapedMethod o.method → IsOfKind core k k.kind
     kind_kept shaped = subst (IsOfKind core k) (sym is_it.kind)
-        (of_kind o.method.is_static o.method.takes_args (is_of_protocol program o.owner.class o.method.name) shaped.main named_by not_named_by)
+        (of_kind o.method.is_static o.method.takes_args (is_of_protocol program o.owner.class o.method.name) shaped.main named_by
+        not_named_by)

@@ -1,5 +1,6 @@
 -- The names of classes and enums stand apart, and those of typestates.
-use Rattle.std.proofs.Common.{◌≡◌, inl, inr, ⊎_elim, ℕ, List, [], ◌∷◌, ◌++◌, length, map, Contains, flat_map, refl, sym, ap, ◌∙◌, subst, arith}
+use Rattle.std.proofs.Common.{◌≡◌, inl, inr, ⊎_elim, ℕ, List, [], ◌∷◌, ◌++◌, length, map, Contains, flat_map, refl, sym, ap, ◌∙◌, subst}
+use Rattle.std.proofs.Common.{arith}
 use Rattle.std.proofs.lemmas.List.{append-nil}
 use Rattle.std.proofs.lemmas.List.Concat.{flat_map-append}
 use Rattle.std.proofs.lemmas.List.Elements.{Contains-append_left, Contains-append_right, Contains-append_cases}
@@ -74,7 +75,8 @@ among (ClassDecl c ∷ ds) name has =
     ⊎_elim (λ same. subst (λ n. Contains (n ∷ map decl_name ds) name) (sym same) (in_first (map decl_name ds) name))
     (λ more. in_later (map decl_name ds) c.name name (among ds name more)) (in_cases (class_names ds ++ enum_names ds) c.name name has)
 among (EnumDecl e ∷ ds) name has =
-    ⊎_elim (λ early. in_later (map decl_name ds) e.name name (among ds name (Contains-append_left (class_names ds) (enum_names ds) name early)))
+    ⊎_elim (λ early. in_later (map decl_name ds) e.name name
+    (among ds name (Contains-append_left (class_names ds) (enum_names ds) name early)))
     (λ late. ⊎_elim (λ same. subst (λ n. Contains (n ∷ map decl_name ds) name) (sym same) (in_first (map decl_name ds) name))
     (λ more. in_later (map decl_name ds) e.name name (among ds name (Contains-append_right (class_names ds) (enum_names ds) name more)))
     (in_cases (enum_names ds) e.name name late))
@@ -101,12 +103,17 @@ earlier_of : {A : Type 0} (seen xs : List A) (x : A) → Contains xs x → (earl
 earlier_of seen [] x has = absurd (nothing_in x has)
 earlier_of seen (y ∷ xs) x has =
     ⊎_elim
-    (λ same. (seen, subst (λ z. Contains ((seen, z) ∷ behind (seen ++ y ∷ []) xs) (seen, x)) (sym same) (in_first (behind (seen ++ y ∷ []) xs) (seen, x))))
+    (λ same. (
+      seen,
+      subst (λ z. Contains ((seen, z) ∷ behind (seen ++ y ∷ []) xs) (seen, x)) (sym same)
+          (in_first (behind (seen ++ y ∷ []) xs) (seen, x)),
+    ))
     (λ more. let w = earlier_of (seen ++ y ∷ []) xs x more in (w.0, in_later (behind (seen ++ y ∷ []) xs) (seen, y) (w.0, x) w.1))
     (in_cases xs y x has)
 
 -- an entry of each declared type
-entry_of : (ds : List Decl) (name : Name) → Contains (map decl_name ds) name → (e : Entry) × Contains (map decl_entry ds) e × (e.sort ≡ OfType) × (e.name ≡ name)
+entry_of : (ds : List Decl) (name : Name) → Contains (map decl_name ds) name → (e : Entry) × Contains (map decl_entry ds) e
+    × (e.sort ≡ OfType) × (e.name ≡ name)
 entry_of [] name has = absurd (nothing_in name has)
 entry_of (d ∷ ds) name has =
     ⊎_elim (λ same. (decl_entry d, in_first (map decl_entry ds) (decl_entry d), of_type d, same))
@@ -141,7 +148,8 @@ module _ (program : Program) (origins : List ℕ) (clean : NoFault program origi
       subst AreDistinct names (apart_in OfTypestate [] (entries program origins) (names_new _ clean.names))
 
   pub not_built_in : (name : Name) →
-      Contains (map (λ c. c.name) (classes_of program.files) ++ map (λ e. e.name) (enums_of program.files)) name → Contains built_in_classes name → ⊥
+      Contains (map (λ c. c.name) (classes_of program.files) ++ map (λ e. e.name) (enums_of program.files)) name →
+      Contains built_in_classes name → ⊥
   not_built_in name has built =
       let ds = decls_of program.files in
       let w = entry_of ds name (among ds name (subst (λ ns. Contains ns name) (sym (names_of program.files)) has)) in

@@ -1,5 +1,6 @@
 -- What the names in a method stand for, with their types: variables, and methods that are called.
-use Rattle.std.proofs.Common.{◌≡◌, ℕ, zero, suc, Bool, true, false, cond, true≢false, List, [], ◌∷◌, length, map, take, drop, Option, Some, None, option_map, option_and_then, slice_get, refl, sym, ap, ◌∙◌, subst}
+use Rattle.std.proofs.Common.{◌≡◌, ℕ, zero, suc, Bool, true, false, cond, true≢false, List, [], ◌∷◌, length, map, take, drop, Option, Some}
+use Rattle.std.proofs.Common.{None, option_map, option_and_then, slice_get, refl, sym, ap, ◌∙◌, subst}
 use Rattle.std.specs.Prelude.{find, if◌then◌else◌}
 use Rattle.std.specs.Str.{bytes_eq}
 use Rattle.std.proofs.lemmas.Slice.Eq.{bytes_eq-Decides}
@@ -19,7 +20,8 @@ use Rattle.jv_core.specs.declared.program.MethodKind.TheVariants as kinds
 use Rattle.jv_core.specs.Tree as Core
 use Rattle.jv_core.specs.Lookup.{param_types, IsInstance}
 use Rattle.jv_core.specs.Types.{IsVariable, IsField}
-use Rattle.jv_names.specs.Resolves.{Aligned, Numbers, HasSlot, Owned, IsVar, IsOwnField, IsClass, IsMethod, IsType, AreParams, ClassIs, MethodIs, kind_of, methods_of, Resolves}
+use Rattle.jv_names.specs.Resolves.{Aligned, Numbers, HasSlot, Owned, IsVar, IsOwnField, IsClass, IsMethod, IsType, AreParams, ClassIs}
+use Rattle.jv_names.specs.Resolves.{MethodIs, kind_of, methods_of, Resolves}
 use Rattle.jv_names.specs.Resolves as is
 use Rattle.jv_names.proofs.Tables.{some_is, none_some, aligned_at, method_is, owner_at}
 use Rattle.jv_kept.proofs.Fitting.{IsKnown, meant_known}
@@ -95,7 +97,8 @@ the_local program core m x _ _ k (is.more {a = d} {as' = ds} {bs = ks} i rest) (
     go false same = refl
 
 -- a visible field, in code that runs on an object
-visible_instance : (is_static : Bool) (o : Option Source.Field) (f : Source.Field) → (if is_static then None else o) ≡ Some f → is_static ≡ false
+visible_instance : (is_static : Bool) (o : Option Source.Field) (f : Source.Field) → (if is_static then None else o) ≡ Some f →
+    is_static ≡ false
 visible_instance true o f e = absurd (none_some e)
 visible_instance false o f e = refl
 
@@ -131,11 +134,13 @@ module _ (core : Core.Program) (m : Core.Method) (scope : Scope) (ns : Numbers)
         known = meant_known scope.program own.field.ty;
       }
 
-  field_typed : (x : Name) (k : ℕ) (own : IsOwnField scope.program core scope x k) → field_type scope x ≡ Some (meant scope.program own.field.ty)
+  field_typed : (x : Name) (k : ℕ) (own : IsOwnField scope.program core scope x k) →
+      field_type scope x ≡ Some (meant scope.program own.field.ty)
   field_typed x k own = ap (option_map (λ (f : Source.Field). meant scope.program f.ty)) own.visible
 
   -- a variable of the source, and the one of the core
-  pub typed_var : {e : Source.Expr} {x : Var} → IsVar scope.program core scope ns e x → (t : ValueType) → type_of scope e ≡ Some t → TypedVar x t
+  pub typed_var : {e : Source.Expr} {x : Var} → IsVar scope.program core scope ns e x → (t : ValueType) → type_of scope e ≡ Some t →
+      TypedVar x t
   typed_var (is.a_local {x = x} {k = k} s) t e =
       let l = the_local scope.program core m x scope.locals ns.slots k locals s in
       let w = local_meets scope.program core m l.declared k l.is in
@@ -152,7 +157,8 @@ module _ (core : Core.Program) (m : Core.Method) (scope : Scope) (ns : Numbers)
       as_type (vars.Field k) (meant scope.program own.field.ty) t (of_field x k own) (some_is (sym (field_typed x k own) ∙ e))
 
   -- a field of the core is an own field of the source
-  pub own_of : {e : Source.Expr} {x : Var} → IsVar scope.program core scope ns e x → IsField x → (f : Source.Field) × (field_of scope e ≡ Some f)
+  pub own_of : {e : Source.Expr} {x : Var} → IsVar scope.program core scope ns e x → IsField x →
+      (f : Source.Field) × (field_of scope e ≡ Some f)
   own_of (is.a_local s) h = absurd h
   own_of (is.a_field {x = x} none own) h =
       (own.field, ap (λ (o : Option Declared). elim o [ None ↦ own_field scope x | Some d ↦ None ]) none ∙ own.visible)
@@ -169,18 +175,21 @@ params_from : (program : Program) (core : Core.Program) (k : Core.Method) (n : �
     Aligned (Meets program core) (map (λ p. meant program p.ty) ps) (map (λ s. s.ty) (take (length ps) (drop n k.slots)))
 params_from program core k n _ is.no_param = is.none
 params_from program core k n _ (is.param {p = p} {ps = ps} i more) =
-    subst (λ xs. Aligned (Meets program core) (map (λ p. meant program p.ty) (p ∷ ps)) (map (λ (s : Core.Slot). s.ty) (take (suc (length ps)) xs)))
+    subst (λ xs. Aligned (Meets program core) (map (λ p. meant program p.ty) (p ∷ ps))
+    (map (λ (s : Core.Slot). s.ty) (take (suc (length ps)) xs)))
     (sym (from_here k.slots n i.slot i.at))
     (is.more (meant_meets program core p.ty i.slot.ty i.type) (params_from program core k (suc n) ps more))
 
 pub params_meet : (program : Program) (core : Core.Program) (o : Owned) (k : Core.Method) → MethodIs program core o k →
     Aligned (Meets program core) (map (λ p. meant program p.ty) o.method.params) (param_types k)
 params_meet program core o k m =
-    subst (λ n. Aligned (Meets program core) (map (λ p. meant program p.ty) o.method.params) (map (λ (s : Core.Slot). s.ty) (take n k.slots)))
+    subst (λ n. Aligned (Meets program core) (map (λ p. meant program p.ty) o.method.params)
+    (map (λ (s : Core.Slot). s.ty) (take n k.slots)))
     (sym m.count) (params_from program core k 0 o.method.params m.params)
 
 -- a method that a call names
-pub record Callee (program : Program) (core : Core.Program) (class f : Name) (n : ℕ) (method : Source.Method) (owner : Source.Class) : Type 0 where
+pub record Callee (program : Program) (core : Core.Program) (class f : Name) (n : ℕ) (method : Source.Method) (owner : Source.Class) : Type
+    0 where
   pub method_is : Core.Method
   pub at : slice_get core.methods n ≡ Some method_is
   pub class_is : IsClass program core class method_is.class
@@ -199,7 +208,8 @@ callee program core res class f n method i =
       class_is = record {
         class = i.owner.class;
         named = i.owner_named;
-        at = ap (slice_get (classes_of program.files)) met.is.class ∙ owner_at program.files n (record { owner = i.owner; method = method }) i.at;
+        at = ap (slice_get (classes_of program.files)) met.is.class ∙ owner_at program.files n (record { owner = i.owner; method = method })
+            i.at;
       };
       kind = met.is.kind;
       params = params_meet program core (record { owner = i.owner; method = method }) met.item met.is;

@@ -71,7 +71,8 @@ module _ (program : Program) (core : Core.Program) (res : Resolves program core)
   enums_apart = distinct_right (map (λ c. text_at core c.name) core.classes) (map (λ e. text_at core e.name) core.enums) apart
 
   -- classes of one name have one number
-  pub one_number : (c d : ℕ) (k l : Source.Class) → slice_get (classes_of program.files) c ≡ Some k → slice_get (classes_of program.files) d ≡ Some l →
+  pub one_number : (c d : ℕ) (k l : Source.Class) → slice_get (classes_of program.files) c ≡ Some k → slice_get (classes_of program.files) d
+      ≡ Some l →
       k.name ≡ l.name → c ≡ d
   one_number c d k l e g same =
       let m = aligned_at res.classes c k e in
@@ -96,6 +97,7 @@ module _ (program : Program) (core : Core.Program) (res : Resolves program core)
   -- a class is the one of its name
   pub is_named : (c : ℕ) (k : Source.Class) → slice_get (classes_of program.files) c ≡ Some k → class_named program.files k.name ≡ Some k
   is_named c k e =
-      let w = finds (λ (c : Source.Class). bytes_eq c.name k.name) (classes_of program.files) c k e ((bytes_eq-Decides k.name k.name).1 refl) in
+      let w = finds (λ (c : Source.Class). bytes_eq c.name k.name) (classes_of program.files) c k e
+      ((bytes_eq-Decides k.name k.name).1 refl) in
       let same = one_number w.number c w.item k w.at e (class_name program.files k.name w.item w.is) in
       w.is ∙ (sym w.at ∙ ap (slice_get (classes_of program.files)) same ∙ e)

@@ -1,5 +1,6 @@
 -- The types of operators: where the operands of the source are what is taken, those of the core are.
-use Rattle.std.proofs.Common.{◌≡◌, ◌≢◌, ℕ, Bool, true, false, true≢false, List, [], ◌∷◌, Option, Some, None, refl, sym, ap, ◌∙◌, subst, arith}
+use Rattle.std.proofs.Common.{◌≡◌, ◌≢◌, ℕ, Bool, true, false, true≢false, List, [], ◌∷◌, Option, Some, None, refl, sym, ap, ◌∙◌, subst}
+use Rattle.std.proofs.Common.{arith}
 use Rattle.std.specs.Prelude.{slice_get, if◌then◌else◌}
 use Rattle.mg_text.specs.Call.{Name}
 use Rattle.mg_text.specs.declared.place.Place.{Place}
@@ -71,10 +72,11 @@ module _ (core : Core.Program) (m : Core.Method) (slots : List ℕ) where
   null_alone _ c _ (has.new i) (has.new j) n = absurd (n refl)
 
 -- a variable stands for one
-pub record VariableForm (program : Program) (core : Core.Program) (scope : Scope) (ns : Numbers) (e : Source.Expr) (e' : Core.Expr) : Type 0 where
-  pub var : Var
-  pub is_var : IsVar program core scope ns e var
-  pub is : e' ≡ Core.Variable (place_of e) var
+pub record VariableForm (program : Program) (core : Core.Program) (scope : Scope) (ns : Numbers) (e : Source.Expr) (e' : Core.Expr) : Type 0
+  where
+    pub var : Var
+    pub is_var : IsVar program core scope ns e var
+    pub is : e' ≡ Core.Variable (place_of e) var
 
 pub variable_form : (program : Program) (core : Core.Program) (scope : Scope) (ns : Numbers) {e : Source.Expr} {e' : Core.Expr} →
     IsExpr program core scope ns e e' → is_variable e ≡ true → VariableForm program core scope ns e e'
@@ -120,19 +122,22 @@ module _ (core : Core.Program) (m : Core.Method) (scope : Scope) (ns : Numbers) 
   abbrev AreTaken : List Taken → Type 0
   AreTaken ts = Clean TypeMismatch (all_taken scope ts)
 
-  left_has : (t : ValueType) (u : CoreType) (more : List Taken) → AreTaken (taken l (Fitting t) ∷ more) → Meets scope.program core t u → H l' u
+  left_has : (t : ValueType) (u : CoreType) (more : List Taken) → AreTaken (taken l (Fitting t) ∷ more) → Meets scope.program core t u →
+      H l' u
   left_has t u more = fits scope.program core res apart m ns.slots scope l l' t u (all_taken scope more) left
 
   right_has : (t : ValueType) (u : CoreType) → AreTaken (taken r (Fitting t) ∷ []) → Meets scope.program core t u → H r' u
   right_has t u = fits scope.program core res apart m ns.slots scope r r' t u [] right
 
   -- `==` and `!=`
-  class_of_variable : (x : Var) (name : Name) (u : CoreType) → Meets scope.program core (ClassType name) u → IsVariable core m ns.slots x u →
+  class_of_variable : (x : Var) (name : Name) (u : CoreType) → Meets scope.program core (ClassType name) u → IsVariable core m ns.slots x u
+      →
       (c : ℕ) × IsVariable core m ns.slots x (types.Object c)
   class_of_variable x name _ (meets.class {c = c} i) v = (c, v)
 
   -- a variable of a class
-  class_variable : (e : Source.Expr) (e' : Core.Expr) → IsExpr scope.program core scope ns e e' → (name : Name) → type_of scope e ≡ Some (ClassType name) →
+  class_variable : (e : Source.Expr) (e' : Core.Expr) → IsExpr scope.program core scope ns e e' → (name : Name) →
+      type_of scope e ≡ Some (ClassType name) →
       is_variable e ≡ true → (x : Var) × (c : ℕ) × IsVariable core m ns.slots x (types.Object c) × (e' ≡ Core.Variable (place_of e) x)
   class_variable e e' i name t h =
       let f = variable_form scope.program core scope ns i h in
@@ -141,7 +146,8 @@ module _ (core : Core.Program) (m : Core.Method) (scope : Scope) (ns : Numbers) 
       (f.var, w.0, w.1, f.is)
 
   is_null : (e : Core.Expr) → Typed scope.program core res apart m ns.slots NullType e → IsNull e
-  is_null e t = null_alone core m ns.slots e 0 1 (t.has (types.Object 0) meets.null) (t.has (types.Object 1) meets.null) (λ e. zero_one 0 1 refl refl e)
+  is_null e t = null_alone core m ns.slots e 0 1 (t.has (types.Object 0) meets.null) (t.has (types.Object 1) meets.null)
+      (λ e. zero_one 0 1 refl refl e)
     where
       zero_one : (a b : ℕ) → a ≡ 0 → b ≡ 1 → a ≡ b → ⊥
       zero_one a b e g h = omega (arith, e, g, h)
@@ -167,7 +173,8 @@ module _ (core : Core.Program) (m : Core.Method) (scope : Scope) (ns : Numbers) 
       let n = is_null l' (left NullType t) in
       go s.type s.is s.suits.0 s.suits.1 n
     where
-      go : (g : ValueType) → type_of scope r ≡ Some g → IsClass g → is_variable r ≡ true → IsNull l' → H (Core.Binary p o l' r') types.Boolean
+      go : (g : ValueType) → type_of scope r ≡ Some g → IsClass g → is_variable r ≡ true → IsNull l' →
+          H (Core.Binary p o l' r') types.Boolean
       go NoValue i c h n = absurd c
       go IntType i c h n = absurd c
       go BooleanType i c h n = absurd c
@@ -214,25 +221,30 @@ module _ (core : Core.Program) (m : Core.Method) (scope : Scope) (ns : Numbers) 
       (has.and_text s.has s.shown ((right TextType (text_type (type_of scope r) j)).has types.Text meets.text))
   plus false false i j clean =
       known scope.program core res apart m ns.slots IntType types.Int (Core.Binary p ops.Add l' r') meets.int tt
-      (has.sum (left_has IntType types.Int (taken r (Fitting IntType) ∷ []) clean meets.int) (right_has IntType types.Int clean.1 meets.int))
+      (has.sum (left_has IntType types.Int (taken r (Fitting IntType) ∷ []) clean meets.int)
+      (right_has IntType types.Int clean.1 meets.int))
 
   int_of : (o : Op) → H (Core.Binary p o l' r') types.Int → Typed scope.program core res apart m ns.slots IntType (Core.Binary p o l' r')
   int_of o h = known scope.program core res apart m ns.slots IntType types.Int (Core.Binary p o l' r') meets.int tt h
 
-  boolean_of : (o : Op) → H (Core.Binary p o l' r') types.Boolean → Typed scope.program core res apart m ns.slots BooleanType (Core.Binary p o l' r')
+  boolean_of : (o : Op) → H (Core.Binary p o l' r') types.Boolean → Typed scope.program core res apart m ns.slots BooleanType
+      (Core.Binary p o l' r')
   boolean_of o h = known scope.program core res apart m ns.slots BooleanType types.Boolean (Core.Binary p o l' r') meets.boolean tt h
 
-  logic : (o : Op) → IsLogic o → AreTaken (both BooleanType l r) → Typed scope.program core res apart m ns.slots BooleanType (Core.Binary p o l' r')
+  logic : (o : Op) → IsLogic o → AreTaken (both BooleanType l r) → Typed scope.program core res apart m ns.slots BooleanType
+      (Core.Binary p o l' r')
   logic o q clean =
       boolean_of o (has.logic q (left_has BooleanType types.Boolean (taken r (Fitting BooleanType) ∷ []) clean meets.boolean)
       (right_has BooleanType types.Boolean clean.1 meets.boolean))
 
-  order : (o : Op) → IsOrder o → AreTaken (both IntType l r) → Typed scope.program core res apart m ns.slots BooleanType (Core.Binary p o l' r')
+  order : (o : Op) → IsOrder o → AreTaken (both IntType l r) → Typed scope.program core res apart m ns.slots BooleanType
+      (Core.Binary p o l' r')
   order o q clean =
       boolean_of o (has.ordered q (left_has IntType types.Int (taken r (Fitting IntType) ∷ []) clean meets.int)
       (right_has IntType types.Int clean.1 meets.int))
 
-  arithmetic : (o : Op) → IsArithmetic o → AreTaken (both IntType l r) → Typed scope.program core res apart m ns.slots IntType (Core.Binary p o l' r')
+  arithmetic : (o : Op) → IsArithmetic o → AreTaken (both IntType l r) → Typed scope.program core res apart m ns.slots IntType
+      (Core.Binary p o l' r')
   arithmetic o q clean =
       int_of o (has.computed q (left_has IntType types.Int (taken r (Fitting IntType) ∷ []) clean meets.int)
       (right_has IntType types.Int clean.1 meets.int))

@@ -1,5 +1,6 @@
 -- The methods of all classes: where each stands, and those of one class.
-use Rattle.std.proofs.Common.{◌≡◌, ◌⊎◌, inl, inr, ⊎_elim, ℕ, zero, suc, ◌+◌, ◌≤◌, Bool, true, false, cond, List, [], ◌∷◌, ◌++◌, map, filter, slice_get, Some, refl, sym, ap, ◌∙◌, subst, arith}
+use Rattle.std.proofs.Common.{◌≡◌, ◌⊎◌, inl, inr, ⊎_elim, ℕ, zero, suc, ◌+◌, ◌≤◌, Bool, true, false, cond, List, [], ◌∷◌, ◌++◌, map, filter}
+use Rattle.std.proofs.Common.{slice_get, Some, refl, sym, ap, ◌∙◌, subst, arith}
 use Rattle.std.specs.Prelude.{nat_eq}
 use Rattle.std.proofs.lemmas.Bool.Decides.{nat_tests}
 use Rattle.std.proofs.lemmas.List.{append-nil}
@@ -104,14 +105,16 @@ others_skipped : (c n : ℕ) (k : Class) (ms : List Method) (rest : List Owned) 
     filter (of_number c) (map (owned_by n k) ms ++ rest) ≡ filter (of_number c) rest
 others_skipped c n k [] rest e = refl
 others_skipped c n k (m ∷ ms) rest e =
-    ap (λ t. cond t (owned_by n k m ∷ filter (of_number c) (map (owned_by n k) ms ++ rest)) (filter (of_number c) (map (owned_by n k) ms ++ rest))) e
+    ap (λ t. cond t (owned_by n k m ∷ filter (of_number c) (map (owned_by n k) ms ++ rest))
+    (filter (of_number c) (map (owned_by n k) ms ++ rest))) e
     ∙ others_skipped c n k ms rest e
 
 own_taken : (c n : ℕ) (k : Class) (ms : List Method) (rest : List Owned) → nat_eq n c ≡ true →
     filter (of_number c) (map (owned_by n k) ms ++ rest) ≡ map (owned_by n k) ms ++ filter (of_number c) rest
 own_taken c n k [] rest e = refl
 own_taken c n k (m ∷ ms) rest e =
-    ap (λ t. cond t (owned_by n k m ∷ filter (of_number c) (map (owned_by n k) ms ++ rest)) (filter (of_number c) (map (owned_by n k) ms ++ rest))) e
+    ap (λ t. cond t (owned_by n k m ∷ filter (of_number c) (map (owned_by n k) ms ++ rest))
+    (filter (of_number c) (map (owned_by n k) ms ++ rest))) e
     ∙ ap (λ os. owned_by n k m ∷ os) (own_taken c n k ms rest e)
 
 none_later : (c n : ℕ) (cs : List Class) → suc c ≤ n → filter (of_number c) (methods_in (numbered_from n cs)) ≡ []
@@ -143,7 +146,8 @@ of_class c n (suc i) (k ∷ cs) class at e =
     differs : nat_eq n c ≡ false
     differs = grind (arith, nat_tests, e)
 
-names_alone : (c : ℕ) (class : Class) (ms : List Method) → map (λ (o : Owned). o.method.name) (map (owned_by c class) ms) ≡ map (λ (m : Method). m.name) ms
+names_alone : (c : ℕ) (class : Class) (ms : List Method) → map (λ (o : Owned). o.method.name) (map (owned_by c class) ms) ≡ map
+    (λ (m : Method). m.name) ms
 names_alone c class [] = refl
 names_alone c class (m ∷ ms) = ap (λ ns. m.name ∷ ns) (names_alone c class ms)
 

@@ -1,5 +1,6 @@
 -- The parameters of a core's method are those of its source.
-use Rattle.std.proofs.Common.{◌≡◌, ℕ, zero, suc, ◌+◌, List, [], ◌∷◌, length, map, take, slice_get, Some, None, refl, sym, ap, ◌∙◌, subst, arith}
+use Rattle.std.proofs.Common.{◌≡◌, ℕ, zero, suc, ◌+◌, List, [], ◌∷◌, length, map, take, slice_get, Some, None, refl, sym, ap, ◌∙◌, subst}
+use Rattle.std.proofs.Common.{arith}
 use Rattle.jv_tree.specs.declared.tree.Param.{Param}
 use Rattle.jv_rules.specs.Program.{Program}
 use Rattle.jv_core.specs.Tree as Core
@@ -13,12 +14,14 @@ module _ (program : Program) (core : Core.Program) where
     pub named : IsNamed program core s.name p.name
     pub type : IsType program core p.ty s.ty
 
-  pub slot_of : (method : Core.Method) (n : ℕ) (ps : List Param) → AreParams program core method n ps → (i : ℕ) (p : Param) → slice_get ps i ≡ Some p →
+  pub slot_of : (method : Core.Method) (n : ℕ) (ps : List Param) → AreParams program core method n ps → (i : ℕ) (p : Param) →
+      slice_get ps i ≡ Some p →
       IsSlot program core method (n + i) p.name p.ty
   slot_of method n [] h i p e = absurd (cc)
   slot_of method n (q ∷ ps) (param s rest) zero p e =
       let number : n ≡ n + 0 = omega arith in
-      subst (λ k. IsSlot program core method k p.name p.ty) number (subst (λ (q : Param). IsSlot program core method n q.name q.ty) (some_is e) s)
+      subst (λ k. IsSlot program core method k p.name p.ty) number (subst (λ (q : Param). IsSlot program core method n q.name q.ty)
+      (some_is e) s)
   slot_of method n (q ∷ ps) (param s rest) (suc i) p e =
       let number : suc n + i ≡ n + suc i = omega arith in
       subst (λ k. IsSlot program core method k p.name p.ty) number (slot_of method (suc n) ps rest i p e)
@@ -45,7 +48,8 @@ module _ (program : Program) (core : Core.Program) where
       (s.slot, subst (λ k. slice_get method.slots k ≡ Some s.slot) number s.at, record { named = s.named; type = s.type })))
 
   module _ (res : Resolves program core) where
-    param_texts_of : {ps : List Param} {slots : List Core.Slot} → Aligned IsParam ps slots → texts_at core (map (λ s. s.name) slots) ≡ map (λ p. p.name) ps
+    param_texts_of : {ps : List Param} {slots : List Core.Slot} → Aligned IsParam ps slots → texts_at core (map (λ s. s.name) slots) ≡ map
+        (λ p. p.name) ps
     param_texts_of none = refl
     param_texts_of (more {a = p} {b = s} {as' = ps} {bs = slots} i rest) =
         ap (λ t. t ∷ texts_at core (map (λ (s : Core.Slot). s.name) slots)) (text_is program core res s.name p.name i.named)

@@ -1,5 +1,6 @@
 -- A class of a core keeps to its typestate, or is plain.
-use Rattle.std.proofs.Common.{◌≡◌, ◌≢◌, ◌⊎◌, inl, inr, ℕ, Bool, true, false, true≢false, List, [], map, Contains, slice_get, option_and_then, Option, Some, None, refl, sym, ap, ◌∙◌, subst}
+use Rattle.std.proofs.Common.{◌≡◌, ◌≢◌, ◌⊎◌, inl, inr, ℕ, Bool, true, false, true≢false, List, [], map, Contains, slice_get}
+use Rattle.std.proofs.Common.{option_and_then, Option, Some, None, refl, sym, ap, ◌∙◌, subst}
 use Rattle.mg_text.specs.Call.{Name}
 use Rattle.mg_read.specs.Culprit.{culprit}
 use Rattle.ts_tree.specs.Typestate as protocols
@@ -10,14 +11,16 @@ use Rattle.jv_meaning.specs.Program.{classes_of, enum_named, class_named, method
 use Rattle.jv_rules.specs.Program.{Program, typestate_of, offers_in}
 use Rattle.jv_rules.specs.Members.{OfField, OfMethod, members_of}
 use Rattle.jv_rules.specs.Declarations as declared
-use Rattle.jv_rules.specs.Declarations.{MissingMethod, SignatureDiffers, LabelsDiffer, InstanceInPlain, demands_on, owned_methods, same_members, AreConstants, AreLabelsOf}
+use Rattle.jv_rules.specs.Declarations.{MissingMethod, SignatureDiffers, LabelsDiffer, InstanceInPlain, demands_on, owned_methods}
+use Rattle.jv_rules.specs.Declarations.{same_members, AreConstants, AreLabelsOf}
 use Rattle.jv_rules.specs.Faults.{standing_in}
 use Rattle.jv_rules.proofs.Tests.{in_first}
 use Rattle.jv_core.specs.declared.program.CoreType.{CoreType}
 use Rattle.jv_core.specs.Tree as Core
 use Rattle.jv_core.specs.Lookup.{text_at, param_types, IsInstance, IsOf}
 use Rattle.jv_core.specs.Members.{IsMeant, AreMeant, AnswersFit, Performs, IsPlain, KeepsTo}
-use Rattle.jv_names.specs.Resolves.{Aligned, none, more, Numbered, Owned, IsType, IsProtocol, ClassIs, MethodIs, FieldIs, kind_of, methods_of, Resolves}
+use Rattle.jv_names.specs.Resolves.{Aligned, none, more, Numbered, Owned, IsType, IsProtocol, ClassIs, MethodIs, FieldIs, kind_of}
+use Rattle.jv_names.specs.Resolves.{methods_of, Resolves}
 use Rattle.jv_names.specs.Resolves as is
 use Rattle.jv_names.proofs.Tables.{some_is, text_is, aligned_at, owner_at, class_name, enum_name, method_name}
 use Rattle.jv_names.proofs.Lookups.{owned_by}
@@ -96,7 +99,8 @@ module _ (program : Program) (origins : List ℕ) (clean : NoFault program origi
     has_class : Contains (classes_of program.files) class
     has_class = got_in (classes_of program.files) c class at
 
-    module _ (t : protocols.Typestate) (of : typestate_of program class ≡ Some t) (offered : protocols.Method) (has : Contains (offers_in t.states) offered) where
+    module _ (t : protocols.Typestate) (of : typestate_of program class ≡ Some t) (offered : protocols.Method)
+        (has : Contains (offers_in t.states) offered) where
       is_demanded : Contains {X = Source.Class × protocols.Method} (demands_on program class) (class, offered)
       is_demanded = subst (λ (o : Option protocols.Typestate). Contains {X = Source.Class × protocols.Method}
           (elim o as (λ _. List (Source.Class × protocols.Method)) [ None ↦ [] | Some t ↦ map (λ m. (class, m)) (offers_in t.states) ])
@@ -105,7 +109,8 @@ module _ (program : Program) (origins : List ℕ) (clean : NoFault program origi
 
       performed_by : (m : Source.Method) × (method_named class offered.name ≡ Some m) × (m.is_static ≡ false)
       performed_by = found_instance (method_named class offered.name)
-          (λ missing. clean_in MissingMethod (demands_on program) (classes_of program.files) clean.methods class has_class (class, offered) is_demanded
+          (λ missing. clean_in MissingMethod (demands_on program) (classes_of program.files) clean.methods class has_class (class, offered)
+          is_demanded
           (culprit class.place offered.name) (refl, missing))
 
       module _ (m : Source.Method) (named : method_named class offered.name ≡ Some m) (instance : m.is_static ≡ false) where
@@ -162,17 +167,20 @@ module _ (program : Program) (origins : List ℕ) (clean : NoFault program origi
       no_field f has =
           clean_in InstanceInPlain standing_in (classes_of program.files) clean.plain class has_class
           (record { typestate = class.typestate; member = OfField f })
-          (in_map (λ m. record { typestate = class.typestate; member = m }) (members_of class) (OfField f) (field_stands class.fields class.methods f has))
+          (in_map (λ m. record { typestate = class.typestate; member = m }) (members_of class) (OfField f)
+          (field_stands class.fields class.methods f has))
           (culprit f.place []) (refl, plain)
 
       no_instance : (m : Source.Method) → Contains class.methods m → m.is_static ≡ false → ⊥
       no_instance m has e =
           clean_in InstanceInPlain standing_in (classes_of program.files) clean.plain class has_class
           (record { typestate = class.typestate; member = OfMethod m })
-          (in_map (λ m. record { typestate = class.typestate; member = m }) (members_of class) (OfMethod m) (method_stands class.fields class.methods m has))
+          (in_map (λ m. record { typestate = class.typestate; member = m }) (members_of class) (OfMethod m)
+          (method_stands class.fields class.methods m has))
           (culprit m.place []) (refl, plain, e)
 
-      no_fields : (fs : List Source.Field) (ks : List Core.Field) → ((f : Source.Field) → Contains fs f → ⊥) → Aligned (FieldIs program core) fs ks → ks ≡ []
+      no_fields : (fs : List Source.Field) (ks : List Core.Field) → ((f : Source.Field) → Contains fs f → ⊥) →
+          Aligned (FieldIs program core) fs ks → ks ≡ []
       no_fields _ _ n none = refl
       no_fields _ _ n (more {a = f} {as' = fs} i rest) = absurd (n f (in_first fs f))
 

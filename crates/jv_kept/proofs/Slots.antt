@@ -1,5 +1,6 @@
 -- The slots of a core's method, and its parameters.
-use Rattle.std.proofs.Common.{◌≡◌, ◌≢◌, ◌⊎◌, inl, inr, ⊎_elim, ℕ, zero, suc, ◌+◌, ◌-◌, ◌<◌, ◌≤◌, Bool, true, false, cond, List, [], ◌∷◌, ◌++◌, length, map, Contains, slice_get, Some, None, refl, sym, ap, ◌∙◌, subst, arith}
+use Rattle.std.proofs.Common.{◌≡◌, ◌≢◌, ◌⊎◌, inl, inr, ⊎_elim, ℕ, zero, suc, ◌+◌, ◌-◌, ◌<◌, ◌≤◌, Bool, true, false, cond, List, [], ◌∷◌}
+use Rattle.std.proofs.Common.{◌++◌, length, map, Contains, slice_get, Some, None, refl, sym, ap, ◌∙◌, subst, arith}
 use Rattle.std.specs.List.{AllByRecursion}
 use Rattle.std.specs.Str.{bytes_eq}
 use Rattle.std.proofs.lemmas.Slice.Eq.{bytes_eq-Decides}
@@ -65,14 +66,16 @@ all_holds P (y ∷ xs) h zero x e = subst P (same e) h.0
     same e = cc
 all_holds P (y ∷ xs) h (suc n) x e = all_holds P xs h.1 n x e
 
-module _ (program : Program) (origins : List ℕ) (clean : NoFault program origins) (core : Core.Program) (res : Resolves program core) (method : Core.Method) where
+module _ (program : Program) (origins : List ℕ) (clean : NoFault program origins) (core : Core.Program) (res : Resolves program core)
+    (method : Core.Method) where
   -- a slot is as it must be
   record IsKept (k : ℕ) : Type 0 where
     slot : Core.Slot
     at : slice_get method.slots k ≡ Some slot
     kept : core_conditions.IsSlot core slot
 
-  slot_kept : (p : Place) (k : ℕ) (name : Name) (ty : TypeName) → ((q : Culprit) → UnknownClass program (Written p ty) q → ⊥) → IsOfValues ty →
+  slot_kept : (p : Place) (k : ℕ) (name : Name) (ty : TypeName) → ((q : Culprit) → UnknownClass program (Written p ty) q → ⊥) →
+      IsOfValues ty →
       is.IsSlot program core method k name ty → IsKept k
   slot_kept p k name ty fine values s = record {
     slot = s.slot;
@@ -94,14 +97,17 @@ module _ (program : Program) (origins : List ℕ) (clean : NoFault program origi
     in_stmt (is.local {p = p} {ty = ty} {x = x} {k = k} e slot) v c j has =
         only j k [] (slot_kept p k x ty c.0 v slot) (λ more. absurd (nothing_in j more)) has
     in_stmt (is.assign x e) v c j has = absurd (nothing_in j has)
-    in_stmt (is.if_then {c = e} {s = s} t i) v c j has = in_stmt i v (clean_right (UnknownClass program) (mentions_in e) (mentions_in_stmt s) c) j has
+    in_stmt (is.if_then {c = e} {s = s} t i) v c j has =
+        in_stmt i v (clean_right (UnknownClass program) (mentions_in e) (mentions_in_stmt s) c) j has
     in_stmt (is.if_else {c = e} {s = s} {r = r} {s' = s'} {r' = r'} t i k) v c j has =
         let both = clean_right (UnknownClass program) (mentions_in e) (mentions_in_stmt s ++ mentions_in_stmt r) c in
         ⊎_elim (λ early. in_stmt i v.0 (clean_left (UnknownClass program) (mentions_in_stmt s) (mentions_in_stmt r) both) j early)
         (λ late. in_stmt k v.1 (clean_right (UnknownClass program) (mentions_in_stmt s) (mentions_in_stmt r) both) j late)
         (Contains-append_cases (declared_in s') (declared_in r') j has)
-    in_stmt (is.while_loop {c = e} {s = s} l t i) v c j has = in_stmt i v (clean_right (UnknownClass program) (mentions_in e) (mentions_in_stmt s) c) j has
-    in_stmt (is.do_loop {c = e} {s = s} l i t) v c j has = in_stmt i v (clean_left (UnknownClass program) (mentions_in_stmt s) (mentions_in e) c) j has
+    in_stmt (is.while_loop {c = e} {s = s} l t i) v c j has =
+        in_stmt i v (clean_right (UnknownClass program) (mentions_in e) (mentions_in_stmt s) c) j has
+    in_stmt (is.do_loop {c = e} {s = s} l i t) v c j has =
+        in_stmt i v (clean_left (UnknownClass program) (mentions_in_stmt s) (mentions_in e) c) j has
     in_stmt (is.switch {e = e} {gs = gs} t of gives i) v c j has =
         in_groups i v (clean_right (UnknownClass program) (mentions_in e) (mentions_in_groups gs) c) j has
     in_stmt (is.break l) v c j has = absurd (nothing_in j has)
@@ -110,7 +116,8 @@ module _ (program : Program) (origins : List ℕ) (clean : NoFault program origi
     in_stmt (is.print e) v c j has = absurd (nothing_in j has)
     in_stmt (is.eval e) v c j has = absurd (nothing_in j has)
 
-    in_stmts : {sc : Scope} {ns : Numbers} {b : Source.Stmts} {b' : Core.Stmts} → IsStmts program core method sc ns b b' → AllDeclareValues b →
+    in_stmts : {sc : Scope} {ns : Numbers} {b : Source.Stmts} {b' : Core.Stmts} → IsStmts program core method sc ns b b' →
+        AllDeclareValues b →
         Clean (UnknownClass program) (mentions_in_stmts b) → (j : ℕ) → Contains (declared_in_all b') j → IsKept j
     in_stmts is.no_stmt v c j has = absurd (nothing_in j has)
     in_stmts (is.declaration {p = p} {ty = ty} {x = x} {k = k} {e = e} {rest = rest} {rest' = rest'} t slot more) v c j has =
@@ -121,8 +128,10 @@ module _ (program : Program) (origins : List ℕ) (clean : NoFault program origi
         (λ late. in_stmts more v.1 (clean_right (UnknownClass program) (mentions_in_stmt s) (mentions_in_stmts rest) c) j late)
         (Contains-append_cases (declared_in s') (declared_in_all rest') j has)
 
-    in_groups : {enum : Source.Enum} {sc : Scope} {ns : Numbers} {g : Source.Groups} {g' : Core.Groups} → IsGroups program core method enum sc ns g g' →
-        GroupsDeclareValues g → Clean (UnknownClass program) (mentions_in_groups g) → (j : ℕ) → Contains (declared_in_groups g') j → IsKept j
+    in_groups : {enum : Source.Enum} {sc : Scope} {ns : Numbers} {g : Source.Groups} {g' : Core.Groups} →
+        IsGroups program core method enum sc ns g g' →
+        GroupsDeclareValues g → Clean (UnknownClass program) (mentions_in_groups g) → (j : ℕ) → Contains (declared_in_groups g') j →
+        IsKept j
     in_groups is.no_group v c j has = absurd (nothing_in j has)
     in_groups (is.group {body = body} {body' = body'} {gs = gs} {gs' = gs'} labels i more) v c j has =
         ⊎_elim (λ early. in_stmts i v.0 (clean_left (UnknownClass program) (mentions_in_stmts body) (mentions_in_groups gs) c) j early)
@@ -138,15 +147,18 @@ module _ (program : Program) (origins : List ℕ) (clean : NoFault program origi
         let p = w.0 in
         let number : 0 + j ≡ j = omega arith in
         slot_kept p.place j p.name p.ty
-        (clean_at (UnknownClass program) (map param_mention o.method.params) (param_mentions program origins clean o.owner.class o.method of has)
+        (clean_at (UnknownClass program) (map param_mention o.method.params) (param_mentions program origins clean o.owner.class o.method of
+        has)
         (param_mention p) (in_map param_mention o.method.params p (got_in o.method.params j p w.1)))
         (all_holds (λ (p : Param). IsOfValues p.ty) o.method.params shaped.params j p w.1)
-        (subst (λ k. is.IsSlot program core method k p.name p.ty) number (slot_of program core method 0 o.method.params is_it.params j p w.1))
+        (subst (λ k. is.IsSlot program core method k p.name p.ty) number (slot_of program core method 0 o.method.params is_it.params j p
+        w.1))
 
     of_local : (j : ℕ) → method.params ≤ j → j < length method.slots → IsKept j
     of_local j from below =
         in_stmts is_it.body shaped.body (body_mentions_of program origins clean o.owner.class o.method of has) j
-        (subst (λ ks. Contains ks j) (sym is_it.numbered.slots) (in_numbers (length method.slots - method.params) method.params j from (within method.params (length method.slots) from below)))
+        (subst (λ ks. Contains ks j) (sym is_it.numbered.slots) (in_numbers (length method.slots - method.params) method.params j from
+        (within method.params (length method.slots) from below)))
       where
         within : (a n : ℕ) → a ≤ j → j < n → j < a + (n - a)
         within a n from below = omega (arith, from, below)
@@ -161,7 +173,8 @@ module _ (program : Program) (origins : List ℕ) (clean : NoFault program origi
 
     pub slots_kept : AllByRecursion (core_conditions.IsSlot core) method.slots
     slots_kept = all_at (core_conditions.IsSlot core) method.slots
-        (λ j s e. let w = of_each j (slice_get_within method.slots j s e) in subst (core_conditions.IsSlot core) (same w.slot s (sym w.at ∙ e)) w.kept)
+        (λ j s e. let w = of_each j (slice_get_within method.slots j s e) in subst (core_conditions.IsSlot core)
+        (same w.slot s (sym w.at ∙ e)) w.kept)
       where
         same : (a b : Core.Slot) → Some a ≡ Some b → a ≡ b
         same a b e = cc
@@ -171,7 +184,8 @@ module _ (program : Program) (origins : List ℕ) (clean : NoFault program origi
 nowhere : {A : Type 0} {x : A} → Some x ≡ None → ⊥
 nowhere e = cc
 
-declared_stays : (name x : Name) (ty : TypeName) (scope : Scope) → local_named scope name ≢ None → local_named (declare x ty scope) name ≢ None
+declared_stays : (name x : Name) (ty : TypeName) (scope : Scope) → local_named scope name ≢ None → local_named (declare x ty scope) name ≢
+    None
 declared_stays name x ty scope some = go (bytes_eq x name)
   where
     go : (b : Bool) → cond b (Some (record { name = x; type = meant scope.program ty })) (local_named scope name) ≢ None
@@ -185,7 +199,8 @@ declared_there x ty scope = go (bytes_eq x x) ((bytes_eq-Decides x x).1 refl)
     go true e f = nowhere f
     go false e f = absurd (cc)
 
-not_again : (scope : Scope) (ps : List Param) → AllByRecursion NoFaultAt (param_spots scope ps) → (name : Name) → local_named scope name ≢ None →
+not_again : (scope : Scope) (ps : List Param) → AllByRecursion NoFaultAt (param_spots scope ps) → (name : Name) →
+    local_named scope name ≢ None →
     Contains (map (λ p. p.name) ps) name → ⊥
 not_again scope [] h name some has = nothing_in name has
 not_again scope (p ∷ ps) h name some has =
@@ -193,7 +208,8 @@ not_again scope (p ∷ ps) h name some has =
     (λ more. not_again (declare p.name p.ty scope) ps h.1 name (declared_stays name p.name p.ty scope some) more)
     (in_cases (map (λ (p : Param). p.name) ps) p.name name has)
 
-pub param_names_apart : (scope : Scope) (ps : List Param) → AllByRecursion NoFaultAt (param_spots scope ps) → AreDistinct (map (λ p. p.name) ps)
+pub param_names_apart : (scope : Scope) (ps : List Param) → AllByRecursion NoFaultAt (param_spots scope ps) →
+    AreDistinct (map (λ p. p.name) ps)
 param_names_apart scope [] h = tt
 param_names_apart scope (p ∷ ps) h = (
   (λ has. not_again (declare p.name p.ty scope) ps h.1 p.name (declared_there p.name p.ty scope) has),

@@ -1,5 +1,6 @@
 -- What is resolved of clean statements is well typed.
-use Rattle.std.proofs.Common.{◌≡◌, ◌≢◌, ℕ, List, [], ◌∷◌, ◌++◌, map, reverse, Option, Some, None, option_map, option_and_then, slice_get, refl, sym, ap, ◌∙◌, subst}
+use Rattle.std.proofs.Common.{◌≡◌, ◌≢◌, ℕ, List, [], ◌∷◌, ◌++◌, map, reverse, Option, Some, None, option_map, option_and_then, slice_get}
+use Rattle.std.proofs.Common.{refl, sym, ap, ◌∙◌, subst}
 use Rattle.std.specs.List.{AllByRecursion}
 use Rattle.mg_text.specs.Call.{Name}
 use Rattle.mg_text.specs.declared.place.Place.{Place}
@@ -29,7 +30,8 @@ use Rattle.jv_core.specs.Types as has
 use Rattle.jv_core.specs.Statements.{Fine, FineAll, FineGroups, Declares, MayReturn}
 use Rattle.jv_core.specs.Statements as fine
 use Rattle.jv_core.specs.Members.{type_names}
-use Rattle.jv_names.specs.Resolves.{Numbers, IsExpr, IsSlot, IsValue, IsStmt, IsStmts, IsGroups, IsType, Resolves, with_slot, in_loop, in_switch}
+use Rattle.jv_names.specs.Resolves.{Numbers, IsExpr, IsSlot, IsValue, IsStmt, IsStmts, IsGroups, IsType, Resolves, with_slot, in_loop}
+use Rattle.jv_names.specs.Resolves.{in_switch}
 use Rattle.jv_names.specs.Resolves as is
 use Rattle.jv_names.proofs.Tables.{some_is, none_some, aligned_at}
 use Rattle.jv_kept.proofs.Clean.{NoFaultAt, CleanExpr, all_left, all_right}
@@ -62,7 +64,8 @@ no_enum calls.TakeString n e = cc
 no_enum calls.Refuse n e = cc
 
 -- the enum whose constants an expression gives
-enum_given : (core : Core.Program) (m : Core.Method) (slots : List ℕ) (number : ℕ) → slice_get core.methods number ≡ Some m → (e : Core.Expr) (n : ℕ) →
+enum_given : (core : Core.Program) (m : Core.Method) (slots : List ℕ) (number : ℕ) → slice_get core.methods number ≡ Some m →
+    (e : Core.Expr) (n : ℕ) →
     Has core m slots e (types.Enum n) → type_given core number e ≡ Some (types.Enum n)
 enum_given core m slots number at _ n (has.variable {x = x} v) = ap (option_and_then (λ m. variable_type core m x)) at ∙ v.type
 enum_given core m slots number at _ _ (has.constant e lt) = refl
@@ -86,7 +89,8 @@ module _ (program : Program) (core : Core.Program) (res : Resolves program core)
   in_the_switch : {sc : Scope} {ns : Numbers} → Here sc ns → Here (within Switch sc) (in_switch ns)
   in_the_switch h = record { same = h.same; runs = h.runs; locals = h.locals; result = h.result }
 
-  slot_is : {sc : Scope} {ns : Numbers} {k : ℕ} {x : Name} {ty : TypeName} → Here sc ns → IsSlot program core m k x ty → IsSlot sc.program core m k x ty
+  slot_is : {sc : Scope} {ns : Numbers} {k : ℕ} {x : Name} {ty : TypeName} → Here sc ns → IsSlot program core m k x ty →
+      IsSlot sc.program core m k x ty
   slot_is {k = k} {x = x} {ty = ty} h s = subst (λ p. IsSlot p core m k x ty) h.same s
 
   pub with_local : {sc : Scope} {ns : Numbers} (k : ℕ) (x : Name) (ty : TypeName) → Here sc ns → IsSlot program core m k x ty →
@@ -141,11 +145,13 @@ module _ (program : Program) (core : Core.Program) (res : Resolves program core)
           value =
               fits_in ex (all_left NoFaultAt (expr_spots sc e) (AtStatement sc (Source.Local p ty x e) ∷ []) spots) made
               (meant sc.program ty) s.slot.ty spot.types (meant_meets sc.program core ty s.slot.ty s.type);
-          new = is_new sc.program core m sc ns.slots x ty k h.locals s (none_there (local_named sc x) (λ n. spot.new_local (culprit p x) (refl, n)));
+          new = is_new sc.program core m sc ns.slots x ty k h.locals s
+              (none_there (local_named sc x) (λ n. spot.new_local (culprit p x) (refl, n)));
         }
 
     -- `return`
-    nothing_returned : (p : Place) (t : ValueType) (u : CoreType) → Meets sc.program core t u → Clean TypeMismatch (returned_nothing t p) → u ≡ types.Void
+    nothing_returned : (p : Place) (t : ValueType) (u : CoreType) → Meets sc.program core t u → Clean TypeMismatch (returned_nothing t p) →
+        u ≡ types.Void
     nothing_returned p t _ meets.no_value clean = refl
     nothing_returned p t _ meets.int clean = absurd (clean.0 (culprit p []) refl)
     nothing_returned p t _ meets.boolean clean = absurd (clean.0 (culprit p []) refl)
@@ -154,7 +160,8 @@ module _ (program : Program) (core : Core.Program) (res : Resolves program core)
     nothing_returned p t _ (meets.enum i) clean = absurd (clean.0 (culprit p []) refl)
     nothing_returned p t _ meets.null clean = absurd (clean.0 (culprit p []) refl)
 
-    value_returned : {e : Source.Expr} {e' : Core.Expr} → E e e' → CleanExpr sc e → Made e → (t : ValueType) (u : CoreType) → Meets sc.program core t u →
+    value_returned : {e : Source.Expr} {e' : Core.Expr} → E e e' → CleanExpr sc e → Made e → (t : ValueType) (u : CoreType) →
+        Meets sc.program core t u →
         Clean TypeMismatch (all_taken sc (returned t e)) → (u ≢ types.Void) × H e' u
     value_returned {e} x clean made t _ meets.no_value tk = absurd (suited sc e Nothing [] tk).suits
     value_returned x clean made t u meets.int tk = ((λ e. cc), fits_in x clean made IntType types.Int tk meets.int)
@@ -178,16 +185,20 @@ module _ (program : Program) (core : Core.Program) (res : Resolves program core)
 
     -- an assignment
     assigns : {t e : Source.Expr} {x : CoreVar} {e' : Core.Expr} (p : Place) → is.IsPlaced program core sc ns t x → E e e' →
-        AllByRecursion NoFaultAt (stmt_spots sc (Source.Assign p t e)) → Made e → Fine core m ns.slots (map target ns.loops) (Core.Assign p x e')
+        AllByRecursion NoFaultAt (stmt_spots sc (Source.Assign p t e)) → Made e → Fine core m ns.slots (map target ns.loops)
+        (Core.Assign p x e')
     assigns {t} {e} {x} {e'} p placed ex spots made =
         let at : List Spot = AtStatement sc (Source.Assign p t e) ∷ [] in
         let more = all_right NoFaultAt (expr_spots sc t) (expr_spots sc e ++ at) spots in
         let v = target_typed core m sc ns resolved apart h.runs h.locals
-        (subst (λ p. is.IsVar p core sc ns t x.var) h.same placed.is) (all_left NoFaultAt (expr_spots sc t) (expr_spots sc e ++ at) spots) in
-        let tk = subst (λ o. Clean TypeMismatch (all_taken sc (assigned o e))) v.2 (all_right NoFaultAt (expr_spots sc e) at more).0.types in
+        (subst (λ p. is.IsVar p core sc ns t x.var) h.same placed.is) (all_left NoFaultAt (expr_spots sc t) (expr_spots sc e ++ at) spots)
+        in
+        let tk = subst (λ o. Clean TypeMismatch (all_taken sc (assigned o e))) v.2 (all_right NoFaultAt (expr_spots sc e) at more).0.types
+        in
         fine.assign v.4 (fits_in ex (all_left NoFaultAt (expr_spots sc e) at more) made v.0 v.1 tk v.3)
 
-  stays : (s : Source.Stmt) (sc : Scope) → ((p : Place) (ty : TypeName) (x : Name) (e : Source.Expr) → s ≢ Source.Local p ty x e) → behind s sc ≡ sc
+  stays : (s : Source.Stmt) (sc : Scope) → ((p : Place) (ty : TypeName) (x : Name) (e : Source.Expr) → s ≢ Source.Local p ty x e) →
+      behind s sc ≡ sc
   stays (Source.Local p ty x e) sc n = absurd (n p ty x e refl)
   stays s sc n = refl
 
@@ -237,14 +248,17 @@ module _ (program : Program) (core : Core.Program) (res : Resolves program core)
         (states y (in_the_loop l k h) (all_left NoFaultAt inner (expr_spots sc c ++ end) spots)
         (clean_left (UnknownClass program) (mentions_in_stmt s) (mentions_in c) made))
         (condition sc ns h x (all_left NoFaultAt (expr_spots sc c) end more)
-        (clean_right (UnknownClass program) (mentions_in_stmt s) (mentions_in c) made) (all_right NoFaultAt (expr_spots sc c) end more).0.types)
-    states {sc} {ns} (is.switch {p = p} {end = end} {e = e} {e' = e'} {n = n} {enum = enum} {gs = gs} {gs' = gs'} x en gives g) h spots made =
+        (clean_right (UnknownClass program) (mentions_in_stmt s) (mentions_in c) made)
+        (all_right NoFaultAt (expr_spots sc c) end more).0.types)
+    states {sc} {ns} (is.switch {p = p} {end = end} {e = e} {e' = e'} {n = n} {enum = enum} {gs = gs} {gs' = gs'} x en gives g) h spots
+        made =
         let behind_e : List Spot = AtStatement sc (Source.Switch p e gs end) ∷ group_spots (within Switch sc) gs in
         let more = all_right NoFaultAt (expr_spots sc e) behind_e spots in
         let value = enumerated core m sc ns (resolved sc ns h) apart h.runs h.locals (expr_is sc ns h x)
         (all_left NoFaultAt (expr_spots sc e) behind_e spots)
         (made_is sc ns h e (clean_left (UnknownClass program) (mentions_in e) (mentions_in_groups gs) made)) more.0.types in
-        let same : value.0 ≡ n = enum_is (some_is (sym (enum_given core m ns.slots number numbered e' value.0 value.1) ∙ gives number numbered)) in
+        let same : value.0 ≡ n = enum_is
+        (some_is (sym (enum_given core m ns.slots number numbered e' value.0 value.1) ∙ gives number numbered)) in
         let met = aligned_at res.enums n enum en.at in
         fine.switch (subst (λ k. Has core m ns.slots e' (types.Enum k)) same value.1)
         (are_cases program core m enum n met.item met.at met.is sc p e gs gs' g more.0.labels)
@@ -254,7 +268,8 @@ module _ (program : Program) (core : Core.Program) (res : Resolves program core)
     states {sc} {ns} (is.return {p = p} {e = e} {e' = e'} v) h spots made = fine.return (may_return sc ns h p e e' v spots made)
     states {sc} {ns} (is.print {p = p} {e = e} x) h spots made =
         let end : List Spot = AtStatement sc (Source.Print p e) ∷ [] in
-        let s = shown core m sc ns (resolved sc ns h) apart h.runs h.locals (expr_is sc ns h x) (all_left NoFaultAt (expr_spots sc e) end spots)
+        let s = shown core m sc ns (resolved sc ns h) apart h.runs h.locals (expr_is sc ns h x)
+        (all_left NoFaultAt (expr_spots sc e) end spots)
         (made_is sc ns h e made) (all_right NoFaultAt (expr_spots sc e) end spots).0.types in
         fine.print s.2 s.1
     states {sc} {ns} (is.eval {p = p} {e = e} x) h spots made =
@@ -275,7 +290,8 @@ module _ (program : Program) (core : Core.Program) (res : Resolves program core)
         (states x h (all_left NoFaultAt (stmt_spots sc s) (stmts_spots (behind s sc) rest) spots)
         (clean_left (UnknownClass program) (mentions_in_stmt s) (mentions_in_stmts rest) made))
         (all_state more h
-        (subst (λ sc. AreClean (stmts_spots sc rest)) (stays s sc n) (all_right NoFaultAt (stmt_spots sc s) (stmts_spots (behind s sc) rest) spots))
+        (subst (λ sc. AreClean (stmts_spots sc rest)) (stays s sc n) (all_right NoFaultAt (stmt_spots sc s) (stmts_spots (behind s sc) rest)
+        spots))
         (clean_right (UnknownClass program) (mentions_in_stmt s) (mentions_in_stmts rest) made))
 
     pub groups_state : {enum : Source.Enum} {sc : Scope} {ns : Numbers} {gs : Source.Groups} {gs' : Core.Groups} →
@@ -292,8 +308,10 @@ module _ (program : Program) (core : Core.Program) (res : Resolves program core)
 -- What is resolved of clean statements of a method is well typed, in each scope of the method.
 pub are_stated : (core : Core.Program) (m : Core.Method) (number : ℕ) → slice_get core.methods number ≡ Some m →
     (sc : Scope) (ns : Numbers) (b : Source.Stmts) (b' : Core.Stmts) → Resolves sc.program core → AreDistinct (type_names core) →
-    Runs core m sc.program sc.class sc.method → AreLocals sc.program core m sc.locals ns.slots → IsType sc.program core sc.method.result m.result →
-    IsStmts sc.program core m sc ns b b' → AllByRecursion NoFaultAt (stmts_spots sc b) → Clean (UnknownClass sc.program) (mentions_in_stmts b) →
+    Runs core m sc.program sc.class sc.method → AreLocals sc.program core m sc.locals ns.slots → IsType sc.program core sc.method.result
+    m.result →
+    IsStmts sc.program core m sc ns b b' → AllByRecursion NoFaultAt (stmts_spots sc b) →
+    Clean (UnknownClass sc.program) (mentions_in_stmts b) →
     FineAll core m ns.slots (map target ns.loops) b'
 are_stated core m number at sc ns b b' res apart runs locals result body spots made =
     all_state sc.program core res apart m number at body (record { same = refl; runs = runs; locals = locals; result = result }) spots made

@@ -1,5 +1,6 @@
 -- What is resolved of a clean expression has the type of its source.
-use Rattle.std.proofs.Common.{◌≡◌, ◌≢◌, inl, ⊎_elim, ℕ, ◌<◌, Bool, true, false, true≢false, List, [], ◌∷◌, ◌++◌, length, Option, Some, None, option_map, refl, sym, ap, ◌∙◌, subst, arith}
+use Rattle.std.proofs.Common.{◌≡◌, ◌≢◌, inl, ⊎_elim, ℕ, ◌<◌, Bool, true, false, true≢false, List, [], ◌∷◌, ◌++◌, length, Option, Some, None}
+use Rattle.std.proofs.Common.{option_map, refl, sym, ap, ◌∙◌, subst, arith}
 use Rattle.std.specs.Prelude.{codes, if◌then◌else◌}
 use Rattle.std.specs.List.{list_any}
 use Rattle.std.specs.Str.{bytes_eq}
@@ -13,9 +14,11 @@ use Rattle.jv_tree.specs.Source
 use Rattle.jv_tree.specs.Source.{place_of}
 use Rattle.jv_meaning.specs.Program.{class_named, method_named, constant_position}
 use Rattle.jv_rules.specs.Program.{Program, is_of_protocol}
-use Rattle.jv_rules.specs.Types.{ValueType, IntType, BooleanType, TextType, EnumType, ClassType, NullType, NoValue, Signature, signature_of, meant}
+use Rattle.jv_rules.specs.Types.{ValueType, IntType, BooleanType, TextType, EnumType, ClassType, NullType, NoValue, Signature, signature_of}
+use Rattle.jv_rules.specs.Types.{meant}
 use Rattle.jv_rules.specs.Scope.{Scope, variable_type, field_of}
-use Rattle.jv_rules.specs.Typing.{type_of, operator_type, constant_type, called, called_on, called_on_value, static_of, own_instance, own_method, protocol_method, built_in, session_methods, text_methods}
+use Rattle.jv_rules.specs.Typing.{type_of, operator_type, constant_type, called, called_on, called_on_value, static_of, own_instance}
+use Rattle.jv_rules.specs.Typing.{own_method, protocol_method, built_in, session_methods, text_methods}
 use Rattle.jv_rules.specs.Spots.{Value, nodes, nodes_in}
 use Rattle.jv_rules.specs.Taking.{Fitting, Writable, AnyEnum, IsEnum, Taken, taken, all_taken, paired, arguments, receiver, count_of}
 use Rattle.jv_rules.specs.Conditions as rules
@@ -29,18 +32,21 @@ use Rattle.jv_core.specs.declared.program.CoreType.{CoreType}
 use Rattle.jv_core.specs.declared.program.CoreType.TheVariants as types
 use Rattle.jv_core.specs.Tree as Core
 use Rattle.jv_core.specs.Lookup.{param_types}
-use Rattle.jv_core.specs.Types.{Has, HasAll, HasTypestate, IsCalled, IsOwnField, IsField, IsVariable, IsShown, session_params, session_result}
+use Rattle.jv_core.specs.Types.{Has, HasAll, HasTypestate, IsCalled, IsOwnField, IsField, IsVariable, IsShown, session_params}
+use Rattle.jv_core.specs.Types.{session_result}
 use Rattle.jv_core.specs.Types as has
 use Rattle.jv_core.specs.Members.{type_names}
 use Rattle.jv_names.specs.Resolves.{Aligned, Numbers, IsVar, IsClass, IsMethod, IsSession, IsExpr, IsExprs, Resolves}
 use Rattle.jv_names.specs.Resolves as is
 use Rattle.jv_names.proofs.Tables.{some_is, none_some, aligned_at, method_name}
 use Rattle.jv_kept.proofs.OneNumber.{one_class}
-use Rattle.jv_kept.proofs.Clean.{CleanExpr, CleanArgs, nodes_left, nodes_right, first_arg, other_args, left_operand, right_operand, operator}
+use Rattle.jv_kept.proofs.Clean.{CleanExpr, CleanArgs, nodes_left, nodes_right, first_arg, other_args, left_operand, right_operand}
+use Rattle.jv_kept.proofs.Clean.{operator}
 use Rattle.jv_kept.proofs.Fitting.{IsKnown, meant_known, counted, suited, Typed, known, fits, shows, one_type}
 use Rattle.jv_kept.proofs.Labels.{position_in, constants_same}
 use Rattle.jv_kept.proofs.Locals.{AreLocals}
-use Rattle.jv_kept.proofs.Moving.{IsName, IsNotThis, not_this_variable, arguments_clean, call_clean, receiver_clean, own_class, own_named, is_own, no_protocol, not_this, calls_back, calls_back_in}
+use Rattle.jv_kept.proofs.Moving.{IsName, IsNotThis, not_this_variable, arguments_clean, call_clean, receiver_clean, own_class, own_named}
+use Rattle.jv_kept.proofs.Moving.{is_own, no_protocol, not_this, calls_back, calls_back_in}
 use Rattle.jv_kept.proofs.Naming.{Runs, Callee, callee, typed_var, own_of, runs_on_object, static_kind, protocol_kind, helper_kind}
 use Rattle.jv_kept.proofs.Operating.{operated}
 use Rattle.jv_kept.proofs.TypesMeet.{Meets}
@@ -54,7 +60,8 @@ pub clean_right : {X C : Type 0} (At : X → C → Type 0) (xs ys : List X) → 
 clean_right At [] ys h = h
 clean_right At (x ∷ xs) ys h = clean_right At xs ys h.1
 
-taken_behind : (scope : Scope) (xs ys : List Taken) → Clean TypeMismatch (all_taken scope (xs ++ ys)) → Clean TypeMismatch (all_taken scope ys)
+taken_behind : (scope : Scope) (xs ys : List Taken) → Clean TypeMismatch (all_taken scope (xs ++ ys)) →
+    Clean TypeMismatch (all_taken scope ys)
 taken_behind scope [] ys h = h
 taken_behind scope (x ∷ xs) ys h = taken_behind scope xs ys h.1
 
@@ -122,7 +129,8 @@ record ProtocolCall (program : Program) (class : Source.Class) (f : Name) (metho
   sig : protocol_method program class f ≡ Some (signature_of program method)
   result : meant program method.result ≡ t
 
-protocol_call : (program : Program) (class : Source.Class) (f : Name) (method : Source.Method) (t : ValueType) → method_named class f ≡ Some method →
+protocol_call : (program : Program) (class : Source.Class) (f : Name) (method : Source.Method) (t : ValueType) →
+    method_named class f ≡ Some method →
     method.is_static ≡ false → option_map (λ s. s.result) (protocol_method program class f) ≡ Some t → ProtocolCall program class f method t
 protocol_call program class f method t named s e =
     let out : protocol_method program class f ≡ (if is_of_protocol program class f then sig else None) =
@@ -262,8 +270,10 @@ module _ (core : Core.Program) (m : Core.Method) (scope : Scope) (ns : Numbers) 
   typed_null p _ meets.null = has.null
 
   -- `E.A`
-  typed_constant : (p q : Place) (e a : Name) (k : Source.Enum) (n i : ℕ) → variable_type scope e ≡ None → is.IsEnum scope.program core e n k →
-      constant_position k a ≡ Some i → (t : ValueType) → type_of scope (Source.Member p (Source.Variable q e) a) ≡ Some t → T t (Core.Constant p n i)
+  typed_constant : (p q : Place) (e a : Name) (k : Source.Enum) (n i : ℕ) → variable_type scope e ≡ None →
+      is.IsEnum scope.program core e n k →
+      constant_position k a ≡ Some i → (t : ValueType) → type_of scope (Source.Member p (Source.Variable q e) a) ≡ Some t →
+      T t (Core.Constant p n i)
   typed_constant p q e a k n i none en at t g =
       let met = aligned_at res.enums n k en.at in
       let in_range : i < length met.item.constants =
@@ -271,7 +281,11 @@ module _ (core : Core.Program) (m : Core.Method) (scope : Scope) (ns : Numbers) 
       subst (λ t. T t (Core.Constant p n i)) (chosen (list_any (bytes_eq a) k.constants) (EnumType e) t (
       sym (
       ap (λ (o : Option ValueType). elim o [ None ↦ constant_type scope.program e a | Some t ↦ None ]) none
-      ∙ ap (λ (o : Option Source.Enum). elim o [ None ↦ None | Some k ↦ if list_any (bytes_eq a) k.constants then Some (EnumType e) else None ]) en.named
+      ∙ ap (λ (o : Option Source.Enum). elim o [
+        | None ↦ None
+        | Some k ↦ if list_any (bytes_eq a) k.constants then Some (EnumType e) else
+            None
+      ]) en.named
       ) ∙ g))
       (is_known (EnumType e) (types.Enum n) (Core.Constant p n i) (meets.enum en) tt (has.constant met.at in_range))
 
@@ -292,7 +306,8 @@ module _ (core : Core.Program) (m : Core.Method) (scope : Scope) (ns : Numbers) 
   abbrev Calls : (class f : Name) (n : ℕ) (method : Source.Method) → Source.Class → Type 0
   Calls = Callee scope.program core
 
-  returned : (class f : Name) (n : ℕ) (method : Source.Method) (owner : Source.Class) (c : Calls class f n method owner) (t : ValueType) (e : Core.Expr) →
+  returned : (class f : Name) (n : ℕ) (method : Source.Method) (owner : Source.Class) (c : Calls class f n method owner) (t : ValueType)
+      (e : Core.Expr) →
       meant scope.program method.result ≡ t → H e c.method_is.result → T t e
   returned class f n method owner c t e same h =
       subst (λ t. T t e) same
@@ -303,15 +318,19 @@ module _ (core : Core.Program) (m : Core.Method) (scope : Scope) (ns : Numbers) 
     all : (ps : List ValueType) (us : List CoreType) → Aligned (Meets scope.program core) ps us → count_of args ≡ length ps →
         Clean TypeMismatch (all_taken scope (paired args ps)) → HasAll core m ns.slots args' us
 
-  all_given : (p : Place) (o : Option Signature) (args : Source.Exprs) (args' : Core.Exprs) (s : Signature) (us : List CoreType) → Given args args' →
+  all_given : (p : Place) (o : Option Signature) (args : Source.Exprs) (args' : Core.Exprs) (s : Signature) (us : List CoreType) →
+      Given args args' →
       o ≡ Some s → ((c : Culprit) → (c ≡ culprit p []) × (s : Signature) × (o ≡ Some s) × (count_of args ≢ length s.params) → ⊥) →
-      Clean TypeMismatch (all_taken scope (arguments o args)) → Aligned (Meets scope.program core) s.params us → HasAll core m ns.slots args' us
+      Clean TypeMismatch (all_taken scope (arguments o args)) → Aligned (Meets scope.program core) s.params us →
+      HasAll core m ns.slots args' us
   all_given p o args args' s us given e arity clean meet =
       given.all s.params us meet (counted p o args s arity e) (subst (λ o. Clean TypeMismatch (all_taken scope (arguments o args))) e clean)
 
   -- a static method
-  static_has : (p : Place) (class f : Name) (n : ℕ) (method : Source.Method) (owner : Source.Class) (c : Calls class f n method owner) (args' : Core.Exprs) →
-      method.is_static ≡ true → method.takes_args ≡ false → HasAll core m ns.slots args' (param_types c.method_is) → H (Core.Static p n args') c.method_is.result
+  static_has : (p : Place) (class f : Name) (n : ℕ) (method : Source.Method) (owner : Source.Class) (c : Calls class f n method owner)
+      (args' : Core.Exprs) →
+      method.is_static ≡ true → method.takes_args ≡ false → HasAll core m ns.slots args' (param_types c.method_is) →
+      H (Core.Static p n args') c.method_is.result
   static_has p class f n method owner c args' s a all =
       has.static (record {
         at = c.at;
@@ -319,7 +338,8 @@ module _ (core : Core.Program) (m : Core.Method) (scope : Scope) (ns : Numbers) 
       }) all refl
 
   typed_static : (p : Place) (f : Name) (n : ℕ) (method : Source.Method) (args : Source.Exprs) (args' : Core.Exprs) →
-      IsMethod scope.program core scope.class.name f n method → method.is_static ≡ true → Given args args' → CleanExpr scope (Source.Call p f args) →
+      IsMethod scope.program core scope.class.name f n method → method.is_static ≡ true → Given args args' →
+      CleanExpr scope (Source.Call p f args) →
       (t : ValueType) → type_of scope (Source.Call p f args) ≡ Some t → T t (Core.Static p n args')
   typed_static p f n method args args' i st given clean t e =
       let spot = (nodes_right scope (nodes_in args) (Value (Source.Call p f args) ∷ []) clean).0 in
@@ -338,7 +358,8 @@ module _ (core : Core.Program) (m : Core.Method) (scope : Scope) (ns : Numbers) 
   differs false n = refl
 
   typed_class_static : (p q : Place) (k f : Name) (n : ℕ) (method : Source.Method) (args : Source.Exprs) (args' : Core.Exprs) →
-      variable_type scope k ≡ None → k ≢ codes "Session" → IsMethod scope.program core k f n method → method.is_static ≡ true → Given args args' →
+      variable_type scope k ≡ None → k ≢ codes "Session" → IsMethod scope.program core k f n method → method.is_static ≡ true →
+      Given args args' →
       CleanExpr scope (Source.MethodCall p (Source.Variable q k) f args) →
       (t : ValueType) → type_of scope (Source.MethodCall p (Source.Variable q k) f args) ≡ Some t → T t (Core.Static p n args')
   typed_class_static p q k f n method args args' none other i st given clean t e =
@@ -362,12 +383,14 @@ module _ (core : Core.Program) (m : Core.Method) (scope : Scope) (ns : Numbers) 
       (arguments (called_on scope (Source.Variable q k) (type_of scope (Source.Variable q k)) f) args) spot.types in
       let all = all_given p (called_on scope (Source.Variable q k) (type_of scope (Source.Variable q k)) f) args args'
       (signature_of scope.program method) (param_types c.method_is) given (out ∙ s.sig) spot.arity takes_all c.params in
-      returned k f n method i.owner.class c t (Core.Static p n args') s.result (static_has p k f n method i.owner.class c args' st s.no_args all)
+      returned k f n method i.owner.class c t (Core.Static p n args') s.result (static_has p k f n method i.owner.class c args' st s.no_args
+      all)
 
   typed_session : (p q : Place) (f : Name) (call : SessionCall) (args : Source.Exprs) (args' : Core.Exprs) →
       variable_type scope (codes "Session") ≡ None → IsSession f call → Given args args' →
       CleanExpr scope (Source.MethodCall p (Source.Variable q (codes "Session")) f args) →
-      (t : ValueType) → type_of scope (Source.MethodCall p (Source.Variable q (codes "Session")) f args) ≡ Some t → T t (Core.Session p call args')
+      (t : ValueType) → type_of scope (Source.MethodCall p (Source.Variable q (codes "Session")) f args) ≡ Some t →
+      T t (Core.Session p call args')
   typed_session p q f call args args' none i given clean t e =
       let named : Source.Expr = Source.Variable q (codes "Session") in
       let spot = call_clean scope p f args named clean in
@@ -375,7 +398,8 @@ module _ (core : Core.Program) (m : Core.Method) (scope : Scope) (ns : Numbers) 
       let out : called_on scope named (type_of scope named) f ≡ Some s.sig = ap (λ o. called_on scope named o f) none ∙ s.is in
       let takes_all = taken_behind scope (receiver (type_of scope named) named)
       (arguments (called_on scope named (type_of scope named) f) args) spot.types in
-      let all = all_given p (called_on scope named (type_of scope named) f) args args' s.sig (session_params call) given out spot.arity takes_all s.params in
+      let all = all_given p (called_on scope named (type_of scope named) f) args args' s.sig (session_params call) given out spot.arity
+      takes_all s.params in
       subst (λ t. T t (Core.Session p call args')) (some_is (sym (ap (option_map (λ s. s.result)) out) ∙ e))
       (is_known s.sig.result (session_result call) (Core.Session p call args') s.result s.known (has.session all refl))
 
@@ -391,7 +415,8 @@ module _ (core : Core.Program) (m : Core.Method) (scope : Scope) (ns : Numbers) 
       let not_of : is_of_protocol scope.program scope.class method.name ≡ false =
       ap (is_of_protocol scope.program scope.class) (method_name i.owner.class f method i.named) ∙ none in
       let s = helper_call scope method t st not_of (sym (ap (option_map (λ s. s.result)) out) ∙ e) in
-      let all = all_given p o args args' (signature_of scope.program method) (param_types c.method_is) given (out ∙ s.sig) arity types c.params in
+      let all = all_given p o args args' (signature_of scope.program method) (param_types c.method_is) given (out ∙ s.sig) arity types
+      c.params in
       returned scope.class.name f n method i.owner.class c t (Core.Helper p n args') s.result
       (has.helper (runs_on_object core m scope.program scope.class scope.method runs s.instance)
       (record {
@@ -404,18 +429,21 @@ module _ (core : Core.Program) (m : Core.Method) (scope : Scope) (ns : Numbers) 
       (record { class = scope.class; named = runs.named; at = runs.source_at }))
       all refl)
 
-  own_out : (f : Name) (n : ℕ) (method : Source.Method) → IsMethod scope.program core scope.class.name f n method → method.is_static ≡ false →
+  own_out : (f : Name) (n : ℕ) (method : Source.Method) → IsMethod scope.program core scope.class.name f n method → method.is_static ≡ false
+      →
       called scope f ≡ own_instance scope method
   own_out f n method i st =
       ap (λ (o : Option Source.Method). elim o [ None ↦ None | Some m ↦ own_method scope m ]) (own_named core m scope ns runs f n method i)
       ∙ ap (λ b. if b then static_of scope.program method else own_instance scope method) st
 
   typed_helper : (p : Place) (f : Name) (n : ℕ) (method : Source.Method) (args : Source.Exprs) (args' : Core.Exprs) →
-      IsMethod scope.program core scope.class.name f n method → method.is_static ≡ false → Given args args' → CleanExpr scope (Source.Call p f args) →
+      IsMethod scope.program core scope.class.name f n method → method.is_static ≡ false → Given args args' →
+      CleanExpr scope (Source.Call p f args) →
       (t : ValueType) → type_of scope (Source.Call p f args) ≡ Some t → T t (Core.Helper p n args')
   typed_helper p f n method args args' i st given clean t e =
       let spot = (nodes_right scope (nodes_in args) (Value (Source.Call p f args) ∷ []) clean).0 in
-      helped p f n method args args' i st given (no_protocol core m scope ns runs p f spot.no_self_call (is_own core m scope ns runs f n method i st))
+      helped p f n method args args' i st given (no_protocol core m scope ns runs p f spot.no_self_call
+      (is_own core m scope ns runs f n method i st))
       (called scope f) (own_out f n method i st) spot.arity spot.types t e
 
   typed_this_helper : (p q : Place) (f : Name) (n : ℕ) (method : Source.Method) (args : Source.Exprs) (args' : Core.Exprs) →
@@ -424,9 +452,11 @@ module _ (core : Core.Program) (m : Core.Method) (scope : Scope) (ns : Numbers) 
       (t : ValueType) → type_of scope (Source.MethodCall p (Source.This q) f args) ≡ Some t → T t (Core.Helper p n args')
   typed_this_helper p q f n method args args' i st given clean t e =
       let spot = call_clean scope p f args (Source.This q) clean in
-      helped p f n method args args' i st given (no_protocol core m scope ns runs p f spot.no_self_call (is_own core m scope ns runs f n method i st))
+      helped p f n method args args' i st given (no_protocol core m scope ns runs p f spot.no_self_call
+      (is_own core m scope ns runs f n method i st))
       (called_on scope (Source.This q) None f)
-      (ap (λ (o : Option Source.Method). elim o [ None ↦ None | Some m ↦ own_instance scope m ]) (own_named core m scope ns runs f n method i))
+      (ap (λ (o : Option Source.Method). elim o [ None ↦ None | Some m ↦ own_instance scope m ])
+      (own_named core m scope ns runs f n method i))
       spot.arity spot.types t e
 
   -- a call on a value
@@ -434,9 +464,11 @@ module _ (core : Core.Program) (m : Core.Method) (scope : Scope) (ns : Numbers) 
   on_value (Source.This q) t f n = absurd n
   on_value e t f n = refl
 
-  typed_protocol : (p : Place) (e : Source.Expr) (x : CoreVar) (k f : Name) (n : ℕ) (method : Source.Method) (args : Source.Exprs) (args' : Core.Exprs) →
+  typed_protocol : (p : Place) (e : Source.Expr) (x : CoreVar) (k f : Name) (n : ℕ) (method : Source.Method) (args : Source.Exprs)
+      (args' : Core.Exprs) →
       IsVar scope.program core scope ns e x.var → type_of scope e ≡ Some (ClassType k) → IsMethod scope.program core k f n method →
-      method.is_static ≡ false → Given args args' → (has.CallsHelperIn args' → rules.CallsHelperIn scope args) → CleanExpr scope (Source.MethodCall p e f args) →
+      method.is_static ≡ false → Given args args' → (has.CallsHelperIn args' → rules.CallsHelperIn scope args) →
+      CleanExpr scope (Source.MethodCall p e f args) →
       (t : ValueType) → type_of scope (Source.MethodCall p e f args) ≡ Some t → T t (Core.Protocol p x n args')
   typed_protocol p e x k f n method args args' v te i st given back clean t g =
       let spot = call_clean scope p f args e clean in
@@ -445,8 +477,10 @@ module _ (core : Core.Program) (m : Core.Method) (scope : Scope) (ns : Numbers) 
       ap (λ o. called_on scope e o f) te ∙ on_value e (ClassType k) f (not_this_variable core m scope ns runs v)
       ∙ ap (λ (o : Option Source.Class). elim o [ None ↦ None | Some c ↦ protocol_method scope.program c f ]) i.owner_named in
       let s = protocol_call scope.program i.owner.class f method t i.named st (sym (ap (option_map (λ s. s.result)) out) ∙ g) in
-      let takes_all = taken_behind scope (receiver (type_of scope e) e) (arguments (called_on scope e (type_of scope e) f) args) spot.types in
-      let all = all_given p (called_on scope e (type_of scope e) f) args args' (signature_of scope.program method) (param_types c.method_is) given
+      let takes_all = taken_behind scope (receiver (type_of scope e) e) (arguments (called_on scope e (type_of scope e) f) args) spot.types
+      in
+      let all = all_given p (called_on scope e (type_of scope e) f) args args' (signature_of scope.program method) (param_types c.method_is)
+      given
       (out ∙ s.sig) spot.arity takes_all c.params in
       let w = typed_var core m scope ns runs locals v (ClassType k) te in
       let same = one_type scope.program core res apart w.meets (meets.class c.class_is) tt in
@@ -462,7 +496,8 @@ module _ (core : Core.Program) (m : Core.Method) (scope : Scope) (ns : Numbers) 
       (λ own h. let o = own_of core m scope ns runs locals v own in spot.no_move (culprit p o.0.name) (o.0, o.1, refl, back h)))
 
   -- a method of a text
-  own_field_of : {e : Source.Expr} {e' : Core.Expr} → IsExpr scope.program core scope ns e e' → IsOwnField e' → (f : Source.Field) × (field_of scope e ≡ Some f)
+  own_field_of : {e : Source.Expr} {e' : Core.Expr} → IsExpr scope.program core scope ns e e' → IsOwnField e' →
+      (f : Source.Field) × (field_of scope e ≡ Some f)
   own_field_of (is.variable v) h = own_of core m scope ns runs locals v h
   own_field_of x h = absurd h
 
@@ -471,7 +506,8 @@ module _ (core : Core.Program) (m : Core.Method) (scope : Scope) (ns : Numbers) 
     argument_is : H a' types.Text
     moves : IsOwnField e' → has.CallsHelper a' → ⊥
 
-  on_text : (p : Place) (e a : Source.Expr) (f : Name) (e' a' : Core.Expr) (result : ValueType) → built_in text_methods f ≡ Some (signature (TextType ∷ []) result) →
+  on_text : (p : Place) (e a : Source.Expr) (f : Name) (e' a' : Core.Expr) (result : ValueType) →
+      built_in text_methods f ≡ Some (signature (TextType ∷ []) result) →
       type_of scope e ≡ Some TextType → IsExpr scope.program core scope ns e e' → T TextType e' →
       ((g : ValueType) → type_of scope a ≡ Some g → T g a') → (has.CallsHelper a' → rules.CallsHelper scope a) →
       CleanExpr scope (Source.MethodCall p e f (Source.Argument a Source.NoExpr)) → OnText p e a f e' a'
@@ -488,7 +524,8 @@ module _ (core : Core.Program) (m : Core.Method) (scope : Scope) (ns : Numbers) 
         moves = λ own h. let o = own_field_of x own in spot.no_move (culprit p o.0.name) (o.0, o.1, refl, inl (back h));
       }
 
-  text_result : (p : Place) (e a : Source.Expr) (f : Name) (result : ValueType) → built_in text_methods f ≡ Some (signature (TextType ∷ []) result) →
+  text_result : (p : Place) (e a : Source.Expr) (f : Name) (result : ValueType) →
+      built_in text_methods f ≡ Some (signature (TextType ∷ []) result) →
       type_of scope e ≡ Some TextType → IsNotThis e → (t : ValueType) →
       type_of scope (Source.MethodCall p e f (Source.Argument a Source.NoExpr)) ≡ Some t → result ≡ t
   text_result p e a f result found te n t g =
@@ -501,7 +538,8 @@ module _ (core : Core.Program) (m : Core.Method) (scope : Scope) (ns : Numbers) 
       is_known t w.type (Core.Variable (place_of e) x) w.meets w.known (has.variable w.is)
 
   -- a name is a variable
-  typed_name : (e : Source.Expr) (e' : Core.Expr) → IsExpr scope.program core scope ns e e' → IsName e → (t : ValueType) → type_of scope e ≡ Some t → T t e'
+  typed_name : (e : Source.Expr) (e' : Core.Expr) → IsExpr scope.program core scope ns e e' → IsName e → (t : ValueType) →
+      type_of scope e ≡ Some t → T t e'
   typed_name (Source.Variable p x) _ (is.variable v) n t g = typed_variable v t g
   typed_name e _ i n t g = absurd n
 
@@ -511,7 +549,8 @@ module _ (core : Core.Program) (m : Core.Method) (scope : Scope) (ns : Numbers) 
       IsExpr scope.program core scope ns e e' → IsExpr scope.program core scope ns a a' →
       (CleanExpr scope e → AreMade e → (t : ValueType) → type_of scope e ≡ Some t → T t e') →
       (CleanExpr scope a → AreMade a → (t : ValueType) → type_of scope a ≡ Some t → T t a') →
-      CleanExpr scope (Source.MethodCall p e f (Source.Argument a Source.NoExpr)) → AreMade (Source.MethodCall p e f (Source.Argument a Source.NoExpr)) →
+      CleanExpr scope (Source.MethodCall p e f (Source.Argument a Source.NoExpr)) →
+      AreMade (Source.MethodCall p e f (Source.Argument a Source.NoExpr)) →
       OnText p e a f e' a'
   text_call p f e a e' a' result found te x y receives argued clean made =
       let args : Source.Exprs = Source.Argument a Source.NoExpr in
@@ -521,14 +560,16 @@ module _ (core : Core.Program) (m : Core.Method) (scope : Scope) (ns : Numbers) 
       let received = ⊎_elim (λ n. typed_name e e' x n TextType te)
       (λ c. receives c (clean_left (UnknownClass scope.program) (mentions_in e) (mentions_in_args args) made) TextType te)
       (receiver_clean scope p f args e (not_this core m scope ns runs x) clean) in
-      on_text p e a f e' a' result found te x received (λ t g. argued inner made_a t g) (λ h. calls_back core m scope ns runs y inner h) clean
+      on_text p e a f e' a' result found te x received (λ t g. argued inner made_a t g) (λ h. calls_back core m scope ns runs y inner h)
+      clean
 
   mutual
     -- A resolved expression is well typed, with the type of its source.
     pub typed : {e : Source.Expr} {e' : Core.Expr} → IsExpr scope.program core scope ns e e' → CleanExpr scope e → AreMade e →
         (t : ValueType) → type_of scope e ≡ Some t → T t e'
     typed (is.int {p = p} {z = z}) clean made t g = at_type (is_known IntType types.Int (Core.Int p z) meets.int tt has.int) g
-    typed (is.truth {p = p} {b = b}) clean made t g = at_type (is_known BooleanType types.Boolean (Core.Truth p b) meets.boolean tt has.truth) g
+    typed (is.truth {p = p} {b = b}) clean made t g =
+        at_type (is_known BooleanType types.Boolean (Core.Truth p b) meets.boolean tt has.truth) g
     typed (is.text {p = p} {t = s}) clean made t g = at_type (is_known TextType types.Text (Core.Text p s) meets.text tt has.text) g
     typed (is.null {p = p}) clean made t g = at_type (record { type = types.Object 0; meets = meets.null; has = typed_null p }) g
     typed (is.variable v) clean made t g = typed_variable v t g
@@ -546,13 +587,16 @@ module _ (core : Core.Program) (m : Core.Method) (scope : Scope) (ns : Numbers) 
         (has.opposite (takes a a' BooleanType types.Boolean [] (λ t g. typed x inner made t g) spot.types meets.boolean))) g
     typed (is.binary {p = p} {o = o} {l = l} {r = r} {l' = l'} {r' = r'} x y) clean made t g =
         at_type (operated core m scope ns res apart runs locals p l r l' r' x y
-        (λ t g. typed x (left_operand scope p o l r clean) (clean_left (UnknownClass scope.program) (mentions_in l) (mentions_in r) made) t g)
-        (λ t g. typed y (right_operand scope p o l r clean) (clean_right (UnknownClass scope.program) (mentions_in l) (mentions_in r) made) t g)
+        (λ t g. typed x (left_operand scope p o l r clean) (clean_left (UnknownClass scope.program) (mentions_in l) (mentions_in r) made) t
+        g)
+        (λ t g. typed y (right_operand scope p o l r clean) (clean_right (UnknownClass scope.program) (mentions_in l) (mentions_in r) made)
+        t g)
         o (operator scope p o l r clean).types) g
     typed (is.static {p = p} {f = f} {m = n} {method = method} {args = args} {args' = args'} i s xs) clean made t g =
         typed_static p f n method args args' i s
         (record { all = all_typed xs (nodes_left scope (nodes_in args) (Value (Source.Call p f args) ∷ []) clean) made }) clean t g
-    typed (is.class_static {p = p} {q = q} {c = k} {f = f} {m = n} {method = method} {args = args} {args' = args'} none other i s xs) clean made t g =
+    typed (is.class_static {p = p} {q = q} {c = k} {f = f} {m = n} {method = method} {args = args} {args' = args'} none other i s xs) clean
+        made t g =
         typed_class_static p q k f n method args args' none other i s
         (record { all = all_typed xs (arguments_clean scope p f args (Source.Variable q k) clean) made }) clean t g
     typed (is.session {p = p} {q = q} {f = f} {call = call} {args = args} {args' = args'} none i xs) clean made t g =
@@ -564,18 +608,21 @@ module _ (core : Core.Program) (m : Core.Method) (scope : Scope) (ns : Numbers) 
     typed (is.this_helper {p = p} {q = q} {f = f} {m = n} {method = method} {args = args} {args' = args'} i s xs) clean made t g =
         typed_this_helper p q f n method args args' i s
         (record { all = all_typed xs (arguments_clean scope p f args (Source.This q) clean) made }) clean t g
-    typed (is.protocol {p = p} {e = e} {x = x} {c = k} {f = f} {m = n} {method = method} {args = args} {args' = args'} v te i s xs) clean made t g =
+    typed (is.protocol {p = p} {e = e} {x = x} {c = k} {f = f} {m = n} {method = method} {args = args} {args' = args'} v te i s xs) clean
+        made t g =
         let inner = arguments_clean scope p f args e clean in
         typed_protocol p e x k f n method args args' v.is te i s
         (record { all = all_typed xs inner (clean_right (UnknownClass scope.program) (mentions_in e) (mentions_in_args args) made) })
         (λ h. calls_back_in core m scope ns runs xs inner h) clean t g
     typed (is.equals {p = p} {e = e} {a = a} {e' = e'} {a' = a'} te x y) clean made t g =
-        let h = text_call p (codes "equals") e a e' a' BooleanType refl te x y (λ c k t g. typed x c k t g) (λ c k t g. typed y c k t g) clean made in
+        let h = text_call p (codes "equals") e a e' a' BooleanType refl te x y (λ c k t g. typed x c k t g) (λ c k t g. typed y c k t g)
+        clean made in
         subst (λ t. T t (Core.Equals p e' a'))
         (text_result p e a (codes "equals") BooleanType refl te (not_this core m scope ns runs x) t g)
         (is_known BooleanType types.Boolean (Core.Equals p e' a') meets.boolean tt (has.equals h.receiver_is h.argument_is h.moves))
     typed (is.concat {p = p} {e = e} {a = a} {e' = e'} {a' = a'} te x y) clean made t g =
-        let h = text_call p (codes "concat") e a e' a' TextType refl te x y (λ c k t g. typed x c k t g) (λ c k t g. typed y c k t g) clean made in
+        let h = text_call p (codes "concat") e a e' a' TextType refl te x y (λ c k t g. typed x c k t g) (λ c k t g. typed y c k t g) clean
+        made in
         subst (λ t. T t (Core.Concat p e' a'))
         (text_result p e a (codes "concat") TextType refl te (not_this core m scope ns runs x) t g)
         (is_known TextType types.Text (Core.Concat p e' a') meets.text tt (has.concat h.receiver_is h.argument_is h.moves))
@@ -587,17 +634,21 @@ module _ (core : Core.Program) (m : Core.Method) (scope : Scope) (ns : Numbers) 
     all_typed is.no_args clean made _ _ is.none e tk = has.no_args
     all_typed is.no_args clean made _ _ (is.more w ws) e tk = absurd (omega (arith, e))
     all_typed (is.arg x xs) clean made _ _ is.none e tk = absurd (omega (arith, e))
-    all_typed (is.arg {e = a} {e' = a'} {rest = more} {rest' = more'} x xs) clean made _ _ (is.more {a = p} {b = u} {as' = ps} {bs = us} w ws) e tk =
+    all_typed (is.arg {e = a} {e' = a'} {rest = more} {rest' = more'} x xs) clean made _ _
+        (is.more {a = p} {b = u} {as' = ps} {bs = us} w ws) e tk =
         has.arg
         (takes a a' p u (paired more ps)
-        (λ t g. typed x (first_arg scope a more clean) (clean_left (UnknownClass scope.program) (mentions_in a) (mentions_in_args more) made) t g) tk w)
-        (all_typed xs (other_args scope a more clean) (clean_right (UnknownClass scope.program) (mentions_in a) (mentions_in_args more) made) ps us ws
+        (λ t g. typed x (first_arg scope a more clean) (clean_left (UnknownClass scope.program) (mentions_in a) (mentions_in_args more)
+        made) t g) tk w)
+        (all_typed xs (other_args scope a more clean) (clean_right (UnknownClass scope.program) (mentions_in a) (mentions_in_args more)
+        made) ps us ws
         (omega (arith, e)) tk.1)
 
   -- What a statement needs of a clean expression.
 
   -- a value that is taken
-  pub fitted : {e : Source.Expr} {e' : Core.Expr} → IsExpr scope.program core scope ns e e' → CleanExpr scope e → AreMade e → (t : ValueType) (u : CoreType) →
+  pub fitted : {e : Source.Expr} {e' : Core.Expr} → IsExpr scope.program core scope ns e e' → CleanExpr scope e → AreMade e →
+      (t : ValueType) (u : CoreType) →
       Clean TypeMismatch (all_taken scope (taken e (Fitting t) ∷ [])) → Meets scope.program core t u → H e' u
   fitted {e} {e'} x clean made t u tk meet = takes e e' t u [] (λ t g. typed x clean made t g) tk meet
 
@@ -637,9 +688,12 @@ module _ (core : Core.Program) (m : Core.Method) (scope : Scope) (ns : Numbers) 
   some_type None n = absurd (n refl)
   some_type (Some t) n = (t, refl)
 
-  variable_has_type : {e : Source.Expr} {x : Var} → IsVar scope.program core scope ns e x → CleanExpr scope e → (t : ValueType) × (type_of scope e ≡ Some t)
-  variable_has_type (is.a_local {p = p} {x = x} s) clean = some_type (variable_type scope x) (λ n. clean.0.known_name (culprit p x) (refl, n))
-  variable_has_type (is.a_field {p = p} {x = x} none own) clean = some_type (variable_type scope x) (λ n. clean.0.known_name (culprit p x) (refl, n))
+  variable_has_type : {e : Source.Expr} {x : Var} → IsVar scope.program core scope ns e x → CleanExpr scope e →
+      (t : ValueType) × (type_of scope e ≡ Some t)
+  variable_has_type (is.a_local {p = p} {x = x} s) clean =
+      some_type (variable_type scope x) (λ n. clean.0.known_name (culprit p x) (refl, n))
+  variable_has_type (is.a_field {p = p} {x = x} none own) clean =
+      some_type (variable_type scope x) (λ n. clean.0.known_name (culprit p x) (refl, n))
   variable_has_type (is.own {p = p} {q = q} {x = x} own) clean =
       some_type (type_of scope (Source.Member p (Source.This q) x)) (λ n. clean.0.known_name (culprit p x) (refl, n))
 
@@ -654,7 +708,8 @@ module _ (core : Core.Program) (m : Core.Method) (scope : Scope) (ns : Numbers) 
       some_result (called scope f)
       (λ n. (nodes_right scope (nodes_in args) (Value (Source.Call p f args) ∷ []) clean).0.known_name (culprit p f) (refl, n))
 
-  has_type : {e : Source.Expr} {e' : Core.Expr} → IsExpr scope.program core scope ns e e' → CleanExpr scope e → (t : ValueType) × (type_of scope e ≡ Some t)
+  has_type : {e : Source.Expr} {e' : Core.Expr} → IsExpr scope.program core scope ns e e' → CleanExpr scope e →
+      (t : ValueType) × (type_of scope e ≡ Some t)
   has_type is.int clean = (IntType, refl)
   has_type is.truth clean = (BooleanType, refl)
   has_type is.text clean = (TextType, refl)
@@ -666,8 +721,10 @@ module _ (core : Core.Program) (m : Core.Method) (scope : Scope) (ns : Numbers) 
   has_type (is.opposite x) clean = (BooleanType, refl)
   has_type (is.binary {o = o} {l = l} {r = r} x y) clean = (operator_type o (type_of scope l) (type_of scope r), refl)
   has_type (is.static {p = p} {f = f} {args = args} i s xs) clean = own_call_has_type p f args clean
-  has_type (is.class_static {p = p} {q = q} {c = k} {f = f} {args = args} none other i s xs) clean = call_has_type p (Source.Variable q k) f args clean
-  has_type (is.session {p = p} {q = q} {f = f} {args = args} none i xs) clean = call_has_type p (Source.Variable q (codes "Session")) f args clean
+  has_type (is.class_static {p = p} {q = q} {c = k} {f = f} {args = args} none other i s xs) clean = call_has_type p (Source.Variable q k) f
+      args clean
+  has_type (is.session {p = p} {q = q} {f = f} {args = args} none i xs) clean = call_has_type p (Source.Variable q (codes "Session")) f args
+      clean
   has_type (is.helper {p = p} {f = f} {args = args} i s xs) clean = own_call_has_type p f args clean
   has_type (is.this_helper {p = p} {q = q} {f = f} {args = args} i s xs) clean = call_has_type p (Source.This q) f args clean
   has_type (is.protocol {p = p} {e = e} {f = f} {args = args} v te i s xs) clean = call_has_type p e f args clean
@@ -676,7 +733,8 @@ module _ (core : Core.Program) (m : Core.Method) (scope : Scope) (ns : Numbers) 
   has_type (is.new {c = c} i) clean = (ClassType c, refl)
 
   -- any expression
-  pub evaluated : {e : Source.Expr} {e' : Core.Expr} → IsExpr scope.program core scope ns e e' → CleanExpr scope e → AreMade e → (u : CoreType) × H e' u
+  pub evaluated : {e : Source.Expr} {e' : Core.Expr} → IsExpr scope.program core scope ns e e' → CleanExpr scope e → AreMade e →
+      (u : CoreType) × H e' u
   evaluated {e} {e'} x clean made =
       let t = has_type x clean in
       let w = typed x clean made t.0 t.1 in

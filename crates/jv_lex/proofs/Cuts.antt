@@ -1,5 +1,6 @@
 -- There is one way to cut bytes into pieces, and a scan from left to right finds it.
-use Rattle.std.proofs.Common.{◌≡◌, ℕ, ◌<◌, ◌≤◌, List, [], ◌∷◌, ◌++◌, length, take, Result, Ok, Err, refl, sym, ap, ◌∙◌, subst, append_assoc, length-append, arith, inl, inr, ◌⊎◌}
+use Rattle.std.proofs.Common.{◌≡◌, ℕ, ◌<◌, ◌≤◌, List, [], ◌∷◌, ◌++◌, length, take, Result, Ok, Err, refl, sym, ap, ◌∙◌, subst, append_assoc}
+use Rattle.std.proofs.Common.{length-append, arith, inl, inr, ◌⊎◌}
 use Rattle.std.specs.Str.{IsUtf8, IsValidUpTo}
 use Rattle.mg_text.specs.Places.{start_of, place_after}
 use Rattle.mg_read.proofs.Cuts.{utf8_whole, ill_once}
@@ -26,14 +27,16 @@ same_found : (x y : Piece × List ℕ) (rest : List ℕ) → front_at rest ≡ O
 same_found x y rest e f = let same = sym e ∙ f in cc
 
 -- there is one way to cut
-pub cut_once : (ps qs : List Piece) (bytes rest more : List ℕ) → Cut ps bytes rest → Cut qs bytes more → Ends rest → Ends more → (ps ≡ qs) × (rest ≡ more)
+pub cut_once : (ps qs : List Piece) (bytes rest more : List ℕ) → Cut ps bytes rest → Cut qs bytes more → Ends rest → Ends more →
+    (ps ≡ qs) × (rest ≡ more)
 cut_once [] [] bytes rest more a b u v = (refl, sym a ∙ b)
 cut_once [] (q ∷ qs) bytes rest more a (after, parts, stands, h) u v =
     absurd (ends_not rest (q, after) u (ap front_at (sym a ∙ parts) ∙ front_again q after stands))
 cut_once (p ∷ ps) [] bytes rest more (after, parts, stands, h) b u v =
     absurd (ends_not more (p, after) v (ap front_at (sym b ∙ parts) ∙ front_again p after stands))
 cut_once (p ∷ ps) (q ∷ qs) bytes rest more (a, a_parts, a_stands, a_more) (b, b_parts, b_stands, b_more) u v =
-    let same = same_found (p, a) (q, b) bytes (ap front_at a_parts ∙ front_again p a a_stands) (ap front_at b_parts ∙ front_again q b b_stands) in
+    let same = same_found (p, a) (q, b) bytes (ap front_at a_parts ∙ front_again p a a_stands)
+    (ap front_at b_parts ∙ front_again q b b_stands) in
     let head : p ≡ q = ap (λ (x : Piece × List ℕ). x.0) same in
     let tail : a ≡ b = ap (λ (x : Piece × List ℕ). x.1) same in
     let r = cut_once ps qs a rest more a_more (subst (λ (z : List ℕ). Cut qs z more) (sym tail) b_more) u v in
@@ -57,7 +60,8 @@ pub stopped_once : (bytes : List ℕ) (c d : Cause) (k j : ℕ) → IsStopped by
 stopped_once bytes c d k j a b =
     let r = cut_once a.pieces b.pieces bytes a.rest b.rest a.cut b.cut (stops_end a.rest a.stops) (stops_end b.rest b.stops) in
     let long = ap length r.1 in
-    let same : ◌≡◌ {A = Result (Piece × List ℕ) (Cause × ℕ)} (Err (c, a.behind)) (Err (d, b.behind)) = sym (front_stops a.rest a.stops) ∙ ap front_at r.1 ∙ front_stops b.rest b.stops in
+    let same : ◌≡◌ {A = Result (Piece × List ℕ) (Cause × ℕ)} (Err (c, a.behind)) (Err (d, b.behind)) = sym (front_stops a.rest a.stops) ∙
+    ap front_at r.1 ∙ front_stops b.rest b.stops in
     let pair : ◌≡◌ {A = Cause × ℕ} (c, a.behind) (d, b.behind) = cc in
     let behind : a.behind ≡ b.behind = ap (λ (x : Cause × ℕ). x.1) pair in
     (ap (λ (x : Cause × ℕ). x.0) pair, omega (arith, long, behind, a.here, b.here))
@@ -78,11 +82,22 @@ record AsciiAt (rest : List ℕ) (n : ℕ) : Type 0 where
 
 -- but for a bad byte, a fault of the pieces stands at a byte of ASCII
 stop_ascii : (rest : List ℕ) {cause : Cause} {n : ℕ} → Stops rest cause n → (cause ≡ causes.BadByte) ⊎ AsciiAt rest n
-stop_ascii rest (open_comment body parts none) = inr (record { before = []; byte = 47; after = 42 ∷ body; parts = parts; long = refl; low = omega arith })
-stop_ascii rest (open_text body parts none) = inr (record { before = []; byte = 34; after = body; parts = parts; long = refl; low = omega arith })
+stop_ascii rest (open_comment body parts none) =
+    inr (record { before = []; byte = 47; after = 42 ∷ body; parts = parts; long = refl; low = omega arith })
+stop_ascii rest (open_text body parts none) =
+    inr (record { before = []; byte = 34; after = body; parts = parts; long = refl; low = omega arith })
 stop_ascii rest (bad_escape good more c after parts fine bad in_line strokes) =
-    inr (record { before = 34 ∷ spelled good; byte = 92; after = c ∷ (spelled more ++ 34 ∷ after); parts = parts; long = refl; low = omega arith })
-stop_ascii rest (bad_number c cs parts digit none) = inr (record { before = []; byte = c; after = cs; parts = parts; long = refl; low = digit_low c digit })
+    inr (record {
+      before = 34 ∷ spelled good;
+      byte = 92;
+      after = c ∷ (spelled more ++ 34 ∷ after);
+      parts = parts;
+      long = refl;
+      low =
+          omega arith;
+    })
+stop_ascii rest (bad_number c cs parts digit none) =
+    inr (record { before = []; byte = c; after = cs; parts = parts; long = refl; low = digit_low c digit })
 stop_ascii rest (bad_byte c cs parts start none) = inl refl
 
 -- the pieces in a row, and what follows them
@@ -98,8 +113,16 @@ bad_both bytes cause k s v = elim (stop_ascii s.rest s.stops) [
   | inl e ↦ e
   | inr a ↦
       let c = cut_parts s.pieces bytes s.rest s.cut in
-      let parts : bytes ≡ (c.0 ++ a.before) ++ a.byte ∷ a.after = c.1 ∙ ap (λ (z : List ℕ). c.0 ++ z) a.parts ∙ sym (append_assoc c.0 a.before (a.byte ∷ a.after)) in
-      let at : k ≡ length (c.0 ++ a.before) = omega (arith, s.here, ap length c.1, length-append c.0 s.rest, length-append c.0 a.before, a.long) in
+      let parts : bytes ≡ (c.0 ++ a.before) ++ a.byte ∷ a.after = c.1 ∙ ap (λ (z : List ℕ). c.0 ++ z) a.parts ∙
+      sym (append_assoc c.0 a.before (a.byte ∷ a.after)) in
+      let at : k ≡ length (c.0 ++ a.before) = omega (
+        arith,
+        s.here,
+        ap length c.1,
+        length-append c.0 s.rest,
+        length-append c.0 a.before,
+        a.long,
+      ) in
       absurd (ill_not_ascii bytes (c.0 ++ a.before) a.after a.byte k parts at a.low v)
 ]
 
@@ -109,7 +132,8 @@ data Fault (bytes : List ℕ) (cause : Cause) (k : ℕ) : Type 0 where
   of_text : cause ≡ causes.BadByte → IsValidUpTo bytes k → Fault bytes cause k
 
 fault_is : (bytes : List ℕ) {cause : Cause} {k : ℕ} → IsFault bytes cause k → Fault bytes cause k
-fault_is bytes (stop pieces rest n k cut stops here) = of_pieces (record { pieces = pieces; rest = rest; behind = n; cut = cut; stops = stops; here = here })
+fault_is bytes (stop pieces rest n k cut stops here) =
+    of_pieces (record { pieces = pieces; rest = rest; behind = n; cut = cut; stops = stops; here = here })
 fault_is bytes (ill_formed k v) = of_text refl v
 
 -- of two faults in one place
@@ -135,7 +159,8 @@ tokens_or_fault file ts bytes c k a f = go (fault_is bytes f) where
 -- and one row of tokens
 pub same_tokens : (file : ℕ) (ts us : List Token) (bytes : List ℕ) → AreTokens file ts bytes → AreTokens file us bytes → ts ≡ us
 same_tokens file ts us bytes a b =
-    a.tokens ∙ ap (tokens_from (start_of file)) (cut_once a.pieces b.pieces bytes [] [] a.cut b.cut nothing_left nothing_left).0 ∙ sym b.tokens
+    a.tokens ∙ ap (tokens_from (start_of file)) (cut_once a.pieces b.pieces bytes [] [] a.cut b.cut nothing_left nothing_left).0 ∙
+    sym b.tokens
 
 -- ---- the first of the faults
 
@@ -154,7 +179,8 @@ first_before bytes c k at v h s = record { fault = stopped_fault bytes c k s; fi
   go d j (of_text e w) = omega (arith, ill_once bytes at j v w)
 
 -- where the text stops to be UTF-8, and no piece did before
-pub first_of_text : (bytes : List ℕ) (at : ℕ) → IsValidUpTo bytes at → ((d : Cause) (j : ℕ) → IsStopped bytes d j → at ≤ j) → IsFirst bytes causes.BadByte at
+pub first_of_text : (bytes : List ℕ) (at : ℕ) → IsValidUpTo bytes at → ((d : Cause) (j : ℕ) → IsStopped bytes d j → at ≤ j) →
+    IsFirst bytes causes.BadByte at
 first_of_text bytes at v none = record { fault = ill_formed at v; first = λ d j f. go d j (fault_is bytes f) } where
   go : (d : Cause) (j : ℕ) → Fault bytes d j → at ≤ j
   go d j (of_pieces t) = none d j t

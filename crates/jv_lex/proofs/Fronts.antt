@@ -1,5 +1,6 @@
 -- What is found at the front is right, and the only one.
-use Rattle.std.proofs.Common.{◌≡◌, ℕ, zero, suc, ◌+◌, ◌<◌, List, [], ◌∷◌, ◌++◌, length, take, drop, Bool, true, false, cond, eqb, Option, Some, None, refl, sym, ap, ◌∙◌, subst, inl, inr, append_assoc, arith}
+use Rattle.std.proofs.Common.{◌≡◌, ℕ, zero, suc, ◌+◌, ◌<◌, List, [], ◌∷◌, ◌++◌, length, take, drop, Bool, true, false, cond, eqb, Option}
+use Rattle.std.proofs.Common.{Some, None, refl, sym, ap, ◌∙◌, subst, inl, inr, append_assoc, arith}
 use Rattle.std.specs.List.{AllByRecursion}
 use Rattle.std.specs.Prelude.{Ok, Err, option_map}
 use Rattle.std.specs.Char.{is_ascii_digit}
@@ -22,8 +23,10 @@ use Rattle.jv_lex.specs.Signs.{written}
 use Rattle.jv_lex.specs.Written.{Written, escaped, spelled, IsStroke}
 use Rattle.jv_lex.specs.Pieces.{Piece, blank, line, block, word, number, text, sign, spell, MayStand}
 use Rattle.jv_lex.specs.Faults.{Stops, open_comment, open_text, bad_escape, bad_number, bad_byte, is_start}
-use Rattle.jv_lex.specs.inner.Front.{Front, closing_at, bad_at, whole_text, closed_text, text_at, numbered, number_of, number_at, closed_block, line_at, sign_from, sign_at, slash_at, the_word, front_at}
-use Rattle.jv_lex.proofs.Texts.{neither, Closed, closing_is, closing_again, characters_again, spelled_append, FirstBad, bad_is, text_closed, text_again, text_bad, text_open}
+use Rattle.jv_lex.specs.inner.Front.{Front, closing_at, bad_at, whole_text, closed_text, text_at, numbered, number_of, number_at}
+use Rattle.jv_lex.specs.inner.Front.{closed_block, line_at, sign_from, sign_at, slash_at, the_word, front_at}
+use Rattle.jv_lex.proofs.Texts.{neither, Closed, closing_is, closing_again, characters_again, spelled_append, FirstBad, bad_is, text_closed}
+use Rattle.jv_lex.proofs.Texts.{text_again, text_bad, text_open}
 use Rattle.jv_lex.proofs.Right.{Stands, Right, right_if}
 use Rattle.jv_lex.proofs.Longest.{sign_right, sign_again, single_none}
 use Rattle.jv_lex.proofs.Numbers.{own, number_right, number_again}
@@ -51,13 +54,14 @@ word_again name rest passes stops =
 -- where a "*/" stands, one is found
 close_there : (u v : List ℕ) → close_at (u ++ 42 ∷ 47 ∷ v) ≡ None → ⊥
 close_there [] v e = none_is_not 0 (sym e)
-close_there (c ∷ u) v e = elim (chosen (is_close (c ∷ (u ++ 42 ∷ 47 ∷ v))) (Some 0) (option_map (λ n. n + 1) (close_at (u ++ 42 ∷ 47 ∷ v))) None e) [
-  | inl t ↦ none_is_not 0 (sym t.1)
-  | inr f ↦ close_there u v (unmapped (close_at (u ++ 42 ∷ 47 ∷ v)) f.1)
-] where
-  unmapped : (o : Option ℕ) → option_map (λ n. n + 1) o ≡ None → o ≡ None
-  unmapped None e = refl
-  unmapped (Some n) e = absurd (none_is_not (n + 1) (sym e))
+close_there (c ∷ u) v e = elim (chosen (is_close (c ∷ (u ++ 42 ∷ 47 ∷ v))) (Some 0) (option_map (λ n. n + 1) (close_at (u ++ 42 ∷ 47 ∷ v)))
+    None e) [
+      | inl t ↦ none_is_not 0 (sym t.1)
+      | inr f ↦ close_there u v (unmapped (close_at (u ++ 42 ∷ 47 ∷ v)) f.1)
+    ] where
+      unmapped : (o : Option ℕ) → option_map (λ n. n + 1) o ≡ None → o ≡ None
+      unmapped None e = refl
+      unmapped (Some n) e = absurd (none_is_not (n + 1) (sym e))
 
 block_right : (body : List ℕ) → Right (47 ∷ 42 ∷ body) (closed_block body (close_at body))
 block_right body = go (close_at body) refl where
@@ -67,7 +71,8 @@ block_right body = go (close_at body) refl where
       let r = close_is body n e in
       let two : suc (suc n) ≡ n + 2 = omega arith in
       let parts : body ≡ (take n body ++ 42 ∷ 47 ∷ []) ++ drop (n + 2) body =
-      subst (λ (k : ℕ). body ≡ (take n body ++ 42 ∷ 47 ∷ []) ++ drop k body) two (r.parts ∙ sym (append_assoc (take n body) (42 ∷ 47 ∷ []) (drop (suc (suc n)) body))) in
+      subst (λ (k : ℕ). body ≡ (take n body ++ 42 ∷ 47 ∷ []) ++ drop k body) two
+      (r.parts ∙ sym (append_assoc (take n body) (42 ∷ 47 ∷ []) (drop (suc (suc n)) body))) in
       (ap (λ (z : List ℕ). 47 ∷ 42 ∷ z) parts, r.first)
 
 line_right : (body : List ℕ) → Right (47 ∷ 47 ∷ body) (line_at body)
@@ -84,16 +89,19 @@ slash_right (d ∷ ds) =
 
 -- ---- texts
 
-whole_right : (ws : List Written) (after cs : List ℕ) (o : Option ℕ) → cs ≡ spelled ws ++ 34 ∷ after → AllByRecursion IsStroke ws → FirstBad ws o
+whole_right : (ws : List Written) (after cs : List ℕ) (o : Option ℕ) → cs ≡ spelled ws ++ 34 ∷ after → AllByRecursion IsStroke ws →
+    FirstBad ws o
     → Right (34 ∷ cs) (whole_text (spelled ws) after o)
 whole_right ws after cs None parts strokes h =
     subst (λ (z : List Written). Stands (34 ∷ cs) (text z, after)) (sym (characters_again ws strokes))
     (ap (λ (z : List ℕ). 34 ∷ z) (parts ∙ sym (append_assoc (spelled ws) (34 ∷ []) after)), h)
 whole_right ws after cs (Some k) parts strokes h =
-    let is : spelled ws ≡ spelled h.good ++ 92 ∷ h.byte ∷ spelled h.more = ap spelled h.parts ∙ spelled_append h.good (escaped h.byte ∷ h.more) in
+    let is : spelled ws ≡ spelled h.good ++ 92 ∷ h.byte ∷ spelled h.more = ap spelled h.parts ∙ spelled_append h.good
+    (escaped h.byte ∷ h.more) in
     subst (λ (z : ℕ). Stops (34 ∷ cs) causes.BadEscape z) (sym h.at)
     (bad_escape h.good h.more h.byte after
-    (ap (λ (z : List ℕ). 34 ∷ z) (parts ∙ ap (λ (z : List ℕ). z ++ 34 ∷ after) is ∙ append_assoc (spelled h.good) (92 ∷ h.byte ∷ spelled h.more) (34 ∷ after)))
+    (ap (λ (z : List ℕ). 34 ∷ z) (parts ∙ ap (λ (z : List ℕ). z ++ 34 ∷ after) is ∙ append_assoc (spelled h.good)
+    (92 ∷ h.byte ∷ spelled h.more) (34 ∷ after)))
     h.fine h.none h.in_line h.strokes)
 
 text_right : (cs : List ℕ) → Right (34 ∷ cs) (text_at cs)
@@ -101,7 +109,8 @@ text_right cs = go (closing_at false cs) refl where
   go : (o : Option ℕ) → closing_at false cs ≡ o → Right (34 ∷ cs) (text_at cs)
   go None e =
       subst (Right (34 ∷ cs)) (sym (ap (closed_text cs) e))
-      (open_text cs refl (λ ws after strokes parts. none_is_not (length (spelled ws)) (sym e ∙ ap (closing_at false) parts ∙ closing_again ws after strokes)))
+      (open_text cs refl (λ ws after strokes parts. none_is_not (length (spelled ws)) (sym e ∙ ap (closing_at false) parts ∙
+      closing_again ws after strokes)))
   go (Some n) e =
       let k : Closed cs n = closing_is false cs n e in
       subst (Right (34 ∷ cs)) (sym (ap text_at k.parts ∙ text_closed k.ws k.after k.strokes))
@@ -160,7 +169,8 @@ front_again (block body) rest h =
       past (x ∷ xs) = past xs
 front_again (word []) rest (starts, passes, stops) = absurd starts
 front_again (word (c ∷ cs)) rest (starts, passes, stops) =
-    second_way (is_blank c) (is_word_start c) _ _ _ (blank_apart c starts) starts ∙ ap (λ (x : Piece × List ℕ). Ok x) (word_again (c ∷ cs) rest passes stops)
+    second_way (is_blank c) (is_word_start c) _ _ _ (blank_apart c starts) starts ∙ ap (λ (x : Piece × List ℕ). Ok x)
+    (word_again (c ∷ cs) rest passes stops)
 front_again (number n) rest h = number_front n rest h
 front_again (text ws) rest h = ap text_at (append_assoc (spelled ws) (34 ∷ []) rest) ∙ text_again ws rest h
 front_again (sign s) rest h = sign_again s rest h
@@ -174,7 +184,8 @@ close_none body none = go (close_at body) refl where
   go (Some n) e = absurd (none (take n body) (drop (suc (suc n)) body) (close_is body n e).parts)
 
 -- no number is found where none may stand
-number_none : (c : ℕ) (cs : List ℕ) → is_ascii_digit c ≡ true → ((n : ℕ) (after : List ℕ) → c ∷ cs ≡ decimal n ++ after → MayStand (number n) after → ⊥)
+number_none : (c : ℕ) (cs : List ℕ) → is_ascii_digit c ≡ true → ((n : ℕ) (after : List ℕ) → c ∷ cs ≡ decimal n ++ after →
+    MayStand (number n) after → ⊥)
     → number_at (c ∷ cs) ≡ Err (causes.BadNumber, 0)
 number_none c cs digit none = go (number_of ds after) refl (number_right c cs digit) where
   ds : List ℕ
@@ -190,7 +201,8 @@ number_none c cs digit none = go (number_of ds after) refl (number_right c cs di
       absurd (none n after s.0 s.1)
 
 -- a byte that begins nothing
-byte_none : (c : ℕ) (cs : List ℕ) → is_start c ≡ false → ((s : Sign) (after : List ℕ) → c ∷ cs ≡ written s ++ after → ⊥) → front_at (c ∷ cs) ≡ Err (causes.BadByte, 0)
+byte_none : (c : ℕ) (cs : List ℕ) → is_start c ≡ false → ((s : Sign) (after : List ℕ) → c ∷ cs ≡ written s ++ after → ⊥) →
+    front_at (c ∷ cs) ≡ Err (causes.BadByte, 0)
 byte_none c cs start none =
     let b = neither (is_blank c) _ start in
     let w = neither (is_word_start c) _ b.1 in
@@ -199,12 +211,14 @@ byte_none c cs start none =
       | inl t ↦ absurd (none signs.Slash cs (ap (λ (z : ℕ). z ∷ cs) (eqb-true c 47 t)))
       | inr f ↦ f
     ]) in
-    last_way (is_blank c) (is_word_start c) (is_ascii_digit c) (eqb c 34) (eqb c 47) _ _ _ _ _ _ b.0 w.0 d.0 d.1 slash ∙ ap (sign_from c cs) (single_none c cs none)
+    last_way (is_blank c) (is_word_start c) (is_ascii_digit c) (eqb c 34) (eqb c 47) _ _ _ _ _ _ b.0 w.0 d.0 d.1 slash ∙ ap (sign_from c cs)
+    (single_none c cs none)
 
 pub front_stops : (rest : List ℕ) {cause : Cause} {k : ℕ} → Stops rest cause k → front_at rest ≡ Err (cause, k)
 front_stops rest (open_comment body parts none) = ap front_at parts ∙ ap (closed_block body) (close_none body none)
 front_stops rest (open_text body parts none) = ap front_at parts ∙ text_open body none
-front_stops rest (bad_escape good more c after parts fine bad in_line strokes) = ap front_at parts ∙ text_bad good more c after fine bad in_line strokes
+front_stops rest (bad_escape good more c after parts fine bad in_line strokes) = ap front_at parts ∙ text_bad good more c after fine bad
+    in_line strokes
 front_stops rest (bad_number c cs parts digit none) =
     ap front_at parts ∙ digit_front c cs digit ∙ number_none c cs digit (λ n after p. none n after (parts ∙ p))
 front_stops rest (bad_byte c cs parts start none) = ap front_at parts ∙ byte_none c cs start (λ s after p. none s after (parts ∙ p))

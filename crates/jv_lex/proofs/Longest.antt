@@ -1,5 +1,6 @@
 -- Signs: the longest that stands there.
-use Rattle.std.proofs.Common.{◌≡◌, ℕ, List, [], ◌∷◌, ◌++◌, length, Bool, true, false, cond, eqb, Option, Some, None, refl, sym, ap, ◌∙◌, subst, inl, inr, ◌⊎◌, arith}
+use Rattle.std.proofs.Common.{◌≡◌, ℕ, List, [], ◌∷◌, ◌++◌, length, Bool, true, false, cond, eqb, Option, Some, None, refl, sym, ap, ◌∙◌}
+use Rattle.std.proofs.Common.{subst, inl, inr, ◌⊎◌, arith}
 use Rattle.std.specs.Prelude.{slice_index, Ok, ◌||◌, ◌==◌}
 use Rattle.std.proofs.lemmas.Bool.{eqb-true}
 use Rattle.std.proofs.lemmas.Bool.Decides.{nat_tests}
@@ -11,7 +12,8 @@ use Rattle.jv_tree.specs.declared.token.Sign.TheVariants as signs
 use Rattle.jv_lex.specs.Signs.{written, goes_on}
 use Rattle.jv_lex.specs.Pieces.{Piece, sign}
 use Rattle.jv_lex.specs.Faults.{is_start, bad_byte}
-use Rattle.jv_lex.specs.inner.Front.{bracket, operator, mark, or_else, single, with_equals, doubled, pair, or_alone, longest, sign_from, sign_at, front_at}
+use Rattle.jv_lex.specs.inner.Front.{bracket, operator, mark, or_else, single, with_equals, doubled, pair, or_alone, longest, sign_from}
+use Rattle.jv_lex.specs.inner.Front.{sign_at, front_at}
 use Rattle.jv_lex.proofs.Texts.{neither}
 use Rattle.jv_lex.proofs.Right.{Stands, Right}
 
@@ -22,7 +24,8 @@ head s = slice_index (written s) 0
 -- ---- the sign that a byte is
 
 -- a step of a table
-row : (c k : ℕ) (t s : Sign) (other : Option Sign) → written t ≡ k ∷ [] → cond (eqb c k) (Some t) other ≡ Some s → (other ≡ Some s → written s ≡ c ∷ []) → written s ≡ c ∷ []
+row : (c k : ℕ) (t s : Sign) (other : Option Sign) → written t ≡ k ∷ [] → cond (eqb c k) (Some t) other ≡ Some s →
+    (other ≡ Some s → written s ≡ c ∷ []) → written s ≡ c ∷ []
 row c k t s other is e more = elim (chosen (eqb c k) (Some t) other (Some s) e) [
   | inl h ↦ let same : t ≡ s = some_is t s h.1 in ap written (sym same) ∙ is ∙ ap (λ (z : ℕ). z ∷ []) (sym (eqb-true c k h.0))
   | inr h ↦ more h.1
@@ -152,7 +155,8 @@ equals_is signs.Percent t e = ap written (sym (some_is signs.PercentAssign t e))
 equals_is s t e = absurd (none_is_not t e)
 
 -- a step of a table
-twice : (c k : ℕ) (u t : Sign) (other : Option Sign) → written u ≡ k ∷ k ∷ [] → cond (eqb c k) (Some u) other ≡ Some t → (other ≡ Some t → written t ≡ c ∷ c ∷ []) → written t ≡ c ∷ c ∷ []
+twice : (c k : ℕ) (u t : Sign) (other : Option Sign) → written u ≡ k ∷ k ∷ [] → cond (eqb c k) (Some u) other ≡ Some t →
+    (other ≡ Some t → written t ≡ c ∷ c ∷ []) → written t ≡ c ∷ c ∷ []
 twice c k u t other is e more = elim (chosen (eqb c k) (Some u) other (Some t) e) [
   | inl h ↦ let same : u ≡ t = some_is u t h.1 in ap written (sym same) ∙ is ∙ ap (λ (z : ℕ). z ∷ z ∷ []) (sym (eqb-true c k h.0))
   | inr h ↦ more h.1
@@ -215,7 +219,8 @@ abbrev pub begins_comment : ℕ → Bool
 begins_comment c = c == 47 || c == 42
 
 -- where no longer sign is found, none is written
-quiet_at : (s : Sign) (d : ℕ) → length (written s) ≡ 1 → (s ≡ signs.Slash → begins_comment d ≡ false) → pair s (head s) d ≡ None → goes_on s d ≡ false
+quiet_at : (s : Sign) (d : ℕ) → length (written s) ≡ 1 → (s ≡ signs.Slash → begins_comment d ≡ false) → pair s (head s) d ≡ None →
+    goes_on s d ≡ false
 quiet_at signs.OpenBrace d one slash e = refl
 quiet_at signs.CloseBrace d one slash e = refl
 quiet_at signs.OpenParen d one slash e = refl
@@ -278,7 +283,8 @@ quiet s c d is slash e =
     quiet_at s d (ap length is) (λ h. slash (head_is ∙ ap head h)) (subst (λ (z : ℕ). pair s z d ≡ None) head_is e)
 
 -- the longest sign stands
-longest_right : (s : Sign) (c : ℕ) (cs : List ℕ) → written s ≡ c ∷ [] → (c ≡ 47 → StopsAt begins_comment cs) → Stands (c ∷ cs) (longest s c cs)
+longest_right : (s : Sign) (c : ℕ) (cs : List ℕ) → written s ≡ c ∷ [] → (c ≡ 47 → StopsAt begins_comment cs) →
+    Stands (c ∷ cs) (longest s c cs)
 longest_right s c [] is slash = (ap (λ (z : List ℕ). z ++ []) (sym is), tt)
 longest_right s c (d ∷ ds) is slash = go (pair s c d) refl where
   stops : (t : Sign) (xs : List ℕ) → length (written t) ≡ 2 → StopsAt (goes_on t) xs
@@ -299,7 +305,8 @@ sign_right c cs start slash = go (single c) refl where
 -- ---- a sign that may stand is found
 
 -- where no longer sign is written, none is found
-pair_none : (s : Sign) (d : ℕ) → goes_on s d ≡ false → ((goes_on s 61 ≡ true) ⊎ (with_equals s ≡ None)) → ((goes_on s (head s) ≡ true) ⊎ (doubled (head s) ≡ None))
+pair_none : (s : Sign) (d : ℕ) → goes_on s d ≡ false → ((goes_on s 61 ≡ true) ⊎ (with_equals s ≡ None)) →
+    ((goes_on s (head s) ≡ true) ⊎ (doubled (head s) ≡ None))
     → pair s (head s) d ≡ None
 pair_none s d h equals double = elim (either (eqb d 61)) [
   | inl t ↦ rw t (elim equals [
@@ -315,7 +322,8 @@ pair_none s d h equals double = elim (either (eqb d 61)) [
   ])
 ]
 
-alone : (s : Sign) (rest : List ℕ) → StopsAt (goes_on s) rest → ((goes_on s 61 ≡ true) ⊎ (with_equals s ≡ None)) → ((goes_on s (head s) ≡ true) ⊎ (doubled (head s) ≡ None))
+alone : (s : Sign) (rest : List ℕ) → StopsAt (goes_on s) rest → ((goes_on s 61 ≡ true) ⊎ (with_equals s ≡ None)) →
+    ((goes_on s (head s) ≡ true) ⊎ (doubled (head s) ≡ None))
     → longest s (head s) rest ≡ (sign s, rest)
 alone s [] h equals double = refl
 alone s (d ∷ ds) h equals double = ap (or_alone s (d ∷ ds)) (pair_none s d h equals double)

@@ -1,5 +1,6 @@
 -- Numbers: digits with no zero in front are what their value is written as.
-use Rattle.std.proofs.Common.{◌≡◌, ℕ, zero, suc, ◌<◌, ◌≤◌, ◌^◌, List, [], ◌∷◌, ◌++◌, length, get_or, take, drop, true, false, eqb, Option, Some, None, refl, sym, ap, ◌∙◌, inl, inr, arith, eq-eqb, rules}
+use Rattle.std.proofs.Common.{◌≡◌, ℕ, zero, suc, ◌<◌, ◌≤◌, ◌^◌, List, [], ◌∷◌, ◌++◌, length, get_or, take, drop, true, false, eqb, Option}
+use Rattle.std.proofs.Common.{Some, None, refl, sym, ap, ◌∙◌, inl, inr, arith, eq-eqb, rules}
 use Rattle.std.specs.Prelude.{◌||◌, nat_lt, Ok}
 use Rattle.std.specs.Char.{is_ascii_digit}
 use Rattle.std.specs.Fmt.{decimal}
@@ -58,7 +59,8 @@ small_is n h = let f : nat_lt 2147483648 n ≡ false = grind (arith, nat_tests) 
 pub number_again : (n : ℕ) (rest : List ℕ) → MayStand (number n) rest → number_at (decimal n ++ rest) ≡ Ok (number n, rest)
 number_again n rest (most, stops) =
     let passes : AllPasses is_ascii_digit (decimal n) = digits_decimal own n (below n most) in
-    let long : span is_ascii_digit (decimal n ++ rest) ≡ length (decimal n) = span_again is_ascii_digit (decimal n) rest passes (stops_digits rest stops) in
+    let long : span is_ascii_digit (decimal n ++ rest) ≡ length (decimal n) = span_again is_ascii_digit (decimal n) rest passes
+    (stops_digits rest stops) in
     let front = take_at (decimal n) rest (length (decimal n)) refl in
     let back = drop_at (decimal n) rest (length (decimal n)) refl in
     rw (long, front, back, not_tailed rest stops, no_zero n (below n most), (decimal_is_IsNumeral n (below n most)).1, small_is n most) refl

@@ -15,6 +15,7 @@ Right bytes (Ok x) = Stands bytes x
 Right bytes (Err e) = Stops bytes e.0 e.1
 
 -- one of two ways is taken
-pub right_if : (bytes : List ℕ) (b : Bool) (x y : Front) → (b ≡ true → Right bytes x) → (b ≡ false → Right bytes y) → Right bytes (cond b x y)
+pub right_if : (bytes : List ℕ) (b : Bool) (x y : Front) → (b ≡ true → Right bytes x) → (b ≡ false → Right bytes y) →
+    Right bytes (cond b x y)
 right_if bytes true x y f g = f refl
 right_if bytes false x y f g = g refl

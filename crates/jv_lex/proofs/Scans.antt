@@ -1,5 +1,6 @@
 -- The scan from left to right: how far it has come, and what a turn adds.
-use Rattle.std.proofs.Common.{◌≡◌, ℕ, suc, ◌+◌, ◌-◌, ◌<◌, ◌≤◌, List, [], ◌∷◌, ◌++◌, length, take, drop, Option, Some, None, Result, Ok, Err, refl, sym, ap, ◌∙◌, subst, append_assoc, length-append, arith}
+use Rattle.std.proofs.Common.{◌≡◌, ℕ, suc, ◌+◌, ◌-◌, ◌<◌, ◌≤◌, List, [], ◌∷◌, ◌++◌, length, take, drop, Option, Some, None, Result, Ok, Err}
+use Rattle.std.proofs.Common.{refl, sym, ap, ◌∙◌, subst, append_assoc, length-append, arith}
 use Rattle.std.specs.List.{AllByRecursion}
 use Rattle.std.specs.Prelude.{map, MatchOption}
 use Rattle.std.specs.Str.{IsUtf8}
@@ -19,7 +20,8 @@ use Rattle.jv_lex.specs.declared.front.Stop.{Stop}
 use Rattle.jv_lex.specs.Letters.{is_word_byte}
 use Rattle.jv_lex.specs.Signs.{written}
 use Rattle.jv_lex.specs.Written.{Written, spelled, meant, IsCharacter}
-use Rattle.jv_lex.specs.Pieces.{Piece, blank, line, block, word, number, text, sign, spell, MayStand, Cut, tokens_of, tokens_from, AreTokens}
+use Rattle.jv_lex.specs.Pieces.{Piece, blank, line, block, word, number, text, sign, spell, MayStand, Cut, tokens_of, tokens_from}
+use Rattle.jv_lex.specs.Pieces.{AreTokens}
 use Rattle.jv_lex.specs.Faults.{Stops, open_comment, open_text, bad_escape, bad_number, bad_byte, told}
 use Rattle.jv_lex.specs.declared.fault.LexFault.{LexFault}
 use Rattle.jv_lex.specs.declared.fault.LexFault.TheVariants as faults
@@ -53,21 +55,25 @@ pub record SoFar (file : ℕ) (bytes : List ℕ) (ts : List Token) (place : Plac
 -- ---- pieces in a row
 
 -- a cut goes on with one more piece
-cut_more : (ps : List Piece) (p : Piece) (bytes rest after : List ℕ) → Cut ps bytes rest → Stands rest (p, after) → Cut (ps ++ p ∷ []) bytes after
+cut_more : (ps : List Piece) (p : Piece) (bytes rest after : List ℕ) → Cut ps bytes rest → Stands rest (p, after) →
+    Cut (ps ++ p ∷ []) bytes after
 cut_more [] p bytes rest after e (parts, stands) = (after, e ∙ parts, stands, refl)
 cut_more (q ∷ ps) p bytes rest after (mid, parts, stands, h) s = (mid, parts, stands, cut_more ps p mid rest after h s)
 
 -- the place behind one more piece
-places_more : (ps : List Piece) (p : Piece) (place : Place) → places_after place (ps ++ p ∷ []) ≡ place_after (places_after place ps) (spell p)
+places_more : (ps : List Piece) (p : Piece) (place : Place) → places_after place (ps ++ p ∷ []) ≡ place_after (places_after place ps)
+    (spell p)
 places_more [] p place = refl
 places_more (q ∷ ps) p place = places_more ps p (place_after place (spell q))
 
 -- the tokens of one more piece are added at the end
-tokens_more : (ps : List Piece) (p : Piece) (place : Place) → tokens_from place (ps ++ p ∷ []) ≡ tokens_from place ps ++ tokens_of (places_after place ps) p
+tokens_more : (ps : List Piece) (p : Piece) (place : Place) → tokens_from place (ps ++ p ∷ []) ≡ tokens_from place ps
+    ++ tokens_of (places_after place ps) p
 tokens_more [] p place = append-nil (tokens_of place p)
 tokens_more (q ∷ ps) p place =
     let next : Place = place_after place (spell q) in
-    ap (λ (z : List Token). tokens_of place q ++ z) (tokens_more ps p next) ∙ sym (append_assoc (tokens_of place q) (tokens_from next ps) (tokens_of (places_after next ps) p))
+    ap (λ (z : List Token). tokens_of place q ++ z) (tokens_more ps p next) ∙
+    sym (append_assoc (tokens_of place q) (tokens_from next ps) (tokens_of (places_after next ps) p))
 
 -- no piece is empty
 nonempty : (p : Piece) (after : List ℕ) → MayStand p after → 0 < length (spell p)
@@ -110,7 +116,11 @@ readable (line body) after h u = tt
 readable (block body) after h u = tt
 readable (word name) after h u = passing_ascii is_word_byte name word_low h.1
 readable (number n) after h u = tt
-readable (text ws) after h u = (omega (arith, length-append (spelled ws) (34 ∷ [])), subst IsUtf8 (sym (meaning_is ws h)) (text_utf8 ws after h u))
+readable (text ws) after h u = (
+  omega (arith, length-append (spelled ws) (34 ∷ [])),
+  subst IsUtf8 (sym (meaning_is ws h))
+      (text_utf8 ws after h u),
+)
 readable (sign s) after h u = tt
 
 -- a cause stands within what is left
@@ -146,7 +156,8 @@ pub stop_told : (told : Stop) (rest : List ℕ) → 0 < length rest → Err told
 stop_told told rest long e = go (front_at rest) (right_at rest long) e where
   go : (f : Front) → Right rest f → Err told ≡ shown f → Stops rest told.cause told.at
   go (Ok x) right e = absurd cc
-  go (Err x) right e = let same : told ≡ record { cause = x.0; at = x.1 } = cc in subst (λ (z : Stop). Stops rest z.cause z.at) (sym same) right
+  go (Err x) right e = let same : told ≡ record { cause = x.0; at = x.1 } = cc in subst (λ (z : Stop). Stops rest z.cause z.at) (sym same)
+      right
 
 module _ (told : FrontPiece) (rest : List ℕ) (f : FrontOf told rest) where
   len_is : told.len ≡ length (spell f.piece)
@@ -189,18 +200,21 @@ module _ (told : FrontPiece) (rest : List ℕ) (f : FrontOf told rest) where
 
   -- a turn of the loop keeps what is so far
   pub so_far_more : (file : ℕ) (bytes : List ℕ) (ts : List Token) (place : Place) (offset : ℕ) → SoFar file bytes ts place offset rest
-      → SoFar file bytes (ts ++ tokens_shown place told.kind (take told.len rest)) (place_after place (take told.len rest)) (offset + told.len) (drop told.len rest)
+      → SoFar file bytes (ts ++ tokens_shown place told.kind (take told.len rest)) (place_after place (take told.len rest))
+      (offset + told.len) (drop told.len rest)
   unfolding reached_more
   so_far_more file bytes ts place offset h =
       let start : Place = start_of file in
       let ps : List Piece = h.reached.pieces in
-      let said : tokens_shown place told.kind (take told.len rest) ≡ tokens_of place f.piece = rw (text_is, kind_is) (shown_is place f.piece f.after f.stands.1) in
+      let said : tokens_shown place told.kind (take told.len rest) ≡ tokens_of place f.piece =
+      rw (text_is, kind_is) (shown_is place f.piece f.after f.stands.1) in
       record {
         reached = reached_more bytes offset h.reached;
         tokens = ap (λ (z : List Token). z ++ tokens_shown place told.kind (take told.len rest)) h.tokens
             ∙ ap (λ (z : List Token). tokens_from start ps ++ z) (said ∙ ap (λ (k : Place). tokens_of k f.piece) h.at)
             ∙ sym (tokens_more ps f.piece start);
-        at = ap (λ (z : List ℕ). place_after place z) text_is ∙ ap (λ (k : Place). place_after k (spell f.piece)) h.at ∙ sym (places_more ps f.piece start);
+        at = ap (λ (z : List ℕ). place_after place z) text_is ∙ ap (λ (k : Place). place_after k (spell f.piece)) h.at ∙
+            sym (places_more ps f.piece start);
       }
 
 -- ---- the scan
@@ -216,17 +230,28 @@ pub reached_whole : (bytes : List ℕ) (offset : ℕ) (rest : List ℕ) → leng
 reached_whole bytes offset [] e h = (h.pieces, h.cut)
 reached_whole bytes offset (c ∷ cs) e h = absurd (omega arith)
 
-pub so_far_whole : (file : ℕ) (bytes : List ℕ) (ts : List Token) (place : Place) (offset : ℕ) (rest : List ℕ) → length rest ≡ 0 → IsUtf8 bytes
+pub so_far_whole : (file : ℕ) (bytes : List ℕ) (ts : List Token) (place : Place) (offset : ℕ) (rest : List ℕ) → length rest ≡ 0 →
+    IsUtf8 bytes
     → SoFar file bytes ts place offset rest → AreTokens file ts bytes
 so_far_whole file bytes ts place offset [] e u h = record { pieces = h.reached.pieces; cut = h.reached.cut; utf8 = u; tokens = h.tokens }
 so_far_whole file bytes ts place offset (c ∷ cs) e u h = absurd (omega arith)
 
 -- where the pieces stop
-pub reached_stop : (bytes : List ℕ) (offset : ℕ) (rest : List ℕ) (cause : Cause) (n : ℕ) → Stops rest cause n → Reached bytes offset rest → IsStopped bytes cause (offset + n)
-reached_stop bytes offset rest cause n s h = record { pieces = h.pieces; rest = rest; behind = n; cut = h.cut; stops = s; here = omega (arith, h.here) }
+pub reached_stop : (bytes : List ℕ) (offset : ℕ) (rest : List ℕ) (cause : Cause) (n : ℕ) → Stops rest cause n → Reached bytes offset rest →
+    IsStopped bytes cause (offset + n)
+reached_stop bytes offset rest cause n s h = record {
+  pieces = h.pieces;
+  rest = rest;
+  behind = n;
+  cut = h.cut;
+  stops = s;
+  here =
+      omega (arith, h.here);
+}
 
 -- which is within the bytes
-pub stop_within : (bytes : List ℕ) (offset : ℕ) (rest : List ℕ) (cause : Cause) (n : ℕ) → Stops rest cause n → Reached bytes offset rest → offset + n < length bytes
+pub stop_within : (bytes : List ℕ) (offset : ℕ) (rest : List ℕ) (cause : Cause) (n : ℕ) → Stops rest cause n → Reached bytes offset rest →
+    offset + n < length bytes
 stop_within bytes offset rest cause n s h = omega (arith, h.here, stops_within rest s)
 
 -- ---- what is told
@@ -239,13 +264,15 @@ told_answers causes.BadEscape place P h = h
 told_answers causes.BadNumber place P h = h
 
 -- no piece stops before this offset
-pub none_before : (bytes : List ℕ) (at : ℕ) (o : Option Stop) → MatchOption o (IsWhole bytes) (λ s. IsStopped bytes s.cause s.at) → ((s : Stop) → o ≡ Some s → at ≤ s.at)
+pub none_before : (bytes : List ℕ) (at : ℕ) (o : Option Stop) → MatchOption o (IsWhole bytes) (λ s. IsStopped bytes s.cause s.at) →
+    ((s : Stop) → o ≡ Some s → at ≤ s.at)
     → (d : Cause) (j : ℕ) → IsStopped bytes d j → at ≤ j
 none_before bytes at None h behind d j t = absurd (whole_or_stopped h.0 bytes d j h.1 t)
 none_before bytes at (Some s) h behind d j t = omega (arith, behind s refl, (stopped_once bytes s.cause d s.at j h t).1)
 
 -- what is so is what was answered
-pub only_answer : (file : ℕ) (bytes : List ℕ) (result : Result (Row Token) LexFault) → Answers result (Outcome file bytes) → (r : Lexing) → Outcome file bytes r → Answers result (λ a. a ≡ r)
+pub only_answer : (file : ℕ) (bytes : List ℕ) (result : Result (Row Token) LexFault) → Answers result (Outcome file bytes) → (r : Lexing) →
+    Outcome file bytes r → Answers result (λ a. a ≡ r)
 only_answer file bytes (Ok found) h r o = one_outcome file bytes h o
 only_answer file bytes (Err faults.Memory) h r o = tt
 only_answer file bytes (Err (faults.TooLarge place)) h r o = one_outcome file bytes h o

@@ -1,5 +1,6 @@
 -- Texts: where they close, their characters, and their first bad escape.
-use Rattle.std.proofs.Common.{◌≡◌, ℕ, suc, ◌+◌, List, [], ◌∷◌, ◌++◌, length, drop, Bool, true, false, cond, eqb, Option, Some, None, refl, sym, ap, ◌∙◌, inl, inr, ◌⊎◌, add-one, append_assoc, arith}
+use Rattle.std.proofs.Common.{◌≡◌, ℕ, suc, ◌+◌, List, [], ◌∷◌, ◌++◌, length, drop, Bool, true, false, cond, eqb, Option, Some, None, refl}
+use Rattle.std.proofs.Common.{sym, ap, ◌∙◌, inl, inr, ◌⊎◌, add-one, append_assoc, arith}
 use Rattle.std.specs.List.{AllByRecursion}
 use Rattle.std.specs.Prelude.{option_map, ◌||◌, not, Ok, Err}
 use Rattle.std.proofs.lemmas.Bool.{eqb-true}
@@ -91,12 +92,14 @@ ClosedAfter true bytes n = Behind bytes n
 ClosedAfter false bytes n = Closed bytes n
 
 -- one more stroke, of which the first byte is c
-one_more : (c : ℕ) (cs : List ℕ) (m n : ℕ) (b : Bool) → eqb c 34 ≡ false → is_line_end c ≡ false → eqb c 92 ≡ b → m + 1 ≡ n → ClosedAfter b cs m → Closed (c ∷ cs) n
+one_more : (c : ℕ) (cs : List ℕ) (m n : ℕ) (b : Bool) → eqb c 34 ≡ false → is_line_end c ≡ false → eqb c 92 ≡ b → m + 1 ≡ n →
+    ClosedAfter b cs m → Closed (c ∷ cs) n
 one_more c cs m n true q l e one h =
     record {
       ws = escaped h.byte ∷ h.closed.ws;
       after = h.closed.after;
-      parts = ap (λ (z : ℕ). z ∷ cs) (eqb-true c 92 e) ∙ ap (λ (z : List ℕ). 92 ∷ z) (h.split ∙ ap (λ (z : List ℕ). h.byte ∷ z) h.closed.parts);
+      parts = ap (λ (z : ℕ). z ∷ cs) (eqb-true c 92 e) ∙ ap (λ (z : List ℕ). 92 ∷ z)
+          (h.split ∙ ap (λ (z : List ℕ). h.byte ∷ z) h.closed.parts);
       strokes = (h.in_line, h.closed.strokes);
       long = omega (arith, one, h.one, h.closed.long);
     }
@@ -118,18 +121,27 @@ closing_is true (c ∷ cs) n e = elim (chosen (is_line_end c) None (option_map (
       let m = map_some (closing_at false cs) (λ k. k + 1) n f.1 in
       record { byte = c; rest = cs; more = m.0; split = refl; in_line = f.0; closed = closing_is false cs m.0 m.1; one = m.2 }
 ]
-closing_is false (c ∷ cs) n e = elim (chosen (is_line_end c) None (cond (eqb c 34) (Some 0) (option_map (λ k. k + 1) (closing_at (eqb c 92) cs))) (Some n) e) [
-  | inl t ↦ absurd (none_is_not n t.1)
-  | inr f ↦ elim (chosen (eqb c 34) (Some 0) (option_map (λ k. k + 1) (closing_at (eqb c 92) cs)) (Some n) f.1) [
-    | inl q ↦ record { ws = []; after = cs; parts = ap (λ (z : ℕ). z ∷ cs) (eqb-true c 34 q.0); strokes = tt; long = sym (some_is 0 n q.1) }
-    | inr q ↦
-        let m = map_some (closing_at (eqb c 92) cs) (λ k. k + 1) n q.1 in
-        one_more c cs m.0 n (eqb c 92) q.0 f.0 refl m.2 (closing_is (eqb c 92) cs m.0 m.1)
-  ]
-]
+closing_is false (c ∷ cs) n e =
+    elim (chosen (is_line_end c) None (cond (eqb c 34) (Some 0) (option_map (λ k. k + 1) (closing_at (eqb c 92) cs))) (Some n) e) [
+      | inl t ↦ absurd (none_is_not n t.1)
+      | inr f ↦ elim (chosen (eqb c 34) (Some 0) (option_map (λ k. k + 1) (closing_at (eqb c 92) cs)) (Some n) f.1) [
+        | inl q ↦ record {
+          ws = [];
+          after = cs;
+          parts = ap (λ (z : ℕ). z ∷ cs) (eqb-true c 34 q.0);
+          strokes = tt;
+          long =
+              sym (some_is 0 n q.1);
+        }
+        | inr q ↦
+            let m = map_some (closing_at (eqb c 92) cs) (λ k. k + 1) n q.1 in
+            one_more c cs m.0 n (eqb c 92) q.0 f.0 refl m.2 (closing_is (eqb c 92) cs m.0 m.1)
+      ]
+    ]
 
 -- the quote that closes is found
-pub closing_again : (ws : List Written) (after : List ℕ) → AllByRecursion IsStroke ws → closing_at false (spelled ws ++ 34 ∷ after) ≡ Some (length (spelled ws))
+pub closing_again : (ws : List Written) (after : List ℕ) → AllByRecursion IsStroke ws → closing_at false (spelled ws ++ 34 ∷ after) ≡ Some
+    (length (spelled ws))
 closing_again [] after h = refl
 closing_again (plain c ∷ ws) after h =
     let p = plain_is c h.0 in
@@ -172,7 +184,8 @@ abbrev pub FirstBad : List Written → Option ℕ → Type 0
 FirstBad ws None = AllByRecursion IsCharacter ws
 FirstBad ws (Some k) = Bad ws k
 
-bad_plain : (c : ℕ) (ws : List Written) (o : Option ℕ) → is_plain c ≡ true → FirstBad ws o → FirstBad (plain c ∷ ws) (option_map (λ n. n + 1) o)
+bad_plain : (c : ℕ) (ws : List Written) (o : Option ℕ) → is_plain c ≡ true → FirstBad ws o →
+    FirstBad (plain c ∷ ws) (option_map (λ n. n + 1) o)
 bad_plain c ws None p h = (p, h)
 bad_plain c ws (Some k) p h =
     record {
@@ -246,7 +259,8 @@ bad_again (escaped d ∷ good) c xs h bad =
 -- ---- texts
 
 -- a text that a quote closes
-pub text_closed : (ws : List Written) (after : List ℕ) → AllByRecursion IsStroke ws → text_at (spelled ws ++ 34 ∷ after) ≡ whole_text (spelled ws) after (bad_at false (spelled ws))
+pub text_closed : (ws : List Written) (after : List ℕ) → AllByRecursion IsStroke ws → text_at (spelled ws ++ 34 ∷ after) ≡ whole_text
+    (spelled ws) after (bad_at false (spelled ws))
 text_closed ws after h =
     let n = closing_again ws after h in
     let front = take_at (spelled ws) (34 ∷ after) (length (spelled ws)) refl in
@@ -257,24 +271,29 @@ text_closed ws after h =
       past (x ∷ xs) = past xs
 
 -- whose escapes are all right
-pub text_again : (ws : List Written) (after : List ℕ) → AllByRecursion IsCharacter ws → text_at (spelled ws ++ 34 ∷ after) ≡ Ok (text ws, after)
+pub text_again : (ws : List Written) (after : List ℕ) → AllByRecursion IsCharacter ws → text_at (spelled ws ++ 34 ∷ after) ≡ Ok
+    (text ws, after)
 text_again ws after h =
     let none = bad_none ws h in
     text_closed ws after (strokes ws h) ∙ rw (none, characters_again ws (strokes ws h)) refl
 
 -- of which one isn't
-pub text_bad : (good more : List Written) (c : ℕ) (after : List ℕ) → AllByRecursion IsCharacter good → is_escape c ≡ false → is_line_end c ≡ false → AllByRecursion IsStroke more
+pub text_bad : (good more : List Written) (c : ℕ) (after : List ℕ) → AllByRecursion IsCharacter good → is_escape c ≡ false →
+    is_line_end c ≡ false → AllByRecursion IsStroke more
     → text_at (spelled good ++ 92 ∷ c ∷ (spelled more ++ 34 ∷ after)) ≡ Err (causes.BadEscape, suc (length (spelled good)))
 text_bad good more c after h bad l k =
     let ws : List Written = good ++ escaped c ∷ more in
     let is : spelled ws ≡ spelled good ++ 92 ∷ c ∷ spelled more = spelled_append good (escaped c ∷ more) in
     let parts : spelled good ++ 92 ∷ c ∷ (spelled more ++ 34 ∷ after) ≡ spelled ws ++ 34 ∷ after =
     sym (append_assoc (spelled good) (92 ∷ c ∷ spelled more) (34 ∷ after)) ∙ ap (λ (z : List ℕ). z ++ 34 ∷ after) (sym is) in
-    let at : bad_at false (spelled ws) ≡ Some (suc (length (spelled good))) = ap (bad_at false) is ∙ bad_again good c (spelled more) h bad in
-    ap text_at parts ∙ text_closed ws after (strokes_append good (escaped c ∷ more) (strokes good h) (l, k)) ∙ ap (whole_text (spelled ws) after) at
+    let at : bad_at false (spelled ws) ≡ Some (suc (length (spelled good))) = ap (bad_at false) is ∙ bad_again good c (spelled more) h bad
+    in
+    ap text_at parts ∙ text_closed ws after (strokes_append good (escaped c ∷ more) (strokes good h) (l, k)) ∙
+    ap (whole_text (spelled ws) after) at
 
 -- that no quote closes
-pub text_open : (cs : List ℕ) → ((ws : List Written) (after : List ℕ) → AllByRecursion IsStroke ws → cs ≡ spelled ws ++ 34 ∷ after → ⊥) → text_at cs ≡ Err (causes.OpenText, 0)
+pub text_open : (cs : List ℕ) → ((ws : List Written) (after : List ℕ) → AllByRecursion IsStroke ws → cs ≡ spelled ws ++ 34 ∷ after → ⊥) →
+    text_at cs ≡ Err (causes.OpenText, 0)
 text_open cs none = ap (closed_text cs) (go (closing_at false cs) refl) where
   go : (o : Option ℕ) → closing_at false cs ≡ o → closing_at false cs ≡ None
   go None e = e

@@ -1,5 +1,6 @@
 -- What the code is told of the piece at the front.
-use Rattle.std.proofs.Common.{◌≡◌, ℕ, ◌+◌, ◌<◌, ◌≤◌, ◌^◌, List, [], ◌∷◌, ◌++◌, length, take, drop, true, false, Some, None, Result, Ok, Err, refl, sym, ap, ◌∙◌, subst, length-append, arith}
+use Rattle.std.proofs.Common.{◌≡◌, ℕ, ◌+◌, ◌<◌, ◌≤◌, ◌^◌, List, [], ◌∷◌, ◌++◌, length, take, drop, true, false, Some, None, Result, Ok, Err}
+use Rattle.std.proofs.Common.{refl, sym, ap, ◌∙◌, subst, length-append, arith}
 use Rattle.std.specs.Prelude.{nat_lt, slice_index, MatchResult, IsOk}
 use Rattle.std.specs.Char.{is_ascii_digit}
 use Rattle.std.specs.Fmt.{decimal}
@@ -17,7 +18,8 @@ use Rattle.jv_lex.specs.declared.front.FrontPiece.{FrontPiece}
 use Rattle.jv_lex.specs.declared.front.Stop.{Stop}
 use Rattle.jv_lex.specs.declared.front.PieceKind.TheVariants as kinds
 use Rattle.jv_lex.specs.Signs.{written}
-use Rattle.jv_lex.specs.inner.Front.{closing_at, bad_at, small, is_tailed, has_leading_zero, number_of, numbered, number_at, single, pair, sign_from, sign_at, or_alone, whole_text, text_at, shown}
+use Rattle.jv_lex.specs.inner.Front.{closing_at, bad_at, small, is_tailed, has_leading_zero, number_of, numbered, number_at, single, pair}
+use Rattle.jv_lex.specs.inner.Front.{sign_from, sign_at, or_alone, whole_text, text_at, shown}
 use Rattle.jv_lex.specs.Written.{Written, spelled}
 use Rattle.jv_lex.specs.Pieces.{text}
 use Rattle.jv_lex.proofs.Texts.{Closed, closing_is, characters_again, text_closed}
@@ -35,7 +37,8 @@ pub digits_utf8 : (ds : List ℕ) → AllPasses is_ascii_digit ds → IsUtf8 ds
 digits_utf8 ds h = IsUtf8-from_ascii ds (IsAscii-from_digits ds (own.to ds h))
 
 -- digits that make no number of 32 bits are no number here
-pub too_great : {E : Type 0} (ds : List ℕ) (r : Result ℕ E) (e : E) → r ≡ Err e → ParsesUnsigned 32 10 ds r → AllPasses is_ascii_digit ds → 0 < length ds
+pub too_great : {E : Type 0} (ds : List ℕ) (r : Result ℕ E) (e : E) → r ≡ Err e → ParsesUnsigned 32 10 ds r → AllPasses is_ascii_digit ds →
+    0 < length ds
     → None ≡ small (digits_value 10 ds)
 too_great ds r e is h passes some =
     let never = rw is at (parse_digits own 32 ds r h passes) in
@@ -46,7 +49,8 @@ too_great ds r e is h passes some =
         over n none = let h : 2147483648 < n = omega arith in grind (arith, nat_tests)
 
 -- the number at the front
-pub number_shown : (bytes digits after : List ℕ) (len v : ℕ) → len ≡ span is_ascii_digit bytes → digits ≡ take len bytes → after ≡ drop len bytes → length digits ≡ len → 0 < len
+pub number_shown : (bytes digits after : List ℕ) (len v : ℕ) → len ≡ span is_ascii_digit bytes → digits ≡ take len bytes →
+    after ≡ drop len bytes → length digits ≡ len → 0 < len
     → is_tailed after ≡ false → has_leading_zero digits ≡ false → Some v ≡ small (digits_value 10 digits)
     → ◌≡◌ {A = Result FrontPiece Stop} (Ok (record { kind = kinds.Number v; len = len })) (shown (number_at bytes))
 number_shown bytes digits after len v long front back size some tailed zero value =
@@ -69,7 +73,8 @@ pub pair_shown : (c : ℕ) (rest : List ℕ) (s t : Sign) → single c ≡ Some 
 pair_shown c [] s t one some two = absurd (omega arith)
 pair_shown c (d ∷ ds) s t one some two =
     let is : written t ≡ c ∷ d ∷ [] = pair_is s c d t (single_is c s one) two in
-    ap (λ (n : ℕ). Ok (record { kind = kinds.Sign t; len = n })) (sym (ap length is)) ∙ sym (ap (λ o. shown (sign_from c (d ∷ ds) o)) one ∙ ap (λ o. shown (Ok (or_alone s (d ∷ ds) o))) two)
+    ap (λ (n : ℕ). Ok (record { kind = kinds.Sign t; len = n })) (sym (ap length is)) ∙ sym (ap (λ o. shown (sign_from c (d ∷ ds) o)) one ∙
+    ap (λ o. shown (Ok (or_alone s (d ∷ ds) o))) two)
 
 -- ---- texts
 

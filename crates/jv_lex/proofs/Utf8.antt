@@ -1,5 +1,6 @@
 -- Text that is UTF-8 is so between the bytes of ASCII.
-use Rattle.std.proofs.Common.{◌≡◌, ℕ, suc, ◌+◌, ◌<◌, List, [], ◌∷◌, ◌++◌, length, get_or, take, drop, Bool, true, false, refl, sym, ap, ◌∙◌, subst, append_assoc, length-append, add-one, arith}
+use Rattle.std.proofs.Common.{◌≡◌, ℕ, suc, ◌+◌, ◌<◌, List, [], ◌∷◌, ◌++◌, length, get_or, take, drop, Bool, true, false, refl, sym, ap, ◌∙◌}
+use Rattle.std.proofs.Common.{subst, append_assoc, length-append, add-one, arith}
 use Rattle.std.specs.Prelude.{map, ◌&&◌, nat_lt}
 use Rattle.std.specs.Char.{is_ascii_digit}
 use Rattle.std.specs.Fmt.{decimal}
@@ -8,7 +9,8 @@ use Rattle.std.specs.Str.{IsUtf8, IsValidUpTo, IsAscii}
 use Rattle.std.proofs.Math.Seq.{get_or-append_seam, take-append_seam}
 use Rattle.std.proofs.lemmas.Bool.Decides.{nat_tests}
 use Rattle.std.proofs.lemmas.Fmt.{digits_decimal}
-use Rattle.std.proofs.lemmas.Str.{IsUtf8-append, IsUtf8-take, IsUtf8-drop, IsUtf8-nil, IsUtf8-from_ascii, IsCharBoundary-before_ascii, IsCharBoundary-after_ascii}
+use Rattle.std.proofs.lemmas.Str.{IsUtf8-append, IsUtf8-take, IsUtf8-drop, IsUtf8-nil, IsUtf8-from_ascii, IsCharBoundary-before_ascii}
+use Rattle.std.proofs.lemmas.Str.{IsCharBoundary-after_ascii}
 use Rattle.std.proofs.lemmas.Str.Ascii.{IsAscii-nil, IsAscii-cons}
 use Rattle.mg_read.specs.Letters.{not_line_end}
 use Rattle.mg_read.specs.Passes.{AllPasses}
@@ -44,7 +46,8 @@ ill_not_ascii bytes xs ys c k parts at low v =
     let one : n ≡ length xs + 1 = length-append xs (c ∷ []) in
     let more : k < n = omega (arith, one, at) in
     let long_parts : bytes ≡ (xs ++ c ∷ []) ++ ys = parts ∙ sym (append_assoc xs (c ∷ []) ys) in
-    let front : take k bytes ≡ xs = ap (λ (z : List ℕ). take k z) parts ∙ ap (λ (z : ℕ). take z (xs ++ c ∷ ys)) at ∙ take-append_seam xs (c ∷ ys) in
+    let front : take k bytes ≡ xs = ap (λ (z : List ℕ). take k z) parts ∙ ap (λ (z : ℕ). take z (xs ++ c ∷ ys)) at ∙ take-append_seam xs
+    (c ∷ ys) in
     let long : take n bytes ≡ xs ++ c ∷ [] = ap (λ (z : List ℕ). take n z) long_parts ∙ take-append_seam (xs ++ c ∷ []) ys in
     v.longest n more (subst IsUtf8 (sym long) (IsUtf8-append xs (c ∷ []) (subst IsUtf8 front v.front) (ascii_one c low)))
 
@@ -104,20 +107,26 @@ after_piece (block body) after h u =
 after_piece (word name) after h u = past_ascii is_word_byte name after word_low h.1 u
 after_piece (number n) after h u = past_ascii is_ascii_digit (decimal n) after digit_low (digits_decimal own n (below n h.0)) u
 after_piece (text ws) after h u =
-    (split_ascii (34 ∷ spelled ws) after 34 (subst (λ (z : List ℕ). IsUtf8 (34 ∷ z)) (append_assoc (spelled ws) (34 ∷ []) after) u) (omega arith)).1
+    (split_ascii (34 ∷ spelled ws) after 34 (subst (λ (z : List ℕ). IsUtf8 (34 ∷ z)) (append_assoc (spelled ws) (34 ∷ []) after) u)
+    (omega arith)).1
 after_piece (sign s) after h u = past_ascii (λ c. nat_lt c 128) (written s) after test_low (all_low (written s) (sign_low s)) u
 
 -- what a text means is UTF-8 where what is written is
 meant_utf8 : (xs : List ℕ) (ws : List Written) → AllByRecursion IsCharacter ws → IsUtf8 (xs ++ spelled ws) → IsUtf8 (xs ++ map meant ws)
 meant_utf8 xs [] h u = u
 meant_utf8 xs (plain c ∷ ws) h u =
-    subst IsUtf8 (append_assoc xs (c ∷ []) (map meant ws)) (meant_utf8 (xs ++ c ∷ []) ws h.1 (subst IsUtf8 (sym (append_assoc xs (c ∷ []) (spelled ws))) u))
+    subst IsUtf8 (append_assoc xs (c ∷ []) (map meant ws))
+    (meant_utf8 (xs ++ c ∷ []) ws h.1 (subst IsUtf8 (sym (append_assoc xs (c ∷ []) (spelled ws))) u))
 meant_utf8 xs (escaped c ∷ ws) h u =
     let a = split_ascii xs (c ∷ spelled ws) 92 u (omega arith) in
     let b = split_ascii [] (spelled ws) c a.1 (escape_low c h.0) in
-    IsUtf8-append xs (escaped_byte c ∷ map meant ws) a.0 (IsUtf8-append (escaped_byte c ∷ []) (map meant ws) (ascii_one (escaped_byte c) (escaped_low c h.0)) (meant_utf8 [] ws h.1 b.1))
+    IsUtf8-append xs (escaped_byte c ∷ map meant ws) a.0 (IsUtf8-append (escaped_byte c ∷ []) (map meant ws)
+    (ascii_one (escaped_byte c) (escaped_low c h.0)) (meant_utf8 [] ws h.1 b.1))
 
-pub text_utf8 : (ws : List Written) (after : List ℕ) → AllByRecursion IsCharacter ws → IsUtf8 (34 ∷ (spelled ws ++ 34 ∷ []) ++ after) → IsUtf8 (map meant ws)
+pub text_utf8 : (ws : List Written) (after : List ℕ) → AllByRecursion IsCharacter ws → IsUtf8 (34 ∷ (spelled ws ++ 34 ∷ []) ++ after) →
+    IsUtf8 (map meant ws)
 text_utf8 ws after h u =
-    let inner : IsUtf8 (spelled ws ++ 34 ∷ after) = (split_ascii [] (spelled ws ++ 34 ∷ after) 34 (subst (λ (z : List ℕ). IsUtf8 (34 ∷ z)) (append_assoc (spelled ws) (34 ∷ []) after) u) (omega arith)).1 in
+    let inner : IsUtf8 (spelled ws ++ 34 ∷ after) =
+    (split_ascii [] (spelled ws ++ 34 ∷ after) 34 (subst (λ (z : List ℕ). IsUtf8 (34 ∷ z)) (append_assoc (spelled ws) (34 ∷ []) after)
+    u) (omega arith)).1 in
     meant_utf8 [] ws h (split_ascii (spelled ws) after 34 inner (omega arith)).0

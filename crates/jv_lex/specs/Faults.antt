@@ -24,10 +24,12 @@ pub data Stops (rest : List ℕ) : Cause → ℕ → Type 0 where
   open_comment : (body : List ℕ) → rest ≡ 47 ∷ 42 ∷ body → ((u v : List ℕ) → body ≡ u ++ 42 ∷ 47 ∷ v → ⊥) → Stops rest causes.OpenComment 0
   -- no quote closes the text before its line ends
   open_text : (body : List ℕ) → rest ≡ 34 ∷ body
-      → ((ws : List Written) (after : List ℕ) → AllByRecursion IsStroke ws → body ≡ spelled ws ++ 34 ∷ after → ⊥) → Stops rest causes.OpenText 0
+      → ((ws : List Written) (after : List ℕ) → AllByRecursion IsStroke ws → body ≡ spelled ws ++ 34 ∷ after → ⊥) →
+      Stops rest causes.OpenText 0
   -- a quote closes the text, and this is its first backslash that begins no escape
   bad_escape : (good more : List Written) (c : ℕ) (after : List ℕ) → rest ≡ 34 ∷ (spelled good ++ 92 ∷ c ∷ (spelled more ++ 34 ∷ after))
-      → AllByRecursion IsCharacter good → is_escape c ≡ false → is_line_end c ≡ false → AllByRecursion IsStroke more → Stops rest causes.BadEscape (suc (length (spelled good)))
+      → AllByRecursion IsCharacter good → is_escape c ≡ false → is_line_end c ≡ false → AllByRecursion IsStroke more →
+      Stops rest causes.BadEscape (suc (length (spelled good)))
   -- a digit stands there, and no number
   bad_number : (c : ℕ) (cs : List ℕ) → rest ≡ c ∷ cs → is_ascii_digit c ≡ true
       → ((n : ℕ) (after : List ℕ) → rest ≡ spell (number n) ++ after → MayStand (number n) after → ⊥) → Stops rest causes.BadNumber 0

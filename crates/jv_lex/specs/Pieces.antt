@@ -16,7 +16,8 @@ use Rattle.jv_lex.specs.Letters.{is_blank, is_word_start, is_word_byte, is_numbe
 use Rattle.jv_lex.specs.Signs.{written, goes_on}
 use Rattle.jv_lex.specs.Written.{Written, spelled, meant, IsCharacter}
 
--- A source is a row of pieces: what separates tokens, comments to the line's end and between "/*" and "*/", words, numbers, texts between quotes, and signs.
+-- A source is a row of pieces: what separates tokens, comments to the line's end and between "/*" and "*/", words, numbers, texts between
+-- quotes, and signs.
 pub data Piece : Type 0 where
   blank : ℕ → Piece
   line : List ℕ → Piece
@@ -36,7 +37,8 @@ spell (number n) = decimal n
 spell (text body) = 34 ∷ (spelled body ++ 34 ∷ [])
 spell (sign s) = written s
 
--- Whether the piece may stand in front of rest. A comment runs to the end of its line, or to the first "*/". A word, a number and a sign are as long as they can be.
+-- Whether the piece may stand in front of rest. A comment runs to the end of its line, or to the first "*/". A word, a number and a sign
+-- are as long as they can be.
 abbrev pub MayStand : Piece → List ℕ → Type 0
 MayStand (blank c) rest = is_blank c ≡ true
 MayStand (line body) rest = AllPasses not_line_end body × StopsAt not_line_end rest

@@ -2,7 +2,8 @@
 use Rattle.std.specs.Prelude.{◌≡◌, ℕ, List, [], ◌∷◌, true, false}
 use Rattle.jv_lex.specs.Letters.{is_line_end, is_plain, is_escape, escaped_byte}
 
--- A byte that stands for itself, or a backslash and the byte behind it. A character past ASCII is several bytes, each of which stands for itself.
+-- A byte that stands for itself, or a backslash and the byte behind it. A character past ASCII is several bytes, each of which stands for
+-- itself.
 pub data Written : Type 0 where
   plain : ℕ → Written
   escaped : ℕ → Written

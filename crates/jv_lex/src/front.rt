@@ -6,7 +6,8 @@ ghost use Rattle.std.specs.Char.{is_ascii_digit};
 ghost use Rattle.std.specs.Str.Parse.{digits_value};
 ghost use Rattle.mg_read.specs.Passes.{span, AllPasses};
 ghost use Rattle.jv_lex.specs.Letters.{is_blank, is_word_start, is_word_byte, is_number_tail, is_line_end, is_escape};
-ghost use Rattle.jv_lex.specs.inner.Front.{closing_at, bad_at, text_at, is_tailed, has_leading_zero, small, number_at, sign_at, slash_at, front_at, shown};
+ghost use Rattle.jv_lex.specs.inner.Front.{closing_at, bad_at, text_at, is_tailed, has_leading_zero, small, number_at, sign_at, slash_at};
+ghost use Rattle.jv_lex.specs.inner.Front.{front_at, shown};
 
 use crate::fault::Cause;
 use crate::signs::{pair, single};

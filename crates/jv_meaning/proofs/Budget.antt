@@ -3,7 +3,8 @@ use Rattle.std.proofs.Common.{◌≡◌, Bool, List, [], ◌∷◌, Option, Some
 use Rattle.std.specs.Prelude.{if◌then◌else◌, codes}
 use Rattle.std.specs.Str.{bytes_eq}
 use Rattle.mg_text.specs.Call.{Name}
-use Rattle.jv_tree.specs.Source.{Expr, Int, Truth, Text, Null, This, Variable, Member, Neg, Not, Binary, Call, MethodCall, New, Exprs, NoExpr, Argument}
+use Rattle.jv_tree.specs.Source.{Expr, Int, Truth, Text, Null, This, Variable, Member, Neg, Not, Binary, Call, MethodCall, New, Exprs}
+use Rattle.jv_tree.specs.Source.{NoExpr, Argument}
 use Rattle.jv_tree.specs.Source.{Stmt, Block, Empty, Local, Assign, If, IfElse, While, Do, Switch, Break, Continue, Return, Print, Eval}
 use Rattle.jv_tree.specs.Source.{Stmts, NoStmt, Then, Groups, NoGroup, Group}
 use Rattle.jv_values.specs.Values.{Value, Row, Shared, Lives, Here, Inputs, Wrong, put}
@@ -18,8 +19,11 @@ use Rattle.jv_values.proofs.Further.{further_shares, lives_closed, within_furthe
 use Rattle.jv_values.proofs.Further as further
 use Rattle.jv_meaning.specs.Program.{Sources, class_named, enum_named}
 use Rattle.jv_values.specs.Operators.{operator_of}
-use Rattle.jv_meaning.specs.Names.{session_named, method_of, main_of, Referent, ALocal, AField, NoVariable, referent, constant_named, new_fields}
-use Rattle.jv_meaning.specs.Meaning.{Lower, read, read_constant, member, write_own, write_member, write, mine, case_label, has_group, Target, Own, OfClass, OfValue, target_of, passed, text_call, class_call, value_call, member_call, eval, eval_all, value, test, exec, exec_all, exec_from, exec_groups, language}
+use Rattle.jv_meaning.specs.Names.{session_named, method_of, main_of, Referent, ALocal, AField, NoVariable, referent, constant_named}
+use Rattle.jv_meaning.specs.Names.{new_fields}
+use Rattle.jv_meaning.specs.Meaning.{Lower, read, read_constant, member, write_own, write_member, write, mine, case_label, has_group}
+use Rattle.jv_meaning.specs.Meaning.{Target, Own, OfClass, OfValue, target_of, passed, text_call, class_call, value_call, member_call, eval}
+use Rattle.jv_meaning.specs.Meaning.{eval_all, value, test, exec, exec_all, exec_from, exec_groups, language}
 use Rattle.jv_meaning.specs.Budget.{BudgetLaw}
 
 -- the lemmas of the library, for this relation

@@ -2,11 +2,15 @@
 use Rattle.std.proofs.Common.{refl}
 use Rattle.std.specs.Int.{int_wrap}
 use Rattle.std.specs.Fmt.{digits}
-use Rattle.jv_meaning.specs.examples.Small.{skips_the_second_operand, fields_begin_with_defaults, least_int_wraps, a_switch_falls_through, continues_out_of_a_switch, a_call_spends_the_budget, a_call_has_a_budget, a_loop_spends_the_budget, a_do_loop_spends_the_budget, a_do_loop_ends, arguments_come_before_the_null_test}
+use Rattle.jv_meaning.specs.examples.Small.{skips_the_second_operand, fields_begin_with_defaults, least_int_wraps, a_switch_falls_through}
+use Rattle.jv_meaning.specs.examples.Small.{continues_out_of_a_switch, a_call_spends_the_budget, a_call_has_a_budget}
+use Rattle.jv_meaning.specs.examples.Small.{a_loop_spends_the_budget, a_do_loop_spends_the_budget, a_do_loop_ends}
+use Rattle.jv_meaning.specs.examples.Small.{arguments_come_before_the_null_test}
 use Rattle.jv_meaning.specs.examples.Small as small_examples
 use Rattle.jv_meaning.specs.examples.Programs.{the_file_reader, the_counter, the_linked_list, arithmetic}
 use Rattle.jv_meaning.specs.examples.Programs as programs_examples
-use Rattle.jv_meaning.specs.examples.Roles.{the_client, the_server, without_a_client, the_client_is_slow, the_client_says_more, the_client_sends_a_text}
+use Rattle.jv_meaning.specs.examples.Roles.{the_client, the_server, without_a_client, the_client_is_slow, the_client_says_more}
+use Rattle.jv_meaning.specs.examples.Roles.{the_client_sends_a_text}
 use Rattle.jv_meaning.specs.examples.Roles as roles_examples
 use Rattle.jv_meaning.specs.examples.Followed as followed_examples
 

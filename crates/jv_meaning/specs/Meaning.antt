@@ -2,7 +2,8 @@
 use Rattle.std.specs.Prelude.{ℕ, Bool, true, false, List, [], ◌∷◌, Option, Some, None, ◌||◌, if◌then◌else◌, codes}
 use Rattle.std.specs.Str.{bytes_eq}
 use Rattle.mg_text.specs.Call.{Name}
-use Rattle.jv_tree.specs.Source.{Expr, Int, Truth, Text, Null, This, Variable, Member, Neg, Not, Binary, Call, MethodCall, New, Exprs, NoExpr, Argument}
+use Rattle.jv_tree.specs.Source.{Expr, Int, Truth, Text, Null, This, Variable, Member, Neg, Not, Binary, Call, MethodCall, New, Exprs}
+use Rattle.jv_tree.specs.Source.{NoExpr, Argument}
 use Rattle.jv_tree.specs.Source.{Stmt, Block, Empty, Local, Assign, If, IfElse, While, Do, Switch, Break, Continue, Return, Print, Eval}
 use Rattle.jv_tree.specs.Source.{Stmts, NoStmt, Then, Groups, NoGroup, Group, Enum}
 use Rattle.jv_values.specs.Values.{Value, Row, Shared, Lives, Here, Inputs, Ended, Wrong, put}
@@ -11,11 +12,13 @@ use Rattle.jv_values.specs.Doing.{Run, ◌>>=◌, give, stop, found, valued, val
 use Rattle.jv_values.specs.Operators.{binary, negative, opposite, equal_texts, joined_texts, print}
 use Rattle.jv_values.specs.Objects.{object, read_field, write_field, make, receiver, telling}
 use Rattle.jv_values.specs.Messages.{session}
-use Rattle.jv_values.specs.Statements.{Normal, Breaks, Continues, Returns, Does, next_do, assigned, Mine, while_turn, do_turn, is_default, case_at, any_label, after_switch}
+use Rattle.jv_values.specs.Statements.{Normal, Breaks, Continues, Returns, Does, next_do, assigned, Mine, while_turn, do_turn, is_default}
+use Rattle.jv_values.specs.Statements.{case_at, any_label, after_switch}
 use Rattle.jv_values.specs.Budget.{Below, Language, ran}
 use Rattle.jv_meaning.specs.Program.{Sources, class_named, enum_named, constant_position}
 use Rattle.jv_values.specs.Operators.{operator_of}
-use Rattle.jv_meaning.specs.Names.{session_named, Called, method_of, main_of, Referent, ALocal, AField, NoVariable, referent, constant_named, new_fields}
+use Rattle.jv_meaning.specs.Names.{session_named, Called, method_of, main_of, Referent, ALocal, AField, NoVariable, referent}
+use Rattle.jv_meaning.specs.Names.{constant_named, new_fields}
 
 abbrev pub Lower : Type 0
 Lower = Below Name Called Stmt

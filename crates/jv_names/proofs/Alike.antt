@@ -2,7 +2,8 @@
 use Rattle.std.proofs.Common.{◌≡◌, ℕ, List, ◌∷◌, Option, Some, None, refl, sym, ap, subst, ⊎_elim, inl, inr}
 use Rattle.mg_text.specs.Call.{Name}
 use Rattle.jv_values.specs.Values.{Value, Row, Shared, Lives, Finish, Wrong}
-use Rattle.jv_values.specs.Doing.{Outcome, Gives, Ends, Run, and_then, ◌>>=◌, give, stop, found, valued, valuing, within, kept, declared, uncovered}
+use Rattle.jv_values.specs.Doing.{Outcome, Gives, Ends, Run, and_then, ◌>>=◌, give, stop, found, valued, valuing, within, kept, declared}
+use Rattle.jv_values.specs.Doing.{uncovered}
 use Rattle.jv_values.specs.Alike.{Relation, Closed, Shares, Alike, SameEnd}
 use Rattle.jv_rules.specs.Scope.{Declared}
 use Rattle.jv_names.proofs.Rows.{Beside, more, below_top, Opt}

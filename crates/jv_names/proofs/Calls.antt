@@ -1,5 +1,6 @@
 -- Calls: bodies mean the same with every budget.
-use Rattle.std.proofs.Common.{◌≡◌, ℕ, zero, suc, Bool, true, false, List, [], ◌∷◌, length, map, Option, Some, None, slice_get, refl, sym, ap, ◌∙◌, subst, ⊎_elim, inl, inr}
+use Rattle.std.proofs.Common.{◌≡◌, ℕ, zero, suc, Bool, true, false, List, [], ◌∷◌, length, map, Option, Some, None, slice_get, refl, sym}
+use Rattle.std.proofs.Common.{ap, ◌∙◌, subst, ⊎_elim, inl, inr}
 use Rattle.std.specs.Prelude.{if◌then◌else◌, is_some}
 use Rattle.mg_text.specs.Call.{Name}
 use Rattle.ts_tree.specs.declared.parts.TypeName.{TypeName}
@@ -204,7 +205,8 @@ module _ (program : Program) (core : Core.Program) (res : Resolves program core)
         (subst (λ x. Equals (core_called m q.core_method this vs) (called ((meant.language program.files inputs).exec high) x this vs))
         (sym q.by_name)
         (runs_like class m
-        (record { owner = q.owner; method = method }) q.core_method q.owner_class q.is q.here q.owner_here q.owner_is q.owner_named this vs))
+        (record { owner = q.owner; method = method }) q.core_method q.owner_class q.is q.here q.owner_here q.owner_is q.owner_named this
+        vs))
 
   -- with every budget
   pub belows_like : (n : ℕ) → Belows program core (below (core_meaning.language core inputs) n)

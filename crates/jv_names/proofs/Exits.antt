@@ -10,7 +10,9 @@ use Rattle.jv_rules.specs.Program.{Program}
 use Rattle.jv_rules.specs.Scope.{Target, Loop, Switch}
 use Rattle.jv_core.specs.Tree as Core
 use Rattle.jv_core.specs.Meaning as core_meaning
-use Rattle.jv_names.specs.Resolves.{BreakLeads, breaks_loop, breaks_switch, breaks_named, breaks_other, breaks_out, ContinueLeads, goes_on, goes_on_named, goes_on_other, goes_on_out, Aligned, none, more, IsLabel, default_label, case_label as is_case}
+use Rattle.jv_names.specs.Resolves.{BreakLeads, breaks_loop, breaks_switch, breaks_named, breaks_other, breaks_out, ContinueLeads, goes_on}
+use Rattle.jv_names.specs.Resolves.{goes_on_named, goes_on_other, goes_on_out, Aligned, none, more, IsLabel, default_label}
+use Rattle.jv_names.specs.Resolves.{case_label as is_case}
 use Rattle.jv_names.proofs.Rows.{bytes_same, bytes_differ, number_same, number_differs}
 
 meet_yes : (rest : Type 0) (t u : Bool) → t ≡ true → u ≡ true → Meet t u rest

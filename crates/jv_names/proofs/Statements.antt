@@ -29,7 +29,8 @@ use Rattle.jv_names.specs.Resolves as resolves
 use Rattle.jv_names.proofs.Tables.{enum_text_is}
 use Rattle.jv_names.proofs.Alike.{like_give, like_bind, like_closed, E, shares, wrong, Living, Q, within_like, declared_like}
 use Rattle.jv_names.proofs.Variables.{Context, on_core, on_source, write_like}
-use Rattle.jv_names.proofs.Exits.{GoesOn, loop_breaks, loop_continues, switch_breaks, switch_continues, Tests, tests_case, tests_default, any_same}
+use Rattle.jv_names.proofs.Exits.{GoesOn, loop_breaks, loop_continues, switch_breaks, switch_continues, Tests, tests_case, tests_default}
+use Rattle.jv_names.proofs.Exits.{any_same}
 use Rattle.jv_names.proofs.Exits as exits
 use Rattle.jv_names.proofs.Expressions.{then_like, DoesAlike, Belows, eval_like}
 

@@ -1,5 +1,6 @@
 -- What stands at a number in a core is what has the name in its source.
-use Rattle.std.proofs.Common.{◌≡◌, ℕ, zero, suc, Bool, true, false, List, [], ◌∷◌, ◌++◌, ◌+◌, get_or, map, Option, Some, None, option_map, option_and_then, slice_get, refl, sym, ap, ◌∙◌, subst, ⊎_elim, inl, inr, ◌⊎◌, arith}
+use Rattle.std.proofs.Common.{◌≡◌, ℕ, zero, suc, Bool, true, false, List, [], ◌∷◌, ◌++◌, ◌+◌, get_or, map, Option, Some, None, option_map}
+use Rattle.std.proofs.Common.{option_and_then, slice_get, refl, sym, ap, ◌∙◌, subst, ⊎_elim, inl, inr, ◌⊎◌, arith}
 use Rattle.std.specs.Prelude.{find, if◌then◌else◌}
 use Rattle.std.proofs.lemmas.Slice.Eq.{bytes_eq-Decides}
 use Rattle.mg_text.specs.Call.{Name}
@@ -14,7 +15,8 @@ use Rattle.jv_core.specs.Tree as Core
 use Rattle.jv_core.specs.Lookup.{text_at, class_text, enum_text}
 use Rattle.jv_core.specs.Meaning as core_meaning
 use Rattle.jv_core.specs.declared.program.CoreType.{CoreType}
-use Rattle.jv_names.specs.Resolves.{Aligned, none, more, Numbered, Owned, methods_of, methods_in, numbered_from, IsEnum, IsMethod, IsType, IsInitial, FieldIs, ClassIs, EnumIs, MethodIs, Resolves}
+use Rattle.jv_names.specs.Resolves.{Aligned, none, more, Numbered, Owned, methods_of, methods_in, numbered_from, IsEnum, IsMethod, IsType}
+use Rattle.jv_names.specs.Resolves.{IsInitial, FieldIs, ClassIs, EnumIs, MethodIs, Resolves}
 use Rattle.jv_names.specs.Resolves as resolves
 
 pub some_is : {A : Type 0} {a b : A} → Some a ≡ Some b → a ≡ b

@@ -1,5 +1,6 @@
 -- Which resolved program stands for which sources: names and numbers meet, construct by construct.
-use Rattle.std.specs.Prelude.{◌≡◌, ◌≢◌, ℕ, zero, suc, ℤ, Bool, true, false, List, [], ◌∷◌, ◌++◌, length, map, reverse, Option, Some, None, slice_get, codes, ◌≤◌, ◌-◌, ◌+◌, ◌^◌}
+use Rattle.std.specs.Prelude.{◌≡◌, ◌≢◌, ℕ, zero, suc, ℤ, Bool, true, false, List, [], ◌∷◌, ◌++◌, length, map, reverse, Option, Some, None}
+use Rattle.std.specs.Prelude.{slice_get, codes, ◌≤◌, ◌-◌, ◌+◌, ◌^◌}
 use Rattle.std.specs.List.{AllByRecursion}
 use Rattle.mg_text.specs.Call.{Name}
 use Rattle.mg_text.specs.declared.place.Place.{Place}
@@ -13,7 +14,8 @@ use Rattle.jv_tree.specs.Source.{place_of}
 use Rattle.jv_meaning.specs.Program.{classes_of, enums_of, class_named, enum_named, method_named, typestate_named, constant_position}
 use Rattle.jv_rules.specs.Program.{Program, is_of_protocol}
 use Rattle.jv_rules.specs.Types.{ClassType, TextType}
-use Rattle.jv_rules.specs.Scope.{Scope, Declared, Loop, Switch, Target, entered, declare, within, with_params, local_named, own_field, variable_type}
+use Rattle.jv_rules.specs.Scope.{Scope, Declared, Loop, Switch, Target, entered, declare, within, with_params, local_named, own_field}
+use Rattle.jv_rules.specs.Scope.{variable_type}
 use Rattle.jv_rules.specs.Typing.{type_of}
 use Rattle.jv_core.specs.declared.tree.Var.{Var}
 use Rattle.jv_core.specs.declared.tree.Var.TheVariants as vars
@@ -78,16 +80,20 @@ first_slots (suc n) = n ∷ first_slots n
 -- the innermost local of this name has this slot, and no local nearer by has it
 pub data HasSlot (name : Name) : List Declared → List ℕ → ℕ → Type 0 where
   here : {d : Declared} {ds : List Declared} {k : ℕ} {ks : List ℕ} → d.name ≡ name → HasSlot name (d ∷ ds) (k ∷ ks) k
-  there : {d : Declared} {ds : List Declared} {j k : ℕ} {ks : List ℕ} → d.name ≢ name → j ≢ k → HasSlot name ds ks k → HasSlot name (d ∷ ds) (j ∷ ks) k
+  there : {d : Declared} {ds : List Declared} {j k : ℕ} {ks : List ℕ} → d.name ≢ name → j ≢ k → HasSlot name ds ks k →
+      HasSlot name (d ∷ ds) (j ∷ ks) k
 
--- A `break` with this label, or without one, leads to this loop, and no loop nearer by has its number; without a number it leaves the innermost switch.
+-- A `break` with this label, or without one, leads to this loop, and no loop nearer by has its number; without a number it leaves the
+-- innermost switch.
 pub data BreakLeads : List Target → List (Option ℕ) → Option Name → Option ℕ → Type 0 where
   breaks_loop : {l : Option Name} {k : ℕ} {ts : List Target} {ks : List (Option ℕ)} → BreakLeads (Loop l ∷ ts) (Some k ∷ ks) None (Some k)
   breaks_switch : {ts : List Target} {ks : List (Option ℕ)} → BreakLeads (Switch ∷ ts) (None ∷ ks) None None
-  breaks_named : {l : Name} {k : ℕ} {ts : List Target} {ks : List (Option ℕ)} → BreakLeads (Loop (Some l) ∷ ts) (Some k ∷ ks) (Some l) (Some k)
+  breaks_named : {l : Name} {k : ℕ} {ts : List Target} {ks : List (Option ℕ)} → BreakLeads (Loop (Some l) ∷ ts) (Some k ∷ ks) (Some l)
+      (Some k)
   breaks_other : {l : Name} {m : Option Name} {j k : ℕ} {ts : List Target} {ks : List (Option ℕ)} →
       m ≢ Some l → j ≢ k → BreakLeads ts ks (Some l) (Some k) → BreakLeads (Loop m ∷ ts) (Some j ∷ ks) (Some l) (Some k)
-  breaks_out : {l : Name} {k : ℕ} {ts : List Target} {ks : List (Option ℕ)} → BreakLeads ts ks (Some l) (Some k) → BreakLeads (Switch ∷ ts) (None ∷ ks) (Some l) (Some k)
+  breaks_out : {l : Name} {k : ℕ} {ts : List Target} {ks : List (Option ℕ)} → BreakLeads ts ks (Some l) (Some k) →
+      BreakLeads (Switch ∷ ts) (None ∷ ks) (Some l) (Some k)
 
 -- A `continue` with this label, or without one, goes on with this loop, and no loop nearer by has its number.
 pub data ContinueLeads : List Target → List (Option ℕ) → Option Name → ℕ → Type 0 where
@@ -95,7 +101,8 @@ pub data ContinueLeads : List Target → List (Option ℕ) → Option Name → �
   goes_on_named : {l : Name} {k : ℕ} {ts : List Target} {ks : List (Option ℕ)} → ContinueLeads (Loop (Some l) ∷ ts) (Some k ∷ ks) (Some l) k
   goes_on_other : {l : Name} {m : Option Name} {j k : ℕ} {ts : List Target} {ks : List (Option ℕ)} →
       m ≢ Some l → j ≢ k → ContinueLeads ts ks (Some l) k → ContinueLeads (Loop m ∷ ts) (Some j ∷ ks) (Some l) k
-  goes_on_out : {l : Option Name} {k : ℕ} {ts : List Target} {ks : List (Option ℕ)} → ContinueLeads ts ks l k → ContinueLeads (Switch ∷ ts) (None ∷ ks) l k
+  goes_on_out : {l : Option Name} {k : ℕ} {ts : List Target} {ks : List (Option ℕ)} → ContinueLeads ts ks l k →
+      ContinueLeads (Switch ∷ ts) (None ∷ ks) l k
 
 -- the method of the class `Session` that has this name
 pub data IsSession : Name → SessionCall → Type 0 where
@@ -140,7 +147,8 @@ module _ (program : Program) (core : Core.Program) where
     boolean_type : IsType written.Boolean types.Boolean
     text_type : IsType written.Text types.Text
     class_type : {name : Name} {c : ℕ} → IsClass name c → IsType (written.Named name) (types.Object c)
-    enum_type : {name : Name} {e : ℕ} {k : Source.Enum} → class_named program.files name ≡ None → IsEnum name e k → IsType (written.Named name) (types.Enum e)
+    enum_type : {name : Name} {e : ℕ} {k : Source.Enum} → class_named program.files name ≡ None → IsEnum name e k →
+        IsType (written.Named name) (types.Enum e)
 
   -- a label of a switch over this enum
   pub data IsLabel (enum : Source.Enum) : Option Name → Option ℕ → Type 0 where
@@ -155,8 +163,10 @@ module _ (program : Program) (core : Core.Program) where
 
   -- a variable: a local, or else an own field
   pub data IsVar (scope : Scope) (numbers : Numbers) : Source.Expr → Var → Type 0 where
-    a_local : {p : Place} {x : Name} {k : ℕ} → HasSlot x scope.locals numbers.slots k → IsVar scope numbers (Source.Variable p x) (vars.Slot k)
-    a_field : {p : Place} {x : Name} {k : ℕ} → local_named scope x ≡ None → IsOwnField scope x k → IsVar scope numbers (Source.Variable p x) (vars.Field k)
+    a_local : {p : Place} {x : Name} {k : ℕ} → HasSlot x scope.locals numbers.slots k → IsVar scope numbers (Source.Variable p x)
+        (vars.Slot k)
+    a_field : {p : Place} {x : Name} {k : ℕ} → local_named scope x ≡ None → IsOwnField scope x k → IsVar scope numbers (Source.Variable p x)
+        (vars.Field k)
     own : {p q : Place} {x : Name} {k : ℕ} → IsOwnField scope x k → IsVar scope numbers (Source.Member p (Source.This q) x) (vars.Field k)
 
   -- a variable that is assigned or called on, with its place
@@ -175,8 +185,10 @@ module _ (program : Program) (core : Core.Program) where
       constant : {p q : Place} {e a : Name} {k : Source.Enum} {n i : ℕ} →
           variable_type scope e ≡ None → IsEnum e n k → constant_position k a ≡ Some i →
           IsExpr scope numbers (Source.Member p (Source.Variable q e) a) (Core.Constant p n i)
-      negative : {p : Place} {e : Source.Expr} {e' : Core.Expr} → IsExpr scope numbers e e' → IsExpr scope numbers (Source.Neg p e) (Core.Neg p e')
-      opposite : {p : Place} {e : Source.Expr} {e' : Core.Expr} → IsExpr scope numbers e e' → IsExpr scope numbers (Source.Not p e) (Core.Not p e')
+      negative : {p : Place} {e : Source.Expr} {e' : Core.Expr} → IsExpr scope numbers e e' → IsExpr scope numbers (Source.Neg p e)
+          (Core.Neg p e')
+      opposite : {p : Place} {e : Source.Expr} {e' : Core.Expr} → IsExpr scope numbers e e' → IsExpr scope numbers (Source.Not p e)
+          (Core.Not p e')
       binary : {p : Place} {o : Op} {l r : Source.Expr} {l' r' : Core.Expr} →
           IsExpr scope numbers l l' → IsExpr scope numbers r r' → IsExpr scope numbers (Source.Binary p o l r) (Core.Binary p o l' r')
       -- `f(..)`, a static method of the own class
@@ -185,7 +197,8 @@ module _ (program : Program) (core : Core.Program) where
           IsExpr scope numbers (Source.Call p f args) (Core.Static p m args')
       -- `C.f(..)`, where no variable is named C
       class_static : {p q : Place} {c f : Name} {m : ℕ} {method : Source.Method} {args : Source.Exprs} {args' : Core.Exprs} →
-          variable_type scope c ≡ None → c ≢ codes "Session" → IsMethod c f m method → method.is_static ≡ true → IsExprs scope numbers args args' →
+          variable_type scope c ≡ None → c ≢ codes "Session" → IsMethod c f m method → method.is_static ≡ true →
+          IsExprs scope numbers args args' →
           IsExpr scope numbers (Source.MethodCall p (Source.Variable q c) f args) (Core.Static p m args')
       -- `Session.f(..)`, where no variable is named so
       session : {p q : Place} {f : Name} {call : SessionCall} {args : Source.Exprs} {args' : Core.Exprs} →
@@ -200,20 +213,25 @@ module _ (program : Program) (core : Core.Program) where
           IsMethod scope.class.name f m method → method.is_static ≡ false → IsExprs scope numbers args args' →
           IsExpr scope numbers (Source.MethodCall p (Source.This q) f args) (Core.Helper p m args')
       -- `x.f(..)`, where x is a variable of a class
-      protocol : {p : Place} {e : Source.Expr} {x : CoreVar} {c f : Name} {m : ℕ} {method : Source.Method} {args : Source.Exprs} {args' : Core.Exprs} →
-          IsPlaced scope numbers e x → type_of scope e ≡ Some (ClassType c) → IsMethod c f m method → method.is_static ≡ false → IsExprs scope numbers args args' →
+      protocol : {p : Place} {e : Source.Expr} {x : CoreVar} {c f : Name} {m : ℕ} {method : Source.Method} {args : Source.Exprs}
+          {args' : Core.Exprs} →
+          IsPlaced scope numbers e x → type_of scope e ≡ Some (ClassType c) → IsMethod c f m method → method.is_static ≡ false →
+          IsExprs scope numbers args args' →
           IsExpr scope numbers (Source.MethodCall p e f args) (Core.Protocol p x m args')
       -- `e.equals(a)` and `e.concat(a)`, where e is a text
-      equals : {p : Place} {e a : Source.Expr} {e' a' : Core.Expr} → type_of scope e ≡ Some TextType → IsExpr scope numbers e e' → IsExpr scope numbers a a' →
+      equals : {p : Place} {e a : Source.Expr} {e' a' : Core.Expr} → type_of scope e ≡ Some TextType → IsExpr scope numbers e e' →
+          IsExpr scope numbers a a' →
           IsExpr scope numbers (Source.MethodCall p e (codes "equals") (Source.Argument a Source.NoExpr)) (Core.Equals p e' a')
-      concat : {p : Place} {e a : Source.Expr} {e' a' : Core.Expr} → type_of scope e ≡ Some TextType → IsExpr scope numbers e e' → IsExpr scope numbers a a' →
+      concat : {p : Place} {e a : Source.Expr} {e' a' : Core.Expr} → type_of scope e ≡ Some TextType → IsExpr scope numbers e e' →
+          IsExpr scope numbers a a' →
           IsExpr scope numbers (Source.MethodCall p e (codes "concat") (Source.Argument a Source.NoExpr)) (Core.Concat p e' a')
       new : {p : Place} {c : Name} {k : ℕ} → IsClass c k → IsExpr scope numbers (Source.New p c) (Core.New p k)
 
     pub data IsExprs (scope : Scope) (numbers : Numbers) : Source.Exprs → Core.Exprs → Type 0 where
       no_args : IsExprs scope numbers Source.NoExpr Core.NoExpr
       arg : {e : Source.Expr} {e' : Core.Expr} {rest : Source.Exprs} {rest' : Core.Exprs} →
-          IsExpr scope numbers e e' → IsExprs scope numbers rest rest' → IsExprs scope numbers (Source.Argument e rest) (Core.Argument e' rest')
+          IsExpr scope numbers e e' → IsExprs scope numbers rest rest' → IsExprs scope numbers (Source.Argument e rest)
+          (Core.Argument e' rest')
 
   -- slot k of a method is this local
   pub record IsSlot (method : Core.Method) (k : ℕ) (name : Name) (ty : TypeName) : Type 0 where
@@ -250,10 +268,12 @@ module _ (program : Program) (core : Core.Program) where
             IsExpr sc ns c c' → IsStmt sc ns s s' → IsStmt sc ns (Source.If p c s) (Core.If p c' s')
         if_else : {sc : Scope} {ns : Numbers} {p : Place} {c : Source.Expr} {c' : Core.Expr} {s r : Source.Stmt} {s' r' : Core.Stmt} →
             IsExpr sc ns c c' → IsStmt sc ns s s' → IsStmt sc ns r r' → IsStmt sc ns (Source.IfElse p c s r) (Core.IfElse p c' s' r')
-        while_loop : {sc : Scope} {ns : Numbers} {p : Place} {l : Option Name} {k : ℕ} {c : Source.Expr} {c' : Core.Expr} {s : Source.Stmt} {s' : Core.Stmt} →
+        while_loop : {sc : Scope} {ns : Numbers} {p : Place} {l : Option Name} {k : ℕ} {c : Source.Expr} {c' : Core.Expr} {s : Source.Stmt}
+            {s' : Core.Stmt} →
             IsLoop method k p ns.slots → IsExpr sc ns c c' → IsStmt (within (Loop l) sc) (in_loop k ns) s s' →
             IsStmt sc ns (Source.While p l c s) (Core.While p k c' s')
-        do_loop : {sc : Scope} {ns : Numbers} {p : Place} {l : Option Name} {k : ℕ} {c : Source.Expr} {c' : Core.Expr} {s : Source.Stmt} {s' : Core.Stmt} →
+        do_loop : {sc : Scope} {ns : Numbers} {p : Place} {l : Option Name} {k : ℕ} {c : Source.Expr} {c' : Core.Expr} {s : Source.Stmt}
+            {s' : Core.Stmt} →
             IsLoop method k p ns.slots → IsStmt (within (Loop l) sc) (in_loop k ns) s s' → IsExpr sc ns c c' →
             IsStmt sc ns (Source.Do p l s c) (Core.Do p k s' c')
         switch : {sc : Scope} {ns : Numbers} {p end : Place} {e : Source.Expr} {e' : Core.Expr} {of : Name} {n : ℕ} {enum : Source.Enum}
@@ -266,13 +286,16 @@ module _ (program : Program) (core : Core.Program) where
             ContinueLeads sc.around ns.loops l k → IsStmt sc ns (Source.Continue p l) (Core.Continue p k)
         return : {sc : Scope} {ns : Numbers} {p : Place} {e : Option Source.Expr} {e' : Option Core.Expr} →
             IsValue sc ns e e' → IsStmt sc ns (Source.Return p e) (Core.Return p e')
-        print : {sc : Scope} {ns : Numbers} {p : Place} {e : Source.Expr} {e' : Core.Expr} → IsExpr sc ns e e' → IsStmt sc ns (Source.Print p e) (Core.Print p e')
-        eval : {sc : Scope} {ns : Numbers} {p : Place} {e : Source.Expr} {e' : Core.Expr} → IsExpr sc ns e e' → IsStmt sc ns (Source.Eval p e) (Core.Eval p e')
+        print : {sc : Scope} {ns : Numbers} {p : Place} {e : Source.Expr} {e' : Core.Expr} → IsExpr sc ns e e' →
+            IsStmt sc ns (Source.Print p e) (Core.Print p e')
+        eval : {sc : Scope} {ns : Numbers} {p : Place} {e : Source.Expr} {e' : Core.Expr} → IsExpr sc ns e e' →
+            IsStmt sc ns (Source.Eval p e) (Core.Eval p e')
 
       pub data IsStmts : Scope → Numbers → Source.Stmts → Core.Stmts → Type 0 where
         no_stmt : {sc : Scope} {ns : Numbers} → IsStmts sc ns Source.NoStmt Core.NoStmt
         -- a declaration, with the statements in its scope
-        declaration : {sc : Scope} {ns : Numbers} {p : Place} {ty : TypeName} {x : Name} {k : ℕ} {e : Source.Expr} {e' : Core.Expr} {rest : Source.Stmts} {rest' : Core.Stmts} →
+        declaration : {sc : Scope} {ns : Numbers} {p : Place} {ty : TypeName} {x : Name} {k : ℕ} {e : Source.Expr} {e' : Core.Expr}
+            {rest : Source.Stmts} {rest' : Core.Stmts} →
             IsExpr sc ns e e' → IsSlot method k x ty → IsStmts (declare x ty sc) (with_slot k ns) rest rest' →
             IsStmts sc ns (Source.Then (Source.Local p ty x e) rest) (Core.Declare p k e' rest')
         -- a statement that is no declaration
@@ -283,7 +306,8 @@ module _ (program : Program) (core : Core.Program) where
       -- the groups of a switch over an enum; a local's scope ends with its group
       pub data IsGroups : Source.Enum → Scope → Numbers → Source.Groups → Core.Groups → Type 0 where
         no_group : {enum : Source.Enum} {sc : Scope} {ns : Numbers} → IsGroups enum sc ns Source.NoGroup Core.NoGroup
-        group : {enum : Source.Enum} {sc : Scope} {ns : Numbers} {labels : List (Option Name)} {labels' : List (Option ℕ)} {body : Source.Stmts} {body' : Core.Stmts}
+        group : {enum : Source.Enum} {sc : Scope} {ns : Numbers} {labels : List (Option Name)} {labels' : List (Option ℕ)}
+            {body : Source.Stmts} {body' : Core.Stmts}
             {end : Place} {gs : Source.Groups} {gs' : Core.Groups} →
             Aligned (IsLabel enum) labels labels' → IsStmts sc ns body body' → IsGroups enum sc ns gs gs' →
             IsGroups enum sc ns (Source.Group labels body end gs) (Core.Group labels' body' end gs')
@@ -340,7 +364,8 @@ module _ (program : Program) (core : Core.Program) where
     pub result : IsType o.method.result k.result
     pub count : k.params ≡ length o.method.params
     pub params : AreParams k 0 o.method.params
-    pub body : IsStmts k (with_params o.method.params (entered program o.owner.class o.method)) (record { slots = first_slots k.params; loops = [] }) o.method.body k.body
+    pub body : IsStmts k (with_params o.method.params (entered program o.owner.class o.method))
+        (record { slots = first_slots k.params; loops = [] }) o.method.body k.body
     pub numbered : IsNumbered k
 
   -- a class of the core has the methods that say so, in rising order

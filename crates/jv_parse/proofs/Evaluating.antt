@@ -1,12 +1,14 @@
 -- What the kinds of expressions say of statements.
-use Rattle.std.proofs.Common.{◌≡◌, ℕ, suc, ◌-◌, ◌<◌, ◌≤◌, List, [], ◌∷◌, length, Bool, true, false, None, refl, sym, ap, ◌∙◌, arith, nat_eq, true≢false}
+use Rattle.std.proofs.Common.{◌≡◌, ℕ, suc, ◌-◌, ◌<◌, ◌≤◌, List, [], ◌∷◌, length, Bool, true, false, None, refl, sym, ap, ◌∙◌, arith, nat_eq}
+use Rattle.std.proofs.Common.{true≢false}
 use Rattle.std.specs.Prelude.{◌&&◌, codes, leb, map, max, if◌then◌else◌}
 use Rattle.std.specs.Str.{bytes_eq}
 use Rattle.std.proofs.lemmas.Bool.{lt-leb, leb-true, leb-false, eqb-true}
 use Rattle.mg_text.specs.Call.{Name}
 use Rattle.mg_text.specs.declared.place.Place.{Place}
 use Rattle.jv_tree.specs.declared.tree.Expr.{Expr as KeptExpr}
-use Rattle.jv_tree.specs.Source.{Expr, Int, Truth, Text, Null, This, Variable, Member, Neg, Not, Binary, Call, MethodCall, New, NoExpr, Argument}
+use Rattle.jv_tree.specs.Source.{Expr, Int, Truth, Text, Null, This, Variable, Member, Neg, Not, Binary, Call, MethodCall, New, NoExpr}
+use Rattle.jv_tree.specs.Source.{Argument}
 use Rattle.jv_tree.specs.Depth.{depth}
 use Rattle.jv_tree.specs.Sugar.{is_out, only_argument}
 use Rattle.jv_tree.specs.View.{expr_of, exprs_of}
@@ -77,7 +79,8 @@ pub ruleset printing = (views, leaf-is)
 abbrev pub does_print : KeptExpr → Name → List KeptExpr → Bool
 does_print r n xs = is_out (expr_of r) && (bytes_eq n (codes "println") && nat_eq (length xs) 1)
 
-prints_none : (a b : Bool) (xs : List KeptExpr) → (a && (b && nat_eq (length xs) 1)) ≡ false → (if a && b then only_argument (exprs_of (map expr_of xs)) else None) ≡ None
+prints_none : (a b : Bool) (xs : List KeptExpr) → (a && (b && nat_eq (length xs) 1)) ≡ false →
+    (if a && b then only_argument (exprs_of (map expr_of xs)) else None) ≡ None
 prints_none false b xs h = refl
 prints_none true false xs h = refl
 prints_none true true [] h = refl
@@ -86,11 +89,14 @@ prints_none true true (x ∷ y ∷ xs) h = refl
 
 -- one that does not print is evaluated
 pub call_is : (d : ℕ) (p at : Place) (r : KeptExpr) (n : Name) (xs : List KeptExpr) → does_print r n xs ≡ false
-    → eval_if d p (MethodCall at (expr_of r) n (exprs_of (map expr_of xs))) ≡ evaluated d p (MethodCall at (expr_of r) n (exprs_of (map expr_of xs)))
+    → eval_if d p (MethodCall at (expr_of r) n (exprs_of (map expr_of xs))) ≡ evaluated d p
+    (MethodCall at (expr_of r) n (exprs_of (map expr_of xs)))
 call_is d p at r n xs h =
     let call = MethodCall at (expr_of r) n (exprs_of (map expr_of xs)) in
     sym (ap (evaluated_by d p call) (prints_none (is_out (expr_of r)) (bytes_eq n (codes "println")) xs h))
 
-pub prints_are : (b v : Bool) (r s : KeptExpr) (n m : Name) (xs ys : List KeptExpr) → b ≡ does_print r n xs → b ≡ v → r ≡ s → n ≡ m → xs ≡ ys → does_print s m ys ≡ v
+pub prints_are : (b v : Bool) (r s : KeptExpr) (n m : Name) (xs ys : List KeptExpr) → b ≡ does_print r n xs → b ≡ v → r ≡ s → n ≡ m →
+    xs ≡ ys → does_print s m ys ≡ v
 prints_are b v r s n m xs ys is was e f g =
-    ap (λ (t : KeptExpr). does_print t m ys) (sym e) ∙ ap (λ (k : Name). does_print r k ys) (sym f) ∙ ap (does_print r n) (sym g) ∙ sym is ∙ was
+    ap (λ (t : KeptExpr). does_print t m ys) (sym e) ∙ ap (λ (k : Name). does_print r k ys) (sym f) ∙ ap (does_print r n) (sym g) ∙ sym is ∙
+    was

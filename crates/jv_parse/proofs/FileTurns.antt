@@ -9,7 +9,8 @@ use Rattle.jv_tree.specs.declared.tree.Param.{Param}
 use Rattle.jv_tree.specs.declared.token.Sign.TheVariants as signs
 use Rattle.jv_tree.specs.declared.token.Token.{Token}
 use Rattle.jv_reading.specs.Base.{is_sign, is_word, name_at}
-use Rattle.jv_reading.specs.Files.{param_at, next_param_at, params_at, is_more_names, next_name_at, names_at, is_more_steps, next_step_at, path_at, import_at, is_some_token, decl_at}
+use Rattle.jv_reading.specs.Files.{param_at, next_param_at, params_at, is_more_names, next_name_at, names_at, is_more_steps, next_step_at}
+use Rattle.jv_reading.specs.Files.{path_at, import_at, is_some_token, decl_at}
 use Rattle.jv_parse.specs.declared.halt.Halt.{Halt}
 use Rattle.jv_parse.specs.declared.halt.Halt.TheVariants as halts
 use Rattle.jv_parse.specs.inner.Gives.{Fails}
@@ -18,9 +19,11 @@ use Rattle.jv_parse.proofs.Walks.{Walking, rest_some, rest_fails}
 
 -- ---- parameters
 
-pub params_start : (ts : List Token) (x : Param) (us : List Token) → param_at ts ≡ Some (x, us) → Left (is_sign signs.Comma) next_param_at (x ∷ []) us (params_at ts)
+pub params_start : (ts : List Token) (x : Param) (us : List Token) → param_at ts ≡ Some (x, us) → Left (is_sign signs.Comma) next_param_at
+    (x ∷ []) us (params_at ts)
 unfolding params_at
-params_start ts x us h = rw h (Left-start (is_sign signs.Comma) next_param_at (x ∷ []) us (with_front (x ∷ []) (all_of (is_sign signs.Comma) next_param_at us)) refl)
+params_start ts x us h = rw h (Left-start (is_sign signs.Comma) next_param_at (x ∷ []) us
+    (with_front (x ∷ []) (all_of (is_sign signs.Comma) next_param_at us)) refl)
 
 pub params_fail : (e : Halt) (ts : List Token) → Fails e (param_at ts) → Fails e (params_at ts)
 unfolding params_at
@@ -29,9 +32,11 @@ params_fail (halts.Syntax left) ts h = rw h refl
 
 -- ---- names of an enum
 
-pub names_start : (ts : List Token) (p : Place) (n : Name) (us : List Token) → name_at ts ≡ Some ((p, n), us) → Left is_more_names next_name_at (n ∷ []) us (names_at ts)
+pub names_start : (ts : List Token) (p : Place) (n : Name) (us : List Token) → name_at ts ≡ Some ((p, n), us) →
+    Left is_more_names next_name_at (n ∷ []) us (names_at ts)
 unfolding names_at
-names_start ts p n us h = rw h (Left-start is_more_names next_name_at (n ∷ []) us (with_front (n ∷ []) (all_of is_more_names next_name_at us)) refl)
+names_start ts p n us h = rw h (Left-start is_more_names next_name_at (n ∷ []) us
+    (with_front (n ∷ []) (all_of is_more_names next_name_at us)) refl)
 
 pub names_fail : (e : Halt) (ts : List Token) → Fails e (name_at ts) → Fails e (names_at ts)
 unfolding names_at
@@ -42,7 +47,8 @@ names_fail (halts.Syntax left) ts h = rw h refl
 
 path_from : (ts us : List Token) (n : Place × Name) → name_at ts ≡ Some (n, us) → Left is_more_steps next_step_at (n.1 ∷ []) us (path_at ts)
 unfolding path_at
-path_from ts us n h = rw h (Left-start is_more_steps next_step_at (n.1 ∷ []) us (with_front (n.1 ∷ []) (all_of is_more_steps next_step_at us)) refl)
+path_from ts us n h = rw h (Left-start is_more_steps next_step_at (n.1 ∷ []) us
+    (with_front (n.1 ∷ []) (all_of is_more_steps next_step_at us)) refl)
 
 pub path_start : (ts us : List Token) → rest_of (name_at ts) ≡ Some us → Walking is_more_steps next_step_at us (path_at ts)
 path_start ts us h = let n = rest_some (name_at ts) us h in record { front = n.0.1 ∷ []; left = path_from ts us n.0 n.1 }

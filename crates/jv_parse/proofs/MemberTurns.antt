@@ -29,11 +29,12 @@ methods-append (FieldMember f ∷ xs) ys = methods-append xs ys
 methods-append (MethodMember m ∷ xs) ys = ap (λ (zs : List Method). m ∷ zs) (methods-append xs ys)
 
 -- what is left to read makes up the whole, where each kind is kept for itself
-pub record Sorting (fields : List Field) (methods : List Method) (rest : List Token) (total : Option (List Member × List Token)) : Type 0 where
-  pub front : List Member
-  pub left : Left not_closed member_at front rest total
-  pub fields_are : fields ≡ fields_among front
-  pub methods_are : methods ≡ methods_among front
+pub record Sorting (fields : List Field) (methods : List Method) (rest : List Token) (total : Option (List Member × List Token)) : Type 0
+  where
+    pub front : List Member
+    pub left : Left not_closed member_at front rest total
+    pub fields_are : fields ≡ fields_among front
+    pub methods_are : methods ≡ methods_among front
 
 pub sorting_start : (ts : List Token) → Sorting [] [] ts (all_of not_closed member_at ts)
 sorting_start ts = record { front = []; left = Left-init not_closed member_at ts; fields_are = refl; methods_are = refl }
@@ -41,8 +42,10 @@ sorting_start ts = record { front = []; left = Left-init not_closed member_at ts
 pub member_at_shorter : (ts : List Token) (x : Member) (us : List Token) → member_at ts ≡ Some (x, us) → length us < length ts
 member_at_shorter ts x us h = member_shorter ts (x, us) h
 
-pub sorting_more : (fields more_fields : List Field) (methods more_methods : List Method) (ts us : List Token) (x : Member) (total : Option (List Member × List Token))
-    → not_closed ts ≡ true → member_at ts ≡ Some (x, us) → more_fields ≡ fields ++ fields_among (x ∷ []) → more_methods ≡ methods ++ methods_among (x ∷ [])
+pub sorting_more : (fields more_fields : List Field) (methods more_methods : List Method) (ts us : List Token) (x : Member)
+    (total : Option (List Member × List Token))
+    → not_closed ts ≡ true → member_at ts ≡ Some (x, us) → more_fields ≡ fields ++ fields_among (x ∷ []) → more_methods ≡ methods
+    ++ methods_among (x ∷ [])
     → Sorting fields methods ts total → Sorting more_fields more_methods us total
 sorting_more fields more_fields methods more_methods ts us x total goes h f m s = record {
   front = s.front ++ x ∷ [];
@@ -54,13 +57,15 @@ sorting_more fields more_fields methods more_methods ts us x total goes h f m s 
 pub sorting_fails : (err : Halt) (fields : List Field) (methods : List Method) (ts : List Token) (total : Option (List Member × List Token))
     → not_closed ts ≡ true → Fails err (member_at ts) → Sorting fields methods ts total → Fails err (sorted total)
 sorting_fails halts.Memory fields methods ts total goes h s = tt
-sorting_fails (halts.Syntax left) fields methods ts total goes h s = ap sorted (Left-fails not_closed member_at (halts.Syntax left) s.front ts total goes h s.left)
+sorting_fails (halts.Syntax left) fields methods ts total goes h s =
+    ap sorted (Left-fails not_closed member_at (halts.Syntax left) s.front ts total goes h s.left)
 
 pub sorting_done : (fields : List Field) (methods : List Method) (ts : List Token) (total : Option (List Member × List Token))
     → not_closed ts ≡ false → Sorting fields methods ts total → sorted total ≡ Some ((fields, methods), ts)
 sorting_done fields methods ts total stops s =
     ap sorted (Left-done not_closed member_at s.front ts total stops s.left)
-    ∙ ap (λ (fs : List Field). Some ((fs, methods_among s.front), ts)) (sym s.fields_are) ∙ ap (λ (ms : List Method). Some ((fields, ms), ts)) (sym s.methods_are)
+    ∙ ap (λ (fs : List Field). Some ((fs, methods_among s.front), ts)) (sym s.fields_are) ∙
+    ap (λ (ms : List Method). Some ((fields, ms), ts)) (sym s.methods_are)
 
 -- ---- a class
 
@@ -74,7 +79,8 @@ closed_alike ms None = refl
 closed_alike ms (Some c) = refl
 
 read_alike : (r : Option (List Member × List Token))
-    → (sorted r >>= λ ms. sign_at signs.CloseBrace ms.1 >>= λ c. Some (ms.0, c.1)) ≡ sorted (r >>= λ ms. sign_at signs.CloseBrace ms.1 >>= λ c. Some (ms.0, c.1))
+    → (sorted r >>= λ ms. sign_at signs.CloseBrace ms.1 >>= λ c. Some (ms.0, c.1)) ≡ sorted (r >>= λ ms. sign_at signs.CloseBrace ms.1
+    >>= λ c. Some (ms.0, c.1))
 read_alike None = refl
 read_alike (Some ms) = closed_alike ms.0 (sign_at signs.CloseBrace ms.1)
 
@@ -98,7 +104,8 @@ made_alike t n None = refl
 made_alike t n (Some ms) = refl
 
 named_alike : (t : Option (List ℕ)) (r : Option ((Place × Name) × List Token))
-    → (r >>= λ n. members_at n.1 >>= λ ms. made t n.0 ((fields_among ms.0, methods_among ms.0), ms.1)) ≡ (r >>= λ n. sorted_members n.1 >>= made t n.0)
+    → (r >>= λ n. members_at n.1 >>= λ ms. made t n.0 ((fields_among ms.0, methods_among ms.0), ms.1)) ≡
+    (r >>= λ n. sorted_members n.1 >>= made t n.0)
 named_alike t None = refl
 named_alike t (Some n) = made_alike t n.0 (members_at n.1) ∙ ap (λ (r : Rest). r >>= made t n.0) (sym (members_alike n.1))
 
@@ -109,7 +116,8 @@ begun_alike t None = refl
 begun_alike t (Some s) = named_alike t (name_at s.1)
 
 noted_alike : (r : Option (Option (List ℕ) × List Token))
-    → (r >>= λ t. word_at (codes "class") (after_mods class_words t.1) >>= λ s. name_at s.1 >>= λ n. members_at n.1 >>= λ ms. made t.0 n.0 ((fields_among ms.0, methods_among ms.0), ms.1))
+    → (r >>= λ t. word_at (codes "class") (after_mods class_words t.1) >>= λ s. name_at s.1 >>= λ n. members_at n.1 >>= λ ms. made t.0 n.0
+    ((fields_among ms.0, methods_among ms.0), ms.1))
     ≡ (r >>= λ t. word_at (codes "class") (after_mods class_words t.1) >>= λ s. name_at s.1 >>= λ n. sorted_members n.1 >>= made t.0 n.0)
 noted_alike None = refl
 noted_alike (Some t) = begun_alike t.0 (word_at (codes "class") (after_mods class_words t.1))

@@ -23,12 +23,15 @@ supported t e c (text, is, at) = none_is_not text (sym e ∙ is)
 
 pub sought_later : (rest behind : List Token) (t : Token) (whole : List Token) → rest ≡ t ∷ behind → unsupported_text t.kind ≡ None
     → Sought rest whole → Sought behind whole
-sought_later rest behind t whole parts e s = record { sought = λ r j. s.sought r (subst (λ (ts : List Token). Judged IsUnsupported ts r) (sym parts) (later (supported t e) j)) }
+sought_later rest behind t whole parts e s =
+    record { sought = λ r j. s.sought r (subst (λ (ts : List Token). Judged IsUnsupported ts r) (sym parts) (later (supported t e) j)) }
 
-pub sought_here : (rest behind : List Token) (t : Token) (whole : List Token) (text : Name) → rest ≡ t ∷ behind → unsupported_text t.kind ≡ Some text
+pub sought_here : (rest behind : List Token) (t : Token) (whole : List Token) (text : Name) → rest ≡ t ∷ behind →
+    unsupported_text t.kind ≡ Some text
     → Sought rest whole → Judged IsUnsupported whole (Some (culprit t.place text))
 sought_here rest behind t whole text parts e s =
-    s.sought (Some (culprit t.place text)) (subst (λ (ts : List Token). Judged IsUnsupported ts (Some (culprit t.place text))) (sym parts) (here (text, e, refl)))
+    s.sought (Some (culprit t.place text)) (subst (λ (ts : List Token). Judged IsUnsupported ts (Some (culprit t.place text))) (sym parts)
+    (here (text, e, refl)))
 
 pub sought_end : (rest whole : List Token) → length rest ≡ 0 → Sought rest whole → Judged IsUnsupported whole None
 sought_end [] whole e s = s.sought None clean
@@ -41,13 +44,15 @@ single t c d (v, is, at) (w, also, too) =
 
 -- ---- modifiers
 
-pub mods_later : (words : List Name) (rest behind : List Token) (t : Token) (total : List Token) → rest ≡ t ∷ behind → is_kind_among words t.kind ≡ true
+pub mods_later : (words : List Name) (rest behind : List Token) (t : Token) (total : List Token) → rest ≡ t ∷ behind →
+    is_kind_among words t.kind ≡ true
     → after_mods words rest ≡ total → after_mods words behind ≡ total
 mods_later words rest behind t total parts goes h =
     let e : after_mods words (t ∷ behind) ≡ after_mods words behind = rw goes refl in
     sym e ∙ ap (after_mods words) (sym parts) ∙ h
 
-pub mods_here : (words : List Name) (rest behind : List Token) (t : Token) (total : List Token) → rest ≡ t ∷ behind → is_kind_among words t.kind ≡ false
+pub mods_here : (words : List Name) (rest behind : List Token) (t : Token) (total : List Token) → rest ≡ t ∷ behind →
+    is_kind_among words t.kind ≡ false
     → after_mods words rest ≡ total → rest ≡ total
 mods_here words rest behind t total parts stops h =
     let e : after_mods words (t ∷ behind) ≡ t ∷ behind = rw stops refl in
@@ -57,19 +62,22 @@ pub mods_end : (words : List Name) (rest total : List Token) → length rest ≡
 mods_end words [] total e h = h
 mods_end words (t ∷ ts) total e h = absurd (omega arith)
 
-pub static_later : (words : List Name) (rest behind : List Token) (t : Token) (total : Bool) → rest ≡ t ∷ behind → is_kind_among words t.kind ≡ true
+pub static_later : (words : List Name) (rest behind : List Token) (t : Token) (total : Bool) → rest ≡ t ∷ behind →
+    is_kind_among words t.kind ≡ true
     → is_kind_among (codes "static" ∷ []) t.kind ≡ false → static_mods words rest ≡ total → static_mods words behind ≡ total
 static_later words rest behind t total parts goes other h =
     let e : static_mods words (t ∷ behind) ≡ static_mods words behind = rw (goes, other) refl in
     sym e ∙ ap (static_mods words) (sym parts) ∙ h
 
-pub static_here : (words : List Name) (rest behind : List Token) (t : Token) (total : Bool) → rest ≡ t ∷ behind → is_kind_among words t.kind ≡ true
+pub static_here : (words : List Name) (rest behind : List Token) (t : Token) (total : Bool) → rest ≡ t ∷ behind →
+    is_kind_among words t.kind ≡ true
     → is_kind_among (codes "static" ∷ []) t.kind ≡ true → static_mods words rest ≡ total → true ≡ total
 static_here words rest behind t total parts goes other h =
     let e : static_mods words (t ∷ behind) ≡ true = rw (goes, other) refl in
     sym e ∙ ap (static_mods words) (sym parts) ∙ h
 
-pub static_stops : (words : List Name) (rest behind : List Token) (t : Token) (total : Bool) → rest ≡ t ∷ behind → is_kind_among words t.kind ≡ false
+pub static_stops : (words : List Name) (rest behind : List Token) (t : Token) (total : Bool) → rest ≡ t ∷ behind →
+    is_kind_among words t.kind ≡ false
     → static_mods words rest ≡ total → false ≡ total
 static_stops words rest behind t total parts stops h =
     let e : static_mods words (t ∷ behind) ≡ false = rw stops refl in

@@ -12,7 +12,8 @@ use Rattle.jv_parse.specs.declared.halt.Halt.{Halt}
 use Rattle.jv_parse.specs.declared.halt.Halt.TheVariants as halts
 use Rattle.jv_parse.specs.inner.Gives.{Fails}
 
-pub cases_start : (ts : List Token) (x : Option Name) (us : List Token) → case_at ts ≡ Some (x, us) → Left is_case case_at (x ∷ []) us (cases_at ts)
+pub cases_start : (ts : List Token) (x : Option Name) (us : List Token) → case_at ts ≡ Some (x, us) →
+    Left is_case case_at (x ∷ []) us (cases_at ts)
 unfolding cases_at
 cases_start ts x us h = rw h (Left-start is_case case_at (x ∷ []) us (with_front (x ∷ []) (all_of is_case case_at us)) refl)
 
@@ -29,8 +30,10 @@ pub groups_start : (d : ℕ) (ts : List Token) → Left is_case (group_with d (s
 unfolding groups_with
 groups_start d ts = Left-init is_case (group_with d (stmt_at d)) ts
 
-pub item_at_shorter : (d : ℕ) (ts : List Token) (x : Stmt) (us : List Token) → item_with d (stmt_at d) ts ≡ Some (x, us) → length us < length ts
+pub item_at_shorter : (d : ℕ) (ts : List Token) (x : Stmt) (us : List Token) → item_with d (stmt_at d) ts ≡ Some (x, us) →
+    length us < length ts
 item_at_shorter d ts x us h = item_shorter d (stmt_at d) (stmt_exact d) ts (x, us) h
 
-pub group_at_shorter : (d : ℕ) (ts : List Token) (x : OneGroup) (us : List Token) → group_with d (stmt_at d) ts ≡ Some (x, us) → length us < length ts
+pub group_at_shorter : (d : ℕ) (ts : List Token) (x : OneGroup) (us : List Token) → group_with d (stmt_at d) ts ≡ Some (x, us) →
+    length us < length ts
 group_at_shorter d ts x us h = group_shorter d (stmt_at d) (stmt_exact d) ts (x, us) h

@@ -25,16 +25,19 @@ pub record Walking {T A : Type 0} (go : List T → Bool) (f : Reader T A) (rest 
   pub left : Left go f front rest total
 
 module _ {T A : Type 0} (go : List T → Bool) (f : Reader T A) where
-  pub Walking-shorter : (ts us : List T) → ((x : A × List T) → f ts ≡ Some x → length x.1 < length ts) → rest_of (f ts) ≡ Some us → length us < length ts
+  pub Walking-shorter : (ts us : List T) → ((x : A × List T) → f ts ≡ Some x → length x.1 < length ts) → rest_of (f ts) ≡ Some us →
+      length us < length ts
   Walking-shorter ts us shorter h = let r = rest_some (f ts) us h in shorter (r.0, us) r.1
 
-  pub Walking-more : (ts us : List T) (total : Option (List A × List T)) → ((x : A × List T) → f ts ≡ Some x → length x.1 < length ts) → go ts ≡ true
+  pub Walking-more : (ts us : List T) (total : Option (List A × List T)) → ((x : A × List T) → f ts ≡ Some x → length x.1 < length ts) →
+      go ts ≡ true
       → rest_of (f ts) ≡ Some us → Walking go f ts total → Walking go f us total
   Walking-more ts us total shorter goes h w =
       let r = rest_some (f ts) us h in
       record { front = w.front ++ r.0 ∷ []; left = Left-more go f w.front ts r.0 us total goes r.1 (shorter (r.0, us) r.1) w.left }
 
-  pub Walking-fails : (err : Halt) (ts : List T) (total : Option (List A × List T)) → go ts ≡ true → Fails err (rest_of (f ts)) → Walking go f ts total → Fails err (rest_of total)
+  pub Walking-fails : (err : Halt) (ts : List T) (total : Option (List A × List T)) → go ts ≡ true → Fails err (rest_of (f ts)) →
+      Walking go f ts total → Fails err (rest_of total)
   Walking-fails halts.Memory ts total goes h w = tt
   Walking-fails (halts.Syntax left) ts total goes h w =
       ap rest_of (Left-fails go f (halts.Syntax left) w.front ts total goes (rest_fails (halts.Syntax left) (f ts) h) w.left)

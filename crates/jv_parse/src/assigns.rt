@@ -7,7 +7,9 @@ ghost use Rattle.jv_tree.specs.Depth.{depth};
 ghost use Rattle.jv_tree.specs.View.{expr_of, stmt_of};
 ghost use Rattle.jv_parse.specs.inner.Changes.{plain_at, counted_at, compounded_at};
 ghost use Rattle.jv_parse.specs.inner.Gives.{Gives};
-ghost use Rattle.jv_reading.specs.Stmts.{cond_at, ended_at, after_final, type_at, local_at, target_at, compound_at, counter_at, is_compound, is_counter, is_change, is_name_change, is_field_change, is_assign, assigned, change_at, assign_at};
+ghost use Rattle.jv_reading.specs.Stmts.{cond_at, ended_at, after_final, type_at, local_at, target_at, compound_at, counter_at};
+ghost use Rattle.jv_reading.specs.Stmts.{is_compound, is_counter, is_change, is_name_change, is_field_change, is_assign, assigned};
+ghost use Rattle.jv_reading.specs.Stmts.{change_at, assign_at};
 
 use crate::exprs::{Read, closed_of, expr_of, leaf};
 use crate::halt::Halt;
@@ -280,7 +282,8 @@ fn changed(
     requires target_deep { target.1 ≡ depth (expr_of target.0.value) }
     requires same { expr_of operand.value ≡ expr_of target.0.value }
     requires value_deep { value.1 ≡ depth (expr_of value.0.value) }
-    ensures { Gives (λ x. (stmt_of x.0, x.1.now)) result (assigned levels place (expr_of target.0.value) (changed op (expr_of target.0.value) (expr_of value.0.value)) rest.now) }
+    ensures { Gives (λ x. (stmt_of x.0, x.1.now)) result
+        (assigned levels place (expr_of target.0.value) (changed op (expr_of target.0.value) (expr_of value.0.value)) rest.now) }
 {
     let parts = target.1.max(value.1);
     if parts >= levels {

@@ -144,7 +144,8 @@ fn method_call(
     levels: u8,
 ) -> Option<Stmt>
     requires { deep ≡ depth (MethodCall at (expr_of receiver.value) name (exprs_of (map expr_of args.items))) }
-    ensures { option_map stmt_of result ≡ evaluated levels place (MethodCall at (expr_of receiver.value) name (exprs_of (map expr_of args.items))) }
+    ensures { option_map stmt_of result ≡ evaluated levels place
+        (MethodCall at (expr_of receiver.value) name (exprs_of (map expr_of args.items))) }
 {
     if prints(&receiver, name.as_str(), args.as_slice()) {
         let mut items = args.into_vec();

@@ -9,7 +9,9 @@ ghost use Rattle.jv_tree.specs.View.{expr_of, kind_of, exprs_of};
 ghost use Rattle.jv_parse.specs.inner.Found.{found};
 ghost use Rattle.jv_parse.specs.inner.Gives.{Gives};
 ghost use Rattle.jv_reading.specs.Base.{fits};
-ghost use Rattle.jv_reading.specs.Exprs.{args_with, next_arg_with, arguments_at, closed_at, negative_at, named_at, word_primary_at, new_with, literal, primary_at, tail_at, post_at, is_negation, unary_at, operator, op_at, op_found, is_op, joined_at, binary_at, expr_at};
+ghost use Rattle.jv_reading.specs.Exprs.{args_with, next_arg_with, arguments_at, closed_at, negative_at, named_at, word_primary_at};
+ghost use Rattle.jv_reading.specs.Exprs.{new_with, literal, primary_at, tail_at, post_at, is_negation, unary_at, operator, op_at, op_found};
+ghost use Rattle.jv_reading.specs.Exprs.{is_op, joined_at, binary_at, expr_at};
 
 use crate::halt::Halt;
 use crate::tokens::{is_name, is_sign, name_of, sign_of, starts_number};

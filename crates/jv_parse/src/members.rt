@@ -8,7 +8,8 @@ ghost use Rattle.jv_parse.specs.inner.Gives.{Gives};
 ghost use Rattle.jv_parse.specs.inner.Members.{member_of, sorted_at, sorted_members};
 ghost use Rattle.jv_parse.specs.inner.Rests.{rest_of};
 ghost use Rattle.jv_reading.specs.Base.{name_at};
-ghost use Rattle.jv_reading.specs.Files.{result_at, param_at, next_param_at, params_at, is_args, args_at, params_of_at, is_void, is_main, method_at, field_at, member_with, member_at, not_closed};
+ghost use Rattle.jv_reading.specs.Files.{result_at, param_at, next_param_at, params_at, is_args, args_at, params_of_at, is_void, is_main};
+ghost use Rattle.jv_reading.specs.Files.{method_at, field_at, member_with, member_at, not_closed};
 
 use crate::assigns::{after_final, ended_of, type_of};
 use crate::halt::Halt;
@@ -268,8 +269,10 @@ fn member_of(alloc: Global, tokens: &[Token]) -> Result<(Member, &[Token]), Halt
 
 // These members, and one more.
 fn with_member(members: Members, member: Member) -> Result<Members, Memory>
-    ensures fields { IfOk result (λ m. map field_of m.fields.items ≡ map field_of members.fields.items ++ fields_among (member_of member ∷ [])) }
-    ensures methods { IfOk result (λ m. map method_of m.methods.items ≡ map method_of members.methods.items ++ methods_among (member_of member ∷ [])) }
+    ensures fields { IfOk result (λ m. map field_of m.fields.items ≡ map field_of members.fields.items
+        ++ fields_among (member_of member ∷ [])) }
+    ensures methods { IfOk result (λ m. map method_of m.methods.items ≡ map method_of members.methods.items ++ methods_among
+        (member_of member ∷ [])) }
 {
     let Members {
         mut fields,

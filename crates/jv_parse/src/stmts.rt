@@ -4,7 +4,9 @@
 ghost use Rattle.std.specs.Prelude.{◌≡◌, ◌≤◌, Some, map};
 ghost use Rattle.jv_tree.specs.View.{expr_of, stmt_of, group_of};
 ghost use Rattle.jv_parse.specs.inner.Gives.{Gives};
-ghost use Rattle.jv_reading.specs.Stmts.{is_typed, is_decl, is_case, goes_on, case_at, cases_at, jump_at, break_at, continue_at, return_at, empty_at, is_label, loop_place, loop_label, stmt_at, item_with, items_with, block_with, if_with, while_with, do_with, loop_with, labelled_with, group_with, groups_with, switch_with, simple_with};
+ghost use Rattle.jv_reading.specs.Stmts.{is_typed, is_decl, is_case, goes_on, case_at, cases_at, jump_at, break_at, continue_at, return_at};
+ghost use Rattle.jv_reading.specs.Stmts.{empty_at, is_label, loop_place, loop_label, stmt_at, item_with, items_with, block_with, if_with};
+ghost use Rattle.jv_reading.specs.Stmts.{while_with, do_with, loop_with, labelled_with, group_with, groups_with, switch_with, simple_with};
 
 use crate::assigns::{ReadStmt, assign_of, cond_of, ended_of, is_assign, local_of};
 use crate::evaluations::evaluation_of;

@@ -1,5 +1,6 @@
 -- What is laid out of the part at an index, and of those behind it.
-use Rattle.std.proofs.Common.{◌≡◌, ℕ, ◌+◌, ◌<◌, ◌≤◌, get_or, drop, length, map, List, [], ◌∷◌, ◌++◌, Option, refl, sym, ap, ◌∙◌, append_assoc, codes}
+use Rattle.std.proofs.Common.{◌≡◌, ℕ, ◌+◌, ◌<◌, ◌≤◌, get_or, drop, length, map, List, [], ◌∷◌, ◌++◌, Option, refl, sym, ap, ◌∙◌}
+use Rattle.std.proofs.Common.{append_assoc, codes}
 use Rattle.std.proofs.lemmas.List.{append-nil, at_drop_more, at_drop_all}
 use Rattle.std.proofs.lemmas.Grind.{common_steps}
 use Rattle.std.specs.List.{flat_map}
@@ -13,18 +14,26 @@ use Rattle.jv_tree.specs.declared.tree.MethodDecl.{MethodDecl}
 use Rattle.jv_tree.specs.declared.tree.Decl.{Decl as KeptDecl}
 use Rattle.jv_tree.specs.declared.tree.Param.{Param}
 use Rattle.jv_tree.specs.Source.{Stmt}
-use Rattle.jv_tree.specs.View.{exprs_of, expr_of, stmts_of, stmt_of, groups_of, group_of, OneGroup, stmt_layer, group_layer, placed_stmt_layer, field_of, method_of, decl_of}
+use Rattle.jv_tree.specs.View.{exprs_of, expr_of, stmts_of, stmt_of, groups_of, group_of, OneGroup, stmt_layer, group_layer}
+use Rattle.jv_tree.specs.View.{placed_stmt_layer, field_of, method_of, decl_of}
 use Rattle.jv_tree.proofs.ViewLaws.{views}
-use Rattle.jv_print.specs.Layout.{indent, expr_text, args_text, stmt_text, lines, group_lines, case_text, case_lines, names_text, params_text, param_text, field_line, method_lines, decl_lines}
+use Rattle.jv_print.specs.Layout.{indent, expr_text, args_text, stmt_text, lines, group_lines, case_text, case_lines, names_text}
+use Rattle.jv_print.specs.Layout.{params_text, param_text, field_line, method_lines, decl_lines}
 
-pub group_of-is : (g : KeptGroup) → group_of g ≡ record { labels = (out-Group g).labels.items; body = stmts_of (map stmt_of (out-Group g).body.items); end = (out-Group g).end }
+pub group_of-is : (g : KeptGroup) → group_of g ≡ record {
+  labels = (out-Group g).labels.items;
+  body =
+      stmts_of (map stmt_of (out-Group g).body.items);
+  end = (out-Group g).end;
+}
 unfolding group_of stmt_of
 group_of-is g = fold_out-Group (Place → Stmt) OneGroup Stmt stmt_layer group_layer placed_stmt_layer g
 
 -- ---- the part at an index, and those behind it
 
 pub args-step : (before : List ℕ) (es : List KeptExpr) (i : ℕ) (x : KeptExpr) → i < length es → x ≡ get_or es i x →
-    args_text before (exprs_of (map expr_of (drop i es))) ≡ before ++ (expr_text (expr_of x) ++ args_text (codes ", ") (exprs_of (map expr_of (drop (i + 1) es))))
+    args_text before (exprs_of (map expr_of (drop i es))) ≡ before
+    ++ (expr_text (expr_of x) ++ args_text (codes ", ") (exprs_of (map expr_of (drop (i + 1) es))))
 args-step before es i x within is =
     at_drop_more (λ l. args_text before (exprs_of (map expr_of l))) es i x within
     ∙ ap (λ y. before ++ (expr_text (expr_of y) ++ args_text (codes ", ") (exprs_of (map expr_of (drop (i + 1) es))))) (sym is)
@@ -33,17 +42,20 @@ pub args-past : (before : List ℕ) (es : List KeptExpr) (i : ℕ) → length es
 args-past before es i h = at_drop_all (λ l. args_text before (exprs_of (map expr_of l))) es i h
 
 pub lines-step : (level : ℕ) (ss : List KeptStmt) (i : ℕ) (x : KeptStmt) → i < length ss → x ≡ get_or ss i x →
-    lines level (stmts_of (map stmt_of (drop i ss))) ≡ indent level ++ (stmt_text level (stmt_of x) ++ (codes "\n" ++ lines level (stmts_of (map stmt_of (drop (i + 1) ss)))))
+    lines level (stmts_of (map stmt_of (drop i ss))) ≡ indent level
+    ++ (stmt_text level (stmt_of x) ++ (codes "\n" ++ lines level (stmts_of (map stmt_of (drop (i + 1) ss)))))
 lines-step level ss i x within is =
     at_drop_more (λ l. lines level (stmts_of (map stmt_of l))) ss i x within
-    ∙ ap (λ y. indent level ++ (stmt_text level (stmt_of y) ++ (codes "\n" ++ lines level (stmts_of (map stmt_of (drop (i + 1) ss)))))) (sym is)
+    ∙ ap (λ y. indent level ++ (stmt_text level (stmt_of y) ++ (codes "\n" ++ lines level (stmts_of (map stmt_of (drop (i + 1) ss))))))
+    (sym is)
 
 pub lines-past : (level : ℕ) (ss : List KeptStmt) (i : ℕ) → length ss ≤ i → lines level (stmts_of (map stmt_of (drop i ss))) ≡ []
 lines-past level ss i h = at_drop_all (λ l. lines level (stmts_of (map stmt_of l))) ss i h
 
 pub groups-step : (level : ℕ) (gs : List KeptGroup) (i : ℕ) (x : KeptGroup) → i < length gs → x ≡ get_or gs i x →
     group_lines level (groups_of (map group_of (drop i gs)))
-    ≡ case_lines level (out-Group x).labels.items ++ (lines (level + 1) (stmts_of (map stmt_of (out-Group x).body.items)) ++ group_lines level (groups_of (map group_of (drop (i + 1) gs))))
+    ≡ case_lines level (out-Group x).labels.items ++ (lines (level + 1) (stmts_of (map stmt_of (out-Group x).body.items))
+    ++ group_lines level (groups_of (map group_of (drop (i + 1) gs))))
 groups-step level gs i x within is =
     let more = groups_of (map group_of (drop (i + 1) gs)) in
     at_drop_more (λ l. group_lines level (groups_of (map group_of l))) gs i x within
@@ -56,7 +68,8 @@ groups-past level gs i h = at_drop_all (λ l. group_lines level (groups_of (map 
 pub cases-step : (level : ℕ) (labels : List (Option Name)) (i : ℕ) (x : Option Name) → i < length labels → x ≡ get_or labels i x →
     case_lines level (drop i labels) ≡ indent level ++ (case_text x ++ (codes "\n" ++ case_lines level (drop (i + 1) labels)))
 cases-step level labels i x within is =
-    at_drop_more (case_lines level) labels i x within ∙ ap (λ y. indent level ++ (case_text y ++ (codes "\n" ++ case_lines level (drop (i + 1) labels)))) (sym is)
+    at_drop_more (case_lines level) labels i x within ∙
+    ap (λ y. indent level ++ (case_text y ++ (codes "\n" ++ case_lines level (drop (i + 1) labels)))) (sym is)
 
 pub cases-past : (level : ℕ) (labels : List (Option Name)) (i : ℕ) → length labels ≤ i → case_lines level (drop i labels) ≡ []
 cases-past level labels i h = at_drop_all (case_lines level) labels i h
@@ -95,7 +108,8 @@ pub fields-past : (xs : List KeptField) (i : ℕ) → length xs ≤ i → flat_m
 fields-past = each-past field_line field_of
 
 pub methods-step : (xs : List MethodDecl) (i : ℕ) (x : MethodDecl) → i < length xs → x ≡ get_or xs i x →
-    flat_map method_lines (map method_of (drop i xs)) ≡ method_lines (method_of x) ++ flat_map method_lines (map method_of (drop (i + 1) xs))
+    flat_map method_lines (map method_of (drop i xs)) ≡ method_lines (method_of x) ++ flat_map method_lines
+    (map method_of (drop (i + 1) xs))
 methods-step = each-step method_lines method_of
 
 pub methods-past : (xs : List MethodDecl) (i : ℕ) → length xs ≤ i → flat_map method_lines (map method_of (drop i xs)) ≡ []

@@ -1,5 +1,6 @@
 -- How a Java file is laid out: four spaces a level, one statement a line, no blank lines.
-use Rattle.std.specs.Prelude.{ℕ, ◌+◌, ◌*◌, Bool, true, false, List, [], ◌∷◌, ◌++◌, Option, Some, None, codes, replicate, ◌==◌, if◌then◌else◌}
+use Rattle.std.specs.Prelude.{ℕ, ◌+◌, ◌*◌, Bool, true, false, List, [], ◌∷◌, ◌++◌, Option, Some, None, codes, replicate, ◌==◌}
+use Rattle.std.specs.Prelude.{if◌then◌else◌}
 use Rattle.std.specs.List.{flat_map}
 use Rattle.std.specs.Fmt.{signed_decimal}
 use Rattle.mg_text.specs.Call.{Name}
@@ -8,8 +9,10 @@ use Rattle.ts_tree.specs.declared.parts.TypeName.TheVariants as types
 use Rattle.jv_tree.specs.declared.tree.Op.{Op}
 use Rattle.jv_tree.specs.declared.tree.Op.TheVariants as ops
 use Rattle.jv_tree.specs.declared.tree.Param.{Param}
-use Rattle.jv_tree.specs.Source.{Expr, Int, Truth, Text, Null, This, Variable, Member, Neg, Not, Binary, Call, MethodCall, New, Exprs, NoExpr, Argument}
-use Rattle.jv_tree.specs.Source.{Stmt, Block, Empty, Local, Assign, If, IfElse, While, Do, Switch, Break, Continue, Return, Print, Eval, Stmts, NoStmt, Then, Groups, NoGroup, Group}
+use Rattle.jv_tree.specs.Source.{Expr, Int, Truth, Text, Null, This, Variable, Member, Neg, Not, Binary, Call, MethodCall, New, Exprs}
+use Rattle.jv_tree.specs.Source.{NoExpr, Argument}
+use Rattle.jv_tree.specs.Source.{Stmt, Block, Empty, Local, Assign, If, IfElse, While, Do, Switch, Break, Continue, Return, Print, Eval}
+use Rattle.jv_tree.specs.Source.{Stmts, NoStmt, Then, Groups, NoGroup, Group}
 use Rattle.jv_tree.specs.Source.{Field, Method, Class, Enum, Decl, ClassDecl, EnumDecl, File}
 use Rattle.jv_tree.specs.Expressions.{truth_word}
 
@@ -164,7 +167,8 @@ abbrev mutual
   stmt_text level (Do p label s e) =
       label_text label ++ (codes "do" ++ (as_body (is_block s) level (λ l. stmt_text l s)
       ++ (behind (is_block s) level ++ (codes "while (" ++ (expr_text e ++ codes ");")))))
-  stmt_text level (Switch p e groups end) = codes "switch (" ++ (expr_text e ++ (codes ") " ++ braced level (group_lines (level + 1) groups)))
+  stmt_text level (Switch p e groups end) =
+      codes "switch (" ++ (expr_text e ++ (codes ") " ++ braced level (group_lines (level + 1) groups)))
   stmt_text level (Break p label) = codes "break" ++ (target_text label ++ codes ";")
   stmt_text level (Continue p label) = codes "continue" ++ (target_text label ++ codes ";")
   stmt_text level (Return p value) = codes "return" ++ (value_text value ++ codes ";")

@@ -74,7 +74,8 @@ fn put_within(out: &mut String, is_within: bool, expr: &Expr) -> Result<(), Memo
 #[tactic(auto, using(crate::proofs::Laid::laid))]
 #[cycle(exprs)]
 fn put_call(out: &mut String, name: &str, args: &[Expr]) -> Result<(), Memory>
-    ensures { OnOk result (string_bytes out.new ≡ string_bytes out.old ++ call_text name.now (args_text [] (exprs_of (map expr_of args.now)))) }
+    ensures { OnOk result (string_bytes out.new ≡ string_bytes out.old ++ call_text name.now
+        (args_text [] (exprs_of (map expr_of args.now)))) }
 {
     put(out, &[name, "("])?;
     put_args(out, args)?;

@@ -74,7 +74,8 @@ fn put_body(out: &mut String, level: u32, body: &Stmt) -> Result<(), Memory>
 #[tactic(auto, using(crate::proofs::Laid::laid))]
 #[cycle(stmts)]
 pub fn put_block(out: &mut String, level: u32, body: &[Stmt]) -> Result<(), Memory>
-    ensures { OnOk result (string_bytes out.new ≡ string_bytes out.old ++ braced level (lines (level + 1) (stmts_of (map stmt_of body.now)))) }
+    ensures { OnOk result (string_bytes out.new ≡ string_bytes out.old
+        ++ braced level (lines (level + 1) (stmts_of (map stmt_of body.now)))) }
 {
     let inside = further(level)?;
     put(out, &["{\n"])?;
@@ -102,7 +103,8 @@ fn put_lines(out: &mut String, level: u32, body: &[Stmt]) -> Result<(), Memory>
 #[tactic(auto, using(crate::proofs::Laid::laid))]
 #[cycle(stmts)]
 fn put_groups(out: &mut String, level: u32, groups: &[Group]) -> Result<(), Memory>
-    ensures { OnOk result (string_bytes out.new ≡ string_bytes out.old ++ braced level (group_lines (level + 1) (groups_of (map group_of groups.now)))) }
+    ensures { OnOk result (string_bytes out.new ≡ string_bytes out.old
+        ++ braced level (group_lines (level + 1) (groups_of (map group_of groups.now)))) }
 {
     let inside = further(level)?;
     put(out, &["{\n"])?;
@@ -153,7 +155,8 @@ fn put_case(out: &mut String, label: &Option<Text>) -> Result<(), Memory>
 // Writes the declaration of a local.
 #[tactic(auto, using(crate::proofs::Laid::laid))]
 fn put_local(out: &mut String, ty: &TypeName, name: &str, value: &Expr) -> Result<(), Memory>
-    ensures { OnOk result (string_bytes out.new ≡ string_bytes out.old ++ (type_text ty.now ++ (codes " " ++ (name.now ++ (codes " = " ++ (expr_text (expr_of value.now) ++ codes ";")))))) }
+    ensures { OnOk result (string_bytes out.new ≡ string_bytes out.old
+        ++ (type_text ty.now ++ (codes " " ++ (name.now ++ (codes " = " ++ (expr_text (expr_of value.now) ++ codes ";")))))) }
 {
     put(out, &[type_text(ty), " ", name, " = "])?;
     put_between(out, "", value, ";")?;
@@ -162,7 +165,8 @@ fn put_local(out: &mut String, ty: &TypeName, name: &str, value: &Expr) -> Resul
 
 #[tactic(auto, using(crate::proofs::Laid::laid))]
 fn put_assign(out: &mut String, target: &Expr, value: &Expr) -> Result<(), Memory>
-    ensures { OnOk result (string_bytes out.new ≡ string_bytes out.old ++ (expr_text (expr_of target.now) ++ (codes " = " ++ (expr_text (expr_of value.now) ++ codes ";")))) }
+    ensures { OnOk result (string_bytes out.new ≡ string_bytes out.old
+        ++ (expr_text (expr_of target.now) ++ (codes " = " ++ (expr_text (expr_of value.now) ++ codes ";")))) }
 {
     put_expr(out, target)?;
     put_between(out, " = ", value, ";")?;
@@ -171,7 +175,8 @@ fn put_assign(out: &mut String, target: &Expr, value: &Expr) -> Result<(), Memor
 
 #[tactic(auto, using(crate::proofs::Laid::laid))]
 fn put_return(out: &mut String, value: &Option<Expr>) -> Result<(), Memory>
-    ensures { OnOk result (string_bytes out.new ≡ string_bytes out.old ++ (codes "return" ++ (value_text (option_map expr_of value.now) ++ codes ";"))) }
+    ensures { OnOk result (string_bytes out.new ≡ string_bytes out.old
+        ++ (codes "return" ++ (value_text (option_map expr_of value.now) ++ codes ";"))) }
 {
     put(out, &["return"])?;
     put_value(out, value)?;
@@ -182,7 +187,8 @@ fn put_return(out: &mut String, value: &Option<Expr>) -> Result<(), Memory>
 // Writes what stands before the body of a `while`.
 #[tactic(auto, using(crate::proofs::Laid::laid))]
 fn put_while(out: &mut String, label: &Option<Text>, test: &Expr) -> Result<(), Memory>
-    ensures { OnOk result (string_bytes out.new ≡ string_bytes out.old ++ (label_text label.now ++ (codes "while (" ++ (expr_text (expr_of test.now) ++ codes ")")))) }
+    ensures { OnOk result (string_bytes out.new ≡ string_bytes out.old
+        ++ (label_text label.now ++ (codes "while (" ++ (expr_text (expr_of test.now) ++ codes ")")))) }
 {
     put_label(out, label)?;
     put_between(out, "while (", test, ")")?;

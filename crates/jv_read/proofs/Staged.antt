@@ -19,16 +19,19 @@ use Rattle.jv_parse.specs.declared.ParseFault.{ParseFault}
 use Rattle.jv_parse.specs.declared.ParseFault.TheVariants as parses
 use Rattle.jv_read.specs.declared.fault.JavaFault.{JavaFault}
 use Rattle.jv_read.specs.Spelling.{Spells}
-use Rattle.jv_read.specs.Outcome.{Answer, Read, Syntax, Unsupported, Outcome, uncut, unsupported, syntax, answer_of, fault_answer, IsAnswered}
+use Rattle.jv_read.specs.Outcome.{Answer, Read, Syntax, Unsupported, Outcome, uncut, unsupported, syntax, answer_of, fault_answer}
+use Rattle.jv_read.specs.Outcome.{IsAnswered}
 use Rattle.jv_read.specs.inner.Stages.{fault_of_tokens, fault_of_grammar, IsRefusal, Stage, IsRead}
 use Rattle.jv_read.proofs.Unique.{one_outcome}
 
-told_as : (file : ℕ) (bytes : List ℕ) (b : Answer) → Outcome file bytes b → (a : Answer) → ◌≡◌ {A = Option Answer} (Some b) (Some a) → Outcome file bytes a
+told_as : (file : ℕ) (bytes : List ℕ) (b : Answer) → Outcome file bytes b → (a : Answer) → ◌≡◌ {A = Option Answer} (Some b) (Some a) →
+    Outcome file bytes a
 told_as file bytes b h a e = subst (Outcome file bytes) (some_is b a e) h
 
 -- ---- tokens
 
-pub uncut_told : (file : ℕ) (bytes : List ℕ) (fault : LexFault) → Answers (Err fault) (lexing.Outcome file bytes) → IsRefusal file bytes (fault_of_tokens fault)
+pub uncut_told : (file : ℕ) (bytes : List ℕ) (fault : LexFault) → Answers (Err fault) (lexing.Outcome file bytes) →
+    IsRefusal file bytes (fault_of_tokens fault)
 uncut_told file bytes (lexes.TooLarge place) h = λ a e. uncut (lexes.TooLarge place) a h e
 uncut_told file bytes (lexes.BadByte place) h = λ a e. uncut (lexes.BadByte place) a h e
 uncut_told file bytes (lexes.OpenComment place) h = λ a e. uncut (lexes.OpenComment place) a h e
@@ -60,11 +63,20 @@ pub ungrammatical_told : (file : ℕ) (bytes : List ℕ) (ts : List Token) → C
     → IsRefusal file bytes (fault_of_grammar fault)
 ungrammatical_told file bytes ts cut (parses.Unsupported place text) says refuses =
     told_as file bytes (Unsupported place text) (unsupported ts place text cut.size cut.tokens (says (culprit place text) refl))
-ungrammatical_told file bytes ts cut (parses.Syntax place) says refuses = let h = refuses tt in told_as file bytes Syntax (syntax ts cut.size cut.tokens h.0 h.1)
+ungrammatical_told file bytes ts cut (parses.Syntax place) says refuses = let h = refuses tt in told_as file bytes Syntax
+    (syntax ts cut.size cut.tokens h.0 h.1)
 ungrammatical_told file bytes ts cut parses.Memory says refuses = λ a e. absurd (none_is_not a e)
 
-pub spells_of : (file : ℕ) (bytes : List ℕ) (ts : List Token) (f : File) → Cut file bytes ts → Judged IsUnsupported ts None × files.Spells f ts → Spells file bytes f
-spells_of file bytes ts f cut (supported, spelled) = record { size = cut.size; tokens = ts; cut = cut.tokens; supported = supported; spelled = spelled }
+pub spells_of : (file : ℕ) (bytes : List ℕ) (ts : List Token) (f : File) → Cut file bytes ts → Judged IsUnsupported ts None × files.Spells f
+    ts → Spells file bytes f
+spells_of file bytes ts f cut (supported, spelled) = record {
+  size = cut.size;
+  tokens = ts;
+  cut = cut.tokens;
+  supported =
+      supported;
+  spelled = spelled;
+}
 
 -- ---- the whole
 

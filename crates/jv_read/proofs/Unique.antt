@@ -54,23 +54,27 @@ read_spells file bytes a (read g s) f e = let same : g ≡ f = cc in subst (Spel
 
 module _ (file : ℕ) (bytes : List ℕ) where
   pub one_file : (f g : File) → Spells file bytes f → Spells file bytes g → f ≡ g
-  one_file f g a b = file_unique f g b.tokens (subst (files.Spells f) (same_tokens file a.tokens b.tokens bytes a.cut b.cut) a.spelled) b.spelled
+  one_file f g a b = file_unique f g b.tokens (subst (files.Spells f) (same_tokens file a.tokens b.tokens bytes a.cut b.cut) a.spelled)
+      b.spelled
 
   -- ---- rows that exclude each other
 
   cut_or_not : (f : LexFault) (ts : List Token) → lexing.Outcome file bytes (Err f) → length bytes ≤ 1048576 → AreTokens file ts bytes → ⊥
   cut_or_not f ts o le a = let e : ◌≡◌ {A = Lexing} (Err f) (Ok ts) = cuts.one_outcome file bytes o (lexing.lexed ts le a) in cc
 
-  supported_or_not : (ts us : List Token) (c : Culprit) → AreTokens file ts bytes → AreTokens file us bytes → Judged IsUnsupported ts (Some c)
+  supported_or_not : (ts us : List Token) (c : Culprit) → AreTokens file ts bytes → AreTokens file us bytes →
+      Judged IsUnsupported ts (Some c)
       → Judged IsUnsupported us None → ⊥
-  supported_or_not ts us c a b h g = no_both g (subst (λ (xs : List Token). Judged IsUnsupported xs (Some c)) (same_tokens file ts us bytes a b) h)
+  supported_or_not ts us c a b h g =
+      no_both g (subst (λ (xs : List Token). Judged IsUnsupported xs (Some c)) (same_tokens file ts us bytes a b) h)
 
   spelled_or_not : (ts : List Token) (f : File) → AreTokens file ts bytes → ((g : File) → files.Spells g ts → ⊥) → Spells file bytes f → ⊥
   spelled_or_not ts f a none s = none f (subst (files.Spells f) (same_tokens file s.tokens ts bytes s.cut a) s.spelled)
 
   -- ---- the same row
 
-  same_fault : (f g : LexFault) (a b : Answer) → lexing.Outcome file bytes (Err f) → lexing.Outcome file bytes (Err g) → told f ≡ Some a → told g ≡ Some b → a ≡ b
+  same_fault : (f g : LexFault) (a b : Answer) → lexing.Outcome file bytes (Err f) → lexing.Outcome file bytes (Err g) → told f ≡ Some a →
+      told g ≡ Some b → a ≡ b
   same_fault f g a b o p is also =
       let e : ◌≡◌ {A = Lexing} (Err f) (Err g) = cuts.one_outcome file bytes o p in
       let same : f ≡ g = cc in
@@ -81,7 +85,8 @@ module _ (file : ℕ) (bytes : List ℕ) where
       → ◌≡◌ {A = Answer} (Unsupported p v) (Unsupported q w)
   same_text ts us p q v w a b h g =
       let same : ◌≡◌ {A = Option Culprit} (Some (culprit p v)) (Some (culprit q w)) =
-      one_answer single (subst (λ (xs : List Token). Judged IsUnsupported xs (Some (culprit p v))) (same_tokens file ts us bytes a b) h) g in
+      one_answer single (subst (λ (xs : List Token). Judged IsUnsupported xs (Some (culprit p v))) (same_tokens file ts us bytes a b) h) g
+      in
       let places : p ≡ q = cc in
       let texts : v ≡ w = cc in
       λ i. Unsupported (places i) (texts i)

@@ -1,5 +1,6 @@
 -- Arguments are read exactly.
-use Rattle.std.proofs.Common.{◌≡◌, ℕ, zero, suc, ◌<◌, ◌≤◌, List, [], ◌∷◌, ◌++◌, length, true, false, Some, refl, ap, ◌∙◌, subst, append_assoc, length-append, arith, inl, inr}
+use Rattle.std.proofs.Common.{◌≡◌, ℕ, zero, suc, ◌<◌, ◌≤◌, List, [], ◌∷◌, ◌++◌, length, true, false, Some, refl, ap, ◌∙◌, subst}
+use Rattle.std.proofs.Common.{append_assoc, length-append, arith, inl, inr}
 use Rattle.mg_text.specs.declared.place.Place.{Place}
 use Rattle.mg_read.specs.Reader.{all_of}
 use Rattle.mg_read.proofs.Steps.{bind_some, some_is, none_is_not, chosen, Takes}
@@ -119,14 +120,17 @@ module _ (f : Reads) (G : Language) (d : ℕ) (reading : Reading f (Within G d))
         holds = ((one.front, more.front, refl, one.holds.0, r.0), omega (arith, one.holds.1, r.1));
       })
 
-  args_complete : (e : Expr) (more : Exprs) (ts rest : List Token) → Ends 6 rest → is_sign signs.Comma rest ≡ false → AreArgs G (Argument e more) ts → depth_of_args (Argument e more) ≤ d
+  args_complete : (e : Expr) (more : Exprs) (ts rest : List Token) → Ends 6 rest → is_sign signs.Comma rest ≡ false →
+      AreArgs G (Argument e more) ts → depth_of_args (Argument e more) ≤ d
       → args_with f (ts ++ rest) ≡ Some (e ∷ list_of more, rest)
   unfolding args_with
   args_complete e more ts rest fine stops (us, vs, parts, g, others) le =
       let others_each = more_each more vs others (omega arith) in
-      let follows = each_follows (is_sign signs.Comma) (next_arg_with f) NextArg (Ends 6) next_exact next_starts (list_of more) vs rest fine others_each in
+      let follows = each_follows (is_sign signs.Comma) (next_arg_with f) NextArg (Ends 6) next_exact next_starts (list_of more) vs rest fine
+      others_each in
       let first = reading.exact.complete e us (vs ++ rest) follows (g, omega arith) in
-      let all = all_complete (is_sign signs.Comma) (next_arg_with f) NextArg (Ends 6) next_exact next_starts (list_of more) vs rest fine stops others_each in
+      let all = all_complete (is_sign signs.Comma) (next_arg_with f) NextArg (Ends 6) next_exact next_starts (list_of more) vs rest fine
+      stops others_each in
       rw (parts, append_assoc, first, all) refl
 
   closed_args_sound : (ts : List Token) (x : List Expr × List Token) → closed_args_with f ts ≡ Some x
@@ -136,13 +140,20 @@ module _ (f : Reads) (G : Language) (d : ℕ) (reading : Reading f (Within G d))
       elim (chosen (is_sign signs.CloseParen ts) _ _ (Some x) e) [
         | inl t ↦
             let c = bind_some (sign_at signs.CloseParen ts) _ x t.1 in
-            subst (λ (y : List Expr × List Token). Takes (λ us. (b : Place) × (vs : List Token) × (us ≡ vs ++ sign b signs.CloseParen ∷ []) × Spelled y.0 vs) ts y.1) (some_is _ x c.2)
-            (record { front = sign c.0.0 signs.CloseParen ∷ []; parts = sign_is signs.CloseParen ts c.0 c.1; holds = (c.0.0, [], refl, (refl, omega arith)) })
+            subst (λ (y : List Expr × List Token). Takes (λ us. (b : Place) × (vs : List Token) × (us ≡ vs ++ sign b signs.CloseParen ∷ [])
+            × Spelled y.0 vs) ts y.1) (some_is _ x c.2)
+            (record {
+              front = sign c.0.0 signs.CloseParen ∷ [];
+              parts = sign_is signs.CloseParen ts c.0 c.1;
+              holds =
+                  (c.0.0, [], refl, (refl, omega arith));
+            })
         | inr t ↦
             let a = bind_some (args_with f ts) _ x t.1 in
             let c = bind_some (sign_at signs.CloseParen a.0.1) _ x a.2 in
             let one = args_sound ts a.0 a.1 in
-            subst (λ (y : List Expr × List Token). Takes (λ us. (b : Place) × (vs : List Token) × (us ≡ vs ++ sign b signs.CloseParen ∷ []) × Spelled y.0 vs) ts y.1) (some_is _ x c.2)
+            subst (λ (y : List Expr × List Token). Takes (λ us. (b : Place) × (vs : List Token) × (us ≡ vs ++ sign b signs.CloseParen ∷ [])
+            × Spelled y.0 vs) ts y.1) (some_is _ x c.2)
             (record {
               front = one.front ++ sign c.0.0 signs.CloseParen ∷ [];
               parts = glue one.front (sign c.0.0 signs.CloseParen ∷ []) c.0.1 one.parts (sign_is signs.CloseParen a.0.1 c.0 c.1);
@@ -178,7 +189,8 @@ module _ (f : Reads) (G : Language) (d : ℕ) (reading : Reading f (Within G d))
       → arguments_with m f (ts ++ rest) ≡ Some (list_of args, rest)
   unfolding arguments_with
   arguments_complete zero args ts rest (less, a, b, us, parts, h) le = absurd (omega arith)
-  arguments_complete (suc m) args ts rest (less, a, b, us, parts, h) le = rw (parts, append_assoc, closed_args_complete args b us rest h le) refl
+  arguments_complete (suc m) args ts rest (less, a, b, us, parts, h) le = rw (parts, append_assoc, closed_args_complete args b us rest h le)
+      refl
 
   pub closed_sound : (ts : List Token) (x : Expr × List Token) → closed_with f ts ≡ Some x
       → Takes (λ us. (b : Place) × (vs : List Token) × (us ≡ vs ++ sign b signs.CloseParen ∷ []) × Within G d x.0 vs) ts x.1
@@ -187,13 +199,15 @@ module _ (f : Reads) (G : Language) (d : ℕ) (reading : Reading f (Within G d))
       let a = bind_some (f ts) _ x e in
       let c = bind_some (sign_at signs.CloseParen a.0.1) _ x a.2 in
       let one = reading.exact.sound ts a.0 a.1 in
-      subst (λ (y : Expr × List Token). Takes (λ us. (b : Place) × (vs : List Token) × (us ≡ vs ++ sign b signs.CloseParen ∷ []) × Within G d y.0 vs) ts y.1) (some_is _ x c.2)
+      subst (λ (y : Expr × List Token). Takes (λ us. (b : Place) × (vs : List Token) × (us ≡ vs ++ sign b signs.CloseParen ∷ [])
+      × Within G d y.0 vs) ts y.1) (some_is _ x c.2)
       (record {
         front = one.front ++ sign c.0.0 signs.CloseParen ∷ [];
         parts = glue one.front (sign c.0.0 signs.CloseParen ∷ []) c.0.1 one.parts (sign_is signs.CloseParen a.0.1 c.0 c.1);
         holds = (c.0.0, one.front, refl, one.holds);
       })
 
-  pub closed_complete : (e : Expr) (b : Place) (us rest : List Token) → Within G d e us → closed_with f (us ++ sign b signs.CloseParen ∷ rest) ≡ Some (e, rest)
+  pub closed_complete : (e : Expr) (b : Place) (us rest : List Token) → Within G d e us →
+      closed_with f (us ++ sign b signs.CloseParen ∷ rest) ≡ Some (e, rest)
   unfolding closed_with
   closed_complete e b us rest h = rw (reading.exact.complete e us (sign b signs.CloseParen ∷ rest) (before_close b rest) h) refl

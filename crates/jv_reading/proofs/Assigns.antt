@@ -1,5 +1,6 @@
 -- Assignments, and expressions as statements, are read exactly.
-use Rattle.std.proofs.Common.{◌≡◌, ℕ, suc, ◌+◌, ◌≤◌, List, [], ◌∷◌, ◌++◌, Bool, true, false, Option, Some, None, refl, sym, ap, ◌∙◌, subst, append_assoc, arith, inl, inr}
+use Rattle.std.proofs.Common.{◌≡◌, ℕ, suc, ◌+◌, ◌≤◌, List, [], ◌∷◌, ◌++◌, Bool, true, false, Option, Some, None, refl, sym, ap, ◌∙◌, subst}
+use Rattle.std.proofs.Common.{append_assoc, arith, inl, inr}
 use Rattle.std.specs.Prelude.{◌&&◌, leb, codes}
 use Rattle.std.specs.Str.{bytes_eq}
 use Rattle.std.proofs.lemmas.Bool.{leb-true, le-leb}
@@ -12,7 +13,8 @@ use Rattle.jv_tree.specs.declared.token.Sign.TheVariants as signs
 use Rattle.jv_tree.specs.declared.token.TokenKind.{TokenKind}
 use Rattle.jv_tree.specs.declared.token.TokenKind.TheVariants as kinds
 use Rattle.jv_tree.specs.declared.token.Token.{Token}
-use Rattle.jv_tree.specs.Source.{Expr, Int, Truth, Text, Null, This, Variable, Member, Neg, Not, Binary, Call, MethodCall, New, Exprs, NoExpr, Argument, place_of}
+use Rattle.jv_tree.specs.Source.{Expr, Int, Truth, Text, Null, This, Variable, Member, Neg, Not, Binary, Call, MethodCall, New, Exprs}
+use Rattle.jv_tree.specs.Source.{NoExpr, Argument, place_of}
 use Rattle.jv_tree.specs.Source.{Stmt, Assign, Print, Eval}
 use Rattle.jv_tree.specs.Depth.{depth, depth_of_args}
 use Rattle.jv_tree.specs.Tokens.{word, sign, IsName, BeginsAt}
@@ -22,7 +24,8 @@ use Rattle.jv_tree.specs.Expressions.{IsInner, IsPost}
 use Rattle.jv_tree.specs.Sugar.{compound, counter, changed, one_at, is_out, only_argument, printed, is_call}
 use Rattle.jv_tree.specs.Statements.{IsFree, IsTarget}
 use Rattle.jv_reading.specs.Exprs.{post_at}
-use Rattle.jv_reading.specs.Stmts.{ended_at, target_at, compound_kind, compound_at, counter_kind, counter_at, is_counter, assigned, change_at, assign_at, place_ahead, evaluated_by, evaluated, evaluation_at}
+use Rattle.jv_reading.specs.Stmts.{ended_at, target_at, compound_kind, compound_at, counter_kind, counter_at, is_counter, assigned}
+use Rattle.jv_reading.specs.Stmts.{change_at, assign_at, place_ahead, evaluated_by, evaluated, evaluation_at}
 use Rattle.jv_reading.proofs.Steps.{after, glue, sign_is, word_is, name_is, name_is_not}
 use Rattle.jv_reading.proofs.Primaries.{no_name_this, depth_pos}
 use Rattle.jv_reading.proofs.Exprs.{post_at_exact}
@@ -30,24 +33,30 @@ use Rattle.jv_reading.proofs.StmtParts.{ended_exact, DeepStmt}
 
 -- ---- the signs of assignments
 
-compound_is : (ts : List Token) (x : Op × List Token) → compound_at ts ≡ Some x → (p : Place) × (s : Sign) × (ts ≡ sign p s ∷ x.1) × (compound s ≡ Some x.0)
+compound_is : (ts : List Token) (x : Op × List Token) → compound_at ts ≡ Some x → (p : Place) × (s : Sign) × (ts ≡ sign p s ∷ x.1)
+    × (compound s ≡ Some x.0)
 compound_is [] x e = absurd (none_is_not x e)
 compound_is (t ∷ ts) x e = by_kind t.place t.kind e where
-  by_kind : (p : Place) (k : TokenKind) → compound_kind k ts ≡ Some x → (q : Place) × (s : Sign) × (record { kind = k; place = p } ∷ ts ≡ sign q s ∷ x.1) × (compound s ≡ Some x.0)
+  by_kind : (p : Place) (k : TokenKind) → compound_kind k ts ≡ Some x → (q : Place) × (s : Sign)
+      × (record { kind = k; place = p } ∷ ts ≡ sign q s ∷ x.1) × (compound s ≡ Some x.0)
   by_kind p (kinds.Sign s) e =
       let o = bind_some (compound s) _ x e in
-      subst (λ (y : Op × List Token). (q : Place) × (r : Sign) × (sign p s ∷ ts ≡ sign q r ∷ y.1) × (compound r ≡ Some y.0)) (some_is (o.0, ts) x o.2) (p, s, refl, o.1)
+      subst (λ (y : Op × List Token). (q : Place) × (r : Sign) × (sign p s ∷ ts ≡ sign q r ∷ y.1) × (compound r ≡ Some y.0))
+      (some_is (o.0, ts) x o.2) (p, s, refl, o.1)
   by_kind p (kinds.Word w) e = absurd (none_is_not x e)
   by_kind p (kinds.Number n) e = absurd (none_is_not x e)
   by_kind p (kinds.Text t) e = absurd (none_is_not x e)
 
-counter_is : (ts : List Token) (x : (Place × Op) × List Token) → counter_at ts ≡ Some x → (s : Sign) × (ts ≡ sign x.0.0 s ∷ x.1) × (counter s ≡ Some x.0.1)
+counter_is : (ts : List Token) (x : (Place × Op) × List Token) → counter_at ts ≡ Some x → (s : Sign) × (ts ≡ sign x.0.0 s ∷ x.1)
+    × (counter s ≡ Some x.0.1)
 counter_is [] x e = absurd (none_is_not x e)
 counter_is (t ∷ ts) x e = by_kind t.place t.kind e where
-  by_kind : (p : Place) (k : TokenKind) → counter_kind p k ts ≡ Some x → (s : Sign) × (record { kind = k; place = p } ∷ ts ≡ sign x.0.0 s ∷ x.1) × (counter s ≡ Some x.0.1)
+  by_kind : (p : Place) (k : TokenKind) → counter_kind p k ts ≡ Some x →
+      (s : Sign) × (record { kind = k; place = p } ∷ ts ≡ sign x.0.0 s ∷ x.1) × (counter s ≡ Some x.0.1)
   by_kind p (kinds.Sign s) e =
       let o = bind_some (counter s) _ x e in
-      subst (λ (y : (Place × Op) × List Token). (r : Sign) × (sign p s ∷ ts ≡ sign y.0.0 r ∷ y.1) × (counter r ≡ Some y.0.1)) (some_is ((p, o.0), ts) x o.2) (s, refl, o.1)
+      subst (λ (y : (Place × Op) × List Token). (r : Sign) × (sign p s ∷ ts ≡ sign y.0.0 r ∷ y.1) × (counter r ≡ Some y.0.1))
+      (some_is ((p, o.0), ts) x o.2) (s, refl, o.1)
   by_kind p (kinds.Word w) e = absurd (none_is_not x e)
   by_kind p (kinds.Number n) e = absurd (none_is_not x e)
   by_kind p (kinds.Text t) e = absurd (none_is_not x e)
@@ -135,7 +144,8 @@ counter_alone signs.Tilde o e = absurd (none_is_not o e)
 
 -- ---- targets
 
-pub target_sound : (ts : List Token) (x : Expr × List Token) → target_at ts ≡ Some x → Takes (λ us. IsTarget x.0 us × (depth x.0 ≤ 2)) ts x.1
+pub target_sound : (ts : List Token) (x : Expr × List Token) → target_at ts ≡ Some x → Takes (λ us. IsTarget x.0 us × (depth x.0 ≤ 2)) ts
+    x.1
 unfolding target_at
 target_sound ts x e =
     elim (chosen (is_word (codes "this") ts) _ _ (Some x) e) [
@@ -144,7 +154,8 @@ target_sound ts x e =
           let b = bind_some (sign_at signs.Dot a.0.1) _ x a.2 in
           let n = bind_some (name_at b.0.1) _ x b.2 in
           let name = name_is b.0.1 n.0 n.1 in
-          subst (λ (y : Expr × List Token). Takes (λ us. IsTarget y.0 us × (depth y.0 ≤ 2)) ts y.1) (some_is (Member a.0.0 (This a.0.0) n.0.0.1, n.0.1) x n.2)
+          subst (λ (y : Expr × List Token). Takes (λ us. IsTarget y.0 us × (depth y.0 ≤ 2)) ts y.1)
+          (some_is (Member a.0.0 (This a.0.0) n.0.0.1, n.0.1) x n.2)
           (record {
             front = word a.0.0 (codes "this") ∷ sign b.0.0 signs.Dot ∷ word n.0.0.0 n.0.0.1 ∷ [];
             parts = after (word_is (codes "this") ts a.0 a.1) (after (sign_is signs.Dot a.0.1 b.0 b.1) name.0);
@@ -153,7 +164,8 @@ target_sound ts x e =
       | inr f ↦
           let n = bind_some (name_at ts) _ x f.1 in
           let name = name_is ts n.0 n.1 in
-          subst (λ (y : Expr × List Token). Takes (λ us. IsTarget y.0 us × (depth y.0 ≤ 2)) ts y.1) (some_is (Variable n.0.0.0 n.0.0.1, n.0.1) x n.2)
+          subst (λ (y : Expr × List Token). Takes (λ us. IsTarget y.0 us × (depth y.0 ≤ 2)) ts y.1)
+          (some_is (Variable n.0.0.0 n.0.0.1, n.0.1) x n.2)
           (record { front = word n.0.0.0 n.0.0.1 ∷ []; parts = name.0; holds = ((name.1, refl), omega arith) })
     ]
 
@@ -226,20 +238,27 @@ target_no_counter t us rest h = by_head (target_head t us h) where
 
 -- ---- assignments
 
-assigned_is : (d : ℕ) (p : Place) (t v : Expr) (ts : List Token) (x : Stmt × List Token) → assigned d p t v ts ≡ Some x → ((Assign p t v, ts) ≡ x) × (depth t ≤ d) × (depth v ≤ d)
+assigned_is : (d : ℕ) (p : Place) (t v : Expr) (ts : List Token) (x : Stmt × List Token) → assigned d p t v ts ≡ Some x →
+    ((Assign p t v, ts) ≡ x) × (depth t ≤ d) × (depth v ≤ d)
 assigned_is d p t v ts x e =
     elim (chosen (leb (depth t) d && leb (depth v) d) _ _ (Some x) e) [
-      | inl h ↦ let both = and_is (leb (depth t) d) (leb (depth v) d) h.0 in (some_is (Assign p t v, ts) x h.1, leb-true (depth t) d both.0, leb-true (depth v) d both.1)
+      | inl h ↦ let both = and_is (leb (depth t) d) (leb (depth v) d) h.0 in (
+        some_is (Assign p t v, ts) x h.1,
+        leb-true (depth t) d both.0,
+        leb-true (depth v) d both.1,
+      )
       | inr f ↦ absurd (none_is_not x f.1)
     ] where
       and_is : (a b : Bool) → (a && b) ≡ true → (a ≡ true) × (b ≡ true)
       and_is true b h = (refl, h)
       and_is false b h = absurd cc
 
-assigned_again : (d : ℕ) (p : Place) (t v : Expr) (ts : List Token) → depth t ≤ d → depth v ≤ d → assigned d p t v ts ≡ Some (Assign p t v, ts)
+assigned_again : (d : ℕ) (p : Place) (t v : Expr) (ts : List Token) → depth t ≤ d → depth v ≤ d →
+    assigned d p t v ts ≡ Some (Assign p t v, ts)
 assigned_again d p t v ts a b = rw (le-leb (depth t) d a, le-leb (depth v) d b) refl
 
-change_sound : (d : ℕ) (t : Expr) (us ts : List Token) (x : Stmt × List Token) → IsTarget t us → change_at d t ts ≡ Some x → Takes (λ vs. DeepStmt (suc d) x.0 (us ++ vs)) ts x.1
+change_sound : (d : ℕ) (t : Expr) (us ts : List Token) (x : Stmt × List Token) → IsTarget t us → change_at d t ts ≡ Some x →
+    Takes (λ vs. DeepStmt (suc d) x.0 (us ++ vs)) ts x.1
 unfolding change_at
 change_sound d t us ts x target e =
     elim (chosen (is_sign signs.Assign ts) _ _ (Some x) e) [
@@ -253,7 +272,10 @@ change_sound d t us ts x target e =
           (record {
             front = sign a.0.0 signs.Assign ∷ one.front;
             parts = after (sign_is signs.Assign ts a.0 a.1) one.parts;
-            holds = (inl (refl, a.0.0, c, us, vs, ap (λ (z : List Token). us ++ sign a.0.0 signs.Assign ∷ z) parts, target, free), omega (arith, made.1, made.2));
+            holds = (
+              inl (refl, a.0.0, c, us, vs, ap (λ (z : List Token). us ++ sign a.0.0 signs.Assign ∷ z) parts, target, free),
+              omega (arith, made.1, made.2),
+            );
           })
       | inr f ↦ elim (chosen (is_counter ts) _ _ (Some x) f.1) [
         | inl h ↦
@@ -278,7 +300,24 @@ change_sound d t us ts x target e =
             (record {
               front = sign at.0 at.1 ∷ one.front;
               parts = after at.2 one.parts;
-              holds = (inr (inl (refl, at.1, o.0.0, v.0.0, at.0, c, us, vs, ap (λ (z : List Token). us ++ sign at.0 at.1 ∷ z) parts, at.3, refl, target, free)), omega (arith, made.1, made.2));
+              holds = (
+                inr (inl (
+                  refl,
+                  at.1,
+                  o.0.0,
+                  v.0.0,
+                  at.0,
+                  c,
+                  us,
+                  vs,
+                  ap (λ (z : List Token). us ++ sign at.0 at.1 ∷ z) parts,
+                  at.3,
+                  refl,
+                  target,
+                  free,
+                )),
+                omega (arith, made.1, made.2),
+              );
             })
       ]
     ]
@@ -308,7 +347,8 @@ assign_sound d ts x e =
           record { front = one.front ++ more.front; parts = glue one.front more.front x.1 one.parts more.parts; holds = more.holds }
     ]
 
-pub assign_complete : (d : ℕ) (p : Place) (t v : Expr) (ts rest : List Token) → DeepStmt (suc d) (Assign p t v) ts → assign_at d (ts ++ rest) ≡ Some (Assign p t v, rest)
+pub assign_complete : (d : ℕ) (p : Place) (t v : Expr) (ts rest : List Token) → DeepStmt (suc d) (Assign p t v) ts →
+    assign_at d (ts ++ rest) ≡ Some (Assign p t v, rest)
 unfolding assign_at change_at
 assign_complete d p t v ts rest (inl (place, a, b, us, vs, parts, target, free), le) =
     let behind : List Token = sign a signs.Assign ∷ ((vs ++ sign b signs.Semicolon ∷ []) ++ rest) in
@@ -323,14 +363,16 @@ assign_complete d p t v ts rest (inr (inl (place, s, o, e, a, b, us, vs, parts, 
     let alone = compound_alone s o comp in
     let deep : suc (max (depth t) (depth e)) ≤ d = omega (arith, ap depth is) in
     let value = (ended_exact d).complete e (vs ++ sign b signs.Semicolon ∷ []) rest tt (b, vs, refl, free, omega arith) in
-    rw (parts, append_assoc, quiet, reads, alone.0, alone.1, comp, value, place, is) (assigned_again d (place_of t) t (changed o t e) rest (omega arith) deep)
+    rw (parts, append_assoc, quiet, reads, alone.0, alone.1, comp, value, place, is) (assigned_again d (place_of t) t (changed o t e) rest
+    (omega arith) deep)
 assign_complete d p t v ts rest (inr (inr (inl (place, s, o, a, b, us, parts, count, is, target))), le) =
     let behind : List Token = sign a s ∷ sign b signs.Semicolon ∷ rest in
     let quiet = target_no_counter t us behind target in
     let reads = target_complete t us behind target in
     let alone = counter_alone s o count in
     let deep : suc (max (depth t) 1) ≤ d = omega (arith, ap depth is) in
-    rw (parts, append_assoc, quiet, reads, alone.0, count, place, is) (assigned_again d (place_of t) t (changed o t (one_at t)) rest (omega arith) deep)
+    rw (parts, append_assoc, quiet, reads, alone.0, count, place, is) (assigned_again d (place_of t) t (changed o t (one_at t)) rest
+    (omega arith) deep)
 assign_complete d p t v ts rest (inr (inr (inr (s, o, b, us, parts, count, is, target))), le) =
     let reads = target_complete t us (sign b signs.Semicolon ∷ rest) target in
     let deep : suc (max (depth t) 1) ≤ d = omega (arith, ap depth is) in
@@ -338,7 +380,8 @@ assign_complete d p t v ts rest (inr (inr (inr (s, o, b, us, parts, count, is, t
 
 -- ---- expressions as statements
 
-begins_at : (p c : Place) (us rest : List Token) → place_ahead ((us ++ sign c signs.Semicolon ∷ []) ++ rest) ≡ Some p → BeginsAt p (us ++ sign c signs.Semicolon ∷ [])
+begins_at : (p c : Place) (us rest : List Token) → place_ahead ((us ++ sign c signs.Semicolon ∷ []) ++ rest) ≡ Some p →
+    BeginsAt p (us ++ sign c signs.Semicolon ∷ [])
 begins_at p c [] rest h = some_is c p h
 begins_at p c (t ∷ us) rest h = some_is t.place p h
 
@@ -438,7 +481,8 @@ printed_depth (Binary p o l r) f h = absurd (none_is_not f h)
 printed_depth (Call p n args) f h = absurd (none_is_not f h)
 printed_depth (MethodCall p r n args) e h =
     elim (chosen (is_out r && bytes_eq n (codes "println")) _ _ (Some e) h) [
-      | inl t ↦ let both = and_left (is_out r) (bytes_eq n (codes "println")) t.0 in ap suc (λ i. max (out_depth r both i) (only_depth args e t.1 i))
+      | inl t ↦ let both = and_left (is_out r) (bytes_eq n (codes "println")) t.0 in ap suc
+          (λ i. max (out_depth r both i) (only_depth args e t.1 i))
       | inr f ↦ absurd (none_is_not e f.1)
     ] where
       and_left : (a b : Bool) → (a && b) ≡ true → a ≡ true
@@ -447,7 +491,8 @@ printed_depth (MethodCall p r n args) e h =
 printed_depth (New p n) f h = absurd (none_is_not f h)
 
 -- what a statement of an expression is
-evaluated_is : (d : ℕ) (p : Place) (c : Expr) (s : Stmt) (us : List Token) (a : Place) → evaluated d p c ≡ Some s → IsPost 400 (IsInner 400) c us
+evaluated_is : (d : ℕ) (p : Place) (c : Expr) (s : Stmt) (us : List Token) (a : Place) → evaluated d p c ≡ Some s →
+    IsPost 400 (IsInner 400) c us
     → BeginsAt p (us ++ sign a signs.Semicolon ∷ []) → DeepStmt (suc d) s (us ++ sign a signs.Semicolon ∷ [])
 evaluated_is d p c s us a e post begins = by_printed (printed c) refl e where
   by_printed : (o : Option Expr) → printed c ≡ o → evaluated_by d p c o ≡ Some s → DeepStmt (suc d) s (us ++ sign a signs.Semicolon ∷ [])
@@ -484,7 +529,8 @@ evaluation_sound d ts x e =
     subst (λ (y : Stmt × List Token). Takes (DeepStmt (suc d) y.0) ts y.1) (some_is (s.0, a.0.1) x s.2)
     (record { front = one.front ++ end; parts = parts; holds = evaluated_is d p.0 c.0.0 s.0 one.front a.0.0 s.1 one.holds.0 begins })
 
-evaluation_reads : (d : ℕ) (p a : Place) (c : Expr) (s : Stmt) (us rest : List Token) → BeginsAt p (us ++ sign a signs.Semicolon ∷ []) → is_call c ≡ true → IsFree c us → depth c ≤ d + 2
+evaluation_reads : (d : ℕ) (p a : Place) (c : Expr) (s : Stmt) (us rest : List Token) → BeginsAt p (us ++ sign a signs.Semicolon ∷ []) →
+    is_call c ≡ true → IsFree c us → depth c ≤ d + 2
     → evaluated d p c ≡ Some s → evaluation_at d ((us ++ sign a signs.Semicolon ∷ []) ++ rest) ≡ Some (s, rest)
 unfolding evaluation_at
 evaluation_reads d p a c s us rest begins call free le is =
@@ -492,13 +538,15 @@ evaluation_reads d p a c s us rest begins call free le is =
     let reads = (post_at_exact 400 (d + 2)).complete c us (sign a signs.Semicolon ∷ rest) (refl, refl) (free_call c us call free, le) in
     rw (place, append_assoc, reads, is) refl
 
-pub print_complete : (d : ℕ) (p : Place) (e : Expr) (ts rest : List Token) → DeepStmt (suc d) (Print p e) ts → evaluation_at d (ts ++ rest) ≡ Some (Print p e, rest)
+pub print_complete : (d : ℕ) (p : Place) (e : Expr) (ts rest : List Token) → DeepStmt (suc d) (Print p e) ts →
+    evaluation_at d (ts ++ rest) ≡ Some (Print p e, rest)
 print_complete d p e ts rest ((begins, c, a, us, parts, free, is), le) =
     let deep : depth c ≤ d + 2 = omega (arith, printed_depth c e is, depth_pos e) in
     let made : evaluated d p c ≡ Some (Print p e) = rw (is, le-leb (depth e) d (omega arith)) refl in
     rw parts (evaluation_reads d p a c (Print p e) us rest (subst (BeginsAt p) parts begins) (printed_call c e is) free deep made)
 
-pub eval_complete : (d : ℕ) (p : Place) (e : Expr) (ts rest : List Token) → DeepStmt (suc d) (Eval p e) ts → evaluation_at d (ts ++ rest) ≡ Some (Eval p e, rest)
+pub eval_complete : (d : ℕ) (p : Place) (e : Expr) (ts rest : List Token) → DeepStmt (suc d) (Eval p e) ts →
+    evaluation_at d (ts ++ rest) ≡ Some (Eval p e, rest)
 eval_complete d p e ts rest ((begins, c, a, us, parts, free, (same, call, is)), le) =
     let deep : depth c ≤ d + 2 = omega (arith, ap depth same) in
     let made : evaluated d p c ≡ Some (Eval p e) = rw (is, call, same, le-leb (depth e) d (omega arith)) refl in

@@ -1,5 +1,6 @@
 -- How expressions begin.
-use Rattle.std.proofs.Common.{◌≡◌, ℕ, zero, suc, ◌<◌, List, [], ◌∷◌, ◌++◌, length, Bool, true, false, refl, sym, ap, ◌∙◌, subst, append_assoc, arith, inl, inr}
+use Rattle.std.proofs.Common.{◌≡◌, ℕ, zero, suc, ◌<◌, List, [], ◌∷◌, ◌++◌, length, Bool, true, false, refl, sym, ap, ◌∙◌, subst}
+use Rattle.std.proofs.Common.{append_assoc, arith, inl, inr}
 use Rattle.std.specs.Prelude.{codes, if◌then◌else◌}
 use Rattle.std.specs.Str.{bytes_eq}
 use Rattle.std.proofs.Common.{true≢false}
@@ -73,15 +74,33 @@ begins_no_word w us free b = rw b.parts (by_kind b.token.kind b.kind) where
 module _ (m : ℕ) (G : Language) where
   simple_begins : (e : Expr) (us : List Token) → IsSimple m G e us → Begins us
   simple_begins (Int p z) us (inl (n, less, value, parts)) = record { token = number p n; others = []; parts = parts; kind = refl }
-  simple_begins (Int p z) us (inr (n, q, less, value, parts)) = record { token = sign p signs.Minus; others = number q n ∷ []; parts = parts; kind = refl }
+  simple_begins (Int p z) us (inr (n, q, less, value, parts)) = record {
+    token = sign p signs.Minus;
+    others = number q n ∷ [];
+    parts =
+        parts;
+    kind = refl;
+  }
   simple_begins (Truth p true) us parts = record { token = word p (codes "true"); others = []; parts = parts; kind = rw no_name_true refl }
-  simple_begins (Truth p false) us parts = record { token = word p (codes "false"); others = []; parts = parts; kind = rw no_name_false refl }
+  simple_begins (Truth p false) us parts = record {
+    token = word p (codes "false");
+    others = [];
+    parts = parts;
+    kind =
+        rw no_name_false refl;
+  }
   simple_begins (Text p t) us parts = record { token = quoted p t; others = []; parts = parts; kind = refl }
   simple_begins (Null p) us parts = record { token = word p (codes "null"); others = []; parts = parts; kind = rw no_name_null refl }
   simple_begins (This p) us parts = record { token = word p (codes "this"); others = []; parts = parts; kind = rw no_name_this refl }
   simple_begins (Variable p n) us (name, parts) = record { token = word p n; others = []; parts = parts; kind = rw name refl }
   simple_begins (Call p n args) us (name, vs, parts, h) = record { token = word p n; others = vs; parts = parts; kind = rw name refl }
-  simple_begins (New p n) us (less, name, a, b, c, parts) = record { token = word p (codes "new"); others = _; parts = parts; kind = rw no_name_new refl }
+  simple_begins (New p n) us (less, name, a, b, c, parts) = record {
+    token = word p (codes "new");
+    others = _;
+    parts = parts;
+    kind =
+        rw no_name_new refl;
+  }
   simple_begins (Member p e n) us h = absurd h
   simple_begins (Neg p e) us h = absurd h
   simple_begins (Not p e) us h = absurd h
@@ -90,7 +109,12 @@ module _ (m : ℕ) (G : Language) where
 
   primary_begins : (e : Expr) (us : List Token) → IsPrimary m G e us → Begins us
   primary_begins e us (inl h) = simple_begins e us h
-  primary_begins e us (inr (a, b, vs, parts, h)) = record { token = sign a signs.OpenParen; others = vs ++ sign b signs.CloseParen ∷ []; parts = parts; kind = refl }
+  primary_begins e us (inr (a, b, vs, parts, h)) = record {
+    token = sign a signs.OpenParen;
+    others = vs ++ sign b signs.CloseParen ∷ [];
+    parts = parts;
+    kind = refl;
+  }
 
   pub post_begins : (e : Expr) (us : List Token) → IsPost m G e us → Begins us
   post_begins (Int p z) us h = primary_begins (Int p z) us h
@@ -100,13 +124,15 @@ module _ (m : ℕ) (G : Language) where
   post_begins (This p) us h = primary_begins (This p) us h
   post_begins (Variable p n) us h = primary_begins (Variable p n) us h
   post_begins (Member p e n) us (inl h) = primary_begins (Member p e n) us h
-  post_begins (Member p e n) us (inr (name, place, a, b, vs, parts, h)) = subst Begins (sym parts) (begins_more vs (sign a signs.Dot ∷ word b n ∷ []) (post_begins e vs h))
+  post_begins (Member p e n) us (inr (name, place, a, b, vs, parts, h)) =
+      subst Begins (sym parts) (begins_more vs (sign a signs.Dot ∷ word b n ∷ []) (post_begins e vs h))
   post_begins (Neg p e) us h = primary_begins (Neg p e) us h
   post_begins (Not p e) us h = primary_begins (Not p e) us h
   post_begins (Binary p o l r) us h = primary_begins (Binary p o l r) us h
   post_begins (Call p n args) us h = primary_begins (Call p n args) us h
   post_begins (MethodCall p e n args) us (inl h) = primary_begins (MethodCall p e n args) us h
-  post_begins (MethodCall p e n args) us (inr (name, place, a, b, vs, ws, parts, h, given)) = subst Begins (sym parts) (begins_more vs (sign a signs.Dot ∷ word b n ∷ ws) (post_begins e vs h))
+  post_begins (MethodCall p e n args) us (inr (name, place, a, b, vs, ws, parts, h, given)) =
+      subst Begins (sym parts) (begins_more vs (sign a signs.Dot ∷ word b n ∷ ws) (post_begins e vs h))
   post_begins (New p n) us h = primary_begins (New p n) us h
 
   pub unary_begins : (e : Expr) (us : List Token) → IsUnary m G e us → Begins us
@@ -126,7 +152,8 @@ module _ (m : ℕ) (G : Language) where
   unary_begins (MethodCall p e n args) us h = post_begins (MethodCall p e n args) us h
   unary_begins (New p n) us h = post_begins (New p n) us h
 
-  chain_begins : (k : ℕ) (part : Language) → ((e : Expr) (us : List Token) → part e us → Begins us) → (e : Expr) (us : List Token) → IsChain k part e us → Begins us
+  chain_begins : (k : ℕ) (part : Language) → ((e : Expr) (us : List Token) → part e us → Begins us) → (e : Expr) (us : List Token) →
+      IsChain k part e us → Begins us
   chain_begins k part begins (Int p z) us h = begins (Int p z) us h
   chain_begins k part begins (Truth p b) us h = begins (Truth p b) us h
   chain_begins k part begins (Text p t) us h = begins (Text p t) us h
@@ -179,11 +206,13 @@ module _ (m : ℕ) (G : Language) where
   post_plain (This p) us rest h = primary_plain (This p) us rest h
   post_plain (Variable p n) us rest h = primary_plain (Variable p n) us rest h
   post_plain (Member p e n) us rest (inl h) = primary_plain (Member p e n) us rest h
-  post_plain (Member p e n) us rest (inr (name, place, a, b, vs, parts, h)) = rw (parts, append_assoc) (post_plain e vs (sign a signs.Dot ∷ word b n ∷ rest) h)
+  post_plain (Member p e n) us rest (inr (name, place, a, b, vs, parts, h)) =
+      rw (parts, append_assoc) (post_plain e vs (sign a signs.Dot ∷ word b n ∷ rest) h)
   post_plain (Neg p e) us rest h = primary_plain (Neg p e) us rest h
   post_plain (Not p e) us rest h = primary_plain (Not p e) us rest h
   post_plain (Binary p o l r) us rest h = primary_plain (Binary p o l r) us rest h
   post_plain (Call p n args) us rest h = primary_plain (Call p n args) us rest h
   post_plain (MethodCall p e n args) us rest (inl h) = primary_plain (MethodCall p e n args) us rest h
-  post_plain (MethodCall p e n args) us rest (inr (name, place, a, b, vs, ws, parts, h, given)) = rw (parts, append_assoc) (post_plain e vs (sign a signs.Dot ∷ word b n ∷ (ws ++ rest)) h)
+  post_plain (MethodCall p e n args) us rest (inr (name, place, a, b, vs, ws, parts, h, given)) =
+      rw (parts, append_assoc) (post_plain e vs (sign a signs.Dot ∷ word b n ∷ (ws ++ rest)) h)
   post_plain (New p n) us rest h = primary_plain (New p n) us rest h

@@ -1,5 +1,6 @@
 -- Operators between expressions are read exactly.
-use Rattle.std.proofs.Common.{◌≡◌, ℕ, zero, suc, ◌-◌, ◌<◌, ◌≤◌, List, [], ◌∷◌, ◌++◌, length, true, eqb, Option, Some, None, refl, sym, ap, ◌∙◌, subst, append_assoc, append-nil, length-append, arith, inl, inr}
+use Rattle.std.proofs.Common.{◌≡◌, ℕ, zero, suc, ◌-◌, ◌<◌, ◌≤◌, List, [], ◌∷◌, ◌++◌, length, true, eqb, Option, Some, None, refl, sym, ap}
+use Rattle.std.proofs.Common.{◌∙◌, subst, append_assoc, append-nil, length-append, arith, inl, inr}
 use Rattle.mg_text.specs.declared.place.Place.{Place}
 use Rattle.mg_read.specs.Reader.{◌>>=◌}
 use Rattle.mg_read.proofs.Steps.{bind_some, some_is, none_is_not, chosen, Takes}
@@ -80,23 +81,27 @@ operator_of ops.And = refl
 operator_of ops.Or = refl
 
 -- an operator that was read stands there
-op_is : (k : ℕ) (ts : List Token) (x : Op × List Token) → op_at k ts ≡ Some x → (p : Place) × (ts ≡ sign p (sign_of x.0) ∷ x.1) × (looseness x.0 ≡ k)
+op_is : (k : ℕ) (ts : List Token) (x : Op × List Token) → op_at k ts ≡ Some x → (p : Place) × (ts ≡ sign p (sign_of x.0) ∷ x.1)
+    × (looseness x.0 ≡ k)
 op_is k [] x e = absurd (none_is_not x e)
 op_is k (t ∷ ts) x e = by_kind t.place t.kind e where
   Stands : Place → Sign → (Op × List Token) → Type 0
   Stands p s y = (q : Place) × (sign p s ∷ ts ≡ sign q (sign_of y.0) ∷ y.1) × (looseness y.0 ≡ k)
 
-  by_op : (p : Place) (s : Sign) (o : Option Op) → operator s ≡ o → op_if k o ts ≡ Some x → (q : Place) × (sign p s ∷ ts ≡ sign q (sign_of x.0) ∷ x.1) × (looseness x.0 ≡ k)
+  by_op : (p : Place) (s : Sign) (o : Option Op) → operator s ≡ o → op_if k o ts ≡ Some x →
+      (q : Place) × (sign p s ∷ ts ≡ sign q (sign_of x.0) ∷ x.1) × (looseness x.0 ≡ k)
   by_op p s None h e = absurd (none_is_not x e)
   by_op p s (Some o) h e =
       elim (chosen (eqb (looseness o) k) _ _ (Some x) e) [
         | inl t ↦
-            subst (λ (y : Op × List Token). (q : Place) × (sign p s ∷ ts ≡ sign q (sign_of y.0) ∷ y.1) × (looseness y.0 ≡ k)) (some_is (o, ts) x t.1)
+            subst (λ (y : Op × List Token). (q : Place) × (sign p s ∷ ts ≡ sign q (sign_of y.0) ∷ y.1) × (looseness y.0 ≡ k))
+            (some_is (o, ts) x t.1)
             (p, ap (λ (z : Sign). sign p z ∷ ts) (operator_is s o h), eqb-true (looseness o) k t.0)
         | inr f ↦ absurd (none_is_not x f.1)
       ]
 
-  by_kind : (p : Place) (h : TokenKind) → op_in k h ts ≡ Some x → (q : Place) × (record { kind = h; place = p } ∷ ts ≡ sign q (sign_of x.0) ∷ x.1) × (looseness x.0 ≡ k)
+  by_kind : (p : Place) (h : TokenKind) → op_in k h ts ≡ Some x →
+      (q : Place) × (record { kind = h; place = p } ∷ ts ≡ sign q (sign_of x.0) ∷ x.1) × (looseness x.0 ≡ k)
   by_kind p (kinds.Sign s) e = by_op p s (operator s) refl e
   by_kind p (kinds.Word w) e = absurd (none_is_not x e)
   by_kind p (kinds.Number n) e = absurd (none_is_not x e)
@@ -143,7 +148,8 @@ module _ (k : ℕ) (part : ℕ → Reads) (P : Language) (exact : (d : ℕ) → 
   chain_base (MethodCall p e n args) us h = h
   chain_base (New p n) us h = h
 
-  step_sound : (e : Expr) (us ts : List Token) (x : Expr × List Token) → Chain e us → step e ts ≡ Some x → Takes (λ vs. Chain x.0 (us ++ vs)) ts x.1
+  step_sound : (e : Expr) (us ts : List Token) (x : Expr × List Token) → Chain e us → step e ts ≡ Some x →
+      Takes (λ vs. Chain x.0 (us ++ vs)) ts x.1
   unfolding joined_with
   step_sound e us ts x (chain, le) h =
       let o = bind_some (op_at k ts) _ x h in
@@ -170,12 +176,14 @@ module _ (k : ℕ) (part : ℕ → Reads) (P : Language) (exact : (d : ℕ) → 
       let same = ap (λ (y : Expr × List Token). length y.1) f.0 in
       omega (arith, op, right, same, length-append one.front r.0.1)
 
-  chain_sound : (ts : List Token) (x : Expr × List Token) → (part d ts >>= λ first. grown (is_op k) step first.0 first.1) ≡ Some x → Takes (Chain x.0) ts x.1
+  chain_sound : (ts : List Token) (x : Expr × List Token) → (part d ts >>= λ first. grown (is_op k) step first.0 first.1) ≡ Some x →
+      Takes (Chain x.0) ts x.1
   unfolding grown
   chain_sound ts x e =
       let s = bind_some (part d ts) _ x e in
       let one = (exact d).sound ts s.0 s.1 in
-      let more = grow_sound (is_op k) step Chain step_sound (suc (length s.0.1)) s.0.0 one.front s.0.1 x (chain_base s.0.0 one.front one.holds.0, one.holds.1) s.2 in
+      let more = grow_sound (is_op k) step Chain step_sound (suc (length s.0.1)) s.0.0 one.front s.0.1 x
+      (chain_base s.0.0 one.front one.holds.0, one.holds.1) s.2 in
       record { front = one.front ++ more.front; parts = glue one.front more.front x.1 one.parts more.parts; holds = more.holds }
 
   -- Behind the tokens of a chain the reader is at this chain, having begun with its first part.
@@ -191,9 +199,20 @@ module _ (k : ℕ) (part : ℕ → Reads) (P : Language) (exact : (d : ℕ) → 
 
   begun_alone : (e : Expr) (us rest : List Token) → Ends k rest → P e us → depth e ≤ d → Begun e us rest
   begun_alone e us rest fine h le =
-      record { first = e; front = us; back = []; parts = sym (append-nil us); begins = h; less = le; ends = fine; goes = Reaches-here (is_op k) step e rest }
+      record {
+        first = e;
+        front = us;
+        back = [];
+        parts = sym (append-nil us);
+        begins = h;
+        less = le;
+        ends = fine;
+        goes =
+            Reaches-here (is_op k) step e rest;
+      }
 
-  begun_more : (e f : Expr) (us vs rest : List Token) → Begun e us (vs ++ rest) → is_op k (vs ++ rest) ≡ true → step e (vs ++ rest) ≡ Some (f, rest) → 0 < length vs → Begun f (us ++ vs) rest
+  begun_more : (e f : Expr) (us vs rest : List Token) → Begun e us (vs ++ rest) → is_op k (vs ++ rest) ≡ true →
+      step e (vs ++ rest) ≡ Some (f, rest) → 0 < length vs → Begun f (us ++ vs) rest
   begun_more e f us vs rest b goes reads some =
       let together : (b.back ++ vs) ++ rest ≡ b.back ++ (vs ++ rest) = append_assoc b.back vs rest in
       let shorter : length rest < length (vs ++ rest) = omega (arith, length-append vs rest) in
@@ -227,14 +246,18 @@ module _ (k : ℕ) (part : ℕ → Reads) (P : Language) (exact : (d : ℕ) → 
       let before = begun l vs (tail ++ rest) ends left (omega arith) in
       let comes = op_again k o a (ws ++ rest) loose in
       let goes : is_op k (tail ++ rest) ≡ true = rw comes refl in
-      let whole : fits d (Binary (place_of l) o l r) rest ≡ Some (Binary p o l r, rest) = rw place (fits_again d (Binary (place_of l) o l r) rest le) in
-      let reads : step l (tail ++ rest) ≡ Some (Binary p o l r, rest) = rw (comes, (exact (d - 1)).complete r ws rest fine (right, omega arith)) whole in
-      subst (λ (z : List Token). Begun (Binary p o l r) z rest) (sym parts) (begun_more l (Binary p o l r) vs tail rest before goes reads (omega arith))
+      let whole : fits d (Binary (place_of l) o l r) rest ≡ Some (Binary p o l r, rest) =
+      rw place (fits_again d (Binary (place_of l) o l r) rest le) in
+      let reads : step l (tail ++ rest) ≡ Some (Binary p o l r, rest) =
+      rw (comes, (exact (d - 1)).complete r ws rest fine (right, omega arith)) whole in
+      subst (λ (z : List Token). Begun (Binary p o l r) z rest) (sym parts) (begun_more l (Binary p o l r) vs tail rest before goes reads
+      (omega arith))
   begun (Call p n args) us rest fine h le = begun_alone (Call p n args) us rest fine h le
   begun (MethodCall p e n args) us rest fine h le = begun_alone (MethodCall p e n args) us rest fine h le
   begun (New p n) us rest fine h le = begun_alone (New p n) us rest fine h le
 
-  chain_complete : (e : Expr) (ts rest : List Token) → Ends (suc k) rest → Chain e ts → (part d (ts ++ rest) >>= λ first. grown (is_op k) step first.0 first.1) ≡ Some (e, rest)
+  chain_complete : (e : Expr) (ts rest : List Token) → Ends (suc k) rest → Chain e ts →
+      (part d (ts ++ rest) >>= λ first. grown (is_op k) step first.0 first.1) ≡ Some (e, rest)
   chain_complete e ts rest fine (h, le) =
       let b = begun e ts rest fine.0 h le in
       let first = (exact d).complete b.first b.front (b.back ++ rest) b.ends (b.begins, b.less) in

@@ -1,5 +1,6 @@
 -- Declarations and files are read exactly.
-use Rattle.std.proofs.Common.{◌≡◌, ℕ, zero, suc, ◌<◌, ◌≤◌, List, [], ◌∷◌, ◌++◌, length, Bool, true, false, Option, Some, None, refl, sym, ap, ◌∙◌, subst, append_assoc, append-nil, length-append, arith, inl, inr, ◌⊎◌, true≢false}
+use Rattle.std.proofs.Common.{◌≡◌, ℕ, zero, suc, ◌<◌, ◌≤◌, List, [], ◌∷◌, ◌++◌, length, Bool, true, false, Option, Some, None, refl, sym}
+use Rattle.std.proofs.Common.{ap, ◌∙◌, subst, append_assoc, append-nil, length-append, arith, inl, inr, ◌⊎◌, true≢false}
 use Rattle.std.specs.Prelude.{codes, if◌then◌else◌}
 use Rattle.std.specs.Str.{bytes_eq}
 use Rattle.std.proofs.lemmas.Slice.Eq.{bytes_eq-Decides}
@@ -19,8 +20,11 @@ use Rattle.std.specs.List.{list_all}
 use Rattle.mg_read.specs.Reader.{many}
 use Rattle.jv_tree.specs.Source.{Class, Enum, Decl, ClassDecl, EnumDecl, File}
 use Rattle.jv_tree.specs.Depth.{depth_of_fields, depth_of_methods, depth_of_decl, depth_of_file}
-use Rattle.jv_tree.specs.Files.{fields_among, methods_among, is_kind_among, AreModifiers, IsAnnotation, IsClass, AreMoreNames, AreNames, IsEnumEnd, IsEnum, IsDecl, AreDecls, AreMoreSteps, IsPath, IsPackage, IsStar, IsImport, AreImports, Spells}
-use Rattle.jv_reading.specs.Files.{after_mods, members_at, text_kind, text_at, annotation_at, class_words, enum_words, class_at, is_more_names, next_name_at, names_at, past, enum_at, is_enum, decl_at, is_more_steps, next_step_at, path_at, package_at, star_at, import_at, is_some_token, file_at}
+use Rattle.jv_tree.specs.Files.{fields_among, methods_among, is_kind_among, AreModifiers, IsAnnotation, IsClass, AreMoreNames, AreNames}
+use Rattle.jv_tree.specs.Files.{IsEnumEnd, IsEnum, IsDecl, AreDecls, AreMoreSteps, IsPath, IsPackage, IsStar, IsImport, AreImports, Spells}
+use Rattle.jv_reading.specs.Files.{after_mods, members_at, text_kind, text_at, annotation_at, class_words, enum_words, class_at}
+use Rattle.jv_reading.specs.Files.{is_more_names, next_name_at, names_at, past, enum_at, is_enum, decl_at, is_more_steps, next_step_at}
+use Rattle.jv_reading.specs.Files.{path_at, package_at, star_at, import_at, is_some_token, file_at}
 use Rattle.jv_reading.proofs.Steps.{Anything, after, glue, sign_is, word_is, name_is}
 use Rattle.jv_reading.proofs.Members.{mods_front, mods_again, mods_words, and_is, members_exact}
 
@@ -48,14 +52,18 @@ annotation_sound ts x e =
           let quote = text_is c.0.1 s.0 s.1 in
           subst (λ (y : Option (List ℕ) × List Token). Takes (IsAnnotation y.0) ts y.1) (some_is (Some s.0.0, k.0.1) x k.2)
           (record {
-            front = sign a.0.0 signs.At ∷ word b.0.0 (codes "Typestate") ∷ sign c.0.0 signs.OpenParen ∷ quoted quote.0 s.0.0 ∷ sign k.0.0 signs.CloseParen ∷ [];
-            parts = after (sign_is signs.At ts a.0 a.1) (after (word_is (codes "Typestate") a.0.1 b.0 b.1) (after (sign_is signs.OpenParen b.0.1 c.0 c.1) (after quote.1 (sign_is signs.CloseParen s.0.1 k.0 k.1))));
+            front = sign a.0.0 signs.At ∷ word b.0.0 (codes "Typestate") ∷ sign c.0.0 signs.OpenParen ∷ quoted quote.0 s.0.0 ∷ sign k.0.0
+                signs.CloseParen ∷ [];
+            parts = after (sign_is signs.At ts a.0 a.1) (after (word_is (codes "Typestate") a.0.1 b.0 b.1)
+                (after (sign_is signs.OpenParen b.0.1 c.0 c.1) (after quote.1 (sign_is signs.CloseParen s.0.1 k.0 k.1))));
             holds = (a.0.0, b.0.0, c.0.0, quote.0, k.0.0, refl);
           })
-      | inr t ↦ subst (λ (y : Option (List ℕ) × List Token). Takes (IsAnnotation y.0) ts y.1) (some_is (None, ts) x t.1) (record { front = []; parts = refl; holds = refl })
+      | inr t ↦ subst (λ (y : Option (List ℕ) × List Token). Takes (IsAnnotation y.0) ts y.1) (some_is (None, ts) x t.1)
+          (record { front = []; parts = refl; holds = refl })
     ]
 
-annotation_complete : (t : Option (List ℕ)) (ts rest : List Token) → is_sign signs.At rest ≡ false → IsAnnotation t ts → annotation_at (ts ++ rest) ≡ Some (t, rest)
+annotation_complete : (t : Option (List ℕ)) (ts rest : List Token) → is_sign signs.At rest ≡ false → IsAnnotation t ts →
+    annotation_at (ts ++ rest) ≡ Some (t, rest)
 unfolding annotation_at
 annotation_complete None ts rest fine h = rw (h, fine) refl
 annotation_complete (Some t) ts rest fine (a, b, c, d, e, parts) = rw parts refl
@@ -78,9 +86,17 @@ class_sound ts x e =
     let name = name_is k.0.1 n.0 n.1 in
     let body = members_exact.sound n.0.1 ms.0 ms.1 in
     let (b, g, ws, parts, members, lf, lm) = body.holds in
-    let c : Class = record { place = n.0.0.0; name = n.0.0.1; typestate = a.0.0; fields = fields_among ms.0.0; methods = methods_among ms.0.0 } in
+    let c : Class = record {
+      place = n.0.0.0;
+      name = n.0.0.1;
+      typestate = a.0.0;
+      fields = fields_among ms.0.0;
+      methods =
+          methods_among ms.0.0;
+    } in
     let head : List Token = word k.0.0 (codes "class") ∷ word n.0.0.0 n.0.0.1 ∷ body.front in
-    let behind_mods : after_mods class_words a.0.1 ≡ head ++ ms.0.1 = after (word_is (codes "class") (after_mods class_words a.0.1) k.0 k.1) (after name.0 body.parts) in
+    let behind_mods : after_mods class_words a.0.1 ≡ head ++ ms.0.1 = after (word_is (codes "class") (after_mods class_words a.0.1) k.0 k.1)
+    (after name.0 body.parts) in
     subst (λ (y : Class × List Token). Takes (DeepClass y.0) ts y.1) (some_is (c, ms.0.1) x ms.2)
     (record {
       front = note.front ++ (mods.0 ++ head);
@@ -124,15 +140,23 @@ class_complete c ts rest ((name, a, b, g, us, vs, ws, parts, note, mods, ms, mem
 more_names_exact : IsExact next_name_at (λ n us. IsName n × (a b : Place) × (us ≡ sign a signs.Comma ∷ word b n ∷ [])) Anything
 unfolding next_name_at
 more_names_exact = record { sound = sound; complete = complete } where
-  sound : (ts : List Token) (x : Name × List Token) → next_name_at ts ≡ Some x → Takes (λ us. IsName x.0 × (a b : Place) × (us ≡ sign a signs.Comma ∷ word b x.0 ∷ [])) ts x.1
+  sound : (ts : List Token) (x : Name × List Token) → next_name_at ts ≡ Some x →
+      Takes (λ us. IsName x.0 × (a b : Place) × (us ≡ sign a signs.Comma ∷ word b x.0 ∷ [])) ts x.1
   sound ts x e =
       let a = bind_some (sign_at signs.Comma ts) _ x e in
       let n = bind_some (name_at a.0.1) _ x a.2 in
       let name = name_is a.0.1 n.0 n.1 in
-      subst (λ (y : Name × List Token). Takes (λ us. IsName y.0 × (a b : Place) × (us ≡ sign a signs.Comma ∷ word b y.0 ∷ [])) ts y.1) (some_is (n.0.0.1, n.0.1) x n.2)
-      (record { front = sign a.0.0 signs.Comma ∷ word n.0.0.0 n.0.0.1 ∷ []; parts = after (sign_is signs.Comma ts a.0 a.1) name.0; holds = (name.1, a.0.0, n.0.0.0, refl) })
+      subst (λ (y : Name × List Token). Takes (λ us. IsName y.0 × (a b : Place) × (us ≡ sign a signs.Comma ∷ word b y.0 ∷ [])) ts y.1)
+      (some_is (n.0.0.1, n.0.1) x n.2)
+      (record {
+        front = sign a.0.0 signs.Comma ∷ word n.0.0.0 n.0.0.1 ∷ [];
+        parts = after (sign_is signs.Comma ts a.0 a.1) name.0;
+        holds =
+            (name.1, a.0.0, n.0.0.0, refl);
+      })
 
-  complete : (n : Name) (ts rest : List Token) → Anything rest → IsName n × (a b : Place) × (ts ≡ sign a signs.Comma ∷ word b n ∷ []) → next_name_at (ts ++ rest) ≡ Some (n, rest)
+  complete : (n : Name) (ts rest : List Token) → Anything rest → IsName n × (a b : Place) × (ts ≡ sign a signs.Comma ∷ word b n ∷ []) →
+      next_name_at (ts ++ rest) ≡ Some (n, rest)
   complete n ts rest fine (name, a, b, parts) = rw (parts, name) refl
 
 abbrev NextName : Name → List Token → Type 0
@@ -154,11 +178,18 @@ next_name_shorter ts x e =
 
 each_names : (ns : List Name) (us : List Token) → Each NextName ns us → AreMoreNames ns us
 each_names [] us h = h
-each_names (n ∷ ns) us (ps, qs, parts, (name, a, b, one), more) = (name, a, b, qs, parts ∙ ap (λ (z : List Token). z ++ qs) one, each_names ns qs more)
+each_names (n ∷ ns) us (ps, qs, parts, (name, a, b, one), more) =
+    (name, a, b, qs, parts ∙ ap (λ (z : List Token). z ++ qs) one, each_names ns qs more)
 
 names_each : (ns : List Name) (us : List Token) → AreMoreNames ns us → Each NextName ns us
 names_each [] us h = h
-names_each (n ∷ ns) us (name, a, b, vs, parts, more) = (sign a signs.Comma ∷ word b n ∷ [], vs, parts, (name, a, b, refl), names_each ns vs more)
+names_each (n ∷ ns) us (name, a, b, vs, parts, more) = (
+  sign a signs.Comma ∷ word b n ∷ [],
+  vs,
+  parts,
+  (name, a, b, refl),
+  names_each ns vs more,
+)
 
 names_exact : IsExact names_at AreNames (λ ts. is_more_names ts ≡ false)
 unfolding names_at
@@ -170,12 +201,22 @@ names_exact = record { sound = sound; complete = complete } where
       let name = name_is ts n.0 n.1 in
       let more = all_sound is_more_names next_name_at NextName Anything more_names_exact n.0.1 b.0 b.1 in
       subst (λ (y : List Name × List Token). Takes (AreNames y.0) ts y.1) (some_is (n.0.0.1 ∷ b.0.0, b.0.1) x b.2)
-      (record { front = word n.0.0.0 n.0.0.1 ∷ more.front; parts = after name.0 more.parts; holds = (name.1, n.0.0.0, more.front, refl, each_names b.0.0 more.front more.holds) })
+      (record {
+        front = word n.0.0.0 n.0.0.1 ∷ more.front;
+        parts = after name.0 more.parts;
+        holds =
+            (name.1, n.0.0.0, more.front, refl, each_names b.0.0 more.front more.holds);
+      })
 
   complete : (ns : List Name) (ts rest : List Token) → is_more_names rest ≡ false → AreNames ns ts → names_at (ts ++ rest) ≡ Some (ns, rest)
   complete [] ts rest fine h = absurd h
   complete (n ∷ ns) ts rest fine (name, a, us, parts, more) =
-      rw (parts, name, all_complete is_more_names next_name_at NextName Anything more_names_exact name_starts ns us rest tt fine (names_each ns us more)) refl
+      rw (
+        parts,
+        name,
+        all_complete is_more_names next_name_at NextName Anything more_names_exact name_starts ns us rest tt fine
+            (names_each ns us more),
+      ) refl
 
 past_front : (s : Sign) (ts : List Token) → (us : List Token) × (ts ≡ us ++ past s ts) × ((us ≡ []) ⊎ ((a : Place) × (us ≡ sign a s ∷ [])))
 past_front s [] = ([], refl, inl refl)
@@ -190,11 +231,13 @@ past_front s (t ∷ ts) = by_cases (is_sign s (t ∷ ts)) refl where
   first_of [] = []
   first_of (u ∷ us) = u ∷ []
 
-  by_cases : (b : Bool) → is_sign s (t ∷ ts) ≡ b → (us : List Token) × (t ∷ ts ≡ us ++ (if b then ts else t ∷ ts)) × ((us ≡ []) ⊎ ((a : Place) × (us ≡ sign a s ∷ [])))
+  by_cases : (b : Bool) → is_sign s (t ∷ ts) ≡ b → (us : List Token) × (t ∷ ts ≡ us ++ (if b then ts else t ∷ ts))
+      × ((us ≡ []) ⊎ ((a : Place) × (us ≡ sign a s ∷ [])))
   by_cases true e = (t ∷ [], refl, inr (t.place, ap first_of (sign_is s (t ∷ ts) (t.place, ts) (reads t.place t.kind e))))
   by_cases false e = ([], refl, inl refl)
 
-enum_end : (us vs : List Token) → ((us ≡ []) ⊎ ((a : Place) × (us ≡ sign a signs.Comma ∷ []))) → ((vs ≡ []) ⊎ ((a : Place) × (vs ≡ sign a signs.Semicolon ∷ []))) → IsEnumEnd (us ++ vs)
+enum_end : (us vs : List Token) → ((us ≡ []) ⊎ ((a : Place) × (us ≡ sign a signs.Comma ∷ []))) →
+    ((vs ≡ []) ⊎ ((a : Place) × (vs ≡ sign a signs.Semicolon ∷ []))) → IsEnumEnd (us ++ vs)
 enum_end us vs (inl h) (inl k) = inl (rw (h, k) refl)
 enum_end us vs (inl h) (inr (b, k)) = inr (inr (inl (b, rw (h, k) refl)))
 enum_end us vs (inr (a, h)) (inl k) = inr (inl (a, rw (h, k) refl))
@@ -215,17 +258,32 @@ enum_sound ts x e =
     let semicolon = past_front signs.Semicolon (past signs.Comma ns.0.1) in
     let stop : List Token = sign c.0.0 signs.CloseBrace ∷ [] in
     let tail : ns.0.1 ≡ ((comma.0 ++ semicolon.0) ++ stop) ++ c.0.1 =
-    glue (comma.0 ++ semicolon.0) stop c.0.1 (glue comma.0 semicolon.0 (past signs.Semicolon (past signs.Comma ns.0.1)) comma.1 semicolon.1) (sign_is signs.CloseBrace (past signs.Semicolon (past signs.Comma ns.0.1)) c.0 c.1) in
+    glue (comma.0 ++ semicolon.0) stop c.0.1 (glue comma.0 semicolon.0 (past signs.Semicolon (past signs.Comma ns.0.1)) comma.1 semicolon.1)
+    (sign_is signs.CloseBrace (past signs.Semicolon (past signs.Comma ns.0.1)) c.0 c.1) in
     let made : Enum = record { place = n.0.0.0; name = n.0.0.1; constants = ns.0.0 } in
     let inside : List Token = names.front ++ ((comma.0 ++ semicolon.0) ++ stop) in
     let head : List Token = word k.0.0 (codes "enum") ∷ word n.0.0.0 n.0.0.1 ∷ sign b.0.0 signs.OpenBrace ∷ inside in
     let behind_mods : after_mods enum_words ts ≡ head ++ c.0.1 =
-    after (word_is (codes "enum") (after_mods enum_words ts) k.0 k.1) (after name.0 (after (sign_is signs.OpenBrace n.0.1 b.0 b.1) (glue names.front ((comma.0 ++ semicolon.0) ++ stop) c.0.1 names.parts tail))) in
+    after (word_is (codes "enum") (after_mods enum_words ts) k.0 k.1)
+    (after name.0 (after (sign_is signs.OpenBrace n.0.1 b.0 b.1) (glue names.front ((comma.0 ++ semicolon.0) ++ stop) c.0.1 names.parts
+    tail))) in
     subst (λ (y : Enum × List Token). Takes (IsEnum y.0) ts y.1) (some_is (made, c.0.1) x c.2)
     (record {
       front = mods.0 ++ head;
       parts = glue mods.0 head c.0.1 mods.1 behind_mods;
-      holds = (name.1, k.0.0, b.0.0, c.0.0, mods.0, names.front, comma.0 ++ semicolon.0, refl, mods.2, names.holds, enum_end comma.0 semicolon.0 comma.2 semicolon.2);
+      holds = (
+        name.1,
+        k.0.0,
+        b.0.0,
+        c.0.0,
+        mods.0,
+        names.front,
+        comma.0 ++ semicolon.0,
+        refl,
+        mods.2,
+        names.holds,
+        enum_end comma.0 semicolon.0 comma.2 semicolon.2,
+      );
     })
 
 enum_complete : (e : Enum) (ts rest : List Token) → IsEnum e ts → enum_at (ts ++ rest) ≡ Some (e, rest)
@@ -238,7 +296,8 @@ enum_complete e ts rest (name, a, b, c, us, vs, ws, parts, mods, names, ends) =
     let second = names_exact.complete e.constants vs (ws ++ sign c signs.CloseBrace ∷ rest) stops.0 names in
     rw (parts, append_assoc, first, name, append_assoc, append_assoc, second, stops.1) refl where
       ended : (ws : List Token) → IsEnumEnd ws
-          → (is_more_names (ws ++ sign c signs.CloseBrace ∷ rest) ≡ false) × (past signs.Semicolon (past signs.Comma (ws ++ sign c signs.CloseBrace ∷ rest)) ≡ sign c signs.CloseBrace ∷ rest)
+          → (is_more_names (ws ++ sign c signs.CloseBrace ∷ rest) ≡ false)
+          × (past signs.Semicolon (past signs.Comma (ws ++ sign c signs.CloseBrace ∷ rest)) ≡ sign c signs.CloseBrace ∷ rest)
       ended ws (inl h) = rw h (refl, refl)
       ended ws (inr (inl (p, h))) = rw h (refl, refl)
       ended ws (inr (inr (inl (p, h)))) = rw h (refl, refl)
@@ -261,9 +320,11 @@ class_no_enum c ts rest (name, a, b, g, us, vs, ws, parts, note, mods, ms, membe
       by_mods (t ∷ vs) h =
           let both = and_is (is_kind_among class_words t.kind) (list_all (λ u. is_kind_among class_words u.kind) vs) h in
           by_word t.place t.kind both.0 (by_mods vs both.1) where
-            by_word : (p : Place) (k : TokenKind) → is_kind_among class_words k ≡ true → is_enum (vs ++ (head ++ rest)) ≡ false → is_enum (record { kind = k; place = p } ∷ (vs ++ (head ++ rest))) ≡ false
+            by_word : (p : Place) (k : TokenKind) → is_kind_among class_words k ≡ true → is_enum (vs ++ (head ++ rest)) ≡ false →
+                is_enum (record { kind = k; place = p } ∷ (vs ++ (head ++ rest))) ≡ false
             by_word p (kinds.Word w) e more = by_public (bytes_eq (codes "public") w) refl where
-              by_final : (f : Bool) → bytes_eq (codes "final") w ≡ f → bytes_eq (codes "public") w ≡ false → is_word (codes "enum") (word p w ∷ (vs ++ (head ++ rest))) ≡ false
+              by_final : (f : Bool) → bytes_eq (codes "final") w ≡ f → bytes_eq (codes "public") w ≡ false →
+                  is_word (codes "enum") (word p w ∷ (vs ++ (head ++ rest))) ≡ false
               by_final true g q = let same : w ≡ codes "final" = sym ((bytes_eq-Decides (codes "final") w).0 g) in rw same refl
               by_final false g q = absurd (true≢false (sym e ∙ rw (q, g) refl))
 
@@ -280,7 +341,8 @@ class_no_enum c ts rest (name, a, b, g, us, vs, ws, parts, note, mods, ms, membe
 
 enum_is_enum : (e : Enum) (ts rest : List Token) → IsEnum e ts → is_enum (ts ++ rest) ≡ true
 enum_is_enum e ts rest (name, a, b, c, us, vs, ws, parts, mods, names, ends) =
-    let back : List Token = word a (codes "enum") ∷ word e.place e.name ∷ sign b signs.OpenBrace ∷ ((vs ++ (ws ++ sign c signs.CloseBrace ∷ [])) ++ rest) in
+    let back : List Token = word a (codes "enum") ∷ word e.place e.name ∷ sign b signs.OpenBrace ∷
+    ((vs ++ (ws ++ sign c signs.CloseBrace ∷ [])) ++ rest) in
     rw (parts, append_assoc, (mods_again enum_words us back mods refl refl).0) refl
 
 decl_sound : (ts : List Token) (x : Decl × List Token) → decl_at ts ≡ Some x → Takes (DeepDecl x.0) ts x.1
@@ -290,11 +352,13 @@ decl_sound ts x e =
       | inl t ↦
           let d = bind_some (enum_at ts) _ x t.1 in
           let one = enum_sound ts d.0 d.1 in
-          subst (λ (y : Decl × List Token). Takes (DeepDecl y.0) ts y.1) (some_is (EnumDecl d.0.0, d.0.1) x d.2) (record { front = one.front; parts = one.parts; holds = (one.holds, omega arith) })
+          subst (λ (y : Decl × List Token). Takes (DeepDecl y.0) ts y.1) (some_is (EnumDecl d.0.0, d.0.1) x d.2)
+          (record { front = one.front; parts = one.parts; holds = (one.holds, omega arith) })
       | inr t ↦
           let d = bind_some (class_at ts) _ x t.1 in
           let one = class_sound ts d.0 d.1 in
-          subst (λ (y : Decl × List Token). Takes (DeepDecl y.0) ts y.1) (some_is (ClassDecl d.0.0, d.0.1) x d.2) (record { front = one.front; parts = one.parts; holds = one.holds })
+          subst (λ (y : Decl × List Token). Takes (DeepDecl y.0) ts y.1) (some_is (ClassDecl d.0.0, d.0.1) x d.2)
+          (record { front = one.front; parts = one.parts; holds = one.holds })
     ]
 
 decl_complete : (x : Decl) (ts rest : List Token) → Anything rest → DeepDecl x ts → decl_at (ts ++ rest) ≡ Some (x, rest)
@@ -310,7 +374,12 @@ decl_some (ClassDecl c) ts ((name, a, b, g, us, vs, ws, parts, note, mods, ms, m
     let head : List Token = word a (codes "class") ∷ word c.place c.name ∷ sign b signs.OpenBrace ∷ (ws ++ sign g signs.CloseBrace ∷ []) in
     omega (arith, ap length parts, length-append us (vs ++ head), length-append vs head)
 decl_some (EnumDecl e) ts ((name, a, b, c, us, vs, ws, parts, mods, names, ends), le) =
-    omega (arith, ap length parts, length-append us (word a (codes "enum") ∷ word e.place e.name ∷ sign b signs.OpenBrace ∷ (vs ++ (ws ++ sign c signs.CloseBrace ∷ []))))
+    omega (
+      arith,
+      ap length parts,
+      length-append us (word a (codes "enum") ∷ word e.place e.name ∷ sign b signs.OpenBrace ∷
+          (vs ++ (ws ++ sign c signs.CloseBrace ∷ []))),
+    )
 
 some_goes : (ts rest : List Token) → 0 < length ts → is_some_token (ts ++ rest) ≡ true
 some_goes [] rest h = absurd (omega arith)
@@ -346,7 +415,12 @@ step_exact = record { sound = sound; complete = complete } where
       let n = bind_some (name_at a.0.1) _ x a.2 in
       let name = name_is a.0.1 n.0 n.1 in
       subst (λ (y : Name × List Token). Takes (NextStep y.0) ts y.1) (some_is (n.0.0.1, n.0.1) x n.2)
-      (record { front = sign a.0.0 signs.Dot ∷ word n.0.0.0 n.0.0.1 ∷ []; parts = after (sign_is signs.Dot ts a.0 a.1) name.0; holds = (name.1, a.0.0, n.0.0.0, refl) })
+      (record {
+        front = sign a.0.0 signs.Dot ∷ word n.0.0.0 n.0.0.1 ∷ [];
+        parts = after (sign_is signs.Dot ts a.0 a.1) name.0;
+        holds =
+            (name.1, a.0.0, n.0.0.0, refl);
+      })
 
   complete : (n : Name) (ts rest : List Token) → Anything rest → NextStep n ts → next_step_at (ts ++ rest) ≡ Some (n, rest)
   complete n ts rest fine (name, a, b, parts) = rw (parts, name) refl
@@ -367,11 +441,18 @@ next_step_shorter ts x e =
 
 each_steps : (ns : List Name) (us : List Token) → Each NextStep ns us → AreMoreSteps ns us
 each_steps [] us h = h
-each_steps (n ∷ ns) us (ps, qs, parts, (name, a, b, one), more) = (name, a, b, qs, parts ∙ ap (λ (z : List Token). z ++ qs) one, each_steps ns qs more)
+each_steps (n ∷ ns) us (ps, qs, parts, (name, a, b, one), more) =
+    (name, a, b, qs, parts ∙ ap (λ (z : List Token). z ++ qs) one, each_steps ns qs more)
 
 steps_each : (ns : List Name) (us : List Token) → AreMoreSteps ns us → Each NextStep ns us
 steps_each [] us h = h
-steps_each (n ∷ ns) us (name, a, b, vs, parts, more) = (sign a signs.Dot ∷ word b n ∷ [], vs, parts, (name, a, b, refl), steps_each ns vs more)
+steps_each (n ∷ ns) us (name, a, b, vs, parts, more) = (
+  sign a signs.Dot ∷ word b n ∷ [],
+  vs,
+  parts,
+  (name, a, b, refl),
+  steps_each ns vs more,
+)
 
 path_sound : (ts : List Token) (x : List Name × List Token) → path_at ts ≡ Some x → Takes IsPath ts x.1
 unfolding path_at
@@ -381,7 +462,12 @@ path_sound ts x e =
     let name = name_is ts n.0 n.1 in
     let more = all_sound is_more_steps next_step_at NextStep Anything step_exact n.0.1 b.0 b.1 in
     subst (λ (y : List Name × List Token). Takes IsPath ts y.1) (some_is (n.0.0.1 ∷ b.0.0, b.0.1) x b.2)
-    (record { front = word n.0.0.0 n.0.0.1 ∷ more.front; parts = after name.0 more.parts; holds = (n.0.0.1, b.0.0, name.1, n.0.0.0, more.front, refl, each_steps b.0.0 more.front more.holds) })
+    (record {
+      front = word n.0.0.0 n.0.0.1 ∷ more.front;
+      parts = after name.0 more.parts;
+      holds =
+          (n.0.0.1, b.0.0, name.1, n.0.0.0, more.front, refl, each_steps b.0.0 more.front more.holds);
+    })
 
 -- some names, and what follows the path
 abbrev PathRead : List Token → List Token → Type 0
@@ -389,8 +475,15 @@ PathRead ts rest = (ns : List Name) × (path_at ts ≡ Some (ns, rest))
 
 path_complete : (ts rest : List Token) → is_more_steps rest ≡ false → IsPath ts → PathRead (ts ++ rest) rest
 unfolding path_at
-path_complete ts rest fine (n, ns, name, a, us, parts, more) =
-    (n ∷ ns, rw (parts, name, all_complete is_more_steps next_step_at NextStep Anything step_exact step_starts ns us rest tt fine (steps_each ns us more)) refl)
+path_complete ts rest fine (n, ns, name, a, us, parts, more) = (
+  n ∷ ns,
+  rw (
+    parts,
+    name,
+    all_complete is_more_steps next_step_at NextStep Anything step_exact step_starts ns us rest tt fine
+        (steps_each ns us more),
+  ) refl,
+)
 
 package_sound : (ts rest : List Token) → package_at ts ≡ Some rest → Takes IsPackage ts rest
 unfolding package_at
@@ -405,10 +498,12 @@ package_sound ts rest e =
           subst (λ (y : List Token). Takes IsPackage ts y) (some_is c.0.1 rest c.2)
           (record {
             front = word a.0.0 (codes "package") ∷ (path.front ++ end);
-            parts = after (word_is (codes "package") ts a.0 a.1) (glue path.front end c.0.1 path.parts (sign_is signs.Semicolon p.0.1 c.0 c.1));
+            parts = after (word_is (codes "package") ts a.0 a.1)
+                (glue path.front end c.0.1 path.parts (sign_is signs.Semicolon p.0.1 c.0 c.1));
             holds = inr (a.0.0, c.0.0, path.front, refl, path.holds);
           })
-      | inr t ↦ subst (λ (y : List Token). Takes IsPackage ts y) (some_is ts rest t.1) (record { front = []; parts = refl; holds = inl refl })
+      | inr t ↦ subst (λ (y : List Token). Takes IsPackage ts y) (some_is ts rest t.1)
+          (record { front = []; parts = refl; holds = inl refl })
     ]
 
 package_complete : (ts rest : List Token) → is_word (codes "package") rest ≡ false → IsPackage ts → package_at (ts ++ rest) ≡ Some rest
@@ -438,7 +533,13 @@ star_sound ts rest e =
           })
       | inr t ↦
           let c = bind_some (sign_at signs.Semicolon ts) _ rest t.1 in
-          subst (λ (y : List Token). Takes StarEnd ts y) (some_is c.0.1 rest c.2) (record { front = sign c.0.0 signs.Semicolon ∷ []; parts = sign_is signs.Semicolon ts c.0 c.1; holds = (c.0.0, [], refl, inl refl) })
+          subst (λ (y : List Token). Takes StarEnd ts y) (some_is c.0.1 rest c.2)
+          (record {
+            front = sign c.0.0 signs.Semicolon ∷ [];
+            parts = sign_is signs.Semicolon ts c.0 c.1;
+            holds =
+                (c.0.0, [], refl, inl refl);
+          })
     ]
 
 import_sound : (ts : List Token) (x : Unit {0} × List Token) → import_at ts ≡ Some x → Takes IsImport ts x.1
@@ -503,7 +604,8 @@ none_left [] h = refl
 none_left (t ∷ ts) h = absurd cc
 
 -- where a loop stops its test says no
-many_stops : {A : Type 0} (go : List Token → Bool) (g : Reader Token A) (n : ℕ) (ts : List Token) (x : List A × List Token) → many go g n ts ≡ Some x → go x.1 ≡ false
+many_stops : {A : Type 0} (go : List Token → Bool) (g : Reader Token A) (n : ℕ) (ts : List Token) (x : List A × List Token) →
+    many go g n ts ≡ Some x → go x.1 ≡ false
 unfolding many
 many_stops {A = A} go g zero ts x e = absurd (none_is_not x e)
 many_stops {A = A} go g (suc n) ts x e =
@@ -517,23 +619,41 @@ many_stops {A = A} go g (suc n) ts x e =
     ]
 
 -- a word that is no modifier does not stand first behind modifiers
-mods_no_word : (words : List Name) (w : Name) (us rest : List Token) → AreModifiers words us → is_among words w ≡ false → is_word w rest ≡ false → is_word w (us ++ rest) ≡ false
+mods_no_word : (words : List Name) (w : Name) (us rest : List Token) → AreModifiers words us → is_among words w ≡ false →
+    is_word w rest ≡ false → is_word w (us ++ rest) ≡ false
 mods_no_word words w [] rest h lacks k = k
-mods_no_word words w (t ∷ us) rest h lacks k = by_kind t.kind (and_is (is_kind_among words t.kind) (list_all (λ u. is_kind_among words u.kind) us) h).0 where
-  by_word : (v : Name) → is_among words v ≡ true → (b : Bool) → bytes_eq v w ≡ b → b ≡ false
-  by_word v among false e = refl
-  by_word v among true e = absurd (true≢false (sym among ∙ ap (is_among words) ((bytes_eq-Decides v w).0 e) ∙ lacks))
+mods_no_word words w (t ∷ us) rest h lacks k =
+    by_kind t.kind (and_is (is_kind_among words t.kind) (list_all (λ u. is_kind_among words u.kind) us) h).0 where
+      by_word : (v : Name) → is_among words v ≡ true → (b : Bool) → bytes_eq v w ≡ b → b ≡ false
+      by_word v among false e = refl
+      by_word v among true e = absurd (true≢false (sym among ∙ ap (is_among words) ((bytes_eq-Decides v w).0 e) ∙ lacks))
 
-  by_kind : (q : TokenKind) → is_kind_among words q ≡ true → is_word_kind w q ≡ false
-  by_kind (kinds.Word v) e = by_word v e (bytes_eq v w) refl
-  by_kind (kinds.Number n) e = absurd cc
-  by_kind (kinds.Text q) e = absurd cc
-  by_kind (kinds.Sign q) e = absurd cc
+      by_kind : (q : TokenKind) → is_kind_among words q ≡ true → is_word_kind w q ≡ false
+      by_kind (kinds.Word v) e = by_word v e (bytes_eq v w) refl
+      by_kind (kinds.Number n) e = absurd cc
+      by_kind (kinds.Text q) e = absurd cc
+      by_kind (kinds.Sign q) e = absurd cc
 
 -- a declaration begins with no other word than its own
-decl_led : (w : Name) (x : Decl) (ts rest : List Token) → is_among class_words w ≡ false → is_among enum_words w ≡ false → bytes_eq (codes "class") w ≡ false → bytes_eq (codes "enum") w ≡ false → IsDecl x ts
+decl_led : (w : Name) (x : Decl) (ts rest : List Token) → is_among class_words w ≡ false → is_among enum_words w ≡ false →
+    bytes_eq (codes "class") w ≡ false → bytes_eq (codes "enum") w ≡ false → IsDecl x ts
     → is_word w (ts ++ rest) ≡ false
-decl_led w (ClassDecl c) ts rest no_class no_enum other another (name, a, b, g, us, vs, ws, parts, note, mods, ms, members, fields, methods) = rw (parts, append_assoc) (by_note c.typestate us note) where
+decl_led w (ClassDecl c) ts rest no_class no_enum other another (
+  name,
+  a,
+  b,
+  g,
+  us,
+  vs,
+  ws,
+  parts,
+  note,
+  mods,
+  ms,
+  members,
+  fields,
+  methods,
+) = rw (parts, append_assoc) (by_note c.typestate us note) where
   head : List Token
   head = word a (codes "class") ∷ word c.place c.name ∷ sign b signs.OpenBrace ∷ (ws ++ sign g signs.CloseBrace ∷ [])
 
@@ -541,14 +661,18 @@ decl_led w (ClassDecl c) ts rest no_class no_enum other another (name, a, b, g, 
   by_note None us h = rw (h, append_assoc) (mods_no_word class_words w vs (head ++ rest) mods no_class other)
   by_note (Some t) us (p, q, r, s, u, h) = rw h refl
 decl_led w (EnumDecl e) ts rest no_class no_enum other another (name, a, b, c, us, vs, ws, parts, mods, names, ends) =
-    rw (parts, append_assoc) (mods_no_word enum_words w us (word a (codes "enum") ∷ word e.place e.name ∷ sign b signs.OpenBrace ∷ ((vs ++ (ws ++ sign c signs.CloseBrace ∷ [])) ++ rest)) mods no_enum another)
+    rw (parts, append_assoc) (mods_no_word enum_words w us (word a (codes "enum") ∷ word e.place e.name ∷ sign b signs.OpenBrace ∷
+    ((vs ++ (ws ++ sign c signs.CloseBrace ∷ [])) ++ rest)) mods no_enum another)
 
-decls_led : (w : Name) (xs : List Decl) (ts : List Token) → is_among class_words w ≡ false → is_among enum_words w ≡ false → bytes_eq (codes "class") w ≡ false → bytes_eq (codes "enum") w ≡ false → AreDecls xs ts
+decls_led : (w : Name) (xs : List Decl) (ts : List Token) → is_among class_words w ≡ false → is_among enum_words w ≡ false →
+    bytes_eq (codes "class") w ≡ false → bytes_eq (codes "enum") w ≡ false → AreDecls xs ts
     → is_word w ts ≡ false
 decls_led w [] ts no_class no_enum other another h = rw h refl
-decls_led w (x ∷ xs) ts no_class no_enum other another (us, vs, parts, h, more) = rw parts (decl_led w x us vs no_class no_enum other another h)
+decls_led w (x ∷ xs) ts no_class no_enum other another (us, vs, parts, h, more) =
+    rw parts (decl_led w x us vs no_class no_enum other another h)
 
-imports_led : (n : ℕ) (us rest : List Token) → AreImports n us → is_word (codes "package") rest ≡ false → is_word (codes "package") (us ++ rest) ≡ false
+imports_led : (n : ℕ) (us rest : List Token) → AreImports n us → is_word (codes "package") rest ≡ false →
+    is_word (codes "package") (us ++ rest) ≡ false
 imports_led zero us rest h k = rw h k
 imports_led (suc n) us rest (ps, qs, parts, (a, b, vs, ws, starts, path, star), more) k = rw (parts, starts) refl
 
@@ -584,9 +708,11 @@ file_complete f ts ((n, us, vs, ws, parts, in_package, imports, decls), le) =
     let no_package = imports_led n vs ws imports (decls_led (codes "package") f ws refl refl refl refl decls) in
     let no_import = decls_led (codes "import") f ws refl refl refl refl decls in
     let first = package_complete us (vs ++ ws) no_package in_package in
-    let second = all_complete (is_word (codes "import")) import_at (λ x us. IsImport us) Anything import_exact import_starts (units n) vs ws tt no_import (imports_each n vs imports) in
+    let second = all_complete (is_word (codes "import")) import_at (λ x us. IsImport us) Anything import_exact import_starts (units n) vs ws
+    tt no_import (imports_each n vs imports) in
     let third : all_of is_some_token decl_at ws ≡ Some (f, []) =
-    ap (all_of is_some_token decl_at) (sym (append-nil ws)) ∙ all_complete is_some_token decl_at DeepDecl Anything decl_exact decl_starts f ws [] tt refl (decls_each f ws decls le) in
+    ap (all_of is_some_token decl_at) (sym (append-nil ws)) ∙ all_complete is_some_token decl_at DeepDecl Anything decl_exact decl_starts f
+    ws [] tt refl (decls_each f ws decls le) in
     rw (parts, first, second, third) refl
 
 pub file_unique : (f g : File) (ts : List Token) → Spells f ts → Spells g ts → f ≡ g

@@ -25,7 +25,8 @@ inner_reading (suc m) d =
     record {
       exact = record { sound = b.sound; complete = b.complete };
       nonempty = λ e us h. begins_some us (binary_begins m (IsInner m) 6 e us h.0);
-      unclosed = λ e us rest h. begins_no_sign signs.CloseParen (us ++ rest) refl (begins_more us rest (binary_begins m (IsInner m) 6 e us h.0));
+      unclosed = λ e us rest h. begins_no_sign signs.CloseParen (us ++ rest) refl
+          (begins_more us rest (binary_begins m (IsInner m) 6 e us h.0));
     }
 
 pub expr_begins : (m : ℕ) (e : Expr) (us : List Token) → IsExpr m e us → Begins us

@@ -1,5 +1,6 @@
 -- How statements begin, and which statement comes next.
-use Rattle.std.proofs.Common.{◌≡◌, ℕ, ◌<◌, List, [], ◌∷◌, ◌++◌, length, Bool, true, false, Option, Some, None, refl, sym, ap, ◌∙◌, subst, append_assoc, arith, inl, inr, true≢false}
+use Rattle.std.proofs.Common.{◌≡◌, ℕ, ◌<◌, List, [], ◌∷◌, ◌++◌, length, Bool, true, false, Option, Some, None, refl, sym, ap, ◌∙◌, subst}
+use Rattle.std.proofs.Common.{append_assoc, arith, inl, inr, true≢false}
 use Rattle.std.specs.Prelude.{◌&&◌, codes, if◌then◌else◌}
 use Rattle.std.specs.Str.{bytes_eq}
 use Rattle.std.proofs.lemmas.Slice.Eq.{bytes_eq-Decides}
@@ -75,10 +76,12 @@ no_name_default = refl
 abbrev pub item_sign : Sign → Bool
 item_sign s =
     if begins_sign s then true
-    else (if same_sign s signs.OpenBrace then true else (if same_sign s signs.Semicolon then true else (if same_sign s signs.PlusPlus then true else same_sign s signs.MinusMinus)))
+    else (if same_sign s signs.OpenBrace then true else
+    (if same_sign s signs.Semicolon then true else (if same_sign s signs.PlusPlus then true else same_sign s signs.MinusMinus)))
 
 abbrev pub item_words : List Name
-item_words = codes "if" ∷ codes "while" ∷ codes "do" ∷ codes "switch" ∷ codes "break" ∷ codes "continue" ∷ codes "return" ∷ codes "final" ∷ codes "int" ∷ codes "boolean" ∷ []
+item_words = codes "if" ∷ codes "while" ∷ codes "do" ∷ codes "switch" ∷ codes "break" ∷ codes "continue" ∷ codes "return" ∷ codes "final" ∷
+    codes "int" ∷ codes "boolean" ∷ []
 
 abbrev pub item_word : Name → Bool
 item_word w = if begins_word w then true else is_among item_words w
@@ -139,10 +142,18 @@ starting_no_else us b = starting_no_word (codes "else") us (rw no_name_else refl
 
 pub starting_goes : (us : List Token) → Starting us → goes_on us ≡ true
 starting_goes us b =
-    rw (starting_no_sign signs.CloseBrace us refl b, starting_no_word (codes "case") us (rw no_name_case refl) b, starting_no_word (codes "default") us (rw no_name_default refl) b) refl
+    rw (
+      starting_no_sign signs.CloseBrace us refl b,
+      starting_no_word (codes "case") us (rw no_name_case refl) b,
+      starting_no_word (codes "default") us (rw no_name_default refl) b,
+    ) refl
 
 pub starting_no_case : (us : List Token) → Starting us → is_case us ≡ false
-starting_no_case us b = rw (starting_no_word (codes "case") us (rw no_name_case refl) b, starting_no_word (codes "default") us (rw no_name_default refl) b) refl
+starting_no_case us b = rw (
+  starting_no_word (codes "case") us (rw no_name_case refl) b,
+  starting_no_word (codes "default") us
+      (rw no_name_default refl) b,
+) refl
 
 -- an item begins with a word of its own
 own_word : (p : Place) (w : Name) (us vs : List Token) → us ≡ word p w ∷ vs → item_word w ≡ true → Starting us
@@ -204,12 +215,16 @@ counter_starts signs.Caret o h = absurd (none_is_not o h)
 counter_starts signs.Tilde o h = absurd (none_is_not o h)
 
 assign_starts : (p : Place) (t v : Expr) (us : List Token) → IsAssign p t v us → Starting us
-assign_starts p t v us (inl (place, a, b, vs, ws, parts, target, free)) = subst Starting (sym parts) (starting_more vs _ (target_starts t vs target))
-assign_starts p t v us (inr (inl (place, s, o, e, a, b, vs, ws, parts, comp, is, target, free))) = subst Starting (sym parts) (starting_more vs _ (target_starts t vs target))
-assign_starts p t v us (inr (inr (inl (place, s, o, a, b, vs, parts, count, is, target)))) = subst Starting (sym parts) (starting_more vs _ (target_starts t vs target))
+assign_starts p t v us (inl (place, a, b, vs, ws, parts, target, free)) =
+    subst Starting (sym parts) (starting_more vs _ (target_starts t vs target))
+assign_starts p t v us (inr (inl (place, s, o, e, a, b, vs, ws, parts, comp, is, target, free))) =
+    subst Starting (sym parts) (starting_more vs _ (target_starts t vs target))
+assign_starts p t v us (inr (inr (inl (place, s, o, a, b, vs, parts, count, is, target)))) =
+    subst Starting (sym parts) (starting_more vs _ (target_starts t vs target))
 assign_starts p t v us (inr (inr (inr (s, o, b, vs, parts, count, is, target)))) = own_sign p s us _ parts (counter_starts s o count)
 
-label_starts : (p a : Place) (l : Option Name) (w : Name) (us vs : List Token) → IsLabel p a l us → item_word w ≡ true → Starting (us ++ word a w ∷ vs)
+label_starts : (p a : Place) (l : Option Name) (w : Name) (us vs : List Token) → IsLabel p a l us → item_word w ≡ true →
+    Starting (us ++ word a w ∷ vs)
 label_starts p a None w us vs (same, parts) h = rw parts (own_word a w (word a w ∷ vs) vs refl h)
 label_starts p a (Some n) w us vs (name, b, parts) h = rw parts (own_word p n _ _ refl (name_starts n name))
 
@@ -250,14 +265,18 @@ stmt_starts (Local p ty n e) us h = absurd h
 stmt_starts (Assign p t e) us h = assign_starts p t e us h
 stmt_starts (If p c s) us (vs, ws, parts, cond, h) = own_word p (codes "if") us _ parts starts_if
 stmt_starts (IfElse p c s r) us (a, vs, ws, xs, parts, cond, h, open_if, g) = own_word p (codes "if") us _ parts starts_if
-stmt_starts (While p l c s) us (a, vs, ws, xs, parts, label, cond, h) = subst Starting (sym parts) (label_starts p a l (codes "while") vs _ label starts_while)
-stmt_starts (Do p l s c) us (a, b, d, vs, ws, xs, parts, label, h, cond) = subst Starting (sym parts) (label_starts p a l (codes "do") vs _ label starts_do)
+stmt_starts (While p l c s) us (a, vs, ws, xs, parts, label, cond, h) =
+    subst Starting (sym parts) (label_starts p a l (codes "while") vs _ label starts_while)
+stmt_starts (Do p l s c) us (a, b, d, vs, ws, xs, parts, label, h, cond) =
+    subst Starting (sym parts) (label_starts p a l (codes "do") vs _ label starts_do)
 stmt_starts (Switch p e gs end) us (a, vs, ws, parts, cond, h) = own_word p (codes "switch") us _ parts starts_switch
 stmt_starts (Break p l) us (a, vs, parts, h) = own_word p (codes "break") us _ parts starts_break
 stmt_starts (Continue p l) us (a, vs, parts, h) = own_word p (codes "continue") us _ parts starts_continue
 stmt_starts (Return p e) us (a, vs, parts, h) = own_word p (codes "return") us _ parts starts_return
-stmt_starts (Print p e) us (begins, c, a, vs, parts, free, is) = subst Starting (sym parts) (starting_more vs _ (of_begins vs (expr_begins 400 c vs free)))
-stmt_starts (Eval p e) us (begins, c, a, vs, parts, free, is) = subst Starting (sym parts) (starting_more vs _ (of_begins vs (expr_begins 400 c vs free)))
+stmt_starts (Print p e) us (begins, c, a, vs, parts, free, is) =
+    subst Starting (sym parts) (starting_more vs _ (of_begins vs (expr_begins 400 c vs free)))
+stmt_starts (Eval p e) us (begins, c, a, vs, parts, free, is) =
+    subst Starting (sym parts) (starting_more vs _ (of_begins vs (expr_begins 400 c vs free)))
 
 type_starts : (ty : TypeName) → IsType ty → item_word (type_word ty) ≡ true
 type_starts types.Void h = absurd h
@@ -270,7 +289,8 @@ pub local_starts : (s : Stmt) (us : List Token) → IsLocal s us → Starting us
 local_starts (Block p body end) us h = absurd h
 local_starts (Empty p) us h = absurd h
 local_starts (Local p ty n e) us (of_type, name, a, b, c, vs, ws, parts, final, free) = subst Starting (sym parts) (by_final vs final) where
-  by_final : (vs : List Token) → IsFinal vs → Starting (vs ++ word a (type_word ty) ∷ word p n ∷ sign b signs.Assign ∷ (ws ++ sign c signs.Semicolon ∷ []))
+  by_final : (vs : List Token) → IsFinal vs →
+      Starting (vs ++ word a (type_word ty) ∷ word p n ∷ sign b signs.Assign ∷ (ws ++ sign c signs.Semicolon ∷ []))
   by_final vs (inl h) = rw h (own_word a (type_word ty) _ _ refl (type_starts ty of_type))
   by_final vs (inr (q, h)) = rw h (own_word q (codes "final") _ _ refl starts_final)
 local_starts (Assign p t e) us h = absurd h
@@ -291,20 +311,28 @@ local_starts (Eval p e) us h = absurd h
 pub local_decl : (s : Stmt) (us rest : List Token) → IsLocal s us → is_decl (us ++ rest) ≡ true
 local_decl (Block p body end) us rest h = absurd h
 local_decl (Empty p) us rest h = absurd h
-local_decl (Local p ty n e) us rest (of_type, name, a, b, c, vs, ws, parts, final, free) = rw (parts, append_assoc) (by_final vs final) where
-  back : List Token
-  back = word a (type_word ty) ∷ word p n ∷ sign b signs.Assign ∷ ((ws ++ sign c signs.Semicolon ∷ []) ++ rest)
+local_decl (Local p ty n e) us rest (of_type, name, a, b, c, vs, ws, parts, final, free) = rw (parts, append_assoc) (by_final vs final)
+  where
+    back : List Token
+    back = word a (type_word ty) ∷ word p n ∷ sign b signs.Assign ∷ ((ws ++ sign c signs.Semicolon ∷ []) ++ rest)
 
-  typed : (ty : TypeName) → IsType ty → is_decl (word a (type_word ty) ∷ word p n ∷ sign b signs.Assign ∷ ((ws ++ sign c signs.Semicolon ∷ []) ++ rest)) ≡ true
-  typed types.Void h = absurd h
-  typed types.Int h = refl
-  typed types.Boolean h = refl
-  typed types.Text h = rw (name_String, name) refl
-  typed (types.Named m) h = rw (h.0, name, name_is_not m (codes "final") h.0 final_no_name, name_is_not m (codes "int") h.0 no_name_int, name_is_not m (codes "boolean") h.0 no_name_boolean) refl
+    typed : (ty : TypeName) → IsType ty →
+        is_decl (word a (type_word ty) ∷ word p n ∷ sign b signs.Assign ∷ ((ws ++ sign c signs.Semicolon ∷ []) ++ rest)) ≡ true
+    typed types.Void h = absurd h
+    typed types.Int h = refl
+    typed types.Boolean h = refl
+    typed types.Text h = rw (name_String, name) refl
+    typed (types.Named m) h = rw (
+      h.0,
+      name,
+      name_is_not m (codes "final") h.0 final_no_name,
+      name_is_not m (codes "int") h.0 no_name_int,
+      name_is_not m (codes "boolean") h.0 no_name_boolean,
+    ) refl
 
-  by_final : (vs : List Token) → IsFinal vs → is_decl (vs ++ back) ≡ true
-  by_final vs (inl h) = rw h (typed ty of_type)
-  by_final vs (inr (q, h)) = rw h refl
+    by_final : (vs : List Token) → IsFinal vs → is_decl (vs ++ back) ≡ true
+    by_final vs (inl h) = rw h (typed ty of_type)
+    by_final vs (inr (q, h)) = rw h refl
 local_decl (Assign p t e) us rest h = absurd h
 local_decl (If p c s) us rest h = absurd h
 local_decl (IfElse p c s r) us rest h = absurd h
@@ -328,10 +356,17 @@ pub record After (ts : List Token) : Type 0 where
   pub unnamed : is_named ts ≡ false
   pub uncolon : is_sign signs.Colon ts ≡ false
   pub unchanged : is_change ts ≡ false
-  pub member : (a b : Token) (us : List Token) → ts ≡ a ∷ b ∷ us → is_sign signs.Dot (a ∷ []) ≡ true → is_named (b ∷ []) ≡ true → is_change us ≡ false
+  pub member : (a b : Token) (us : List Token) → ts ≡ a ∷ b ∷ us → is_sign signs.Dot (a ∷ []) ≡ true → is_named (b ∷ []) ≡ true →
+      is_change us ≡ false
 
 pub after_semicolon : (p : Place) (ts : List Token) → After (sign p signs.Semicolon ∷ ts)
-after_semicolon p ts = record { unnamed = refl; uncolon = refl; unchanged = refl; member = λ a b us e dot name. absurd (no_dot a b us e dot) } where
+after_semicolon p ts = record {
+  unnamed = refl;
+  uncolon = refl;
+  unchanged = refl;
+  member =
+      λ a b us e dot name. absurd (no_dot a b us e dot);
+} where
   kind_of_first : List Token → TokenKind
   kind_of_first [] = kinds.Number 0
   kind_of_first (t ∷ ts) = t.kind
@@ -340,13 +375,14 @@ after_semicolon p ts = record { unnamed = refl; uncolon = refl; unchanged = refl
   no_dot a b us e dot = true≢false (sym dot ∙ ap (is_sign_kind signs.Dot) (sym (ap kind_of_first e)))
 
 after_paren : (p : Place) (ts : List Token) → After (sign p signs.OpenParen ∷ ts)
-after_paren p ts = record { unnamed = refl; uncolon = refl; unchanged = refl; member = λ a b us e dot name. absurd (no_dot a b us e dot) } where
-  kind_of_first : List Token → TokenKind
-  kind_of_first [] = kinds.Number 0
-  kind_of_first (t ∷ ts) = t.kind
+after_paren p ts = record { unnamed = refl; uncolon = refl; unchanged = refl; member = λ a b us e dot name. absurd (no_dot a b us e dot) }
+  where
+    kind_of_first : List Token → TokenKind
+    kind_of_first [] = kinds.Number 0
+    kind_of_first (t ∷ ts) = t.kind
 
-  no_dot : (a b : Token) (us : List Token) → sign p signs.OpenParen ∷ ts ≡ a ∷ b ∷ us → is_sign signs.Dot (a ∷ []) ≡ true → ⊥
-  no_dot a b us e dot = true≢false (sym dot ∙ ap (is_sign_kind signs.Dot) (sym (ap kind_of_first e)))
+    no_dot : (a b : Token) (us : List Token) → sign p signs.OpenParen ∷ ts ≡ a ∷ b ∷ us → is_sign signs.Dot (a ∷ []) ≡ true → ⊥
+    no_dot a b us e dot = true≢false (sym dot ∙ ap (is_sign_kind signs.Dot) (sym (ap kind_of_first e)))
 
 after_dot : (p q : Place) (n : Name) (ts : List Token) → is_change ts ≡ false → After (sign p signs.Dot ∷ word q n ∷ ts)
 after_dot p q n ts h = record { unnamed = refl; uncolon = refl; unchanged = refl; member = member } where
@@ -355,13 +391,20 @@ after_dot p q n ts h = record { unnamed = refl; uncolon = refl; unchanged = refl
   rest_of (a ∷ []) = []
   rest_of (a ∷ b ∷ us) = us
 
-  member : (a b : Token) (us : List Token) → sign p signs.Dot ∷ word q n ∷ ts ≡ a ∷ b ∷ us → is_sign signs.Dot (a ∷ []) ≡ true → is_named (b ∷ []) ≡ true → is_change us ≡ false
+  member : (a b : Token) (us : List Token) → sign p signs.Dot ∷ word q n ∷ ts ≡ a ∷ b ∷ us → is_sign signs.Dot (a ∷ []) ≡ true →
+      is_named (b ∷ []) ≡ true → is_change us ≡ false
   member a b us e dot name = ap is_change (sym (ap rest_of e)) ∙ h
 
 -- a word in front of what follows an expression
 quiet_name : (p : Place) (n : Name) (ts : List Token) → IsName n → After ts → Quiet (word p n ∷ ts)
 quiet_name p n ts name a = record {
-  undeclared = rw (name_is_not n (codes "final") name final_no_name, name_is_not n (codes "int") name no_name_int, name_is_not n (codes "boolean") name no_name_boolean, name, a.unnamed) refl;
+  undeclared = rw (
+    name_is_not n (codes "final") name final_no_name,
+    name_is_not n (codes "int") name no_name_int,
+    name_is_not n (codes "boolean") name no_name_boolean,
+    name,
+    a.unnamed,
+  ) refl;
   unlabelled = rw (name, a.uncolon) refl;
   unassigned = by_field ts a.unchanged;
 } where
@@ -377,20 +420,24 @@ quiet_this p ts a = record { undeclared = rw no_name_this refl; unlabelled = rw 
   and_false true false z h = refl
   and_false true true z h = h refl refl
 
-  by_field : (ts : List Token) → ((a b : Token) (us : List Token) → ts ≡ a ∷ b ∷ us → is_sign signs.Dot (a ∷ []) ≡ true → is_named (b ∷ []) ≡ true → is_change us ≡ false) → is_assign (word p (codes "this") ∷ ts) ≡ false
+  by_field : (ts : List Token) → ((a b : Token) (us : List Token) → ts ≡ a ∷ b ∷ us → is_sign signs.Dot (a ∷ []) ≡ true →
+      is_named (b ∷ []) ≡ true → is_change us ≡ false) → is_assign (word p (codes "this") ∷ ts) ≡ false
   by_field [] h = rw no_name_this refl
   by_field (x ∷ []) h = rw no_name_this refl
-  by_field (x ∷ y ∷ us) h = rw (no_name_this, and_false (is_sign signs.Dot (x ∷ [])) (is_named (y ∷ [])) (is_change us) (h x y us refl)) refl
+  by_field (x ∷ y ∷ us) h = rw (no_name_this, and_false (is_sign signs.Dot (x ∷ [])) (is_named (y ∷ [])) (is_change us) (h x y us refl))
+      refl
 
 -- another word that begins an expression
-quiet_word : (p : Place) (w : Name) (ts : List Token) → is_name w ≡ false → bytes_eq w (codes "final") ≡ false → bytes_eq w (codes "int") ≡ false → bytes_eq w (codes "boolean") ≡ false → bytes_eq w (codes "this") ≡ false → Quiet (word p w ∷ ts)
+quiet_word : (p : Place) (w : Name) (ts : List Token) → is_name w ≡ false → bytes_eq w (codes "final") ≡ false →
+    bytes_eq w (codes "int") ≡ false → bytes_eq w (codes "boolean") ≡ false → bytes_eq w (codes "this") ≡ false → Quiet (word p w ∷ ts)
 quiet_word p w ts h a b c d = record { undeclared = rw (h, a, b, c) refl; unlabelled = rw h refl; unassigned = by_field ts } where
   by_field : (ts : List Token) → is_assign (word p w ∷ ts) ≡ false
   by_field [] = rw h refl
   by_field (x ∷ []) = rw h refl
   by_field (x ∷ y ∷ us) = rw (h, d) refl
 
-quiet_other : (t : Token) (ts : List Token) → is_decl (t ∷ ts) ≡ false → is_named (t ∷ []) ≡ false → is_counter (t ∷ ts) ≡ false → is_word (codes "this") (t ∷ []) ≡ false → Quiet (t ∷ ts)
+quiet_other : (t : Token) (ts : List Token) → is_decl (t ∷ ts) ≡ false → is_named (t ∷ []) ≡ false → is_counter (t ∷ ts) ≡ false →
+    is_word (codes "this") (t ∷ []) ≡ false → Quiet (t ∷ ts)
 quiet_other t ts decl name count this = record { undeclared = decl; unlabelled = rw name refl; unassigned = by_field ts count } where
   by_field : (ts : List Token) → is_counter (t ∷ ts) ≡ false → is_assign (t ∷ ts) ≡ false
   by_field [] c = rw (c, name) refl
@@ -400,14 +447,16 @@ quiet_other t ts decl name count this = record { undeclared = decl; unlabelled =
 module _ (m : ℕ) (G : Language) where
   simple_quiet : (e : Expr) (us rest : List Token) → After rest → IsSimple m G e us → Quiet (us ++ rest)
   simple_quiet (Int p z) us rest a (inl (n, less, value, parts)) = rw parts (quiet_other (number p n) rest refl refl refl refl)
-  simple_quiet (Int p z) us rest a (inr (n, q, less, value, parts)) = rw parts (quiet_other (sign p signs.Minus) (number q n ∷ rest) refl refl refl refl)
+  simple_quiet (Int p z) us rest a (inr (n, q, less, value, parts)) =
+      rw parts (quiet_other (sign p signs.Minus) (number q n ∷ rest) refl refl refl refl)
   simple_quiet (Truth p true) us rest a parts = rw parts (quiet_word p (codes "true") rest no_name_true refl refl refl refl)
   simple_quiet (Truth p false) us rest a parts = rw parts (quiet_word p (codes "false") rest no_name_false refl refl refl refl)
   simple_quiet (Text p t) us rest a parts = rw parts (quiet_other (quoted p t) rest refl refl refl refl)
   simple_quiet (Null p) us rest a parts = rw parts (quiet_word p (codes "null") rest no_name_null refl refl refl refl)
   simple_quiet (This p) us rest a parts = rw parts (quiet_this p rest a)
   simple_quiet (Variable p n) us rest a (name, parts) = rw parts (quiet_name p n rest name a)
-  simple_quiet (Call p n args) us rest a (name, vs, parts, (less, b, c, ws, opens, h)) = rw (parts, opens) (quiet_name p n _ name (after_paren b _))
+  simple_quiet (Call p n args) us rest a (name, vs, parts, (less, b, c, ws, opens, h)) =
+      rw (parts, opens) (quiet_name p n _ name (after_paren b _))
   simple_quiet (New p n) us rest a (less, name, b, c, d, parts) = rw parts (quiet_word p (codes "new") _ no_name_new refl refl refl refl)
   simple_quiet (Member p e n) us rest a h = absurd h
   simple_quiet (Neg p e) us rest a h = absurd h
@@ -427,14 +476,16 @@ module _ (m : ℕ) (G : Language) where
   post_quiet (This p) us rest x h = primary_quiet (This p) us rest x h
   post_quiet (Variable p n) us rest x h = primary_quiet (Variable p n) us rest x h
   post_quiet (Member p e n) us rest x (inl h) = primary_quiet (Member p e n) us rest x h
-  post_quiet (Member p e n) us rest x (inr (name, place, a, b, vs, parts, h)) = rw (parts, append_assoc) (post_quiet e vs (sign a signs.Dot ∷ word b n ∷ rest) (after_dot a b n rest x.unchanged) h)
+  post_quiet (Member p e n) us rest x (inr (name, place, a, b, vs, parts, h)) =
+      rw (parts, append_assoc) (post_quiet e vs (sign a signs.Dot ∷ word b n ∷ rest) (after_dot a b n rest x.unchanged) h)
   post_quiet (Neg p e) us rest x h = primary_quiet (Neg p e) us rest x h
   post_quiet (Not p e) us rest x h = primary_quiet (Not p e) us rest x h
   post_quiet (Binary p o l r) us rest x h = primary_quiet (Binary p o l r) us rest x h
   post_quiet (Call p n args) us rest x h = primary_quiet (Call p n args) us rest x h
   post_quiet (MethodCall p e n args) us rest x (inl h) = primary_quiet (MethodCall p e n args) us rest x h
   post_quiet (MethodCall p e n args) us rest x (inr (name, place, a, b, vs, ws, parts, h, given)) =
-      rw (parts, append_assoc) (post_quiet e vs (sign a signs.Dot ∷ word b n ∷ (ws ++ rest)) (after_dot a b n (ws ++ rest) (opened ws given)) h) where
+      rw (parts, append_assoc) (post_quiet e vs (sign a signs.Dot ∷ word b n ∷ (ws ++ rest))
+      (after_dot a b n (ws ++ rest) (opened ws given)) h) where
         opened : (ws : List Token) → AreArguments m G args ws → is_change (ws ++ rest) ≡ false
         opened ws (less, c, d, xs, opens, h) = rw opens refl
   post_quiet (New p n) us rest x h = primary_quiet (New p n) us rest x h

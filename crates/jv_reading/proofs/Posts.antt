@@ -1,5 +1,6 @@
 -- What "." appends to an expression is read exactly, and what "-" and "!" put in front of one.
-use Rattle.std.proofs.Common.{◌≡◌, ℕ, suc, ◌-◌, ◌<◌, ◌≤◌, List, [], ◌∷◌, ◌++◌, length, true, Some, refl, sym, ap, ◌∙◌, subst, append_assoc, append-nil, length-append, arith, inl, inr}
+use Rattle.std.proofs.Common.{◌≡◌, ℕ, suc, ◌-◌, ◌<◌, ◌≤◌, List, [], ◌∷◌, ◌++◌, length, true, Some, refl, sym, ap, ◌∙◌, subst, append_assoc}
+use Rattle.std.proofs.Common.{append-nil, length-append, arith, inl, inr}
 use Rattle.mg_read.proofs.Steps.{bind_some, chosen, Takes}
 use Rattle.mg_read.proofs.Lists.{IsExact}
 use Rattle.jv_tree.specs.declared.token.Sign.TheVariants as signs
@@ -37,7 +38,8 @@ module _ (m : ℕ) (inner : ℕ → Reads) (G : Language) (reading : (d : ℕ) �
   post_base (New p n) us h = h
 
   -- one more "." behind an expression
-  tail_sound : (d : ℕ) (e : Expr) (us ts : List Token) (x : Expr × List Token) → Post d e us → tail_with m inner d e ts ≡ Some x → Takes (λ vs. Post d x.0 (us ++ vs)) ts x.1
+  tail_sound : (d : ℕ) (e : Expr) (us ts : List Token) (x : Expr × List Token) → Post d e us → tail_with m inner d e ts ≡ Some x →
+      Takes (λ vs. Post d x.0 (us ++ vs)) ts x.1
   unfolding tail_with member_with
   tail_sound d e us ts x (post, le) h =
       let a = bind_some (sign_at signs.Dot ts) _ x h in
@@ -64,7 +66,8 @@ module _ (m : ℕ) (inner : ℕ → Reads) (G : Language) (reading : (d : ℕ) �
             })
       ]
 
-  pub tail_shorter : (d : ℕ) (e : Expr) (ts : List Token) (x : Expr × List Token) → tail_with m inner d e ts ≡ Some x → length x.1 < length ts
+  pub tail_shorter : (d : ℕ) (e : Expr) (ts : List Token) (x : Expr × List Token) → tail_with m inner d e ts ≡ Some x →
+      length x.1 < length ts
   unfolding tail_with member_with
   tail_shorter d e ts x h =
       let a = bind_some (sign_at signs.Dot ts) _ x h in
@@ -90,7 +93,8 @@ module _ (m : ℕ) (inner : ℕ → Reads) (G : Language) (reading : (d : ℕ) �
   post_sound d ts x e =
       let s = bind_some (primary_with m inner d ts) _ x e in
       let one = (primary_exact m inner G reading d).sound ts s.0 s.1 in
-      let more = grow_sound (is_sign signs.Dot) (tail_with m inner d) (Post d) (tail_sound d) (suc (length s.0.1)) s.0.0 one.front s.0.1 x (post_base s.0.0 one.front one.holds.0, one.holds.1) s.2 in
+      let more = grow_sound (is_sign signs.Dot) (tail_with m inner d) (Post d) (tail_sound d) (suc (length s.0.1)) s.0.0 one.front s.0.1 x
+      (post_base s.0.0 one.front one.holds.0, one.holds.1) s.2 in
       record { front = one.front ++ more.front; parts = glue one.front more.front x.1 one.parts more.parts; holds = more.holds }
 
   -- Behind the tokens of an expression the reader is at this expression, having begun with a primary one.
@@ -106,9 +110,20 @@ module _ (m : ℕ) (inner : ℕ → Reads) (G : Language) (reading : (d : ℕ) �
 
   begun_alone : (d : ℕ) (e : Expr) (us rest : List Token) → Unopened rest → IsPrimary m G e us → depth e ≤ d → Begun d e us rest
   begun_alone d e us rest fine h le =
-      record { first = e; front = us; back = []; parts = sym (append-nil us); begins = h; less = le; unopened = fine; goes = Reaches-here (is_sign signs.Dot) (tail_with m inner d) e rest }
+      record {
+        first = e;
+        front = us;
+        back = [];
+        parts = sym (append-nil us);
+        begins = h;
+        less = le;
+        unopened = fine;
+        goes =
+            Reaches-here (is_sign signs.Dot) (tail_with m inner d) e rest;
+      }
 
-  begun_more : (d : ℕ) (e f : Expr) (us vs rest : List Token) → Begun d e us (vs ++ rest) → is_sign signs.Dot (vs ++ rest) ≡ true → tail_with m inner d e (vs ++ rest) ≡ Some (f, rest) → 0 < length vs
+  begun_more : (d : ℕ) (e f : Expr) (us vs rest : List Token) → Begun d e us (vs ++ rest) → is_sign signs.Dot (vs ++ rest) ≡ true →
+      tail_with m inner d e (vs ++ rest) ≡ Some (f, rest) → 0 < length vs
       → Begun d f (us ++ vs) rest
   begun_more d e f us vs rest b dot step some =
       let together : (b.back ++ vs) ++ rest ≡ b.back ++ (vs ++ rest) = append_assoc b.back vs rest in
@@ -122,7 +137,8 @@ module _ (m : ℕ) (inner : ℕ → Reads) (G : Language) (reading : (d : ℕ) �
         less = b.less;
         unopened = subst Unopened (sym together) b.unopened;
         goes = subst (λ (r : List Token). Reaches (is_sign signs.Dot) (tail_with m inner d) b.first r f rest) (sym together)
-            (Reaches-step (is_sign signs.Dot) (tail_with m inner d) b.first e f (b.back ++ (vs ++ rest)) (vs ++ rest) rest dot step shorter b.goes);
+            (Reaches-step (is_sign signs.Dot) (tail_with m inner d) b.first e f (b.back ++ (vs ++ rest)) (vs ++ rest) rest dot step shorter
+            b.goes);
       }
 
   begun : (d : ℕ) (e : Expr) (us rest : List Token) → Unopened rest → IsPost m G e us → depth e ≤ d → Begun d e us rest
@@ -142,17 +158,21 @@ module _ (m : ℕ) (inner : ℕ → Reads) (G : Language) (reading : (d : ℕ) �
   begun d (Member p e n) us rest fine (inr (name, place, a, b, vs, parts, h)) le =
       let tail : List Token = sign a signs.Dot ∷ word b n ∷ [] in
       let before = begun d e vs (tail ++ rest) refl h (omega arith) in
-      let reads : tail_with m inner d e (tail ++ rest) ≡ Some (Member p e n, rest) = rw (name, fine, place) (fits_again d (Member (place_of e) e n) rest le) in
-      subst (λ (r : List Token). Begun d (Member p e n) r rest) (sym parts) (begun_more d e (Member p e n) vs tail rest before refl reads (omega arith))
+      let reads : tail_with m inner d e (tail ++ rest) ≡ Some (Member p e n, rest) =
+      rw (name, fine, place) (fits_again d (Member (place_of e) e n) rest le) in
+      subst (λ (r : List Token). Begun d (Member p e n) r rest) (sym parts) (begun_more d e (Member p e n) vs tail rest before refl reads
+      (omega arith))
   begun d (MethodCall p e n args) us rest fine (inl h) le = begun_alone d (MethodCall p e n args) us rest fine h le
   begun d (MethodCall p e n args) us rest fine (inr (name, place, a, b, vs, ws, parts, h, given)) le =
       let tail : List Token = sign a signs.Dot ∷ word b n ∷ ws in
       let before = begun d e vs (tail ++ rest) refl h (omega arith) in
       let opens : is_sign signs.OpenParen (ws ++ rest) ≡ true = opened ws given in
       let args_read = arguments_complete (inner (d - 1)) G (d - 1) (reading (d - 1)) m args ws rest given (omega arith) in
-      let whole : fits d (MethodCall (place_of e) e n (exprs_of (list_of args))) rest ≡ Some (MethodCall p e n args, rest) = rw (exprs-list_of, place) (fits_again d (MethodCall (place_of e) e n args) rest le) in
+      let whole : fits d (MethodCall (place_of e) e n (exprs_of (list_of args))) rest ≡ Some (MethodCall p e n args, rest) =
+      rw (exprs-list_of, place) (fits_again d (MethodCall (place_of e) e n args) rest le) in
       let reads : tail_with m inner d e (tail ++ rest) ≡ Some (MethodCall p e n args, rest) = rw (name, opens, args_read) whole in
-      subst (λ (r : List Token). Begun d (MethodCall p e n args) r rest) (sym parts) (begun_more d e (MethodCall p e n args) vs tail rest before refl reads (omega arith)) where
+      subst (λ (r : List Token). Begun d (MethodCall p e n args) r rest) (sym parts) (begun_more d e (MethodCall p e n args) vs tail rest
+      before refl reads (omega arith)) where
         opened : (us : List Token) → AreArguments m G args us → is_sign signs.OpenParen (us ++ rest) ≡ true
         opened us (less, a, b, vs, parts, h) = rw parts refl
 

@@ -1,5 +1,6 @@
 -- Primary expressions, and what "." appends to them, are read exactly.
-use Rattle.std.proofs.Common.{◌≡◌, ℕ, zero, suc, ◌-◌, ◌<◌, ◌≤◌, List, [], ◌∷◌, ◌++◌, true, false, eqb, Some, refl, sym, ap, subst, append_assoc, arith, inl, inr}
+use Rattle.std.proofs.Common.{◌≡◌, ℕ, zero, suc, ◌-◌, ◌<◌, ◌≤◌, List, [], ◌∷◌, ◌++◌, true, false, eqb, Some, refl, sym, ap, subst}
+use Rattle.std.proofs.Common.{append_assoc, arith, inl, inr}
 use Rattle.std.specs.Prelude.{leb, codes}
 use Rattle.std.specs.Str.{bytes_eq}
 use Rattle.std.proofs.lemmas.Bool.{leb-true, le-leb}
@@ -20,9 +21,11 @@ use Rattle.jv_tree.specs.Tokens.{word, number, quoted, sign, is_name, IsName}
 use Rattle.jv_tree.specs.Expressions.{Language, AreArguments, IsSimple, IsPrimary}
 use Rattle.jv_tree.specs.View.{exprs_of}
 use Rattle.jv_reading.specs.Base.{same_sign, sign_at, is_sign, name_at, fits}
-use Rattle.jv_reading.specs.Exprs.{Reads, arguments_with, negative_in, negative_at, new_with, literal, named_with, word_with, signed_with, primary_in, first_with, primary_with}
+use Rattle.jv_reading.specs.Exprs.{Reads, arguments_with, negative_in, negative_at, new_with, literal, named_with, word_with, signed_with}
+use Rattle.jv_reading.specs.Exprs.{primary_in, first_with, primary_with}
 use Rattle.jv_reading.proofs.Steps.{after, same_is, sign_is, name_is, fits_is, fits_again}
-use Rattle.jv_reading.proofs.Args.{Within, list_of, exprs-list_of, Reading, arguments_sound, arguments_complete, closed_sound, closed_complete}
+use Rattle.jv_reading.proofs.Args.{Within, list_of, exprs-list_of, Reading, arguments_sound, arguments_complete, closed_sound}
+use Rattle.jv_reading.proofs.Args.{closed_complete}
 
 -- what may follow a primary expression
 abbrev pub Unopened : List Token → Type 0
@@ -80,13 +83,17 @@ literal_is : (m : ℕ) (inner : Language) (p : Place) (w : Name) (e : Expr) → 
 unfolding literal
 literal_is m inner p w e h =
     elim (chosen (bytes_eq w (codes "true")) _ _ (Some e) h) [
-      | inl t ↦ subst (LiteralOf m inner p w) (some_is _ e t.1) ((ap (λ (v : Name). word p v ∷ []) ((bytes_eq-Decides w (codes "true")).0 t.0), omega arith))
+      | inl t ↦ subst (LiteralOf m inner p w) (some_is _ e t.1)
+          ((ap (λ (v : Name). word p v ∷ []) ((bytes_eq-Decides w (codes "true")).0 t.0), omega arith))
       | inr t ↦ elim (chosen (bytes_eq w (codes "false")) _ _ (Some e) t.1) [
-        | inl t ↦ subst (LiteralOf m inner p w) (some_is _ e t.1) ((ap (λ (v : Name). word p v ∷ []) ((bytes_eq-Decides w (codes "false")).0 t.0), omega arith))
+        | inl t ↦ subst (LiteralOf m inner p w) (some_is _ e t.1)
+            ((ap (λ (v : Name). word p v ∷ []) ((bytes_eq-Decides w (codes "false")).0 t.0), omega arith))
         | inr t ↦ elim (chosen (bytes_eq w (codes "null")) _ _ (Some e) t.1) [
-          | inl t ↦ subst (LiteralOf m inner p w) (some_is _ e t.1) ((ap (λ (v : Name). word p v ∷ []) ((bytes_eq-Decides w (codes "null")).0 t.0), omega arith))
+          | inl t ↦ subst (LiteralOf m inner p w) (some_is _ e t.1)
+              ((ap (λ (v : Name). word p v ∷ []) ((bytes_eq-Decides w (codes "null")).0 t.0), omega arith))
           | inr t ↦ elim (chosen (bytes_eq w (codes "this")) _ _ (Some e) t.1) [
-            | inl t ↦ subst (LiteralOf m inner p w) (some_is _ e t.1) ((ap (λ (v : Name). word p v ∷ []) ((bytes_eq-Decides w (codes "this")).0 t.0), omega arith))
+            | inl t ↦ subst (LiteralOf m inner p w) (some_is _ e t.1)
+                ((ap (λ (v : Name). word p v ∷ []) ((bytes_eq-Decides w (codes "this")).0 t.0), omega arith))
             | inr t ↦ absurd (none_is_not e t.1)
           ]
         ]
@@ -107,7 +114,8 @@ module _ (m : ℕ) (inner : ℕ → Reads) (G : Language) (reading : (d : ℕ) �
       let a = bind_some (sign_at signs.OpenParen n.0.1) _ x n.2 in
       let b = bind_some (sign_at signs.CloseParen a.0.1) _ x a.2 in
       let name = name_is ts n.0 n.1 in
-      subst (λ (y : Expr × List Token). Takes (λ us. IsSimple m G y.0 (word p (codes "new") ∷ us) × (depth y.0 ≤ 1)) ts y.1) (some_is _ x b.2)
+      subst (λ (y : Expr × List Token). Takes (λ us. IsSimple m G y.0 (word p (codes "new") ∷ us) × (depth y.0 ≤ 1)) ts y.1)
+      (some_is _ x b.2)
       (record {
         front = word n.0.0.0 n.0.0.1 ∷ sign a.0.0 signs.OpenParen ∷ sign b.0.0 signs.CloseParen ∷ [];
         parts = after name.0 (after (sign_is signs.OpenParen n.0.1 a.0 a.1) (sign_is signs.CloseParen a.0.1 b.0 b.1));
@@ -118,19 +126,22 @@ module _ (m : ℕ) (inner : ℕ → Reads) (G : Language) (reading : (d : ℕ) �
       → Takes (λ us. IsSimple m G x.0 (sign p signs.Minus ∷ us) × (depth x.0 ≤ 1)) ts x.1
   negative_sound p [] x e = absurd (none_is_not x e)
   negative_sound p (t ∷ ts) x e = by_kind t.place t.kind e where
-    by_kind : (q : Place) (k : TokenKind) → negative_in p k ts ≡ Some x → Takes (λ us. IsSimple m G x.0 (sign p signs.Minus ∷ us) × (depth x.0 ≤ 1)) (record { kind = k; place = q } ∷ ts) x.1
+    by_kind : (q : Place) (k : TokenKind) → negative_in p k ts ≡ Some x →
+        Takes (λ us. IsSimple m G x.0 (sign p signs.Minus ∷ us) × (depth x.0 ≤ 1)) (record { kind = k; place = q } ∷ ts) x.1
     by_kind q (kinds.Word w) e = absurd (none_is_not x e)
     by_kind q (kinds.Number n) e =
         elim (chosen (leb n 2147483648) _ _ (Some x) e) [
           | inl t ↦
-              subst (λ (y : Expr × List Token). Takes (λ us. IsSimple m G y.0 (sign p signs.Minus ∷ us) × (depth y.0 ≤ 1)) (number q n ∷ ts) y.1) (some_is _ x t.1)
+              subst (λ (y : Expr × List Token). Takes (λ us. IsSimple m G y.0 (sign p signs.Minus ∷ us) × (depth y.0 ≤ 1)) (number q n ∷ ts)
+              y.1) (some_is _ x t.1)
               (record { front = number q n ∷ []; parts = refl; holds = (inr (n, q, leb-true n 2147483648 t.0, refl, refl), omega arith) })
           | inr t ↦ absurd (none_is_not x t.1)
         ]
     by_kind q (kinds.Text t) e = absurd (none_is_not x e)
     by_kind q (kinds.Sign s) e = absurd (none_is_not x e)
 
-  named_sound : (d : ℕ) (p : Place) (n : Name) (ts : List Token) (x : Expr × List Token) → 0 < d → IsName n → named_with m inner d p n ts ≡ Some x
+  named_sound : (d : ℕ) (p : Place) (n : Name) (ts : List Token) (x : Expr × List Token) → 0 < d → IsName n →
+      named_with m inner d p n ts ≡ Some x
       → Takes (λ us. IsSimple m G x.0 (word p n ∷ us) × (depth x.0 ≤ d)) ts x.1
   unfolding named_with
   named_sound d p n ts x some name e =
@@ -142,7 +153,8 @@ module _ (m : ℕ) (inner : ℕ → Reads) (G : Language) (reading : (d : ℕ) �
             subst (λ (y : Expr × List Token). Takes (λ us. IsSimple m G y.0 (word p n ∷ us) × (depth y.0 ≤ d)) ts y.1) f.0
             (record { front = one.front; parts = one.parts; holds = ((name, one.front, refl, one.holds.0), f.1) })
         | inr t ↦
-            subst (λ (y : Expr × List Token). Takes (λ us. IsSimple m G y.0 (word p n ∷ us) × (depth y.0 ≤ d)) ts y.1) (some_is (Variable p n, ts) x t.1)
+            subst (λ (y : Expr × List Token). Takes (λ us. IsSimple m G y.0 (word p n ∷ us) × (depth y.0 ≤ d)) ts y.1)
+            (some_is (Variable p n, ts) x t.1)
             (record { front = []; parts = refl; holds = ((name, refl), omega arith) })
       ]
 
@@ -156,16 +168,23 @@ module _ (m : ℕ) (inner : ℕ → Reads) (G : Language) (reading : (d : ℕ) �
           | inl t ↦
               let one = new_sound m p ts x (omega arith) t.1 in
               let same : w ≡ codes "new" = (bytes_eq-Decides w (codes "new")).0 t.0 in
-              record { front = one.front; parts = one.parts; holds = (subst (λ (v : Name). IsSimple m G x.0 (word p v ∷ one.front)) (sym same) one.holds.0, omega (arith, one.holds.1)) }
+              record {
+                front = one.front;
+                parts = one.parts;
+                holds =
+                    (subst (λ (v : Name). IsSimple m G x.0 (word p v ∷ one.front)) (sym same) one.holds.0, omega (arith, one.holds.1));
+              }
           | inr f ↦
               let l = bind_some (literal p w) _ x f.1 in
               let h = literal_is m G p w l.0 l.1 in
-              subst (λ (y : Expr × List Token). Takes (λ us. IsSimple m G y.0 (word p w ∷ us) × (depth y.0 ≤ d)) ts y.1) (some_is (l.0, ts) x l.2)
+              subst (λ (y : Expr × List Token). Takes (λ us. IsSimple m G y.0 (word p w ∷ us) × (depth y.0 ≤ d)) ts y.1)
+              (some_is (l.0, ts) x l.2)
               (record { front = []; parts = refl; holds = (h.0, omega (arith, h.1)) })
         ]
       ]
 
-  signed_sound : (d : ℕ) (p : Place) (s : Sign) (ts : List Token) (x : Expr × List Token) → 0 < d → signed_with m inner d p s ts ≡ Some x → Takes (λ us. IsPrimary m G x.0 (sign p s ∷ us) × (depth x.0 ≤ d)) ts x.1
+  signed_sound : (d : ℕ) (p : Place) (s : Sign) (ts : List Token) (x : Expr × List Token) → 0 < d → signed_with m inner d p s ts ≡ Some x →
+      Takes (λ us. IsPrimary m G x.0 (sign p s ∷ us) × (depth x.0 ≤ d)) ts x.1
   unfolding signed_with
   signed_sound d p s ts x some e =
       elim (chosen (same_sign s signs.OpenParen) _ _ (Some x) e) [
@@ -178,19 +197,28 @@ module _ (m : ℕ) (inner : ℕ → Reads) (G : Language) (reading : (d : ℕ) �
           | inl t ↦
               let one = negative_sound p ts x t.1 in
               let same = same_is s signs.Minus t.0 in
-              record { front = one.front; parts = one.parts; holds = (inl (subst (λ (v : Sign). IsSimple m G x.0 (sign p v ∷ one.front)) (sym same) one.holds.0), omega (arith, one.holds.1)) }
+              record {
+                front = one.front;
+                parts = one.parts;
+                holds = (
+                  inl (subst (λ (v : Sign). IsSimple m G x.0 (sign p v ∷ one.front)) (sym same) one.holds.0),
+                  omega (arith, one.holds.1),
+                );
+              }
           | inr f ↦ absurd (none_is_not x f.1)
         ]
       ]
 
   -- a token in front of what was taken
-  taken : (d : ℕ) (t : Token) (ts : List Token) (x : Expr × List Token) → Takes (λ us. IsPrimary m G x.0 (t ∷ us) × (depth x.0 ≤ d)) ts x.1 → Takes (Primary d x.0) (t ∷ ts) x.1
+  taken : (d : ℕ) (t : Token) (ts : List Token) (x : Expr × List Token) → Takes (λ us. IsPrimary m G x.0 (t ∷ us) × (depth x.0 ≤ d)) ts x.1
+      → Takes (Primary d x.0) (t ∷ ts) x.1
   taken d t ts x h = record { front = t ∷ h.front; parts = ap (λ (r : List Token). t ∷ r) h.parts; holds = h.holds }
 
   first_sound : (d : ℕ) (ts : List Token) (x : Expr × List Token) → 0 < d → first_with m inner d ts ≡ Some x → Takes (Primary d x.0) ts x.1
   first_sound d [] x some e = absurd (none_is_not x e)
   first_sound d (t ∷ ts) x some e = by_kind t.place t.kind e where
-    by_kind : (p : Place) (k : TokenKind) → primary_in m inner d p k ts ≡ Some x → Takes (Primary d x.0) (record { kind = k; place = p } ∷ ts) x.1
+    by_kind : (p : Place) (k : TokenKind) → primary_in m inner d p k ts ≡ Some x →
+        Takes (Primary d x.0) (record { kind = k; place = p } ∷ ts) x.1
     by_kind p (kinds.Word w) e =
         let one = word_sound d p w ts x some e in
         taken d (word p w) ts x (record { front = one.front; parts = one.parts; holds = (inl one.holds.0, one.holds.1) })
@@ -198,11 +226,16 @@ module _ (m : ℕ) (inner : ℕ → Reads) (G : Language) (reading : (d : ℕ) �
         elim (chosen (leb n 2147483647) _ _ (Some x) e) [
           | inl t ↦
               subst (λ (y : Expr × List Token). Takes (Primary d y.0) (number p n ∷ ts) y.1) (some_is _ x t.1)
-              (record { front = number p n ∷ []; parts = refl; holds = (inl (inl (n, leb-true n 2147483647 t.0, refl, refl)), omega arith) })
+              (record {
+                front = number p n ∷ [];
+                parts = refl;
+                holds = (inl (inl (n, leb-true n 2147483647 t.0, refl, refl)), omega arith);
+              })
           | inr t ↦ absurd (none_is_not x t.1)
         ]
     by_kind p (kinds.Text t) e =
-        subst (λ (y : Expr × List Token). Takes (Primary d y.0) (quoted p t ∷ ts) y.1) (some_is _ x e) (record { front = quoted p t ∷ []; parts = refl; holds = (inl refl, omega arith) })
+        subst (λ (y : Expr × List Token). Takes (Primary d y.0) (quoted p t ∷ ts) y.1) (some_is _ x e)
+        (record { front = quoted p t ∷ []; parts = refl; holds = (inl refl, omega arith) })
     by_kind p (kinds.Sign s) e = taken d (sign p s) ts x (signed_sound d p s ts x some e)
 
   primary_sound : (d : ℕ) (ts : List Token) (x : Expr × List Token) → primary_with m inner d ts ≡ Some x → Takes (Primary d x.0) ts x.1
@@ -213,7 +246,8 @@ module _ (m : ℕ) (inner : ℕ → Reads) (G : Language) (reading : (d : ℕ) �
         | inr f ↦ first_sound d ts x (some_depth d f.0) f.1
       ]
 
-  simple_complete : (d : ℕ) (e : Expr) (ts rest : List Token) → Unopened rest → IsSimple m G e ts → depth e ≤ d → first_with m inner d (ts ++ rest) ≡ Some (e, rest)
+  simple_complete : (d : ℕ) (e : Expr) (ts rest : List Token) → Unopened rest → IsSimple m G e ts → depth e ≤ d →
+      first_with m inner d (ts ++ rest) ≡ Some (e, rest)
   unfolding word_with named_with signed_with literal new_with
   simple_complete d (Int p z) ts rest fine (inl (n, less, value, parts)) le = rw (parts, le-leb n 2147483647 less, value) refl
   simple_complete d (Int p z) ts rest fine (inr (n, q, less, value, parts)) le = rw (parts, le-leb n 2147483648 less, value) refl
@@ -226,7 +260,8 @@ module _ (m : ℕ) (inner : ℕ → Reads) (G : Language) (reading : (d : ℕ) �
   simple_complete d (Call p n args) ts rest fine (name, us, parts, h) le =
       let opens : is_sign signs.OpenParen (us ++ rest) ≡ true = opened us h in
       let reads = arguments_complete (inner (d - 1)) G (d - 1) (reading (d - 1)) m args us rest h (omega arith) in
-      let whole : fits d (Call p n (exprs_of (list_of args))) rest ≡ Some (Call p n args, rest) = rw exprs-list_of (fits_again d (Call p n args) rest le) in
+      let whole : fits d (Call p n (exprs_of (list_of args))) rest ≡ Some (Call p n args, rest) =
+      rw exprs-list_of (fits_again d (Call p n args) rest le) in
       rw (parts, name, opens, reads) whole where
         opened : (us : List Token) → AreArguments m G args us → is_sign signs.OpenParen (us ++ rest) ≡ true
         opened us (less, a, b, vs, parts, h) = rw parts refl
@@ -240,13 +275,16 @@ module _ (m : ℕ) (inner : ℕ → Reads) (G : Language) (reading : (d : ℕ) �
   simple_complete d (Binary p o l r) ts rest fine h le = absurd h
   simple_complete d (MethodCall p e n args) ts rest fine h le = absurd h
 
-  first_complete : (d : ℕ) (e : Expr) (ts rest : List Token) → Unopened rest → IsPrimary m G e ts → depth e ≤ d → first_with m inner d (ts ++ rest) ≡ Some (e, rest)
+  first_complete : (d : ℕ) (e : Expr) (ts rest : List Token) → Unopened rest → IsPrimary m G e ts → depth e ≤ d →
+      first_with m inner d (ts ++ rest) ≡ Some (e, rest)
   unfolding signed_with
   first_complete d e ts rest fine (inl h) le = simple_complete d e ts rest fine h le
-  first_complete d e ts rest fine (inr (a, b, us, parts, h)) le = rw (parts, append_assoc, closed_complete (inner d) G d (reading d) e b us rest (h, le)) refl
+  first_complete d e ts rest fine (inr (a, b, us, parts, h)) le =
+      rw (parts, append_assoc, closed_complete (inner d) G d (reading d) e b us rest (h, le)) refl
 
   pub primary_exact : (d : ℕ) → IsExact (primary_with m inner d) (Primary d) Unopened
   unfolding primary_with
   primary_exact d = record { sound = primary_sound d; complete = complete } where
     complete : (e : Expr) (ts rest : List Token) → Unopened rest → Primary d e ts → primary_with m inner d (ts ++ rest) ≡ Some (e, rest)
-    complete e ts rest fine (h, le) = let some : eqb d 0 ≡ false = no_zero d (omega (arith, depth_pos e)) in rw some (first_complete d e ts rest fine h le)
+    complete e ts rest fine (h, le) = let some : eqb d 0 ≡ false = no_zero d (omega (arith, depth_pos e)) in rw some
+        (first_complete d e ts rest fine h le)

@@ -1,5 +1,6 @@
 -- One step of a reader of tokens, taken apart.
-use Rattle.std.proofs.Common.{◌≡◌, ℕ, ◌≤◌, List, [], ◌∷◌, ◌++◌, true, false, Bool, Some, None, refl, sym, ap, ◌∙◌, subst, inl, inr, true≢false, append_assoc}
+use Rattle.std.proofs.Common.{◌≡◌, ℕ, ◌≤◌, List, [], ◌∷◌, ◌++◌, true, false, Bool, Some, None, refl, sym, ap, ◌∙◌, subst, inl, inr}
+use Rattle.std.proofs.Common.{true≢false, append_assoc}
 use Rattle.std.specs.Prelude.{leb}
 use Rattle.std.specs.Str.{bytes_eq}
 use Rattle.std.proofs.lemmas.Bool.{leb-true, le-leb}
@@ -39,13 +40,15 @@ pub same_self : (s : Sign) → same_sign s s ≡ true
 same_self s = true_same the_type s s refl
 
 -- a sign that was read stands there
-sign_in_is : (s : Sign) (p : Place) (k : TokenKind) (ts : List Token) (x : Place × List Token) → sign_in s p k ts ≡ Some x → record { kind = k; place = p } ∷ ts ≡ sign x.0 s ∷ x.1
+sign_in_is : (s : Sign) (p : Place) (k : TokenKind) (ts : List Token) (x : Place × List Token) → sign_in s p k ts ≡ Some x →
+    record { kind = k; place = p } ∷ ts ≡ sign x.0 s ∷ x.1
 sign_in_is s p (kinds.Word w) ts x e = absurd (none_is_not x e)
 sign_in_is s p (kinds.Number n) ts x e = absurd (none_is_not x e)
 sign_in_is s p (kinds.Text t) ts x e = absurd (none_is_not x e)
 sign_in_is s p (kinds.Sign k) ts x e =
     elim (chosen (same_sign k s) (Some (p, ts)) None (Some x) e) [
-      | inl t ↦ subst (λ (y : Place × List Token). sign p k ∷ ts ≡ sign y.0 s ∷ y.1) (some_is (p, ts) x t.1) (ap (λ (j : Sign). sign p j ∷ ts) (same_is k s t.0))
+      | inl t ↦ subst (λ (y : Place × List Token). sign p k ∷ ts ≡ sign y.0 s ∷ y.1) (some_is (p, ts) x t.1)
+          (ap (λ (j : Sign). sign p j ∷ ts) (same_is k s t.0))
       | inr f ↦ absurd (none_is_not x f.1)
     ]
 
@@ -55,12 +58,14 @@ sign_is s (t ∷ ts) x e = sign_in_is s t.place t.kind ts x e
 
 -- ---- words
 
-word_in_is : (w : Name) (p : Place) (k : TokenKind) (ts : List Token) (x : Place × List Token) → word_in w p k ts ≡ Some x → record { kind = k; place = p } ∷ ts ≡ word x.0 w ∷ x.1
+word_in_is : (w : Name) (p : Place) (k : TokenKind) (ts : List Token) (x : Place × List Token) → word_in w p k ts ≡ Some x →
+    record { kind = k; place = p } ∷ ts ≡ word x.0 w ∷ x.1
 word_in_is w p (kinds.Word v) ts x e =
     elim (chosen (bytes_eq v w) (Some (p, ts)) None (Some x) e) [
       | inl t ↦
           let same : v ≡ w = (bytes_eq-Decides v w).0 t.0 in
-          subst (λ (y : Place × List Token). word p v ∷ ts ≡ word y.0 w ∷ y.1) (some_is (p, ts) x t.1) (ap (λ (m : Name). word p m ∷ ts) same)
+          subst (λ (y : Place × List Token). word p v ∷ ts ≡ word y.0 w ∷ y.1) (some_is (p, ts) x t.1)
+          (ap (λ (m : Name). word p m ∷ ts) same)
       | inr f ↦ absurd (none_is_not x f.1)
     ]
 word_in_is w p (kinds.Number n) ts x e = absurd (none_is_not x e)
@@ -84,10 +89,12 @@ name_is_not n w h k = by_cases (bytes_eq n w) refl where
 
 -- ---- names
 
-name_in_is : (p : Place) (k : TokenKind) (ts : List Token) (x : (Place × Name) × List Token) → name_in p k ts ≡ Some x → (record { kind = k; place = p } ∷ ts ≡ word x.0.0 x.0.1 ∷ x.1) × IsName x.0.1
+name_in_is : (p : Place) (k : TokenKind) (ts : List Token) (x : (Place × Name) × List Token) → name_in p k ts ≡ Some x →
+    (record { kind = k; place = p } ∷ ts ≡ word x.0.0 x.0.1 ∷ x.1) × IsName x.0.1
 name_in_is p (kinds.Word w) ts x e =
     elim (chosen (is_name w) (Some ((p, w), ts)) None (Some x) e) [
-      | inl t ↦ subst (λ (y : (Place × Name) × List Token). (word p w ∷ ts ≡ word y.0.0 y.0.1 ∷ y.1) × IsName y.0.1) (some_is ((p, w), ts) x t.1) (refl, t.0)
+      | inl t ↦ subst (λ (y : (Place × Name) × List Token). (word p w ∷ ts ≡ word y.0.0 y.0.1 ∷ y.1) × IsName y.0.1)
+          (some_is ((p, w), ts) x t.1) (refl, t.0)
       | inr f ↦ absurd (none_is_not x f.1)
     ]
 name_in_is p (kinds.Number n) ts x e = absurd (none_is_not x e)

@@ -1,5 +1,6 @@
 -- The parts of statements are read exactly.
-use Rattle.std.proofs.Common.{◌≡◌, ℕ, suc, ◌<◌, ◌≤◌, List, [], ◌∷◌, ◌++◌, length, Bool, true, false, Option, Some, None, refl, sym, ap, ◌∙◌, subst, append_assoc, length-append, arith, inl, inr, true≢false}
+use Rattle.std.proofs.Common.{◌≡◌, ℕ, suc, ◌<◌, ◌≤◌, List, [], ◌∷◌, ◌++◌, length, Bool, true, false, Option, Some, None, refl, sym, ap, ◌∙◌}
+use Rattle.std.proofs.Common.{subst, append_assoc, length-append, arith, inl, inr, true≢false}
 use Rattle.std.specs.Prelude.{codes, if◌then◌else◌}
 use Rattle.std.specs.Str.{bytes_eq}
 use Rattle.std.proofs.lemmas.Slice.Eq.{bytes_eq-Decides}
@@ -20,9 +21,11 @@ use Rattle.jv_tree.specs.Depth.{depth, depth_of_stmt}
 use Rattle.jv_tree.specs.Tokens.{word, sign, is_name, IsName}
 use Rattle.jv_reading.specs.Base.{sign_at, is_sign, word_at, is_word, is_word_kind, name_at, is_named}
 use Rattle.jv_tree.specs.Expressions.{IsInner}
-use Rattle.jv_tree.specs.Statements.{IsFree, IsCondition, type_word, IsType, IsFinal, IsOptionalName, IsLocal, IsCase, AreMoreCases, AreCases, IsStmt}
+use Rattle.jv_tree.specs.Statements.{IsFree, IsCondition, type_word, IsType, IsFinal, IsOptionalName, IsLocal, IsCase, AreMoreCases}
+use Rattle.jv_tree.specs.Statements.{AreCases, IsStmt}
 use Rattle.jv_reading.specs.Exprs.{expr_at, inner_at, closed_at}
-use Rattle.jv_reading.specs.Stmts.{cond_at, ended_at, after_final, type_in, type_kind, type_at, declared_at, local_at, is_case, case_at, cases_at, jump_at, break_at, continue_at, return_at, empty_at}
+use Rattle.jv_reading.specs.Stmts.{cond_at, ended_at, after_final, type_in, type_kind, type_at, declared_at, local_at, is_case, case_at}
+use Rattle.jv_reading.specs.Stmts.{cases_at, jump_at, break_at, continue_at, return_at, empty_at}
 use Rattle.jv_reading.proofs.Steps.{Anything, after, glue, sign_is, word_is, name_is, name_is_not}
 use Rattle.jv_reading.proofs.Args.{before_semicolon, closed_sound, closed_complete}
 use Rattle.jv_reading.proofs.Exprs.{inner_reading, expr_exact, expr_begins}
@@ -46,7 +49,8 @@ cond_exact d = record { sound = sound; complete = complete } where
       }
 
   complete : (e : Expr) (ts rest : List Token) → Anything rest → Condition d e ts → cond_at d (ts ++ rest) ≡ Some (e, rest)
-  complete e ts rest fine ((a, b, us, parts, h), le) = rw (parts, append_assoc) (closed_complete (inner_at 400 d) (IsInner 400) d (inner_reading 400 d) e b us rest (h, le))
+  complete e ts rest fine ((a, b, us, parts, h), le) =
+      rw (parts, append_assoc) (closed_complete (inner_at 400 d) (IsInner 400) d (inner_reading 400 d) e b us rest (h, le))
 
 -- expr ";"
 abbrev pub EndedExpr : ℕ → Expr → List Token → Type 0
@@ -68,14 +72,20 @@ ended_exact d = record { sound = sound; complete = complete } where
       })
 
   complete : (e : Expr) (ts rest : List Token) → Anything rest → EndedExpr d e ts → ended_at d (ts ++ rest) ≡ Some (e, rest)
-  complete e ts rest fine (c, us, parts, h, le) = rw (parts, append_assoc, (expr_exact 400 d).complete e us (sign c signs.Semicolon ∷ rest) (before_semicolon c rest) (h, le)) refl
+  complete e ts rest fine (c, us, parts, h, le) = rw (
+    parts,
+    append_assoc,
+    (expr_exact 400 d).complete e us (sign c signs.Semicolon ∷ rest)
+        (before_semicolon c rest) (h, le),
+  ) refl
 
 -- ---- types and declarations
 
 pub final_front : (ts : List Token) → (us : List Token) × (ts ≡ us ++ after_final ts) × IsFinal us
 final_front [] = ([], refl, inl refl)
 final_front (t ∷ ts) = by_cases (is_word (codes "final") (t ∷ ts)) refl where
-  by_cases : (b : Bool) → is_word (codes "final") (t ∷ ts) ≡ b → (us : List Token) × (t ∷ ts ≡ us ++ (if b then ts else t ∷ ts)) × IsFinal us
+  by_cases : (b : Bool) → is_word (codes "final") (t ∷ ts) ≡ b → (us : List Token) × (t ∷ ts ≡ us ++ (if b then ts else t ∷ ts))
+      × IsFinal us
   by_cases true e =
       let reads : word_at (codes "final") (t ∷ ts) ≡ Some (t.place, ts) = reads_word t.place t.kind e in
       (t ∷ [], refl, inr (t.place, ap (λ (z : List Token). first_of z) (word_is (codes "final") (t ∷ ts) (t.place, ts) reads))) where
@@ -83,7 +93,8 @@ final_front (t ∷ ts) = by_cases (is_word (codes "final") (t ∷ ts)) refl wher
         first_of [] = []
         first_of (u ∷ us) = u ∷ []
 
-        reads_word : (p : Place) (k : TokenKind) → is_word_kind (codes "final") k ≡ true → word_at (codes "final") (record { kind = k; place = p } ∷ ts) ≡ Some (p, ts)
+        reads_word : (p : Place) (k : TokenKind) → is_word_kind (codes "final") k ≡ true →
+            word_at (codes "final") (record { kind = k; place = p } ∷ ts) ≡ Some (p, ts)
         reads_word p (kinds.Word w) h = rw h refl
         reads_word p (kinds.Number n) h = absurd cc
         reads_word p (kinds.Text t) h = absurd cc
@@ -116,27 +127,34 @@ type_in_is w ty e =
     elim (chosen (is_name w) _ _ (Some ty) e) [
       | inl t ↦ named (bytes_eq w (codes "String")) refl t.0 t.1
       | inr f ↦ elim (chosen (bytes_eq w (codes "int")) _ _ (Some ty) f.1) [
-        | inl t ↦ subst (λ (y : TypeName). (w ≡ type_word y) × IsType y) (some_is types.Int ty t.1) ((bytes_eq-Decides w (codes "int")).0 t.0, tt)
+        | inl t ↦ subst (λ (y : TypeName). (w ≡ type_word y) × IsType y) (some_is types.Int ty t.1)
+            ((bytes_eq-Decides w (codes "int")).0 t.0, tt)
         | inr f ↦ elim (chosen (bytes_eq w (codes "boolean")) _ _ (Some ty) f.1) [
-          | inl t ↦ subst (λ (y : TypeName). (w ≡ type_word y) × IsType y) (some_is types.Boolean ty t.1) ((bytes_eq-Decides w (codes "boolean")).0 t.0, tt)
+          | inl t ↦ subst (λ (y : TypeName). (w ≡ type_word y) × IsType y) (some_is types.Boolean ty t.1)
+              ((bytes_eq-Decides w (codes "boolean")).0 t.0, tt)
           | inr f ↦ absurd (none_is_not ty f.1)
         ]
       ]
     ] where
-      named : (b : Bool) → bytes_eq w (codes "String") ≡ b → is_name w ≡ true → Some (if b then types.Text else types.Named w) ≡ Some ty → (w ≡ type_word ty) × IsType ty
-      named true e name h = subst (λ (y : TypeName). (w ≡ type_word y) × IsType y) (some_is types.Text ty h) ((bytes_eq-Decides w (codes "String")).0 e, tt)
+      named : (b : Bool) → bytes_eq w (codes "String") ≡ b → is_name w ≡ true → Some (if b then types.Text else types.Named w) ≡ Some ty →
+          (w ≡ type_word ty) × IsType ty
+      named true e name h = subst (λ (y : TypeName). (w ≡ type_word y) × IsType y) (some_is types.Text ty h)
+          ((bytes_eq-Decides w (codes "String")).0 e, tt)
       named false e name h =
           subst (λ (y : TypeName). (w ≡ type_word y) × IsType y) (some_is (types.Named w) ty h)
           (refl, (name, λ same. true≢false (sym ((bytes_eq-Decides w (codes "String")).1 same) ∙ e)))
 
-pub type_is : (ts : List Token) (x : TypeName × List Token) → type_at ts ≡ Some x → (p : Place) × (ts ≡ word p (type_word x.0) ∷ x.1) × IsType x.0
+pub type_is : (ts : List Token) (x : TypeName × List Token) → type_at ts ≡ Some x → (p : Place) × (ts ≡ word p (type_word x.0) ∷ x.1)
+    × IsType x.0
 type_is [] x e = absurd (none_is_not x e)
 type_is (t ∷ ts) x e = by_kind t.place t.kind e where
-  by_kind : (p : Place) (k : TokenKind) → type_kind k ts ≡ Some x → (q : Place) × (record { kind = k; place = p } ∷ ts ≡ word q (type_word x.0) ∷ x.1) × IsType x.0
+  by_kind : (p : Place) (k : TokenKind) → type_kind k ts ≡ Some x →
+      (q : Place) × (record { kind = k; place = p } ∷ ts ≡ word q (type_word x.0) ∷ x.1) × IsType x.0
   by_kind p (kinds.Word w) e =
       let ty = bind_some (type_in w) _ x e in
       let h = type_in_is w ty.0 ty.1 in
-      subst (λ (y : TypeName × List Token). (q : Place) × (word p w ∷ ts ≡ word q (type_word y.0) ∷ y.1) × IsType y.0) (some_is (ty.0, ts) x ty.2)
+      subst (λ (y : TypeName × List Token). (q : Place) × (word p w ∷ ts ≡ word q (type_word y.0) ∷ y.1) × IsType y.0)
+      (some_is (ty.0, ts) x ty.2)
       (p, ap (λ (v : Name). word p v ∷ ts) h.0, h.1)
   by_kind p (kinds.Number n) e = absurd (none_is_not x e)
   by_kind p (kinds.Text t) e = absurd (none_is_not x e)
@@ -215,20 +233,30 @@ local_sound d ts x e =
     record {
       front = f.0 ++ one.front;
       parts = glue f.0 one.front x.1 f.1 one.parts;
-      holds = subst (λ (s : Stmt). DeepLocal d s (f.0 ++ one.front)) (sym is) ((of_type, name, a, b, c, f.0, vs, ap (λ (z : List Token). f.0 ++ z) parts, f.2, free), omega (arith, le));
+      holds = subst (λ (s : Stmt). DeepLocal d s (f.0 ++ one.front)) (sym is)
+          ((of_type, name, a, b, c, f.0, vs, ap (λ (z : List Token). f.0 ++ z) parts, f.2, free), omega (arith, le));
     }
 
 pub local_complete : (d : ℕ) (s : Stmt) (ts rest : List Token) → DeepLocal d s ts → local_at d (ts ++ rest) ≡ Some (s, rest)
 unfolding local_at declared_at
 local_complete d (Block p body end) ts rest (h, le) = absurd h
 local_complete d (Empty p) ts rest (h, le) = absurd h
-local_complete d (Local p ty n e) ts rest ((of_type, name, a, b, c, us, vs, parts, final, free), le) = rw (parts, append_assoc) (by_final us final) where
-  reads : declared_at d (word a (type_word ty) ∷ word p n ∷ sign b signs.Assign ∷ ((vs ++ sign c signs.Semicolon ∷ []) ++ rest)) ≡ Some (Local p ty n e, rest)
-  reads = rw (type_in_again ty of_type, name, (ended_exact d).complete e (vs ++ sign c signs.Semicolon ∷ []) rest tt (c, vs, refl, free, omega arith)) refl
+local_complete d (Local p ty n e) ts rest ((of_type, name, a, b, c, us, vs, parts, final, free), le) =
+    rw (parts, append_assoc) (by_final us final) where
+      reads : declared_at d (word a (type_word ty) ∷ word p n ∷ sign b signs.Assign ∷ ((vs ++ sign c signs.Semicolon ∷ []) ++ rest)) ≡ Some
+          (Local p ty n e, rest)
+      reads = rw (
+        type_in_again ty of_type,
+        name,
+        (ended_exact d).complete e (vs ++ sign c signs.Semicolon ∷ []) rest tt
+            (c, vs, refl, free, omega arith),
+      ) refl
 
-  by_final : (us : List Token) → IsFinal us → declared_at d (after_final (us ++ (word a (type_word ty) ∷ word p n ∷ sign b signs.Assign ∷ ((vs ++ sign c signs.Semicolon ∷ []) ++ rest)))) ≡ Some (Local p ty n e, rest)
-  by_final us (inl h) = rw (h, type_no_final ty of_type) reads
-  by_final us (inr (q, h)) = rw h reads
+      by_final : (us : List Token) → IsFinal us →
+          declared_at d (after_final (us ++ (word a (type_word ty) ∷ word p n ∷ sign b signs.Assign ∷ ((vs ++ sign c signs.Semicolon ∷ [])
+          ++ rest)))) ≡ Some (Local p ty n e, rest)
+      by_final us (inl h) = rw (h, type_no_final ty of_type) reads
+      by_final us (inr (q, h)) = rw h reads
 local_complete d (Assign p t e) ts rest (h, le) = absurd h
 local_complete d (If p c s) ts rest (h, le) = absurd h
 local_complete d (IfElse p c s r) ts rest (h, le) = absurd h
@@ -314,7 +342,12 @@ cases_exact = record { sound = sound; complete = complete } where
       let one = case_sound ts s.0 s.1 in
       let more = all_sound is_case case_at IsCase Anything case_exact s.0.1 b.0 b.1 in
       subst (λ (y : List (Option Name) × List Token). Takes (AreCases y.0) ts y.1) (some_is (s.0.0 ∷ b.0.0, b.0.1) x b.2)
-      (record { front = one.front ++ more.front; parts = glue one.front more.front b.0.1 one.parts more.parts; holds = (one.front, more.front, refl, one.holds, each_more b.0.0 more.front more.holds) })
+      (record {
+        front = one.front ++ more.front;
+        parts = glue one.front more.front b.0.1 one.parts more.parts;
+        holds =
+            (one.front, more.front, refl, one.holds, each_more b.0.0 more.front more.holds);
+      })
 
   complete : (ls : List (Option Name)) (ts rest : List Token) → NotCase rest → AreCases ls ts → cases_at (ts ++ rest) ≡ Some (ls, rest)
   complete [] ts rest fine h = absurd h
@@ -357,7 +390,8 @@ jump_sound ts x e =
           (record { front = sign c.0.0 signs.Semicolon ∷ []; parts = sign_is signs.Semicolon ts c.0 c.1; holds = (c.0.0, [], refl, refl) })
     ]
 
-jump_complete : (l : Option Name) (a : Place) (us rest : List Token) → IsOptionalName l us → jump_at ((us ++ sign a signs.Semicolon ∷ []) ++ rest) ≡ Some (l, rest)
+jump_complete : (l : Option Name) (a : Place) (us rest : List Token) → IsOptionalName l us →
+    jump_at ((us ++ sign a signs.Semicolon ∷ []) ++ rest) ≡ Some (l, rest)
 unfolding jump_at
 jump_complete None a us rest h = rw h refl
 jump_complete (Some n) a us rest (name, q, h) = rw (h, name) refl
@@ -380,7 +414,8 @@ break_sound d ts x e =
       holds = ((c, vs, ap (λ (z : List Token). word a.0.0 (codes "break") ∷ z) parts, name), omega arith);
     })
 
-pub break_complete : (p : Place) (l : Option Name) (ts rest : List Token) → IsStmt (Break p l) ts → break_at (ts ++ rest) ≡ Some (Break p l, rest)
+pub break_complete : (p : Place) (l : Option Name) (ts rest : List Token) → IsStmt (Break p l) ts →
+    break_at (ts ++ rest) ≡ Some (Break p l, rest)
 unfolding break_at
 break_complete p l ts rest (a, us, parts, name) = rw (parts, jump_complete l a us rest name) refl
 
@@ -398,7 +433,8 @@ continue_sound d ts x e =
       holds = ((c, vs, ap (λ (z : List Token). word a.0.0 (codes "continue") ∷ z) parts, name), omega arith);
     })
 
-pub continue_complete : (p : Place) (l : Option Name) (ts rest : List Token) → IsStmt (Continue p l) ts → continue_at (ts ++ rest) ≡ Some (Continue p l, rest)
+pub continue_complete : (p : Place) (l : Option Name) (ts rest : List Token) → IsStmt (Continue p l) ts →
+    continue_at (ts ++ rest) ≡ Some (Continue p l, rest)
 unfolding continue_at
 continue_complete p l ts rest (a, us, parts, name) = rw (parts, jump_complete l a us rest name) refl
 
@@ -428,12 +464,14 @@ return_sound d ts x e =
           })
     ]
 
-pub return_complete : (d : ℕ) (p : Place) (v : Option Expr) (ts rest : List Token) → DeepStmt (suc d) (Return p v) ts → return_at d (ts ++ rest) ≡ Some (Return p v, rest)
+pub return_complete : (d : ℕ) (p : Place) (v : Option Expr) (ts rest : List Token) → DeepStmt (suc d) (Return p v) ts →
+    return_at d (ts ++ rest) ≡ Some (Return p v, rest)
 unfolding return_at
 return_complete d p None ts rest ((a, us, parts, h), le) = rw (parts, h) refl
 return_complete d p (Some e) ts rest ((a, us, parts, h), le) =
     let stays : is_sign signs.Semicolon ((us ++ sign a signs.Semicolon ∷ []) ++ rest) ≡ false =
-    begins_no_sign signs.Semicolon ((us ++ sign a signs.Semicolon ∷ []) ++ rest) refl (begins_more (us ++ sign a signs.Semicolon ∷ []) rest (begins_more us (sign a signs.Semicolon ∷ []) (expr_begins 400 e us h))) in
+    begins_no_sign signs.Semicolon ((us ++ sign a signs.Semicolon ∷ []) ++ rest) refl (begins_more (us ++ sign a signs.Semicolon ∷ []) rest
+    (begins_more us (sign a signs.Semicolon ∷ []) (expr_begins 400 e us h))) in
     rw (parts, stays, (ended_exact d).complete e (us ++ sign a signs.Semicolon ∷ []) rest tt (a, us, refl, h, omega arith)) refl
 
 pub empty_sound : (d : ℕ) (ts : List Token) (x : Stmt × List Token) → empty_at ts ≡ Some x → Takes (DeepStmt (suc d) x.0) ts x.1

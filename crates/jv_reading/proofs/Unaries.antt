@@ -61,9 +61,15 @@ module _ (m : ℕ) (inner : ℕ → Reads) (G : Language) (reading : (d : ℕ) �
             let minus = sign_is signs.Minus ts a.0 a.1 in
             let begins = unary_begins m G n.0.0 one.front one.holds.0 in
             let free : starts_number one.front ≡ false =
-            sym (starts_front one.front n.0.1 begins) ∙ ap starts_number (sym one.parts) ∙ negation_is a.0.0 a.0.1 (ap is_negation (sym minus) ∙ t.0) in
+            sym (starts_front one.front n.0.1 begins) ∙ ap starts_number (sym one.parts) ∙ negation_is a.0.0 a.0.1
+            (ap is_negation (sym minus) ∙ t.0) in
             subst (λ (y : Expr × List Token). Takes (Unary (suc d) y.0) ts y.1) f.0
-            (record { front = sign a.0.0 signs.Minus ∷ one.front; parts = after minus one.parts; holds = (inr (one.front, refl, free, one.holds.0), f.1) })
+            (record {
+              front = sign a.0.0 signs.Minus ∷ one.front;
+              parts = after minus one.parts;
+              holds =
+                  (inr (one.front, refl, free, one.holds.0), f.1);
+            })
         | inr g ↦ elim (chosen (is_sign signs.Bang ts) _ _ (Some x) g.1) [
           | inl t ↦
               let a = bind_some (sign_at signs.Bang ts) _ x t.1 in
@@ -71,21 +77,28 @@ module _ (m : ℕ) (inner : ℕ → Reads) (G : Language) (reading : (d : ℕ) �
               let f = fits_is (suc d) (Not a.0.0 n.0.0) n.0.1 x n.2 in
               let one = unary_sound d a.0.1 n.0 n.1 in
               subst (λ (y : Expr × List Token). Takes (Unary (suc d) y.0) ts y.1) f.0
-              (record { front = sign a.0.0 signs.Bang ∷ one.front; parts = after (sign_is signs.Bang ts a.0 a.1) one.parts; holds = (inr (one.front, refl, one.holds.0), f.1) })
+              (record {
+                front = sign a.0.0 signs.Bang ∷ one.front;
+                parts = after (sign_is signs.Bang ts a.0 a.1) one.parts;
+                holds =
+                    (inr (one.front, refl, one.holds.0), f.1);
+              })
           | inr h ↦
               let one = (post_exact m inner G reading (suc d)).sound ts x h.1 in
               record { front = one.front; parts = one.parts; holds = (unary_base x.0 one.front one.holds.0, one.holds.1) }
         ]
       ]
 
-  unary_post : (d : ℕ) (e : Expr) (ts rest : List Token) → Ends 0 rest → IsPost m G e ts → depth e ≤ d → unary_with m inner d (ts ++ rest) ≡ Some (e, rest)
+  unary_post : (d : ℕ) (e : Expr) (ts rest : List Token) → Ends 0 rest → IsPost m G e ts → depth e ≤ d →
+      unary_with m inner d (ts ++ rest) ≡ Some (e, rest)
   unfolding unary_with
   unary_post zero e ts rest fine h le = absurd (omega (arith, depth_pos e))
   unary_post (suc d) e ts rest fine h le =
       let plain = post_plain m G e ts rest h in
       rw (plain.0, plain.1) ((post_exact m inner G reading (suc d)).complete e ts rest fine (h, le))
 
-  unary_complete : (d : ℕ) (e : Expr) (ts rest : List Token) → Ends 0 rest → IsUnary m G e ts → depth e ≤ d → unary_with m inner d (ts ++ rest) ≡ Some (e, rest)
+  unary_complete : (d : ℕ) (e : Expr) (ts rest : List Token) → Ends 0 rest → IsUnary m G e ts → depth e ≤ d →
+      unary_with m inner d (ts ++ rest) ≡ Some (e, rest)
   unfolding unary_with
   unary_complete d (Int p z) ts rest fine h le = unary_post d (Int p z) ts rest fine h le
   unary_complete d (Truth p b) ts rest fine h le = unary_post d (Truth p b) ts rest fine h le

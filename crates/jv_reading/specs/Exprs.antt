@@ -1,5 +1,6 @@
 -- Reading an expression from left to right.
-use Rattle.std.specs.Prelude.{ℕ, zero, suc, ◌-◌, pos, neg_ℤ, List, [], ◌∷◌, Option, Some, None, Bool, true, false, ◌&&◌, not, is_some, leb, ◌==◌, if◌then◌else◌, codes}
+use Rattle.std.specs.Prelude.{ℕ, zero, suc, ◌-◌, pos, neg_ℤ, List, [], ◌∷◌, Option, Some, None, Bool, true, false, ◌&&◌, not, is_some, leb}
+use Rattle.std.specs.Prelude.{◌==◌, if◌then◌else◌, codes}
 use Rattle.std.specs.Str.{bytes_eq}
 use Rattle.std.specs.Borrow.{Bor}
 use Rattle.mg_text.specs.Call.{Name}
@@ -62,7 +63,8 @@ negative_at p (t ∷ ts) = negative_in p t.kind ts
 -- name "(" ")" behind "new" at this place
 unfoldable pub new_with : ℕ → Place → Reads
 new_with zero p ts = None
-new_with (suc m) p ts = name_at ts >>= λ n. sign_at signs.OpenParen n.1 >>= λ a. sign_at signs.CloseParen a.1 >>= λ b. Some (New p n.0.1, b.1)
+new_with (suc m) p ts = name_at ts >>= λ n. sign_at signs.OpenParen n.1 >>= λ a. sign_at signs.CloseParen a.1
+    >>= λ b. Some (New p n.0.1, b.1)
 
 -- a word that is an expression
 unfoldable pub literal : Place → Name → Option Expr
@@ -83,7 +85,8 @@ module _ (m : ℕ) (inner : ℕ → Reads) where
   -- what a name in front begins
   unfoldable pub named_with : ℕ → Place → Name → Reads
   named_with d p n ts =
-      if is_sign signs.OpenParen ts then (arguments_with m (inner (d - 1)) ts >>= λ xs. fits d (Call p n (exprs_of xs.0)) xs.1) else Some (Variable p n, ts)
+      if is_sign signs.OpenParen ts then (arguments_with m (inner (d - 1)) ts >>= λ xs. fits d (Call p n (exprs_of xs.0)) xs.1) else Some
+      (Variable p n, ts)
 
   unfoldable pub word_with : ℕ → Place → Name → Reads
   word_with d p w ts =
@@ -111,7 +114,8 @@ module _ (m : ℕ) (inner : ℕ → Reads) where
   -- what follows the name behind a "."
   unfoldable pub member_with : ℕ → Expr → Name → Reads
   member_with d e n ts =
-      if is_sign signs.OpenParen ts then (arguments_with m (inner (d - 1)) ts >>= λ xs. fits d (MethodCall (place_of e) e n (exprs_of xs.0)) xs.1)
+      if is_sign signs.OpenParen ts then (arguments_with m (inner (d - 1)) ts >>= λ xs. fits d (MethodCall (place_of e) e n (exprs_of xs.0))
+      xs.1)
       else fits d (Member (place_of e) e n) ts
 
   unfoldable pub tail_with : ℕ → Expr → Reads

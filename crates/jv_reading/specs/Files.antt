@@ -30,7 +30,8 @@ after_mods words (t ∷ ts) = if is_kind_among words t.kind then after_mods word
 -- whether "static" is among them
 abbrev pub static_mods : List Name → List Token → Bool
 static_mods words [] = false
-static_mods words (t ∷ ts) = if is_kind_among words t.kind then is_kind_among (codes "static" ∷ []) t.kind || static_mods words ts else false
+static_mods words (t ∷ ts) = if is_kind_among words t.kind then is_kind_among (codes "static" ∷ []) t.kind || static_mods words ts else
+    false
 
 -- "void" | type
 unfoldable pub result_at : Reader Token TypeName
@@ -53,7 +54,8 @@ is_args ts = is_word (codes "String") ts && is_sign signs.OpenBracket (behind ts
 -- "String" "[" "]" name
 unfoldable pub args_at : List Token → Option (List Token)
 args_at ts =
-    word_at (codes "String") ts >>= λ a. sign_at signs.OpenBracket a.1 >>= λ b. sign_at signs.CloseBracket b.1 >>= λ c. name_at c.1 >>= λ n. Some n.1
+    word_at (codes "String") ts >>= λ a. sign_at signs.OpenBracket a.1 >>= λ b. sign_at signs.CloseBracket b.1 >>= λ c. name_at c.1
+    >>= λ n. Some n.1
 
 -- [ params ] of a method that is `main`, or of another one; and whether it is that of `main`
 unfoldable pub params_of_at : Bool → Reader Token (List Param × Bool)
@@ -82,12 +84,26 @@ method_at static result p n ts = do
   start ← sign_at signs.OpenBrace closing.1
   body ← items_at 200 start.1
   end ← sign_at signs.CloseBrace body.1
-  Some (record { place = p; end = end.0; is_static = static; result = result; name = n; params = params.0.0; takes_args = params.0.1; body = stmts_of body.0 }, end.1)
+  Some (
+    record {
+      place = p;
+      end = end.0;
+      is_static = static;
+      result = result;
+      name = n;
+      params = params.0.0;
+      takes_args = params.0.1;
+      body =
+          stmts_of body.0;
+    },
+    end.1,
+  )
 
 -- [ "=" expr ] ";", behind the name of a field
 unfoldable pub field_at : TypeName → Place → Name → Reader Token Field
 field_at ty p n ts =
-    if is_sign signs.Assign ts then (sign_at signs.Assign ts >>= λ a. ended_at 200 a.1 >>= λ e. Some (record { place = p; ty = ty; name = n; value = Some e.0 }, e.1))
+    if is_sign signs.Assign ts then (sign_at signs.Assign ts >>= λ a. ended_at 200 a.1
+    >>= λ e. Some (record { place = p; ty = ty; name = n; value = Some e.0 }, e.1))
     else (sign_at signs.Semicolon ts >>= λ a. Some (record { place = p; ty = ty; name = n; value = None }, a.1))
 
 -- a member behind its modifiers
@@ -95,7 +111,8 @@ unfoldable pub member_with : Bool → Reader Token Member
 member_with static ts = do
   result ← result_at ts
   name ← name_at result.1
-  if is_sign signs.OpenParen name.1 then (method_at static result.0 name.0.0 name.0.1 name.1 >>= λ m. Some (MethodMember m.0, m.1)) else (if static || is_void result.0 then None else (field_at result.0 name.0.0 name.0.1 name.1 >>= λ f. Some (FieldMember f.0, f.1)))
+  if is_sign signs.OpenParen name.1 then (method_at static result.0 name.0.0 name.0.1 name.1 >>= λ m. Some (MethodMember m.0, m.1)) else
+      (if static || is_void result.0 then None else (field_at result.0 name.0.0 name.0.1 name.1 >>= λ f. Some (FieldMember f.0, f.1)))
 
 unfoldable pub member_at : Reader Token Member
 member_at ts = member_with (static_mods modifiers ts) (after_mods modifiers ts)
@@ -105,7 +122,8 @@ not_closed ts = not (is_sign signs.CloseBrace ts)
 
 -- "{" { member } "}"
 unfoldable pub members_at : Reader Token (List Member)
-members_at ts = sign_at signs.OpenBrace ts >>= λ a. all_of not_closed member_at a.1 >>= λ ms. sign_at signs.CloseBrace ms.1 >>= λ c. Some (ms.0, c.1)
+members_at ts = sign_at signs.OpenBrace ts >>= λ a. all_of not_closed member_at a.1 >>= λ ms. sign_at signs.CloseBrace ms.1
+    >>= λ c. Some (ms.0, c.1)
 
 -- [ "@" "Typestate" "(" text ")" ]
 abbrev pub text_kind : TokenKind → List Token → Option (List ℕ × List Token)
@@ -120,7 +138,8 @@ text_at (t ∷ ts) = text_kind t.kind ts
 
 unfoldable pub annotation_at : Reader Token (Option (List ℕ))
 annotation_at ts =
-    if is_sign signs.At ts then (sign_at signs.At ts >>= λ a. word_at (codes "Typestate") a.1 >>= λ b. sign_at signs.OpenParen b.1 >>= λ c. text_at c.1 >>= λ t. sign_at signs.CloseParen t.1 >>= λ e. Some (Some t.0, e.1))
+    if is_sign signs.At ts then (sign_at signs.At ts >>= λ a. word_at (codes "Typestate") a.1 >>= λ b. sign_at signs.OpenParen b.1
+    >>= λ c. text_at c.1 >>= λ t. sign_at signs.CloseParen t.1 >>= λ e. Some (Some t.0, e.1))
     else Some (None, ts)
 
 abbrev pub class_words : List Name
@@ -135,7 +154,17 @@ class_at ts = do
   start ← word_at (codes "class") (after_mods class_words typestate.1)
   name ← name_at start.1
   members ← members_at name.1
-  Some (record { place = name.0.0; name = name.0.1; typestate = typestate.0; fields = fields_among members.0; methods = methods_among members.0 }, members.1)
+  Some (
+    record {
+      place = name.0.0;
+      name = name.0.1;
+      typestate = typestate.0;
+      fields = fields_among members.0;
+      methods =
+          methods_among members.0;
+    },
+    members.1,
+  )
 
 -- whether "," and a name come next
 abbrev pub is_more_names : List Token → Bool
@@ -181,12 +210,14 @@ path_at ts = name_at ts >>= λ n. all_of is_more_steps next_step_at n.1 >>= λ m
 -- [ "package" path ";" ]
 unfoldable pub package_at : List Token → Option (List Token)
 package_at ts =
-    if is_word (codes "package") ts then (word_at (codes "package") ts >>= λ a. path_at a.1 >>= λ p. sign_at signs.Semicolon p.1 >>= λ c. Some c.1) else Some ts
+    if is_word (codes "package") ts then (word_at (codes "package") ts >>= λ a. path_at a.1 >>= λ p. sign_at signs.Semicolon p.1
+    >>= λ c. Some c.1) else Some ts
 
 -- [ "." "*" ] ";"
 unfoldable pub star_at : List Token → Option (List Token)
 star_at ts =
-    if is_sign signs.Dot ts then (sign_at signs.Dot ts >>= λ a. sign_at signs.Star a.1 >>= λ b. sign_at signs.Semicolon b.1 >>= λ c. Some c.1)
+    if is_sign signs.Dot ts then (sign_at signs.Dot ts >>= λ a. sign_at signs.Star a.1 >>= λ b. sign_at signs.Semicolon b.1
+    >>= λ c. Some c.1)
     else (sign_at signs.Semicolon ts >>= λ c. Some c.1)
 
 -- "import" path [ "." "*" ] ";"
@@ -199,4 +230,5 @@ is_some_token (t ∷ ts) = true
 
 unfoldable pub file_at : List Token → Option File
 file_at ts =
-    package_at ts >>= λ rest. all_of (is_word (codes "import")) import_at rest >>= λ imports. all_of is_some_token decl_at imports.1 >>= λ decls. Some decls.0
+    package_at ts >>= λ rest. all_of (is_word (codes "import")) import_at rest >>= λ imports. all_of is_some_token decl_at imports.1
+    >>= λ decls. Some decls.0

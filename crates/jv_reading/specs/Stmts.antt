@@ -1,5 +1,6 @@
 -- Reading statements from left to right.
-use Rattle.std.specs.Prelude.{ℕ, zero, suc, ◌+◌, ◌-◌, List, [], ◌∷◌, Option, Some, None, Bool, false, ◌&&◌, ◌||◌, not, is_some, leb, if◌then◌else◌, codes}
+use Rattle.std.specs.Prelude.{ℕ, zero, suc, ◌+◌, ◌-◌, List, [], ◌∷◌, Option, Some, None, Bool, false, ◌&&◌, ◌||◌, not, is_some, leb}
+use Rattle.std.specs.Prelude.{if◌then◌else◌, codes}
 use Rattle.std.specs.Str.{bytes_eq}
 use Rattle.mg_text.specs.Call.{Name}
 use Rattle.mg_text.specs.declared.place.Place.{Place}
@@ -117,7 +118,8 @@ empty_at ts = sign_at signs.Semicolon ts >>= λ a. Some (Empty a.0, a.1)
 -- target = name | "this" "." name
 unfoldable pub target_at : Reader Token Expr
 target_at ts =
-    if is_word (codes "this") ts then (word_at (codes "this") ts >>= λ a. sign_at signs.Dot a.1 >>= λ b. name_at b.1 >>= λ n. Some (Member a.0 (This a.0) n.0.1, n.1))
+    if is_word (codes "this") ts then (word_at (codes "this") ts >>= λ a. sign_at signs.Dot a.1 >>= λ b. name_at b.1
+    >>= λ n. Some (Member a.0 (This a.0) n.0.1, n.1))
     else (name_at ts >>= λ n. Some (Variable n.0.0 n.0.1, n.1))
 
 abbrev pub compound_kind : TokenKind → List Token → Option (Op × List Token)
@@ -156,12 +158,14 @@ assigned d p target value ts = if leb (depth target) d && leb (depth value) d th
 unfoldable pub change_at : ℕ → Expr → Reader Token Stmt
 change_at d t ts =
     if is_sign signs.Assign ts then (sign_at signs.Assign ts >>= λ a. ended_at d a.1 >>= λ e. assigned d (place_of t) t e.0 e.1)
-    else (if is_counter ts then (counter_at ts >>= λ o. sign_at signs.Semicolon o.1 >>= λ c. assigned d (place_of t) t (changed o.0.1 t (one_at t)) c.1)
+    else (if is_counter ts then (counter_at ts >>= λ o. sign_at signs.Semicolon o.1 >>= λ c. assigned d (place_of t) t
+    (changed o.0.1 t (one_at t)) c.1)
     else (compound_at ts >>= λ o. ended_at d o.1 >>= λ e. assigned d (place_of t) t (changed o.0 t e.0) e.1))
 
 unfoldable pub assign_at : ℕ → Reader Token Stmt
 assign_at d ts =
-    if is_counter ts then (counter_at ts >>= λ o. target_at o.1 >>= λ t. sign_at signs.Semicolon t.1 >>= λ c. assigned d o.0.0 t.0 (changed o.0.1 t.0 (one_at t.0)) c.1)
+    if is_counter ts then (counter_at ts >>= λ o. target_at o.1 >>= λ t. sign_at signs.Semicolon t.1 >>= λ c. assigned d o.0.0 t.0
+    (changed o.0.1 t.0 (one_at t.0)) c.1)
     else (target_at ts >>= λ t. change_at d t.0 t.1)
 
 -- whether what stands behind a target comes next
@@ -232,7 +236,8 @@ module _ (d : ℕ) (f : Reader Token Stmt) where
   -- what stands behind the first branch of an `if`
   unfoldable pub else_with : Place → Expr → Stmt → Reader Token Stmt
   else_with p c s ts =
-      if is_word (codes "else") ts then (word_at (codes "else") ts >>= λ a. f a.1 >>= λ other. Some (IfElse p c s other.0, other.1)) else Some (If p c s, ts)
+      if is_word (codes "else") ts then (word_at (codes "else") ts >>= λ a. f a.1 >>= λ other. Some (IfElse p c s other.0, other.1)) else
+      Some (If p c s, ts)
 
   unfoldable pub if_with : Reader Token Stmt
   if_with ts = do

@@ -23,15 +23,18 @@ module _ (tables : Tables) (at : Standing) (locals : List Known) (p : Place) (ta
   opened : stmt tables at (Source.Assign p target value) [] locals s ≡ (target_meant tables at locals target >>= then_value)
   opened = two_steps (resolved tables at locals target) (λ (r : Resolved). variable_in r.expr) then_value
 
-  pub target_fails : (err : Unresolved) → Fails err (target_meant tables at locals target) → Fails err (stmt tables at (Source.Assign p target value) [] locals s)
+  pub target_fails : (err : Unresolved) → Fails err (target_meant tables at locals target) →
+      Fails err (stmt tables at (Source.Assign p target value) [] locals s)
   target_fails err h = fails_as err _ _ opened (fails_then err (target_meant tables at locals target) then_value h)
 
   module _ (x : CoreVar) (meant : target_meant tables at locals target ≡ Some x) where
     targeted : stmt tables at (Source.Assign p target value) [] locals s ≡ then_value x
     targeted = opened ∙ ap (λ o. o >>= then_value) meant
 
-    pub value_fails : (err : Unresolved) → Fails err (resolved tables at locals value) → Fails err (stmt tables at (Source.Assign p target value) [] locals s)
+    pub value_fails : (err : Unresolved) → Fails err (resolved tables at locals value) →
+        Fails err (stmt tables at (Source.Assign p target value) [] locals s)
     value_fails err h = fails_as err _ _ targeted (fails_then err (resolved tables at locals value) (then_made x) h)
 
-    pub assigned_made : (v : Resolved) (made : Core.Stmt) → resolved tables at locals value ≡ Some v → made ≡ Core.Assign p x v.expr → stmt tables at (Source.Assign p target value) [] locals s ≡ Some (counting made s)
+    pub assigned_made : (v : Resolved) (made : Core.Stmt) → resolved tables at locals value ≡ Some v → made ≡ Core.Assign p x v.expr →
+        stmt tables at (Source.Assign p target value) [] locals s ≡ Some (counting made s)
     assigned_made v made h is = targeted ∙ ap (λ o. o >>= then_made x) h ∙ ap (λ u. Some (counting u s)) (sym is)

@@ -5,7 +5,8 @@ use Rattle.mg_text.specs.Call.{Name}
 use Rattle.mg_text.specs.declared.place.Place.{Place}
 use Rattle.jv_tree.specs.Source.{Expr, Int, Truth, Text, Null, This, Variable, Member, Neg, Not, Binary, Call, MethodCall, New, place_of}
 use Rattle.jv_resolve_law.specs.Tables.{◌>>=◌, Tables}
-use Rattle.jv_resolve_law.specs.Expressions.{Known, Standing, Resolved, OnThis, OnValue, found, own_found, variable_at, constant_at, constant, member, named_receiver, receiver, initial}
+use Rattle.jv_resolve_law.specs.Expressions.{Known, Standing, Resolved, OnThis, OnValue, found, own_found, variable_at, constant_at}
+use Rattle.jv_resolve_law.specs.Expressions.{constant, member, named_receiver, receiver, initial}
 use Rattle.jv_resolve.specs.inner.Heads.{Head, ThisHead, NameHead, OtherHead, head_of}
 
 -- a test of heads, to tell them apart
@@ -37,7 +38,8 @@ not_name h n e is = absurd (true≢false (sym (ap is_name is) ∙ e))
 
 module _ (tables : Tables) (at : Standing) (locals : List Known) where
   module _ (p : Place) (name : Name) where
-    pub member-this : (e : Expr) → head_of e ≡ ThisHead → member tables at locals p e name ≡ (own_found tables at name >>= variable_at tables at locals p)
+    pub member-this : (e : Expr) → head_of e ≡ ThisHead →
+        member tables at locals p e name ≡ (own_found tables at name >>= variable_at tables at locals p)
     member-this (This q) is = refl
     member-this (Int q z) is = not_this OtherHead refl is
     member-this (Truth q b) is = not_this OtherHead refl is
@@ -52,7 +54,8 @@ module _ (tables : Tables) (at : Standing) (locals : List Known) where
     member-this (MethodCall q e f args) is = not_this OtherHead refl is
     member-this (New q c) is = not_this OtherHead refl is
 
-    pub member-name : (e : Expr) (x : Name) → head_of e ≡ NameHead x → member tables at locals p e name ≡ (found tables at locals x >>= constant_at tables at locals p x name)
+    pub member-name : (e : Expr) (x : Name) → head_of e ≡ NameHead x →
+        member tables at locals p e name ≡ (found tables at locals x >>= constant_at tables at locals p x name)
     member-name (Variable q y) x is = ap (λ z. found tables at locals z >>= constant_at tables at locals p z name) (ap name_in is)
     member-name (This q) x is = not_name ThisHead x refl is
     member-name (Int q z) x is = not_name OtherHead x refl is
@@ -98,8 +101,10 @@ module _ (tables : Tables) (at : Standing) (locals : List Known) where
     receiver-this (MethodCall q e f args) is = not_this OtherHead refl is
     receiver-this (New q c) is = not_this OtherHead refl is
 
-    pub receiver-name : (e : Expr) (x : Name) → head_of e ≡ NameHead x → receiver tables at locals e r ≡ option_map (named_receiver tables at locals (place_of e) x) (found tables at locals x)
-    receiver-name (Variable q y) x is = ap (λ z. option_map (named_receiver tables at locals q z) (found tables at locals z)) (ap name_in is)
+    pub receiver-name : (e : Expr) (x : Name) → head_of e ≡ NameHead x → receiver tables at locals e r ≡ option_map
+        (named_receiver tables at locals (place_of e) x) (found tables at locals x)
+    receiver-name (Variable q y) x is = ap (λ z. option_map (named_receiver tables at locals q z) (found tables at locals z))
+        (ap name_in is)
     receiver-name (This q) x is = not_name ThisHead x refl is
     receiver-name (Int q z) x is = not_name OtherHead x refl is
     receiver-name (Truth q b) x is = not_name OtherHead x refl is
@@ -129,7 +134,8 @@ module _ (tables : Tables) (at : Standing) (locals : List Known) where
     receiver-other (New q c) is = refl
 
 module _ (tables : Tables) (p : Place) (name : Name) where
-  pub initial-name : (e : Expr) (x : Name) → head_of e ≡ NameHead x → initial tables (Member p e name) ≡ option_map (λ r. r.expr) (constant tables p x name)
+  pub initial-name : (e : Expr) (x : Name) → head_of e ≡ NameHead x → initial tables (Member p e name) ≡ option_map (λ r. r.expr)
+      (constant tables p x name)
   initial-name (Variable q y) x is = ap (λ z. option_map (λ r. r.expr) (constant tables p z name)) (ap name_in is)
   initial-name (This q) x is = not_name ThisHead x refl is
   initial-name (Int q z) x is = not_name OtherHead x refl is

@@ -26,15 +26,18 @@ seen_now view (Some x) = refl
 abbrev pub called : {Y Z : Type 0} → (Y → Name) → (ℕ → Y → Z) → List Y → Name → Option Z
 called key make ys name = position (bytes_eq name) (map key ys) >>= λ n. slice_get ys n >>= λ y. Some (make n y)
 
-then_made : {X Y Z : Type 0} (view : X → Y) (make : Y → Z) (o : Option X) → (option_map view o >>= λ y. Some (make y)) ≡ option_map (λ x. make (view x)) o
+then_made : {X Y Z : Type 0} (view : X → Y) (make : Y → Z) (o : Option X) → (option_map view o >>= λ y. Some (make y)) ≡ option_map
+    (λ x. make (view x)) o
 then_made view make None = refl
 then_made view make (Some x) = refl
 
-module _ {X Y Z : Type 0} (view : X → Y) (key : Y → Name) (make : ℕ → Y → Z) (xs : List X) (names : List Name) (named : names ≡ map (λ x. key (view x)) xs) (name : Name) where
+module _ {X Y Z : Type 0} (view : X → Y) (key : Y → Name) (make : ℕ → Y → Z) (xs : List X) (names : List Name)
+    (named : names ≡ map (λ x. key (view x)) xs) (name : Name) where
   pub keys : position (bytes_eq name) (map key (map view xs)) ≡ position (bytes_eq name) names
   keys = ap (position (bytes_eq name)) (map-map view key xs ∙ sym named)
 
-  pub called_at : (n : ℕ) → Some n ≡ position (bytes_eq name) names → option_map (λ x. make n (view x)) (slice_get xs n) ≡ called key make (map view xs) name
+  pub called_at : (n : ℕ) → Some n ≡ position (bytes_eq name) names → option_map (λ x. make n (view x)) (slice_get xs n) ≡ called key make
+      (map view xs) name
   called_at n at =
       sym (ap (λ o. o >>= λ k. slice_get (map view xs) k >>= λ y. Some (make k y)) (keys ∙ sym at)
       ∙ ap (λ o. o >>= λ y. Some (make n y)) (slice_get-map view xs n)
@@ -43,15 +46,18 @@ module _ {X Y Z : Type 0} (view : X → Y) (key : Y → Name) (make : ℕ → Y 
   pub not_called : None ≡ position (bytes_eq name) names → None ≡ called key make (map view xs) name
   not_called none = sym (ap (λ o. o >>= λ k. slice_get (map view xs) k >>= λ y. Some (make k y)) (keys ∙ sym none))
 
-  pub picked_at : (n : ℕ) → Some n ≡ position (bytes_eq name) names → option_map view (slice_get xs n) ≡ (position (bytes_eq name) (map key (map view xs)) >>= slice_get (map view xs))
+  pub picked_at : (n : ℕ) → Some n ≡ position (bytes_eq name) names →
+      option_map view (slice_get xs n) ≡ (position (bytes_eq name) (map key (map view xs)) >>= slice_get (map view xs))
   picked_at n at = sym (ap (λ o. o >>= slice_get (map view xs)) (keys ∙ sym at) ∙ slice_get-map view xs n)
 
-  pub not_picked : None ≡ position (bytes_eq name) names → None ≡ (position (bytes_eq name) (map key (map view xs)) >>= slice_get (map view xs))
+  pub not_picked : None ≡ position (bytes_eq name) names →
+      None ≡ (position (bytes_eq name) (map key (map view xs)) >>= slice_get (map view xs))
   not_picked none = sym (ap (λ o. o >>= slice_get (map view xs)) (keys ∙ sym none))
 
   module _ (n : ℕ) (at : Some n ≡ position (bytes_eq name) names) (ys : List X) (same : ys ≡ xs) where
     pub called_got : (x : Bor X) → IsItemAt ys n (Some x) → Some (make n (view x.now)) ≡ called key make (map view xs) name
     called_got x h = ap (option_map (λ z. make n (view z))) (got ys n (Some x) h ∙ ap (λ zs. slice_get zs n) same) ∙ called_at n at
 
-    pub picked_got : (r : Option (Bor X)) → IsItemAt ys n r → option_map (λ x. view x.now) r ≡ (position (bytes_eq name) (map key (map view xs)) >>= slice_get (map view xs))
+    pub picked_got : (r : Option (Bor X)) → IsItemAt ys n r →
+        option_map (λ x. view x.now) r ≡ (position (bytes_eq name) (map key (map view xs)) >>= slice_get (map view xs))
     picked_got r h = seen_now view r ∙ ap (option_map view) (got ys n r h ∙ ap (λ zs. slice_get zs n) same) ∙ picked_at n at

@@ -19,7 +19,8 @@ fails_map ends.Memory o f h = tt
 fails_map ends.Fault o f h = ap (option_map f) h
 
 -- where the step behind fails, whatever the one before it gave
-pub fails_last : {X Y Z : Type 0} (e : Unresolved) (o : Option X) (p : Option Y) (f : X → Y → Option Z) → Fails e p → Fails e (o >>= λ x. p >>= f x)
+pub fails_last : {X Y Z : Type 0} (e : Unresolved) (o : Option X) (p : Option Y) (f : X → Y → Option Z) → Fails e p →
+    Fails e (o >>= λ x. p >>= f x)
 fails_last ends.Memory o p f h = tt
 fails_last ends.Fault None p f h = refl
 fails_last ends.Fault (Some x) p f h = ap (λ q. q >>= f x) h
@@ -29,8 +30,10 @@ fails_as ends.Memory o p is h = tt
 fails_as ends.Fault o p is h = is ∙ h
 
 -- a call, once its type is known
-pub made : (o : Option CoreType) (ty : CoreType) (e e' : Core.Expr) (r : Resolved) → o ≡ Some ty → e' ≡ e → r ≡ typed e' ty → (o >>= λ t. Some (typed e t)) ≡ Some r
-made o ty e e' r known is made_so = ap (λ p. p >>= λ t. Some (typed e t)) known ∙ ap (λ x. Some (typed x ty)) (sym is) ∙ ap Some (sym made_so)
+pub made : (o : Option CoreType) (ty : CoreType) (e e' : Core.Expr) (r : Resolved) → o ≡ Some ty → e' ≡ e → r ≡ typed e' ty →
+    (o >>= λ t. Some (typed e t)) ≡ Some r
+made o ty e e' r known is made_so = ap (λ p. p >>= λ t. Some (typed e t)) known ∙ ap (λ x. Some (typed x ty)) (sym is) ∙
+    ap Some (sym made_so)
 
 -- what holds anyway
 pub always_ok : {X E : Type 0} (r : Result X E) {P : Type 0} → P → OnOk r P
@@ -47,7 +50,8 @@ two_steps None f g = refl
 two_steps (Some a) f g = refl
 
 -- two steps, whose answers are kept as one
-pub kept_steps : {A B C D : Type 0} (o : Option A) (p : Option B) (g : A → B → C) (k : C → Option D) (h : A → B → Option D) → ((a : A) (b : B) → h a b ≡ k (g a b)) →
+pub kept_steps : {A B C D : Type 0} (o : Option A) (p : Option B) (g : A → B → C) (k : C → Option D) (h : A → B → Option D) →
+    ((a : A) (b : B) → h a b ≡ k (g a b)) →
     (o >>= λ a. p >>= h a) ≡ ((o >>= λ a. p >>= λ b. Some (g a b)) >>= k)
 kept_steps None p g k h same = refl
 kept_steps (Some a) None g k h same = refl

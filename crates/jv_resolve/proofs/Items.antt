@@ -20,7 +20,8 @@ same_written : (v w : WrittenLocal) → Some v ≡ Some w → v ≡ w
 same_written v w e = cc
 
 module _ (tables : Tables) (at : Standing) (around : List Around) (locals : List Known) (s : Counted) where
-  pub item_local : (t : Source.Stmt) (w : WrittenLocal) → written_in t ≡ Some w → item_at tables at t around locals s ≡ local_item tables at w locals s
+  pub item_local : (t : Source.Stmt) (w : WrittenLocal) → written_in t ≡ Some w → item_at tables at t around locals s ≡ local_item tables at
+      w locals s
   item_local (Source.Local p ty name e) w h = ap (λ v. local_item tables at v locals s) (same_written _ w h)
   item_local (Source.Block p b end) w h = let no : ⊥ = cc in absurd no
   item_local (Source.Empty p) w h = let no : ⊥ = cc in absurd no
@@ -36,7 +37,8 @@ module _ (tables : Tables) (at : Standing) (around : List Around) (locals : List
   item_local (Source.Print p e) w h = let no : ⊥ = cc in absurd no
   item_local (Source.Eval p e) w h = let no : ⊥ = cc in absurd no
 
-  pub item_other : (t : Source.Stmt) → written_in t ≡ None → item_at tables at t around locals s ≡ same_scope locals (stmt tables at t around locals s)
+  pub item_other : (t : Source.Stmt) → written_in t ≡ None → item_at tables at t around locals s ≡ same_scope locals
+      (stmt tables at t around locals s)
   item_other (Source.Local p ty name e) h = let no : ⊥ = cc in absurd no
   item_other (Source.Block p b end) h = refl
   item_other (Source.Empty p) h = refl
@@ -53,7 +55,8 @@ module _ (tables : Tables) (at : Standing) (around : List Around) (locals : List
   item_other (Source.Eval p e) h = refl
 
 -- a statement that leaves the scope as it was
-pub in_same_scope : {X : Type 0} (see : X → Core.Stmt) (r : Result X Unresolved) (old new : List Known) (s : Counted) (o : Option (Counting Core.Stmt)) → Gives (λ x. counting (see x) s) r o → OnOk r (new ≡ old) →
+pub in_same_scope : {X : Type 0} (see : X → Core.Stmt) (r : Result X Unresolved) (old new : List Known) (s : Counted)
+    (o : Option (Counting Core.Stmt)) → Gives (λ x. counting (see x) s) r o → OnOk r (new ≡ old) →
     Gives (λ x. itemed (see x) new s) r (same_scope old o)
 in_same_scope see (Ok x) old new s o h same = ap (same_scope old) h ∙ ap (λ ls. Some (itemed (see x) ls s)) (sym same)
 in_same_scope see (Err e) old new s o h same = fails_map e o (λ a. itemed a.it old a.so_far) h
@@ -66,11 +69,14 @@ module _ (tables : Tables) (at : Standing) (w : WrittenLocal) (locals : List Kno
   abbrev in_scope : Counting Known × Core.Stmt → Option Item
   in_scope k = declared k.0.it locals >>= λ more. Some (itemed k.1 more k.0.so_far)
 
-  pub local_item_made : (k : Counting Known) (made : Core.Stmt) (more : List Known) → kept ≡ Some (k, made) → declared k.it locals ≡ Some more → local_item tables at w locals s ≡ Some (itemed made more k.so_far)
+  pub local_item_made : (k : Counting Known) (made : Core.Stmt) (more : List Known) → kept ≡ Some (k, made) →
+      declared k.it locals ≡ Some more → local_item tables at w locals s ≡ Some (itemed made more k.so_far)
   local_item_made k made more h new = ap (λ o. o >>= in_scope) h ∙ ap (λ o. o >>= λ ls. Some (itemed made ls k.so_far)) new
 
   pub local_item_fails : (err : Unresolved) → Fails err kept → Fails err (local_item tables at w locals s)
   local_item_fails err h = fails_then err kept in_scope h
 
-  pub scope_fails : (err : Unresolved) (k : Counting Known) (made : Core.Stmt) → kept ≡ Some (k, made) → Fails err (declared k.it locals) → Fails err (local_item tables at w locals s)
-  scope_fails err k made h new = fails_as err _ _ (ap (λ o. o >>= in_scope) h) (fails_then err (declared k.it locals) (λ ls. Some (itemed made ls k.so_far)) new)
+  pub scope_fails : (err : Unresolved) (k : Counting Known) (made : Core.Stmt) → kept ≡ Some (k, made) → Fails err (declared k.it locals) →
+      Fails err (local_item tables at w locals s)
+  scope_fails err k made h new = fails_as err _ _ (ap (λ o. o >>= in_scope) h)
+      (fails_then err (declared k.it locals) (λ ls. Some (itemed made ls k.so_far)) new)

@@ -1,5 +1,6 @@
 -- What methods are resolved to, from what their parts are.
-use Rattle.std.proofs.Common.{◌≡◌, ℕ, List, [], ◌∷◌, ◌++◌, length, Bool, false, Option, Some, None, refl, sym, ap, ◌∙◌, append_assoc, append-nil}
+use Rattle.std.proofs.Common.{◌≡◌, ℕ, List, [], ◌∷◌, ◌++◌, length, Bool, false, Option, Some, None, refl, sym, ap, ◌∙◌, append_assoc}
+use Rattle.std.proofs.Common.{append-nil}
 use Rattle.std.specs.Prelude.{is_some, position, slice_get}
 use Rattle.std.specs.Option.{option_map}
 use Rattle.std.specs.List.{list_any}
@@ -36,7 +37,8 @@ same_some f (Some a) = refl
 abbrev offers_in_any : Option Typestate → Name → Bool
 offers_in_any o name = elim o [ None ↦ false | Some t ↦ list_any (λ m. bytes_eq m.name name) (offers_in t.states) ]
 
-pub offer_found : {A : Type 0} (f : A → ℕ) (o : Option A) (t : Typestate) (names : List Name) (name : Name) → option_map f o ≡ position (bytes_eq name) names → OffersAll t names →
+pub offer_found : {A : Type 0} (f : A → ℕ) (o : Option A) (t : Typestate) (names : List Name) (name : Name) →
+    option_map f o ≡ position (bytes_eq name) names → OffersAll t names →
     is_some o ≡ list_any (λ m. bytes_eq m.name name) (offers_in t.states)
 offer_found f o t names name h all = same_some f o ∙ ap is_some h ∙ any_at name names ∙ all.each name
 
@@ -48,8 +50,10 @@ module _ (tables : Tables) (e : Entry) (name : Name) where
     pub none_there : slice_get tables.typestates n ≡ None → false ≡ is_offered tables e name
     none_there h = sym (ap (λ o. offers_in_any (o >>= slice_get tables.typestates) name) named ∙ ap (λ o. offers_in_any o name) h)
 
-    pub one_followed : (t : Typestate) (b : Bool) → slice_get tables.typestates n ≡ Some t → b ≡ list_any (λ m. bytes_eq m.name name) (offers_in t.states) → b ≡ is_offered tables e name
-    one_followed t b h is = is ∙ sym (ap (λ o. offers_in_any (o >>= slice_get tables.typestates) name) named ∙ ap (λ o. offers_in_any o name) h)
+    pub one_followed : (t : Typestate) (b : Bool) → slice_get tables.typestates n ≡ Some t → b ≡ list_any (λ m. bytes_eq m.name name)
+        (offers_in t.states) → b ≡ is_offered tables e name
+    one_followed t b h is = is ∙ sym (ap (λ o. offers_in_any (o >>= slice_get tables.typestates) name) named ∙
+        ap (λ o. offers_in_any o name) h)
 
 -- ---- parameters
 
@@ -57,25 +61,30 @@ module _ (tables : Tables) (p : Param) (locals : List Known) (s : Counted) where
   abbrev in_scope : Counting Known → Option Opened
   in_scope k = declared k.it locals >>= λ more. Some (opened more k.so_far)
 
-  pub param_made : (k : Counting Known) (more : List Known) → slot_more tables p.ty p.name s ≡ Some k → declared k.it locals ≡ Some more → param_at tables p locals s ≡ Some (opened more k.so_far)
+  pub param_made : (k : Counting Known) (more : List Known) → slot_more tables p.ty p.name s ≡ Some k → declared k.it locals ≡ Some more →
+      param_at tables p locals s ≡ Some (opened more k.so_far)
   param_made k more h new = ap (λ o. o >>= in_scope) h ∙ ap (λ o. o >>= λ ls. Some (opened ls k.so_far)) new
 
   pub param_slot_fails : (err : Unresolved) → Fails err (slot_more tables p.ty p.name s) → Fails err (param_at tables p locals s)
   param_slot_fails err h = fails_then err (slot_more tables p.ty p.name s) in_scope h
 
-  pub param_scope_fails : (err : Unresolved) (k : Counting Known) → slot_more tables p.ty p.name s ≡ Some k → Fails err (declared k.it locals) → Fails err (param_at tables p locals s)
-  param_scope_fails err k h new = fails_as err _ _ (ap (λ o. o >>= in_scope) h) (fails_then err (declared k.it locals) (λ ls. Some (opened ls k.so_far)) new)
+  pub param_scope_fails : (err : Unresolved) (k : Counting Known) → slot_more tables p.ty p.name s ≡ Some k →
+      Fails err (declared k.it locals) → Fails err (param_at tables p locals s)
+  param_scope_fails err k h new = fails_as err _ _ (ap (λ o. o >>= in_scope) h)
+      (fails_then err (declared k.it locals) (λ ls. Some (opened ls k.so_far)) new)
 
 regrouped : (a : Option (Counting Known)) (d : Counting Known → Option (List Known)) (F : List Known → Counted → Option Opened) →
     (a >>= λ k. d k >>= λ more. F more k.so_far) ≡ ((a >>= λ k. d k >>= λ more. Some (opened more k.so_far)) >>= λ o. F o.locals o.so_far)
 regrouped None d F = refl
 regrouped (Some k) d F = go (d k)
   where
-    go : (o : Option (List Known)) → (o >>= λ more. F more k.so_far) ≡ ((o >>= λ more. Some (opened more k.so_far)) >>= λ r. F r.locals r.so_far)
+    go : (o : Option (List Known)) → (o >>= λ more. F more k.so_far) ≡ ((o >>= λ more. Some (opened more k.so_far)) >>= λ r. F r.locals
+        r.so_far)
     go None = refl
     go (Some more) = refl
 
-module _ (tables : Tables) (total : Option Opened) (left : List Param) (locals : List Known) (s : Counted) (so_far : total ≡ params tables left locals s) where
+module _ (tables : Tables) (total : Option Opened) (left : List Param) (locals : List Known) (s : Counted)
+    (so_far : total ≡ params tables left locals s) where
   module _ (p : Param) (rest : List Param) (next : left ≡ p ∷ rest) where
     abbrev then_rest : Opened → Option Opened
     then_rest o = params tables rest o.locals o.so_far
@@ -113,7 +122,8 @@ core_method e m g count kind b = record {
   body = stmts_of b.it;
 }
 
-module _ (tables : Tables) (names : List Name) (m : Source.Method) (n : ℕ) (ns : List Name) (named : interned names m.name ≡ Some (with_number n ns)) where
+module _ (tables : Tables) (names : List Name) (m : Source.Method) (n : ℕ) (ns : List Name)
+    (named : interned names m.name ≡ Some (with_number n ns)) where
   abbrev then_signed : ℕ → List Name → CoreType → Option (Naming Signed)
   then_signed k xs ty = Some (naming (signed k ty) xs)
 
@@ -123,7 +133,8 @@ module _ (tables : Tables) (names : List Name) (m : Source.Method) (n : ℕ) (ns
   pub signature_fails : (err : Unresolved) → Fails err (type_meant tables m.result) → Fails err (signature_meant tables names m)
   signature_fails err h = fails_as err _ _ signature_named (fails_then err (type_meant tables m.result) (then_signed n ns) h)
 
-  pub signature_made : (ty : CoreType) → type_meant tables m.result ≡ Some ty → signature_meant tables names m ≡ Some (naming (signed n ty) ns)
+  pub signature_made : (ty : CoreType) → type_meant tables m.result ≡ Some ty → signature_meant tables names m ≡ Some
+      (naming (signed n ty) ns)
   signature_made ty h = signature_named ∙ ap (λ o. o >>= then_signed n ns) h
 
 module _ (tables : Tables) (names : List Name) (e : Entry) (m : Source.Method) where
@@ -135,36 +146,45 @@ module _ (tables : Tables) (names : List Name) (e : Entry) (m : Source.Method) w
 
   method_opened : method tables names e m ≡ (signature_meant tables names m >>= then_body)
   method_opened =
-      kept_steps (interned names m.name) (type_meant tables m.result) (λ (k : Interned) (ty : CoreType). naming (signed k.number ty) k.names) then_body
-      (λ (k : Interned) (ty : CoreType). params tables m.params [] (unnumbered k.names) >>= λ o. stmts tables (standing e m) m.body [] o.locals o.so_far >>= then_done (signed k.number ty))
-      (λ (k : Interned) (ty : CoreType). two_steps (params tables m.params [] (unnumbered k.names)) (λ (o : Opened). stmts tables (standing e m) m.body [] o.locals o.so_far) (then_done (signed k.number ty)))
+      kept_steps (interned names m.name) (type_meant tables m.result) (λ (k : Interned) (ty : CoreType). naming (signed k.number ty)
+      k.names) then_body
+      (λ (k : Interned) (ty : CoreType). params tables m.params [] (unnumbered k.names) >>= λ o. stmts tables (standing e m) m.body []
+      o.locals o.so_far >>= then_done (signed k.number ty))
+      (λ (k : Interned) (ty : CoreType). two_steps (params tables m.params [] (unnumbered k.names))
+      (λ (o : Opened). stmts tables (standing e m) m.body [] o.locals o.so_far) (then_done (signed k.number ty)))
 
   pub method_signature_fails : (err : Unresolved) → Fails err (signature_meant tables names m) → Fails err (method tables names e m)
   method_signature_fails err h = fails_as err _ _ method_opened (fails_then err (signature_meant tables names m) then_body h)
 
-  module _ (g : Naming Signed) (known : signature_meant tables names m ≡ Some g) (locals : List Known) (s : Counted) (no_local : locals ≡ []) (unnumbered_yet : s ≡ unnumbered g.names) where
+  module _ (g : Naming Signed) (known : signature_meant tables names m ≡ Some g) (locals : List Known) (s : Counted)
+      (no_local : locals ≡ []) (unnumbered_yet : s ≡ unnumbered g.names) where
     method_signed : method tables names e m ≡ (body_meant tables (standing e m) m locals s >>= then_done g.it)
     method_signed =
         method_opened ∙ ap (λ o. o >>= then_body) known
         ∙ ap (λ ls. body_meant tables (standing e m) m ls (unnumbered g.names) >>= then_done g.it) (sym no_local)
         ∙ ap (λ t. body_meant tables (standing e m) m locals t >>= then_done g.it) (sym unnumbered_yet)
 
-    pub method_body_fails : (err : Unresolved) → Fails err (body_meant tables (standing e m) m locals s) → Fails err (method tables names e m)
-    method_body_fails err h = fails_as err _ _ method_signed (fails_then err (body_meant tables (standing e m) m locals s) (then_done g.it) h)
+    pub method_body_fails : (err : Unresolved) → Fails err (body_meant tables (standing e m) m locals s) →
+        Fails err (method tables names e m)
+    method_body_fails err h = fails_as err _ _ method_signed (fails_then err (body_meant tables (standing e m) m locals s) (then_done g.it)
+        h)
 
-    pub method_made : (b : Counting (List Core.Stmt)) (count : ℕ) (kind : MethodKind) → body_meant tables (standing e m) m locals s ≡ Some b → count ≡ length m.params → kind ≡ kind_meant tables e m →
+    pub method_made : (b : Counting (List Core.Stmt)) (count : ℕ) (kind : MethodKind) → body_meant tables (standing e m) m locals s ≡ Some b
+        → count ≡ length m.params → kind ≡ kind_meant tables e m →
         method tables names e m ≡ Some (naming (core_method e m g.it count kind b) b.so_far.names)
     method_made b count kind h counted is =
         method_signed ∙ ap (λ o. o >>= then_done g.it) h
         ∙ ap (λ k. Some (naming (core_method e m g.it k (kind_meant tables e m) b) b.so_far.names)) (sym counted)
         ∙ ap (λ k. Some (naming (core_method e m g.it count k b) b.so_far.names)) (sym is)
 
-pub same_methods_of : (tables : Tables) (e : Entry) (names : List Name) (ms : List Source.Method) → methods_of tables names e ms ≡ threaded (λ ns m. method tables ns e m) names ms
+pub same_methods_of : (tables : Tables) (e : Entry) (names : List Name) (ms : List Source.Method) → methods_of tables names e ms ≡ threaded
+    (λ ns m. method tables ns e m) names ms
 same_methods_of tables e = same_threaded (λ ns m. method tables ns e m) (λ ns ms. methods_of tables ns e ms) (λ ns. refl) (λ ns m ms. refl)
 
 -- ---- the methods of classes
 
-last : (after : List Core.Method) (o : Option (Naming (List Core.Method))) → (o >>= λ r. Some (naming (after ++ r.it) r.names)) ≡ with_done after o
+last : (after : List Core.Method) (o : Option (Naming (List Core.Method))) → (o >>= λ r. Some (naming (after ++ r.it) r.names)) ≡ with_done
+    after o
 last after None = refl
 last after (Some r) = refl
 
@@ -172,7 +192,8 @@ pub classes_start : (o : Option (Naming (List Core.Method))) → o ≡ with_done
 classes_start None = refl
 classes_start (Some r) = refl
 
-module _ (tables : Tables) (total : Option (Naming (List Core.Method))) (done : List Core.Method) (names : List Name) (left : List Entry) (so_far : total ≡ with_done done (methods tables names left)) where
+module _ (tables : Tables) (total : Option (Naming (List Core.Method))) (done : List Core.Method) (names : List Name) (left : List Entry)
+    (so_far : total ≡ with_done done (methods tables names left)) where
   module _ (e : Entry) (rest : List Entry) (next : left ≡ e ∷ rest) where
     abbrev then_classes : Naming (List Core.Method) → Option (Naming (List Core.Method))
     then_classes k = methods tables k.names rest >>= λ r. Some (naming (k.it ++ r.it) r.names)
@@ -181,18 +202,21 @@ module _ (tables : Tables) (total : Option (Naming (List Core.Method))) (done : 
     grouped None = refl
     grouped (Some k) = go (methods tables k.names rest)
       where
-        go : (q : Option (Naming (List Core.Method))) → with_done done (q >>= λ r. Some (naming (k.it ++ r.it) r.names)) ≡ (q >>= λ r. Some (naming ((done ++ k.it) ++ r.it) r.names))
+        go : (q : Option (Naming (List Core.Method))) → with_done done (q >>= λ r. Some (naming (k.it ++ r.it) r.names)) ≡
+            (q >>= λ r. Some (naming ((done ++ k.it) ++ r.it) r.names))
         go None = refl
         go (Some r) = ap (λ xs. Some (naming xs r.names)) (sym (append_assoc done k.it r.it))
 
     classes_opened : total ≡ (with_done done (methods_of tables names e e.class.methods) >>= then_classes)
     classes_opened = so_far ∙ ap (λ es. with_done done (methods tables names es)) next ∙ grouped (methods_of tables names e e.class.methods)
 
-    pub classes_more : (after : List Core.Method) (later : List Name) → with_done done (methods_of tables names e e.class.methods) ≡ Some (naming after later) → total ≡ with_done after (methods tables later rest)
+    pub classes_more : (after : List Core.Method) (later : List Name) → with_done done (methods_of tables names e e.class.methods) ≡ Some
+        (naming after later) → total ≡ with_done after (methods tables later rest)
     classes_more after later h = classes_opened ∙ ap (λ o. o >>= then_classes) h ∙ last after (methods tables later rest)
 
     pub classes_fail : (err : Unresolved) → Fails err (with_done done (methods_of tables names e e.class.methods)) → Fails err total
-    classes_fail err h = fails_as err _ _ classes_opened (fails_then err (with_done done (methods_of tables names e e.class.methods)) then_classes h)
+    classes_fail err h = fails_as err _ _ classes_opened (fails_then err (with_done done (methods_of tables names e e.class.methods))
+        then_classes h)
 
   pub classes_done : left ≡ [] → total ≡ Some (naming done names)
   classes_done end = so_far ∙ ap (λ es. with_done done (methods tables names es)) end ∙ ap (λ xs. Some (naming xs names)) (append-nil done)

@@ -1,5 +1,6 @@
 -- The names of what a typestate offers.
-use Rattle.std.proofs.Common.{◌≡◌, ℕ, ◌+◌, ◌<◌, get_or, drop, List, [], ◌∷◌, ◌++◌, map, length, Some, None, Bool, true, false, ◌||◌, cond, refl, sym, ap, ◌∙◌, true≢false, nat_lt}
+use Rattle.std.proofs.Common.{◌≡◌, ℕ, ◌+◌, ◌<◌, get_or, drop, List, [], ◌∷◌, ◌++◌, map, length, Some, None, Bool, true, false, ◌||◌, cond}
+use Rattle.std.proofs.Common.{refl, sym, ap, ◌∙◌, true≢false, nat_lt}
 use Rattle.std.specs.Prelude.{is_some, position}
 use Rattle.std.specs.List.{list_any, position_or_len}
 use Rattle.std.specs.Str.{bytes_eq}
@@ -22,13 +23,17 @@ is_in seen name = is_some (position (bytes_eq name) seen)
 
 pub bytes_eq_flip : (a b : Name) → bytes_eq a b ≡ bytes_eq b a
 bytes_eq_flip a b =
-    same_from_decides (bytes_eq a b) (bytes_eq b a) (bytes_eq-Decides a b) ((λ e. sym ((bytes_eq-Decides b a).0 e)), (λ e. (bytes_eq-Decides b a).1 (sym e)))
+    same_from_decides (bytes_eq a b) (bytes_eq b a) (bytes_eq-Decides a b) (
+      (λ e. sym ((bytes_eq-Decides b a).0 e)),
+      (λ e. (bytes_eq-Decides b a).1 (sym e)),
+    )
 
 pub any_at : (name : Name) (names : List Name) → is_some (position (bytes_eq name) names) ≡ list_any (bytes_eq name) names
 any_at name names = go (list_any (bytes_eq name) names) (list_any-position (bytes_eq name) names)
   where
     go : (b : Bool) → b ≡ nat_lt (position_or_len (bytes_eq name) names) (length names) →
-        is_some (cond (nat_lt (position_or_len (bytes_eq name) names) (length names)) (Some (position_or_len (bytes_eq name) names)) None) ≡ b
+        is_some (cond (nat_lt (position_or_len (bytes_eq name) names) (length names)) (Some (position_or_len (bytes_eq name) names)) None) ≡
+        b
     go true e = ap (λ t. is_some (cond t (Some (position_or_len (bytes_eq name) names)) None)) (sym e)
     go false e = ap (λ t. is_some (cond t (Some (position_or_len (bytes_eq name) names)) None)) (sym e)
 
@@ -37,7 +42,8 @@ noted-append met [] ys = refl
 noted-append met (x ∷ xs) ys = noted-append (with_text met x) xs ys
 
 -- the state at an index, and those behind it
-pub drop_step : {X Y : Type 0} (F : List X → Y) (xs : List X) (i : ℕ) (x : X) → i < length xs → x ≡ get_or xs i x → F (drop i xs) ≡ F (x ∷ drop (i + 1) xs)
+pub drop_step : {X Y : Type 0} (F : List X → Y) (xs : List X) (i : ℕ) (x : X) → i < length xs → x ≡ get_or xs i x →
+    F (drop i xs) ≡ F (x ∷ drop (i + 1) xs)
 drop_step F xs i x within is = ap F (drop_at xs i x within is)
 
 pub offers-step : (met : List Name) (ss : List KeptState) (i : ℕ) (x : KeptState) → i < length ss → x ≡ get_or ss i x →
@@ -71,30 +77,37 @@ absorbed false true h = absurd (true≢false (sym (h refl)))
 absorbed false false h = refl
 
 -- a name that stands there already changes nothing
-pub any_with : (n : Name) (met : List Name) (x : Name) → list_any (bytes_eq n) (with_text met x) ≡ (list_any (bytes_eq n) met || bytes_eq n x)
+pub any_with : (n : Name) (met : List Name) (x : Name) → list_any (bytes_eq n) (with_text met x) ≡
+    (list_any (bytes_eq n) met || bytes_eq n x)
 any_with n met x = go (is_in met x) refl
   where
     go : (b : Bool) → is_in met x ≡ b → list_any (bytes_eq n) (cond b met (met ++ x ∷ [])) ≡ (list_any (bytes_eq n) met || bytes_eq n x)
-    go true e = sym (absorbed (list_any (bytes_eq n) met) (bytes_eq n x) (λ h. ap (λ y. list_any (bytes_eq y) met) ((bytes_eq-Decides n x).0 h) ∙ (sym (any_at x met) ∙ e)))
+    go true e = sym (absorbed (list_any (bytes_eq n) met) (bytes_eq n x)
+        (λ h. ap (λ y. list_any (bytes_eq y) met) ((bytes_eq-Decides n x).0 h) ∙ (sym (any_at x met) ∙ e)))
     go false e = any_push (bytes_eq n) met x
 
-pub any_noted : (n : Name) (met xs : List Name) → list_any (bytes_eq n) (noted met xs) ≡ (list_any (bytes_eq n) met || list_any (bytes_eq n) xs)
+pub any_noted : (n : Name) (met xs : List Name) → list_any (bytes_eq n) (noted met xs) ≡ (list_any (bytes_eq n) met || list_any (bytes_eq n)
+    xs)
 any_noted n met [] = go (list_any (bytes_eq n) met)
   where
     go : (b : Bool) → b ≡ (b || false)
     go true = refl
     go false = refl
 any_noted n met (x ∷ xs) =
-    any_noted n (with_text met x) xs ∙ ap (λ b. b || list_any (bytes_eq n) xs) (any_with n met x) ∙ or_or (list_any (bytes_eq n) met) (bytes_eq n x) (list_any (bytes_eq n) xs)
+    any_noted n (with_text met x) xs ∙ ap (λ b. b || list_any (bytes_eq n) xs) (any_with n met x) ∙ or_or (list_any (bytes_eq n) met)
+    (bytes_eq n x) (list_any (bytes_eq n) xs)
 
 any_names : (n : Name) (ms : List Method) → list_any (bytes_eq n) (map (λ m. m.name) ms) ≡ list_any (λ m. bytes_eq m.name n) ms
 any_names n [] = refl
-any_names n (m ∷ ms) = ap (λ b. b || list_any (bytes_eq n) (map (λ m. m.name) ms)) (bytes_eq_flip n m.name) ∙ ap (λ b. bytes_eq m.name n || b) (any_names n ms)
+any_names n (m ∷ ms) = ap (λ b. b || list_any (bytes_eq n) (map (λ m. m.name) ms)) (bytes_eq_flip n m.name) ∙
+    ap (λ b. bytes_eq m.name n || b) (any_names n ms)
 
 -- the table of all names that states offer
-pub offers_all : (t : Typestate) (names : List Name) (ss : List KeptState) → map state_of ss ≡ t.states → names ≡ noted [] (map (λ m. m.name) (offers_in (map state_of ss))) → OffersAll t names
+pub offers_all : (t : Typestate) (names : List Name) (ss : List KeptState) → map state_of ss ≡ t.states →
+    names ≡ noted [] (map (λ m. m.name) (offers_in (map state_of ss))) → OffersAll t names
 offers_all t names ss same is = record {
-  each = λ n. ap (list_any (bytes_eq n)) (is ∙ ap (λ xs. noted [] (map (λ m. m.name) (offers_in xs))) same) ∙ any_noted n [] (map (λ m. m.name) (offers_in t.states)) ∙ any_names n (offers_in t.states);
+  each = λ n. ap (list_any (bytes_eq n)) (is ∙ ap (λ xs. noted [] (map (λ m. m.name) (offers_in xs))) same) ∙
+      any_noted n [] (map (λ m. m.name) (offers_in t.states)) ∙ any_names n (offers_in t.states);
 }
 
 pub ruleset offers = (common_steps, offers-step)

@@ -1,5 +1,6 @@
 -- One more local, and one less.
-use Rattle.std.proofs.Common.{◌≡◌, ℕ, suc, ◌-◌, ◌<◌, List, [], ◌∷◌, ◌++◌, map, reverse, length, drop, Option, Some, None, Bool, true, false, not, ◌&&◌, cond, Decides, String, string_bytes, refl, sym, ap, ◌∙◌, true≢false, arith}
+use Rattle.std.proofs.Common.{◌≡◌, ℕ, suc, ◌-◌, ◌<◌, List, [], ◌∷◌, ◌++◌, map, reverse, length, drop, Option, Some, None, Bool, true, false}
+use Rattle.std.proofs.Common.{not, ◌&&◌, cond, Decides, String, string_bytes, refl, sym, ap, ◌∙◌, true≢false, arith}
 use Rattle.std.specs.HashMap.{HashMap, get_by_text, UpdatesBy}
 use Rattle.std.specs.Option.{option_map, is_some}
 use Rattle.std.specs.Str.{bytes_eq}
@@ -57,7 +58,8 @@ module _ (locals : List Known) (k : Known) (get get' : Name → Option Local) wh
     }
 
 -- what a table answers after a change
-pub changed_at : {A S : Type 0} (m n : HashMap (String A) Local S) (name : Name) (w : Option Local) → UpdatesBy string_eq (λ k. bytes_eq name (string_bytes k)) m n w →
+pub changed_at : {A S : Type 0} (m n : HashMap (String A) Local S) (name : Name) (w : Option Local) →
+    UpdatesBy string_eq (λ k. bytes_eq name (string_bytes k)) m n w →
     (q : Name) → get_by_text n q ≡ cond (bytes_eq name q) w (get_by_text m q)
 changed_at m n name w u q = hash_map_updates_text name m n w u q
 

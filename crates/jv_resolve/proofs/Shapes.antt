@@ -11,7 +11,8 @@ use Rattle.jv_tree.specs.declared.tree.ExprKind.{ExprKind as KeptExprKind}
 use Rattle.jv_tree.specs.declared.tree.ExprKind.TheVariants as E
 use Rattle.jv_tree.specs.Source.{Expr, Int, Truth, Text, Null, This, Variable, Member, Neg, Not, Binary, Call, MethodCall, New}
 use Rattle.jv_tree.specs.View.{exprs_of, expr_of, kind_of}
-use Rattle.jv_tree.proofs.ViewLaws.{expr_of-is, kind-Int, kind-Truth, kind-Text, kind-Null, kind-This, kind-Name, kind-Member, kind-Neg, kind-Not, kind-Binary, kind-Call, kind-MethodCall, kind-New}
+use Rattle.jv_tree.proofs.ViewLaws.{expr_of-is, kind-Int, kind-Truth, kind-Text, kind-Null, kind-This, kind-Name, kind-Member, kind-Neg}
+use Rattle.jv_tree.proofs.ViewLaws.{kind-Not, kind-Binary, kind-Call, kind-MethodCall, kind-New}
 
 module _ (x : KeptExpr) where
   shape : (k : KeptExprKind) (e : Expr) → x.kind ≡ k → kind_of k x.place ≡ e → expr_of x ≡ e
@@ -44,16 +45,19 @@ module _ (x : KeptExpr) where
   pub shape-Not : (e : Box KeptExpr Global) → x.kind ≡ E.Not e → expr_of x ≡ Not x.place (expr_of e.value)
   shape-Not e is = shape (E.Not e) (Not x.place (expr_of e.value)) is (kind-Not e x.place)
 
-  pub shape-Binary : (o : Op) (l r : Box KeptExpr Global) → x.kind ≡ E.Binary o l r → expr_of x ≡ Binary x.place o (expr_of l.value) (expr_of r.value)
+  pub shape-Binary : (o : Op) (l r : Box KeptExpr Global) → x.kind ≡ E.Binary o l r → expr_of x ≡ Binary x.place o (expr_of l.value)
+      (expr_of r.value)
   shape-Binary o l r is = shape (E.Binary o l r) (Binary x.place o (expr_of l.value) (expr_of r.value)) is (kind-Binary o l r x.place)
 
-  pub shape-Call : (n : Name) (args : Row KeptExpr) → x.kind ≡ E.Call n args → expr_of x ≡ Call x.place n (exprs_of (map expr_of args.items))
+  pub shape-Call : (n : Name) (args : Row KeptExpr) → x.kind ≡ E.Call n args →
+      expr_of x ≡ Call x.place n (exprs_of (map expr_of args.items))
   shape-Call n args is = shape (E.Call n args) (Call x.place n (exprs_of (map expr_of args.items))) is (kind-Call n args x.place)
 
   pub shape-MethodCall : (e : Box KeptExpr Global) (n : Name) (args : Row KeptExpr) → x.kind ≡ E.MethodCall e n args →
       expr_of x ≡ MethodCall x.place (expr_of e.value) n (exprs_of (map expr_of args.items))
   shape-MethodCall e n args is =
-      shape (E.MethodCall e n args) (MethodCall x.place (expr_of e.value) n (exprs_of (map expr_of args.items))) is (kind-MethodCall e n args x.place)
+      shape (E.MethodCall e n args) (MethodCall x.place (expr_of e.value) n (exprs_of (map expr_of args.items))) is
+      (kind-MethodCall e n args x.place)
 
   pub shape-New : (n : Name) → x.kind ≡ E.New n → expr_of x ≡ New x.place n
   shape-New n is = shape (E.New n) (New x.place n) is (kind-New n x.place)

@@ -1,5 +1,6 @@
 -- Statements, groups and labels, one after another.
-use Rattle.std.proofs.Common.{◌≡◌, ◌⊎◌, inl, inr, ℕ, suc, ◌-◌, ◌≤◌, List, [], ◌∷◌, ◌++◌, map, length, drop, Option, Some, None, refl, sym, ap, subst, ◌∙◌, append_assoc, append-nil, arith}
+use Rattle.std.proofs.Common.{◌≡◌, ◌⊎◌, inl, inr, ℕ, suc, ◌-◌, ◌≤◌, List, [], ◌∷◌, ◌++◌, map, length, drop, Option, Some, None, refl, sym}
+use Rattle.std.proofs.Common.{ap, subst, ◌∙◌, append_assoc, append-nil, arith}
 use Rattle.std.specs.Option.{option_map}
 use Rattle.mg_text.specs.Call.{Name}
 use Rattle.jv_tree.specs.declared.tree.Stmt.{Stmt as KeptStmt}
@@ -20,11 +21,13 @@ use Rattle.jv_resolve.proofs.Chains.{fails_then, fails_map, fails_as}
 
 -- ---- labels
 
-label_first : (o : Option ℕ) (rest : Option (List (Option ℕ))) → (o >>= λ n. rest >>= λ ns. Some (Some n ∷ ns)) ≡ (option_map Some o >>= λ n. rest >>= λ ns. Some (n ∷ ns))
+label_first : (o : Option ℕ) (rest : Option (List (Option ℕ))) → (o >>= λ n. rest >>= λ ns. Some (Some n ∷ ns)) ≡
+    (option_map Some o >>= λ n. rest >>= λ ns. Some (n ∷ ns))
 label_first None rest = refl
 label_first (Some n) rest = refl
 
-labels_first : (enum : Source.Enum) (l : Option Name) (ls : List (Option Name)) → labels_at enum (l ∷ ls) ≡ (label_at enum l >>= λ n. labels_at enum ls >>= λ ns. Some (n ∷ ns))
+labels_first : (enum : Source.Enum) (l : Option Name) (ls : List (Option Name)) →
+    labels_at enum (l ∷ ls) ≡ (label_at enum l >>= λ n. labels_at enum ls >>= λ ns. Some (n ∷ ns))
 labels_first enum None ls = refl
 labels_first enum (Some name) ls = label_first (constant_position enum name) (labels_at enum ls)
 
@@ -35,17 +38,20 @@ pub labels_start : (o : Option (List (Option ℕ))) → o ≡ with_labels [] o
 labels_start None = refl
 labels_start (Some ns) = refl
 
-labels_moved : (done : List (Option ℕ)) (n : Option ℕ) (rest : Option (List (Option ℕ))) → with_labels done (rest >>= λ ns. Some (n ∷ ns)) ≡ with_labels (done ++ n ∷ []) rest
+labels_moved : (done : List (Option ℕ)) (n : Option ℕ) (rest : Option (List (Option ℕ))) → with_labels done (rest >>= λ ns. Some (n ∷ ns)) ≡
+    with_labels (done ++ n ∷ []) rest
 labels_moved done n None = refl
 labels_moved done n (Some ns) = ap Some (sym (append_assoc done (n ∷ []) ns))
 
-module _ (enum : Source.Enum) (total : Option (List (Option ℕ))) (done : List (Option ℕ)) (left : List (Option Name)) (so_far : total ≡ with_labels done (labels_at enum left)) where
+module _ (enum : Source.Enum) (total : Option (List (Option ℕ))) (done : List (Option ℕ)) (left : List (Option Name))
+    (so_far : total ≡ with_labels done (labels_at enum left)) where
   module _ (l : Option Name) (rest : List (Option Name)) (next : left ≡ l ∷ rest) where
     labels_opened : total ≡ with_labels done (label_at enum l >>= λ n. labels_at enum rest >>= λ ns. Some (n ∷ ns))
     labels_opened = so_far ∙ ap (λ xs. with_labels done (labels_at enum xs)) next ∙ ap (with_labels done) (labels_first enum l rest)
 
     pub labels_more : (n : Option ℕ) → label_at enum l ≡ Some n → total ≡ with_labels (done ++ n ∷ []) (labels_at enum rest)
-    labels_more n h = labels_opened ∙ ap (λ o. with_labels done (o >>= λ m. labels_at enum rest >>= λ ns. Some (m ∷ ns))) h ∙ labels_moved done n (labels_at enum rest)
+    labels_more n h = labels_opened ∙ ap (λ o. with_labels done (o >>= λ m. labels_at enum rest >>= λ ns. Some (m ∷ ns))) h ∙
+        labels_moved done n (labels_at enum rest)
 
     pub labels_fail : (err : Unresolved) → Fails err (label_at enum l) → Fails err total
     labels_fail err h =
@@ -61,7 +67,8 @@ module _ (enum : Source.Enum) (total : Option (List (Option ℕ))) (done : List 
 abbrev pub with_stmts : List Core.Stmt → Option (Counting (List Core.Stmt)) → Option (Counting (List Core.Stmt))
 with_stmts done rest = option_map (λ r. counting (done ++ r.it) r.so_far) rest
 
-stmts_moved : (done : List Core.Stmt) (s : Core.Stmt) (rest : Option (Counting (List Core.Stmt))) → with_stmts done (rest >>= λ b. Some (counting (s ∷ b.it) b.so_far)) ≡ with_stmts (done ++ s ∷ []) rest
+stmts_moved : (done : List Core.Stmt) (s : Core.Stmt) (rest : Option (Counting (List Core.Stmt))) →
+    with_stmts done (rest >>= λ b. Some (counting (s ∷ b.it) b.so_far)) ≡ with_stmts (done ++ s ∷ []) rest
 stmts_moved done s None = refl
 stmts_moved done s (Some b) = ap (λ xs. Some (counting xs b.so_far)) (sym (append_assoc done (s ∷ []) b.it))
 
@@ -102,7 +109,8 @@ bound (Some x) f y e = (x, refl, e)
 some_same : {X : Type 0} (x y : X) → Some x ≡ Some y → x ≡ y
 some_same x y e = cc
 
-in_scope : (locals : List Known) (r : Option (Counting Core.Stmt)) (i : Item) → option_map (λ a. record { stmt = a.it; locals = locals; so_far = a.so_far }) r ≡ Some i → Keeps locals i.locals
+in_scope : (locals : List Known) (r : Option (Counting Core.Stmt)) (i : Item) →
+    option_map (λ a. record { stmt = a.it; locals = locals; so_far = a.so_far }) r ≡ Some i → Keeps locals i.locals
 in_scope locals None i e = let no : ⊥ = cc in absurd no
 in_scope locals (Some a) i e = inl (sym (ap (λ (j : Item). j.locals) (some_same _ i e)))
 
@@ -137,7 +145,8 @@ module _ (tables : Tables) (at : Standing) (around : List Around) where
   abbrev pub left_stmts : List KeptStmt → List Known → Counted → Option (Counting (List Core.Stmt))
   left_stmts kept locals s = stmts tables at (source.stmts_of (map source.stmt_of kept)) around locals s
 
-  module _ (total : Option (Counting (List Core.Stmt))) (done : List Core.Stmt) (left : List KeptStmt) (locals : List Known) (s : Counted) (so_far : total ≡ with_stmts done (left_stmts left locals s)) where
+  module _ (total : Option (Counting (List Core.Stmt))) (done : List Core.Stmt) (left : List KeptStmt) (locals : List Known) (s : Counted)
+      (so_far : total ≡ with_stmts done (left_stmts left locals s)) where
     module _ (x : KeptStmt) (rest : List KeptStmt) (next : left ≡ x ∷ rest) where
       abbrev one : Option Item
       one = item_at tables at (source.stmt_of x) around locals s
@@ -149,10 +158,12 @@ module _ (tables : Tables) (at : Standing) (around : List Around) where
       stmts_opened = so_far ∙ ap (λ xs. with_stmts done (left_stmts xs locals s)) next
 
       pub stmts_more : (i : Item) → one ≡ Some i → total ≡ with_stmts (done ++ i.stmt ∷ []) (left_stmts rest i.locals i.so_far)
-      stmts_more i h = stmts_opened ∙ ap (λ o. with_stmts done (o >>= then_rest)) h ∙ stmts_moved done i.stmt (left_stmts rest i.locals i.so_far)
+      stmts_more i h = stmts_opened ∙ ap (λ o. with_stmts done (o >>= then_rest)) h ∙ stmts_moved done i.stmt
+          (left_stmts rest i.locals i.so_far)
 
       pub stmts_fail : (err : Unresolved) → Fails err one → Fails err total
-      stmts_fail err h = fails_as err _ _ stmts_opened (fails_map err (one >>= then_rest) (λ r. counting (done ++ r.it) r.so_far) (fails_then err one then_rest h))
+      stmts_fail err h = fails_as err _ _ stmts_opened (fails_map err (one >>= then_rest) (λ r. counting (done ++ r.it) r.so_far)
+          (fails_then err one then_rest h))
 
     pub stmts_done : left ≡ [] → total ≡ Some (counting done s)
     stmts_done end = so_far ∙ ap (λ xs. with_stmts done (left_stmts xs locals s)) end ∙ ap (λ xs. Some (counting xs s)) (append-nil done)
@@ -162,7 +173,8 @@ module _ (tables : Tables) (at : Standing) (around : List Around) where
   abbrev pub with_groups : List OneGroup → Option (Counting (List OneGroup)) → Option (Counting (List OneGroup))
   with_groups done rest = option_map (λ r. counting (done ++ r.it) r.so_far) rest
 
-  groups_moved : (done : List OneGroup) (g : OneGroup) (rest : Option (Counting (List OneGroup))) → with_groups done (rest >>= λ b. Some (counting (g ∷ b.it) b.so_far)) ≡ with_groups (done ++ g ∷ []) rest
+  groups_moved : (done : List OneGroup) (g : OneGroup) (rest : Option (Counting (List OneGroup))) →
+      with_groups done (rest >>= λ b. Some (counting (g ∷ b.it) b.so_far)) ≡ with_groups (done ++ g ∷ []) rest
   groups_moved done g None = refl
   groups_moved done g (Some b) = ap (λ xs. Some (counting xs b.so_far)) (sym (append_assoc done (g ∷ []) b.it))
 
@@ -174,7 +186,8 @@ module _ (tables : Tables) (at : Standing) (around : List Around) where
     abbrev pub left_groups : List KeptGroup → List Known → Counted → Option (Counting (List OneGroup))
     left_groups kept locals s = groups tables at (source.groups_of (map source.group_of kept)) enum around locals s
 
-    module _ (total : Option (Counting (List OneGroup))) (done : List OneGroup) (left : List KeptGroup) (locals : List Known) (s : Counted) (so_far : total ≡ with_groups done (left_groups left locals s)) where
+    module _ (total : Option (Counting (List OneGroup))) (done : List OneGroup) (left : List KeptGroup) (locals : List Known) (s : Counted)
+        (so_far : total ≡ with_groups done (left_groups left locals s)) where
       module _ (x : KeptGroup) (rest : List KeptGroup) (next : left ≡ x ∷ rest) where
         abbrev one_group : Option (Counting OneGroup)
         one_group = group_at tables at (source.group_of x) enum around locals s
@@ -186,7 +199,8 @@ module _ (tables : Tables) (at : Standing) (around : List Around) where
         one_group_of ls ss = record { labels = ls; body = stmts_of ss; end = (source.group_of x).end }
 
         assoc : (l : Option (List (Option ℕ))) (b : Option (Counting (List Core.Stmt))) →
-            (l >>= λ ls. b >>= λ a. then_groups (counting (one_group_of ls a.it) a.so_far)) ≡ ((l >>= λ ls. b >>= λ a. Some (counting (one_group_of ls a.it) a.so_far)) >>= then_groups)
+            (l >>= λ ls. b >>= λ a. then_groups (counting (one_group_of ls a.it) a.so_far)) ≡
+            ((l >>= λ ls. b >>= λ a. Some (counting (one_group_of ls a.it) a.so_far)) >>= then_groups)
         assoc None b = refl
         assoc (Some ls) None = refl
         assoc (Some ls) (Some a) = refl
@@ -194,13 +208,18 @@ module _ (tables : Tables) (at : Standing) (around : List Around) where
         groups_opened : total ≡ with_groups done (one_group >>= then_groups)
         groups_opened =
             so_far ∙ ap (λ xs. with_groups done (left_groups xs locals s)) next
-            ∙ ap (with_groups done) (assoc (labels_at enum (source.group_of x).labels) (stmts tables at (source.group_of x).body around locals s))
+            ∙ ap (with_groups done) (assoc (labels_at enum (source.group_of x).labels) (stmts tables at (source.group_of x).body around
+            locals s))
 
-        pub groups_more : (g : Counting OneGroup) → one_group ≡ Some g → total ≡ with_groups (done ++ g.it ∷ []) (left_groups rest locals g.so_far)
-        groups_more g h = groups_opened ∙ ap (λ o. with_groups done (o >>= then_groups)) h ∙ groups_moved done g.it (left_groups rest locals g.so_far)
+        pub groups_more : (g : Counting OneGroup) → one_group ≡ Some g → total ≡ with_groups (done ++ g.it ∷ [])
+            (left_groups rest locals g.so_far)
+        groups_more g h = groups_opened ∙ ap (λ o. with_groups done (o >>= then_groups)) h ∙ groups_moved done g.it
+            (left_groups rest locals g.so_far)
 
         pub groups_fail : (err : Unresolved) → Fails err one_group → Fails err total
-        groups_fail err h = fails_as err _ _ groups_opened (fails_map err (one_group >>= then_groups) (λ r. counting (done ++ r.it) r.so_far) (fails_then err one_group then_groups h))
+        groups_fail err h = fails_as err _ _ groups_opened
+            (fails_map err (one_group >>= then_groups) (λ r. counting (done ++ r.it) r.so_far) (fails_then err one_group then_groups h))
 
       pub groups_done : left ≡ [] → total ≡ Some (counting done s)
-      groups_done end = so_far ∙ ap (λ xs. with_groups done (left_groups xs locals s)) end ∙ ap (λ xs. Some (counting xs s)) (append-nil done)
+      groups_done end = so_far ∙ ap (λ xs. with_groups done (left_groups xs locals s)) end ∙ ap (λ xs. Some (counting xs s))
+          (append-nil done)

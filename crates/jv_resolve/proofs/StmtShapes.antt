@@ -14,13 +14,15 @@ use Rattle.jv_tree.specs.declared.tree.StmtKind.{StmtKind as KeptStmtKind}
 use Rattle.jv_tree.specs.declared.tree.StmtKind.TheVariants as S
 use Rattle.jv_tree.specs.Source.{Stmt, Block, Empty, Local, Assign, If, IfElse, While, Do, Switch, Break, Continue, Return, Print, Eval}
 use Rattle.jv_tree.specs.View.{expr_of, stmts_of, groups_of, stmt_of, group_of, stmt_kind_of}
-use Rattle.jv_tree.proofs.ViewLaws.{stmt_of-is, kind-Block, kind-Empty, kind-Local, kind-Assign, kind-While, kind-Do, kind-Switch, kind-Break, kind-Continue, kind-Return, kind-Print, kind-Eval, kind-If-None, kind-If-Some}
+use Rattle.jv_tree.proofs.ViewLaws.{stmt_of-is, kind-Block, kind-Empty, kind-Local, kind-Assign, kind-While, kind-Do, kind-Switch}
+use Rattle.jv_tree.proofs.ViewLaws.{kind-Break, kind-Continue, kind-Return, kind-Print, kind-Eval, kind-If-None, kind-If-Some}
 
 module _ (x : KeptStmt) where
   shape : (k : KeptStmtKind) (s : Stmt) → x.kind ≡ k → stmt_kind_of k x.place ≡ s → stmt_of x ≡ s
   shape k s is says = stmt_of-is x ∙ ap (λ j. stmt_kind_of j x.place) is ∙ says
 
-  pub shape-Block : (b : Row KeptStmt) (end : Place) → x.kind ≡ S.Block b end → stmt_of x ≡ Block x.place (stmts_of (map stmt_of b.items)) end
+  pub shape-Block : (b : Row KeptStmt) (end : Place) → x.kind ≡ S.Block b end → stmt_of x ≡ Block x.place (stmts_of (map stmt_of b.items))
+      end
   shape-Block b end is = shape (S.Block b end) (Block x.place (stmts_of (map stmt_of b.items)) end) is (kind-Block b end x.place)
 
   pub shape-Empty : x.kind ≡ S.Empty → stmt_of x ≡ Empty x.place
@@ -32,14 +34,18 @@ module _ (x : KeptStmt) where
   pub shape-Assign : (l e : KeptExpr) → x.kind ≡ S.Assign l e → stmt_of x ≡ Assign x.place (expr_of l) (expr_of e)
   shape-Assign l e is = shape (S.Assign l e) (Assign x.place (expr_of l) (expr_of e)) is (kind-Assign l e x.place)
 
-  pub shape-While : (l : Option Name) (c : KeptExpr) (s : Box KeptStmt Global) → x.kind ≡ S.While l c s → stmt_of x ≡ While x.place l (expr_of c) (stmt_of s.value)
+  pub shape-While : (l : Option Name) (c : KeptExpr) (s : Box KeptStmt Global) → x.kind ≡ S.While l c s →
+      stmt_of x ≡ While x.place l (expr_of c) (stmt_of s.value)
   shape-While l c s is = shape (S.While l c s) (While x.place l (expr_of c) (stmt_of s.value)) is (kind-While l c s x.place)
 
-  pub shape-Do : (l : Option Name) (s : Box KeptStmt Global) (c : KeptExpr) → x.kind ≡ S.Do l s c → stmt_of x ≡ Do x.place l (stmt_of s.value) (expr_of c)
+  pub shape-Do : (l : Option Name) (s : Box KeptStmt Global) (c : KeptExpr) → x.kind ≡ S.Do l s c →
+      stmt_of x ≡ Do x.place l (stmt_of s.value) (expr_of c)
   shape-Do l s c is = shape (S.Do l s c) (Do x.place l (stmt_of s.value) (expr_of c)) is (kind-Do l s c x.place)
 
-  pub shape-Switch : (e : KeptExpr) (gs : Row KeptGroup) (end : Place) → x.kind ≡ S.Switch e gs end → stmt_of x ≡ Switch x.place (expr_of e) (groups_of (map group_of gs.items)) end
-  shape-Switch e gs end is = shape (S.Switch e gs end) (Switch x.place (expr_of e) (groups_of (map group_of gs.items)) end) is (kind-Switch e gs end x.place)
+  pub shape-Switch : (e : KeptExpr) (gs : Row KeptGroup) (end : Place) → x.kind ≡ S.Switch e gs end → stmt_of x ≡ Switch x.place (expr_of e)
+      (groups_of (map group_of gs.items)) end
+  shape-Switch e gs end is = shape (S.Switch e gs end) (Switch x.place (expr_of e) (groups_of (map group_of gs.items)) end) is
+      (kind-Switch e gs end x.place)
 
   pub shape-Break : (l : Option Name) → x.kind ≡ S.Break l → stmt_of x ≡ Break x.place l
   shape-Break l is = shape (S.Break l) (Break x.place l) is (kind-Break l x.place)
@@ -59,5 +65,7 @@ module _ (x : KeptStmt) where
   pub shape-If : (c : KeptExpr) (s : Box KeptStmt Global) → x.kind ≡ S.If c s None → stmt_of x ≡ If x.place (expr_of c) (stmt_of s.value)
   shape-If c s is = shape (S.If c s None) (If x.place (expr_of c) (stmt_of s.value)) is (kind-If-None c s x.place)
 
-  pub shape-IfElse : (c : KeptExpr) (s r : Box KeptStmt Global) → x.kind ≡ S.If c s (Some r) → stmt_of x ≡ IfElse x.place (expr_of c) (stmt_of s.value) (stmt_of r.value)
-  shape-IfElse c s r is = shape (S.If c s (Some r)) (IfElse x.place (expr_of c) (stmt_of s.value) (stmt_of r.value)) is (kind-If-Some c s r x.place)
+  pub shape-IfElse : (c : KeptExpr) (s r : Box KeptStmt Global) → x.kind ≡ S.If c s (Some r) → stmt_of x ≡ IfElse x.place (expr_of c)
+      (stmt_of s.value) (stmt_of r.value)
+  shape-IfElse c s r is = shape (S.If c s (Some r)) (IfElse x.place (expr_of c) (stmt_of s.value) (stmt_of r.value)) is
+      (kind-If-Some c s r x.place)

@@ -17,7 +17,8 @@ core_program cs es ms ts names = record { classes = cs; enums = es; methods = ms
 
 -- ---- enums and classes
 
-module _ (t : Tables) (none_yet : List Name) (is_none : none_yet ≡ []) (es : List Core.Enum) (ns : List Name) (made : enums none_yet t.enums ≡ Some (naming es ns)) where
+module _ (t : Tables) (none_yet : List Name) (is_none : none_yet ≡ []) (es : List Core.Enum) (ns : List Name)
+    (made : enums none_yet t.enums ≡ Some (naming es ns)) where
   abbrev then_heads : List Core.Enum → Naming (List Core.Class) → Option Headed
   then_heads xs cs = Some (heads xs cs.it cs.names)
 
@@ -30,7 +31,8 @@ module _ (t : Tables) (none_yet : List Name) (is_none : none_yet ≡ []) (es : L
   pub heads_fail : (err : Unresolved) → Fails err (classes t ns t.classes) → Fails err (headed t)
   heads_fail err h = fails_as err _ _ heads_opened (fails_then err (classes t ns t.classes) (then_heads es) h)
 
-  pub heads_made : (cs : List Core.Class) (more : List Name) → classes t ns t.classes ≡ Some (naming cs more) → headed t ≡ Some (heads es cs more)
+  pub heads_made : (cs : List Core.Class) (more : List Name) → classes t ns t.classes ≡ Some (naming cs more) →
+      headed t ≡ Some (heads es cs more)
   heads_made cs more h = heads_opened ∙ ap (λ o. o >>= then_heads es) h
 
 -- ---- methods
@@ -52,9 +54,11 @@ module _ (t : Tables) (ts : List Typestate) where
     pub core_methods_fail : (err : Unresolved) → Fails err (methods t k.names t.classes) → Fails err (core_in t ts)
     core_methods_fail err h = fails_as err _ _ core_opened (fails_then err (methods t k.names t.classes) (then_core k) h)
 
-    pub core_made : (ms : List Core.Method) (later : List Name) (same : List Typestate) → methods t k.names t.classes ≡ Some (naming ms later) → same ≡ ts →
+    pub core_made : (ms : List Core.Method) (later : List Name) (same : List Typestate) →
+        methods t k.names t.classes ≡ Some (naming ms later) → same ≡ ts →
         core_in t ts ≡ Some (core_program k.classes k.enums ms same later)
-    core_made ms later same h is = core_opened ∙ ap (λ o. o >>= then_core k) h ∙ ap (λ xs. Some (core_program k.classes k.enums ms xs later)) (sym is)
+    core_made ms later same h is = core_opened ∙ ap (λ o. o >>= then_core k) h ∙
+        ap (λ xs. Some (core_program k.classes k.enums ms xs later)) (sym is)
 
 -- ---- the program
 
@@ -62,14 +66,16 @@ then_grouped : {B C D : Type 0} (o : Option B) (g : B → C) (k : C → Option D
 then_grouped None g k = refl
 then_grouped (Some b) g k = refl
 
-grouped : {A B C D : Type 0} (o : Option A) (f : A → Option B) (g : A → B → C) (k : C → Option D) → (o >>= λ a. f a >>= λ b. k (g a b)) ≡ ((o >>= λ a. f a >>= λ b. Some (g a b)) >>= k)
+grouped : {A B C D : Type 0} (o : Option A) (f : A → Option B) (g : A → B → C) (k : C → Option D) → (o >>= λ a. f a >>= λ b. k (g a b)) ≡
+    ((o >>= λ a. f a >>= λ b. Some (g a b)) >>= k)
 grouped None f g k = refl
 grouped (Some a) f g k = then_grouped (f a) (g a) k
 
 module _ (program : Program) where
   abbrev then_parts : Tables → Option Core.Program
   then_parts t =
-      enums [] t.enums >>= λ es. classes t es.names t.classes >>= λ cs. methods t cs.names t.classes >>= λ ms. Some (core_program cs.it es.it ms.it program.typestates ms.names)
+      enums [] t.enums >>= λ es. classes t es.names t.classes >>= λ cs. methods t cs.names t.classes
+      >>= λ ms. Some (core_program cs.it es.it ms.it program.typestates ms.names)
 
   pub whole_tables_fail : (err : Unresolved) → Fails err (tables_of program) → Fails err (resolving program)
   whole_tables_fail err h = fails_then err (tables_of program) then_parts h
@@ -77,4 +83,5 @@ module _ (program : Program) where
   pub whole_tabled : (t : Tables) → tables_of program ≡ Some t → resolving program ≡ core_in t program.typestates
   whole_tabled t tabled =
       ap (λ o. o >>= then_parts) tabled
-      ∙ grouped (enums [] t.enums) (λ (es : Naming (List Core.Enum)). classes t es.names t.classes) (λ (es : Naming (List Core.Enum)) (cs : Naming (List Core.Class)). heads es.it cs.it cs.names) (then_methods t program.typestates)
+      ∙ grouped (enums [] t.enums) (λ (es : Naming (List Core.Enum)). classes t es.names t.classes)
+      (λ (es : Naming (List Core.Enum)) (cs : Naming (List Core.Class)). heads es.it cs.it cs.names) (then_methods t program.typestates)

@@ -49,7 +49,8 @@ impl<'a> Body<'a> {
         ty: &TypeName,
         name: &str,
     ) -> Result<Local, Unresolved>
-        ensures it { Gives (λ l. counting (known name.now l) (counted_seen self.new)) result (slot_more (tables_seen tables.now) ty.now name.now (counted_seen self.old)) }
+        ensures it { Gives (λ l. counting (known name.now l) (counted_seen self.new)) result
+            (slot_more (tables_seen tables.now) ty.now name.now (counted_seen self.old)) }
         ensures locals { self.new.locals ≡ self.old.locals }
     {
         let ty = tables.meant(ty)?;

@@ -44,7 +44,8 @@ fn class_at(classes: &[CoreClass], number: u32) -> Option<&CoreClass>
 
 // A method's slots and the fields of its class are few enough.
 fn bound_method(classes: &[CoreClass], method: &CoreMethod) -> Result<(), Memory>
-    ensures { OnOk result ((k : core.Class) → slice_get (map class_of classes.now) method.now.class ≡ Some k → length (method_of method.now).slots + length k.fields ≤ 2 ^ 32 - 1) }
+    ensures { OnOk result ((k : core.Class) → slice_get (map class_of classes.now) method.now.class ≡ Some k →
+        length (method_of method.now).slots + length k.fields ≤ 2 ^ 32 - 1) }
 {
     match class_at(classes, method.class) {
         None => Ok(()),
@@ -64,7 +65,8 @@ fn bound_variables(class: &CoreClass, method: &CoreMethod) -> Result<(), Memory>
 
 /// Each method's slots and the fields of its class are few enough.
 pub(crate) fn bound_methods(classes: &[CoreClass], methods: &[CoreMethod]) -> Result<(), Memory>
-    ensures { OnOk result (AllByRecursion (λ m. (k : core.Class) → slice_get (map class_of classes.now) m.class ≡ Some k → length m.slots + length k.fields ≤ 2 ^ 32 - 1) (map method_of methods.now)) }
+    ensures { OnOk result (AllByRecursion (λ m. (k : core.Class) → slice_get (map class_of classes.now) m.class ≡ Some k →
+        length m.slots + length k.fields ≤ 2 ^ 32 - 1) (map method_of methods.now)) }
 {
     for method in methods {
         bound_method(classes, method)?;

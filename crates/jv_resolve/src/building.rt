@@ -25,7 +25,8 @@ use ts_tree::Typestate;
 
 // Adds the classes among declarations.
 fn add_classes<'a>(all: &mut Vec<&'a Class>, decls: &'a [Decl]) -> Result<(), Memory>
-    ensures { OnOk result (map (λ c. class_of c.now) all.new.items ≡ map (λ c. class_of c.now) all.old.items ++ classes_within (map decl_of decls.now)) }
+    ensures { OnOk result (map (λ c. class_of c.now) all.new.items ≡ map (λ c. class_of c.now) all.old.items ++ classes_within
+        (map decl_of decls.now)) }
 {
     for decl in decls {
         match decl {
@@ -49,7 +50,8 @@ fn classes_in<'a>(alloc: Global, files: &'a [File]) -> Result<Vec<&'a Class>, Me
 
 // Adds the enums among declarations.
 fn add_enums<'a>(all: &mut Vec<&'a Enum>, decls: &'a [Decl]) -> Result<(), Memory>
-    ensures { OnOk result (map (λ e. enum_of e.now) all.new.items ≡ map (λ e. enum_of e.now) all.old.items ++ enums_within (map decl_of decls.now)) }
+    ensures { OnOk result (map (λ e. enum_of e.now) all.new.items ≡ map (λ e. enum_of e.now) all.old.items
+        ++ enums_within (map decl_of decls.now)) }
 {
     for decl in decls {
         match decl {

@@ -6,7 +6,9 @@ ghost use Rattle.jv_core.specs.Types.{session_result};
 ghost use Rattle.jv_core.specs.Tree as Core;
 ghost use Rattle.jv_core.specs.View.{expr_of};
 ghost use Rattle.jv_core.specs.declared.program.CoreType.TheVariants as types;
-ghost use Rattle.jv_resolve_law.specs.Expressions.{call_own, call_on, call_this, call_class, call_typed, call_protocol, static_call, helper_call, object_call, text_call, only, typed, session_call, session_named, variable_in};
+ghost use Rattle.jv_resolve_law.specs.Expressions.{call_own, call_on, call_this, call_class, call_typed, call_protocol, static_call};
+ghost use Rattle.jv_resolve_law.specs.Expressions.{helper_call, object_call, text_call, only, typed, session_call, session_named};
+ghost use Rattle.jv_resolve_law.specs.Expressions.{variable_in};
 ghost use Rattle.jv_resolve.specs.inner.Gives.{Gives};
 ghost use Rattle.jv_resolve.specs.inner.Seen.{tables_seen, standing_seen, callee_seen, given_seen, resolved_seen};
 ghost use Rattle.jv_resolve.specs.inner.Named.{text_called};
@@ -34,7 +36,8 @@ pub(crate) fn call_own(
     name: &str,
     args: List<CoreExpr>,
 ) -> Result<Resolved, Unresolved>
-    ensures { Gives resolved_seen result (call_own (tables_seen scope.now.tables.now) (standing_seen scope.now) place name.now (map expr_of args.items)) }
+    ensures { Gives resolved_seen result (call_own (tables_seen scope.now.tables.now) (standing_seen scope.now) place name.now
+        (map expr_of args.items)) }
 {
     let Some(callee) = scope.class.method(name) else {
         return Err(Unresolved::Fault);
@@ -54,7 +57,9 @@ pub(crate) fn call_on(
     name: &str,
     args: List<CoreExpr>,
 ) -> Result<Resolved, Unresolved>
-    ensures { Gives resolved_seen result (call_on (tables_seen scope.now.tables.now) (standing_seen scope.now) place (receiver_seen receiver.entry) name.now (map expr_of args.items)) }
+    ensures { Gives resolved_seen result
+        (call_on (tables_seen scope.now.tables.now) (standing_seen scope.now) place (receiver_seen receiver.entry) name.now
+        (map expr_of args.items)) }
 {
     match receiver {
         Receiver::This => call_this(scope, place, name, args),
@@ -76,7 +81,8 @@ fn call_this(
     name: &str,
     args: List<CoreExpr>,
 ) -> Result<Resolved, Unresolved>
-    ensures { Gives resolved_seen result (call_this (tables_seen scope.now.tables.now) (standing_seen scope.now) place name.now (map expr_of args.items)) }
+    ensures { Gives resolved_seen result (call_this (tables_seen scope.now.tables.now) (standing_seen scope.now) place name.now
+        (map expr_of args.items)) }
 {
     let Some(callee) = scope.class.method(name) else {
         return Err(Unresolved::Fault);
@@ -117,7 +123,9 @@ fn call_value(
     name: &str,
     args: List<CoreExpr>,
 ) -> Result<Resolved, Unresolved>
-    ensures { Gives resolved_seen result (call_typed (tables_seen scope.now.tables.now) place (expr_of value.expr.value) (given_seen value.given) name.now (map expr_of args.items)) }
+    ensures { Gives resolved_seen result
+        (call_typed (tables_seen scope.now.tables.now) place (expr_of value.expr.value) (given_seen value.given) name.now
+        (map expr_of args.items)) }
 {
     match value.given {
         Given::Of(CoreType::Text) => text_call(scope, place, value.expr, name, args),
@@ -161,7 +169,8 @@ fn protocol_call(
     name: &str,
     args: List<CoreExpr>,
 ) -> Result<Resolved, Unresolved>
-    ensures { Gives resolved_seen result (call_protocol (tables_seen scope.now.tables.now) place receiver class name.now (map expr_of args.items)) }
+    ensures { Gives resolved_seen result
+        (call_protocol (tables_seen scope.now.tables.now) place receiver class name.now (map expr_of args.items)) }
 {
     let Some(entry) = scope.tables.class_at(class) else {
         return Err(Unresolved::Fault);
@@ -183,7 +192,8 @@ fn object_call(
     callee: Callee<'_>,
     args: List<CoreExpr>,
 ) -> Result<Resolved, Unresolved>
-    ensures { Gives resolved_seen result (object_call (tables_seen scope.now.tables.now) place receiver (callee_seen callee.entry) (map expr_of args.items)) }
+    ensures { Gives resolved_seen result (object_call (tables_seen scope.now.tables.now) place receiver (callee_seen callee.entry)
+        (map expr_of args.items)) }
 {
     let result = scope.tables.meant(&callee.method.result)?;
     Ok(typed(
@@ -204,7 +214,8 @@ fn static_call(
     callee: Callee<'_>,
     args: List<CoreExpr>,
 ) -> Result<Resolved, Unresolved>
-    ensures { Gives resolved_seen result (static_call (tables_seen scope.now.tables.now) place (callee_seen callee.entry) (map expr_of args.items)) }
+    ensures { Gives resolved_seen result (static_call (tables_seen scope.now.tables.now) place (callee_seen callee.entry)
+        (map expr_of args.items)) }
 {
     let result = scope.tables.meant(&callee.method.result)?;
     Ok(typed(
@@ -224,7 +235,8 @@ fn helper_call(
     callee: Callee<'_>,
     args: List<CoreExpr>,
 ) -> Result<Resolved, Unresolved>
-    ensures { Gives resolved_seen result (helper_call (tables_seen scope.now.tables.now) place (callee_seen callee.entry) (map expr_of args.items)) }
+    ensures { Gives resolved_seen result (helper_call (tables_seen scope.now.tables.now) place (callee_seen callee.entry)
+        (map expr_of args.items)) }
 {
     let result = scope.tables.meant(&callee.method.result)?;
     Ok(typed(

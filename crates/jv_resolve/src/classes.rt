@@ -5,7 +5,8 @@ ghost use Rattle.std.specs.Prelude.{◌≡◌, Some, IfOk, map, option_map, leng
 ghost use Rattle.jv_tree.specs.View.{enum_of as source_enum, field_of as source_field, expr_of};
 ghost use Rattle.jv_core.specs.Numbering.{numbers_from};
 ghost use Rattle.jv_core.specs.View.{expr_of as core_expr, class_of, enum_of, field_of};
-ghost use Rattle.jv_resolve_law.specs.Members.{all_interned, enum as enum_meant, enums as enums_meant, begins_with, field as field_meant, fields as fields_meant, class as class_meant, classes as classes_meant};
+ghost use Rattle.jv_resolve_law.specs.Members.{all_interned, enum as enum_meant, enums as enums_meant, begins_with, field as field_meant};
+ghost use Rattle.jv_resolve_law.specs.Members.{fields as fields_meant, class as class_meant, classes as classes_meant};
 ghost use Rattle.jv_resolve.specs.inner.Gives.{Gives};
 ghost use Rattle.jv_resolve.specs.inner.Naming.{naming};
 ghost use Rattle.jv_resolve.specs.inner.Seen.{entry_seen, tables_seen};
@@ -47,7 +48,8 @@ pub(crate) fn resolve_enums(
     names: &mut Names,
     entries: &[EnumEntry<'_>],
 ) -> Result<List<CoreEnum>, Memory>
-    ensures { IfOk result (λ l. enums_meant names.old (map (λ e. source_enum e.of.now) entries.now) ≡ Some (naming (map enum_of l.items) names.new)) }
+    ensures { IfOk result (λ l. enums_meant names.old (map (λ e. source_enum e.of.now) entries.now)
+        ≡ Some (naming (map enum_of l.items) names.new)) }
 {
     let mut resolved = List::new(alloc);
     for entry in entries {
@@ -91,7 +93,8 @@ fn resolve_fields(
     names: &mut Names,
     fields: &[Field],
 ) -> Result<List<CoreField>, Unresolved>
-    ensures { Gives (λ l. naming (map field_of l.items) names.new) result (fields_meant (tables_seen tables.now) names.old (map source_field fields.now)) }
+    ensures { Gives (λ l. naming (map field_of l.items) names.new) result
+        (fields_meant (tables_seen tables.now) names.old (map source_field fields.now)) }
 {
     let mut resolved = List::new(alloc);
     for field in fields {
@@ -141,7 +144,8 @@ pub(crate) fn resolve_classes(
     names: &mut Names,
     entries: &[ClassEntry<'_>],
 ) -> Result<List<CoreClass>, Unresolved>
-    ensures { Gives (λ l. naming (map class_of l.items) names.new) result (classes_meant (tables_seen tables.now) names.old (map entry_seen entries.now)) }
+    ensures { Gives (λ l. naming (map class_of l.items) names.new) result
+        (classes_meant (tables_seen tables.now) names.old (map entry_seen entries.now)) }
 {
     let mut resolved = List::new(alloc);
     for entry in entries {

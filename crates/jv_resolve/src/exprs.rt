@@ -28,7 +28,8 @@ pub(crate) fn resolve_expr(
     locals: &Locals<'_>,
     expr: &Expr,
 ) -> Result<Resolved, Unresolved>
-    ensures { Gives resolved_seen result (resolved (tables_seen scope.now.tables.now) (standing_seen scope.now) locals.now (expr_of expr.now)) }
+    ensures { Gives resolved_seen result (resolved (tables_seen scope.now.tables.now) (standing_seen scope.now) locals.now
+        (expr_of expr.now)) }
 {
     let place = expr.place;
     match expr.kind {
@@ -72,7 +73,8 @@ pub(crate) fn resolve_operand(
     locals: &Locals<'_>,
     expr: &Expr,
 ) -> Result<Operand, Unresolved>
-    ensures { Gives operand_seen result (resolved (tables_seen scope.now.tables.now) (standing_seen scope.now) locals.now (expr_of expr.now)) }
+    ensures { Gives operand_seen result (resolved (tables_seen scope.now.tables.now) (standing_seen scope.now) locals.now
+        (expr_of expr.now)) }
 {
     let value = resolve_expr(scope, locals, expr)?;
     let boxed = as_operand(scope.alloc, value)?;
@@ -86,7 +88,8 @@ fn resolve_args(
     locals: &Locals<'_>,
     args: &[Expr],
 ) -> Result<List<CoreExpr>, Unresolved>
-    ensures { Gives (λ l. map core_expr l.items) result (resolved_all (tables_seen scope.now.tables.now) (standing_seen scope.now) locals.now (exprs_of (map expr_of args.now))) }
+    ensures { Gives (λ l. map core_expr l.items) result
+        (resolved_all (tables_seen scope.now.tables.now) (standing_seen scope.now) locals.now (exprs_of (map expr_of args.now))) }
 {
     let mut resolved = List::new(scope.alloc);
     for arg in args {
@@ -103,7 +106,8 @@ fn resolve_receiver<'e>(
     locals: &Locals<'_>,
     of: &'e Expr,
 ) -> Result<Receiver<'e>, Unresolved>
-    ensures { Gives receiver_seen result (receiver (tables_seen scope.now.tables.now) (standing_seen scope.now) locals.now (expr_of of.now) (resolved (tables_seen scope.now.tables.now) (standing_seen scope.now) locals.now (expr_of of.now))) }
+    ensures { Gives receiver_seen result (receiver (tables_seen scope.now.tables.now) (standing_seen scope.now) locals.now (expr_of of.now)
+        (resolved (tables_seen scope.now.tables.now) (standing_seen scope.now) locals.now (expr_of of.now))) }
 {
     match head_of(of) {
         Head::This => Ok(Receiver::This),

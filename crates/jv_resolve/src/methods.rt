@@ -5,7 +5,8 @@ ghost use Rattle.std.specs.Prelude.{◌≡◌, [], IfOk, length, map};
 ghost use Rattle.jv_tree.specs.View.{method_of as source_method};
 ghost use Rattle.jv_core.specs.View.{method_of, stmt_of};
 ghost use Rattle.jv_resolve_law.specs.Tables.{is_offered, kind_meant};
-ghost use Rattle.jv_resolve_law.specs.Members.{params as params_meant, method as method_meant, methods_of as methods_of_meant, methods as methods_meant};
+ghost use Rattle.jv_resolve_law.specs.Members.{params as params_meant, method as method_meant, methods_of as methods_of_meant};
+ghost use Rattle.jv_resolve_law.specs.Members.{methods as methods_meant};
 ghost use Rattle.jv_resolve.specs.inner.Counted.{counted_seen, counting};
 ghost use Rattle.jv_resolve.specs.inner.Gives.{Gives};
 ghost use Rattle.jv_resolve.specs.inner.Naming.{naming, with_done, opened, param_at};
@@ -59,7 +60,8 @@ fn resolve_param<'a>(
     body: &mut Body<'a>,
     param: &'a Param,
 ) -> Result<(), Unresolved>
-    ensures { Gives (λ u. opened body.new.locals (counted_seen body.new)) result (param_at (tables_seen tables.now) param.now body.old.locals (counted_seen body.old)) }
+    ensures { Gives (λ u. opened body.new.locals (counted_seen body.new)) result
+        (param_at (tables_seen tables.now) param.now body.old.locals (counted_seen body.old)) }
 {
     let local = body.add_slot(tables, &param.ty, param.name.as_str())?;
     body.locals.declare(param.name.as_str(), local)?;
@@ -72,7 +74,8 @@ fn resolve_params<'a>(
     body: &mut Body<'a>,
     params: &'a [Param],
 ) -> Result<(), Unresolved>
-    ensures { Gives (λ u. opened body.new.locals (counted_seen body.new)) result (params_meant (tables_seen tables.now) params.now body.old.locals (counted_seen body.old)) }
+    ensures { Gives (λ u. opened body.new.locals (counted_seen body.new)) result
+        (params_meant (tables_seen tables.now) params.now body.old.locals (counted_seen body.old)) }
 {
     for param in params {
         resolve_param(tables, body, param)?;
@@ -94,7 +97,8 @@ fn signature_of(
     names: &mut Names,
     method: &MethodDecl,
 ) -> Result<Signature, Unresolved>
-    ensures it { Gives (λ s. naming (signature_seen s) names.new) result (signature_meant (tables_seen tables.now) names.old (source_method method.now)) }
+    ensures it { Gives (λ s. naming (signature_seen s) names.new) result
+        (signature_meant (tables_seen tables.now) names.old (source_method method.now)) }
     ensures params { IfOk result (λ s. s.params ≡ length (source_method method.now).params) }
 {
     let name = add_name(names, method.name.as_str())?;
@@ -113,7 +117,9 @@ fn resolve_body<'a>(
     body: &mut Body<'a>,
     method: &'a MethodDecl,
 ) -> Result<List<CoreStmt>, Unresolved>
-    ensures { Gives (λ l. counting (map stmt_of l.items) (counted_seen body.new)) result (body_meant (tables_seen scope.now.tables.now) (standing_seen scope.now) (source_method method.now) body.old.locals (counted_seen body.old)) }
+    ensures { Gives (λ l. counting (map stmt_of l.items) (counted_seen body.new)) result
+        (body_meant (tables_seen scope.now.tables.now) (standing_seen scope.now) (source_method method.now) body.old.locals
+        (counted_seen body.old)) }
 {
     resolve_params(scope.tables, body, method.params.as_slice())?;
     resolve_stmts(scope, &Around::Outside, body, method.body.as_slice())
@@ -134,7 +140,8 @@ fn resolve_method<'a>(
     entry: &ClassEntry<'a>,
     method: &'a MethodDecl,
 ) -> Result<NamedMethod, Unresolved>
-    ensures { Gives (λ r. naming (method_of r.method) r.names) result (method_meant (tables_seen tables.now) names (entry_seen entry.now) (source_method method.now)) }
+    ensures { Gives (λ r. naming (method_of r.method) r.names) result
+        (method_meant (tables_seen tables.now) names (entry_seen entry.now) (source_method method.now)) }
 {
     let scope = Scope {
         alloc,
@@ -173,7 +180,9 @@ fn resolve_methods_of<'a>(
     resolved: &mut List<CoreMethod>,
     methods: &'a [MethodDecl],
 ) -> Result<Names, Unresolved>
-    ensures { Gives (λ n. naming (map method_of resolved.new.items) n) result (with_done (map method_of resolved.old.items) (methods_of_meant (tables_seen tables.now) names (entry_seen entry.now) (map source_method methods.now))) }
+    ensures { Gives (λ n. naming (map method_of resolved.new.items) n) result
+        (with_done (map method_of resolved.old.items)
+        (methods_of_meant (tables_seen tables.now) names (entry_seen entry.now) (map source_method methods.now))) }
 {
     let mut known = names;
     for method in methods {
@@ -198,7 +207,8 @@ pub(crate) fn resolve_methods<'a>(
     names: Names,
     entries: &[ClassEntry<'a>],
 ) -> Result<NamedMethods, Unresolved>
-    ensures { Gives (λ r. naming (map method_of r.methods.items) r.names) result (methods_meant (tables_seen tables.now) names (map entry_seen entries.now)) }
+    ensures { Gives (λ r. naming (map method_of r.methods.items) r.names) result
+        (methods_meant (tables_seen tables.now) names (map entry_seen entries.now)) }
 {
     let mut known = names;
     let mut methods = List::new(alloc);

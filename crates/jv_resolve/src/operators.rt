@@ -29,7 +29,8 @@ pub(crate) fn opposite(place: Place, inner: Box<CoreExpr>) -> Resolved
 
 /// A binary operator.
 pub(crate) fn binary(place: Place, op: Op, left: Operand, right: Operand) -> Resolved
-    ensures { resolved_seen result ≡ typed (Core.Binary place op (expr_of left.expr.value) (expr_of right.expr.value)) (operator_gives op (given_seen left.given) (given_seen right.given)) }
+    ensures { resolved_seen result ≡ typed (Core.Binary place op (expr_of left.expr.value) (expr_of right.expr.value))
+        (operator_gives op (given_seen left.given) (given_seen right.given)) }
 {
     let given = operator_type(op, left.given, right.given);
     typed(

@@ -70,7 +70,8 @@ fn put_first<'a>(
     text: &'a str,
     place: u32,
 ) -> Result<(), Memory>
-    ensures ok { OnOk result ((q : List ℕ) → get_by (λ k. bytes_eq q k.now) places.new ≡ place_after (λ r. get_by (λ k. bytes_eq r k.now) places.old) text.now place q) }
+    ensures ok { OnOk result ((q : List ℕ) → get_by (λ k. bytes_eq q k.now) places.new
+        ≡ place_after (λ r. get_by (λ k. bytes_eq r k.now) places.old) text.now place q) }
     ensures err { OnErr result ((q : List ℕ) → get_by (λ k. bytes_eq q k.now) places.new ≡ get_by (λ k. bytes_eq q k.now) places.old) }
 {
     if places.contains_key(text) {

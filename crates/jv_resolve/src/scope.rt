@@ -64,7 +64,8 @@ impl Scope<'_, '_> {
         locals: &Locals<'_>,
         name: &str,
     ) -> Result<Option<Found>, Unresolved>
-        ensures { Gives (option_map found_seen) result (found (tables_seen self.now.tables.now) (standing_seen self.now) locals.now name.now) }
+        ensures { Gives (option_map found_seen) result
+            (found (tables_seen self.now.tables.now) (standing_seen self.now) locals.now name.now) }
     {
         match locals.find(name) {
             Some(local) => Ok(Some(Found {

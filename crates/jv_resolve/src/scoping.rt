@@ -18,7 +18,8 @@ pub(crate) fn in_scope<'a>(
     name: &'a str,
     declaration: Declaration,
 ) -> Result<CoreStmt, Unresolved>
-    ensures { Gives (λ s. itemed (stmt_of s) body.new.locals (counted_seen body.new)) result (scope_item (declaration_seen name.now declaration (counted_seen body.old)) body.old.locals) }
+    ensures { Gives (λ s. itemed (stmt_of s) body.new.locals (counted_seen body.new)) result
+        (scope_item (declaration_seen name.now declaration (counted_seen body.old)) body.old.locals) }
 {
     body.locals.declare(name, declaration.local)?;
     Ok(local_stmt(declaration))

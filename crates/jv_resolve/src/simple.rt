@@ -40,7 +40,9 @@ pub(crate) fn resolve_declaration(
     name: &str,
     value: &Expr,
 ) -> Result<Declaration, Unresolved>
-    ensures it { Gives (λ d. declaration_seen name.now d (counted_seen body.new)) result (local (tables_seen scope.now.tables.now) (standing_seen scope.now) place ty.now name.now (expr_of value.now) body.old.locals (counted_seen body.old)) }
+    ensures it { Gives (λ d. declaration_seen name.now d (counted_seen body.new)) result
+        (local (tables_seen scope.now.tables.now) (standing_seen scope.now) place ty.now name.now (expr_of value.now) body.old.locals
+        (counted_seen body.old)) }
     ensures locals { body.new.locals ≡ body.old.locals }
 {
     let local = body.add_slot(scope.tables, ty, name)?;
@@ -71,7 +73,9 @@ pub(crate) fn assigned(
     target: &Expr,
     value: &Expr,
 ) -> Result<CoreStmt, Unresolved>
-    ensures { Gives (λ s. counting (stmt_of s) (counted_seen body.now)) result (stmt (tables_seen scope.now.tables.now) (standing_seen scope.now) (Assign place (expr_of target.now) (expr_of value.now)) [] body.now.locals (counted_seen body.now)) }
+    ensures { Gives (λ s. counting (stmt_of s) (counted_seen body.now)) result
+        (stmt (tables_seen scope.now.tables.now) (standing_seen scope.now) (Assign place (expr_of target.now) (expr_of value.now))
+        [] body.now.locals (counted_seen body.now)) }
 {
     let target = target_of(scope, body, target)?;
     let value = resolve_expr(scope, &body.locals, value)?;
@@ -85,7 +89,9 @@ pub(crate) fn returned(
     place: Place,
     value: &Option<Expr>,
 ) -> Result<CoreStmt, Unresolved>
-    ensures { Gives (λ s. counting (stmt_of s) (counted_seen body.now)) result (stmt (tables_seen scope.now.tables.now) (standing_seen scope.now) (Return place (option_map expr_of value.now)) [] body.now.locals (counted_seen body.now)) }
+    ensures { Gives (λ s. counting (stmt_of s) (counted_seen body.now)) result
+        (stmt (tables_seen scope.now.tables.now) (standing_seen scope.now) (Return place (option_map expr_of value.now)) [] body.now.locals
+        (counted_seen body.now)) }
 {
     let value = given_back(scope, body, value)?;
     Ok(stmt_at(place, CoreStmtKind::Return(value)))
@@ -97,7 +103,8 @@ fn given_back(
     body: &Body<'_>,
     value: &Option<Expr>,
 ) -> Result<Option<CoreExpr>, Unresolved>
-    ensures { Gives (option_map core_expr) result (given_back (tables_seen scope.now.tables.now) (standing_seen scope.now) body.now.locals (option_map expr_of value.now)) }
+    ensures { Gives (option_map core_expr) result (given_back (tables_seen scope.now.tables.now) (standing_seen scope.now) body.now.locals
+        (option_map expr_of value.now)) }
 {
     match value {
         None => Ok(None),
@@ -115,7 +122,9 @@ pub(crate) fn printed(
     place: Place,
     value: &Expr,
 ) -> Result<CoreStmt, Unresolved>
-    ensures { Gives (λ s. counting (stmt_of s) (counted_seen body.now)) result (stmt (tables_seen scope.now.tables.now) (standing_seen scope.now) (Print place (expr_of value.now)) [] body.now.locals (counted_seen body.now)) }
+    ensures { Gives (λ s. counting (stmt_of s) (counted_seen body.now)) result
+        (stmt (tables_seen scope.now.tables.now) (standing_seen scope.now) (Print place (expr_of value.now)) [] body.now.locals
+        (counted_seen body.now)) }
 {
     let value = resolve_expr(scope, &body.locals, value)?;
     Ok(stmt_at(place, CoreStmtKind::Print(value.expr)))
@@ -128,7 +137,9 @@ pub(crate) fn evaluated(
     place: Place,
     value: &Expr,
 ) -> Result<CoreStmt, Unresolved>
-    ensures { Gives (λ s. counting (stmt_of s) (counted_seen body.now)) result (stmt (tables_seen scope.now.tables.now) (standing_seen scope.now) (Eval place (expr_of value.now)) [] body.now.locals (counted_seen body.now)) }
+    ensures { Gives (λ s. counting (stmt_of s) (counted_seen body.now)) result
+        (stmt (tables_seen scope.now.tables.now) (standing_seen scope.now) (Eval place (expr_of value.now)) [] body.now.locals
+        (counted_seen body.now)) }
 {
     let value = resolve_expr(scope, &body.locals, value)?;
     Ok(stmt_at(place, CoreStmtKind::Eval(value.expr)))
@@ -142,7 +153,9 @@ pub(crate) fn broken(
     place: Place,
     label: &Option<Text>,
 ) -> Result<CoreStmt, Unresolved>
-    ensures { Gives (λ s. counting (stmt_of s) (counted_seen body.now)) result (stmt (tables_seen scope.now.tables.now) (standing_seen scope.now) (Break place label.now) (around_seen around.now) body.now.locals (counted_seen body.now)) }
+    ensures { Gives (λ s. counting (stmt_of s) (counted_seen body.now)) result
+        (stmt (tables_seen scope.now.tables.now) (standing_seen scope.now) (Break place label.now) (around_seen around.now) body.now.locals
+        (counted_seen body.now)) }
 {
     let number = left_by(around, label_of(label))?;
     Ok(stmt_at(place, CoreStmtKind::Break(number)))
@@ -156,7 +169,9 @@ pub(crate) fn continued(
     place: Place,
     label: &Option<Text>,
 ) -> Result<CoreStmt, Unresolved>
-    ensures { Gives (λ s. counting (stmt_of s) (counted_seen body.now)) result (stmt (tables_seen scope.now.tables.now) (standing_seen scope.now) (Continue place label.now) (around_seen around.now) body.now.locals (counted_seen body.now)) }
+    ensures { Gives (λ s. counting (stmt_of s) (counted_seen body.now)) result
+        (stmt (tables_seen scope.now.tables.now) (standing_seen scope.now) (Continue place label.now) (around_seen around.now)
+        body.now.locals (counted_seen body.now)) }
 {
     let number = gone_on_by(around, label_of(label))?;
     Ok(stmt_at(place, CoreStmtKind::Continue(number)))

@@ -2,7 +2,8 @@
 //! Contracts see them as trees, and what they are resolved to.
 
 ghost use Rattle.std.specs.Prelude.{◌≡◌, OnOk, map};
-ghost use Rattle.jv_tree.specs.View.{enum_of, stmt_of as source_stmt, stmts_of as source_stmts, group_of as source_group, groups_of as source_groups};
+ghost use Rattle.jv_tree.specs.View.{enum_of, stmt_of as source_stmt, stmts_of as source_stmts, group_of as source_group};
+ghost use Rattle.jv_tree.specs.View.{groups_of as source_groups};
 ghost use Rattle.jv_core.specs.View.{stmt_of, group_of};
 ghost use Rattle.jv_resolve_law.specs.Statements.{stmt as meant, stmts as all_meant, groups as groups_meant};
 ghost use Rattle.jv_resolve.specs.inner.Counted.{counted_seen, counting, itemed, item_at, group_at};
@@ -32,7 +33,9 @@ pub(crate) fn resolve_stmts<'a>(
     body: &mut Body<'a>,
     stmts: &'a [Stmt],
 ) -> Result<List<CoreStmt>, Unresolved>
-    ensures it { Gives (λ l. counting (map stmt_of l.items) (counted_seen body.new)) result (all_meant (tables_seen scope.now.tables.now) (standing_seen scope.now) (source_stmts (map source_stmt stmts.now)) (around_seen around.now) body.old.locals (counted_seen body.old)) }
+    ensures it { Gives (λ l. counting (map stmt_of l.items) (counted_seen body.new)) result
+        (all_meant (tables_seen scope.now.tables.now) (standing_seen scope.now) (source_stmts (map source_stmt stmts.now))
+        (around_seen around.now) body.old.locals (counted_seen body.old)) }
     ensures locals { OnOk result (body.new.locals ≡ body.old.locals) }
 {
     let outer = body.locals.len();
@@ -53,7 +56,9 @@ fn resolve_item<'a>(
     body: &mut Body<'a>,
     stmt: &'a Stmt,
 ) -> Result<CoreStmt, Unresolved>
-    ensures { Gives (λ s. itemed (stmt_of s) body.new.locals (counted_seen body.new)) result (item_at (tables_seen scope.now.tables.now) (standing_seen scope.now) (source_stmt stmt.now) (around_seen around.now) body.old.locals (counted_seen body.old)) }
+    ensures { Gives (λ s. itemed (stmt_of s) body.new.locals (counted_seen body.new)) result
+        (item_at (tables_seen scope.now.tables.now) (standing_seen scope.now) (source_stmt stmt.now) (around_seen around.now)
+        body.old.locals (counted_seen body.old)) }
 {
     match written_in(stmt) {
         Some(written) => resolve_local(scope, body, written),
@@ -69,7 +74,9 @@ fn resolve_stmt<'a>(
     body: &mut Body<'a>,
     stmt: &'a Stmt,
 ) -> Result<CoreStmt, Unresolved>
-    ensures it { Gives (λ s. counting (stmt_of s) (counted_seen body.new)) result (meant (tables_seen scope.now.tables.now) (standing_seen scope.now) (source_stmt stmt.now) (around_seen around.now) body.old.locals (counted_seen body.old)) }
+    ensures it { Gives (λ s. counting (stmt_of s) (counted_seen body.new)) result
+        (meant (tables_seen scope.now.tables.now) (standing_seen scope.now) (source_stmt stmt.now) (around_seen around.now) body.old.locals
+        (counted_seen body.old)) }
     ensures locals { OnOk result (body.new.locals ≡ body.old.locals) }
 {
     let place = stmt.place;
@@ -137,7 +144,9 @@ fn resolve_inner<'a>(
     body: &mut Body<'a>,
     stmt: &'a Stmt,
 ) -> Result<Box<CoreStmt>, Unresolved>
-    ensures it { Gives (λ s. counting (stmt_of s.value) (counted_seen body.new)) result (meant (tables_seen scope.now.tables.now) (standing_seen scope.now) (source_stmt stmt.now) (around_seen around.now) body.old.locals (counted_seen body.old)) }
+    ensures it { Gives (λ s. counting (stmt_of s.value) (counted_seen body.new)) result
+        (meant (tables_seen scope.now.tables.now) (standing_seen scope.now) (source_stmt stmt.now) (around_seen around.now) body.old.locals
+        (counted_seen body.old)) }
     ensures locals { OnOk result (body.new.locals ≡ body.old.locals) }
 {
     let resolved = resolve_stmt(scope, around, body, stmt)?;
@@ -154,7 +163,9 @@ fn resolve_groups<'a>(
     of: &EnumEntry<'_>,
     groups: &'a [Group],
 ) -> Result<List<CoreGroup>, Unresolved>
-    ensures it { Gives (λ l. counting (map group_of l.items) (counted_seen body.new)) result (groups_meant (tables_seen scope.now.tables.now) (standing_seen scope.now) (source_groups (map source_group groups.now)) (enum_of of.now.of.now) (around_seen around.now) body.old.locals (counted_seen body.old)) }
+    ensures it { Gives (λ l. counting (map group_of l.items) (counted_seen body.new)) result
+        (groups_meant (tables_seen scope.now.tables.now) (standing_seen scope.now) (source_groups (map source_group groups.now))
+        (enum_of of.now.of.now) (around_seen around.now) body.old.locals (counted_seen body.old)) }
     ensures locals { OnOk result (body.new.locals ≡ body.old.locals) }
 {
     let mut resolved = List::new(scope.alloc);
@@ -174,7 +185,9 @@ fn resolve_group<'a>(
     of: &EnumEntry<'_>,
     group: &'a Group,
 ) -> Result<CoreGroup, Unresolved>
-    ensures it { Gives (λ g. counting (group_of g) (counted_seen body.new)) result (group_at (tables_seen scope.now.tables.now) (standing_seen scope.now) (source_group group.now) (enum_of of.now.of.now) (around_seen around.now) body.old.locals (counted_seen body.old)) }
+    ensures it { Gives (λ g. counting (group_of g) (counted_seen body.new)) result
+        (group_at (tables_seen scope.now.tables.now) (standing_seen scope.now) (source_group group.now) (enum_of of.now.of.now)
+        (around_seen around.now) body.old.locals (counted_seen body.old)) }
     ensures locals { OnOk result (body.new.locals ≡ body.old.locals) }
 {
     let labels = resolve_labels(scope.alloc, of, group.labels.as_slice())?;

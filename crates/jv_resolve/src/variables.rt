@@ -33,7 +33,8 @@ pub(crate) fn variable(
     place: Place,
     name: &str,
 ) -> Result<Resolved, Unresolved>
-    ensures { Gives resolved_seen result (variable_named (tables_seen scope.now.tables.now) (standing_seen scope.now) locals.now place name.now) }
+    ensures { Gives resolved_seen result
+        (variable_named (tables_seen scope.now.tables.now) (standing_seen scope.now) locals.now place name.now) }
 {
     match scope.variable(locals, name)? {
         Some(found) => Ok(found_at(place, found)),
@@ -49,7 +50,8 @@ pub(crate) fn member(
     of: &Expr,
     name: &str,
 ) -> Result<Resolved, Unresolved>
-    ensures { Gives resolved_seen result (member (tables_seen scope.now.tables.now) (standing_seen scope.now) locals.now place (expr_of of.now) name.now) }
+    ensures { Gives resolved_seen result (member (tables_seen scope.now.tables.now) (standing_seen scope.now) locals.now place
+        (expr_of of.now) name.now) }
 {
     match head_of(of) {
         Head::This => own_member(scope, locals, place, name),
@@ -65,7 +67,8 @@ fn own_member(
     place: Place,
     name: &str,
 ) -> Result<Resolved, Unresolved>
-    ensures { Gives resolved_seen result (own_named (tables_seen scope.now.tables.now) (standing_seen scope.now) locals.now place name.now) }
+    ensures { Gives resolved_seen result
+        (own_named (tables_seen scope.now.tables.now) (standing_seen scope.now) locals.now place name.now) }
 {
     match scope.own_field(name)? {
         Some(found) => Ok(found_at(place, found)),
@@ -81,7 +84,8 @@ fn named_member(
     first: &str,
     name: &str,
 ) -> Result<Resolved, Unresolved>
-    ensures { Gives resolved_seen result (member_named (tables_seen scope.now.tables.now) (standing_seen scope.now) locals.now place first.now name.now) }
+    ensures { Gives resolved_seen result
+        (member_named (tables_seen scope.now.tables.now) (standing_seen scope.now) locals.now place first.now name.now) }
 {
     match scope.variable(locals, first)? {
         Some(_found) => Err(Unresolved::Fault),
@@ -96,7 +100,8 @@ pub(crate) fn named_receiver<'e>(
     place: Place,
     name: &'e str,
 ) -> Result<Receiver<'e>, Unresolved>
-    ensures { Gives receiver_seen result (receiver_named (tables_seen scope.now.tables.now) (standing_seen scope.now) locals.now place name.now) }
+    ensures { Gives receiver_seen result
+        (receiver_named (tables_seen scope.now.tables.now) (standing_seen scope.now) locals.now place name.now) }
 {
     match scope.variable(locals, name)? {
         None => Ok(Receiver::Class(name)),

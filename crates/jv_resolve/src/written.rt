@@ -54,7 +54,9 @@ pub(crate) fn resolve_local<'a>(
     body: &mut Body<'a>,
     written: Written<'a>,
 ) -> Result<CoreStmt, Unresolved>
-    ensures { Gives (λ s. itemed (stmt_of s) body.new.locals (counted_seen body.new)) result (local_item (tables_seen scope.now.tables.now) (standing_seen scope.now) (written_seen written.entry) body.old.locals (counted_seen body.old)) }
+    ensures { Gives (λ s. itemed (stmt_of s) body.new.locals (counted_seen body.new)) result
+        (local_item (tables_seen scope.now.tables.now) (standing_seen scope.now) (written_seen written.entry) body.old.locals
+        (counted_seen body.old)) }
 {
     let declared = resolve_declaration(
         scope,

@@ -1,5 +1,6 @@
 -- What calls name: methods of a class, of the session and of texts, with the types that they give.
-use Rattle.std.proofs.Common.{◌≡◌, ◌⊎◌, inl, inr, Bool, true, false, List, [], ◌∷◌, Option, Some, None, option_map, refl, sym, ap, ◌∙◌, subst}
+use Rattle.std.proofs.Common.{◌≡◌, ◌⊎◌, inl, inr, Bool, true, false, List, [], ◌∷◌, Option, Some, None, option_map, refl, sym, ap, ◌∙◌}
+use Rattle.std.proofs.Common.{subst}
 use Rattle.std.specs.Prelude.{codes, if◌then◌else◌}
 use Rattle.std.specs.List.{AllByRecursion}
 use Rattle.std.specs.Str.{bytes_eq}
@@ -10,7 +11,8 @@ use Rattle.jv_meaning.specs.Program.{class_named, method_named}
 use Rattle.jv_rules.specs.Program.{Program, is_of_protocol}
 use Rattle.jv_rules.specs.Types.{ValueType, NoValue, IntType, BooleanType, TextType, ClassType, Signature, signature_of, meant}
 use Rattle.jv_rules.specs.Scope.{Scope}
-use Rattle.jv_rules.specs.Typing.{called, called_on_this, called_on_class, called_on_value, static_of, own_instance, own_method, protocol_method, built_in, session_methods}
+use Rattle.jv_rules.specs.Typing.{called, called_on_this, called_on_class, called_on_value, static_of, own_instance, own_method}
+use Rattle.jv_rules.specs.Typing.{protocol_method, built_in, session_methods}
 use Rattle.jv_core.specs.declared.tree.SessionCall.{SessionCall}
 use Rattle.jv_core.specs.Types.{session_result}
 use Rattle.jv_core.specs.Tree as Core

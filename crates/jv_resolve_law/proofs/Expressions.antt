@@ -1,5 +1,6 @@
 -- What clean expressions are resolved to stands for them, and has their types.
-use Rattle.std.proofs.Common.{◌≡◌, ℕ, Bool, true, false, true≢false, List, [], ◌∷◌, ◌++◌, Option, Some, None, option_map, option_and_then, slice_get, refl, sym, ap, ◌∙◌, subst}
+use Rattle.std.proofs.Common.{◌≡◌, ℕ, Bool, true, false, true≢false, List, [], ◌∷◌, ◌++◌, Option, Some, None, option_map, option_and_then}
+use Rattle.std.proofs.Common.{slice_get, refl, sym, ap, ◌∙◌, subst}
 use Rattle.std.specs.Prelude.{codes, if◌then◌else◌}
 use Rattle.std.specs.List.{list_any}
 use Rattle.std.specs.Str.{bytes_eq}
@@ -15,7 +16,8 @@ use Rattle.jv_meaning.specs.Program.{class_named, method_named, constant_positio
 use Rattle.jv_rules.specs.Program.{Program}
 use Rattle.jv_rules.specs.Types.{ValueType, IntType, BooleanType, TextType, EnumType, ClassType, NullType, meant}
 use Rattle.jv_rules.specs.Scope.{Scope, variable_type}
-use Rattle.jv_rules.specs.Typing.{type_of, operator_type, constant_type, called, called_on, called_on_this, called_on_class, called_on_value, built_in, session_methods, text_methods}
+use Rattle.jv_rules.specs.Typing.{type_of, operator_type, constant_type, called, called_on, called_on_this, called_on_class}
+use Rattle.jv_rules.specs.Typing.{called_on_value, built_in, session_methods, text_methods}
 use Rattle.jv_rules.specs.Typing as typing
 use Rattle.jv_rules.specs.Spots.{Value, AtNode, nodes, nodes_in}
 use Rattle.jv_core.specs.declared.tree.Var.{Var}
@@ -32,15 +34,21 @@ use Rattle.jv_core.specs.Meaning.{type_given, result_of}
 use Rattle.jv_names.specs.Resolves.{Numbers, IsVar, IsPlaced, IsClass, IsMethod, IsExpr, IsExprs, GivesEnum}
 use Rattle.jv_names.specs.Resolves as is
 use Rattle.jv_names.proofs.Tables.{some_is, none_some}
-use Rattle.jv_kept.proofs.Clean.{NoFaultAt, CleanExpr, CleanArgs, nodes_left, nodes_right, first_arg, other_args, left_operand, right_operand}
+use Rattle.jv_kept.proofs.Clean.{NoFaultAt, CleanExpr, CleanArgs, nodes_left, nodes_right, first_arg, other_args, left_operand}
+use Rattle.jv_kept.proofs.Clean.{right_operand}
 use Rattle.jv_kept.proofs.Moving.{IsNotThis, arguments_clean, call_clean}
 use Rattle.jv_resolve_law.specs.Tables.{◌>>=◌, Entry, Tables, Callee, class_called, enum_called, method_called, type_meant}
-use Rattle.jv_resolve_law.specs.Expressions.{Given, Of, Resolved, Known, Standing, Found, Receiver, OnThis, OnClass, OnValue, typed, is_text, operator_gives, variable_in, only, text_call, session_named, session_call, found_at}
-use Rattle.jv_resolve_law.specs.Expressions.{constant, static_call, helper_call, object_call, call_class, call_protocol, call_typed, own_found, call_own, call_this, call_on, make, found, variable_at, constant_at, member, named_receiver, receiver, resolved, resolved_all}
+use Rattle.jv_resolve_law.specs.Expressions.{Given, Of, Resolved, Known, Standing, Found, Receiver, OnThis, OnClass, OnValue, typed}
+use Rattle.jv_resolve_law.specs.Expressions.{is_text, operator_gives, variable_in, only, text_call, session_named, session_call, found_at}
+use Rattle.jv_resolve_law.specs.Expressions.{constant, static_call, helper_call, object_call, call_class, call_protocol, call_typed}
+use Rattle.jv_resolve_law.specs.Expressions.{own_found, call_own, call_this, call_on, make, found, variable_at, constant_at, member}
+use Rattle.jv_resolve_law.specs.Expressions.{named_receiver, receiver, resolved, resolved_all}
 use Rattle.jv_resolve_law.proofs.Steps.{bound, mapped}
 use Rattle.jv_resolve_law.proofs.Tabled.{IsEntry, MethodCalled, method_called_is, is_method, class_called_is, enum_called_is, type_meant_is}
-use Rattle.jv_resolve_law.proofs.Given.{IsGiven, no_value, int_given, boolean_given, text_given, null_given, class_given, enum_given, meant_given, AreKnown, Falls, slots_in, Stands, OwnIs, own_is, VariableIs, variable_is, any_found}
-use Rattle.jv_resolve_law.proofs.Calls.{called_gives, called_on_this_gives, called_on_class_gives, called_on_object_gives, session_is, session_gives, result_in}
+use Rattle.jv_resolve_law.proofs.Given.{IsGiven, no_value, int_given, boolean_given, text_given, null_given, class_given, enum_given}
+use Rattle.jv_resolve_law.proofs.Given.{meant_given, AreKnown, Falls, slots_in, Stands, OwnIs, own_is, VariableIs, variable_is, any_found}
+use Rattle.jv_resolve_law.proofs.Calls.{called_gives, called_on_this_gives, called_on_class_gives, called_on_object_gives, session_is}
+use Rattle.jv_resolve_law.proofs.Calls.{session_gives, result_in}
 
 -- Types that are given.
 

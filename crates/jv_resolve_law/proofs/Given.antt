@@ -1,5 +1,6 @@
 -- Types that are given, variables that are found, and what stands where code stands.
-use Rattle.std.proofs.Common.{◌≡◌, ℕ, suc, ◌<◌, Bool, true, false, cond, true≢false, List, [], ◌∷◌, map, length, Option, Some, None, option_map, position, nat_lt, slice_get, refl, sym, ap, ◌∙◌, subst, arith}
+use Rattle.std.proofs.Common.{◌≡◌, ℕ, suc, ◌<◌, Bool, true, false, cond, true≢false, List, [], ◌∷◌, map, length, Option, Some, None}
+use Rattle.std.proofs.Common.{option_map, position, nat_lt, slice_get, refl, sym, ap, ◌∙◌, subst, arith}
 use Rattle.std.specs.Prelude.{find, if◌then◌else◌}
 use Rattle.std.specs.List.{list_any, position_or_len}
 use Rattle.std.specs.Str.{bytes_eq}

@@ -1,5 +1,6 @@
 -- What clean statements are resolved to stands for them.
-use Rattle.std.proofs.Common.{◌≡◌, ◌≢◌, ℕ, zero, suc, ◌+◌, ◌<◌, ◌≤◌, List, [], ◌∷◌, ◌++◌, reverse, length, Option, Some, None, option_map, slice_get, refl, sym, ap, ◌∙◌, subst, arith}
+use Rattle.std.proofs.Common.{◌≡◌, ◌≢◌, ℕ, zero, suc, ◌+◌, ◌<◌, ◌≤◌, List, [], ◌∷◌, ◌++◌, reverse, length, Option, Some, None, option_map}
+use Rattle.std.proofs.Common.{slice_get, refl, sym, ap, ◌∙◌, subst, arith}
 use Rattle.std.specs.List.{AllByRecursion}
 use Rattle.mg_text.specs.Call.{Name}
 use Rattle.mg_text.specs.declared.place.Place.{Place}
@@ -15,19 +16,23 @@ use Rattle.jv_core.specs.declared.program.CoreType.TheVariants as types
 use Rattle.jv_core.specs.Tree as Core
 use Rattle.jv_core.specs.View.{OneGroup, before, stmts_of, groups_of}
 use Rattle.jv_core.specs.Numbering.{numbers_from, declared_in, declared_in_all, declared_in_groups, loops_in, loops_in_all, loops_in_groups}
-use Rattle.jv_names.specs.Resolves.{Aligned, Numbers, IsEnum, IsExpr, IsPlaced, IsLabel, IsValue, IsSlot, IsStmt, IsStmts, IsGroups, GivesEnum}
+use Rattle.jv_names.specs.Resolves.{Aligned, Numbers, IsEnum, IsExpr, IsPlaced, IsLabel, IsValue, IsSlot, IsStmt, IsStmts, IsGroups}
+use Rattle.jv_names.specs.Resolves.{GivesEnum}
 use Rattle.jv_names.specs.Resolves as is
 use Rattle.jv_names.proofs.Tables.{some_is, none_some}
 use Rattle.jv_kept.proofs.Clean.{NoFaultAt, CleanExpr, all_left, all_right}
 use Rattle.jv_resolve_law.specs.Tables.{◌>>=◌, Tables}
 use Rattle.jv_resolve_law.specs.Expressions.{Given, Of, Resolved, Known, Standing, known_named, variable_in, resolved}
-use Rattle.jv_resolve_law.specs.Statements.{Counted, Around, InLoop, InSwitch, Counting, Item, labels_at, loop_more, declared, slot_more, left_by, gone_on_by, enum_given, given_back, local, item, stmt, stmts, groups}
+use Rattle.jv_resolve_law.specs.Statements.{Counted, Around, InLoop, InSwitch, Counting, Item, labels_at, loop_more, declared, slot_more}
+use Rattle.jv_resolve_law.specs.Statements.{left_by, gone_on_by, enum_given, given_back, local, item, stmt, stmts, groups}
 use Rattle.jv_resolve_law.proofs.Steps.{bound, mapped, at_end}
 use Rattle.jv_resolve_law.proofs.Tabled.{IsTabled}
-use Rattle.jv_resolve_law.proofs.Given.{IsGiven, no_value, int_given, boolean_given, text_given, null_given, class_given, AreKnown, IsKnown, Falls, slots_in, Stands}
+use Rattle.jv_resolve_law.proofs.Given.{IsGiven, no_value, int_given, boolean_given, text_given, null_given, class_given, AreKnown, IsKnown}
+use Rattle.jv_resolve_law.proofs.Given.{Falls, slots_in, Stands}
 use Rattle.jv_resolve_law.proofs.Given as given
 use Rattle.jv_resolve_law.proofs.Expressions.{Right, right, right_placed}
-use Rattle.jv_resolve_law.proofs.Counting.{longer, Counts, counts_none, counts_then, counts_loop, counts_as, counts_before, Reaches, reaches_back, SlotMore, slot_more_is, in_method}
+use Rattle.jv_resolve_law.proofs.Counting.{longer, Counts, counts_none, counts_then, counts_loop, counts_as, counts_before, Reaches}
+use Rattle.jv_resolve_law.proofs.Counting.{reaches_back, SlotMore, slot_more_is, in_method}
 use Rattle.jv_resolve_law.proofs.Leads.{targets, loop_numbers, LoopsFall, break_leads, continue_leads}
 
 -- a statement but a declaration

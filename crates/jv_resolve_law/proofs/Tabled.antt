@@ -1,5 +1,6 @@
 -- What the tables of a program hold: each entry stands at its number, and names lead to what has them.
-use Rattle.std.proofs.Common.{◌≡◌, ℕ, zero, suc, ◌+◌, List, [], ◌∷◌, ◌++◌, map, length, Option, Some, None, option_map, position, slice_get, refl, sym, ap, ◌∙◌, subst, arith}
+use Rattle.std.proofs.Common.{◌≡◌, ℕ, zero, suc, ◌+◌, List, [], ◌∷◌, ◌++◌, map, length, Option, Some, None, option_map, position, slice_get}
+use Rattle.std.proofs.Common.{refl, sym, ap, ◌∙◌, subst, arith}
 use Rattle.std.specs.Prelude.{find}
 use Rattle.std.specs.Str.{bytes_eq}
 use Rattle.mg_text.specs.Call.{Name}
@@ -16,7 +17,8 @@ use Rattle.jv_names.specs.Resolves.{Owned, methods_in, methods_of, numbered_from
 use Rattle.jv_names.specs.Resolves as is
 use Rattle.jv_names.proofs.Tables.{some_is, none_some}
 use Rattle.jv_names.proofs.Lookups.{owned_by}
-use Rattle.jv_resolve_law.specs.Tables.{◌>>=◌, Entry, Tables, Callee, Placed, Numbered, class_names, enum_names, class_called, enum_called, method_called, field_called, type_called, type_meant, followed, entries_from, tables_of}
+use Rattle.jv_resolve_law.specs.Tables.{◌>>=◌, Entry, Tables, Callee, Placed, Numbered, class_names, enum_names, class_called, enum_called}
+use Rattle.jv_resolve_law.specs.Tables.{method_called, field_called, type_called, type_meant, followed, entries_from, tables_of}
 use Rattle.jv_resolve_law.proofs.Steps.{bound, mapped, named, not_named}
 
 -- a typestate of this number is the one that a class names

@@ -1,5 +1,6 @@
 -- Where nothing is missing, an answer is given: the steps.
-use Rattle.std.proofs.Common.{◌≡◌, ⊎_elim, ℕ, zero, suc, ◌+◌, List, [], ◌∷◌, ◌++◌, map, length, Option, Some, None, option_map, position, slice_get, refl, sym, ◌∙◌, subst}
+use Rattle.std.proofs.Common.{◌≡◌, ⊎_elim, ℕ, zero, suc, ◌+◌, List, [], ◌∷◌, ◌++◌, map, length, Option, Some, None, option_map, position}
+use Rattle.std.proofs.Common.{slice_get, refl, sym, ◌∙◌, subst}
 use Rattle.std.specs.Prelude.{find, if◌then◌else◌}
 use Rattle.std.specs.Str.{bytes_eq}
 use Rattle.mg_text.specs.Call.{Name}
@@ -17,7 +18,8 @@ use Rattle.jv_rules.specs.Declarations.{UnknownClass, IsUsable, IsUsableClass}
 use Rattle.jv_core.specs.declared.program.CoreType.TheVariants as types
 use Rattle.jv_core.specs.Tree as Core
 use Rattle.jv_names.proofs.Tables.{none_some}
-use Rattle.jv_resolve_law.specs.Tables.{◌>>=◌, Entry, Tables, class_names, enum_names, class_called, enum_called, method_called, type_called, type_meant, interned}
+use Rattle.jv_resolve_law.specs.Tables.{◌>>=◌, Entry, Tables, class_names, enum_names, class_called, enum_called, method_called}
+use Rattle.jv_resolve_law.specs.Tables.{type_called, type_meant, interned}
 use Rattle.jv_resolve_law.proofs.Steps.{Named, named, not_named}
 use Rattle.jv_resolve_law.proofs.Tabled.{IsTabled, no_class}
 use Rattle.std.specs.Option.{is_some}

@@ -1,5 +1,6 @@
 -- Clean expressions are resolved.
-use Rattle.std.proofs.Common.{◌≡◌, ◌≢◌, ℕ, suc, Bool, true, false, cond, true≢false, List, [], ◌∷◌, ◌++◌, map, length, Option, Some, None, option_map, slice_get, refl, sym, ap, ◌∙◌, subst, arith}
+use Rattle.std.proofs.Common.{◌≡◌, ◌≢◌, ℕ, suc, Bool, true, false, cond, true≢false, List, [], ◌∷◌, ◌++◌, map, length, Option, Some, None}
+use Rattle.std.proofs.Common.{option_map, slice_get, refl, sym, ap, ◌∙◌, subst, arith}
 use Rattle.std.specs.Prelude.{codes, find, if◌then◌else◌}
 use Rattle.std.specs.List.{list_any}
 use Rattle.std.specs.Str.{bytes_eq}
@@ -14,7 +15,9 @@ use Rattle.jv_meaning.specs.Program.{class_named, enum_named, method_named, cons
 use Rattle.jv_rules.specs.Program.{Program, is_of_protocol}
 use Rattle.jv_rules.specs.Types.{ValueType, BooleanType, TextType, EnumType, ClassType, Signature, signature_of, meant as meant_type}
 use Rattle.jv_rules.specs.Scope.{Scope, variable_type, field_type, is_variable}
-use Rattle.jv_rules.specs.Typing.{type_of, takes_and_gives, constant_type, called, called_on, called_on_this, called_on_class, called_on_value, own_instance, own_method, static_of, protocol_method, built_in, session_methods, text_methods}
+use Rattle.jv_rules.specs.Typing.{type_of, takes_and_gives, constant_type, called, called_on, called_on_this, called_on_class}
+use Rattle.jv_rules.specs.Typing.{called_on_value, own_instance, own_method, static_of, protocol_method, built_in, session_methods}
+use Rattle.jv_rules.specs.Typing.{text_methods}
 use Rattle.jv_rules.specs.Spots.{Value, AtNode, nodes, nodes_in}
 use Rattle.jv_rules.specs.Taking.{ClassVariable, Taken, Takes, taken, takes, receiver, arguments, count_of, all_taken}
 use Rattle.jv_rules.specs.Members.{Made, mentions_in, mentions_in_args}
@@ -30,19 +33,28 @@ use Rattle.std.proofs.lemmas.Bool.Decides.{nat_tests}
 use Rattle.jv_names.specs.Resolves.{Owned, methods_of, IsClass, IsExpr, IsExprs}
 use Rattle.jv_names.specs.Resolves as is
 use Rattle.jv_names.proofs.Tables.{some_is, none_some}
-use Rattle.jv_kept.proofs.Clean.{NoFaultAt, CleanExpr, CleanArgs, nodes_left, nodes_right, first_arg, other_args, left_operand, right_operand}
+use Rattle.jv_kept.proofs.Clean.{NoFaultAt, CleanExpr, CleanArgs, nodes_left, nodes_right, first_arg, other_args, left_operand}
+use Rattle.jv_kept.proofs.Clean.{right_operand}
 use Rattle.jv_kept.proofs.Declared.{clean_left, clean_right}
 use Rattle.jv_kept.proofs.Moving.{IsNotThis, arguments_clean, call_clean}
-use Rattle.jv_resolve_law.specs.Tables.{◌>>=◌, Numbered, Entry, Tables, Callee, Placed, class_called, enum_called, method_called, field_called, type_meant}
-use Rattle.jv_resolve_law.specs.Expressions.{Given, Of, Resolved, Known, Standing, Found, Receiver, OnThis, OnClass, OnValue, variable_in, only, text_call, session_named, session_names, paired_with, session_call}
-use Rattle.jv_resolve_law.specs.Expressions.{constant, static_call, helper_call, object_call, call_class, call_protocol, call_typed, own_found, call_own, call_this, call_on, make, found, variable_at, constant_at, member, named_receiver, resolved, resolved_all}
+use Rattle.jv_resolve_law.specs.Tables.{◌>>=◌, Numbered, Entry, Tables, Callee, Placed, class_called, enum_called, method_called}
+use Rattle.jv_resolve_law.specs.Tables.{field_called, type_meant}
+use Rattle.jv_resolve_law.specs.Expressions.{Given, Of, Resolved, Known, Standing, Found, Receiver, OnThis, OnClass, OnValue, variable_in}
+use Rattle.jv_resolve_law.specs.Expressions.{only, text_call, session_named, session_names, paired_with, session_call}
+use Rattle.jv_resolve_law.specs.Expressions.{constant, static_call, helper_call, object_call, call_class, call_protocol, call_typed}
+use Rattle.jv_resolve_law.specs.Expressions.{own_found, call_own, call_this, call_on, make, found, variable_at, constant_at, member}
+use Rattle.jv_resolve_law.specs.Expressions.{named_receiver, resolved, resolved_all}
 use Rattle.jv_resolve_law.specs.Expressions as expressions
 use Rattle.jv_resolve_law.proofs.Steps.{flipped}
-use Rattle.jv_resolve_law.proofs.Tabled.{IsEntry, enum_called_is, MethodCalled, method_called_is, ClassCalled, class_called_is, field_called_is}
-use Rattle.jv_resolve_law.proofs.Given.{IsGiven, no_value, int_given, boolean_given, text_given, null_given, class_given, AreKnown, Falls, slots_in, Stands, OwnIs, own_is, VariableIs, variable_is}
+use Rattle.jv_resolve_law.proofs.Tabled.{IsEntry, enum_called_is, MethodCalled, method_called_is, ClassCalled, class_called_is}
+use Rattle.jv_resolve_law.proofs.Tabled.{field_called_is}
+use Rattle.jv_resolve_law.proofs.Given.{IsGiven, no_value, int_given, boolean_given, text_given, null_given, class_given, AreKnown, Falls}
+use Rattle.jv_resolve_law.proofs.Given.{slots_in, Stands, OwnIs, own_is, VariableIs, variable_is}
 use Rattle.jv_resolve_law.proofs.Given as given
-use Rattle.jv_resolve_law.proofs.Expressions.{right, right_all, IsReceiver, on_this, on_class, on_value, right_receiver, own_called, own_named, called_on_some}
-use Rattle.jv_resolve_law.proofs.Total.{Given as G, given_bind, given_map, given_some, given_part, class_given as class_there, enum_given as enum_there, method_given}
+use Rattle.jv_resolve_law.proofs.Expressions.{right, right_all, IsReceiver, on_this, on_class, on_value, right_receiver, own_called}
+use Rattle.jv_resolve_law.proofs.Expressions.{own_named, called_on_some}
+use Rattle.jv_resolve_law.proofs.Total.{Given as G, given_bind, given_map, given_some, given_part, class_given as class_there}
+use Rattle.jv_resolve_law.proofs.Total.{enum_given as enum_there, method_given}
 
 -- the types of the fields of the class, and the results of methods, are there
 pub record AreMeant (program : Program) (tables : Tables) (entry : Entry) : Type 0 where

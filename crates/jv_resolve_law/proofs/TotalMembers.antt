@@ -26,7 +26,8 @@ use Rattle.jv_kept.proofs.Clean.{NoFaultAt, all_left, all_right}
 use Rattle.jv_resolve_law.specs.Tables.{Entry, Tables, type_meant, followed, entries_from, tables_of, interned, enum_called}
 use Rattle.jv_resolve_law.specs.Expressions.{Known, constant, initial}
 use Rattle.jv_resolve_law.specs.Statements.{Counted, declared, slot_more, stmts}
-use Rattle.jv_resolve_law.specs.Members.{Naming, Opened, all_interned, enum, enums, begins_with, field, fields, class, classes, params, method, methods, resolving}
+use Rattle.jv_resolve_law.specs.Members.{Naming, Opened, all_interned, enum, enums, begins_with, field, fields, class, classes, params}
+use Rattle.jv_resolve_law.specs.Members.{method, methods, resolving}
 use Rattle.jv_resolve_law.specs.Members as members
 use Rattle.jv_resolve_law.specs.Targets.{AllAssignVariables}
 use Rattle.jv_resolve_law.proofs.Steps.{bound, not_named}

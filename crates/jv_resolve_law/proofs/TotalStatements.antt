@@ -1,5 +1,6 @@
 -- Clean statements are resolved.
-use Rattle.std.proofs.Common.{◌≡◌, ◌⊎◌, inr, ⊎_elim, ℕ, suc, ◌<◌, Bool, true, false, true≢false, List, [], ◌∷◌, ◌++◌, map, length, Option, Some, None, option_map, slice_get, Contains, refl, sym, ap, ◌∙◌, subst, arith}
+use Rattle.std.proofs.Common.{◌≡◌, ◌⊎◌, inr, ⊎_elim, ℕ, suc, ◌<◌, Bool, true, false, true≢false, List, [], ◌∷◌, ◌++◌, map, length, Option}
+use Rattle.std.proofs.Common.{Some, None, option_map, slice_get, Contains, refl, sym, ap, ◌∙◌, subst, arith}
 use Rattle.std.specs.Prelude.{if◌then◌else◌}
 use Rattle.std.specs.List.{AllByRecursion, list_any}
 use Rattle.std.specs.Str.{bytes_eq}
@@ -19,7 +20,8 @@ use Rattle.jv_rules.specs.Scope.{Scope, Declared, Loop, Target, entered, declare
 use Rattle.jv_rules.specs.Scope as written_scope
 use Rattle.jv_rules.specs.Spots.{Spot, AtStatement, stmt_spots, stmts_spots, group_spots, expr_spots, value_spots}
 use Rattle.jv_rules.specs.Taking.{IsEnum}
-use Rattle.jv_rules.specs.Members.{Mention, Written, mentions_in, mentions_in_stmt, mentions_in_stmts, mentions_in_groups, mentions_in_value}
+use Rattle.jv_rules.specs.Members.{Mention, Written, mentions_in, mentions_in_stmt, mentions_in_stmts, mentions_in_groups}
+use Rattle.jv_rules.specs.Members.{mentions_in_value}
 use Rattle.jv_rules.specs.Declarations.{UnknownClass}
 use Rattle.jv_rules.specs.Conditions.{CanBreak, CanContinue, BadLabel, CaseAt, IsCase, IsConstant, cases, label_name}
 use Rattle.jv_rules.proofs.Tests.{any_decides, refuted, in_cases, nothing_in}
@@ -34,16 +36,20 @@ use Rattle.jv_kept.proofs.Clean.{NoFaultAt, CleanExpr, all_left, all_right}
 use Rattle.jv_kept.proofs.Declared.{clean_left, clean_right}
 use Rattle.jv_resolve_law.specs.Tables.{◌>>=◌, Tables, type_meant, interned}
 use Rattle.jv_resolve_law.specs.Expressions.{Given, Resolved, Known, Standing, known_named, variable_in, resolved}
-use Rattle.jv_resolve_law.specs.Statements.{Counted, Around, InLoop, InSwitch, Counting, Item, is_label, labelled, innermost, labels_at, loop_more, declared, slot_more, left_by, gone_on_by, enum_given, given_back, local, item, stmt, stmts, groups}
+use Rattle.jv_resolve_law.specs.Statements.{Counted, Around, InLoop, InSwitch, Counting, Item, is_label, labelled, innermost, labels_at}
+use Rattle.jv_resolve_law.specs.Statements.{loop_more, declared, slot_more, left_by, gone_on_by, enum_given, given_back, local, item, stmt}
+use Rattle.jv_resolve_law.specs.Statements.{stmts, groups}
 use Rattle.jv_resolve_law.specs.Targets.{AssignsVariables, AllAssignVariables, GroupsAssignVariables}
 use Rattle.jv_resolve_law.proofs.Steps.{bound, Mapped, mapped, Extends}
 use Rattle.jv_resolve_law.proofs.Tabled.{IsTabled, type_meant_is}
-use Rattle.jv_resolve_law.proofs.Given.{IsGiven, no_value, int_given, boolean_given, text_given, null_given, class_given, IsKnown, AreKnown, Falls, slots_in, local_found, Stands}
+use Rattle.jv_resolve_law.proofs.Given.{IsGiven, no_value, int_given, boolean_given, text_given, null_given, class_given, IsKnown, AreKnown}
+use Rattle.jv_resolve_law.proofs.Given.{Falls, slots_in, local_found, Stands}
 use Rattle.jv_resolve_law.proofs.Given as given
 use Rattle.jv_resolve_law.proofs.Expressions.{Right, right}
 use Rattle.jv_resolve_law.proofs.Counting.{Counts, SlotMore, slot_more_is}
 use Rattle.jv_resolve_law.proofs.Leads.{targets, loop_numbers}
-use Rattle.jv_resolve_law.proofs.Statements.{IsNoDeclaration, stays, stands_at, InScope, later, in_loop, in_switch, declares, item_other, stmt_is, stmts_is}
+use Rattle.jv_resolve_law.proofs.Statements.{IsNoDeclaration, stays, stands_at, InScope, later, in_loop, in_switch, declares, item_other}
+use Rattle.jv_resolve_law.proofs.Statements.{stmt_is, stmts_is}
 use Rattle.jv_resolve_law.proofs.Total.{Given as G, given_bind, given_map, given_some, given_interned, type_given}
 use Rattle.jv_resolve_law.proofs.TotalExpressions.{AreMeant, given_expr, given_placed}
 

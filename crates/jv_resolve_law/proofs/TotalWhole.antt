@@ -1,5 +1,6 @@
 -- A well typed program is resolved.
-use Rattle.std.proofs.Common.{◌≡◌, ℕ, zero, suc, List, [], ◌∷◌, map, Option, Some, None, option_map, option_and_then, slice_get, Contains, refl, ap, ◌∙◌, subst}
+use Rattle.std.proofs.Common.{◌≡◌, ℕ, zero, suc, List, [], ◌∷◌, map, Option, Some, None, option_map, option_and_then, slice_get, Contains}
+use Rattle.std.proofs.Common.{refl, ap, ◌∙◌, subst}
 use Rattle.mg_text.specs.Call.{Name}
 use Rattle.mg_read.specs.First.{Clean}
 use Rattle.ts_tree.specs.Proper.{AreDistinct}

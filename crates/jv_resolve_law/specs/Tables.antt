@@ -1,5 +1,6 @@
 -- The tables by which the names of a program are resolved: classes, enums and what is declared in them, by their places.
-use Rattle.std.specs.Prelude.{ℕ, suc, ◌+◌, List, [], ◌∷◌, map, length, Option, Some, None, option_map, slice_get, position, Bool, true, false}
+use Rattle.std.specs.Prelude.{ℕ, suc, ◌+◌, List, [], ◌∷◌, map, length, Option, Some, None, option_map, slice_get, position, Bool, true}
+use Rattle.std.specs.Prelude.{false}
 use Rattle.std.specs.List.{list_any}
 use Rattle.std.specs.Str.{bytes_eq}
 use Rattle.mg_text.specs.Call.{Name}

@@ -1,5 +1,6 @@
 -- What the conditions answer by computing is right.
-use Rattle.std.proofs.Common.{◌≡◌, ◌≢◌, ◌⊎◌, inl, inr, ⊎_elim, ℕ, List, [], ◌∷◌, length, Option, Some, None, zero, suc, Bool, true, false, not, ◌==◌, Contains, Decides, refl, sym, ap, subst, ◌∙◌, true≢false, codes}
+use Rattle.std.proofs.Common.{◌≡◌, ◌≢◌, ◌⊎◌, inl, inr, ⊎_elim, ℕ, List, [], ◌∷◌, length, Option, Some, None, zero, suc, Bool, true, false}
+use Rattle.std.proofs.Common.{not, ◌==◌, Contains, Decides, refl, sym, ap, subst, ◌∙◌, true≢false, codes}
 use Rattle.std.specs.List.{list_any}
 use Rattle.std.specs.Option.{option_or}
 use Rattle.std.specs.Str.{bytes_eq}
@@ -13,24 +14,36 @@ use Rattle.mg_read.specs.First.{Judged, clean, here, later, FirstOf, none, this,
 use Rattle.mg_read.proofs.Judging.{no_both, no_both_first}
 use Rattle.ts_tree.specs.declared.parts.TypeName.{TypeName}
 use Rattle.ts_tree.specs.declared.parts.TypeName.TheVariants as written
-use Rattle.jv_tree.specs.Source.{Expr, Int, Truth, Text, Null, This, Variable, Member, Neg, Not, Binary, Call, MethodCall, New, Exprs, NoExpr, Argument, place_of}
-use Rattle.jv_tree.specs.Source.{Block, Empty, Local, Assign, If, IfElse, While, Do, Switch, Break, Continue, Return, Print, Eval, Enum, Method, Field}
+use Rattle.jv_tree.specs.Source.{Expr, Int, Truth, Text, Null, This, Variable, Member, Neg, Not, Binary, Call, MethodCall, New, Exprs}
+use Rattle.jv_tree.specs.Source.{NoExpr, Argument, place_of}
+use Rattle.jv_tree.specs.Source.{Block, Empty, Local, Assign, If, IfElse, While, Do, Switch, Break, Continue, Return, Print, Eval, Enum}
+use Rattle.jv_tree.specs.Source.{Method, Field}
 use Rattle.jv_meaning.specs.Program.{class_named, enum_named, method_named}
 use Rattle.jv_rules.specs.declared.condition.Condition.{Condition}
 use Rattle.jv_rules.specs.declared.condition.Condition.TheVariants as conditions
 use Rattle.jv_rules.specs.Program.{Program, is_of_protocol}
-use Rattle.jv_rules.specs.Types.{ValueType, NoValue, IntType, BooleanType, TextType, EnumType, ClassType, NullType, Signature, Fits, same, null}
+use Rattle.jv_rules.specs.Types.{ValueType, NoValue, IntType, BooleanType, TextType, EnumType, ClassType, NullType, Signature, Fits, same}
+use Rattle.jv_rules.specs.Types.{null}
 use Rattle.jv_rules.specs.Scope.{Scope, Loop, Target, local_named, variable_type, field_of, is_variable}
 use Rattle.jv_rules.specs.Scope as targets
 use Rattle.jv_rules.specs.Completes.{Through}
 use Rattle.jv_rules.specs.Typing.{type_of, called, called_on}
 use Rattle.jv_rules.specs.Spots.{Value, Receiver, Qualifier, Spot, AtNode, AtStatement, AtParameter, AtEnd, spots}
-use Rattle.jv_rules.specs.Taking.{Wanted, Fitting, Writable, AnyEnum, ClassVariable, Nothing, IsWritable, IsEnum, IsClass, Suits, Taking, Takes, Lacks, count_of, taken_at}
-use Rattle.jv_rules.specs.Conditions.{NamesClass, IsReceiver, IsQualifier, UnknownName, DuplicateLocal, TypeMismatch, Arity, CanBreak, CanContinue, Labelled, BreakAt, ContinueAt, LoopAt, CaseAt, label_name, labelled_at, IsConstant, BadLabel, MissingReturn, IsProtocol, IsHelper, SelfCall, ThisAsValue, CallsHelper, CallsHelperIn, ArgsMayMove}
+use Rattle.jv_rules.specs.Taking.{Wanted, Fitting, Writable, AnyEnum, ClassVariable, Nothing, IsWritable, IsEnum, IsClass, Suits, Taking}
+use Rattle.jv_rules.specs.Taking.{Takes, Lacks, count_of, taken_at}
+use Rattle.jv_rules.specs.Conditions.{NamesClass, IsReceiver, IsQualifier, UnknownName, DuplicateLocal, TypeMismatch, Arity, CanBreak}
+use Rattle.jv_rules.specs.Conditions.{CanContinue, Labelled, BreakAt, ContinueAt, LoopAt, CaseAt, label_name, labelled_at, IsConstant}
+use Rattle.jv_rules.specs.Conditions.{BadLabel, MissingReturn, IsProtocol, IsHelper, SelfCall, ThisAsValue, CallsHelper, CallsHelperIn}
+use Rattle.jv_rules.specs.Conditions.{ArgsMayMove}
 use Rattle.jv_rules.specs.Faults.{AtSpot, on_methods, IsAtFault, IsFault}
 use Rattle.jv_rules.specs.inner.Leaving.{same_label}
-use Rattle.jv_rules.specs.inner.Deciding.{when, first_by, told, first_kind, names_class, is_receiver, is_qualifier, unknown_name, duplicate_local, tag, type_name, same_type, fits, is_writable, suits, suits_some, type_mismatch, count_differs, arity, is_loop, has_label, can_break, can_continue, has_constant, is_case_of, bad_label, is_void, missing_return, is_protocol, is_helper, self_call, this_as_value, calls_helper, calls_helper_in, args_may_move, answer, fault_at, method_fault}
-use Rattle.jv_rules.proofs.Tests.{nothing_in, holds, fails, decides_as, any_decides, in_cases, in_first, in_later, some-Decides, lacks-Decides}
+use Rattle.jv_rules.specs.inner.Deciding.{when, first_by, told, first_kind, names_class, is_receiver, is_qualifier, unknown_name}
+use Rattle.jv_rules.specs.inner.Deciding.{duplicate_local, tag, type_name, same_type, fits, is_writable, suits, suits_some, type_mismatch}
+use Rattle.jv_rules.specs.inner.Deciding.{count_differs, arity, is_loop, has_label, can_break, can_continue, has_constant, is_case_of}
+use Rattle.jv_rules.specs.inner.Deciding.{bad_label, is_void, missing_return, is_protocol, is_helper, self_call, this_as_value}
+use Rattle.jv_rules.specs.inner.Deciding.{calls_helper, calls_helper_in, args_may_move, answer, fault_at, method_fault}
+use Rattle.jv_rules.proofs.Tests.{nothing_in, holds, fails, decides_as, any_decides, in_cases, in_first, in_later, some-Decides}
+use Rattle.jv_rules.proofs.Tests.{lacks-Decides}
 use Rattle.jv_rules.proofs.Leaving.{same_label-Decides, leaves_all-Decides}
 
 -- what an element answers
@@ -39,7 +52,8 @@ Answers {C} At None = (c : C) → At c → ⊥
 Answers At (Some c) = At c
 
 -- the first answer is that of the first element that has one
-pub judged_by : {X C : Type 0} {At : X → C → Type 0} (f : X → Option C) → ((x : X) → Answers (At x) (f x)) → (xs : List X) → Judged At xs (first_by f xs)
+pub judged_by : {X C : Type 0} {At : X → C → Type 0} (f : X → Option C) → ((x : X) → Answers (At x) (f x)) → (xs : List X) →
+    Judged At xs (first_by f xs)
 judged_by f each [] = clean
 judged_by {X} {C} {At} f each (x ∷ xs) = go (f x) (each x) (judged_by f each xs)
   where
@@ -52,7 +66,8 @@ judged_one x None a = later a clean
 judged_one x (Some c) a = here a
 
 -- the first condition that has an answer
-pub first_kind-FirstOf : {K C : Type 0} {Of : K → Option C → Type 0} (f : K → Option C) → ((k : K) → Of k (f k)) → (ks : List K) → FirstOf Of ks (first_kind f ks)
+pub first_kind-FirstOf : {K C : Type 0} {Of : K → Option C → Type 0} (f : K → Option C) → ((k : K) → Of k (f k)) → (ks : List K) →
+    FirstOf Of ks (first_kind f ks)
 first_kind-FirstOf f each [] = none
 first_kind-FirstOf {K} {C} {Of} f each (k ∷ ks) = go (f k) (each k) (first_kind-FirstOf f each ks)
   where
@@ -61,7 +76,8 @@ first_kind-FirstOf {K} {C} {Of} f each (k ∷ ks) = go (f k) (each k) (first_kin
     go (Some c) a j = this a
 
 -- a test that decides that something is wrong
-pub when_wrong : (At : Culprit → Type 0) (P : Type 0) (b : Bool) (k : Culprit) → Decides b P → ((c : Culprit) → At c → (c ≡ k) × P) → (P → At k) → Answers At (when b k)
+pub when_wrong : (At : Culprit → Type 0) (P : Type 0) (b : Bool) (k : Culprit) → Decides b P → ((c : Culprit) → At c → (c ≡ k) × P) →
+    (P → At k) → Answers At (when b k)
 when_wrong At P true k d out back = back (d.0 refl)
 when_wrong At P false k d out back = λ c a. true≢false (sym (d.1 (out c a).1))
 
@@ -81,11 +97,14 @@ receiver-Decides scope x = Decides-or _ _ (some-Decides (variable_type scope x))
 
 qualifier-Decides : (scope : Scope) (x : Name) → Decides (is_qualifier scope x) (IsQualifier scope x)
 qualifier-Decides scope x =
-    Decides-or _ _ (some-Decides (variable_type scope x)) (Decides-or _ _ (some-Decides (enum_named scope.program.files x)) (named_class-Decides scope x))
+    Decides-or _ _ (some-Decides (variable_type scope x)) (Decides-or _ _ (some-Decides (enum_named scope.program.files x))
+    (named_class-Decides scope x))
 
 unknown_name-right : (s : Spot) → Answers (UnknownName s) (unknown_name s)
-unknown_name-right (AtNode scope (Receiver p x)) = wrong_unless (IsReceiver scope x) (is_receiver scope x) (culprit p x) (receiver-Decides scope x)
-unknown_name-right (AtNode scope (Qualifier p x)) = wrong_unless (IsQualifier scope x) (is_qualifier scope x) (culprit p x) (qualifier-Decides scope x)
+unknown_name-right (AtNode scope (Receiver p x)) = wrong_unless (IsReceiver scope x) (is_receiver scope x) (culprit p x)
+    (receiver-Decides scope x)
+unknown_name-right (AtNode scope (Qualifier p x)) = wrong_unless (IsQualifier scope x) (is_qualifier scope x) (culprit p x)
+    (qualifier-Decides scope x)
 unknown_name-right (AtNode scope (Value (Int p z))) = λ c a. a
 unknown_name-right (AtNode scope (Value (Truth p b))) = λ c a. a
 unknown_name-right (AtNode scope (Value (Text p t))) = λ c a. a
@@ -97,7 +116,8 @@ unknown_name-right (AtNode scope (Value (Neg p e))) = λ c a. a
 unknown_name-right (AtNode scope (Value (Not p e))) = λ c a. a
 unknown_name-right (AtNode scope (Value (Binary p o l r))) = λ c a. a
 unknown_name-right (AtNode scope (Value (Call p name args))) = wrong _ _ (culprit p name) (lacks-Decides (called scope name))
-unknown_name-right (AtNode scope (Value (MethodCall p e name args))) = wrong _ _ (culprit p name) (lacks-Decides (called_on scope e (type_of scope e) name))
+unknown_name-right (AtNode scope (Value (MethodCall p e name args))) =
+    wrong _ _ (culprit p name) (lacks-Decides (called_on scope e (type_of scope e) name))
 unknown_name-right (AtNode scope (Value (New p n))) = λ c a. a
 unknown_name-right (AtStatement scope s) = λ c a. a
 unknown_name-right (AtParameter scope p) = λ c a. a
@@ -145,7 +165,8 @@ type_by-is NullType = refl
 pub same_type-Decides : (s t : ValueType) → Decides (same_type s t) (s ≡ t)
 same_type-Decides s t =
     decides_as (same_type s t) (Decides-and _ _ (Decides-eqb (tag s) (tag t)) (bytes_eq-Decides (type_name s) (type_name t)))
-    (λ q. sym (type_by-is s) ∙ ap (λ n. type_by n (type_name s)) q.0 ∙ ap (type_by (tag t)) q.1 ∙ type_by-is t) (λ e. (ap tag e, ap type_name e))
+    (λ q. sym (type_by-is s) ∙ ap (λ n. type_by n (type_name s)) q.0 ∙ ap (type_by (tag t)) q.1 ∙ type_by-is t)
+    (λ e. (ap tag e, ap type_name e))
 
 class_by_tag : (t : ValueType) → tag t ≡ 5 → t ≡ ClassType (type_name t)
 class_by_tag t e = sym (type_by-is t) ∙ ap (λ n. type_by n (type_name t)) e
@@ -164,7 +185,8 @@ fits-Decides taken given =
     (λ q. ⊎_elim (λ e. subst (λ g. Fits taken g) e same) (λ h. both h.0 h.1) q) (fits-cases taken given)
   where
     both : tag taken ≡ 5 → tag given ≡ 6 → Fits taken given
-    both h k = subst (λ t. Fits t given) (sym (class_by_tag taken h)) (subst (λ g. Fits (ClassType (type_name taken)) g) (sym (null_by_tag given k)) null)
+    both h k = subst (λ t. Fits t given) (sym (class_by_tag taken h)) (subst (λ g. Fits (ClassType (type_name taken)) g)
+        (sym (null_by_tag given k)) null)
 
 writable-Decides : (t : ValueType) → Decides (is_writable t) (IsWritable t)
 writable-Decides NoValue = fails (λ x. x)
@@ -204,7 +226,8 @@ some-suits : (w : Wanted) (e : Expr) (o : Option ValueType) →
     Decides (not (suits_some w e o)) ((type : ValueType) → o ≡ Some type → Suits w e type → ⊥)
 some-suits w e None = holds (λ t h. let no : ⊥ = cc in absurd no)
 some-suits w e (Some t) =
-    decides_as (not (suits w e t)) (Decides-not _ (suits-Decides w e t)) (λ n s h q. n (subst (Suits w e) (sym (same_Some t s h)) q)) (λ n q. n t refl q)
+    decides_as (not (suits w e t)) (Decides-not _ (suits-Decides w e t)) (λ n s h q. n (subst (Suits w e) (sym (same_Some t s h)) q))
+    (λ n q. n t refl q)
 
 type_mismatch-right : (t : Taking) → Answers (TypeMismatch t) (type_mismatch t)
 type_mismatch-right (Takes scope t) = wrong _ _ (culprit (place_of t.value) []) (some-suits t.wanted t.value (type_of scope t.value))
@@ -218,7 +241,8 @@ count_differs-right p None args = λ c a. none a.1 a.2
     none : (s : Signature) → None ≡ Some s → ⊥
     none s e = cc
 count_differs-right p (Some s) args =
-    when_wrong _ (count_of args ≢ length s.params) (not (count_of args == length s.params)) (culprit p []) (Decides-not _ (Decides-eqb (count_of args) (length s.params)))
+    when_wrong _ (count_of args ≢ length s.params) (not (count_of args == length s.params)) (culprit p [])
+    (Decides-not _ (Decides-eqb (count_of args) (length s.params)))
     (λ c a. (a.0, λ e. a.3 (e ∙ ap (λ z. length z.params) (same_Some s a.1 a.2)))) (λ n. (refl, s, refl, n))
 
 arity-right : (s : Spot) → Answers (Arity s) (arity s)
@@ -248,7 +272,8 @@ label_in targets.Switch = None
 
 has_label-Decides : (name : Name) (t : Target) → Decides (has_label name t) (t ≡ Loop (Some name))
 unfolding label_in
-has_label-Decides name (Loop label) = decides_as (same_label label (Some name)) (same_label-Decides label (Some name)) (λ e. ap Loop e) (λ e. ap label_in e)
+has_label-Decides name (Loop label) = decides_as (same_label label (Some name)) (same_label-Decides label (Some name)) (λ e. ap Loop e)
+    (λ e. ap label_in e)
 has_label-Decides name targets.Switch = fails (λ e. let no : ⊥ = cc in no)
 
 labelled-Decides : (name : Name) (around : List Target) → Decides (list_any (has_label name) around) (Contains around (Loop (Some name)))
@@ -258,7 +283,8 @@ loops-Decides : (around : List Target) → Decides (list_any is_loop around) ((l
 loops-Decides [] = fails (λ q. nothing_in (Loop q.0) q.1)
 loops-Decides (Loop label ∷ ts) = holds (label, in_first ts (Loop label))
 loops-Decides (targets.Switch ∷ ts) =
-    decides_as (list_any is_loop ts) (loops-Decides ts) (λ q. (q.0, in_later ts targets.Switch (Loop q.0) q.1)) (λ q. (q.0, ⊎_elim (λ e. no q.0 e) (λ h. h) (in_cases ts targets.Switch (Loop q.0) q.1)))
+    decides_as (list_any is_loop ts) (loops-Decides ts) (λ q. (q.0, in_later ts targets.Switch (Loop q.0) q.1))
+    (λ q. (q.0, ⊎_elim (λ e. no q.0 e) (λ h. h) (in_cases ts targets.Switch (Loop q.0) q.1)))
   where
     no : (l : Option Name) → targets.Switch ≡ Loop l → Contains ts (Loop l)
     no l e = let x : ⊥ = cc in absurd x
@@ -284,12 +310,18 @@ case_of program None name = fails (λ q. let e : None ≡ Some (EnumType q.0) = 
 case_of program (Some (EnumType of)) name =
     decides_as _ (constant-Decides (enum_named program.files of) name) (λ h. (of, refl, h))
     (λ q. subst (λ z. IsConstant (enum_named program.files z) name) (sym (ap type_name (same_Some (EnumType of) (EnumType q.0) q.1))) q.2)
-case_of program (Some NoValue) name = fails (λ q. let e : NoValue ≡ EnumType q.0 = same_Some NoValue (EnumType q.0) q.1 in let no : ⊥ = cc in no)
-case_of program (Some IntType) name = fails (λ q. let e : IntType ≡ EnumType q.0 = same_Some IntType (EnumType q.0) q.1 in let no : ⊥ = cc in no)
-case_of program (Some BooleanType) name = fails (λ q. let e : BooleanType ≡ EnumType q.0 = same_Some BooleanType (EnumType q.0) q.1 in let no : ⊥ = cc in no)
-case_of program (Some TextType) name = fails (λ q. let e : TextType ≡ EnumType q.0 = same_Some TextType (EnumType q.0) q.1 in let no : ⊥ = cc in no)
-case_of program (Some (ClassType n)) name = fails (λ q. let e : ClassType n ≡ EnumType q.0 = same_Some (ClassType n) (EnumType q.0) q.1 in let no : ⊥ = cc in no)
-case_of program (Some NullType) name = fails (λ q. let e : NullType ≡ EnumType q.0 = same_Some NullType (EnumType q.0) q.1 in let no : ⊥ = cc in no)
+case_of program (Some NoValue) name = fails (λ q. let e : NoValue ≡ EnumType q.0 = same_Some NoValue (EnumType q.0) q.1 in let no : ⊥ = cc
+    in no)
+case_of program (Some IntType) name = fails (λ q. let e : IntType ≡ EnumType q.0 = same_Some IntType (EnumType q.0) q.1 in let no : ⊥ = cc
+    in no)
+case_of program (Some BooleanType) name = fails (λ q. let e : BooleanType ≡ EnumType q.0 = same_Some BooleanType (EnumType q.0) q.1 in
+    let no : ⊥ = cc in no)
+case_of program (Some TextType) name = fails (λ q. let e : TextType ≡ EnumType q.0 = same_Some TextType (EnumType q.0) q.1 in
+    let no : ⊥ = cc in no)
+case_of program (Some (ClassType n)) name = fails (λ q. let e : ClassType n ≡ EnumType q.0 = same_Some (ClassType n) (EnumType q.0) q.1 in
+    let no : ⊥ = cc in no)
+case_of program (Some NullType) name = fails (λ q. let e : NullType ≡ EnumType q.0 = same_Some NullType (EnumType q.0) q.1 in
+    let no : ⊥ = cc in no)
 
 earlier-Decides : (earlier : List (Option Name)) (l : Option Name) → Decides (list_any (same_label l) earlier) (Contains earlier l)
 earlier-Decides earlier l = any_decides (same_label l) l (λ y. decides_as _ (same_label-Decides l y) (λ e. sym e) (λ e. sym e)) earlier
@@ -301,7 +333,8 @@ bad_label-right (LoopAt scope p None) = λ c a. a
 bad_label-right (LoopAt scope p (Some label)) = wrong _ _ (culprit p label) (labelled-Decides label scope.around)
 bad_label-right (CaseAt scope p e (earlier, None)) = wrong _ _ (culprit p []) (earlier-Decides earlier None)
 bad_label-right (CaseAt scope p e (earlier, Some name)) =
-    wrong _ _ (culprit p name) (Decides-or _ _ (earlier-Decides earlier (Some name)) (Decides-not _ (case_of scope.program (type_of scope e) name)))
+    wrong _ _ (culprit p name) (Decides-or _ _ (earlier-Decides earlier (Some name))
+    (Decides-not _ (case_of scope.program (type_of scope e) name)))
 
 -- 15
 void-Decides : (t : TypeName) → Decides (is_void t) (t ≡ written.Void)
@@ -316,13 +349,16 @@ missing_return-right (AtNode scope n) = λ c a. a
 missing_return-right (AtStatement scope s) = λ c a. a
 missing_return-right (AtParameter scope p) = λ c a. a
 missing_return-right (AtEnd m) =
-    when_wrong (MissingReturn (AtEnd m)) _ _ (culprit m.end []) (Decides-and _ _ (Decides-not _ (void-Decides m.result)) (leaves_all-Decides m.body Through))
+    when_wrong (MissingReturn (AtEnd m)) _ _ (culprit m.end []) (Decides-and _ _ (Decides-not _ (void-Decides m.result))
+    (leaves_all-Decides m.body Through))
     (λ c a. (a.0, (a.1, a.2))) (λ q. (refl, q.0, q.1))
 
 -- 16
-own-Decides : (o : Option Method) → Decides (elim o [ None ↦ false | Some m ↦ not m.is_static ]) ((m : Method) × (o ≡ Some m) × (m.is_static ≡ false))
+own-Decides : (o : Option Method) → Decides (elim o [ None ↦ false | Some m ↦ not m.is_static ])
+    ((m : Method) × (o ≡ Some m) × (m.is_static ≡ false))
 own-Decides None = fails (λ q. let e : None ≡ Some q.0 = q.1 in let no : ⊥ = cc in no)
-own-Decides (Some m) = decides_as _ (static-Decides m.is_static) (λ e. (m, refl, e)) (λ q. ap (λ z. z.is_static) (same_Some m q.0 q.1) ∙ q.2)
+own-Decides (Some m) = decides_as _ (static-Decides m.is_static) (λ e. (m, refl, e)) (λ q. ap (λ z. z.is_static) (same_Some m q.0 q.1) ∙
+    q.2)
   where
     static-Decides : (b : Bool) → Decides (not b) (b ≡ false)
     static-Decides true = fails true≢false
@@ -336,7 +372,8 @@ protocol-Decides : (scope : Scope) (name : Name) → Decides (is_protocol scope 
 protocol-Decides scope name = Decides-and _ _ (own-Decides (method_named scope.class name)) (λ e. e, λ e. e)
 
 helper-Decides : (scope : Scope) (name : Name) → Decides (is_helper scope name) (IsHelper scope name)
-helper-Decides scope name = Decides-and _ _ (own-Decides (method_named scope.class name)) (not-Decides (is_of_protocol scope.program scope.class name))
+helper-Decides scope name = Decides-and _ _ (own-Decides (method_named scope.class name))
+    (not-Decides (is_of_protocol scope.program scope.class name))
 
 self_call-right : (s : Spot) → Answers (SelfCall s) (self_call s)
 self_call-right (AtNode scope (Receiver p x)) = λ c a. a
@@ -406,19 +443,32 @@ mutual
   calls_helper-Decides scope (Not p e) = calls_helper-Decides scope e
   calls_helper-Decides scope (Binary p o l r) = Decides-or _ _ (calls_helper-Decides scope l) (calls_helper-Decides scope r)
   calls_helper-Decides scope (Call p name args) = Decides-or _ _ (helper-Decides scope name) (calls_helper_in-Decides scope args)
-  calls_helper-Decides scope (MethodCall p (This q) name args) = Decides-or _ _ (helper-Decides scope name) (calls_helper_in-Decides scope args)
-  calls_helper-Decides scope (MethodCall p (Int q z) name args) = Decides-or _ _ (calls_helper-Decides scope (Int q z)) (calls_helper_in-Decides scope args)
-  calls_helper-Decides scope (MethodCall p (Truth q b) name args) = Decides-or _ _ (calls_helper-Decides scope (Truth q b)) (calls_helper_in-Decides scope args)
-  calls_helper-Decides scope (MethodCall p (Text q t) name args) = Decides-or _ _ (calls_helper-Decides scope (Text q t)) (calls_helper_in-Decides scope args)
-  calls_helper-Decides scope (MethodCall p (Null q) name args) = Decides-or _ _ (calls_helper-Decides scope (Null q)) (calls_helper_in-Decides scope args)
-  calls_helper-Decides scope (MethodCall p (Variable q x) name args) = Decides-or _ _ (calls_helper-Decides scope (Variable q x)) (calls_helper_in-Decides scope args)
-  calls_helper-Decides scope (MethodCall p (Member q r n) name args) = Decides-or _ _ (calls_helper-Decides scope (Member q r n)) (calls_helper_in-Decides scope args)
-  calls_helper-Decides scope (MethodCall p (Neg q r) name args) = Decides-or _ _ (calls_helper-Decides scope (Neg q r)) (calls_helper_in-Decides scope args)
-  calls_helper-Decides scope (MethodCall p (Not q r) name args) = Decides-or _ _ (calls_helper-Decides scope (Not q r)) (calls_helper_in-Decides scope args)
-  calls_helper-Decides scope (MethodCall p (Binary q o l r) name args) = Decides-or _ _ (calls_helper-Decides scope (Binary q o l r)) (calls_helper_in-Decides scope args)
-  calls_helper-Decides scope (MethodCall p (Call q n as') name args) = Decides-or _ _ (calls_helper-Decides scope (Call q n as')) (calls_helper_in-Decides scope args)
-  calls_helper-Decides scope (MethodCall p (MethodCall q r n as') name args) = Decides-or _ _ (calls_helper-Decides scope (MethodCall q r n as')) (calls_helper_in-Decides scope args)
-  calls_helper-Decides scope (MethodCall p (New q n) name args) = Decides-or _ _ (calls_helper-Decides scope (New q n)) (calls_helper_in-Decides scope args)
+  calls_helper-Decides scope (MethodCall p (This q) name args) = Decides-or _ _ (helper-Decides scope name)
+      (calls_helper_in-Decides scope args)
+  calls_helper-Decides scope (MethodCall p (Int q z) name args) = Decides-or _ _ (calls_helper-Decides scope (Int q z))
+      (calls_helper_in-Decides scope args)
+  calls_helper-Decides scope (MethodCall p (Truth q b) name args) = Decides-or _ _ (calls_helper-Decides scope (Truth q b))
+      (calls_helper_in-Decides scope args)
+  calls_helper-Decides scope (MethodCall p (Text q t) name args) = Decides-or _ _ (calls_helper-Decides scope (Text q t))
+      (calls_helper_in-Decides scope args)
+  calls_helper-Decides scope (MethodCall p (Null q) name args) = Decides-or _ _ (calls_helper-Decides scope (Null q))
+      (calls_helper_in-Decides scope args)
+  calls_helper-Decides scope (MethodCall p (Variable q x) name args) = Decides-or _ _ (calls_helper-Decides scope (Variable q x))
+      (calls_helper_in-Decides scope args)
+  calls_helper-Decides scope (MethodCall p (Member q r n) name args) = Decides-or _ _ (calls_helper-Decides scope (Member q r n))
+      (calls_helper_in-Decides scope args)
+  calls_helper-Decides scope (MethodCall p (Neg q r) name args) = Decides-or _ _ (calls_helper-Decides scope (Neg q r))
+      (calls_helper_in-Decides scope args)
+  calls_helper-Decides scope (MethodCall p (Not q r) name args) = Decides-or _ _ (calls_helper-Decides scope (Not q r))
+      (calls_helper_in-Decides scope args)
+  calls_helper-Decides scope (MethodCall p (Binary q o l r) name args) = Decides-or _ _ (calls_helper-Decides scope (Binary q o l r))
+      (calls_helper_in-Decides scope args)
+  calls_helper-Decides scope (MethodCall p (Call q n as') name args) = Decides-or _ _ (calls_helper-Decides scope (Call q n as'))
+      (calls_helper_in-Decides scope args)
+  calls_helper-Decides scope (MethodCall p (MethodCall q r n as') name args) =
+      Decides-or _ _ (calls_helper-Decides scope (MethodCall q r n as')) (calls_helper_in-Decides scope args)
+  calls_helper-Decides scope (MethodCall p (New q n) name args) = Decides-or _ _ (calls_helper-Decides scope (New q n))
+      (calls_helper_in-Decides scope args)
 
   pub calls_helper_in-Decides : (scope : Scope) (args : Exprs) → Decides (calls_helper_in scope args) (CallsHelperIn scope args)
   calls_helper_in-Decides scope NoExpr = fails (λ x. x)
@@ -431,7 +481,8 @@ moves-right p None b P d = λ c a. none a.0 a.1
     none : (f : Field) → None ≡ Some f → ⊥
     none f e = cc
 moves-right p (Some f) b P d =
-    when_wrong _ P b (culprit p f.name) d (λ c a. (a.2 ∙ sym (ap (λ z. culprit p z.name) (same_Some f a.0 a.1)), a.3)) (λ q. (f, refl, refl, q))
+    when_wrong _ P b (culprit p f.name) d (λ c a. (a.2 ∙ sym (ap (λ z. culprit p z.name) (same_Some f a.0 a.1)), a.3))
+    (λ q. (f, refl, refl, q))
 
 args_may_move-right : (s : Spot) → Answers (ArgsMayMove s) (args_may_move s)
 args_may_move-right (AtNode scope (Receiver p x)) = λ c a. a
@@ -447,7 +498,8 @@ args_may_move-right (AtNode scope (Value (Neg p e))) = λ c a. a
 args_may_move-right (AtNode scope (Value (Not p e))) = λ c a. a
 args_may_move-right (AtNode scope (Value (Binary p o l r))) = λ c a. a
 args_may_move-right (AtNode scope (Value (Call p name args))) = λ c a. a
-args_may_move-right (AtNode scope (Value (MethodCall p e name args))) = moves-right p (field_of scope e) _ _ (calls_helper_in-Decides scope args)
+args_may_move-right (AtNode scope (Value (MethodCall p e name args))) = moves-right p (field_of scope e) _ _
+    (calls_helper_in-Decides scope args)
 args_may_move-right (AtNode scope (Value (New p n))) = λ c a. a
 args_may_move-right (AtStatement scope s) = λ c a. a
 args_may_move-right (AtParameter scope p) = λ c a. a

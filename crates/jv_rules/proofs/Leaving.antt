@@ -9,8 +9,10 @@ use Rattle.mg_text.specs.Call.{Name}
 use Rattle.jv_tree.specs.Source.{Expr, Int, Truth, Text, Null, This, Variable, Member, Neg, Not, Binary, Call, MethodCall, New}
 use Rattle.jv_tree.specs.Source.{Stmt, Block, Empty, Local, Assign, If, IfElse, While, Do, Switch, Break, Continue, Return, Print, Eval}
 use Rattle.jv_tree.specs.Source.{Stmts, NoStmt, Then, Groups, NoGroup, Group}
-use Rattle.jv_rules.specs.Completes.{Exit, Through, Breaks, Continues, NamesLoop, IsAlwaysTrue, HasDefault, Passes, Leaves, LeavesAll, LeavesSome, LeavesLast}
-use Rattle.jv_rules.specs.inner.Leaving.{same_label, is_through, is_break, names_loop, is_always_true, is_default, has_default, passes, for_loop, leaves, leaves_all, leaves_some, leaves_last}
+use Rattle.jv_rules.specs.Completes.{Exit, Through, Breaks, Continues, NamesLoop, IsAlwaysTrue, HasDefault, Passes, Leaves, LeavesAll}
+use Rattle.jv_rules.specs.Completes.{LeavesSome, LeavesLast}
+use Rattle.jv_rules.specs.inner.Leaving.{same_label, is_through, is_break, names_loop, is_always_true, is_default, has_default, passes}
+use Rattle.jv_rules.specs.inner.Leaving.{for_loop, leaves, leaves_all, leaves_some, leaves_last}
 use Rattle.jv_rules.proofs.Tests.{holds, fails, decides_as, any_decides}
 
 pub same_label-Decides : (a b : Option Name) → Decides (same_label a b) (a ≡ b)
@@ -68,7 +70,8 @@ passes-Decides loop Through = fails (λ x. x)
 passes-Decides loop (Breaks l) = Decides-not (names_loop loop l) (names-Decides loop l)
 passes-Decides loop (Continues l) = Decides-not (names_loop loop l) (names-Decides loop l)
 
-loop-Decides : (loop : Option Name) (leads : Option Name → Bool) (Leads : Option Name → Type 0) → ((l : Option Name) → Decides (leads l) (Leads l)) →
+loop-Decides : (loop : Option Name) (leads : Option Name → Bool) (Leads : Option Name → Type 0) →
+    ((l : Option Name) → Decides (leads l) (Leads l)) →
     Decides (for_loop loop leads) ((label : Option Name) × NamesLoop loop label × Leads label)
 loop-Decides None leads Leads each = decides_as (leads None) (each None) (λ p. (None, tt, p)) (λ q. back q.0 q.1 q.2)
   where
@@ -113,8 +116,10 @@ mutual
   leaves-Decides (Switch p e groups end) exit =
       Decides-or _ _
       (Decides-and _ _ (through-Decides exit)
-      (Decides-or _ _ (Decides-not _ (default-Decides groups)) (Decides-or _ _ (leaves_last-Decides groups) (leaves_some-Decides groups (Breaks None)))))
-      (decides_as _ (Decides-and _ _ (Decides-not _ (through-Decides exit)) (Decides-and _ _ (Decides-not _ (break-Decides exit)) (leaves_some-Decides groups exit)))
+      (Decides-or _ _ (Decides-not _ (default-Decides groups))
+      (Decides-or _ _ (leaves_last-Decides groups) (leaves_some-Decides groups (Breaks None)))))
+      (decides_as _ (Decides-and _ _ (Decides-not _ (through-Decides exit)) (Decides-and _ _ (Decides-not _ (break-Decides exit))
+      (leaves_some-Decides groups exit)))
       (λ q. (q.0, q.1.0, q.1.1)) (λ q. (q.0, (q.1, q.2))))
   leaves-Decides (Break p label) Through = fails (λ e. let no : ⊥ = cc in no)
   leaves-Decides (Break p label) (Breaks l) = breaks_as l label
@@ -129,7 +134,8 @@ mutual
   pub leaves_all-Decides : (body : Stmts) (exit : Exit) → Decides (leaves_all body exit) (LeavesAll body exit)
   leaves_all-Decides NoStmt exit = through-Decides exit
   leaves_all-Decides (Then s more) exit =
-      Decides-or _ _ (Decides-and _ _ (Decides-not _ (through-Decides exit)) (leaves-Decides s exit)) (Decides-and _ _ (leaves-Decides s Through) (leaves_all-Decides more exit))
+      Decides-or _ _ (Decides-and _ _ (Decides-not _ (through-Decides exit)) (leaves-Decides s exit))
+      (Decides-and _ _ (leaves-Decides s Through) (leaves_all-Decides more exit))
 
   leaves_some-Decides : (groups : Groups) (exit : Exit) → Decides (leaves_some groups exit) (LeavesSome groups exit)
   leaves_some-Decides NoGroup exit = fails (λ x. x)

@@ -39,14 +39,16 @@ AtMember typestate member c = elim member [
   | OfMethod m ↦ (c ≡ culprit m.place []) × (typestate ≡ None) × (m.is_static ≡ false)
 ]
 
-one_member : (typestate : Option (List ℕ)) (member : ClassMember) (c d : Culprit) → AtMember typestate member c → AtMember typestate member d → c ≡ d
+one_member : (typestate : Option (List ℕ)) (member : ClassMember) (c d : Culprit) → AtMember typestate member c →
+    AtMember typestate member d → c ≡ d
 one_member typestate (OfField f) c d h k = h.0 ∙ sym k.0
 one_member typestate (OfMethod m) c d h k = h.0 ∙ sym k.0
 
 one_standing : IsSingle declared.InstanceInPlain
 one_standing s c d h k = one_member s.typestate s.member c d h k
 
-one_of : (program : Program) (origins : List ℕ) (k : Condition) (r s : Option Culprit) → Of program origins k r → Of program origins k s → r ≡ s
+one_of : (program : Program) (origins : List ℕ) (k : Condition) (r s : Option Culprit) → Of program origins k r → Of program origins k s →
+    r ≡ s
 one_of program origins conditions.DuplicateName r s h k = one_answer (λ q c d h k. h.0 ∙ sym k.0) h k
 one_of program origins conditions.DuplicateMember r s h k = one_answer (λ q c d h k. h.0 ∙ sym k.0) h k
 one_of program origins conditions.UnknownClass r s h k = one_answer (one_unknown program) h k

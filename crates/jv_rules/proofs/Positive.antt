@@ -1,5 +1,6 @@
 -- What holds at a spot where nothing is at fault.
-use Rattle.std.proofs.Common.{◌≡◌, ◌≢◌, ⊎_elim, List, [], ◌∷◌, length, Option, Some, None, Bool, true, false, ◌==◌, Contains, Decides, refl, sym, ap, subst, ◌∙◌, true≢false}
+use Rattle.std.proofs.Common.{◌≡◌, ◌≢◌, ⊎_elim, List, [], ◌∷◌, length, Option, Some, None, Bool, true, false, ◌==◌, Contains, Decides, refl}
+use Rattle.std.proofs.Common.{sym, ap, subst, ◌∙◌, true≢false}
 use Rattle.std.proofs.lemmas.Bool.Decides.{Decides-eqb}
 use Rattle.std.proofs.lemmas.Option.{same_Some}
 use Rattle.mg_text.specs.Call.{Name}
@@ -29,7 +30,8 @@ clean_at At (y ∷ xs) h x has c a =
     ⊎_elim (λ same. h.0 c (subst (λ z. At z c) (sym same) a)) (λ more. clean_at At xs h.1 x more c a) (in_cases xs y x has)
 
 -- A spot of a program without a fault has none.
-pub no_fault_at : (program : Program) → IsFault program None → (s : Spot) → Contains (spots program) s → (f : Condition × Culprit) → IsAtFault s f → ⊥
+pub no_fault_at : (program : Program) → IsFault program None → (s : Spot) → Contains (spots program) s → (f : Condition × Culprit) →
+    IsAtFault s f → ⊥
 no_fault_at program fine s has = clean_at IsAtFault (spots program) (judged-clean fine) s has
 
 -- nothing is told at a spot without a fault
@@ -48,7 +50,8 @@ told_none k (Some c) r e = let no : ⊥ = cc in absurd no
 pub none_of : {K C : Type 0} (f : K → Option C) (ks : List K) → first_kind f ks ≡ None → (k : K) → Contains ks k → f k ≡ None
 none_of f [] e k has = absurd (nothing_in k has)
 none_of f (j ∷ ks) e k has =
-    let h = told_none j (f j) (first_kind f ks) e in ⊎_elim (λ same. sym (ap f same) ∙ h.0) (λ more. none_of f ks h.1 k more) (in_cases ks j k has)
+    let h = told_none j (f j) (first_kind f ks) e in ⊎_elim (λ same. sym (ap f same) ∙ h.0) (λ more. none_of f ks h.1 k more)
+    (in_cases ks j k has)
 
 -- there is a value, where there isn't none
 pub some_of : {X : Type 0} (o : Option X) → (o ≡ None → ⊥) → (x : X) × (o ≡ Some x)
@@ -64,7 +67,8 @@ behind_locals = conditions.TypeMismatch ∷ conditions.Arity ∷ behind_arity
 mismatch_counts : Contains on_methods conditions.TypeMismatch
 mismatch_counts =
     in_later (conditions.DuplicateLocal ∷ behind_locals) conditions.UnknownName conditions.TypeMismatch
-    (in_later behind_locals conditions.DuplicateLocal conditions.TypeMismatch (in_first (conditions.Arity ∷ behind_arity) conditions.TypeMismatch))
+    (in_later behind_locals conditions.DuplicateLocal conditions.TypeMismatch
+    (in_first (conditions.Arity ∷ behind_arity) conditions.TypeMismatch))
 
 name_counts : Contains on_methods conditions.UnknownName
 name_counts = in_first (conditions.DuplicateLocal ∷ behind_locals) conditions.UnknownName
@@ -84,19 +88,23 @@ module _ (s : Spot) (fine : (f : Condition × Culprit) → IsAtFault s f → ⊥
   nothing_wrong k has = subst (AtSpot s k) (no_answer k has) (answer-right s k)
 
   -- Each value that is taken has a type, and it is what is wanted.
-  pub suited : (scope : Scope) (t : Taken) → Contains (taken_at s) (Takes scope t) → (type : ValueType) × (type_of scope t.value ≡ Some type) × Suits t.wanted t.value type
+  pub suited : (scope : Scope) (t : Taken) → Contains (taken_at s) (Takes scope t) →
+      (type : ValueType) × (type_of scope t.value ≡ Some type) × Suits t.wanted t.value type
   suited scope t has = go (type_of scope t.value) refl
     where
       wrong : ((type : ValueType) → type_of scope t.value ≡ Some type → Suits t.wanted t.value type → ⊥) → ⊥
       wrong n =
-          clean_at says.TypeMismatch (taken_at s) (judged-clean (nothing_wrong conditions.TypeMismatch mismatch_counts)) (Takes scope t) has (culprit (place_of t.value) []) (refl, n)
+          clean_at says.TypeMismatch (taken_at s) (judged-clean (nothing_wrong conditions.TypeMismatch mismatch_counts)) (Takes scope t) has
+          (culprit (place_of t.value) []) (refl, n)
 
-      fitting : (g : ValueType) → type_of scope t.value ≡ Some g → (b : Bool) → Decides b (Suits t.wanted t.value g) → (type : ValueType) × (type_of scope t.value ≡ Some type) × Suits t.wanted t.value type
+      fitting : (g : ValueType) → type_of scope t.value ≡ Some g → (b : Bool) → Decides b (Suits t.wanted t.value g) →
+          (type : ValueType) × (type_of scope t.value ≡ Some type) × Suits t.wanted t.value type
       fitting g e true d = (g, e, d.0 refl)
       fitting g e false d =
           absurd (wrong (λ type f q. true≢false (sym (d.1 (subst (Suits t.wanted t.value) (same_Some type g (sym f ∙ e)) q)))))
 
-      go : (o : Option ValueType) → type_of scope t.value ≡ o → (type : ValueType) × (type_of scope t.value ≡ Some type) × Suits t.wanted t.value type
+      go : (o : Option ValueType) → type_of scope t.value ≡ o → (type : ValueType) × (type_of scope t.value ≡ Some type) × Suits t.wanted
+          t.value type
       go None e = absurd (wrong (λ type f q. none_is type (sym e ∙ f)))
         where
           none_is : (type : ValueType) → None ≡ Some type → ⊥
@@ -107,26 +115,34 @@ module _ (scope : Scope) where
   -- a name that is at no fault names something
   module _ (p : Place) (x : Name) (fine : (f : Condition × Culprit) → IsAtFault (AtNode scope (Value (Variable p x))) f → ⊥) where
     pub known_variable : (type : ValueType) × (variable_type scope x ≡ Some type)
-    known_variable = some_of (variable_type scope x) (λ n. (judged-clean (nothing_wrong _ fine conditions.UnknownName name_counts)).0 (culprit p x) (refl, n))
+    known_variable = some_of (variable_type scope x) (λ n. (judged-clean (nothing_wrong _ fine conditions.UnknownName name_counts)).0
+        (culprit p x) (refl, n))
 
-  module _ (p : Place) (e : Expr) (x : Name) (fine : (f : Condition × Culprit) → IsAtFault (AtNode scope (Value (Member p e x))) f → ⊥) where
-    pub known_member : (type : ValueType) × (type_of scope (Member p e x) ≡ Some type)
-    known_member = some_of (type_of scope (Member p e x)) (λ n. (judged-clean (nothing_wrong _ fine conditions.UnknownName name_counts)).0 (culprit p x) (refl, n))
+  module _ (p : Place) (e : Expr) (x : Name) (fine : (f : Condition × Culprit) → IsAtFault (AtNode scope (Value (Member p e x))) f → ⊥)
+    where
+      pub known_member : (type : ValueType) × (type_of scope (Member p e x) ≡ Some type)
+      known_member = some_of (type_of scope (Member p e x)) (λ n. (judged-clean (nothing_wrong _ fine conditions.UnknownName name_counts)).0
+          (culprit p x) (refl, n))
 
-  module _ (p : Place) (name : Name) (args : Exprs) (fine : (f : Condition × Culprit) → IsAtFault (AtNode scope (Value (Call p name args))) f → ⊥) where
+  module _ (p : Place) (name : Name) (args : Exprs) (fine : (f : Condition × Culprit) → IsAtFault (AtNode scope (Value (Call p name args)))
+      f → ⊥) where
     pub known_call : (g : Signature) × (called scope name ≡ Some g)
-    known_call = some_of (called scope name) (λ n. (judged-clean (nothing_wrong _ fine conditions.UnknownName name_counts)).0 (culprit p name) (refl, n))
+    known_call = some_of (called scope name) (λ n. (judged-clean (nothing_wrong _ fine conditions.UnknownName name_counts)).0
+        (culprit p name) (refl, n))
 
     pub counted_call : (g : Signature) → called scope name ≡ Some g → count_of args ≡ length g.params
     counted_call g e =
         equal (count_of args == length g.params) (Decides-eqb (count_of args) (length g.params))
         (λ n. (judged-clean (nothing_wrong _ fine conditions.Arity arity_counts)).0 (culprit p []) (refl, g, e, n))
       where
-        equal : (b : Bool) → Decides b (count_of args ≡ length g.params) → ((count_of args ≢ length g.params) → ⊥) → count_of args ≡ length g.params
+        equal : (b : Bool) → Decides b (count_of args ≡ length g.params) → ((count_of args ≢ length g.params) → ⊥) →
+            count_of args ≡ length g.params
         equal true d n = d.0 refl
         equal false d n = absurd (n (λ k. true≢false (sym (d.1 k))))
 
-  module _ (p : Place) (e : Expr) (name : Name) (args : Exprs) (fine : (f : Condition × Culprit) → IsAtFault (AtNode scope (Value (MethodCall p e name args))) f → ⊥) where
+  module _ (p : Place) (e : Expr) (name : Name) (args : Exprs) (fine : (f : Condition × Culprit) →
+      IsAtFault (AtNode scope (Value (MethodCall p e name args))) f → ⊥) where
     pub known_method : (g : Signature) × (called_on scope e (type_of scope e) name ≡ Some g)
     known_method =
-        some_of (called_on scope e (type_of scope e) name) (λ n. (judged-clean (nothing_wrong _ fine conditions.UnknownName name_counts)).0 (culprit p name) (refl, n))
+        some_of (called_on scope e (type_of scope e) name) (λ n. (judged-clean (nothing_wrong _ fine conditions.UnknownName name_counts)).0
+        (culprit p name) (refl, n))

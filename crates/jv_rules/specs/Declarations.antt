@@ -110,7 +110,8 @@ IsConstantOf program written.Int (Int p z) = Unit {0}
 IsConstantOf program written.Boolean (Truth p b) = Unit {0}
 IsConstantOf program written.Text (Text p t) = Unit {0}
 IsConstantOf program (written.Named name) (Null p) = class_named program.files name ≢ None
-IsConstantOf program (written.Named name) (Member p (Variable q of) constant) = (of ≡ name) × HasConstant (enum_named program.files name) constant
+IsConstantOf program (written.Named name) (Member p (Variable q of) constant) = (of ≡ name) × HasConstant (enum_named program.files name)
+    constant
 IsConstantOf program _ _ = ⊥
 
 -- a field of this type has no default value

@@ -7,7 +7,8 @@ use Rattle.ts_tree.specs.declared.parts.To.TheVariants as tos
 use Rattle.ts_tree.specs.Typestate as protocols
 use Rattle.jv_tree.specs.declared.tree.Op.TheVariants as ops
 use Rattle.jv_tree.specs.declared.tree.Param.{Param}
-use Rattle.jv_tree.specs.Source.{Expr, Exprs, Int, Truth, Text, Variable, Binary, Call, MethodCall, New, NoExpr, Argument, Block, Assign, While, Return, Print, Eval, Stmt, Stmts, NoStmt, Then, Method, Class, ClassDecl}
+use Rattle.jv_tree.specs.Source.{Expr, Exprs, Int, Truth, Text, Variable, Binary, Call, MethodCall, New, NoExpr, Argument, Block, Assign}
+use Rattle.jv_tree.specs.Source.{While, Return, Print, Eval, Stmt, Stmts, NoStmt, Then, Method, Class, ClassDecl}
 use Rattle.mg_text.specs.Call.{Name}
 use Rattle.ts_tree.specs.declared.parts.TypeName.{TypeName}
 use Rattle.jv_rules.specs.declared.condition.Condition.TheVariants as conditions
@@ -54,7 +55,8 @@ abbrev pub one_state : Name → List protocols.Method → protocols.Typestate
 one_state name methods = record { name = name; states = record { name = codes "Live"; methods = methods; drops = false } ∷ [] }
 
 abbrev pub counter_protocol : protocols.Typestate
-counter_protocol = one_state (codes "CounterProtocol") (offered (codes "tick") [] ∷ offered (codes "add") (written.Int ∷ []) ∷ offered (codes "stop") [] ∷ [])
+counter_protocol = one_state (codes "CounterProtocol") (offered (codes "tick") [] ∷ offered (codes "add") (written.Int ∷ []) ∷ offered
+    (codes "stop") [] ∷ [])
 
 abbrev pub holder_protocol : protocols.Typestate
 holder_protocol = one_state (codes "HolderProtocol") (offered (codes "use") (written.Boolean ∷ []) ∷ [])
@@ -86,9 +88,12 @@ counter_class = record {
   typestate = Some (codes "CounterProtocol");
   fields = record { place = at 2 7; ty = written.Int; name = codes "n"; value = Some (Int (at 2 11) (pos 0)) } ∷ [];
   methods =
-      instance 3 written.Void (codes "tick") [] (Then (raise 3 (Int (at 3 13) (pos 1))) (Then (Print (at 3 20) (variable 3 (codes "n"))) NoStmt))
-      ∷ instance 4 written.Void (codes "add") (record { place = at 4 23; ty = written.Int; name = codes "k" } ∷ []) (Then (raise 4 (variable 4 (codes "k"))) NoStmt)
-      ∷ instance 5 written.Void (codes "stop") [] (Then (Print (at 5 24) (Binary (at 5 30) ops.Add (Text (at 5 30) (codes "stop ")) (variable 5 (codes "n")))) NoStmt)
+      instance 3 written.Void (codes "tick") []
+      (Then (raise 3 (Int (at 3 13) (pos 1))) (Then (Print (at 3 20) (variable 3 (codes "n"))) NoStmt))
+      ∷ instance 4 written.Void (codes "add") (record { place = at 4 23; ty = written.Int; name = codes "k" } ∷ [])
+      (Then (raise 4 (variable 4 (codes "k"))) NoStmt)
+      ∷ instance 5 written.Void (codes "stop") []
+      (Then (Print (at 5 24) (Binary (at 5 30) ops.Add (Text (at 5 30) (codes "stop ")) (variable 5 (codes "n")))) NoStmt)
       ∷ [];
 }
 
@@ -108,12 +113,17 @@ holder_class = record {
   methods =
       instance 3 written.Int (codes "swap") [] (Then (made 3) (Then (Return (at 3 35) (Some (Int (at 3 42) (pos 1)))) NoStmt))
       ∷ instance 4 written.Void (codes "use") (record { place = at 4 27; ty = written.Boolean; name = codes "b" } ∷ [])
-      (Then (made 5) (Then (on_counter 6 (codes "add") (Argument (Call (at 6 11) (codes "swap") NoExpr) NoExpr)) (Then (on_counter 7 (codes "stop") NoExpr) NoStmt)))
+      (Then (made 5) (Then (on_counter 6 (codes "add") (Argument (Call (at 6 11) (codes "swap") NoExpr) NoExpr))
+      (Then (on_counter 7 (codes "stop") NoExpr) NoStmt)))
       ∷ [];
 }
 
 abbrev pub holding : Program
-holding = record { files = (ClassDecl counter_class ∷ []) ∷ (ClassDecl holder_class ∷ []) ∷ []; typestates = counter_protocol ∷ holder_protocol ∷ [] }
+holding = record {
+  files = (ClassDecl counter_class ∷ []) ∷ (ClassDecl holder_class ∷ []) ∷ [];
+  typestates =
+      counter_protocol ∷ holder_protocol ∷ [];
+}
 
 -- What these programs are judged to be.
 pub record AreJudged : Type 0 where

@@ -26,9 +26,11 @@ Of program origins conditions.DuplicateMember = Judged declared.DuplicateMember 
 Of program origins conditions.UnknownClass = Judged (declared.UnknownClass program) (flat_map mentions_in_class (classes_of program.files))
 Of program origins conditions.UnknownTypestate = Judged (declared.UnknownTypestate program) (classes_of program.files)
 Of program origins conditions.MissingMethod = Judged declared.MissingMethod (flat_map (demands_on program) (classes_of program.files))
-Of program origins conditions.SignatureDiffers = Judged (declared.SignatureDiffers program) (flat_map owned_methods (classes_of program.files))
+Of program origins conditions.SignatureDiffers = Judged (declared.SignatureDiffers program)
+    (flat_map owned_methods (classes_of program.files))
 Of program origins conditions.LabelsDiffer = Judged (declared.LabelsDiffer program) (flat_map owned_methods (classes_of program.files))
-Of program origins conditions.FieldNeedsValue = Judged (declared.FieldNeedsValue program) (flat_map (λ c. c.fields) (classes_of program.files))
+Of program origins conditions.FieldNeedsValue = Judged (declared.FieldNeedsValue program)
+    (flat_map (λ c. c.fields) (classes_of program.files))
 Of program origins conditions.InstanceInPlain = Judged declared.InstanceInPlain (flat_map standing_in (classes_of program.files))
 Of program origins _ = λ r. r ≡ None
 

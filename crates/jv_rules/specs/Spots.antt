@@ -4,7 +4,8 @@ use Rattle.std.specs.Prelude.{List, [], ◌∷◌, ◌++◌, Option, Some, None}
 use Rattle.mg_text.specs.Call.{Name}
 use Rattle.mg_text.specs.declared.place.Place.{Place}
 use Rattle.jv_tree.specs.declared.tree.Param.{Param}
-use Rattle.jv_tree.specs.Source.{Expr, Int, Truth, Text, Null, This, Variable, Member, Neg, Not, Binary, Call, MethodCall, New, Exprs, NoExpr, Argument}
+use Rattle.jv_tree.specs.Source.{Expr, Int, Truth, Text, Null, This, Variable, Member, Neg, Not, Binary, Call, MethodCall, New, Exprs}
+use Rattle.jv_tree.specs.Source.{NoExpr, Argument}
 use Rattle.jv_tree.specs.Source.{Stmt, Block, Empty, Local, Assign, If, IfElse, While, Do, Switch, Break, Continue, Return, Print, Eval}
 use Rattle.jv_tree.specs.Source.{Stmts, NoStmt, Then, Groups, NoGroup, Group, Method, Class}
 use Rattle.jv_meaning.specs.Program.{classes_of}
@@ -72,12 +73,16 @@ abbrev mutual
   stmt_spots scope (Block p body end) = stmts_spots scope body
   stmt_spots scope (Empty p) = []
   stmt_spots scope (Local p ty name e) = expr_spots scope e ++ AtStatement scope (Local p ty name e) ∷ []
-  stmt_spots scope (Assign p target value) = expr_spots scope target ++ (expr_spots scope value ++ AtStatement scope (Assign p target value) ∷ [])
+  stmt_spots scope (Assign p target value) = expr_spots scope target ++ (expr_spots scope value ++ AtStatement scope (Assign p target value)
+      ∷ [])
   stmt_spots scope (If p c s) = expr_spots scope c ++ AtStatement scope (If p c s) ∷ stmt_spots scope s
   stmt_spots scope (IfElse p c s r) = expr_spots scope c ++ AtStatement scope (IfElse p c s r) ∷ (stmt_spots scope s ++ stmt_spots scope r)
-  stmt_spots scope (While p label c s) = expr_spots scope c ++ AtStatement scope (While p label c s) ∷ stmt_spots (within (Loop label) scope) s
-  stmt_spots scope (Do p label s c) = stmt_spots (within (Loop label) scope) s ++ (expr_spots scope c ++ AtStatement scope (Do p label s c) ∷ [])
-  stmt_spots scope (Switch p e groups end) = expr_spots scope e ++ AtStatement scope (Switch p e groups end) ∷ group_spots (within targets.Switch scope) groups
+  stmt_spots scope (While p label c s) = expr_spots scope c ++ AtStatement scope (While p label c s) ∷ stmt_spots
+      (within (Loop label) scope) s
+  stmt_spots scope (Do p label s c) = stmt_spots (within (Loop label) scope) s
+      ++ (expr_spots scope c ++ AtStatement scope (Do p label s c) ∷ [])
+  stmt_spots scope (Switch p e groups end) = expr_spots scope e ++ AtStatement scope (Switch p e groups end) ∷ group_spots
+      (within targets.Switch scope) groups
   stmt_spots scope (Break p label) = AtStatement scope (Break p label) ∷ []
   stmt_spots scope (Continue p label) = AtStatement scope (Continue p label) ∷ []
   stmt_spots scope (Return p value) = value_spots scope value ++ AtStatement scope (Return p value) ∷ []

@@ -5,7 +5,8 @@ use Rattle.std.specs.Str.{bytes_eq}
 use Rattle.mg_text.specs.Call.{Name}
 use Rattle.jv_tree.specs.declared.tree.Op.{Op}
 use Rattle.jv_tree.specs.declared.tree.Op.TheVariants as ops
-use Rattle.jv_tree.specs.Source.{Method, Class, Expr, Int, Truth, Text, Null, This, Variable, Member, Neg, Not, Binary, Call, MethodCall, New}
+use Rattle.jv_tree.specs.Source.{Method, Class, Expr, Int, Truth, Text, Null, This, Variable, Member, Neg, Not, Binary, Call, MethodCall}
+use Rattle.jv_tree.specs.Source.{New}
 use Rattle.jv_meaning.specs.Program.{class_named, enum_named, method_named}
 use Rattle.jv_rules.specs.Program.{Program, is_of_protocol}
 use Rattle.jv_rules.specs.Types.{ValueType, NoValue, IntType, BooleanType, TextType, EnumType, ClassType, NullType, Signature, signature_of}
@@ -82,7 +83,11 @@ called_on_class program class name =
 -- a call on a value of this type
 abbrev pub called_on_value : Program → ValueType → Name → Option Signature
 called_on_value program TextType name = built_in text_methods name
-called_on_value program (ClassType class) name = elim (class_named program.files class) [ None ↦ None | Some c ↦ protocol_method program c name ]
+called_on_value program (ClassType class) name = elim (class_named program.files class) [
+  | None ↦ None
+  | Some c ↦ protocol_method program c
+      name
+]
 called_on_value program _ name = None
 
 -- a call on an expression of this type, where it has one

@@ -9,7 +9,8 @@ use Rattle.jv_tree.specs.declared.token.Token.{Token}
 use Rattle.jv_tree.specs.Source
 use Rattle.jv_tree.specs.Source.{ClassDecl, EnumDecl, Decl, File}
 use Rattle.jv_tree.specs.Statements.{IsType, IsTarget, IsAssign, IsLocal, IsStmt, AreItems, AreGroups}
-use Rattle.jv_tree.specs.Files.{Member, FieldMember, MethodMember, fields_among, methods_among, AreParams, AreMoreParams, IsMethod, AreMembers, IsClass, AreDecls}
+use Rattle.jv_tree.specs.Files.{Member, FieldMember, MethodMember, fields_among, methods_among, AreParams, AreMoreParams, IsMethod}
+use Rattle.jv_tree.specs.Files.{AreMembers, IsClass, AreDecls}
 use Rattle.jv_meaning.specs.Program.{Sources, class_in, classes_of}
 use Rattle.jv_rules.specs.Scope.{is_variable}
 use Rattle.jv_rules.specs.Shape.{IsOfValues, DeclaresValues, AllDeclareValues, GroupsDeclareValues, IsShapedMethod, IsShapedClass}

@@ -14,13 +14,15 @@ use Rattle.jv_values.proofs.Further.{further_shares, lives_closed, within_furthe
 use Rattle.jv_values.proofs.Further as further
 use Rattle.jv_core.specs.declared.tree.Var.{Var}
 use Rattle.jv_core.specs.declared.tree.Var.TheVariants as vars
-use Rattle.jv_core.specs.Tree.{Expr, Int, Truth, Text, Null, Variable, Constant, Neg, Not, Binary, Protocol, Helper, Static, Equals, Concat, Session, New}
+use Rattle.jv_core.specs.Tree.{Expr, Int, Truth, Text, Null, Variable, Constant, Neg, Not, Binary, Protocol, Helper, Static, Equals, Concat}
+use Rattle.jv_core.specs.Tree.{Session, New}
 use Rattle.jv_core.specs.Tree.{Exprs, NoExpr, Argument}
 use Rattle.jv_core.specs.Tree.{Stmt, Block, Empty, Local, Assign, If, IfElse, While, Do, Switch, Break, Continue, Return, Print, Eval}
 use Rattle.jv_core.specs.Tree.{Stmts, NoStmt, Then, Declare, Groups, NoGroup, Group, Program}
 use Rattle.jv_core.specs.Lookup.{text_at, class_text, enum_text}
 use Rattle.jv_values.specs.Operators.{operator_of}
-use Rattle.jv_core.specs.Meaning.{Lower, Code, session_of, mine, new_fields, enum_given, has_group, own_field, read, write, protocol_call, eval, eval_all, value, test, position, exec, exec_all, exec_from, exec_groups, language, main_of}
+use Rattle.jv_core.specs.Meaning.{Lower, Code, session_of, mine, new_fields, enum_given, has_group, own_field, read, write, protocol_call}
+use Rattle.jv_core.specs.Meaning.{eval, eval_all, value, test, position, exec, exec_all, exec_from, exec_groups, language, main_of}
 use Rattle.jv_sound.specs.Laws.{BudgetLaw}
 
 -- the lemmas of the library, for this relation

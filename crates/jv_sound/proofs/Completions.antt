@@ -1,10 +1,12 @@
 -- How statements that end well may complete.
-use Rattle.std.proofs.Common.{◌≡◌, ◌≢◌, ◌⊎◌, inl, inr, ℕ, Bool, true, false, List, [], ◌∷◌, drop, Option, Some, None, refl, sym, ◌∙◌, subst, true≢false}
+use Rattle.std.proofs.Common.{◌≡◌, ◌≢◌, ◌⊎◌, inl, inr, ℕ, Bool, true, false, List, [], ◌∷◌, drop, Option, Some, None, refl, sym, ◌∙◌, subst}
+use Rattle.std.proofs.Common.{true≢false}
 use Rattle.std.specs.Prelude.{if◌then◌else◌, ◌||◌, Contains, nat_eq}
 use Rattle.std.proofs.lemmas.Bool.{eqb-true, eq-eqb}
 use Rattle.jv_values.specs.Values.{Value, Row, Shared, Lives}
 use Rattle.jv_values.specs.Doing.{Outcome, Gives, Ends, Run, give, kept, within, uncovered, declared}
-use Rattle.jv_values.specs.Statements.{Completion, Normal, Breaks, Continues, Returns, Does, next_do, after_body, after_switch, is_default, any_label}
+use Rattle.jv_values.specs.Statements.{Completion, Normal, Breaks, Continues, Returns, Does, next_do, after_body, after_switch, is_default}
+use Rattle.jv_values.specs.Statements.{any_label}
 use Rattle.jv_core.specs.declared.program.CoreType.{CoreType}
 use Rattle.jv_core.specs.declared.program.CoreType.TheVariants as types
 use Rattle.jv_core.specs.Tree.{Program, Method, Stmts, Groups, NoGroup, Group, Switch, Expr}
@@ -16,7 +18,8 @@ use Rattle.jv_core.specs.Completes as exits
 use Rattle.jv_core.specs.Conditions.{IsCore}
 use Rattle.jv_core.specs.Meaning.{mine, has_group}
 use Rattle.jv_sound.proofs.Lists.{in_tail, none_in}
-use Rattle.jv_sound.proofs.Worlds.{World, Extends, same_world, further, Got, Good, Runs, runs_give, runs_as, Fits, fits_more, RowFits, row_more}
+use Rattle.jv_sound.proofs.Worlds.{World, Extends, same_world, further, Got, Good, Runs, runs_give, runs_as, Fits, fits_more, RowFits}
+use Rattle.jv_sound.proofs.Worlds.{row_more}
 use Rattle.jv_sound.proofs.Worlds as worlds
 use Rattle.jv_sound.proofs.Objects.{Heap}
 

@@ -1,5 +1,6 @@
 -- The counter meets the conditions of a core.
-use Rattle.std.proofs.Common.{◌≡◌, ◌≢◌, inl, inr, ℕ, zero, suc, ◌<◌, Bool, true, false, ◌&&◌, ◌||◌, not, List, [], ◌∷◌, length, Some, refl, sym, ap, ◌∙◌, subst, arith, true≢false}
+use Rattle.std.proofs.Common.{◌≡◌, ◌≢◌, inl, inr, ℕ, zero, suc, ◌<◌, Bool, true, false, ◌&&◌, ◌||◌, not, List, [], ◌∷◌, length, Some, refl}
+use Rattle.std.proofs.Common.{sym, ap, ◌∙◌, subst, arith, true≢false}
 use Rattle.std.specs.Prelude.{slice_get, slice_index_or, Contains, codes}
 use Rattle.std.specs.List.{list_any}
 use Rattle.std.specs.Str.{bytes_eq}
@@ -17,7 +18,8 @@ use Rattle.jv_core.specs.Statements
 use Rattle.jv_core.specs.Completes.{Completes}
 use Rattle.jv_core.specs.Members.{type_names, built_in_classes, Performs, IsNamedByTypestate, IsProtocolOf}
 use Rattle.jv_core.specs.Conditions.{IsClass, IsMethod, IsCore}
-use Rattle.jv_sound.specs.Counter.{program, counter, main_class, live, protocol, tick_call, add_call, stop_call, tick, add, stop, step, main}
+use Rattle.jv_sound.specs.Counter.{program, counter, main_class, live, protocol, tick_call, add_call, stop_call, tick, add, stop, step}
+use Rattle.jv_sound.specs.Counter.{main}
 use Rattle.jv_sound.proofs.Lists.{some_is, in_tail, none_in, is_first, in_more}
 
 first_false : (a b : Bool) → (a || b) ≡ false → a ≡ false

@@ -1,5 +1,6 @@
 -- Well typed statements end well, and complete as their conditions say.
-use Rattle.std.proofs.Common.{◌≡◌, ◌≢◌, inl, inr, ℕ, Bool, true, false, List, ◌∷◌, Option, Some, None, refl, sym, ap, ◌∙◌, subst, true≢false}
+use Rattle.std.proofs.Common.{◌≡◌, ◌≢◌, inl, inr, ℕ, Bool, true, false, List, ◌∷◌, Option, Some, None, refl, sym, ap, ◌∙◌, subst}
+use Rattle.std.proofs.Common.{true≢false}
 use Rattle.std.specs.Prelude.{if◌then◌else◌, ◌||◌, slice_get, option_map, option_and_then}
 use Rattle.std.specs.Str.{bytes_eq}
 use Rattle.mg_text.specs.declared.place.Place.{Place}
@@ -8,7 +9,8 @@ use Rattle.jv_values.specs.Doing.{Run, Gives, ◌>>=◌, give, stop, found, valu
 use Rattle.jv_values.specs.Operators.{shown, print}
 use Rattle.jv_values.specs.Objects.{write_field}
 use Rattle.mg_text.specs.declared.event.Event.TheVariants as seen
-use Rattle.jv_values.specs.Statements.{Completion, Normal, Breaks, Continues, Returns, Does, next_do, assigned, after_body, after_switch, is_default, case_at, any_label}
+use Rattle.jv_values.specs.Statements.{Completion, Normal, Breaks, Continues, Returns, Does, next_do, assigned, after_body, after_switch}
+use Rattle.jv_values.specs.Statements.{is_default, case_at, any_label}
 use Rattle.jv_core.specs.declared.tree.Var.{Var}
 use Rattle.jv_core.specs.declared.tree.Var.TheVariants as vars
 use Rattle.jv_core.specs.declared.tree.SessionCall.TheVariants as calls
@@ -24,15 +26,18 @@ use Rattle.jv_core.specs.Statements
 use Rattle.jv_core.specs.Completes.{Exit, Through, IsAlwaysTrue, Leaves, LeavesAll, LeavesSome, LeavesLast}
 use Rattle.jv_core.specs.Completes as exits
 use Rattle.jv_core.specs.Conditions.{IsMethod, IsCore}
-use Rattle.jv_core.specs.Meaning.{Lower, enum_in, type_given, enum_given, mine, has_group, own_field, write, eval, value, test, position, exec, exec_all, exec_from, exec_groups}
+use Rattle.jv_core.specs.Meaning.{Lower, enum_in, type_given, enum_given, mine, has_group, own_field, write, eval, value, test, position}
+use Rattle.jv_core.specs.Meaning.{exec, exec_all, exec_from, exec_groups}
 use Rattle.jv_sound.proofs.Lists.{same_name}
-use Rattle.jv_sound.proofs.Worlds.{World, Extends, same_world, further, Runs, runs_give, runs_then, runs_as, runs_at, runs_later, good_give, Fits, fits_more, GivesA, RowFits, puts}
+use Rattle.jv_sound.proofs.Worlds.{World, Extends, same_world, further, Runs, runs_give, runs_then, runs_as, runs_at, runs_later, good_give}
+use Rattle.jv_sound.proofs.Worlds.{Fits, fits_more, GivesA, RowFits, puts}
 use Rattle.jv_sound.proofs.Worlds as worlds
 use Rattle.jv_sound.proofs.Operators.{truth_runs, constant_runs, shows}
 use Rattle.jv_sound.proofs.Sessions.{note_runs}
 use Rattle.jv_sound.proofs.Objects.{Heap, noted, Owned, owned_more, write_runs}
 use Rattle.jv_sound.proofs.Expressions.{usable, field_at, variable_usable, CallsWell, eval_good, value_good, field_runs}
-use Rattle.jv_sound.proofs.Completions.{Living, within_runs, declared_runs, Comes, comes_as, completes_so, next_runs, after_runs, GroupsCan, FromCan, SwitchCan, last_of, last_more, has_default, switch_runs}
+use Rattle.jv_sound.proofs.Completions.{Living, within_runs, declared_runs, Comes, comes_as, completes_so, next_runs, after_runs, GroupsCan}
+use Rattle.jv_sound.proofs.Completions.{FromCan, SwitchCan, last_of, last_more, has_default, switch_runs}
 
 module _ (p : Program) (ok : IsCore p) where
   -- the class of the object that code of a method runs on
@@ -201,7 +206,8 @@ module _ (p : Program) (ok : IsCore p) where
     }
     assign_runs sc ts (vars.Field i) t v var Can can w o f =
         let d = field_at p m.class i t var.type in
-        runs_then (L sc) Any (C ts Can) w (within (λ locals. own_field p inputs low n here i >>= λ names. write_field names.0 this names.1 v)) (λ done. give Normal)
+        runs_then (L sc) Any (C ts Can) w (within (λ locals. own_field p inputs low n here i >>= λ names. write_field names.0 this names.1
+        v)) (λ done. give Normal)
         (within_runs p ok m Any sc w (λ locals. own_field p inputs low n here i >>= λ names. write_field names.0 this names.1 v)
         (λ x row q r. field_runs p ok inputs low lows.calls n m at this Any x i t d (λ names. write_field names.0 this names.1 v)
         (write_runs p ok x m.class d.class this i d.field v d.at (later q o var.visible) d.field_at

@@ -25,11 +25,15 @@ use Rattle.jv_core.specs.Members.{IsUsable, IsField}
 use Rattle.jv_core.specs.Conditions.{IsSlot, IsMethod, IsCore}
 use Rattle.jv_core.specs.Meaning.{Lower, runs_on_object, session_of, new_fields, own_field, read, protocol_call, eval, eval_all}
 use Rattle.jv_sound.proofs.Lists.{some_is, each_at}
-use Rattle.jv_sound.proofs.Worlds.{World, Extends, stays, same_world, further, Runs, runs_give, runs_then, runs_stop, runs_found, runs_at, runs_later, runs_as, Fits, fits_more, GivesA, gives_more, AllFit, all_more, RowFits, row_more, finds}
+use Rattle.jv_sound.proofs.Worlds.{World, Extends, stays, same_world, further, Runs, runs_give, runs_then, runs_stop, runs_found, runs_at}
+use Rattle.jv_sound.proofs.Worlds.{runs_later, runs_as, Fits, fits_more, GivesA, gives_more, AllFit, all_more, RowFits, row_more, finds}
 use Rattle.jv_sound.proofs.Worlds as worlds
-use Rattle.jv_sound.proofs.Operators.{OfType, valued_runs, valuing_runs, negative_runs, opposite_runs, equal_texts_runs, joined_texts_runs, both_runs, sum_of, text_and_of, and_text_of, arithmetic_of, order_of, logic_of, same_of, is_null_of, null_is_of}
+use Rattle.jv_sound.proofs.Operators.{OfType, valued_runs, valuing_runs, negative_runs, opposite_runs, equal_texts_runs, joined_texts_runs}
+use Rattle.jv_sound.proofs.Operators.{both_runs, sum_of, text_and_of, and_text_of, arithmetic_of, order_of, logic_of, same_of, is_null_of}
+use Rattle.jv_sound.proofs.Operators.{null_is_of}
 use Rattle.jv_sound.proofs.Sessions.{session_runs}
-use Rattle.jv_sound.proofs.Objects.{Heap, noted, IsObject, object_runs, Owned, owned_more, read_runs, make_runs, receiver_runs, telling_runs, begun}
+use Rattle.jv_sound.proofs.Objects.{Heap, noted, IsObject, object_runs, Owned, owned_more, read_runs, make_runs, receiver_runs}
+use Rattle.jv_sound.proofs.Objects.{telling_runs, begun}
 
 -- Types of variables and parameters are types of values.
 

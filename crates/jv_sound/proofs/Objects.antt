@@ -12,14 +12,17 @@ use Rattle.jv_values.specs.Objects.{object_of, read_field, write_field, make, re
 use Rattle.mg_text.specs.declared.event.Event.TheVariants as seen
 use Rattle.jv_core.specs.declared.program.CoreType.{CoreType}
 use Rattle.jv_core.specs.declared.program.CoreType.TheVariants as types
-use Rattle.jv_core.specs.Tree.{Expr, Int, Truth, Text, Null, Variable, Constant, Neg, Not, Binary, Protocol, Helper, Static, Equals, Concat, Session, New}
+use Rattle.jv_core.specs.Tree.{Expr, Int, Truth, Text, Null, Variable, Constant, Neg, Not, Binary, Protocol, Helper, Static, Equals, Concat}
+use Rattle.jv_core.specs.Tree.{Session, New}
 use Rattle.jv_core.specs.Tree.{Program, Class, Field}
 use Rattle.jv_core.specs.Lookup.{text_at, enum_text}
 use Rattle.jv_core.specs.Members.{IsUsable, MayBeginWith, IsField}
 use Rattle.jv_core.specs.Conditions.{IsCore}
 use Rattle.jv_core.specs.Meaning.{begins_with, new_fields}
 use Rattle.jv_sound.proofs.Lists.{some_is, same_name}
-use Rattle.jv_sound.proofs.Worlds.{World, Extends, stays, same_world, Runs, runs_give, runs_then, runs_stop, runs_found, runs_at, runs_later, good_give, Good, Fits, fits_more, GivesA, gives_more, FieldsFit, fields_more, finds_field, puts_field}
+use Rattle.jv_sound.proofs.Worlds.{World, Extends, stays, same_world, Runs, runs_give, runs_then, runs_stop, runs_found, runs_at}
+use Rattle.jv_sound.proofs.Worlds.{runs_later, good_give, Good, Fits, fits_more, GivesA, gives_more, FieldsFit, fields_more, finds_field}
+use Rattle.jv_sound.proofs.Worlds.{puts_field}
 use Rattle.jv_sound.proofs.Worlds as worlds
 use Rattle.jv_sound.proofs.Operators.{Anything, OfType}
 use Rattle.jv_sound.proofs.Sessions.{note_runs}

@@ -8,7 +8,8 @@ use Rattle.jv_tree.specs.declared.tree.Op.TheVariants as ops
 use Rattle.jv_values.specs.Values.{Value, Shared, Wrong, Zero}
 use Rattle.jv_values.specs.Values as values
 use Rattle.jv_values.specs.Doing.{Run, ◌>>=◌, give, stop, found, valued, valuing, number, truth, text, constant}
-use Rattle.jv_values.specs.Operators.{int_same, nonzero, shown, joined, sum, computed, compared, same, unless_decided, both, applied, binary, negative, opposite, equal_texts, joined_texts, wrap}
+use Rattle.jv_values.specs.Operators.{int_same, nonzero, shown, joined, sum, computed, compared, same, unless_decided, both, applied}
+use Rattle.jv_values.specs.Operators.{binary, negative, opposite, equal_texts, joined_texts, wrap}
 use Rattle.jv_core.specs.declared.program.CoreType.{CoreType}
 use Rattle.jv_core.specs.declared.program.CoreType.TheVariants as types
 use Rattle.jv_core.specs.Tree.{Program}
@@ -16,7 +17,8 @@ use Rattle.jv_core.specs.Lookup.{enum_text}
 use Rattle.jv_core.specs.Types.{IsArithmetic, IsOrder, IsEquality, IsLogic, IsShown, IsCompared}
 use Rattle.jv_values.specs.Operators.{operator_of}
 use Rattle.jv_sound.proofs.Lists.{some_is, same_name}
-use Rattle.jv_sound.proofs.Worlds.{World, Extends, Runs, runs_later, runs_give, runs_then, runs_as, runs_stop, runs_found, Fits, fits_more, GivesA}
+use Rattle.jv_sound.proofs.Worlds.{World, Extends, Runs, runs_later, runs_give, runs_then, runs_as, runs_stop, runs_found, Fits, fits_more}
+use Rattle.jv_sound.proofs.Worlds.{GivesA}
 use Rattle.jv_sound.proofs.Worlds as worlds
 
 module _ (p : Program) (St : World → Shared → Type 0) where

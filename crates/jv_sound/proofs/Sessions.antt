@@ -11,7 +11,8 @@ use Rattle.mg_text.specs.declared.event.Carried.TheVariants as carried
 use Rattle.jv_values.specs.Values.{Value, Shared, Wrong, Inputs, Finish, Mismatch, NoPeer, Wait}
 use Rattle.jv_values.specs.Values as values
 use Rattle.jv_values.specs.Doing.{Run, ◌>>=◌, give, stop, note, happened}
-use Rattle.jv_values.specs.Messages.{messages_of, taken, there_or, peer, next_message, sends, looks, nothing_in, int_in, truth_in, text_in, takes, refuses, session}
+use Rattle.jv_values.specs.Messages.{messages_of, taken, there_or, peer, next_message, sends, looks, nothing_in, int_in, truth_in, text_in}
+use Rattle.jv_values.specs.Messages.{takes, refuses, session}
 use Rattle.jv_core.specs.declared.program.CoreType.{CoreType}
 use Rattle.jv_core.specs.declared.program.CoreType.TheVariants as types
 use Rattle.jv_core.specs.declared.tree.SessionCall.{SessionCall}

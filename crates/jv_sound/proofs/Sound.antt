@@ -1,5 +1,6 @@
 -- No meaning of a core ends with Wrong.
-use Rattle.std.proofs.Common.{◌≡◌, ◌≢◌, ℕ, zero, suc, ◌≤◌, Bool, true, false, ◌&&◌, List, [], ◌∷◌, ◌++◌, length, map, take, reverse, Option, Some, None, refl, sym, ap, ◌∙◌, subst, append_assoc, append-nil, arith}
+use Rattle.std.proofs.Common.{◌≡◌, ◌≢◌, ℕ, zero, suc, ◌≤◌, Bool, true, false, ◌&&◌, List, [], ◌∷◌, ◌++◌, length, map, take, reverse, Option}
+use Rattle.std.proofs.Common.{Some, None, refl, sym, ap, ◌∙◌, subst, append_assoc, append-nil, arith}
 use Rattle.std.specs.Prelude.{if◌then◌else◌, slice_get, option_map, option_and_then, nat_eq}
 use Rattle.std.proofs.lemmas.List.{reverse-append}
 use Rattle.jv_values.specs.Values.{Value, Row, Shared, Wrong, More, Done, Inputs, Here, Lives, bound}
@@ -22,7 +23,8 @@ use Rattle.jv_core.specs.Conditions.{IsMethod, IsMain, IsOfKind, IsCore}
 use Rattle.jv_core.specs.Meaning.{Lower, Code, runs_on_object, is_result, as_run, exec, language, main_in}
 use Rattle.jv_sound.specs.Laws.{NeverWrong}
 use Rattle.jv_sound.proofs.Lists.{some_is, none_in}
-use Rattle.jv_sound.proofs.Worlds.{World, Extends, same_world, further, Got, Good, Runs, runs_stop, runs_at, Fits, fits_more, GivesA, AllFit, RowFits, Puts}
+use Rattle.jv_sound.proofs.Worlds.{World, Extends, same_world, further, Got, Good, Runs, runs_stop, runs_at, Fits, fits_more, GivesA}
+use Rattle.jv_sound.proofs.Worlds.{AllFit, RowFits, Puts}
 use Rattle.jv_sound.proofs.Worlds as worlds
 use Rattle.jv_sound.proofs.Objects.{Heap, Owned}
 use Rattle.jv_sound.proofs.Objects as objects

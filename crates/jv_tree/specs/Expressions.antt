@@ -8,7 +8,8 @@ use Rattle.jv_tree.specs.declared.token.Sign.TheVariants as signs
 use Rattle.jv_tree.specs.declared.token.TokenKind.{TokenKind}
 use Rattle.jv_tree.specs.declared.token.TokenKind.TheVariants as kinds
 use Rattle.jv_tree.specs.declared.token.Token.{Token}
-use Rattle.jv_tree.specs.Source.{Expr, Int, Truth, Text, Null, This, Variable, Member, Neg, Not, Binary, Call, MethodCall, New, Exprs, NoExpr, Argument, place_of}
+use Rattle.jv_tree.specs.Source.{Expr, Int, Truth, Text, Null, This, Variable, Member, Neg, Not, Binary, Call, MethodCall, New, Exprs}
+use Rattle.jv_tree.specs.Source.{NoExpr, Argument, place_of}
 use Rattle.jv_tree.specs.Tokens.{word, number, quoted, sign, IsName}
 
 -- which lists of tokens spell an expression
@@ -17,12 +18,14 @@ Language = Expr → List Token → Type 0
 
 -- "(" inner ")"
 abbrev pub IsInParens : Language → Language
-IsInParens inner e ts = (a b : Place) × (us : List Token) × (ts ≡ sign a signs.OpenParen ∷ (us ++ sign b signs.CloseParen ∷ [])) × inner e us
+IsInParens inner e ts = (a b : Place) × (us : List Token) × (ts ≡ sign a signs.OpenParen ∷ (us ++ sign b signs.CloseParen ∷ []))
+    × inner e us
 
 -- { "," expr }
 abbrev pub AreMoreArgs : Language → Exprs → List Token → Type 0
 AreMoreArgs inner NoExpr ts = ts ≡ []
-AreMoreArgs inner (Argument e more) ts = (a : Place) × (us vs : List Token) × (ts ≡ sign a signs.Comma ∷ (us ++ vs)) × inner e us × AreMoreArgs inner more vs
+AreMoreArgs inner (Argument e more) ts = (a : Place) × (us vs : List Token) × (ts ≡ sign a signs.Comma ∷ (us ++ vs)) × inner e us
+    × AreMoreArgs inner more vs
 
 -- [ expr { "," expr } ]
 abbrev pub AreArgs : Language → Exprs → List Token → Type 0
@@ -31,7 +34,8 @@ AreArgs inner (Argument e more) ts = (us vs : List Token) × (ts ≡ us ++ vs) �
 
 -- "(" [args] ")", where so many parentheses may be open at once
 abbrev pub AreArguments : ℕ → Language → Exprs → List Token → Type 0
-AreArguments n inner args ts = (0 < n) × (a b : Place) × (us : List Token) × (ts ≡ sign a signs.OpenParen ∷ (us ++ sign b signs.CloseParen ∷ [])) × AreArgs inner args us
+AreArguments n inner args ts = (0 < n) × (a b : Place) × (us : List Token)
+    × (ts ≡ sign a signs.OpenParen ∷ (us ++ sign b signs.CloseParen ∷ [])) × AreArgs inner args us
 
 -- number, or "-" directly before a number: 2147483648 stands only there
 abbrev pub IsNumber : Place → ℤ → List Token → Type 0
@@ -90,7 +94,8 @@ looseness ops.Or = 5
 abbrev pub IsChain : ℕ → Language → Language
 IsChain k part (Binary p o l r) ts =
     part (Binary p o l r) ts
-    ⊎ ((looseness o ≡ k) × (p ≡ place_of l) × (a : Place) × (us vs : List Token) × (ts ≡ us ++ sign a (sign_of o) ∷ vs) × IsChain k part l us × part r vs)
+    ⊎ ((looseness o ≡ k) × (p ≡ place_of l) × (a : Place) × (us vs : List Token) × (ts ≡ us ++ sign a (sign_of o) ∷ vs) × IsChain k part l
+    us × part r vs)
 IsChain k part (Int p z) ts = part (Int p z) ts
 IsChain k part (Truth p b) ts = part (Truth p b) ts
 IsChain k part (Text p t) ts = part (Text p t) ts
@@ -115,7 +120,8 @@ module _ (m : ℕ) (inner : Language) where
   IsSimple (This p) ts = ts ≡ word p (codes "this") ∷ []
   IsSimple (Variable p n) ts = IsName n × (ts ≡ word p n ∷ [])
   IsSimple (Call p n args) ts = IsName n × (us : List Token) × (ts ≡ word p n ∷ us) × AreArguments m inner args us
-  IsSimple (New p n) ts = (0 < m) × IsName n × (a b c : Place) × (ts ≡ word p (codes "new") ∷ word a n ∷ sign b signs.OpenParen ∷ sign c signs.CloseParen ∷ [])
+  IsSimple (New p n) ts = (0 < m) × IsName n × (a b c : Place) × (ts ≡ word p (codes "new") ∷ word a n ∷ sign b signs.OpenParen ∷ sign c
+      signs.CloseParen ∷ [])
   IsSimple (Member p e n) ts = ⊥
   IsSimple (Neg p e) ts = ⊥
   IsSimple (Not p e) ts = ⊥
@@ -133,7 +139,8 @@ module _ (m : ℕ) (inner : Language) where
       ⊎ (IsName n × (p ≡ place_of e) × (a b : Place) × (us : List Token) × (ts ≡ us ++ sign a signs.Dot ∷ word b n ∷ []) × IsPost e us)
   IsPost (MethodCall p e n args) ts =
       IsPrimary (MethodCall p e n args) ts
-      ⊎ (IsName n × (p ≡ place_of e) × (a b : Place) × (us vs : List Token) × (ts ≡ us ++ sign a signs.Dot ∷ word b n ∷ vs) × IsPost e us × AreArguments m inner args vs)
+      ⊎ (IsName n × (p ≡ place_of e) × (a b : Place) × (us vs : List Token) × (ts ≡ us ++ sign a signs.Dot ∷ word b n ∷ vs) × IsPost e us
+      × AreArguments m inner args vs)
   IsPost (Int p z) ts = IsPrimary (Int p z) ts
   IsPost (Truth p b) ts = IsPrimary (Truth p b) ts
   IsPost (Text p t) ts = IsPrimary (Text p t) ts

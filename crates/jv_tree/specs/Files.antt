@@ -62,7 +62,8 @@ IsField f ts =
 
 -- [ "final" ] type name
 abbrev pub IsParam : Param → List Token → Type 0
-IsParam p ts = IsType p.ty × IsName p.name × (a : Place) × (us : List Token) × (ts ≡ us ++ word a (type_word p.ty) ∷ word p.place p.name ∷ []) × IsFinal us
+IsParam p ts = IsType p.ty × IsName p.name × (a : Place) × (us : List Token)
+    × (ts ≡ us ++ word a (type_word p.ty) ∷ word p.place p.name ∷ []) × IsFinal us
 
 -- { "," param }
 abbrev pub AreMoreParams : List Param → List Token → Type 0
@@ -167,7 +168,8 @@ IsPath ts = (n : Name) × (ns : List Name) × IsName n × (a : Place) × (us : L
 
 -- [ "package" path ";" ]
 abbrev pub IsPackage : List Token → Type 0
-IsPackage ts = (ts ≡ []) ⊎ ((a b : Place) × (us : List Token) × (ts ≡ word a (codes "package") ∷ (us ++ sign b signs.Semicolon ∷ [])) × IsPath us)
+IsPackage ts = (ts ≡ []) ⊎ ((a b : Place) × (us : List Token) × (ts ≡ word a (codes "package") ∷ (us ++ sign b signs.Semicolon ∷ []))
+    × IsPath us)
 
 -- [ "." "*" ]
 abbrev pub IsStar : List Token → Type 0
@@ -175,7 +177,8 @@ IsStar ts = (ts ≡ []) ⊎ ((a b : Place) × (ts ≡ sign a signs.Dot ∷ sign 
 
 -- "import" path [ "." "*" ] ";"
 abbrev pub IsImport : List Token → Type 0
-IsImport ts = (a b : Place) × (us vs : List Token) × (ts ≡ word a (codes "import") ∷ (us ++ (vs ++ sign b signs.Semicolon ∷ []))) × IsPath us × IsStar vs
+IsImport ts = (a b : Place) × (us vs : List Token) × (ts ≡ word a (codes "import") ∷ (us ++ (vs ++ sign b signs.Semicolon ∷ [])))
+    × IsPath us × IsStar vs
 
 -- so many imports
 abbrev pub AreImports : ℕ → List Token → Type 0

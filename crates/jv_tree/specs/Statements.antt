@@ -73,19 +73,22 @@ IsPlainAssign p target value ts =
 abbrev pub IsCompound : Place → Expr → Expr → List Token → Type 0
 IsCompound p target value ts =
     (p ≡ place_of target) × (s : Sign) × (o : Op) × (e : Expr) × (a b : Place) × (us vs : List Token)
-    × (ts ≡ us ++ sign a s ∷ (vs ++ sign b signs.Semicolon ∷ [])) × (compound s ≡ Some o) × (value ≡ changed o target e) × IsTarget target us × IsFree e vs
+    × (ts ≡ us ++ sign a s ∷ (vs ++ sign b signs.Semicolon ∷ [])) × (compound s ≡ Some o) × (value ≡ changed o target e) × IsTarget target
+    us × IsFree e vs
 
 -- target inc ";"
 abbrev pub IsCounterAfter : Place → Expr → Expr → List Token → Type 0
 IsCounterAfter p target value ts =
     (p ≡ place_of target) × (s : Sign) × (o : Op) × (a b : Place) × (us : List Token)
-    × (ts ≡ us ++ sign a s ∷ sign b signs.Semicolon ∷ []) × (counter s ≡ Some o) × (value ≡ changed o target (one_at target)) × IsTarget target us
+    × (ts ≡ us ++ sign a s ∷ sign b signs.Semicolon ∷ []) × (counter s ≡ Some o) × (value ≡ changed o target (one_at target))
+    × IsTarget target us
 
 -- inc target ";"
 abbrev pub IsCounterBefore : Place → Expr → Expr → List Token → Type 0
 IsCounterBefore p target value ts =
     (s : Sign) × (o : Op) × (b : Place) × (us : List Token)
-    × (ts ≡ sign p s ∷ (us ++ sign b signs.Semicolon ∷ [])) × (counter s ≡ Some o) × (value ≡ changed o target (one_at target)) × IsTarget target us
+    × (ts ≡ sign p s ∷ (us ++ sign b signs.Semicolon ∷ [])) × (counter s ≡ Some o) × (value ≡ changed o target (one_at target))
+    × IsTarget target us
 
 abbrev pub IsAssign : Place → Expr → Expr → List Token → Type 0
 IsAssign p target value ts =
@@ -93,7 +96,8 @@ IsAssign p target value ts =
 
 -- expr ";", where the expression meets P
 abbrev pub IsEvaluated : (Expr → Type 0) → Place → List Token → Type 0
-IsEvaluated P p ts = BeginsAt p ts × (e : Expr) × (a : Place) × (us : List Token) × (ts ≡ us ++ sign a signs.Semicolon ∷ []) × IsFree e us × P e
+IsEvaluated P p ts = BeginsAt p ts × (e : Expr) × (a : Place) × (us : List Token) × (ts ≡ us ++ sign a signs.Semicolon ∷ []) × IsFree e us
+    × P e
 
 -- [ "final" ] type name "=" expr ";"
 abbrev pub IsLocal : Stmt → List Token → Type 0
@@ -125,7 +129,8 @@ IsOptionalExpr (Some e) ts = IsFree e ts
 abbrev mutual
   pub IsStmt : Stmt → List Token → Type 0
   -- "{" { item } "}"
-  IsStmt (Block p body end) ts = (us : List Token) × (ts ≡ sign p signs.OpenBrace ∷ (us ++ sign end signs.CloseBrace ∷ [])) × AreItems body us
+  IsStmt (Block p body end) ts = (us : List Token) × (ts ≡ sign p signs.OpenBrace ∷ (us ++ sign end signs.CloseBrace ∷ []))
+      × AreItems body us
   -- ";"
   IsStmt (Empty p) ts = ts ≡ sign p signs.Semicolon ∷ []
   -- a declaration is an item, and no statement
@@ -139,21 +144,27 @@ abbrev mutual
       × IsCondition c us × IsStmt s vs × (takes_else s ≡ false) × IsStmt r ws
   -- [ name ":" ] "while" "(" expr ")" stmt
   IsStmt (While p l c s) ts =
-      (a : Place) × (us vs ws : List Token) × (ts ≡ us ++ word a (codes "while") ∷ (vs ++ ws)) × IsLabel p a l us × IsCondition c vs × IsStmt s ws
+      (a : Place) × (us vs ws : List Token) × (ts ≡ us ++ word a (codes "while") ∷ (vs ++ ws)) × IsLabel p a l us × IsCondition c vs
+      × IsStmt s ws
   -- [ name ":" ] "do" stmt "while" "(" expr ")" ";"
   IsStmt (Do p l s c) ts =
-      (a b d : Place) × (us vs ws : List Token) × (ts ≡ us ++ word a (codes "do") ∷ (vs ++ word b (codes "while") ∷ (ws ++ sign d signs.Semicolon ∷ [])))
+      (a b d : Place) × (us vs ws : List Token)
+      × (ts ≡ us ++ word a (codes "do") ∷ (vs ++ word b (codes "while") ∷ (ws ++ sign d signs.Semicolon ∷ [])))
       × IsLabel p a l us × IsStmt s vs × IsCondition c ws
   -- "switch" "(" expr ")" "{" { case { case } { item } } "}"
   IsStmt (Switch p e groups end) ts =
-      (a : Place) × (us vs : List Token) × (ts ≡ word p (codes "switch") ∷ (us ++ sign a signs.OpenBrace ∷ (vs ++ sign end signs.CloseBrace ∷ [])))
+      (a : Place) × (us vs : List Token)
+      × (ts ≡ word p (codes "switch") ∷ (us ++ sign a signs.OpenBrace ∷ (vs ++ sign end signs.CloseBrace ∷ [])))
       × IsCondition e us × AreGroups end groups vs
   -- "break" [ name ] ";"
-  IsStmt (Break p l) ts = (a : Place) × (us : List Token) × (ts ≡ word p (codes "break") ∷ (us ++ sign a signs.Semicolon ∷ [])) × IsOptionalName l us
+  IsStmt (Break p l) ts = (a : Place) × (us : List Token) × (ts ≡ word p (codes "break") ∷ (us ++ sign a signs.Semicolon ∷ []))
+      × IsOptionalName l us
   -- "continue" [ name ] ";"
-  IsStmt (Continue p l) ts = (a : Place) × (us : List Token) × (ts ≡ word p (codes "continue") ∷ (us ++ sign a signs.Semicolon ∷ [])) × IsOptionalName l us
+  IsStmt (Continue p l) ts = (a : Place) × (us : List Token) × (ts ≡ word p (codes "continue") ∷ (us ++ sign a signs.Semicolon ∷ []))
+      × IsOptionalName l us
   -- "return" [ expr ] ";"
-  IsStmt (Return p e) ts = (a : Place) × (us : List Token) × (ts ≡ word p (codes "return") ∷ (us ++ sign a signs.Semicolon ∷ [])) × IsOptionalExpr e us
+  IsStmt (Return p e) ts = (a : Place) × (us : List Token) × (ts ≡ word p (codes "return") ∷ (us ++ sign a signs.Semicolon ∷ []))
+      × IsOptionalExpr e us
   -- expr ";", where the expression is System.out.println(e)
   IsStmt (Print p e) ts = IsEvaluated (λ c. printed c ≡ Some e) p ts
   -- expr ";", where the expression is another call or "new"

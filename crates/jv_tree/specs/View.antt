@@ -18,7 +18,8 @@ use Rattle.jv_tree.specs.declared.tree.Enum.{Enum as KeptEnum}
 use Rattle.jv_tree.specs.declared.tree.Decl.{Decl as KeptDecl}
 use Rattle.jv_tree.specs.declared.tree.Decl.TheVariants as decls
 use Rattle.jv_tree.specs.declared.tree.File.{File as KeptFile}
-use Rattle.jv_tree.specs.Source.{Expr, Int, Truth, Text, Null, This, Variable, Member, Neg, Not, Binary, Call, MethodCall, New, Exprs, NoExpr, Argument}
+use Rattle.jv_tree.specs.Source.{Expr, Int, Truth, Text, Null, This, Variable, Member, Neg, Not, Binary, Call, MethodCall, New, Exprs}
+use Rattle.jv_tree.specs.Source.{NoExpr, Argument}
 use Rattle.jv_tree.specs.Source.{Stmt, Block, Empty, Local, Assign, If, IfElse, While, Do, Switch, Break, Continue, Return, Print, Eval}
 use Rattle.jv_tree.specs.Source.{Stmts, NoStmt, Then, Groups, NoGroup, Group, Field, Method, Class, Enum, Decl, ClassDecl, EnumDecl, File}
 

@@ -29,14 +29,16 @@ OnTold Is None = Unit {0}
 OnTold Is (Some f) = Is (Some f)
 
 -- an error that tells this fault tells one of these
-pub told_as : (Is : Option (Condition × Culprit) → Type 0) (x : Condition × Culprit) (e : TypeFault) → TellsFault (λ r. r ≡ Some x) e → Is (Some x) → TellsFault Is e
+pub told_as : (Is : Option (Condition × Culprit) → Type 0) (x : Condition × Culprit) (e : TypeFault) → TellsFault (λ r. r ≡ Some x) e →
+    Is (Some x) → TellsFault Is e
 told_as Is x e t is = go (fault_told e) t
   where
     go : (o : Option (Condition × Culprit)) → OnTold (λ r. r ≡ Some x) o → OnTold Is o
     go None t = t
     go (Some f) t = subst Is (sym t) is
 
-typestates_new : (ts : List Typestate) (files : List ℕ) (met : List Name) → length files ≡ length ts → repeat_typestate met ts files ≡ None → are_new met (map (λ t. t.name) ts) ≡ true
+typestates_new : (ts : List Typestate) (files : List ℕ) (met : List Name) → length files ≡ length ts → repeat_typestate met ts files ≡ None
+    → are_new met (map (λ t. t.name) ts) ≡ true
 typestates_new [] files met n e = refl
 typestates_new (t ∷ ts) [] met n e = absurd (omega arith)
 typestates_new (t ∷ ts) (f ∷ files) met n e =
@@ -47,14 +49,16 @@ decls_kept : (files : List KeptFile) → map decl_of (kept_decls files) ≡ decl
 decls_kept [] = refl
 decls_kept (f ∷ fs) = map-append decl_of f.decls.items (kept_decls fs) ∙ ap (λ ds. map decl_of f.decls.items ++ ds) (decls_kept fs)
 
-module _ (files : List KeptFile) (ts : List Typestate) (origins : List ℕ) (ds : List (Bor KeptDecl)) (all : map (λ d. d.now) ds ≡ kept_decls files) where
+module _ (files : List KeptFile) (ts : List Typestate) (origins : List ℕ) (ds : List (Bor KeptDecl))
+    (all : map (λ d. d.now) ds ≡ kept_decls files) where
   seen_decls : map (λ (d : Bor KeptDecl). decl_of d.now) ds ≡ decls_of (map file_of files)
   seen_decls = sym (map-map (λ (d : Bor KeptDecl). d.now) decl_of ds) ∙ ap (map decl_of) all ∙ decls_kept files
 
   early_is : early_in (map (λ (d : Bor KeptDecl). decl_of d.now) ds) ts origins ≡ early_found (program_of files ts) origins
   early_is = ap (λ xs. early_in xs ts origins) seen_decls
 
-  pub early_told : (f : Condition × Culprit) → Some f ≡ early_in (map (λ d. decl_of d.now) ds) ts origins → IsTableFault (program_of files ts) origins (Some f)
+  pub early_told : (f : Condition × Culprit) → Some f ≡ early_in (map (λ d. decl_of d.now) ds) ts origins →
+      IsTableFault (program_of files ts) origins (Some f)
   early_told f e = early_fault (program_of files ts) origins f (sym early_is ∙ sym e)
 
   module _ (none : None ≡ early_in (map (λ d. decl_of d.now) ds) ts origins) where
@@ -75,7 +79,8 @@ module _ (files : List KeptFile) (ts : List Typestate) (origins : List ℕ) (ds 
   early_kept none = ap (λ xs. early_in xs ts origins) (decls_kept files ∙ sym seen_decls) ∙ sym none
 
 -- what is found later is a fault of the declarations
-pub later_as : (files : List KeptFile) (ts : List Typestate) (origins : List ℕ) → early_in (map decl_of (kept_decls files)) ts origins ≡ None → (p : Program) → p ≡ program_of files ts →
+pub later_as : (files : List KeptFile) (ts : List Typestate) (origins : List ℕ) → early_in (map decl_of (kept_decls files)) ts origins ≡
+    None → (p : Program) → p ≡ program_of files ts →
     (r : Option (Condition × Culprit)) → IsLater p r → IsTableFault (program_of files ts) origins r
 later_as files ts origins none p same r h =
     subst (λ q. IsTableFault q origins r) same

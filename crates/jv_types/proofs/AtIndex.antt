@@ -1,5 +1,6 @@
 -- Parameters and arguments at an index.
-use Rattle.std.proofs.Common.{◌≡◌, ℕ, zero, suc, ◌+◌, ◌<◌, List, [], ◌∷◌, map, length, get_or, drop, Option, Some, None, refl, sym, ap, ◌∙◌, arith}
+use Rattle.std.proofs.Common.{◌≡◌, ℕ, zero, suc, ◌+◌, ◌<◌, List, [], ◌∷◌, map, length, get_or, drop, Option, Some, None, refl, sym, ap, ◌∙◌}
+use Rattle.std.proofs.Common.{arith}
 use Rattle.std.specs.Prelude.{slice_get}
 use Rattle.std.specs.Option.{option_map, option_or}
 use Rattle.std.proofs.lemmas.List.{at_drop_more}
@@ -45,15 +46,21 @@ same_within (x ∷ xs) (suc i) d d' h = same_within xs i d d' (omega arith)
 abbrev pub left_misfit : List KeptExpr → List ValueType → List KeptType → ℕ → Option Culprit
 left_misfit args params types i = args_misfit (exprs_of (map expr_of (drop i args))) (drop i params) (map type_seen (drop i types))
 
-module _ (args : List KeptExpr) (params : List ValueType) (types : List KeptType) (i : ℕ) (e : KeptExpr) (within : i < length args) (is : e ≡ get_or args i e) where
+module _ (args : List KeptExpr) (params : List ValueType) (types : List KeptType) (i : ℕ) (e : KeptExpr) (within : i < length args)
+    (is : e ≡ get_or args i e) where
   pub left_none : None ≡ slice_get params i → left_misfit args params types i ≡ None
   left_none h =
       ap (λ xs. args_misfit (exprs_of (map expr_of xs)) (drop i params) (map type_seen (drop i types))) (drop_at args i e within is)
-      ∙ ap (λ ps. args_misfit (Argument (expr_of e) (exprs_of (map expr_of (drop (i + 1) args)))) ps (map type_seen (drop i types))) (drop_none params i h)
+      ∙ ap (λ ps. args_misfit (Argument (expr_of e) (exprs_of (map expr_of (drop (i + 1) args)))) ps (map type_seen (drop i types)))
+      (drop_none params i h)
 
-  module _ (p : ValueType) (t : KeptType) (param : Some p ≡ slice_get params i) (inside : i < length types) (at : t ≡ get_or types i t) where
-    pub left_more : left_misfit args params types i ≡ option_or (misfit (Fitting p) (expr_of e) (type_seen t)) (left_misfit args params types (i + 1))
-    left_more =
-        ap (λ xs. args_misfit (exprs_of (map expr_of xs)) (drop i params) (map type_seen (drop i types))) (drop_at args i e within is)
-        ∙ ap (λ ps. args_misfit (Argument (expr_of e) (exprs_of (map expr_of (drop (i + 1) args)))) ps (map type_seen (drop i types))) (drop_some params i p param)
-        ∙ ap (λ ts. args_misfit (Argument (expr_of e) (exprs_of (map expr_of (drop (i + 1) args)))) (p ∷ drop (i + 1) params) (map type_seen ts)) (drop_at types i t inside at)
+  module _ (p : ValueType) (t : KeptType) (param : Some p ≡ slice_get params i) (inside : i < length types) (at : t ≡ get_or types i t)
+    where
+      pub left_more : left_misfit args params types i ≡ option_or (misfit (Fitting p) (expr_of e) (type_seen t))
+          (left_misfit args params types (i + 1))
+      left_more =
+          ap (λ xs. args_misfit (exprs_of (map expr_of xs)) (drop i params) (map type_seen (drop i types))) (drop_at args i e within is)
+          ∙ ap (λ ps. args_misfit (Argument (expr_of e) (exprs_of (map expr_of (drop (i + 1) args)))) ps (map type_seen (drop i types)))
+          (drop_some params i p param)
+          ∙ ap (λ ts. args_misfit (Argument (expr_of e) (exprs_of (map expr_of (drop (i + 1) args)))) (p ∷ drop (i + 1) params)
+          (map type_seen ts)) (drop_at types i t inside at)

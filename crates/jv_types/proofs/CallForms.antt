@@ -4,7 +4,8 @@ use Rattle.std.specs.Option.{option_or, is_some, option_map}
 use Rattle.mg_text.specs.Call.{Name}
 use Rattle.mg_text.specs.declared.place.Place.{Place}
 use Rattle.mg_read.specs.Culprit.{Culprit, culprit}
-use Rattle.jv_tree.specs.Source.{Expr, Int, Truth, Text, Null, This, Variable, Member, Neg, Not, Binary, Call, MethodCall, New, Exprs, place_of}
+use Rattle.jv_tree.specs.Source.{Expr, Int, Truth, Text, Null, This, Variable, Member, Neg, Not, Binary, Call, MethodCall, New, Exprs}
+use Rattle.jv_tree.specs.Source.{place_of}
 use Rattle.jv_tree.specs.View.{field_of as field_seen}
 use Rattle.jv_rules.specs.declared.condition.Condition.{Condition}
 use Rattle.jv_rules.specs.declared.condition.Condition.TheVariants as conditions
@@ -13,7 +14,8 @@ use Rattle.jv_rules.specs.Scope.{Scope, variable_type, field_of}
 use Rattle.jv_rules.specs.Typing.{type_of, called, called_on, called_on_this, called_on_class, called_on_value}
 use Rattle.jv_rules.specs.Spots.{Value, AtNode, nodes, nodes_in, at_nodes}
 use Rattle.jv_rules.specs.Taking.{ClassVariable, Taken, all_taken, receiver, arguments}
-use Rattle.jv_rules.specs.inner.Deciding.{when, told, first_by, type_mismatch, count_differs, is_protocol, is_helper, is_receiver, self_call, calls_helper, calls_helper_in, fault_in}
+use Rattle.jv_rules.specs.inner.Deciding.{when, told, first_by, type_mismatch, count_differs, is_protocol, is_helper, is_receiver}
+use Rattle.jv_rules.specs.inner.Deciding.{self_call, calls_helper, calls_helper_in, fault_in}
 use Rattle.jv_types.specs.declared.calls.Site.{Site}
 use Rattle.jv_types.specs.inner.Judging.{expr_fault, args_fault, at_place, is_this, variable_name}
 use Rattle.jv_types.specs.inner.Calls.{moved, moves_told, IsSite, receiver_misfit, field_named_by, called_on_named}
@@ -35,16 +37,20 @@ module _ (s : Scope) (site : Site) (args : Exprs) where
   no_field h = ap (λ o. moved p (option_map (λ f. field_seen f.now) o) (calls_helper_in s args)) h
 
   -- `name(..)`
-  pub plain_site : site.receiver ≡ None → site.is_own ≡ is_protocol s n → site.field ≡ None → site.helper ≡ is_helper s n → IsSite s (Call p n args) site (called s n) args
+  pub plain_site : site.receiver ≡ None → site.is_own ≡ is_protocol s n → site.field ≡ None → site.helper ≡ is_helper s n →
+      IsSite s (Call p n args) site (called s n) args
   plain_site r own f helper =
-      built s (Call p n args) site (called s n) args None (when (is_protocol s n) (culprit p n)) None (last_node s (nodes_in args) (Value (Call p n args))) refl
+      built s (Call p n args) site (called s n) args None (when (is_protocol s n) (culprit p n)) None
+      (last_node s (nodes_in args) (Value (Call p n args))) refl
       (ap (λ b. b || calls_helper_in s args) (sym helper)) (no_receiver r) (ap (λ b. when b (culprit p n)) own) (no_field f)
 
   -- `this.name(..)`
-  pub own_site : (e : Expr) → is_this e ≡ true → site.receiver ≡ None → site.is_own ≡ is_protocol s n → site.field ≡ None → site.helper ≡ is_helper s n →
+  pub own_site : (e : Expr) → is_this e ≡ true → site.receiver ≡ None → site.is_own ≡ is_protocol s n → site.field ≡ None →
+      site.helper ≡ is_helper s n →
       IsSite s (MethodCall p e n args) site (called_on_this s n) args
   own_site (This q) t r own f helper =
-      built s (MethodCall p (This q) n args) site (called_on_this s n) args None (when (is_protocol s n) (culprit p n)) None (last_node s (nodes_in args) (Value (MethodCall p (This q) n args))) refl
+      built s (MethodCall p (This q) n args) site (called_on_this s n) args None (when (is_protocol s n) (culprit p n)) None
+      (last_node s (nodes_in args) (Value (MethodCall p (This q) n args))) refl
       (ap (λ b. b || calls_helper_in s args) (sym helper)) (no_receiver r) (ap (λ b. when b (culprit p n)) own) (no_field f)
   own_site (Int q z) t r own f helper = absurd (true≢false (sym t))
   own_site (Truth q b) t r own f helper = absurd (true≢false (sym t))
@@ -63,15 +69,20 @@ module _ (s : Scope) (site : Site) (args : Exprs) where
   abbrev raw : Option Signature → List Taken → (own moves : Option Culprit) → Option (Condition × Culprit)
   raw o ts own moves =
       told conditions.UnknownName (when (not (is_some o)) (culprit p n))
-      (told conditions.TypeMismatch (first_by type_mismatch (all_taken s (ts ++ arguments o args))) (told conditions.Arity (count_differs p o args) (told conditions.SelfCall own (told conditions.ArgsMayMove moves None))))
+      (told conditions.TypeMismatch (first_by type_mismatch (all_taken s (ts ++ arguments o args)))
+      (told conditions.Arity (count_differs p o args) (told conditions.SelfCall own (told conditions.ArgsMayMove moves None))))
 
-  raw_told : (o : Option Signature) (ts : List Taken) (r own moves : Option Culprit) → first_by type_mismatch (all_taken s ts) ≡ r → raw o ts own moves ≡ node_told s p n o r args own moves
+  raw_told : (o : Option Signature) (ts : List Taken) (r own moves : Option Culprit) → first_by type_mismatch (all_taken s ts) ≡ r →
+      raw o ts own moves ≡ node_told s p n o r args own moves
   raw_told o ts r own moves e =
-      ap (λ m. told conditions.UnknownName (when (not (is_some o)) (culprit p n)) (told conditions.TypeMismatch m (told conditions.Arity (count_differs p o args) (told conditions.SelfCall own (told conditions.ArgsMayMove moves None)))))
+      ap (λ m. told conditions.UnknownName (when (not (is_some o)) (culprit p n))
+      (told conditions.TypeMismatch m
+      (told conditions.Arity (count_differs p o args) (told conditions.SelfCall own (told conditions.ArgsMayMove moves None)))))
       (taken_append s ts (arguments o args) ∙ ap (λ z. option_or z (first_by type_mismatch (all_taken s (arguments o args)))) e)
 
   -- a variable is one
-  variable_fits : (q : Place) (x : Name) (o : Option ValueType) → variable_type s x ≡ o → first_by type_mismatch (all_taken s (receiver o (Variable q x))) ≡ None
+  variable_fits : (q : Place) (x : Name) (o : Option ValueType) → variable_type s x ≡ o →
+      first_by type_mismatch (all_taken s (receiver o (Variable q x))) ≡ None
   variable_fits q x None e = refl
   variable_fits q x (Some NoValue) e = refl
   variable_fits q x (Some IntType) e = refl
@@ -89,28 +100,38 @@ module _ (s : Scope) (site : Site) (args : Exprs) where
   -- `x.name(..)`
   module _ (q : Place) (x : Name) (known : is_receiver s x ≡ true) where
     named_whole : expr_fault s (MethodCall p (Variable q x) n args)
-        ≡ option_or (args_fault s args) (node_told s p n (called_on_named s x n) None args None (moved p (field_named_by s x) (calls_helper_in s args)))
+        ≡ option_or (args_fault s args) (node_told s p n (called_on_named s x n) None args None
+        (moved p (field_named_by s x) (calls_helper_in s args)))
     named_whole =
-        ap (λ b. option_or (told conditions.UnknownName (when (not b) (culprit q x)) None) (fault_in (at_nodes s (nodes_in args ++ Value (MethodCall p (Variable q x) n args) ∷ [])))) known
+        ap (λ b. option_or (told conditions.UnknownName (when (not b) (culprit q x)) None)
+        (fault_in (at_nodes s (nodes_in args ++ Value (MethodCall p (Variable q x) n args) ∷ [])))) known
         ∙ last_node s (nodes_in args) (Value (MethodCall p (Variable q x) n args))
         ∙ ap (option_or (args_fault s args))
-        (raw_told (called_on s (Variable q x) (variable_type s x) n) (receiver (variable_type s x) (Variable q x)) None None (moved p (field_named_by s x) (calls_helper_in s args)) (variable_fits q x (variable_type s x) refl)
-        ∙ ap (λ o. node_told s p n o None args None (moved p (field_named_by s x) (calls_helper_in s args))) (named_is q x (variable_type s x)))
+        (raw_told (called_on s (Variable q x) (variable_type s x) n) (receiver (variable_type s x) (Variable q x)) None None
+        (moved p (field_named_by s x) (calls_helper_in s args)) (variable_fits q x (variable_type s x) refl)
+        ∙ ap (λ o. node_told s p n o None args None (moved p (field_named_by s x) (calls_helper_in s args)))
+        (named_is q x (variable_type s x)))
 
-    named_site : site.receiver ≡ None → site.is_own ≡ false → option_map (λ f. field_seen f.now) site.field ≡ field_named_by s x → site.helper ≡ false →
+    named_site : site.receiver ≡ None → site.is_own ≡ false → option_map (λ f. field_seen f.now) site.field ≡ field_named_by s x →
+        site.helper ≡ false →
         IsSite s (MethodCall p (Variable q x) n args) site (called_on_named s x n) args
     named_site r own f helper =
-        built s (MethodCall p (Variable q x) n args) site (called_on_named s x n) args None None (moved p (field_named_by s x) (calls_helper_in s args)) named_whole
-        (ap (option_map (λ z. z.result)) (named_is q x (variable_type s x))) (ap (λ b. b || calls_helper_in s args) (sym helper)) (no_receiver r) (ap (λ b. when b (culprit p n)) own)
+        built s (MethodCall p (Variable q x) n args) site (called_on_named s x n) args None None
+        (moved p (field_named_by s x) (calls_helper_in s args)) named_whole
+        (ap (option_map (λ z. z.result)) (named_is q x (variable_type s x))) (ap (λ b. b || calls_helper_in s args) (sym helper))
+        (no_receiver r) (ap (λ b. when b (culprit p n)) own)
         (ap (λ o. moved p o (calls_helper_in s args)) f)
 
   pub behind_name : (e : Expr) (x : Name) → variable_name e ≡ Some x → is_receiver s x ≡ true → site.receiver ≡ None → site.is_own ≡ false →
-      option_map (λ f. field_seen f.now) site.field ≡ field_named_by s x → site.helper ≡ false → IsSite s (MethodCall p e n args) site (called_on_named s x n) args
+      option_map (λ f. field_seen f.now) site.field ≡ field_named_by s x → site.helper ≡ false → IsSite s (MethodCall p e n args) site
+      (called_on_named s x n) args
   behind_name e x is known r own f helper =
-      subst (λ z. IsSite s (MethodCall p z n args) site (called_on_named s x n) args) (sym (is_named s p n e x is)) (named_site (place_of e) x known r own f helper)
+      subst (λ z. IsSite s (MethodCall p z n args) site (called_on_named s x n) args) (sym (is_named s p n e x is))
+      (named_site (place_of e) x known r own f helper)
 
   -- what a receiver of this type has
-  receiver_fits : (e : Expr) (t : ValueType) → type_of s e ≡ Some t → first_by type_mismatch (all_taken s (receiver (Some t) e)) ≡ receiver_misfit t e
+  receiver_fits : (e : Expr) (t : ValueType) → type_of s e ≡ Some t → first_by type_mismatch (all_taken s (receiver (Some t) e)) ≡
+      receiver_misfit t e
   receiver_fits e NoValue h = refl
   receiver_fits e IntType h = refl
   receiver_fits e BooleanType h = refl
@@ -122,24 +143,33 @@ module _ (s : Scope) (site : Site) (args : Exprs) where
   -- `e.name(..)`
   module _ (t : ValueType) where
     other_form : (e : Expr) → expr_fault s e ≡ None → type_of s e ≡ Some t →
-        nodes (MethodCall p e n args) ≡ nodes e ++ (nodes_in args ++ Value (MethodCall p e n args) ∷ []) → self_call (AtNode s (Value (MethodCall p e n args))) ≡ None →
-        called_on s e (Some t) n ≡ called_on_value s.program t n → calls_helper s (MethodCall p e n args) ≡ (calls_helper s e || calls_helper_in s args) →
-        option_map at_place site.receiver ≡ receiver_misfit t e → site.is_own ≡ false → option_map (λ f. field_seen f.now) site.field ≡ field_of s e → site.helper ≡ calls_helper s e →
+        nodes (MethodCall p e n args) ≡ nodes e ++ (nodes_in args ++ Value (MethodCall p e n args) ∷ []) →
+        self_call (AtNode s (Value (MethodCall p e n args))) ≡ None →
+        called_on s e (Some t) n ≡ called_on_value s.program t n → calls_helper s (MethodCall p e n args) ≡
+        (calls_helper s e || calls_helper_in s args) →
+        option_map at_place site.receiver ≡ receiver_misfit t e → site.is_own ≡ false → option_map (λ f. field_seen f.now) site.field ≡
+        field_of s e → site.helper ≡ calls_helper s e →
         IsSite s (MethodCall p e n args) site (called_on_value s.program t n) args
     other_form e fine typed laid own_none called_is helps r own f helper =
-        built s (MethodCall p e n args) site (called_on_value s.program t n) args (receiver_misfit t e) None (moved p (field_of s e) (calls_helper_in s args))
-        (ap (λ ns. fault_in (at_nodes s ns)) laid ∙ nodes-append s (nodes e) (nodes_in args ++ Value (MethodCall p e n args) ∷ []) ∙ ap (λ z. option_or z (fault_in (at_nodes s (nodes_in args ++ Value (MethodCall p e n args) ∷ [])))) fine
+        built s (MethodCall p e n args) site (called_on_value s.program t n) args (receiver_misfit t e) None
+        (moved p (field_of s e) (calls_helper_in s args))
+        (ap (λ ns. fault_in (at_nodes s ns)) laid ∙ nodes-append s (nodes e) (nodes_in args ++ Value (MethodCall p e n args) ∷ []) ∙
+        ap (λ z. option_or z (fault_in (at_nodes s (nodes_in args ++ Value (MethodCall p e n args) ∷ [])))) fine
         ∙ last_node s (nodes_in args) (Value (MethodCall p e n args))
         ∙ ap (option_or (args_fault s args))
-        (ap (λ o. raw (called_on s e o n) (receiver o e) (self_call (AtNode s (Value (MethodCall p e n args)))) (moved p (field_of s e) (calls_helper_in s args))) typed
+        (ap (λ o. raw (called_on s e o n) (receiver o e) (self_call (AtNode s (Value (MethodCall p e n args))))
+        (moved p (field_of s e) (calls_helper_in s args))) typed
         ∙ ap (λ z. raw (called_on s e (Some t) n) (receiver (Some t) e) z (moved p (field_of s e) (calls_helper_in s args))) own_none
         ∙ ap (λ o. raw o (receiver (Some t) e) None (moved p (field_of s e) (calls_helper_in s args))) called_is
-        ∙ raw_told (called_on_value s.program t n) (receiver (Some t) e) (receiver_misfit t e) None (moved p (field_of s e) (calls_helper_in s args)) (receiver_fits e t typed)))
+        ∙ raw_told (called_on_value s.program t n) (receiver (Some t) e) (receiver_misfit t e) None
+        (moved p (field_of s e) (calls_helper_in s args)) (receiver_fits e t typed)))
         (ap (λ o. option_map (λ z. z.result) (called_on s e o n)) typed ∙ ap (option_map (λ z. z.result)) called_is)
-        (helps ∙ ap (λ b. b || calls_helper_in s args) (sym helper)) r (ap (λ b. when b (culprit p n)) own) (ap (λ o. moved p o (calls_helper_in s args)) f)
+        (helps ∙ ap (λ b. b || calls_helper_in s args) (sym helper)) r (ap (λ b. when b (culprit p n)) own)
+        (ap (λ o. moved p o (calls_helper_in s args)) f)
 
     pub other_site : (e : Expr) → is_this e ≡ false → None ≡ variable_name e → expr_fault s e ≡ None → type_of s e ≡ Some t →
-        option_map at_place site.receiver ≡ receiver_misfit t e → site.is_own ≡ false → option_map (λ f. field_seen f.now) site.field ≡ field_of s e → site.helper ≡ calls_helper s e →
+        option_map at_place site.receiver ≡ receiver_misfit t e → site.is_own ≡ false → option_map (λ f. field_seen f.now) site.field ≡
+        field_of s e → site.helper ≡ calls_helper s e →
         IsSite s (MethodCall p e n args) site (called_on_value s.program t n) args
     other_site (This q) i v fine typed = absurd (true≢false i)
     other_site (Variable q x) i v fine typed = let no : ⊥ = cc in absurd no

@@ -40,11 +40,13 @@ name_fault p x o = option_or (told conditions.UnknownName (when (not (is_some o)
 
 module _ (s : Scope) where
   -- a variable
-  pub known_name : (p : Place) (x : Name) (ty : KeptType) → Some (type_seen ty) ≡ variable_type s x → IsChecked s (Variable p x) (record { ty = ty; helper = false })
+  pub known_name : (p : Place) (x : Name) (ty : KeptType) → Some (type_seen ty) ≡ variable_type s x →
+      IsChecked s (Variable p x) (record { ty = ty; helper = false })
   unfolding name_fault
   known_name p x ty e = record { fine = ap (name_fault p x) (sym e); typed = sym e; helper = refl }
 
-  pub unknown_name : (p : Place) (x : Name) → None ≡ variable_type s x → expr_fault s (Variable p x) ≡ Some (conditions.UnknownName, culprit p x)
+  pub unknown_name : (p : Place) (x : Name) → None ≡ variable_type s x →
+      expr_fault s (Variable p x) ≡ Some (conditions.UnknownName, culprit p x)
   unfolding name_fault
   unknown_name p x e = ap (name_fault p x) (sym e)
 
@@ -53,19 +55,23 @@ module _ (s : Scope) where
     neg_decides : expr_fault s (Neg p e) ≡ mismatched (misfit (Fitting IntType) e (type_seen c.ty))
     neg_decides = node_decides _ _ _ (neg-fault s p e) h.fine ∙ ap mismatched (alone_taken s e (type_seen c.ty) h.typed (Fitting IntType))
 
-    pub neg_wrong : (q : Place) → Some (at_place q) ≡ misfit (Fitting IntType) e (type_seen c.ty) → expr_fault s (Neg p e) ≡ Some (conditions.TypeMismatch, culprit q [])
+    pub neg_wrong : (q : Place) → Some (at_place q) ≡ misfit (Fitting IntType) e (type_seen c.ty) →
+        expr_fault s (Neg p e) ≡ Some (conditions.TypeMismatch, culprit q [])
     neg_wrong q m = neg_decides ∙ ap mismatched (sym m)
 
     pub neg_fine : None ≡ misfit (Fitting IntType) e (type_seen c.ty) → IsChecked s (Neg p e) (record { ty = kept.Int; helper = c.helper })
     neg_fine m = record { fine = neg_decides ∙ ap mismatched (sym m); typed = refl; helper = h.helper }
 
     not_decides : expr_fault s (Not p e) ≡ mismatched (misfit (Fitting BooleanType) e (type_seen c.ty))
-    not_decides = node_decides _ _ _ (not-fault s p e) h.fine ∙ ap mismatched (alone_taken s e (type_seen c.ty) h.typed (Fitting BooleanType))
+    not_decides = node_decides _ _ _ (not-fault s p e) h.fine ∙
+        ap mismatched (alone_taken s e (type_seen c.ty) h.typed (Fitting BooleanType))
 
-    pub not_wrong : (q : Place) → Some (at_place q) ≡ misfit (Fitting BooleanType) e (type_seen c.ty) → expr_fault s (Not p e) ≡ Some (conditions.TypeMismatch, culprit q [])
+    pub not_wrong : (q : Place) → Some (at_place q) ≡ misfit (Fitting BooleanType) e (type_seen c.ty) →
+        expr_fault s (Not p e) ≡ Some (conditions.TypeMismatch, culprit q [])
     not_wrong q m = not_decides ∙ ap mismatched (sym m)
 
-    pub not_fine : None ≡ misfit (Fitting BooleanType) e (type_seen c.ty) → IsChecked s (Not p e) (record { ty = kept.Boolean; helper = c.helper })
+    pub not_fine : None ≡ misfit (Fitting BooleanType) e (type_seen c.ty) →
+        IsChecked s (Not p e) (record { ty = kept.Boolean; helper = c.helper })
     not_fine m = record { fine = not_decides ∙ ap mismatched (sym m); typed = refl; helper = h.helper }
 
   -- a binary operator
@@ -75,14 +81,17 @@ module _ (s : Scope) where
         node_decides _ _ _ (binary-fault s p op l r) h.fine ∙ node_decides _ _ _ refl k.fine
         ∙ ap mismatched (operands_taken s l r (type_seen c.ty) (type_seen d.ty) h.typed k.typed p op)
 
-    pub binary_wrong : (q : Place) → Some (at_place q) ≡ operand_misfit op l (type_seen c.ty) r (type_seen d.ty) → expr_fault s (Binary p op l r) ≡ Some (conditions.TypeMismatch, culprit q [])
+    pub binary_wrong : (q : Place) → Some (at_place q) ≡ operand_misfit op l (type_seen c.ty) r (type_seen d.ty) →
+        expr_fault s (Binary p op l r) ≡ Some (conditions.TypeMismatch, culprit q [])
     binary_wrong q m = binary_decides ∙ ap mismatched (sym m)
 
     pub binary_fine : None ≡ operand_misfit op l (type_seen c.ty) r (type_seen d.ty) → (ty : KeptType) (helper : Bool) →
-        type_seen ty ≡ operator_type op (Some (type_seen c.ty)) (Some (type_seen d.ty)) → helper ≡ (c.helper || d.helper) → IsChecked s (Binary p op l r) (record { ty = ty; helper = helper })
+        type_seen ty ≡ operator_type op (Some (type_seen c.ty)) (Some (type_seen d.ty)) → helper ≡ (c.helper || d.helper) →
+        IsChecked s (Binary p op l r) (record { ty = ty; helper = helper })
     binary_fine m ty helper t u = record {
       fine = binary_decides ∙ ap mismatched (sym m);
-      typed = ap (λ o. Some (operator_type op o (type_of s r))) h.typed ∙ ap (λ o. Some (operator_type op (Some (type_seen c.ty)) o)) k.typed ∙ ap Some (sym t);
+      typed = ap (λ o. Some (operator_type op o (type_of s r))) h.typed ∙ ap (λ o. Some (operator_type op (Some (type_seen c.ty)) o))
+          k.typed ∙ ap Some (sym t);
       helper = u ∙ ap (λ b. b || d.helper) h.helper ∙ ap (λ b. calls_helper s l || b) k.helper;
     }
 
@@ -96,7 +105,8 @@ module _ (s : Scope) where
   pub left_tells : (p : Place) (op : Op) (l r : Expr) (w : Wrong) → Tells w (expr_fault s l) → Tells w (expr_fault s (Binary p op l r))
   left_tells p op l r w = tells_first w _ _ _ (binary-fault s p op l r)
 
-  pub right_tells : (p : Place) (op : Op) (l r : Expr) (w : Wrong) (c : Checked) → IsChecked s l c → Tells w (expr_fault s r) → Tells w (expr_fault s (Binary p op l r))
+  pub right_tells : (p : Place) (op : Op) (l r : Expr) (w : Wrong) (c : Checked) → IsChecked s l c → Tells w (expr_fault s r) →
+      Tells w (expr_fault s (Binary p op l r))
   right_tells p op l r w c h t = tells_later w _ _ _ (binary-fault s p op l r) h.fine (tells_first w _ _ _ refl t)
 
 pub ruleset variables = (known_name, unknown_name)

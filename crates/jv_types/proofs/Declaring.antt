@@ -1,5 +1,6 @@
 -- What the conditions on the declarations answer by computing is right.
-use Rattle.std.proofs.Common.{◌≡◌, ◌≢◌, ◌⊎◌, inl, inr, ⊎_elim, List, [], ◌∷◌, map, Option, Some, None, Bool, true, false, not, ◌&&◌, ◌||◌, Contains, Decides, refl, sym, ap, subst, ◌∙◌, true≢false}
+use Rattle.std.proofs.Common.{◌≡◌, ◌≢◌, ◌⊎◌, inl, inr, ⊎_elim, List, [], ◌∷◌, map, Option, Some, None, Bool, true, false, not, ◌&&◌, ◌||◌}
+use Rattle.std.proofs.Common.{Contains, Decides, refl, sym, ap, subst, ◌∙◌, true≢false}
 use Rattle.std.specs.Prelude.{is_some, option_and_then}
 use Rattle.std.specs.List.{list_any}
 use Rattle.std.specs.Str.{bytes_eq}
@@ -11,17 +12,23 @@ use Rattle.mg_read.specs.Culprit.{Culprit, culprit}
 use Rattle.ts_tree.specs.Typestate as protocols
 use Rattle.ts_tree.specs.declared.parts.TypeName.{TypeName}
 use Rattle.ts_tree.specs.declared.parts.TypeName.TheVariants as written
-use Rattle.jv_tree.specs.Source.{Expr, Int, Truth, Text, Null, This, Variable, Member, Neg, Not, Binary, Call, MethodCall, New, Field, Method, Class, Enum}
+use Rattle.jv_tree.specs.Source.{Expr, Int, Truth, Text, Null, This, Variable, Member, Neg, Not, Binary, Call, MethodCall, New, Field}
+use Rattle.jv_tree.specs.Source.{Method, Class, Enum}
 use Rattle.jv_meaning.specs.Program.{class_named, enum_named, typestate_named, method_named}
 use Rattle.jv_rules.specs.Program.{Program, typestate_of}
 use Rattle.jv_rules.specs.Members.{Mention, Written, Made, ClassMember, OfField, OfMethod}
-use Rattle.jv_rules.specs.Declarations.{IsUsableClass, IsUsable, UnknownClass, UnknownTypestate, IsInstance, MissingMethod, Owned, IsDemanded, SignatureDiffers, AreConstants, AreLabelsOf, AnswersBy, LabelsDiffer, HasConstant, IsConstantOf, NeedsValue, LacksConstant, FieldNeedsValue, Standing, InstanceInPlain}
+use Rattle.jv_rules.specs.Declarations.{IsUsableClass, IsUsable, UnknownClass, UnknownTypestate, IsInstance, MissingMethod, Owned}
+use Rattle.jv_rules.specs.Declarations.{IsDemanded, SignatureDiffers, AreConstants, AreLabelsOf, AnswersBy, LabelsDiffer, HasConstant}
+use Rattle.jv_rules.specs.Declarations.{IsConstantOf, NeedsValue, LacksConstant, FieldNeedsValue, Standing, InstanceInPlain}
 use Rattle.jv_rules.specs.inner.Deciding.{when, has_constant}
 use Rattle.jv_rules.proofs.Deciding.{Answers, when_wrong}
 use Rattle.jv_rules.proofs.Tests.{holds, fails, decides_as, any_decides, nothing_in, in_cases, in_first, in_later, some-Decides}
 use Rattle.jv_types.specs.declared.demands.Demand.{Demand}
 use Rattle.jv_types.specs.declared.demands.Demand.TheVariants as demands
-use Rattle.jv_types.specs.inner.Declaring.{is_usable_class, is_usable, unknown_class, offers_of, is_instance, missing_method, type_eq, types_eq, all_in, are_constants, are_labels_of, other_labels, breaks, broken_method, is_int, is_truth, is_text, is_member_of, is_constant_named, is_constant_of, needs_value, lacks_constant, field_needs_value, plain_member}
+use Rattle.jv_types.specs.inner.Declaring.{is_usable_class, is_usable, unknown_class, offers_of, is_instance, missing_method, type_eq}
+use Rattle.jv_types.specs.inner.Declaring.{types_eq, all_in, are_constants, are_labels_of, other_labels, breaks, broken_method, is_int}
+use Rattle.jv_types.specs.inner.Declaring.{is_truth, is_text, is_member_of, is_constant_named, is_constant_of, needs_value, lacks_constant}
+use Rattle.jv_types.specs.inner.Declaring.{field_needs_value, plain_member}
 
 -- a test that decides that something is wrong
 wrong : (P : Type 0) (b : Bool) (k : Culprit) → Decides b P → Answers (λ c. (c ≡ k) × P) (when b k)
@@ -37,15 +44,18 @@ usable_class-Decides None = fails (λ h. h)
 usable_class-Decides (Some c) = some-Decides c.typestate
 
 usable-Decides : (program : Program) (name : Name) → Decides (is_usable program name) (IsUsable program name)
-usable-Decides program name = Decides-or _ _ (some-Decides (enum_named program.files name)) (usable_class-Decides (class_named program.files name))
+usable-Decides program name = Decides-or _ _ (some-Decides (enum_named program.files name))
+    (usable_class-Decides (class_named program.files name))
 
 pub unknown_class-right : (program : Program) (m : Mention) → Answers (UnknownClass program m) (unknown_class program m)
 unknown_class-right program (Written p written.Void) = λ c a. a
 unknown_class-right program (Written p written.Int) = λ c a. a
 unknown_class-right program (Written p written.Boolean) = λ c a. a
 unknown_class-right program (Written p written.Text) = λ c a. a
-unknown_class-right program (Written p (written.Named name)) = wrong_unless (IsUsable program name) (is_usable program name) (culprit p name) (usable-Decides program name)
-unknown_class-right program (Made p name) = wrong_unless (IsUsableClass (class_named program.files name)) _ (culprit p name) (usable_class-Decides (class_named program.files name))
+unknown_class-right program (Written p (written.Named name)) = wrong_unless (IsUsable program name) (is_usable program name)
+    (culprit p name) (usable-Decides program name)
+unknown_class-right program (Made p name) = wrong_unless (IsUsableClass (class_named program.files name)) _ (culprit p name)
+    (usable_class-Decides (class_named program.files name))
 
 -- 4
 none-Decides : {X : Type 0} (o : Option X) → Decides (not (is_some o)) (o ≡ None)
@@ -59,9 +69,13 @@ pub typestate-right : (program : Program) (c : Class) (t : Option Name) → c.ty
     Answers (UnknownTypestate program c) (typestate_answer (option_and_then (typestate_named program.typestates) t) c t)
 typestate-right program c None e = λ k a. let no : ⊥ = let h : None ≡ Some a.0 = sym e ∙ a.1 in cc in no
 typestate-right program c (Some name) e =
-    when_wrong (UnknownTypestate program c) (typestate_named program.typestates name ≡ None) (not (is_some (typestate_named program.typestates name))) (culprit c.place name)
+    when_wrong (UnknownTypestate program c) (typestate_named program.typestates name ≡ None)
+    (not (is_some (typestate_named program.typestates name))) (culprit c.place name)
     (none-Decides (typestate_named program.typestates name))
-    (λ k a. let both : Some a.0 ≡ Some name = sym a.1 ∙ e in let same : a.0 ≡ name = cc in (a.2 ∙ ap (culprit c.place) same, subst (λ n. typestate_named program.typestates n ≡ None) same a.3))
+    (λ k a. let both : Some a.0 ≡ Some name = sym a.1 ∙ e in let same : a.0 ≡ name = cc in (
+      a.2 ∙ ap (culprit c.place) same,
+      subst (λ n. typestate_named program.typestates n ≡ None) same a.3,
+    ))
     (λ n. (name, e, refl, n))
 
 -- 5
@@ -74,21 +88,25 @@ instance-Decides (Some m) = go m.is_static
     go false = holds refl
 
 pub missing_method-right : (c : Class) (m : protocols.Method) → Answers (MissingMethod (c, m)) (missing_method c m)
-missing_method-right c m = wrong_unless (IsInstance (method_named c m.name)) _ (culprit c.place m.name) (instance-Decides (method_named c m.name))
+missing_method-right c m = wrong_unless (IsInstance (method_named c m.name)) _ (culprit c.place m.name)
+    (instance-Decides (method_named c m.name))
 
 -- 6 and 7
-any_by : {X : Type 0} (p : X → Bool) (P : X → Type 0) → ((x : X) → Decides (p x) (P x)) → (xs : List X) → Decides (list_any p xs) ((x : X) × Contains xs x × P x)
+any_by : {X : Type 0} (p : X → Bool) (P : X → Type 0) → ((x : X) → Decides (p x) (P x)) → (xs : List X) →
+    Decides (list_any p xs) ((x : X) × Contains xs x × P x)
 any_by p P each [] = fails (λ h. nothing_in h.0 h.1)
 any_by {X} p P each (x ∷ xs) =
     decides_as (p x || list_any p xs) (Decides-or (p x) (list_any p xs) (each x) (any_by p P each xs))
     (λ q. ⊎_elim (λ a. (x, in_first xs x, a)) (λ h. (h.0, in_later xs x h.0 h.1, h.2)) q)
     (λ h. ⊎_elim (λ e. inl (subst P (sym e) h.2)) (λ k. inr (h.0, k, h.2)) (in_cases xs x h.0 h.1))
 
-demanded_by : (program : Program) (c : Class) (m : protocols.Method) (o : Option protocols.Typestate) → typestate_of program c ≡ o → Contains (offers_of o) m → IsDemanded program c m
+demanded_by : (program : Program) (c : Class) (m : protocols.Method) (o : Option protocols.Typestate) → typestate_of program c ≡ o →
+    Contains (offers_of o) m → IsDemanded program c m
 demanded_by program c m None e h = absurd (nothing_in m h)
 demanded_by program c m (Some t) e h = (t, e, h)
 
-offered_by : (program : Program) (c : Class) (m : protocols.Method) → IsDemanded program c m → Contains (offers_of (typestate_of program c)) m
+offered_by : (program : Program) (c : Class) (m : protocols.Method) → IsDemanded program c m → Contains (offers_of (typestate_of program c))
+    m
 offered_by program c m d = subst (λ o. Contains (offers_of o) m) (sym d.1) d.2
 
 pub type_is : (a b : TypeName) → type_eq a b ≡ true → a ≡ b
@@ -127,14 +145,18 @@ static-Decides true = fails (λ e. true≢false e)
 static-Decides false = holds refl
 
 -- what a broken method breaks
-module _ (program : Program) (k : Demand) (c : Class) (m : Method) (Breaks : protocols.Method → Type 0) (each : (d : protocols.Method) → Decides (breaks program k m d) (Breaks d)) where
+module _ (program : Program) (k : Demand) (c : Class) (m : Method) (Breaks : protocols.Method → Type 0) (each : (d : protocols.Method) →
+    Decides (breaks program k m d) (Breaks d)) where
   abbrev Broken : Type 0
-  Broken = (m.is_static ≡ false) × ((d : protocols.Method) × Contains (offers_of (typestate_of program c)) d × ((d.name ≡ m.name) × Breaks d))
+  Broken = (m.is_static ≡ false) × ((d : protocols.Method) × Contains (offers_of (typestate_of program c)) d
+      × ((d.name ≡ m.name) × Breaks d))
 
-  broken-Decides : Decides (not m.is_static && list_any (λ d. bytes_eq d.name m.name && breaks program k m d) (offers_of (typestate_of program c))) Broken
+  broken-Decides : Decides (not m.is_static && list_any (λ d. bytes_eq d.name m.name && breaks program k m d)
+      (offers_of (typestate_of program c))) Broken
   broken-Decides =
       Decides-and _ _ (static-Decides m.is_static)
-      (any_by (λ d. bytes_eq d.name m.name && breaks program k m d) (λ d. (d.name ≡ m.name) × Breaks d) (λ d. Decides-and _ _ (bytes_eq-Decides d.name m.name) (each d)) (offers_of (typestate_of program c)))
+      (any_by (λ d. bytes_eq d.name m.name && breaks program k m d) (λ d. (d.name ≡ m.name) × Breaks d)
+      (λ d. Decides-and _ _ (bytes_eq-Decides d.name m.name) (each d)) (offers_of (typestate_of program c)))
 
 abbrev owned : Class → Method → Owned
 owned c m = record { owner = c; method = m }
@@ -142,15 +164,18 @@ owned c m = record { owner = c; method = m }
 abbrev OtherSignature : Method → protocols.Method → Type 0
 OtherSignature m d = (d.result ≢ m.result) ⊎ (d.params ≢ map (λ p. p.ty) m.params)
 
-pub signature-right : (program : Program) (c : Class) (m : Method) → Answers (SignatureDiffers program (owned c m)) (broken_method program demands.OfSignature (offers_of (typestate_of program c)) m)
+pub signature-right : (program : Program) (c : Class) (m : Method) → Answers (SignatureDiffers program (owned c m))
+    (broken_method program demands.OfSignature (offers_of (typestate_of program c)) m)
 signature-right program c m =
-    when_wrong (SignatureDiffers program (owned c m)) (Broken program demands.OfSignature c m (OtherSignature m) each) _ (culprit m.place m.name)
+    when_wrong (SignatureDiffers program (owned c m)) (Broken program demands.OfSignature c m (OtherSignature m) each) _
+    (culprit m.place m.name)
     (broken-Decides program demands.OfSignature c m (OtherSignature m) each)
     (λ k a. (a.0, (a.1, (a.2, offered_by program c a.2 a.3, (a.4, a.5)))))
     (λ p. (refl, p.0, p.1.0, demanded_by program c p.1.0 (typestate_of program c) refl p.1.1, p.1.2.0, p.1.2.1))
   where
     each : (d : protocols.Method) → Decides (breaks program demands.OfSignature m d) (OtherSignature m d)
-    each d = not_both (type_eq d.result m.result) (types_eq d.params (map (λ p. p.ty) m.params)) (type-Decides d.result m.result) (types-Decides d.params (map (λ p. p.ty) m.params))
+    each d = not_both (type_eq d.result m.result) (types_eq d.params (map (λ p. p.ty) m.params)) (type-Decides d.result m.result)
+        (types-Decides d.params (map (λ p. p.ty) m.params))
 
 name_in-Decides : (names : List Name) (x : Name) → Decides (list_any (bytes_eq x) names) (Contains names x)
 name_in-Decides names x = any_decides (bytes_eq x) x (λ y. decides_as (bytes_eq x y) (bytes_eq-Decides x y) (λ e. sym e) (λ e. sym e)) names
@@ -165,10 +190,12 @@ all_in-Decides names (x ∷ xs) =
 constants-Decides : (o : Option Enum) (labels : List Name) → Decides (are_constants o labels) (AreConstants o labels)
 constants-Decides None labels = fails (λ h. h)
 constants-Decides (Some e) labels =
-    decides_as (all_in e.constants labels && all_in labels e.constants) (Decides-and _ _ (all_in-Decides e.constants labels) (all_in-Decides labels e.constants))
+    decides_as (all_in e.constants labels && all_in labels e.constants) (Decides-and _ _ (all_in-Decides e.constants labels)
+    (all_in-Decides labels e.constants))
     (λ p n. (p.0 n, p.1 n)) (λ f. (λ n. (f n).0, λ n. (f n).1))
 
-labels-Decides : (program : Program) (ty : TypeName) (labels : List Name) → Decides (are_labels_of program ty labels) (AreLabelsOf program ty labels)
+labels-Decides : (program : Program) (ty : TypeName) (labels : List Name) → Decides (are_labels_of program ty labels)
+    (AreLabelsOf program ty labels)
 labels-Decides program written.Void labels = fails (λ h. h)
 labels-Decides program written.Int labels = fails (λ h. h)
 labels-Decides program written.Boolean labels = fails (λ h. h)
@@ -178,13 +205,16 @@ labels-Decides program (written.Named name) labels = constants-Decides (enum_nam
 abbrev OtherLabels : Program → TypeName → protocols.Target → Type 0
 OtherLabels program ty target = (labels : List Name) × AnswersBy target labels × (AreLabelsOf program ty labels → ⊥)
 
-other_labels-Decides : (program : Program) (ty : TypeName) (target : protocols.Target) → Decides (other_labels program ty target) (OtherLabels program ty target)
+other_labels-Decides : (program : Program) (ty : TypeName) (target : protocols.Target) → Decides (other_labels program ty target)
+    (OtherLabels program ty target)
 other_labels-Decides program ty (protocols.One to) = fails (λ h. h.1)
 other_labels-Decides program ty (protocols.ByAnswer branches) =
-    decides_as (not (are_labels_of program ty (map (λ b. b.label) branches))) (Decides-not _ (labels-Decides program ty (map (λ b. b.label) branches)))
+    decides_as (not (are_labels_of program ty (map (λ b. b.label) branches)))
+    (Decides-not _ (labels-Decides program ty (map (λ b. b.label) branches)))
     (λ n. (map (λ b. b.label) branches, refl, n)) (λ h l. h.2 (subst (AreLabelsOf program ty) (sym h.1) l))
 
-pub labels-right : (program : Program) (c : Class) (m : Method) → Answers (LabelsDiffer program (owned c m)) (broken_method program demands.OfLabels (offers_of (typestate_of program c)) m)
+pub labels-right : (program : Program) (c : Class) (m : Method) → Answers (LabelsDiffer program (owned c m))
+    (broken_method program demands.OfLabels (offers_of (typestate_of program c)) m)
 labels-right program c m =
     when_wrong (LabelsDiffer program (owned c m)) (Broken program demands.OfLabels c m Other each) _ (culprit m.place m.name)
     (broken-Decides program demands.OfLabels c m Other each)
@@ -263,7 +293,8 @@ module _ (program : Program) where
   text-Decides (MethodCall p e n args) = fails (λ h. h)
   text-Decides (New p n) = fails (λ h. h)
 
-  member-Decides : (name : Name) (p : Place) (e : Expr) (n : Name) → Decides (is_member_of program name e n) (IsConstantOf program (written.Named name) (Member p e n))
+  member-Decides : (name : Name) (p : Place) (e : Expr) (n : Name) → Decides (is_member_of program name e n)
+      (IsConstantOf program (written.Named name) (Member p e n))
   member-Decides name p (Int q z) n = fails (λ h. h)
   member-Decides name p (Truth q b) n = fails (λ h. h)
   member-Decides name p (Text q t) n = fails (λ h. h)
@@ -312,7 +343,8 @@ module _ (program : Program) where
   lacks-Decides ty (Some e) = Decides-not _ (constant_of-Decides ty e)
 
   pub field-right : (f : Field) → Answers (FieldNeedsValue program f) (field_needs_value program f)
-  field-right f = wrong (LacksConstant program f.ty f.value) (lacks_constant program f.ty f.value) (culprit f.place f.name) (lacks-Decides f.ty f.value)
+  field-right f = wrong (LacksConstant program f.ty f.value) (lacks_constant program f.ty f.value) (culprit f.place f.name)
+      (lacks-Decides f.ty f.value)
 
 -- 9
 abbrev standing : Option Name → ClassMember → Standing
@@ -323,5 +355,6 @@ plain-right (Some t) (OfField f) = λ c a. let no : ⊥ = let h : Some t ≡ Non
 plain-right (Some t) (OfMethod m) = λ c a. let no : ⊥ = let h : Some t ≡ None = a.1 in cc in no
 plain-right None (OfField f) = (refl, refl)
 plain-right None (OfMethod m) =
-    when_wrong (InstanceInPlain (standing None (OfMethod m))) (m.is_static ≡ false) (not m.is_static) (culprit m.place []) (static-Decides m.is_static)
+    when_wrong (InstanceInPlain (standing None (OfMethod m))) (m.is_static ≡ false) (not m.is_static) (culprit m.place [])
+    (static-Decides m.is_static)
     (λ c a. (a.0, a.2)) (λ e. (refl, refl, e))

@@ -1,5 +1,6 @@
 -- What a typestate demands of the methods of its class, by the names of those that break it.
-use Rattle.std.proofs.Common.{◌≡◌, List, [], ◌∷◌, ◌++◌, map, Option, Some, None, Bool, true, false, not, ◌&&◌, ◌||◌, cond, Contains, refl, sym, ap, subst, ◌∙◌, true≢false}
+use Rattle.std.proofs.Common.{◌≡◌, List, [], ◌∷◌, ◌++◌, map, Option, Some, None, Bool, true, false, not, ◌&&◌, ◌||◌, cond, Contains, refl}
+use Rattle.std.proofs.Common.{sym, ap, subst, ◌∙◌, true≢false}
 use Rattle.std.specs.Prelude.{is_some, position}
 use Rattle.std.specs.List.{list_any, find}
 use Rattle.std.specs.Option.{option_or}
@@ -33,9 +34,11 @@ in_any names n = any_at n names
 -- a table has the names that were noted in it
 pub all_noted : (xs ns : List Name) → all_in (noted [] ns) xs ≡ all_in ns xs
 all_noted [] ns = refl
-all_noted (x ∷ xs) ns = ap (λ b. b && all_in (noted [] ns) xs) (any_noted x [] ns) ∙ ap (λ b. list_any (bytes_eq x) ns && b) (all_noted xs ns)
+all_noted (x ∷ xs) ns = ap (λ b. b && all_in (noted [] ns) xs) (any_noted x [] ns) ∙ ap (λ b. list_any (bytes_eq x) ns && b)
+    (all_noted xs ns)
 
-pub all-found : (names xs : List Name) (x : Name) (b : Bool) → b ≡ is_some (position (bytes_eq x) names) → all_in names (x ∷ xs) ≡ (b && all_in names xs)
+pub all-found : (names xs : List Name) (x : Name) (b : Bool) → b ≡ is_some (position (bytes_eq x) names) →
+    all_in names (x ∷ xs) ≡ (b && all_in names xs)
 all-found names xs x b e = ap (λ c. c && all_in names xs) (sym (e ∙ any_at x names))
 
 pub ruleset tables = (common_steps, all_noted, all-found, any_at)
@@ -84,22 +87,27 @@ module _ (program : Program) (k : Demand) (c : Class) where
         none true = refl
         none false = refl
 
-        go : (b : Bool) → bytes_eq m.name d.name ≡ b → (b && breaks_it program k (method_named c d.name) d) ≡ (not m.is_static && (bytes_eq d.name m.name && breaks program k m d))
+        go : (b : Bool) → bytes_eq m.name d.name ≡ b → (b && breaks_it program k (method_named c d.name) d) ≡
+            (not m.is_static && (bytes_eq d.name m.name && breaks program k m d))
         go true e =
             let same : m.name ≡ d.name = (bytes_eq-Decides m.name d.name).0 e in
             ap (λ o. breaks_it program k o d) (ap (method_named c) (sym same) ∙ is)
             ∙ ap (λ b. not m.is_static && (b && breaks program k m d)) (sym (bytes_eq_flip d.name m.name ∙ e))
-        go false e = none (not m.is_static) ∙ ap (λ b. not m.is_static && (b && breaks program k m d)) (sym (bytes_eq_flip d.name m.name ∙ e))
+        go false e = none (not m.is_static) ∙ ap (λ b. not m.is_static && (b && breaks program k m d))
+            (sym (bytes_eq_flip d.name m.name ∙ e))
 
-    out_of : (ds : List protocols.Method) → list_any (is_broken m.name) ds ≡ (not m.is_static && list_any (λ d. bytes_eq d.name m.name && breaks program k m d) ds)
+    out_of : (ds : List protocols.Method) →
+        list_any (is_broken m.name) ds ≡ (not m.is_static && list_any (λ d. bytes_eq d.name m.name && breaks program k m d) ds)
     out_of [] = go (not m.is_static)
       where
         go : (a : Bool) → false ≡ (a && false)
         go true = refl
         go false = refl
     out_of (d ∷ ds) =
-        ap (λ b. b || list_any (is_broken m.name) ds) (at_name d) ∙ ap (λ b. (not m.is_static && (bytes_eq d.name m.name && breaks program k m d)) || b) (out_of ds)
-        ∙ go (not m.is_static) (bytes_eq d.name m.name && breaks program k m d) (list_any (λ d. bytes_eq d.name m.name && breaks program k m d) ds)
+        ap (λ b. b || list_any (is_broken m.name) ds) (at_name d) ∙
+        ap (λ b. (not m.is_static && (bytes_eq d.name m.name && breaks program k m d)) || b) (out_of ds)
+        ∙ go (not m.is_static) (bytes_eq d.name m.name && breaks program k m d)
+        (list_any (λ d. bytes_eq d.name m.name && breaks program k m d) ds)
       where
         go : (a x y : Bool) → ((a && x) || (a && y)) ≡ (a && (x || y))
         go true x y = refl
@@ -122,9 +130,11 @@ differs met m n e = go (bytes_eq m n) refl
     go false h = refl
 
 -- where all names are new, each method is the one of its name
-module _ (whole : List Method) (f g : Method → Option Culprit) (h : (m : Method) → find (λ x. bytes_eq x.name m.name) whole ≡ Some m → f m ≡ g m) where
+module _ (whole : List Method) (f g : Method → Option Culprit) (h : (m : Method) → find (λ x. bytes_eq x.name m.name) whole ≡ Some m →
+    f m ≡ g m) where
   agree : (ms : List Method) (met : List Name) → are_new met (map (λ m. m.name) ms) ≡ true →
-      ((n : Name) → is_in met n ≡ false → find (λ x. bytes_eq x.name n) whole ≡ find (λ x. bytes_eq x.name n) ms) → first_by f ms ≡ first_by g ms
+      ((n : Name) → is_in met n ≡ false → find (λ x. bytes_eq x.name n) whole ≡ find (λ x. bytes_eq x.name n) ms) →
+      first_by f ms ≡ first_by g ms
   agree [] met e skip = refl
   agree (m ∷ ms) met e skip =
       let s = new_split met (map (λ x. x.name) ms) m.name e in
@@ -139,23 +149,30 @@ module _ (whole : List Method) (f g : Method → Option Culprit) (h : (m : Metho
   agree_all e = agree whole [] e (λ n new. refl)
 
 -- the first of those whose names are of what is broken
-pub class_broken : (program : Program) (k : Demand) (c : Class) (ds : List protocols.Method) → are_new [] (map (λ m. m.name) c.methods) ≡ true →
+pub class_broken : (program : Program) (k : Demand) (c : Class) (ds : List protocols.Method) → are_new [] (map (λ m. m.name) c.methods) ≡
+    true →
     first_by (broken_by_name (broken_names program k c [] ds)) c.methods ≡ first_by (broken_method program k ds) c.methods
 class_broken program k c ds e =
-    agree_all c.methods (broken_by_name (broken_names program k c [] ds)) (broken_method program k ds) (λ m is. named_broken program k c m is ds) e
+    agree_all c.methods (broken_by_name (broken_names program k c [] ds)) (broken_method program k ds)
+    (λ m is. named_broken program k c m is ds) e
 
 pub nothing_demanded : (program : Program) (k : Demand) (ms : List Method) → first_by (broken_method program k []) ms ≡ None
 nothing_demanded program k [] = refl
-nothing_demanded program k (m ∷ ms) = ap (λ b. option_or (when b (culprit m.place m.name)) (first_by (broken_method program k []) ms)) (go (not m.is_static)) ∙ nothing_demanded program k ms
+nothing_demanded program k (m ∷ ms) = ap (λ b. option_or (when b (culprit m.place m.name)) (first_by (broken_method program k []) ms))
+    (go (not m.is_static)) ∙ nothing_demanded program k ms
   where
     go : (b : Bool) → (b && false) ≡ false
     go true = refl
     go false = refl
 
 -- the first of those that were noted
-pub first_broken : (program : Program) (k : Demand) (c : Class) (ds : List protocols.Method) (met : List Name) (ms : List MethodDecl) (r : Option Culprit) →
-    are_new [] (map (λ m. m.name) ms) ≡ true → c.methods ≡ map source_of ms → met ≡ broken_names program k c [] ds → r ≡ first_by (broken_by_name met) (map source_of ms) →
+pub first_broken : (program : Program) (k : Demand) (c : Class) (ds : List protocols.Method) (met : List Name) (ms : List MethodDecl)
+    (r : Option Culprit) →
+    are_new [] (map (λ m. m.name) ms) ≡ true → c.methods ≡ map source_of ms → met ≡ broken_names program k c [] ds →
+    r ≡ first_by (broken_by_name met) (map source_of ms) →
     r ≡ first_by (broken_method program k ds) c.methods
 first_broken program k c ds met ms r new same noted is =
-    is ∙ ap (λ n. first_by (broken_by_name n) (map source_of ms)) noted ∙ ap (first_by (broken_by_name (broken_names program k c [] ds))) (sym same)
-    ∙ class_broken program k c ds (ap (λ l. are_new [] (map (λ m. m.name) l)) same ∙ ap (are_new []) (map-map source_of (λ m. m.name) ms) ∙ new)
+    is ∙ ap (λ n. first_by (broken_by_name n) (map source_of ms)) noted ∙ ap (first_by (broken_by_name (broken_names program k c [] ds)))
+    (sym same)
+    ∙ class_broken program k c ds (ap (λ l. are_new [] (map (λ m. m.name) l)) same ∙ ap (are_new []) (map-map source_of (λ m. m.name) ms) ∙
+    new)

@@ -1,5 +1,6 @@
 -- What the entries of a program are found to be.
-use Rattle.std.proofs.Common.{◌≡◌, ℕ, zero, suc, ◌<◌, List, [], ◌∷◌, ◌++◌, map, length, get_or, Option, Some, None, refl, sym, ap, ◌∙◌, arith, position}
+use Rattle.std.proofs.Common.{◌≡◌, ℕ, zero, suc, ◌<◌, List, [], ◌∷◌, ◌++◌, map, length, get_or, Option, Some, None, refl, sym, ap, ◌∙◌}
+use Rattle.std.proofs.Common.{arith, position}
 use Rattle.std.specs.List.{find}
 use Rattle.std.specs.Str.{bytes_eq}
 use Rattle.mg_text.specs.Call.{Name}
@@ -10,7 +11,8 @@ use Rattle.jv_tree.specs.declared.tree.Decl.{Decl}
 use Rattle.jv_tree.specs.declared.tree.Decl.TheVariants as decls
 use Rattle.jv_tree.specs.declared.tree.File.{File}
 use Rattle.jv_tree.specs.View.{class_of, enum_of, decl_of, file_of}
-use Rattle.jv_meaning.specs.Program.{class_in as class_in_decl, enum_in as enum_in_decl, classes_of, enums_of, class_named, enum_named, typestate_named}
+use Rattle.jv_meaning.specs.Program.{class_in as class_in_decl, enum_in as enum_in_decl, classes_of, enums_of, class_named, enum_named}
+use Rattle.jv_meaning.specs.Program.{typestate_named}
 use Rattle.jv_types.specs.View.{program_of}
 use Rattle.jv_types.specs.declared.entry.ClassEntry.{ClassEntry}
 use Rattle.jv_types.specs.declared.entry.EnumEntry.{EnumEntry}
@@ -24,7 +26,8 @@ map-map f g [] = refl
 map-map f g (x ∷ xs) = ap (λ zs. g (f x) ∷ zs) (map-map f g xs)
 
 -- equal images agree at each place
-pub same_at : {X Y : Type 0} (f g : X → Y) (xs : List X) → map f xs ≡ map g xs → (i : ℕ) (x : X) → i < length xs → x ≡ get_or xs i x → f x ≡ g x
+pub same_at : {X Y : Type 0} (f g : X → Y) (xs : List X) → map f xs ≡ map g xs → (i : ℕ) (x : X) → i < length xs → x ≡ get_or xs i x →
+    f x ≡ g x
 same_at f g [] e i x within is = let no : ⊥ = omega arith in absurd no
 same_at f g (y ∷ xs) e zero x within is = ap f is ∙ first ∙ sym (ap g is)
   where
@@ -35,7 +38,8 @@ same_at f g (y ∷ xs) e (suc i) x within is = same_at f g xs rest i x (omega ar
     rest : map f xs ≡ map g xs
     rest = cc
 
-module _ {X Y : Type 0} (name : Name) (names : List Name) (xs : List X) (view : X → Y) (key : Y → Name) (ys : List Y) (all : map view xs ≡ ys) (named : names ≡ map key ys) where
+module _ {X Y : Type 0} (name : Name) (names : List Name) (xs : List X) (view : X → Y) (key : Y → Name) (ys : List Y)
+    (all : map view xs ≡ ys) (named : names ≡ map key ys) where
   keys : map (λ x. key (view x)) xs ≡ names
   keys = sym (map-map view key xs) ∙ ap (map key) all ∙ sym named
 
@@ -47,10 +51,12 @@ module _ {X Y : Type 0} (name : Name) (names : List Name) (xs : List X) (view : 
     within_entries = found_within name (λ x. key (view x)) view key (λ x. refl) xs i placed
 
     pub found_entry : (zs : List X) → zs ≡ xs → (x : X) → x ≡ get_or zs i x → Some (view x) ≡ find (λ y. bytes_eq (key y) name) ys
-    found_entry zs same x is = found_at name (λ z. key (view z)) view key (λ z. refl) xs zs same i x placed is ∙ ap (find (λ y. bytes_eq (key y) name)) all
+    found_entry zs same x is = found_at name (λ z. key (view z)) view key (λ z. refl) xs zs same i x placed is ∙
+        ap (find (λ y. bytes_eq (key y) name)) all
 
   pub no_entry : None ≡ position (bytes_eq name) names → None ≡ find (λ y. bytes_eq (key y) name) ys
-  no_entry none = found_none name (λ z. key (view z)) view key (λ z. refl) xs (ap (position (bytes_eq name)) keys ∙ sym none) ∙ ap (find (λ y. bytes_eq (key y) name)) all
+  no_entry none = found_none name (λ z. key (view z)) view key (λ z. refl) xs (ap (position (bytes_eq name)) keys ∙ sym none) ∙
+      ap (find (λ y. bytes_eq (key y) name)) all
 
 decl_classes : (ds : List Decl) → map class_of (flat_map class_kept ds) ≡ flat_map class_in_decl (map decl_of ds)
 decl_classes [] = refl
@@ -77,7 +83,8 @@ enums_kept (f ∷ fs) =
     ∙ ap (λ es. es ++ map enum_of (kept_enums fs)) (decl_enums f.decls.items)
     ∙ ap (λ es. flat_map enum_in_decl (map decl_of f.decls.items) ++ es) (enums_kept fs)
 
-module _ {files : List File} {typestates : List Typestate} {protocols : List Protocol} {typestate_names : List Name} {classes : List ClassEntry} {class_names : List Name} {enums : List EnumEntry} {enum_names : List Name}
+module _ {files : List File} {typestates : List Typestate} {protocols : List Protocol} {typestate_names : List Name}
+    {classes : List ClassEntry} {class_names : List Name} {enums : List EnumEntry} {enum_names : List Name}
     (t : IsTabled files typestates protocols typestate_names classes class_names enums enum_names) where
   pub all_classes_in : map class_in classes ≡ classes_of (map file_of files)
   all_classes_in = sym (map-map (λ e. e.class.now) class_of classes) ∙ ap (map class_of) t.all_classes ∙ classes_kept files
@@ -86,7 +93,8 @@ module _ {files : List File} {typestates : List Typestate} {protocols : List Pro
   all_enums_in = sym (map-map (λ e. e.of.now) enum_of enums) ∙ ap (map enum_of) t.all_enums ∙ enums_kept files
 
   pub classes_are_named : class_names ≡ map (λ c. c.name) (classes_of (map file_of files))
-  classes_are_named = t.classes_named ∙ sym (map-map class_of (λ c. c.name) (kept_classes files)) ∙ ap (map (λ c. c.name)) (classes_kept files)
+  classes_are_named = t.classes_named ∙ sym (map-map class_of (λ c. c.name) (kept_classes files)) ∙ ap (map (λ c. c.name))
+      (classes_kept files)
 
   pub enums_are_named : enum_names ≡ map (λ e. e.name) (enums_of (map file_of files))
   enums_are_named = t.enums_named ∙ sym (map-map enum_of (λ e. e.name) (kept_enums files)) ∙ ap (map (λ e. e.name)) (enums_kept files)
@@ -99,38 +107,50 @@ module _ {files : List File} {typestates : List Typestate} {protocols : List Pro
 
   module _ (name : Name) (i : ℕ) where
     pub protocol_within : Some i ≡ position (bytes_eq name) typestate_names → i < length protocols
-    protocol_within at = within_entries name typestate_names protocols (λ p. p.of.now) (λ x. x.name) typestates t.all_typestates t.typestates_named i at
+    protocol_within at = within_entries name typestate_names protocols (λ p. p.of.now) (λ x. x.name) typestates t.all_typestates
+        t.typestates_named i at
 
     pub class_within : Some i ≡ position (bytes_eq name) class_names → i < length classes
-    class_within at = within_entries name class_names classes class_in (λ c. c.name) (classes_of (map file_of files)) all_classes_in classes_are_named i at
+    class_within at = within_entries name class_names classes class_in (λ c. c.name) (classes_of (map file_of files)) all_classes_in
+        classes_are_named i at
 
     pub enum_within : Some i ≡ position (bytes_eq name) enum_names → i < length enums
-    enum_within at = within_entries name enum_names enums enum_in (λ e. e.name) (enums_of (map file_of files)) all_enums_in enums_are_named i at
+    enum_within at = within_entries name enum_names enums enum_in (λ e. e.name) (enums_of (map file_of files)) all_enums_in enums_are_named
+        i at
 
-    pub class_found : Some i ≡ position (bytes_eq name) class_names → (x : ClassEntry) → x ≡ get_or classes i x → Some (class_in x) ≡ class_named (map file_of files) name
+    pub class_found : Some i ≡ position (bytes_eq name) class_names → (x : ClassEntry) → x ≡ get_or classes i x →
+        Some (class_in x) ≡ class_named (map file_of files) name
     class_found at x is =
-        found_entry name class_names classes class_in (λ c. c.name) (classes_of (map file_of files)) all_classes_in classes_are_named i at classes refl x is
+        found_entry name class_names classes class_in (λ c. c.name) (classes_of (map file_of files)) all_classes_in classes_are_named i at
+        classes refl x is
 
-    pub enum_found : Some i ≡ position (bytes_eq name) enum_names → (x : EnumEntry) → x ≡ get_or enums i x → Some (enum_in x) ≡ enum_named (map file_of files) name
+    pub enum_found : Some i ≡ position (bytes_eq name) enum_names → (x : EnumEntry) → x ≡ get_or enums i x →
+        Some (enum_in x) ≡ enum_named (map file_of files) name
     enum_found at x is =
-        found_entry name enum_names enums enum_in (λ e. e.name) (enums_of (map file_of files)) all_enums_in enums_are_named i at enums refl x is
+        found_entry name enum_names enums enum_in (λ e. e.name) (enums_of (map file_of files)) all_enums_in enums_are_named i at enums refl
+        x is
 
   pub class_missing : (name : Name) → None ≡ position (bytes_eq name) class_names → None ≡ class_named (map file_of files) name
-  class_missing name none = no_entry name class_names classes class_in (λ c. c.name) (classes_of (map file_of files)) all_classes_in classes_are_named none
+  class_missing name none = no_entry name class_names classes class_in (λ c. c.name) (classes_of (map file_of files)) all_classes_in
+      classes_are_named none
 
   pub enum_missing : (name : Name) → None ≡ position (bytes_eq name) enum_names → None ≡ enum_named (map file_of files) name
-  enum_missing name none = no_entry name enum_names enums enum_in (λ e. e.name) (enums_of (map file_of files)) all_enums_in enums_are_named none
+  enum_missing name none = no_entry name enum_names enums enum_in (λ e. e.name) (enums_of (map file_of files)) all_enums_in enums_are_named
+      none
 
   -- the typestate that is named, by a text that is its name
   module _ (o : Option Name) (n : Name) (named : o ≡ Some n) (text : Name) (same : text ≡ n) where
     follow_named : typestate_named typestates text ≡ option_and_then (typestate_named typestates) o
     follow_named = ap (typestate_named typestates) same ∙ ap (option_and_then (typestate_named typestates)) (sym named)
 
-    pub protocol_found : (i : ℕ) → Some i ≡ position (bytes_eq text) typestate_names → (x : Protocol) → x ≡ get_or protocols i x → Some x.of.now ≡ option_and_then (typestate_named typestates) o
+    pub protocol_found : (i : ℕ) → Some i ≡ position (bytes_eq text) typestate_names → (x : Protocol) → x ≡ get_or protocols i x →
+        Some x.of.now ≡ option_and_then (typestate_named typestates) o
     protocol_found i at x is =
-        found_entry text typestate_names protocols (λ p. p.of.now) (λ y. y.name) typestates t.all_typestates t.typestates_named i at protocols refl x is ∙ follow_named
+        found_entry text typestate_names protocols (λ p. p.of.now) (λ y. y.name) typestates t.all_typestates t.typestates_named i at
+        protocols refl x is ∙ follow_named
 
     pub protocol_missing : None ≡ position (bytes_eq text) typestate_names → None ≡ option_and_then (typestate_named typestates) o
-    protocol_missing none = no_entry text typestate_names protocols (λ p. p.of.now) (λ y. y.name) typestates t.all_typestates t.typestates_named none ∙ follow_named
+    protocol_missing none = no_entry text typestate_names protocols (λ p. p.of.now) (λ y. y.name) typestates t.all_typestates
+        t.typestates_named none ∙ follow_named
 
 pub ruleset within = (class_within, enum_within, protocol_within)

@@ -1,5 +1,6 @@
 -- How statements one after another are left, and the groups of a switch.
-use Rattle.std.proofs.Common.{◌≡◌, ℕ, ◌+◌, ◌<◌, ◌≤◌, List, ◌∷◌, map, length, drop, get_or, Option, Bool, true, false, ◌&&◌, ◌||◌, refl, sym, ap, ◌∙◌}
+use Rattle.std.proofs.Common.{◌≡◌, ℕ, ◌+◌, ◌<◌, ◌≤◌, List, ◌∷◌, map, length, drop, get_or, Option, Bool, true, false, ◌&&◌, ◌||◌, refl, sym}
+use Rattle.std.proofs.Common.{ap, ◌∙◌}
 use Rattle.std.specs.List.{list_any}
 use Rattle.std.proofs.Math.Bool.{or-false}
 use Rattle.std.proofs.Math.ListN.{drop_of_length-le}
@@ -33,33 +34,41 @@ module _ (all : Stmts) (before : Met) where
   left_start = record { through = refl; exits = λ l. refl }
 
   module _ (now : Met) (xs : List KeptStmt) (i : ℕ) where
-    pub left_done : length xs ≤ i → AreLeft all (stmts_of (map stmt_of (drop i xs))) before now → (leaves_all all Through ≡ true) × Adds (leaves_all all) before now
+    pub left_done : length xs ≤ i → AreLeft all (stmts_of (map stmt_of (drop i xs))) before now → (leaves_all all Through ≡ true)
+        × Adds (leaves_all all) before now
     left_done past h =
         let none = drop_of_length-le xs past in (
           h.through ∙ ap (λ (ys : List KeptStmt). leaves_all (stmts_of (map stmt_of ys)) Through) none,
-          λ l. sym (h.exits l ∙ ap (λ (ys : List KeptStmt). both (now l) (jumps_by (leaves_all (stmts_of (map stmt_of ys))) l)) none ∙ both_none (now l)),
+          λ l. sym (h.exits l ∙ ap (λ (ys : List KeptStmt). both (now l) (jumps_by (leaves_all (stmts_of (map stmt_of ys))) l)) none ∙
+              both_none (now l)),
         )
 
-    module _ (x : KeptStmt) (within : i < length xs) (is : x ≡ get_or xs i x) (new : Met) (h : AreLeft all (stmts_of (map stmt_of (drop i xs))) before now) (adds : Adds (leaves (stmt_of x)) now new) where
+    module _ (x : KeptStmt) (within : i < length xs) (is : x ≡ get_or xs i x) (new : Met)
+        (h : AreLeft all (stmts_of (map stmt_of (drop i xs))) before now) (adds : Adds (leaves (stmt_of x)) now new) where
       abbrev more : Stmts
       more = stmts_of (map stmt_of (drop (i + 1) xs))
 
       -- the statement, and the others where it completes
       abbrev onward : Bool → Option Name → Stmts → Jumps
-      onward b l rest = jumps (leaves (stmt_of x) (Breaks l) || (b && leaves_all rest (Breaks l))) (leaves (stmt_of x) (Continues l) || (b && leaves_all rest (Continues l)))
+      onward b l rest = jumps (leaves (stmt_of x) (Breaks l) || (b && leaves_all rest (Breaks l)))
+          (leaves (stmt_of x) (Continues l) || (b && leaves_all rest (Continues l)))
 
       through_is : (b : Bool) → leaves (stmt_of x) Through ≡ b → leaves_all all Through ≡ (b && leaves_all more Through)
-      through_is b e = h.through ∙ ap (λ (ys : List KeptStmt). leaves_all (stmts_of (map stmt_of ys)) Through) (drop_at xs i x within is) ∙ ap (λ c. c && leaves_all more Through) e
+      through_is b e = h.through ∙ ap (λ (ys : List KeptStmt). leaves_all (stmts_of (map stmt_of ys)) Through) (drop_at xs i x within is) ∙
+          ap (λ c. c && leaves_all more Through) e
 
-      exits_are : (b : Bool) → leaves (stmt_of x) Through ≡ b → (l : Option Name) → both (before l) (jumps_by (leaves_all all) l) ≡ both (now l) (onward b l more)
+      exits_are : (b : Bool) → leaves (stmt_of x) Through ≡ b → (l : Option Name) → both (before l) (jumps_by (leaves_all all) l) ≡ both
+          (now l) (onward b l more)
       exits_are b e l =
-          h.exits l ∙ ap (λ (ys : List KeptStmt). both (now l) (jumps_by (leaves_all (stmts_of (map stmt_of ys))) l)) (drop_at xs i x within is)
+          h.exits l ∙ ap (λ (ys : List KeptStmt). both (now l) (jumps_by (leaves_all (stmts_of (map stmt_of ys))) l))
+          (drop_at xs i x within is)
           ∙ ap (λ c. both (now l) (onward c l more)) e
 
       pub left_more : leaves (stmt_of x) Through ≡ true → AreLeft all more before new
       left_more e = record {
         through = through_is true e;
-        exits = λ l. exits_are true e l ∙ sym (both_assoc (now l) (jumps_by (leaves (stmt_of x)) l) (jumps_by (leaves_all more) l)) ∙ ap (λ j. both j (jumps_by (leaves_all more) l)) (sym (adds l));
+        exits = λ l. exits_are true e l ∙ sym (both_assoc (now l) (jumps_by (leaves (stmt_of x)) l) (jumps_by (leaves_all more) l)) ∙
+            ap (λ j. both j (jumps_by (leaves_all more) l)) (sym (adds l));
       }
 
       alone : (l : Option Name) → onward false l more ≡ jumps_by (leaves (stmt_of x)) l
@@ -79,7 +88,8 @@ last_start : (all : Groups) → leaves_last all ≡ last_or false all
 last_start NoGroup = refl
 last_start (Group labels body end rest) = refl
 
-last_more : (labels : List (Option Name)) (body : Stmts) (end : Place) (rest : Groups) → leaves_last (Group labels body end rest) ≡ last_or (leaves_all body Through) rest
+last_more : (labels : List (Option Name)) (body : Stmts) (end : Place) (rest : Groups) → leaves_last (Group labels body end rest) ≡ last_or
+    (leaves_all body Through) rest
 last_more labels body end NoGroup = refl
 last_more labels body end (Group l b e rest) = refl
 
@@ -87,31 +97,41 @@ module _ (gs : List KeptGroup) (i : ℕ) (g : KeptGroup) (within : i < length gs
   abbrev others : Groups
   others = groups_of (map group_of (drop (i + 1) gs))
 
-  group_at : groups_of (map group_of (drop i gs)) ≡ Group (out-Group g).labels.items (stmts_of (map stmt_of (out-Group g).body.items)) (out-Group g).end others
-  group_at = ap (λ (ys : List KeptGroup). groups_of (map group_of ys)) (drop_at gs i g within is) ∙ ap (λ o. groups_of (o ∷ map group_of (drop (i + 1) gs))) (group_of-is g)
+  group_at : groups_of (map group_of (drop i gs)) ≡ Group (out-Group g).labels.items (stmts_of (map stmt_of (out-Group g).body.items))
+      (out-Group g).end others
+  group_at = ap (λ (ys : List KeptGroup). groups_of (map group_of ys)) (drop_at gs i g within is) ∙
+      ap (λ o. groups_of (o ∷ map group_of (drop (i + 1) gs))) (group_of-is g)
 
-  pub default_at : (labels : List (Option Name)) → labels ≡ (out-Group g).labels.items → has_default (groups_of (map group_of (drop i gs))) ≡ (list_any is_default labels || has_default others)
+  pub default_at : (labels : List (Option Name)) → labels ≡ (out-Group g).labels.items → has_default (groups_of (map group_of (drop i gs)))
+      ≡ (list_any is_default labels || has_default others)
   default_at labels e = ap has_default group_at ∙ ap (λ ls. list_any is_default ls || has_default others) (sym e)
 
-  pub groups_more : (all : Groups) (before now new : Met) (done b : Bool) (body : List KeptStmt) → body ≡ (out-Group g).body.items → GroupsAreLeft all (groups_of (map group_of (drop i gs))) before now done →
-      b ≡ leaves_all (stmts_of (map stmt_of body)) Through → Adds (leaves_all (stmts_of (map stmt_of body))) now new → GroupsAreLeft all others before new b
+  pub groups_more : (all : Groups) (before now new : Met) (done b : Bool) (body : List KeptStmt) → body ≡ (out-Group g).body.items →
+      GroupsAreLeft all (groups_of (map group_of (drop i gs))) before now done →
+      b ≡ leaves_all (stmts_of (map stmt_of body)) Through → Adds (leaves_all (stmts_of (map stmt_of body))) now new →
+      GroupsAreLeft all others before new b
   groups_more all before now new done b body e h k adds =
-      let whole = group_at ∙ ap (λ (ys : List KeptStmt). Group (out-Group g).labels.items (stmts_of (map stmt_of ys)) (out-Group g).end others) (sym e) in
+      let whole = group_at ∙ ap (λ (ys : List KeptStmt). Group (out-Group g).labels.items (stmts_of (map stmt_of ys)) (out-Group g).end
+      others) (sym e) in
       record {
-        last = h.last ∙ ap (last_or done) whole ∙ last_more (out-Group g).labels.items (stmts_of (map stmt_of body)) (out-Group g).end others ∙ ap (λ c. last_or c others) (sym k);
+        last = h.last ∙ ap (last_or done) whole ∙ last_more (out-Group g).labels.items (stmts_of (map stmt_of body)) (out-Group g).end
+            others ∙ ap (λ c. last_or c others) (sym k);
         exits = λ l. h.exits l ∙ ap (λ z. both (now l) (jumps_by (leaves_some z) l)) whole
-            ∙ sym (both_assoc (now l) (jumps_by (leaves_all (stmts_of (map stmt_of body))) l) (jumps_by (leaves_some others) l)) ∙ ap (λ j. both j (jumps_by (leaves_some others) l)) (sym (adds l));
+            ∙ sym (both_assoc (now l) (jumps_by (leaves_all (stmts_of (map stmt_of body))) l) (jumps_by (leaves_some others) l)) ∙
+            ap (λ j. both j (jumps_by (leaves_some others) l)) (sym (adds l));
       }
 
 pub groups_start : (all : Groups) (before : Met) → GroupsAreLeft all all before before false
 groups_start all before = record { last = last_start all; exits = λ l. refl }
 
-pub groups_done : (gs : List KeptGroup) (i : ℕ) → length gs ≤ i → (all : Groups) (before now : Met) (done : Bool) → GroupsAreLeft all (groups_of (map group_of (drop i gs))) before now done →
+pub groups_done : (gs : List KeptGroup) (i : ℕ) → length gs ≤ i → (all : Groups) (before now : Met) (done : Bool) →
+    GroupsAreLeft all (groups_of (map group_of (drop i gs))) before now done →
     (leaves_last all ≡ done) × Adds (leaves_some all) before now
 groups_done gs i past all before now done h =
     let none = drop_of_length-le gs past in (
       h.last ∙ ap (λ (ys : List KeptGroup). last_or done (groups_of (map group_of ys))) none,
-      λ l. sym (h.exits l ∙ ap (λ (ys : List KeptGroup). both (now l) (jumps_by (leaves_some (groups_of (map group_of ys))) l)) none ∙ both_none (now l)),
+      λ l. sym (h.exits l ∙ ap (λ (ys : List KeptGroup). both (now l) (jumps_by (leaves_some (groups_of (map group_of ys))) l)) none ∙
+          both_none (now l)),
     )
 
 pub default_done : (gs : List KeptGroup) (i : ℕ) → length gs ≤ i → has_default (groups_of (map group_of (drop i gs))) ≡ false

@@ -1,5 +1,6 @@
 -- One more local, and one less.
-use Rattle.std.proofs.Common.{◌≡◌, ℕ, suc, ◌-◌, ◌<◌, List, [], ◌∷◌, ◌++◌, map, reverse, length, drop, Option, Some, None, Bool, true, false, not, ◌&&◌, cond, Decides, String, string_bytes, refl, sym, ap, ◌∙◌, true≢false, arith}
+use Rattle.std.proofs.Common.{◌≡◌, ℕ, suc, ◌-◌, ◌<◌, List, [], ◌∷◌, ◌++◌, map, reverse, length, drop, Option, Some, None, Bool, true, false}
+use Rattle.std.proofs.Common.{not, ◌&&◌, cond, Decides, String, string_bytes, refl, sym, ap, ◌∙◌, true≢false, arith}
 use Rattle.std.specs.HashMap.{HashMap, get_by_text, UpdatesBy}
 use Rattle.std.specs.Option.{option_map, is_some}
 use Rattle.std.specs.Str.{bytes_eq}
@@ -20,7 +21,8 @@ seen_push stack d = ap reverse (map-append declared_seen stack (d ∷ [])) ∙ r
 module _ (locals : List Declared) (d : Declared) (get get' : Name → Option KeptType) where
   module _ (ty : KeptType) (is : type_seen ty ≡ d.type) (h : AreLookedUp get locals) (new : declared_named locals d.name ≡ None)
       (u : (q : Name) → get' q ≡ cond (bytes_eq d.name q) (Some ty) (get q)) where
-    one_more : (b : Bool) (q : Name) → option_map type_seen (cond b (Some ty) (get q)) ≡ option_map (λ e. e.type) (cond b (Some d) (declared_named locals q))
+    one_more : (b : Bool) (q : Name) → option_map type_seen (cond b (Some ty) (get q)) ≡ option_map (λ e. e.type)
+        (cond b (Some d) (declared_named locals q))
     one_more true q = ap Some is
     one_more false q = h.each q
 
@@ -45,7 +47,8 @@ module _ (locals : List Declared) (d : Declared) (get get' : Name → Option Kep
     alone : declared_named locals d.name ≡ None
     alone = none_of (declared_named locals d.name) apart_both.0
 
-    one_less : (b : Bool) (q : Name) → Decides b (d.name ≡ q) → option_map type_seen (get q) ≡ option_map (λ e. e.type) (cond b (Some d) (declared_named locals q)) →
+    one_less : (b : Bool) (q : Name) → Decides b (d.name ≡ q) → option_map type_seen (get q) ≡ option_map (λ e. e.type)
+        (cond b (Some d) (declared_named locals q)) →
         option_map type_seen (cond b None (get q)) ≡ option_map (λ e. e.type) (declared_named locals q)
     one_less true q dec e = ap (option_map (λ e. e.type)) (sym (sym (ap (declared_named locals) (dec.0 refl)) ∙ alone))
     one_less false q dec e = e
@@ -57,7 +60,8 @@ module _ (locals : List Declared) (d : Declared) (get get' : Name → Option Kep
     }
 
 -- what a table answers after a change
-pub changed_at : {A V S : Type 0} (m n : HashMap (String A) V S) (name : Name) (w : Option V) → UpdatesBy string_eq (λ k. bytes_eq name (string_bytes k)) m n w →
+pub changed_at : {A V S : Type 0} (m n : HashMap (String A) V S) (name : Name) (w : Option V) →
+    UpdatesBy string_eq (λ k. bytes_eq name (string_bytes k)) m n w →
     (q : Name) → get_by_text n q ≡ cond (bytes_eq name q) w (get_by_text m q)
 changed_at m n name w u q = hash_map_updates_text name m n w u q
 

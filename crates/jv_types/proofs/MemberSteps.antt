@@ -7,7 +7,8 @@ use Rattle.std.proofs.lemmas.Option.{same_Some}
 use Rattle.mg_text.specs.Call.{Name}
 use Rattle.mg_text.specs.declared.place.Place.{Place}
 use Rattle.mg_read.specs.Culprit.{Culprit, culprit}
-use Rattle.jv_tree.specs.Source.{Expr, Int, Truth, Text, Null, This, Variable, Member, Neg, Not, Binary, Call, MethodCall, New, Enum, place_of}
+use Rattle.jv_tree.specs.Source.{Expr, Int, Truth, Text, Null, This, Variable, Member, Neg, Not, Binary, Call, MethodCall, New, Enum}
+use Rattle.jv_tree.specs.Source.{place_of}
 use Rattle.jv_meaning.specs.Program.{enum_named}
 use Rattle.jv_rules.specs.declared.condition.Condition.{Condition}
 use Rattle.jv_rules.specs.declared.condition.Condition.TheVariants as conditions
@@ -29,7 +30,8 @@ abbrev by_type : Place → Name → Option ValueType → Option (Condition × Cu
 by_type p x o = told conditions.UnknownName (when (not (is_some o)) (culprit p x)) None
 
 module _ (s : Scope) (p : Place) (n : Name) where
-  pub own_known : (e : Expr) → is_this e ≡ true → (ty : KeptType) → Some (type_seen ty) ≡ field_type s n → IsChecked s (Member p e n) (record { ty = ty; helper = false })
+  pub own_known : (e : Expr) → is_this e ≡ true → (ty : KeptType) → Some (type_seen ty) ≡ field_type s n →
+      IsChecked s (Member p e n) (record { ty = ty; helper = false })
   own_known (This q) t ty e = record { fine = ap (λ o. option_or (by_type p n o) None) (sym e); typed = sym e; helper = refl }
   own_known (Int q z) t ty e = absurd (true≢false (sym t))
   own_known (Truth q b) t ty e = absurd (true≢false (sym t))
@@ -63,7 +65,14 @@ module _ (s : Scope) (p : Place) (n : Name) where
   answers : Place → Name → Option ValueType → Option Enum → Bool → Option (Condition × Culprit)
   answers q x v o b =
       option_or (told conditions.UnknownName (when (not (is_some v || (is_some o || b))) (culprit q x)) None)
-      (option_or (by_type p n (elim v [ None ↦ elim o [ None ↦ None | Some e ↦ if list_any (bytes_eq n) e.constants then Some (EnumType x) else None ] | Some t ↦ None ])) None)
+      (option_or (by_type p n (elim v [
+        | None ↦ elim o [
+          | None ↦ None
+          | Some e ↦ if list_any (bytes_eq n) e.constants then Some (EnumType x)
+              else None
+        ]
+        | Some t ↦ None
+      ])) None)
 
   module _ (q : Place) (x : Name) where
     named_variable : (t : ValueType) → Some t ≡ variable_type s x → expr_fault s (Member p (Variable q x) n) ≡ unknown p n
@@ -88,18 +97,23 @@ module _ (s : Scope) (p : Place) (n : Name) where
     named_class e f g = by_class e f true g
 
     module _ (e : None ≡ variable_type s x) (m : Enum) (f : Some m ≡ enum_named s.program.files x) where
-      constant_is : (b : Bool) → b ≡ list_any (bytes_eq n) m.constants → member_type s (Variable q x) n ≡ (if b then Some (EnumType x) else None)
+      constant_is : (b : Bool) → b ≡ list_any (bytes_eq n) m.constants →
+          member_type s (Variable q x) n ≡ (if b then Some (EnumType x) else None)
       constant_is b g =
           ap (λ v. elim v [ None ↦ constant_type s.program x n | Some t ↦ None ]) (sym e)
-          ∙ ap (λ o. elim o [ None ↦ None | Some k ↦ if list_any (bytes_eq n) k.constants then Some (EnumType x) else None ]) (sym f) ∙ ap (λ c. if c then Some (EnumType x) else None) (sym g)
+          ∙ ap (λ o. elim o [ None ↦ None | Some k ↦ if list_any (bytes_eq n) k.constants then Some (EnumType x) else None ]) (sym f) ∙
+          ap (λ c. if c then Some (EnumType x) else None) (sym g)
 
-      fault_is : (b : Bool) → b ≡ list_any (bytes_eq n) m.constants → expr_fault s (Member p (Variable q x) n) ≡ option_or (by_type p n (if b then Some (EnumType x) else None)) None
+      fault_is : (b : Bool) → b ≡ list_any (bytes_eq n) m.constants → expr_fault s (Member p (Variable q x) n) ≡ option_or
+          (by_type p n (if b then Some (EnumType x) else None)) None
       unfolding answers
       fault_is b g =
           ap (λ v. answers q x v (enum_named s.program.files x) (names_class s x)) (sym e)
-          ∙ ap (λ o. answers q x None o (names_class s x)) (sym f) ∙ ap (λ c. option_or (by_type p n (if c then Some (EnumType x) else None)) None) (sym g)
+          ∙ ap (λ o. answers q x None o (names_class s x)) (sym f) ∙
+          ap (λ c. option_or (by_type p n (if c then Some (EnumType x) else None)) None) (sym g)
 
-      named_constant : true ≡ list_any (bytes_eq n) m.constants → (ty : KeptType) → type_seen ty ≡ EnumType x → IsChecked s (Member p (Variable q x) n) (record { ty = ty; helper = false })
+      named_constant : true ≡ list_any (bytes_eq n) m.constants → (ty : KeptType) → type_seen ty ≡ EnumType x →
+          IsChecked s (Member p (Variable q x) n) (record { ty = ty; helper = false })
       named_constant g ty h = record { fine = fault_is true g; typed = constant_is true g ∙ ap Some (sym h); helper = refl }
 
       named_other : false ≡ list_any (bytes_eq n) m.constants → expr_fault s (Member p (Variable q x) n) ≡ unknown p n
@@ -136,15 +150,19 @@ module _ (s : Scope) (p : Place) (n : Name) where
         expr_fault s (Member p e n) ≡ unknown p n
     at_class h f g = ap (λ z. expr_fault s (Member p z n)) is_named ∙ named_class (place_of e) x h f g
 
-    pub at_constant : None ≡ variable_type s x → (m : Enum) → Some m ≡ enum_named s.program.files x → true ≡ has_constant (Some m) n → (ty : KeptType) → type_seen ty ≡ EnumType x →
+    pub at_constant : None ≡ variable_type s x → (m : Enum) → Some m ≡ enum_named s.program.files x → true ≡ has_constant (Some m) n →
+        (ty : KeptType) → type_seen ty ≡ EnumType x →
         IsChecked s (Member p e n) (record { ty = ty; helper = false })
-    at_constant h m f g ty k = subst (λ z. IsChecked s (Member p z n) (record { ty = ty; helper = false })) (sym is_named) (named_constant (place_of e) x h m f g ty k)
+    at_constant h m f g ty k = subst (λ z. IsChecked s (Member p z n) (record { ty = ty; helper = false })) (sym is_named)
+        (named_constant (place_of e) x h m f g ty k)
 
-    pub at_other : None ≡ variable_type s x → (m : Enum) → Some m ≡ enum_named s.program.files x → false ≡ has_constant (Some m) n → expr_fault s (Member p e n) ≡ unknown p n
+    pub at_other : None ≡ variable_type s x → (m : Enum) → Some m ≡ enum_named s.program.files x → false ≡ has_constant (Some m) n →
+        expr_fault s (Member p e n) ≡ unknown p n
     at_other h m f g = ap (λ z. expr_fault s (Member p z n)) is_named ∙ named_other (place_of e) x h m f g
 
   -- behind another expression
-  pub other_member : (e : Expr) → is_this e ≡ false → None ≡ variable_name e → expr_fault s (Member p e n) ≡ option_or (expr_fault s e) (unknown p n)
+  pub other_member : (e : Expr) → is_this e ≡ false → None ≡ variable_name e → expr_fault s (Member p e n) ≡ option_or (expr_fault s e)
+      (unknown p n)
   other_member (This q) t v = absurd (true≢false t)
   other_member (Variable q x') t v = let no : ⊥ = cc in absurd no
   other_member (Int q z) t v = last_node s (nodes (Int q z)) (Value (Member p (Int q z) n))

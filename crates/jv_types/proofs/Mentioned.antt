@@ -14,7 +14,8 @@ use Rattle.jv_tree.specs.declared.tree.ExprKind.{ExprKind as KeptExprKind}
 use Rattle.jv_tree.specs.declared.tree.ExprKind.TheVariants as kinds
 use Rattle.jv_tree.specs.Source.{Expr, Stmt}
 use Rattle.mg_text.specs.declared.place.Place.{Place}
-use Rattle.jv_tree.specs.View.{expr_of, exprs_of, kind_of, stmt_of, stmts_of, group_of, groups_of, OneGroup, stmt_layer, group_layer, placed_stmt_layer}
+use Rattle.jv_tree.specs.View.{expr_of, exprs_of, kind_of, stmt_of, stmts_of, group_of, groups_of, OneGroup, stmt_layer, group_layer}
+use Rattle.jv_tree.specs.View.{placed_stmt_layer}
 use Rattle.jv_tree.proofs.ViewLaws.{views, expr_of-is, kind-MethodCall}
 use Rattle.jv_rules.specs.Members.{Mention, mentions_in, mentions_in_args, mentions_in_stmt, mentions_in_stmts, mentions_in_groups}
 use Rattle.jv_rules.specs.inner.Deciding.{first_by}
@@ -23,7 +24,12 @@ use Rattle.mg_read.specs.Culprit.{Culprit}
 
 pub ruleset mentioned = (common_steps, views, first_by-append)
 
-group_of-is : (g : KeptGroup) → group_of g ≡ record { labels = (out-Group g).labels.items; body = stmts_of (map stmt_of (out-Group g).body.items); end = (out-Group g).end }
+group_of-is : (g : KeptGroup) → group_of g ≡ record {
+  labels = (out-Group g).labels.items;
+  body =
+      stmts_of (map stmt_of (out-Group g).body.items);
+  end = (out-Group g).end;
+}
 unfolding group_of stmt_of
 group_of-is g = fold_out-Group (Place → Stmt) OneGroup Stmt stmt_layer group_layer placed_stmt_layer g
 
@@ -46,7 +52,8 @@ module _ (f : Mention → Option Culprit) where
 
   pub groups-step : (gs : List KeptGroup) (i : ℕ) (x : KeptGroup) → i < length gs → x ≡ get_or gs i x →
       first_by f (mentions_in_groups (groups_of (map group_of (drop i gs))))
-      ≡ option_or (first_by f (mentions_in_stmts (stmts_of (map stmt_of (out-Group x).body.items)))) (first_by f (mentions_in_groups (groups_of (map group_of (drop (i + 1) gs)))))
+      ≡ option_or (first_by f (mentions_in_stmts (stmts_of (map stmt_of (out-Group x).body.items))))
+      (first_by f (mentions_in_groups (groups_of (map group_of (drop (i + 1) gs)))))
   groups-step gs i x within is =
       let more = groups_of (map group_of (drop (i + 1) gs)) in
       at_drop_more (λ l. first_by f (mentions_in_groups (groups_of (map group_of l)))) gs i x within
@@ -55,9 +62,11 @@ module _ (f : Mention → Option Culprit) where
       ∙ first_by-append f (mentions_in_stmts (stmts_of (map stmt_of (out-Group x).body.items))) (mentions_in_groups more)
 
   pub call-parts : (e : KeptExpr) (of : Box KeptExpr Global) (n : Name) (args : Row KeptExpr) → e.kind ≡ kinds.MethodCall of n args →
-      first_by f (mentions_in (expr_of e)) ≡ option_or (first_by f (mentions_in (expr_of of.value))) (first_by f (mentions_in_args (exprs_of (map expr_of args.items))))
+      first_by f (mentions_in (expr_of e)) ≡ option_or (first_by f (mentions_in (expr_of of.value)))
+      (first_by f (mentions_in_args (exprs_of (map expr_of args.items))))
   call-parts e of n args is =
-      ap (λ (x : Expr). first_by f (mentions_in x)) (expr_of-is e ∙ ap (λ (k : KeptExprKind). kind_of k e.place) is ∙ kind-MethodCall of n args e.place)
+      ap (λ (x : Expr). first_by f (mentions_in x)) (expr_of-is e ∙ ap (λ (k : KeptExprKind). kind_of k e.place) is ∙ kind-MethodCall of n
+      args e.place)
       ∙ first_by-append f (mentions_in (expr_of of.value)) (mentions_in_args (exprs_of (map expr_of args.items)))
 
   pub args-past : (es : List KeptExpr) (i : ℕ) → length es ≤ i → first_by f (mentions_in_args (exprs_of (map expr_of (drop i es)))) ≡ None
@@ -66,7 +75,8 @@ module _ (f : Mention → Option Culprit) where
   pub stmts-past : (ss : List KeptStmt) (i : ℕ) → length ss ≤ i → first_by f (mentions_in_stmts (stmts_of (map stmt_of (drop i ss)))) ≡ None
   stmts-past ss i h = at_drop_all (λ l. first_by f (mentions_in_stmts (stmts_of (map stmt_of l)))) ss i h
 
-  pub groups-past : (gs : List KeptGroup) (i : ℕ) → length gs ≤ i → first_by f (mentions_in_groups (groups_of (map group_of (drop i gs)))) ≡ None
+  pub groups-past : (gs : List KeptGroup) (i : ℕ) → length gs ≤ i → first_by f (mentions_in_groups (groups_of (map group_of (drop i gs)))) ≡
+      None
   groups-past gs i h = at_drop_all (λ l. first_by f (mentions_in_groups (groups_of (map group_of l)))) gs i h
 
 pub ruleset arg_steps = (common_steps, views, args-step, args-past)

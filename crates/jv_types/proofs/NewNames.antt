@@ -1,5 +1,6 @@
 -- Names that were met, and tables of names that are all new.
-use Rattle.std.proofs.Common.{◌≡◌, ⊎_elim, List, [], ◌∷◌, ◌++◌, Bool, true, false, cond, Contains, Decides, refl, sym, ap, subst, ◌∙◌, true≢false, append_assoc, append-nil}
+use Rattle.std.proofs.Common.{◌≡◌, ⊎_elim, List, [], ◌∷◌, ◌++◌, Bool, true, false, cond, Contains, Decides, refl, sym, ap, subst, ◌∙◌}
+use Rattle.std.proofs.Common.{true≢false, append_assoc, append-nil}
 use Rattle.std.specs.Str.{bytes_eq}
 use Rattle.std.proofs.lemmas.List.Elements.{Contains-push, Contains-push_cases, Contains-append_left}
 use Rattle.std.proofs.lemmas.Slice.Eq.{bytes_eq-Decides}
@@ -22,13 +23,15 @@ within_past sub met n w k h = Contains-append_left met (n ∷ []) k (w k h)
 
 pub within_more : (sub met : List Name) (n : Name) → Within sub met → Within (sub ++ n ∷ []) (met ++ n ∷ [])
 within_more sub met n w k h =
-    ⊎_elim (λ a. Contains-append_left met (n ∷ []) k (w k a)) (λ e. subst (Contains (met ++ n ∷ [])) e (Contains-push met n)) (Contains-push_cases sub n k h)
+    ⊎_elim (λ a. Contains-append_left met (n ∷ []) k (w k a)) (λ e. subst (Contains (met ++ n ∷ [])) e (Contains-push met n))
+    (Contains-push_cases sub n k h)
 
 -- the first of these is new, and so are the others behind it
 pub new_split : (met ns : List Name) (n : Name) → are_new met (n ∷ ns) ≡ true → (is_in met n ≡ false) × (are_new (met ++ n ∷ []) ns ≡ true)
 new_split met ns n e = go (is_in met n) refl e
   where
-    go : (b : Bool) → is_in met n ≡ b → cond b false (are_new (met ++ n ∷ []) ns) ≡ true → (is_in met n ≡ false) × (are_new (met ++ n ∷ []) ns ≡ true)
+    go : (b : Bool) → is_in met n ≡ b → cond b false (are_new (met ++ n ∷ []) ns) ≡ true → (is_in met n ≡ false)
+        × (are_new (met ++ n ∷ []) ns ≡ true)
     go true h k = absurd (true≢false (sym k))
     go false h k = (h, k)
 
@@ -50,7 +53,8 @@ not_in sub met n w e = go (is_in sub n) refl
 
 pub new_some : {sub ns : List Name} (low met : List Name) → Some_of sub ns → Within low met → are_new met ns ≡ true → are_new low sub ≡ true
 new_some low met nothing w e = refl
-new_some low met (past {sub = sub} {ns = ns} {n = n} s) w e = new_some low (met ++ n ∷ []) s (within_past low met n w) (new_split met ns n e).1
+new_some low met (past {sub = sub} {ns = ns} {n = n} s) w e = new_some low (met ++ n ∷ []) s (within_past low met n w)
+    (new_split met ns n e).1
 new_some low met (kept {sub = sub} {ns = ns} {n = n} s) w e =
     let h = new_split met ns n e in
     new_join low sub n (not_in low met n w h.0) (new_some (low ++ n ∷ []) (met ++ n ∷ []) s (within_more low met n w) h.1)

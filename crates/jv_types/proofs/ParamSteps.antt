@@ -1,5 +1,6 @@
 -- Parameters one after another: what is left to be judged, and what is in scope there.
-use Rattle.std.proofs.Common.{◌≡◌, ℕ, ◌+◌, ◌<◌, ◌≤◌, List, [], ◌∷◌, Result, Ok, Err, length, drop, get_or, Option, Some, None, Bool, true, false, sym, ap, ◌∙◌}
+use Rattle.std.proofs.Common.{◌≡◌, ℕ, ◌+◌, ◌<◌, ◌≤◌, List, [], ◌∷◌, Result, Ok, Err, length, drop, get_or, Option, Some, None, Bool, true}
+use Rattle.std.proofs.Common.{false, sym, ap, ◌∙◌}
 use Rattle.std.specs.Prelude.{OnOk}
 use Rattle.std.specs.Option.{option_or, is_some}
 use Rattle.std.proofs.Math.ListN.{drop_of_length-le}
@@ -20,20 +21,25 @@ use Rattle.jv_types.proofs.AtIndex.{drop_at}
 
 module _ (now : Scope) (xs : List Param) (i : ℕ) (x : Param) (within : i < length xs) (is : x ≡ get_or xs i x) where
   abbrev twice : Bool → Option (Condition × Culprit)
-  twice b = option_or (told conditions.DuplicateLocal (when b (culprit x.place x.name)) None) (params_fault (declare x.name x.ty now) (drop (i + 1) xs))
+  twice b = option_or (told conditions.DuplicateLocal (when b (culprit x.place x.name)) None)
+      (params_fault (declare x.name x.ty now) (drop (i + 1) xs))
 
   params_told : (b : Bool) → is_some (local_named now x.name) ≡ b → params_fault now (drop i xs) ≡ twice b
   params_told b e = ap (params_fault now) (drop_at xs i x within is) ∙ ap twice e
 
-  pub param_twice : (whole : Option (Condition × Culprit)) → whole ≡ params_fault now (drop i xs) → is_some (local_named now x.name) ≡ true → whole ≡ Some (conditions.DuplicateLocal, culprit x.place x.name)
+  pub param_twice : (whole : Option (Condition × Culprit)) → whole ≡ params_fault now (drop i xs) → is_some (local_named now x.name) ≡ true
+      → whole ≡ Some (conditions.DuplicateLocal, culprit x.place x.name)
   param_twice whole left e = left ∙ params_told true e
 
-  pub param_more : (whole : Option (Condition × Culprit)) (new : Scope) → whole ≡ params_fault now (drop i xs) → is_some (local_named now x.name) ≡ false → new ≡ declare x.name x.ty now →
+  pub param_more : (whole : Option (Condition × Culprit)) (new : Scope) → whole ≡ params_fault now (drop i xs) →
+      is_some (local_named now x.name) ≡ false → new ≡ declare x.name x.ty now →
       whole ≡ params_fault new (drop (i + 1) xs)
   param_more whole new left e k = left ∙ params_told false e ∙ ap (λ s. params_fault s (drop (i + 1) xs)) (sym k)
 
-  pub param_scope : (whole new : Scope) → whole ≡ with_params (drop i xs) now → new ≡ declare x.name x.ty now → whole ≡ with_params (drop (i + 1) xs) new
-  param_scope whole new scope k = scope ∙ ap (λ ys. with_params ys now) (drop_at xs i x within is) ∙ ap (λ s. with_params (drop (i + 1) xs) s) (sym k)
+  pub param_scope : (whole new : Scope) → whole ≡ with_params (drop i xs) now → new ≡ declare x.name x.ty now →
+      whole ≡ with_params (drop (i + 1) xs) new
+  param_scope whole new scope k = scope ∙ ap (λ ys. with_params ys now) (drop_at xs i x within is) ∙
+      ap (λ s. with_params (drop (i + 1) xs) s) (sym k)
 
 module _ (now : Scope) (xs : List Param) (i : ℕ) (past : length xs ≤ i) where
   pub params_done : (whole : Option (Condition × Culprit)) → whole ≡ params_fault now (drop i xs) → whole ≡ None
@@ -43,7 +49,8 @@ module _ (now : Scope) (xs : List Param) (i : ℕ) (past : length xs ≤ i) wher
   params_scope whole scope = sym (scope ∙ ap (λ ys. with_params ys now) (drop_of_length-le xs past))
 
 -- one more local in scope
-pub declared_scope : (s : KeptScope) (old new : List Declared) (name n : Name) (t : ValueType) (ty : TypeName) → new ≡ declared n t ∷ old → n ≡ name → t ≡ meant (program_seen s) ty →
+pub declared_scope : (s : KeptScope) (old new : List Declared) (name n : Name) (t : ValueType) (ty : TypeName) → new ≡ declared n t ∷ old →
+    n ≡ name → t ≡ meant (program_seen s) ty →
     scope_seen s new ≡ declare name ty (scope_seen s old)
 declared_scope s old new name n t ty e k h = ap (scope_seen s) (e ∙ ap (λ z. declared z t ∷ old) k ∙ ap (λ z. declared name z ∷ old) h)
 

@@ -1,5 +1,6 @@
 -- What the searches for repeated names find is the culprit.
-use Rattle.std.proofs.Common.{◌≡◌, ◌⊎◌, ⊎_elim, inl, ℕ, List, [], ◌∷◌, ◌++◌, map, Option, Some, Bool, true, false, ◌||◌, cond, Contains, Decides, refl, sym, ap, subst, ◌∙◌, true≢false, append_assoc, append-nil}
+use Rattle.std.proofs.Common.{◌≡◌, ◌⊎◌, ⊎_elim, inl, ℕ, List, [], ◌∷◌, ◌++◌, map, Option, Some, Bool, true, false, ◌||◌, cond, Contains}
+use Rattle.std.proofs.Common.{Decides, refl, sym, ap, subst, ◌∙◌, true≢false, append_assoc, append-nil}
 use Rattle.std.specs.List.{flat_map}
 use Rattle.std.specs.Option.{option_or}
 use Rattle.std.specs.Str.{bytes_eq}
@@ -14,12 +15,14 @@ use Rattle.mg_read.specs.First.{Judged, clean, here, later, behind, with_earlier
 use Rattle.mg_read.proofs.Judging.{judged-append}
 use Rattle.ts_tree.specs.Typestate as protocols
 use Rattle.jv_tree.specs.Source.{Decl, ClassDecl, EnumDecl}
-use Rattle.jv_rules.specs.Members.{ClassMember, OfField, OfMethod, Sort, OfType, OfTypestate, FieldName, MethodName, ConstantName, Entry, entry, decl_entry, typestate_entries, member_entry, entries_in}
+use Rattle.jv_rules.specs.Members.{ClassMember, OfField, OfMethod, Sort, OfType, OfTypestate, FieldName, MethodName, ConstantName, Entry}
+use Rattle.jv_rules.specs.Members.{entry, decl_entry, typestate_entries, member_entry, entries_in}
 use Rattle.jv_rules.specs.Declarations.{built_in_classes, IsTaken, DuplicateName, DuplicateMember}
 use Rattle.jv_rules.specs.inner.Deciding.{first_by}
 use Rattle.jv_rules.proofs.Tests.{any_decides, decides_as, nothing_in, in_cases}
 use Rattle.jv_types.specs.inner.Blaming.{is_in}
-use Rattle.jv_types.specs.inner.Repeating.{is_built_in, blamed_entry, repeat_type, repeat_typestate, repeat_member, repeat_constant, repeat_in}
+use Rattle.jv_types.specs.inner.Repeating.{is_built_in, blamed_entry, repeat_type, repeat_typestate, repeat_member, repeat_constant}
+use Rattle.jv_types.specs.inner.Repeating.{repeat_in}
 use Rattle.jv_types.proofs.NewNames.{in-Decides}
 
 -- these names are those of the entries of a sort
@@ -30,25 +33,31 @@ pub record Knows (s : Sort) (met : List Name) (seen : List Entry) : Type 0 where
 pub knows_none : (s : Sort) → Knows s [] []
 knows_none s = record { there = λ n h. absurd (nothing_in n h); back = λ d h e. absurd (nothing_in d h) }
 
-pub knows_more : (s : Sort) (met : List Name) (seen : List Entry) (e : Entry) → Knows s met seen → e.sort ≡ s → Knows s (met ++ e.name ∷ []) (seen ++ e ∷ [])
+pub knows_more : (s : Sort) (met : List Name) (seen : List Entry) (e : Entry) → Knows s met seen → e.sort ≡ s →
+    Knows s (met ++ e.name ∷ []) (seen ++ e ∷ [])
 knows_more s met seen e k is = record {
-  there = λ n h. ⊎_elim (λ a. let t = k.there n a in (t.0, Contains-append_left seen (e ∷ []) t.0 t.1, t.2, t.3)) (λ same. (e, Contains-push seen e, is, same)) (Contains-push_cases met e.name n h);
-  back = λ d h of. ⊎_elim (λ a. Contains-append_left met (e.name ∷ []) d.name (k.back d a of)) (λ same. subst (λ x. Contains (met ++ e.name ∷ []) x.name) same (Contains-push met e.name)) (Contains-push_cases seen e d h);
+  there = λ n h. ⊎_elim (λ a. let t = k.there n a in (t.0, Contains-append_left seen (e ∷ []) t.0 t.1, t.2, t.3))
+      (λ same. (e, Contains-push seen e, is, same)) (Contains-push_cases met e.name n h);
+  back = λ d h of. ⊎_elim (λ a. Contains-append_left met (e.name ∷ []) d.name (k.back d a of))
+      (λ same. subst (λ x. Contains (met ++ e.name ∷ []) x.name) same (Contains-push met e.name)) (Contains-push_cases seen e d h);
 }
 
-pub knows_past : (s : Sort) (met : List Name) (seen : List Entry) (e : Entry) → Knows s met seen → (e.sort ≡ s → ⊥) → Knows s met (seen ++ e ∷ [])
+pub knows_past : (s : Sort) (met : List Name) (seen : List Entry) (e : Entry) → Knows s met seen → (e.sort ≡ s → ⊥) →
+    Knows s met (seen ++ e ∷ [])
 knows_past s met seen e k other = record {
   there = λ n h. let t = k.there n h in (t.0, Contains-append_left seen (e ∷ []) t.0 t.1, t.2, t.3);
   back = λ d h of. ⊎_elim (λ a. k.back d a of) (λ same. absurd (other (ap (λ x. x.sort) same ∙ of))) (Contains-push_cases seen e d h);
 }
 
-taken-Decides : (s : Sort) (met : List Name) (seen : List Entry) (e : Entry) → Knows s met seen → e.sort ≡ s → Decides (is_in met e.name) (IsTaken seen e)
+taken-Decides : (s : Sort) (met : List Name) (seen : List Entry) (e : Entry) → Knows s met seen → e.sort ≡ s →
+    Decides (is_in met e.name) (IsTaken seen e)
 taken-Decides s met seen e k is =
     decides_as (is_in met e.name) (in-Decides met e.name) (λ h. let t = k.there e.name h in (t.0, t.1, t.2 ∙ sym is, t.3))
     (λ t. subst (Contains met) t.3 (k.back t.0 t.1 (t.2 ∙ is)))
 
 built_in-Decides : (n : Name) → Decides (is_built_in n) (Contains built_in_classes n)
-built_in-Decides n = any_decides (bytes_eq n) n (λ y. decides_as (bytes_eq n y) (bytes_eq-Decides n y) (λ e. sym e) (λ e. sym e)) built_in_classes
+built_in-Decides n = any_decides (bytes_eq n) n (λ y. decides_as (bytes_eq n y) (bytes_eq-Decides n y) (λ e. sym e) (λ e. sym e))
+    built_in_classes
 
 -- one element is tested, and then the others
 judge_more : {X : Type 0} (At : X → Culprit → Type 0) (q : X) (b : Bool) (k : Culprit) (P : Type 0) (xs : List X) (r : Option Culprit) →
@@ -66,16 +75,19 @@ decl_sort : (d : Decl) → (decl_entry d).sort ≡ OfType
 decl_sort (ClassDecl c) = refl
 decl_sort (EnumDecl e) = refl
 
-types_judged : (ds : List Decl) (met : List Name) (seen : List Entry) → Knows OfType met seen → Judged DuplicateName (behind seen (map decl_entry ds)) (repeat_type met ds)
+types_judged : (ds : List Decl) (met : List Name) (seen : List Entry) → Knows OfType met seen →
+    Judged DuplicateName (behind seen (map decl_entry ds)) (repeat_type met ds)
 types_judged [] met seen k = clean
 types_judged (d ∷ ds) met seen k =
     let e = decl_entry d in
     let more = types_judged ds (met ++ e.name ∷ []) (seen ++ e ∷ []) (knows_more OfType met seen e k (decl_sort d)) in
     subst (Judged DuplicateName (behind seen (map decl_entry (d ∷ ds))))
     (sym (twice (is_built_in e.name) (is_in met e.name) (Some (blamed_entry e)) (repeat_type (met ++ e.name ∷ []) ds)))
-    (judge_more DuplicateName (seen, e) (is_in met e.name || is_built_in e.name) (blamed_entry e) (IsTaken seen e ⊎ ((e.sort ≡ OfType) × Contains built_in_classes e.name))
+    (judge_more DuplicateName (seen, e) (is_in met e.name || is_built_in e.name) (blamed_entry e)
+    (IsTaken seen e ⊎ ((e.sort ≡ OfType) × Contains built_in_classes e.name))
     (behind (seen ++ e ∷ []) (map decl_entry ds)) (repeat_type (met ++ e.name ∷ []) ds)
-    (Decides-or _ _ (taken-Decides OfType met seen e k (decl_sort d)) (decides_as (is_built_in e.name) (built_in-Decides e.name) (λ h. (decl_sort d, h)) (λ h. h.1)))
+    (Decides-or _ _ (taken-Decides OfType met seen e k (decl_sort d)) (decides_as (is_built_in e.name) (built_in-Decides e.name)
+    (λ h. (decl_sort d, h)) (λ h. h.1)))
     (λ p. (refl, p)) (λ c a. a.1) more)
 
 no_type : OfTypestate ≡ OfType → ⊥
@@ -97,21 +109,26 @@ knows_none_yet ds = record { there = λ n h. absurd (nothing_in n h); back = λ 
   where
     go : (ds : List Decl) (d : Entry) → Contains (map decl_entry ds) d → d.sort ≡ OfTypestate → ⊥
     go [] d h e = nothing_in d h
-    go (x ∷ xs) d h e = ⊎_elim (λ same. no_type (sym e ∙ ap (λ z. z.sort) (sym same) ∙ decl_sort x)) (λ h. go xs d h e) (in_cases (map decl_entry xs) (decl_entry x) d h)
+    go (x ∷ xs) d h e = ⊎_elim (λ same. no_type (sym e ∙ ap (λ z. z.sort) (sym same) ∙ decl_sort x)) (λ h. go xs d h e)
+        (in_cases (map decl_entry xs) (decl_entry x) d h)
 
 pub behind-append : {X : Type 0} (seen xs ys : List X) → behind seen (xs ++ ys) ≡ behind seen xs ++ behind (seen ++ xs) ys
 behind-append seen [] ys = ap (λ s. behind s ys) (sym (append-nil seen))
 behind-append seen (x ∷ xs) ys =
-    ap (λ zs. (seen, x) ∷ zs) (behind-append (seen ++ x ∷ []) xs ys ∙ ap (λ s. behind (seen ++ x ∷ []) xs ++ behind s ys) (append_assoc seen (x ∷ []) xs))
+    ap (λ zs. (seen, x) ∷ zs) (behind-append (seen ++ x ∷ []) xs ys ∙ ap (λ s. behind (seen ++ x ∷ []) xs ++ behind s ys)
+    (append_assoc seen (x ∷ []) xs))
 
 -- 1. types, and then typestates
 pub names_judged : (ds : List Decl) (ts : List protocols.Typestate) (files : List ℕ) →
-    Judged DuplicateName (with_earlier (map decl_entry ds ++ typestate_entries ts files)) (option_or (repeat_type [] ds) (repeat_typestate [] ts files))
+    Judged DuplicateName (with_earlier (map decl_entry ds ++ typestate_entries ts files))
+    (option_or (repeat_type [] ds) (repeat_typestate [] ts files))
 names_judged ds ts files =
-    subst (λ xs. Judged DuplicateName xs (option_or (repeat_type [] ds) (repeat_typestate [] ts files))) (sym (behind-append [] (map decl_entry ds) (typestate_entries ts files)))
+    subst (λ xs. Judged DuplicateName xs (option_or (repeat_type [] ds) (repeat_typestate [] ts files)))
+    (sym (behind-append [] (map decl_entry ds) (typestate_entries ts files)))
     (judged-append (types_judged ds [] [] (knows_none OfType)) (typestates_judged ts files [] (map decl_entry ds) (knows_none_yet ds)))
 
-members_judged : (xs : List ClassMember) (fields methods : List Name) (seen : List Entry) → Knows FieldName fields seen → Knows MethodName methods seen →
+members_judged : (xs : List ClassMember) (fields methods : List Name) (seen : List Entry) → Knows FieldName fields seen →
+    Knows MethodName methods seen →
     Judged DuplicateMember (behind seen (map member_entry xs)) (repeat_member fields methods xs)
 members_judged [] fields methods seen k l = clean
 members_judged (OfField f ∷ xs) fields methods seen k l =
@@ -120,14 +137,16 @@ members_judged (OfField f ∷ xs) fields methods seen k l =
     judge_more DuplicateMember (seen, e) (is_in fields f.name) (culprit f.place f.name) (IsTaken seen e)
     (behind (seen ++ e ∷ []) (map member_entry xs)) (repeat_member (fields ++ f.name ∷ []) methods xs)
     (taken-Decides FieldName fields seen e k refl) (λ p. (refl, p)) (λ c a. a.1)
-    (members_judged xs (fields ++ f.name ∷ []) methods (seen ++ e ∷ []) (knows_more FieldName fields seen e k refl) (knows_past MethodName methods seen e l other))
+    (members_judged xs (fields ++ f.name ∷ []) methods (seen ++ e ∷ []) (knows_more FieldName fields seen e k refl)
+    (knows_past MethodName methods seen e l other))
 members_judged (OfMethod m ∷ xs) fields methods seen k l =
     let e = entry m.place MethodName m.name in
     let other : MethodName ≡ FieldName → ⊥ = λ h. cc in
     judge_more DuplicateMember (seen, e) (is_in methods m.name) (culprit m.place m.name) (IsTaken seen e)
     (behind (seen ++ e ∷ []) (map member_entry xs)) (repeat_member fields (methods ++ m.name ∷ []) xs)
     (taken-Decides MethodName methods seen e l refl) (λ p. (refl, p)) (λ c a. a.1)
-    (members_judged xs fields (methods ++ m.name ∷ []) (seen ++ e ∷ []) (knows_past FieldName fields seen e k other) (knows_more MethodName methods seen e l refl))
+    (members_judged xs fields (methods ++ m.name ∷ []) (seen ++ e ∷ []) (knows_past FieldName fields seen e k other)
+    (knows_more MethodName methods seen e l refl))
 
 constants_judged : (place : Place) (cs : List Name) (met : List Name) (seen : List Entry) → Knows ConstantName met seen →
     Judged DuplicateMember (behind seen (map (entry place ConstantName) cs)) (repeat_constant place met cs)
@@ -144,7 +163,8 @@ decl_judged (ClassDecl c) = members_judged _ [] [] [] (knows_none FieldName) (kn
 decl_judged (EnumDecl e) = constants_judged e.place e.constants [] [] (knows_none ConstantName)
 
 -- lists of parts
-pub parts_judged : {X Y : Type 0} (At : Y → Culprit → Type 0) (parts : X → List Y) (find : X → Option Culprit) → ((x : X) → Judged At (parts x) (find x)) →
+pub parts_judged : {X Y : Type 0} (At : Y → Culprit → Type 0) (parts : X → List Y) (find : X → Option Culprit) →
+    ((x : X) → Judged At (parts x) (find x)) →
     (xs : List X) → Judged At (flat_map parts xs) (first_by find xs)
 parts_judged At parts find h [] = clean
 parts_judged At parts find h (x ∷ xs) = judged-append (h x) (parts_judged At parts find h xs)

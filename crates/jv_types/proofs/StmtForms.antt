@@ -30,16 +30,21 @@ pub loop_within : (s w : Scope) (l l' : Option Name) → w ≡ record s { around
 loop_within s w l l' e k = e ∙ ap (λ z. within (Loop z) s) k
 
 module _ (s : Scope) (x : KeptStmt) where
-  pub block_is : (b : Row KeptStmt) (end : Place) → x.kind ≡ kinds.Block b end → (ys : List KeptStmt) → ys ≡ b.items → stmt_fault s (stmt_of x) ≡ stmts_fault s (stmts_of (map stmt_of ys))
-  block_is b end is ys e = stmt_as s x _ _ is (laws.kind-Block b end x.place) ∙ ap (λ (zs : List KeptStmt). stmts_fault s (stmts_of (map stmt_of zs))) (sym e)
+  pub block_is : (b : Row KeptStmt) (end : Place) → x.kind ≡ kinds.Block b end → (ys : List KeptStmt) → ys ≡ b.items →
+      stmt_fault s (stmt_of x) ≡ stmts_fault s (stmts_of (map stmt_of ys))
+  block_is b end is ys e = stmt_as s x _ _ is (laws.kind-Block b end x.place) ∙
+      ap (λ (zs : List KeptStmt). stmts_fault s (stmts_of (map stmt_of zs))) (sym e)
 
   pub empty_is : x.kind ≡ kinds.Empty → stmt_fault s (stmt_of x) ≡ None
   empty_is is = stmt_as s x _ _ is (laws.kind-Empty x.place)
 
-  pub local_is : (ty : TypeName) (n : Name) (e : KeptExpr) → x.kind ≡ kinds.Local ty n e → (name : Name) → name ≡ n → stmt_fault s (stmt_of x) ≡ stmt_fault s (Local x.place ty name (expr_of e))
-  local_is ty n e is name k = stmt_as s x _ _ is (laws.kind-Local ty n e x.place) ∙ ap (λ z. stmt_fault s (Local x.place ty z (expr_of e))) (sym k)
+  pub local_is : (ty : TypeName) (n : Name) (e : KeptExpr) → x.kind ≡ kinds.Local ty n e → (name : Name) → name ≡ n →
+      stmt_fault s (stmt_of x) ≡ stmt_fault s (Local x.place ty name (expr_of e))
+  local_is ty n e is name k = stmt_as s x _ _ is (laws.kind-Local ty n e x.place) ∙ ap (λ z. stmt_fault s (Local x.place ty z (expr_of e)))
+      (sym k)
 
-  pub assign_is : (t e : KeptExpr) → x.kind ≡ kinds.Assign t e → stmt_fault s (stmt_of x) ≡ stmt_fault s (Assign x.place (expr_of t) (expr_of e))
+  pub assign_is : (t e : KeptExpr) → x.kind ≡ kinds.Assign t e → stmt_fault s (stmt_of x) ≡ stmt_fault s
+      (Assign x.place (expr_of t) (expr_of e))
   assign_is t e is = stmt_as s x _ _ is (laws.kind-Assign t e x.place)
 
   pub break_is : (l : Option Name) → x.kind ≡ kinds.Break l → stmt_fault s (stmt_of x) ≡ stmt_fault s (Break x.place l)
@@ -48,7 +53,8 @@ module _ (s : Scope) (x : KeptStmt) where
   pub continue_is : (l : Option Name) → x.kind ≡ kinds.Continue l → stmt_fault s (stmt_of x) ≡ stmt_fault s (Continue x.place l)
   continue_is l is = stmt_as s x _ _ is (laws.kind-Continue l x.place)
 
-  pub return_is : (v : Option KeptExpr) → x.kind ≡ kinds.Return v → stmt_fault s (stmt_of x) ≡ stmt_fault s (Return x.place (option_map expr_of v))
+  pub return_is : (v : Option KeptExpr) → x.kind ≡ kinds.Return v → stmt_fault s (stmt_of x) ≡ stmt_fault s
+      (Return x.place (option_map expr_of v))
   return_is v is = stmt_as s x _ _ is (laws.kind-Return v x.place)
 
   pub print_is : (e : KeptExpr) → x.kind ≡ kinds.Print e → stmt_fault s (stmt_of x) ≡ stmt_fault s (Print x.place (expr_of e))
@@ -58,20 +64,25 @@ module _ (s : Scope) (x : KeptStmt) where
   eval_is e is = stmt_as s x _ _ is (laws.kind-Eval e x.place)
 
   module _ (c : KeptExpr) (b : Box KeptStmt Global) (i : KeptStmt) (inner : i ≡ b.value) where
-    pub if_is : x.kind ≡ kinds.If c b None → stmt_fault s (stmt_of x) ≡ option_or (value_told s (expr_of c) (Fitting BooleanType)) (stmt_fault s (stmt_of i))
+    pub if_is : x.kind ≡ kinds.If c b None → stmt_fault s (stmt_of x) ≡ option_or (value_told s (expr_of c) (Fitting BooleanType))
+        (stmt_fault s (stmt_of i))
     if_is is =
         stmt_as s x _ _ is (laws.kind-If-None c b x.place) ∙ if_told s x.place (expr_of c) (stmt_of b.value)
         ∙ ap (λ (z : KeptStmt). option_or (value_told s (expr_of c) (Fitting BooleanType)) (stmt_fault s (stmt_of z))) (sym inner)
 
     pub if_else_is : (d : Box KeptStmt Global) (o : KeptStmt) → o ≡ d.value → x.kind ≡ kinds.If c b (Some d) →
-        stmt_fault s (stmt_of x) ≡ option_or (value_told s (expr_of c) (Fitting BooleanType)) (option_or (stmt_fault s (stmt_of i)) (stmt_fault s (stmt_of o)))
+        stmt_fault s (stmt_of x) ≡ option_or (value_told s (expr_of c) (Fitting BooleanType))
+        (option_or (stmt_fault s (stmt_of i)) (stmt_fault s (stmt_of o)))
     if_else_is d o other is =
         stmt_as s x _ _ is (laws.kind-If-Some c b d x.place) ∙ if_else_told s x.place (expr_of c) (stmt_of b.value) (stmt_of d.value)
-        ∙ ap (λ (z : KeptStmt). option_or (value_told s (expr_of c) (Fitting BooleanType)) (option_or (stmt_fault s (stmt_of z)) (stmt_fault s (stmt_of d.value)))) (sym inner)
-        ∙ ap (λ (z : KeptStmt). option_or (value_told s (expr_of c) (Fitting BooleanType)) (option_or (stmt_fault s (stmt_of i)) (stmt_fault s (stmt_of z)))) (sym other)
+        ∙ ap (λ (z : KeptStmt). option_or (value_told s (expr_of c) (Fitting BooleanType))
+        (option_or (stmt_fault s (stmt_of z)) (stmt_fault s (stmt_of d.value)))) (sym inner)
+        ∙ ap (λ (z : KeptStmt). option_or (value_told s (expr_of c) (Fitting BooleanType))
+        (option_or (stmt_fault s (stmt_of i)) (stmt_fault s (stmt_of z)))) (sym other)
 
     -- what the condition tells, the whole tells
-    pub if_tells : (r : Option (Box KeptStmt Global)) → x.kind ≡ kinds.If c b r → (w : Wrong) → Tells w (value_told s (expr_of c) (Fitting BooleanType)) → Tells w (stmt_fault s (stmt_of x))
+    pub if_tells : (r : Option (Box KeptStmt Global)) → x.kind ≡ kinds.If c b r → (w : Wrong) →
+        Tells w (value_told s (expr_of c) (Fitting BooleanType)) → Tells w (stmt_fault s (stmt_of x))
     if_tells None is w t = tells_first w _ _ _ (if_is is) t
     if_tells (Some d) is w t = tells_first w _ _ _ (if_else_is d d.value refl is) t
 
@@ -79,18 +90,25 @@ module _ (s : Scope) (x : KeptStmt) where
       inside : stmt_fault (within (Loop l) s) (stmt_of b.value) ≡ stmt_fault w (stmt_of i)
       inside = ap (λ (z : KeptStmt). stmt_fault (within (Loop l) s) (stmt_of z)) (sym inner) ∙ ap (λ z. stmt_fault z (stmt_of i)) (sym at)
 
-      pub while_is : x.kind ≡ kinds.While l c b → stmt_fault s (stmt_of x) ≡ option_or (loop_told s x.place l (expr_of c)) (stmt_fault w (stmt_of i))
+      pub while_is : x.kind ≡ kinds.While l c b → stmt_fault s (stmt_of x) ≡ option_or (loop_told s x.place l (expr_of c))
+          (stmt_fault w (stmt_of i))
       while_is is =
-          stmt_as s x _ _ is (laws.kind-While l c b x.place) ∙ while_told s x.place l (expr_of c) (stmt_of b.value) ∙ ap (option_or (loop_told s x.place l (expr_of c))) inside
+          stmt_as s x _ _ is (laws.kind-While l c b x.place) ∙ while_told s x.place l (expr_of c) (stmt_of b.value) ∙
+          ap (option_or (loop_told s x.place l (expr_of c))) inside
 
-      pub do_is : x.kind ≡ kinds.Do l b c → stmt_fault s (stmt_of x) ≡ option_or (stmt_fault w (stmt_of i)) (loop_told s x.place l (expr_of c))
+      pub do_is : x.kind ≡ kinds.Do l b c → stmt_fault s (stmt_of x) ≡ option_or (stmt_fault w (stmt_of i))
+          (loop_told s x.place l (expr_of c))
       do_is is =
-          stmt_as s x _ _ is (laws.kind-Do l b c x.place) ∙ do_told s x.place l (expr_of c) (stmt_of b.value) ∙ ap (λ z. option_or z (loop_told s x.place l (expr_of c))) inside
+          stmt_as s x _ _ is (laws.kind-Do l b c x.place) ∙ do_told s x.place l (expr_of c) (stmt_of b.value) ∙
+          ap (λ z. option_or z (loop_told s x.place l (expr_of c))) inside
 
-  pub switch_is : (e : KeptExpr) (gs : Row KeptGroup) (end : Place) (ys : List KeptGroup) (w : Scope) → x.kind ≡ kinds.Switch e gs end → ys ≡ gs.items → w ≡ within targets.Switch s →
-      stmt_fault s (stmt_of x) ≡ option_or (choice_told s x.place (expr_of e) (groups_of (map group_of ys))) (groups_fault w (groups_of (map group_of ys)))
+  pub switch_is : (e : KeptExpr) (gs : Row KeptGroup) (end : Place) (ys : List KeptGroup) (w : Scope) → x.kind ≡ kinds.Switch e gs end →
+      ys ≡ gs.items → w ≡ within targets.Switch s →
+      stmt_fault s (stmt_of x) ≡ option_or (choice_told s x.place (expr_of e) (groups_of (map group_of ys)))
+      (groups_fault w (groups_of (map group_of ys)))
   switch_is e gs end ys w is k at =
       stmt_as s x _ _ is (laws.kind-Switch e gs end x.place)
       ∙ ap (λ (zs : List KeptGroup). stmt_fault s (Switch x.place (expr_of e) (groups_of (map group_of zs)) end)) (sym k)
       ∙ switch_told s x.place (expr_of e) (groups_of (map group_of ys)) end
-      ∙ ap (λ z. option_or (choice_told s x.place (expr_of e) (groups_of (map group_of ys))) (groups_fault z (groups_of (map group_of ys)))) (sym at)
+      ∙ ap (λ z. option_or (choice_told s x.place (expr_of e) (groups_of (map group_of ys))) (groups_fault z (groups_of (map group_of ys))))
+      (sym at)

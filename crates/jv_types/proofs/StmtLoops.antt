@@ -1,5 +1,6 @@
 -- Statements one after another: what is left to be judged, and what is in scope there.
-use Rattle.std.proofs.Common.{◌≡◌, ℕ, zero, suc, ◌+◌, ◌-◌, ◌<◌, ◌≤◌, List, [], ◌∷◌, ◌++◌, map, length, drop, get_or, Option, None, Result, refl, sym, ap, subst, ◌∙◌, arith, append_assoc}
+use Rattle.std.proofs.Common.{◌≡◌, ℕ, zero, suc, ◌+◌, ◌-◌, ◌<◌, ◌≤◌, List, [], ◌∷◌, ◌++◌, map, length, drop, get_or, Option, None, Result}
+use Rattle.std.proofs.Common.{refl, sym, ap, subst, ◌∙◌, arith, append_assoc}
 use Rattle.std.specs.Option.{option_or}
 use Rattle.std.proofs.Math.ListN.{drop_of_length-le, length-append}
 use Rattle.mg_read.specs.Culprit.{Culprit}
@@ -25,14 +26,16 @@ pub record AreJudged (s now : Scope) (all rest : Stmts) : Type 0 where
   pub locals : Extends s.locals now.locals
 
 -- a statement is judged as what it says
-pub stmt_as : (s : Scope) (x : KeptStmt) (k : KeptStmtKind) (y : Stmt) → x.kind ≡ k → stmt_kind_of k x.place ≡ y → stmt_fault s (stmt_of x) ≡ stmt_fault s y
+pub stmt_as : (s : Scope) (x : KeptStmt) (k : KeptStmtKind) (y : Stmt) → x.kind ≡ k → stmt_kind_of k x.place ≡ y →
+    stmt_fault s (stmt_of x) ≡ stmt_fault s y
 stmt_as s x k y is says = ap (stmt_fault s) (stmt_of-is x ∙ ap (λ z. stmt_kind_of z x.place) is ∙ says)
 
 -- the whole is answered as its last part is
 pub answers_as : (r : Result Unit Wrong) (o whole : Option (Condition × Culprit)) → whole ≡ o → Answers o r → Answers whole r
 answers_as r o whole e h = subst (λ z. Answers z r) (sym e) h
 
-pub answers_last : (r : Result Unit Wrong) (o q whole : Option (Condition × Culprit)) → whole ≡ option_or o q → o ≡ None → Answers q r → Answers whole r
+pub answers_last : (r : Result Unit Wrong) (o q whole : Option (Condition × Culprit)) → whole ≡ option_or o q → o ≡ None → Answers q r →
+    Answers whole r
 answers_last r o q whole e n h = answers_as r q whole (e ∙ ap (λ z. option_or z q) n) h
 
 extends_none : (l : List Declared) → Extends l l
@@ -56,28 +59,35 @@ module _ (s now : Scope) (all : Stmts) where
   judged_start = record { left = refl; locals = extends_none s.locals }
 
   -- at an index
-  module _ (xs : List KeptStmt) (i : ℕ) (x : KeptStmt) (within : i < length xs) (is : x ≡ get_or xs i x) (h : AreJudged s now all (stmts_of (map stmt_of (drop i xs)))) where
+  module _ (xs : List KeptStmt) (i : ℕ) (x : KeptStmt) (within : i < length xs) (is : x ≡ get_or xs i x)
+      (h : AreJudged s now all (stmts_of (map stmt_of (drop i xs)))) where
     abbrev more : Stmts
     more = stmts_of (map stmt_of (drop (i + 1) xs))
 
     left_told : stmts_fault s all ≡ option_or (stmt_fault now (stmt_of x)) (stmts_fault (behind (stmt_of x) now) more)
-    left_told = h.left ∙ ap (λ (ys : List KeptStmt). stmts_fault now (stmts_of (map stmt_of ys))) (drop_at xs i x within is) ∙ then_told now (stmt_of x) more
+    left_told = h.left ∙ ap (λ (ys : List KeptStmt). stmts_fault now (stmts_of (map stmt_of ys))) (drop_at xs i x within is) ∙
+        then_told now (stmt_of x) more
 
     pub judged_wrong : (w : Wrong) → Tells w (stmt_fault now (stmt_of x)) → Tells w (stmts_fault s all)
-    judged_wrong w t = tells_first w (stmt_fault now (stmt_of x)) (stmts_fault (behind (stmt_of x) now) more) (stmts_fault s all) left_told t
+    judged_wrong w t = tells_first w (stmt_fault now (stmt_of x)) (stmts_fault (behind (stmt_of x) now) more) (stmts_fault s all) left_told
+        t
 
-    pub judged_more : (new : Scope) → stmt_fault now (stmt_of x) ≡ None → new ≡ behind (stmt_of x) now → Extends now.locals new.locals → AreJudged s new all more
+    pub judged_more : (new : Scope) → stmt_fault now (stmt_of x) ≡ None → new ≡ behind (stmt_of x) now → Extends now.locals new.locals →
+        AreJudged s new all more
     judged_more new fine e k = record {
       left = left_told ∙ ap (λ z. option_or z (stmts_fault (behind (stmt_of x) now) more)) fine ∙ ap (λ z. stmts_fault z more) (sym e);
       locals = extends_more s.locals now.locals new.locals h.locals k;
     }
 
-  pub judged_done : (xs : List KeptStmt) (i : ℕ) → length xs ≤ i → AreJudged s now all (stmts_of (map stmt_of (drop i xs))) → stmts_fault s all ≡ None
+  pub judged_done : (xs : List KeptStmt) (i : ℕ) → length xs ≤ i → AreJudged s now all (stmts_of (map stmt_of (drop i xs))) →
+      stmts_fault s all ≡ None
   judged_done xs i past h = h.left ∙ ap (λ (ys : List KeptStmt). stmts_fault now (stmts_of (map stmt_of ys))) (drop_of_length-le xs past)
 
 -- the groups of a switch
-module _ (s : Scope) (all : Groups) (gs : List KeptGroup) (i : ℕ) (h : groups_fault s all ≡ groups_fault s (groups_of (map group_of (drop i gs)))) where
-  module _ (g : KeptGroup) (within : i < length gs) (is : g ≡ get_or gs i g) (body : List KeptStmt) (body_is : body ≡ (out-Group g).body.items) where
+module _ (s : Scope) (all : Groups) (gs : List KeptGroup) (i : ℕ)
+    (h : groups_fault s all ≡ groups_fault s (groups_of (map group_of (drop i gs)))) where
+  module _ (g : KeptGroup) (within : i < length gs) (is : g ≡ get_or gs i g) (body : List KeptStmt)
+      (body_is : body ≡ (out-Group g).body.items) where
     abbrev other_groups : Groups
     other_groups = groups_of (map group_of (drop (i + 1) gs))
 
@@ -89,7 +99,8 @@ module _ (s : Scope) (all : Groups) (gs : List KeptGroup) (i : ℕ) (h : groups_
         ∙ ap (λ (ys : List KeptStmt). option_or (stmts_fault s (stmts_of (map stmt_of ys))) (groups_fault s other_groups)) (sym body_is)
 
     pub group_wrong : (w : Wrong) → Tells w (stmts_fault s (stmts_of (map stmt_of body))) → Tells w (groups_fault s all)
-    group_wrong w t = tells_first w (stmts_fault s (stmts_of (map stmt_of body))) (groups_fault s other_groups) (groups_fault s all) groups_told t
+    group_wrong w t = tells_first w (stmts_fault s (stmts_of (map stmt_of body))) (groups_fault s other_groups) (groups_fault s all)
+        groups_told t
 
     pub group_more : stmts_fault s (stmts_of (map stmt_of body)) ≡ None → groups_fault s all ≡ groups_fault s other_groups
     group_more fine = groups_told ∙ ap (λ z. option_or z (groups_fault s other_groups)) fine

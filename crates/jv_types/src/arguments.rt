@@ -72,7 +72,8 @@ pub(crate) fn args_misfit(
     types: &[ValueType<'_>],
 ) -> Option<Place>
     requires { length types.now ≡ length args.now }
-    ensures { option_map at_place result ≡ args_misfit (exprs_of (map expr_of args.now)) (params_seen (program_in table.now) params.entry) (map type_seen types.now) }
+    ensures { option_map at_place result ≡ args_misfit (exprs_of (map expr_of args.now)) (params_seen (program_in table.now) params.entry)
+        (map type_seen types.now) }
 {
     for (i, arg) in args.iter().enumerate() {
         match param_at(table, params, i) {

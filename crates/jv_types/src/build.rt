@@ -103,8 +103,10 @@ fn add_class<'a>(
 ) -> Result<(), Memory>
     requires names { names.now ≡ map (λ t. t.name) typestates.now }
     requires member { repeat_in (decl_of decl.now) ≡ None }
-    ensures classes { OnOk result (map (λ e. e.class.now) entries.new.items ≡ map (λ e. e.class.now) entries.old.items ++ class_kept decl.now) }
-    ensures follow { OnOk result (map typestate_in entries.old.items ≡ map (followed typestates.now) entries.old.items → map typestate_in entries.new.items ≡ map (followed typestates.now) entries.new.items) }
+    ensures classes { OnOk result (map (λ e. e.class.now) entries.new.items ≡ map (λ e. e.class.now) entries.old.items
+        ++ class_kept decl.now) }
+    ensures follow { OnOk result (map typestate_in entries.old.items ≡ map (followed typestates.now) entries.old.items →
+        map typestate_in entries.new.items ≡ map (followed typestates.now) entries.new.items) }
 {
     let Decl::Class(class) = decl else {
         return Ok(());

@@ -2,7 +2,8 @@
 
 ghost use Rattle.std.specs.Prelude.{◌≡◌, option_map, Some, None};
 ghost use Rattle.jv_tree.specs.View.{method_of};
-ghost use Rattle.jv_rules.specs.Typing.{own_instance, own_method, static_of, protocol_method, called, called_on_this, called_on_class, called_on_value};
+ghost use Rattle.jv_rules.specs.Typing.{own_instance, own_method, static_of, protocol_method, called, called_on_this, called_on_class};
+ghost use Rattle.jv_rules.specs.Typing.{called_on_value};
 ghost use Rattle.jv_types.specs.inner.View.{type_seen};
 ghost use Rattle.jv_types.specs.inner.Signatures.{signature_seen};
 ghost use Rattle.jv_types.specs.inner.Scopes.{scope_seen, program_seen};
@@ -37,7 +38,8 @@ fn own_instance<'a>(
     locals: &Locals<'a>,
     method: &'a MethodDecl,
 ) -> Option<Signature<'a>>
-    ensures { option_map (signature_seen (program_seen scope.now)) result ≡ own_instance (scope_seen scope.now locals.now) (method_of method.now) }
+    ensures { option_map (signature_seen (program_seen scope.now)) result ≡ own_instance (scope_seen scope.now locals.now)
+        (method_of method.now) }
 {
     if method.is_static {
         return None;
@@ -102,7 +104,8 @@ fn protocol_method<'a>(
     name: &str,
 ) -> Option<Signature<'a>>
     requires { IsEntryOf (program_in table.now) entry.now }
-    ensures { option_map (signature_seen (program_in table.now)) result ≡ protocol_method (program_in table.now) (class_in entry.now) name.now }
+    ensures { option_map (signature_seen (program_in table.now)) result ≡ protocol_method (program_in table.now)
+        (class_in entry.now) name.now }
 {
     let method = entry.method(name)?;
     if method.is_static {
@@ -120,7 +123,8 @@ pub(crate) fn called_on_value<'a>(
     ty: ValueType<'_>,
     name: &str,
 ) -> Option<Signature<'a>>
-    ensures { option_map (signature_seen (program_in table.now)) result ≡ called_on_value (program_in table.now) (type_seen ty.entry) name.now }
+    ensures { option_map (signature_seen (program_in table.now)) result ≡ called_on_value (program_in table.now)
+        (type_seen ty.entry) name.now }
 {
     match ty {
         ValueType::Text => text_method(name),

@@ -93,7 +93,8 @@ fn end_site<'a>(
     given: &Given<'_>,
 ) -> Result<(), Wrong<'a>>
     requires { length given.now.types.items ≡ length args.now }
-    ensures { let fault = site_told site.entry (exprs_of (map expr_of args.now)) (params_seen (program_in table.now) params.entry) (map type_seen given.now.types.items) given.now.helper in
+    ensures { let fault = site_told site.entry (exprs_of (map expr_of args.now)) (params_seen (program_in table.now) params.entry)
+        (map type_seen given.now.types.items) given.now.helper in
         MatchResult result (λ u. fault ≡ None) (λ w. Tells w fault) }
 {
     if let Some(at) = site.receiver {
@@ -127,7 +128,9 @@ fn end_method<'a>(
     given: &Given<'_>,
 ) -> Result<Checked<'a>, Wrong<'a>>
     requires { AreChecked (scope_seen scope.now locals.now) (exprs_of (map expr_of args.now)) given.now }
-    ensures { (e : Node) → IsSite (scope_seen scope.now locals.now) e site.entry (option_map (signature_seen (program_seen scope.now)) signature.entry) (exprs_of (map expr_of args.now)) → Judges (scope_seen scope.now locals.now) e result }
+    ensures { (e : Node) → IsSite (scope_seen scope.now locals.now) e site.entry
+        (option_map (signature_seen (program_seen scope.now)) signature.entry) (exprs_of (map expr_of args.now)) →
+        Judges (scope_seen scope.now locals.now) e result }
 {
     let Some(signature) = signature else {
         return Err(Wrong::Fault(Condition::UnknownName, site.place, site.name));
@@ -175,7 +178,8 @@ fn end_own_call<'a>(
 ) -> Result<Checked<'a>, Wrong<'a>>
     requires own { is_this (expr_of of.now) ≡ true }
     requires fine { AreChecked (scope_seen scope.now locals.now) (exprs_of (map expr_of args.now)) given.now }
-    ensures { Judges (scope_seen scope.now locals.now) (MethodCall place (expr_of of.now) name.now (exprs_of (map expr_of args.now))) result }
+    ensures { Judges (scope_seen scope.now locals.now) (MethodCall place (expr_of of.now) name.now (exprs_of (map expr_of args.now)))
+        result }
 {
     let site = Site {
         place,
@@ -196,7 +200,8 @@ fn called_on_name<'a>(
     x: &str,
     name: &str,
 ) -> Option<Signature<'a>>
-    ensures { option_map (signature_seen (program_seen scope.now)) result ≡ called_on_named (scope_seen scope.now locals.now) x.now name.now }
+    ensures { option_map (signature_seen (program_seen scope.now)) result ≡ called_on_named (scope_seen scope.now locals.now) x.now
+        name.now }
 {
     match variable_type(scope, locals, x) {
         Some(ty) => called_on_value(scope.table, ty, name),
@@ -218,7 +223,8 @@ fn end_named_call<'a>(
     requires named { variable_name (expr_of of.now) ≡ Some x.now }
     requires receiver { is_receiver (scope_seen scope.now locals.now) x.now ≡ true }
     requires fine { AreChecked (scope_seen scope.now locals.now) (exprs_of (map expr_of args.now)) given.now }
-    ensures { Judges (scope_seen scope.now locals.now) (MethodCall place (expr_of of.now) name.now (exprs_of (map expr_of args.now))) result }
+    ensures { Judges (scope_seen scope.now locals.now) (MethodCall place (expr_of of.now) name.now (exprs_of (map expr_of args.now)))
+        result }
 {
     let site = Site {
         place,
@@ -247,7 +253,8 @@ fn end_other_call<'a>(
     requires unnamed { variable_name (expr_of of.now) ≡ None }
     requires inner { IsChecked (scope_seen scope.now locals.now) (expr_of of.now) inner }
     requires fine { AreChecked (scope_seen scope.now locals.now) (exprs_of (map expr_of args.now)) given.now }
-    ensures { Judges (scope_seen scope.now locals.now) (MethodCall place (expr_of of.now) name.now (exprs_of (map expr_of args.now))) result }
+    ensures { Judges (scope_seen scope.now locals.now) (MethodCall place (expr_of of.now) name.now (exprs_of (map expr_of args.now)))
+        result }
 {
     let site = Site {
         place,
@@ -274,7 +281,8 @@ pub(crate) fn end_method_call<'a>(
 ) -> Result<Checked<'a>, Wrong<'a>>
     requires receiver { ReceiverIs (scope_seen scope.now locals.now) (expr_of of.now) receiver }
     requires fine { AreChecked (scope_seen scope.now locals.now) (exprs_of (map expr_of args.now)) given.now }
-    ensures { Judges (scope_seen scope.now locals.now) (MethodCall place (expr_of of.now) name.now (exprs_of (map expr_of args.now))) result }
+    ensures { Judges (scope_seen scope.now locals.now) (MethodCall place (expr_of of.now) name.now (exprs_of (map expr_of args.now)))
+        result }
 {
     match receiver {
         Receiver::Own => end_own_call(scope, locals, place, of, name, args, given),

@@ -56,7 +56,8 @@ fn repeated_name<'a>(
     typestates: &'a [Typestate],
     origins: &[u32],
 ) -> Result<Option<Blamed<'a>>, Memory>
-    ensures { IfOk result (λ o. option_map blamed_of o ≡ option_or (repeat_type [] (map (λ d. decl_of d.now) decls.now)) (repeat_typestate [] typestates.now origins.now)) }
+    ensures { IfOk result (λ o. option_map blamed_of o ≡ option_or (repeat_type [] (map (λ d. decl_of d.now) decls.now))
+        (repeat_typestate [] typestates.now origins.now)) }
 {
     let found = repeated_type(alloc, decls)?;
     if found.is_some() {

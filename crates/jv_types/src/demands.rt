@@ -9,7 +9,9 @@ ghost use Rattle.jv_rules.specs.inner.Deciding.{first_by};
 ghost use Rattle.jv_types.specs.Tables.{program_in};
 ghost use Rattle.jv_types.specs.declared.demands.Demand.TheVariants as demands;
 ghost use Rattle.jv_types.specs.inner.Blaming.{blamed_of, noted};
-ghost use Rattle.jv_types.specs.inner.Declaring.{missing_method, missing_in_class, type_eq, types_eq, same_signature, all_in, are_constants, are_labels_of, other_labels, breaks, breaks_it, broken_names, broken_by_name, broken_method, broken_in_class};
+ghost use Rattle.jv_types.specs.inner.Declaring.{missing_method, missing_in_class, type_eq, types_eq, same_signature, all_in};
+ghost use Rattle.jv_types.specs.inner.Declaring.{are_constants, are_labels_of, other_labels, breaks, breaks_it, broken_names};
+ghost use Rattle.jv_types.specs.inner.Declaring.{broken_by_name, broken_method, broken_in_class};
 ghost use Rattle.jv_types.specs.inner.Kept.{typestate_in};
 ghost use Rattle.jv_types.specs.inner.Offering.{offers_seen};
 ghost use Rattle.jv_types.specs.inner.Tabled.{class_in, enum_in, IsEntryOf, AreEntriesOf};
@@ -246,7 +248,8 @@ fn breaks_it(
     entry: &ClassEntry<'_>,
     demanded: &Method,
 ) -> Result<bool, Memory>
-    ensures { IfOk result (λ b. b ≡ breaks_it (program_in table.now) demand (method_named (class_in entry.now) demanded.now.name) (offer_of demanded.now)) }
+    ensures { IfOk result (λ b. b ≡ breaks_it (program_in table.now) demand (method_named (class_in entry.now) demanded.now.name)
+        (offer_of demanded.now)) }
 {
     let Some(method) = entry.method(demanded.name.as_str()) else {
         return Ok(false);
@@ -298,7 +301,8 @@ pub(crate) fn broken_by<'a>(
     entry: &ClassEntry<'a>,
     methods: &[&Method],
 ) -> Result<Option<Blamed<'a>>, Memory>
-    ensures { IfOk result (λ o. option_map blamed_of o ≡ first_by (broken_method (program_in table.now) demand (offers_seen methods.now)) (class_in entry.now).methods) }
+    ensures { IfOk result (λ o. option_map blamed_of o ≡ first_by (broken_method (program_in table.now) demand (offers_seen methods.now))
+        (class_in entry.now).methods) }
 {
     let mut met = Names::new(alloc);
     note_broken(alloc, table, demand, entry, &mut met, methods)?;
@@ -313,7 +317,8 @@ fn other_signature<'a>(
     entry: &ClassEntry<'a>,
 ) -> Result<Option<Blamed<'a>>, Memory>
     requires { IsEntryOf (program_in table.now) entry.now }
-    ensures { IfOk result (λ o. option_map blamed_of o ≡ broken_in_class (program_in table.now) demands.OfSignature (typestate_in entry.now) (class_in entry.now)) }
+    ensures { IfOk result (λ o. option_map blamed_of o ≡ broken_in_class (program_in table.now) demands.OfSignature (typestate_in entry.now)
+        (class_in entry.now)) }
 {
     match table.protocol_of(entry) {
         Some(protocol) => {
@@ -331,7 +336,8 @@ pub(crate) fn signature_differs<'a>(
     entries: &[ClassEntry<'a>],
 ) -> Result<Option<Blamed<'a>>, Memory>
     requires { AreEntriesOf (program_in table.now) entries.now }
-    ensures { IfOk result (λ o. option_map blamed_of o ≡ first_by (λ e. broken_in_class (program_in table.now) demands.OfSignature (typestate_in e) (class_in e)) entries.now) }
+    ensures { IfOk result (λ o. option_map blamed_of o
+        ≡ first_by (λ e. broken_in_class (program_in table.now) demands.OfSignature (typestate_in e) (class_in e)) entries.now) }
 {
     for item in entries {
         let found = other_signature(alloc, table, item)?;

@@ -79,7 +79,8 @@ pub(crate) fn end_binary<'a>(
     right: &Expr,
     other: Checked<'a>,
 ) -> Result<Checked<'a>, Wrong<'a>>
-    ensures { (s : Visible) → IsChecked s (expr_of left.now) one.entry → IsChecked s (expr_of right.now) other.entry → Judges s (Binary place op (expr_of left.now) (expr_of right.now)) result }
+    ensures { (s : Visible) → IsChecked s (expr_of left.now) one.entry → IsChecked s (expr_of right.now) other.entry →
+        Judges s (Binary place op (expr_of left.now) (expr_of right.now)) result }
 {
     match operand_misfit(op, left, one.ty, right, other.ty) {
         Some(at) => Err(Wrong::Fault(Condition::TypeMismatch, at, "")),

@@ -78,7 +78,8 @@ impl Exits {
 
     // From now on these are what was met with this label.
     fn set(&mut self, label: Option<&str>, jumps: Jumps) -> Result<(), Memory>
-        ensures { OnOk result ((l : Option Name) → met_at self.new l ≡ with_jumps (met_at self.old) (option_map (λ l. l.now) label.entry) jumps l) }
+        ensures { OnOk result ((l : Option Name) → met_at self.new l ≡ with_jumps (met_at self.old) (option_map (λ l. l.now) label.entry)
+            jumps l) }
     {
         match label {
             None => {
@@ -95,7 +96,8 @@ impl Exits {
 
     /// Meets `break`.
     pub(crate) fn add_break(&mut self, label: Option<&str>) -> Result<(), Memory>
-        ensures { OnOk result ((l : Option Name) → met_at self.new l ≡ with_jumps (met_at self.old) (option_map (λ l. l.now) label.entry) (both (met_at self.old (option_map (λ l. l.now) label.entry)) (jumps true false)) l) }
+        ensures { OnOk result ((l : Option Name) → met_at self.new l ≡ with_jumps (met_at self.old) (option_map (λ l. l.now) label.entry)
+            (both (met_at self.old (option_map (λ l. l.now) label.entry)) (jumps true false)) l) }
     {
         let met = self.met(label);
         self.set(
@@ -109,7 +111,8 @@ impl Exits {
 
     /// Meets `continue`.
     pub(crate) fn add_continue(&mut self, label: Option<&str>) -> Result<(), Memory>
-        ensures { OnOk result ((l : Option Name) → met_at self.new l ≡ with_jumps (met_at self.old) (option_map (λ l. l.now) label.entry) (both (met_at self.old (option_map (λ l. l.now) label.entry)) (jumps false true)) l) }
+        ensures { OnOk result ((l : Option Name) → met_at self.new l ≡ with_jumps (met_at self.old) (option_map (λ l. l.now) label.entry)
+            (both (met_at self.old (option_map (λ l. l.now) label.entry)) (jumps false true)) l) }
     {
         let met = self.met(label);
         self.set(
@@ -125,7 +128,8 @@ impl Exits {
     pub(crate) fn enter_loop(&mut self, label: Option<&str>) -> Result<Hidden, Memory>
         ensures plain { IfOk result (λ h. h.plain ≡ met_at self.old Missing) }
         ensures labelled { IfOk result (λ h. h.labelled ≡ met_at self.old (option_map (λ l. l.now) label.entry)) }
-        ensures met { OnOk result ((l : Option Name) → met_at self.new l ≡ emptied (option_map (λ l. l.now) label.entry) (met_at self.old) l) }
+        ensures met { OnOk result ((l : Option Name) → met_at self.new l ≡ emptied (option_map (λ l. l.now) label.entry)
+            (met_at self.old) l) }
     {
         let hidden = Hidden {
             plain: self.met(None),
@@ -143,7 +147,9 @@ impl Exits {
         hidden: Hidden,
     ) -> Result<Jumps, Memory>
         ensures inner { IfOk result (λ j. j ≡ both (met_at self.old Missing) (met_at self.old (option_map (λ l. l.now) label.entry))) }
-        ensures met { OnOk result ((l : Option Name) → met_at self.new l ≡ with_jumps (with_jumps (met_at self.old) (option_map (λ l. l.now) label.entry) hidden.labelled) Missing hidden.plain l) }
+        ensures met { OnOk result ((l : Option Name) →
+            met_at self.new l ≡ with_jumps (with_jumps (met_at self.old) (option_map (λ l. l.now) label.entry) hidden.labelled) Missing
+            hidden.plain l) }
     {
         let inner = both(self.met(None), self.met(label));
         self.set(label, hidden.labelled)?;
@@ -154,7 +160,8 @@ impl Exits {
     /// Enters a switch: whether `break` was met before, which is hidden.
     pub(crate) fn enter_switch(&mut self) -> bool
         ensures hidden { result ≡ (met_at self.old Missing).breaks }
-        ensures met { (l : Option Name) → met_at self.new l ≡ with_jumps (met_at self.old) Missing (jumps false (met_at self.old Missing).continues) l }
+        ensures met { (l : Option Name) → met_at self.new l ≡ with_jumps (met_at self.old) Missing
+            (jumps false (met_at self.old Missing).continues) l }
     {
         let hidden = self.plain.breaks;
         self.plain.breaks = false;
@@ -164,7 +171,8 @@ impl Exits {
     /// Leaves a switch: whether `break` leads to it. What was hidden is there again.
     pub(crate) fn leave_switch(&mut self, hidden: bool) -> bool
         ensures inner { result ≡ (met_at self.old Missing).breaks }
-        ensures met { (l : Option Name) → met_at self.new l ≡ with_jumps (met_at self.old) Missing (jumps hidden (met_at self.old Missing).continues) l }
+        ensures met { (l : Option Name) → met_at self.new l ≡ with_jumps (met_at self.old) Missing
+            (jumps hidden (met_at self.old Missing).continues) l }
     {
         let inner = self.plain.breaks;
         self.plain.breaks = hidden;

@@ -7,7 +7,8 @@ ghost use Rattle.jv_meaning.specs.Program.{enum_named};
 ghost use Rattle.jv_rules.specs.inner.Deciding.{first_by, has_constant};
 ghost use Rattle.jv_types.specs.Tables.{program_in};
 ghost use Rattle.jv_types.specs.inner.Blaming.{blamed_of};
-ghost use Rattle.jv_types.specs.inner.Declaring.{is_constant_of, needs_value, lacks_constant, field_needs_value, fields_need_values, is_member_of, is_constant_named, is_int, is_truth, is_text};
+ghost use Rattle.jv_types.specs.inner.Declaring.{is_constant_of, needs_value, lacks_constant, field_needs_value, fields_need_values};
+ghost use Rattle.jv_types.specs.inner.Declaring.{is_member_of, is_constant_named, is_int, is_truth, is_text};
 ghost use Rattle.jv_types.specs.inner.Tabled.{class_in};
 
 use crate::blame::Blamed;

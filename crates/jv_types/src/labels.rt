@@ -41,7 +41,8 @@ fn note_mislabelled(
     met: &mut Names,
     protocol: &Protocol<'_>,
 ) -> Result<(), Memory>
-    ensures { OnOk result (met.new ≡ (if is_mislabelled (program_in table.now) protocol.now.of.now then with_text met.old protocol.now.of.now.name else met.old)) }
+    ensures { OnOk result (met.new
+        ≡ (if is_mislabelled (program_in table.now) protocol.now.of.now then with_text met.old protocol.now.of.now.name else met.old)) }
 {
     let differ = some_differ(alloc, table, protocol.offers.as_slice())?;
     if !differ {
@@ -86,7 +87,8 @@ fn other_answers<'a>(
     requires entry { IsEntryOf (program_in table.now) entry.now }
     requires wrong { wrong.now ≡ mislabelled (program_in table.now) [] (program_in table.now).typestates }
     requires alike { broken_in_class (program_in table.now) demands.OfSignature (typestate_in entry.now) (class_in entry.now) ≡ None }
-    ensures { IfOk result (λ o. option_map blamed_of o ≡ broken_in_class (program_in table.now) demands.OfLabels (typestate_in entry.now) (class_in entry.now)) }
+    ensures { IfOk result (λ o. option_map blamed_of o ≡ broken_in_class (program_in table.now) demands.OfLabels (typestate_in entry.now)
+        (class_in entry.now)) }
 {
     match table.protocol_of(entry) {
         Some(protocol) => {
@@ -109,8 +111,10 @@ pub(crate) fn labels_differ<'a>(
     entries: &[ClassEntry<'a>],
 ) -> Result<Option<Blamed<'a>>, Memory>
     requires entries { AreEntriesOf (program_in table.now) entries.now }
-    requires alike { first_by (λ e. broken_in_class (program_in table.now) demands.OfSignature (typestate_in e) (class_in e)) entries.now ≡ None }
-    ensures { IfOk result (λ o. option_map blamed_of o ≡ first_by (λ e. broken_in_class (program_in table.now) demands.OfLabels (typestate_in e) (class_in e)) entries.now) }
+    requires alike { first_by (λ e. broken_in_class (program_in table.now) demands.OfSignature (typestate_in e) (class_in e)) entries.now
+        ≡ None }
+    ensures { IfOk result (λ o. option_map blamed_of o
+        ≡ first_by (λ e. broken_in_class (program_in table.now) demands.OfLabels (typestate_in e) (class_in e)) entries.now) }
 {
     let wrong = mislabelled(alloc, table)?;
     for item in entries {

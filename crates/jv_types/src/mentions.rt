@@ -4,7 +4,8 @@
 ghost use Rattle.std.specs.Prelude.{◌≡◌, ◌∷◌, ◌++◌, IfOk, map, option_map, flat_map};
 ghost use Rattle.jv_tree.specs.View.{class_of, expr_of, exprs_of, stmt_of, stmts_of, group_of, groups_of};
 ghost use Rattle.jv_meaning.specs.Program.{class_named};
-ghost use Rattle.jv_rules.specs.Members.{Written, Made, mentions_in, mentions_in_args, mentions_in_value, mentions_in_stmt, mentions_in_stmts, mentions_in_groups, mentions_in_member, param_mention};
+ghost use Rattle.jv_rules.specs.Members.{Written, Made, mentions_in, mentions_in_args, mentions_in_value, mentions_in_stmt};
+ghost use Rattle.jv_rules.specs.Members.{mentions_in_stmts, mentions_in_groups, mentions_in_member, param_mention};
 ghost use Rattle.jv_rules.specs.inner.Deciding.{first_by};
 ghost use Rattle.jv_types.specs.Tables.{program_in};
 ghost use Rattle.jv_types.specs.inner.Blaming.{blamed_of};
@@ -102,7 +103,8 @@ fn unknown_in<'a>(table: &Table<'_>, expr: &'a Expr) -> Option<Blamed<'a>>
 #[tactic(auto, using(crate::proofs::Mentioned::arg_steps))]
 #[cycle(mentions)]
 fn unknown_in_args<'a>(table: &Table<'_>, args: &'a [Expr]) -> Option<Blamed<'a>>
-    ensures { option_map blamed_of result ≡ first_by (unknown_class (program_in table.now)) (mentions_in_args (exprs_of (map expr_of args.now))) }
+    ensures { option_map blamed_of result ≡ first_by (unknown_class (program_in table.now))
+        (mentions_in_args (exprs_of (map expr_of args.now))) }
 {
     for item in args {
         let found = unknown_in(table, item);
@@ -115,7 +117,8 @@ fn unknown_in_args<'a>(table: &Table<'_>, args: &'a [Expr]) -> Option<Blamed<'a>
 
 // The first of a value, where there is one.
 fn unknown_in_value<'a>(table: &Table<'_>, value: &'a Option<Expr>) -> Option<Blamed<'a>>
-    ensures { option_map blamed_of result ≡ first_by (unknown_class (program_in table.now)) (mentions_in_value (option_map expr_of value.now)) }
+    ensures { option_map blamed_of result ≡ first_by (unknown_class (program_in table.now))
+        (mentions_in_value (option_map expr_of value.now)) }
 {
     match value {
         Some(expr) => unknown_in(table, expr),
@@ -126,7 +129,8 @@ fn unknown_in_value<'a>(table: &Table<'_>, value: &'a Option<Expr>) -> Option<Bl
 // The first of two expressions.
 #[tactic(auto, using(crate::proofs::Mentioned::mentioned))]
 fn unknown_in_both<'a>(table: &Table<'_>, first: &'a Expr, second: &'a Expr) -> Option<Blamed<'a>>
-    ensures { option_map blamed_of result ≡ first_by (unknown_class (program_in table.now)) (mentions_in (expr_of first.now) ++ mentions_in (expr_of second.now)) }
+    ensures { option_map blamed_of result ≡ first_by (unknown_class (program_in table.now))
+        (mentions_in (expr_of first.now) ++ mentions_in (expr_of second.now)) }
 {
     let found = unknown_in(table, first);
     if found.is_some() {
@@ -143,7 +147,8 @@ fn unknown_in_local<'a>(
     ty: &'a TypeName,
     value: &'a Expr,
 ) -> Option<Blamed<'a>>
-    ensures { option_map blamed_of result ≡ first_by (unknown_class (program_in table.now)) (Written place ty.now ∷ mentions_in (expr_of value.now)) }
+    ensures { option_map blamed_of result ≡ first_by (unknown_class (program_in table.now))
+        (Written place ty.now ∷ mentions_in (expr_of value.now)) }
 {
     let found = unknown_type(table, place, ty);
     if found.is_some() {
@@ -208,7 +213,8 @@ fn unknown_in_stmt<'a>(table: &Table<'_>, stmt: &'a Stmt) -> Option<Blamed<'a>>
 #[tactic(auto, using(crate::proofs::Mentioned::stmt_steps))]
 #[cycle(mentioned)]
 fn unknown_in_stmts<'a>(table: &Table<'_>, body: &'a [Stmt]) -> Option<Blamed<'a>>
-    ensures { option_map blamed_of result ≡ first_by (unknown_class (program_in table.now)) (mentions_in_stmts (stmts_of (map stmt_of body.now))) }
+    ensures { option_map blamed_of result ≡ first_by (unknown_class (program_in table.now))
+        (mentions_in_stmts (stmts_of (map stmt_of body.now))) }
 {
     for item in body {
         let found = unknown_in_stmt(table, item);
@@ -223,7 +229,8 @@ fn unknown_in_stmts<'a>(table: &Table<'_>, body: &'a [Stmt]) -> Option<Blamed<'a
 #[tactic(auto, using(crate::proofs::Mentioned::group_steps))]
 #[cycle(mentioned)]
 fn unknown_in_groups<'a>(table: &Table<'_>, groups: &'a [Group]) -> Option<Blamed<'a>>
-    ensures { option_map blamed_of result ≡ first_by (unknown_class (program_in table.now)) (mentions_in_groups (groups_of (map group_of groups.now))) }
+    ensures { option_map blamed_of result ≡ first_by (unknown_class (program_in table.now))
+        (mentions_in_groups (groups_of (map group_of groups.now))) }
 {
     for item in groups {
         let found = unknown_in_stmts(table, item.body.as_slice());
@@ -250,7 +257,8 @@ fn unknown_in_params<'a>(table: &Table<'_>, params: &'a [Param]) -> Option<Blame
 // The first of a member.
 #[tactic(auto, using(crate::proofs::Mentioned::mentioned))]
 fn unknown_in_member<'a>(table: &Table<'_>, member: Member<'a>) -> Option<Blamed<'a>>
-    ensures { option_map blamed_of result ≡ first_by (unknown_class (program_in table.now)) (mentions_in_member (member_seen member.entry)) }
+    ensures { option_map blamed_of result ≡ first_by (unknown_class (program_in table.now))
+        (mentions_in_member (member_seen member.entry)) }
 {
     match member {
         Member::Field(field) => {
@@ -277,7 +285,8 @@ fn unknown_in_member<'a>(table: &Table<'_>, member: Member<'a>) -> Option<Blamed
 // The first of members.
 #[tactic(auto, using(crate::proofs::Mentioned::mentioned))]
 fn unknown_in_members<'a>(table: &Table<'_>, members: &[Member<'a>]) -> Option<Blamed<'a>>
-    ensures { option_map blamed_of result ≡ first_by (unknown_class (program_in table.now)) (flat_map mentions_in_member (map member_seen members.now)) }
+    ensures { option_map blamed_of result ≡ first_by (unknown_class (program_in table.now))
+        (flat_map mentions_in_member (map member_seen members.now)) }
 {
     for item in members {
         let found = unknown_in_member(table, *item);

@@ -37,7 +37,8 @@ fn add_before<'a>(
     methods: &'a [MethodDecl],
 ) -> Result<&'a [MethodDecl], Memory>
     ensures rest { IfOk result (λ rest. map method_of rest.now ≡ methods_from place (map method_of methods.now)) }
-    ensures items { OnOk result (map member_seen members.new.items ≡ map member_seen members.old.items ++ map OfMethod (methods_before place (map method_of methods.now))) }
+    ensures items { OnOk result (map member_seen members.new.items ≡ map member_seen members.old.items
+        ++ map OfMethod (methods_before place (map method_of methods.now))) }
 {
     let mut rest = methods;
     'front: while let Some((method, more)) = rest.split_first() {
@@ -52,7 +53,8 @@ fn add_before<'a>(
 
 // Adds methods.
 fn add_methods<'a>(members: &mut Vec<Member<'a>>, methods: &'a [MethodDecl]) -> Result<(), Memory>
-    ensures { OnOk result (map member_seen members.new.items ≡ map member_seen members.old.items ++ map OfMethod (map method_of methods.now)) }
+    ensures { OnOk result (map member_seen members.new.items ≡ map member_seen members.old.items
+        ++ map OfMethod (map method_of methods.now)) }
 {
     for method in methods {
         members.push(Member::Method(method))?;

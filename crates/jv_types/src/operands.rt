@@ -87,7 +87,8 @@ fn misfits(
     right: &Expr,
     other: ValueType<'_>,
 ) -> Option<Place>
-    ensures { option_map at_place result ≡ misfits (type_seen taken.entry) (expr_of left.now) (type_seen one.entry) (expr_of right.now) (type_seen other.entry) }
+    ensures { option_map at_place result ≡ misfits (type_seen taken.entry) (expr_of left.now) (type_seen one.entry) (expr_of right.now)
+        (type_seen other.entry) }
 {
     match misfit(taken, left, one) {
         Some(place) => Some(place),
@@ -102,7 +103,8 @@ fn added_misfit(
     right: &Expr,
     other: ValueType<'_>,
 ) -> Option<Place>
-    ensures { option_map at_place result ≡ added_misfit (expr_of left.now) (type_seen one.entry) (expr_of right.now) (type_seen other.entry) }
+    ensures { option_map at_place result ≡ added_misfit (expr_of left.now) (type_seen one.entry) (expr_of right.now)
+        (type_seen other.entry) }
 {
     match one {
         ValueType::Text => unwritable(right, other),
@@ -121,7 +123,8 @@ fn compared_misfit(
     right: &Expr,
     other: ValueType<'_>,
 ) -> Option<Place>
-    ensures { option_map at_place result ≡ compared_misfit (expr_of left.now) (type_seen one.entry) (expr_of right.now) (type_seen other.entry) }
+    ensures { option_map at_place result ≡ compared_misfit (expr_of left.now) (type_seen one.entry) (expr_of right.now)
+        (type_seen other.entry) }
 {
     match one {
         ValueType::Int => misfit(one, right, other),
@@ -147,7 +150,8 @@ pub(crate) fn operand_misfit(
     right: &Expr,
     other: ValueType<'_>,
 ) -> Option<Place>
-    ensures { option_map at_place result ≡ operand_misfit op (expr_of left.now) (type_seen one.entry) (expr_of right.now) (type_seen other.entry) }
+    ensures { option_map at_place result ≡ operand_misfit op (expr_of left.now) (type_seen one.entry) (expr_of right.now)
+        (type_seen other.entry) }
 {
     match op {
         Op::Or | Op::And => misfits(ValueType::Boolean, left, one, right, other),

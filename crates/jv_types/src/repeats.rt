@@ -5,7 +5,8 @@ ghost use Rattle.std.specs.Prelude.{◌≡◌, [], IfOk, map, option_map};
 ghost use Rattle.jv_tree.specs.View.{decl_of};
 ghost use Rattle.jv_rules.specs.Members.{decl_entry};
 ghost use Rattle.jv_types.specs.inner.Blaming.{blamed_of};
-ghost use Rattle.jv_types.specs.inner.Repeating.{member_seen, is_built_in, repeat_type, repeat_typestate, repeat_member, repeat_constant, repeat_in};
+ghost use Rattle.jv_types.specs.inner.Repeating.{member_seen, is_built_in, repeat_type, repeat_typestate, repeat_member, repeat_constant};
+ghost use Rattle.jv_types.specs.inner.Repeating.{repeat_in};
 ghost use Rattle.jv_rules.specs.inner.Deciding.{first_by};
 
 use crate::blame::{Blamed, note};

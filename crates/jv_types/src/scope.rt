@@ -35,7 +35,8 @@ impl<'s, 'a> Scope<'s, 'a> {
 
     /// The same class and method, within a loop or a switch.
     pub(crate) fn within<'t>(&'t self, around: &'t Around<'t>) -> Scope<'t, 'a>
-        ensures { (locals : List Declared) → scope_seen result locals ≡ record (scope_seen self.now locals) { around = around_seen around.now } }
+        ensures { (locals : List Declared) → scope_seen result locals
+            ≡ record (scope_seen self.now locals) { around = around_seen around.now } }
     {
         Scope {
             alloc: self.alloc,

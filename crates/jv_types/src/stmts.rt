@@ -102,7 +102,8 @@ fn check_chosen<'a>(
     locals: &mut Locals<'a>,
     groups: &'a [Group],
 ) -> Result<(), Wrong<'a>>
-    ensures told { Answers (groups_fault (within targets.Switch (scope_seen scope.now locals.old)) (groups_of (map group_of groups.now))) result }
+    ensures told { Answers (groups_fault (within targets.Switch (scope_seen scope.now locals.old)) (groups_of (map group_of groups.now)))
+        result }
     ensures kept { OnOk result (locals.new ≡ locals.old) }
 {
     let around = Around::Switch(&*scope.around);

@@ -64,7 +64,8 @@ fn label_met<'a>(
     ty: ValueType<'_>,
     labels: &[&'a Option<Text>],
 ) -> Result<Option<&'a str>, Memory>
-    ensures { IfOk result (λ o. option_map (λ n. n.now) o ≡ bad_case (is_case_of (program_in table.now) (Some (type_seen ty.entry))) met.old false (map (λ l. l.now) labels.now)) }
+    ensures { IfOk result (λ o. option_map (λ n. n.now) o ≡ bad_case (is_case_of (program_in table.now) (Some (type_seen ty.entry))) met.old
+        false (map (λ l. l.now) labels.now)) }
 {
     let mut has_default = false;
     for label in labels {
@@ -96,7 +97,8 @@ fn bad_case<'a>(
     ty: ValueType<'_>,
     labels: &[&'a Option<Text>],
 ) -> Result<Option<&'a str>, Memory>
-    ensures { IfOk result (λ o. option_map (λ n. n.now) o ≡ bad_case (is_case_of (program_in table.now) (Some (type_seen ty.entry))) [] false (map (λ l. l.now) labels.now)) }
+    ensures { IfOk result (λ o. option_map (λ n. n.now) o ≡ bad_case (is_case_of (program_in table.now) (Some (type_seen ty.entry)))
+        [] false (map (λ l. l.now) labels.now)) }
 {
     let mut met = Names::new(alloc);
     label_met(&mut met, table, ty, labels)
@@ -112,7 +114,8 @@ fn check_cases<'a>(
     groups: &'a [Group],
 ) -> Result<(), Wrong<'a>>
     requires { type_of (scope_seen scope.now locals.now) (expr_of value.now) ≡ Some (type_seen ty) }
-    ensures { Answers (cases_told (scope_seen scope.now locals.now) place (expr_of value.now) (groups_of (map group_of groups.now))) result }
+    ensures { Answers (cases_told (scope_seen scope.now locals.now) place (expr_of value.now) (groups_of (map group_of groups.now)))
+        result }
 {
     let labels = labels_of(scope.alloc, groups)?;
     let bad = bad_case(scope.alloc, scope.table, ty, labels.as_slice())?;
@@ -130,7 +133,8 @@ pub(crate) fn check_choice<'a>(
     value: &'a Expr,
     groups: &'a [Group],
 ) -> Result<(), Wrong<'a>>
-    ensures { Answers (choice_told (scope_seen scope.now locals.now) place (expr_of value.now) (groups_of (map group_of groups.now))) result }
+    ensures { Answers (choice_told (scope_seen scope.now locals.now) place (expr_of value.now) (groups_of (map group_of groups.now)))
+        result }
 {
     let ty = check_value(scope, locals, value, Wanted::AnyEnum)?;
     check_cases(scope, locals, place, value, ty, groups)

@@ -3,7 +3,8 @@ use Rattle.std.proofs.Common.{◌≡◌, Bool, true, false, Option, subst}
 use Rattle.std.specs.Prelude.{if◌then◌else◌}
 use Rattle.jv_values.specs.Values.{Lives}
 use Rattle.jv_values.specs.Doing.{Run, ◌>>=◌}
-use Rattle.jv_values.specs.Statements.{Completion, Normal, Breaks, Continues, Returns, Does, next_do, Mine, after_body, while_turn, do_turn, is_default, after_switch}
+use Rattle.jv_values.specs.Statements.{Completion, Normal, Breaks, Continues, Returns, Does, next_do, Mine, after_body, while_turn, do_turn}
+use Rattle.jv_values.specs.Statements.{is_default, after_switch}
 use Rattle.jv_values.specs.Alike.{Relation, Closed, Meet, Completes}
 
 module _ {S S' : Type 0} (R : Relation S S') (c : Closed R) where

@@ -7,12 +7,17 @@ use Rattle.mg_text.specs.Call.{Name}
 use Rattle.mg_text.specs.declared.event.Event.TheVariants as seen
 use Rattle.mg_text.specs.declared.event.Carried.{Carried}
 use Rattle.mg_text.specs.declared.event.Carried.TheVariants as carried
-use Rattle.jv_values.specs.Values.{Value, Int, Truth, Text, Object, Constant, Instance, Inputs, Finish, Wrong, Zero, Mismatch, NoPeer, Wait, Shared, find, put}
+use Rattle.jv_values.specs.Values.{Value, Int, Truth, Text, Object, Constant, Instance, Inputs, Finish, Wrong, Zero, Mismatch, NoPeer, Wait}
+use Rattle.jv_values.specs.Values.{Shared, find, put}
 use Rattle.jv_values.specs.Values as values
 use Rattle.jv_values.specs.Doing.{Run, ◌>>=◌, give, stop, found, valued, valuing, number, truth, text, constant}
-use Rattle.jv_values.specs.Operators.{Operator, wrap, Or, And, Equal, Unequal, Less, AtMost, Greater, AtLeast, Plus, Minus, Times, Divide, Remain, int_same, nonzero, shown, joined, sum, computed, compared, same, unless_decided, both, applied, binary, negative, opposite, equal_texts, joined_texts, print}
+use Rattle.jv_values.specs.Operators.{Operator, wrap, Or, And, Equal, Unequal, Less, AtMost, Greater, AtLeast, Plus, Minus, Times, Divide}
+use Rattle.jv_values.specs.Operators.{Remain, int_same, nonzero, shown, joined, sum, computed, compared, same, unless_decided, both}
+use Rattle.jv_values.specs.Operators.{applied, binary, negative, opposite, equal_texts, joined_texts, print}
 use Rattle.jv_values.specs.Objects.{object, object_of, read_field, write_field, make, receiver, answer_of, telling}
-use Rattle.jv_values.specs.Messages.{SessionCall, Send, SendInt, SendTruth, SendText, Look, Take, TakeInt, TakeTruth, TakeText, Refuse, messages_of, taken, there_or, peer, next_message, sends, looks, nothing_in, int_in, truth_in, text_in, takes, refuses, session}
+use Rattle.jv_values.specs.Messages.{SessionCall, Send, SendInt, SendTruth, SendText, Look, Take, TakeInt, TakeTruth, TakeText, Refuse}
+use Rattle.jv_values.specs.Messages.{messages_of, taken, there_or, peer, next_message, sends, looks, nothing_in, int_in, truth_in, text_in}
+use Rattle.jv_values.specs.Messages.{takes, refuses, session}
 use Rattle.jv_values.specs.Alike.{Relation, Shares}
 use Rattle.jv_values.proofs.Combine.{bind_same, if_alike}
 

@@ -1,5 +1,6 @@
 -- More budget changes nothing of what has ended, and only adds events to what has not: the relation goes on through every combinator.
-use Rattle.std.proofs.Common.{◌≡◌, ◌≢◌, ℕ, zero, suc, Bool, true, false, List, [], ◌∷◌, ◌++◌, drop, Option, Some, None, refl, sym, ap, ◌∙◌, subst, ⊎_elim, inl, inr, append_assoc}
+use Rattle.std.proofs.Common.{◌≡◌, ◌≢◌, ℕ, zero, suc, Bool, true, false, List, [], ◌∷◌, ◌++◌, drop, Option, Some, None, refl, sym, ap, ◌∙◌}
+use Rattle.std.proofs.Common.{subst, ⊎_elim, inl, inr, append_assoc}
 use Rattle.mg_text.specs.declared.event.Event.{Event}
 use Rattle.jv_values.specs.Values.{Value, Row, Shared, Lives, Here, Method, Finish, Done, More, Wrong, bound}
 use Rattle.jv_values.specs.Doing.{Outcome, Gives, Ends, Run, and_then, ◌>>=◌, give, stop, found, within, kept, declared, uncovered}
@@ -7,7 +8,8 @@ use Rattle.jv_values.specs.Statements.{Completion, Normal, Breaks, Continues, Re
 use Rattle.jv_values.specs.Calls.{returned, result, body_from, suits, called}
 use Rattle.jv_values.specs.Budget.{Language, below, ended, ran}
 use Rattle.jv_values.specs.Alike.{Closed, Shares, Alike, Meet, Completes, FurtherEnd, seen, Prefix}
-use Rattle.jv_values.specs.Further.{Onward, Further, FurtherShared, FurtherLives, FurtherCall, FurtherDoes, FurtherBelow, IsMonotone, BudgetLaw}
+use Rattle.jv_values.specs.Further.{Onward, Further, FurtherShared, FurtherLives, FurtherCall, FurtherDoes, FurtherBelow, IsMonotone}
+use Rattle.jv_values.specs.Further.{BudgetLaw}
 use Rattle.jv_values.proofs.Combine.{if_alike}
 use Rattle.jv_values.proofs.Expressions.{found_same, then_same}
 

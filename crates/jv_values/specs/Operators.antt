@@ -1,6 +1,7 @@
 -- Operators. Ints are 32-bit two's complement: sums, differences and products wrap, quotients are cut toward zero,
 -- and a remainder has the sign of the dividend (JLS 15.15 to 15.24).
-use Rattle.std.specs.Prelude.{ℕ, Bool, true, false, not, ◌&&◌, List, ◌++◌, Option, Some, None, ℤ, pos, ◌+ℤ◌, ◌-ℤ◌, ◌*ℤ◌, neg_ℤ, int_lt, int_le, int_div, int_rem, nat_eq, codes, if◌then◌else◌}
+use Rattle.std.specs.Prelude.{ℕ, Bool, true, false, not, ◌&&◌, List, ◌++◌, Option, Some, None, ℤ, pos, ◌+ℤ◌, ◌-ℤ◌, ◌*ℤ◌, neg_ℤ, int_lt}
+use Rattle.std.specs.Prelude.{int_le, int_div, int_rem, nat_eq, codes, if◌then◌else◌}
 use Rattle.std.specs.Int.{int_wrap}
 use Rattle.std.specs.Fmt.{signed_decimal}
 use Rattle.std.specs.Str.{bytes_eq}

@@ -19,7 +19,8 @@ pub record IsSound (program : Program) (core : Core.Program) (class : Name) (inp
 
 -- For each class, whatever the other roles sent and whatever the budget.
 abbrev pub SourcesAreSound : Type 0
-SourcesAreSound = (program : Program) (core : Core.Program) → Resolves program core → IsCore core → (class : Name) (inputs : Inputs) (budget : ℕ) →
+SourcesAreSound = (program : Program) (core : Core.Program) → Resolves program core → IsCore core →
+    (class : Name) (inputs : Inputs) (budget : ℕ) →
     IsSound program core class inputs budget
 
 -- For sources that are well typed the core that stands for them is enough: it meets its conditions.

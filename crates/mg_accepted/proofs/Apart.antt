@@ -18,7 +18,8 @@ no_failing : (core : Core.Program) (d : Demand) → FailsFirst core d → IsAcce
 no_failing core d f a =
     let same : a.reached ≡ f.reached = reached_same core a.reached f.reached a.are f.are in
     let solves : Solves core f.reached a.tables = subst (λ (r : List (List Bool)). Solves core r a.tables) same a.solves in
-    none_first d (sym (sym f.first ∙ ap (λ (ds : List Demand). slice_get ds 0) (least_solve core f.reached f.tables a.tables f.least solves).none_fails))
+    none_first d (sym (sym f.first ∙ ap (λ (ds : List Demand). slice_get ds 0) (least_solve core f.reached f.tables a.tables f.least
+    solves).none_fails))
 
 pub not_refused : (files : List Source) (core : Core.Program) (line : List ℕ) → AreAccepted files core → Refusal files line → ⊥
 not_refused files core line a (ill_typed r) = no_refusal files a.have.program line a.have.are r

@@ -28,9 +28,11 @@ use Rattle.mg_accepted.specs.inner.Answers.{demand_of, IsRefusal, IsJudged}
 -- ---- the line of a demand
 
 -- a refusal with the kind and the name of a demand is the one by it
-pub refused_by : (names : List (List ℕ)) (core : Core.Program) (d : Demand) (kind name : List ℕ) (stop : Stop) → kind ≡ demand_word d.kind → name ≡ demand_name core d
+pub refused_by : (names : List (List ℕ)) (core : Core.Program) (d : Demand) (kind name : List ℕ) (stop : Stop) → kind ≡ demand_word d.kind →
+    name ≡ demand_name core d
     → IsStop (fault_line (name_at names d.place.file) (fault_at kind d.place name)) stop → IsRefusal names core (Some d) stop
-refused_by names core d kind name (stops.Refused line) k n h = (d, refl, h ∙ (λ i. fault_line (name_at names d.place.file) (fault_at (k i) d.place (n i))))
+refused_by names core d kind name (stops.Refused line) k n h =
+    (d, refl, h ∙ (λ i. fault_line (name_at names d.place.file) (fault_at (k i) d.place (n i))))
 refused_by names core d kind name stops.Memory k n h = tt
 
 -- ---- the fault of the verdict
@@ -51,15 +53,22 @@ fails_first core (faults.Overwritten e) d f h = subst (FailsFirst core) (some_sa
 fails_first core (faults.FieldOpenAtEnd e) d f h = subst (FailsFirst core) (some_same h) f.first
 fails_first core faults.Memory d f h = none_some h
 
-pub unmet_judged : (names : List (List ℕ)) (core : Core.Program) (fault : CheckFault) (stop : Stop) → IsFault core fault → IsRefusal names core (demand_of fault) stop
+pub unmet_judged : (names : List (List ℕ)) (core : Core.Program) (fault : CheckFault) (stop : Stop) → IsFault core fault →
+    IsRefusal names core (demand_of fault) stop
     → IsJudged names core (Err stop)
-unmet_judged names core fault (stops.Refused line) f (d, told, said) = record { demand = d; fails = fails_first core fault d f told; said = said }
+unmet_judged names core fault (stops.Refused line) f (d, told, said) = record {
+  demand = d;
+  fails = fails_first core fault d f told;
+  said =
+      said;
+}
 unmet_judged names core fault stops.Memory f h = tt
 
 -- ---- the verdict on files
 
 -- the verdict on the core of files is that on the files
-pub core_judged : (names contents : List (List ℕ)) (core : Core.Program) (answer : Result AcceptedProgram Stop) → length names ≡ length contents
+pub core_judged : (names contents : List (List ℕ)) (core : Core.Program) (answer : Result AcceptedProgram Stop) →
+    length names ≡ length contents
     → HaveCore (sources names contents) core → IsJudged names core answer → IsVerdict (sources names contents) answer
 core_judged names contents core (Ok a) same h j = record {
   files_are = record {
@@ -75,23 +84,27 @@ core_judged names contents core (Ok a) same h j = record {
 }
 core_judged names contents core (Err (stops.Refused line)) same h j =
     let d = j.demand in
-    unmet core d h j.fails (j.said ∙ ap (λ (z : List ℕ). fault_line z (fault_at (demand_word d.kind) d.place (demand_name core d))) (sym (named_from 0 names contents d.place.file same)))
+    unmet core d h j.fails (j.said ∙ ap (λ (z : List ℕ). fault_line z (fault_at (demand_word d.kind) d.place (demand_name core d)))
+    (sym (named_from 0 names contents d.place.file same)))
 core_judged names contents core (Err stops.Memory) same h j = tt
 
 -- files that are no well typed program are refused
-pub ill_typed_judged : (names contents : List (List ℕ)) (stop : Stop) → IsResolved (sources names contents) (Err stop) → IsVerdict (sources names contents) (Err stop)
+pub ill_typed_judged : (names contents : List (List ℕ)) (stop : Stop) → IsResolved (sources names contents) (Err stop) →
+    IsVerdict (sources names contents) (Err stop)
 ill_typed_judged names contents (stops.Refused line) h = ill_typed h
 ill_typed_judged names contents stops.Memory h = tt
 
 -- ---- there is one answer
 
 -- accepted files are answered by their core
-pub accepted_answered : (files : List Source) (answer : Result AcceptedProgram Stop) → IsVerdict files answer → (core : Core.Program) → AreAccepted files core → IsThatProgram core answer
+pub accepted_answered : (files : List Source) (answer : Result AcceptedProgram Stop) → IsVerdict files answer → (core : Core.Program) →
+    AreAccepted files core → IsThatProgram core answer
 accepted_answered files (Ok a) h core k = one_core files (tree_of a.core) core h.files_are.have k.have
 accepted_answered files (Err (stops.Refused line)) h core k = not_refused files core line k h
 accepted_answered files (Err stops.Memory) h core k = tt
 
 -- files that are refused aren't accepted
-pub refused_no_program : (files : List Source) (answer : Result AcceptedProgram Stop) → IsVerdict files answer → (line : List ℕ) → Refusal files line → OnOk answer ⊥
+pub refused_no_program : (files : List Source) (answer : Result AcceptedProgram Stop) → IsVerdict files answer → (line : List ℕ) →
+    Refusal files line → OnOk answer ⊥
 refused_no_program files (Ok a) h line r = not_refused files (tree_of a.core) line h.files_are r
 refused_no_program files (Err stop) h line r = tt

@@ -18,4 +18,5 @@ pub data Refusal (files : List Source) (line : List ℕ) : Type 0 where
   -- by their readers, because two are protocols of one role, or by their types
   ill_typed : program.Refusal files line → Refusal files line
   -- by the first demand that fails under the least tables
-  unmet : (core : Core.Program) (demand : Demand) → HaveCore files core → FailsFirst core demand → line ≡ demand_line files core demand → Refusal files line
+  unmet : (core : Core.Program) (demand : Demand) → HaveCore files core → FailsFirst core demand → line ≡ demand_line files core demand →
+      Refusal files line

@@ -1,5 +1,6 @@
 -- A file lists one list of calls at most, and none where a line is bad.
-use Rattle.std.proofs.Common.{◌≡◌, ℕ, zero, suc, List, [], ◌∷◌, ◌++◌, length, take, drop, Bool, true, false, Option, Some, None, refl, sym, ap, ◌∙◌, subst, append-nil, arith}
+use Rattle.std.proofs.Common.{◌≡◌, ℕ, zero, suc, List, [], ◌∷◌, ◌++◌, length, take, drop, Bool, true, false, Option, Some, None, refl, sym}
+use Rattle.std.proofs.Common.{ap, ◌∙◌, subst, append-nil, arith}
 use Rattle.mg_text.specs.Call.{Call}
 use Rattle.mg_text.specs.declared.place.Place.{Place}
 use Rattle.mg_read.specs.First.{Judged, clean, later}
@@ -7,15 +8,18 @@ use Rattle.mg_read.specs.Letters.{is_name_byte}
 use Rattle.mg_read.specs.Passes.{AllPasses}
 use Rattle.mg_read.proofs.Judging.{no_both}
 use Rattle.mg_calls.specs.Lines.{Line}
-use Rattle.mg_calls.specs.Calls.{IsWord, Says, blank, comment, method, answered, CallAt, CallsOf, none, silent, one, AreCalls, lines_of, IsBadLine, IsFirstBad}
+use Rattle.mg_calls.specs.Calls.{IsWord, Says, blank, comment, method, answered, CallAt, CallsOf, none, silent, one, AreCalls, lines_of}
+use Rattle.mg_calls.specs.Calls.{IsBadLine, IsFirstBad}
 
 -- a method and a label, cut in one way
 one_cut : (n n' l l' : List ℕ) → AllPasses is_name_byte n → AllPasses is_name_byte n' → n ++ 32 ∷ l ≡ n' ++ 32 ∷ l' → (n ≡ n') × (l ≡ l')
 one_cut [] [] l l' h h' e = (refl, tail_is e) where
   tail_is : {x y : ℕ} {xs ys : List ℕ} → ◌≡◌ {A = List ℕ} (x ∷ xs) (y ∷ ys) → xs ≡ ys
   tail_is e = cc
-one_cut [] (c ∷ cs) l l' h h' e = let same : c ≡ 32 = cc in let no : is_name_byte 32 ≡ true = subst (λ (z : ℕ). is_name_byte z ≡ true) same h'.0 in absurd cc
-one_cut (c ∷ cs) [] l l' h h' e = let same : c ≡ 32 = cc in let no : is_name_byte 32 ≡ true = subst (λ (z : ℕ). is_name_byte z ≡ true) same h.0 in absurd cc
+one_cut [] (c ∷ cs) l l' h h' e =
+    let same : c ≡ 32 = cc in let no : is_name_byte 32 ≡ true = subst (λ (z : ℕ). is_name_byte z ≡ true) same h'.0 in absurd cc
+one_cut (c ∷ cs) [] l l' h h' e =
+    let same : c ≡ 32 = cc in let no : is_name_byte 32 ≡ true = subst (λ (z : ℕ). is_name_byte z ≡ true) same h.0 in absurd cc
 one_cut (c ∷ cs) (d ∷ ds) l l' h h' e =
     let first : c ≡ d = cc in
     let rest : cs ++ 32 ∷ l ≡ ds ++ 32 ∷ l' = cc in
@@ -25,18 +29,21 @@ one_cut (c ∷ cs) (d ∷ ds) l l' h h' e =
 -- a word has no blank
 no_blank : (n l name : List ℕ) → AllPasses is_name_byte name → name ≡ n ++ 32 ∷ l → ⊥
 no_blank [] l [] h e = cc
-no_blank [] l (c ∷ cs) h e = let same : c ≡ 32 = cc in let no : is_name_byte 32 ≡ true = subst (λ (z : ℕ). is_name_byte z ≡ true) same h.0 in cc
+no_blank [] l (c ∷ cs) h e = let same : c ≡ 32 = cc in let no : is_name_byte 32 ≡ true = subst (λ (z : ℕ). is_name_byte z ≡ true) same h.0
+    in cc
 no_blank (d ∷ ds) l [] h e = cc
 no_blank (d ∷ ds) l (c ∷ cs) h e = let rest : cs ≡ ds ++ 32 ∷ l = cc in no_blank ds l cs h.1 rest
 
 -- a word doesn't begin with "#"
 no_comment : (rest name : List ℕ) → IsWord name → name ≡ 35 ∷ rest → ⊥
 no_comment rest [] h e = cc
-no_comment rest (c ∷ cs) h e = let same : c ≡ 35 = cc in let no : is_name_byte 35 ≡ true = subst (λ (z : ℕ). is_name_byte z ≡ true) same h.1.0 in cc
+no_comment rest (c ∷ cs) h e =
+    let same : c ≡ 35 = cc in let no : is_name_byte 35 ≡ true = subst (λ (z : ℕ). is_name_byte z ≡ true) same h.1.0 in cc
 
 no_comment_with : (rest name more : List ℕ) → IsWord name → name ++ more ≡ 35 ∷ rest → ⊥
 no_comment_with rest [] more h e = h.0 refl
-no_comment_with rest (c ∷ cs) more h e = let same : c ≡ 35 = cc in let no : is_name_byte 35 ≡ true = subst (λ (z : ℕ). is_name_byte z ≡ true) same h.1.0 in cc
+no_comment_with rest (c ∷ cs) more h e =
+    let same : c ≡ 35 = cc in let no : is_name_byte 35 ≡ true = subst (λ (z : ℕ). is_name_byte z ≡ true) same h.1.0 in cc
 
 not_nil : (n l : List ℕ) → n ++ 32 ∷ l ≡ [] → ⊥
 not_nil [] l e = cc
@@ -69,16 +76,20 @@ list_one lines others a b none none e = refl
 list_one lines others a b none (silent s h) e = absurd cc
 list_one lines others a b none (one call s h) e = absurd cc
 list_one lines others a b (silent s h) none e = absurd cc
-list_one lines others a b (silent {line = x} {more = xs} s h) (silent {line = y} {more = ys} s' h') e = let rest : xs ≡ ys = cc in list_one xs ys _ _ h h' rest
+list_one lines others a b (silent {line = x} {more = xs} s h) (silent {line = y} {more = ys} s' h') e =
+    let rest : xs ≡ ys = cc in list_one xs ys _ _ h h' rest
 list_one lines others a b (silent {line = x} {more = xs} s h) (one {line = y} {more = ys} call s' h') e =
-    let same : x ≡ y = cc in let no : ◌≡◌ {A = Option Call} None (Some call) = says_one x.text y.text None (Some call) s s' (ap (λ (z : Line). z.text) same) in absurd cc
+    let same : x ≡ y = cc in let no : ◌≡◌ {A = Option Call} None (Some call) = says_one x.text y.text None (Some call) s s'
+    (ap (λ (z : Line). z.text) same) in absurd cc
 list_one lines others a b (one call s h) none e = absurd cc
 list_one lines others a b (one {line = x} {more = xs} call s h) (silent {line = y} {more = ys} s' h') e =
-    let same : x ≡ y = cc in let no : ◌≡◌ {A = Option Call} (Some call) None = says_one x.text y.text (Some call) None s s' (ap (λ (z : Line). z.text) same) in absurd cc
+    let same : x ≡ y = cc in let no : ◌≡◌ {A = Option Call} (Some call) None = says_one x.text y.text (Some call) None s s'
+    (ap (λ (z : Line). z.text) same) in absurd cc
 list_one lines others a b (one {line = x} {more = xs} {calls = cs} call s h) (one {line = y} {more = ys} {calls = ds} call' s' h') e =
     let same : x ≡ y = cc in
     let rest : xs ≡ ys = cc in
-    let said : ◌≡◌ {A = Option Call} (Some call) (Some call') = says_one x.text y.text (Some call) (Some call') s s' (ap (λ (z : Line). z.text) same) in
+    let said : ◌≡◌ {A = Option Call} (Some call) (Some call') = says_one x.text y.text (Some call) (Some call') s s'
+    (ap (λ (z : Line). z.text) same) in
     let calls_are : call ≡ call' = cc in
     let more = list_one xs ys cs ds h h' rest in
     λ i. record { line = (same i).number; call = calls_are i } ∷ more i

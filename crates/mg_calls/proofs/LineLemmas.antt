@@ -1,5 +1,7 @@
 -- What a line says.
-use Rattle.std.proofs.Common.{◌≡◌, ◌≢◌, ◌<◌, ◌≤◌, ◌+◌, ◌↔◌, ℕ, zero, suc, List, [], ◌∷◌, ◌++◌, length, get_or, take, drop, Bool, true, false, not, IsTrue, Option, Some, None, refl, sym, ap, ◌∙◌, subst, inl, inr, ◌⊎◌, arith, length-append, append-nil, take-append-drop, drop-cons, length-drop, ◌-◌, add-one}
+use Rattle.std.proofs.Common.{◌≡◌, ◌≢◌, ◌<◌, ◌≤◌, ◌+◌, ◌↔◌, ℕ, zero, suc, List, [], ◌∷◌, ◌++◌, length, get_or, take, drop, Bool, true}
+use Rattle.std.proofs.Common.{false, not, IsTrue, Option, Some, None, refl, sym, ap, ◌∙◌, subst, inl, inr, ◌⊎◌, arith, length-append}
+use Rattle.std.proofs.Common.{append-nil, take-append-drop, drop-cons, length-drop, ◌-◌, add-one}
 use Rattle.std.specs.Prelude.{◌||◌, ◌&&◌, ◌==◌, nat_le}
 use Rattle.std.specs.Str.{IsAscii}
 use Rattle.std.specs.Int.{is_in_range}
@@ -31,11 +33,13 @@ true_is_false : {P : Type 0} → true ≡ false → P
 true_is_false e = absurd cc
 
 -- a line that begins with another byte is bad
-pub bad_start : (line : List ℕ) (c : ℕ) (rest : List ℕ) → line ≡ c ∷ rest → (c ≡ 35 → ⊥) → is_name_byte c ≡ false → (what : Option Call) → Says line what → ⊥
+pub bad_start : (line : List ℕ) (c : ℕ) (rest : List ℕ) → line ≡ c ∷ rest → (c ≡ 35 → ⊥) → is_name_byte c ≡ false → (what : Option Call) →
+    Says line what → ⊥
 bad_start line c rest e isnt out what blank = cc
 bad_start line c rest e isnt out what (comment more) = let same : c ≡ 35 = cc in isnt same
 bad_start line c rest e isnt out what (method word) = true_is_false (sym (first_passes line [] c rest (append-nil line ∙ e) word) ∙ out)
-bad_start line c rest e isnt out what (answered name label word word') = true_is_false (sym (first_passes name (32 ∷ label) c rest e word) ∙ out)
+bad_start line c rest e isnt out what (answered name label word word') =
+    true_is_false (sym (first_passes name (32 ∷ label) c rest e word) ∙ out)
 
 not_empty : (line : List ℕ) → StartsWith is_name_byte line → line ≢ []
 not_empty [] s e = s
@@ -68,13 +72,16 @@ none_taken (c ∷ cs) zero some filled e = some refl
 none_taken (c ∷ cs) (suc end) some filled e = cc
 
 -- what a line can say that begins with a method but isn't one
-pub shape : (line : List ℕ) (end : ℕ) → end ≡ span is_name_byte line → StartsWith is_name_byte line → (what : Option Call) → Says line what → (end ≡ length line → ⊥) → (get_or line end 0 ≡ 32) × IsWord (drop (suc end) line)
+pub shape : (line : List ℕ) (end : ℕ) → end ≡ span is_name_byte line → StartsWith is_name_byte line → (what : Option Call) → Says line what
+    → (end ≡ length line → ⊥) → (get_or line end 0 ≡ 32) × IsWord (drop (suc end) line)
 shape line end is begun what blank part = absurd begun
 shape line end is begun what (comment rest) part = absurd (word_begun 35 rest begun refl)
 shape line end is begun what (method word) part = absurd (part (is ∙ span_all is_name_byte line word.1))
 shape line end is begun what (answered name label word word') part =
-    let at : end ≡ length name = is ∙ span_again is_name_byte name (32 ∷ label) word.1 refl in
-    (ap (λ (n : ℕ). get_or (name ++ 32 ∷ label) n 0) at ∙ mid_is name 32 label, subst IsWord (sym (ap (λ (n : ℕ). drop (suc n) (name ++ 32 ∷ label)) at ∙ after_is name 32 label)) word')
+    let at : end ≡ length name = is ∙ span_again is_name_byte name (32 ∷ label) word.1 refl in (
+      ap (λ (n : ℕ). get_or (name ++ 32 ∷ label) n 0) at ∙ mid_is name 32 label,
+      subst IsWord (sym (ap (λ (n : ℕ). drop (suc n) (name ++ 32 ∷ label)) at ∙ after_is name 32 label)) word',
+    )
 
 module _ (line : List ℕ) (end : ℕ) (is : end ≡ span is_name_byte line) (begun : StartsWith is_name_byte line) where
   pub front_passes : AllPasses is_name_byte (take end line)
@@ -85,17 +92,21 @@ module _ (line : List ℕ) (end : ℕ) (is : end ≡ span is_name_byte line) (be
   whole_method name all e =
       let same : take end line ≡ line = take_all end line (omega (arith, all)) in
       let passes : AllPasses is_name_byte line = subst (AllPasses is_name_byte) same front_passes in
-      subst (λ (z : List ℕ). Says line (Some (record { method = z; answer = None }))) (sym (e ∙ same)) (method (not_empty line begun, passes))
+      subst (λ (z : List ℕ). Says line (Some (record { method = z; answer = None }))) (sym (e ∙ same))
+      (method (not_empty line begun, passes))
 
   -- a method and a label
-  pub with_label : (name label : List ℕ) → end < length line → get_or line end 0 ≡ 32 → name ≡ take end line → label ≡ drop (end + 1) line → IsWord label → Says line (Some (record { method = name; answer = Some label }))
+  pub with_label : (name label : List ℕ) → end < length line → get_or line end 0 ≡ 32 → name ≡ take end line → label ≡ drop (end + 1) line →
+      IsWord label → Says line (Some (record { method = name; answer = Some label }))
   with_label name label within space e e' word =
       let cut : line ≡ name ++ 32 ∷ label =
       sym (take-append-drop end line) ∙ (λ i. sym e i ++ cut_there i) in
-      subst (λ (z : List ℕ). Says z (Some (record { method = name; answer = Some label }))) (sym cut) (answered name label (named, named_passes) word)
+      subst (λ (z : List ℕ). Says z (Some (record { method = name; answer = Some label }))) (sym cut)
+      (answered name label (named, named_passes) word)
     where
       cut_there : drop end line ≡ 32 ∷ label
-      cut_there = drop-cons line end 32 within ∙ (λ i. (same_at line end 32 0 within ∙ space) i ∷ (ap (λ (n : ℕ). drop n line) (sym (add-one end)) ∙ sym e') i)
+      cut_there = drop-cons line end 32 within ∙
+          (λ i. (same_at line end 32 0 within ∙ space) i ∷ (ap (λ (n : ℕ). drop n line) (sym (add-one end)) ∙ sym e') i)
 
       named_passes : AllPasses is_name_byte name
       named_passes = subst (AllPasses is_name_byte) (sym e) front_passes
@@ -104,17 +115,20 @@ module _ (line : List ℕ) (end : ℕ) (is : end ≡ span is_name_byte line) (be
       named n = none_taken line end (λ z. some_run line begun (sym is ∙ z)) (not_empty line begun) (sym e ∙ n)
 
 -- a method and what isn't a label
-pub no_label : (line : List ℕ) (end : ℕ) → end ≡ span is_name_byte line → StartsWith is_name_byte line → (end ≡ length line → ⊥) → (label : List ℕ) → label ≡ drop (end + 1) line → (IsWord label → ⊥) → (what : Option Call) → Says line what → ⊥
+pub no_label : (line : List ℕ) (end : ℕ) → end ≡ span is_name_byte line → StartsWith is_name_byte line → (end ≡ length line → ⊥) →
+    (label : List ℕ) → label ≡ drop (end + 1) line → (IsWord label → ⊥) → (what : Option Call) → Says line what → ⊥
 no_label line end is begun part label e isnt what says =
     isnt (subst IsWord (sym (e ∙ ap (λ (n : ℕ). drop n line) (add-one end))) (shape line end is begun what says part).1)
 
 -- all bytes pass where the run is all of them
 pub all_of : (word : List ℕ) (n : ℕ) → n ≡ span is_name_byte word → n ≡ length word → AllPasses is_name_byte word
 all_of word n is all =
-    subst (AllPasses is_name_byte) (take_all n word (omega (arith, all))) (subst (λ (k : ℕ). AllPasses is_name_byte (take k word)) (sym is) (span_is is_name_byte word).passes)
+    subst (AllPasses is_name_byte) (take_all n word (omega (arith, all))) (subst (λ (k : ℕ). AllPasses is_name_byte (take k word)) (sym is)
+    (span_is is_name_byte word).passes)
 
 -- whether there are bytes and the run is all of them
-pub word_is : (word : List ℕ) (n : ℕ) (r : Bool) → n ≡ span is_name_byte word → (length word ≡ 0 → ⊥) → (IsTrue r ↔ (n ≡ length word)) → IsTrue r ↔ IsWord word
+pub word_is : (word : List ℕ) (n : ℕ) (r : Bool) → n ≡ span is_name_byte word → (length word ≡ 0 → ⊥) → (IsTrue r ↔ (n ≡ length word)) →
+    IsTrue r ↔ IsWord word
 word_is word n r is filled test = (
   λ t. ((λ e. filled (ap length e)), all_of word n is (test.0 t)),
   λ w. test.1 (is ∙ span_all is_name_byte word w.1),

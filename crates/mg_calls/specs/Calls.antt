@@ -16,7 +16,8 @@ pub data Says : List ℕ → Option Call → Type 0 where
   blank : Says [] None
   comment : (rest : List ℕ) → Says (35 ∷ rest) None
   method : {name : List ℕ} → IsWord name → Says name (Some (record { method = name; answer = None }))
-  answered : (name label : List ℕ) → IsWord name → IsWord label → Says (name ++ 32 ∷ label) (Some (record { method = name; answer = Some label }))
+  answered : (name label : List ℕ) → IsWord name → IsWord label →
+      Says (name ++ 32 ∷ label) (Some (record { method = name; answer = Some label }))
 
 -- a call, with the number of its line
 pub record CallAt : Type 0 where
@@ -40,7 +41,8 @@ AreCalls bytes = CallsOf (lines_of bytes)
 
 -- the line says nothing of these, and this is where it begins
 abbrev pub IsBadLine : ℕ → Line → Place → Type 0
-IsBadLine file line place = ((said : Option Call) → Says line.text said → ⊥) × (place ≡ record { file = file; line = line.number; column = 1 })
+IsBadLine file line place = ((said : Option Call) → Says line.text said → ⊥)
+    × (place ≡ record { file = file; line = line.number; column = 1 })
 
 -- the first bad line of a file is at this place
 abbrev pub IsFirstBad : ℕ → List ℕ → Place → Type 0

@@ -19,7 +19,8 @@ pub one_excess : (core : Core.Program) (d e : Excess) → IsFirstExcess core (So
 one_excess core d e h k = same_some d e (only_excess core (Some d) h ∙ sym (only_excess core (Some e) k))
 
 -- of accepted files the line of the first excess is one
-pub one_line : (files : List Source) (core other : Core.Program) (d e : Excess) (l k : List ℕ) → AreAccepted files core → AreAccepted files other →
+pub one_line : (files : List Source) (core other : Core.Program) (d e : Excess) (l k : List ℕ) → AreAccepted files core →
+    AreAccepted files other →
     IsFirstExcess core (Some d) → IsFirstExcess other (Some e) → l ≡ excess_line files d → k ≡ excess_line files e → l ≡ k
 one_line files core other d e l k a b h g said told =
     let same : core ≡ other = one_core files core other a.have b.have in

@@ -60,13 +60,15 @@ not_refused files written line h (too_large core e a first said) =
 
 -- ---- there is one answer
 
-pub compiled_answered : (files : List Source) (answer : Result (Row ClassFile) Stop) → IsCompiling files answer → (wanted : List ClassFile) →
+pub compiled_answered : (files : List Source) (answer : Result (Row ClassFile) Stop) → IsCompiling files answer → (wanted : List ClassFile)
+    →
     AreCompiled files wanted → AreThoseFiles wanted answer
 compiled_answered files (Ok written) h wanted k = one_compiled files written.items wanted h k
 compiled_answered files (Err (stops.Refused line)) h wanted k = not_refused files wanted line k h
 compiled_answered files (Err stops.Memory) h wanted k = tt
 
-pub refused_no_files : (files : List Source) (answer : Result (Row ClassFile) Stop) → IsCompiling files answer → (line : List ℕ) → Refusal files line →
+pub refused_no_files : (files : List Source) (answer : Result (Row ClassFile) Stop) → IsCompiling files answer → (line : List ℕ) →
+    Refusal files line →
     OnOk answer ⊥
 refused_no_files files (Ok written) h line r = not_refused files written.items line h r
 refused_no_files files (Err stop) h line r = tt

@@ -32,7 +32,8 @@ same_fault : (f g : Fault) → ◌≡◌ {A = Option Fault} (Some f) (Some g) �
 same_fault f g e = cc
 
 -- a fault of which something is said tells an excess
-said_excess : (fault : GenFault) (said : Fault) → Some said ≡ said_of fault → (e : Excess) × (excess_in fault ≡ Some e) × (said ≡ excess_fault e)
+said_excess : (fault : GenFault) (said : Fault) → Some said ≡ said_of fault → (e : Excess) × (excess_in fault ≡ Some e)
+    × (said ≡ excess_fault e)
 said_excess (faults.CodeTooLong place name) said h = (_, refl, same_fault _ _ h)
 said_excess (faults.TooManyLocals place name) said h = (_, refl, same_fault _ _ h)
 said_excess (faults.PoolFull place name) said h = (_, refl, same_fault _ _ h)
@@ -63,7 +64,8 @@ excess_given names core fault stops.Memory first r = tt
 
 -- ---- the files of a command
 
-pub core_compiled : (names contents : List (List ℕ)) (core : Core.Program) (answer : Result (Row ClassFile) Stop) → length names ≡ length contents →
+pub core_compiled : (names contents : List (List ℕ)) (core : Core.Program) (answer : Result (Row ClassFile) Stop) →
+    length names ≡ length contents →
     AreAccepted (sources names contents) core → AreGiven names core answer → IsCompiling (sources names contents) answer
 core_compiled names contents core (Ok written) same a g = record { core = core; accepted = a; class_files = g }
 core_compiled names contents core (Err (stops.Refused line)) same a g =

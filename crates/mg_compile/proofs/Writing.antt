@@ -1,5 +1,6 @@
 -- Writing the class files, one after another.
-use Rattle.std.proofs.Common.{◌≡◌, ℕ, ◌+◌, ◌<◌, ◌≤◌, List, [], ◌∷◌, ◌++◌, length, get_or, drop, map, sym, ap, ◌∙◌, subst, append_assoc, append-nil, arith}
+use Rattle.std.proofs.Common.{◌≡◌, ℕ, ◌+◌, ◌<◌, ◌≤◌, List, [], ◌∷◌, ◌++◌, length, get_or, drop, map, sym, ap, ◌∙◌, subst, append_assoc}
+use Rattle.std.proofs.Common.{append-nil, arith}
 use Rattle.std.specs.List.{AllByRecursion}
 use Rattle.std.proofs.lemmas.List.{at_drop_all}
 use Rattle.cls_tree.specs.Tree as file
@@ -41,10 +42,12 @@ module _ (p : Program) (own : List CoreClass) (classes : List KeptFile) where
     left_more k old new f own_within own_is holds grown l = record {
       fit = others_fit IsSpelled (map file_of (drop n classes)) (map file_of (drop (n + 1) classes)) (file_of class) cut l.fit;
       goes = λ rest h.
-          let both : HoldClasses p (class_of k ∷ map class_of (drop (n + 1) own)) (file_of class ∷ map file_of (drop (n + 1) classes)) (f ∷ rest)
+          let both : HoldClasses p (class_of k ∷ map class_of (drop (n + 1) own)) (file_of class ∷ map file_of (drop (n + 1) classes))
+          (f ∷ rest)
           = (holds, h) in
           let left : rest_from n (f ∷ rest) =
-          subst (λ (z : List Class). HoldClasses p z (map file_of (drop n classes)) (f ∷ rest)) (sym (map_drop_is class_of own n k own_within own_is))
+          subst (λ (z : List Class). HoldClasses p z (map file_of (drop n classes)) (f ∷ rest))
+          (sym (map_drop_is class_of own n k own_within own_is))
           (subst (λ (z : List file.Class). HoldClasses p (class_of k ∷ map class_of (drop (n + 1) own)) z (f ∷ rest)) (sym cut) both) in
           subst whole (sym (ap (λ (x : List ClassFile). x ++ rest) grown ∙ append_assoc old (f ∷ []) rest)) (l.goes (f ∷ rest) left);
     }
@@ -52,6 +55,7 @@ module _ (p : Program) (own : List CoreClass) (classes : List KeptFile) where
   pub left_all : (n : ℕ) (done : List ClassFile) → length own ≡ length classes → length classes ≤ n → AreLeft n done → whole done
   left_all n done same past l =
       let none : rest_from n [] =
-      subst (λ (z : List Class). HoldClasses p z (map file_of (drop n classes)) []) (sym (at_drop_all (map class_of) own n (omega (arith, same, past))))
+      subst (λ (z : List Class). HoldClasses p z (map file_of (drop n classes)) [])
+      (sym (at_drop_all (map class_of) own n (omega (arith, same, past))))
       (subst (λ (z : List file.Class). HoldClasses p [] z []) (sym (at_drop_all (map file_of) classes n past)) tt) in
       subst whole (append-nil done) (l.goes [] none)

@@ -32,5 +32,6 @@ pub data Refusal (files : List Source) (line : List ℕ) : Type 0 where
   -- they aren't accepted
   unaccepted : accepted.Refusal files line → Refusal files line
   -- the first size that is too large in a class file
-  too_large : (core : Core.Program) (excess : Excess) → AreAccepted files core → IsFirstExcess core (Some excess) → line ≡ excess_line files excess →
+  too_large : (core : Core.Program) (excess : Excess) → AreAccepted files core → IsFirstExcess core (Some excess) →
+      line ≡ excess_line files excess →
       Refusal files line

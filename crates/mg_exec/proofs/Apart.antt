@@ -1,5 +1,6 @@
 -- Class files have one run of these roles, and files that are refused have none.
-use Rattle.std.proofs.Common.{◌≡◌, ℕ, List, [], ◌∷◌, ◌++◌, Bool, Option, Some, None, Result, Ok, Err, map, if◌then◌else◌, sym, ap, ap₂, ◌∙◌, subst, refl}
+use Rattle.std.proofs.Common.{◌≡◌, ℕ, List, [], ◌∷◌, ◌++◌, Bool, Option, Some, None, Result, Ok, Err, map, if◌then◌else◌, sym, ap, ap₂, ◌∙◌}
+use Rattle.std.proofs.Common.{subst, refl}
 use Rattle.std.specs.Prelude.{OnOk}
 use Rattle.mg_read.proofs.Judging.{no_both}
 use Rattle.cls_tree.specs.Tree.{Class as File}
@@ -46,7 +47,8 @@ no_flaw : (fs : List Flaw) (f : Flaw) → fs ≡ [] → least fs ≡ Some f → 
 no_flaw fs f none is = let h : ◌≡◌ {A = Option Flaw} None (Some f) = sym (ap least none) ∙ is in cc
 
 -- a role whose class has no `main` isn't among those whose classes have one
-lacks_none : (program : Program) (front : List RoleMain) (main : RoleMain) (rest : List RoleMain) → HaveMains program (front ++ main ∷ rest) →
+lacks_none : (program : Program) (front : List RoleMain) (main : RoleMain) (rest : List RoleMain) → HaveMains program (front ++ main ∷ rest)
+    →
     HasMain program main.class
 lacks_none program [] main rest h = h.0
 lacks_none program (x ∷ front) main rest h = lacks_none program front main rest h.1
@@ -54,21 +56,24 @@ lacks_none program (x ∷ front) main rest h = lacks_none program front main res
 -- files that are refused aren't run
 pub not_refused : (files : List Source) (mains : List RoleMain) (order : List ℕ) (limit : ℕ) (r : Course) (line : List ℕ) →
     IsRun files mains order limit r → Refusal files mains line → ⊥
-not_refused files mains order limit r line h (unread judged) = let (classes, are, links) = h.linked in no_both (none_refused files classes are) judged
+not_refused files mains order limit r line h (unread judged) = let (classes, are, links) = h.linked in no_both
+    (none_refused files classes are) judged
 not_refused files mains order limit r line h (unlinked classes flaw are is said) =
     let (others, those, links) = h.linked in
     let same : others ≡ classes = one_files files others classes those are in
     no_flaw (flaws classes) flaw (sym (ap flaws same) ∙ links.right) is
 not_refused files mains order limit r line h (no_main program front main rest is parts have none said) =
     let same : r.program ≡ program = one_program files r.program program h.linked is in
-    none (subst (λ (z : Program). HasMain z main.class) same (lacks_none r.program front main rest (subst (HaveMains r.program) parts h.have_mains)))
+    none (subst (λ (z : Program). HasMain z main.class) same
+    (lacks_none r.program front main rest (subst (HaveMains r.program) parts h.have_mains)))
 
 -- two runs of the same files
 pub record SameRun (a b : Course) : Type 0 where
   pub program : a.program ≡ b.program
   pub last : a.last ≡ b.last
 
-pub one_course : (files : List Source) (mains : List RoleMain) (order : List ℕ) (limit : ℕ) (a b : Course) → IsRun files mains order limit a →
+pub one_course : (files : List Source) (mains : List RoleMain) (order : List ℕ) (limit : ℕ) (a b : Course) → IsRun files mains order limit a
+    →
     IsRun files mains order limit b → SameRun a b
 one_course files mains order limit a b h g =
     let program : a.program ≡ b.program = one_program files a.program b.program h.linked g.linked in
@@ -100,7 +105,8 @@ only_run files mains order limit named traced (Ok ran) h run is =
 only_run files mains order limit named traced (Err (stops.Refused line)) h run is = not_refused files mains order limit run line is h
 only_run files mains order limit named traced (Err stops.Memory) h run is = tt
 
-pub refused_run : (files : List Source) (mains : List RoleMain) (order : List ℕ) (limit : ℕ) (named traced : Bool) (result : Result Ran Stop) →
+pub refused_run : (files : List Source) (mains : List RoleMain) (order : List ℕ) (limit : ℕ) (named traced : Bool)
+    (result : Result Ran Stop) →
     IsRunning files mains order limit named traced result → (line : List ℕ) → Refusal files mains line → OnOk result ⊥
 refused_run files mains order limit named traced (Ok ran) h line refused =
     not_refused files mains order limit h.run line h.is refused

@@ -1,5 +1,6 @@
 -- Class files that are read one after another.
-use Rattle.std.proofs.Common.{◌≡◌, ◌<◌, ◌≤◌, ◌+◌, ℕ, zero, suc, List, [], ◌∷◌, ◌++◌, length, get_or, take, drop, map, Option, Some, None, Result, Ok, Err, refl, sym, ap, ◌∙◌, subst, arith, drop-cons, add-one, All}
+use Rattle.std.proofs.Common.{◌≡◌, ◌<◌, ◌≤◌, ◌+◌, ℕ, zero, suc, List, [], ◌∷◌, ◌++◌, length, get_or, take, drop, map, Option, Some, None}
+use Rattle.std.proofs.Common.{Result, Ok, Err, refl, sym, ap, ◌∙◌, subst, arith, drop-cons, add-one, All}
 use Rattle.std.proofs.lemmas.List.{take_more, take_all, get_or_past, map-append}
 use Rattle.mg_text.specs.Row.{Row}
 use Rattle.mg_read.specs.First.{Judged, clean, here, later}
@@ -107,4 +108,5 @@ module _ {files : List Source} {i : ℕ} {classes : List Class} (so_far : ReadSo
 
 pub read_end : {files : List Source} {i : ℕ} {classes : List Class} → ReadSoFar files i classes → length files ≤ i →
     AreFiles files (map file_of classes)
-read_end {files} {i} {classes} so_far past = subst (λ (z : List Source). AreFiles z (map file_of classes)) (take_all i files past) so_far.each
+read_end {files} {i} {classes} so_far past = subst (λ (z : List Source). AreFiles z (map file_of classes)) (take_all i files past)
+    so_far.each

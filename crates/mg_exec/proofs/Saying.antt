@@ -22,13 +22,15 @@ nothing_said : {A P : Type 0} (x : A) → ◌≡◌ {A = Option A} None (Some x)
 nothing_said x e = absurd cc
 
 -- a fault that was told is what is said
-pub refusal_told : (file : List ℕ) (fault : Fault) (said : Option Fault) → Some fault ≡ said → (stop : Stop) → IsStop (file_line file fault) stop →
+pub refusal_told : (file : List ℕ) (fault : Fault) (said : Option Fault) → Some fault ≡ said → (stop : Stop) →
+    IsStop (file_line file fault) stop →
     IsRefusal file said stop
 refusal_told file fault said e (stops.Refused line) is = (fault, sym e, is)
 refusal_told file fault said e stops.Memory is = tt
 
 -- a fault of which something is said is one of the bytes, and not want of memory
-pub theirs : (bytes : List ℕ) (fault : ClassFault) (said : Fault) → IsTheirFault {A = Class} bytes (Err fault) → class_fault fault ≡ Some said →
+pub theirs : (bytes : List ℕ) (fault : ClassFault) (said : Fault) → IsTheirFault {A = Class} bytes (Err fault) →
+    class_fault fault ≡ Some said →
     Fails bytes fault
 theirs bytes (faults.BadMagic n) said h e = h
 theirs bytes (faults.Version n) said h e = h
@@ -54,7 +56,8 @@ flaw_told (load_faults.NoCode name) cs flaw h e = h ∙ e
 flaw_told load_faults.Memory cs flaw h e = nothing_said flaw e
 
 -- its line was told
-pub flaw_lined : (said : Option Flaw) (line told : List ℕ) → Some told ≡ option_map flaw_line said → line ≡ told → IsUnlinkedBy said (stops.Refused line)
+pub flaw_lined : (said : Option Flaw) (line told : List ℕ) → Some told ≡ option_map flaw_line said → line ≡ told →
+    IsUnlinkedBy said (stops.Refused line)
 flaw_lined (Some flaw) line told e is = (flaw, refl, is ∙ same told (flaw_line flaw) e)
   where
     same : (a b : List ℕ) → ◌≡◌ {A = Option (List ℕ)} (Some a) (Some b) → a ≡ b

@@ -32,7 +32,8 @@ unlinked_program files classes (stops.Refused line) are (flaw, is, said) = inner
 unlinked_program files classes stops.Memory are h = tt
 
 -- what linking the classes of files answers is the program of the files
-pub program_linked : (files : List Source) (classes : List File) (result : Result Linked Stop) → AreFiles files classes → IsLinkedOf classes result →
+pub program_linked : (files : List Source) (classes : List File) (result : Result Linked Stop) → AreFiles files classes →
+    IsLinkedOf classes result →
     IsProgramOf files result
 program_linked files classes (Ok linked) are links = (classes, are, links)
 program_linked files classes (Err stop) are h = unlinked_program files classes stop are h
@@ -52,7 +53,8 @@ module _ (files : List Source) (mains : List RoleMain) (order : List ℕ) (limit
   run_none (stops.Refused line) (inner.unlinked classes flaw are is said) = unlinked classes flaw are is said
   run_none stops.Memory h = tt
 
-  pub run_no_main : (program : Program) (number : ℕ) (main : RoleMain) (stop : Stop) → IsProgram files program → IsWithout program mains number →
+  pub run_no_main : (program : Program) (number : ℕ) (main : RoleMain) (stop : Stop) → IsProgram files program →
+      IsWithout program mains number →
       IsStop (no_main_line (get_or mains number main).class) stop → IsRunning files mains order limit named traced (Err stop)
   run_no_main program number main (stops.Refused line) h w is =
       no_main program (take number mains) w.main (drop (suc number) mains) h (parts_at mains number w.main w.is) w.front w.none

@@ -63,7 +63,8 @@ class_fault faults.Memory = None
 -- what is wrong with a file: it is too large, or else the first of its fields that is wrong
 pub data IsWrong (source : Source) : Fault → Type 0 where
   large : most_bytes < length source.bytes → IsWrong source too_large
-  field : {fault : ClassFault} {said : Fault} → length source.bytes ≤ most_bytes → Fails source.bytes fault → class_fault fault ≡ Some said →
+  field : {fault : ClassFault} {said : Fault} → length source.bytes ≤ most_bytes → Fails source.bytes fault → class_fault fault ≡ Some said
+      →
       IsWrong source said
 
 abbrev pub file_line : (file : List ℕ) → Fault → List ℕ

@@ -42,7 +42,8 @@ pub data Refusal (files : List Source) (mains : List RoleMain) (line : List ℕ)
   -- the first file that is too large or is no class file
   unread : Judged IsRefused files (Some line) → Refusal files mains line
   -- all are class files, but they don't link
-  unlinked : (classes : List File) (flaw : Flaw) → AreFiles files classes → IsUnlinked classes flaw → line ≡ flaw_line flaw → Refusal files mains line
+  unlinked : (classes : List File) (flaw : Flaw) → AreFiles files classes → IsUnlinked classes flaw → line ≡ flaw_line flaw →
+      Refusal files mains line
   -- they link, but the class of a role isn't there or has no `main`, and it is the first in the order of the roles
   no_main : (program : Program) (front : List RoleMain) (main : RoleMain) (rest : List RoleMain) → IsProgram files program →
       mains ≡ front ++ main ∷ rest → HaveMains program front → (HasMain program main.class → ⊥) → line ≡ no_main_line main.class →

@@ -19,10 +19,11 @@ pub record Shows (mains : List RoleMain) (named traced : Bool) (run : Course) (s
   pub trace_is : shown.trace ≡ (if traced then plain_trace (names_of mains) run.last.events else [])
 
 -- some run of these files is shown
-pub record IsOfRun (files : List Source) (mains : List RoleMain) (order : List ℕ) (limit : ℕ) (named traced : Bool) (shown : Ran) : Type 0 where
-  pub run : Course
-  pub is : IsRun files mains order limit run
-  pub shows : Shows mains named traced run shown
+pub record IsOfRun (files : List Source) (mains : List RoleMain) (order : List ℕ) (limit : ℕ) (named traced : Bool) (shown : Ran) : Type 0
+  where
+    pub run : Course
+    pub is : IsRun files mains order limit run
+    pub shows : Shows mains named traced run shown
 
 -- that, or the line of the first refusal, or want of memory
 abbrev pub IsRunning : List Source → List RoleMain → List ℕ → (limit : ℕ) → (named traced : Bool) → Result Ran Stop → Type 0

@@ -1,5 +1,6 @@
 -- What a writer that tells its bytes holds after several writes.
-use Rattle.std.proofs.Common.{◌≡◌, ℕ, List, ◌++◌, ◌-◌, length, length-drop, take, drop, Option, Some, None, Result, Ok, Err, refl, ap, sym, subst, ◌∙◌, append_assoc}
+use Rattle.std.proofs.Common.{◌≡◌, ℕ, List, ◌++◌, ◌-◌, length, length-drop, take, drop, Option, Some, None, Result, Ok, Err, refl, ap, sym}
+use Rattle.std.proofs.Common.{subst, ◌∙◌, append_assoc}
 use Rattle.std.specs.Io.KnownBytes.{Appends, Keeps, WriteAppends}
 use Rattle.std.proofs.lemmas.List.{take-append-drop}
 use Rattle.std.proofs.Math.Seq.{take-append_seam, take-length}
@@ -25,24 +26,34 @@ grown_and_kept (Some xs) (Some ys) None f p q = absurd q
 grown_and_kept (Some xs) (Some ys) (Some zs) f p q = q ∙ p
 
 -- a write took n bytes of the rest, and these are left
-pub written_more : (old between new : Option (List ℕ)) (bytes rest left : List ℕ) (n : ℕ) → Written old between bytes rest → Appends between new (take n rest) → left ≡ drop n rest → Written old new bytes left
+pub written_more : (old between new : Option (List ℕ)) (bytes rest left : List ℕ) (n : ℕ) → Written old between bytes rest →
+    Appends between new (take n rest) → left ≡ drop n rest → Written old new bytes left
 written_more old between new bytes rest left n w q e = record {
   front = w.front ++ take n rest;
-  cut = ap (λ r. (w.front ++ take n rest) ++ r) e ∙ append_assoc w.front (take n rest) (drop n rest) ∙ ap (λ r. w.front ++ r) (take-append-drop n rest) ∙ w.cut;
+  cut = ap (λ r. (w.front ++ take n rest) ++ r) e ∙ append_assoc w.front (take n rest) (drop n rest) ∙ ap (λ r. w.front ++ r)
+      (take-append-drop n rest) ∙ w.cut;
   appends = grown_twice old between new w.front (take n rest) w.appends q;
 }
 
 -- the same, with what is left as a slice has it
-pub written_more_sliced : (old between new : Option (List ℕ)) (bytes rest : List ℕ) (n : ℕ) → Written old between bytes rest → Appends between new (take n rest) → Written old new bytes (take (length rest - n) (drop n rest))
+pub written_more_sliced : (old between new : Option (List ℕ)) (bytes rest : List ℕ) (n : ℕ) → Written old between bytes rest →
+    Appends between new (take n rest) → Written old new bytes (take (length rest - n) (drop n rest))
 written_more_sliced old between new bytes rest n w q =
     written_more old between new bytes rest _ n w q (ap (λ k. take k (drop n rest)) (sym (length-drop n rest)) ∙ take-length (drop n rest))
 
 -- a write took nothing
-pub written_kept : (old between new : Option (List ℕ)) (bytes rest : List ℕ) → Written old between bytes rest → Keeps between new → Written old new bytes rest
-written_kept old between new bytes rest w q = record { front = w.front; cut = w.cut; appends = grown_and_kept old between new w.front w.appends q }
+pub written_kept : (old between new : Option (List ℕ)) (bytes rest : List ℕ) → Written old between bytes rest → Keeps between new →
+    Written old new bytes rest
+written_kept old between new bytes rest w q = record {
+  front = w.front;
+  cut = w.cut;
+  appends = grown_and_kept old between new w.front
+      w.appends q;
+}
 
 -- what was written is a front of the bytes
-pub front_from_written : (old new : Option (List ℕ)) (bytes rest : List ℕ) → Written old new bytes rest → (k : ℕ) × Appends old new (take k bytes)
+pub front_from_written : (old new : Option (List ℕ)) (bytes rest : List ℕ) → Written old new bytes rest →
+    (k : ℕ) × Appends old new (take k bytes)
 front_from_written old new bytes rest w =
     (length w.front, subst (Appends old new) (sym (take-append_seam w.front rest) ∙ ap (take (length w.front)) w.cut) w.appends)
 

@@ -8,7 +8,8 @@ use Rattle.mg_io.specs.Outside.{Files}
 use Rattle.mg_io.specs.declared.fault.IoFault.{IoFault}
 use Rattle.mg_io.specs.declared.fault.IoFault.TheVariants.{Failed, Memory}
 
--- A folder in memory: its files, how many calls of `read` and `write` there were, the numbers of the calls that fail, and the names that failed.
+-- A folder in memory: its files, how many calls of `read` and `write` there were, the numbers of the calls that fail, and the names that
+-- failed.
 pub record MemoryFolder : Type 0 where
   pub files : Files
   pub calls : ℕ

@@ -11,5 +11,6 @@ use Rattle.mg_accepted.specs.Accepted.{AreAccepted}
 
 -- For each class with `main`, whatever the other roles sent and whatever the budget.
 abbrev pub AcceptedKeepTypestates : Type 0
-AcceptedKeepTypestates = (files : List Source) (core : Core.Program) (accepted : AreAccepted files core) (class : Name) → main_of core class ≢ None →
+AcceptedKeepTypestates = (files : List Source) (core : Core.Program) (accepted : AreAccepted files core) (class : Name) →
+    main_of core class ≢ None →
     (inputs : Inputs) (budget : ℕ) → KeepsTo accepted.have.program (mean accepted.have.program.files class inputs budget)

@@ -24,7 +24,8 @@ all_both P [] ys h k = k
 all_both P (x ∷ xs) ys h k = (h.0, all_both P xs ys h.1 k)
 
 -- the classes of files and of those behind them
-classes_both : (P : Class → Type 0) (fs gs : List File) → AllByRecursion P (classes_of fs) → AllByRecursion P (classes_of gs) → AllByRecursion P (classes_of (fs ++ gs))
+classes_both : (P : Class → Type 0) (fs gs : List File) → AllByRecursion P (classes_of fs) → AllByRecursion P (classes_of gs) →
+    AllByRecursion P (classes_of (fs ++ gs))
 classes_both P fs gs h k =
     subst (AllByRecursion P) (sym (flat_map-append (flat_map class_in) fs gs)) (all_both P (classes_of fs) (classes_of gs) h k)
 
@@ -40,15 +41,19 @@ alone file = record { files = file ∷ []; typestates = [] }
 module _ (law : SpelledIsShaped) where
   standing_shaped : (source : Source) (part : Part) (fs : List File) (ts : List Typestate) → Reads source part → Stands part fs ts
       → AllByRecursion IsShapedClass (classes_of fs)
-  standing_shaped source part fs ts reads (together.protocol {local = local} {api = api} is) = api_classes IsShapedClass api_class_shaped local api is
+  standing_shaped source part fs ts reads (together.protocol {local = local} {api = api} is) = api_classes IsShapedClass api_class_shaped
+      local api is
   standing_shaped source part fs ts reads together.states = tt
-  standing_shaped source part fs ts reads (together.classes {file = file}) = (law (alone file) (read_is_spelled source file reads, tt)).shaped
+  standing_shaped source part fs ts reads (together.classes {file = file}) =
+      (law (alone file) (read_is_spelled source file reads, tt)).shaped
 
   standing_assigns : (source : Source) (part : Part) (fs : List File) (ts : List Typestate) → Reads source part → Stands part fs ts
       → AllByRecursion ClassAssignsVariables (classes_of fs)
-  standing_assigns source part fs ts reads (together.protocol {local = local} {api = api} is) = api_classes ClassAssignsVariables api_class_assigns local api is
+  standing_assigns source part fs ts reads (together.protocol {local = local} {api = api} is) =
+      api_classes ClassAssignsVariables api_class_assigns local api is
   standing_assigns source part fs ts reads together.states = tt
-  standing_assigns source part fs ts reads (together.classes {file = file}) = (law (alone file) (read_is_spelled source file reads, tt)).assigns
+  standing_assigns source part fs ts reads (together.classes {file = file}) =
+      (law (alone file) (read_is_spelled source file reads, tt)).assigns
 
   pub shaped : {sources : List Source} {s : Sourced} → Spell sources s → IsShaped s.program
   shaped together.none = tt

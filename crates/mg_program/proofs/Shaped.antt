@@ -17,7 +17,8 @@ use Rattle.jv_meaning.specs.Program.{classes_of}
 use Rattle.jv_rules.specs.Shape.{IsOfValues, DeclaresValues, AllDeclareValues, IsShapedMethod, IsShapedClass}
 use Rattle.jv_resolve_law.specs.Targets.{AssignsVariables, AllAssignVariables, ClassAssignsVariables}
 use Rattle.stm_api.specs.Doings.{Doing, Passes, Asks, all_doings}
-use Rattle.stm_api.specs.Api.{ApiText, IsApi, send_body, take_body, look_body, label_test, first_label, refusal, value_param, method_of, class_with, enum_files}
+use Rattle.stm_api.specs.Api.{ApiText, IsApi, send_body, take_body, look_body, label_test, first_label, refusal, value_param, method_of}
+use Rattle.stm_api.specs.Api.{class_with, enum_files}
 
 -- a statement declares values and assigns to variables
 record Fine (s : Stmt) : Type 0 where
@@ -77,12 +78,27 @@ params p payloads.Text = (text_value, tt)
 
 method_shaped : (p : Place) (me : Name) (d : Doing) → IsShapedMethod (method_of p me d)
 method_shaped p me (Passes (Send peer label kind)) =
-    record { main = λ e. absurd (true≢false (sym e)); params = params p kind; body = values_of (send_body p peer label kind) (sends p peer label kind) }
+    record {
+      main = λ e. absurd (true≢false (sym e));
+      params = params p kind;
+      body = values_of (send_body p peer label kind)
+          (sends p peer label kind);
+    }
 method_shaped p me (Passes (Take peer label kind)) =
-    record { main = λ e. absurd (true≢false (sym e)); params = tt; body = values_of (take_body p peer label kind) (takes p peer label kind) }
+    record {
+      main = λ e. absurd (true≢false (sym e));
+      params = tt;
+      body = values_of (take_body p peer label kind)
+          (takes p peer label kind);
+    }
 method_shaped p me (Asks number peer labels) =
     let enum = choice_enum me number in
-    record { main = λ e. absurd (true≢false (sym e)); params = tt; body = values_of (look_body p enum peer labels) (looks p enum peer labels) }
+    record {
+      main = λ e. absurd (true≢false (sym e));
+      params = tt;
+      body = values_of (look_body p enum peer labels)
+          (looks p enum peer labels);
+    }
 
 method_assigns : (p : Place) (me : Name) (d : Doing) → AllAssignVariables (method_of p me d).body
 method_assigns p me (Passes (Send peer label kind)) = assigns_of (send_body p peer label kind) (sends p peer label kind)
@@ -91,7 +107,8 @@ method_assigns p me (Asks number peer labels) =
     let enum = choice_enum me number in assigns_of (look_body p enum peer labels) (looks p enum peer labels)
 
 -- what holds of the method of each doing holds of all methods
-each_method : (P : Method → Type 0) (p : Place) (me : Name) → ((d : Doing) → P (method_of p me d)) → (ds : List Doing) → AllByRecursion P (map (method_of p me) ds)
+each_method : (P : Method → Type 0) (p : Place) (me : Name) → ((d : Doing) → P (method_of p me d)) → (ds : List Doing) →
+    AllByRecursion P (map (method_of p me) ds)
 each_method P p me h [] = tt
 each_method P p me h (d ∷ ds) = (h d, each_method P p me h ds)
 
@@ -102,13 +119,15 @@ pub api_class_assigns : (p : Place) (me : Name) (ds : List Doing) → ClassAssig
 api_class_assigns p me ds = each_method (λ m. AllAssignVariables m.body) p me (method_assigns p me) ds
 
 -- enums are no classes
-no_classes : (P : Class → Type 0) (p : Place) (me : Name) (ds : List Doing) → AllByRecursion P (classes_of (map (λ f. f.tree) (enum_files p me ds)))
+no_classes : (P : Class → Type 0) (p : Place) (me : Name) (ds : List Doing) →
+    AllByRecursion P (classes_of (map (λ f. f.tree) (enum_files p me ds)))
 no_classes P p me [] = tt
 no_classes P p me (Passes message ∷ ds) = no_classes P p me ds
 no_classes P p me (Asks number peer labels ∷ ds) = no_classes P p me ds
 
 -- what holds of the class of an API holds of all classes of its files
-pub api_classes : (P : Class → Type 0) → ((p : Place) (me : Name) (ds : List Doing) → P (class_with p me ds)) → (local : LocalTree) (api : List ApiText) → IsApi local api
+pub api_classes : (P : Class → Type 0) → ((p : Place) (me : Name) (ds : List Doing) → P (class_with p me ds)) →
+    (local : LocalTree) (api : List ApiText) → IsApi local api
     → AllByRecursion P (classes_of (map (λ f. f.tree) api))
 api_classes P h local api is =
     let p : Place = start_of local.file in

@@ -28,5 +28,14 @@ pub resolved : SpelledIsShaped → ResolvingIsRight → ResolvingIsTotal → Wel
 resolved spelled right total files program h =
     let typed = well_typed files program h in
     let only : OnlyVariablesAreAssigned program = subst OnlyVariablesAreAssigned h.is (assigns spelled h.are.spell) in
-    let core = given (resolving program) (total program typed only) in
-    (core.0, core.1, λ bounded. record { program = program; are = h; stands = right program core.0 typed core.1 bounded; resolved = core.1 })
+    let core = given (resolving program) (total program typed only) in (
+      core.0,
+      core.1,
+      λ bounded. record {
+        program = program;
+        are = h;
+        stands = right program core.0 typed core.1 bounded;
+        resolved =
+            core.1;
+      },
+    )

@@ -47,7 +47,8 @@ pub data Refusal (files : List Source) (line : List ℕ) : Type 0 where
   unread : reading.Refusal files line → Refusal files line
   -- by the types of what is declared
   declarations : (sourced : Sourced) (condition : Condition) (place : Place) (name : List ℕ) → AreProgram files sourced →
-      IsTableFault sourced.program sourced.origins (Some (condition, culprit place name)) → line ≡ type_line files condition place name → Refusal files line
+      IsTableFault sourced.program sourced.origins (Some (condition, culprit place name)) → line ≡ type_line files condition place name →
+      Refusal files line
   -- by the types in the methods
   methods : (sourced : Sourced) (condition : Condition) (place : Place) (name : List ℕ) → AreProgram files sourced →
       IsTableFault sourced.program sourced.origins None → IsFault sourced.program (Some (condition, culprit place name)) →

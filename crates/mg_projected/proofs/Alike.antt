@@ -9,7 +9,8 @@ use Rattle.mg_projected.specs.Projected.{Answer, Files, Unread, Unprojected, Out
 use Rattle.mg_projected.specs.Told.{IsSaidOfGlobal, IsSaidOfProjection, IsSaid, Refusal}
 use Rattle.mg_projected.proofs.Once.{one_outcome}
 
-global_alike : (name : List ℕ) (a : reads.Answer) (f g : Fault) → IsSaidOfGlobal a f → IsSaidOfGlobal a g → AreAlike (fault_line name f) (fault_line name g)
+global_alike : (name : List ℕ) (a : reads.Answer) (f g : Fault) → IsSaidOfGlobal a f → IsSaidOfGlobal a g →
+    AreAlike (fault_line name f) (fault_line name g)
 global_alike name (reads.Protocol p) f g h k = absurd h
 global_alike name reads.Syntax f g h k = inr (record {
   file = name;

@@ -22,7 +22,8 @@ valid_of file bytes a (reads.bad_byte k size bad) g e = absurd cc
 valid_of file bytes a (reads.unsupported cut first) g e = absurd cc
 valid_of file bytes a (reads.syntax cut all none) g e = absurd cc
 valid_of file bytes a (reads.refused spells fault) g e = absurd cc
-valid_of file bytes a (reads.found {w = w} spells fault) g e = subst IsValid (tree_is _ g e) (faultless w fault (can_be_written file bytes w spells))
+valid_of file bytes a (reads.found {w = w} spells fault) g e =
+    subst IsValid (tree_is _ g e) (faultless w fault (can_be_written file bytes w spells))
 
 -- ---- what is answered for a role
 
@@ -36,7 +37,8 @@ module _ (g : GlobalTree) where
   abbrev does : Name → LocalTree
   does me = projection_of g me (body_of (projected me g.body))
 
-  does_so : (me : Name) (a : projects.Answer) → projects.Outcome g me a → (local : LocalTree) → a ≡ projects.Protocol local → local ≡ does me
+  does_so : (me : Name) (a : projects.Answer) → projects.Outcome g me a → (local : LocalTree) → a ≡ projects.Protocol local →
+      local ≡ does me
   does_so me a (projects.not_mergeable none first) local e = absurd cc
   does_so me a (projects.unprojected some fault) local e = absurd cc
   does_so me a (projects.found {body = body} some fault) local e =

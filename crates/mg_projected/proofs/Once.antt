@@ -10,7 +10,8 @@ use Rattle.scr_project.specs.Outcome as projects
 use Rattle.scr_project.proofs.Answered as projecting
 use Rattle.mg_projected.specs.declared.files.RoleFile.{RoleFile}
 use Rattle.mg_projected.specs.declared.fault.ProjectedFault.{ProjectedFault}
-use Rattle.mg_projected.specs.Projected.{file_of, AreFiles, IsRefusal, IsRefused, Answer, Files, Unread, Unprojected, IsUnread, Outcome, unread, unprojected, written, answer_of, IsAnswered}
+use Rattle.mg_projected.specs.Projected.{file_of, AreFiles, IsRefusal, IsRefused, Answer, Files, Unread, Unprojected, IsUnread, Outcome}
+use Rattle.mg_projected.specs.Projected.{unread, unprojected, written, answer_of, IsAnswered}
 use Rattle.mg_projected.specs.inner.Stages.{Stage}
 
 pub protocol_is : (s t : LocalTree) → projects.Protocol s ≡ projects.Protocol t → s ≡ t
@@ -21,7 +22,8 @@ tree_is g h e = cc
 
 module _ (g : GlobalTree) where
   -- a role has a local protocol, or is refused
-  not_both : (role : Name) (local : LocalTree) (a : projects.Answer) → projects.Outcome g role (projects.Protocol local) → projects.Outcome g role a → IsRefusal a → ⊥
+  not_both : (role : Name) (local : LocalTree) (a : projects.Answer) → projects.Outcome g role (projects.Protocol local) →
+      projects.Outcome g role a → IsRefusal a → ⊥
   not_both role local a h k r = subst IsRefusal (sym (projecting.one_outcome g role (projects.Protocol local) a h k)) r
 
   pub files_once : (roles : List Name) (fs hs : List RoleFile) → AreFiles g roles fs → AreFiles g roles hs → fs ≡ hs
@@ -46,7 +48,8 @@ module _ (file : ℕ) (bytes : List ℕ) where
   read_once : (a b : reads.Answer) → reads.Outcome file bytes a → reads.Outcome file bytes b → a ≡ b
   read_once = reading.one_outcome file bytes
 
-  read_or_not : (g : GlobalTree) (a : reads.Answer) → reads.Outcome file bytes (reads.Protocol g) → reads.Outcome file bytes a → IsUnread a → ⊥
+  read_or_not : (g : GlobalTree) (a : reads.Answer) → reads.Outcome file bytes (reads.Protocol g) → reads.Outcome file bytes a → IsUnread a
+      → ⊥
   read_or_not g a h k u = subst IsUnread (sym (read_once (reads.Protocol g) a h k)) u
 
   same_tree : (g h : GlobalTree) → reads.Outcome file bytes (reads.Protocol g) → reads.Outcome file bytes (reads.Protocol h) → g ≡ h
@@ -58,7 +61,8 @@ module _ (file : ℕ) (bytes : List ℕ) where
   one_outcome a b (unread {a = x} h u) (written {g = g} k r) = absurd (read_or_not g x k h u)
   one_outcome a b (unprojected {g = g} k r) (unread {a = x} h u) = absurd (read_or_not g x k h u)
   one_outcome a b (unprojected {g = g} {a = x} h r) (unprojected {g = f} {a = y} k s) =
-      let same = same_tree g f h k in ap Unprojected (refused_once f f.roles x y (subst (λ (t : GlobalTree). IsRefused t t.roles x) same r) s)
+      let same = same_tree g f h k in ap Unprojected (refused_once f f.roles x y (subst (λ (t : GlobalTree). IsRefused t t.roles x) same r)
+      s)
   one_outcome a b (unprojected {g = g} {a = x} h r) (written {g = f} {files = fs} k s) =
       let same = same_tree g f h k in absurd (files_or_not f f.roles fs x s (subst (λ (t : GlobalTree). IsRefused t t.roles x) same r))
   one_outcome a b (written {g = g} k r) (unread {a = x} h u) = absurd (read_or_not g x k h u)

@@ -1,5 +1,6 @@
 -- The loop over the roles, and what its end says.
-use Rattle.std.proofs.Common.{◌≡◌, inl, inr, ℕ, ◌+◌, ◌<◌, ◌≤◌, length, get_or, drop, List, [], ◌∷◌, ◌++◌, Option, None, Some, refl, sym, ap, subst, ◌∙◌, append_assoc}
+use Rattle.std.proofs.Common.{◌≡◌, inl, inr, ℕ, ◌+◌, ◌<◌, ◌≤◌, length, get_or, drop, List, [], ◌∷◌, ◌++◌, Option, None, Some, refl, sym, ap}
+use Rattle.std.proofs.Common.{subst, ◌∙◌, append_assoc}
 use Rattle.std.specs.Prelude.{option_map}
 use Rattle.std.proofs.lemmas.List.{at_drop_more, at_drop_all, append-nil}
 use Rattle.mg_text.specs.Call.{Name}
@@ -23,7 +24,8 @@ pub rest_start : (g : GlobalTree) (roles : List Name) → Rest g roles 0 []
 rest_start g roles = record { made = λ fs h. h; refused = λ a h. h }
 
 -- what a fault answers is no protocol
-refusals : (place : Place) (name : Name) (o : Option scr.Answer) (a : projects.Answer) → option_map (projects.Unprojected place name) o ≡ Some a → IsRefusal a
+refusals : (place : Place) (name : Name) (o : Option scr.Answer) (a : projects.Answer) → option_map (projects.Unprojected place name) o ≡
+    Some a → IsRefusal a
 refusals place name None a e = absurd (none_is_not a e)
 refusals place name (Some b) a e = subst IsRefusal (some_is (projects.Unprojected place name b) a e) tt
 
@@ -36,7 +38,8 @@ module _ (g : GlobalTree) (roles : List Name) (i : ℕ) (files : List RoleFile) 
   pub rest_end : (rs : List Name) → rs ≡ roles → length rs ≤ i → AreFiles g roles files
   rest_end rs same k =
       let h = subst (λ (z : List Name). length z ≤ i) same k in
-      subst (AreFiles g roles) (append-nil files) (rest.made [] (subst (λ (rs : List Name). AreFiles g rs []) (sym (at_drop_all (λ (rs : List Name). rs) roles i h)) refl))
+      subst (AreFiles g roles) (append-nil files)
+      (rest.made [] (subst (λ (rs : List Name). AreFiles g rs []) (sym (at_drop_all (λ (rs : List Name). rs) roles i h)) refl))
 
   module _ (rs : List Name) (same : rs ≡ roles) (role : Name) (inside : i < length rs) (found : role ≡ get_or rs i role) where
     within : i < length roles
@@ -48,10 +51,17 @@ module _ (g : GlobalTree) (roles : List Name) (i : ℕ) (files : List RoleFile) 
     cut : drop i roles ≡ role ∷ drop (i + 1) roles
     cut = at_drop_more (λ (rs : List Name). rs) roles i role within ∙ ap (λ (r : Name). r ∷ drop (i + 1) roles) (sym is)
 
-    pub rest_more : (local : LocalTree) (f : RoleFile) (more : List RoleFile) → projects.Outcome g role (projects.Protocol local) → f ≡ file_of role local → more ≡ files ++ f ∷ [] → Rest g roles (i + 1) more
+    pub rest_more : (local : LocalTree) (f : RoleFile) (more : List RoleFile) → projects.Outcome g role (projects.Protocol local) →
+        f ≡ file_of role local → more ≡ files ++ f ∷ [] → Rest g roles (i + 1) more
     rest_more local f more o e m = record {
       made = λ fs h. subst (AreFiles g roles) (sym (ap (λ (z : List RoleFile). z ++ fs) m ∙ append_assoc files (f ∷ []) fs))
-          (rest.made (f ∷ fs) (subst (λ (rs : List Name). AreFiles g rs (f ∷ fs)) (sym cut) (local, fs, ap (λ (z : RoleFile). z ∷ fs) e, o, h)));
+          (rest.made (f ∷ fs) (subst (λ (rs : List Name). AreFiles g rs (f ∷ fs)) (sym cut) (
+            local,
+            fs,
+            ap (λ (z : RoleFile). z ∷ fs) e,
+            o,
+            h,
+          )));
       refused = λ a h. rest.refused a (subst (λ (rs : List Name). IsRefused g rs a) (sym cut) (inr (local, o, h)));
     }
 

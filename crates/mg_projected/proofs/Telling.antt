@@ -1,5 +1,6 @@
 -- What is told of a fault is said of the answer that it is.
-use Rattle.std.proofs.Common.{◌≡◌, inl, inr, ℕ, List, [], ◌∷◌, length, codes, Option, Some, None, Result, Ok, Err, refl, sym, ap, ◌∙◌, subst, get_or, arith}
+use Rattle.std.proofs.Common.{◌≡◌, inl, inr, ℕ, List, [], ◌∷◌, length, codes, Option, Some, None, Result, Ok, Err, refl, sym, ap, ◌∙◌}
+use Rattle.std.proofs.Common.{subst, get_or, arith}
 use Rattle.std.specs.Prelude.{option_map, OnOk}
 use Rattle.mg_text.specs.Call.{Name}
 use Rattle.mg_text.specs.Row.{Row}
@@ -36,7 +37,8 @@ not_said : {P : Type 0} (g : Fault) → ◌≡◌ {A = Option Fault} None (Some 
 not_said g e = absurd cc
 
 -- the place of Syntax is left open
-syntax_said : (place : Place) (f : Fault) → ◌≡◌ {A = Option Fault} (Some (fault_at (codes "Syntax") place [])) (Some f) → f ≡ fault_at (codes "Syntax") f.place []
+syntax_said : (place : Place) (f : Fault) → ◌≡◌ {A = Option Fault} (Some (fault_at (codes "Syntax") place [])) (Some f) →
+    f ≡ fault_at (codes "Syntax") f.place []
 syntax_said place f e = same_fault _ f e ∙ sym (ap (λ (z : Fault). record z { kind = codes "Syntax"; name = [] }) (same_fault _ f e))
 
 global_said : (fault : GlobalFault) (f : Fault) → said_of_global fault ≡ Some f →
@@ -91,31 +93,55 @@ outcome_unmet file bytes a (written h k) = tt
 unmet_said : (place : Place) (role : Name) (fault : ScrFault) (f : Fault) (b : scr.Answer) → scr.fault_answer fault ≡ Some b →
     IsUnmet (projects.Unprojected place role b) → f ≡ fault_at (codes "Unprojected") place (words_of role fault) →
     IsSaidOfProjection (projects.Unprojected place role b) f
-unmet_said place role (protocols.TooLarge at) f b e u said = absurd (subst (λ (z : scr.Answer). IsUnmet (projects.Unprojected place role z)) (sym (some_is _ b e)) u)
-unmet_said place role (protocols.BadByte at) f b e u said = absurd (subst (λ (z : scr.Answer). IsUnmet (projects.Unprojected place role z)) (sym (some_is _ b e)) u)
-unmet_said place role (protocols.Unsupported at name) f b e u said = absurd (subst (λ (z : scr.Answer). IsUnmet (projects.Unprojected place role z)) (sym (some_is _ b e)) u)
-unmet_said place role (protocols.Syntax at) f b e u said = absurd (subst (λ (z : scr.Answer). IsUnmet (projects.Unprojected place role z)) (sym (some_is _ b e)) u)
-unmet_said place role (protocols.DuplicateName at name) f b e u said = subst (λ (z : scr.Answer). IsSaidOfProjection (projects.Unprojected place role z) f) (some_is _ b e) said
-unmet_said place role (protocols.UnknownRole at name) f b e u said = subst (λ (z : scr.Answer). IsSaidOfProjection (projects.Unprojected place role z) f) (some_is _ b e) said
-unmet_said place role (protocols.PeerIsSelf at) f b e u said = subst (λ (z : scr.Answer). IsSaidOfProjection (projects.Unprojected place role z) f) (some_is _ b e) said
-unmet_said place role (protocols.UnknownType at name) f b e u said = subst (λ (z : scr.Answer). IsSaidOfProjection (projects.Unprojected place role z) f) (some_is _ b e) said
-unmet_said place role (protocols.PayloadCount at) f b e u said = subst (λ (z : scr.Answer). IsSaidOfProjection (projects.Unprojected place role z) f) (some_is _ b e) said
-unmet_said place role (protocols.UnknownRec at name) f b e u said = subst (λ (z : scr.Answer). IsSaidOfProjection (projects.Unprojected place role z) f) (some_is _ b e) said
-unmet_said place role (protocols.DuplicateRec at name) f b e u said = subst (λ (z : scr.Answer). IsSaidOfProjection (projects.Unprojected place role z) f) (some_is _ b e) said
-unmet_said place role (protocols.Unguarded at name) f b e u said = subst (λ (z : scr.Answer). IsSaidOfProjection (projects.Unprojected place role z) f) (some_is _ b e) said
-unmet_said place role (protocols.Unreachable at) f b e u said = subst (λ (z : scr.Answer). IsSaidOfProjection (projects.Unprojected place role z) f) (some_is _ b e) said
-unmet_said place role (protocols.BranchStart at) f b e u said = subst (λ (z : scr.Answer). IsSaidOfProjection (projects.Unprojected place role z) f) (some_is _ b e) said
-unmet_said place role (protocols.MixedChoice at) f b e u said = subst (λ (z : scr.Answer). IsSaidOfProjection (projects.Unprojected place role z) f) (some_is _ b e) said
-unmet_said place role (protocols.SameLabel at name) f b e u said = subst (λ (z : scr.Answer). IsSaidOfProjection (projects.Unprojected place role z) f) (some_is _ b e) said
-unmet_said place role (protocols.ReservedLabel at name) f b e u said = subst (λ (z : scr.Answer). IsSaidOfProjection (projects.Unprojected place role z) f) (some_is _ b e) said
-unmet_said place role (protocols.NameClash at name) f b e u said = subst (λ (z : scr.Answer). IsSaidOfProjection (projects.Unprojected place role z) f) (some_is _ b e) said
-unmet_said place role (protocols.TooManyStates at) f b e u said = subst (λ (z : scr.Answer). IsSaidOfProjection (projects.Unprojected place role z) f) (some_is _ b e) said
+unmet_said place role (protocols.TooLarge at) f b e u said =
+    absurd (subst (λ (z : scr.Answer). IsUnmet (projects.Unprojected place role z)) (sym (some_is _ b e)) u)
+unmet_said place role (protocols.BadByte at) f b e u said =
+    absurd (subst (λ (z : scr.Answer). IsUnmet (projects.Unprojected place role z)) (sym (some_is _ b e)) u)
+unmet_said place role (protocols.Unsupported at name) f b e u said =
+    absurd (subst (λ (z : scr.Answer). IsUnmet (projects.Unprojected place role z)) (sym (some_is _ b e)) u)
+unmet_said place role (protocols.Syntax at) f b e u said =
+    absurd (subst (λ (z : scr.Answer). IsUnmet (projects.Unprojected place role z)) (sym (some_is _ b e)) u)
+unmet_said place role (protocols.DuplicateName at name) f b e u said =
+    subst (λ (z : scr.Answer). IsSaidOfProjection (projects.Unprojected place role z) f) (some_is _ b e) said
+unmet_said place role (protocols.UnknownRole at name) f b e u said =
+    subst (λ (z : scr.Answer). IsSaidOfProjection (projects.Unprojected place role z) f) (some_is _ b e) said
+unmet_said place role (protocols.PeerIsSelf at) f b e u said =
+    subst (λ (z : scr.Answer). IsSaidOfProjection (projects.Unprojected place role z) f) (some_is _ b e) said
+unmet_said place role (protocols.UnknownType at name) f b e u said =
+    subst (λ (z : scr.Answer). IsSaidOfProjection (projects.Unprojected place role z) f) (some_is _ b e) said
+unmet_said place role (protocols.PayloadCount at) f b e u said =
+    subst (λ (z : scr.Answer). IsSaidOfProjection (projects.Unprojected place role z) f) (some_is _ b e) said
+unmet_said place role (protocols.UnknownRec at name) f b e u said =
+    subst (λ (z : scr.Answer). IsSaidOfProjection (projects.Unprojected place role z) f) (some_is _ b e) said
+unmet_said place role (protocols.DuplicateRec at name) f b e u said =
+    subst (λ (z : scr.Answer). IsSaidOfProjection (projects.Unprojected place role z) f) (some_is _ b e) said
+unmet_said place role (protocols.Unguarded at name) f b e u said =
+    subst (λ (z : scr.Answer). IsSaidOfProjection (projects.Unprojected place role z) f) (some_is _ b e) said
+unmet_said place role (protocols.Unreachable at) f b e u said =
+    subst (λ (z : scr.Answer). IsSaidOfProjection (projects.Unprojected place role z) f) (some_is _ b e) said
+unmet_said place role (protocols.BranchStart at) f b e u said =
+    subst (λ (z : scr.Answer). IsSaidOfProjection (projects.Unprojected place role z) f) (some_is _ b e) said
+unmet_said place role (protocols.MixedChoice at) f b e u said =
+    subst (λ (z : scr.Answer). IsSaidOfProjection (projects.Unprojected place role z) f) (some_is _ b e) said
+unmet_said place role (protocols.SameLabel at name) f b e u said =
+    subst (λ (z : scr.Answer). IsSaidOfProjection (projects.Unprojected place role z) f) (some_is _ b e) said
+unmet_said place role (protocols.ReservedLabel at name) f b e u said =
+    subst (λ (z : scr.Answer). IsSaidOfProjection (projects.Unprojected place role z) f) (some_is _ b e) said
+unmet_said place role (protocols.NameClash at name) f b e u said =
+    subst (λ (z : scr.Answer). IsSaidOfProjection (projects.Unprojected place role z) f) (some_is _ b e) said
+unmet_said place role (protocols.TooManyStates at) f b e u said =
+    subst (λ (z : scr.Answer). IsSaidOfProjection (projects.Unprojected place role z) f) (some_is _ b e) said
 unmet_said place role protocols.Memory f b e u said = absurd (none_is_not b e)
-unmet_said place role (protocols.UnknownProtocol at name) f b e u said = subst (λ (z : scr.Answer). IsSaidOfProjection (projects.Unprojected place role z) f) (some_is _ b e) said
-unmet_said place role (protocols.DuplicateProtocol at name) f b e u said = subst (λ (z : scr.Answer). IsSaidOfProjection (projects.Unprojected place role z) f) (some_is _ b e) said
-unmet_said place role (protocols.RolesDiffer at name) f b e u said = subst (λ (z : scr.Answer). IsSaidOfProjection (projects.Unprojected place role z) f) (some_is _ b e) said
-unmet_said place role (protocols.NotLast at name) f b e u said = subst (λ (z : scr.Answer). IsSaidOfProjection (projects.Unprojected place role z) f) (some_is _ b e) said
-unmet_said place role (protocols.StartsWithDo at name) f b e u said = subst (λ (z : scr.Answer). IsSaidOfProjection (projects.Unprojected place role z) f) (some_is _ b e) said
+unmet_said place role (protocols.UnknownProtocol at name) f b e u said =
+    subst (λ (z : scr.Answer). IsSaidOfProjection (projects.Unprojected place role z) f) (some_is _ b e) said
+unmet_said place role (protocols.DuplicateProtocol at name) f b e u said =
+    subst (λ (z : scr.Answer). IsSaidOfProjection (projects.Unprojected place role z) f) (some_is _ b e) said
+unmet_said place role (protocols.RolesDiffer at name) f b e u said =
+    subst (λ (z : scr.Answer). IsSaidOfProjection (projects.Unprojected place role z) f) (some_is _ b e) said
+unmet_said place role (protocols.NotLast at name) f b e u said =
+    subst (λ (z : scr.Answer). IsSaidOfProjection (projects.Unprojected place role z) f) (some_is _ b e) said
+unmet_said place role (protocols.StartsWithDo at name) f b e u said =
+    subst (λ (z : scr.Answer). IsSaidOfProjection (projects.Unprojected place role z) f) (some_is _ b e) said
 
 -- ---- the line of a fault is that of a refusal
 
@@ -136,7 +162,8 @@ module _ (s : Source) (line : List ℕ) (f : Fault) (told : line ≡ fault_line 
           let gives : Outcome s.number s.bytes (Unprojected (projects.Unprojected place role b)) =
           h _ (ap (λ (o : Option scr.Answer). option_map Unprojected (option_map (projects.Unprojected place role) o)) k) in
           refusal (Unprojected (projects.Unprojected place role b)) gives
-          (unmet_said place role fault f b k (outcome_unmet s.number s.bytes (Unprojected (projects.Unprojected place role b)) gives) (same_fault _ f e))
+          (unmet_said place role fault f b k (outcome_unmet s.number s.bytes (Unprojected (projects.Unprojected place role b)) gives)
+          (same_fault _ f e))
   by_projection project_faults.Memory e h n = not_said f e
 
   by_fault : (fault : ProjectedFault) → said_of fault ≡ Some f → ((a : Answer) → fault_answer fault ≡ Some a → Outcome s.number s.bytes a) →
@@ -148,7 +175,8 @@ module _ (s : Source) (line : List ℕ) (f : Fault) (told : line ≡ fault_line 
 
 pub told_refused : (s : Source) (fault : ProjectedFault) (stop : Stop) → IsRefusal s.name (said_of fault) stop →
     ((a : Answer) → fault_answer fault ≡ Some a → Outcome s.number s.bytes a) →
-    (fault_answer fault ≡ None → ◌≡◌ {A = Result (Row RoleFile) ProjectedFault} (Err fault) (Err faults.Memory)) → IsAnswer (s ∷ []) (Err stop)
+    (fault_answer fault ≡ None → ◌≡◌ {A = Result (Row RoleFile) ProjectedFault} (Err fault) (Err faults.Memory)) →
+    IsAnswer (s ∷ []) (Err stop)
 told_refused s fault (stops.Refused line) (f, said, told) h n = by_fault s line f told fault said h n
 told_refused s fault stops.Memory said h n = tt
 
@@ -167,12 +195,14 @@ stop_refusal file fault (stops.Refused line) h = (fault, refl, h)
 stop_refusal file fault stops.Memory h = tt
 
 -- the refusal by a fault that was told of these names
-pub named_refusal : (file given kind name other : List ℕ) (place : Place) (said : Option Fault) (stop : Stop) → given ≡ file → other ≡ name →
+pub named_refusal : (file given kind name other : List ℕ) (place : Place) (said : Option Fault) (stop : Stop) → given ≡ file → other ≡ name
+    →
     said ≡ Some (fault_at kind place name) → IsStop (fault_line given (fault_at kind place other)) stop → IsRefusal file said stop
 named_refusal file given kind name other place said stop e f h is =
     told_is file (Some (fault_at kind place name)) said (sym h) stop
     (stop_refusal file (fault_at kind place name) stop
-    (subst (λ (z : List ℕ). IsStop (fault_line file (fault_at kind place z)) stop) f (subst (λ (z : List ℕ). IsStop (fault_line z (fault_at kind place other)) stop) e is)))
+    (subst (λ (z : List ℕ). IsStop (fault_line file (fault_at kind place z)) stop) f
+    (subst (λ (z : List ℕ). IsStop (fault_line z (fault_at kind place other)) stop) e is)))
 
 -- ---- one answer
 
@@ -190,27 +220,32 @@ files_of (Unprojected a) = []
 pub written_once : (files : List Source) (fs hs : List RoleFile) → AreWritten files fs → AreWritten files hs → fs ≡ hs
 written_once files fs hs w v =
     let same : w.source ≡ v.source = source_is w.source v.source (sym w.one ∙ v.one) in
-    let there : Outcome v.source.number v.source.bytes (Files fs) = subst (λ (s : Source). Outcome s.number s.bytes (Files fs)) same (gives_files files fs w) in
+    let there : Outcome v.source.number v.source.bytes (Files fs) = subst (λ (s : Source). Outcome s.number s.bytes (Files fs)) same
+    (gives_files files fs w) in
     ap files_of (one_outcome v.source.number v.source.bytes (Files fs) (Files hs) there (gives_files files hs v))
 
 pub not_refused : (files : List Source) (fs : List RoleFile) (line : List ℕ) → AreWritten files fs → Refusal files line → ⊥
 not_refused files fs line w r =
     let same : w.source ≡ r.source = source_is w.source r.source (sym w.one ∙ r.one) in
-    let there : Outcome r.source.number r.source.bytes (Files fs) = subst (λ (s : Source). Outcome s.number s.bytes (Files fs)) same (gives_files files fs w) in
+    let there : Outcome r.source.number r.source.bytes (Files fs) = subst (λ (s : Source). Outcome s.number s.bytes (Files fs)) same
+    (gives_files files fs w) in
     subst (λ (a : Answer). IsSaid a r.fault) (one_outcome r.source.number r.source.bytes r.answer (Files fs) r.gives there) r.said
 
-pub only_those : (files : List Source) (r : Result (Row RoleFile) Stop) → IsAnswer files r → (fs : List RoleFile) → AreWritten files fs → IsThat fs r
+pub only_those : (files : List Source) (r : Result (Row RoleFile) Stop) → IsAnswer files r → (fs : List RoleFile) → AreWritten files fs →
+    IsThat fs r
 only_those files (Ok rows) h fs w = written_once files rows.items fs h w
 only_those files (Err (stops.Refused line)) h fs w = not_refused files fs line w h
 only_those files (Err stops.Memory) h fs w = tt
 
-pub refused_unwritten : (files : List Source) (r : Result (Row RoleFile) Stop) → IsAnswer files r → (line : List ℕ) → Refusal files line → OnOk r ⊥
+pub refused_unwritten : (files : List Source) (r : Result (Row RoleFile) Stop) → IsAnswer files r → (line : List ℕ) → Refusal files line →
+    OnOk r ⊥
 refused_unwritten files (Ok rows) h line r = not_refused files rows.items line h r
 refused_unwritten files (Err stop) h line r = tt
 
 -- ---- one file
 
-pub one_source : (names contents : List (List ℕ)) (name bytes : List ℕ) → length names ≡ 1 → length contents ≡ 1 → name ≡ get_or names 0 name →
+pub one_source : (names contents : List (List ℕ)) (name bytes : List ℕ) → length names ≡ 1 → length contents ≡ 1 →
+    name ≡ get_or names 0 name →
     bytes ≡ get_or contents 0 bytes → source_of 0 name bytes ∷ [] ≡ sources names contents
 one_source [] contents name bytes n c e f = absurd (omega (arith, n))
 one_source (x ∷ y ∷ xs) contents name bytes n c e f = absurd (omega (arith, n))
@@ -218,7 +253,10 @@ one_source (x ∷ []) [] name bytes n c e f = absurd (omega (arith, c))
 one_source (x ∷ []) (z ∷ w ∷ zs) name bytes n c e f = absurd (omega (arith, c))
 one_source (x ∷ []) (z ∷ []) name bytes n c e f = λ i. source_of 0 (e i) (f i) ∷ []
 
-pub answer_of_one : (names contents : List (List ℕ)) (name bytes given : List ℕ) (r : Result (Row RoleFile) Stop) → length names ≡ 1 → length contents ≡ 1 →
-    name ≡ get_or names 0 name → bytes ≡ get_or contents 0 bytes → given ≡ bytes → IsAnswer (source_of 0 name given ∷ []) r → IsAnswer (sources names contents) r
+pub answer_of_one : (names contents : List (List ℕ)) (name bytes given : List ℕ) (r : Result (Row RoleFile) Stop) → length names ≡ 1 →
+    length contents ≡ 1 →
+    name ≡ get_or names 0 name → bytes ≡ get_or contents 0 bytes → given ≡ bytes → IsAnswer (source_of 0 name given ∷ []) r →
+    IsAnswer (sources names contents) r
 answer_of_one names contents name bytes given r n c e f g h =
-    subst (λ (z : List Source). IsAnswer z r) (one_source names contents name bytes n c e f) (subst (λ (z : List ℕ). IsAnswer (source_of 0 name z ∷ []) r) g h)
+    subst (λ (z : List Source). IsAnswer z r) (one_source names contents name bytes n c e f)
+    (subst (λ (z : List ℕ). IsAnswer (source_of 0 name z ∷ []) r) g h)

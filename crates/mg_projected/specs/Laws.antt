@@ -25,7 +25,8 @@ FilesAreProjected =
 -- where next acts of a role take from or look at a list that isn't empty, one of them is a step
 abbrev pub MessagesAreTaken : Type 0
 MessagesAreTaken =
-    (g : GlobalTree) (files : List RoleFile) (is : IsProjected g files) (c : System) → IsReached g.roles is.locals c → (me peer : Name) → Contains g.roles me →
+    (g : GlobalTree) (files : List RoleFile) (is : IsProjected g files) (c : System) → IsReached g.roles is.locals c → (me peer : Name) →
+    Contains g.roles me →
     (act : Act) (to : Position) → Step (c.at me) act to → waits_for act ≡ Some peer → c.lists peer me ≢ [] →
     (other : Act) × (d : System) × (waits_for other ≡ Some peer) × Moved me c other d
 
@@ -47,4 +48,5 @@ abbrev pub CompleteRunsAreFollowed : Type 0
 CompleteRunsAreFollowed =
     (g : GlobalTree) (files : List RoleFile) (is : IsProjected g files) (messages : List Passing) → Complete (said g.body) messages →
     (me : Name) → Contains g.roles me →
-    (acts : List Act) × (end : Position) × Run (whole (first_of (is.locals me))) acts end × Finished end × (messages_of acts ≡ named me messages)
+    (acts : List Act) × (end : Position) × Run (whole (first_of (is.locals me))) acts end × Finished end
+    × (messages_of acts ≡ named me messages)

@@ -20,9 +20,11 @@ file_of role local = record { name = role ++ codes ".scr"; text = layout local }
 abbrev pub AreFiles : GlobalTree → List Name → List RoleFile → Type 0
 AreFiles g [] files = files ≡ []
 AreFiles g (role ∷ roles) files =
-    (local : LocalTree) × (more : List RoleFile) × (files ≡ file_of role local ∷ more) × projects.Outcome g role (projects.Protocol local) × AreFiles g roles more
+    (local : LocalTree) × (more : List RoleFile) × (files ≡ file_of role local ∷ more) × projects.Outcome g role (projects.Protocol local)
+    × AreFiles g roles more
 
--- Files of the roles of a global protocol, in their order: each has the text of what its role does, so that the laws of projection speak of them.
+-- Files of the roles of a global protocol, in their order: each has the text of what its role does, so that the laws of projection speak of
+-- them.
 pub record IsProjected (g : GlobalTree) (files : List RoleFile) : Type 0 where
   pub locals : Name → LocalTree
   pub projected : AreProjected g locals
@@ -37,7 +39,8 @@ IsRefusal _ = Unit {0}
 abbrev pub IsRefused : GlobalTree → List Name → projects.Answer → Type 0
 IsRefused g [] a = ⊥
 IsRefused g (role ∷ roles) a =
-    (projects.Outcome g role a × IsRefusal a) ⊎ ((local : LocalTree) × projects.Outcome g role (projects.Protocol local) × IsRefused g roles a)
+    (projects.Outcome g role a × IsRefusal a) ⊎ ((local : LocalTree) × projects.Outcome g role (projects.Protocol local) × IsRefused g roles
+    a)
 
 -- what is answered, want of memory aside
 pub data Answer : Type 0 where
@@ -52,8 +55,10 @@ IsUnread _ = Unit {0}
 
 pub data Outcome (file : ℕ) (bytes : List ℕ) : Answer → Type 0 where
   unread : {a : reads.Answer} → reads.Outcome file bytes a → IsUnread a → Outcome file bytes (Unread a)
-  unprojected : {g : GlobalTree} {a : projects.Answer} → reads.Outcome file bytes (reads.Protocol g) → IsRefused g g.roles a → Outcome file bytes (Unprojected a)
-  written : {g : GlobalTree} {files : List RoleFile} → reads.Outcome file bytes (reads.Protocol g) → AreFiles g g.roles files → Outcome file bytes (Files files)
+  unprojected : {g : GlobalTree} {a : projects.Answer} → reads.Outcome file bytes (reads.Protocol g) → IsRefused g g.roles a →
+      Outcome file bytes (Unprojected a)
+  written : {g : GlobalTree} {files : List RoleFile} → reads.Outcome file bytes (reads.Protocol g) → AreFiles g g.roles files →
+      Outcome file bytes (Files files)
 
 -- what a fault says; want of memory says nothing of the file
 abbrev pub fault_answer : ProjectedFault → Option Answer

@@ -1,5 +1,6 @@
 -- There is one way to cut bytes into pieces, and a scan from left to right finds it.
-use Rattle.std.proofs.Common.{◌≡◌, ℕ, ◌+◌, ◌<◌, ◌≤◌, List, [], ◌∷◌, ◌++◌, length, take, drop, Option, Some, None, refl, sym, ap, ◌∙◌, subst, append_assoc, length-append, arith}
+use Rattle.std.proofs.Common.{◌≡◌, ℕ, ◌+◌, ◌<◌, ◌≤◌, List, [], ◌∷◌, ◌++◌, length, take, drop, Option, Some, None, refl, sym, ap, ◌∙◌, subst}
+use Rattle.std.proofs.Common.{append_assoc, length-append, arith}
 use Rattle.std.specs.Prelude.{MatchOption, Result, Ok, Err, min, nat_lt, Bool, true, false}
 use Rattle.std.proofs.lemmas.Bool.Decides.{nat_tests}
 use Rattle.std.specs.Str.{IsUtf8, IsValidUpTo}
@@ -11,7 +12,8 @@ use Rattle.mg_read.specs.declared.fault.LexFault.{LexFault}
 use Rattle.mg_read.specs.declared.fault.LexFault.TheVariants as faults
 use Rattle.mg_read.specs.Lexed.{MatchLexed}
 use Rattle.mg_read.specs.declared.front.FrontPiece.{FrontPiece}
-use Rattle.mg_read.specs.Pieces.{Table, Piece, spell, MayStand, Cut, Content, content_of, tokens_of, tokens_from, HasTokens, IsUncutAt, IsBad, no_piece, ill_formed, IsBadAt}
+use Rattle.mg_read.specs.Pieces.{Table, Piece, spell, MayStand, Cut, Content, content_of, tokens_of, tokens_from, HasTokens, IsUncutAt}
+use Rattle.mg_read.specs.Pieces.{IsBad, no_piece, ill_formed, IsBadAt}
 use Rattle.mg_read.specs.inner.Fronts.{piece_at, kind_of, content_shown, first_of}
 use Rattle.mg_read.proofs.Steps.{some_is, none_is_not}
 use Rattle.mg_read.proofs.Fronts.{AreApart, Stands, piece_stands, piece_again, content_is, Front, text_is}
@@ -30,14 +32,16 @@ module _ (t : Table) (apart : AreApart t.signs) where
   -- ---- rows of pieces
 
   -- there is one way to cut
-  pub cut_once : (ps qs : List Piece) (bytes rest more : List ℕ) → Cut t ps bytes rest → Cut t qs bytes more → piece_at t rest ≡ None → piece_at t more ≡ None → (ps ≡ qs) × (rest ≡ more)
+  pub cut_once : (ps qs : List Piece) (bytes rest more : List ℕ) → Cut t ps bytes rest → Cut t qs bytes more → piece_at t rest ≡ None →
+      piece_at t more ≡ None → (ps ≡ qs) × (rest ≡ more)
   cut_once [] [] bytes rest more a b u v = (refl, sym a ∙ b)
   cut_once [] (q ∷ qs) bytes rest more a (after, parts, stands, h) u v =
       absurd (none_is_not (q, after) (sym u ∙ ap (piece_at t) (sym a ∙ parts) ∙ piece_again t apart q after stands))
   cut_once (p ∷ ps) [] bytes rest more (after, parts, stands, h) b u v =
       absurd (none_is_not (p, after) (sym v ∙ ap (piece_at t) (sym b ∙ parts) ∙ piece_again t apart p after stands))
   cut_once (p ∷ ps) (q ∷ qs) bytes rest more (a, a_parts, a_stands, a_more) (b, b_parts, b_stands, b_more) u v =
-      let same = some_is (p, a) (q, b) (sym (piece_again t apart p a a_stands) ∙ ap (piece_at t) (sym a_parts ∙ b_parts) ∙ piece_again t apart q b b_stands) in
+      let same = some_is (p, a) (q, b) (sym (piece_again t apart p a a_stands) ∙ ap (piece_at t) (sym a_parts ∙ b_parts) ∙
+      piece_again t apart q b b_stands) in
       let head : p ≡ q = ap (λ (x : Piece × List ℕ). x.0) same in
       let tail : a ≡ b = ap (λ (x : Piece × List ℕ). x.1) same in
       let r = cut_once ps qs a rest more a_more (subst (λ (z : List ℕ). Cut t qs z more) (sym tail) b_more) u v in
@@ -48,7 +52,8 @@ module _ (t : Table) (apart : AreApart t.signs) where
   none_stands rest e p after parts stands = none_is_not (p, after) (sym e ∙ ap (piece_at t) parts ∙ piece_again t apart p after stands)
 
   -- where none stands, none is read
-  nothing_read : (rest : List ℕ) → ((p : Piece) (after : List ℕ) → rest ≡ spell p ++ after → MayStand t p after → ⊥) → piece_at t rest ≡ None
+  nothing_read : (rest : List ℕ) → ((p : Piece) (after : List ℕ) → rest ≡ spell p ++ after → MayStand t p after → ⊥) →
+      piece_at t rest ≡ None
   nothing_read rest h = by_cases (piece_at t rest) refl where
     by_cases : (o : Option (Piece × List ℕ)) → piece_at t rest ≡ o → piece_at t rest ≡ None
     by_cases None e = e
@@ -104,12 +109,14 @@ module _ (t : Table) (apart : AreApart t.signs) where
       pub here : offset + length rest ≡ length bytes
 
     -- a cut goes on with one more piece
-    cut_more : (ps : List Piece) (p : Piece) (bytes rest after : List ℕ) → Cut t ps bytes rest → Stands t rest (p, after) → Cut t (ps ++ p ∷ []) bytes after
+    cut_more : (ps : List Piece) (p : Piece) (bytes rest after : List ℕ) → Cut t ps bytes rest → Stands t rest (p, after) →
+        Cut t (ps ++ p ∷ []) bytes after
     cut_more [] p bytes rest after e (parts, stands) = (after, e ∙ parts, stands, refl)
     cut_more (q ∷ ps) p bytes rest after (mid, parts, stands, h) s = (mid, parts, stands, cut_more ps p mid rest after h s)
 
     -- the place behind one more piece
-    places_more : (ps : List Piece) (p : Piece) (place : Place) → places_after place (ps ++ p ∷ []) ≡ place_after (places_after place ps) (spell p)
+    places_more : (ps : List Piece) (p : Piece) (place : Place) → places_after place (ps ++ p ∷ []) ≡ place_after (places_after place ps)
+        (spell p)
     places_more [] p place = refl
     places_more (q ∷ ps) p place = places_more ps p (place_after place (spell q))
 
@@ -118,44 +125,54 @@ module _ (t : Table) (apart : AreApart t.signs) where
     given place p = tokens_of of place (content_of p)
 
     -- the tokens of one more piece are added at the end
-    tokens_more : (ps : List Piece) (p : Piece) (place : Place) → tokens_from of place (ps ++ p ∷ []) ≡ tokens_from of place ps ++ given (places_after place ps) p
+    tokens_more : (ps : List Piece) (p : Piece) (place : Place) → tokens_from of place (ps ++ p ∷ []) ≡ tokens_from of place ps
+        ++ given (places_after place ps) p
     tokens_more [] p place = append-nil (given place p)
     tokens_more (q ∷ ps) p place =
         let next : Place = place_after place (spell q) in
-        ap (λ (z : List T). given place q ++ z) (tokens_more ps p next) ∙ sym (append_assoc (given place q) (tokens_from of next ps) (given (places_after next ps) p))
+        ap (λ (z : List T). given place q ++ z) (tokens_more ps p next) ∙
+        sym (append_assoc (given place q) (tokens_from of next ps) (given (places_after next ps) p))
 
     -- the scan begins with no piece
     pub SoFar-init : (file : ℕ) (bytes : List ℕ) → SoFar file bytes [] (start_of file) 0 bytes
     SoFar-init file bytes = record { pieces = []; cut = refl; tokens = refl; at = refl; here = omega arith }
 
     -- the scan goes on with a piece that stands
-    SoFar-more : (file : ℕ) (bytes : List ℕ) (ts : List T) (place : Place) (offset : ℕ) (rest : List ℕ) (p : Piece) (after : List ℕ) → Stands t rest (p, after) → SoFar file bytes ts place offset rest
+    SoFar-more : (file : ℕ) (bytes : List ℕ) (ts : List T) (place : Place) (offset : ℕ) (rest : List ℕ) (p : Piece) (after : List ℕ) →
+        Stands t rest (p, after) → SoFar file bytes ts place offset rest
         → SoFar file bytes (ts ++ given place p) (place_after place (spell p)) (offset + length (spell p)) after
     SoFar-more file bytes ts place offset rest p after s h =
         record {
           pieces = h.pieces ++ p ∷ [];
           cut = cut_more h.pieces p bytes rest after h.cut s;
-          tokens = ap (λ (z : List T). z ++ given place p) h.tokens ∙ ap (λ (k : Place). tokens_from of (start_of file) h.pieces ++ given k p) h.at ∙ sym (tokens_more h.pieces p (start_of file));
+          tokens = ap (λ (z : List T). z ++ given place p) h.tokens ∙ ap (λ (k : Place). tokens_from of (start_of file) h.pieces
+              ++ given k p) h.at ∙ sym (tokens_more h.pieces p (start_of file));
           at = ap (λ (k : Place). place_after k (spell p)) h.at ∙ sym (places_more h.pieces p (start_of file));
           here = omega (arith, h.here, ap length s.0, length-append (spell p) after);
         }
 
     -- a turn of the loop keeps what is so far
-    pub Front-more : (file : ℕ) (bytes : List ℕ) (ts : List T) (place : Place) (offset : ℕ) (rest : List ℕ) (shown : FrontPiece) → Front t shown rest → SoFar file bytes ts place offset rest
-        → SoFar file bytes (ts ++ tokens_of of place (content_shown shown.kind (take shown.len rest))) (place_after place (take shown.len rest)) (offset + shown.len) (drop shown.len rest)
+    pub Front-more : (file : ℕ) (bytes : List ℕ) (ts : List T) (place : Place) (offset : ℕ) (rest : List ℕ) (shown : FrontPiece) →
+        Front t shown rest → SoFar file bytes ts place offset rest
+        → SoFar file bytes (ts ++ tokens_of of place (content_shown shown.kind (take shown.len rest)))
+        (place_after place (take shown.len rest)) (offset + shown.len) (drop shown.len rest)
     Front-more file bytes ts place offset rest shown f h =
         let kind_is : shown.kind ≡ kind_of f.piece = ap (λ (s : FrontPiece). s.kind) f.shows in
         let len_is : shown.len ≡ length (spell f.piece) = ap (λ (s : FrontPiece). s.len) f.shows in
-        let after_is : drop shown.len rest ≡ f.after = rw (len_is, f.stands.0) (drop_at (spell f.piece) f.after (length (spell f.piece)) refl) in
-        rw (text_is t shown rest f, after_is, kind_is, len_is, content_is f.piece) (SoFar-more file bytes ts place offset rest f.piece f.after f.stands h)
+        let after_is : drop shown.len rest ≡ f.after =
+        rw (len_is, f.stands.0) (drop_at (spell f.piece) f.after (length (spell f.piece)) refl) in
+        rw (text_is t shown rest f, after_is, kind_is, len_is, content_is f.piece) (SoFar-more file bytes ts place offset rest f.piece
+        f.after f.stands h)
 
     -- where nothing is left of what is UTF-8, the tokens are those of the bytes
-    pub SoFar-done : (file : ℕ) (bytes : List ℕ) (ts : List T) (place : Place) (offset : ℕ) (rest : List ℕ) → IsUtf8 bytes → length rest ≡ 0 → SoFar file bytes ts place offset rest → HasTokens t of file ts bytes
+    pub SoFar-done : (file : ℕ) (bytes : List ℕ) (ts : List T) (place : Place) (offset : ℕ) (rest : List ℕ) → IsUtf8 bytes → length rest ≡ 0
+        → SoFar file bytes ts place offset rest → HasTokens t of file ts bytes
     SoFar-done file bytes ts place offset [] utf8 e h = record { pieces = h.pieces; cut = h.cut; utf8 = utf8; tokens = h.tokens }
     SoFar-done file bytes ts place offset (b ∷ rest) utf8 e h = absurd (omega arith)
 
     -- where nothing is left of what is no UTF-8, that is bad
-    pub SoFar-ill : (file : ℕ) (bytes : List ℕ) (ts : List T) (place : Place) (offset : ℕ) (rest : List ℕ) (k : ℕ) → IsValidUpTo bytes k → length rest ≡ 0 → SoFar file bytes ts place offset rest → IsBadAt t bytes k
+    pub SoFar-ill : (file : ℕ) (bytes : List ℕ) (ts : List T) (place : Place) (offset : ℕ) (rest : List ℕ) (k : ℕ) → IsValidUpTo bytes k →
+        length rest ≡ 0 → SoFar file bytes ts place offset rest → IsBadAt t bytes k
     SoFar-ill file bytes ts place offset (b ∷ rest) k v e h = absurd (omega arith)
     SoFar-ill file bytes ts place offset [] k v e h = record { bad = ill_formed v; first = first } where
       first : (j : ℕ) → IsBad t bytes j → k ≤ j
@@ -163,7 +180,8 @@ module _ (t : Table) (apart : AreApart t.signs) where
       first j (ill_formed w) = omega (arith, ill_once bytes k j v w)
 
     -- where no piece is read, the first of the two offsets is bad
-    pub SoFar-bad : (file : ℕ) (bytes : List ℕ) (ts : List T) (place : Place) (offset : ℕ) (rest : List ℕ) (ill : Option ℕ) → MatchOption ill (IsUtf8 bytes) (IsValidUpTo bytes)
+    pub SoFar-bad : (file : ℕ) (bytes : List ℕ) (ts : List T) (place : Place) (offset : ℕ) (rest : List ℕ) (ill : Option ℕ) →
+        MatchOption ill (IsUtf8 bytes) (IsValidUpTo bytes)
         → 0 < length rest → piece_at t rest ≡ None → SoFar file bytes ts place offset rest → IsBadAt t bytes (first_of offset ill)
     SoFar-bad file bytes ts place offset rest ill v long e h = by_cases ill v where
       here : IsUncutAt t bytes offset
@@ -197,13 +215,15 @@ module _ (t : Table) (apart : AreApart t.signs) where
     IsAnswer file bytes r = MatchLexed r (λ v. HasTokens t of file (see v) bytes) (λ k. IsBadAt t bytes k)
 
     -- the tokens that the bytes have are found, unless memory runs out
-    pub only_tokens : (file : ℕ) (r : Result R LexFault) (bytes : List ℕ) → IsAnswer file bytes r → (ts : List T) → HasTokens t of file ts bytes → MatchLexed r (λ v. see v ≡ ts) (λ k. ⊥)
+    pub only_tokens : (file : ℕ) (r : Result R LexFault) (bytes : List ℕ) → IsAnswer file bytes r → (ts : List T) →
+        HasTokens t of file ts bytes → MatchLexed r (λ v. see v ≡ ts) (λ k. ⊥)
     only_tokens file (Ok v) bytes h ts a = same_tokens of file (see v) ts bytes h a
     only_tokens file (Err faults.Memory) bytes h ts a = tt
     only_tokens file (Err (faults.BadByte k)) bytes h ts a = tokens_or_bad of file ts k bytes a h
 
     -- the bad byte that there is is found, unless memory runs out
-    pub only_bad : (file : ℕ) (r : Result R LexFault) (bytes : List ℕ) → IsAnswer file bytes r → (k : ℕ) → IsBadAt t bytes k → MatchLexed r (λ v. ⊥) (λ j. j ≡ k)
+    pub only_bad : (file : ℕ) (r : Result R LexFault) (bytes : List ℕ) → IsAnswer file bytes r → (k : ℕ) → IsBadAt t bytes k →
+        MatchLexed r (λ v. ⊥) (λ j. j ≡ k)
     only_bad file (Ok v) bytes h k b = tokens_or_bad of file (see v) k bytes h b
     only_bad file (Err faults.Memory) bytes h k b = tt
     only_bad file (Err (faults.BadByte j)) bytes h k b = bad_once bytes j k h b

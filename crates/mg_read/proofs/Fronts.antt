@@ -1,5 +1,6 @@
 -- The piece that is read is the piece that may stand there, and the only one.
-use Rattle.std.proofs.Common.{◌≡◌, ℕ, zero, suc, ◌+◌, ◌-◌, ◌<◌, ◌≤◌, List, [], ◌∷◌, ◌++◌, length, take, drop, Bool, true, false, cond, eqb, Option, Some, None, refl, sym, ap, ◌∙◌, subst, append_assoc, length-append, arith, inl, inr, ◌⊎◌}
+use Rattle.std.proofs.Common.{◌≡◌, ℕ, zero, suc, ◌+◌, ◌-◌, ◌<◌, ◌≤◌, List, [], ◌∷◌, ◌++◌, length, take, drop, Bool, true, false, cond, eqb}
+use Rattle.std.proofs.Common.{Option, Some, None, refl, sym, ap, ◌∙◌, subst, append_assoc, length-append, arith, inl, inr, ◌⊎◌}
 use Rattle.std.specs.Prelude.{◌||◌, ◌&&◌, ◌==◌, option_map, nat_lt, not}
 use Rattle.std.specs.Str.{IsAscii}
 use Rattle.std.proofs.lemmas.Bool.{eqb-true}
@@ -11,7 +12,8 @@ use Rattle.mg_read.specs.Letters.{is_blank, is_name_start, is_name_byte, is_quot
 use Rattle.mg_read.specs.Passes.{AllPasses, StopsAt, StartsWith, span}
 use Rattle.mg_read.specs.Pieces.{Table, is_sign, Piece, blank, line, block, word, quote, sign, spell, MayStand, texted, content_of}
 use Rattle.mg_read.specs.Reader.{◌>>=◌}
-use Rattle.mg_read.specs.inner.Fronts.{close_at, comment_at, sign_at, word_at, closed_quote, quote_at, piece_at, shows, kind_of, content_shown, inner, IsReadable}
+use Rattle.mg_read.specs.inner.Fronts.{close_at, comment_at, sign_at, word_at, closed_quote, quote_at, piece_at, shows, kind_of}
+use Rattle.mg_read.specs.inner.Fronts.{content_shown, inner, IsReadable}
 use Rattle.mg_read.proofs.Steps.{bind_some, some_is, none_is_not, chosen}
 use Rattle.mg_read.proofs.Spans.{map_some, either, span_is, span_again, close_is, close_again}
 
@@ -106,7 +108,8 @@ test_of_short : (n : ℕ) → n ≤ 255 → nat_lt 255 n ≡ false
 test_of_short n h = grind (arith, nat_tests)
 
 -- a body that a quote closes
-closed_is : (body rest : List ℕ) (x : Piece × List ℕ) → closed_quote body rest ≡ Some x → (after : List ℕ) × (rest ≡ 34 ∷ after) × ((quote body, after) ≡ x)
+closed_is : (body rest : List ℕ) (x : Piece × List ℕ) → closed_quote body rest ≡ Some x → (after : List ℕ) × (rest ≡ 34 ∷ after)
+    × ((quote body, after) ≡ x)
 closed_is body [] x e = absurd (none_is_not x e)
 closed_is body (c ∷ cs) x e =
     elim (chosen (eqb c 34) (Some (quote body, cs)) None (Some x) e) [
@@ -119,7 +122,8 @@ second_way : {A : Type 0} (a b : Bool) (x y z : A) → a ≡ false → b ≡ tru
 second_way a b x y z f t = rw (f, t) refl
 
 -- a word that may stand is read
-word_again : (text rest : List ℕ) → AllPasses is_name_byte text → StopsAt is_name_byte rest → length text ≤ 255 → word_at (text ++ rest) ≡ Some (word text, rest)
+word_again : (text rest : List ℕ) → AllPasses is_name_byte text → StopsAt is_name_byte rest → length text ≤ 255 →
+    word_at (text ++ rest) ≡ Some (word text, rest)
 word_again text rest passes stops short =
     let n = span_again is_name_byte text rest passes stops in
     let long = test_of_short (length text) short in
@@ -187,7 +191,8 @@ module _ (t : Table) where
   word_at_stands c cs x h e =
       elim (chosen (nat_lt 255 (span is_name_byte (c ∷ cs))) None (Some (the_word (c ∷ cs))) (Some x) e) [
         | inl t ↦ absurd (none_is_not x t.1)
-        | inr f ↦ subst (Stands t (c ∷ cs)) (some_is (the_word (c ∷ cs)) x f.1) (word_stands c cs h (test_short (span is_name_byte (c ∷ cs)) f.0))
+        | inr f ↦ subst (Stands t (c ∷ cs)) (some_is (the_word (c ∷ cs)) x f.1)
+            (word_stands c cs h (test_short (span is_name_byte (c ∷ cs)) f.0))
       ]
 
   -- the comment that is read stands
@@ -205,7 +210,8 @@ module _ (t : Table) where
               let r = close_is ds n.0 n.1 in
               let two : suc (suc n.0) ≡ n.0 + 2 = omega arith in
               let body : List ℕ = take n.0 ds in
-              let parts : ds ≡ (body ++ 42 ∷ 47 ∷ []) ++ drop (n.0 + 2) ds = subst (λ (k : ℕ). ds ≡ (body ++ 42 ∷ 47 ∷ []) ++ drop k ds) two (r.parts ∙ sym (append_assoc body (42 ∷ 47 ∷ []) (drop (suc (suc n.0)) ds))) in
+              let parts : ds ≡ (body ++ 42 ∷ 47 ∷ []) ++ drop (n.0 + 2) ds = subst (λ (k : ℕ). ds ≡ (body ++ 42 ∷ 47 ∷ []) ++ drop k ds) two
+              (r.parts ∙ sym (append_assoc body (42 ∷ 47 ∷ []) (drop (suc (suc n.0)) ds))) in
               subst (Stands t (c ∷ d ∷ ds)) (some_is (block body, drop (n.0 + 2) ds) x n.2)
               (rw (is, eqb-true d 42 h.0) (ap (λ (z : List ℕ). 47 ∷ 42 ∷ z) parts), r.first)
           | inr h ↦ absurd (none_is_not x h.1)
@@ -253,10 +259,11 @@ module _ (t : Table) where
   piece_again apart (block body) rest h =
       let n = close_again body rest h in
       let two : length body + 2 ≡ suc (suc (length body)) = omega arith in
-      rw (append_assoc, n, two, take_at body (42 ∷ 47 ∷ rest) (length body) refl) (ap (λ (z : List ℕ). Some (block body, z)) (past body)) where
-        past : (xs : List ℕ) → drop (suc (suc (length xs))) (xs ++ 42 ∷ 47 ∷ rest) ≡ rest
-        past [] = refl
-        past (x ∷ xs) = past xs
+      rw (append_assoc, n, two, take_at body (42 ∷ 47 ∷ rest) (length body) refl) (ap (λ (z : List ℕ). Some (block body, z)) (past body))
+    where
+      past : (xs : List ℕ) → drop (suc (suc (length xs))) (xs ++ 42 ∷ 47 ∷ rest) ≡ rest
+      past [] = refl
+      past (x ∷ xs) = past xs
   piece_again apart (word []) rest (starts, passes, stops, short) = absurd starts
   piece_again apart (word (c ∷ cs)) rest (starts, passes, stops, short) =
       second_way (is_blank c) (is_name_start c) _ _ _ (start_not_blank c starts) starts ∙ word_again (c ∷ cs) rest passes stops short
@@ -328,8 +335,11 @@ module _ (t : Table) where
   readable (line body) after h = tt
   readable (block body) after h = tt
   readable (word text) after h = passing_ascii is_name_byte text name_byte_ascii h.1
-  readable (quote body) after h =
-      (omega (arith, length-append body (34 ∷ [])), IsAscii-cons 34 (body ++ 34 ∷ []) (omega arith) (IsAscii-push body 34 (passing_ascii is_quotable body quotable_ascii h.1) (omega arith)))
+  readable (quote body) after h = (
+    omega (arith, length-append body (34 ∷ [])),
+    IsAscii-cons 34 (body ++ 34 ∷ []) (omega arith)
+        (IsAscii-push body 34 (passing_ascii is_quotable body quotable_ascii h.1) (omega arith)),
+  )
   readable (sign c) after h = tt
 
   -- the text that the code takes can be kept

@@ -62,7 +62,8 @@ module _ {X C : Type 0} {At : X → C → Type 0} where
       go r c (later {x = x} n p) e = let h = go r c p e in (x ∷ h.0, h.1, h.2, ap (λ t. x ∷ t) h.3, (n, h.4), h.5)
 
 -- the same culprits, told in another way
-pub judged-map : {X Y C : Type 0} {At : X → C → Type 0} {By : Y → C → Type 0} (f : X → Y) → ((x : X) (c : C) → At x c → By (f x) c) → ((x : X) (c : C) → By (f x) c → At x c) →
+pub judged-map : {X Y C : Type 0} {At : X → C → Type 0} {By : Y → C → Type 0} (f : X → Y) → ((x : X) (c : C) → At x c → By (f x) c) →
+    ((x : X) (c : C) → By (f x) c → At x c) →
     {xs : List X} {r : Option C} → Judged At xs r → Judged By (map f xs) r
 judged-map f to from clean = clean
 judged-map f to from (here {x = x} {c = c} a) = here (to x c a)
@@ -76,19 +77,23 @@ judged-same to from (here {x = x} {c = c} a) = here (to x c a)
 judged-same to from (later {x = x} n p) = later (λ c b. n c (from x c b)) (judged-same to from p)
 
 -- conditions in two runs
-pub first_of-append : {K C : Type 0} {Of : K → Option C → Type 0} {ks ls : List K} {r : Option (K × C)} → FirstOf Of ks None → FirstOf Of ls r → FirstOf Of (ks ++ ls) r
+pub first_of-append : {K C : Type 0} {Of : K → Option C → Type 0} {ks ls : List K} {r : Option (K × C)} → FirstOf Of ks None →
+    FirstOf Of ls r → FirstOf Of (ks ++ ls) r
 first_of-append p q = go _ p refl q
   where
-    go : {K C : Type 0} {Of : K → Option C → Type 0} {ks ls : List K} {r : Option (K × C)} (s : Option (K × C)) → FirstOf Of ks s → s ≡ None → FirstOf Of ls r → FirstOf Of (ks ++ ls) r
+    go : {K C : Type 0} {Of : K → Option C → Type 0} {ks ls : List K} {r : Option (K × C)} (s : Option (K × C)) → FirstOf Of ks s → s ≡ None
+        → FirstOf Of ls r → FirstOf Of (ks ++ ls) r
     go s none e q = q
     go s (this a) e q = let no : ⊥ = cc in absurd no
     go s (next n p) e q = next n (go s p e q)
 
 -- there is one answer, where each condition has one
-pub one_first : {K C : Type 0} {Of : K → Option C → Type 0} → ((k : K) (r s : Option C) → Of k r → Of k s → r ≡ s) → {ks : List K} {r s : Option (K × C)} → FirstOf Of ks r → FirstOf Of ks s → r ≡ s
+pub one_first : {K C : Type 0} {Of : K → Option C → Type 0} → ((k : K) (r s : Option C) → Of k r → Of k s → r ≡ s) →
+    {ks : List K} {r s : Option (K × C)} → FirstOf Of ks r → FirstOf Of ks s → r ≡ s
 one_first single p q = go single p q refl
   where
-    go : {K C : Type 0} {Of : K → Option C → Type 0} → ((k : K) (r s : Option C) → Of k r → Of k s → r ≡ s) → {ks ls : List K} {r s : Option (K × C)} → FirstOf Of ks r → FirstOf Of ls s → ks ≡ ls → r ≡ s
+    go : {K C : Type 0} {Of : K → Option C → Type 0} → ((k : K) (r s : Option C) → Of k r → Of k s → r ≡ s) →
+        {ks ls : List K} {r s : Option (K × C)} → FirstOf Of ks r → FirstOf Of ls s → ks ≡ ls → r ≡ s
     go single none none e = refl
     go single none (this a) e = let no : ⊥ = cc in absurd no
     go single none (next n q) e = let no : ⊥ = cc in absurd no
@@ -96,10 +101,12 @@ one_first single p q = go single p q refl
     go {Of = Of} single (this {k = k} {c = c} a) (this {k = j} {c = d} b) e =
         let same : j ≡ k = cc in let told : Some c ≡ Some d = single k (Some c) (Some d) a (subst (λ z. Of z (Some d)) same b) in cc
     go {Of = Of} single (this {k = k} {c = c} a) (next {k = j} n q) e =
-        let same : j ≡ k = cc in let told : Some c ≡ None = single k (Some c) None a (subst (λ z. Of z None) same n) in let no : ⊥ = cc in absurd no
+        let same : j ≡ k = cc in let told : Some c ≡ None = single k (Some c) None a (subst (λ z. Of z None) same n) in let no : ⊥ = cc in
+        absurd no
     go single (next n p) none e = let no : ⊥ = cc in absurd no
     go {Of = Of} single (next {k = k} n p) (this {k = j} {c = d} b) e =
-        let same : k ≡ j = cc in let told : None ≡ Some d = single j None (Some d) (subst (λ z. Of z None) same n) b in let no : ⊥ = cc in absurd no
+        let same : k ≡ j = cc in let told : None ≡ Some d = single j None (Some d) (subst (λ z. Of z None) same n) b in let no : ⊥ = cc in
+        absurd no
     go single (next {ks = ks} n p) (next {ks = ls} m q) e = let same : ks ≡ ls = cc in go single p q same
 
 -- nothing is found where something is
@@ -111,7 +118,8 @@ no_both p q = go (judged-clean p) _ q refl
     go h r (here {c = d} a) e = h.0 d a
     go h r (later n p) e = go h.1 r p e
 
-pub no_both_first : {K C : Type 0} {Of : K → Option C → Type 0} → ((k : K) (c : C) → Of k None → Of k (Some c) → ⊥) → {ks : List K} {f : K × C} → FirstOf Of ks None → FirstOf Of ks (Some f) → ⊥
+pub no_both_first : {K C : Type 0} {Of : K → Option C → Type 0} → ((k : K) (c : C) → Of k None → Of k (Some c) → ⊥) →
+    {ks : List K} {f : K × C} → FirstOf Of ks None → FirstOf Of ks (Some f) → ⊥
 no_both_first {K} {C} {Of} never {ks} {f} p q = go ks ks None (Some f) p q refl refl refl
   where
     go : (ks ls : List K) (r s : Option (K × C)) → FirstOf Of ks r → FirstOf Of ls s → ks ≡ ls → r ≡ None → s ≡ Some f → ⊥
@@ -120,7 +128,8 @@ no_both_first {K} {C} {Of} never {ks} {f} p q = go ks ks None (Some f) p q refl 
     go ks ls r s none (next x q) e n m = cc
     go ks ls r s (this a) q e n m = cc
     go ks ls r s (next x p) none e n m = cc
-    go ks ls r s (next {k = k} x p) (this {k = j} {c = c} b) e n m = let same : j ≡ k = cc in never k c x (subst (λ z. Of z (Some c)) same b)
+    go ks ls r s (next {k = k} x p) (this {k = j} {c = c} b) e n m = let same : j ≡ k = cc in never k c x
+        (subst (λ z. Of z (Some c)) same b)
     go ks ls r s (next {ks = as'} x p) (next {ks = bs'} y q) e n m = let same : as' ≡ bs' = cc in go _ _ r s p q same n m
 
 pub judged-then : {X A B F : Type 0} {At : X → F → Type 0} {xs ys : List X} (r : Result A F) (f : A → Result B F) → Judged At xs (found r) →

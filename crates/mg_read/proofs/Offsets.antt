@@ -8,7 +8,8 @@ use Rattle.mg_read.specs.Within.{IsWithin}
 pub at_start : (file : ℕ) (bytes : List ℕ) (place : Place) → place ≡ start_of file → IsWithin file bytes place
 at_start file bytes place e = record { behind = 0; there = omega arith; is = e }
 
-pub at_offset : (file : ℕ) (bytes : List ℕ) (place : Place) (k : ℕ) → k ≤ length bytes → place ≡ place_after (start_of file) (take k bytes) →
+pub at_offset : (file : ℕ) (bytes : List ℕ) (place : Place) (k : ℕ) → k ≤ length bytes → place ≡ place_after (start_of file) (take k bytes)
+    →
     IsWithin file bytes place
 at_offset file bytes place k le e = record { behind = k; there = le; is = e }
 

@@ -1,5 +1,6 @@
 -- Runs of bytes at the front, and the end of a comment.
-use Rattle.std.proofs.Common.{◌≡◌, ℕ, suc, ◌+◌, List, [], ◌∷◌, ◌++◌, length, take, drop, Bool, true, false, eqb, Option, Some, None, refl, sym, ap, ◌∙◌, subst, inl, inr, ◌⊎◌, add-one}
+use Rattle.std.proofs.Common.{◌≡◌, ℕ, suc, ◌+◌, List, [], ◌∷◌, ◌++◌, length, take, drop, Bool, true, false, eqb, Option, Some, None, refl}
+use Rattle.std.proofs.Common.{sym, ap, ◌∙◌, subst, inl, inr, ◌⊎◌, add-one}
 use Rattle.std.specs.Prelude.{option_map, ◌&&◌}
 use Rattle.std.proofs.lemmas.Bool.{eqb-true}
 use Rattle.std.proofs.lemmas.List.Sums.{take_while-cons}
@@ -39,7 +40,8 @@ pub span_is : (p : ℕ → Bool) (bytes : List ℕ) → IsSpan p bytes (span p b
 span_is p [] = record { passes = tt; stops = tt; parts = refl }
 span_is p (c ∷ cs) =
     elim (either (p c)) [
-      | inl t ↦ let r = span_is p cs in subst (IsSpan p (c ∷ cs)) (sym (span-true p c cs t)) (record { passes = (t, r.passes); stops = r.stops; parts = ap (λ (z : List ℕ). c ∷ z) r.parts })
+      | inl t ↦ let r = span_is p cs in subst (IsSpan p (c ∷ cs)) (sym (span-true p c cs t))
+          (record { passes = (t, r.passes); stops = r.stops; parts = ap (λ (z : List ℕ). c ∷ z) r.parts })
       | inr f ↦ subst (IsSpan p (c ∷ cs)) (sym (span-false p c cs f)) (record { passes = tt; stops = f; parts = refl })
     ]
 
@@ -103,7 +105,8 @@ close_is (c ∷ cs) n e =
           let e : suc k.0 ≡ n = sym (add-one k.0) ∙ k.2 in
           subst (IsClose (c ∷ cs)) e (record {
             parts = ap (λ (z : List ℕ). c ∷ z) r.parts;
-            first = more_no_close c (take k.0 cs) (sym (close_front c (take k.0 cs) (47 ∷ drop (suc (suc k.0)) cs)) ∙ ap (λ (z : List ℕ). is_close (c ∷ z)) (sym r.parts) ∙ f.0) r.first;
+            first = more_no_close c (take k.0 cs) (sym (close_front c (take k.0 cs) (47 ∷ drop (suc (suc k.0)) cs)) ∙
+                ap (λ (z : List ℕ). is_close (c ∷ z)) (sym r.parts) ∙ f.0) r.first;
           })
     ] where
       at_front : (bytes r : List ℕ) → bytes ≡ 42 ∷ 47 ∷ r → IsClose bytes 0

@@ -8,7 +8,8 @@ use Rattle.mg_text.specs.declared.place.Place.{Place}
 use Rattle.mg_read.specs.Letters.{is_blank, is_name_start, is_name_byte, is_quotable, not_line_end}
 use Rattle.mg_read.specs.Passes.{AllPasses, StopsAt, StartsWith}
 
--- What a language brings: the bytes that are its signs, and whether it has texts between quotes. Names, blanks and comments are the same in all.
+-- What a language brings: the bytes that are its signs, and whether it has texts between quotes. Names, blanks and comments are the same in
+-- all.
 pub record Table : Type 0 where
   pub signs : List ℕ
   pub has_texts : Bool
@@ -16,7 +17,8 @@ pub record Table : Type 0 where
 abbrev pub is_sign : List ℕ → ℕ → Bool
 is_sign signs c = list_any (λ s. s == c) signs
 
--- A file is a row of pieces: what separates tokens, comments to the line's end and between "/*" and "*/", words, texts between quotes, and signs.
+-- A file is a row of pieces: what separates tokens, comments to the line's end and between "/*" and "*/", words, texts between quotes, and
+-- signs.
 pub data Piece : Type 0 where
   blank : ℕ → Piece
   line : List ℕ → Piece
@@ -37,7 +39,8 @@ spell (sign c) = c ∷ []
 abbrev pub HasNoClose : List ℕ → Type 0
 HasNoClose body = (u v : List ℕ) → body ++ 42 ∷ [] ≡ u ++ 42 ∷ 47 ∷ v → ⊥
 
--- Whether the piece may stand in front of rest. A comment runs to the end of its line, or to the first "*/". A word is as long as it can be, and of at most 255 bytes.
+-- Whether the piece may stand in front of rest. A comment runs to the end of its line, or to the first "*/". A word is as long as it can
+-- be, and of at most 255 bytes.
 abbrev pub MayStand : Table → Piece → List ℕ → Type 0
 MayStand t (blank c) rest = is_blank c ≡ true
 MayStand t (line body) rest = AllPasses not_line_end body × StopsAt not_line_end rest

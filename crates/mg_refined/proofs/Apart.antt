@@ -23,7 +23,8 @@ one_spelling [] [] (q ∷ qs) h k = absurd k
 one_spelling [] (p ∷ ps) qs h k = absurd h
 one_spelling (f ∷ files) [] qs h k = absurd h
 one_spelling (f ∷ files) (p ∷ ps) [] h k = absurd k
-one_spelling (f ∷ files) (p ∷ ps) (q ∷ qs) h k = ap₂ (λ (x : Part) (xs : List Part). x ∷ xs) (one_part f p q h.0 k.0) (one_spelling files ps qs h.1 k.1)
+one_spelling (f ∷ files) (p ∷ ps) (q ∷ qs) h k = ap₂ (λ (x : Part) (xs : List Part). x ∷ xs) (one_part f p q h.0 k.0)
+    (one_spelling files ps qs h.1 k.1)
 
 abbrev state_or : Typestate → Part → Typestate
 state_or d (Protocol local) = d
@@ -51,12 +52,14 @@ tells_one : (a b : Typestate) (x y : List ℕ) (s t : Bool) → Tells a b x s �
 tells_one a b x y s t (yes_told {pairs = ps} h) (yes_told {pairs = qs} k) = (ap yes_text (one_count a b ps qs h k), refl)
 tells_one a b x y s t (yes_told {pairs = ps} h) (no_told {calls = ds} {reason = q} k) = absurd (not_both a b ps ds q h k)
 tells_one a b x y s t (no_told {calls = cs} {reason = r} h) (yes_told {pairs = qs} k) = absurd (not_both a b qs cs r k h)
-tells_one a b x y s t (no_told {calls = cs} {reason = r} h) (no_told {calls = ds} {reason = q} k) = (no_told_text cs ds r q (one_failure a b cs ds r q h k), refl)
+tells_one a b x y s t (no_told {calls = cs} {reason = r} h) (no_told {calls = ds} {reason = q} k) =
+    (no_told_text cs ds r q (one_failure a b cs ds r q h k), refl)
 
 pub one_telling : (files : List Source) (x y : List ℕ) (s t : Bool) → AreJudged files x s → AreJudged files y t → (x ≡ y) × (s ≡ t)
 one_telling files x y s t h k =
     let e = one_spelling files (States h.a ∷ States h.b ∷ []) (States k.a ∷ States k.b ∷ []) h.spell k.spell in
-    let moved : Tells k.a k.b x s = subst (λ (b : Typestate). Tells k.a b x s) (seconds h.a h.b k.a k.b e) (subst (λ (a : Typestate). Tells a h.b x s) (firsts h.a h.b k.a k.b e) h.tells) in
+    let moved : Tells k.a k.b x s = subst (λ (b : Typestate). Tells k.a b x s) (seconds h.a h.b k.a k.b e)
+    (subst (λ (a : Typestate). Tells a h.b x s) (firsts h.a h.b k.a k.b e) h.tells) in
     tells_one k.a k.b x y s t moved k.tells
 
 pub none_spelled : (files : List Source) (parts : List Part) (line : List ℕ) → EachSpells files parts → Judged IsRefused files (Some line)

@@ -24,4 +24,5 @@ line_put calls i call before after whole lt is e rest =
 pub lines_end : (calls : List PathCall) (i : ℕ) (before whole : List ℕ) → length calls ≤ i
     → before ++ calls_text (map call_of (drop i calls)) ≡ whole → before ≡ whole
 lines_end calls i before whole past rest =
-    sym (nothing_behind before) ∙ ap (λ (t : List ℕ). before ++ t) (sym (at_drop_all (λ cs. calls_text (map call_of cs)) calls i past)) ∙ rest
+    sym (nothing_behind before) ∙ ap (λ (t : List ℕ). before ++ t) (sym (at_drop_all (λ cs. calls_text (map call_of cs)) calls i past)) ∙
+    rest

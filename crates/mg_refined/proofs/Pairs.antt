@@ -1,5 +1,6 @@
 -- Two files of typestates spell two typestates.
-use Rattle.std.proofs.Common.{arith, ◌≡◌, ℕ, Bool, List, [], ◌∷◌, ◌++◌, length, codes, Option, Some, None, Result, Ok, Err, slice_get, refl, sym, ap, ◌∙◌, subst}
+use Rattle.std.proofs.Common.{arith, ◌≡◌, ℕ, Bool, List, [], ◌∷◌, ◌++◌, length, codes, Option, Some, None, Result, Ok, Err, slice_get, refl}
+use Rattle.std.proofs.Common.{sym, ap, ◌∙◌, subst}
 use Rattle.std.specs.Prelude.{All, IfOk}
 use Rattle.std.proofs.lemmas.List.Elements.{All-contains, All-weaker}
 use Rattle.mg_text.specs.declared.memory.Memory.{Memory}
@@ -37,9 +38,11 @@ ends_a name (front, e) = ap last_of e ∙ last_behind front 46 (codes "java")
 
 pub state_part : (source : Source) (part : Part) → EndsWith (codes ".protocol") source.name → Reads source part
     → (t : Typestate) × (part ≡ States t)
-state_part source part is (reading.protocol of_scr o) = differ 108 114 (sym (ends_l source.name is) ∙ ends_r source.name of_scr) (λ k. absurd (omega (arith, k)))
+state_part source part is (reading.protocol of_scr o) = differ 108 114 (sym (ends_l source.name is) ∙ ends_r source.name of_scr)
+    (λ k. absurd (omega (arith, k)))
 state_part source part is (reading.states {typestate = t} of_states o) = (t, refl)
-state_part source part is (reading.classes of_java o) = differ 108 97 (sym (ends_l source.name is) ∙ ends_a source.name of_java) (λ k. absurd (omega (arith, k)))
+state_part source part is (reading.classes of_java o) = differ 108 97 (sym (ends_l source.name is) ∙ ends_a source.name of_java)
+    (λ k. absurd (omega (arith, k)))
 
 -- what two files spell
 pub record AreTwo (parts : List Part) : Type 0 where
@@ -51,7 +54,8 @@ pub two_states : (names contents : List (List ℕ)) (parts : List Part) → leng
     → All (EndsWith (codes ".protocol")) names → EachSpells (sources names contents) parts → AreTwo parts
 two_states (n ∷ m ∷ []) (c ∷ d ∷ []) (p ∷ q ∷ []) two same kinds h =
     let s = state_part (source_of 0 n c) p (All-contains (EndsWith (codes ".protocol")) (n ∷ m ∷ []) n kinds (first_of n (m ∷ []))) h.0 in
-    let t = state_part (source_of 1 m d) q (All-contains (EndsWith (codes ".protocol")) (n ∷ m ∷ []) m kinds (later_of n (m ∷ []) m (first_of m []))) h.1.0 in
+    let t = state_part (source_of 1 m d) q (All-contains (EndsWith (codes ".protocol")) (n ∷ m ∷ []) m kinds
+    (later_of n (m ∷ []) m (first_of m []))) h.1.0 in
     record { a = s.0; b = t.0; are = ap (λ (x : Part). x ∷ q ∷ []) s.1 ∙ ap (λ (y : Part). States s.0 ∷ y ∷ []) t.1 }
 two_states (n ∷ m ∷ []) (c ∷ d ∷ []) (p ∷ q ∷ r ∷ rest) two same kinds h = absurd h.1.1
 two_states (n ∷ m ∷ []) (c ∷ d ∷ []) (p ∷ []) two same kinds h = absurd h.1
@@ -64,7 +68,8 @@ two_states (n ∷ m ∷ []) (c ∷ []) parts two same kinds h = absurd (omega (a
 two_states (n ∷ m ∷ []) (c ∷ d ∷ e ∷ more) parts two same kinds h = absurd (omega (arith, same))
 
 pub have_kinds : (names : List (List ℕ)) → All (EndsWith (codes ".protocol")) names → HaveKinds names
-have_kinds names h = All-weaker (EndsWith (codes ".protocol")) (λ name. (kind : Kind) × EndsWith (suffix_of kind) name) (λ name is. (Typestates, is)) names h
+have_kinds names h = All-weaker (EndsWith (codes ".protocol")) (λ name. (kind : Kind) × EndsWith (suffix_of kind) name)
+    (λ name is. (Typestates, is)) names h
 
 pub told_of : (names contents : List (List ℕ)) (parts slice : List Part) (text : List ℕ) (stands : Bool) → length names ≡ 2
     → length contents ≡ 2 → All (EndsWith (codes ".protocol")) names → EachSpells (sources names contents) parts → slice ≡ parts

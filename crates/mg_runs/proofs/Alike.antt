@@ -24,17 +24,22 @@ first_lacking core [] (y ∷ others) main other rest behind e h g a b =
 first_lacking core (x ∷ front) [] main other rest behind e h g a b =
     let same : other ≡ x = cc in absurd (h.0 (subst (λ (z : RoleMain). main_of core z.class ≡ None) same b))
 first_lacking core (x ∷ front) (y ∷ others) main other rest behind e h g a b =
-    let same : front ++ main ∷ rest ≡ others ++ other ∷ behind = cc in first_lacking core front others main other rest behind same h.1 g.1 a b
+    let same : front ++ main ∷ rest ≡ others ++ other ∷ behind = cc in first_lacking core front others main other rest behind same h.1 g.1 a
+    b
 
-pub same_refusal : (files : List Source) (mains : List RoleMain) (l k : List ℕ) → Refusal files mains l → Refusal files mains k → AreAlike l k
+pub same_refusal : (files : List Source) (mains : List RoleMain) (l k : List ℕ) → Refusal files mains l → Refusal files mains k →
+    AreAlike l k
 same_refusal files mains l k (unaccepted r) (unaccepted q) = unmet.same_refusal files l k r q
-same_refusal files mains l k (unaccepted r) (no_main core front main rest a is have none told) = absurd (accepted.not_refused files core l a r)
+same_refusal files mains l k (unaccepted r) (no_main core front main rest a is have none told) =
+    absurd (accepted.not_refused files core l a r)
 same_refusal files mains l k (unaccepted r) (too_large core e a have first told) = absurd (accepted.not_refused files core l a r)
-same_refusal files mains l k (no_main core front main rest a is have none said) (unaccepted q) = absurd (accepted.not_refused files core k a q)
+same_refusal files mains l k (no_main core front main rest a is have none said) (unaccepted q) =
+    absurd (accepted.not_refused files core k a q)
 same_refusal files mains l k (too_large core e a have first said) (unaccepted q) = absurd (accepted.not_refused files core k a q)
 same_refusal files mains l k (no_main core front main rest a is have none said) (no_main core' front' main' rest' a' is' have' none' told) =
     let same : core ≡ core' = one_core files core core' a.have a'.have in
-    let one : main ≡ main' = first_lacking core' front front' main main' rest rest' (sym is ∙ is') (subst (λ (z : Core.Program). HaveMains z front) same have)
+    let one : main ≡ main' = first_lacking core' front front' main main' rest rest' (sym is ∙ is')
+    (subst (λ (z : Core.Program). HaveMains z front) same have)
     have' (subst (λ (z : Core.Program). main_of z main.class ≡ None) same none) none' in
     inl (said ∙ ap (λ (m : RoleMain). no_main_line m.class) one ∙ sym told)
 same_refusal files mains l k (no_main core front main rest a is have none said) (too_large core' e a' have' first told) =

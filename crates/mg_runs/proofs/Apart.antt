@@ -29,7 +29,8 @@ use Rattle.mg_runs.specs.Commanded.{Refusal, unaccepted, no_main, too_large}
 use Rattle.mg_runs.proofs.Sound.{one_spelled_list}
 
 -- a class that has no `main` isn't among those that have one
-pub lacks_none : (core : Core.Program) (front : List RoleMain) (main : RoleMain) (rest : List RoleMain) → HaveMains core (front ++ main ∷ rest) →
+pub lacks_none : (core : Core.Program) (front : List RoleMain) (main : RoleMain) (rest : List RoleMain) →
+    HaveMains core (front ++ main ∷ rest) →
     main_of core main.class ≢ None
 lacks_none core [] main rest h = h.0
 lacks_none core (x ∷ front) main rest h = lacks_none core front main rest h.1
@@ -40,7 +41,8 @@ pub not_refused : (files : List Source) (mains : List RoleMain) (order : List �
 not_refused files mains order limit r line h (unaccepted refused) = accepted.not_refused files r.core line h.accepted refused
 not_refused files mains order limit r line h (no_main core front main rest a is have none said) =
     let same : core ≡ r.core = one_core files core r.core a.have h.accepted.have in
-    lacks_none r.core front main rest (subst (HaveMains r.core) is h.have_mains) (subst (λ (z : Core.Program). main_of z main.class ≡ None) same none)
+    lacks_none r.core front main rest (subst (HaveMains r.core) is h.have_mains) (subst (λ (z : Core.Program). main_of z main.class ≡ None)
+    same none)
 not_refused files mains order limit r line h (too_large core e a have first said) =
     let same : core ≡ r.core = one_core files core r.core a.have h.accepted.have in
     not_exceeded r.core e h.class_files.fine (subst (λ (z : Core.Program). IsFirstExcess z (Some e)) same first)
@@ -58,7 +60,8 @@ pub record SameRun (a b : Course) : Type 0 where
   pub program : a.program ≡ b.program
   pub last : a.last ≡ b.last
 
-pub one_of_run : (files : List Source) (mains : List RoleMain) (order : List ℕ) (limit : ℕ) (a b : Course) → IsRun files mains order limit a →
+pub one_of_run : (files : List Source) (mains : List RoleMain) (order : List ℕ) (limit : ℕ) (a b : Course) → IsRun files mains order limit a
+    →
     IsRun files mains order limit b → SameRun a b
 one_of_run files mains order limit a b h g =
     let core : a.core ≡ b.core = one_core files a.core b.core h.accepted.have g.accepted.have in
@@ -91,12 +94,15 @@ shows_same files mains order limit named traced a b ran h g s =
     }
 
 pub only_run : (files : List Source) (mains : List RoleMain) (order : List ℕ) (limit : ℕ) (named traced : Bool) (result : Result Ran Stop) →
-    IsRunning files mains order limit named traced result → (run : Course) → IsRun files mains order limit run → IsThatRun mains named traced run result
-only_run files mains order limit named traced (Ok ran) h run is = shows_same files mains order limit named traced h.run run ran h.is is h.shows
+    IsRunning files mains order limit named traced result → (run : Course) → IsRun files mains order limit run →
+    IsThatRun mains named traced run result
+only_run files mains order limit named traced (Ok ran) h run is = shows_same files mains order limit named traced h.run run ran h.is is
+    h.shows
 only_run files mains order limit named traced (Err (stops.Refused line)) h run is = not_refused files mains order limit run line is h
 only_run files mains order limit named traced (Err stops.Memory) h run is = tt
 
-pub refused_run : (files : List Source) (mains : List RoleMain) (order : List ℕ) (limit : ℕ) (named traced : Bool) (result : Result Ran Stop) →
+pub refused_run : (files : List Source) (mains : List RoleMain) (order : List ℕ) (limit : ℕ) (named traced : Bool)
+    (result : Result Ran Stop) →
     IsRunning files mains order limit named traced result → (line : List ℕ) → Refusal files mains line → OnOk result ⊥
 refused_run files mains order limit named traced (Ok ran) h line refused = not_refused files mains order limit h.run line h.is refused
 refused_run files mains order limit named traced (Err stop) h line refused = tt

@@ -38,8 +38,10 @@ module _ (sources : Sources) (program : Program) (w : World) (r : ℕ) (role : R
   run : KeepsTo sources (meant (inputs_of w r) (suc role.count))
   run = keeps (inputs_of w r) (suc role.count)
 
-  ended : (ending : Ending) → role.state ≡ Over ending → Shows (meant (inputs_of w r)) role.count (events_of r w.events) (stands.Ended ending)
-  ended ending at = subst (λ (s : State). Shows (meant (inputs_of w r)) role.count (events_of r w.events) (stand_of program w r s)) at is.shows
+  ended : (ending : Ending) → role.state ≡ Over ending → Shows (meant (inputs_of w r)) role.count (events_of r w.events)
+      (stands.Ended ending)
+  ended ending at = subst (λ (s : State). Shows (meant (inputs_of w r)) role.count (events_of r w.events) (stand_of program w r s)) at
+      is.shows
 
   role_keeps : Keeps sources w r role
   role_keeps = record {
@@ -53,7 +55,8 @@ module _ (sources : Sources) (program : Program) (w : World) (r : ℕ) (role : R
   }
 
 -- so do all roles of a moment
-each_keeps : (sources : Sources) (mains : List RoleMain) (program : Program) (w : World) → MeaningsKeep sources mains → AreMeant sources mains program w →
+each_keeps : (sources : Sources) (mains : List RoleMain) (program : Program) (w : World) → MeaningsKeep sources mains →
+    AreMeant sources mains program w →
     EachKeeps sources mains w
 each_keeps sources mains program w keeps meant r main role at there =
     let (other, stands, is) = meant.each r main at in
@@ -63,5 +66,6 @@ each_keeps sources mains program w keeps meant r main role at there =
 
 pub roles_keep : AcceptedKeepTypestates → RolesKeep
 roles_keep law files core accepted mains found =
-    let keeps : MeaningsKeep accepted.have.program mains = λ r main at. law files core accepted main.class (main_at core mains found r main at) in
+    let keeps : MeaningsKeep accepted.have.program mains = λ r main at. law files core accepted main.class
+    (main_at core mains found r main at) in
     (keeps, λ program w meant. each_keeps accepted.have.program mains program w keeps meant)

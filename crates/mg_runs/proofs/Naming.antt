@@ -1,5 +1,6 @@
 -- Methods and classes by their names.
-use Rattle.std.proofs.Common.{◌≡◌, ◌≢◌, ◌↔◌, ◌&&◌, ◌||◌, ◌+◌, IsTrue, ℕ, suc, Bool, true, false, not, cond, List, [], ◌∷◌, length, map, Some, None, nat_lt, nat_eq, refl, sym, ap, ◌∙◌}
+use Rattle.std.proofs.Common.{◌≡◌, ◌≢◌, ◌↔◌, ◌&&◌, ◌||◌, ◌+◌, IsTrue, ℕ, suc, Bool, true, false, not, cond, List, [], ◌∷◌, length, map}
+use Rattle.std.proofs.Common.{Some, None, nat_lt, nat_eq, refl, sym, ap, ◌∙◌}
 use Rattle.std.proofs.lemmas.List.{length-map}
 use Rattle.std.specs.List.{position, position_or_len, list_any}
 use Rattle.mg_text.specs.Call.{Name}
@@ -45,7 +46,8 @@ no_main p class n (m ∷ ms) h = go (is_main_of class m) refl (no_main p class (
     go true e rest = absurd (let no = rw e at h in cc)
     go false e rest = rw e (rest (rw e at h))
 
-pub has_main_is : (p : Program) (class : ℕ) (ms : List Method) (b : Bool) → b ≡ list_any (is_main_of class) ms → IsTrue b ↔ (main_in p class 0 ms ≢ None)
+pub has_main_is : (p : Program) (class : ℕ) (ms : List Method) (b : Bool) → b ≡ list_any (is_main_of class) ms →
+    IsTrue b ↔ (main_in p class 0 ms ≢ None)
 has_main_is p class ms true h = ((λ _. some_main p class 0 ms (sym h)), (λ _. refl))
 has_main_is p class ms false h = ((λ no. absurd (let h = no in cc)), (λ has. absurd (has (no_main p class 0 ms (sym h)))))
 

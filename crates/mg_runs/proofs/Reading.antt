@@ -1,5 +1,6 @@
 -- Reading class files back, one after another.
-use Rattle.std.proofs.Common.{◌≡◌, ℕ, zero, suc, ◌+◌, ◌<◌, ◌≤◌, List, [], ◌∷◌, ◌++◌, length, get_or, drop, map, sym, ap, ◌∙◌, subst, append_assoc, append-nil, arith}
+use Rattle.std.proofs.Common.{◌≡◌, ℕ, zero, suc, ◌+◌, ◌<◌, ◌≤◌, List, [], ◌∷◌, ◌++◌, length, get_or, drop, map, sym, ap, ◌∙◌, subst}
+use Rattle.std.proofs.Common.{append_assoc, append-nil, arith}
 use Rattle.std.proofs.lemmas.List.{at_drop_all, map-append}
 use Rattle.cls_tree.specs.Tree.{Class as File}
 use Rattle.cls_tree.specs.View.{class_of as file_of}
@@ -23,7 +24,8 @@ spelled_in (f ∷ files) (c ∷ fs) s (suc i) d lt = spelled_in files fs s.1 i d
 module _ (files : List ClassFile) where
   -- the class files so far, and those of the files that are left, are all
   pub record ReadSoFar (i : ℕ) (done : List KeptFile) : Type 0 where
-    pub goes : (rest : List File) → AreSpelled (map bytes_of (drop i files)) rest → AreSpelled (map bytes_of files) (map file_of done ++ rest)
+    pub goes : (rest : List File) → AreSpelled (map bytes_of (drop i files)) rest →
+        AreSpelled (map bytes_of files) (map file_of done ++ rest)
 
   pub read_start : ReadSoFar 0 []
   read_start = record { goes = λ rest h. h }

@@ -25,17 +25,21 @@ use Rattle.mg_runs.specs.Laws.{RunsAreMeant, RolesAreMeant}
 use Rattle.mg_runs.proofs.Sound.{does_as_meant}
 
 -- the class of the role of a number has a `main`
-pub main_at : (core : Core.Program) (mains : List RoleMain) → HaveMains core mains → (r : ℕ) (main : RoleMain) → slice_get mains r ≡ Some main →
+pub main_at : (core : Core.Program) (mains : List RoleMain) → HaveMains core mains → (r : ℕ) (main : RoleMain) →
+    slice_get mains r ≡ Some main →
     main_of core main.class ≢ None
 main_at core [] h r main at = absurd (cc at)
 main_at core (x ∷ mains) h zero main at = let e : x ≡ main = cc in subst (λ (m : RoleMain). main_of core m.class ≢ None) e h.0
 main_at core (x ∷ mains) h (suc r) main at = main_at core mains h.1 r main at
 
-module _ (law : RunsAreMeant) (begun : BegunIsFresh) (deliver : TurnsDeliver) (worlds : WorldsAreMeant) (files : List Source) (core : Core.Program)
-    (written : List ClassFile) (have : HaveCore files core) (made : AreClassFiles core written) (mains : List RoleMain) (found : HaveMains core mains)
+module _ (law : RunsAreMeant) (begun : BegunIsFresh) (deliver : TurnsDeliver) (worlds : WorldsAreMeant) (files : List Source)
+    (core : Core.Program)
+    (written : List ClassFile) (have : HaveCore files core) (made : AreClassFiles core written) (mains : List RoleMain)
+    (found : HaveMains core mains)
     (program : Program) (loaded : IsLoaded (map (λ f. f.bytes) written) program) where
   do_as_meant : DoAsMeant have.program mains program
-  do_as_meant r main at start starts = does_as_meant law files core written have made program loaded main.class (main_at core mains found r main at) r start starts
+  do_as_meant r main at start starts = does_as_meant law files core written have made program loaded main.class
+      (main_at core mains found r main at) r start starts
 
   module _ (first : World) (begins : IsBegun program mains first) (taken : List ℕ) where
     fresh : IsFresh first
@@ -49,8 +53,12 @@ module _ (law : RunsAreMeant) (begun : BegunIsFresh) (deliver : TurnsDeliver) (w
         × IsMeant program (mean have.program.files main.class) (turns program first taken) r role
     each r main at =
         let begin = (begun program mains first begins).1 r main at in
-        let (role, there) = get_within (turns program first taken).roles r (subst (λ n. r < n) (sym many) (got_within mains r main at)) in
-        (role, there, worlds program first fresh taken r begin.start role begin.role there (mean have.program.files main.class) (do_as_meant r main at begin.start begin.starts))
+        let (role, there) = get_within (turns program first taken).roles r (subst (λ n. r < n) (sym many) (got_within mains r main at)) in (
+          role,
+          there,
+          worlds program first fresh taken r begin.start role begin.role there (mean have.program.files main.class)
+              (do_as_meant r main at begin.start begin.starts),
+        )
 
     are_meant : AreMeant have.program mains program (turns program first taken)
     are_meant = record { delivers = deliver program first fresh taken; each = each }

@@ -34,7 +34,8 @@ parts_at (y ∷ xs) (suc k) x at = ap (λ l. y ∷ l) (parts_at xs k x at)
 
 module _ (files : List Source) (mains : List RoleMain) (order : List ℕ) (limit : ℕ) (named traced : Bool) where
   -- the run of class files is that of their files
-  pub shown : RolesAreMeant → RolesKeep → RolesPlay → AllProtocolsAgree → (core : Core.Program) (written : List ClassFile) (ran : Ran) → AreAccepted files core →
+  pub shown : RolesAreMeant → RolesKeep → RolesPlay → AllProtocolsAgree → (core : Core.Program) (written : List ClassFile) (ran : Ran) →
+      AreAccepted files core →
       HaveMains core mains → AreClassFiles core written → IsRunOf core written mains order limit named traced ran →
       IsOfRun files mains order limit named traced ran
   shown law keep play agree core written ran a have made r =
@@ -65,14 +66,16 @@ module _ (files : List Source) (mains : List RoleMain) (order : List ℕ) (limit
   run_unaccepted (stops.Refused line) h = unaccepted h
   run_unaccepted stops.Memory h = tt
 
-  pub run_no_main : (core : Core.Program) (number : ℕ) (main : RoleMain) (stop : Stop) → AreAccepted files core → IsWithout core mains number →
+  pub run_no_main : (core : Core.Program) (number : ℕ) (main : RoleMain) (stop : Stop) → AreAccepted files core →
+      IsWithout core mains number →
       IsStop (no_main_line (get_or mains number main).class) stop → IsRunning files mains order limit named traced (Err stop)
   run_no_main core number main (stops.Refused line) a w is =
       no_main core (take number mains) w.main (drop (suc number) mains) a (parts_at mains number w.main w.is) w.front w.none
       (is ∙ ap (λ (m : RoleMain). no_main_line m.class) (get_or_from_slice_get mains number w.main main w.is))
   run_no_main core number main stops.Memory a w is = tt
 
-pub run_exceeded : (names contents : List (List ℕ)) (mains : List RoleMain) (order : List ℕ) (limit : ℕ) (named traced : Bool) (core : Core.Program)
+pub run_exceeded : (names contents : List (List ℕ)) (mains : List RoleMain) (order : List ℕ) (limit : ℕ) (named traced : Bool)
+    (core : Core.Program)
     (stop : Stop) → length names ≡ length contents → AreAccepted (sources names contents) core → HaveMains core mains →
     AreGiven names core (Err stop) → IsRunning (sources names contents) mains order limit named traced (Err stop)
 run_exceeded names contents mains order limit named traced core (stops.Refused line) same a have g =

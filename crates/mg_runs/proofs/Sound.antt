@@ -85,7 +85,8 @@ refused_never (load_faults.BadDescriptor name) cs right isnt h = refused_not (fl
 refused_never (load_faults.NoCode name) cs right isnt h = refused_not (flaws cs) _ right h
 refused_never load_faults.Memory cs right isnt h = isnt refl
 
-module _ (p : Program) (core : IsCore p) (plain : HasPlainNames p) (written : List ClassFile) (made : AreClassFiles p written) (law : CoresLink) where
+module _ (p : Program) (core : IsCore p) (plain : HasPlainNames p) (written : List ClassFile) (made : AreClassFiles p written)
+    (law : CoresLink) where
   -- the class files link
   classes_link : Links made.classes (linked_program p made.are.all)
   classes_link =
@@ -94,9 +95,11 @@ module _ (p : Program) (core : IsCore p) (plain : HasPlainNames p) (written : Li
       subst (λ (z : List File). Links z (linked_program p made.are.all)) (sym made.are.files_are) expected
 
   -- what these bytes are read as and link to is the expected program
-  linked_is : (read : List File) (program : machine.Program) → AreSpelled (bytes_of written) read → Links read program → program ≡ linked_program p made.are.all
+  linked_is : (read : List File) (program : machine.Program) → AreSpelled (bytes_of written) read → Links read program →
+      program ≡ linked_program p made.are.all
   linked_is read program spelled links =
-      let same : read ≡ made.classes = one_spelled_list (bytes_of written) read made.classes spelled (held_spelled p p.classes made.classes written made.hold) in
+      let same : read ≡ made.classes = one_spelled_list (bytes_of written) read made.classes spelled
+      (held_spelled p p.classes made.classes written made.hold) in
       links.program ∙ ap linked same ∙ sym classes_link.program
 
   -- ---- the `main` of a class
@@ -104,7 +107,8 @@ module _ (p : Program) (core : IsCore p) (plain : HasPlainNames p) (written : Li
   main_found : (class : Name) → main_of p class ≢ None → CoreHasMain p class
   main_found class isnt = by_class (class_numbered p class) refl
     where
-      found : (c : ℕ) → class_numbered p class ≡ Some c → (o : Option (values.Method ℕ Code)) → main_in p c 0 p.methods ≡ o → CoreHasMain p class
+      found : (c : ℕ) → class_numbered p class ≡ Some c → (o : Option (values.Method ℕ Code)) → main_in p c 0 p.methods ≡ o →
+          CoreHasMain p class
       found c at None e = absurd (isnt (ap (option_and_then (λ k. main_in p k 0 p.methods)) at ∙ e))
       found c at (Some r) e =
           let i = main_at p core c [] p.methods r refl e in
@@ -120,7 +124,8 @@ module _ (p : Program) (core : IsCore p) (plain : HasPlainNames p) (written : Li
       by_class (Some c) e = found c e (main_in p c 0 p.methods) refl
 
   -- the linked program has it too
-  main_linked : (class : Name) → CoreHasMain p class → (program : machine.Program) → program ≡ linked_program p made.are.all → vm.HasMain program class
+  main_linked : (class : Name) → CoreHasMain p class → (program : machine.Program) → program ≡ linked_program p made.are.all →
+      vm.HasMain program class
   main_linked class h program same =
       let s = main_stands p core plain made.are.all made.are.compiled class h.number h.method h.at h.is in
       subst (λ (z : machine.Program). vm.HasMain z class) (sym same) (record { class = s.class; method = s.method; is = s.main })
@@ -135,17 +140,23 @@ module _ (p : Program) (core : IsCore p) (plain : HasPlainNames p) (written : Li
       (subst (λ (z : machine.Program). IsStart z class start) same starts))
 
 -- what the core means is what the sources mean
-meant_alike : TypesAreEnough → SpelledIsShaped → (files : List Source) (class : Name) (core : Program) (h : HaveCore files core) (inputs : Inputs) →
+meant_alike : TypesAreEnough → SpelledIsShaped → (files : List Source) (class : Name) (core : Program) (h : HaveCore files core)
+    (inputs : Inputs) →
     cmean core class inputs ≡ mean h.program.files class inputs
 meant_alike enough law files class core h inputs = λ i budget. sym
-    ((enough h.program core (well_typed files h.program h.are) (subst IsShaped h.are.is (shaped law h.are.are.spell)) h.stands class inputs budget).same) i
+    ((enough h.program core (well_typed files h.program h.are) (subst IsShaped h.are.is (shaped law h.are.are.spell)) h.stands class inputs
+    budget).same) i
 
 -- ---- the laws
 
 pub classes_link_law : SpelledIsShaped → CoreIsKept → WrittenCoresAreHeld → CoresLink → WrittenClassesLink
 classes_link_law law kept held link files core written have made =
-    let can = is_held held files core have in
-    (made.classes, held_spelled core core.classes made.classes written made.hold, classes_link core (is_core law kept files core have) can.plain written made link)
+    let can = is_held held files core have in (
+      made.classes,
+      held_spelled core core.classes made.classes written made.hold,
+      classes_link core (is_core law kept files core have)
+          can.plain written made link,
+    )
 
 pub runs_law : SpelledIsShaped → CoreIsKept → WrittenCoresAreHeld → CoresLink → MainsAgree → TypesAreEnough → RunsAreMeant
 runs_law law kept held link agree enough files core written have made class main read program spelled links =
@@ -161,7 +172,8 @@ runs_law law kept held link agree enough files core written have made class main
 
 -- ---- the `main`s of roles
 
-module _ (law : RunsAreMeant) (files : List Source) (core : Program) (written : List ClassFile) (have : HaveCore files core) (made : AreClassFiles core written)
+module _ (law : RunsAreMeant) (files : List Source) (core : Program) (written : List ClassFile) (have : HaveCore files core)
+    (made : AreClassFiles core written)
     (program : machine.Program) (loaded : IsLoaded (bytes_of written) program) where
   pub has_main : (class : Name) → main_of core class ≢ None → vm.HasMain program class
   has_main class main = let (read, spelled, links) = loaded in (law files core written have made class main read program spelled links).0

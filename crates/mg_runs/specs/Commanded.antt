@@ -17,7 +17,8 @@ pub data Refusal (files : List Source) (mains : List RoleMain) (line : List ℕ)
   unaccepted : accepted.Refusal files line → Refusal files mains line
   -- the class of a role has no `main`, and it is the first in the order of the roles
   no_main : (core : Core.Program) (front : List RoleMain) (main : RoleMain) (rest : List RoleMain) → AreAccepted files core →
-      mains ≡ front ++ main ∷ rest → HaveMains core front → main_of core main.class ≡ None → line ≡ no_main_line main.class → Refusal files mains line
+      mains ≡ front ++ main ∷ rest → HaveMains core front → main_of core main.class ≡ None → line ≡ no_main_line main.class →
+      Refusal files mains line
   -- the first size that is too large in a class file
   too_large : (core : Core.Program) (excess : Excess) → AreAccepted files core → HaveMains core mains → IsFirstExcess core (Some excess) →
       line ≡ excess_line files excess → Refusal files mains line

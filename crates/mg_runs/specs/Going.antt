@@ -14,7 +14,8 @@ pub record IsOrder (order : List ℕ) (mains : List RoleMain) : Type 0 where
   pub numbers : (i : ℕ) (r : ℕ) → slice_get order i ≡ Some r → r < length mains
   pub named : (r : ℕ) → r < length mains → Contains order r
 
--- They began at the `main`s of their classes and took turns in this order, up to the first moment at which every role has ended or waits, or so
+-- They began at the `main`s of their classes and took turns in this order, up to the first moment at which every role has ended or waits,
+-- or so
 -- many instructions were counted.
 pub record IsGone (program : Program) (mains : List RoleMain) (order : List ℕ) (limit : ℕ) (named : Bool) (gone : Gone) : Type 0 where
   pub first : World

@@ -1,4 +1,5 @@
--- The headline: how several roles run the program that some files are. Each role's run of the class bytes has the events and the ending of the
+-- The headline: how several roles run the program that some files are. Each role's run of the class bytes has the events and the ending of
+-- the
 -- source's meaning on the messages that were sent to it, and keeps to the typestates.
 use Rattle.std.specs.Prelude.{◌≡◌, ◌≢◌, ℕ, suc, List, map, Some, slice_get, Contains}
 use Rattle.mg_text.specs.Call.{Name}
@@ -52,7 +53,8 @@ pub record AreMeant (sources : Sources) (mains : List RoleMain) (program : Progr
 -- The machine of each role, which begins at the `main` of its class, does all that is meant, and nothing else, on lists that hold what
 -- the others sent, whatever that is.
 abbrev pub DoAsMeant : Sources → List RoleMain → Program → Type 0
-DoAsMeant sources mains program = (r : ℕ) (main : RoleMain) → slice_get mains r ≡ Some main → (start : Machine) → IsStart program main.class start →
+DoAsMeant sources mains program = (r : ℕ) (main : RoleMain) → slice_get mains r ≡ Some main → (start : Machine) →
+    IsStart program main.class start →
     DoesAsMeant program r start (mean sources.files main.class)
 
 -- A role at a moment keeps to the typestates of its sources.
@@ -78,7 +80,8 @@ MeaningsKeep sources mains = (r : ℕ) (main : RoleMain) → slice_get mains r �
 -- Whatever turns follow, a role shows nothing more, and where it ends it ends as this mismatch.
 pub record StaysAt (program : Program) (w : World) (r : ℕ) (peer label : Name) : Type 0 where
   pub shows_no_more : (more : List ℕ) → events_of r (turns program w more).events ≡ events_of r w.events
-  pub ends : (more : List ℕ) (role : Role) (ending : Ending) → slice_get (turns program w more).roles r ≡ Some role → role.state ≡ Over ending →
+  pub ends : (more : List ℕ) (role : Role) (ending : Ending) → slice_get (turns program w more).roles r ≡ Some role →
+      role.state ≡ Over ending →
       ending ≡ endings.Mismatch peer label
 
 -- What an object of the class of a protocol's role has done, by the events of its role so far.
@@ -127,7 +130,8 @@ pub record IsRun (files : List Source) (mains : List RoleMain) (order : List ℕ
   -- after every list of turns each role did what is meant, on the messages that were sent to it
   pub meant : (taken : List ℕ) → AreMeant accepted.have.program mains run.program (turns run.program run.first taken)
   pub does : DoAsMeant accepted.have.program mains run.program
-  -- and keeps to the typestates: no null is dereferenced, the calls of each object are a path, and a role that returns leaves each at its end
+  -- and keeps to the typestates: no null is dereferenced, the calls of each object are a path, and a role that returns leaves each at its
+  -- end
   -- or at a state marked drop
   pub keep : (taken : List ℕ) → EachKeeps accepted.have.program mains (turns run.program run.first taken)
   pub meanings : MeaningsKeep accepted.have.program mains

@@ -27,22 +27,27 @@ use Rattle.mg_runs.specs.Headline.{AreMeant, DoAsMeant, EachKeeps, MeaningsKeep,
 
 -- The bytes of these class files are read back, and what is read links to the program that is expected of the core.
 abbrev pub WrittenClassesLink : Type 0
-WrittenClassesLink = (files : List Source) (core : Core.Program) (written : List ClassFile) → HaveCore files core → (made : AreClassFiles core written) →
+WrittenClassesLink = (files : List Source) (core : Core.Program) (written : List ClassFile) → HaveCore files core →
+    (made : AreClassFiles core written) →
     (read : List File) × AreSpelled (map (λ f. f.bytes) written) read × Links read (linked_program core made.are.all)
 
--- Whatever these bytes are read as and link to: where a class of the core has a `main` the linked program has it, and from there the machine
+-- Whatever these bytes are read as and link to: where a class of the core has a `main` the linked program has it, and from there the
+-- machine
 -- does what the class means in the sources, whatever the other roles sent.
 abbrev pub RunsAreMeant : Type 0
-RunsAreMeant = (files : List Source) (core : Core.Program) (written : List ClassFile) (have : HaveCore files core) → AreClassFiles core written →
+RunsAreMeant = (files : List Source) (core : Core.Program) (written : List ClassFile) (have : HaveCore files core) →
+    AreClassFiles core written →
     (class : Name) → main_of core class ≢ None → (read : List File) (program : Program) → AreSpelled (map (λ f. f.bytes) written) read →
     Links read program →
-    HasMain program class × ((inputs : Inputs) (me : ℕ) (q : Messages) → Holds inputs q me [] → (start : Machine) → IsStart program class start →
+    HasMain program class × ((inputs : Inputs) (me : ℕ) (q : Messages) → Holds inputs q me [] → (start : Machine) →
+    IsStart program class start →
     RunsAsMeant (step program me) start q (mean have.program.files class inputs))
 
 -- So whatever roles run them: the machine of each does what is meant, and after every list of turns each did what is meant on the messages
 -- that were sent to it.
 abbrev pub RolesAreMeant : Type 0
-RolesAreMeant = (files : List Source) (core : Core.Program) (written : List ClassFile) (have : HaveCore files core) → AreClassFiles core written →
+RolesAreMeant = (files : List Source) (core : Core.Program) (written : List ClassFile) (have : HaveCore files core) →
+    AreClassFiles core written →
     (mains : List RoleMain) → HaveMains core mains → (program : Program) → IsLoaded (map (λ f. f.bytes) written) program →
     DoAsMeant have.program mains program
     × ((first : World) → IsBegun program mains first → (taken : List ℕ) → AreMeant have.program mains program (turns program first taken))

@@ -59,7 +59,8 @@ pub fn run_roles(
     // What is answered is a run of the roles, or the line of the first refusal.
     ensures answered { IsRunning (sources names.now contents.now) mains.now order.now limit named traced result }
     // Each run of these files is the one that is answered, unless memory runs out.
-    ensures only { (run : Course) → IsRun (sources names.now contents.now) mains.now order.now limit run → IsThatRun mains.now named traced run result }
+    ensures only { (run : Course) → IsRun (sources names.now contents.now) mains.now order.now limit run →
+        IsThatRun mains.now named traced run result }
     // Files that are refused aren't run.
     ensures refused { (line : Seq ℕ) → Refusal (sources names.now contents.now) mains.now line → OnOk result ⊥ }
 {

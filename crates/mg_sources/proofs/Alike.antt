@@ -16,7 +16,8 @@ refusals_alike source l k (f, h, e) (g, j, d) =
     subst (λ (x : List ℕ). AreAlike x k) (sym e)
     (subst (AreAlike (fault_line source.name f)) (sym d) (alike source f g h j))
 
-pub first_alike : {files others : List Source} {r s : Option (List ℕ)} {l k : List ℕ} → Judged IsRefused files r → Judged IsRefused others s →
+pub first_alike : {files others : List Source} {r s : Option (List ℕ)} {l k : List ℕ} → Judged IsRefused files r → Judged IsRefused others s
+    →
     files ≡ others → r ≡ Some l → s ≡ Some k → AreAlike l k
 first_alike clean q e a b = let no : ⊥ = cc in absurd no
 first_alike (here h) clean e a b = let no : ⊥ = cc in absurd no

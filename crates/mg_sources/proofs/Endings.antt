@@ -1,5 +1,6 @@
 -- How the names of files end.
-use Rattle.std.proofs.Common.{◌≡◌, ℕ, ◌<◌, ◌-◌, List, ◌++◌, length, take, drop, take-append-drop, true, false, Bool, eqb, codes, sym, ap, ◌∙◌, subst, arith, length-append, get_or, true≢false}
+use Rattle.std.proofs.Common.{◌≡◌, ℕ, ◌<◌, ◌-◌, List, ◌++◌, length, take, drop, take-append-drop, true, false, Bool, eqb, codes, sym, ap}
+use Rattle.std.proofs.Common.{◌∙◌, subst, arith, length-append, get_or, true≢false}
 use Rattle.std.specs.Prelude.{IsTrue, ◌↔◌}
 use Rattle.std.specs.List.{ends_with}
 use Rattle.std.proofs.lemmas.Slice.Eq.{bytes_eq-Decides}
@@ -28,7 +29,8 @@ ends_told r name suffix bytes e is = (
 )
 
 -- what is none of the other kinds is Java
-pub left_java : (source : Source) (a b : Bool) → (kind : Kind) × IsOf kind source → (IsTrue a ↔ EndsWith (codes ".scr") source.name) → a ≡ false
+pub left_java : (source : Source) (a b : Bool) → (kind : Kind) × IsOf kind source → (IsTrue a ↔ EndsWith (codes ".scr") source.name) →
+    a ≡ false
     → (IsTrue b ↔ EndsWith (codes ".protocol") source.name) → b ≡ false → IsOf Java source
 left_java source a b (Scribble, is) told isnt told' isnt' = absurd (true≢false (sym (told.1 is) ∙ isnt))
 left_java source a b (Typestates, is) told isnt told' isnt' = absurd (true≢false (sym (told'.1 is) ∙ isnt'))

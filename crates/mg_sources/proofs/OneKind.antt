@@ -40,9 +40,11 @@ differ x y e go = go cc
 
 not_both : (kind other : Kind) (source : Source) → IsOf kind source → IsOf other source → kind ≡ other
 not_both Scribble Scribble source is is' = refl
-not_both Scribble Typestates source is is' = ends_alike Scribble Typestates source is is' (λ e. differ 114 108 e (λ k. absurd (omega (arith, k))))
+not_both Scribble Typestates source is is' = ends_alike Scribble Typestates source is is'
+    (λ e. differ 114 108 e (λ k. absurd (omega (arith, k))))
 not_both Scribble Java source is is' = ends_alike Scribble Java source is is' (λ e. differ 114 97 e (λ k. absurd (omega (arith, k))))
-not_both Typestates Scribble source is is' = ends_alike Typestates Scribble source is is' (λ e. differ 108 114 e (λ k. absurd (omega (arith, k))))
+not_both Typestates Scribble source is is' = ends_alike Typestates Scribble source is is'
+    (λ e. differ 108 114 e (λ k. absurd (omega (arith, k))))
 not_both Typestates Typestates source is is' = refl
 not_both Typestates Java source is is' = ends_alike Typestates Java source is is' (λ e. differ 108 97 e (λ k. absurd (omega (arith, k))))
 not_both Java Scribble source is is' = ends_alike Java Scribble source is is' (λ e. differ 97 114 e (λ k. absurd (omega (arith, k))))
@@ -56,7 +58,8 @@ module _ (source : Source) where
   -- what is refused isn't read
   pub excludes : (part : Part) (fault : Fault) → Reads source part → Refuses source fault → ⊥
   excludes part fault (reading.protocol {local = local} is o) (reading.protocol answer is' o' said) =
-      subst (λ (a : of_protocols.Answer). IsSaidOfProtocol source a fault) (protocols_unique.one_outcome source.number source.bytes answer _ o' o) said
+      subst (λ (a : of_protocols.Answer). IsSaidOfProtocol source a fault) (protocols_unique.one_outcome source.number source.bytes answer _
+      o' o) said
   excludes part fault (reading.protocol is o) (reading.states answer is' o' said) =
       ends_alike Scribble Typestates source is is' (λ e. differ 114 108 e (λ k. absurd (omega (arith, k))))
   excludes part fault (reading.protocol is o) (reading.classes answer is' o' said) =
@@ -64,7 +67,8 @@ module _ (source : Source) where
   excludes part fault (reading.states is o) (reading.protocol answer is' o' said) =
       ends_alike Typestates Scribble source is is' (λ e. differ 108 114 e (λ k. absurd (omega (arith, k))))
   excludes part fault (reading.states is o) (reading.states answer is' o' said) =
-      subst (λ (a : of_typestates.Answer). IsSaidOfTypestate source a fault) (states_unique.one_outcome source.number source.bytes answer _ o' o) said
+      subst (λ (a : of_typestates.Answer). IsSaidOfTypestate source a fault) (states_unique.one_outcome source.number source.bytes answer _
+      o' o) said
   excludes part fault (reading.states is o) (reading.classes answer is' o' said) =
       ends_alike Typestates Java source is is' (λ e. differ 108 97 e (λ k. absurd (omega (arith, k))))
   excludes part fault (reading.classes is o) (reading.protocol answer is' o' said) =
@@ -76,10 +80,12 @@ module _ (source : Source) where
 
   -- a local protocol is neither a typestate nor classes
   pub no_states : (typestate : Typestate) → IsOf Scribble source → Reads source (States typestate) → ⊥
-  no_states typestate is (reading.states is' o) = ends_alike Scribble Typestates source is is' (λ e. differ 114 108 e (λ k. absurd (omega (arith, k))))
+  no_states typestate is (reading.states is' o) = ends_alike Scribble Typestates source is is'
+      (λ e. differ 114 108 e (λ k. absurd (omega (arith, k))))
 
   pub no_classes : (file : File) → IsOf Scribble source → Reads source (Classes file) → ⊥
-  no_classes file is (reading.classes is' o) = ends_alike Scribble Java source is is' (λ e. differ 114 97 e (λ k. absurd (omega (arith, k))))
+  no_classes file is (reading.classes is' o) = ends_alike Scribble Java source is is'
+      (λ e. differ 114 97 e (λ k. absurd (omega (arith, k))))
 
   same_protocol : (l k : LocalTree) → of_protocols.Protocol l ≡ of_protocols.Protocol k → Protocol l ≡ Protocol k
   same_protocol l k e = cc
@@ -94,14 +100,20 @@ module _ (source : Source) where
   pub one_part : (part other : Part) → Reads source part → Reads source other → part ≡ other
   one_part part other (reading.protocol {local = l} is o) (reading.protocol {local = k} is' o') =
       same_protocol l k (protocols_unique.one_outcome source.number source.bytes _ _ o o')
-  one_part part other (reading.protocol is o) (reading.states is' o') = ends_alike Scribble Typestates source is is' (λ e. differ 114 108 e (λ k. absurd (omega (arith, k))))
-  one_part part other (reading.protocol is o) (reading.classes is' o') = ends_alike Scribble Java source is is' (λ e. differ 114 97 e (λ k. absurd (omega (arith, k))))
-  one_part part other (reading.states is o) (reading.protocol is' o') = ends_alike Typestates Scribble source is is' (λ e. differ 108 114 e (λ k. absurd (omega (arith, k))))
+  one_part part other (reading.protocol is o) (reading.states is' o') = ends_alike Scribble Typestates source is is'
+      (λ e. differ 114 108 e (λ k. absurd (omega (arith, k))))
+  one_part part other (reading.protocol is o) (reading.classes is' o') = ends_alike Scribble Java source is is'
+      (λ e. differ 114 97 e (λ k. absurd (omega (arith, k))))
+  one_part part other (reading.states is o) (reading.protocol is' o') = ends_alike Typestates Scribble source is is'
+      (λ e. differ 108 114 e (λ k. absurd (omega (arith, k))))
   one_part part other (reading.states {typestate = t} is o) (reading.states {typestate = u} is' o') =
       same_states t u (states_unique.one_outcome source.number source.bytes _ _ o o')
-  one_part part other (reading.states is o) (reading.classes is' o') = ends_alike Typestates Java source is is' (λ e. differ 108 97 e (λ k. absurd (omega (arith, k))))
-  one_part part other (reading.classes is o) (reading.protocol is' o') = ends_alike Java Scribble source is is' (λ e. differ 97 114 e (λ k. absurd (omega (arith, k))))
-  one_part part other (reading.classes is o) (reading.states is' o') = ends_alike Java Typestates source is is' (λ e. differ 97 108 e (λ k. absurd (omega (arith, k))))
+  one_part part other (reading.states is o) (reading.classes is' o') = ends_alike Typestates Java source is is'
+      (λ e. differ 108 97 e (λ k. absurd (omega (arith, k))))
+  one_part part other (reading.classes is o) (reading.protocol is' o') = ends_alike Java Scribble source is is'
+      (λ e. differ 97 114 e (λ k. absurd (omega (arith, k))))
+  one_part part other (reading.classes is o) (reading.states is' o') = ends_alike Java Typestates source is is'
+      (λ e. differ 97 108 e (λ k. absurd (omega (arith, k))))
   one_part part other (reading.classes {file = f} is o) (reading.classes {file = g} is' o') =
       same_classes f g (classes_unique.one_outcome source.number source.bytes _ _ o o')
 
@@ -144,7 +156,8 @@ module _ (source : Source) where
 
   pub alike : (f g : Fault) → Refuses source f → Refuses source g → AreAlike (fault_line source.name f) (fault_line source.name g)
   alike f g (reading.protocol a is o said) (reading.protocol b is' o' told) =
-      said_protocol b f g (subst (λ (x : of_protocols.Answer). IsSaidOfProtocol source x f) (protocols_unique.one_outcome source.number source.bytes a b o o') said) told
+      said_protocol b f g (subst (λ (x : of_protocols.Answer). IsSaidOfProtocol source x f)
+      (protocols_unique.one_outcome source.number source.bytes a b o o') said) told
   alike f g (reading.protocol a is o said) (reading.states b is' o' told) =
       ends_alike Scribble Typestates source is is' (λ e. differ 114 108 e (λ k. absurd (omega (arith, k))))
   alike f g (reading.protocol a is o said) (reading.classes b is' o' told) =
@@ -152,7 +165,8 @@ module _ (source : Source) where
   alike f g (reading.states a is o said) (reading.protocol b is' o' told) =
       ends_alike Typestates Scribble source is is' (λ e. differ 108 114 e (λ k. absurd (omega (arith, k))))
   alike f g (reading.states a is o said) (reading.states b is' o' told) =
-      said_states b f g (subst (λ (x : of_typestates.Answer). IsSaidOfTypestate source x f) (states_unique.one_outcome source.number source.bytes a b o o') said) told
+      said_states b f g (subst (λ (x : of_typestates.Answer). IsSaidOfTypestate source x f)
+      (states_unique.one_outcome source.number source.bytes a b o o') said) told
   alike f g (reading.states a is o said) (reading.classes b is' o' told) =
       ends_alike Typestates Java source is is' (λ e. differ 108 97 e (λ k. absurd (omega (arith, k))))
   alike f g (reading.classes a is o said) (reading.protocol b is' o' told) =
@@ -160,4 +174,5 @@ module _ (source : Source) where
   alike f g (reading.classes a is o said) (reading.states b is' o' told) =
       ends_alike Java Typestates source is is' (λ e. differ 97 108 e (λ k. absurd (omega (arith, k))))
   alike f g (reading.classes a is o said) (reading.classes b is' o' told) =
-      said_classes b f g (subst (λ (x : of_java.Answer). IsSaidOfJava source x f) (classes_unique.one_outcome source.number source.bytes a b o o') said) told
+      said_classes b f g (subst (λ (x : of_java.Answer). IsSaidOfJava source x f) (classes_unique.one_outcome source.number source.bytes a b
+      o o') said) told

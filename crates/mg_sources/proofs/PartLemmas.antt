@@ -1,5 +1,6 @@
 -- Files that are read one after another.
-use Rattle.std.proofs.Common.{◌≡◌, ◌<◌, ◌≤◌, ◌+◌, ℕ, zero, suc, List, [], ◌∷◌, ◌++◌, length, get_or, take, drop, Option, Some, None, refl, sym, ap, ◌∙◌, subst, arith, drop-cons, add-one, Result, Err}
+use Rattle.std.proofs.Common.{◌≡◌, ◌<◌, ◌≤◌, ◌+◌, ℕ, zero, suc, List, [], ◌∷◌, ◌++◌, length, get_or, take, drop, Option, Some, None, refl}
+use Rattle.std.proofs.Common.{sym, ap, ◌∙◌, subst, arith, drop-cons, add-one, Result, Err}
 use Rattle.std.proofs.lemmas.List.{take_more, take_all}
 use Rattle.mg_text.specs.Row.{Row}
 use Rattle.mg_read.specs.First.{Judged, clean, here, later}
@@ -30,7 +31,8 @@ same_length [] (l ∷ ls) each = absurd each
 same_length (f ∷ fs) [] each = absurd each
 same_length (f ∷ fs) (l ∷ ls) (only, rest) = ap suc (same_length fs ls rest)
 
-pub sources_length : (n : ℕ) (names : List (List ℕ)) (contents : List (List ℕ)) → length names ≡ length contents → length (sources_from n names contents) ≡ length contents
+pub sources_length : (n : ℕ) (names : List (List ℕ)) (contents : List (List ℕ)) → length names ≡ length contents →
+    length (sources_from n names contents) ≡ length contents
 sources_length n [] [] e = refl
 sources_length n [] (b ∷ bs) e = absurd (omega (arith, e))
 sources_length n (x ∷ xs) [] e = absurd (omega (arith, e))
@@ -54,10 +56,12 @@ source_at n (x ∷ xs) (b ∷ bs) (suc i) m name bytes d lt lt' e e' k =
     let count : m ≡ suc n + i = omega (arith, k) in
     source_at (suc n) xs bs i m name bytes d (omega arith) (omega arith) e e' count
 
-pub source_within : (names : List (List ℕ)) (contents : List (List ℕ)) (i : ℕ) → length names ≡ length contents → i < length contents → i < length (sources_from 0 names contents)
+pub source_within : (names : List (List ℕ)) (contents : List (List ℕ)) (i : ℕ) → length names ≡ length contents → i < length contents →
+    i < length (sources_from 0 names contents)
 source_within names contents i same lt = let e = sources_length 0 names contents same in omega (arith, e)
 
-pub source_is : (names : List (List ℕ)) (contents : List (List ℕ)) (i : ℕ) (name : List ℕ) (item bytes : List ℕ) → length names ≡ length contents →
+pub source_is : (names : List (List ℕ)) (contents : List (List ℕ)) (i : ℕ) (name : List ℕ) (item bytes : List ℕ) →
+    length names ≡ length contents →
     i < length contents → name ≡ get_or names i name → item ≡ get_or contents i item → bytes ≡ item
     → source_of i name bytes ≡ get_or (sources_from 0 names contents) i (source_of i name bytes)
 source_is names contents i name item bytes same lt e e' k =
@@ -70,7 +74,8 @@ same_at (x ∷ xs) zero d d' lt = refl
 same_at (x ∷ xs) (suc i) d d' lt = same_at xs i d d' (omega arith)
 
 -- the file of an index, whatever it holds
-pub source_named : (names : List (List ℕ)) (contents : List (List ℕ)) (i : ℕ) (name : List ℕ) → i < length names → i < length (sources_from 0 names contents) → name ≡ get_or names i name
+pub source_named : (names : List (List ℕ)) (contents : List (List ℕ)) (i : ℕ) (name : List ℕ) → i < length names →
+    i < length (sources_from 0 names contents) → name ≡ get_or names i name
     → source_of i name (get_or contents i []) ≡ get_or (sources_from 0 names contents) i (source_of i name (get_or contents i []))
 source_named names contents i name lt lt' e =
     let short : i < length contents = let s = sources_short 0 names contents in omega (arith, s) in
@@ -79,7 +84,8 @@ source_named names contents i name lt lt' e =
 
 -- ---- reading them in a loop
 
-each_push : (files : List Source) (parts : List Part) (f : Source) (l : Part) → EachSpells files parts → Reads f l → EachSpells (files ++ f ∷ []) (parts ++ l ∷ [])
+each_push : (files : List Source) (parts : List Part) (f : Source) (l : Part) → EachSpells files parts → Reads f l →
+    EachSpells (files ++ f ∷ []) (parts ++ l ∷ [])
 each_push [] [] f l each only = (only, tt)
 each_push [] (k ∷ ks) f l each only = absurd each
 each_push (g ∷ gs) [] f l each only = absurd each
@@ -93,7 +99,8 @@ pub record ReadSoFar (files : List Source) (i : ℕ) (parts : List Part) : Type 
 pub read_start : (files : List Source) → ReadSoFar files 0 []
 read_start files = record { left = λ r j. j; each = tt }
 
-module _ {files : List Source} {i : ℕ} {parts : List Part} (so_far : ReadSoFar files i parts) (f : Source) (within : i < length files) (is : f ≡ get_or files i f) where
+module _ {files : List Source} {i : ℕ} {parts : List Part} (so_far : ReadSoFar files i parts) (f : Source) (within : i < length files)
+    (is : f ≡ get_or files i f) where
   next : drop i files ≡ f ∷ drop (suc i) files
   next = drop-cons files i f within ∙ ap (λ (z : Source). z ∷ drop (suc i) files) (sym is)
 
@@ -104,14 +111,17 @@ module _ {files : List Source} {i : ℕ} {parts : List Part} (so_far : ReadSoFar
   read_more l only = record {
     left = λ r j. so_far.left r (subst (λ (z : List Source). Judged IsRefused z r) (sym next)
         (later (λ line. not_refused f l line only) (subst (λ (k : ℕ). Judged IsRefused (drop k files) r) (add-one i) j)));
-    each = subst (λ (z : List Source). EachSpells z (parts ++ l ∷ [])) (sym (take_more files i f within ∙ ap (λ (z : Source). take i files ++ z ∷ []) (sym is)))
+    each = subst (λ (z : List Source). EachSpells z (parts ++ l ∷ []))
+        (sym (take_more files i f within ∙ ap (λ (z : Source). take i files ++ z ∷ []) (sym is)))
         (each_push (take i files) parts f l so_far.each only);
   }
 
 -- a file that can't be read ends it
-pub read_failed : (files : List Source) (i : ℕ) (parts : List Part) → ReadSoFar files i parts → (f : Source) → i < length files → f ≡ get_or files i f → (fault : Stop)
+pub read_failed : (files : List Source) (i : ℕ) (parts : List Part) → ReadSoFar files i parts → (f : Source) → i < length files →
+    f ≡ get_or files i f → (fault : Stop)
     → IsPart f (Err fault) → (answer : Result (Row KeptPart) Stop) → answer ≡ Err fault → AreParts files answer
-read_failed files i parts so_far f within is (stops.Refused line) h answer e = subst (AreParts files) (sym e) (read_refused so_far f within is line h)
+read_failed files i parts so_far f within is (stops.Refused line) h answer e =
+    subst (AreParts files) (sym e) (read_refused so_far f within is line h)
 read_failed files i parts so_far f within is stops.Memory h answer e = subst (AreParts files) (sym e) tt
 
 pub read_end : {files : List Source} {i : ℕ} {parts : List Part} → ReadSoFar files i parts → length files ≤ i → EachSpells files parts

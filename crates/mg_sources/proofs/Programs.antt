@@ -29,27 +29,32 @@ use Rattle.mg_sources.proofs.Together.{spelled_from, not_both, one_program}
 
 -- ---- the ways out
 
-pub parts_failed : (files : List Source) (fault : Stop) (answer : Result KeptSources Stop) → AreParts files (Err fault) → answer ≡ Err fault → IsProgram files answer
+pub parts_failed : (files : List Source) (fault : Stop) (answer : Result KeptSources Stop) → AreParts files (Err fault) → answer ≡ Err fault
+    → IsProgram files answer
 parts_failed files (stops.Refused line) answer h e = subst (IsProgram files) (sym e) (refused h)
 parts_failed files stops.Memory answer h e = subst (IsProgram files) (sym e) tt
 
-pub roles_failed : (files : List Source) (parts : List Part) (fault : Stop) (answer : Result KeptSources Stop) → EachSpells files parts → AreApart files (Err fault)
+pub roles_failed : (files : List Source) (parts : List Part) (fault : Stop) (answer : Result KeptSources Stop) → EachSpells files parts →
+    AreApart files (Err fault)
     → answer ≡ Err fault → IsProgram files answer
-roles_failed files parts (stops.Refused line) answer each h e = subst (IsProgram files) (sym e) (same_role (none_refused files parts each) h)
+roles_failed files parts (stops.Refused line) answer each h e =
+    subst (IsProgram files) (sym e) (same_role (none_refused files parts each) h)
 roles_failed files parts stops.Memory answer each h e = subst (IsProgram files) (sym e) tt
 
 pub memory_failed : (files : List Source) (answer : Result KeptSources Stop) → answer ≡ Err stops.Memory → IsProgram files answer
 memory_failed files answer e = subst (IsProgram files) (sym e) tt
 
 -- as many parts as names
-pub part_count : (names contents : List (List ℕ)) (parts slice : List KeptPart) → length names ≡ length contents → EachSpells (sources names contents) (map part_of parts)
+pub part_count : (names contents : List (List ℕ)) (parts slice : List KeptPart) → length names ≡ length contents →
+    EachSpells (sources names contents) (map part_of parts)
     → slice ≡ parts → length names ≡ length slice
 part_count names contents parts slice same each e =
     let files = sources_length 0 names contents same in
     let trees = same_length (sources names contents) (map part_of parts) each in
     same ∙ sym files ∙ trees ∙ length-map parts part_of ∙ ap length (sym e)
 
-pub of_slice : (files : List Source) (parts slice : List KeptPart) → slice ≡ parts → EachSpells files (map part_of parts) → EachSpells files (map part_of slice)
+pub of_slice : (files : List Source) (parts slice : List KeptPart) → slice ≡ parts → EachSpells files (map part_of parts) →
+    EachSpells files (map part_of slice)
 of_slice files parts slice e each = subst (λ (z : List KeptPart). EachSpells files (map part_of z)) (sym e) each
 
 pub is_program : (names contents : List (List ℕ)) (parts : List Part) (s : Sourced) → EachSpells (sources names contents) parts
@@ -58,19 +63,23 @@ is_program names contents parts s each apart make = record { spell = spelled_fro
 
 -- ---- what follows from its being one answer
 
-pub that_alone : (files : List Source) (answer : Result KeptSources Stop) → IsProgram files answer → (s : Sourced) → AreProgram files s → IsThat s answer
+pub that_alone : (files : List Source) (answer : Result KeptSources Stop) → IsProgram files answer → (s : Sourced) → AreProgram files s →
+    IsThat s answer
 that_alone files (Ok k) h s are = one_program files (sourced_of k) s h are
 that_alone files (Err (stops.Refused line)) h s are = not_both are h
 that_alone files (Err stops.Memory) h s are = tt
 
-pub no_program : (files : List Source) (answer : Result KeptSources Stop) → IsProgram files answer → (line : List ℕ) → Refusal files line → OnOk answer ⊥
+pub no_program : (files : List Source) (answer : Result KeptSources Stop) → IsProgram files answer → (line : List ℕ) → Refusal files line →
+    OnOk answer ⊥
 no_program files (Ok k) h line r = not_both h r
 no_program files (Err e) h line r = tt
 
 -- ---- what a part stands for is appended
 
-pub adds_typestate : (r : Result Unit Memory) (number : ℕ) (typestate : Typestate) (before after : KeptSources) → OnOk r (after.files ≡ before.files)
-    → OnOk r (after.typestates.items ≡ before.typestates.items ++ typestate ∷ []) → OnOk r (after.origins.items ≡ before.origins.items ++ number ∷ [])
+pub adds_typestate : (r : Result Unit Memory) (number : ℕ) (typestate : Typestate) (before after : KeptSources) →
+    OnOk r (after.files ≡ before.files)
+    → OnOk r (after.typestates.items ≡ before.typestates.items ++ typestate ∷ []) →
+    OnOk r (after.origins.items ≡ before.origins.items ++ number ∷ [])
     → OnOk r (Appends number (States typestate) (sourced_of before) (sourced_of after))
 adds_typestate (Err e) number typestate before after f t o = tt
 adds_typestate (Ok x) number typestate before after f t o = record {
@@ -82,8 +91,10 @@ adds_typestate (Ok x) number typestate before after f t o = record {
   origins = o;
 }
 
-pub adds_file : (r : Result Unit Memory) (number : ℕ) (file : KeptFile) (before after : KeptSources) → OnOk r (after.files.items ≡ before.files.items ++ file ∷ [])
-    → after.typestates ≡ before.typestates → after.origins ≡ before.origins → OnOk r (Appends number (Classes (file_of file)) (sourced_of before) (sourced_of after))
+pub adds_file : (r : Result Unit Memory) (number : ℕ) (file : KeptFile) (before after : KeptSources) →
+    OnOk r (after.files.items ≡ before.files.items ++ file ∷ [])
+    → after.typestates ≡ before.typestates → after.origins ≡ before.origins →
+    OnOk r (Appends number (Classes (file_of file)) (sourced_of before) (sourced_of after))
 adds_file (Err e) number file before after f t o = tt
 adds_file (Ok x) number file before after f t o = record {
   files = file_of file ∷ [];
@@ -95,11 +106,13 @@ adds_file (Ok x) number file before after f t o = record {
 }
 
 -- the files of an API were appended, and then the typestate
-pub adds_protocol : (r : Result Unit Memory) (number : ℕ) (local : LocalTree) (typestate : Typestate) (api : List ApiFile) (before after : KeptSources) (files : Row KeptFile)
+pub adds_protocol : (r : Result Unit Memory) (number : ℕ) (local : LocalTree) (typestate : Typestate) (api : List ApiFile)
+    (before after : KeptSources) (files : Row KeptFile)
     → typestate ≡ typestate_of local → IsApi local (map written_of api)
     → map file_of files.items ≡ map file_of before.files.items ++ map (λ f. f.tree) (map written_of api)
     → OnOk r (after.files ≡ files) → OnOk r (after.typestates.items ≡ before.typestates.items ++ typestate ∷ [])
-    → OnOk r (after.origins.items ≡ before.origins.items ++ number ∷ []) → OnOk r (Appends number (Protocol local) (sourced_of before) (sourced_of after))
+    → OnOk r (after.origins.items ≡ before.origins.items ++ number ∷ []) →
+    OnOk r (Appends number (Protocol local) (sourced_of before) (sourced_of after))
 adds_protocol (Err e) number local typestate api before after files is made grown f t o = tt
 adds_protocol (Ok x) number local typestate api before after files is made grown f t o = record {
   files = map (λ f. f.tree) (map written_of api);

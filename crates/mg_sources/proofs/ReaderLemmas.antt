@@ -37,7 +37,8 @@ syntax_said s place f within e = (
   subst (IsWithin s.number s.bytes) (sym (ap (λ (z : Fault). z.place) (same_fault _ f e))) within,
 )
 
-protocol_said : (s : Source) (fault : ScrFault) (f : Fault) → of_protocols.HasPlace s.number s.bytes fault → said_of_protocol fault ≡ Some f → (answer : of_protocols.Answer) × (of_protocols.fault_answer fault ≡ Some answer) × IsSaidOfProtocol s answer f
+protocol_said : (s : Source) (fault : ScrFault) (f : Fault) → of_protocols.HasPlace s.number s.bytes fault → said_of_protocol fault ≡ Some f
+    → (answer : of_protocols.Answer) × (of_protocols.fault_answer fault ≡ Some answer) × IsSaidOfProtocol s answer f
 protocol_said s (protocols.TooLarge place) f h e = (_, refl, same_fault _ f e)
 protocol_said s (protocols.BadByte place) f h e = (_, refl, same_fault _ f e)
 protocol_said s (protocols.Unsupported place name) f h e = (_, refl, same_fault _ f e)
@@ -64,7 +65,8 @@ protocol_said s (protocols.RolesDiffer place name) f h e = (_, refl, same_fault 
 protocol_said s (protocols.NotLast place name) f h e = (_, refl, same_fault _ f e)
 protocol_said s (protocols.StartsWithDo place name) f h e = (_, refl, same_fault _ f e)
 
-typestate_said : (s : Source) (fault : TsFault) (f : Fault) → of_typestates.HasPlace s.number s.bytes fault → said_of_typestate fault ≡ Some f →
+typestate_said : (s : Source) (fault : TsFault) (f : Fault) → of_typestates.HasPlace s.number s.bytes fault → said_of_typestate fault
+    ≡ Some f →
     (answer : of_typestates.Answer) × (of_typestates.answer_of (Err fault) ≡ Some answer) × IsSaidOfTypestate s answer f
 typestate_said s (typestates.TooLarge place) f h e = (_, refl, same_fault _ f e)
 typestate_said s (typestates.BadByte place) f h e = (_, refl, same_fault _ f e)
@@ -77,7 +79,8 @@ typestate_said s (typestates.DuplicateLabel place name) f h e = (_, refl, same_f
 typestate_said s (typestates.ReservedEnd place name) f h e = (_, refl, same_fault _ f e)
 typestate_said s typestates.Memory f h e = not_said f e
 
-java_said : (s : Source) (fault : JavaFault) (f : Fault) → of_java.HasPlace s.number s.bytes fault → said_of_java fault ≡ Some f → (answer : of_java.Answer) × (of_java.fault_answer fault ≡ Some answer) × IsSaidOfJava s answer f
+java_said : (s : Source) (fault : JavaFault) (f : Fault) → of_java.HasPlace s.number s.bytes fault → said_of_java fault ≡ Some f →
+    (answer : of_java.Answer) × (of_java.fault_answer fault ≡ Some answer) × IsSaidOfJava s answer f
 java_said s (java.TooLarge place) f h e = (_, refl, same_fault _ f e)
 java_said s (java.BadByte place) f h e = (_, refl, same_fault _ f e)
 java_said s (java.OpenComment place) f h e = (_, refl, same_fault _ f e)
@@ -90,8 +93,10 @@ java_said s java.Memory f h e = not_said f e
 
 -- the line of a fault is that of a refusal
 
-pub protocol_refused : (s : Source) (fault : ScrFault) (stop : Stop) → IsOf Scribble s → of_protocols.HasPlace s.number s.bytes fault → IsRefusal s.name (said_of_protocol fault) stop
-    → ((answer : of_protocols.Answer) → of_protocols.fault_answer fault ≡ Some answer → of_protocols.Outcome s.number s.bytes answer) → IsProtocol s (Err stop)
+pub protocol_refused : (s : Source) (fault : ScrFault) (stop : Stop) → IsOf Scribble s → of_protocols.HasPlace s.number s.bytes fault →
+    IsRefusal s.name (said_of_protocol fault) stop
+    → ((answer : of_protocols.Answer) → of_protocols.fault_answer fault ≡ Some answer → of_protocols.Outcome s.number s.bytes answer) →
+    IsProtocol s (Err stop)
 protocol_refused s fault (stops.Refused line) is placed (f, told, said) answered =
     let a = protocol_said s fault f placed told in
     (f, reading.protocol a.0 is (answered a.0 a.1) a.2, said)
@@ -102,14 +107,17 @@ pub part_refused : (s : Source) (stop : Stop) → IsProtocol s (Err stop) → Is
 part_refused s (stops.Refused line) h = h
 part_refused s stops.Memory h = tt
 
-pub states_refused : (s : Source) (fault : TsFault) (stop : Stop) → IsOf Typestates s → of_typestates.HasPlace s.number s.bytes fault → IsRefusal s.name (said_of_typestate fault) stop
-    → ((answer : of_typestates.Answer) → of_typestates.answer_of (Err fault) ≡ Some answer → of_typestates.Outcome s.number s.bytes answer) → IsPart s (Err stop)
+pub states_refused : (s : Source) (fault : TsFault) (stop : Stop) → IsOf Typestates s → of_typestates.HasPlace s.number s.bytes fault →
+    IsRefusal s.name (said_of_typestate fault) stop
+    → ((answer : of_typestates.Answer) → of_typestates.answer_of (Err fault) ≡ Some answer → of_typestates.Outcome s.number s.bytes answer)
+    → IsPart s (Err stop)
 states_refused s fault (stops.Refused line) is placed (f, told, said) answered =
     let a = typestate_said s fault f placed told in
     (f, reading.states a.0 is (answered a.0 a.1) a.2, said)
 states_refused s fault stops.Memory is placed said answered = tt
 
-pub classes_refused : (s : Source) (fault : JavaFault) (stop : Stop) → IsOf Java s → of_java.HasPlace s.number s.bytes fault → IsRefusal s.name (said_of_java fault) stop
+pub classes_refused : (s : Source) (fault : JavaFault) (stop : Stop) → IsOf Java s → of_java.HasPlace s.number s.bytes fault →
+    IsRefusal s.name (said_of_java fault) stop
     → ((answer : of_java.Answer) → of_java.fault_answer fault ≡ Some answer → of_java.Outcome s.number s.bytes answer) → IsPart s (Err stop)
 classes_refused s fault (stops.Refused line) is placed (f, told, said) answered =
     let a = java_said s fault f placed told in
@@ -117,7 +125,8 @@ classes_refused s fault (stops.Refused line) is placed (f, told, said) answered 
 classes_refused s fault stops.Memory is placed said answered = tt
 
 -- a refusal by what was told of a fault is one by what is said of it
-pub told_refused : (file : List ℕ) (told said : Option Fault) → told ≡ said → (stop : Stop) → IsRefusal file told stop → IsRefusal file said stop
+pub told_refused : (file : List ℕ) (told said : Option Fault) → told ≡ said → (stop : Stop) → IsRefusal file told stop →
+    IsRefusal file said stop
 told_refused file told said e stop h = subst (λ (z : Option Fault). IsRefusal file z stop) e h
 
 -- the refusal by a fault that was told

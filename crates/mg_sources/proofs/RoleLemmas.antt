@@ -1,5 +1,7 @@
 -- Which of the files are protocols of one role: roles that are put into a set, one after another.
-use Rattle.std.proofs.Common.{◌≡◌, ◌↔◌, ◌<◌, ◌≤◌, ◌+◌, ℕ, zero, suc, Bool, true, false, not, List, [], ◌∷◌, ◌++◌, map, length, get_or, take, Contains, IsTrue, String, Some, None, Err, refl, sym, ap, ◌∙◌, subst, arith, true≢false, Decides, cond, ⊎_elim, codes}
+use Rattle.std.proofs.Common.{◌≡◌, ◌↔◌, ◌<◌, ◌≤◌, ◌+◌, ℕ, zero, suc, Bool, true, false, not, List, [], ◌∷◌, ◌++◌, map, length, get_or, take}
+use Rattle.std.proofs.Common.{Contains, IsTrue, String, Some, None, Err, refl, sym, ap, ◌∙◌, subst, arith, true≢false, Decides, cond}
+use Rattle.std.proofs.Common.{⊎_elim, codes}
 use Rattle.std.proofs.lemmas.List.{take_more, length-map, append-nil}
 use Rattle.std.proofs.lemmas.List.Elements.{Contains-push, Contains-push_cases, Contains-append_left, Contains-append_right}
 use Rattle.std.proofs.lemmas.Slice.Eq.{bytes_eq-Decides}
@@ -41,22 +43,26 @@ each_take (suc i) [] (l ∷ ls) each = absurd each
 each_take (suc i) (f ∷ fs) [] each = absurd each
 each_take (suc i) (f ∷ fs) (l ∷ ls) (first, rest) = (first, each_take i fs ls rest)
 
-each_at : (i : ℕ) (files : List Source) (parts : List Part) (f : Source) (l : Part) → EachSpells files parts → i < length files → Reads (get_or files i f) (get_or parts i l)
+each_at : (i : ℕ) (files : List Source) (parts : List Part) (f : Source) (l : Part) → EachSpells files parts → i < length files →
+    Reads (get_or files i f) (get_or parts i l)
 each_at i [] parts f l each lt = absurd (omega arith)
 each_at i (g ∷ gs) [] f l each lt = absurd each
 each_at zero (g ∷ gs) (k ∷ ks) f l (first, rest) lt = first
 each_at (suc i) (g ∷ gs) (k ∷ ks) f l (first, rest) lt = each_at i gs ks f l rest (omega arith)
 
 -- a role of the parts is that of a file
-behind : (f : Source) (fs : List Source) (role : List ℕ) → (e : Source) × Contains fs e × IsOfRole e role → (e : Source) × Contains (f ∷ fs) e × IsOfRole e role
+behind : (f : Source) (fs : List Source) (role : List ℕ) → (e : Source) × Contains fs e × IsOfRole e role →
+    (e : Source) × Contains (f ∷ fs) e × IsOfRole e role
 behind f fs role found = (found.0, Contains-append_right (f ∷ []) fs found.0 found.1, found.2)
 
-file_of_role : (files : List Source) (parts : List Part) (role : List ℕ) → EachSpells files parts → Contains (roles parts) role → (e : Source) × Contains files e × IsOfRole e role
+file_of_role : (files : List Source) (parts : List Part) (role : List ℕ) → EachSpells files parts → Contains (roles parts) role →
+    (e : Source) × Contains files e × IsOfRole e role
 file_of_role [] [] role each (k, lt, is) = absurd (omega arith)
 file_of_role [] (l ∷ ls) role each has = absurd each
 file_of_role (f ∷ fs) [] role each has = absurd each
 file_of_role (f ∷ fs) (Protocol l ∷ ls) role (first, rest) (zero, lt, is) = (f, (zero, omega arith, refl), (l, first, is))
-file_of_role (f ∷ fs) (Protocol l ∷ ls) role (first, rest) (suc k, lt, is) = behind f fs role (file_of_role fs ls role rest (k, omega arith, is))
+file_of_role (f ∷ fs) (Protocol l ∷ ls) role (first, rest) (suc k, lt, is) =
+    behind f fs role (file_of_role fs ls role rest (k, omega arith, is))
 file_of_role (f ∷ fs) (States t ∷ ls) role (first, rest) has = behind f fs role (file_of_role fs ls role rest has)
 file_of_role (f ∷ fs) (Classes g ∷ ls) role (first, rest) has = behind f fs role (file_of_role fs ls role rest has)
 
@@ -71,12 +77,15 @@ no_protocol_classes l f e = absurd cc
 
 -- the role of a file that spells this part
 role_here : (f : Source) (part : Part) (role : List ℕ) → Reads f part → IsOfRole f role → role_in part ≡ role ∷ []
-role_here f (Protocol l) role only (local, reads, me) = ap (λ (z : List ℕ). z ∷ []) (ap (λ (z : LocalTree). z.me) (sym (same_local local l (one_part f (Protocol local) (Protocol l) reads only))) ∙ me)
+role_here f (Protocol l) role only (local, reads, me) =
+    ap (λ (z : List ℕ). z ∷ []) (ap (λ (z : LocalTree). z.me)
+    (sym (same_local local l (one_part f (Protocol local) (Protocol l) reads only))) ∙ me)
 role_here f (States t) role only (local, reads, me) = no_protocol_states local t (one_part f (Protocol local) (States t) reads only)
 role_here f (Classes g) role only (local, reads, me) = no_protocol_classes local g (one_part f (Protocol local) (Classes g) reads only)
 
 -- and the other way round
-role_of_file : (files : List Source) (parts : List Part) (e : Source) (role : List ℕ) → EachSpells files parts → Contains files e → IsOfRole e role → Contains (roles parts) role
+role_of_file : (files : List Source) (parts : List Part) (e : Source) (role : List ℕ) → EachSpells files parts → Contains files e →
+    IsOfRole e role → Contains (roles parts) role
 role_of_file [] parts e role each (k, lt, is) of = absurd (omega arith)
 role_of_file (f ∷ fs) [] e role each has of = absurd each
 role_of_file (f ∷ fs) (l ∷ ls) e role (first, rest) (zero, lt, is) of =
@@ -107,7 +116,8 @@ false_from_not true e = sym e
 false_from_not false e = refl
 
 -- what stands in a list that got one more name
-has_pushed : (t b c : Bool) (names : List (List ℕ)) (name q : List ℕ) → Decides t (name ≡ q) → (IsTrue b ↔ Contains names q) → c ≡ cond t true b → IsTrue c ↔ Contains (names ++ name ∷ []) q
+has_pushed : (t b c : Bool) (names : List (List ℕ)) (name q : List ℕ) → Decides t (name ≡ q) → (IsTrue b ↔ Contains names q) →
+    c ≡ cond t true b → IsTrue c ↔ Contains (names ++ name ∷ []) q
 has_pushed true b c names name q d h e = (λ _. subst (Contains (names ++ name ∷ [])) (d.0 refl) (Contains-push names name), λ _. e)
 has_pushed false b c names name q d h e = (
   λ has. Contains-append_left names (name ∷ []) q (h.0 (sym e ∙ has)),
@@ -123,7 +133,8 @@ pub nothing_yet : {A S : Type 0} (set : HashSet (String A) S) → set.keys ≡ [
 nothing_yet set e = λ q. grind (arith, common_steps, e)
 
 -- the part at an index
-mapped_at : (parts : List KeptPart) (i : ℕ) (l : KeptPart) (d : Part) → i < length parts → l ≡ get_or parts i l → get_or (map part_of parts) i d ≡ part_of l
+mapped_at : (parts : List KeptPart) (i : ℕ) (l : KeptPart) (d : Part) → i < length parts → l ≡ get_or parts i l →
+    get_or (map part_of parts) i d ≡ part_of l
 mapped_at [] i l d lt e = absurd (omega arith)
 mapped_at (k ∷ ks) zero l d lt e = ap part_of (sym e)
 mapped_at (k ∷ ks) (suc i) l d lt e = mapped_at ks i l d (omega arith) e
@@ -131,7 +142,8 @@ mapped_at (k ∷ ks) (suc i) l d lt e = mapped_at ks i l d (omega arith) e
 -- a step of the loop: the part at an index is judged
 module _ (names : List (List ℕ)) (contents : List (List ℕ)) (parts : List KeptPart) (i : ℕ) (same : length names ≡ length parts) where
   -- the roles of one more part
-  pub roles_next : i < length parts → (l : KeptPart) → l ≡ get_or parts i l → roles (take (i + 1) (map part_of parts)) ≡ roles (take i (map part_of parts)) ++ role_in (part_of l)
+  pub roles_next : i < length parts → (l : KeptPart) → l ≡ get_or parts i l → roles (take (i + 1) (map part_of parts)) ≡ roles
+      (take i (map part_of parts)) ++ role_in (part_of l)
   roles_next lt l is =
       let short : i < length (map part_of parts) = subst (λ (k : ℕ). i < k) (sym (length-map parts part_of)) lt in
       let at : part_of l ≡ get_or (map part_of parts) i (part_of l) = sym (mapped_at parts i l (part_of l) lt is) in
@@ -143,10 +155,12 @@ module _ (names : List (List ℕ)) (contents : List (List ℕ)) (parts : List Ke
     abbrev count : length (sources names contents) ≡ length parts
     count = same_length (sources names contents) (map part_of parts) each ∙ length-map parts part_of
 
-    pub end_of : Left SharesRole (sources names contents) i → length parts ≤ i → Judged SharesRole (with_earlier (sources names contents)) None
+    pub end_of : Left SharesRole (sources names contents) i → length parts ≤ i → Judged SharesRole (with_earlier (sources names contents))
+        None
     end_of left h = left_end SharesRole left (omega (arith, count))
 
-    module _ (left : Left SharesRole (sources names contents) i) (lt : i < length parts) (name : List ℕ) (is : name ≡ get_or names i name) (l : KeptPart) (is' : l ≡ get_or parts i l) where
+    module _ (left : Left SharesRole (sources names contents) i) (lt : i < length parts) (name : List ℕ) (is : name ≡ get_or names i name)
+        (l : KeptPart) (is' : l ≡ get_or parts i l) where
       abbrev file : Source
       file = source_of i name (get_or contents i [])
 
@@ -160,7 +174,8 @@ module _ (names : List (List ℕ)) (contents : List (List ℕ)) (parts : List Ke
       only =
           let at : get_or (map part_of parts) i (part_of l) ≡ part_of l = mapped_at parts i l (part_of l) lt is' in
           subst (λ (z : Source). Reads z (part_of l)) (sym file_is)
-          (subst (λ (z : Part). Reads (get_or (sources names contents) i file) z) at (each_at i (sources names contents) (map part_of parts) file (part_of l) each within))
+          (subst (λ (z : Part). Reads (get_or (sources names contents) i file) z) at (each_at i (sources names contents) (map part_of parts)
+          file (part_of l) each within))
 
       abbrev before : EachSpells (take i (sources names contents)) (take i (map part_of parts))
       before = each_take i (sources names contents) (map part_of parts) each
@@ -168,34 +183,49 @@ module _ (names : List (List ℕ)) (contents : List (List ℕ)) (parts : List Ke
       -- a part that has no role shares none
       pub without_role : role_in (part_of l) ≡ [] → Left SharesRole (sources names contents) (i + 1)
       without_role none =
-          left_later SharesRole left file within file_is (λ line h. no_cons h.role (sym none ∙ role_here file (part_of l) h.role only h.of_role))
+          left_later SharesRole left file within file_is
+          (λ line h. no_cons h.role (sym none ∙ role_here file (part_of l) h.role only h.of_role))
 
       module _ {A S : Type 0} (set : HashSet (String A) S) (exact : HasExactly set (roles (take i (map part_of parts)))) (role : List ℕ)
           (is_role : role_in (part_of l) ≡ role ∷ []) (key : List ℕ) (key_is : key ≡ role) where
-        pub shared : not (contains_text set key) ≡ false → (line : List ℕ) → line ≡ fault_line name (fault_at (codes "SameRole") (start_of i) role)
+        pub shared : not (contains_text set key) ≡ false → (line : List ℕ) →
+            line ≡ fault_line name (fault_at (codes "SameRole") (start_of i) role)
             → Judged SharesRole (with_earlier (sources names contents)) (Some line)
         shared old line said =
             let has = (exact role).0 (ap (contains_text set) (sym key_is) ∙ true_from_not (contains_text set key) old) in
             let found = file_of_role (take i (sources names contents)) (take i (map part_of parts)) role before has in
             left_here SharesRole left file within file_is line
-            (record { role = role; of_role = is_of_role file (part_of l) role only is_role; earlier = found.0; stands = found.1; also = found.2; said = said })
+            (record {
+              role = role;
+              of_role = is_of_role file (part_of l) role only is_role;
+              earlier = found.0;
+              stands = found.1;
+              also =
+                  found.2;
+              said = said;
+            })
 
         pub apart : not (contains_text set key) ≡ true → Left SharesRole (sources names contents) (i + 1)
         apart new = left_later SharesRole left file within file_is refuted where
           refuted : (line : List ℕ) → SharesRole (take i (sources names contents), file) line → ⊥
           refuted line h =
-              let role_is : h.role ≡ key = heads h.role role (sym (role_here file (part_of l) h.role only h.of_role) ∙ is_role) ∙ sym key_is in
-              let has = role_of_file (take i (sources names contents)) (take i (map part_of parts)) h.earlier h.role before h.stands h.also in
+              let role_is : h.role ≡ key = heads h.role role (sym (role_here file (part_of l) h.role only h.of_role) ∙ is_role) ∙
+              sym key_is in
+              let has = role_of_file (take i (sources names contents)) (take i (map part_of parts)) h.earlier h.role before h.stands h.also
+              in
               true≢false (sym ((exact h.role).1 has) ∙ ap (contains_text set) role_is ∙ false_from_not (contains_text set key) new)
 
 -- the set got the role of the part at an index
-pub exact_next : {A S : Type 0} (set set' : HashSet (String A) S) (before after : List (List ℕ)) (key : List ℕ) → after ≡ before ++ key ∷ [] → HasExactly set before
+pub exact_next : {A S : Type 0} (set set' : HashSet (String A) S) (before after : List (List ℕ)) (key : List ℕ) → after ≡ before ++ key ∷ []
+    → HasExactly set before
     → ((q : List ℕ) → contains_text set' q ≡ cond (bytes_eq key q) true (contains_text set q)) → HasExactly set' after
 exact_next set set' before after key grown exact e =
-    subst (HasExactly set') (sym grown) (λ q. has_pushed (bytes_eq key q) (contains_text set q) (contains_text set' q) before key q (bytes_eq-Decides key q) (exact q) (e q))
+    subst (HasExactly set') (sym grown) (λ q. has_pushed (bytes_eq key q) (contains_text set q) (contains_text set' q) before key q
+    (bytes_eq-Decides key q) (exact q) (e q))
 
 -- the refusal with this line
-pub apart_refused : (files : List Source) (line : List ℕ) (stop : Stop) → ((l : List ℕ) → l ≡ line → Judged SharesRole (with_earlier files) (Some l)) → IsStop line stop
+pub apart_refused : (files : List Source) (line : List ℕ) (stop : Stop) →
+    ((l : List ℕ) → l ≡ line → Judged SharesRole (with_earlier files) (Some l)) → IsStop line stop
     → AreApart files (Err stop)
 apart_refused files line (stops.Refused l) f h = f l h
 apart_refused files line stops.Memory f h = tt

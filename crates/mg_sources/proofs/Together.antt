@@ -25,7 +25,8 @@ use Rattle.mg_sources.proofs.OneKind.{one_part}
 use Rattle.mg_sources.proofs.PartLemmas.{not_refused}
 
 -- what files spell, one after another, is what they spell together
-pub spelled_from : (n : ℕ) (names contents : List (List ℕ)) (parts : List Part) (sourced : Sourced) → EachSpells (sources_from n names contents) parts
+pub spelled_from : (n : ℕ) (names contents : List (List ℕ)) (parts : List Part) (sourced : Sourced) →
+    EachSpells (sources_from n names contents) parts
     → Make n parts sourced → Spell (sources_from n names contents) sourced
 spelled_from n [] contents [] sourced each answers.none = together.none
 spelled_from n [] contents (l ∷ ls) sourced each make = absurd each
@@ -47,7 +48,8 @@ not_both are (together.same_role nobody h) = no_both are.apart h
 -- ---- there is one program
 
 -- the first doings are some doings
-one_first : (me : Name) {seen others : List Name} {ds es firsts gs : List Doing} → Firsts me seen ds firsts → Firsts me others es gs → seen ≡ others → ds ≡ es
+one_first : (me : Name) {seen others : List Name} {ds es firsts gs : List Doing} → Firsts me seen ds firsts → Firsts me others es gs →
+    seen ≡ others → ds ≡ es
     → firsts ≡ gs
 one_first me doing.none doing.none e k = refl
 one_first me doing.none (doing.again c more) e k = absurd (let no : ⊥ = cc in no)
@@ -71,7 +73,8 @@ one_first me (doing.first {doing = d} {more = ds} new more) (doing.first {doing 
 pub one_api : (local : LocalTree) (a b : List ApiText) → IsApi local a → IsApi local b → a ≡ b
 one_api local a b p q =
     p.are_files
-    ∙ ap (λ (z : List Doing). class_file (start_of local.file) local.me z ∷ enum_files (start_of local.file) local.me (all_doings (protocol_of local)))
+    ∙ ap (λ (z : List Doing). class_file (start_of local.file) local.me z ∷ enum_files (start_of local.file) local.me
+    (all_doings (protocol_of local)))
     (one_first local.me p.are_firsts q.are_firsts refl refl)
     ∙ sym q.are_files
 
@@ -79,7 +82,8 @@ record Alike (fs gs : List File) (ts us : List Typestate) : Type 0 where
   files : fs ≡ gs
   typestates : ts ≡ us
 
-one_standing : {part other : Part} {fs gs : List File} {ts us : List Typestate} → Stands part fs ts → Stands other gs us → part ≡ other → Alike fs gs ts us
+one_standing : {part other : Part} {fs gs : List File} {ts us : List Typestate} → Stands part fs ts → Stands other gs us → part ≡ other →
+    Alike fs gs ts us
 one_standing (together.protocol {local = l} {api = a} p) (together.protocol {local = k} {api = b} q) e =
     let same : l ≡ k = cc in
     let apis : a ≡ b = one_api k a b (subst (λ (z : LocalTree). IsApi z a) same p) q in
@@ -99,7 +103,8 @@ one_spelling : {files others : List Source} {s t : Sourced} → Spell files s �
 one_spelling together.none together.none e = refl
 one_spelling together.none (together.one r st more) e = absurd (let no : ⊥ = cc in no)
 one_spelling (together.one r st more) together.none e = absurd (let no : ⊥ = cc in no)
-one_spelling (together.one {source = f} {sources = fs} {part = p} r st more) (together.one {source = g} {sources = gs} {part = q} r' st' more') e =
+one_spelling (together.one {source = f} {sources = fs} {part = p} r st more)
+    (together.one {source = g} {sources = gs} {part = q} r' st' more') e =
     let same : f ≡ g = cc in
     let rest : fs ≡ gs = cc in
     let part : p ≡ q = one_part g p q (subst (λ (z : Source). Reads z p) same r) r' in
@@ -136,7 +141,8 @@ made_start all s e = record {
   count = omega arith;
 }
 
-pub made_more : {all : List Part} {number next : ℕ} {part : Part} {left : List Part} {before after : Sourced} → MadeSoFar all number (part ∷ left) before
+pub made_more : {all : List Part} {number next : ℕ} {part : Part} {left : List Part} {before after : Sourced} →
+    MadeSoFar all number (part ∷ left) before
     → next ≡ suc number → Appends number part before after → MadeSoFar all next left after
 made_more {all} {number} {next} {part} {left} {before} {after} m is a = record {
   makes = λ rest more.
@@ -144,11 +150,13 @@ made_more {all} {number} {next} {part} {left} {before} {after} m is a = record {
       let same : joined before (adding number a.files a.typestates rest) ≡ joined after rest =
       λ i. record {
         program = record {
-          files = (sym (append_assoc before.program.files a.files rest.program.files) ∙ ap (λ (z : List File). z ++ rest.program.files) (sym a.grown)) i;
+          files = (sym (append_assoc before.program.files a.files rest.program.files) ∙ ap (λ (z : List File). z ++ rest.program.files)
+              (sym a.grown)) i;
           typestates = (sym (append_assoc before.program.typestates a.typestates rest.program.typestates)
               ∙ ap (λ (z : List Typestate). z ++ rest.program.typestates) (sym a.grown_too)) i;
         };
-        origins = (sym (append_assoc before.origins (map (λ t. number) a.typestates) rest.origins) ∙ ap (λ (z : List ℕ). z ++ rest.origins) (sym a.origins)) i;
+        origins = (sym (append_assoc before.origins (map (λ t. number) a.typestates) rest.origins) ∙ ap (λ (z : List ℕ). z ++ rest.origins)
+            (sym a.origins)) i;
       } in
       subst (Make 0 all) same made;
   count = let c = m.count in omega (arith, c, is);

@@ -20,7 +20,8 @@ fault_name (c ∷ cs) = codes " " ++ c ∷ cs
 -- a fault of a file
 abbrev pub fault_line : List ℕ → Fault → List ℕ
 fault_line file fault =
-    file ++ codes ":" ++ decimal fault.place.line ++ codes ":" ++ decimal fault.place.column ++ codes ": " ++ fault.kind ++ fault_name fault.name ++ 10 ∷ []
+    file ++ codes ":" ++ decimal fault.place.line ++ codes ":" ++ decimal fault.place.column ++ codes ": " ++ fault.kind
+    ++ fault_name fault.name ++ 10 ∷ []
 
 -- two lines that say Syntax of one file, at places that are left open
 pub record SaySyntax (line other : List ℕ) : Type 0 where

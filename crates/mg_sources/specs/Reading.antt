@@ -18,8 +18,10 @@ pub data Part : Type 0 where
   Classes : File → Part
 
 pub data Reads (source : Source) : Part → Type 0 where
-  protocol : {local : LocalTree} → IsOf Scribble source → scribble.Outcome source.number source.bytes (scribble.Protocol local) → Reads source (Protocol local)
-  states : {typestate : Typestate} → IsOf Typestates source → typestates.Outcome source.number source.bytes (typestates.Read typestate) → Reads source (States typestate)
+  protocol : {local : LocalTree} → IsOf Scribble source → scribble.Outcome source.number source.bytes (scribble.Protocol local) →
+      Reads source (Protocol local)
+  states : {typestate : Typestate} → IsOf Typestates source → typestates.Outcome source.number source.bytes (typestates.Read typestate) →
+      Reads source (States typestate)
   classes : {file : File} → IsOf Java source → java.Outcome source.number source.bytes (java.Read file) → Reads source (Classes file)
 
 -- What is said of an answer that is a fault of a file; of the place of Syntax no more is said than that it is one of the file.

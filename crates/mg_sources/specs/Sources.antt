@@ -15,7 +15,8 @@ use Rattle.mg_sources.specs.Reading.{Part, Protocol, States, Classes, Reads, Ref
 -- the Java files and the typestates that a part of a program stands for
 pub data Stands : Part → List File → List Typestate → Type 0 where
   -- a protocol: its API class and then its enums, and its typestate
-  protocol : {local : LocalTree} {api : List ApiText} → IsApi local api → Stands (Protocol local) (map (λ f. f.tree) api) (typestate_of local ∷ [])
+  protocol : {local : LocalTree} {api : List ApiText} → IsApi local api → Stands (Protocol local) (map (λ f. f.tree) api)
+      (typestate_of local ∷ [])
   states : {typestate : Typestate} → Stands (States typestate) [] (typestate ∷ [])
   classes : {file : File} → Stands (Classes file) (file ∷ []) []
 
@@ -38,7 +39,8 @@ adding number files typestates s = record {
 pub data Spell : List Source → Sourced → Type 0 where
   none : Spell [] empty
   one : {source : Source} {sources : List Source} {part : Part} {files : List File} {typestates : List Typestate} {rest : Sourced} →
-      Reads source part → Stands part files typestates → Spell sources rest → Spell (source ∷ sources) (adding source.number files typestates rest)
+      Reads source part → Stands part files typestates → Spell sources rest →
+      Spell (source ∷ sources) (adding source.number files typestates rest)
 
 -- the file is refused by its reader, and this is the line of its fault
 abbrev pub IsRefused : Source → List ℕ → Type 0

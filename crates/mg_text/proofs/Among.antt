@@ -15,5 +15,8 @@ any-flip text (w ∷ ws) =
 
 pub any-Contains : (text : Name) (words : List Name) (r : Bool) → r ≡ list_any (λ w. bytes_eq w text) words → IsTrue r ↔ Contains words text
 any-Contains text words r e =
-    let both : r ≡ list_any (bytes_eq text) words = e ∙ any-flip text words in
-    (λ h. Contains-from_any (λ x y s. (bytes_eq-Decides x y).0 s) text words (sym both ∙ h), λ h. both ∙ list_any-from_Contains nat_list_eq_equiv text words h)
+    let both : r ≡ list_any (bytes_eq text) words = e ∙ any-flip text words in (
+      λ h. Contains-from_any (λ x y s. (bytes_eq-Decides x y).0 s) text words (sym both ∙ h),
+      λ h. both ∙ list_any-from_Contains
+          nat_list_eq_equiv text words h,
+    )

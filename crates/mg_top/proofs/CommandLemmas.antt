@@ -21,7 +21,8 @@ use Rattle.mg_runs.specs.Lines.{role_lines}
 use Rattle.mg_runs.specs.Runs.{names_of}
 use Rattle.mg_runs.specs.Headline.{Course}
 use Rattle.mg_runs.specs.View.{Shows, IsOfRun}
-use Rattle.mg_top.specs.Commands.{Yields, prints, kept_in, role_mains_of, run_said, run_printed, status_of, checked, ran, refined, refined_status}
+use Rattle.mg_top.specs.Commands.{Yields, prints, kept_in, role_mains_of, run_said, run_printed, status_of, checked, ran, refined}
+use Rattle.mg_top.specs.Commands.{refined_status}
 use Rattle.mg_refined.specs.Refined.{AreJudged}
 use Rattle.mg_top.specs.Commands as commands
 use Rattle.mg_read.specs.First.{Judged, with_earlier}
@@ -43,19 +44,23 @@ use Rattle.mg_top.specs.inner.Preparing.{IsReported, IsPrepared, IsLeft, AreWrit
 use Rattle.mg_top.proofs.SourceLemmas.{translated}
 
 -- a delivery of these actions with this status
-pub gives : (command : Command) (contents : List (List ℕ)) (actions : List Action) (status : Status) (r : Result Delivery Memory) → IfOk r (λ d. d.actions.items ≡ actions) → IfOk r (λ d. d.status ≡ status) → Yields command contents actions status
+pub gives : (command : Command) (contents : List (List ℕ)) (actions : List Action) (status : Status) (r : Result Delivery Memory) →
+    IfOk r (λ d. d.actions.items ≡ actions) → IfOk r (λ d. d.status ≡ status) → Yields command contents actions status
     → IfOk r (λ d. Yields command contents d.actions.items d.status)
 gives command contents actions status (Ok d) a s y =
-    subst (λ (z : List Action). Yields command contents z d.status) (sym a) (subst (λ (z : Status). Yields command contents actions z) (sym s) y)
+    subst (λ (z : List Action). Yields command contents z d.status) (sym a) (subst (λ (z : Status). Yields command contents actions z)
+    (sym s) y)
 gives command contents actions status (Err e) a s y = tt
 
 pub reported : (core : Core.Program) (text given : List ℕ) (r : Result Delivery Memory) → given ≡ text → IsReport core text
-    → IfOk r (λ d. d.actions.items ≡ prints given) → IfOk r (λ d. d.status ≡ statuses.Done) → IfOk r (λ d. IsReported core d.actions.items d.status)
+    → IfOk r (λ d. d.actions.items ≡ prints given) → IfOk r (λ d. d.status ≡ statuses.Done) →
+    IfOk r (λ d. IsReported core d.actions.items d.status)
 reported core text given (Ok d) e h a s = record { text = text; says = a ∙ ap prints e; done = s; report = h }
 reported core text given (Err x) e h a s = tt
 
 -- the report of accepted files
-pub report_given : (files : List Word) (contents : List (List ℕ)) (core : Core.Program) (r : Result Delivery Memory) → AreAccepted (sources files contents) core
+pub report_given : (files : List Word) (contents : List (List ℕ)) (core : Core.Program) (r : Result Delivery Memory) →
+    AreAccepted (sources files contents) core
     → IfOk r (λ d. IsReported core d.actions.items d.status) → IfOk r (λ d. Yields (Check files) contents d.actions.items d.status)
 report_given files contents core (Ok d) a k =
     subst (λ (z : List Action). Yields (Check files) contents z d.status) (sym k.says)
@@ -63,19 +68,23 @@ report_given files contents core (Ok d) a k =
 report_given files contents core (Err e) a k = tt
 
 -- what is told of two typestates
-pub told_given : (files : List Word) (contents : List (List ℕ)) (text given : List ℕ) (stands : Bool) (status : Status) (r : Result Delivery Memory) → given ≡ text
+pub told_given : (files : List Word) (contents : List (List ℕ)) (text given : List ℕ) (stands : Bool) (status : Status)
+    (r : Result Delivery Memory) → given ≡ text
     → status ≡ refined_status stands → AreJudged (sources files contents) text stands
-    → IfOk r (λ d. d.actions.items ≡ Print given ∷ []) → IfOk r (λ d. d.status ≡ status) → IfOk r (λ d. Yields (Refine files) contents d.actions.items d.status)
+    → IfOk r (λ d. d.actions.items ≡ Print given ∷ []) → IfOk r (λ d. d.status ≡ status) →
+    IfOk r (λ d. Yields (Refine files) contents d.actions.items d.status)
 told_given files contents text given stands status (Ok d) e f h a s =
     subst (λ (z : List Action). Yields (Refine files) contents z d.status) (sym (a ∙ ap (λ (t : List ℕ). Print t ∷ []) e))
     (subst (λ (z : Status). Yields (Refine files) contents (Print text ∷ []) z) (sym (s ∙ f)) (commands.refine (refined h)))
 told_given files contents text given stands status (Err x) e f h a s = tt
 
 -- a text, words and the end of a line are put behind what stands there
-pub line_put : (result last third second first given before text words : List ℕ) → result ≡ last → last ≡ third ++ 10 ∷ [] → third ≡ second ++ words → second ≡ first ++ text → first ≡ given → given ≡ before
+pub line_put : (result last third second first given before text words : List ℕ) → result ≡ last → last ≡ third ++ 10 ∷ [] →
+    third ≡ second ++ words → second ≡ first ++ text → first ≡ given → given ≡ before
     → result ≡ before ++ ((text ++ words) ++ 10 ∷ [])
 line_put result last third second first given before text words e d c b a g =
-    e ∙ d ∙ ap (λ (z : List ℕ). z ++ 10 ∷ []) (c ∙ ap (λ (z : List ℕ). z ++ words) (b ∙ ap (λ (z : List ℕ). z ++ text) (a ∙ g)) ∙ append_assoc before text words)
+    e ∙ d ∙ ap (λ (z : List ℕ). z ++ 10 ∷ []) (c ∙ ap (λ (z : List ℕ). z ++ words) (b ∙ ap (λ (z : List ℕ). z ++ text) (a ∙ g)) ∙
+    append_assoc before text words)
     ∙ append_assoc before (text ++ words) (10 ∷ [])
 
 -- a name, a text of three parts, words and the end of a line are put behind what stands there
@@ -86,7 +95,8 @@ role_put result third second first before name a d e words four three two one =
     = ap (λ (z : List ℕ). name ++ z) (append_assoc a d e) ∙ sym (append_assoc name a (d ++ e)) ∙ sym (append_assoc (name ++ a) d e) in
     let whole : (before ++ name) ++ ((a ++ d) ++ e) ≡ before ++ (((name ++ a) ++ d) ++ e)
     = append_assoc before name ((a ++ d) ++ e) ∙ ap (λ (z : List ℕ). before ++ z) inner in
-    four ∙ ap (λ (z : List ℕ). z ++ 10 ∷ []) (three ∙ ap (λ (z : List ℕ). z ++ words) (two ∙ ap (λ (z : List ℕ). z ++ ((a ++ d) ++ e)) one ∙ whole)
+    four ∙ ap (λ (z : List ℕ). z ++ 10 ∷ []) (three ∙ ap (λ (z : List ℕ). z ++ words) (two ∙ ap (λ (z : List ℕ). z ++ ((a ++ d) ++ e)) one ∙
+    whole)
     ∙ append_assoc before (((name ++ a) ++ d) ++ e) words) ∙ append_assoc before ((((name ++ a) ++ d) ++ e) ++ words) (10 ∷ [])
 
 -- the status of a run, by the answers of its tests
@@ -95,19 +105,24 @@ by_tests b k z m w =
     if b then statuses.Bound else if k then statuses.Broken else if z then statuses.Zero else if m then statuses.Mismatch
     else if w then statuses.Waits else statuses.Done
 
-any_stand : (test : Stand → Bool) (b : Bool) (roles : List RoleRan) → b ≡ list_any (λ r. test r.stand) roles → b ≡ list_any test (map (λ r. r.stand) roles)
+any_stand : (test : Stand → Bool) (b : Bool) (roles : List RoleRan) → b ≡ list_any (λ r. test r.stand) roles →
+    b ≡ list_any test (map (λ r. r.stand) roles)
 any_stand test b roles e = e ∙ sym (any-map (λ (r : RoleRan). r.stand) test roles)
 
-pub status_by : (roles : List RoleRan) (b k z m w : Bool) → b ≡ list_any (λ r. is_bound r.stand) roles → k ≡ list_any (λ r. is_broken r.stand) roles →
-    z ≡ list_any (λ r. is_zero r.stand) roles → m ≡ list_any (λ r. is_mismatch r.stand) roles → w ≡ list_any (λ r. is_waiting r.stand) roles →
+pub status_by : (roles : List RoleRan) (b k z m w : Bool) → b ≡ list_any (λ r. is_bound r.stand) roles →
+    k ≡ list_any (λ r. is_broken r.stand) roles →
+    z ≡ list_any (λ r. is_zero r.stand) roles → m ≡ list_any (λ r. is_mismatch r.stand) roles → w ≡ list_any (λ r. is_waiting r.stand) roles
+    →
     by_tests b k z m w ≡ status_of (map (λ r. r.stand) roles)
 status_by roles b k z m w eb ek ez em ew = λ i.
-    by_tests (any_stand is_bound b roles eb i) (any_stand is_broken k roles ek i) (any_stand is_zero z roles ez i) (any_stand is_mismatch m roles em i)
+    by_tests (any_stand is_bound b roles eb i) (any_stand is_broken k roles ek i) (any_stand is_zero z roles ez i)
+    (any_stand is_mismatch m roles em i)
     (any_stand is_waiting w roles ew i)
 
 -- what is done about a run, by what it shows
 abbrev pub shown_so : Asked → List ClassFile → (text trace : List ℕ) → (names : List Word) (counts : List ℕ) → List Stand → List Action
-shown_so asked written text trace names counts all = kept_in asked.folder written ++ (prints text ++ Say (trace ++ role_lines names counts all) ∷ [])
+shown_so asked written text trace names counts all = kept_in asked.folder written
+    ++ (prints text ++ Say (trace ++ role_lines names counts all) ∷ [])
 
 abbrev pub shown_by : Asked → Ran → List Action
 shown_by asked shown = shown_so asked shown.files.items shown.printed shown.trace
@@ -115,12 +130,14 @@ shown_by asked shown = shown_so asked shown.files.items shown.printed shown.trac
 
 shown_same : (asked : Asked) (r : Course) (shown : Ran) → Shows (role_mains_of asked) (are_named asked) asked.traced r shown
     → shown_by asked shown ≡ kept_in asked.folder r.written ++ (prints (run_printed asked r) ++ Say (run_said asked r) ∷ [])
-shown_same asked r shown h = λ i. shown_so asked (h.written i) (h.printed_is i) (h.trace_is i) (names_of (role_mains_of asked)) (h.counts i) (h.stands i)
+shown_same asked r shown h = λ i. shown_so asked (h.written i) (h.printed_is i) (h.trace_is i) (names_of (role_mains_of asked)) (h.counts i)
+    (h.stands i)
 
 -- a run of what is asked for
 run_asked : (asked : Asked) (files : List Source) (mains : List RoleMain) (order : List ℕ) (limit : ℕ) (named : Bool) (shown : Ran)
     → mains ≡ role_mains_of asked → order ≡ order_of asked → limit ≡ limit_of asked → named ≡ are_named asked
-    → IsOfRun files mains order limit named asked.traced shown → IsOfRun files (role_mains_of asked) (order_of asked) (limit_of asked) (are_named asked) asked.traced shown
+    → IsOfRun files mains order limit named asked.traced shown → IsOfRun files (role_mains_of asked) (order_of asked) (limit_of asked)
+    (are_named asked) asked.traced shown
 run_asked asked files mains order limit named shown m o l n h =
     subst (λ (z : Bool). IsOfRun files (role_mains_of asked) (order_of asked) (limit_of asked) z asked.traced shown) n
     (subst (λ (z : ℕ). IsOfRun files (role_mains_of asked) (order_of asked) z named asked.traced shown) l
@@ -128,12 +145,14 @@ run_asked asked files mains order limit named shown m o l n h =
     (subst (λ (z : List RoleMain). IsOfRun files z order limit named asked.traced shown) m h)))
 
 -- the class files of a run, what it printed, its trace and the lines of its roles
-pub run_given : (asked : Asked) (files : List Word) (contents : List (List ℕ)) (mains : List RoleMain) (order : List ℕ) (limit : ℕ) (named : Bool) (shown : Ran)
+pub run_given : (asked : Asked) (files : List Word) (contents : List (List ℕ)) (mains : List RoleMain) (order : List ℕ) (limit : ℕ)
+    (named : Bool) (shown : Ran)
     (r : Result Delivery Memory) → mains ≡ role_mains_of asked → order ≡ order_of asked → limit ≡ limit_of asked → named ≡ are_named asked
     → IsOfRun (sources files contents) mains order limit named asked.traced shown
     → IfOk r (λ d. d.actions.items ≡ shown_so asked shown.files.items shown.printed shown.trace (names_of mains)
     (map (λ r. r.instructions) shown.roles.items) (map (λ r. r.stand) shown.roles.items))
-    → IfOk r (λ d. d.status ≡ status_of (map (λ r. r.stand) shown.roles.items)) → IfOk r (λ d. Yields (Run asked files) contents d.actions.items d.status)
+    → IfOk r (λ d. d.status ≡ status_of (map (λ r. r.stand) shown.roles.items)) →
+    IfOk r (λ d. Yields (Run asked files) contents d.actions.items d.status)
 run_given asked files contents mains order limit named shown r m o l n given actions status =
     let h : IsOfRun (sources files contents) (role_mains_of asked) (order_of asked) (limit_of asked) (are_named asked) asked.traced shown =
     run_asked asked (sources files contents) mains order limit named shown m o l n given in
@@ -141,42 +160,54 @@ run_given asked files contents mains order limit named shown r m o l n given act
     (subst (λ (z : List RoleMain). IfOk r (λ d. d.actions.items ≡ shown_so asked shown.files.items shown.printed shown.trace (names_of z)
     (map (λ r. r.instructions) shown.roles.items) (map (λ r. r.stand) shown.roles.items))) m actions) status
     (subst (λ (z : Status). Yields (Run asked files) contents (shown_by asked shown) z) (ap status_of (sym h.shows.stands))
-    (subst (λ (z : List Action). Yields (Run asked files) contents z (status_of (stands_in h.run.program h.run.last))) (sym (shown_same asked h.run shown h.shows))
+    (subst (λ (z : List Action). Yields (Run asked files) contents z (status_of (stands_in h.run.program h.run.last)))
+    (sym (shown_same asked h.run shown h.shows))
     (commands.run (ran h.run h.is))))
 
 -- ---- what is due
 
 -- a line that was made is due
-pub said_due : (words : List Word) (before at : Outside) (status : Status) (line wanted : List ℕ) (r : Result Delivery Memory) → IfOk r (λ d. d.actions.items ≡ Say line ∷ []) → IfOk r (λ d. d.status ≡ status) → line ≡ wanted
+pub said_due : (words : List Word) (before at : Outside) (status : Status) (line wanted : List ℕ) (r : Result Delivery Memory) →
+    IfOk r (λ d. d.actions.items ≡ Say line ∷ []) → IfOk r (λ d. d.status ≡ status) → line ≡ wanted
     → IsDue words before (Say wanted ∷ []) status at → IsLeft words before at → IsPrepared words before r at
 said_due words before at status line wanted (Ok d) a s e due left =
     let actions_are : d.actions.items ≡ Say wanted ∷ [] = a ∙ ap (λ (z : List ℕ). Say z ∷ []) e in
-    subst (λ (z : List Action). IsDue words before z d.status at) (sym actions_are) (subst (λ (z : Status). IsDue words before (Say wanted ∷ []) z at) (sym s) due)
+    subst (λ (z : List Action). IsDue words before z d.status at) (sym actions_are)
+    (subst (λ (z : Status). IsDue words before (Say wanted ∷ []) z at) (sym s) due)
 said_due words before at status line wanted (Err e) a s is due left = left
 
 -- what a command gives is due
-pub given_due : (words : List Word) (before at : Outside) (command : Command) (names : List Word) (contents given : List (List ℕ)) (limit : ℕ) (r : Result Delivery Memory)
-    → IsCommand command words → names ≡ files_of command → limit ≡ read_limit command → AreRead limit before.files names contents → given ≡ contents → at ≡ before
+pub given_due : (words : List Word) (before at : Outside) (command : Command) (names : List Word) (contents given : List (List ℕ))
+    (limit : ℕ) (r : Result Delivery Memory)
+    → IsCommand command words → names ≡ files_of command → limit ≡ read_limit command → AreRead limit before.files names contents →
+    given ≡ contents → at ≡ before
     → IfOk r (λ d. Yields command given d.actions.items d.status) → IsPrepared words before r at
 given_due words before at command names contents given limit (Ok d) is named most read e same y =
-    let whole : AreRead (read_limit command) before.files names contents = subst (λ (n : ℕ). AreRead n before.files names contents) most read in
+    let whole : AreRead (read_limit command) before.files names contents = subst (λ (n : ℕ). AreRead n before.files names contents) most
+    read in
     subst (λ (z : Outside). IsDue words before d.actions.items d.status z) (sym same)
     (yielded command contents is (subst (λ (z : List Word). AreRead (read_limit command) before.files z contents) named whole)
     (subst (λ (z : List (List ℕ)). Yields command z d.actions.items d.status) e y))
 given_due words before at command names contents given limit (Err x) is named most read e same y = inl same
 
 -- a file that couldn't be read is due
-pub unread_due : (words : List Word) (before at : Outside) (name : Word) → IsUnread words before name → at ≡ after_read before name → IsDue words before (Say (read_line name) ∷ []) statuses.ReadFault at
-unread_due words before at name may e = subst (λ (z : Outside). IsDue words before (Say (read_line name) ∷ []) statuses.ReadFault z) (sym e) (unread name may)
+pub unread_due : (words : List Word) (before at : Outside) (name : Word) → IsUnread words before name → at ≡ after_read before name →
+    IsDue words before (Say (read_line name) ∷ []) statuses.ReadFault at
+unread_due words before at name may e = subst (λ (z : Outside). IsDue words before (Say (read_line name) ∷ []) statuses.ReadFault z) (sym e)
+    (unread name may)
 
 -- memory lacks
-pub starved_due : (words : List Word) (before at : Outside) → IsLeft words before at → IsDue words before (Say memory_line ∷ []) statuses.Memory at
+pub starved_due : (words : List Word) (before at : Outside) → IsLeft words before at → IsDue words before (Say memory_line ∷ [])
+    statuses.Memory at
 starved_due words before at (inl e) = subst (λ (z : Outside). IsDue words before (Say memory_line ∷ []) statuses.Memory z) (sym e) starved
-starved_due words before at (inr (name, may, e)) = subst (λ (z : Outside). IsDue words before (Say memory_line ∷ []) statuses.Memory z) (sym e) (mute name may)
+starved_due words before at (inr (name, may, e)) = subst (λ (z : Outside). IsDue words before (Say memory_line ∷ []) statuses.Memory z)
+    (sym e) (mute name may)
 
 -- the file that a command couldn't read
-pub unread_of : (words : List Word) (before : Outside) (command : Command) (names : List Word) (name : Word) (front rest : List Word) (contents : List (List ℕ)) (limit : ℕ)
-    → IsCommand command words → names ≡ files_of command → limit ≡ read_limit command → names ≡ front ++ name ∷ rest → AreRead limit before.files front contents
+pub unread_of : (words : List Word) (before : Outside) (command : Command) (names : List Word) (name : Word) (front rest : List Word)
+    (contents : List (List ℕ)) (limit : ℕ)
+    → IsCommand command words → names ≡ files_of command → limit ≡ read_limit command → names ≡ front ++ name ∷ rest →
+    AreRead limit before.files front contents
     → IsUnread words before name
 unread_of words before command names name front rest contents limit is named most stands read =
     record {
@@ -191,25 +222,33 @@ unread_of words before command names name front rest contents limit is named mos
 
 -- ---- the writes of translations
 
-pub sources_failed : (folder : Option Word) (files : List Source) (fault : Stop) (answer : Result (Row Action) Stop) → AreParts files (Err fault) → answer ≡ Err fault → AreWritten folder files answer
+pub sources_failed : (folder : Option Word) (files : List Source) (fault : Stop) (answer : Result (Row Action) Stop) →
+    AreParts files (Err fault) → answer ≡ Err fault → AreWritten folder files answer
 sources_failed folder files (stops.Refused line) answer h e = subst (AreWritten folder files) (sym e) (refused h)
 sources_failed folder files stops.Memory answer h e = subst (AreWritten folder files) (sym e) tt
 
-pub roles_failed : (folder : Option Word) (files : List Source) (parts : List Part) (fault : Stop) (answer : Result (Row Action) Stop) → EachSpells files parts → AreApart files (Err fault) → answer ≡ Err fault → AreWritten folder files answer
-roles_failed folder files parts (stops.Refused line) answer each h e = subst (AreWritten folder files) (sym e) (same_role (none_refused files parts each) h)
+pub roles_failed : (folder : Option Word) (files : List Source) (parts : List Part) (fault : Stop) (answer : Result (Row Action) Stop) →
+    EachSpells files parts → AreApart files (Err fault) → answer ≡ Err fault → AreWritten folder files answer
+roles_failed folder files parts (stops.Refused line) answer each h e = subst (AreWritten folder files) (sym e)
+    (same_role (none_refused files parts each) h)
 roles_failed folder files parts stops.Memory answer each h e = subst (AreWritten folder files) (sym e) tt
 
-pub memory_failed : (folder : Option Word) (files : List Source) (answer : Result (Row Action) Stop) → answer ≡ Err stops.Memory → AreWritten folder files answer
+pub memory_failed : (folder : Option Word) (files : List Source) (answer : Result (Row Action) Stop) → answer ≡ Err stops.Memory →
+    AreWritten folder files answer
 memory_failed folder files answer e = subst (AreWritten folder files) (sym e) tt
 
-pub all_written : (folder : Option Word) (names : List Word) (contents : List (List ℕ)) (parts given : List Part) (writes : List Action) → All (IsFileOf (codes ".scr")) names
-    → EachSpells (sources names contents) parts → given ≡ parts → Judged SharesRole (with_earlier (sources names contents)) None → EachIsWritten folder (locals_in given) writes
+pub all_written : (folder : Option Word) (names : List Word) (contents : List (List ℕ)) (parts given : List Part) (writes : List Action) →
+    All (IsFileOf (codes ".scr")) names
+    → EachSpells (sources names contents) parts → given ≡ parts → Judged SharesRole (with_earlier (sources names contents)) None →
+    EachIsWritten folder (locals_in given) writes
     → AreTranslated folder (sources names contents) writes
 all_written folder names contents parts given writes scribble each e apart written = record {
-  each = translated folder 0 names contents parts writes scribble each (subst (λ (z : List Part). EachIsWritten folder (locals_in z) writes) e written);
+  each = translated folder 0 names contents parts writes scribble each (subst (λ (z : List Part). EachIsWritten folder (locals_in z) writes)
+      e written);
   apart = apart;
 }
 
 -- memory lacked to say what is due
-pub left_due : (words : List Word) (before at : Outside) (r : Result Delivery Memory) (e : Memory) → r ≡ Err e → IsLeft words before at → IsPrepared words before r at
+pub left_due : (words : List Word) (before at : Outside) (r : Result Delivery Memory) (e : Memory) → r ≡ Err e → IsLeft words before at →
+    IsPrepared words before r at
 left_due words before at r e is left = subst (λ (z : Result Delivery Memory). IsPrepared words before z at) (sym is) left

@@ -1,5 +1,6 @@
 -- What `conform` answers.
-use Rattle.std.proofs.Common.{◌≡◌, ◌≢◌, ◌<◌, ◌≤◌, ◌+◌, ◌↔◌, ℕ, suc, Bool, true, false, IsTrue, List, [], ◌∷◌, ◌++◌, map, length, get_or, take, drop, codes, take-append-drop, drop-cons, refl, sym, ap, ◌∙◌, subst}
+use Rattle.std.proofs.Common.{◌≡◌, ◌≢◌, ◌<◌, ◌≤◌, ◌+◌, ◌↔◌, ℕ, suc, Bool, true, false, IsTrue, List, [], ◌∷◌, ◌++◌, map, length, get_or}
+use Rattle.std.proofs.Common.{take, drop, codes, take-append-drop, drop-cons, refl, sym, ap, ◌∙◌, subst}
 use Rattle.std.specs.Prelude.{IfOk, Result, Ok, Err}
 use Rattle.std.proofs.lemmas.List.{take_more, take_all, map-append}
 use Rattle.mg_text.specs.Call.{Call}
@@ -48,51 +49,68 @@ abbrev pub Traced : LocalTree → List Call → Type 0
 Traced local calls = Trace local.me (protocol_of local) calls
 
 -- one more call was taken
-pub taken_more : (local : LocalTree) (walk : Walk) (lines : List CallLine) (i : ℕ) (line : CallLine) (call : Call) → i < length lines → line ≡ get_or lines i line → call ≡ said line
+pub taken_more : (local : LocalTree) (walk : Walk) (lines : List CallLine) (i : ℕ) (line : CallLine) (call : Call) → i < length lines →
+    line ≡ get_or lines i line → call ≡ said line
     → HasTaken local walk (map said (take i lines) ++ call ∷ []) → HasTaken local walk (map said (take (i + 1) lines))
 taken_more local walk lines i line call within is e h =
     let grown : map said (take (i + 1) lines) ≡ map said (take i lines) ++ call ∷ [] =
-    ap (map said) (take_more lines i line within ∙ ap (λ (z : CallLine). take i lines ++ z ∷ []) (sym is)) ∙ map-append said (take i lines) (line ∷ []) ∙ ap (λ (z : Call). map said (take i lines) ++ z ∷ []) (sym e) in
+    ap (map said) (take_more lines i line within ∙ ap (λ (z : CallLine). take i lines ++ z ∷ []) (sym is)) ∙ map-append said (take i lines)
+    (line ∷ []) ∙ ap (λ (z : Call). map said (take i lines) ++ z ∷ []) (sym e) in
     subst (HasTaken local walk) (sym grown) h
 
 -- a call that isn't offered
-pub not_offered_at : (local : LocalTree) (walk : Walk) (lines : List CallLine) (i : ℕ) (line : CallLine) (call : Call) → i < length lines → line ≡ get_or lines i line → call ≡ said line → HasTaken local walk (map said (take i lines))
-    → ((more : List Call) → Traced local (map said (take i lines) ++ call ∷ more) → ⊥) → Conforms local (map call_of lines) (not_offered_line line.line) statuses.Refused
+pub not_offered_at : (local : LocalTree) (walk : Walk) (lines : List CallLine) (i : ℕ) (line : CallLine) (call : Call) → i < length lines →
+    line ≡ get_or lines i line → call ≡ said line → HasTaken local walk (map said (take i lines))
+    → ((more : List Call) → Traced local (map said (take i lines) ++ call ∷ more) → ⊥) →
+    Conforms local (map call_of lines) (not_offered_line line.line) statuses.Refused
 not_offered_at local walk lines i line call within is e taken isnt =
     not_offered (map call_of (take i lines)) (call_of line) (map call_of (drop (suc i) lines)) split
     (subst (Traced local) (sym (said_calls (take i lines))) (trace_of local walk (map said (take i lines)) taken))
     (λ more trace. isnt more (subst (Traced local) (λ j. said_calls (take i lines) j ++ sym e j ∷ more) trace))
   where
     lines_split : lines ≡ take i lines ++ line ∷ drop (suc i) lines
-    lines_split = sym (take-append-drop i lines) ∙ ap (λ (z : List CallLine). take i lines ++ z) (drop-cons lines i line within ∙ ap (λ (z : CallLine). z ∷ drop (suc i) lines) (sym is))
+    lines_split = sym (take-append-drop i lines) ∙ ap (λ (z : List CallLine). take i lines ++ z) (drop-cons lines i line within ∙
+        ap (λ (z : CallLine). z ∷ drop (suc i) lines) (sym is))
 
     split : map call_of lines ≡ map call_of (take i lines) ++ call_of line ∷ map call_of (drop (suc i) lines)
     split = ap (map call_of) lines_split ∙ map-append call_of (take i lines) (line ∷ drop (suc i) lines)
 
 -- the same of a line that is told by its index
-pub taken_at : (local : LocalTree) (walk : Walk) (lines : List CallLine) (i : ℕ) (d : CallLine) (call : Call) → i < length lines → call ≡ said (get_or lines i d)
+pub taken_at : (local : LocalTree) (walk : Walk) (lines : List CallLine) (i : ℕ) (d : CallLine) (call : Call) → i < length lines →
+    call ≡ said (get_or lines i d)
     → HasTaken local walk (map said (take i lines) ++ call ∷ []) → HasTaken local walk (map said (take (i + 1) lines))
-taken_at local walk lines i d call within e h = taken_more local walk lines i (get_or lines i d) call within (same_at lines i d (get_or lines i d) within) e h
+taken_at local walk lines i d call within e h = taken_more local walk lines i (get_or lines i d) call within
+    (same_at lines i d (get_or lines i d) within) e h
 
-pub refused_at : (local : LocalTree) (walk : Walk) (lines : List CallLine) (i : ℕ) (d : CallLine) (call : Call) → i < length lines → call ≡ said (get_or lines i d) → HasTaken local walk (map said (take i lines))
-    → ((more : List Call) → Traced local (map said (take i lines) ++ call ∷ more) → ⊥) → Conforms local (map call_of lines) (not_offered_line (get_or lines i d).line) statuses.Refused
-refused_at local walk lines i d call within e taken isnt = not_offered_at local walk lines i (get_or lines i d) call within (same_at lines i d (get_or lines i d) within) e taken isnt
+pub refused_at : (local : LocalTree) (walk : Walk) (lines : List CallLine) (i : ℕ) (d : CallLine) (call : Call) → i < length lines →
+    call ≡ said (get_or lines i d) → HasTaken local walk (map said (take i lines))
+    → ((more : List Call) → Traced local (map said (take i lines) ++ call ∷ more) → ⊥) →
+    Conforms local (map call_of lines) (not_offered_line (get_or lines i d).line) statuses.Refused
+refused_at local walk lines i d call within e taken isnt = not_offered_at local walk lines i (get_or lines i d) call within
+    (same_at lines i d (get_or lines i d) within) e taken isnt
 
 -- all calls were taken
-all_taken : (local : LocalTree) (walk : Walk) (lines : List CallLine) (i : ℕ) → length lines ≤ i → HasTaken local walk (map said (take i lines)) → HasTaken local walk (map said lines)
+all_taken : (local : LocalTree) (walk : Walk) (lines : List CallLine) (i : ℕ) → length lines ≤ i →
+    HasTaken local walk (map said (take i lines)) → HasTaken local walk (map said lines)
 all_taken local walk lines i end h = subst (λ (z : List CallLine). HasTaken local walk (map said z)) (take_all i lines end) h
 
-pub complete_at : (local : LocalTree) (walk : Walk) (lines : List CallLine) (i : ℕ) (done : Bool) → length lines ≤ i → HasTaken local walk (map said (take i lines)) → ((calls : List Call) → HasTaken local walk calls → IsTrue done ↔ Complete local.me (protocol_of local) calls)
+pub complete_at : (local : LocalTree) (walk : Walk) (lines : List CallLine) (i : ℕ) (done : Bool) → length lines ≤ i →
+    HasTaken local walk (map said (take i lines)) → ((calls : List Call) → HasTaken local walk calls →
+    IsTrue done ↔ Complete local.me (protocol_of local) calls)
     → done ≡ true → Conforms local (map call_of lines) (ended (codes "complete")) statuses.Done
 complete_at local walk lines i done end h told is =
-    complete (subst (λ (z : List Call). Complete local.me (protocol_of local) z) (sym (said_calls lines)) ((told (map said lines) (all_taken local walk lines i end h)).0 is))
+    complete (subst (λ (z : List Call). Complete local.me (protocol_of local) z) (sym (said_calls lines))
+    ((told (map said lines) (all_taken local walk lines i end h)).0 is))
 
-pub open_at : (local : LocalTree) (walk : Walk) (lines : List CallLine) (i : ℕ) (done : Bool) → length lines ≤ i → HasTaken local walk (map said (take i lines)) → ((calls : List Call) → HasTaken local walk calls → IsTrue done ↔ Complete local.me (protocol_of local) calls)
+pub open_at : (local : LocalTree) (walk : Walk) (lines : List CallLine) (i : ℕ) (done : Bool) → length lines ≤ i →
+    HasTaken local walk (map said (take i lines)) → ((calls : List Call) → HasTaken local walk calls →
+    IsTrue done ↔ Complete local.me (protocol_of local) calls)
     → done ≡ false → Conforms local (map call_of lines) (ended (codes "open")) statuses.Done
 open_at local walk lines i done end h told is =
     let all = all_taken local walk lines i end h in
     unfinished (subst (Traced local) (sym (said_calls lines)) (trace_of local walk (map said lines) all))
-    (λ whole. not_true done is ((told (map said lines) all).1 (subst (λ (z : List Call). Complete local.me (protocol_of local) z) (said_calls lines) whole)))
+    (λ whole. not_true done is ((told (map said lines) all).1 (subst (λ (z : List Call). Complete local.me (protocol_of local) z)
+    (said_calls lines) whole)))
   where
     not_true : (b : Bool) → b ≡ false → b ≡ true → ⊥
     not_true b e f = let no : false ≡ true = sym e ∙ f in cc
@@ -100,29 +118,43 @@ open_at local walk lines i done end h told is =
 -- ---- what is given
 
 -- a text that was made answers
-pub answered : (local : LocalTree) (calls : List CallAt) (text made : List ℕ) (status : Status) (r : Result Delivery Memory) → IfOk r (λ d. d.actions.items ≡ Print made ∷ []) → IfOk r (λ d. d.status ≡ status) → made ≡ text → Conforms local calls text status
+pub answered : (local : LocalTree) (calls : List CallAt) (text made : List ℕ) (status : Status) (r : Result Delivery Memory) →
+    IfOk r (λ d. d.actions.items ≡ Print made ∷ []) → IfOk r (λ d. d.status ≡ status) → made ≡ text → Conforms local calls text status
     → IfOk r (λ d. IsAnswered local calls d.actions.items d.status)
-answered local calls text made status (Ok d) a s e c = record { text = text; says = a ∙ ap (λ (z : List ℕ). Print z ∷ []) e; conforms = subst (Conforms local calls text) (sym s) c }
+answered local calls text made status (Ok d) a s e c = record {
+  text = text;
+  says = a ∙ ap (λ (z : List ℕ). Print z ∷ []) e;
+  conforms =
+      subst (Conforms local calls text) (sym s) c;
+}
 answered local calls text made status (Err x) a s e c = tt
 
-pub followed : (protocol calls : Word) (bytes listed : List ℕ) (local : LocalTree) (list : List CallLine) (slice : List CallLine) (r : Result Delivery Memory) → Reads (source_of 0 protocol bytes) (Protocol local) → (items : Row CallLine) → items.items ≡ list → IsRead 1 listed (Ok items) → slice ≡ list
-    → IfOk r (λ d. IsAnswered local (map call_of slice) d.actions.items d.status) → IfOk r (λ d. Yields (Conform (protocol ∷ calls ∷ [])) (bytes ∷ listed ∷ []) d.actions.items d.status)
+pub followed : (protocol calls : Word) (bytes listed : List ℕ) (local : LocalTree) (list : List CallLine) (slice : List CallLine)
+    (r : Result Delivery Memory) → Reads (source_of 0 protocol bytes) (Protocol local) → (items : Row CallLine) → items.items ≡ list →
+    IsRead 1 listed (Ok items) → slice ≡ list
+    → IfOk r (λ d. IsAnswered local (map call_of slice) d.actions.items d.status) →
+    IfOk r (λ d. Yields (Conform (protocol ∷ calls ∷ [])) (bytes ∷ listed ∷ []) d.actions.items d.status)
 followed protocol calls bytes listed local list slice (Ok d) only items same read e h =
     subst (λ (z : List Action). Yields (Conform (protocol ∷ calls ∷ [])) (bytes ∷ listed ∷ []) z d.status) (sym h.says)
     (commands.conform (conforms local (map call_of items.items) only (record { size = read.0; listed = read.1 })
     (subst (λ (z : List CallLine). Conforms local (map call_of z) h.text d.status) (e ∙ sym same) h.conforms)))
 followed protocol calls bytes listed local list slice (Err x) only items same read e h = tt
 
-refused_list : (name : Word) (listed : List ℕ) (fault : CallsFault) → fault ≢ faults.Memory → IsRead 1 listed (Err fault) → IsNoList (source_of 1 name listed) (fault_line name (list_fault fault))
+refused_list : (name : Word) (listed : List ℕ) (fault : CallsFault) → fault ≢ faults.Memory → IsRead 1 listed (Err fault) →
+    IsNoList (source_of 1 name listed) (fault_line name (list_fault fault))
 refused_list name listed (faults.TooLarge place) proper (large, at) =
-    subst (λ (p : Place). IsNoList (source_of 1 name listed) (fault_line name (record { kind = codes "TooLarge"; place = p; name = [] }))) (sym at) (too_large large)
+    subst (λ (p : Place). IsNoList (source_of 1 name listed) (fault_line name (record { kind = codes "TooLarge"; place = p; name = [] })))
+    (sym at) (too_large large)
 refused_list name listed (faults.BadLine place) proper (small, bad) = bad_line place small bad
 refused_list name listed faults.Memory proper h = absurd (proper refl)
 
-pub list_refused : (protocol calls : Word) (bytes listed : List ℕ) (local : LocalTree) (fault : CallsFault) (r : Result Delivery Memory) → Reads (source_of 0 protocol bytes) (Protocol local) → IsRead 1 listed (Err fault)
-    → IfOk r (λ d. IsListRefusal calls fault d.actions.items d.status) → IfOk r (λ d. Yields (Conform (protocol ∷ calls ∷ [])) (bytes ∷ listed ∷ []) d.actions.items d.status)
+pub list_refused : (protocol calls : Word) (bytes listed : List ℕ) (local : LocalTree) (fault : CallsFault) (r : Result Delivery Memory) →
+    Reads (source_of 0 protocol bytes) (Protocol local) → IsRead 1 listed (Err fault)
+    → IfOk r (λ d. IsListRefusal calls fault d.actions.items d.status) →
+    IfOk r (λ d. Yields (Conform (protocol ∷ calls ∷ [])) (bytes ∷ listed ∷ []) d.actions.items d.status)
 list_refused protocol calls bytes listed local fault (Ok d) only read h =
     subst (λ (z : List Action). Yields (Conform (protocol ∷ calls ∷ [])) (bytes ∷ listed ∷ []) z d.status) (sym h.says)
-    (subst (λ (z : Status). Yields (Conform (protocol ∷ calls ∷ [])) (bytes ∷ listed ∷ []) (Say (fault_line calls (list_fault fault)) ∷ []) z) (sym h.refuses)
+    (subst (λ (z : Status). Yields (Conform (protocol ∷ calls ∷ [])) (bytes ∷ listed ∷ []) (Say (fault_line calls (list_fault fault)) ∷ [])
+    z) (sym h.refuses)
     (commands.conform (no_calls local only (refused_list calls listed fault h.proper read))))
 list_refused protocol calls bytes listed local fault (Err x) only read h = tt

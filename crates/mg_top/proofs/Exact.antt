@@ -33,8 +33,11 @@ use Rattle.mg_runs.specs.Headline.{Course, IsRun}
 use Rattle.mg_exec.proofs.Apart.{not_refused as not_stopped, one_course}
 use Rattle.vm_world_law.specs.declared.role.RoleMain.{RoleMain}
 use Rattle.mg_top.specs.Translation.{AreTranslated}
-use Rattle.mg_top.specs.Commands.{TranslateGives, translated, not_translated, ConformGives, conforms, no_protocol, no_calls, CheckGives, checked, not_checked}
-use Rattle.mg_top.specs.Commands.{CompileGives, compiled, not_compiled, RunGives, ran, not_run, ExecGives, executed, not_executed, RefineGives, refined, not_refined, refined_status, ProjectGives, projected, not_projected, role_mains_of, status_of, Yields}
+use Rattle.mg_top.specs.Commands.{TranslateGives, translated, not_translated, ConformGives, conforms, no_protocol, no_calls, CheckGives}
+use Rattle.mg_top.specs.Commands.{checked, not_checked}
+use Rattle.mg_top.specs.Commands.{CompileGives, compiled, not_compiled, RunGives, ran, not_run, ExecGives, executed, not_executed}
+use Rattle.mg_top.specs.Commands.{RefineGives, refined, not_refined, refined_status, ProjectGives, projected, not_projected, role_mains_of}
+use Rattle.mg_top.specs.Commands.{status_of, Yields}
 use Rattle.mg_top.specs.Commands as commands
 use Rattle.mg_top.specs.Promises.{IsYielded}
 use Rattle.mg_top.proofs.SourceLemmas.{none_refused_of_translated}
@@ -45,16 +48,20 @@ use Rattle.mg_refined.proofs.Apart.{one_telling, none_spelled}
 use Rattle.mg_projected.proofs.Telling.{not_refused as not_unprojected}
 
 -- files that are refused aren't translated
-not_both : (folder : Option Word) (files : List Source) (actions : List Action) (line : List ℕ) → AreTranslated folder files actions → Refusal files line → ⊥
+not_both : (folder : Option Word) (files : List Source) (actions : List Action) (line : List ℕ) → AreTranslated folder files actions →
+    Refusal files line → ⊥
 not_both folder files actions line t (refused h) = no_both (none_refused_of_translated t.each) h
 not_both folder files actions line t (same_role nobody h) = no_both t.apart h
 
 -- ---- one status, command by command
 
-translate_status : {folder : Option Word} {files : List Source} {xa xb : List Action} {m n : Status} → TranslateGives folder files xa m → TranslateGives folder files xb n → m ≡ n
+translate_status : {folder : Option Word} {files : List Source} {xa xb : List Action} {m n : Status} → TranslateGives folder files xa m →
+    TranslateGives folder files xb n → m ≡ n
 translate_status (translated t) (translated u) = refl
-translate_status {folder = folder} {files = files} (translated {writes = writes} t) (not_translated {line = line} r) = absurd (not_both folder files writes line t r)
-translate_status {folder = folder} {files = files} (not_translated {line = line} r) (translated {writes = writes} t) = absurd (not_both folder files writes line t r)
+translate_status {folder = folder} {files = files} (translated {writes = writes} t) (not_translated {line = line} r) =
+    absurd (not_both folder files writes line t r)
+translate_status {folder = folder} {files = files} (not_translated {line = line} r) (translated {writes = writes} t) =
+    absurd (not_both folder files writes line t r)
 translate_status (not_translated r) (not_translated q) = refl
 
 check_status : {files : List Source} {xa xb : List Action} {m n : Status} → CheckGives files xa m → CheckGives files xb n → m ≡ n
@@ -63,7 +70,8 @@ check_status {files = files} (checked core a r) (not_checked {line = line} h) = 
 check_status {files = files} (not_checked {line = line} h) (checked core a r) = absurd (not_unmet files core line a h)
 check_status (not_checked h) (not_checked k) = refl
 
-compile_status : {folder : Option Word} {files : List Source} {xa xb : List Action} {m n : Status} → CompileGives folder files xa m → CompileGives folder files xb n → m ≡ n
+compile_status : {folder : Option Word} {files : List Source} {xa xb : List Action} {m n : Status} → CompileGives folder files xa m →
+    CompileGives folder files xb n → m ≡ n
 compile_status (compiled written h) (compiled written' h') = refl
 compile_status {files = files} (compiled written h) (not_compiled {line = line} r) = absurd (not_exceeded files written line h r)
 compile_status {files = files} (not_compiled {line = line} r) (compiled written h) = absurd (not_exceeded files written line h r)
@@ -76,20 +84,28 @@ one_stand files mains order limit r s h k =
     let same = one_of_run files mains order limit r s h k in
     λ i. stands_in (same.program i) (same.last i)
 
-run_status : {asked : Asked} {files : List Source} {xa xb : List Action} {m n : Status} → RunGives asked files xa m → RunGives asked files xb n → m ≡ n
-run_status {asked = asked} {files = files} (ran r h) (ran s k) = ap status_of (one_stand files (role_mains_of asked) (order_of asked) (limit_of asked) r s h k)
-run_status {asked = asked} {files = files} (ran r h) (not_run {line = line} q) = absurd (not_halted files (role_mains_of asked) (order_of asked) (limit_of asked) r line h q)
-run_status {asked = asked} {files = files} (not_run {line = line} q) (ran r h) = absurd (not_halted files (role_mains_of asked) (order_of asked) (limit_of asked) r line h q)
+run_status : {asked : Asked} {files : List Source} {xa xb : List Action} {m n : Status} → RunGives asked files xa m →
+    RunGives asked files xb n → m ≡ n
+run_status {asked = asked} {files = files} (ran r h) (ran s k) =
+    ap status_of (one_stand files (role_mains_of asked) (order_of asked) (limit_of asked) r s h k)
+run_status {asked = asked} {files = files} (ran r h) (not_run {line = line} q) =
+    absurd (not_halted files (role_mains_of asked) (order_of asked) (limit_of asked) r line h q)
+run_status {asked = asked} {files = files} (not_run {line = line} q) (ran r h) =
+    absurd (not_halted files (role_mains_of asked) (order_of asked) (limit_of asked) r line h q)
 run_status (not_run q) (not_run p) = refl
 
 -- of two files one thing is told
 refine_status : {files : List Source} {xa xb : List Action} {m n : Status} → RefineGives files xa m → RefineGives files xb n → m ≡ n
-refine_status {files = files} (refined {text = x} {stands = s} h) (refined {text = y} {stands = t} k) = ap refined_status (one_telling files x y s t h k).1
-refine_status {files = files} (refined h) (not_refined {line = line} r) = absurd (none_spelled files (States h.a ∷ States h.b ∷ []) line h.spell r)
-refine_status {files = files} (not_refined {line = line} r) (refined h) = absurd (none_spelled files (States h.a ∷ States h.b ∷ []) line h.spell r)
+refine_status {files = files} (refined {text = x} {stands = s} h) (refined {text = y} {stands = t} k) =
+    ap refined_status (one_telling files x y s t h k).1
+refine_status {files = files} (refined h) (not_refined {line = line} r) =
+    absurd (none_spelled files (States h.a ∷ States h.b ∷ []) line h.spell r)
+refine_status {files = files} (not_refined {line = line} r) (refined h) =
+    absurd (none_spelled files (States h.a ∷ States h.b ∷ []) line h.spell r)
 refine_status (not_refined r) (not_refined q) = refl
 
-project_status : {folder : Option Word} {files : List Source} {xa xb : List Action} {m n : Status} → ProjectGives folder files xa m → ProjectGives folder files xb n → m ≡ n
+project_status : {folder : Option Word} {files : List Source} {xa xb : List Action} {m n : Status} → ProjectGives folder files xa m →
+    ProjectGives folder files xb n → m ≡ n
 project_status (projected written h) (projected written' h') = refl
 project_status {files = files} (projected written h) (not_projected {line = line} r) = absurd (not_unprojected files written line h r)
 project_status {files = files} (not_projected {line = line} r) (projected written h) = absurd (not_unprojected files written line h r)
@@ -97,7 +113,8 @@ project_status (not_projected r) (not_projected q) = refl
 
 -- the command conform
 
-follows : (local : LocalTree) (calls : List CallAt) (text : List ℕ) (status : Status) → status ≡ statuses.Done → Conforms local calls text status → Trace local.me (protocol_of local) (calls_of calls)
+follows : (local : LocalTree) (calls : List CallAt) (text : List ℕ) (status : Status) → status ≡ statuses.Done →
+    Conforms local calls text status → Trace local.me (protocol_of local) (calls_of calls)
 follows local calls text status done (complete (acts, end, run, finished, named)) = (acts, end, run, named)
 follows local calls text status done (unfinished trace isnt) = trace
 follows local calls text status done (not_offered front call rest split trace isnt) = absurd cc
@@ -108,22 +125,26 @@ listed_once source list line h (conformance.too_large large) = let size = h.size
 listed_once source list line h (bad_line place small bad) = no_bad source.number source.bytes list place h.listed bad
 
 -- where a call isn't offered, the calls don't follow
-stopped : (local : LocalTree) (calls : List CallAt) (text : List ℕ) (status : Status) → status ≡ statuses.Refused → Conforms local calls text status → Trace local.me (protocol_of local) (calls_of calls) → ⊥
+stopped : (local : LocalTree) (calls : List CallAt) (text : List ℕ) (status : Status) → status ≡ statuses.Refused →
+    Conforms local calls text status → Trace local.me (protocol_of local) (calls_of calls) → ⊥
 stopped local calls text status refusal (complete h) trace = cc
 stopped local calls text status refusal (unfinished h isnt) trace = cc
 stopped local calls text status refusal (not_offered front call rest split before isnt) trace =
-    isnt (calls_of rest) (subst (λ (z : List Call). Trace local.me (protocol_of local) z) (ap calls_of split ∙ map-append (λ c. c.call) front (call ∷ rest)) trace)
+    isnt (calls_of rest) (subst (λ (z : List Call). Trace local.me (protocol_of local) z)
+    (ap calls_of split ∙ map-append (λ c. c.call) front (call ∷ rest)) trace)
 
 same_local : (k l : LocalTree) → Protocol k ≡ Protocol l → k ≡ l
 same_local k l e = cc
 
-answered_status : {local : LocalTree} {calls : List CallAt} {text : List ℕ} {status : Status} → Conforms local calls text status → (status ≡ statuses.Done) ⊎ (status ≡ statuses.Refused)
+answered_status : {local : LocalTree} {calls : List CallAt} {text : List ℕ} {status : Status} → Conforms local calls text status →
+    (status ≡ statuses.Done) ⊎ (status ≡ statuses.Refused)
 answered_status (complete h) = inl refl
 answered_status (unfinished h isnt) = inl refl
 answered_status (not_offered front call rest split before isnt) = inr refl
 
 -- calls follow, or they don't
-conforms_status : (local : LocalTree) (list : List CallAt) (t u : List ℕ) (m n : Status) → Conforms local list t m → Conforms local list u n → m ≡ n
+conforms_status : (local : LocalTree) (list : List CallAt) (t u : List ℕ) (m n : Status) → Conforms local list t m → Conforms local list u n
+    → m ≡ n
 conforms_status local list t u m n c d = go (answered_status c) (answered_status d) where
   go : (m ≡ statuses.Done) ⊎ (m ≡ statuses.Refused) → (n ≡ statuses.Done) ⊎ (n ≡ statuses.Refused) → m ≡ n
   go (inl e) (inl f) = e ∙ sym f
@@ -131,15 +152,19 @@ conforms_status local list t u m n c d = go (answered_status c) (answered_status
   go (inr e) (inl f) = absurd (stopped local list t m e c (follows local list u n f d))
   go (inr e) (inr f) = e ∙ sym f
 
-conform_status : {protocol calls : Source} {xa xb : List Action} {m n : Status} → ConformGives protocol calls xa m → ConformGives protocol calls xb n → m ≡ n
-conform_status {protocol = protocol} {calls = calls} {m = m} {n = n} (conforms {text = t} local list o l c) (conforms {text = u} local' list' o' l' c') =
+conform_status : {protocol calls : Source} {xa xb : List Action} {m n : Status} → ConformGives protocol calls xa m →
+    ConformGives protocol calls xb n → m ≡ n
+conform_status {protocol = protocol} {calls = calls} {m = m} {n = n} (conforms {text = t} local list o l c)
+    (conforms {text = u} local' list' o' l' c') =
     let local_is : local' ≡ local = same_local local' local (one_part protocol (Protocol local') (Protocol local) o' o) in
     let list_is : list' ≡ list = one_list calls.bytes list' list l'.listed l.listed in
     conforms_status local list t u m n c
     (subst (λ (z : List CallAt). Conforms local z u n) list_is (subst (λ (z : LocalTree). Conforms z list' u n) local_is c'))
-conform_status {protocol = protocol} (conforms local list o l c) (no_protocol {line = line} r) = absurd (not_refused protocol (Protocol local) line o r)
+conform_status {protocol = protocol} (conforms local list o l c) (no_protocol {line = line} r) =
+    absurd (not_refused protocol (Protocol local) line o r)
 conform_status {calls = calls} (conforms local list o l c) (no_calls {line = line} local' o' r) = absurd (listed_once calls list line l r)
-conform_status {protocol = protocol} (no_protocol {line = line} r) (conforms local list o l c) = absurd (not_refused protocol (Protocol local) line o r)
+conform_status {protocol = protocol} (no_protocol {line = line} r) (conforms local list o l c) =
+    absurd (not_refused protocol (Protocol local) line o r)
 conform_status (no_protocol r) (no_protocol q) = refl
 conform_status (no_protocol r) (no_calls local o q) = refl
 conform_status {calls = calls} (no_calls {line = line} local' o' r) (conforms local list o l c) = absurd (listed_once calls list line l r)
@@ -147,7 +172,8 @@ conform_status (no_calls local o r) (no_protocol q) = refl
 conform_status (no_calls local o r) (no_calls local' o' q) = refl
 
 -- the same of class files
-exec_status : {asked : Asked} {files : List Source} {xa xb : List Action} {m n : Status} → ExecGives asked files xa m → ExecGives asked files xb n → m ≡ n
+exec_status : {asked : Asked} {files : List Source} {xa xb : List Action} {m n : Status} → ExecGives asked files xa m →
+    ExecGives asked files xb n → m ≡ n
 exec_status {asked = asked} {files = files} (executed r h) (executed s k) =
     let same = one_course files (role_mains_of asked) (order_of asked) (limit_of asked) r s h k in
     ap status_of (λ i. stands_in (same.program i) (same.last i))
@@ -157,7 +183,8 @@ exec_status {asked = asked} {files = files} (not_executed {line = line} q) (exec
     absurd (not_stopped files (role_mains_of asked) (order_of asked) (limit_of asked) r line h q)
 exec_status (not_executed q) (not_executed p) = refl
 
-pub one_status : {command : Command} {contents : List (List ℕ)} {xa xb : List Action} {m n : Status} → Yields command contents xa m → Yields command contents xb n → m ≡ n
+pub one_status : {command : Command} {contents : List (List ℕ)} {xa xb : List Action} {m n : Status} → Yields command contents xa m →
+    Yields command contents xb n → m ≡ n
 one_status (commands.translate y) (commands.translate z) = translate_status y z
 one_status (commands.conform y) (commands.conform z) = conform_status y z
 one_status (commands.check y) (commands.check z) = check_status y z
@@ -190,9 +217,11 @@ tests_proper false false false false true = (λ e. cc, λ e. cc, λ e. cc, λ e.
 tests_proper false false false false false = done_proper
 
 stands_proper : (all : List Stand) → IsYielded (status_of all)
-stands_proper all = tests_proper (list_any is_bound all) (list_any is_broken all) (list_any is_zero all) (list_any is_mismatch all) (list_any is_waiting all)
+stands_proper all = tests_proper (list_any is_bound all) (list_any is_broken all) (list_any is_zero all) (list_any is_mismatch all)
+    (list_any is_waiting all)
 
-answer_proper : {local : LocalTree} {calls : List CallAt} {text : List ℕ} {status : Status} → Conforms local calls text status → IsYielded status
+answer_proper : {local : LocalTree} {calls : List CallAt} {text : List ℕ} {status : Status} → Conforms local calls text status →
+    IsYielded status
 answer_proper (complete h) = done_proper
 answer_proper (unfinished h isnt) = done_proper
 answer_proper (not_offered front call rest split before isnt) = refused_proper
@@ -201,7 +230,8 @@ told_proper : (stands : Bool) → IsYielded (refined_status stands)
 told_proper true = done_proper
 told_proper false = refused_proper
 
-pub proper : {command : Command} {contents : List (List ℕ)} {actions : List Action} {status : Status} → Yields command contents actions status → IsYielded status
+pub proper : {command : Command} {contents : List (List ℕ)} {actions : List Action} {status : Status} →
+    Yields command contents actions status → IsYielded status
 proper (commands.translate (translated t)) = done_proper
 proper (commands.translate (not_translated r)) = refused_proper
 proper (commands.conform (conforms local list o l c)) = answer_proper c
@@ -237,19 +267,23 @@ tests_run false false false false true e = cc
 tests_run false false false false false e = cc
 
 pub never_refused : (all : List Stand) → status_of all ≡ statuses.Refused → ⊥
-never_refused all = tests_run (list_any is_bound all) (list_any is_broken all) (list_any is_zero all) (list_any is_mismatch all) (list_any is_waiting all)
+never_refused all = tests_run (list_any is_bound all) (list_any is_broken all) (list_any is_zero all) (list_any is_mismatch all)
+    (list_any is_waiting all)
 
-answer_says : {local : LocalTree} {calls : List CallAt} {text : List ℕ} {status : Status} → Conforms local calls text status → status ≡ statuses.Refused →
+answer_says : {local : LocalTree} {calls : List CallAt} {text : List ℕ} {status : Status} → Conforms local calls text status →
+    status ≡ statuses.Refused →
     SaysRefusal (Print text ∷ [])
 answer_says (complete h) e = absurd cc
 answer_says (unfinished h isnt) e = absurd cc
 answer_says (not_offered front call rest split before isnt) e = inr (inl (call.line, refl))
 
-told_says : (a b : Typestate) (text : List ℕ) (stands : Bool) → Tells a b text stands → refined_status stands ≡ statuses.Refused → SaysRefusal (Print text ∷ [])
+told_says : (a b : Typestate) (text : List ℕ) (stands : Bool) → Tells a b text stands → refined_status stands ≡ statuses.Refused →
+    SaysRefusal (Print text ∷ [])
 told_says a b text stands (yes_told s) e = absurd cc
 told_says a b text stands (no_told {calls = calls} {reason = reason} f) e = inr (inr (calls, reason, refl))
 
-pub refusal_says : {command : Command} {contents : List (List ℕ)} {actions : List Action} {status : Status} → Yields command contents actions status →
+pub refusal_says : {command : Command} {contents : List (List ℕ)} {actions : List Action} {status : Status} →
+    Yields command contents actions status →
     status ≡ statuses.Refused → SaysRefusal actions
 refusal_says (commands.translate (translated t)) e = absurd cc
 refusal_says (commands.translate (not_translated {line = line} r)) e = inl (line, refl)
@@ -279,7 +313,8 @@ tests_whole false false false true w h e = cc
 tests_whole false false false false true h e = cc
 tests_whole false false false false false h e = cc
 
-answer_whole : {local : LocalTree} {calls : List CallAt} {text : List ℕ} {status : Status} → Conforms local calls text status → status ≢ statuses.Broken
+answer_whole : {local : LocalTree} {calls : List CallAt} {text : List ℕ} {status : Status} → Conforms local calls text status →
+    status ≢ statuses.Broken
 answer_whole (complete h) e = absurd cc
 answer_whole (unfinished h isnt) e = absurd cc
 answer_whole (not_offered front call rest split before isnt) e = absurd cc
@@ -288,7 +323,8 @@ told_whole : (stands : Bool) → refined_status stands ≢ statuses.Broken
 told_whole true e = cc
 told_whole false e = cc
 
-pub broken_command : {command : Command} {contents : List (List ℕ)} {actions : List Action} {status : Status} → Yields command contents actions status →
+pub broken_command : {command : Command} {contents : List (List ℕ)} {actions : List Action} {status : Status} →
+    Yields command contents actions status →
     status ≡ statuses.Broken → (asked : Asked) × (files : List Word) × (command ≡ Exec asked files)
 broken_command (commands.translate (translated t)) e = absurd cc
 broken_command (commands.translate (not_translated r)) e = absurd cc
@@ -301,7 +337,8 @@ broken_command (commands.compile (compiled written h)) e = absurd cc
 broken_command (commands.compile (not_compiled r)) e = absurd cc
 broken_command (commands.run {asked = asked} {files = files} {contents = contents} (ran r h)) e =
     let all : List Stand = stands_in r.program r.last in
-    absurd (tests_whole (list_any is_bound all) (list_any is_broken all) (list_any is_zero all) (list_any is_mismatch all) (list_any is_waiting all)
+    absurd (tests_whole (list_any is_bound all) (list_any is_broken all) (list_any is_zero all) (list_any is_mismatch all)
+    (list_any is_waiting all)
     (none_broken (sources files contents) (role_mains_of asked) (order_of asked) (limit_of asked) r h) e)
 broken_command (commands.run (not_run r)) e = absurd cc
 broken_command (commands.refine (refined {stands = stands} h)) e = absurd (told_whole stands e)

@@ -44,12 +44,14 @@ exec_asked asked files mains order limit named shown m o l n h =
     (subst (λ (z : List RoleMain). IsOfRun files z order limit named asked.traced shown) m h)))
 
 -- what a run printed, its trace and the lines of its roles
-pub exec_given : (asked : Asked) (files : List Word) (contents : List (List ℕ)) (mains : List RoleMain) (order : List ℕ) (limit : ℕ) (named : Bool)
+pub exec_given : (asked : Asked) (files : List Word) (contents : List (List ℕ)) (mains : List RoleMain) (order : List ℕ) (limit : ℕ)
+    (named : Bool)
     (shown : Ran) (r : Result Delivery Memory) → mains ≡ role_mains_of asked → order ≡ order_of asked → limit ≡ limit_of asked
     → named ≡ are_named asked → IsOfRun (sources files contents) mains order limit named asked.traced shown
     → IfOk r (λ d. d.actions.items ≡ shown_so shown.printed shown.trace (names_of mains)
     (map (λ r. r.instructions) shown.roles.items) (map (λ r. r.stand) shown.roles.items))
-    → IfOk r (λ d. d.status ≡ status_of (map (λ r. r.stand) shown.roles.items)) → IfOk r (λ d. Yields (Exec asked files) contents d.actions.items d.status)
+    → IfOk r (λ d. d.status ≡ status_of (map (λ r. r.stand) shown.roles.items)) →
+    IfOk r (λ d. Yields (Exec asked files) contents d.actions.items d.status)
 exec_given asked files contents mains order limit named shown r m o l n given actions status =
     let h : IsOfRun (sources files contents) (role_mains_of asked) (order_of asked) (limit_of asked) (are_named asked) asked.traced shown =
     exec_asked asked (sources files contents) mains order limit named shown m o l n given in

@@ -44,7 +44,8 @@ use Rattle.mg_top.specs.Translation.{IsTypestateFile, api_written, IsTranslation
 use Rattle.mg_top.specs.Lines.{not_offered_line}
 use Rattle.mg_top.specs.Conformance.{calls_of, Conforms, complete, unfinished, not_offered, IsNoList, too_large, bad_line}
 use Rattle.mg_top.specs.Commands.{prints, kept_in, role_mains_of, run_said, run_printed, exec_said, exec_printed}
-use Rattle.mg_top.specs.Commands.{TranslateGives, translated, not_translated, ConformGives, conforms, no_protocol, no_calls, CheckGives, checked, not_checked}
+use Rattle.mg_top.specs.Commands.{TranslateGives, translated, not_translated, ConformGives, conforms, no_protocol, no_calls, CheckGives}
+use Rattle.mg_top.specs.Commands.{checked, not_checked}
 use Rattle.mg_top.specs.Commands.{CompileGives, compiled, not_compiled, RunGives, ran, not_run, ExecGives, executed, not_executed}
 use Rattle.mg_top.specs.Commands.{RefineGives, refined, not_refined, ProjectGives, projected, not_projected, Yields}
 use Rattle.mg_top.specs.Commands as commands
@@ -56,21 +57,24 @@ use Rattle.mg_top.proofs.Exact.{one_status, never_refused, listed_once}
 same_local : (k l : LocalTree) → Protocol k ≡ Protocol l → k ≡ l
 same_local k l e = cc
 
-one_file : (folder : Option Word) (local : LocalTree) (a b : Output) → IsTypestateFile folder local a → IsTypestateFile folder local b → a ≡ b
+one_file : (folder : Option Word) (local : LocalTree) (a b : Output) → IsTypestateFile folder local a → IsTypestateFile folder local b →
+    a ≡ b
 one_file folder local a b h k =
     let same : h.typestate ≡ k.typestate = h.numbered ∙ sym k.numbered in
     let text : a.text ≡ b.text = h.layout ∙ ap layout same ∙ sym k.layout in
     let name : a.name ≡ b.name = h.named ∙ sym k.named in
     λ i. record { name = name i; text = text i }
 
-one_translation : (folder : Option Word) (local : LocalTree) (xs ys : List Action) → IsTranslation folder local xs → IsTranslation folder local ys →
+one_translation : (folder : Option Word) (local : LocalTree) (xs ys : List Action) → IsTranslation folder local xs →
+    IsTranslation folder local ys →
     xs ≡ ys
 one_translation folder local xs ys h k =
     let file : h.typestate ≡ k.typestate = one_file folder local h.typestate k.typestate h.is_typestate k.is_typestate in
     let files : h.files ≡ k.files = one_api local h.files k.files h.is_api k.is_api in
     h.both ∙ (λ i. Write (file i) ∷ map (api_written folder) (files i)) ∙ sym k.both
 
-one_of_source : (folder : Option Word) (source : Source) (xs ys : List Action) → Translates folder source xs → Translates folder source ys → xs ≡ ys
+one_of_source : (folder : Option Word) (source : Source) (xs ys : List Action) → Translates folder source xs → Translates folder source ys →
+    xs ≡ ys
 one_of_source folder source xs ys h k =
     let same : h.local ≡ k.local = same_local h.local k.local (one_part source (Protocol h.local) (Protocol k.local) h.spelled k.spelled) in
     one_translation folder k.local xs ys (subst (λ (l : LocalTree). IsTranslation folder l xs) same h.translation) k.translation
@@ -96,7 +100,8 @@ translate_once (not_translated r) z e ne = absurd (ne refl)
 
 -- ---- conform
 
-answers_once : {local : LocalTree} {calls : List CallAt} {t u : List ℕ} {m n : Status} → Conforms local calls t m → Conforms local calls u n →
+answers_once : {local : LocalTree} {calls : List CallAt} {t u : List ℕ} {m n : Status} → Conforms local calls t m → Conforms local calls u n
+    →
     m ≡ n → m ≢ statuses.Refused → t ≡ u
 answers_once (complete c) (complete d) e ne = refl
 answers_once (complete c) (unfinished h isnt) e ne = absurd (isnt c)
@@ -106,9 +111,11 @@ answers_once (complete c) (not_offered front call rest split before isnt) e ne =
 answers_once (unfinished h isnt') (not_offered front call rest split before isnt) e ne = absurd (ne e)
 answers_once (not_offered front call rest split before isnt) d e ne = absurd (ne refl)
 
-conform_once : {protocol calls : Source} {a b : List Action} {m n : Status} → ConformGives protocol calls a m → ConformGives protocol calls b n →
+conform_once : {protocol calls : Source} {a b : List Action} {m n : Status} → ConformGives protocol calls a m →
+    ConformGives protocol calls b n →
     m ≡ n → m ≢ statuses.Refused → a ≡ b
-conform_once {protocol = protocol} {calls = calls} {m = m} {n = n} (conforms {text = t} local list o l c) (conforms {text = u} local' list' o' l' c') e ne =
+conform_once {protocol = protocol} {calls = calls} {m = m} {n = n} (conforms {text = t} local list o l c)
+    (conforms {text = u} local' list' o' l' c') e ne =
     let local_is : local' ≡ local = same_local local' local (one_part protocol (Protocol local') (Protocol local) o' o) in
     let list_is : list' ≡ list = one_list calls.bytes list' list l'.listed l.listed in
     let there : Conforms local list u n =
@@ -155,18 +162,27 @@ project_once (not_projected r) z e ne = absurd (ne refl)
 abbrev run_actions : Asked → Course → List Action
 run_actions asked r = kept_in asked.folder r.written ++ (prints (run_printed asked r) ++ Say (run_said asked r) ∷ [])
 
-run_once : {asked : Asked} {files : List Source} {a b : List Action} {m n : Status} → RunGives asked files a m → RunGives asked files b n → m ≡ n →
+run_once : {asked : Asked} {files : List Source} {a b : List Action} {m n : Status} → RunGives asked files a m → RunGives asked files b n →
+    m ≡ n →
     m ≢ statuses.Refused → a ≡ b
 run_once {asked = asked} {files = files} (ran r h) (ran s k) e ne =
     let same = one_of_run files (role_mains_of asked) (order_of asked) (limit_of asked) r s h k in
-    λ i. run_actions asked (record { core = same.core i; written = same.written i; program = same.program i; first = r.first; last = same.last i })
+    λ i. run_actions asked (record {
+      core = same.core i;
+      written = same.written i;
+      program = same.program i;
+      first = r.first;
+      last =
+          same.last i;
+    })
 run_once (ran r h) (not_run q) e ne = absurd (ne e)
 run_once (not_run r) z e ne = absurd (ne refl)
 
 abbrev exec_actions : Asked → executing.Course → List Action
 exec_actions asked r = prints (exec_printed asked r) ++ Say (exec_said asked r) ∷ []
 
-exec_once : {asked : Asked} {files : List Source} {a b : List Action} {m n : Status} → ExecGives asked files a m → ExecGives asked files b n → m ≡ n →
+exec_once : {asked : Asked} {files : List Source} {a b : List Action} {m n : Status} → ExecGives asked files a m → ExecGives asked files b n
+    → m ≡ n →
     m ≢ statuses.Refused → a ≡ b
 exec_once {asked = asked} {files = files} (executed r h) (executed s k) e ne =
     let same = one_course files (role_mains_of asked) (order_of asked) (limit_of asked) r s h k in
@@ -198,9 +214,11 @@ translate_alike : {folder : Option Word} {files : List Source} {a b : List Actio
 translate_alike (translated t) (translated u) e = inl (each_once t.each u.each refl)
 translate_alike (translated t) (not_translated q) e = let no : ⊥ = cc in absurd no
 translate_alike (not_translated r) (translated u) e = let no : ⊥ = cc in absurd no
-translate_alike {files = files} (not_translated {line = l} r) (not_translated {line = k} q) e = say l k (sources_alike.same_refusal files l k r q)
+translate_alike {files = files} (not_translated {line = l} r) (not_translated {line = k} q) e =
+    say l k (sources_alike.same_refusal files l k r q)
 
-check_alike : {files : List Source} {a b : List Action} {m n : Status} → CheckGives files a m → CheckGives files b n → m ≡ n → SameActions a b
+check_alike : {files : List Source} {a b : List Action} {m n : Status} → CheckGives files a m → CheckGives files b n → m ≡ n →
+    SameActions a b
 check_alike (checked c h r) (checked d k q) e = inl (check_once (checked c h r) (checked d k q) refl (λ f. cc))
 check_alike (checked c h r) (not_checked q) e = let no : ⊥ = cc in absurd no
 check_alike (not_checked r) (checked d k q) e = let no : ⊥ = cc in absurd no
@@ -211,9 +229,11 @@ compile_alike : {folder : Option Word} {files : List Source} {a b : List Action}
 compile_alike (compiled w h) (compiled v k) e = inl (compile_once (compiled w h) (compiled v k) refl (λ f. cc))
 compile_alike (compiled w h) (not_compiled q) e = let no : ⊥ = cc in absurd no
 compile_alike (not_compiled r) (compiled v k) e = let no : ⊥ = cc in absurd no
-compile_alike {files = files} (not_compiled {line = l} r) (not_compiled {line = k} q) e = say l k (compiled_alike.same_refusal files l k r q)
+compile_alike {files = files} (not_compiled {line = l} r) (not_compiled {line = k} q) e =
+    say l k (compiled_alike.same_refusal files l k r q)
 
-run_alike : {asked : Asked} {files : List Source} {a b : List Action} {m n : Status} → RunGives asked files a m → RunGives asked files b n → m ≡ n →
+run_alike : {asked : Asked} {files : List Source} {a b : List Action} {m n : Status} → RunGives asked files a m → RunGives asked files b n →
+    m ≡ n →
     SameActions a b
 run_alike (ran r h) (ran s k) e = inl (run_once (ran r h) (ran s k) e (never_refused _))
 run_alike (ran r h) (not_run q) e = absurd (never_refused _ e)
@@ -221,7 +241,8 @@ run_alike (not_run r) (ran s k) e = absurd (never_refused _ (sym e))
 run_alike {asked = asked} {files = files} (not_run {line = l} r) (not_run {line = k} q) e =
     say l k (runs_alike.same_refusal files (role_mains_of asked) l k r q)
 
-refine_alike : {files : List Source} {a b : List Action} {m n : Status} → RefineGives files a m → RefineGives files b n → m ≡ n → SameActions a b
+refine_alike : {files : List Source} {a b : List Action} {m n : Status} → RefineGives files a m → RefineGives files b n → m ≡ n →
+    SameActions a b
 refine_alike {files = files} (refined {text = x} {stands = s} h) (refined {text = y} {stands = t} k) e =
     inl (ap (λ (text : List ℕ). Print text ∷ []) (one_telling files x y s t h k).0)
 refine_alike {files = files} (refined h) (not_refined {line = k} q) e =
@@ -235,7 +256,8 @@ project_alike : {folder : Option Word} {files : List Source} {a b : List Action}
 project_alike (projected w h) (projected v k) e = inl (project_once (projected w h) (projected v k) refl (λ f. cc))
 project_alike (projected w h) (not_projected q) e = let no : ⊥ = cc in absurd no
 project_alike (not_projected r) (projected v k) e = let no : ⊥ = cc in absurd no
-project_alike {files = files} (not_projected {line = l} r) (not_projected {line = k} q) e = say l k (projected_alike.same_refusal files l k r q)
+project_alike {files = files} (not_projected {line = l} r) (not_projected {line = k} q) e =
+    say l k (projected_alike.same_refusal files l k r q)
 
 -- ---- conform
 
@@ -270,7 +292,8 @@ never_on local front others call a trace isnt =
     isnt (calls_of a.more)
     (subst (Trace local.me (protocol_of local)) (ap calls_of a.is ∙ map-append (λ (c : CallAt). c.call) front (call ∷ a.more)) trace)
 
-answers_alike : {local : LocalTree} {calls : List CallAt} {t u : List ℕ} {m n : Status} → Conforms local calls t m → Conforms local calls u n →
+answers_alike : {local : LocalTree} {calls : List CallAt} {t u : List ℕ} {m n : Status} → Conforms local calls t m →
+    Conforms local calls u n →
     m ≡ n → t ≡ u
 answers_alike (complete c) (complete d) e = refl
 answers_alike (complete c) (unfinished h isnt) e = absurd (isnt c)
@@ -302,22 +325,28 @@ lists_alike source l k (bad_line p few a) (bad_line q few' b) =
     ap (λ (place : Place). fault_line source.name (record { kind = codes "BadLine"; place = place; name = [] }))
     (same_place p q (one_answer (one_bad source.number) a b))
 
-conform_alike : {protocol calls : Source} {a b : List Action} {m n : Status} → ConformGives protocol calls a m → ConformGives protocol calls b n →
+conform_alike : {protocol calls : Source} {a b : List Action} {m n : Status} → ConformGives protocol calls a m →
+    ConformGives protocol calls b n →
     m ≡ n → SameActions a b
-conform_alike {protocol = protocol} {calls = calls} {m = m} {n = n} (conforms {text = t} local list o l c) (conforms {text = u} local' list' o' l' c') e =
+conform_alike {protocol = protocol} {calls = calls} {m = m} {n = n} (conforms {text = t} local list o l c)
+    (conforms {text = u} local' list' o' l' c') e =
     let local_is : local' ≡ local = same_local local' local (one_part protocol (Protocol local') (Protocol local) o' o) in
     let list_is : list' ≡ list = one_list calls.bytes list' list l'.listed l.listed in
     let there : Conforms local list u n =
     subst (λ (z : List CallAt). Conforms local z u n) list_is (subst (λ (z : LocalTree). Conforms z list' u n) local_is c') in
     inl (ap (λ (text : List ℕ). Print text ∷ []) (answers_alike c there e))
-conform_alike {protocol = protocol} (conforms local list o l c) (no_protocol {line = k} q) e = absurd (not_refused protocol (Protocol local) k o q)
+conform_alike {protocol = protocol} (conforms local list o l c) (no_protocol {line = k} q) e =
+    absurd (not_refused protocol (Protocol local) k o q)
 conform_alike {calls = calls} (conforms local list o l c) (no_calls {line = k} local' o' q) e = absurd (listed_once calls list k l q)
-conform_alike {protocol = protocol} (no_protocol {line = l} r) (conforms local list o l' c) e = absurd (not_refused protocol (Protocol local) l o r)
-conform_alike {protocol = protocol} (no_protocol {line = l} r) (no_protocol {line = k} q) e = say l k (sources_alike.refusals_alike protocol l k r q)
+conform_alike {protocol = protocol} (no_protocol {line = l} r) (conforms local list o l' c) e =
+    absurd (not_refused protocol (Protocol local) l o r)
+conform_alike {protocol = protocol} (no_protocol {line = l} r) (no_protocol {line = k} q) e =
+    say l k (sources_alike.refusals_alike protocol l k r q)
 conform_alike {protocol = protocol} (no_protocol {line = l} r) (no_calls local o q) e = absurd (not_refused protocol (Protocol local) l o r)
 conform_alike {calls = calls} (no_calls {line = l} local o r) (conforms local' list o' l' c) e = absurd (listed_once calls list l l' r)
 conform_alike {protocol = protocol} (no_calls local o r) (no_protocol {line = k} q) e = absurd (not_refused protocol (Protocol local) k o q)
-conform_alike {calls = calls} (no_calls {line = l} local o r) (no_calls {line = k} local' o' q) e = say l k (inl (lists_alike calls l k r q))
+conform_alike {calls = calls} (no_calls {line = l} local o r) (no_calls {line = k} local' o' q) e =
+    say l k (inl (lists_alike calls l k r q))
 
 alike : {command : Command} {contents : List (List ℕ)} {a b : List Action} {m n : Status} → Yields command contents a m →
     Yields command contents b n → m ≡ n → ((asked : Asked) (files : List Word) → command ≢ Exec asked files) → SameActions a b

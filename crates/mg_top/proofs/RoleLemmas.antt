@@ -1,5 +1,6 @@
 -- The roles of a run as they are kept, copied and numbered.
-use Rattle.std.proofs.Common.{◌≡◌, ◌<◌, ◌≤◌, ◌+◌, ℕ, List, [], ◌∷◌, ◌++◌, map, take, length, get_or, slice_get, All, Contains, Some, refl, sym, ap, ◌∙◌, subst}
+use Rattle.std.proofs.Common.{◌≡◌, ◌<◌, ◌≤◌, ◌+◌, ℕ, List, [], ◌∷◌, ◌++◌, map, take, length, get_or, slice_get, All, Contains, Some, refl}
+use Rattle.std.proofs.Common.{sym, ap, ◌∙◌, subst}
 use Rattle.std.proofs.lemmas.List.{length-map, map_more, take_all}
 use Rattle.std.proofs.lemmas.List.Elements.{All-get_or}
 use Rattle.std.proofs.lemmas.Option.{get_or_from_slice_get, slice_get_within}
@@ -25,7 +26,8 @@ copied_all [] = refl
 copied_all (m ∷ ms) = ap (λ (z : List RoleMain). copied m ∷ z) (copied_all ms)
 
 -- a role more is copied
-pub copied_more : (items : List KeptRole) (i : ℕ) (m : KeptRole) (role class : Word) (before after : List RoleMain) → i < length items → m ≡ get_or items i m
+pub copied_more : (items : List KeptRole) (i : ℕ) (m : KeptRole) (role class : Word) (before after : List RoleMain) → i < length items →
+    m ≡ get_or items i m
     → role ≡ m.role → class ≡ m.class → before ≡ map copied (take i items) → after ≡ before ++ record { role = role; class = class } ∷ []
     → after ≡ map copied (take (i + 1) items)
 copied_more items i m role class before after less is r c e added =
@@ -35,7 +37,8 @@ copied_more items i m role class before after less is r c e added =
     ∙ ap (λ (z : KeptRole). map copied (take i items) ++ copied z ∷ []) is ∙ sym (map_more copied items i m less)
 
 -- all roles that were kept are copied
-pub mains_copied : (mains : List RoleMain) (items : List KeptRole) (i : ℕ) (asked : Asked) → mains ≡ map copied (take i items) → length items ≤ i
+pub mains_copied : (mains : List RoleMain) (items : List KeptRole) (i : ℕ) (asked : Asked) → mains ≡ map copied (take i items) →
+    length items ≤ i
     → role_classes_of items ≡ mains_of asked → mains ≡ role_mains_of asked
 mains_copied mains items i asked e whole h = e ∙ ap (map copied) (take_all i items whole) ∙ copied_all items ∙ ap (map role_main_of) h
 
@@ -44,7 +47,8 @@ names_same [] = refl
 names_same (c ∷ cs) = ap (λ (z : List Word). c.role ∷ z) (names_same cs)
 
 -- no two roles of a run have one name
-pub roles_distinct : (mains : List RoleMain) (asked : Asked) → mains ≡ role_mains_of asked → IsDistinct bytes_eq (role_names (mains_of asked))
+pub roles_distinct : (mains : List RoleMain) (asked : Asked) → mains ≡ role_mains_of asked →
+    IsDistinct bytes_eq (role_names (mains_of asked))
     → IsDistinct bytes_eq (map (λ m. m.role) mains)
 roles_distinct mains asked e d =
     subst (λ (z : List Word). IsDistinct bytes_eq z) (sym (ap (map (λ (m : RoleMain). m.role)) e ∙ names_same (mains_of asked))) d
@@ -69,7 +73,8 @@ each_numbered mains asked order e o each r less =
     subst (λ (z : List ℕ). Contains z r) (sym o) (each r (subst (λ (n : ℕ). r < n) (as_many mains asked e) less))
 
 -- the line of a refusal of these roles
-pub refusal_given : (asked : Asked) (names : List Word) (contents : List (List ℕ)) (mains : List RoleMain) (line : List ℕ) → mains ≡ role_mains_of asked
+pub refusal_given : (asked : Asked) (names : List Word) (contents : List (List ℕ)) (mains : List RoleMain) (line : List ℕ) →
+    mains ≡ role_mains_of asked
     → Refusal (sources names contents) mains line → Yields (Run asked names) contents (Say line ∷ []) Refused
 refusal_given asked names contents mains line e h =
     run (not_run (subst (λ (z : List RoleMain). Refusal (sources names contents) z line) e h))

@@ -1,5 +1,6 @@
 -- What is written for the files that `translate` reads.
-use Rattle.std.proofs.Common.{◌≡◌, ◌<◌, ◌+◌, ℕ, zero, suc, List, [], ◌∷◌, ◌++◌, All, map, length, get_or, take, Option, None, refl, sym, ap, ◌∙◌, subst, arith, codes, Result, Ok, Err, append_assoc}
+use Rattle.std.proofs.Common.{◌≡◌, ◌<◌, ◌+◌, ℕ, zero, suc, List, [], ◌∷◌, ◌++◌, All, map, length, get_or, take, Option, None, refl, sym, ap}
+use Rattle.std.proofs.Common.{◌∙◌, subst, arith, codes, Result, Ok, Err, append_assoc}
 use Rattle.std.specs.Prelude.{OnOk}
 use Rattle.std.proofs.lemmas.List.{append-nil, take_more, map-append}
 use Rattle.mg_read.specs.First.{Judged, clean, later}
@@ -24,24 +25,29 @@ use Rattle.mg_top.specs.inner.Preparing.{locals_in, AddsPart, AddsTranslation, E
 use Rattle.mg_top.specs.inner.Preparing as preparing
 
 -- files that are translated aren't refused
-pub none_refused_of_translated : {folder : Option Word} {files : List Source} {actions : List Action} → EachTranslates folder files actions → Judged IsRefused files None
+pub none_refused_of_translated : {folder : Option Word} {files : List Source} {actions : List Action} → EachTranslates folder files actions
+    → Judged IsRefused files None
 none_refused_of_translated none = clean
-none_refused_of_translated (one {source = f} t rest) = later (λ line. not_refused f (Protocol t.local) line t.spelled) (none_refused_of_translated rest)
+none_refused_of_translated (one {source = f} t rest) = later (λ line. not_refused f (Protocol t.local) line t.spelled)
+    (none_refused_of_translated rest)
 
 -- names of local protocols tell of which kind they are
 pub scribble_kinds : (names : List Word) → All (IsFileOf (codes ".scr")) names → HaveKinds names
 scribble_kinds names each k d lt = (Scribble, (each k d lt).1)
 
 -- the translations of protocols are those of the files that spell them
-pub translated : (folder : Option Word) (n : ℕ) (names : List Word) (contents : List (List ℕ)) (parts : List Part) (actions : List Action) → All (IsFileOf (codes ".scr")) names
-    → EachSpells (sources_from n names contents) parts → EachIsWritten folder (locals_in parts) actions → EachTranslates folder (sources_from n names contents) actions
+pub translated : (folder : Option Word) (n : ℕ) (names : List Word) (contents : List (List ℕ)) (parts : List Part) (actions : List Action) →
+    All (IsFileOf (codes ".scr")) names
+    → EachSpells (sources_from n names contents) parts → EachIsWritten folder (locals_in parts) actions →
+    EachTranslates folder (sources_from n names contents) actions
 translated folder n [] contents [] actions scribble each preparing.none = none
 translated folder n [] contents (p ∷ ps) actions scribble each written = absurd each
 translated folder n (x ∷ xs) [] [] actions scribble each preparing.none = none
 translated folder n (x ∷ xs) [] (p ∷ ps) actions scribble each written = absurd each
 translated folder n (x ∷ xs) (b ∷ bs) [] actions scribble each written = absurd each
 translated folder n (x ∷ xs) (b ∷ bs) (Protocol l ∷ ps) actions scribble (reads, rest) (preparing.one {actions = more} t written) =
-    one (record { local = l; spelled = reads; translation = t }) (translated folder (suc n) xs bs ps more (λ k d lt. scribble (suc k) d (omega arith)) rest written)
+    one (record { local = l; spelled = reads; translation = t })
+    (translated folder (suc n) xs bs ps more (λ k d lt. scribble (suc k) d (omega arith)) rest written)
 translated folder n (x ∷ xs) (b ∷ bs) (States t ∷ ps) actions scribble (reads, rest) written =
     absurd (no_states (source_of n x b) t (scribble zero x (omega arith)).1 reads)
 translated folder n (x ∷ xs) (b ∷ bs) (Classes c ∷ ps) actions scribble (reads, rest) written =
@@ -61,26 +67,35 @@ locals_push (Protocol l ∷ ps) p = ap (λ (z : List LocalTree). l ∷ z) (local
 locals_push (States t ∷ ps) p = locals_push ps p
 locals_push (Classes c ∷ ps) p = locals_push ps p
 
-part_written : {folder : Option Word} {locals : List LocalTree} {actions actions' : List Action} (p : Part) → EachIsWritten folder locals actions
+part_written : {folder : Option Word} {locals : List LocalTree} {actions actions' : List Action} (p : Part) →
+    EachIsWritten folder locals actions
     → AddsPart folder p actions actions' → EachIsWritten folder (locals ++ locals_in (p ∷ [])) actions'
-part_written {folder} {locals} (Protocol l) before added = subst (EachIsWritten folder (locals ++ l ∷ [])) (sym added.grown) (written_push l added.writes before added.translation)
+part_written {folder} {locals} (Protocol l) before added = subst (EachIsWritten folder (locals ++ l ∷ [])) (sym added.grown)
+    (written_push l added.writes before added.translation)
 part_written {folder} {locals} {actions} {actions'} (States t) before same =
-    subst (λ (z : List LocalTree). EachIsWritten folder z actions') (sym (append-nil locals)) (subst (EachIsWritten folder locals) (sym same) before)
+    subst (λ (z : List LocalTree). EachIsWritten folder z actions') (sym (append-nil locals))
+    (subst (EachIsWritten folder locals) (sym same) before)
 part_written {folder} {locals} {actions} {actions'} (Classes c) before same =
-    subst (λ (z : List LocalTree). EachIsWritten folder z actions') (sym (append-nil locals)) (subst (EachIsWritten folder locals) (sym same) before)
+    subst (λ (z : List LocalTree). EachIsWritten folder z actions') (sym (append-nil locals))
+    (subst (EachIsWritten folder locals) (sym same) before)
 
-pub written_more : {folder : Option Word} {actions actions' : List Action} (parts : List KeptPart) (i : ℕ) (p : KeptPart) → i < length parts →
-    p ≡ get_or parts i p → EachIsWritten folder (locals_in (map part_of (take i parts))) actions → AddsPart folder (part_of p) actions actions' →
+pub written_more : {folder : Option Word} {actions actions' : List Action} (parts : List KeptPart) (i : ℕ) (p : KeptPart) → i < length parts
+    →
+    p ≡ get_or parts i p → EachIsWritten folder (locals_in (map part_of (take i parts))) actions →
+    AddsPart folder (part_of p) actions actions' →
     EachIsWritten folder (locals_in (map part_of (take (i + 1) parts))) actions'
 written_more {folder} {actions} {actions'} parts i p lt is before added =
     let names : map part_of (take (i + 1) parts) ≡ map part_of (take i parts) ++ part_of p ∷ [] =
-    ap (map part_of) (take_more parts i p lt ∙ ap (λ (z : KeptPart). take i parts ++ z ∷ []) (sym is)) ∙ map-append part_of (take i parts) (p ∷ []) in
-    subst (λ (z : List LocalTree). EachIsWritten folder z actions') (sym (ap locals_in names ∙ locals_push (map part_of (take i parts)) (part_of p)))
+    ap (map part_of) (take_more parts i p lt ∙ ap (λ (z : KeptPart). take i parts ++ z ∷ []) (sym is)) ∙ map-append part_of (take i parts)
+    (p ∷ []) in
+    subst (λ (z : List LocalTree). EachIsWritten folder z actions')
+    (sym (ap locals_in names ∙ locals_push (map part_of (take i parts)) (part_of p)))
     (part_written (part_of p) before added)
 
 -- a protocol's typestate and the files of its API are appended
 pub adds_translation : (r : Result Unit Memory) (folder : Option Word) (local : LocalTree) (before pushed after : List Action)
-    (files listed : List ApiFile) (file : Output) → IsTypestateFile folder local file → IsApi local (map written_of files) → listed ≡ files →
+    (files listed : List ApiFile) (file : Output) → IsTypestateFile folder local file → IsApi local (map written_of files) → listed ≡ files
+    →
     pushed ≡ before ++ acts.Write file ∷ [] → OnOk r (after ≡ pushed ++ map (api_written folder) (map written_of listed)) →
     OnOk r (AddsTranslation folder local before after)
 adds_translation (Err e) folder local before pushed after files listed file is api same grown h = tt
@@ -88,6 +103,7 @@ adds_translation (Ok x) folder local before pushed after files listed file is ap
     let rest : List Action = map (api_written folder) (map written_of files) in record {
       writes = acts.Write file ∷ rest;
       translation = record { typestate = file; is_typestate = is; files = map written_of files; is_api = api; both = refl };
-      grown = h ∙ ap (λ (z : List ApiFile). pushed ++ map (api_written folder) (map written_of z)) same ∙ ap (λ (z : List Action). z ++ rest) grown
+      grown = h ∙ ap (λ (z : List ApiFile). pushed ++ map (api_written folder) (map written_of z)) same ∙
+          ap (λ (z : List Action). z ++ rest) grown
           ∙ append_assoc before (acts.Write file ∷ []) rest;
     }

@@ -1,5 +1,6 @@
 -- No role of a run of accepted files ends at a null, or because its code is wrong.
-use Rattle.std.proofs.Common.{◌≡◌, ◌≢◌, ◌<◌, ℕ, suc, Bool, true, false, List, [], ◌∷◌, length, Option, Some, None, slice_get, refl, sym, ap, ◌∙◌, subst}
+use Rattle.std.proofs.Common.{◌≡◌, ◌≢◌, ◌<◌, ℕ, suc, Bool, true, false, List, [], ◌∷◌, length, Option, Some, None, slice_get, refl, sym, ap}
+use Rattle.std.proofs.Common.{◌∙◌, subst}
 use Rattle.std.specs.Prelude.{◌||◌}
 use Rattle.std.specs.List.{list_any}
 use Rattle.mg_text.specs.declared.event.Ending.TheVariants as endings
@@ -39,7 +40,8 @@ neither : (b c : Bool) → b ≡ false → c ≡ false → (b || c) ≡ false
 neither false c e h = h
 neither true c e h = absurd cc
 
-stands_fine : (p : Program) (w : World) (r : ℕ) (roles : List Role) → ((i : ℕ) (role : Role) → slice_get roles i ≡ Some role → IsFine role.state) →
+stands_fine : (p : Program) (w : World) (r : ℕ) (roles : List Role) → ((i : ℕ) (role : Role) → slice_get roles i ≡ Some role →
+    IsFine role.state) →
     list_any is_broken (stands_from p w r roles) ≡ false
 stands_fine p w r [] fine = refl
 stands_fine p w r (role ∷ roles) fine =
@@ -52,12 +54,14 @@ started_long p [] (role ∷ roles) h = absurd h
 started_long p (main ∷ mains) [] h = absurd h
 started_long p (main ∷ mains) (role ∷ roles) h = ap suc (started_long p mains roles h.1)
 
-pub none_broken : (files : List Source) (mains : List RoleMain) (order : List ℕ) (limit : ℕ) (r : Course) → IsRun files mains order limit r →
+pub none_broken : (files : List Source) (mains : List RoleMain) (order : List ℕ) (limit : ℕ) (r : Course) → IsRun files mains order limit r
+    →
     list_any is_broken (stands_in r.program r.last) ≡ false
 none_broken files mains order limit r h =
     let taken : List ℕ = first_turns order h.runs.taken in
     let long : length r.last.roles ≡ length mains
-    = ap (λ (w : World). length w.roles) h.runs.is ∙ turns_long r.program r.first taken ∙ started_long r.program mains r.first.roles h.begins.roles in
+    = ap (λ (w : World). length w.roles) h.runs.is ∙ turns_long r.program r.first taken ∙ started_long r.program mains r.first.roles
+    h.begins.roles in
     stands_fine r.program r.last 0 r.last.roles (λ i role at.
     let main = get_within mains i (subst (λ (n : ℕ). i < n) long (got_within r.last.roles i role at)) in
     let at_moment : slice_get (turns r.program r.first taken).roles i ≡ Some role

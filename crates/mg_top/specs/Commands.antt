@@ -29,7 +29,8 @@ use Rattle.mg_top.specs.declared.status.Status.TheVariants.{Done, Refused}
 use Rattle.mg_top.specs.declared.status.Status.TheVariants as statuses
 use Rattle.mg_top.specs.declared.delivery.Action.{Action}
 use Rattle.mg_top.specs.declared.delivery.Action.TheVariants.{Print, Say}
-use Rattle.mg_words.specs.Words.{Word, RoleClass, Asked, limit_of, mains_of, order_of, are_named, Command, Translate, Conform, Check, Compile, Run, Exec, Refine, Project}
+use Rattle.mg_words.specs.Words.{Word, RoleClass, Asked, limit_of, mains_of, order_of, are_named, Command, Translate, Conform, Check}
+use Rattle.mg_words.specs.Words.{Compile, Run, Exec, Refine, Project}
 use Rattle.mg_sources.specs.Files.{Source, source_of, sources}
 use Rattle.mg_sources.specs.Reading.{Protocol, Reads}
 use Rattle.mg_sources.specs.Sources.{IsRefused, Refusal}
@@ -50,10 +51,12 @@ pub data TranslateGives (folder : Option Word) (files : List Source) : List Acti
 
 -- a file of a protocol, and one of calls
 pub data ConformGives (protocol calls : Source) : List Action → Status → Type 0 where
-  conforms : {text : List ℕ} {status : Status} (local : LocalTree) (list : List CallAt) → Reads protocol (Protocol local) → Lists calls list →
+  conforms : {text : List ℕ} {status : Status} (local : LocalTree) (list : List CallAt) → Reads protocol (Protocol local) → Lists calls list
+      →
       Conforms local list text status → ConformGives protocol calls (Print text ∷ []) status
   no_protocol : {line : List ℕ} → IsRefused protocol line → ConformGives protocol calls (Say line ∷ []) Refused
-  no_calls : {line : List ℕ} (local : LocalTree) → Reads protocol (Protocol local) → IsNoList calls line → ConformGives protocol calls (Say line ∷ []) Refused
+  no_calls : {line : List ℕ} (local : LocalTree) → Reads protocol (Protocol local) → IsNoList calls line →
+      ConformGives protocol calls (Say line ∷ []) Refused
 
 pub data CheckGives (files : List Source) : List Action → Status → Type 0 where
   checked : {text : List ℕ} (core : Core.Program) → AreAccepted files core → IsReport core text → CheckGives files (prints text) Done

@@ -17,7 +17,8 @@ use Rattle.mg_top.specs.Lines.{ended, not_offered_line}
 abbrev pub calls_of : List CallAt → List Call
 calls_of calls = map (λ c. c.call) calls
 
--- Calls from the start to the end of the protocol are complete, and others that it allows are open. The first that isn't offered is told: no trace goes on with it.
+-- Calls from the start to the end of the protocol are complete, and others that it allows are open. The first that isn't offered is told:
+-- no trace goes on with it.
 pub data Conforms (local : LocalTree) (calls : List CallAt) : List ℕ → Status → Type 0 where
   complete : Complete local.me (protocol_of local) (calls_of calls) → Conforms local calls (ended (codes "complete")) Done
   unfinished : Trace local.me (protocol_of local) (calls_of calls) → (Complete local.me (protocol_of local) (calls_of calls) → ⊥) →

@@ -23,7 +23,8 @@ Acts (Say line) answer old new =
 -- these actions were done, one after another
 pub data AreDone : List Action → Outside → Outside → Type 0 where
   nothing : {at : Outside} → AreDone [] at at
-  first : {more : List Action} {from end : Outside} (action : Action) (to : Outside) → Acts action (Ok tt) from to → AreDone more to end → AreDone (action ∷ more) from end
+  first : {more : List Action} {from end : Outside} (action : Action) (to : Outside) → Acts action (Ok tt) from to → AreDone more to end →
+      AreDone (action ∷ more) from end
 
 -- the status after the line of a failed write was put, or couldn't be
 abbrev pub after_line : Result Unit IoFault → Status
@@ -43,11 +44,14 @@ Tells (Say line) from status to = (status ≡ statuses.WriteFault) × (to ≡ fr
 
 -- an action fails, which is told, or memory lacks for it
 pub data Stops (action : Action) (from : Outside) : Status → Outside → Type 0 where
-  fails : {status : Status} {to : Outside} (at : Outside) → Acts action (Err io.Failed) from at → Tells action at status to → Stops action from status to
+  fails : {status : Status} {to : Outside} (at : Outside) → Acts action (Err io.Failed) from at → Tells action at status to →
+      Stops action from status to
   lacks : {to : Outside} → Acts action (Err io.Memory) from to → Stops action from statuses.Memory to
 
--- All actions are done, and the status is the one that is meant; or those before one are done, that one stops it, and the rest are never begun.
+-- All actions are done, and the status is the one that is meant; or those before one are done, that one stops it, and the rest are never
+-- begun.
 pub data Delivers (actions : List Action) (meant : Status) (from : Outside) : Status → Outside → Type 0 where
   whole : {to : Outside} → AreDone actions from to → Delivers actions meant from meant to
-  cut : {status : Status} {to : Outside} (front : List Action) (action : Action) (rest : List Action) (at : Outside) → actions ≡ front ++ action ∷ rest →
+  cut : {status : Status} {to : Outside} (front : List Action) (action : Action) (rest : List Action) (at : Outside) →
+      actions ≡ front ++ action ∷ rest →
       AreDone front from at → Stops action at status to → Delivers actions meant from status to

@@ -5,7 +5,8 @@ use Rattle.mg_top.specs.declared.status.Status.{Status}
 use Rattle.mg_top.specs.declared.status.Status.TheVariants as statuses
 use Rattle.mg_top.specs.declared.delivery.Action.{Action}
 use Rattle.mg_top.specs.declared.delivery.Action.TheVariants.{Say}
-use Rattle.mg_words.specs.Words.{Word, Command, Translate, Conform, Check, Compile, Run, Exec, Refine, Project, files_of, IsCommand, AreWrong}
+use Rattle.mg_words.specs.Words.{Word, Command, Translate, Conform, Check, Compile, Run, Exec, Refine, Project, files_of, IsCommand}
+use Rattle.mg_words.specs.Words.{AreWrong}
 use Rattle.mg_top.specs.Lines.{words_line, read_line, memory_line}
 use Rattle.mg_top.specs.Outside.{Outside, IsRead}
 use Rattle.mg_top.specs.Delivery.{Delivers}
@@ -52,10 +53,12 @@ pub data IsDue (words : List Word) (before : Outside) : List Action → Status �
   -- the words are no command
   wrong : (word : Option Word) → AreWrong words word → IsDue words before (Say (words_line word) ∷ []) statuses.Words before
   -- a file of the words can't be read, the first of them
-  unread : (name : Word) → IsUnread words before name → IsDue words before (Say (read_line name) ∷ []) statuses.ReadFault (after_read before name)
+  unread : (name : Word) → IsUnread words before name → IsDue words before (Say (read_line name) ∷ []) statuses.ReadFault
+      (after_read before name)
   -- the command gives these
   yielded : {actions : List Action} {meant : Status} (command : Command) (contents : List (List ℕ)) → IsCommand command words →
-      AreRead (read_limit command) before.files (files_of command) contents → Yields command contents actions meant → IsDue words before actions meant before
+      AreRead (read_limit command) before.files (files_of command) contents → Yields command contents actions meant →
+      IsDue words before actions meant before
   -- memory lacks, or lacks to say that a file of the words can't be read
   starved : IsDue words before (Say memory_line ∷ []) statuses.Memory before
   mute : (name : Word) → IsUnread words before name → IsDue words before (Say memory_line ∷ []) statuses.Memory (after_read before name)

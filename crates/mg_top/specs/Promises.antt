@@ -60,7 +60,8 @@ pub record Promises (words : List Word) (before : Outside) (status : Status) (af
   pub words_only : status ≡ statuses.Words → (word : Option Word) × AreWrong words word × AreDone (Say (words_line word) ∷ []) before after
   pub words_where : (word : Option Word) → AreWrong words word → IsUnlessStopped statuses.Words status
   -- ReadFault comes exactly where a read failed, of a file of the words behind those that were read, and its line alone was put
-  pub read_only : status ≡ statuses.ReadFault → (name : Word) × IsUnread words before name × AreDone (Say (read_line name) ∷ []) (after_read before name) after
+  pub read_only : status ≡ statuses.ReadFault → (name : Word) × IsUnread words before name × AreDone (Say (read_line name) ∷ [])
+      (after_read before name) after
   pub read_where : after.failed_reads ≢ before.failed_reads → IsUnlessStopped statuses.ReadFault status
   -- every other status but WriteFault and Memory is what the command gives of the files that were read, and all that it gives was done
   pub only : IsYielded status → (actions : List Action) × Carries words before actions status × AreDone actions before after
@@ -69,12 +70,14 @@ pub record Promises (words : List Word) (before : Outside) (status : Status) (af
       after.failed_reads ≡ before.failed_reads → IsUnlessStopped meant status
   -- after Refused one line was put on standard error, or on standard output that of a call that isn't offered, or the lines of a typestate
   -- that doesn't stand for another, and nothing else was done
-  pub refused_only : status ≡ statuses.Refused → ((line : List ℕ) × AreDone (Say line ∷ []) before after) ⊎ ((n : ℕ) × AreDone (Print (not_offered_line n) ∷ []) before after)
+  pub refused_only : status ≡ statuses.Refused → ((line : List ℕ) × AreDone (Say line ∷ []) before after)
+      ⊎ ((n : ℕ) × AreDone (Print (not_offered_line n) ∷ []) before after)
       ⊎ ((calls : List Call) × (reason : Reason) × AreDone (Print (no_text calls reason) ∷ []) before after)
   -- no command meets a null, or code that is wrong, but the one that runs class files as they are
   pub broken_only : status ≡ statuses.Broken → (asked : Asked) × (files : List Word) × IsCommand (Exec asked files) words
   -- WriteFault comes exactly where a write of a file that the command writes failed, or a put on standard output or standard error did
-  pub write_only : status ≡ statuses.WriteFault → ((name : Word) × MayWrite words before name × (after.failed_writes ≡ before.failed_writes ++ name ∷ []))
+  pub write_only : status ≡ statuses.WriteFault →
+      ((name : Word) × MayWrite words before name × (after.failed_writes ≡ before.failed_writes ++ name ∷ []))
       ⊎ Rose before.out.faults after.out.faults ⊎ Rose before.err.faults after.err.faults
   pub write_where : after.failed_writes ≢ before.failed_writes → (status ≡ statuses.WriteFault) ⊎ (status ≡ statuses.Memory)
   pub put_where : (before.out.faults < after.out.faults) ⊎ (before.err.faults < after.err.faults) → status ≡ statuses.WriteFault
@@ -82,7 +85,8 @@ pub record Promises (words : List Word) (before : Outside) (status : Status) (af
   pub complete : (command : Command) → IsCommand command words → IsSmooth before after →
       (status ≡ statuses.Memory) ⊎ ((actions : List Action) × Carries words before actions status)
   -- in every status a failed read is of one file of the words, and a failed write of one file that the command writes
-  pub reads_grow : (after.failed_reads ≡ before.failed_reads) ⊎ ((name : Word) × MayRead words name × (after.failed_reads ≡ before.failed_reads ++ name ∷ []))
+  pub reads_grow : (after.failed_reads ≡ before.failed_reads)
+      ⊎ ((name : Word) × MayRead words name × (after.failed_reads ≡ before.failed_reads ++ name ∷ []))
   pub writes_grow : (after.failed_writes ≡ before.failed_writes)
       ⊎ ((name : Word) × MayWrite words before name × (after.failed_writes ≡ before.failed_writes ++ name ∷ []))
   -- in every status a file that the command doesn't write is as before

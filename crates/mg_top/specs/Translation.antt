@@ -18,7 +18,8 @@ use Rattle.mg_sources.specs.Sources.{SharesRole}
 use Rattle.mg_top.specs.Files.{Output}
 use Rattle.mg_top.specs.Writing.{in_folder}
 
--- The file of a protocol's typestate: the typestate is the one that the numbers of the text give, and it allows exactly the protocol's calls.
+-- The file of a protocol's typestate: the typestate is the one that the numbers of the text give, and it allows exactly the protocol's
+-- calls.
 pub record IsTypestateFile (folder : Option Word) (local : LocalTree) (file : Output) : Type 0 where
   pub typestate : Typestate
   pub numbered : typestate ≡ typestate_of local

@@ -124,7 +124,8 @@ fn add_files(
     files: &[ApiFile],
     writes: &mut List<Action>,
 ) -> Result<(), Memory>
-    ensures { OnOk result (writes.new.items ≡ writes.old.items ++ map (api_written (option_map (λ f. f.now) folder.entry)) (map written_of files.now)) }
+    ensures { OnOk result (writes.new.items ≡ writes.old.items ++ map (api_written (option_map (λ f. f.now) folder.entry))
+        (map written_of files.now)) }
 {
     for file in files {
         let output = file_in(

@@ -1,5 +1,6 @@
 -- The tables of results grow as their methods and classes are added.
-use Rattle.std.proofs.Common.{◌≡◌, ℕ, Bool, true, false, cond, List, [], ◌∷◌, ◌++◌, String, string_bytes, Option, None, Some, Decides, refl, sym, ap, ◌∙◌, subst, append-nil}
+use Rattle.std.proofs.Common.{◌≡◌, ℕ, Bool, true, false, cond, List, [], ◌∷◌, ◌++◌, String, string_bytes, Option, None, Some, Decides, refl}
+use Rattle.std.proofs.Common.{sym, ap, ◌∙◌, subst, append-nil}
 use Rattle.std.specs.Prelude.{option_and_then, slice_get}
 use Rattle.std.specs.Option.{option_or, is_some}
 use Rattle.std.specs.HashMap.{HashMap, get_by_text, UpdatesBy}

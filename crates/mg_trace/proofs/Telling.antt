@@ -1,5 +1,6 @@
 -- The lines of one event more.
-use Rattle.std.proofs.Common.{◌≡◌, ◌==◌, ◌<◌, ◌+◌, take, length, get_or, ℕ, ℤ, List, [], ◌∷◌, ◌++◌, Bool, true, false, if◌then◌else◌, Option, codes, refl, sym, ap, ◌∙◌, append_assoc, append-nil}
+use Rattle.std.proofs.Common.{◌≡◌, ◌==◌, ◌<◌, ◌+◌, take, length, get_or, ℕ, ℤ, List, [], ◌∷◌, ◌++◌, Bool, true, false, if◌then◌else◌}
+use Rattle.std.proofs.Common.{Option, codes, refl, sym, ap, ◌∙◌, append_assoc, append-nil}
 use Rattle.std.specs.Prelude.{Vec}
 use Rattle.std.specs.Global.{Global}
 use Rattle.std.proofs.lemmas.List.{take_more}
@@ -9,7 +10,8 @@ use Rattle.mg_text.specs.declared.event.Event.TheVariants as seen
 use Rattle.vm_world_law.specs.declared.role.RoleEvent.{RoleEvent}
 use Rattle.vm_world_law.specs.World.{events_of}
 use Rattle.vm_world_law.proofs.Events.{events-append}
-use Rattle.mg_trace.specs.Trace.{Telling, Known, unknown, last_call, known_more, known_from, known_in, told_answer, object_words, event_words, line_of, name_at, object_of, event_line, lines_from}
+use Rattle.mg_trace.specs.Trace.{Telling, Known, unknown, last_call, known_more, known_from, known_in, told_answer, object_words}
+use Rattle.mg_trace.specs.Trace.{event_words, line_of, name_at, object_of, event_line, lines_from}
 use Rattle.mg_trace.specs.declared.objects.Tracked.{Tracked}
 use Rattle.mg_trace.specs.inner.Kept.{known_at, objects_at, AreKnown, KeepMore}
 

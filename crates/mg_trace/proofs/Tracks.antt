@@ -1,5 +1,6 @@
 -- What is kept of the objects of each role.
-use Rattle.std.proofs.Common.{◌≡◌, ◌==◌, ◌<◌, ◌+◌, ◌-◌, take, vec_len, ℕ, List, [], ◌∷◌, ◌++◌, Option, Bool, true, false, if◌then◌else◌, Decides, length, get_or, refl, sym, ap, ◌∙◌}
+use Rattle.std.proofs.Common.{◌≡◌, ◌==◌, ◌<◌, ◌+◌, ◌-◌, take, vec_len, ℕ, List, [], ◌∷◌, ◌++◌, Option, Bool, true, false, if◌then◌else◌}
+use Rattle.std.proofs.Common.{Decides, length, get_or, refl, sym, ap, ◌∙◌}
 use Rattle.std.specs.Prelude.{Vec, MatchOption, slice_set}
 use Rattle.std.specs.Borrow.{Bor}
 use Rattle.std.specs.Global.{Global}

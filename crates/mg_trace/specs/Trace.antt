@@ -1,5 +1,6 @@
 -- The texts of a run: the lines that tell its events, one for each event but a text that is printed, and what it prints.
-use Rattle.std.specs.Prelude.{◌==◌, ℕ, ℤ, pos, negsuc, List, [], ◌∷◌, ◌++◌, Bool, not, Option, Some, None, get_or, slice_get, option_and_then, flat_map, codes, if◌then◌else◌}
+use Rattle.std.specs.Prelude.{◌==◌, ℕ, ℤ, pos, negsuc, List, [], ◌∷◌, ◌++◌, Bool, not, Option, Some, None, get_or, slice_get}
+use Rattle.std.specs.Prelude.{option_and_then, flat_map, codes, if◌then◌else◌}
 use Rattle.std.specs.Ordering.{int_eq}
 use Rattle.std.specs.Fmt.{decimal, signed_decimal}
 use Rattle.std.specs.Str.{bytes_eq}

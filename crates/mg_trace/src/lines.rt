@@ -3,7 +3,8 @@
 ghost use Rattle.std.specs.Prelude.{◌≡◌, ◌++◌, ◌∷◌, [], ℕ, List as Seq, Some, OnOk, string_bytes, codes};
 ghost use Rattle.mg_text.specs.declared.event.Event.{Event as Seen};
 ghost use Rattle.jv_core.specs.Core.{tree_of};
-ghost use Rattle.mg_trace.specs.Trace.{line_of, event_words, object_of, object_words, told_answer, answer_words, number_words, carried_words, label_text};
+ghost use Rattle.mg_trace.specs.Trace.{line_of, event_words, object_of, object_words, told_answer, answer_words, number_words};
+ghost use Rattle.mg_trace.specs.Trace.{carried_words, label_text};
 ghost use Rattle.vm_model.specs.Step.{truth_text};
 ghost use Rattle.mg_trace.specs.inner.Kept.{known_at};
 ghost use Rattle.mg_trace.specs.inner.Tabled.{AreTold, telling_of};

@@ -1,5 +1,6 @@
 -- What the code finds as it goes over words: names, roles, and what one more option asks for.
-use Rattle.std.proofs.Common.{◌≡◌, ◌≢◌, ℕ, ◌<◌, ◌-◌, ◌^◌, List, [], ◌∷◌, ◌++◌, All, length, take, Option, Some, None, true, false, ◌==◌, not, eqb, lit<, codes, refl, sym, ap, ◌∙◌, subst, arith, append_assoc, length-append, Bor}
+use Rattle.std.proofs.Common.{◌≡◌, ◌≢◌, ℕ, ◌<◌, ◌-◌, ◌^◌, List, [], ◌∷◌, ◌++◌, All, length, take, Option, Some, None, true, false, ◌==◌}
+use Rattle.std.proofs.Common.{not, eqb, lit<, codes, refl, sym, ap, ◌∙◌, subst, arith, append_assoc, length-append, Bor}
 use Rattle.std.specs.Option.{option_copied}
 use Rattle.std.specs.Prelude.{Contains, IfSome, is_some, slice_get, option_map, filter_map}
 use Rattle.std.specs.List.{list_all, position_or_len}
@@ -14,14 +15,19 @@ use Rattle.mg_words.specs.declared.runs.Input.TheVariants as input
 use Rattle.mg_words.specs.declared.options.Named.{Named}
 use Rattle.mg_words.specs.declared.options.Named.TheVariants as named
 use Rattle.mg_words.specs.declared.options.Step.TheVariants as step
-use Rattle.mg_words.specs.Words.{Word, RoleClass, Several, role_names, Asked, RunOption, Main, Role, Order, Steps, Trace, Out, option_words, IsOption, role_in, IsFileName, Command, IsCommand, AreWrong}
-use Rattle.mg_words.specs.inner.Judging.{role_read, roles_in, names_in, names_left, has_name, roles_with, asked_with, asked_of, IsFirstOther, AreGiven, AreRead, word_of, kind_of, IsPlain, IsNewRole, AreAllNamed, Fits, is_wanted, is_empty, is_several, can_follow, are_whole, roles_more, with_more, IsMore, IsNoValue, IsWith, IsStep, IsSteps, unasked, made, verb_of, IsFor, Keeps, is_barred}
+use Rattle.mg_words.specs.Words.{Word, RoleClass, Several, role_names, Asked, RunOption, Main, Role, Order, Steps, Trace, Out, option_words}
+use Rattle.mg_words.specs.Words.{IsOption, role_in, IsFileName, Command, IsCommand, AreWrong}
+use Rattle.mg_words.specs.inner.Judging.{role_read, roles_in, names_in, names_left, has_name, roles_with, asked_with, asked_of}
+use Rattle.mg_words.specs.inner.Judging.{IsFirstOther, AreGiven, AreRead, word_of, kind_of, IsPlain, IsNewRole, AreAllNamed, Fits}
+use Rattle.mg_words.specs.inner.Judging.{is_wanted, is_empty, is_several, can_follow, are_whole, roles_more, with_more, IsMore, IsNoValue}
+use Rattle.mg_words.specs.inner.Judging.{IsWith, IsStep, IsSteps, unasked, made, verb_of, IsFor, Keeps, is_barred}
 use Rattle.mg_words.proofs.WordsLemmas.{head_is, tail_is, filled, empty_is, All-first, All-rest, All-cons}
 use Rattle.mg_words.proofs.NameLemmas.{has_is, is_has, have_all, all_have, never_both, names_joined, hasnt}
 use Rattle.mg_words.proofs.OptionLemmas.{same_kind, at_end, given_more, none_given, keeps_more}
 use Rattle.mg_words.proofs.FollowLemmas.{follows, whole_all, both_true, no_roles, none_there}
 use Rattle.mg_words.proofs.RoleLemmas.{words_of, role_in_word, word_of_role, roles_in_words, few_roles}
-use Rattle.mg_words.proofs.RunLemmas.{wrong_option, wrong_barred, wrong_value, few_value, few_more, lacks_role, wrong_run_file, runnable, flat_push}
+use Rattle.mg_words.proofs.RunLemmas.{wrong_option, wrong_barred, wrong_value, few_value, few_more, lacks_role, wrong_run_file, runnable}
+use Rattle.mg_words.proofs.RunLemmas.{flat_push}
 
 -- ---- going over names
 
@@ -199,7 +205,8 @@ module _ (ran : Input) where
 
   pub lacks_first : (asked : Asked) (files : List Word) (found : Option (Bor Word)) → option_copied found ≡ slice_get files 0
       → 0 < length files → IsPlain files → are_whole asked.roles asked.order ≡ false
-      → (o : List RunOption) → AreGiven o asked → Keeps ran asked.folder → AreWrong (run ∷ (words_of o ++ files)) (option_map (λ w. w.now) found)
+      → (o : List RunOption) → AreGiven o asked → Keeps ran asked.folder → AreWrong (run ∷ (words_of o ++ files))
+      (option_map (λ w. w.now) found)
   lacks_first asked files found e some plain lacks =
       let (word, rest, is, same) = first_at files found e some in
       λ o h keeps. subst (λ (r : Option Word). AreWrong (run ∷ (words_of o ++ files)) r) (sym same)

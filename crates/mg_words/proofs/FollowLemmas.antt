@@ -1,5 +1,6 @@
 -- Which option can follow others, and when options can be all: what the code tests says just that.
-use Rattle.std.proofs.Common.{◌≡◌, ◌≢◌, ℕ, ◌<◌, ◌^◌, List, [], ◌∷◌, All, length, Option, Some, None, Bool, true, false, ◌&&◌, not, refl, sym, ap, ◌∙◌, subst, arith}
+use Rattle.std.proofs.Common.{◌≡◌, ◌≢◌, ℕ, ◌<◌, ◌^◌, List, [], ◌∷◌, All, length, Option, Some, None, Bool, true, false, ◌&&◌, not, refl}
+use Rattle.std.proofs.Common.{sym, ap, ◌∙◌, subst, arith}
 use Rattle.std.specs.Prelude.{Contains, IfSome, is_some, option_to_list, filter_map, if◌then◌else◌}
 use Rattle.std.specs.List.{list_all}
 use Rattle.std.proofs.lemmas.List.{length-map}
@@ -7,8 +8,10 @@ use Rattle.std.proofs.lemmas.List.Elements.{All-contains, All-map}
 use Rattle.scr_tree.specs.Words.{IsName}
 use Rattle.mg_words.specs.declared.options.Named.{Named}
 use Rattle.mg_words.specs.declared.options.Named.TheVariants as named
-use Rattle.mg_words.specs.Words.{Word, RoleClass, Roles, Alone, Several, role_names, Asked, RunOption, Main, Role, Order, Steps, Trace, Out, IsOption, role_in, order_in, IsOrder, AreRoles}
-use Rattle.mg_words.specs.inner.Judging.{has_name, NamesEach, AreRolesSoFar, AreGiven, kind_of, IsNewRole, AreAllNamed, Fits, is_open, has_none, is_empty, is_several, can_follow, are_whole}
+use Rattle.mg_words.specs.Words.{Word, RoleClass, Roles, Alone, Several, role_names, Asked, RunOption, Main, Role, Order, Steps, Trace, Out}
+use Rattle.mg_words.specs.Words.{IsOption, role_in, order_in, IsOrder, AreRoles}
+use Rattle.mg_words.specs.inner.Judging.{has_name, NamesEach, AreRolesSoFar, AreGiven, kind_of, IsNewRole, AreAllNamed, Fits, is_open}
+use Rattle.mg_words.specs.inner.Judging.{has_none, is_empty, is_several, can_follow, are_whole}
 use Rattle.mg_words.proofs.WordsLemmas.{filled, All-first, All-rest, All-cons, none_yet, some_class, classed, is_name}
 use Rattle.mg_words.proofs.NameLemmas.{in_none, have_all, all_have, lacking, All-itself, All-there, free_name}
 use Rattle.mg_words.proofs.OptionLemmas.{AreAll}

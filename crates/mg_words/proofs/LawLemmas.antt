@@ -1,5 +1,7 @@
 -- What holds of the roles and of the order of what a run is asked for, and what the code finds of them.
-use Rattle.std.proofs.Common.{◌≡◌, ◌≢◌, ℕ, zero, suc, ◌<◌, ◌+◌, ◌^◌, ◌⊎◌, inl, inr, List, [], ◌∷◌, ◌++◌, All, length, get_or, Option, Some, None, Bool, true, false, codes, refl, sym, ap, ◌∙◌, subst, arith, cond, ltb, lt-ltb, append_assoc, length-append}
+use Rattle.std.proofs.Common.{◌≡◌, ◌≢◌, ℕ, zero, suc, ◌<◌, ◌+◌, ◌^◌, ◌⊎◌, inl, inr, List, [], ◌∷◌, ◌++◌, All, length, get_or, Option, Some}
+use Rattle.std.proofs.Common.{None, Bool, true, false, codes, refl, sym, ap, ◌∙◌, subst, arith, cond, ltb, lt-ltb, append_assoc}
+use Rattle.std.proofs.Common.{length-append}
 use Rattle.std.specs.Prelude.{Contains, is_some, if◌then◌else◌, position, filter_map}
 use Rattle.std.specs.List.{IsDistinct, range_with_len, position_or_len, cons_option}
 use Rattle.std.specs.Str.{bytes_eq}
@@ -9,7 +11,8 @@ use Rattle.std.proofs.lemmas.List.FromFn.{length-range_with_len, get_or-range_wi
 use Rattle.std.proofs.lemmas.Map.Keys.{IsDistinct-from_apart, apart_from_distinct}
 use Rattle.std.proofs.lemmas.List.Quantifiers.{position-Some}
 use Rattle.mg_text.specs.Interned.{with_text}
-use Rattle.mg_words.specs.Words.{Word, RoleClass, Roles, Alone, Several, Asked, Run, Exec, IsCommand, mains_in, mains_of, role_names, order_among, order_of, RunOption, AreRoles}
+use Rattle.mg_words.specs.Words.{Word, RoleClass, Roles, Alone, Several, Asked, Run, Exec, IsCommand, mains_in, mains_of, role_names}
+use Rattle.mg_words.specs.Words.{order_among, order_of, RunOption, AreRoles}
 use Rattle.mg_words.specs.declared.asked.RoleClass.{RoleClass as Kept}
 use Rattle.mg_words.specs.inner.Judging.{IsAsked, role_class_of, role_classes_of}
 use Rattle.mg_words.proofs.WordsLemmas.{All-cons, none_yet}

@@ -1,5 +1,6 @@
 -- Names, and lists of them: those that a word names with "," between, those that have a name, and one that none has.
-use Rattle.std.proofs.Common.{◌≡◌, ◌≢◌, ℕ, zero, suc, ◌<◌, ◌≤◌, ◌^◌, ◌⊎◌, inl, inr, List, [], ◌∷◌, ◌++◌, All, length, get_or, map, None, Bool, true, false, ◌&&◌, ◌||◌, eqb, eqb-true, refl, sym, ap, ◌∙◌, subst, arith, length-append}
+use Rattle.std.proofs.Common.{◌≡◌, ◌≢◌, ℕ, zero, suc, ◌<◌, ◌≤◌, ◌^◌, ◌⊎◌, inl, inr, List, [], ◌∷◌, ◌++◌, All, length, get_or, map, None}
+use Rattle.std.proofs.Common.{Bool, true, false, ◌&&◌, ◌||◌, eqb, eqb-true, refl, sym, ap, ◌∙◌, subst, arith, length-append}
 use Rattle.std.specs.Prelude.{Contains}
 use Rattle.std.specs.Fmt.{decimal}
 use Rattle.std.specs.List.{IsDistinct, join_with_byte, list_all, range_with_len}

@@ -1,5 +1,6 @@
 -- The options of a run: their words tell them apart, and each that can follow others is one that fits what is asked for.
-use Rattle.std.proofs.Common.{◌≡◌, ℕ, ◌≤◌, List, [], ◌∷◌, ◌++◌, All, length, get_or, Option, Some, None, Bool, true, false, ◌==◌, refl, sym, ap, ◌∙◌, subst, arith}
+use Rattle.std.proofs.Common.{◌≡◌, ℕ, ◌≤◌, List, [], ◌∷◌, ◌++◌, All, length, get_or, Option, Some, None, Bool, true, false, ◌==◌, refl, sym}
+use Rattle.std.proofs.Common.{ap, ◌∙◌, subst, arith}
 use Rattle.std.specs.Prelude.{Contains, IfSome, option_to_list, filter, filter_map, if◌then◌else◌}
 use Rattle.std.specs.Fmt.{decimal}
 use Rattle.std.specs.List.{IsDistinct, join_with_byte}
@@ -12,8 +13,11 @@ use Rattle.mg_words.specs.declared.runs.Input.{Input}
 use Rattle.mg_words.specs.declared.runs.Input.TheVariants as input
 use Rattle.mg_words.specs.declared.options.Named.{Named}
 use Rattle.mg_words.specs.declared.options.Named.TheVariants as named
-use Rattle.mg_words.specs.Words.{Word, RoleClass, Roles, Alone, Several, role_names, Asked, RunOption, Main, Role, Order, Steps, Trace, Out, option_words, IsOption, class_in, role_in, order_in, steps_in, is_trace, folder_in, IsOrder, AreRoles, IsFileName}
-use Rattle.mg_words.specs.inner.Judging.{role_read, names_in, NamesEach, AreRolesSoFar, AreGiven, word_of, kind_of, IsNewRole, AreAllNamed, Fits, roles_more, with_more, unasked, IsFor, AreFor, Keeps, is_barred}
+use Rattle.mg_words.specs.Words.{Word, RoleClass, Roles, Alone, Several, role_names, Asked, RunOption, Main, Role, Order, Steps, Trace, Out}
+use Rattle.mg_words.specs.Words.{option_words, IsOption, class_in, role_in, order_in, steps_in, is_trace, folder_in, IsOrder, AreRoles}
+use Rattle.mg_words.specs.Words.{IsFileName}
+use Rattle.mg_words.specs.inner.Judging.{role_read, names_in, NamesEach, AreRolesSoFar, AreGiven, word_of, kind_of, IsNewRole, AreAllNamed}
+use Rattle.mg_words.specs.inner.Judging.{Fits, roles_more, with_more, unasked, IsFor, AreFor, Keeps, is_barred}
 use Rattle.mg_words.proofs.WordsLemmas.{head_is, tail_is, filled, All-first, All-push, All-mid, none_yet}
 use Rattle.mg_words.proofs.RoleLemmas.{role_in_word}
 use Rattle.mg_words.proofs.NameLemmas.{names_joined, All-front, names_push, names_on, distinct_push, before_differs}
@@ -401,7 +405,8 @@ must_fit o a (Out v) more asked h w =
 -- ---- what may stand where this is run
 
 -- an option that may stand leaves the folder
-pub keeps_more : (k : Input) (x : RunOption) (a : Asked) → is_barred k (kind_of x) ≡ false → Keeps k a.folder → Keeps k (with_more x a).folder
+pub keeps_more : (k : Input) (x : RunOption) (a : Asked) → is_barred k (kind_of x) ≡ false → Keeps k a.folder →
+    Keeps k (with_more x a).folder
 keeps_more input.Sources x a free h = tt
 keeps_more input.Classes (Main v) a free h = h
 keeps_more input.Classes (Role r) a free h = h

@@ -1,9 +1,12 @@
 -- Which words are the command `project`, and which can't follow.
 use Rattle.std.proofs.Common.{◌≡◌, List, [], ◌∷◌, ◌++◌, length, Option, Some, None, codes, refl, sym, ap, ◌∙◌, subst, append_assoc}
 use Rattle.std.specs.Prelude.{IfSome}
-use Rattle.mg_words.specs.Words.{Word, Command, Translate, Conform, Check, Compile, Run, Exec, Refine, Project, IsFileName, IsFileOf, IsOneProtocol, out_words, IsBehind, IsCommand, AreCommand, CanBegin, AreWrong}
-use Rattle.mg_words.proofs.Verbs.{project, translate_project, conform_project, check_project, compile_project, run_project, exec_project, refine_project}
-use Rattle.mg_words.proofs.WordsLemmas.{out, some_source, some_class, named, is_name, head_is, tail_is, filled, empty_is, few, wrong_at, files_behind, folder_behind, folder_lacks, same_folder}
+use Rattle.mg_words.specs.Words.{Word, Command, Translate, Conform, Check, Compile, Run, Exec, Refine, Project, IsFileName, IsFileOf}
+use Rattle.mg_words.specs.Words.{IsOneProtocol, out_words, IsBehind, IsCommand, AreCommand, CanBegin, AreWrong}
+use Rattle.mg_words.proofs.Verbs.{project, translate_project, conform_project, check_project, compile_project, run_project, exec_project}
+use Rattle.mg_words.proofs.Verbs.{refine_project}
+use Rattle.mg_words.proofs.WordsLemmas.{out, some_source, some_class, named, is_name, head_is, tail_is, filled, empty_is, few, wrong_at}
+use Rattle.mg_words.proofs.WordsLemmas.{files_behind, folder_behind, folder_lacks, same_folder}
 
 -- ---- what can begin the command
 
@@ -46,7 +49,8 @@ is_project (Project folder files) rest (r, e, b) = (folder, files, refl, subst (
 
 -- the option isn't a file
 no_protocol : (rest : List Word) → IsOneProtocol (out ∷ rest) → ⊥
-no_protocol rest one = let first : IsFileOf (codes ".scr") out = subst (IsFileOf (codes ".scr")) (sym (head_is one.one)) one.scribble in first.0 refl
+no_protocol rest one = let first : IsFileOf (codes ".scr") out = subst (IsFileOf (codes ".scr")) (sym (head_is one.one)) one.scribble in
+    first.0 refl
 
 protocol_behind : (command : Command) (folder : Option Word) (rest : List Word) → (folder ≡ None → (r : List Word) → rest ≡ out ∷ r → ⊥)
     → IsCommand command (project ∷ (out_words folder ++ rest)) → IsOneProtocol rest
@@ -56,7 +60,8 @@ protocol_behind command folder rest plain is =
 
 folder_word : (command : Command) (f : Word) (rest : List Word) → IsCommand command (project ∷ out ∷ f ∷ rest) → IsFileName f
 folder_word command f rest is =
-    let (d, files, same, (e, name, one)) = is_project command (out ∷ f ∷ rest) is in folder_behind IsOneProtocol no_protocol d files f rest e name one
+    let (d, files, same, (e, name, one)) = is_project command (out ∷ f ∷ rest) is in folder_behind IsOneProtocol no_protocol d files f rest
+    e name one
 
 out_is_none : (command : Command) → IsCommand command (project ∷ out ∷ []) → ⊥
 out_is_none command is =
@@ -66,7 +71,8 @@ folder_is_none : (command : Command) (folder : Option Word) → IsCommand comman
 folder_is_none command folder is = filled (protocol_behind command folder [] (λ n r. filled) is).one
 
 -- words don't begin with the option where their first word doesn't
-plain_first : (folder : Option Word) (files : List Word) (word : Word) (more after : List Word) → (folder ≡ None → (r : List Word) → files ≡ out ∷ r → ⊥)
+plain_first : (folder : Option Word) (files : List Word) (word : Word) (more after : List Word) →
+    (folder ≡ None → (r : List Word) → files ≡ out ∷ r → ⊥)
     → files ≡ word ∷ more → folder ≡ None → (r : List Word) → word ∷ after ≡ out ∷ r → ⊥
 plain_first folder files word more after plain e n r is = plain n more (e ∙ ap (λ (w : Word). w ∷ more) (head_is is))
 
@@ -80,7 +86,8 @@ few_out rest e = few (project ∷ out ∷ []) rest e begins_out out_is_none
 
 pub wrong_folder : (rest : List Word) (word : Word) (more : List Word) → rest ≡ word ∷ more → (IsFileName word → ⊥)
     → AreWrong (project ∷ out ∷ rest) (Some word)
-wrong_folder rest word more e isnt = wrong_at (project ∷ out ∷ []) rest word more e begins_out (λ b. isnt (folder_word b.1.0 word b.0 b.1.1))
+wrong_folder rest word more e isnt = wrong_at (project ∷ out ∷ []) rest word more e begins_out
+    (λ b. isnt (folder_word b.1.0 word b.0 b.1.1))
 
 pub few_protocols : (folder : Option Word) (files : List Word) → IfSome folder IsFileName → length files ≡ 0
     → AreWrong (project ∷ (out_words folder ++ files)) None
@@ -91,7 +98,8 @@ few_protocols folder files name e =
     )
 
 -- what stands in front of some words, and then what stands behind them
-shifted : (folder : Option Word) (before more : List Word) → (project ∷ (out_words folder ++ before)) ++ more ≡ project ∷ (out_words folder ++ (before ++ more))
+shifted : (folder : Option Word) (before more : List Word) → (project ∷ (out_words folder ++ before)) ++ more ≡ project ∷
+    (out_words folder ++ (before ++ more))
 shifted folder before more = ap (λ (z : List Word). project ∷ z) (append_assoc (out_words folder) before more)
 
 -- behind a folder, or where none is named, a word can't follow
@@ -104,7 +112,8 @@ wrong_behind folder before files word more e begins cannot = record {
   after = more;
   stands = ap (λ (z : List Word). project ∷ (out_words folder ++ z)) e ∙ sym (shifted folder before (word ∷ more));
   begins = begins;
-  wrong = λ b. cannot b.1.0 b.0 (subst (IsCommand b.1.0) (append_assoc (project ∷ (out_words folder ++ before)) (word ∷ []) b.0 ∙ shifted folder before (word ∷ b.0)) b.1.1);
+  wrong = λ b. cannot b.1.0 b.0 (subst (IsCommand b.1.0) (append_assoc (project ∷ (out_words folder ++ before)) (word ∷ []) b.0 ∙
+      shifted folder before (word ∷ b.0)) b.1.1);
 }
 
 pub wrong_protocol : (folder : Option Word) (files : List Word) (word : Word) (more : List Word) → IfSome folder IsFileName
@@ -113,23 +122,27 @@ pub wrong_protocol : (folder : Option Word) (files : List Word) (word : Word) (m
 wrong_protocol folder files word more name plain e isnt = wrong_behind folder [] files word more e (begins_folder folder name) cannot where
   cannot : (command : Command) (after : List Word) → IsCommand command (project ∷ (out_words folder ++ word ∷ after)) → ⊥
   cannot command after is =
-      let one : IsOneProtocol (word ∷ after) = protocol_behind command folder (word ∷ after) (plain_first folder files word more after plain e) is in
+      let one : IsOneProtocol (word ∷ after) = protocol_behind command folder (word ∷ after)
+      (plain_first folder files word more after plain e) is in
       isnt (subst (IsFileOf (codes ".scr")) (sym (head_is one.one)) one.scribble)
 
 pub wrong_surplus : (folder : Option Word) (files : List Word) (file word : Word) (more more' : List Word) → IfSome folder IsFileName
     → files ≡ file ∷ more → more ≡ word ∷ more' → IsFileOf (codes ".scr") file
     → AreWrong (project ∷ (out_words folder ++ files)) (Some word)
 wrong_surplus folder files file word more more' name e e' h =
-    wrong_behind folder (file ∷ []) files word more' (e ∙ ap (λ (z : List Word). file ∷ z) e') (begins_protocol folder file name h) cannot where
-      plain : folder ≡ None → (r : List Word) (after : List Word) → file ∷ after ≡ out ∷ r → ⊥
-      plain n r after is = let first : IsFileOf (codes ".scr") out = subst (IsFileOf (codes ".scr")) (head_is is) h in first.0 refl
+    wrong_behind folder (file ∷ []) files word more' (e ∙ ap (λ (z : List Word). file ∷ z) e') (begins_protocol folder file name h) cannot
+  where
+    plain : folder ≡ None → (r : List Word) (after : List Word) → file ∷ after ≡ out ∷ r → ⊥
+    plain n r after is = let first : IsFileOf (codes ".scr") out = subst (IsFileOf (codes ".scr")) (head_is is) h in first.0 refl
 
-      cannot : (command : Command) (after : List Word) → IsCommand command (project ∷ (out_words folder ++ file ∷ word ∷ after)) → ⊥
-      cannot command after is =
-          let one : IsOneProtocol (file ∷ word ∷ after) = protocol_behind command folder (file ∷ word ∷ after) (λ n r. plain n r (word ∷ after)) is in
-          filled (sym (tail_is one.one))
+    cannot : (command : Command) (after : List Word) → IsCommand command (project ∷ (out_words folder ++ file ∷ word ∷ after)) → ⊥
+    cannot command after is =
+        let one : IsOneProtocol (file ∷ word ∷ after) = protocol_behind command folder (file ∷ word ∷ after)
+        (λ n r. plain n r (word ∷ after)) is in
+        filled (sym (tail_is one.one))
 
-pub one_protocol : (files : List Word) (file : Word) (more : List Word) → files ≡ file ∷ more → length more ≡ 0 → IsFileOf (codes ".scr") file → IsOneProtocol files
+pub one_protocol : (files : List Word) (file : Word) (more : List Word) → files ≡ file ∷ more → length more ≡ 0 →
+    IsFileOf (codes ".scr") file → IsOneProtocol files
 one_protocol files file more e n h = record { file = file; one = e ∙ ap (λ (z : List Word). file ∷ z) (empty_is more n); scribble = h }
 
 pub known_project : (folder : Option Word) (files : List Word) → IfSome folder IsFileName → IsOneProtocol files

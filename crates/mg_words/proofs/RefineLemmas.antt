@@ -1,8 +1,10 @@
 -- Which words are the command `refine`, and which can't follow.
 use Rattle.std.proofs.Common.{◌≡◌, List, [], ◌∷◌, All, length, Some, None, codes, refl, sym, ap, ◌∙◌, subst}
 use Rattle.mg_sources.specs.Files.{EndsWith}
-use Rattle.mg_words.specs.Words.{Word, Command, Translate, Conform, Check, Compile, Run, Exec, Refine, Project, IsFileOf, AreTwoTypestates, IsBehind, IsCommand, AreCommand, CanBegin, AreWrong}
-use Rattle.mg_words.proofs.Verbs.{refine, translate_refine, conform_refine, check_refine, compile_refine, run_refine, exec_refine, refine_project}
+use Rattle.mg_words.specs.Words.{Word, Command, Translate, Conform, Check, Compile, Run, Exec, Refine, Project, IsFileOf, AreTwoTypestates}
+use Rattle.mg_words.specs.Words.{IsBehind, IsCommand, AreCommand, CanBegin, AreWrong}
+use Rattle.mg_words.proofs.Verbs.{refine, translate_refine, conform_refine, check_refine, compile_refine, run_refine, exec_refine}
+use Rattle.mg_words.proofs.Verbs.{refine_project}
 use Rattle.mg_words.proofs.WordsLemmas.{head_is, tail_is, filled, empty_is, All-cons, All-one, few, wrong_at}
 
 some_typestate : Word
@@ -44,7 +46,8 @@ is_refine (Project folder files) rest (r, e, b) = refine_project (head_is e)
 
 first_word : (command : Command) (p : Word) (more : List Word) → IsCommand command (refine ∷ p ∷ more) → IsFileOf (codes ".protocol") p
 first_word command p more is =
-    let (files, same, (e, h)) = is_refine command (p ∷ more) is in subst (IsFileOf (codes ".protocol")) (sym (head_is (e ∙ h.two))) h.of_first
+    let (files, same, (e, h)) = is_refine command (p ∷ more) is in subst (IsFileOf (codes ".protocol")) (sym (head_is (e ∙ h.two)))
+    h.of_first
 
 second_word : (command : Command) (p q : Word) (more : List Word) → IsCommand command (refine ∷ p ∷ q ∷ more)
     → IsFileOf (codes ".protocol") q × (more ≡ [])
@@ -67,7 +70,8 @@ few_refine rest e = few (refine ∷ []) rest e begins_refine refine_is_none
 pub few_first : (rest : List Word) (first : Word) (more : List Word) → rest ≡ first ∷ more → IsFileOf (codes ".protocol") first
     → length more ≡ 0 → AreWrong (refine ∷ rest) None
 few_first rest first more is h e =
-    subst (λ (z : List Word). AreWrong (refine ∷ z) None) (sym is) (few (refine ∷ first ∷ []) more e (begins_first first h) (first_is_none first))
+    subst (λ (z : List Word). AreWrong (refine ∷ z) None) (sym is) (few (refine ∷ first ∷ []) more e (begins_first first h)
+    (first_is_none first))
 
 pub wrong_first : (rest : List Word) (word : Word) (more : List Word) → rest ≡ word ∷ more → (IsFileOf (codes ".protocol") word → ⊥)
     → AreWrong (refine ∷ rest) (Some word)
@@ -84,12 +88,20 @@ pub wrong_surplus : (rest : List Word) (first second word : Word) (more more' mo
     → AreWrong (refine ∷ rest) (Some word)
 wrong_surplus rest first second word more more' more'' e e' e'' h h' =
     subst (λ (ws : List Word). AreWrong (refine ∷ ws) (Some word)) (sym (e ∙ ap (λ (z : List Word). first ∷ z) e'))
-    (wrong_at (refine ∷ first ∷ second ∷ []) more' word more'' e'' (begins_second first second h h') (λ b. filled (sym (second_word b.1.0 first second (word ∷ b.0) b.1.1).1)))
+    (wrong_at (refine ∷ first ∷ second ∷ []) more' word more'' e'' (begins_second first second h h')
+    (λ b. filled (sym (second_word b.1.0 first second (word ∷ b.0) b.1.1).1)))
 
 pub two_typestates : (rest : List Word) (first second : Word) (more more' : List Word) → rest ≡ first ∷ more → more ≡ second ∷ more'
     → length more' ≡ 0 → IsFileOf (codes ".protocol") first → IsFileOf (codes ".protocol") second → AreTwoTypestates rest
 two_typestates rest first second more more' e e' n h h' =
-    record { first = first; second = second; two = e ∙ ap (λ (z : List Word). first ∷ z) (e' ∙ ap (λ (z : List Word). second ∷ z) (empty_is more' n)); of_first = h; of_second = h' }
+    record {
+      first = first;
+      second = second;
+      two = e ∙ ap (λ (z : List Word). first ∷ z)
+          (e' ∙ ap (λ (z : List Word). second ∷ z) (empty_is more' n));
+      of_first = h;
+      of_second = h';
+    }
 
 pub known_refine : (rest : List Word) → AreTwoTypestates rest → IsCommand (Refine rest) (refine ∷ rest)
 known_refine rest two = (rest, refl, (refl, two))
@@ -105,4 +117,5 @@ two_files words files (r, e, (behind, two)) = ap length two.two
 pub kinds_of_two : (words files : List Word) → IsCommand (Refine files) words → All (EndsWith (codes ".protocol")) files
 kinds_of_two words files (r, e, (behind, two)) =
     subst (All (EndsWith (codes ".protocol"))) (sym two.two)
-    (All-cons (EndsWith (codes ".protocol")) two.first (two.second ∷ []) two.of_first.1 (All-one (EndsWith (codes ".protocol")) two.second two.of_second.1))
+    (All-cons (EndsWith (codes ".protocol")) two.first (two.second ∷ []) two.of_first.1 (All-one (EndsWith (codes ".protocol")) two.second
+    two.of_second.1))

@@ -1,5 +1,6 @@
 -- The roles that the words of options name, and the role and the class that a word names.
-use Rattle.std.proofs.Common.{◌≡◌, ℕ, zero, suc, ◌<◌, ◌≤◌, ◌+◌, ◌⊎◌, inl, inr, List, [], ◌∷◌, ◌++◌, All, length, get_or, take, drop, Bool, true, false, eqb, eqb-true, codes, refl, sym, ap, ◌∙◌, subst, arith, append_assoc, length-append}
+use Rattle.std.proofs.Common.{◌≡◌, ℕ, zero, suc, ◌<◌, ◌≤◌, ◌+◌, ◌⊎◌, inl, inr, List, [], ◌∷◌, ◌++◌, All, length, get_or, take, drop, Bool}
+use Rattle.std.proofs.Common.{true, false, eqb, eqb-true, codes, refl, sym, ap, ◌∙◌, subst, arith, append_assoc, length-append}
 use Rattle.std.specs.Prelude.{flat_map, filter_map, if◌then◌else◌}
 use Rattle.std.specs.Fmt.{decimal}
 use Rattle.std.specs.List.{before_first, after_first, position_or_len, join_with_byte}
@@ -11,7 +12,8 @@ use Rattle.std.proofs.lemmas.Bool.{cases_lt}
 use Rattle.std.proofs.lemmas.Slice.Eq.{bytes_eq-Decides}
 use Rattle.mg_read.specs.Passes.{StartsWith}
 use Rattle.scr_tree.specs.Words.{IsName, is_name_start}
-use Rattle.mg_words.specs.Words.{Word, RoleClass, RunOption, Main, Role, Order, Steps, Trace, Out, option_words, IsOption, role_in, IsFileName}
+use Rattle.mg_words.specs.Words.{Word, RoleClass, RunOption, Main, Role, Order, Steps, Trace, Out, option_words, IsOption, role_in}
+use Rattle.mg_words.specs.Words.{IsFileName}
 use Rattle.mg_words.specs.inner.Judging.{role_read, roles_at, roles_in}
 use Rattle.mg_words.proofs.WordsLemmas.{All-first, All-rest}
 use Rattle.mg_words.proofs.NameLemmas.{none_of, starts_no_option, starts_on, starts_joined}

@@ -1,5 +1,6 @@
 -- The words of `run` and `exec`: what options were read, which can follow, and which can't.
-use Rattle.std.proofs.Common.{◌≡◌, ◌≢◌, ◌⊎◌, inl, inr, List, [], ◌∷◌, ◌++◌, All, get_or, Option, Some, None, Bool, true, false, refl, sym, ap, ◌∙◌, subst, append_assoc}
+use Rattle.std.proofs.Common.{◌≡◌, ◌≢◌, ◌⊎◌, inl, inr, List, [], ◌∷◌, ◌++◌, All, get_or, Option, Some, None, Bool, true, false, refl, sym}
+use Rattle.std.proofs.Common.{ap, ◌∙◌, subst, append_assoc}
 use Rattle.std.specs.Prelude.{Contains, IfSome, option_to_list}
 use Rattle.std.proofs.lemmas.Grind.{flat_map-append}
 use Rattle.std.proofs.lemmas.List.Elements.{Contains-get_or, Contains-append_left, Contains-append_right}
@@ -8,14 +9,20 @@ use Rattle.mg_words.specs.declared.runs.Input.{Input}
 use Rattle.mg_words.specs.declared.runs.Input.TheVariants as input
 use Rattle.mg_words.specs.declared.options.Named.{Named}
 use Rattle.mg_words.specs.declared.options.Named.TheVariants as named
-use Rattle.mg_words.specs.Words.{Word, RoleClass, Roles, Alone, Several, role_names, Command, Translate, Conform, Check, Compile, Run, Exec, Refine, Project, Asked, RunOption, Main, Role, Order, Steps, Trace, Out, option_words, IsOption, AreOptions, IsCommand, AreCommand, CanBegin, AreWrong}
-use Rattle.mg_words.specs.inner.Judging.{IsFirstOther, has_name, AreGiven, word_of, kind_of, IsPlain, IsNewRole, Fits, IsNoValue, can_follow, are_whole, roles_more, with_more, made, verb_of, IsFor, AreFor, Keeps, is_barred}
-use Rattle.mg_words.proofs.WordsLemmas.{head_is, tail_is, filled, nothing_behind, All-first, All-rest, All-push, All-mid, none_yet, some_for, for_named, some_class, classed, pushed_filled, IsRunBehind, is_run, run_is, first_wrong, same_translate, same_conform, same_check, same_compile}
+use Rattle.mg_words.specs.Words.{Word, RoleClass, Roles, Alone, Several, role_names, Command, Translate, Conform, Check, Compile, Run, Exec}
+use Rattle.mg_words.specs.Words.{Refine, Project, Asked, RunOption, Main, Role, Order, Steps, Trace, Out, option_words, IsOption}
+use Rattle.mg_words.specs.Words.{AreOptions, IsCommand, AreCommand, CanBegin, AreWrong}
+use Rattle.mg_words.specs.inner.Judging.{IsFirstOther, has_name, AreGiven, word_of, kind_of, IsPlain, IsNewRole, Fits, IsNoValue}
+use Rattle.mg_words.specs.inner.Judging.{can_follow, are_whole, roles_more, with_more, made, verb_of, IsFor, AreFor, Keeps, is_barred}
+use Rattle.mg_words.proofs.WordsLemmas.{head_is, tail_is, filled, nothing_behind, All-first, All-rest, All-push, All-mid, none_yet}
+use Rattle.mg_words.proofs.WordsLemmas.{some_for, for_named, some_class, classed, pushed_filled, IsRunBehind, is_run, run_is, first_wrong}
+use Rattle.mg_words.proofs.WordsLemmas.{same_translate, same_conform, same_check, same_compile}
 use Rattle.mg_words.proofs.RefineLemmas.{same_refine}
 use Rattle.mg_words.proofs.ProjectLemmas.{same_project}
 use Rattle.mg_words.proofs.NameLemmas.{here, one_of, in_none, has_is, is_has, have_all, never_both, All-itself, names_push}
 use Rattle.mg_words.proofs.RoleLemmas.{words_of}
-use Rattle.mg_words.proofs.OptionLemmas.{AreAll, values_of, begins_with, same_kind, same_option, no_word, no_option, at_end, given_more, must_fit, keeps_more, keeps_main, keeps_role, not_barred}
+use Rattle.mg_words.proofs.OptionLemmas.{AreAll, values_of, begins_with, same_kind, same_option, no_word, no_option, at_end, given_more}
+use Rattle.mg_words.proofs.OptionLemmas.{must_fit, keeps_more, keeps_main, keeps_role, not_barred}
 use Rattle.mg_words.proofs.FollowLemmas.{order_right, whole_all, all_given, all_whole, given_one, CanFollow, fits_follow}
 
 -- ---- options behind options
@@ -160,7 +167,8 @@ module _ (ran : Input) where
 
   it_is : (rs : List RoleClass) (n : Word) → Contains (role_names (rs ++ role_of n ∷ [])) n
   it_is rs n =
-      subst (λ (z : List Word). Contains z n) (sym (names_push rs (role_of n))) (Contains-append_right (role_names rs) (n ∷ []) n (here n []))
+      subst (λ (z : List Word). Contains z n) (sym (names_push rs (role_of n))) (Contains-append_right (role_names rs) (n ∷ []) n
+      (here n []))
 
   -- a role that an order names can follow where it wasn't named yet
   wanted_fits : (a : Asked) (rs : List RoleClass) (names : List Word) (n : Word) → a.roles ≡ Several rs → a.order ≡ Some names → IsName n
@@ -176,7 +184,8 @@ module _ (ran : Input) where
   -- the roles that an order names and that weren't named yet can follow
   begins_named : (todo : List Word) (o : List RunOption) (a : Asked) (rs : List RoleClass) (names : List Word) → AreGiven o a
       → a.roles ≡ Several rs → a.order ≡ Some names → All IsName todo → All (Contains names) todo
-      → ((m : Word) → Contains names m → Contains (role_names rs) m ⊎ Contains todo m) → Keeps ran a.folder → CanBegin AreCommand (run ∷ words_of o)
+      → ((m : Word) → Contains names m → Contains (role_names rs) m ⊎ Contains todo m) → Keeps ran a.folder →
+      CanBegin AreCommand (run ∷ words_of o)
   begins_named [] o a rs names h is ordered named wanted each keeps = begins_all o a (whole_all o a h whole) keeps where
     found : (m : Word) → Contains (role_names rs) m ⊎ Contains [] m → Contains (role_names rs) m
     found m (inl k) = k
@@ -217,7 +226,8 @@ module _ (ran : Input) where
     go (inr e) = lacks a.roles a.order refl refl e
 
   -- an option that fits can follow
-  begins_word : (o : List RunOption) (a : Asked) (option : Named) (word : Word) → AreGiven o a → Keeps ran a.folder → is_barred ran option ≡ false
+  begins_word : (o : List RunOption) (a : Asked) (option : Named) (word : Word) → AreGiven o a → Keeps ran a.folder →
+      is_barred ran option ≡ false
       → CanFollow a option → word ≡ word_of option → CanBegin AreCommand (run ∷ (words_of o ++ word ∷ []))
   begins_word o a option word h keeps free (x, kind, fits) is =
       let b =
@@ -240,7 +250,8 @@ module _ (ran : Input) where
       → AreWrong (run ∷ (words_of o ++ word ∷ rest)) (Some word)
   wrong_option o a option word rest h keeps barred is =
       first_wrong (run ∷ words_of o) word rest (begins_options o a h keeps) (λ b. cannot b.0 b.1.0 b.1.1) where
-        by : (more : List Word) (more' : List RunOption) (files : List Word) (asked : Asked) → word_of option ∷ more ≡ words_of more' ++ files
+        by : (more : List Word) (more' : List RunOption) (files : List Word) (asked : Asked) → word_of option ∷ more ≡ words_of more'
+            ++ files
             → AreFor ran files → AreAll (o ++ more') asked → ⊥
         by more [] files asked e are all = no_word ran option more files e are
         by more (x ∷ xs) files asked e are all =
@@ -259,7 +270,8 @@ module _ (ran : Input) where
       → AreWrong (run ∷ (words_of o ++ word ∷ rest)) (Some word)
   wrong_barred o a option word rest h keeps barred is =
       first_wrong (run ∷ words_of o) word rest (begins_options o a h keeps) (λ b. cannot b.0 b.1.0 b.1.1) where
-        by : (more : List Word) (more' : List RunOption) (files : List Word) (asked : Asked) → word_of option ∷ more ≡ words_of more' ++ files
+        by : (more : List Word) (more' : List RunOption) (files : List Word) (asked : Asked) → word_of option ∷ more ≡ words_of more'
+            ++ files
             → AreFor ran files → Keeps ran asked.folder → AreAll (o ++ more') asked → ⊥
         by more [] files asked e are stays all = no_word ran option more files e are
         by more (x ∷ xs) files asked e are stays all =
@@ -284,12 +296,14 @@ module _ (ran : Input) where
   full_option option (Out v) value more r other e = λ i. sym (head_is e) i ∷ sym (head_is (tail_is e)) i ∷ []
 
   -- a value that its option can't have
-  pub wrong_value : (o : List RunOption) (a : Asked) (option : Named) (word value : Word) (rest : List Word) → AreGiven o a → Keeps ran a.folder
+  pub wrong_value : (o : List RunOption) (a : Asked) (option : Named) (word value : Word) (rest : List Word) → AreGiven o a →
+      Keeps ran a.folder
       → is_barred ran option ≡ false → CanFollow a option → word ≡ word_of option
       → option ≢ named.Trace → IsNoValue a option value → AreWrong (run ∷ (words_of o ++ word ∷ value ∷ rest)) (Some value)
   wrong_value o a option word value rest h keeps free can is other isnt =
       subst (λ (z : List Word). AreWrong (run ∷ z) (Some value)) (append_assoc (words_of o) (word ∷ []) (value ∷ rest))
-      (first_wrong (run ∷ (words_of o ++ word ∷ [])) value rest (begins_word o a option word h keeps free can is) (λ b. cannot b.0 b.1.0 b.1.1)) where
+      (first_wrong (run ∷ (words_of o ++ word ∷ [])) value rest (begins_word o a option word h keeps free can is)
+      (λ b. cannot b.0 b.1.0 b.1.1)) where
         by : (more : List Word) (more' : List RunOption) (files : List Word) (asked : Asked)
             → word_of option ∷ value ∷ more ≡ words_of more' ++ files → AreFor ran files → AreAll (o ++ more') asked → ⊥
         by more [] files asked e are all = no_word ran option (value ∷ more) files e are
@@ -306,7 +320,8 @@ module _ (ran : Input) where
             by more goes.more goes.files goes.asked (ap (λ (w : Word). w ∷ value ∷ more) (sym is) ∙ goes.words) goes.sources goes.all
 
   -- a value is lacking
-  pub few_value : (o : List RunOption) (a : Asked) (option : Named) (word : Word) → AreGiven o a → Keeps ran a.folder → is_barred ran option ≡ false
+  pub few_value : (o : List RunOption) (a : Asked) (option : Named) (word : Word) → AreGiven o a → Keeps ran a.folder →
+      is_barred ran option ≡ false
       → CanFollow a option
       → word ≡ word_of option → option ≢ named.Trace
       → AreWrong (run ∷ (words_of o ++ word ∷ [])) None
@@ -351,24 +366,26 @@ module _ (ran : Input) where
   no_start x files r plain e = plain (kind_of x) (values_of x ++ r) (e ∙ ap (λ (z : List Word). z ++ r) (begins_with x))
 
   -- a file, where a class or roles are lacking
-  pub lacks_role : (o : List RunOption) (a : Asked) (word : Word) (rest : List Word) → AreGiven o a → Keeps ran a.folder → are_whole a.roles a.order ≡ false
+  pub lacks_role : (o : List RunOption) (a : Asked) (word : Word) (rest : List Word) → AreGiven o a → Keeps ran a.folder →
+      are_whole a.roles a.order ≡ false
       → IsPlain (word ∷ rest)
       → AreWrong (run ∷ (words_of o ++ word ∷ rest)) (Some word)
-  lacks_role o a word rest h keeps lacks plain = first_wrong (run ∷ words_of o) word rest (begins_options o a h keeps) (λ b. cannot b.0 b.1.0 b.1.1) where
-    by : (more : List Word) (more' : List RunOption) (files : List Word) (asked : Asked) → word ∷ more ≡ words_of more' ++ files
-        → AreAll (o ++ more') asked → ⊥
-    by more [] files asked e all =
-        let w : AreAll o asked = subst (λ (z : List RunOption). AreAll z asked) (at_end o) all in
-        let one : a ≡ asked = given_one o a asked h (all_given o asked w) in
-        never_both (are_whole a.roles a.order) (ap (λ (z : Asked). are_whole z.roles z.order) one ∙ all_whole o asked w) lacks
-    by more (x ∷ xs) files asked e all =
-        let start = option_first x word more (words_of xs ++ files) (e ∙ append_assoc (option_words x) (words_of xs) files) in
-        plain (kind_of x) rest (ap (λ (w : Word). w ∷ rest) start)
+  lacks_role o a word rest h keeps lacks plain = first_wrong (run ∷ words_of o) word rest (begins_options o a h keeps)
+      (λ b. cannot b.0 b.1.0 b.1.1) where
+        by : (more : List Word) (more' : List RunOption) (files : List Word) (asked : Asked) → word ∷ more ≡ words_of more' ++ files
+            → AreAll (o ++ more') asked → ⊥
+        by more [] files asked e all =
+            let w : AreAll o asked = subst (λ (z : List RunOption). AreAll z asked) (at_end o) all in
+            let one : a ≡ asked = given_one o a asked h (all_given o asked w) in
+            never_both (are_whole a.roles a.order) (ap (λ (z : Asked). are_whole z.roles z.order) one ∙ all_whole o asked w) lacks
+        by more (x ∷ xs) files asked e all =
+            let start = option_first x word more (words_of xs ++ files) (e ∙ append_assoc (option_words x) (words_of xs) files) in
+            plain (kind_of x) rest (ap (λ (w : Word). w ∷ rest) start)
 
-    cannot : (more : List Word) (command : Command) → IsCommand command (((run ∷ words_of o) ++ word ∷ []) ++ more) → ⊥
-    cannot more command k =
-        let goes = goes_on o (word ∷ more) command h.right (subst (IsCommand command) (split o word more) k) in
-        by more goes.more goes.files goes.asked goes.words goes.all
+        cannot : (more : List Word) (command : Command) → IsCommand command (((run ∷ words_of o) ++ word ∷ []) ++ more) → ⊥
+        cannot more command k =
+            let goes = goes_on o (word ∷ more) command h.right (subst (IsCommand command) (split o word more) k) in
+            by more goes.more goes.files goes.asked goes.words goes.all
 
   plain_still : (before : List Word) (word : Word) (after more : List Word) → IsPlain (before ++ word ∷ after)
       → IsPlain (before ++ word ∷ more)
@@ -407,7 +424,8 @@ module _ (ran : Input) where
       goes_on how.options files command how.right
       (subst (λ (z : List Word). IsCommand command (run ∷ z)) (e ∙ ap (λ (z : List Word). z ++ files) how.written) is) in
       go goes.asked goes.files goes.more goes.same goes.words goes.all where
-        go : (asked' : Asked) (files' : List Word) (more : List RunOption) → command ≡ made ran asked' files' → files ≡ words_of more ++ files'
+        go : (asked' : Asked) (files' : List Word) (more : List RunOption) → command ≡ made ran asked' files' → files ≡ words_of more
+            ++ files'
             → AreAll (how.options ++ more) asked' → made ran asked files ≡ command
         go asked' files' [] same words all =
             let one : asked ≡ asked' =
@@ -415,7 +433,8 @@ module _ (ran : Input) where
             (all_given how.options asked' (subst (λ (z : List RunOption). AreAll z asked') (at_end how.options) all)) in
             (λ i. made ran (one i) (words i)) ∙ sym same
         go asked' files' (x ∷ xs) same words all =
-            absurd (no_option ran x (words_of xs ++ files') files (sym (append_assoc (option_words x) (words_of xs) files') ∙ sym words) are)
+            absurd (no_option ran x (words_of xs ++ files') files (sym (append_assoc (option_words x) (words_of xs) files') ∙ sym words)
+            are)
 
 -- ---- words are one command at most
 

@@ -1,5 +1,7 @@
 -- Which words are a command, and which can't follow: of each command but `run` and `exec`.
-use Rattle.std.proofs.Common.{◌≡◌, ℕ, ◌<◌, ◌≤◌, ◌⊎◌, inl, inr, List, [], ◌∷◌, ◌++◌, All, length, get_or, take, drop, take-append-drop, drop-cons, ◌-◌, zero, suc, Option, Some, None, Bool, true, false, ◌&&◌, eqb, codes, refl, sym, ap, ◌∙◌, subst, arith, append_assoc, length-append, Bor}
+use Rattle.std.proofs.Common.{◌≡◌, ℕ, ◌<◌, ◌≤◌, ◌⊎◌, inl, inr, List, [], ◌∷◌, ◌++◌, All, length, get_or, take, drop, take-append-drop}
+use Rattle.std.proofs.Common.{drop-cons, ◌-◌, zero, suc, Option, Some, None, Bool, true, false, ◌&&◌, eqb, codes, refl, sym, ap, ◌∙◌, subst}
+use Rattle.std.proofs.Common.{arith, append_assoc, length-append, Bor}
 use Rattle.std.specs.Prelude.{IfSome, option_map}
 use Rattle.std.proofs.lemmas.Slice.Eq.{bytes_eq-Decides}
 use Rattle.std.proofs.lemmas.List.{drop_at}
@@ -7,8 +9,14 @@ use Rattle.std.specs.List.{ends_with, list_all}
 use Rattle.mg_read.specs.Passes.{AllPasses}
 use Rattle.scr_tree.specs.Words.{reserved, IsName}
 use Rattle.mg_sources.specs.Files.{EndsWith, Kind, Scribble, Typestates, Java, suffix_of, HaveKinds}
-use Rattle.mg_words.specs.Words.{Word, Command, Translate, Conform, Check, Compile, Run, Exec, Refine, Project, Asked, AreOptions, AreProtocolAndCalls, IsFileName, IsFileOf, IsSourceName, AreSourceNames, AreFilesOf, out_words, verb, IsBehind, IsCommand, AreCommand, CanBegin, AreWrong}
-use Rattle.mg_words.proofs.Verbs.{translate, conform, check, compile, run, exec, refine, project, translate_conform, translate_check, translate_compile, translate_run, conform_check, conform_compile, conform_run, check_compile, check_run, compile_run, translate_exec, conform_exec, check_exec, compile_exec, run_exec, translate_refine, conform_refine, check_refine, compile_refine, run_refine, exec_refine, translate_project, conform_project, check_project, compile_project, run_project, exec_project}
+use Rattle.mg_words.specs.Words.{Word, Command, Translate, Conform, Check, Compile, Run, Exec, Refine, Project, Asked, AreOptions}
+use Rattle.mg_words.specs.Words.{AreProtocolAndCalls, IsFileName, IsFileOf, IsSourceName, AreSourceNames, AreFilesOf, out_words, verb}
+use Rattle.mg_words.specs.Words.{IsBehind, IsCommand, AreCommand, CanBegin, AreWrong}
+use Rattle.mg_words.proofs.Verbs.{translate, conform, check, compile, run, exec, refine, project, translate_conform, translate_check}
+use Rattle.mg_words.proofs.Verbs.{translate_compile, translate_run, conform_check, conform_compile, conform_run, check_compile, check_run}
+use Rattle.mg_words.proofs.Verbs.{compile_run, translate_exec, conform_exec, check_exec, compile_exec, run_exec, translate_refine}
+use Rattle.mg_words.proofs.Verbs.{conform_refine, check_refine, compile_refine, run_refine, exec_refine, translate_project, conform_project}
+use Rattle.mg_words.proofs.Verbs.{check_project, compile_project, run_project, exec_project}
 use Rattle.mg_words.specs.declared.runs.Input.{Input}
 use Rattle.mg_words.specs.declared.runs.Input.TheVariants as input
 use Rattle.mg_words.specs.inner.Judging.{IsFirstOther, made, verb_of, IsFor, AreFor, Keeps}
@@ -153,7 +161,11 @@ begins_sources before each = (
   some_source ∷ [],
   (
     Check (before ++ some_source ∷ []),
-    (before ++ some_source ∷ [], refl, (refl, (pushed_filled before some_source, All-push IsSourceName before some_source each source_named))),
+    (
+      before ++ some_source ∷ [],
+      refl,
+      (refl, (pushed_filled before some_source, All-push IsSourceName before some_source each source_named)),
+    ),
   ),
 )
 
@@ -250,7 +262,8 @@ is_compile (Project folder files) rest (r, e, b) = compile_project (head_is e)
 
 -- what stands behind the word of a run
 abbrev pub IsRunBehind : Input → Asked → (files rest : List Word) → Type 0
-IsRunBehind k asked files rest = (options : List Word) × (rest ≡ options ++ files) × AreOptions asked options × Keeps k asked.folder × AreFor k files
+IsRunBehind k asked files rest = (options : List Word) × (rest ≡ options ++ files) × AreOptions asked options × Keeps k asked.folder
+    × AreFor k files
 
 pub is_run : (k : Input) (command : Command) (rest : List Word) → IsCommand command (verb_of k ∷ rest)
     → (asked : Asked) × (files : List Word) × (command ≡ made k asked files) × IsRunBehind k asked files rest
@@ -267,12 +280,14 @@ is_run input.Classes (Conform files) rest (r, e, b) = conform_exec (sym (head_is
 is_run input.Classes (Check files) rest (r, e, b) = check_exec (sym (head_is e))
 is_run input.Classes (Compile folder files) rest (r, e, b) = compile_exec (sym (head_is e))
 is_run input.Classes (Run asked files) rest (r, e, b) = run_exec (sym (head_is e))
-is_run input.Classes (Exec asked files) rest (r, e, (options, is, how, none, are)) = (asked, files, refl, (options, tail_is e ∙ is, how, none, are))
+is_run input.Classes (Exec asked files) rest (r, e, (options, is, how, none, are)) =
+    (asked, files, refl, (options, tail_is e ∙ is, how, none, are))
 is_run input.Classes (Refine files) rest (r, e, b) = exec_refine (head_is e)
 is_run input.Classes (Project folder files) rest (r, e, b) = exec_project (head_is e)
 
 -- and such words are that command
-pub run_is : (k : Input) (asked : Asked) (files rest : List Word) → IsRunBehind k asked files rest → IsCommand (made k asked files) (verb_of k ∷ rest)
+pub run_is : (k : Input) (asked : Asked) (files rest : List Word) → IsRunBehind k asked files rest →
+    IsCommand (made k asked files) (verb_of k ∷ rest)
 run_is input.Sources asked files rest (options, is, how, keeps, are) = (rest, refl, (options, is, how, are))
 run_is input.Classes asked files rest h = (rest, refl, h)
 
@@ -320,11 +335,13 @@ translate_files command folder rest plain is =
 
 folder_word : (command : Command) (f : Word) (rest : List Word) → IsCommand command (translate ∷ out ∷ f ∷ rest) → IsFileName f
 folder_word command f rest is =
-    let (d, files, same, (e, name, each)) = is_translate command (out ∷ f ∷ rest) is in folder_behind (AreFilesOf (codes ".scr")) no_file d files f rest e name each
+    let (d, files, same, (e, name, each)) = is_translate command (out ∷ f ∷ rest) is in folder_behind (AreFilesOf (codes ".scr")) no_file d
+    files f rest e name each
 
 out_is_none : (command : Command) → IsCommand command (translate ∷ out ∷ []) → ⊥
 out_is_none command is =
-    let (d, files, same, (e, name, each)) = is_translate command (out ∷ []) is in folder_lacks (AreFilesOf (codes ".scr")) no_file d files e each
+    let (d, files, same, (e, name, each)) = is_translate command (out ∷ []) is in folder_lacks (AreFilesOf (codes ".scr")) no_file d files e
+    each
 
 protocol_word : (command : Command) (p : Word) (more : List Word) → IsCommand command (conform ∷ p ∷ more) → IsFileOf (codes ".scr") p
 protocol_word command p more is =
@@ -350,11 +367,13 @@ check_files command rest is = let (files, same, (e, each)) = is_check command re
 compile_files : (command : Command) (folder : Option Word) (rest : List Word) → (folder ≡ None → (r : List Word) → rest ≡ out ∷ r → ⊥)
     → IsCommand command (compile ∷ (out_words folder ++ rest)) → AreSourceNames rest
 compile_files command folder rest plain is =
-    let (d, files, same, (e, name, each)) = is_compile command (out_words folder ++ rest) is in files_behind AreSourceNames no_source d files folder rest plain e each
+    let (d, files, same, (e, name, each)) = is_compile command (out_words folder ++ rest) is in files_behind AreSourceNames no_source d
+    files folder rest plain e each
 
 class_folder_word : (command : Command) (f : Word) (rest : List Word) → IsCommand command (compile ∷ out ∷ f ∷ rest) → IsFileName f
 class_folder_word command f rest is =
-    let (d, files, same, (e, name, each)) = is_compile command (out ∷ f ∷ rest) is in folder_behind AreSourceNames no_source d files f rest e name each
+    let (d, files, same, (e, name, each)) = is_compile command (out ∷ f ∷ rest) is in folder_behind AreSourceNames no_source d files f rest
+    e name each
 
 class_out_is_none : (command : Command) → IsCommand command (compile ∷ out ∷ []) → ⊥
 class_out_is_none command is =
@@ -365,7 +384,8 @@ class_out_is_none command is =
 pub few : (words rest : List Word) → length rest ≡ 0 → CanBegin AreCommand words → ((command : Command) → IsCommand command words → ⊥)
     → AreWrong (words ++ rest) None
 few words rest e can isnt =
-    subst (λ (ws : List Word). AreWrong ws None) (sym (ap (λ (z : List Word). words ++ z) (empty_is rest e) ∙ nothing_behind words)) (can, λ k. isnt k.0 k.1)
+    subst (λ (ws : List Word). AreWrong ws None) (sym (ap (λ (z : List Word). words ++ z) (empty_is rest e) ∙ nothing_behind words))
+    (can, λ k. isnt k.0 k.1)
 
 pub few_none : (rest : List Word) → length rest ≡ 0 → AreWrong rest None
 few_none rest e = few [] rest e begins_empty none_is_none
@@ -393,7 +413,8 @@ few_conform rest e = few (conform ∷ []) rest e begins_conform conform_is_none
 pub few_protocol : (rest : List Word) (protocol : Word) (more : List Word) → rest ≡ protocol ∷ more → IsFileOf (codes ".scr") protocol
     → length more ≡ 0 → AreWrong (conform ∷ rest) None
 few_protocol rest protocol more is h e =
-    subst (λ (z : List Word). AreWrong (conform ∷ z) None) (sym is) (few (conform ∷ protocol ∷ []) more e (begins_protocol protocol h) (protocol_is_none protocol))
+    subst (λ (z : List Word). AreWrong (conform ∷ z) None) (sym is) (few (conform ∷ protocol ∷ []) more e (begins_protocol protocol h)
+    (protocol_is_none protocol))
 
 pub few_check : (rest : List Word) → length rest ≡ 0 → AreWrong (check ∷ rest) None
 few_check rest e = few (check ∷ []) rest e begins_check (λ command is. (check_files command [] is).0 refl)
@@ -423,7 +444,8 @@ first_wrong before word more can cannot = record { before = before; after = more
 -- the same of words that are told by their first and the rest
 pub wrong_at : (before rest : List Word) (word : Word) (more : List Word) → rest ≡ word ∷ more → CanBegin AreCommand before
     → (CanBegin AreCommand (before ++ word ∷ []) → ⊥) → AreWrong (before ++ rest) (Some word)
-wrong_at before rest word more e can cannot = subst (λ (ws : List Word). AreWrong (before ++ ws) (Some word)) (sym e) (first_wrong before word more can cannot)
+wrong_at before rest word more e can cannot = subst (λ (ws : List Word). AreWrong (before ++ ws) (Some word)) (sym e)
+    (first_wrong before word more can cannot)
 
 pub wrong_command : (rest : List Word) (word : Word) (more : List Word) → rest ≡ word ∷ more → (word ≡ translate → ⊥)
     → (word ≡ conform → ⊥)
@@ -444,34 +466,46 @@ wrong_command rest word more e is_no_translate is_no_conform is_no_check is_no_c
 
       cannot : (after : List Word) (command : Command) → IsCommand command (word ∷ after) → ⊥
       cannot after command (r, is, behind) = neither
-          (subst (λ (w : Word). (w ≡ translate) ⊎ (w ≡ conform) ⊎ (w ≡ check) ⊎ (w ≡ compile) ⊎ (w ≡ run) ⊎ (w ≡ exec) ⊎ (w ≡ refine) ⊎ (w ≡ project))
+          (subst (λ (w : Word). (w ≡ translate) ⊎ (w ≡ conform) ⊎ (w ≡ check) ⊎ (w ≡ compile) ⊎ (w ≡ run) ⊎ (w ≡ exec) ⊎ (w ≡ refine)
+          ⊎ (w ≡ project))
           (sym (head_is is)) (first_word command))
 
 pub wrong_protocol : (rest : List Word) (word : Word) (more : List Word) → rest ≡ word ∷ more → (IsFileOf (codes ".scr") word → ⊥)
     → AreWrong (conform ∷ rest) (Some word)
-wrong_protocol rest word more e isnt = wrong_at (conform ∷ []) rest word more e begins_conform (λ b. isnt (protocol_word b.1.0 word b.0 b.1.1))
+wrong_protocol rest word more e isnt = wrong_at (conform ∷ []) rest word more e begins_conform
+    (λ b. isnt (protocol_word b.1.0 word b.0 b.1.1))
 
 pub wrong_calls : (rest : List Word) (protocol word : Word) (more more' : List Word) → rest ≡ protocol ∷ more → more ≡ word ∷ more'
     → IsFileOf (codes ".scr") protocol → (IsFileName word → ⊥) → AreWrong (conform ∷ rest) (Some word)
 wrong_calls rest protocol word more more' e e' h isnt =
     subst (λ (ws : List Word). AreWrong (conform ∷ ws) (Some word)) (sym e)
-    (wrong_at (conform ∷ protocol ∷ []) more word more' e' (begins_protocol protocol h) (λ b. isnt (calls_word b.1.0 protocol word b.0 b.1.1).0))
+    (wrong_at (conform ∷ protocol ∷ []) more word more' e' (begins_protocol protocol h)
+    (λ b. isnt (calls_word b.1.0 protocol word b.0 b.1.1).0))
 
 pub wrong_third : (rest : List Word) (protocol calls word : Word) (more more' more'' : List Word) → rest ≡ protocol ∷ more
     → more ≡ calls ∷ more' → more' ≡ word ∷ more'' → IsFileOf (codes ".scr") protocol → IsFileName calls
     → AreWrong (conform ∷ rest) (Some word)
 wrong_third rest protocol calls word more more' more'' e e' e'' h h' =
     subst (λ (ws : List Word). AreWrong (conform ∷ ws) (Some word)) (sym (e ∙ ap (λ (z : List Word). protocol ∷ z) e'))
-    (wrong_at (conform ∷ protocol ∷ calls ∷ []) more' word more'' e'' (begins_calls protocol calls h h') (λ b. filled (sym (calls_word b.1.0 protocol calls (word ∷ b.0) b.1.1).1)))
+    (wrong_at (conform ∷ protocol ∷ calls ∷ []) more' word more'' e'' (begins_calls protocol calls h h')
+    (λ b. filled (sym (calls_word b.1.0 protocol calls (word ∷ b.0) b.1.1).1)))
 
 pub both_files : (rest : List Word) (protocol calls : Word) (more more' : List Word) → rest ≡ protocol ∷ more → more ≡ calls ∷ more'
     → length more' ≡ 0 → IsFileOf (codes ".scr") protocol → IsFileName calls → AreProtocolAndCalls rest
 both_files rest protocol calls more more' e e' n h h' =
-    record { protocol = protocol; calls = calls; two = e ∙ ap (λ (z : List Word). protocol ∷ z) (e' ∙ ap (λ (z : List Word). calls ∷ z) (empty_is more' n)); scribble = h; named = h' }
+    record {
+      protocol = protocol;
+      calls = calls;
+      two = e ∙ ap (λ (z : List Word). protocol ∷ z)
+          (e' ∙ ap (λ (z : List Word). calls ∷ z) (empty_is more' n));
+      scribble = h;
+      named = h';
+    }
 
 pub wrong_folder : (rest : List Word) (word : Word) (more : List Word) → rest ≡ word ∷ more → (IsFileName word → ⊥)
     → AreWrong (translate ∷ out ∷ rest) (Some word)
-wrong_folder rest word more e isnt = wrong_at (translate ∷ out ∷ []) rest word more e begins_out (λ b. isnt (folder_word b.1.0 word b.0 b.1.1))
+wrong_folder rest word more e isnt = wrong_at (translate ∷ out ∷ []) rest word more e begins_out
+    (λ b. isnt (folder_word b.1.0 word b.0 b.1.1))
 
 -- words that don't begin with the option don't with other words at their end
 still_plain : (before : List Word) (word : Word) (after more : List Word) → ((r : List Word) → before ++ word ∷ after ≡ out ∷ r → ⊥)
@@ -485,14 +519,17 @@ pub wrong_file : (folder : Option Word) (files : List Word) (word : Word) → If
 wrong_file folder files word name plain (before, after, is, each, isnt) = record {
   before = translate ∷ (out_words folder ++ before);
   after = after;
-  stands = ap (λ (z : List Word). translate ∷ z) (ap (λ (z : List Word). out_words folder ++ z) is ∙ sym (append_assoc (out_words folder) before (word ∷ after)));
+  stands = ap (λ (z : List Word). translate ∷ z) (ap (λ (z : List Word). out_words folder ++ z) is ∙
+      sym (append_assoc (out_words folder) before (word ∷ after)));
   begins = begins_files folder before name each;
   wrong = λ b. isnt (found b);
 } where
   found : CanBegin AreCommand ((translate ∷ (out_words folder ++ before)) ++ word ∷ []) → IsFileOf (codes ".scr") word
   found (more, (command, k)) =
-      let split : ((translate ∷ (out_words folder ++ before)) ++ word ∷ []) ++ more ≡ translate ∷ (out_words folder ++ (before ++ word ∷ more)) =
-      append_assoc (translate ∷ (out_words folder ++ before)) (word ∷ []) more ∙ ap (λ (z : List Word). translate ∷ z) (append_assoc (out_words folder) before (word ∷ more)) in
+      let split : ((translate ∷ (out_words folder ++ before)) ++ word ∷ []) ++ more ≡ translate ∷
+      (out_words folder ++ (before ++ word ∷ more)) =
+      append_assoc (translate ∷ (out_words folder ++ before)) (word ∷ []) more ∙ ap (λ (z : List Word). translate ∷ z)
+      (append_assoc (out_words folder) before (word ∷ more)) in
       let there : IsCommand command (translate ∷ (out_words folder ++ (before ++ word ∷ more))) = subst (IsCommand command) split k in
       let still = λ (n : folder ≡ None). still_plain before word after more (λ r e. plain n r (is ∙ e)) in
       All-mid (IsFileOf (codes ".scr")) before word more (translate_files command folder (before ++ word ∷ more) still there).1
@@ -507,12 +544,14 @@ wrong_source files word (before, after, is, each, isnt) = record {
 } where
   found : CanBegin AreCommand ((check ∷ before) ++ word ∷ []) → IsSourceName word
   found (more, (command, k)) =
-      let split : ((check ∷ before) ++ word ∷ []) ++ more ≡ check ∷ (before ++ word ∷ more) = append_assoc (check ∷ before) (word ∷ []) more in
+      let split : ((check ∷ before) ++ word ∷ []) ++ more ≡ check ∷ (before ++ word ∷ more) = append_assoc (check ∷ before) (word ∷ []) more
+      in
       All-mid IsSourceName before word more (check_files command (before ++ word ∷ more) (subst (IsCommand command) split k)).1
 
 pub wrong_class_folder : (rest : List Word) (word : Word) (more : List Word) → rest ≡ word ∷ more → (IsFileName word → ⊥)
     → AreWrong (compile ∷ out ∷ rest) (Some word)
-wrong_class_folder rest word more e isnt = wrong_at (compile ∷ out ∷ []) rest word more e begins_class_out (λ b. isnt (class_folder_word b.1.0 word b.0 b.1.1))
+wrong_class_folder rest word more e isnt = wrong_at (compile ∷ out ∷ []) rest word more e begins_class_out
+    (λ b. isnt (class_folder_word b.1.0 word b.0 b.1.1))
 
 pub wrong_class_source : (folder : Option Word) (files : List Word) (word : Word) → IfSome folder IsFileName
     → (folder ≡ None → (r : List Word) → files ≡ out ∷ r → ⊥)
@@ -520,14 +559,17 @@ pub wrong_class_source : (folder : Option Word) (files : List Word) (word : Word
 wrong_class_source folder files word name plain (before, after, is, each, isnt) = record {
   before = compile ∷ (out_words folder ++ before);
   after = after;
-  stands = ap (λ (z : List Word). compile ∷ z) (ap (λ (z : List Word). out_words folder ++ z) is ∙ sym (append_assoc (out_words folder) before (word ∷ after)));
+  stands = ap (λ (z : List Word). compile ∷ z) (ap (λ (z : List Word). out_words folder ++ z) is ∙
+      sym (append_assoc (out_words folder) before (word ∷ after)));
   begins = begins_classes folder before name each;
   wrong = λ b. isnt (found b);
 } where
   found : CanBegin AreCommand ((compile ∷ (out_words folder ++ before)) ++ word ∷ []) → IsSourceName word
   found (more, (command, k)) =
-      let split : ((compile ∷ (out_words folder ++ before)) ++ word ∷ []) ++ more ≡ compile ∷ (out_words folder ++ (before ++ word ∷ more)) =
-      append_assoc (compile ∷ (out_words folder ++ before)) (word ∷ []) more ∙ ap (λ (z : List Word). compile ∷ z) (append_assoc (out_words folder) before (word ∷ more)) in
+      let split : ((compile ∷ (out_words folder ++ before)) ++ word ∷ []) ++ more ≡ compile ∷
+      (out_words folder ++ (before ++ word ∷ more)) =
+      append_assoc (compile ∷ (out_words folder ++ before)) (word ∷ []) more ∙ ap (λ (z : List Word). compile ∷ z)
+      (append_assoc (out_words folder) before (word ∷ more)) in
       let there : IsCommand command (compile ∷ (out_words folder ++ (before ++ word ∷ more))) = subst (IsCommand command) split k in
       let still = λ (n : folder ≡ None). still_plain before word after more (λ r e. plain n r (is ∙ e)) in
       All-mid IsSourceName before word more (compile_files command folder (before ++ word ∷ more) still there).1
@@ -598,7 +640,8 @@ ends_is word suffix h =
 pub is_ends : (word suffix : List ℕ) → EndsWith suffix word → ends_with eqb word suffix ≡ true
 is_ends word suffix (front, e) =
     let at : length front ≡ length word - length suffix = omega (arith, ap length e, length-append front suffix) in
-    let tail : drop (length word - length suffix) word ≡ suffix = rw e (drop_at front suffix _ (at ∙ ap (λ (z : Word). length z - length suffix) e)) in
+    let tail : drop (length word - length suffix) word ≡ suffix =
+    rw e (drop_at front suffix _ (at ∙ ap (λ (z : Word). length z - length suffix) e)) in
     (bytes_eq-Decides suffix (drop (length word - length suffix) word)).1 (sym tail)
 
 -- the name of a file is one of a program's, by its ending
@@ -652,7 +695,8 @@ passes_is r p bytes e = (λ t. all_pass p bytes (sym e ∙ t), λ h. e ∙ pass_
 pub at_index : (words : List Word) (i : ℕ) (word : Word) → i < length words → word ≡ get_or words i word
     → words ≡ take i words ++ word ∷ drop (suc i) words
 at_index words i word within is =
-    sym (take-append-drop i words) ∙ ap (λ (z : List Word). take i words ++ z) (drop-cons words i word within ∙ ap (λ (z : Word). z ∷ drop (suc i) words) (sym is))
+    sym (take-append-drop i words) ∙ ap (λ (z : List Word). take i words ++ z) (drop-cons words i word within ∙
+    ap (λ (z : Word). z ∷ drop (suc i) words) (sym is))
 
 -- an option of a folder, seen through a reference
 pub named_folder : (folder : Option (Bor Word)) → IfSome folder (λ f. IsFileName f.now)

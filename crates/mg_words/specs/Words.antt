@@ -1,5 +1,6 @@
 -- The words of the command line: the lists of words that are commands, and the first word that can't follow.
-use Rattle.std.specs.Prelude.{◌≡◌, ◌≢◌, ◌≤◌, ℕ, List, [], ◌∷◌, ◌++◌, All, Contains, length, map, flat_map, filter, filter_map, position, Bool, true, false, Option, Some, None, IfSome, unwrap_or, option_to_list, codes, if◌then◌else◌, ⊤}
+use Rattle.std.specs.Prelude.{◌≡◌, ◌≢◌, ◌≤◌, ℕ, List, [], ◌∷◌, ◌++◌, All, Contains, length, map, flat_map, filter, filter_map, position}
+use Rattle.std.specs.Prelude.{Bool, true, false, Option, Some, None, IfSome, unwrap_or, option_to_list, codes, if◌then◌else◌, ⊤}
 use Rattle.std.specs.Fmt.{decimal}
 use Rattle.std.specs.List.{IsDistinct, join_with_byte, range_with_len}
 use Rattle.std.specs.Str.{bytes_eq}

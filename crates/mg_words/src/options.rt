@@ -3,7 +3,8 @@
 ghost use Rattle.std.specs.Prelude.{◌≡◌, ◌≢◌, ◌↔◌, IsTrue, true, All, is_some, option_map};
 ghost use Rattle.mg_words.specs.Words.{role_names};
 ghost use Rattle.scr_tree.specs.Words.{IsName};
-ghost use Rattle.mg_words.specs.inner.Judging.{asked_of, IsSteps, StartsNumber, IsNamed, IsStep, IsWith, can_follow, are_whole, lacks_role, is_wanted, names_in, roles_in};
+ghost use Rattle.mg_words.specs.inner.Judging.{asked_of, IsSteps, StartsNumber, IsNamed, IsStep, IsWith, can_follow, are_whole, lacks_role};
+ghost use Rattle.mg_words.specs.inner.Judging.{is_wanted, names_in, roles_in};
 ghost use Rattle.mg_words.specs.declared.options.Named.TheVariants as named;
 
 use crate::asked::Asked;

@@ -1,7 +1,8 @@
 //! The words behind `run` and `exec`: options in any order, and then files.
 
 ghost use Rattle.std.specs.Prelude.{◌≡◌, ◌<◌, ◌∷◌, length, option_map};
-ghost use Rattle.mg_words.specs.inner.Judging.{asked_of, command_of, made, verb_of, IsFor, is_barred, IsFirstOther, IsJudged, IsRunnable, IsPlain};
+ghost use Rattle.mg_words.specs.inner.Judging.{asked_of, command_of, made, verb_of, IsFor, is_barred, IsFirstOther, IsJudged, IsRunnable};
+ghost use Rattle.mg_words.specs.inner.Judging.{IsPlain};
 
 use crate::asked::Asked;
 use crate::names::{other_file, other_source};

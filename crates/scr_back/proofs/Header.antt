@@ -23,12 +23,19 @@ MoreTold names ts = (rs : List Role) × (map role_name rs ≡ names) × Each (Af
 abbrev OneRole : Name → (List Tok → Type 0) → List Tok → Type 0
 OneRole name P = Behind (λ a. marked a marks.Role) (Behind (λ a. named a name) P)
 
-more_form : (name : Name) (names : List Name) (ts : List Tok) → Behind (λ a. marked a marks.Comma) (OneRole name (MoreTold names)) ts → MoreTold (name ∷ names) ts
+more_form : (name : Name) (names : List Name) (ts : List Tok) → Behind (λ a. marked a marks.Comma) (OneRole name (MoreTold names)) ts →
+    MoreTold (name ∷ names) ts
 more_form name names ts h =
     let r = h.3 in let n = r.3 in let m = n.3 in (
       record { place = n.0; name = name } ∷ m.0,
       ap (λ z. name ∷ z) m.1,
-      (marked h.0 marks.Comma ∷ marked r.0 marks.Role ∷ named n.0 name ∷ [], n.1, h.2 ∙ on (r.2 ∙ on n.2), (h.0, marked r.0 marks.Role ∷ named n.0 name ∷ [], refl, (r.0, refl)), m.2),
+      (
+        marked h.0 marks.Comma ∷ marked r.0 marks.Role ∷ named n.0 name ∷ [],
+        n.1,
+        h.2 ∙ on (r.2 ∙ on n.2),
+        (h.0, marked r.0 marks.Role ∷ named n.0 name ∷ [], refl, (r.0, refl)),
+        m.2,
+      ),
     )
 
 roles_form : (name : Name) (names : List Name) (ts : List Tok) → OneRole name (MoreTold names) ts → RolesTold (name ∷ names) ts
@@ -51,7 +58,8 @@ more_told (name ∷ names) h =
     (word_then (codes "role") (λ a. marked a marks.Role) role_word (λ bytes o. refl) (blank_then 32 refl (omega arith)
     (word_then name (λ a. named a name) (naming name h.0) (stops names) (more_told names h.1))))))
 
-pub roles_told : (name : Name) (names : List Name) → AllByRecursion IsName (name ∷ names) → Told NoName (RolesTold (name ∷ names)) (role_list [] (name ∷ names))
+pub roles_told : (name : Name) (names : List Name) → AllByRecursion IsName (name ∷ names) → Told NoName (RolesTold (name ∷ names))
+    (role_list [] (name ∷ names))
 roles_told name names h =
     convert (roles_form name names)
     (word_then (codes "role") (λ a. marked a marks.Role) role_word (λ bytes o. refl) (blank_then 32 refl (omega arith)

@@ -11,7 +11,9 @@ use Rattle.std.specs.Str.{bytes_eq}
 use Rattle.scr_tree.specs.Tree.{Statements, Nothing, Says, Choice, Rec, Continue, Do, Branches, NoBranch, Branch}
 use Rattle.scr_tree.specs.Spots.{Past, Opens, Enters, Spot, spot, head_place}
 use Rattle.scr_tree.specs.Control.{Quietly}
-use Rattle.scr_tree.specs.Conditions.{UnknownRole, PeerIsSelf, UnknownRec, DuplicateRec, Unguarded, Unreachable, HasEmpty, BeginsOtherwise, EmptyBranch, OtherStart, BranchStart, AllSend, AllFrom, IsUniform, MixedChoice, key, first_key, SameLabel, ReservedLabel}
+use Rattle.scr_tree.specs.Conditions.{UnknownRole, PeerIsSelf, UnknownRec, DuplicateRec, Unguarded, Unreachable, HasEmpty, BeginsOtherwise}
+use Rattle.scr_tree.specs.Conditions.{EmptyBranch, OtherStart, BranchStart, AllSend, AllFrom, IsUniform, MixedChoice, key, first_key}
+use Rattle.scr_tree.specs.Conditions.{SameLabel, ReservedLabel}
 use Rattle.scr_back.specs.Same.{IsSameMessage, AreSame, AreSameBranches}
 use Rattle.scr_back.proofs.Spots.{Zip, SameSpot, falls_same, inside_right, inside_left, quiet_same}
 
@@ -51,7 +53,8 @@ pub rec_kept : Follows UnknownRec
 rec_kept (spot w s) (spot v t) h = go s t h.1
   where
     go : (s t : Statements) → AreSame s t → (c : Culprit) → UnknownRec (spot v t) c → (d : Culprit) × UnknownRec (spot w s) d
-    go (Continue p name r) (Continue q word o) e c a = (culprit p name, (refl, λ l. a.1 (inside_right w v word h.0 (subst (λ z. Contains w (Opens z)) e.0 l))))
+    go (Continue p name r) (Continue q word o) e c a =
+        (culprit p name, (refl, λ l. a.1 (inside_right w v word h.0 (subst (λ z. Contains w (Opens z)) e.0 l))))
     go (Do p name r) (Do q word o) e c a = absurd a
     go Nothing Nothing e c a = absurd a
     go (Says m r) (Says n o) e c a = absurd a
@@ -63,7 +66,8 @@ pub twice_kept : Follows DuplicateRec
 twice_kept (spot w s) (spot v t) h = go s t h.1
   where
     go : (s t : Statements) → AreSame s t → (c : Culprit) → DuplicateRec (spot v t) c → (d : Culprit) × DuplicateRec (spot w s) d
-    go (Rec p name body r) (Rec q word inner o) e c a = (culprit p name, (refl, subst (λ z. Contains w (Opens z)) (sym e.0) (inside_left w v word h.0 a.1)))
+    go (Rec p name body r) (Rec q word inner o) e c a =
+        (culprit p name, (refl, subst (λ z. Contains w (Opens z)) (sym e.0) (inside_left w v word h.0 a.1)))
     go Nothing Nothing e c a = absurd a
     go (Says m r) (Says n o) e c a = absurd a
     go (Choice p at bs r) (Choice q by cs o) e c a = absurd a
@@ -75,7 +79,8 @@ pub guard_kept : Follows Unguarded
 guard_kept (spot w s) (spot v t) h = go s t h.1
   where
     go : (s t : Statements) → AreSame s t → (c : Culprit) → Unguarded (spot v t) c → (d : Culprit) × Unguarded (spot w s) d
-    go (Continue p name r) (Continue q word o) e c a = (culprit p name, (refl, quiet_same w v name h.0 (subst (λ z. Quietly z v) (sym e.0) a.1)))
+    go (Continue p name r) (Continue q word o) e c a =
+        (culprit p name, (refl, quiet_same w v name h.0 (subst (λ z. Quietly z v) (sym e.0) a.1)))
     go (Do p name r) (Do q word o) e c a = absurd a
     go Nothing Nothing e c a = absurd a
     go (Says m r) (Says n o) e c a = absurd a
@@ -114,7 +119,8 @@ empty_kept _ _ e a = absurd e
 
 has_empty_kept : (bs cs : Branches) → AreSameBranches bs cs → HasEmpty cs → HasEmpty bs
 has_empty_kept NoBranch NoBranch e a = a
-has_empty_kept (Branch b more) (Branch d others) e a = ⊎_elim (λ n. inl (empty_kept b d e.0 n)) (λ m. inr (has_empty_kept more others e.1 m)) a
+has_empty_kept (Branch b more) (Branch d others) e a = ⊎_elim (λ n. inl (empty_kept b d e.0 n))
+    (λ m. inr (has_empty_kept more others e.1 m)) a
 has_empty_kept _ _ e a = absurd e
 
 otherwise_kept : (s t : Statements) → AreSame s t → BeginsOtherwise t → BeginsOtherwise s
@@ -147,7 +153,8 @@ other_start_kept (spot (p ∷ w) s) (spot (r ∷ v) t) h c a = absurd h.0.0
 
 pub start_kept : Follows BranchStart
 start_kept (spot w s) (spot v t) h c a =
-    ⊎_elim (λ b. let d = empty_branch_kept s t h.1 c b in (d.0, inl d.1)) (λ b. let d = other_start_kept (spot w s) (spot v t) h c b in (d.0, inr d.1)) a
+    ⊎_elim (λ b. let d = empty_branch_kept s t h.1 c b in (d.0, inl d.1)) (λ b. let d = other_start_kept (spot w s) (spot v t) h c b in
+    (d.0, inr d.1)) a
 
 -- choices
 all_send_kept : (bs cs : Branches) → AreSameBranches bs cs → AllSend bs → AllSend cs
@@ -164,7 +171,8 @@ all_send_kept _ _ e a = absurd e
 all_from_kept : (peer : Name) (bs cs : Branches) → AreSameBranches bs cs → AllFrom peer bs → AllFrom peer cs
 all_from_kept peer NoBranch NoBranch e a = tt
 all_from_kept peer (Branch Nothing more) (Branch Nothing others) e a = all_from_kept peer more others e.1 a
-all_from_kept peer (Branch (Says m r) more) (Branch (Says n o) others) e a = (sym e.0.0.direction ∙ a.0, sym e.0.0.peer ∙ a.1, all_from_kept peer more others e.1 a.2)
+all_from_kept peer (Branch (Says m r) more) (Branch (Says n o) others) e a =
+    (sym e.0.0.direction ∙ a.0, sym e.0.0.peer ∙ a.1, all_from_kept peer more others e.1 a.2)
 all_from_kept peer (Branch (Choice p at bs r) more) (Branch (Choice q by cs o) others) e a = all_from_kept peer more others e.1 a
 all_from_kept peer (Branch (Rec p name body r) more) (Branch (Rec u word inner o) others) e a = all_from_kept peer more others e.1 a
 all_from_kept peer (Branch (Continue p name r) more) (Branch (Continue u word o) others) e a = all_from_kept peer more others e.1 a
@@ -212,7 +220,8 @@ label_kept me (spot (Past f ∷ w) s) (spot (Past g ∷ v) t) h c a = absurd a
 label_kept me (spot (Opens n ∷ w) s) (spot (Opens m ∷ v) t) h c a = absurd a
 label_kept me (spot (Enters at es ∷ w) s) (spot (Enters by fs ∷ v) t) h c a = go s t h.1 c a
   where
-    go : (s t : Statements) → AreSame s t → (c : Culprit) → SameLabel me (spot (Enters by fs ∷ v) t) c → (d : Culprit) × SameLabel me (spot (Enters at es ∷ w) s) d
+    go : (s t : Statements) → AreSame s t → (c : Culprit) → SameLabel me (spot (Enters by fs ∷ v) t) c →
+        (d : Culprit) × SameLabel me (spot (Enters at es ∷ w) s) d
     go (Says m r) (Says n o) e c a = (
       culprit m.place m.label,
       (
@@ -237,7 +246,8 @@ free_kept me (spot (Past f ∷ w) s) (spot (Past g ∷ v) t) h c a = absurd a
 free_kept me (spot (Opens n ∷ w) s) (spot (Opens m ∷ v) t) h c a = absurd a
 free_kept me (spot (Enters at es ∷ w) s) (spot (Enters by fs ∷ v) t) h c a = go s t h.1 c a
   where
-    go : (s t : Statements) → AreSame s t → (c : Culprit) → ReservedLabel me (spot (Enters by fs ∷ v) t) c → (d : Culprit) × ReservedLabel me (spot (Enters at es ∷ w) s) d
+    go : (s t : Statements) → AreSame s t → (c : Culprit) → ReservedLabel me (spot (Enters by fs ∷ v) t) c →
+        (d : Culprit) × ReservedLabel me (spot (Enters at es ∷ w) s) d
     go (Says m r) (Says n o) e c a =
         (culprit m.place m.label, (refl, (λ same. a.1 (sym h.0.0.0 ∙ same)), subst (Contains java_words) (sym e.0.label) a.2))
     go Nothing Nothing e c a = absurd a

@@ -36,9 +36,17 @@ all_pass [] e = tt
 all_pass (c ∷ cs) e = let h = split (is_name_byte c) (all_of cs) e in (h.0, all_pass cs h.1)
 
 -- a word of letters, of this length
-spelled : (w : Name) (tok : Place → Tok) → StartsWith is_name_start w → all_of w ≡ true → nat_lt (length w) 256 ≡ true → ((p : Place) → word_tok p w (reserved w) ≡ tok p) →
+spelled : (w : Name) (tok : Place → Tok) → StartsWith is_name_start w → all_of w ≡ true → nat_lt (length w) 256 ≡ true →
+    ((p : Place) → word_tok p w (reserved w) ≡ tok p) →
     ((p : Place) (c : Culprit) → IsUnsupported (tok p) c → ⊥) → IsToken w tok
-spelled w tok starts passes short token used = record { starts = starts; bytes = all_pass w passes; short = grind (arith, nat_tests); token = token; used = used }
+spelled w tok starts passes short token used = record {
+  starts = starts;
+  bytes = all_pass w passes;
+  short =
+      grind (arith, nat_tests);
+  token = token;
+  used = used;
+}
 
 pub local_word : IsToken (codes "local") (λ a. marked a marks.Local)
 unfolding reserved all_of

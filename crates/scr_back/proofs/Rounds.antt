@@ -35,11 +35,19 @@ record Stands (xs : List Spot) (name : Name) : Type 0 where
   stands : Contains xs (spot way (Do place name rest))
   at_once : AtOnce way
 
-stands_here : (xs : List Spot) (w v : Way) (s : Statements) (q : Place) (name : Name) (o : Statements) → Contains xs (spot w s) → SameSpot (spot w s) (spot v (Do q name o)) → AtOnce v → Stands xs name
+stands_here : (xs : List Spot) (w v : Way) (s : Statements) (q : Place) (name : Name) (o : Statements) → Contains xs (spot w s) →
+    SameSpot (spot w s) (spot v (Do q name o)) → AtOnce v → Stands xs name
 stands_here xs w v s q name o c e a = go s c e.1
   where
     go : (s : Statements) → Contains xs (spot w s) → AreSame s (Do q name o) → Stands xs name
-    go (Do p word r) c g = record { way = w; place = p; rest = r; stands = subst (λ n. Contains xs (spot w (Do p n r))) g.0 c; at_once = once_same w v e.0 a }
+    go (Do p word r) c g = record {
+      way = w;
+      place = p;
+      rest = r;
+      stands = subst (λ n. Contains xs (spot w (Do p n r))) g.0 c;
+      at_once =
+          once_same w v e.0 a;
+    }
     go Nothing c g = absurd g
     go (Says m r) c g = absurd g
     go (Choice p at bs r) c g = absurd g
@@ -62,7 +70,8 @@ module _ (all us : List Titled) (z : Zip SameTitle all us) where
         at_once = s.at_once;
       }
     where
-      by_spot : (t : Titled) (x : Spot) → Contains (spots [] t.body) x → (v : Way) (q : Place) (o : Statements) → SameSpot x (spot v (Do q to o)) → AtOnce v → Stands (spots [] t.body) to
+      by_spot : (t : Titled) (x : Spot) → Contains (spots [] t.body) x → (v : Way) (q : Place) (o : Statements) →
+          SameSpot x (spot v (Do q to o)) → AtOnce v → Stands (spots [] t.body) to
       by_spot t (spot w s) c v q o e a = stands_here (spots [] t.body) w v s q to o c e a
 
   leads_same : (from to : Name) → Leads us from to → Leads all from to
@@ -89,7 +98,8 @@ module _ (all us : List Titled) (z : Zip SameTitle all us) where
         go (Rec p name body i) (Rec q word inner o) g c a = absurd a
         go _ _ g c a = absurd g
 
-    pairs_kept : (xs ys : List Spot) → Zip SameSpot xs ys → Clean (Unguarded all) (map (λ x. (t, x)) xs) → Clean (Unguarded us) (map (λ y. (v, y)) ys)
+    pairs_kept : (xs ys : List Spot) → Zip SameSpot xs ys → Clean (Unguarded all) (map (λ x. (t, x)) xs) →
+        Clean (Unguarded us) (map (λ y. (v, y)) ys)
     pairs_kept [] [] k h = tt
     pairs_kept (x ∷ xs) (y ∷ ys) k h = ((λ c b. let d = round_kept x y k.0 c b in h.0 d.0 d.1), pairs_kept xs ys k.1 h.1)
     pairs_kept [] (y ∷ ys) k h = absurd k
@@ -107,14 +117,17 @@ module _ (all us : List Titled) (z : Zip SameTitle all us) where
   clean_both [] ys h g = g
   clean_both (x ∷ xs) ys h g = (h.0, clean_both xs ys h.1 g)
 
-  among_kept : (ts vs : List Titled) → Zip SameTitle ts vs → Clean (Unguarded all) (spots_of body_in ts) → Clean (Unguarded us) (spots_of body_in vs)
+  among_kept : (ts vs : List Titled) → Zip SameTitle ts vs → Clean (Unguarded all) (spots_of body_in ts) →
+      Clean (Unguarded us) (spots_of body_in vs)
   among_kept [] [] k h = tt
   among_kept (t ∷ ts) (v ∷ vs) k h =
       clean_both (map (λ y. (v, y)) (spots [] v.body)) (spots_of body_in vs)
-      (pairs_kept t v k.0 (spots [] t.body) (spots [] v.body) (spots_same [] [] t.body v.body tt k.0.1) (clean_front (map (λ x. (t, x)) (spots [] t.body)) (spots_of body_in ts) h))
+      (pairs_kept t v k.0 (spots [] t.body) (spots [] v.body) (spots_same [] [] t.body v.body tt k.0.1)
+      (clean_front (map (λ x. (t, x)) (spots [] t.body)) (spots_of body_in ts) h))
       (among_kept ts vs k.1 (clean_behind (map (λ x. (t, x)) (spots [] t.body)) (spots_of body_in ts) h))
   among_kept [] (v ∷ vs) k h = absurd k
   among_kept (t ∷ ts) [] k h = absurd k
 
-pub guards_kept : (all us : List Titled) → Zip SameTitle all us → Clean (Unguarded all) (spots_of body_in all) → Clean (Unguarded us) (spots_of body_in us)
+pub guards_kept : (all us : List Titled) → Zip SameTitle all us → Clean (Unguarded all) (spots_of body_in all) →
+    Clean (Unguarded us) (spots_of body_in us)
 guards_kept all us z h = among_kept all us z all us z h

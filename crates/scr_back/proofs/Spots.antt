@@ -1,5 +1,6 @@
 -- Statements that are the same have the same spots, places aside.
-use Rattle.std.proofs.Common.{◌≡◌, ⊎_elim, Bool, true, false, ◌&&◌, ◌||◌, List, [], ◌∷◌, ◌++◌, Contains, Decides, refl, sym, ap, subst, ◌∙◌, true≢false}
+use Rattle.std.proofs.Common.{◌≡◌, ⊎_elim, Bool, true, false, ◌&&◌, ◌||◌, List, [], ◌∷◌, ◌++◌, Contains, Decides, refl, sym, ap, subst, ◌∙◌}
+use Rattle.std.proofs.Common.{true≢false}
 use Rattle.std.specs.Str.{bytes_eq}
 use Rattle.std.proofs.lemmas.Slice.Eq.{bytes_eq-Decides}
 use Rattle.mg_text.specs.Call.{Name}
@@ -18,7 +19,8 @@ Zip R [] [] = Unit {0}
 Zip R (x ∷ xs) (y ∷ ys) = R x y × Zip R xs ys
 Zip R _ _ = ⊥
 
-pub zip-append : {X Y : Type 0} (R : X → Y → Type 0) (xs us : List X) (ys vs : List Y) → Zip R xs ys → Zip R us vs → Zip R (xs ++ us) (ys ++ vs)
+pub zip-append : {X Y : Type 0} (R : X → Y → Type 0) (xs us : List X) (ys vs : List Y) → Zip R xs ys → Zip R us vs →
+    Zip R (xs ++ us) (ys ++ vs)
 zip-append R [] us [] vs h g = g
 zip-append R (x ∷ xs) us (y ∷ ys) vs h g = (h.0, zip-append R xs us ys vs h.1 g)
 zip-append R [] us (y ∷ ys) vs h g = absurd h
@@ -40,23 +42,32 @@ mutual
   pub spots_same : (w v : Way) (s t : Statements) → SameWay w v → AreSame s t → Zip SameSpot (spots w s) (spots v t)
   spots_same w v Nothing Nothing h e = tt
   spots_same w v (Says m r) (Says n o) h e = ((h, e), spots_same _ _ r o ((e.0, tt), h) e.1)
-  spots_same w v (Choice p at bs r) (Choice q by cs o) h e =
-      ((h, e), zip-append SameSpot (branch_spots w at [] bs) _ (branch_spots v by [] cs) _ (branches_same w v at by [] [] bs cs h e.0 tt e.1) (spots_same _ _ r o ((e.0, e.1, tt), h) e.2))
-  spots_same w v (Rec p name body r) (Rec q word inner o) h e =
-      ((h, e), zip-append SameSpot (spots (Opens name ∷ w) body) _ (spots (Opens word ∷ v) inner) _ (spots_same _ _ body inner (e.0, h) e.1) (spots_same _ _ r o ((e.0, e.1, tt), h) e.2))
+  spots_same w v (Choice p at bs r) (Choice q by cs o) h e = (
+    (h, e),
+    zip-append SameSpot (branch_spots w at [] bs) _ (branch_spots v by [] cs) _
+        (branches_same w v at by [] [] bs cs h e.0 tt e.1) (spots_same _ _ r o ((e.0, e.1, tt), h) e.2),
+  )
+  spots_same w v (Rec p name body r) (Rec q word inner o) h e = (
+    (h, e),
+    zip-append SameSpot (spots (Opens name ∷ w) body) _ (spots (Opens word ∷ v) inner) _ (spots_same _ _ body inner (e.0, h) e.1)
+        (spots_same _ _ r o ((e.0, e.1, tt), h) e.2),
+  )
   spots_same w v (Continue p name r) (Continue q word o) h e = ((h, e), spots_same _ _ r o ((e.0, tt), h) e.1)
   spots_same w v (Do p name r) (Do q word o) h e = ((h, e), spots_same _ _ r o ((e.0, tt), h) e.1)
   spots_same w v _ _ h e = absurd e
 
-  branches_same : (w v : Way) (at by : Name) (es fs : List Statements) (bs cs : Branches) → SameWay w v → at ≡ by → Zip AreSame es fs → AreSameBranches bs cs →
+  branches_same : (w v : Way) (at by : Name) (es fs : List Statements) (bs cs : Branches) → SameWay w v → at ≡ by → Zip AreSame es fs →
+      AreSameBranches bs cs →
       Zip SameSpot (branch_spots w at es bs) (branch_spots v by fs cs)
   branches_same w v at by es fs NoBranch NoBranch h e z g = tt
   branches_same w v at by es fs (Branch b more) (Branch d others) h e z g =
-      zip-append SameSpot (spots (Enters at es ∷ w) b) _ (spots (Enters by fs ∷ v) d) _ (spots_same _ _ b d ((e, z), h) g.0) (branches_same w v at by (b ∷ es) (d ∷ fs) more others h e (g.0, z) g.1)
+      zip-append SameSpot (spots (Enters at es ∷ w) b) _ (spots (Enters by fs ∷ v) d) _ (spots_same _ _ b d ((e, z), h) g.0)
+      (branches_same w v at by (b ∷ es) (d ∷ fs) more others h e (g.0, z) g.1)
   branches_same w v at by es fs _ _ h e z g = absurd g
 
 -- a condition that is at fault at the same spots is clean where it is clean
-pub clean_same : (At By : Spot → Culprit → Type 0) → ((x y : Spot) → SameSpot x y → (c : Culprit) → By y c → (d : Culprit) × At x d) → (xs ys : List Spot) → Zip SameSpot xs ys → Clean At xs → Clean By ys
+pub clean_same : (At By : Spot → Culprit → Type 0) → ((x y : Spot) → SameSpot x y → (c : Culprit) → By y c → (d : Culprit) × At x d) →
+    (xs ys : List Spot) → Zip SameSpot xs ys → Clean At xs → Clean By ys
 clean_same At By f [] [] z h = tt
 clean_same At By f (x ∷ xs) (y ∷ ys) z h = ((λ c b. let d = f x y z.0 c b in h.0 d.0 d.1), clean_same At By f xs ys z.1 h.1)
 clean_same At By f [] (y ∷ ys) z h = absurd z
@@ -114,18 +125,21 @@ at_front p w q e = subst (λ z. Contains (z ∷ w) (Opens q)) (sym e) (Contains-
 pub inside_right : (w v : Way) (q : Name) → SameWay w v → Contains w (Opens q) → Contains v (Opens q)
 inside_right [] [] q h c = c
 inside_right (p ∷ w) (r ∷ v) q h c =
-    ⊎_elim (λ e. at_front r v q (opens_right p r q h.0 e)) (λ m. Contains-later v r (Opens q) (inside_right w v q h.1 m)) (Contains-cons_cases w p (Opens q) c)
+    ⊎_elim (λ e. at_front r v q (opens_right p r q h.0 e)) (λ m. Contains-later v r (Opens q) (inside_right w v q h.1 m))
+    (Contains-cons_cases w p (Opens q) c)
 inside_right [] (r ∷ v) q h c = absurd h
 inside_right (p ∷ w) [] q h c = absurd h
 
 pub inside_left : (w v : Way) (q : Name) → SameWay w v → Contains v (Opens q) → Contains w (Opens q)
 inside_left [] [] q h c = c
 inside_left (p ∷ w) (r ∷ v) q h c =
-    ⊎_elim (λ e. at_front p w q (opens_left p r q h.0 e)) (λ m. Contains-later w p (Opens q) (inside_left w v q h.1 m)) (Contains-cons_cases v r (Opens q) c)
+    ⊎_elim (λ e. at_front p w q (opens_left p r q h.0 e)) (λ m. Contains-later w p (Opens q) (inside_left w v q h.1 m))
+    (Contains-cons_cases v r (Opens q) c)
 inside_left [] (r ∷ v) q h c = absurd h
 inside_left (p ∷ w) [] q h c = absurd h
 
-opened_same : (w v : Way) (n m q : Name) → n ≡ m → (Quietly q v → Quietly q w) → (b : Bool) → Decides b (m ≡ q) → Quietly q (Opens m ∷ v) → Quietly q (Opens n ∷ w)
+opened_same : (w v : Way) (n m q : Name) → n ≡ m → (Quietly q v → Quietly q w) → (b : Bool) → Decides b (m ≡ q) → Quietly q (Opens m ∷ v) →
+    Quietly q (Opens n ∷ w)
 opened_same w v n m q e go true d k = subst (λ z. Quietly q (Opens z ∷ w)) (sym (e ∙ d.0 refl)) opened
 opened_same w v n m q e go false d k = opening (go (quietly_opened _ k m v refl (λ same. true≢false (sym (d.1 same)))))
 

@@ -1,5 +1,6 @@
 -- Texts that are cut into pieces, with what their tokens are, wherever they stand.
-use Rattle.std.proofs.Common.{◌≡◌, ℕ, zero, suc, ◌<◌, ◌≤◌, List, [], ◌∷◌, ◌++◌, length, replicate, true, Some, refl, sym, ap, subst, ◌∙◌, append_assoc, arith, None}
+use Rattle.std.proofs.Common.{◌≡◌, ℕ, zero, suc, ◌<◌, ◌≤◌, List, [], ◌∷◌, ◌++◌, length, replicate, true, Some, refl, sym, ap, subst, ◌∙◌}
+use Rattle.std.proofs.Common.{append_assoc, arith, None}
 use Rattle.std.specs.Str.{IsAscii}
 use Rattle.std.proofs.lemmas.List.{append-nil}
 use Rattle.std.proofs.lemmas.Bool.Decides.{nat_tests}
@@ -67,24 +68,52 @@ pub record Told (ok : List ℕ → Type 0) (P : List Tok → Type 0) (text : Lis
   pub reads : (qs : List Piece) (bytes : List ℕ) → ok bytes → Cut scribble qs bytes [] → Reads P qs (text ++ bytes)
 
 pub nothing : {ok : List ℕ → Type 0} → Told ok (λ ts. ts ≡ []) []
-nothing = record { low = none; reads = λ qs bytes o cut. record { pieces = qs; cut = cut; tokens = λ p. record { end = p; front = []; parts = refl; holds = refl; used = tt } } }
+nothing = record {
+  low = none;
+  reads = λ qs bytes o cut. record {
+    pieces = qs;
+    cut = cut;
+    tokens =
+        λ p. record { end = p; front = []; parts = refl; holds = refl; used = tt };
+  };
+}
 
-pub convert : {ok : List ℕ → Type 0} {P Q : List Tok → Type 0} {text : List ℕ} → ((ts : List Tok) → P ts → Q ts) → Told ok P text → Told ok Q text
+pub convert : {ok : List ℕ → Type 0} {P Q : List Tok → Type 0} {text : List ℕ} → ((ts : List Tok) → P ts → Q ts) → Told ok P text →
+    Told ok Q text
 convert f h = record {
   low = h.low;
   reads = λ qs bytes o cut. let r = h.reads qs bytes o cut in
-      record { pieces = r.pieces; cut = r.cut; tokens = λ p. let t = r.tokens p in record { end = t.end; front = t.front; parts = t.parts; holds = f t.front t.holds; used = t.used } };
+      record {
+        pieces = r.pieces;
+        cut = r.cut;
+        tokens = λ p. let t = r.tokens p in record {
+          end = t.end;
+          front = t.front;
+          parts =
+              t.parts;
+          holds = f t.front t.holds;
+          used = t.used;
+        };
+      };
 }
 
 -- a blank, and then a text
-pub blank_then : {ok : List ℕ → Type 0} {P : List Tok → Type 0} {text : List ℕ} (c : ℕ) → is_blank c ≡ true → c < 128 → Told ok P text → Told ok P (c ∷ text)
+pub blank_then : {ok : List ℕ → Type 0} {P : List Tok → Type 0} {text : List ℕ} (c : ℕ) → is_blank c ≡ true → c < 128 → Told ok P text →
+    Told ok P (c ∷ text)
 blank_then {text = text} c e l h = record {
   low = more l h.low;
   reads = λ qs bytes o cut. let r = h.reads qs bytes o cut in
       record {
         pieces = blank c ∷ r.pieces;
         cut = (text ++ bytes, refl, e, r.cut);
-        tokens = λ p. let t = r.tokens (place_after p (c ∷ [])) in record { end = t.end; front = t.front; parts = t.parts; holds = t.holds; used = t.used };
+        tokens = λ p. let t = r.tokens (place_after p (c ∷ [])) in record {
+          end = t.end;
+          front = t.front;
+          parts = t.parts;
+          holds =
+              t.holds;
+          used = t.used;
+        };
       };
 }
 
@@ -104,7 +133,8 @@ clean-append : (xs ys : List Tok) → Clean IsUnsupported xs → Clean IsUnsuppo
 clean-append [] ys h g = g
 clean-append (x ∷ xs) ys h g = (h.0, clean-append xs ys h.1 g)
 
-pub sign_then : {ok : List ℕ → Type 0} {P : List Tok → Type 0} {text : List ℕ} (c : ℕ) (mark : Mark) → is_sign scribble.signs c ≡ true → sign_of c ≡ Some mark → c < 128 → unsupported_word mark ≡ None →
+pub sign_then : {ok : List ℕ → Type 0} {P : List Tok → Type 0} {text : List ℕ} (c : ℕ) (mark : Mark) → is_sign scribble.signs c ≡ true →
+    sign_of c ≡ Some mark → c < 128 → unsupported_word mark ≡ None →
     Told ok P text → Told ok (Behind (λ a. marked a mark) P) (c ∷ text)
 sign_then {text = text} c mark e s l u h = record {
   low = more l h.low;
@@ -130,7 +160,8 @@ pub record IsToken (w : Name) (tok : Place → Tok) : Type 0 where
   pub token : (p : Place) → word_tok p w (reserved w) ≡ tok p
   pub used : (p : Place) (c : Culprit) → IsUnsupported (tok p) c → ⊥
 
-pub word_then : {ok : List ℕ → Type 0} {P : List Tok → Type 0} {text : List ℕ} (w : Name) (tok : Place → Tok) → IsToken w tok → ((bytes : List ℕ) → ok bytes → NoName (text ++ bytes)) →
+pub word_then : {ok : List ℕ → Type 0} {P : List Tok → Type 0} {text : List ℕ} (w : Name) (tok : Place → Tok) → IsToken w tok →
+    ((bytes : List ℕ) → ok bytes → NoName (text ++ bytes)) →
     Told ok P text → Told ok (Behind tok P) (w ++ text)
 word_then {text = text} w tok is stops h = record {
   low = low-append (low-name w is.bytes) h.low;
@@ -152,7 +183,8 @@ word_then {text = text} w tok is stops h = record {
 abbrev pub Both : (List Tok → Type 0) → (List Tok → Type 0) → List Tok → Type 0
 Both P Q ts = (us vs : List Tok) × (ts ≡ us ++ vs) × P us × Q vs
 
-pub both : {fine ok : List ℕ → Type 0} {P Q : List Tok → Type 0} {a b : List ℕ} → Told fine P a → ((bytes : List ℕ) → ok bytes → fine (b ++ bytes)) → Told ok Q b → Told ok (Both P Q) (a ++ b)
+pub both : {fine ok : List ℕ → Type 0} {P Q : List Tok → Type 0} {a b : List ℕ} → Told fine P a →
+    ((bytes : List ℕ) → ok bytes → fine (b ++ bytes)) → Told ok Q b → Told ok (Both P Q) (a ++ b)
 both {a = a} {b = b} h follows g = record {
   low = low-append h.low g.low;
   reads = λ qs bytes o cut.

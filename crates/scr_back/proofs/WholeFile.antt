@@ -1,5 +1,6 @@
 -- A printed local protocol is read as the same protocol.
-use Rattle.std.proofs.Common.{◌≡◌, None, ℕ, suc, max, ◌≤◌, ⊎_elim, inl, List, [], ◌∷◌, ◌++◌, refl, sym, ap, subst, ◌∙◌, codes, arith, Contains, append_assoc, length, map}
+use Rattle.std.proofs.Common.{◌≡◌, None, ℕ, suc, max, ◌≤◌, ⊎_elim, inl, List, [], ◌∷◌, ◌++◌, refl, sym, ap, subst, ◌∙◌, codes, arith}
+use Rattle.std.proofs.Common.{Contains, append_assoc, length, map}
 use Rattle.std.specs.List.{AllByRecursion}
 use Rattle.std.proofs.lemmas.List.{append-nil}
 use Rattle.std.proofs.lemmas.List.Elements.{Contains-append_cases, Contains-push_cases}
@@ -7,7 +8,8 @@ use Rattle.mg_text.specs.Call.{Name}
 use Rattle.mg_read.specs.Each.{Each}
 use Rattle.scr_tree.specs.declared.token.Mark.TheVariants as marks
 use Rattle.scr_tree.specs.Tok.{Tok, named, marked}
-use Rattle.scr_tree.specs.Tree.{PartTree, LocalTree, Titled, titled, other, Statements, Nothing, Says, Choice, Rec, Continue, Do, Branches, NoBranch, Branch}
+use Rattle.scr_tree.specs.Tree.{PartTree, LocalTree, Titled, titled, other, Statements, Nothing, Says, Choice, Rec, Continue, Do, Branches}
+use Rattle.scr_tree.specs.Tree.{NoBranch, Branch}
 use Rattle.scr_tree.specs.Valid.{IsWritten, IsWrittenPart, AreWritten, depth, depth_in}
 use Rattle.scr_tree.specs.Words.{IsName}
 use Rattle.mg_read.specs.First.{Judged}
@@ -46,15 +48,18 @@ mutual
 listed_name : (names : List Name) (name : Name) → AllByRecursion IsName names → Contains names name → IsName name
 listed_name [] name h c = absurd (omega (arith, c.1))
 listed_name (x ∷ xs) name h c =
-    ⊎_elim (λ one. ⊎_elim (λ none. absurd (omega (arith, none.1))) (λ same. subst IsName same h.0) (Contains-push_cases [] x name one)) (λ more. listed_name xs name h.1 more)
+    ⊎_elim (λ one. ⊎_elim (λ none. absurd (omega (arith, none.1))) (λ same. subst IsName same h.0) (Contains-push_cases [] x name one))
+    (λ more. listed_name xs name h.1 more)
     (Contains-append_cases (x ∷ []) xs name c)
 
 -- ---- a protocol
 
 abbrev PartTold : Name → List Name → Titled → (List Tok → Type 0) → List Tok → Type 0
 PartTold me roles t P =
-    Behind (λ a. marked a marks.Local) (Behind (λ a. marked a marks.Protocol) (Behind (λ a. named a t.name) (Behind (λ a. marked a marks.At) (Behind (λ a. named a me)
-    (Behind (λ a. marked a marks.OpenParen) (Both (RolesTold roles) (Behind (λ a. marked a marks.CloseParen) (Both (Blocked roles t.body) P))))))))
+    Behind (λ a. marked a marks.Local)
+    (Behind (λ a. marked a marks.Protocol) (Behind (λ a. named a t.name) (Behind (λ a. marked a marks.At) (Behind (λ a. named a me)
+    (Behind (λ a. marked a marks.OpenParen)
+    (Both (RolesTold roles) (Behind (λ a. marked a marks.CloseParen) (Both (Blocked roles t.body) P))))))))
 
 -- a protocol that says the same, of the same role with the same roles; what it carries is plain, and all roles are given to each `do`
 pub record SamePart (me : Name) (roles : List Name) (t : Titled) (p : WrittenPart) : Type 0 where
@@ -75,7 +80,8 @@ pub record PartBack (me : Name) (roles : List Name) (t : Titled) (P : List Tok �
   pub same : SamePart me roles t part
   pub behind : P rest
 
-part_back : (me : Name) (roles : List Name) (t : Titled) (P : List Tok → Type 0) (ts : List Tok) → PartTold me roles t P ts → PartBack me roles t P ts
+part_back : (me : Name) (roles : List Name) (t : Titled) (P : List Tok → Type 0) (ts : List Tok) → PartTold me roles t P ts →
+    PartBack me roles t P ts
 part_back me roles t P ts l =
     let p = l.3 in let n = p.3 in let a = n.3 in let m = a.3 in let o = m.3 in let rs = o.3 in let k = rs.4 in let b = k.3 in
     let listed = rs.3 in let body = b.3 in
@@ -94,7 +100,8 @@ part_back me roles t P ts l =
       tokens = title (header ++ b.0);
       rest = b.1;
       parts = l.2 ∙ on (p.2 ∙ on (n.2 ∙ on (a.2 ∙ on (m.2 ∙ on (o.2 ∙ on (rs.2 ∙ ap (λ z. rs.0 ++ z) (k.2 ∙ on b.2)
-          ∙ sym (append_assoc rs.0 (marked k.0 marks.CloseParen ∷ []) (b.0 ++ b.1)) ∙ sym (append_assoc (rs.0 ++ marked k.0 marks.CloseParen ∷ []) b.0 b.1)))))));
+          ∙ sym (append_assoc rs.0 (marked k.0 marks.CloseParen ∷ []) (b.0 ++ b.1)) ∙
+          sym (append_assoc (rs.0 ++ marked k.0 marks.CloseParen ∷ []) b.0 b.1)))))));
       spelled = record {
         header = header;
         block = b.0;
@@ -118,7 +125,8 @@ part_back me roles t P ts l =
       behind = b.4;
     }
 
-part_told : (me : Name) (roles : List Name) (t : Titled) (P : List Tok → Type 0) (rest : List ℕ) → AllByRecursion IsName roles → Contains roles me → IsName t.name → AreWritten t.body → Told Any P rest →
+part_told : (me : Name) (roles : List Name) (t : Titled) (P : List Tok → Type 0) (rest : List ℕ) → AllByRecursion IsName roles →
+    Contains roles me → IsName t.name → AreWritten t.body → Told Any P rest →
     Told Any (PartTold me roles t P) (part_text me roles t ++ rest)
 part_told me roles t P rest names listed name body behind =
     regroup (word_then (codes "local") (λ a. marked a marks.Local) local_word (λ bytes o. refl) (blank_then 32 refl (omega arith)
@@ -129,7 +137,8 @@ part_told me roles t P rest names listed name body behind =
     (sign_then 40 marks.OpenParen refl refl (omega arith) refl
     (both (roles_of roles names listed) (λ bytes o. refl)
     (sign_then 41 marks.CloseParen refl refl (omega arith) refl (blank_then 32 refl (omega arith)
-    (both (block_told roles names (some_name roles listed) 0 t.body body) (λ bytes o. tt) (blank_then 10 refl (omega arith) behind)))))))))))))))
+    (both (block_told roles names (some_name roles listed) 0 t.body body) (λ bytes o. tt)
+    (blank_then 10 refl (omega arith) behind)))))))))))))))
   where
     roles_of : (ns : List Name) → AllByRecursion IsName ns → Contains ns me → Told NoName (RolesTold ns) (role_list [] ns)
     roles_of [] h c = absurd (omega (arith, c.1))
@@ -146,7 +155,9 @@ part_told me roles t P rest names listed name body behind =
     listed_end = role_list [] roles ++ (codes ") " ++ end)
 
     grouped : part_text me roles t ++ rest ≡
-        codes "local protocol " ++ (t.name ++ (codes " at " ++ (me ++ (codes "(" ++ (role_list [] roles ++ (codes ") " ++ (block roles 0 t.body ++ (codes "\n" ++ rest))))))))
+        codes "local protocol " ++ (t.name
+        ++ (codes " at " ++ (me ++ (codes "("
+        ++ (role_list [] roles ++ (codes ") " ++ (block roles 0 t.body ++ (codes "\n" ++ rest))))))))
     grouped =
         append_assoc (codes "local protocol ") (t.name ++ (codes " at " ++ (me ++ (codes "(" ++ listed_end)))) rest
         ∙ ap (λ z. codes "local protocol " ++ z) (append_assoc t.name (codes " at " ++ (me ++ (codes "(" ++ listed_end))) rest)
@@ -157,8 +168,10 @@ part_told me roles t P rest names listed name body behind =
         (append_assoc (role_list [] roles) (codes ") " ++ end) rest ∙ ap (λ z. role_list [] roles ++ z) (append_assoc (codes ") ") end rest
         ∙ ap (λ z. codes ") " ++ z) (append_assoc (block roles 0 t.body) (codes "\n") rest)))
 
-    regroup : Told Any (PartTold me roles t P) (codes "local protocol " ++ (t.name ++ (codes " at " ++ (me ++ (codes "(" ++ (role_list [] roles
-        ++ (codes ") " ++ (block roles 0 t.body ++ (codes "\n" ++ rest))))))))) → Told Any (PartTold me roles t P) (part_text me roles t ++ rest)
+    regroup : Told Any (PartTold me roles t P)
+        (codes "local protocol " ++ (t.name ++ (codes " at " ++ (me ++ (codes "(" ++ (role_list [] roles
+        ++ (codes ") " ++ (block roles 0 t.body ++ (codes "\n" ++ rest))))))))) →
+        Told Any (PartTold me roles t P) (part_text me roles t ++ rest)
     regroup h = subst (Told Any (PartTold me roles t P)) (sym grouped) h
 
 -- several protocols
@@ -170,10 +183,12 @@ abbrev AreWrittenTitles : List Titled → Type 0
 AreWrittenTitles [] = Unit {0}
 AreWrittenTitles (t ∷ more) = IsName t.name × AreWritten t.body × (depth t.body ≤ 200) × AreWrittenTitles more
 
-parts_told : (me : Name) (roles : List Name) (ts : List Titled) → AllByRecursion IsName roles → Contains roles me → AreWrittenTitles ts → Told Any (PartsTold me roles ts) (part_texts me roles ts)
+parts_told : (me : Name) (roles : List Name) (ts : List Titled) → AllByRecursion IsName roles → Contains roles me → AreWrittenTitles ts →
+    Told Any (PartsTold me roles ts) (part_texts me roles ts)
 parts_told me roles [] names listed w = nothing
 parts_told me roles (t ∷ more) names listed w =
-    part_told me roles t (PartsTold me roles more) (part_texts me roles more) names listed w.0 w.1 (parts_told me roles more names listed w.3)
+    part_told me roles t (PartsTold me roles more) (part_texts me roles more) names listed w.0 w.1
+    (parts_told me roles more names listed w.3)
 
 abbrev pub SameParts : Name → List Name → List Titled → List WrittenPart → Type 0
 SameParts me roles [] [] = Unit {0}
@@ -186,7 +201,8 @@ record PartsBack (me : Name) (roles : List Name) (ts : List Titled) (tokens : Li
   same : SameParts me roles ts parts
   shallow : AllByRecursion IsShallow parts
 
-parts_back : (me : Name) (roles : List Name) (ts : List Titled) (tokens : List Tok) → AreWrittenTitles ts → PartsTold me roles ts tokens → PartsBack me roles ts tokens
+parts_back : (me : Name) (roles : List Name) (ts : List Titled) (tokens : List Tok) → AreWrittenTitles ts → PartsTold me roles ts tokens →
+    PartsBack me roles ts tokens
 parts_back me roles [] tokens w h = record { parts = []; spelled = h; same = tt; shallow = tt }
 parts_back me roles (t ∷ more) tokens w h =
     let one = part_back me roles t (PartsTold me roles more) tokens h in
@@ -217,7 +233,8 @@ pub record Printed (file : ℕ) (local : LocalTree) : Type 0 where
   pub others : SameParts local.me local.roles (map other local.others) written.others
 
 -- the protocols behind the first are the same
-same_parts : (me : Name) (roles : List Name) (qs : List PartTree) (ps : List WrittenPart) → SameParts me roles (map other qs) ps → AreSameParts qs (map part_meant ps)
+same_parts : (me : Name) (roles : List Name) (qs : List PartTree) (ps : List WrittenPart) → SameParts me roles (map other qs) ps →
+    AreSameParts qs (map part_meant ps)
 same_parts me roles [] [] h = tt
 same_parts me roles (q ∷ qs) (p ∷ ps) h = (h.0.name, h.0.body, same_parts me roles qs ps h.1)
 same_parts me roles [] (p ∷ ps) h = absurd h
@@ -233,7 +250,8 @@ is_same {local = local} h = record {
 }
 
 -- what is told of the tokens is the grammar's
-file_back : (file : ℕ) (local : LocalTree) → IsWritten local → Whole file (PartsTold local.me local.roles (titled local)) (layout local) → Printed file local
+file_back : (file : ℕ) (local : LocalTree) → IsWritten local → Whole file (PartsTold local.me local.roles (titled local)) (layout local) →
+    Printed file local
 file_back file local w h =
     let t : Titled = record { name = local.name; body = local.body } in
     let more : List Titled = map other local.others in
@@ -266,10 +284,21 @@ file_back file local w h =
 
 pub printed : (file : ℕ) (local : LocalTree) → IsWritten local → Contains local.roles local.me → Printed file local
 printed file local w listed =
-    file_back file local w (whole file (parts_told local.me local.roles (titled local) w.roles listed (w.name, w.body, w.depth, written_titles local.others w.others)))
+    file_back file local w (whole file (parts_told local.me local.roles (titled local) w.roles listed
+    (w.name, w.body, w.depth, written_titles local.others w.others)))
 
 pub printed_spells : (file : ℕ) (local : LocalTree) → IsWritten local → Contains local.roles local.me → length (layout local) ≤ 1048576 →
     (w : WrittenTree) × Spells file (layout local) w × IsSame local (local_of w)
 printed_spells file local w listed size =
-    let h = printed file local w listed in
-    (h.written, record { same_file = h.same_file; tokens = h.tokens; separates = record { size = size; cut = h.cut }; supported = h.supported; spelled = h.spelled }, is_same h)
+    let h = printed file local w listed in (
+      h.written,
+      record {
+        same_file = h.same_file;
+        tokens = h.tokens;
+        separates = record { size = size; cut = h.cut };
+        supported =
+            h.supported;
+        spelled = h.spelled;
+      },
+      is_same h,
+    )

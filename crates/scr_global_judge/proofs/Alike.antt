@@ -1,5 +1,6 @@
 -- Conditions hold of a spot of a global protocol where they hold of its pair in the outline.
-use Rattle.std.proofs.Common.{◌≡◌, ◌≢◌, ◌↔◌, List, [], ◌∷◌, map, Bool, true, false, if◌then◌else◌, IsTrue, Option, Some, None, Decides, refl, sym, ap, subst, ◌∙◌, inl, inr, ◌⊎◌, ⊎_elim, true≢false}
+use Rattle.std.proofs.Common.{◌≡◌, ◌≢◌, ◌↔◌, List, [], ◌∷◌, map, Bool, true, false, if◌then◌else◌, IsTrue, Option, Some, None, Decides}
+use Rattle.std.proofs.Common.{refl, sym, ap, subst, ◌∙◌, inl, inr, ◌⊎◌, ⊎_elim, true≢false}
 use Rattle.std.specs.Prelude.{Contains}
 use Rattle.std.specs.Str.{bytes_eq}
 use Rattle.std.proofs.lemmas.Slice.Eq.{bytes_eq-Decides}
@@ -15,50 +16,64 @@ use Rattle.scr_judge.proofs.Quiet as quiet
 use Rattle.scr_global.specs.Tree.{Statements, Nothing, Says, Choice, Rec, Continue, Branches, NoBranch, Branch}
 use Rattle.scr_global.specs.Spots.{Past, Opens, Enters, Way, Spot, spot, head_place, falls, passes, Quietly, opened, opening, entering}
 use Rattle.scr_global.specs.Spots as global_spots
-use Rattle.scr_global.specs.Conditions.{UnknownRec, DuplicateRec, Unguarded, Unreachable, HasEmpty, BeginsOtherwise, EmptyBranch, OtherStart, BranchStart, AllBetween, MixedChoice, SameLabel}
+use Rattle.scr_global.specs.Conditions.{UnknownRec, DuplicateRec, Unguarded, Unreachable, HasEmpty, BeginsOtherwise, EmptyBranch}
+use Rattle.scr_global.specs.Conditions.{OtherStart, BranchStart, AllBetween, MixedChoice, SameLabel}
 use Rattle.scr_global.proofs.Names.{first_or_later, none_contained, first_in, later_in}
 use Rattle.scr_global_judge.specs.inner.Outline.{way_of, outlined, outlined_each}
 use Rattle.scr_global_judge.proofs.Pairs.{nobody, Like, start, past, opens, enters, beginning, Paired, pair, SameAt}
 
 -- ---- recs on the way
 
-opens_to : {way : Way} {other : local_spots.Way} (name : Name) → Like way other → Contains way (Opens name) → Contains other (local_spots.Opens name)
+opens_to : {way : Way} {other : local_spots.Way} (name : Name) → Like way other → Contains way (Opens name) →
+    Contains other (local_spots.Opens name)
 opens_to name start c = absurd (none_contained (Opens name) c)
 opens_to name (past {way = way} {other = other} s t f p l) c =
-    ⊎_elim (λ (e : Past s ≡ Opens name). cc e) (λ d. later_in (local_spots.Past t) other (local_spots.Opens name) (opens_to name l d)) (first_or_later (Past s) way (Opens name) c)
+    ⊎_elim (λ (e : Past s ≡ Opens name). cc e) (λ d. later_in (local_spots.Past t) other (local_spots.Opens name) (opens_to name l d))
+    (first_or_later (Past s) way (Opens name) c)
 opens_to name (opens {way = way} {other = other} found l) c =
-    ⊎_elim (λ (e : Opens found ≡ Opens name). let f : found ≡ name = cc e in first_in (local_spots.Opens found) other (local_spots.Opens name) (ap local_spots.Opens f))
-    (λ d. later_in (local_spots.Opens found) other (local_spots.Opens name) (opens_to name l d)) (first_or_later (Opens found) way (Opens name) c)
+    ⊎_elim (λ (e : Opens found ≡ Opens name). let f : found ≡ name = cc e in first_in (local_spots.Opens found) other
+    (local_spots.Opens name) (ap local_spots.Opens f))
+    (λ d. later_in (local_spots.Opens found) other (local_spots.Opens name) (opens_to name l d))
+    (first_or_later (Opens found) way (Opens name) c)
 opens_to name (enters {way = way} {other = other} at earlier before e l) c =
-    ⊎_elim (λ (f : Enters at earlier ≡ Opens name). cc f) (λ d. later_in (local_spots.Enters [] before) other (local_spots.Opens name) (opens_to name l d)) (first_or_later (Enters at earlier) way (Opens name) c)
+    ⊎_elim (λ (f : Enters at earlier ≡ Opens name). cc f) (λ d. later_in (local_spots.Enters [] before) other (local_spots.Opens name)
+    (opens_to name l d)) (first_or_later (Enters at earlier) way (Opens name) c)
 
-opens_from : {way : Way} {other : local_spots.Way} (name : Name) → Like way other → Contains other (local_spots.Opens name) → Contains way (Opens name)
+opens_from : {way : Way} {other : local_spots.Way} (name : Name) → Like way other → Contains other (local_spots.Opens name) →
+    Contains way (Opens name)
 opens_from name start c = absurd (none_contained (local_spots.Opens name) c)
 opens_from name (past {way = way} {other = other} s t f p l) c =
-    ⊎_elim (λ (e : local_spots.Past t ≡ local_spots.Opens name). cc e) (λ d. later_in (Past s) way (Opens name) (opens_from name l d)) (first_or_later (local_spots.Past t) other (local_spots.Opens name) c)
+    ⊎_elim (λ (e : local_spots.Past t ≡ local_spots.Opens name). cc e) (λ d. later_in (Past s) way (Opens name) (opens_from name l d))
+    (first_or_later (local_spots.Past t) other (local_spots.Opens name) c)
 opens_from name (opens {way = way} {other = other} found l) c =
-    ⊎_elim (λ (e : local_spots.Opens found ≡ local_spots.Opens name). let f : found ≡ name = cc e in first_in (Opens found) way (Opens name) (ap Opens f))
-    (λ d. later_in (Opens found) way (Opens name) (opens_from name l d)) (first_or_later (local_spots.Opens found) other (local_spots.Opens name) c)
+    ⊎_elim (λ (e : local_spots.Opens found ≡ local_spots.Opens name). let f : found ≡ name = cc e in first_in (Opens found) way (Opens name)
+    (ap Opens f))
+    (λ d. later_in (Opens found) way (Opens name) (opens_from name l d))
+    (first_or_later (local_spots.Opens found) other (local_spots.Opens name) c)
 opens_from name (enters {way = way} {other = other} at earlier before e l) c =
-    ⊎_elim (λ (f : local_spots.Enters [] before ≡ local_spots.Opens name). cc f) (λ d. later_in (Enters at earlier) way (Opens name) (opens_from name l d))
+    ⊎_elim (λ (f : local_spots.Enters [] before ≡ local_spots.Opens name). cc f) (λ d. later_in (Enters at earlier) way (Opens name)
+    (opens_from name l d))
     (first_or_later (local_spots.Enters [] before) other (local_spots.Opens name) c)
 
 -- ---- ways without a message
 
-quietly_past : {name : Name} (w : Way) → Quietly name w → (s : Statements) (way : Way) → w ≡ Past s ∷ way → IsTrue (passes s) × Quietly name way
+quietly_past : {name : Name} (w : Way) → Quietly name w → (s : Statements) (way : Way) → w ≡ Past s ∷ way →
+    IsTrue (passes s) × Quietly name way
 quietly_past w opened s way e = let no : ⊥ = cc in absurd no
 quietly_past {name} w (global_spots.past {s = t} {way = v} t_passes q) s way e =
     let same : t ≡ s = cc in let rest : v ≡ way = cc in (subst (λ x. IsTrue (passes x)) same t_passes, subst (Quietly name) rest q)
 quietly_past w (opening q) s way e = let no : ⊥ = cc in absurd no
 quietly_past w (entering q) s way e = let no : ⊥ = cc in absurd no
 
-quietly_in : {name : Name} (w : Way) → Quietly name w → (at : Name) (earlier : List Statements) (way : Way) → w ≡ Enters at earlier ∷ way → Quietly name way
+quietly_in : {name : Name} (w : Way) → Quietly name w → (at : Name) (earlier : List Statements) (way : Way) → w ≡ Enters at earlier ∷ way →
+    Quietly name way
 quietly_in w opened at earlier way e = let no : ⊥ = cc in absurd no
 quietly_in w (global_spots.past t_passes q) at earlier way e = let no : ⊥ = cc in absurd no
 quietly_in w (opening q) at earlier way e = let no : ⊥ = cc in absurd no
 quietly_in {name} w (entering {way = v} q) at earlier way e = let rest : v ≡ way = cc in subst (Quietly name) rest q
 
-quietly_opened : {name : Name} (w : Way) → Quietly name w → (other : Name) (way : Way) → w ≡ Opens other ∷ way → (other ≢ name) → Quietly name way
+quietly_opened : {name : Name} (w : Way) → Quietly name w → (other : Name) (way : Way) → w ≡ Opens other ∷ way → (other ≢ name) →
+    Quietly name way
 quietly_opened {name} w (opened {way = v}) other way e differs = let same : other ≡ name = cc in absurd (differs same)
 quietly_opened w (global_spots.past t_passes q) other way e differs = let no : ⊥ = cc in absurd no
 quietly_opened {name} w (opening {way = v} q) other way e differs = let rest : v ≡ way = cc in subst (Quietly name) rest q
@@ -82,7 +97,8 @@ quietly_to name (past {way = way} s t f p l) q =
     let h = quietly_past _ q s way refl in control.past (subst IsTrue p h.0) (quietly_to name l h.1)
 quietly_to name (opens {way = way} {other = other} found l) q = go (bytes_eq found name) (bytes_eq-Decides found name) (quietly_to name l)
   where
-    go : (b : Bool) → Decides b (found ≡ name) → (Quietly name way → control.Quietly name other) → control.Quietly name (local_spots.Opens found ∷ other)
+    go : (b : Bool) → Decides b (found ≡ name) → (Quietly name way → control.Quietly name other) →
+        control.Quietly name (local_spots.Opens found ∷ other)
     go true d inner = subst (λ z. control.Quietly name (local_spots.Opens z ∷ other)) (sym (d.0 refl)) control.opened
     go false d inner = control.opening (inner (quietly_opened _ q found way refl (λ e. true≢false (sym (d.1 e)))))
 quietly_to name (enters {way = way} at earlier before e l) q = control.entering (quietly_to name l (quietly_in _ q at earlier way refl))
@@ -91,12 +107,14 @@ quietly_from : {way : Way} {other : local_spots.Way} (name : Name) → Like way 
 quietly_from name start q = absurd (local_start _ q refl)
 quietly_from name (past {other = other} s t f p l) q =
     let h = quiet.quietly_past _ q t other refl in global_spots.past (subst IsTrue (sym p) h.0) (quietly_from name l h.1)
-quietly_from name (opens {way = way} {other = other} found l) q = go (bytes_eq found name) (bytes_eq-Decides found name) (quietly_from name l)
+quietly_from name (opens {way = way} {other = other} found l) q = go (bytes_eq found name) (bytes_eq-Decides found name)
+    (quietly_from name l)
   where
     go : (b : Bool) → Decides b (found ≡ name) → (control.Quietly name other → Quietly name way) → Quietly name (Opens found ∷ way)
     go true d inner = subst (λ z. Quietly name (Opens z ∷ way)) (sym (d.0 refl)) opened
     go false d inner = opening (inner (quiet.quietly_opened _ q found other refl (λ e. true≢false (sym (d.1 e)))))
-quietly_from name (enters {other = other} at earlier before e l) q = entering (quietly_from name l (quiet.quietly_in _ q [] before other refl))
+quietly_from name (enters {other = other} at earlier before e l) q =
+    entering (quietly_from name l (quiet.quietly_in _ q [] before other refl))
 
 -- ---- the conditions
 
@@ -117,7 +135,8 @@ recs_known x y (pair Nothing l) c = neither
 recs_known x y (pair (Says m rest) l) c = neither
 recs_known x y (pair (Choice place at branches rest) l) c = neither
 recs_known x y (pair (Rec place name body rest) l) c = neither
-recs_known x y (pair (Continue place name rest) l) c = with_place c (culprit place name) _ _ (not_both _ _ (opens_to name l, opens_from name l))
+recs_known x y (pair (Continue place name rest) l) c = with_place c (culprit place name) _ _
+    (not_both _ _ (opens_to name l, opens_from name l))
 
 pub recs_differ : SameAt DuplicateRec says.DuplicateRec
 recs_differ x y (pair Nothing l) c = neither
@@ -181,7 +200,8 @@ empties begins (Choice place at branches rest) c = with_place c (culprit place [
 empties begins (Rec place name body rest) c = neither
 empties begins (Continue place name rest) c = neither
 
-others : {way : Way} {other : local_spots.Way} (s : Statements) → Like way other → (c : Culprit) → Both (OtherStart (spot way s) c) (says.OtherStart (local_spots.spot other (outlined (beginning way) s)) c)
+others : {way : Way} {other : local_spots.Way} (s : Statements) → Like way other → (c : Culprit) →
+    Both (OtherStart (spot way s) c) (says.OtherStart (local_spots.spot other (outlined (beginning way) s)) c)
 others s start c = neither
 others s (past u t f p l) c = neither
 others s (opens name l) c = neither
@@ -227,7 +247,8 @@ between_from at to (Branch (Continue place name rest) more) h = between_from at 
 nobody_is : [] ≡ nobody → ⊥
 nobody_is e = cc
 
-mixed : (at : Name) (branches : Branches) → Both ((to : Name) → AllBetween at to branches → ⊥) (says.IsUniform nobody [] (outlined_each at branches) → ⊥)
+mixed : (at : Name) (branches : Branches) → Both ((to : Name) → AllBetween at to branches → ⊥)
+    (says.IsUniform nobody [] (outlined_each at branches) → ⊥)
 mixed at branches = (
   (λ n u. ⊎_elim (λ s. nobody_is s.0) (λ f. n f.1 (between_from at f.1 branches f.2)) u),
   (λ n to h. n (inr (nobody_is, to, between_to at to branches h))),
@@ -240,14 +261,17 @@ uniform x y (pair (Choice place at branches rest) l) c = with_place c (culprit p
 uniform x y (pair (Rec place name body rest) l) c = neither
 uniform x y (pair (Continue place name rest) l) c = neither
 
-labels : {way : Way} {other : local_spots.Way} (s : Statements) → Like way other → (c : Culprit) → Both (SameLabel (spot way s) c) (says.SameLabel nobody (local_spots.spot other (outlined (beginning way) s)) c)
+labels : {way : Way} {other : local_spots.Way} (s : Statements) → Like way other → (c : Culprit) →
+    Both (SameLabel (spot way s) c) (says.SameLabel nobody (local_spots.spot other (outlined (beginning way) s)) c)
 labels s start c = neither
 labels s (past u t f p l) c = neither
 labels s (opens name l) c = neither
 labels Nothing (enters at earlier before e l) c = neither
 labels (Says m rest) (enters at earlier before e l) c =
-    with_place c (culprit m.place m.label) _ _
-    ((λ h. subst (λ (os : List (Option Name)). Contains os (Some m.label)) e h), (λ h. subst (λ (os : List (Option Name)). Contains os (Some m.label)) (sym e) h))
+    with_place c (culprit m.place m.label) _ _ (
+      (λ h. subst (λ (os : List (Option Name)). Contains os (Some m.label)) e h),
+      (λ h. subst (λ (os : List (Option Name)). Contains os (Some m.label)) (sym e) h),
+    )
 labels (Choice place other branches rest) (enters at earlier before e l) c = neither
 labels (Rec place name body rest) (enters at earlier before e l) c = neither
 labels (Continue place name rest) (enters at earlier before e l) c = neither

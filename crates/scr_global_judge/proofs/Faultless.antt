@@ -24,7 +24,11 @@ split {K} {C} {Of} {k} {ks} p = go _ _ p refl refl
     go ls r none e n = let no : ⊥ = cc in absurd no
     go ls r (this a) e n = let no : ⊥ = cc in absurd no
     go ls r (next {k = j} {ks = js} a q) e n =
-        let same : j ≡ k = cc in let rest : js ≡ ks = cc in (subst (λ z. Of z None) same a, subst (λ s. FirstOf Of ks s) n (subst (λ zs. FirstOf Of zs r) rest q))
+        let same : j ≡ k = cc in let rest : js ≡ ks = cc in (
+          subst (λ z. Of z None) same a,
+          subst (λ s. FirstOf Of ks s) n
+              (subst (λ zs. FirstOf Of zs r) rest q),
+        )
 
 mutual
   have_branches : (s : Statements) → AreWritten s → HaveBranches s

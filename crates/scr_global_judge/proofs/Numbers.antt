@@ -26,15 +26,22 @@ module _ (t : WrittenTree) (ks : List GlobalCondition) (i : ℕ) (l : Rest t ks 
     cut : drop i ks ≡ get_or ks i d ∷ drop (i + 1) ks
     cut = at_drop_more (λ xs. xs) ks i d within
 
-    pub rest_here : (c : Culprit) (o : Option Named) → Of t (get_or ks i d) (named_of o) → named_of o ≡ Some c → FirstOf (Of t) ks (Some (get_or ks i d, c))
-    rest_here c o a e = l.left _ (subst (λ xs. FirstOf (Of t) xs (Some (get_or ks i d, c))) (sym cut) (this (subst (Of t (get_or ks i d)) e a)))
+    pub rest_here : (c : Culprit) (o : Option Named) → Of t (get_or ks i d) (named_of o) → named_of o ≡ Some c →
+        FirstOf (Of t) ks (Some (get_or ks i d, c))
+    rest_here c o a e = l.left _ (subst (λ xs. FirstOf (Of t) xs (Some (get_or ks i d, c))) (sym cut)
+        (this (subst (Of t (get_or ks i d)) e a)))
 
     pub rest_later : (o : Option Named) → Of t (get_or ks i d) (named_of o) → named_of o ≡ None → Rest t ks (i + 1)
-    rest_later o a e = record { left = λ r f. l.left r (subst (λ xs. FirstOf (Of t) xs r) (sym cut) (next (subst (Of t (get_or ks i d)) e a) f)) }
+    rest_later o a e = record {
+      left =
+          λ r f. l.left r (subst (λ xs. FirstOf (Of t) xs r) (sym cut) (next (subst (Of t (get_or ks i d)) e a) f));
+    }
 
 -- an arm: the condition is known, and its culprit is given a name
-pub arm : (t : WrittenTree) (k j : GlobalCondition) (o : Option Culprit) (r : Result (Option Named) Memory) → k ≡ j → Of t j o → IfOk r (λ n. named_of n ≡ o) → IfOk r (λ n. Of t k (named_of n))
+pub arm : (t : WrittenTree) (k j : GlobalCondition) (o : Option Culprit) (r : Result (Option Named) Memory) → k ≡ j → Of t j o →
+    IfOk r (λ n. named_of n ≡ o) → IfOk r (λ n. Of t k (named_of n))
 arm t k j o r e a h = IfOk-weaker r _ _ (λ n same. subst (λ x. Of t x (named_of n)) (sym e) (subst (Of t j) (sym same) a)) h
 
-pub arm_named : (t : WrittenTree) (k j : GlobalCondition) (r : Result (Option Named) Memory) → k ≡ j → IfOk r (λ n. Of t j (named_of n)) → IfOk r (λ n. Of t k (named_of n))
+pub arm_named : (t : WrittenTree) (k j : GlobalCondition) (r : Result (Option Named) Memory) → k ≡ j → IfOk r (λ n. Of t j (named_of n)) →
+    IfOk r (λ n. Of t k (named_of n))
 arm_named t k j r e h = IfOk-weaker r _ _ (λ n o. subst (λ x. Of t x (named_of n)) (sym e) o) h

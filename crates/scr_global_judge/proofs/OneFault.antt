@@ -6,7 +6,8 @@ use Rattle.mg_read.specs.FirstLaws.{IsSingle}
 use Rattle.mg_read.proofs.Judging.{one_answer, one_first}
 use Rattle.scr_global.specs.Spots.{Past, Opens, Enters, Way, spot, head_place}
 use Rattle.mg_read.specs.Culprit.{Culprit, culprit}
-use Rattle.scr_global.specs.Conditions.{UnknownRole, PeerIsSelf, UnknownRec, DuplicateRec, Unguarded, Unreachable, EmptyBranch, OtherStart, BranchStart, MixedChoice, SameLabel}
+use Rattle.scr_global.specs.Conditions.{UnknownRole, PeerIsSelf, UnknownRec, DuplicateRec, Unguarded, Unreachable, EmptyBranch, OtherStart}
+use Rattle.scr_global.specs.Conditions.{BranchStart, MixedChoice, SameLabel}
 use Rattle.scr_tree.specs.Listing.{DuplicateName, declares, lists, UnknownType, declared, carried}
 use Rattle.scr_tree.specs.declared.written.Declaration.{Declaration}
 use Rattle.mg_text.specs.declared.place.Place.{Place}
@@ -23,7 +24,8 @@ two k c d e f = e ∙ sym f
 role_single : (roles : List Name) → IsSingle (UnknownRole roles)
 role_single roles (spot way Nothing) c d a b = absurd a
 role_single roles (spot way (Says m rest)) c d a b =
-    ⊎_elim (λ x. ⊎_elim (λ y. two _ c d x.0 y.0) (λ y. absurd (x.1 y.1)) b) (λ x. ⊎_elim (λ y. absurd (y.1 x.1)) (λ y. two _ c d x.0 y.0) b) a
+    ⊎_elim (λ x. ⊎_elim (λ y. two _ c d x.0 y.0) (λ y. absurd (x.1 y.1)) b) (λ x. ⊎_elim (λ y. absurd (y.1 x.1)) (λ y. two _ c d x.0 y.0) b)
+    a
 role_single roles (spot way (Choice p at bs rest)) c d a b = two _ c d a.0 b.0
 role_single roles (spot way (Rec p name body rest)) c d a b = absurd a
 role_single roles (spot way (Continue p name rest)) c d a b = absurd a
@@ -44,13 +46,15 @@ self_single (spot way (Rec p name body rest)) c d a b = absurd a
 self_single (spot way (Continue p name rest)) c d a b = absurd a
 
 -- where a statement begins a branch, the place that is named is its own
-other_place : (way : Way) (ss : Statements) (c : Culprit) → OtherStart (spot way ss) c → (place : Place) × (head_place ss ≡ Some place) × (c ≡ culprit place [])
+other_place : (way : Way) (ss : Statements) (c : Culprit) → OtherStart (spot way ss) c → (place : Place) × (head_place ss ≡ Some place)
+    × (c ≡ culprit place [])
 other_place [] ss c a = absurd a
 other_place (Past s ∷ way) ss c a = absurd a
 other_place (Opens name ∷ way) ss c a = absurd a
 other_place (Enters at earlier ∷ way) ss c a = (a.0, a.1, a.2)
 
-empty_place : (way : Way) (ss : Statements) (c : Culprit) → EmptyBranch ss c → (place : Place) × (head_place ss ≡ Some place) × (c ≡ culprit place [])
+empty_place : (way : Way) (ss : Statements) (c : Culprit) → EmptyBranch ss c → (place : Place) × (head_place ss ≡ Some place)
+    × (c ≡ culprit place [])
 empty_place way Nothing c a = absurd a
 empty_place way (Says m rest) c a = absurd a
 empty_place way (Choice p at bs rest) c a = (p, refl, a.0)
@@ -59,8 +63,10 @@ empty_place way (Continue p name rest) c a = absurd a
 
 start_single : IsSingle BranchStart
 start_single (spot way ss) c d a b =
-    let x : (place : Place) × (head_place ss ≡ Some place) × (c ≡ culprit place []) = ⊎_elim (empty_place way ss c) (other_place way ss c) a in
-    let y : (place : Place) × (head_place ss ≡ Some place) × (d ≡ culprit place []) = ⊎_elim (empty_place way ss d) (other_place way ss d) b in
+    let x : (place : Place) × (head_place ss ≡ Some place) × (c ≡ culprit place []) = ⊎_elim (empty_place way ss c) (other_place way ss c) a
+    in
+    let y : (place : Place) × (head_place ss ≡ Some place) × (d ≡ culprit place []) = ⊎_elim (empty_place way ss d) (other_place way ss d) b
+    in
     let same : Some x.0 ≡ Some y.0 = sym x.1 ∙ y.1 in let place : x.0 ≡ y.0 = cc in x.2 ∙ ap (λ p. culprit p []) place ∙ sym y.2
 
 rec_single : IsSingle UnknownRec

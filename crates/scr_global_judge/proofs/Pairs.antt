@@ -46,10 +46,12 @@ mutual
 
 pub data Like : Way → local_spots.Way → Type 0 where
   start : Like [] []
-  past : {way : Way} {other : local_spots.Way} (s : Statements) (t : local.Statements) → falls s ≡ control.falls t → passes s ≡ control.passes t → Like way other →
+  past : {way : Way} {other : local_spots.Way} (s : Statements) (t : local.Statements) → falls s ≡ control.falls t →
+      passes s ≡ control.passes t → Like way other →
       Like (Past s ∷ way) (local_spots.Past t ∷ other)
   opens : {way : Way} {other : local_spots.Way} (name : Name) → Like way other → Like (Opens name ∷ way) (local_spots.Opens name ∷ other)
-  enters : {way : Way} {other : local_spots.Way} (at : Name) (earlier : List Statements) (before : List local.Statements) → map first_label earlier ≡ map (first_key nobody []) before →
+  enters : {way : Way} {other : local_spots.Way} (at : Name) (earlier : List Statements) (before : List local.Statements) →
+      map first_label earlier ≡ map (first_key nobody []) before →
       Like way other → Like (Enters at earlier ∷ way) (local_spots.Enters [] before ∷ other)
 
 -- the role of the choice whose branch begins here
@@ -58,14 +60,16 @@ beginning (Enters at earlier ∷ way) = Some at
 beginning _ = None
 
 pub data Paired : Spot → local_spots.Spot → Type 0 where
-  pair : {way : Way} {other : local_spots.Way} (s : Statements) → Like way other → Paired (spot way s) (local_spots.spot other (outlined (beginning way) s))
+  pair : {way : Way} {other : local_spots.Way} (s : Statements) → Like way other →
+      Paired (spot way s) (local_spots.spot other (outlined (beginning way) s))
 
 abbrev pub Pairs : List Spot → List local_spots.Spot → Type 0
 Pairs [] [] = Unit {0}
 Pairs (x ∷ xs) (y ∷ ys) = Paired x y × Pairs xs ys
 Pairs _ _ = ⊥
 
-pairs_append : (xs : List Spot) (ys : List local_spots.Spot) (us : List Spot) (vs : List local_spots.Spot) → Pairs xs ys → Pairs us vs → Pairs (xs ++ us) (ys ++ vs)
+pairs_append : (xs : List Spot) (ys : List local_spots.Spot) (us : List Spot) (vs : List local_spots.Spot) → Pairs xs ys → Pairs us vs →
+    Pairs (xs ++ us) (ys ++ vs)
 pairs_append [] [] us vs p q = q
 pairs_append [] (y ∷ ys) us vs p q = absurd p
 pairs_append (x ∷ xs) [] us vs p q = absurd p
@@ -79,26 +83,35 @@ label_is at (Rec place name body rest) = refl
 label_is at (Continue place name rest) = refl
 
 mutual
-  pub pairs : (way : Way) (other : local_spots.Way) (s : Statements) → Like way other → Pairs (spots way s) (local_spots.spots other (outlined (beginning way) s))
+  pub pairs : (way : Way) (other : local_spots.Way) (s : Statements) → Like way other →
+      Pairs (spots way s) (local_spots.spots other (outlined (beginning way) s))
   pairs way other Nothing l = tt
   pairs way other (Says m rest) l = (pair (Says m rest) l, pairs _ _ rest (past (Says m Nothing) _ refl refl l))
   pairs way other (Choice place at branches rest) l = (
     pair (Choice place at branches rest) l,
-    pairs_append (branch_spots way at [] branches) (local_spots.branch_spots other [] [] (outlined_each at branches)) _ _ (branch_pairs way other at [] [] branches refl l)
-        (pairs _ _ rest (past (Choice place at branches Nothing) _ (falls_is None (Choice place at branches Nothing)) (passes_is None (Choice place at branches Nothing)) l)),
+    pairs_append (branch_spots way at [] branches) (local_spots.branch_spots other [] [] (outlined_each at branches)) _ _
+        (branch_pairs way other at [] [] branches refl l)
+        (pairs _ _ rest (past (Choice place at branches Nothing) _ (falls_is None (Choice place at branches Nothing))
+        (passes_is None (Choice place at branches Nothing)) l)),
   )
   pairs way other (Rec place name body rest) l = (
     pair (Rec place name body rest) l,
-    pairs_append (spots (Opens name ∷ way) body) (local_spots.spots (local_spots.Opens name ∷ other) (outlined None body)) _ _ (pairs _ _ body (opens name l))
-        (pairs _ _ rest (past (Rec place name body Nothing) _ (falls_is None (Rec place name body Nothing)) (passes_is None (Rec place name body Nothing)) l)),
+    pairs_append (spots (Opens name ∷ way) body) (local_spots.spots (local_spots.Opens name ∷ other) (outlined None body)) _ _
+        (pairs _ _ body (opens name l))
+        (pairs _ _ rest (past (Rec place name body Nothing) _ (falls_is None (Rec place name body Nothing))
+        (passes_is None (Rec place name body Nothing)) l)),
   )
-  pairs way other (Continue place name rest) l = (pair (Continue place name rest) l, pairs _ _ rest (past (Continue place name Nothing) _ refl refl l))
+  pairs way other (Continue place name rest) l =
+      (pair (Continue place name rest) l, pairs _ _ rest (past (Continue place name Nothing) _ refl refl l))
 
-  branch_pairs : (way : Way) (other : local_spots.Way) (at : Name) (earlier : List Statements) (before : List local.Statements) (bs : Branches) →
-      map first_label earlier ≡ map (first_key nobody []) before → Like way other → Pairs (branch_spots way at earlier bs) (local_spots.branch_spots other [] before (outlined_each at bs))
+  branch_pairs : (way : Way) (other : local_spots.Way) (at : Name) (earlier : List Statements) (before : List local.Statements)
+      (bs : Branches) →
+      map first_label earlier ≡ map (first_key nobody []) before → Like way other → Pairs (branch_spots way at earlier bs)
+      (local_spots.branch_spots other [] before (outlined_each at bs))
   branch_pairs way other at earlier before NoBranch e l = tt
   branch_pairs way other at earlier before (Branch b more) e l =
-      pairs_append (spots (Enters at earlier ∷ way) b) (local_spots.spots (local_spots.Enters [] before ∷ other) (outlined (Some at) b)) _ _ (pairs _ _ b (enters at earlier before e l))
+      pairs_append (spots (Enters at earlier ∷ way) b) (local_spots.spots (local_spots.Enters [] before ∷ other) (outlined (Some at) b)) _ _
+      (pairs _ _ b (enters at earlier before e l))
       (branch_pairs way other at (b ∷ earlier) (outlined (Some at) b ∷ before) more (λ i. label_is at b i ∷ e i) l)
 
 -- ---- what is judged over the outline is judged over the protocol
@@ -115,5 +128,6 @@ module _ (At : Spot → Culprit → Type 0) (By : local_spots.Spot → Culprit �
   judged_over same [] (later n j) p = absurd p
   judged_over same (x ∷ xs) (later {x = y} n j) p = later (λ c a. n c ((same x y p.0 c).0 a)) (judged_over same xs j p.1)
 
-  pub judged_outline : SameAt → (s : Statements) (r : Option Culprit) → Judged By (local_spots.spots [] (outlined None s)) r → Judged At (spots [] s) r
+  pub judged_outline : SameAt → (s : Statements) (r : Option Culprit) → Judged By (local_spots.spots [] (outlined None s)) r →
+      Judged At (spots [] s) r
   judged_outline same s r j = judged_over same (spots [] s) j (pairs [] [] s start)

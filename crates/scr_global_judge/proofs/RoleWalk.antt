@@ -1,5 +1,6 @@
 -- A walk that asks each statement finds the first culprit, where the answer at each statement is right.
-use Rattle.std.proofs.Common.{◌≡◌, ◌↔◌, ◌⊎◌, inl, inr, ⊎_elim, Bool, true, false, not, IsTrue, List, [], ◌∷◌, ◌++◌, Option, Some, None, Contains, refl, sym, subst, ◌∙◌, true≢false}
+use Rattle.std.proofs.Common.{◌≡◌, ◌↔◌, ◌⊎◌, inl, inr, ⊎_elim, Bool, true, false, not, IsTrue, List, [], ◌∷◌, ◌++◌, Option, Some, None}
+use Rattle.std.proofs.Common.{Contains, refl, sym, subst, ◌∙◌, true≢false}
 use Rattle.std.specs.Option.{option_or}
 use Rattle.std.specs.Str.{bytes_eq}
 use Rattle.std.proofs.lemmas.Slice.Eq.{bytes_eq-Decides}
@@ -30,11 +31,14 @@ module _ (At : Spot → Culprit → Type 0) (ask : Statements → Option Culprit
       walk_exact : (way : Way) (ss : Statements) → Judged At (spots way ss) (walk ask ss)
       walk_exact way Nothing = clean
       walk_exact way (Says m rest) = asked _ (ask (Says m rest)) _ _ (right way _) (walk_exact _ rest)
-      walk_exact way (Choice p at bs rest) = asked _ (ask (Choice p at bs rest)) _ _ (right way _) (judged-append (walk_exact_in way at [] bs) (walk_exact _ rest))
-      walk_exact way (Rec p name body rest) = asked _ (ask (Rec p name body rest)) _ _ (right way _) (judged-append (walk_exact _ body) (walk_exact _ rest))
+      walk_exact way (Choice p at bs rest) = asked _ (ask (Choice p at bs rest)) _ _ (right way _)
+          (judged-append (walk_exact_in way at [] bs) (walk_exact _ rest))
+      walk_exact way (Rec p name body rest) = asked _ (ask (Rec p name body rest)) _ _ (right way _)
+          (judged-append (walk_exact _ body) (walk_exact _ rest))
       walk_exact way (Continue p name rest) = asked _ (ask (Continue p name rest)) _ _ (right way _) (walk_exact _ rest)
 
-      walk_exact_in : (way : Way) (at : Name) (earlier : List Statements) (bs : Branches) → Judged At (branch_spots way at earlier bs) (walk_in ask bs)
+      walk_exact_in : (way : Way) (at : Name) (earlier : List Statements) (bs : Branches) → Judged At (branch_spots way at earlier bs)
+          (walk_in ask bs)
       walk_exact_in way at earlier NoBranch = clean
       walk_exact_in way at earlier (Branch b more) = judged-append (walk_exact _ b) (walk_exact_in way at (b ∷ earlier) more)
 
@@ -50,7 +54,8 @@ module _ (roles : List Name) (has : Names) (h : (q : Name) → IsTrue (has q) �
   pair_right way m rest true false e f = inr (refl, (h m.from).0 e, λ c. true≢false (sym ((h m.to).1 c) ∙ f))
   pair_right way m rest true true e f = λ c x. ⊎_elim (λ y. y.1 ((h m.from).0 e)) (λ y. y.2 ((h m.to).0 f)) x
 
-  at_right : (place : Place) (at : Name) (a : Bool) → has at ≡ a → Answers (λ c. (c ≡ culprit place at) × (Contains roles at → ⊥)) (unless a (culprit place at))
+  at_right : (place : Place) (at : Name) (a : Bool) → has at ≡ a → Answers (λ c. (c ≡ culprit place at) × (Contains roles at → ⊥))
+      (unless a (culprit place at))
   at_right place at false e = (refl, λ c. true≢false (sym ((h at).1 c) ∙ e))
   at_right place at true e = λ c x. x.1 ((h at).0 e)
 
@@ -66,7 +71,8 @@ module _ (roles : List Name) (has : Names) (h : (q : Name) → IsTrue (has q) �
 
 -- ---- roles that differ
 
-apart : (place : Place) (from to : Name) (b : Bool) → bytes_eq from to ≡ b → Answers (λ c. (c ≡ culprit place []) × (from ≡ to)) (unless (not b) (culprit place []))
+apart : (place : Place) (from to : Name) (b : Bool) → bytes_eq from to ≡ b → Answers (λ c. (c ≡ culprit place []) × (from ≡ to))
+    (unless (not b) (culprit place []))
 apart place from to true e = (refl, (bytes_eq-Decides from to).0 e)
 apart place from to false e = λ c x. true≢false (sym ((bytes_eq-Decides from to).1 x.1) ∙ e)
 

@@ -120,7 +120,8 @@ fn unknown_in<'a>(
     sender: &'a Text,
     receiver: &'a Text,
 ) -> Option<Culprit<'a>>
-    ensures { culprit_of result ≡ option_or (unless (contains_text roles.now sender.now) (culprit place sender.now)) (unless (contains_text roles.now receiver.now) (culprit place receiver.now)) }
+    ensures { culprit_of result ≡ option_or (unless (contains_text roles.now sender.now) (culprit place sender.now))
+        (unless (contains_text roles.now receiver.now) (culprit place receiver.now)) }
 {
     match unlisted(roles, place, sender) {
         Some(culprit) => Some(culprit),

@@ -18,7 +18,8 @@ pub is_found : (r : Result WrittenGlobal ParseFault) (ts : List Tok) → Gives (
 is_found (Ok w) ts h = λ file. renumber file (written_of 0 w) ts (file_sound ts (written_of 0 w) h)
 is_found (Err e) ts h = tt
 
-pub is_only : (r : Result WrittenGlobal ParseFault) (ts : List Tok) → Gives (written_of 0) r (file_at ts) → (w : WrittenTree) → IsSpelled w ts
+pub is_only : (r : Result WrittenGlobal ParseFault) (ts : List Tok) → Gives (written_of 0) r (file_at ts) → (w : WrittenTree) →
+    IsSpelled w ts
     → IsReadOrMemory r w
 is_only (Ok x) ts h w s = ap (numbered w.file) (some_is (written_of 0 x) (numbered 0 w) (sym h ∙ file_complete w ts s))
 is_only (Err faults.Memory) ts h w s = refl

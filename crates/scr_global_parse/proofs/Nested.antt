@@ -1,5 +1,6 @@
 -- Statements are read where the grammar spells them, and nowhere else.
-use Rattle.std.proofs.Common.{◌≡◌, ℕ, zero, suc, ◌<◌, ◌≤◌, List, [], ◌∷◌, ◌++◌, length, map, true, false, Some, refl, sym, ap, ◌∙◌, subst, append_assoc, arith, inl, inr}
+use Rattle.std.proofs.Common.{◌≡◌, ℕ, zero, suc, ◌<◌, ◌≤◌, List, [], ◌∷◌, ◌++◌, length, map, true, false, Some, refl, sym, ap, ◌∙◌, subst}
+use Rattle.std.proofs.Common.{append_assoc, arith, inl, inr}
 use Rattle.mg_text.specs.Call.{Name}
 use Rattle.mg_text.specs.declared.place.Place.{Place}
 use Rattle.mg_read.specs.Reader.{Reader, ◌>>=◌, all_of}
@@ -17,7 +18,8 @@ use Rattle.scr_parse.specs.Grammar.{carried, IsBraced}
 use Rattle.scr_parse.specs.inner.Reading.{is_at, mark_at, name_at, payload_at, not_closed}
 use Rattle.scr_global_parse.specs.Grammar.{IsMessage, AreStatements, AreBranches, AreOthers}
 use Rattle.scr_global_parse.specs.inner.View.{joined}
-use Rattle.scr_global_parse.specs.inner.Reading.{ends_at, message_at, continue_at, block_with, other_with, branches_with, choice_with, rec_with, says_at, statement_with, statement_at}
+use Rattle.scr_global_parse.specs.inner.Reading.{ends_at, message_at, continue_at, block_with, other_with, branches_with, choice_with}
+use Rattle.scr_global_parse.specs.inner.Reading.{rec_with, says_at, statement_with, statement_at}
 use Rattle.scr_parse.proofs.Steps.{Anything, after, mark_is, name_is}
 use Rattle.scr_parse.proofs.Turns.{front_sound, front_complete, shorter}
 use Rattle.scr_parse.proofs.Nested.{payload_sound, payload_complete}
@@ -26,7 +28,8 @@ use Rattle.scr_parse.proofs.Nested.{payload_sound, payload_complete}
 
 -- "from" name "to" name ";"
 abbrev EndsOf : Name → Name → List Tok → Type 0
-EndsOf from to ts = (c d e f g : Place) × (ts ≡ marked c marks.From ∷ named d from ∷ marked e marks.To ∷ named f to ∷ marked g marks.Semicolon ∷ [])
+EndsOf from to ts = (c d e f g : Place) × (ts ≡ marked c marks.From ∷ named d from ∷ marked e marks.To ∷ named f to ∷ marked g
+    marks.Semicolon ∷ [])
 
 ends_sound : (ts : List Tok) (x : (Name × Name) × List Tok) → ends_at ts ≡ Some x → Takes (EndsOf x.0.0 x.0.1) ts x.1
 unfolding ends_at
@@ -38,7 +41,8 @@ ends_sound ts x e =
     let g = bind_some (mark_at marks.Semicolon f.0.1) _ x f.2 in
     subst (λ (y : (Name × Name) × List Tok). Takes (EndsOf y.0.0 y.0.1) ts y.1) (some_is _ x g.2)
     (record {
-      front = marked c.0.0 marks.From ∷ named d.0.0.0 d.0.0.1 ∷ marked t.0.0 marks.To ∷ named f.0.0.0 f.0.0.1 ∷ marked g.0.0 marks.Semicolon ∷ [];
+      front = marked c.0.0 marks.From ∷ named d.0.0.0 d.0.0.1 ∷ marked t.0.0 marks.To ∷ named f.0.0.0 f.0.0.1 ∷ marked g.0.0 marks.Semicolon
+          ∷ [];
       parts = after (mark_is marks.From ts c.0 c.1) (after (name_is c.0.1 d.0 d.1) (after (mark_is marks.To d.0.1 t.0 t.1)
           (after (name_is t.0.1 f.0 f.1) (mark_is marks.Semicolon f.0.1 g.0 g.1))));
       holds = (c.0.0, d.0.0.0, t.0.0, f.0.0.0, g.0.0, refl);
@@ -78,7 +82,8 @@ module _ (declared : List Declaration) where
             ends.holds.3,
             ends.holds.4,
             types.front,
-            ap (λ (r : List Tok). named l.0.0.0 l.0.0.1 ∷ marked a.0.0 marks.OpenParen ∷ (types.front ++ marked b.0.0 marks.CloseParen ∷ r)) ends.holds.5,
+            ap (λ (r : List Tok). named l.0.0.0 l.0.0.1 ∷ marked a.0.0 marks.OpenParen ∷ (types.front ++ marked b.0.0 marks.CloseParen ∷ r))
+                ends.holds.5,
             types.holds,
             refl,
           ),
@@ -86,7 +91,8 @@ module _ (declared : List Declaration) where
       })
 
   ends_complete : (from to : Name) (c d e f g : Place) (rest : List Tok)
-      → ends_at (marked c marks.From ∷ named d from ∷ marked e marks.To ∷ named f to ∷ marked g marks.Semicolon ∷ rest) ≡ Some ((from, to), rest)
+      → ends_at (marked c marks.From ∷ named d from ∷ marked e marks.To ∷ named f to ∷ marked g marks.Semicolon ∷ rest) ≡ Some
+      ((from, to), rest)
   unfolding ends_at
   ends_complete from to c d e f g rest = refl
 

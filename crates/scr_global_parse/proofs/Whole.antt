@@ -165,7 +165,8 @@ file_sound ts w e =
         global_at = title.holds.0;
         protocol_at = title.holds.1;
         name_at = title.holds.2;
-        tokens = file_parts start.front types.front header.front ts m.0 t.0.1 n.0.1 h.0.1 _ _ _ start.parts types.parts named_here header.parts;
+        tokens = file_parts start.front types.front header.front ts m.0 t.0.1 n.0.1 h.0.1 _ _ _ start.parts types.parts named_here
+            header.parts;
         starts = start.holds;
         declares = types.holds;
         heads = header.holds;
@@ -184,7 +185,8 @@ pub file_complete : (w : WrittenTree) (ts : List Tok) → IsSpelled w ts → fil
 unfolding file_at title_at
 file_complete w ts h =
     let s = h.spelled in
-    let title : List Tok → List Tok = λ r. marked s.global_at marks.Global ∷ marked s.protocol_at marks.Protocol ∷ named s.name_at w.name ∷ r in
+    let title : List Tok → List Tok = λ r. marked s.global_at marks.Global ∷ marked s.protocol_at marks.Protocol ∷ named s.name_at w.name ∷
+    r in
     let head = title (s.header ++ s.block) in
     let start = module_complete s.start (s.types ++ head)
     (types_stop w.types s.types (marked s.protocol_at marks.Protocol ∷ named s.name_at w.name ∷

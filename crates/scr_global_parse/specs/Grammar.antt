@@ -16,7 +16,8 @@ use Rattle.scr_global_tree.specs.Valid.{depth}
 -- "(" "role" name { "," "role" name } ")"
 abbrev pub IsHeader : List Role → List Tok → Type 0
 IsHeader roles ts =
-    (a b : Place) × (us : List Tok) × (ts ≡ marked a marks.OpenParen ∷ (us ++ marked b marks.CloseParen ∷ [])) × Listed marks.Comma IsRole roles us
+    (a b : Place) × (us : List Tok) × (ts ≡ marked a marks.OpenParen ∷ (us ++ marked b marks.CloseParen ∷ [])) × Listed marks.Comma IsRole
+    roles us
 
 -- name "(" types ")" "from" name "to" name ";", where the types mean the kind of the payload
 abbrev pub IsMessage : List Declaration → Told → (types : List Name) → List Tok → Type 0
@@ -75,7 +76,8 @@ pub record IsFile (w : WrittenTree) (ts : List Tok) : Type 0 where
   pub global_at : Place
   pub protocol_at : Place
   pub name_at : Place
-  pub tokens : ts ≡ start ++ (types ++ marked global_at marks.Global ∷ marked protocol_at marks.Protocol ∷ named name_at w.name ∷ (header ++ block))
+  pub tokens : ts ≡ start ++ (types ++ marked global_at marks.Global ∷ marked protocol_at marks.Protocol ∷ named name_at w.name ∷
+      (header ++ block))
   pub starts : IsModule start
   pub declares : Each IsType w.types types
   pub heads : IsHeader w.roles header

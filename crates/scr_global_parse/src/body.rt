@@ -10,7 +10,8 @@ ghost use Rattle.scr_parse.specs.Answer.{Gives};
 ghost use Rattle.scr_parse.specs.inner.Kinds.{IsTable};
 ghost use Rattle.scr_parse.specs.inner.Reading.{is_at, not_closed};
 ghost use Rattle.scr_global_parse.specs.inner.View.{alone, all_alone, blocks_alone};
-ghost use Rattle.scr_global_parse.specs.inner.Reading.{ends_at, message_at, continue_at, says_at, block_with, other_with, branches_with, choice_with, rec_with, statement_with, statement_at};
+ghost use Rattle.scr_global_parse.specs.inner.Reading.{ends_at, message_at, continue_at, says_at, block_with, other_with, branches_with};
+ghost use Rattle.scr_global_parse.specs.inner.Reading.{choice_with, rec_with, statement_with, statement_at};
 
 use mg_text::{List, Place, Text};
 use scr_global_tree::GStatement;
@@ -49,7 +50,8 @@ fn message_of<'a>(
     tokens: &'a [Token],
 ) -> Result<(Message, &'a [Token]), ParseFault>
     requires { IsTable types.now }
-    ensures { Gives (λ x. (told x.0.place x.0.sender x.0.receiver x.0.label x.0.payload, toks x.1.now)) result (message_at types.now.declared.items (toks tokens.now)) }
+    ensures { Gives (λ x. (told x.0.place x.0.sender x.0.receiver x.0.label x.0.payload, toks x.1.now)) result
+        (message_at types.now.declared.items (toks tokens.now)) }
 {
     let (place, label, rest) = name_of(tokens)?;
     let (_, rest) = mark_of(rest, Mark::OpenParen)?;

@@ -44,7 +44,8 @@ module _ (declared : List Declaration) where
     statements_written (Says m rest) cs ts (types, ds, us, vs, carry, parts, (a, b, c, d, e, f, s, xs, whole, list, kind), more) h =
         let g = subst AreNamed parts h in
         let said = subst AreNamed whole (in_front us vs g) in
-        let behind = in_back xs (marked b marks.CloseParen ∷ marked c marks.From ∷ named d m.from ∷ marked e marks.To ∷ named f m.to ∷ marked s marks.Semicolon ∷ []) said.1.1 in
+        let behind = in_back xs (marked b marks.CloseParen ∷ marked c marks.From ∷ named d m.from ∷ marked e marks.To ∷ named f m.to ∷
+        marked s marks.Semicolon ∷ []) said.1.1 in
         (said.0, behind.1.1.0, behind.1.1.1.1.0, statements_written rest ds vs more (in_back us vs g))
     statements_written (Choice place at branches rest) cs ts (a, b, ds, es, us, vs, carry, parts, inner, more) h =
         let g = subst AreNamed parts h in (
@@ -84,17 +85,30 @@ module _ (declared : List Declaration) where
 
 -- ---- the file
 
-file_written : (w : WrittenTree) (ts : List Tok) → IsFile w ts → AreNamed ts → IsName w.name × AllByRecursion IsName (map role_name w.roles) × AreWritten w.body
+file_written : (w : WrittenTree) (ts : List Tok) → IsFile w ts → AreNamed ts → IsName w.name × AllByRecursion IsName (map role_name w.roles)
+    × AreWritten w.body
 file_written w ts f h =
     let g = subst AreNamed f.tokens h in
-    let head : List Tok = marked f.global_at marks.Global ∷ marked f.protocol_at marks.Protocol ∷ named f.name_at w.name ∷ (f.header ++ f.block) in
+    let head : List Tok = marked f.global_at marks.Global ∷ marked f.protocol_at marks.Protocol ∷ named f.name_at w.name ∷
+    (f.header ++ f.block) in
     let title = in_back f.types head (in_back f.start (f.types ++ head) g) in
     let rest = title.1.1.1 in
-    let body = between w.types (AreStatements w.types w.body w.carries) f.block f.body (in_back f.header f.block rest) in
-    (title.1.1.0, header_written w.roles f.header f.heads (in_front f.header f.block rest), statements_written w.types w.body w.carries body.0 body.1 body.2)
+    let body = between w.types (AreStatements w.types w.body w.carries) f.block f.body (in_back f.header f.block rest) in (
+      title.1.1.0,
+      header_written w.roles f.header f.heads (in_front f.header f.block rest),
+      statements_written w.types w.body w.carries
+          body.0 body.1 body.2,
+    )
 
 -- what a file spells can be written
 pub can_be_written : (file : ℕ) (bytes : List ℕ) (w : WrittenTree) → Spells file bytes w → IsWritten (global_of w)
 can_be_written file bytes w s =
     let r = file_written w s.tokens s.spelled.spelled (tokens_named file s.tokens bytes s.separates.cut) in
-    record { name = r.0; roles = r.1; some_role = header_some w.roles s.spelled.spelled.header s.spelled.spelled.heads; body = r.2; depth = s.spelled.shallow }
+    record {
+      name = r.0;
+      roles = r.1;
+      some_role = header_some w.roles s.spelled.spelled.header s.spelled.spelled.heads;
+      body = r.2;
+      depth =
+          s.spelled.shallow;
+    }

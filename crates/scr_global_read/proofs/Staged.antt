@@ -1,5 +1,6 @@
 -- What each step of reading answers.
-use Rattle.std.proofs.Common.{◌≡◌, ℕ, ◌≤◌, List, length, Option, Some, None, Result, Ok, Err, refl, sym, ap, ◌∙◌, subst, inl, inr, ◌⊎◌, arith}
+use Rattle.std.proofs.Common.{◌≡◌, ℕ, ◌≤◌, List, length, Option, Some, None, Result, Ok, Err, refl, sym, ap, ◌∙◌, subst, inl, inr, ◌⊎◌}
+use Rattle.std.proofs.Common.{arith}
 use Rattle.std.specs.Result.{IsErrOf}
 use Rattle.mg_text.specs.declared.place.Place.{Place}
 use Rattle.mg_read.specs.declared.fault.LexFault.{LexFault}

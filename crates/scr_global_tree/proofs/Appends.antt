@@ -38,7 +38,8 @@ beside_both (Branch b s) t u = ap (Branch b) (beside_both s t u)
 
 -- of the program's lists
 front-behind : (x : Statement) (a b : Statements) → behind (front x a) b ≡ front x (behind a b)
-front-behind x a b = each_front (λ f. behind (f a) b ≡ f (behind a b)) (λ m. refl) (λ p at bs. refl) (λ p name body. refl) (λ p name. refl) (λ p name. refl) x
+front-behind x a b = each_front (λ f. behind (f a) b ≡ f (behind a b)) (λ m. refl) (λ p at bs. refl) (λ p name body. refl) (λ p name. refl)
+    (λ p name. refl) x
 
 pub statements-append : (xs ys : List Statement) → statements (xs ++ ys) ≡ behind (statements xs) (statements ys)
 statements-append [] ys = refl
@@ -51,5 +52,6 @@ bodies-append : (xs ys : List (Row Statement)) → bodies (xs ++ ys) ≡ beside 
 bodies-append [] ys = refl
 bodies-append (x ∷ xs) ys = ap (Branch (statements x.items)) (bodies-append xs ys)
 
-pub bodies-push : (xs : List (Row Statement)) (x : Row Statement) → bodies (xs ++ x ∷ []) ≡ beside (bodies xs) (Branch (statements x.items) NoBranch)
+pub bodies-push : (xs : List (Row Statement)) (x : Row Statement) → bodies (xs ++ x ∷ []) ≡ beside (bodies xs)
+    (Branch (statements x.items) NoBranch)
 bodies-push xs x = bodies-append xs (x ∷ [])

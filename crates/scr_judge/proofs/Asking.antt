@@ -1,5 +1,6 @@
 -- What each statement answers is right.
-use Rattle.std.proofs.Common.{◌≡◌, ◌↔◌, ◌⊎◌, ⊎_elim, inl, inr, Bool, true, false, not, ◌&&◌, ◌||◌, ◌∷◌, if◌then◌else◌, IsTrue, List, [], Some, None, Contains, Decides, refl, sym, ap, ◌∙◌, true≢false}
+use Rattle.std.proofs.Common.{◌≡◌, ◌↔◌, ◌⊎◌, ⊎_elim, inl, inr, Bool, true, false, not, ◌&&◌, ◌||◌, ◌∷◌, if◌then◌else◌, IsTrue, List, []}
+use Rattle.std.proofs.Common.{Some, None, Contains, Decides, refl, sym, ap, ◌∙◌, true≢false}
 use Rattle.std.specs.Str.{bytes_eq}
 use Rattle.std.proofs.lemmas.Slice.Eq.{bytes_eq-Decides}
 use Rattle.mg_text.specs.Call.{Name}
@@ -11,10 +12,13 @@ use Rattle.mg_text.specs.declared.place.Place.{Place}
 use Rattle.scr_tree.specs.declared.syntax.Message.{Message}
 use Rattle.scr_tree.specs.Spots.{Past, Opens, Enters, Way, spot, head_place}
 use Rattle.mg_read.specs.Culprit.{Culprit, culprit}
-use Rattle.scr_tree.specs.Conditions.{UnknownRole, PeerIsSelf, UnknownRec, DuplicateRec, HasEmpty, BeginsOtherwise, EmptyBranch, OtherStart, BranchStart, MixedChoice, AllSend, AllFrom, IsUniform, ReservedLabel}
+use Rattle.scr_tree.specs.Conditions.{UnknownRole, PeerIsSelf, UnknownRec, DuplicateRec, HasEmpty, BeginsOtherwise, EmptyBranch, OtherStart}
+use Rattle.scr_tree.specs.Conditions.{BranchStart, MixedChoice, AllSend, AllFrom, IsUniform, ReservedLabel}
 use Rattle.scr_judge.specs.inner.Names.{is_among}
 use Rattle.scr_judge.specs.inner.Seen.{Names}
-use Rattle.scr_judge.specs.inner.OnSpot.{asks_role, is_send, all_send, one_peer, uniform, is_nothing, some_empty, unless, unknown_role, peer_is_self, unknown_rec, duplicate_rec, branch_start, mixed_choice, is_free_label, reserved_label}
+use Rattle.scr_judge.specs.inner.OnSpot.{asks_role, is_send, all_send, one_peer, uniform, is_nothing, some_empty, unless, unknown_role}
+use Rattle.scr_judge.specs.inner.OnSpot.{peer_is_self, unknown_rec, duplicate_rec, branch_start, mixed_choice, is_free_label}
+use Rattle.scr_judge.specs.inner.OnSpot.{reserved_label}
 use Rattle.scr_judge.proofs.SpotWalk.{AreAround, beginning, Answers, AsksRight}
 use Rattle.scr_judge.proofs.Words.{free_is_none, not_free}
 
@@ -42,7 +46,8 @@ module _ (roles : List Name) (has : Names) (h : (q : Name) → IsTrue (has q) �
 
 self_answers : (me : Name) (way : Way) (ss : Statements) → Answers (PeerIsSelf me (spot way ss)) (peer_is_self me ss)
 self_answers me way Nothing = λ c x. x
-self_answers me way (Says m rest) = unless_not (m.peer ≡ me) (bytes_eq m.peer me) (culprit m.place []) (bytes_eq-Decides m.peer me).0 (bytes_eq-Decides m.peer me).1
+self_answers me way (Says m rest) = unless_not (m.peer ≡ me) (bytes_eq m.peer me) (culprit m.place []) (bytes_eq-Decides m.peer me).0
+    (bytes_eq-Decides m.peer me).1
 self_answers me way (Choice p at bs rest) = λ c x. x
 self_answers me way (Rec p name body rest) = λ c x. x
 self_answers me way (Continue p name rest) = λ c x. x
@@ -51,22 +56,26 @@ self_answers me way (Do p name rest) = λ c x. x
 pub self_right : (me : Name) → AsksRight (PeerIsSelf me) (λ begins around. peer_is_self me)
 self_right me = record { asks = λ around way ss a. self_answers me way ss }
 
-rec_answers : (around : List Name) (way : Way) (ss : Statements) → AreAround around way → Answers (UnknownRec (spot way ss)) (unknown_rec around ss)
+rec_answers : (around : List Name) (way : Way) (ss : Statements) → AreAround around way →
+    Answers (UnknownRec (spot way ss)) (unknown_rec around ss)
 rec_answers around way Nothing h = λ c x. x
 rec_answers around way (Says m rest) h = λ c x. x
 rec_answers around way (Choice p at bs rest) h = λ c x. x
 rec_answers around way (Rec p name body rest) h = λ c x. x
-rec_answers around way (Continue p name rest) h = unless_right (Contains way (Opens name)) (is_among name around) (culprit p name) (h.each name).0 (h.each name).1
+rec_answers around way (Continue p name rest) h = unless_right (Contains way (Opens name)) (is_among name around) (culprit p name)
+    (h.each name).0 (h.each name).1
 rec_answers around way (Do p name rest) h = λ c x. x
 
 pub rec_right : AsksRight UnknownRec (λ begins. unknown_rec)
 rec_right = record { asks = rec_answers }
 
-twice_answers : (around : List Name) (way : Way) (ss : Statements) → AreAround around way → Answers (DuplicateRec (spot way ss)) (duplicate_rec around ss)
+twice_answers : (around : List Name) (way : Way) (ss : Statements) → AreAround around way → Answers (DuplicateRec (spot way ss))
+    (duplicate_rec around ss)
 twice_answers around way Nothing h = λ c x. x
 twice_answers around way (Says m rest) h = λ c x. x
 twice_answers around way (Choice p at bs rest) h = λ c x. x
-twice_answers around way (Rec p name body rest) h = unless_not (Contains way (Opens name)) (is_among name around) (culprit p name) (h.each name).0 (h.each name).1
+twice_answers around way (Rec p name body rest) h = unless_not (Contains way (Opens name)) (is_among name around) (culprit p name)
+    (h.each name).0 (h.each name).1
 twice_answers around way (Continue p name rest) h = λ c x. x
 twice_answers around way (Do p name rest) h = λ c x. x
 
@@ -92,7 +101,8 @@ both_so a b e f = ap (λ x. x && b) e ∙ f
 send_to : (bs : Branches) → all_send bs ≡ true → AllSend bs
 send_to NoBranch e = tt
 send_to (Branch Nothing more) e = send_to more e
-send_to (Branch (Says m rest) more) e = let h = both_true (is_send m.direction) (all_send more) e in (sends_to m.direction h.0, send_to more h.1)
+send_to (Branch (Says m rest) more) e = let h = both_true (is_send m.direction) (all_send more) e in
+    (sends_to m.direction h.0, send_to more h.1)
 send_to (Branch (Choice p at bs rest) more) e = send_to more e
 send_to (Branch (Rec p name body rest) more) e = send_to more e
 send_to (Branch (Continue p name rest) more) e = send_to more e
@@ -134,7 +144,8 @@ from_to peer (Branch (Do p name rest) more) e = from_to peer more e
 from_from : (peer : Name) (bs : Branches) → AllFrom peer bs → one_peer (Some peer) bs ≡ true
 from_from peer NoBranch h = refl
 from_from peer (Branch Nothing more) h = from_from peer more h
-from_from peer (Branch (Says m rest) more) h = known_so (is_send m.direction) (bytes_eq m.peer peer) _ (ap is_send h.0) ((bytes_eq-Decides m.peer peer).1 h.1) (from_from peer more h.2)
+from_from peer (Branch (Says m rest) more) h = known_so (is_send m.direction) (bytes_eq m.peer peer) _ (ap is_send h.0)
+    ((bytes_eq-Decides m.peer peer).1 h.1) (from_from peer more h.2)
 from_from peer (Branch (Choice p at bs rest) more) h = from_from peer more h
 from_from peer (Branch (Rec p name body rest) more) h = from_from peer more h
 from_from peer (Branch (Continue p name rest) more) h = from_from peer more h
@@ -144,7 +155,8 @@ any_to : (bs : Branches) → one_peer None bs ≡ true → (peer : Name) × AllF
 any_to NoBranch e = ([], tt)
 any_to (Branch Nothing more) e = any_to more e
 any_to (Branch (Says m rest) more) e =
-    let h = one_new (is_send m.direction) (one_peer (Some m.peer) more) e in (m.peer, (sends_from m.direction h.0, refl, from_to m.peer more h.1))
+    let h = one_new (is_send m.direction) (one_peer (Some m.peer) more) e in
+    (m.peer, (sends_from m.direction h.0, refl, from_to m.peer more h.1))
 any_to (Branch (Choice p at bs rest) more) e = any_to more e
 any_to (Branch (Rec p name body rest) more) e = any_to more e
 any_to (Branch (Continue p name rest) more) e = any_to more e
@@ -154,7 +166,8 @@ any_from : (peer : Name) (bs : Branches) → AllFrom peer bs → one_peer None b
 any_from peer NoBranch h = refl
 any_from peer (Branch Nothing more) h = any_from peer more h
 any_from peer (Branch (Says m rest) more) h =
-    ap (λ x. if x then false else one_peer (Some m.peer) more) (ap is_send h.0) ∙ ap (λ n. one_peer (Some n) more) h.1 ∙ from_from peer more h.2
+    ap (λ x. if x then false else one_peer (Some m.peer) more) (ap is_send h.0) ∙ ap (λ n. one_peer (Some n) more) h.1 ∙
+    from_from peer more h.2
 any_from peer (Branch (Choice p at bs rest) more) h = any_from peer more h
 any_from peer (Branch (Rec p name body rest) more) h = any_from peer more h
 any_from peer (Branch (Continue p name rest) more) h = any_from peer more h
@@ -175,7 +188,8 @@ mixed_answers : (me : Name) (way : Way) (ss : Statements) → Answers (MixedChoi
 mixed_answers me way Nothing = λ c x. x
 mixed_answers me way (Says m rest) = λ c x. x
 mixed_answers me way (Choice p at bs rest) =
-    unless_right (IsUniform me at bs) (uniform me at bs) (culprit p []) (uniform_to me at bs (bytes_eq at me) (bytes_eq-Decides at me)) (uniform_from me at bs (bytes_eq at me) (bytes_eq-Decides at me))
+    unless_right (IsUniform me at bs) (uniform me at bs) (culprit p []) (uniform_to me at bs (bytes_eq at me) (bytes_eq-Decides at me))
+    (uniform_from me at bs (bytes_eq at me) (bytes_eq-Decides at me))
 mixed_answers me way (Rec p name body rest) = λ c x. x
 mixed_answers me way (Continue p name rest) = λ c x. x
 mixed_answers me way (Do p name rest) = λ c x. x
@@ -210,7 +224,8 @@ empty_from (Branch b more) (inl e) = ap (λ x. is_nothing x || some_empty more) 
 empty_from (Branch b more) (inr h) = right_so (is_nothing b) (some_empty more) (empty_from more h)
 
 -- a choice, which begins a branch or not
-choice_answers : (b : Bool) (At : Culprit → Type 0) (P : Type 0) (k : Culprit) → (b ≡ true → P) → (P → b ≡ true) → ((c : Culprit) → At c → (c ≡ k) × P) → ((c : Culprit) → (c ≡ k) × P → At c) →
+choice_answers : (b : Bool) (At : Culprit → Type 0) (P : Type 0) (k : Culprit) → (b ≡ true → P) → (P → b ≡ true) →
+    ((c : Culprit) → At c → (c ≡ k) × P) → ((c : Culprit) → (c ≡ k) × P → At c) →
     Answers At (unless (not b) k)
 choice_answers true At P k to from out back = back k (refl, to refl)
 choice_answers false At P k to from out back = λ c a. true≢false (sym (from (out c a).1))
@@ -233,7 +248,8 @@ start_choice way false e p at bs rest =
     (λ c. ⊎_elim (λ x. x) (λ o. absurd (not_first way _ c e o))) (λ c x. inl x)
 
 -- at another statement
-start_other : (way : Way) (first : Bool) → is_some (beginning way) ≡ first → (p : Place) (ss : Statements) → head_place ss ≡ Some p → BeginsOtherwise ss → ((c : Culprit) → EmptyBranch ss c → ⊥) →
+start_other : (way : Way) (first : Bool) → is_some (beginning way) ≡ first → (p : Place) (ss : Statements) → head_place ss ≡ Some p →
+    BeginsOtherwise ss → ((c : Culprit) → EmptyBranch ss c → ⊥) →
     Answers (BranchStart (spot way ss)) (unless (not first) (culprit p []))
 start_other [] true e p ss at begins none = absurd (true≢false (sym e))
 start_other (Past s ∷ way) true e p ss at begins none = absurd (true≢false (sym e))
@@ -272,7 +288,8 @@ label_answers me (Opens name ∷ way) ss = λ c x. x
 label_answers me (Enters at earlier ∷ way) Nothing = λ c x. x
 label_answers me (Enters at earlier ∷ way) (Says m rest) = free_answers (is_free_label me at m.label) refl
   where
-    free_answers : (b : Bool) → is_free_label me at m.label ≡ b → Answers (ReservedLabel me (spot (Enters at earlier ∷ way) (Says m rest))) (unless b (culprit m.place m.label))
+    free_answers : (b : Bool) → is_free_label me at m.label ≡ b → Answers (ReservedLabel me (spot (Enters at earlier ∷ way) (Says m rest)))
+        (unless b (culprit m.place m.label))
     free_answers true e = λ c x. free_is_none me at m.label e x.1 x.2
     free_answers false e = let h = not_free me at m.label e in (refl, h.0, h.1)
 label_answers me (Enters at earlier ∷ way) (Choice p x bs rest) = λ c x. x

@@ -15,13 +15,15 @@ clash_to q c a = (a.0, act a.1.0, Contains-image act q.0 a.1.0 a.1.1, a.1.2, a.1
 
 clash_from : (q : List CodeAction × CodeAction) (c : Culprit) → NameClash (map act q.0, act q.1) c → Clash call_of does clashing q c
 clash_from q c a =
-    let o = Contains-origin act q.0 a.1 a.2 in (a.0, (o.0, o.1, ap (λ z. z.call) o.2 ∙ a.3, λ same. a.4 (sym (ap (λ z. z.deed) o.2) ∙ same)))
+    let o = Contains-origin act q.0 a.1 a.2 in
+    (a.0, (o.0, o.1, ap (λ z. z.call) o.2 ∙ a.3, λ same. a.4 (sym (ap (λ z. z.deed) o.2) ∙ same)))
 
 act_push : (xs : List CodeAction) (x : CodeAction) → map act (xs ++ x ∷ []) ≡ map act xs ++ act x ∷ []
 act_push xs x = map-append act xs (x ∷ [])
 
 -- the program's actions are `xs`, which are those of the text behind none
-pub clashes : (xs ys old : List CodeAction) (texts : List Action) (r s : Option Culprit) → xs ≡ ys → old ≡ [] → map act ys ≡ map act old ++ texts → r ≡ s →
+pub clashes : (xs ys old : List CodeAction) (texts : List Action) (r s : Option Culprit) → xs ≡ ys → old ≡ [] → map act ys ≡ map act old
+    ++ texts → r ≡ s →
     Judged (Clash call_of does clashing) (with_earlier xs) r → Judged NameClash (with_earlier texts) s
 clashes xs ys old texts r s e none are same j =
     let all : map act xs ≡ texts = ap (map act) e ∙ are ∙ ap (λ o. map act o ++ texts) none in

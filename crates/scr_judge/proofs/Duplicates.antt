@@ -1,5 +1,6 @@
 -- The step of the loop over the roles.
-use Rattle.std.proofs.Common.{◌≡◌, ◌↔◌, ◌<◌, ◌+◌, ℕ, Bool, true, false, not, ◌||◌, IsTrue, List, [], ◌∷◌, ◌++◌, map, length, get_or, take, Contains, Some, Decides, refl, sym, ap, subst, ◌∙◌, ⊎_elim, true≢false}
+use Rattle.std.proofs.Common.{◌≡◌, ◌↔◌, ◌<◌, ◌+◌, ℕ, Bool, true, false, not, ◌||◌, IsTrue, List, [], ◌∷◌, ◌++◌, map, length, get_or, take}
+use Rattle.std.proofs.Common.{Contains, Some, Decides, refl, sym, ap, subst, ◌∙◌, ⊎_elim, true≢false}
 use Rattle.std.proofs.lemmas.List.{take_more, map-append}
 use Rattle.std.proofs.lemmas.List.Elements.{Contains-push, Contains-push_cases, Contains-append_left}
 use Rattle.std.proofs.lemmas.Slice.Eq.{bytes_eq-Decides}
@@ -21,7 +22,8 @@ pub record HasNames (has : Names) (names : List Name) : Type 0 where
 pub has_none : (has : Names) → has ≡ none → HasNames has []
 has_none has e = record { each = λ q. (λ t. absurd (true≢false (sym t ∙ ap (λ h. h q) e)), λ c. absurd (Contains-nil q c)) }
 
-pub has_more : (t b : Bool) (names : List Name) (name q : Name) → Decides t (name ≡ q) → (IsTrue b ↔ Contains names q) → IsTrue (t || b) ↔ Contains (names ++ name ∷ []) q
+pub has_more : (t b : Bool) (names : List Name) (name q : Name) → Decides t (name ≡ q) → (IsTrue b ↔ Contains names q) →
+    IsTrue (t || b) ↔ Contains (names ++ name ∷ []) q
 has_more true b names name q d h = (λ _. subst (Contains (names ++ name ∷ [])) (d.0 refl) (Contains-push names name), λ _. refl)
 has_more false b names name q d h = (
   λ has. Contains-append_left names (name ∷ []) q (h.0 has),
@@ -36,7 +38,8 @@ pub false_from_not : (b : Bool) → not b ≡ true → b ≡ false
 false_from_not true e = sym e
 false_from_not false e = refl
 
-module _ {X : Type 0} (key : X → Name) (has : Names) (xs : List X) (i : ℕ) (x : X) (within : i < length xs) (is : x ≡ get_or xs i x) (h : HasNames has (map key (take i xs))) where
+module _ {X : Type 0} (key : X → Name) (has : Names) (xs : List X) (i : ℕ) (x : X) (within : i < length xs) (is : x ≡ get_or xs i x)
+    (h : HasNames has (map key (take i xs))) where
   names_pushed : map key (take i xs) ++ key x ∷ [] ≡ map key (take (i + 1) xs)
   names_pushed = sym (map-append key (take i xs) (x ∷ [])) ∙ ap (map key) (ap (λ y. take i xs ++ y ∷ []) is ∙ sym (take_more xs i x within))
 
@@ -46,10 +49,12 @@ module _ {X : Type 0} (key : X → Name) (has : Names) (xs : List X) (i : ℕ) (
         (has_more (bytes_eq (key x) q) (has q) (map key (take i xs)) (key x) q (bytes_eq-Decides (key x) q) (h.each q));
   })
 
-module _ (has : Names) (xs : List Role) (i : ℕ) (x : Role) (within : i < length xs) (is : x ≡ get_or xs i x) (h : HasNames has (map role_name (take i xs))) (name : Name) (same : name ≡ x.name)
+module _ (has : Names) (xs : List Role) (i : ℕ) (x : Role) (within : i < length xs) (is : x ≡ get_or xs i x)
+    (h : HasNames has (map role_name (take i xs))) (name : Name) (same : name ≡ x.name)
     (l : Left ListedTwice xs i) where
   pub repeated_role : not (has name) ≡ false → Judged ListedTwice (with_earlier xs) (Some (culprit x.place x.name))
   repeated_role e = left_here ListedTwice l x within is _ (refl, (h.each x.name).0 (ap has (sym same) ∙ true_from_not _ e))
 
   pub new_role : not (has name) ≡ true → Left ListedTwice xs (i + 1)
-  new_role e = left_later ListedTwice l x within is (λ c a. true≢false (sym ((h.each x.name).1 a.1) ∙ ap has (sym same) ∙ false_from_not _ e))
+  new_role e = left_later ListedTwice l x within is
+      (λ c a. true≢false (sym ((h.each x.name).1 a.1) ∙ ap has (sym same) ∙ false_from_not _ e))

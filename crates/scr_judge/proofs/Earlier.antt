@@ -1,5 +1,6 @@
 -- Judging elements with those before them, part after part, and in other words.
-use Rattle.std.proofs.Common.{◌≡◌, ⊎_elim, inl, inr, List, [], ◌∷◌, ◌++◌, map, Option, Some, Contains, refl, sym, ap, subst, ◌∙◌, append_assoc}
+use Rattle.std.proofs.Common.{◌≡◌, ⊎_elim, inl, inr, List, [], ◌∷◌, ◌++◌, map, Option, Some, Contains, refl, sym, ap, subst, ◌∙◌}
+use Rattle.std.proofs.Common.{append_assoc}
 use Rattle.std.proofs.lemmas.List.{append-nil, map-append}
 use Rattle.std.proofs.lemmas.List.Elements.{Contains-append_left, Contains-append_right, Contains-append_cases}
 use Rattle.std.specs.Option.{option_or}
@@ -16,12 +17,16 @@ use Rattle.scr_judge.specs.inner.Listed.{DeclaredTwice, ListedTwice}
 module _ {X Y : Type 0} (f : X → Y) (see : List X → List Y) (push : (xs : List X) (x : X) → see (xs ++ x ∷ []) ≡ see xs ++ f x ∷ []) where
   behind-map : (seen xs : List X) → behind (see seen) (map f xs) ≡ map (λ q. (see q.0, f q.1)) (behind seen xs)
   behind-map seen [] = refl
-  behind-map seen (x ∷ xs) = ap (λ ys. (see seen, f x) ∷ behind ys (map f xs)) (sym (push seen x)) ∙ ap (λ ys. (see seen, f x) ∷ ys) (behind-map (seen ++ x ∷ []) xs)
+  behind-map seen (x ∷ xs) = ap (λ ys. (see seen, f x) ∷ behind ys (map f xs)) (sym (push seen x)) ∙ ap (λ ys. (see seen, f x) ∷ ys)
+      (behind-map (seen ++ x ∷ []) xs)
 
   -- the same culprits, where what is known of the earlier ones says the same
-  pub judged-behind : {C : Type 0} {At : List X × X → C → Type 0} {By : List Y × Y → C → Type 0} → ((q : List X × X) (c : C) → At q c → By (see q.0, f q.1) c) →
-      ((q : List X × X) (c : C) → By (see q.0, f q.1) c → At q c) → (seen xs : List X) {r : Option C} → Judged At (behind seen xs) r → Judged By (behind (see seen) (map f xs)) r
-  judged-behind {By = By} to from seen xs {r} j = subst (λ ys. Judged By ys r) (sym (behind-map seen xs)) (judged-map (λ q. (see q.0, f q.1)) to from j)
+  pub judged-behind : {C : Type 0} {At : List X × X → C → Type 0} {By : List Y × Y → C → Type 0} →
+      ((q : List X × X) (c : C) → At q c → By (see q.0, f q.1) c) →
+      ((q : List X × X) (c : C) → By (see q.0, f q.1) c → At q c) → (seen xs : List X) {r : Option C} → Judged At (behind seen xs) r →
+      Judged By (behind (see seen) (map f xs)) r
+  judged-behind {By = By} to from seen xs {r} j = subst (λ ys. Judged By ys r) (sym (behind-map seen xs))
+      (judged-map (λ q. (see q.0, f q.1)) to from j)
 
 pub behind-append : {X : Type 0} (seen xs ys : List X) → behind seen (xs ++ ys) ≡ behind seen xs ++ behind (seen ++ xs) ys
 behind-append seen [] ys = ap (λ s. behind s ys) (sym (append-nil seen))
@@ -30,8 +35,10 @@ behind-append seen (x ∷ xs) ys =
     ∙ ap (λ s. (seen, x) ∷ (behind (seen ++ x ∷ []) xs ++ behind s ys)) (append_assoc seen (x ∷ []) xs)
 
 -- a declaration among entries
-declared_in : (ds : List Declaration) (rs : List Role) (d : Declaration) → Contains (map declares ds ++ map lists rs) (declares d) → Contains ds d
-declared_in ds rs d h = ⊎_elim (λ a. first (Contains-origin declares ds (declares d) a)) (λ b. absurd (second (Contains-origin lists rs (declares d) b))) (Contains-append_cases (map declares ds) (map lists rs) (declares d) h)
+declared_in : (ds : List Declaration) (rs : List Role) (d : Declaration) → Contains (map declares ds ++ map lists rs) (declares d) →
+    Contains ds d
+declared_in ds rs d h = ⊎_elim (λ a. first (Contains-origin declares ds (declares d) a))
+    (λ b. absurd (second (Contains-origin lists rs (declares d) b))) (Contains-append_cases (map declares ds) (map lists rs) (declares d) h)
   where
     first : (x : Declaration) × Contains ds x × (declares x ≡ declares d) → Contains ds d
     first o = let same : o.0 ≡ d = cc in subst (Contains ds) same o.1
@@ -41,7 +48,8 @@ declared_in ds rs d h = ⊎_elim (λ a. first (Contains-origin declares ds (decl
 
 -- a role among entries
 listed_in : (ds : List Declaration) (rs : List Role) (r : Role) → Contains (map declares ds ++ map lists rs) (lists r) → Contains rs r
-listed_in ds rs r h = ⊎_elim (λ a. absurd (first (Contains-origin declares ds (lists r) a))) (λ b. second (Contains-origin lists rs (lists r) b)) (Contains-append_cases (map declares ds) (map lists rs) (lists r) h)
+listed_in ds rs r h = ⊎_elim (λ a. absurd (first (Contains-origin declares ds (lists r) a)))
+    (λ b. second (Contains-origin lists rs (lists r) b)) (Contains-append_cases (map declares ds) (map lists rs) (lists r) h)
   where
     first : (x : Declaration) × Contains ds x × (declares x ≡ lists r) → ⊥
     first o = let e : declares o.0 ≡ lists r = o.2 in cc
@@ -67,26 +75,32 @@ declared_from q c a = (
   ],
 )
 
-listed_to : (ds : List Declaration) (q : List Role × Role) (c : Culprit) → ListedTwice q c → DuplicateName (map declares ds ++ map lists q.0, lists q.1) c
+listed_to : (ds : List Declaration) (q : List Role × Role) (c : Culprit) → ListedTwice q c →
+    DuplicateName (map declares ds ++ map lists q.0, lists q.1) c
 listed_to ds q c a =
     let o = Contains-origin role_name q.0 q.1.name a.1 in
     (a.0, o.0, Contains-append_right (map declares ds) (map lists q.0) (lists o.0) (Contains-image lists q.0 o.0 o.1), o.2)
 
-listed_from : (ds : List Declaration) (q : List Role × Role) (c : Culprit) → DuplicateName (map declares ds ++ map lists q.0, lists q.1) c → ListedTwice q c
+listed_from : (ds : List Declaration) (q : List Role × Role) (c : Culprit) → DuplicateName (map declares ds ++ map lists q.0, lists q.1) c →
+    ListedTwice q c
 listed_from ds q c a = (a.0, subst (Contains (map role_name q.0)) a.3 (Contains-image role_name q.0 a.1 (listed_in ds q.0 a.1 a.2)))
 
 declares_push : (xs : List Declaration) (x : Declaration) → map declares (xs ++ x ∷ []) ≡ map declares xs ++ declares x ∷ []
 declares_push xs x = map-append declares xs (x ∷ [])
 
-lists_push : (ds : List Declaration) (xs : List Role) (x : Role) → (map declares ds ++ map lists (xs ++ x ∷ [])) ≡ (map declares ds ++ map lists xs) ++ lists x ∷ []
-lists_push ds xs x = ap (λ ys. map declares ds ++ ys) (map-append lists xs (x ∷ [])) ∙ sym (append_assoc (map declares ds) (map lists xs) (lists x ∷ []))
+lists_push : (ds : List Declaration) (xs : List Role) (x : Role) → (map declares ds ++ map lists (xs ++ x ∷ []))
+    ≡ (map declares ds ++ map lists xs) ++ lists x ∷ []
+lists_push ds xs x = ap (λ ys. map declares ds ++ ys) (map-append lists xs (x ∷ [])) ∙
+    sym (append_assoc (map declares ds) (map lists xs) (lists x ∷ []))
 
 -- the roles that another protocol lists
-pub listed_alone : (rs : List Role) {r : Option Culprit} → Judged ListedTwice (with_earlier rs) r → Judged DuplicateName (with_earlier (map lists rs)) r
+pub listed_alone : (rs : List Role) {r : Option Culprit} → Judged ListedTwice (with_earlier rs) r →
+    Judged DuplicateName (with_earlier (map lists rs)) r
 listed_alone rs q = judged-behind lists (λ xs. map declares [] ++ map lists xs) (lists_push []) (listed_to []) (listed_from []) [] rs q
 
 -- first the declarations are judged, and then the roles
-pub duplicate_name : (ds : List Declaration) (rs : List Role) {r s : Option Culprit} → Judged DeclaredTwice (with_earlier ds) r → Judged ListedTwice (with_earlier rs) s →
+pub duplicate_name : (ds : List Declaration) (rs : List Role) {r s : Option Culprit} → Judged DeclaredTwice (with_earlier ds) r →
+    Judged ListedTwice (with_earlier rs) s →
     Judged DuplicateName (with_earlier (map declares ds ++ map lists rs)) (option_or r s)
 duplicate_name ds rs {r} {s} p q =
     subst (λ ys. Judged DuplicateName ys (option_or r s)) (sym (behind-append [] (map declares ds) (map lists rs)))
@@ -95,7 +109,9 @@ duplicate_name ds rs {r} {s} p q =
     (judged-behind lists (λ xs. map declares ds ++ map lists xs) (lists_push ds) (listed_to ds) (listed_from ds) [] rs q)))
 
 -- a declaration is at fault
-pub duplicate_declaration : (ds : List Declaration) (rs : List Role) (c : Culprit) → Judged DeclaredTwice (with_earlier ds) (Some c) → Judged DuplicateName (with_earlier (map declares ds ++ map lists rs)) (Some c)
+pub duplicate_declaration : (ds : List Declaration) (rs : List Role) (c : Culprit) → Judged DeclaredTwice (with_earlier ds) (Some c) →
+    Judged DuplicateName (with_earlier (map declares ds ++ map lists rs)) (Some c)
 duplicate_declaration ds rs c p =
     subst (λ ys. Judged DuplicateName ys (Some c)) (sym (behind-append [] (map declares ds) (map lists rs)))
-    (judged-found (behind ([] ++ map declares ds) (map lists rs)) (judged-behind declares (map declares) declares_push declared_to declared_from [] ds p))
+    (judged-found (behind ([] ++ map declares ds) (map lists rs))
+    (judged-behind declares (map declares) declares_push declared_to declared_from [] ds p))

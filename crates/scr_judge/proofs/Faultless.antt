@@ -1,5 +1,6 @@
 -- A file without a fault is a valid local protocol.
-use Rattle.std.proofs.Common.{◌≡◌, ◌≢◌, ⊎_elim, inl, inr, ℕ, List, [], ◌∷◌, ◌++◌, map, Option, Some, None, Bool, true, false, Contains, refl, sym, ap, subst, ◌∙◌, true≢false}
+use Rattle.std.proofs.Common.{◌≡◌, ◌≢◌, ⊎_elim, inl, inr, ℕ, List, [], ◌∷◌, ◌++◌, map, Option, Some, None, Bool, true, false, Contains}
+use Rattle.std.proofs.Common.{refl, sym, ap, subst, ◌∙◌, true≢false}
 use Rattle.std.specs.List.{list_any, flat_map, AllByRecursion}
 use Rattle.std.specs.Str.{bytes_eq}
 use Rattle.std.proofs.lemmas.List.Elements.{Contains-push, Contains-append_left}
@@ -14,13 +15,15 @@ use Rattle.scr_tree.specs.declared.written.Role.{Role}
 use Rattle.scr_tree.specs.Actions.{NameClash, actions, all_actions, next as next_number}
 use Rattle.scr_tree.specs.Conditions as says
 use Rattle.scr_tree.specs.Faults.{IsFault}
-use Rattle.scr_tree.specs.Going.{Unguarded, UnknownProtocol, DuplicateProtocol, RolesDiffer, told_in, NotLast, all_held, StartsWithDo, first_of_several, has_deed, first_do}
+use Rattle.scr_tree.specs.Going.{Unguarded, UnknownProtocol, DuplicateProtocol, RolesDiffer, told_in, NotLast, all_held, StartsWithDo}
+use Rattle.scr_tree.specs.Going.{first_of_several, has_deed, first_do}
 use Rattle.scr_tree.specs.Listing.{Entry, declares, lists, listed, DuplicateName, UnknownRole, Mention, within, mentions_in, mentions}
 use Rattle.scr_tree.specs.Spots.{Spot, spots, each_of, all_spots, spots_of}
 use Rattle.scr_tree.specs.States.{TooManyStates, states, all_states}
 use Rattle.scr_tree.specs.Tree.{Titled, Statements, titled, other, body_in, bodies_in}
 use Rattle.scr_tree.specs.Valid.{AreDistinct, IsWritten, IsValid, names_in}
-use Rattle.scr_tree.specs.Written.{WrittenPart, WrittenTree, parts_in, role_name, roles_in, me_in, name_in, body_of, title_of, part_meant, local_of}
+use Rattle.scr_tree.specs.Written.{WrittenPart, WrittenTree, parts_in, role_name, roles_in, me_in, name_in, body_of, title_of, part_meant}
+use Rattle.scr_tree.specs.Written.{local_of}
 use Rattle.scr_judge.proofs.Earlier.{behind-append}
 use Rattle.scr_judge.proofs.Members.{Contains-nil, Contains-cons_cases, Contains-image}
 use Rattle.scr_judge.proofs.Words.{any_to, any_from}
@@ -33,7 +36,11 @@ split {K} {C} {Of} {k} {ks} p = go _ _ p refl refl
     go ls r none e n = let no : ⊥ = cc in absurd no
     go ls r (this a) e n = let no : ⊥ = cc in absurd no
     go ls r (next {k = j} {ks = js} a q) e n =
-        let same : j ≡ k = cc in let rest : js ≡ ks = cc in (subst (λ z. Of z None) same a, subst (λ s. FirstOf Of ks s) n (subst (λ zs. FirstOf Of zs r) rest q))
+        let same : j ≡ k = cc in let rest : js ≡ ks = cc in (
+          subst (λ z. Of z None) same a,
+          subst (λ s. FirstOf Of ks s) n
+              (subst (λ zs. FirstOf Of zs r) rest q),
+        )
 
 module _ {X C : Type 0} (At : X → C → Type 0) where
   clean_behind : (xs ys : List X) → Clean At (xs ++ ys) → Clean At ys
@@ -45,20 +52,24 @@ module _ {X C : Type 0} (At : X → C → Type 0) where
   clean_map f (y ∷ ys) h = (h.0, clean_map f ys h.1)
 
 -- roles
-clash : (seen : List Entry) (rs : List Role) (r : Role) → Contains seen (lists r) → Clean DuplicateName (behind seen (map lists rs)) → Contains (map role_name rs) r.name → ⊥
+clash : (seen : List Entry) (rs : List Role) (r : Role) → Contains seen (lists r) → Clean DuplicateName (behind seen (map lists rs)) →
+    Contains (map role_name rs) r.name → ⊥
 clash seen [] r listed h c = Contains-nil r.name c
 clash seen (x ∷ rs) r listed h c =
     ⊎_elim (λ same. h.0 (culprit x.place x.name) (refl, r, listed, sym same))
-    (λ more. clash (seen ++ lists x ∷ []) rs r (Contains-append_left seen (lists x ∷ []) (lists r) listed) h.1 more) (Contains-cons_cases (map role_name rs) x.name r.name c)
+    (λ more. clash (seen ++ lists x ∷ []) rs r (Contains-append_left seen (lists x ∷ []) (lists r) listed) h.1 more)
+    (Contains-cons_cases (map role_name rs) x.name r.name c)
 
 distinct : (seen : List Entry) (rs : List Role) → Clean DuplicateName (behind seen (map lists rs)) → AreDistinct (map role_name rs)
 distinct seen [] h = tt
 distinct seen (r ∷ rs) h = (clash (seen ++ lists r ∷ []) rs r (Contains-push seen (lists r)) h.1, distinct (seen ++ lists r ∷ []) rs h.1)
 
-pub roles_differ : (ds : List Declaration) (rs : List Role) → Clean DuplicateName (with_earlier (map declares ds ++ map lists rs)) → AreDistinct (map role_name rs)
+pub roles_differ : (ds : List Declaration) (rs : List Role) → Clean DuplicateName (with_earlier (map declares ds ++ map lists rs)) →
+    AreDistinct (map role_name rs)
 roles_differ ds rs h =
     distinct (map declares ds) rs
-    (clean_behind DuplicateName (with_earlier (map declares ds)) _ (subst (λ qs. Clean DuplicateName qs) (behind-append [] (map declares ds) (map lists rs)) h))
+    (clean_behind DuplicateName (with_earlier (map declares ds)) _
+    (subst (λ qs. Clean DuplicateName qs) (behind-append [] (map declares ds) (map lists rs)) h))
 
 -- what is not unlisted is listed
 is_listed : (names : List Name) (name : Name) → ((Contains names name → ⊥) → ⊥) → Contains names name
@@ -97,13 +108,18 @@ clean_front At (x ∷ xs) ys h = (h.0, clean_front At xs ys h.1)
 alike : (first : WrittenPart) (ps : List WrittenPart) → Clean (RolesDiffer first) (flat_map told_in ps) → AllByRecursion (Alike first) ps
 alike first [] h = tt
 alike first (p ∷ ps) h = (
-  (name_same (me_in p) (me_in first) (λ n. h.0 (culprit p.place p.name) (refl, inr n)), names_same (roles_in p) (roles_in first) (λ n. h.0 (culprit p.place p.name) (refl, inl n))),
+  (
+    name_same (me_in p) (me_in first) (λ n. h.0 (culprit p.place p.name) (refl, inr n)),
+    names_same (roles_in p) (roles_in first)
+        (λ n. h.0 (culprit p.place p.name) (refl, inl n)),
+  ),
   alike first ps (clean_behind (RolesDiffer first) (told_in p) (flat_map told_in ps) h),
 )
 
 -- what is asked of each with its own role is asked of all with one
 module _ (At : Name → Spot → Culprit → Type 0) (first : WrittenPart) where
-  unpaired : (p : WrittenPart) (xs : List Spot) → me_in p ≡ me_in first → Clean (λ (q : WrittenPart × Spot). At (me_in q.0) q.1) (map (λ x. (p, x)) xs) → Clean (At (me_in first)) xs
+  unpaired : (p : WrittenPart) (xs : List Spot) → me_in p ≡ me_in first → Clean (λ (q : WrittenPart × Spot). At (me_in q.0) q.1)
+      (map (λ x. (p, x)) xs) → Clean (At (me_in first)) xs
   unpaired p [] e h = tt
   unpaired p (x ∷ xs) e h = (λ c a. h.0 c (subst (λ me. At me x c) (sym e) a), unpaired p xs e h.1)
 
@@ -111,7 +127,8 @@ module _ (At : Name → Spot → Culprit → Type 0) (first : WrittenPart) where
   clean_both [] ys h g = g
   clean_both (x ∷ xs) ys h g = (h.0, clean_both xs ys h.1 g)
 
-  as_one : (ps : List WrittenPart) → AllByRecursion (Alike first) ps → Clean (λ (q : WrittenPart × Spot). At (me_in q.0) q.1) (spots_of body_of ps) → Clean (At (me_in first)) (all_spots (map body_of ps))
+  as_one : (ps : List WrittenPart) → AllByRecursion (Alike first) ps → Clean (λ (q : WrittenPart × Spot). At (me_in q.0) q.1)
+      (spots_of body_of ps) → Clean (At (me_in first)) (all_spots (map body_of ps))
   as_one [] a h = tt
   as_one (p ∷ ps) a h =
       let own : List (WrittenPart × Spot) = map (λ x. (p, x)) (spots [] p.body) in
@@ -120,20 +137,25 @@ module _ (At : Name → Spot → Culprit → Type 0) (first : WrittenPart) where
       (as_one ps a.1 (clean_behind (λ (q : WrittenPart × Spot). At (me_in q.0) q.1) own (spots_of body_of ps) h))
 
 -- the mentions of each protocol, of the role itself and in the statements
-roles_as_one : (first : WrittenPart) (ps : List WrittenPart) → AllByRecursion (Alike first) ps → Clean (λ (q : WrittenPart × Mention). UnknownRole (roles_in q.0) q.1) (each_of mentions_in ps) →
+roles_as_one : (first : WrittenPart) (ps : List WrittenPart) → AllByRecursion (Alike first) ps →
+    Clean (λ (q : WrittenPart × Mention). UnknownRole (roles_in q.0) q.1) (each_of mentions_in ps) →
     Clean (says.UnknownRole (roles_in first)) (all_spots (map body_of ps))
 roles_as_one first [] a h = tt
 roles_as_one first (p ∷ ps) a h =
     let own : List (WrittenPart × Mention) = map (λ x. (p, x)) (mentions_in p) in
     both (spots [] p.body) (all_spots (map body_of ps))
-    (within_one (spots [] p.body) (clean_front (λ (q : WrittenPart × Mention). UnknownRole (roles_in q.0) q.1) own (each_of mentions_in ps) h).1)
-    (roles_as_one first ps a.1 (clean_behind (λ (q : WrittenPart × Mention). UnknownRole (roles_in q.0) q.1) own (each_of mentions_in ps) h))
+    (within_one (spots [] p.body) (clean_front (λ (q : WrittenPart × Mention). UnknownRole (roles_in q.0) q.1) own (each_of mentions_in ps)
+    h).1)
+    (roles_as_one first ps a.1 (clean_behind (λ (q : WrittenPart × Mention). UnknownRole (roles_in q.0) q.1) own (each_of mentions_in ps)
+    h))
   where
-    within_one : (xs : List Spot) → Clean (λ (q : WrittenPart × Mention). UnknownRole (roles_in q.0) q.1) (map (λ x. (p, x)) (map within xs)) → Clean (says.UnknownRole (roles_in first)) xs
+    within_one : (xs : List Spot) → Clean (λ (q : WrittenPart × Mention). UnknownRole (roles_in q.0) q.1)
+        (map (λ x. (p, x)) (map within xs)) → Clean (says.UnknownRole (roles_in first)) xs
     within_one [] g = tt
     within_one (x ∷ xs) g = (λ c u. g.0 c (subst (λ rs. says.UnknownRole rs x c) (sym a.0.1) u), within_one xs g.1)
 
-    both : (xs ys : List Spot) → Clean (says.UnknownRole (roles_in first)) xs → Clean (says.UnknownRole (roles_in first)) ys → Clean (says.UnknownRole (roles_in first)) (xs ++ ys)
+    both : (xs ys : List Spot) → Clean (says.UnknownRole (roles_in first)) xs → Clean (says.UnknownRole (roles_in first)) ys →
+        Clean (says.UnknownRole (roles_in first)) (xs ++ ys)
     both [] ys f g = g
     both (x ∷ xs) ys f g = (f.0, both xs ys f.1 g)
 
@@ -161,21 +183,29 @@ actions_meant first n (p ∷ ps) a =
 states_meant : (first : WrittenPart) (ps : List WrittenPart) → AllByRecursion (Alike first) ps →
     all_states me_in body_of ps ≡ all_states (λ (t : Titled). me_in first) body_in (map title_of ps)
 states_meant first [] a = refl
-states_meant first (p ∷ ps) a = ap (λ me. states me p.body ++ all_states me_in body_of ps) a.0.0 ∙ ap (λ l. states (me_in first) p.body ++ l) (states_meant first ps a.1)
+states_meant first (p ∷ ps) a = ap (λ me. states me p.body ++ all_states me_in body_of ps) a.0.0 ∙
+    ap (λ l. states (me_in first) p.body ++ l) (states_meant first ps a.1)
 
 -- no two protocols have one name
-clash_names : (seen ps : List WrittenPart) (r : WrittenPart) → Contains seen r → Clean DuplicateProtocol (behind seen ps) → Contains (map name_in ps) r.name → ⊥
+clash_names : (seen ps : List WrittenPart) (r : WrittenPart) → Contains seen r → Clean DuplicateProtocol (behind seen ps) →
+    Contains (map name_in ps) r.name → ⊥
 clash_names seen [] r listed h c = Contains-nil r.name c
 clash_names seen (x ∷ ps) r listed h c =
-    ⊎_elim (λ same. h.0 (culprit x.place x.name) (refl, subst (Contains (map name_in seen)) (sym same) (Contains-image name_in seen r listed)))
-    (λ more. clash_names (seen ++ x ∷ []) ps r (Contains-append_left seen (x ∷ []) r listed) h.1 more) (Contains-cons_cases (map name_in ps) x.name r.name c)
+    ⊎_elim (λ same. h.0 (culprit x.place x.name) (
+      refl,
+      subst (Contains (map name_in seen)) (sym same)
+          (Contains-image name_in seen r listed),
+    ))
+    (λ more. clash_names (seen ++ x ∷ []) ps r (Contains-append_left seen (x ∷ []) r listed) h.1 more)
+    (Contains-cons_cases (map name_in ps) x.name r.name c)
 
 names_differ : (seen ps : List WrittenPart) → Clean DuplicateProtocol (behind seen ps) → AreDistinct (map name_in ps)
 names_differ seen [] h = tt
 names_differ seen (p ∷ ps) h = (clash_names (seen ++ p ∷ []) ps p (Contains-push seen p) h.1, names_differ (seen ++ p ∷ []) ps h.1)
 
 -- the first of several acts before it goes on
-acts_before : (first : WrittenPart) (others : List WrittenPart) → Clean StartsWithDo (first_of_several first others) → (map part_meant others ≢ []) →
+acts_before : (first : WrittenPart) (others : List WrittenPart) → Clean StartsWithDo (first_of_several first others) →
+    (map part_meant others ≢ []) →
     (has_deed first.body ≡ true) × (first_do (spots [] first.body) ≡ None)
 acts_before first [] h n = absurd (n refl)
 acts_before first (p ∷ ps) h n =
@@ -204,18 +234,24 @@ faultless w f written =
     let names : map name_in ps ≡ names_in (local_of w) = sym (ap (map (λ (x : Titled). x.name)) titles ∙ names_meant ps) in
     record {
       written = written;
-      roles_differ = roles_differ w.types w.first.roles (clean_front DuplicateName (with_earlier (map declares w.types ++ map lists w.first.roles)) (listed w.others) (judged-clean a.0));
-      me_listed = is_listed (roles_in w.first) (me_in w.first) (λ unlisted. mentioned.0 (culprit w.first.me.place w.first.me.name) (refl, unlisted));
+      roles_differ = roles_differ w.types w.first.roles
+          (clean_front DuplicateName (with_earlier (map declares w.types ++ map lists w.first.roles)) (listed w.others) (judged-clean a.0));
+      me_listed = is_listed (roles_in w.first) (me_in w.first) (λ unlisted. mentioned.0 (culprit w.first.me.place w.first.me.name)
+          (refl, unlisted));
       roles_listed = subst (λ x. Clean (says.UnknownRole (roles_in w.first)) (all_spots x)) bodies (roles_as_one w.first ps one mentioned);
-      peers_apart = subst (λ x. Clean (says.PeerIsSelf (me_in w.first)) (all_spots x)) bodies (as_one says.PeerIsSelf w.first ps one (judged-clean c.0));
+      peers_apart = subst (λ x. Clean (says.PeerIsSelf (me_in w.first)) (all_spots x)) bodies
+          (as_one says.PeerIsSelf w.first ps one (judged-clean c.0));
       recs_known = subst (λ x. Clean says.UnknownRec (all_spots x)) bodies (judged-clean g.0);
       recs_differ = subst (λ x. Clean says.DuplicateRec (all_spots x)) bodies (judged-clean h.0);
       guarded = subst (λ ts. Clean (Unguarded ts) (spots_of body_in ts)) (sym titles) (judged-clean i.0);
       reachable = subst (λ x. Clean says.Unreachable (all_spots x)) bodies (judged-clean j.0);
       starts = subst (λ x. Clean says.BranchStart (all_spots x)) bodies (judged-clean k.0);
-      uniform = subst (λ x. Clean (says.MixedChoice (me_in w.first)) (all_spots x)) bodies (as_one says.MixedChoice w.first ps one (judged-clean l.0));
-      labels_differ = subst (λ x. Clean (says.SameLabel (me_in w.first)) (all_spots x)) bodies (as_one says.SameLabel w.first ps one (judged-clean m.0));
-      labels_free = subst (λ x. Clean (says.ReservedLabel (me_in w.first)) (all_spots x)) bodies (as_one says.ReservedLabel w.first ps one (judged-clean n.0));
+      uniform = subst (λ x. Clean (says.MixedChoice (me_in w.first)) (all_spots x)) bodies
+          (as_one says.MixedChoice w.first ps one (judged-clean l.0));
+      labels_differ = subst (λ x. Clean (says.SameLabel (me_in w.first)) (all_spots x)) bodies
+          (as_one says.SameLabel w.first ps one (judged-clean m.0));
+      labels_free = subst (λ x. Clean (says.ReservedLabel (me_in w.first)) (all_spots x)) bodies
+          (as_one says.ReservedLabel w.first ps one (judged-clean n.0));
       one_action = subst (λ ts. Clean NameClash (with_earlier (all_actions (λ (x : Titled). me_in w.first) body_in 1 ts))) (sym titles)
           (subst (λ xs. Clean NameClash (with_earlier xs)) (actions_meant w.first 1 ps one) (judged-clean o.0));
       few_states = subst (λ ts. Clean (TooManyStates w.file) (all_states (λ (x : Titled). me_in w.first) body_in ts ∷ [])) (sym titles)

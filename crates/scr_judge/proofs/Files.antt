@@ -1,5 +1,6 @@
 -- What a file answers, from what its protocols answer one after another.
-use Rattle.std.proofs.Common.{◌≡◌, ◌↔◌, ◌⊎◌, ⊎_elim, inl, inr, ℕ, Bool, true, false, ◌&&◌, IsTrue, List, [], ◌∷◌, ◌++◌, map, Contains, Option, Some, None, refl, sym, ap, subst, ◌∙◌, true≢false, append_assoc}
+use Rattle.std.proofs.Common.{◌≡◌, ◌↔◌, ◌⊎◌, ⊎_elim, inl, inr, ℕ, Bool, true, false, ◌&&◌, IsTrue, List, [], ◌∷◌, ◌++◌, map, Contains}
+use Rattle.std.proofs.Common.{Option, Some, None, refl, sym, ap, subst, ◌∙◌, true≢false, append_assoc}
 use Rattle.std.specs.List.{flat_map}
 use Rattle.std.specs.Option.{option_or}
 use Rattle.std.specs.Str.{bytes_eq}
@@ -11,7 +12,8 @@ use Rattle.mg_read.specs.First.{Judged, clean, later, with_earlier}
 use Rattle.mg_read.proofs.Judging.{judged-append, judged-found}
 use Rattle.scr_tree.specs.Actions.{actions, all_actions, next}
 use Rattle.scr_tree.specs.Going.{UnknownProtocol, DuplicateProtocol, heads, gives, told_in, RolesDiffer, NotLast, all_held}
-use Rattle.scr_tree.specs.Listing.{declares, lists, listed, entries, DuplicateName, UnknownType, PayloadCount, declared, carried_by, typed, all_carries}
+use Rattle.scr_tree.specs.Listing.{declares, lists, listed, entries, DuplicateName, UnknownType, PayloadCount, declared, carried_by, typed}
+use Rattle.scr_tree.specs.Listing.{all_carries}
 use Rattle.scr_tree.specs.Spots.{spot, all_spots, Way}
 use Rattle.scr_tree.specs.Tree.{Statements, Nothing, Says, Choice, Rec, Continue, Do}
 use Rattle.scr_tree.specs.View.{statements}
@@ -23,7 +25,8 @@ use Rattle.scr_tree.specs.declared.written.Role.{Role}
 use Rattle.scr_tree.specs.declared.written.Written.{Written}
 use Rattle.scr_tree.specs.declared.written.WrittenPart.{WrittenPart as Part}
 use Rattle.scr_judge.specs.declared.actions.Action.{Action as CodeAction}
-use Rattle.scr_judge.specs.inner.Gone.{part_name, with_names, unknown_in, named_again, same_names, names_of_roles, same_header, arguments_differ, roles_differ, not_last_in_part}
+use Rattle.scr_judge.specs.inner.Gone.{part_name, with_names, unknown_in, named_again, same_names, names_of_roles, same_header}
+use Rattle.scr_judge.specs.inner.Gone.{arguments_differ, roles_differ, not_last_in_part}
 use Rattle.scr_judge.specs.inner.Listed.{ListedTwice, alias_of, first_among, unsupported, undeclared_in, undeclared_by, many, many_by}
 use Rattle.scr_judge.specs.inner.OnSpot.{asks_protocol, unknown_protocol, unless}
 use Rattle.scr_judge.specs.inner.Own as own
@@ -59,12 +62,14 @@ module _ {X C : Type 0} (f : X → Option C) where
 
 -- ---- roles that are listed twice
 
-pub listed_judged : {ps : List Part} {r : Option Culprit} → FirstIn (λ (p : Part). Judged ListedTwice (with_earlier p.roles.items)) ps r → Judged DuplicateName (listed (map part_written ps)) r
+pub listed_judged : {ps : List Part} {r : Option Culprit} → FirstIn (λ (p : Part). Judged ListedTwice (with_earlier p.roles.items)) ps r →
+    Judged DuplicateName (listed (map part_written ps)) r
 listed_judged own.none = clean
 listed_judged (own.here {p = p} {ps = ps} a) = judged-found (listed (map part_written ps)) (listed_alone p.roles.items a)
 listed_judged (own.later {p = p} a more) = judged-append (listed_alone p.roles.items a) (listed_judged more)
 
-module _ (w : Written) (ds : List Declaration) (rs : List Role) (o : Option Culprit) (types : ds ≡ w.types.items) (roles : rs ≡ w.first.roles.items)
+module _ (w : Written) (ds : List Declaration) (rs : List Role) (o : Option Culprit) (types : ds ≡ w.types.items)
+    (roles : rs ≡ w.first.roles.items)
     (j : Judged DuplicateName (with_earlier (map declares ds ++ map lists rs)) o) where
   front : Judged DuplicateName (with_earlier (map declares w.types.items ++ map lists w.first.roles.items)) o
   front = subst (λ (xs : List Role). Judged DuplicateName (with_earlier (map declares w.types.items ++ map lists xs)) o) roles
@@ -75,7 +80,8 @@ module _ (w : Written) (ds : List Declaration) (rs : List Role) (o : Option Culp
       judged-found (listed (map part_written w.others.items))
       (subst (Judged DuplicateName (with_earlier (map declares w.types.items ++ map lists w.first.roles.items))) e front)
 
-  pub duplicate_behind : (ps : List Part) (r : Option Culprit) → o ≡ None → ps ≡ w.others.items → FirstIn (λ (p : Part). Judged ListedTwice (with_earlier p.roles.items)) ps r →
+  pub duplicate_behind : (ps : List Part) (r : Option Culprit) → o ≡ None → ps ≡ w.others.items →
+      FirstIn (λ (p : Part). Judged ListedTwice (with_earlier p.roles.items)) ps r →
       Judged DuplicateName (entries (written_of 0 w)) r
   duplicate_behind ps r e same f =
       judged-append (subst (Judged DuplicateName (with_earlier (map declares w.types.items ++ map lists w.first.roles.items))) e front)
@@ -84,45 +90,59 @@ module _ (w : Written) (ds : List Declaration) (rs : List Role) (o : Option Culp
 -- ---- what messages carry
 
 module _ (f : Kept → Option Culprit) where
-  among_kept : (ps : List Part) → first_among f (flat_map (λ (p : Part). p.carries.items) ps) ≡ first_among (λ (p : Part). first_among f p.carries.items) ps
+  among_kept : (ps : List Part) → first_among f (flat_map (λ (p : Part). p.carries.items) ps)
+      ≡ first_among (λ (p : Part). first_among f p.carries.items) ps
   among_kept [] = refl
   among_kept (p ∷ ps) =
-      among_append f p.carries.items (flat_map (λ (q : Part). q.carries.items) ps) ∙ ap (option_or (first_among f p.carries.items)) (among_kept ps)
+      among_append f p.carries.items (flat_map (λ (q : Part). q.carries.items) ps) ∙ ap (option_or (first_among f p.carries.items))
+      (among_kept ps)
 
-carries_kept : (ps : List Part) → flat_map (λ (p : WrittenPart). p.carries) (map part_written ps) ≡ map carries_of (flat_map (λ (p : Part). p.carries.items) ps)
+carries_kept : (ps : List Part) → flat_map (λ (p : WrittenPart). p.carries) (map part_written ps) ≡ map carries_of
+    (flat_map (λ (p : Part). p.carries.items) ps)
 carries_kept [] = refl
 carries_kept (p ∷ ps) =
-    ap (λ l. map carries_of p.carries.items ++ l) (carries_kept ps) ∙ sym (map-append carries_of p.carries.items (flat_map (λ (q : Part). q.carries.items) ps))
+    ap (λ l. map carries_of p.carries.items ++ l) (carries_kept ps) ∙
+    sym (map-append carries_of p.carries.items (flat_map (λ (q : Part). q.carries.items) ps))
 
-pub file_unknown : (w : Written) (ds : List Declaration) (aliases : Names) → ds ≡ w.types.items → ((q : Name) → IsTrue (aliases q) ↔ Contains (map alias_of ds) q) →
-    None ≡ first_among unsupported ds → (r : Option Culprit) → r ≡ first_among (undeclared_by aliases) (all_parts w) → Judged (UnknownType w.types.items) (typed (written_of 0 w)) r
+pub file_unknown : (w : Written) (ds : List Declaration) (aliases : Names) → ds ≡ w.types.items →
+    ((q : Name) → IsTrue (aliases q) ↔ Contains (map alias_of ds) q) →
+    None ≡ first_among unsupported ds → (r : Option Culprit) → r ≡ first_among (undeclared_by aliases) (all_parts w) →
+    Judged (UnknownType w.types.items) (typed (written_of 0 w)) r
 file_unknown w ds aliases types h fine r e =
-    subst (λ xs. Judged (UnknownType w.types.items) (map declared w.types.items ++ flat_map carried_by xs) r) (sym (carries_kept (all_parts w)))
-    (subst (λ (xs : List Declaration). Judged (UnknownType xs) (map declared xs ++ flat_map carried_by (map carries_of (flat_map (λ (p : Part). p.carries.items) (all_parts w)))) r) types
-    (unknown_type ds (flat_map (λ (p : Part). p.carries.items) (all_parts w)) aliases h r fine (e ∙ sym (among_kept (undeclared_in aliases) (all_parts w)))))
+    subst (λ xs. Judged (UnknownType w.types.items) (map declared w.types.items ++ flat_map carried_by xs) r)
+    (sym (carries_kept (all_parts w)))
+    (subst (λ (xs : List Declaration). Judged (UnknownType xs)
+    (map declared xs ++ flat_map carried_by (map carries_of (flat_map (λ (p : Part). p.carries.items) (all_parts w)))) r) types
+    (unknown_type ds (flat_map (λ (p : Part). p.carries.items) (all_parts w)) aliases h r fine
+    (e ∙ sym (among_kept (undeclared_in aliases) (all_parts w)))))
 
 -- a declaration is at fault
-pub file_unsupported : (w : Written) (ds : List Declaration) (c : Culprit) → ds ≡ w.types.items → Judged (UnknownType ds) (map declared ds) (Some c) →
+pub file_unsupported : (w : Written) (ds : List Declaration) (c : Culprit) → ds ≡ w.types.items → Judged (UnknownType ds) (map declared ds)
+    (Some c) →
     Judged (UnknownType w.types.items) (typed (written_of 0 w)) (Some c)
 file_unsupported w ds c types j =
     judged-found (flat_map carried_by (all_carries (written_of 0 w)))
     (subst (λ (xs : List Declaration). Judged (UnknownType xs) (map declared xs) (Some c)) types j)
 
-pub file_many : (w : Written) (r : Option Culprit) → r ≡ first_among many_by (all_parts w) → Judged PayloadCount (all_carries (written_of 0 w)) r
+pub file_many : (w : Written) (r : Option Culprit) → r ≡ first_among many_by (all_parts w) →
+    Judged PayloadCount (all_carries (written_of 0 w)) r
 file_many w r e =
     subst (λ xs. Judged PayloadCount xs r) (sym (carries_kept (all_parts w)))
-    (subst (Judged PayloadCount (map carries_of (flat_map (λ (p : Part). p.carries.items) (all_parts w)))) (sym (e ∙ sym (among_kept many (all_parts w))))
+    (subst (Judged PayloadCount (map carries_of (flat_map (λ (p : Part). p.carries.items) (all_parts w))))
+    (sym (e ∙ sym (among_kept many (all_parts w))))
     (payload_count (flat_map (λ (p : Part). p.carries.items) (all_parts w))))
 
 -- ---- protocols by their names
 
-protocol_answers : (names : List Name) (has : Names) → HasNames has names → (way : Way) (ss : Statements) → Answers (UnknownProtocol names (spot way ss)) (unknown_protocol has ss)
+protocol_answers : (names : List Name) (has : Names) → HasNames has names → (way : Way) (ss : Statements) →
+    Answers (UnknownProtocol names (spot way ss)) (unknown_protocol has ss)
 protocol_answers names has h way Nothing = λ c x. x
 protocol_answers names has h way (Says m rest) = λ c x. x
 protocol_answers names has h way (Choice p at bs rest) = λ c x. x
 protocol_answers names has h way (Rec p name body rest) = λ c x. x
 protocol_answers names has h way (Continue p name rest) = λ c x. x
-protocol_answers names has h way (Do p name rest) = unless_right (Contains names name) (has name) (culprit p name) (h.each name).0 (h.each name).1
+protocol_answers names has h way (Do p name rest) = unless_right (Contains names name) (has name) (culprit p name) (h.each name).0
+    (h.each name).1
 
 protocol_right : (names : List Name) (has : Names) → HasNames has names → AsksRight (UnknownProtocol names) (asks_protocol has)
 protocol_right names has h = record { asks = λ around way ss a. protocol_answers names has h way ss }
@@ -131,28 +151,35 @@ names_told : (ps : List Part) → map part_name ps ≡ map name_in (map part_wri
 names_told [] = refl
 names_told (p ∷ ps) = ap (λ (l : List Name). p.name ∷ l) (names_told ps)
 
-file_names : (w : Written) (has : Names) → has ≡ with_names (map part_name (all_parts w)) none → HasNames has (map name_in (parts_in (written_of 0 w)))
+file_names : (w : Written) (has : Names) → has ≡ with_names (map part_name (all_parts w)) none →
+    HasNames has (map name_in (parts_in (written_of 0 w)))
 file_names w has e =
     subst (λ h. HasNames h (map name_in (parts_in (written_of 0 w)))) (sym e)
-    (subst (HasNames (with_names (map part_name (all_parts w)) none)) (names_told (all_parts w)) (has_all none [] (map part_name (all_parts w)) (has_none none refl)))
+    (subst (HasNames (with_names (map part_name (all_parts w)) none)) (names_told (all_parts w))
+    (has_all none [] (map part_name (all_parts w)) (has_none none refl)))
 
-unknown_all : (names : List Name) (has : Names) → HasNames has names → (ps : List Part) → Judged (UnknownProtocol names) (all_spots (map body_of (map part_written ps))) (first_among (unknown_in has) ps)
+unknown_all : (names : List Name) (has : Names) → HasNames has names → (ps : List Part) →
+    Judged (UnknownProtocol names) (all_spots (map body_of (map part_written ps))) (first_among (unknown_in has) ps)
 unknown_all names has h [] = clean
 unknown_all names has h (p ∷ ps) =
-    judged-append (first_asked (UnknownProtocol names) (asks_protocol has) (protocol_right names has h) (statements p.body.items) _ refl) (unknown_all names has h ps)
+    judged-append (first_asked (UnknownProtocol names) (asks_protocol has) (protocol_right names has h) (statements p.body.items) _ refl)
+    (unknown_all names has h ps)
 
-pub file_going : (w : Written) (has : Names) → has ≡ with_names (map part_name (all_parts w)) none → (r : Option Culprit) → r ≡ first_among (unknown_in has) (all_parts w) →
+pub file_going : (w : Written) (has : Names) → has ≡ with_names (map part_name (all_parts w)) none → (r : Option Culprit) →
+    r ≡ first_among (unknown_in has) (all_parts w) →
     Judged (UnknownProtocol (map name_in (parts_in (written_of 0 w)))) (all_spots (map body_of (parts_in (written_of 0 w)))) r
 file_going w has e r f =
     subst (Judged (UnknownProtocol (map name_in (parts_in (written_of 0 w)))) (all_spots (map body_of (parts_in (written_of 0 w))))) (sym f)
     (unknown_all (map name_in (parts_in (written_of 0 w))) has (file_names w has e) (all_parts w))
 
-pub file_again : (w : Written) (has : Names) → has ≡ with_name w.first.name none → (r : Option Culprit) → r ≡ named_again has w.others.items →
+pub file_again : (w : Written) (has : Names) → has ≡ with_name w.first.name none → (r : Option Culprit) → r ≡ named_again has w.others.items
+    →
     Judged DuplicateProtocol (with_earlier (parts_in (written_of 0 w))) r
 file_again w has e r f =
     later (λ c x. Contains-nil w.first.name x.1)
     (subst (Judged DuplicateProtocol _) (sym f)
-    (again_exact (part_written w.first ∷ []) has w.others.items (subst (λ h. HasNames h (w.first.name ∷ [])) (sym e) (one_more none [] w.first.name (has_none none refl)))))
+    (again_exact (part_written w.first ∷ []) has w.others.items (subst (λ h. HasNames h (w.first.name ∷ [])) (sym e)
+    (one_more none [] w.first.name (has_none none refl)))))
 
 -- ---- roles
 
@@ -191,28 +218,37 @@ module _ (first : Part) where
   abbrev wanted : List Name
   wanted = names_of_roles first
 
-  header_row : (p : Part) → Answers (RolesDiffer (part_written first) (heads (part_written p))) (unless (same_header first p) (culprit p.place p.name))
+  header_row : (p : Part) → Answers (RolesDiffer (part_written first) (heads (part_written p)))
+      (unless (same_header first p) (culprit p.place p.name))
   header_row p =
-      differ (names_of_roles p ≡ wanted) (p.me.name ≡ first.me.name) (same_names (names_of_roles p) wanted) (bytes_eq p.me.name first.me.name) (culprit p.place p.name)
-      (names_to (names_of_roles p) wanted) (names_same (names_of_roles p) wanted) (bytes_eq-Decides p.me.name first.me.name).0 (bytes_eq-Decides p.me.name first.me.name).1
+      differ (names_of_roles p ≡ wanted) (p.me.name ≡ first.me.name) (same_names (names_of_roles p) wanted)
+      (bytes_eq p.me.name first.me.name) (culprit p.place p.name)
+      (names_to (names_of_roles p) wanted) (names_same (names_of_roles p) wanted) (bytes_eq-Decides p.me.name first.me.name).0
+      (bytes_eq-Decides p.me.name first.me.name).1
 
   given_row : (a : Given) → Answers (RolesDiffer (part_written first) (gives (arguments_of a))) (arguments_differ first a)
-  given_row a = unless_right (a.roles.items ≡ wanted) (same_names a.roles.items wanted) (culprit a.place a.name) (names_to a.roles.items wanted) (names_same a.roles.items wanted)
+  given_row a = unless_right (a.roles.items ≡ wanted) (same_names a.roles.items wanted) (culprit a.place a.name)
+      (names_to a.roles.items wanted) (names_same a.roles.items wanted)
 
-  given_rows : (xs : List Given) → Judged (RolesDiffer (part_written first)) (map gives (map arguments_of xs)) (first_among (arguments_differ first) xs)
+  given_rows : (xs : List Given) → Judged (RolesDiffer (part_written first)) (map gives (map arguments_of xs))
+      (first_among (arguments_differ first) xs)
   given_rows [] = clean
-  given_rows (a ∷ xs) = row (RolesDiffer (part_written first)) (gives (arguments_of a)) _ (arguments_differ first a) _ (given_row a) (given_rows xs)
+  given_rows (a ∷ xs) = row (RolesDiffer (part_written first)) (gives (arguments_of a)) _ (arguments_differ first a) _ (given_row a)
+      (given_rows xs)
 
   told_part : (p : Part) → Judged (RolesDiffer (part_written first)) (told_in (part_written p)) (roles_differ first p)
-  told_part p = row (RolesDiffer (part_written first)) (heads (part_written p)) _ (unless (same_header first p) (culprit p.place p.name)) _ (header_row p) (given_rows p.arguments.items)
+  told_part p = row (RolesDiffer (part_written first)) (heads (part_written p)) _ (unless (same_header first p) (culprit p.place p.name)) _
+      (header_row p) (given_rows p.arguments.items)
 
-  told_all : (ps : List Part) → Judged (RolesDiffer (part_written first)) (flat_map told_in (map part_written ps)) (first_among (roles_differ first) ps)
+  told_all : (ps : List Part) → Judged (RolesDiffer (part_written first)) (flat_map told_in (map part_written ps))
+      (first_among (roles_differ first) ps)
   told_all [] = clean
   told_all (p ∷ ps) = judged-append (told_part p) (told_all ps)
 
 pub file_roles : (w : Written) (r : Option Culprit) → r ≡ first_among (roles_differ w.first) (all_parts w) →
     Judged (RolesDiffer (part_written w.first)) (flat_map told_in (parts_in (written_of 0 w))) r
-file_roles w r e = subst (Judged (RolesDiffer (part_written w.first)) (flat_map told_in (parts_in (written_of 0 w)))) (sym e) (told_all w.first (all_parts w))
+file_roles w r e = subst (Judged (RolesDiffer (part_written w.first)) (flat_map told_in (parts_in (written_of 0 w)))) (sym e)
+    (told_all w.first (all_parts w))
 
 -- ---- what stands behind
 
@@ -220,16 +256,20 @@ held_all : (ps : List Part) → Judged NotLast (all_held (map body_of (map part_
 held_all [] = clean
 held_all (p ∷ ps) = judged-append (last_exact false (statements p.body.items)) (held_all ps)
 
-pub file_last : (w : Written) (r : Option Culprit) → r ≡ first_among not_last_in_part (all_parts w) → Judged NotLast (all_held (map body_of (parts_in (written_of 0 w)))) r
+pub file_last : (w : Written) (r : Option Culprit) → r ≡ first_among not_last_in_part (all_parts w) →
+    Judged NotLast (all_held (map body_of (parts_in (written_of 0 w)))) r
 file_last w r e = subst (Judged NotLast (all_held (map body_of (parts_in (written_of 0 w))))) (sym e) (held_all (all_parts w))
 
 -- ---- clashes
 
 module _ (w : Written) (front behind old : List CodeAction) (n : ℕ) where
-  pub all_texts : old ≡ [] → map act front ≡ map act old ++ actions w.first.me.name 1 (statements w.first.body.items) → n ≡ next w.first.me.name 1 (statements w.first.body.items) →
+  pub all_texts : old ≡ [] → map act front ≡ map act old ++ actions w.first.me.name 1 (statements w.first.body.items) →
+      n ≡ next w.first.me.name 1 (statements w.first.body.items) →
       map act behind ≡ map act front ++ all_actions me_in body_of n (map part_written w.others.items) →
       map act behind ≡ map act old ++ all_actions me_in body_of 1 (parts_in (written_of 0 w))
   all_texts empty first number rest =
       rest ∙ ap (λ l. l ++ all_actions me_in body_of n (map part_written w.others.items)) first
-      ∙ append_assoc (map act old) (actions w.first.me.name 1 (statements w.first.body.items)) (all_actions me_in body_of n (map part_written w.others.items))
-      ∙ ap (λ k. map act old ++ (actions w.first.me.name 1 (statements w.first.body.items) ++ all_actions me_in body_of k (map part_written w.others.items))) number
+      ∙ append_assoc (map act old) (actions w.first.me.name 1 (statements w.first.body.items))
+      (all_actions me_in body_of n (map part_written w.others.items))
+      ∙ ap (λ k. map act old ++ (actions w.first.me.name 1 (statements w.first.body.items) ++ all_actions me_in body_of k
+      (map part_written w.others.items))) number

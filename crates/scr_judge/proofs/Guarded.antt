@@ -1,5 +1,6 @@
 -- The protocols of a file are guarded, one after another.
-use Rattle.std.proofs.Common.{◌≡◌, ◌↔◌, ℕ, Bool, true, false, true≢false, IsTrue, List, [], map, Contains, Option, Some, None, position, refl, sym, subst, ◌∙◌}
+use Rattle.std.proofs.Common.{◌≡◌, ◌↔◌, ℕ, Bool, true, false, true≢false, IsTrue, List, [], map, Contains, Option, Some, None, position}
+use Rattle.std.proofs.Common.{refl, sym, subst, ◌∙◌}
 use Rattle.std.specs.Str.{bytes_eq}
 use Rattle.mg_text.specs.Call.{Name}
 use Rattle.mg_read.specs.Culprit.{Culprit}
@@ -42,13 +43,16 @@ module _ (all : List Titled) (t : Titled) where
   at_from (spot way (Do p name rest)) c a = a
 
 -- one protocol
-pub part_guarded : (ps : List Part) (p : Part) (goal : Option Name) (r : Option Culprit) → FirstIn (FoundBad (λ n. Leads (titles ps) n p.name)) (gone true (statements p.body.items)) goal →
+pub part_guarded : (ps : List Part) (p : Part) (goal : Option Name) (r : Option Culprit) →
+    FirstIn (FoundBad (λ n. Leads (titles ps) n p.name)) (gone true (statements p.body.items)) goal →
     r ≡ unguarded [] goal (statements p.body.items) → IsGuarded ps p r
 part_guarded ps p goal r f e =
-    judged-same (at_to (titles ps) (title_of (part_written p))) (at_from (titles ps) (title_of (part_written p))) (first_sought (λ n. Leads (titles ps) n p.name) (statements p.body.items) goal r f e)
+    judged-same (at_to (titles ps) (title_of (part_written p))) (at_from (titles ps) (title_of (part_written p)))
+    (first_sought (λ n. Leads (titles ps) n p.name) (statements p.body.items) goal r f e)
 
 -- all of them
-all_guarded : (ps : List Part) (r : Option Culprit) → FirstIn (IsGuarded ps) ps r → Judged (Unguarded (titles ps)) (spots_of body_in (titles ps)) r
+all_guarded : (ps : List Part) (r : Option Culprit) → FirstIn (IsGuarded ps) ps r →
+    Judged (Unguarded (titles ps)) (spots_of body_in (titles ps)) r
 all_guarded ps r f =
     each_judged (λ (t : Titled) (s : Spot) (c : Culprit). Unguarded (titles ps) (t, s) c) (λ (t : Titled). spots [] (body_in t))
     (first_map (λ (t : Titled) (o : Option Culprit). Judged (λ s c. Unguarded (titles ps) (t, s) c) (spots [] (body_in t)) o) title_of
@@ -58,7 +62,8 @@ pub guarded_here : (w : Written) (c : Culprit) → IsGuarded (all_parts w) w.fir
     Judged (Unguarded (map title_of (parts_in (written_of 0 w)))) (spots_of body_in (map title_of (parts_in (written_of 0 w)))) (Some c)
 guarded_here w c a = all_guarded (all_parts w) (Some c) (own.here a)
 
-pub guarded_behind : (w : Written) (r : Option Culprit) → IsGuarded (all_parts w) w.first None → FirstIn (IsGuarded (all_parts w)) w.others.items r →
+pub guarded_behind : (w : Written) (r : Option Culprit) → IsGuarded (all_parts w) w.first None →
+    FirstIn (IsGuarded (all_parts w)) w.others.items r →
     Judged (Unguarded (map title_of (parts_in (written_of 0 w)))) (spots_of body_in (map title_of (parts_in (written_of 0 w)))) r
 guarded_behind w r a f = all_guarded (all_parts w) r (own.later a f)
 
@@ -72,11 +77,14 @@ module _ (ps : List Part) (r : Round) (h : IsRound ps r) where
   pub part_numbered : (p : Part) → Contains ps p → position (bytes_eq p.name) r.names ≡ None → ⊥
   part_numbered p c none = let number = has_number r.names p.name (known p c) in let both : Some number.0 ≡ None = sym number.1 ∙ none in cc
 
-  pub back_by : (from to : Name) (v w : ℕ) (b : Bool) → position (bytes_eq from) r.names ≡ Some v → position (bytes_eq to) r.names ≡ Some w →
-      ((IsTrue r.falls → Falls (graph_of r.targets.items) r.ranks.items) → IsTrue b ↔ Reaches (graph_of r.targets.items) v w) → IsTrue b ↔ Leads (titles ps) from to
+  pub back_by : (from to : Name) (v w : ℕ) (b : Bool) → position (bytes_eq from) r.names ≡ Some v → position (bytes_eq to) r.names ≡ Some w
+      →
+      ((IsTrue r.falls → Falls (graph_of r.targets.items) r.ranks.items) → IsTrue b ↔ Reaches (graph_of r.targets.items) v w) →
+      IsTrue b ↔ Leads (titles ps) from to
   back_by from to v w b e f x = leads_by ps r.names known from to v w e f b (subst (λ g. IsTrue b ↔ Reaches g v w) h.graph (x h.falls))
 
-  pub back_none : (from to : Name) (w : ℕ) → position (bytes_eq from) r.names ≡ None → position (bytes_eq to) r.names ≡ Some w → IsTrue false ↔ Leads (titles ps) from to
+  pub back_none : (from to : Name) (w : ℕ) → position (bytes_eq from) r.names ≡ None → position (bytes_eq to) r.names ≡ Some w →
+      IsTrue false ↔ Leads (titles ps) from to
   back_none from to w e f = leads_nowhere ps r.names known from to w e f
 
 -- ---- the first name that leads back

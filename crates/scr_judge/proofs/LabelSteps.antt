@@ -17,16 +17,20 @@ use Rattle.scr_tree.specs.View.{bodies}
 use Rattle.scr_judge.proofs.Walks.{or_none}
 use Rattle.scr_tree.proofs.Behind.{each_front, statements-step, statements-past, bodies-step, bodies-past}
 
-pub same-front : (me : Name) (s : Statement) (rest : Statements) → same me (front s rest) ≡ option_or (same me (front s Nothing)) (same me rest)
+pub same-front : (me : Name) (s : Statement) (rest : Statements) → same me (front s rest) ≡ option_or (same me (front s Nothing))
+    (same me rest)
 same-front me s rest =
     each_front (λ f. same me (f rest) ≡ option_or (same me (f Nothing)) (same me rest)) (λ m. refl)
-    (λ p at bs. ap (λ o. option_or o (same me rest)) (or_none (same_in me at none bs))) (λ p name body. ap (λ o. option_or o (same me rest)) (or_none (same me body))) (λ p name. refl) (λ p name. refl) s
+    (λ p at bs. ap (λ o. option_or o (same me rest)) (or_none (same_in me at none bs))) (λ p name body. ap (λ o. option_or o (same me rest))
+    (or_none (same me body))) (λ p name. refl) (λ p name. refl) s
 
 -- a statement alone
-pub same-Choice : (p : _) (at : Name) (bs : Row (Row Statement)) (me : Name) → same me (front (kinds.Choice p at bs) Nothing) ≡ same_in me at none (bodies bs.items)
+pub same-Choice : (p : _) (at : Name) (bs : Row (Row Statement)) (me : Name) → same me (front (kinds.Choice p at bs) Nothing)
+    ≡ same_in me at none (bodies bs.items)
 same-Choice p at bs me = ap (λ f. same me (f Nothing)) (front-Choice p at bs) ∙ sym (or_none _)
 
-pub same-Rec : (p : _) (name : Name) (body : Row Statement) (me : Name) → same me (front (kinds.Rec p name body) Nothing) ≡ same me (statements body.items)
+pub same-Rec : (p : _) (name : Name) (body : Row Statement) (me : Name) → same me (front (kinds.Rec p name body) Nothing)
+    ≡ same me (statements body.items)
 same-Rec p name body me = ap (λ f. same me (f Nothing)) (front-Rec p name body) ∙ sym (or_none _)
 
 -- the step of a walk over statements
@@ -34,11 +38,13 @@ pub same-step : (me : Name) (ss : List Statement) (i : ℕ) (x : Statement) → 
     same me (statements (drop i ss)) ≡ option_or (same me (front x Nothing)) (same me (statements (drop (i + 1) ss)))
 same-step me ss i x within is = ap (same me) (statements-step ss i x within is) ∙ same-front me x _
 
-pub same_later : (me : Name) (ss : List Statement) (i : ℕ) (x : Statement) → i < length ss → x ≡ get_or ss i x → None ≡ same me (front x Nothing) →
+pub same_later : (me : Name) (ss : List Statement) (i : ℕ) (x : Statement) → i < length ss → x ≡ get_or ss i x →
+    None ≡ same me (front x Nothing) →
     same me (statements (drop i ss)) ≡ same me (statements (drop (i + 1) ss))
 same_later me ss i x within is e = same-step me ss i x within is ∙ ap (λ o. option_or o (same me (statements (drop (i + 1) ss)))) (sym e)
 
-pub same_here : (me : Name) (ss : List Statement) (i : ℕ) (x : Statement) (c : Culprit) → i < length ss → x ≡ get_or ss i x → Some c ≡ same me (front x Nothing) →
+pub same_here : (me : Name) (ss : List Statement) (i : ℕ) (x : Statement) (c : Culprit) → i < length ss → x ≡ get_or ss i x →
+    Some c ≡ same me (front x Nothing) →
     same me (statements (drop i ss)) ≡ Some c
 same_here me ss i x c within is e = same-step me ss i x within is ∙ ap (λ o. option_or o (same me (statements (drop (i + 1) ss)))) (sym e)
 
@@ -60,12 +66,16 @@ key-is me at has (Continue p n rest) = refl
 key-is me at has (Do p n rest) = refl
 
 -- the step of a walk over branches
-pub same_in-step : (me at : Name) (has : Names) (bs : List (Row Statement)) (i : ℕ) (x : Row Statement) → i < length bs → x ≡ get_or bs i x →
+pub same_in-step : (me at : Name) (has : Names) (bs : List (Row Statement)) (i : ℕ) (x : Row Statement) → i < length bs → x ≡ get_or bs i x
+    →
     same_in me at has (bodies (drop i bs)) ≡
-    option_or (head_of me at has (first_said (statements x.items))) (option_or (same me (statements x.items)) (same_in me at (with_key me at has (first_said (statements x.items))) (bodies (drop (i + 1) bs))))
+    option_or (head_of me at has (first_said (statements x.items)))
+    (option_or (same me (statements x.items)) (same_in me at (with_key me at has (first_said (statements x.items)))
+    (bodies (drop (i + 1) bs))))
 same_in-step me at has bs i x within is =
     ap (same_in me at has) (bodies-step bs i x within is)
-    ∙ (λ j. option_or (head-is me at has (statements x.items) j) (option_or (same me (statements x.items)) (same_in me at (key-is me at has (statements x.items) j) (bodies (drop (i + 1) bs)))))
+    ∙ (λ j. option_or (head-is me at has (statements x.items) j)
+    (option_or (same me (statements x.items)) (same_in me at (key-is me at has (statements x.items) j) (bodies (drop (i + 1) bs)))))
 
 pub said-Message : (m : Message) (rest : Statements) → first_said (front (kinds.Message m) rest) ≡ Some m
 said-Message m rest = ap (λ f. first_said (f rest)) (front-Message m)

@@ -1,5 +1,6 @@
 -- A `do` behind whose choice or rec a statement stands.
-use Rattle.std.proofs.Common.{◌≡◌, ℕ, suc, ◌+◌, ◌-◌, ◌<◌, nat_lt, Bool, true, false, ◌||◌, if◌then◌else◌, List, [], ◌∷◌, length, get_or, drop, Option, Some, None, refl, sym, ap, ◌∙◌, true≢false, arith}
+use Rattle.std.proofs.Common.{◌≡◌, ℕ, suc, ◌+◌, ◌-◌, ◌<◌, nat_lt, Bool, true, false, ◌||◌, if◌then◌else◌, List, [], ◌∷◌, length, get_or}
+use Rattle.std.proofs.Common.{drop, Option, Some, None, refl, sym, ap, ◌∙◌, true≢false, arith}
 use Rattle.std.specs.Option.{option_or}
 use Rattle.std.proofs.lemmas.List.{length-drop}
 use Rattle.std.proofs.lemmas.Bool.Decides.{nat_tests}
@@ -29,8 +30,10 @@ mutual
   pub last_exact : (followed : Bool) (ss : Statements) → Judged NotLast (held followed ss) (not_last followed ss)
   last_exact followed Nothing = clean
   last_exact followed (Says m rest) = last_exact followed rest
-  last_exact followed (Choice p at bs rest) = judged-append (last_exact_in (followed || is_some_statement rest) bs) (last_exact followed rest)
-  last_exact followed (Rec p name body rest) = judged-append (last_exact (followed || is_some_statement rest) body) (last_exact followed rest)
+  last_exact followed (Choice p at bs rest) = judged-append (last_exact_in (followed || is_some_statement rest) bs)
+      (last_exact followed rest)
+  last_exact followed (Rec p name body rest) = judged-append (last_exact (followed || is_some_statement rest) body)
+      (last_exact followed rest)
   last_exact followed (Continue p name rest) = last_exact followed rest
   last_exact followed (Do p name rest) = one_do followed p name (held followed rest) (not_last followed rest) (last_exact followed rest)
 
@@ -47,8 +50,10 @@ found_or false c r = refl
 last-front : (followed : Bool) (s : Statement) (rest : Statements) →
     not_last followed (front s rest) ≡ option_or (not_last_at followed (is_some_statement rest) (front s Nothing)) (not_last followed rest)
 last-front followed s rest =
-    each_front (λ f. not_last followed (f rest) ≡ option_or (not_last_at followed (is_some_statement rest) (f Nothing)) (not_last followed rest))
-    (λ m. refl) (λ p at bs. refl) (λ p name body. refl) (λ p name. refl) (λ p name. found_or followed (culprit p name) (not_last followed rest)) s
+    each_front (λ f. not_last followed (f rest) ≡ option_or (not_last_at followed (is_some_statement rest) (f Nothing))
+    (not_last followed rest))
+    (λ m. refl) (λ p at bs. refl) (λ p name body. refl) (λ p name. refl)
+    (λ p name. found_or followed (culprit p name) (not_last followed rest)) s
 
 positive : (n : ℕ) → true ≡ nat_lt 0 (suc n)
 positive n = grind (arith, nat_tests)
@@ -56,7 +61,8 @@ positive n = grind (arith, nat_tests)
 some_of : (ss : List Statement) → is_some_statement (statements ss) ≡ nat_lt 0 (length ss)
 some_of [] = refl
 some_of (s ∷ ss) =
-    each_front (λ f. is_some_statement (f (statements ss)) ≡ nat_lt 0 (length (s ∷ ss))) (λ m. positive (length ss)) (λ p at bs. positive (length ss)) (λ p name body. positive (length ss))
+    each_front (λ f. is_some_statement (f (statements ss)) ≡ nat_lt 0 (length (s ∷ ss))) (λ m. positive (length ss))
+    (λ p at bs. positive (length ss)) (λ p name body. positive (length ss))
     (λ p name. positive (length ss)) (λ p name. positive (length ss)) s
 
 more_left : (n i : ℕ) → nat_lt 0 (n - (i + 1)) ≡ nat_lt (i + 1) n
@@ -65,13 +71,17 @@ more_left n i = grind (arith, nat_tests)
 some_behind : (ss : List Statement) (i : ℕ) → is_some_statement (statements (drop (i + 1) ss)) ≡ nat_lt (i + 1) (length ss)
 some_behind ss i = some_of (drop (i + 1) ss) ∙ ap (nat_lt 0) (length-drop (i + 1) ss) ∙ more_left (length ss) i
 
-module _ (followed : Bool) (ss : List Statement) (i : ℕ) (x : Statement) (within : i < length ss) (is : x ≡ get_or ss i x) (more : Bool) (e : more ≡ nat_lt (i + 1) (length ss)) where
-  step : not_last followed (statements (drop i ss)) ≡ option_or (not_last_at followed more (front x Nothing)) (not_last followed (statements (drop (i + 1) ss)))
+module _ (followed : Bool) (ss : List Statement) (i : ℕ) (x : Statement) (within : i < length ss) (is : x ≡ get_or ss i x) (more : Bool)
+    (e : more ≡ nat_lt (i + 1) (length ss)) where
+  step : not_last followed (statements (drop i ss)) ≡ option_or (not_last_at followed more (front x Nothing))
+      (not_last followed (statements (drop (i + 1) ss)))
   step =
       ap (not_last followed) (statements-step ss i x within is) ∙ last-front followed x (statements (drop (i + 1) ss))
-      ∙ ap (λ b. option_or (not_last_at followed b (front x Nothing)) (not_last followed (statements (drop (i + 1) ss)))) (some_behind ss i ∙ sym e)
+      ∙ ap (λ b. option_or (not_last_at followed b (front x Nothing)) (not_last followed (statements (drop (i + 1) ss))))
+      (some_behind ss i ∙ sym e)
 
-  pub last_later : None ≡ not_last_at followed more (front x Nothing) → not_last followed (statements (drop i ss)) ≡ not_last followed (statements (drop (i + 1) ss))
+  pub last_later : None ≡ not_last_at followed more (front x Nothing) → not_last followed (statements (drop i ss)) ≡ not_last followed
+      (statements (drop (i + 1) ss))
   last_later n = step ∙ ap (λ o. option_or o (not_last followed (statements (drop (i + 1) ss)))) (sym n)
 
   pub last_here : (c : Culprit) → Some c ≡ not_last_at followed more (front x Nothing) → not_last followed (statements (drop i ss)) ≡ Some c
@@ -79,10 +89,12 @@ module _ (followed : Bool) (ss : List Statement) (i : ℕ) (x : Statement) (with
 
 -- ---- a statement alone
 
-pub last-Choice : (followed more : Bool) (p : _) (at : Name) (bs : Row (Row Statement)) → not_last_at followed more (front (kinds.Choice p at bs) Nothing) ≡ not_last_in (followed || more) (bodies bs.items)
+pub last-Choice : (followed more : Bool) (p : _) (at : Name) (bs : Row (Row Statement)) →
+    not_last_at followed more (front (kinds.Choice p at bs) Nothing) ≡ not_last_in (followed || more) (bodies bs.items)
 last-Choice followed more p at bs = ap (λ f. not_last_at followed more (f Nothing)) (front-Choice p at bs)
 
-pub last-Rec : (followed more : Bool) (p : _) (name : Name) (body : Row Statement) → not_last_at followed more (front (kinds.Rec p name body) Nothing) ≡ not_last (followed || more) (statements body.items)
+pub last-Rec : (followed more : Bool) (p : _) (name : Name) (body : Row Statement) →
+    not_last_at followed more (front (kinds.Rec p name body) Nothing) ≡ not_last (followed || more) (statements body.items)
 last-Rec followed more p name body = ap (λ f. not_last_at followed more (f Nothing)) (front-Rec p name body)
 
 pub ruleset alone = (common_steps, last-Choice, last-Rec, front-Message, front-Continue, front-Do)

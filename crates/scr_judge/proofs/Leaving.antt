@@ -1,5 +1,6 @@
 -- The `do`s to which control can come with no message, of a statement alone, and behind it.
-use Rattle.std.proofs.Common.{◌≡◌, ℕ, ◌+◌, ◌<◌, length, get_or, drop, Bool, true, false, ◌&&◌, ◌||◌, if◌then◌else◌, List, [], ◌∷◌, ◌++◌, refl, sym, ap, ◌∙◌, append_assoc}
+use Rattle.std.proofs.Common.{◌≡◌, ℕ, ◌+◌, ◌<◌, length, get_or, drop, Bool, true, false, ◌&&◌, ◌||◌, if◌then◌else◌, List, [], ◌∷◌, ◌++◌}
+use Rattle.std.proofs.Common.{refl, sym, ap, ◌∙◌, append_assoc}
 use Rattle.std.proofs.lemmas.List.{append-nil}
 use Rattle.std.proofs.lemmas.Grind.{common_steps}
 use Rattle.mg_text.specs.Call.{Name}
@@ -36,7 +37,8 @@ mutual
   none_gone_in (Branch b more) = both_none (none_gone b) (none_gone_in more)
 
 -- a statement, and those behind it
-gone-front : (at_once : Bool) (s : Statement) (rest : Statements) → gone at_once (front s rest) ≡ gone at_once (front s Nothing) ++ gone (passes (front s Nothing) && at_once) rest
+gone-front : (at_once : Bool) (s : Statement) (rest : Statements) → gone at_once (front s rest) ≡ gone at_once (front s Nothing)
+    ++ gone (passes (front s Nothing) && at_once) rest
 gone-front at_once s rest =
     each_front (λ f. gone at_once (f rest) ≡ gone at_once (f Nothing) ++ gone (passes (f Nothing) && at_once) rest) (λ m. refl)
     (λ p at bs i. sym (append-nil (gone_in at_once bs)) i ++ gone (and_true (some_passes bs) i && at_once) rest)
@@ -50,24 +52,40 @@ and-swap true false at_once = refl
 and-swap false true at_once = refl
 and-swap false false at_once = refl
 
-module _ (at_once : Bool) (ss : List Statement) (i : ℕ) (x : Statement) (within : i < length ss) (is : x ≡ get_or ss i x) (quiet p : Bool) where
+module _ (at_once : Bool) (ss : List Statement) (i : ℕ) (x : Statement) (within : i < length ss) (is : x ≡ get_or ss i x)
+    (quiet p : Bool) where
   pub gone_step : p ≡ passes (front x Nothing) →
-      gone (quiet && at_once) (statements (drop i ss)) ≡ gone (quiet && at_once) (front x Nothing) ++ gone ((quiet && p) && at_once) (statements (drop (i + 1) ss))
+      gone (quiet && at_once) (statements (drop i ss)) ≡ gone (quiet && at_once) (front x Nothing) ++ gone ((quiet && p) && at_once)
+      (statements (drop (i + 1) ss))
   gone_step e =
       ap (gone (quiet && at_once)) (statements-step ss i x within is) ∙ gone-front (quiet && at_once) x (statements (drop (i + 1) ss))
-      ∙ ap (λ b. gone (quiet && at_once) (front x Nothing) ++ gone b (statements (drop (i + 1) ss))) (ap (λ b. b && (quiet && at_once)) (sym e) ∙ and-swap p quiet at_once)
+      ∙ ap (λ b. gone (quiet && at_once) (front x Nothing) ++ gone b (statements (drop (i + 1) ss)))
+      (ap (λ b. b && (quiet && at_once)) (sym e) ∙ and-swap p quiet at_once)
 
 -- a statement alone
-pub gone-Choice : (at_once : Bool) (p : _) (at : Name) (bs : Row (Row Statement)) → gone at_once (front (kinds.Choice p at bs) Nothing) ≡ gone_in at_once (bodies bs.items)
+pub gone-Choice : (at_once : Bool) (p : _) (at : Name) (bs : Row (Row Statement)) → gone at_once (front (kinds.Choice p at bs) Nothing)
+    ≡ gone_in at_once (bodies bs.items)
 gone-Choice at_once p at bs = ap (λ f. gone at_once (f Nothing)) (front-Choice p at bs) ∙ append-nil _
 
-pub gone-Rec : (at_once : Bool) (p : _) (name : Name) (body : Row Statement) → gone at_once (front (kinds.Rec p name body) Nothing) ≡ gone at_once (statements body.items)
+pub gone-Rec : (at_once : Bool) (p : _) (name : Name) (body : Row Statement) → gone at_once (front (kinds.Rec p name body) Nothing)
+    ≡ gone at_once (statements body.items)
 gone-Rec at_once p name body = ap (λ f. gone at_once (f Nothing)) (front-Rec p name body) ∙ append-nil _
 
 pub gone-Do : (at_once : Bool) (p : _) (name : Name) → gone at_once (front (kinds.Do p name) Nothing) ≡ (if at_once then name ∷ [] else [])
 gone-Do at_once p name = ap (λ f. gone at_once (f Nothing)) (front-Do p name) ∙ append-nil _
 
-pub ruleset alone = (common_steps, gone-Choice, gone-Rec, gone-Do, passes-Choice, passes-Rec, front-Message, front-Continue, front-Do, append-nil)
+pub ruleset alone = (
+  common_steps,
+  gone-Choice,
+  gone-Rec,
+  gone-Do,
+  passes-Choice,
+  passes-Rec,
+  front-Message,
+  front-Continue,
+  front-Do,
+  append-nil,
+)
 
 pub ruleset all_steps = (common_steps, gone_step, passes_later, statements-past, and_true, append_assoc, append-nil)
 

@@ -15,11 +15,13 @@ use Rattle.scr_judge.proofs.SpotWalk.{first_asked}
 use Rattle.scr_judge.proofs.Asking.{role_right}
 
 module _ (roles : List Name) (has : Names) (h : (q : Name) → IsTrue (has q) ↔ Contains roles q) (me : Role) (body : Statements) where
-  pub itself_unlisted : (name : Name) → name ≡ me.name → has name ≡ false → Judged (UnknownRole roles) (itself me ∷ map within (spots [] body)) (Some (culprit me.place name))
+  pub itself_unlisted : (name : Name) → name ≡ me.name → has name ≡ false →
+      Judged (UnknownRole roles) (itself me ∷ map within (spots [] body)) (Some (culprit me.place name))
   itself_unlisted name same e = here (ap (culprit me.place) same, λ listed. true≢false (sym ((h me.name).1 listed) ∙ ap has (sym same) ∙ e))
 
   pub unlisted_behind : (name : Name) → name ≡ me.name → has name ≡ true → (r : Option Culprit) → r ≡ walk (asks_role has) None [] body →
       Judged (UnknownRole roles) (itself me ∷ map within (spots [] body)) r
   unlisted_behind name same e r found =
       later (λ c a. a.1 ((h me.name).0 (ap has (sym same) ∙ e)))
-      (judged-map within (λ s c a. a) (λ s c a. a) (first_asked (says.UnknownRole roles) (asks_role has) (role_right roles has h) body r found))
+      (judged-map within (λ s c a. a) (λ s c a. a) (first_asked (says.UnknownRole roles) (asks_role has) (role_right roles has h) body r
+      found))

@@ -1,5 +1,6 @@
 -- What each protocol of a file answers alone, put together.
-use Rattle.std.proofs.Common.{◌≡◌, ℕ, ◌+◌, ◌<◌, ◌≤◌, List, [], ◌∷◌, length, get_or, drop, map, Option, Some, None, IfOk, Result, sym, ap, subst, ◌∙◌}
+use Rattle.std.proofs.Common.{◌≡◌, ℕ, ◌+◌, ◌<◌, ◌≤◌, List, [], ◌∷◌, length, get_or, drop, map, Option, Some, None, IfOk, Result, sym, ap}
+use Rattle.std.proofs.Common.{subst, ◌∙◌}
 use Rattle.std.specs.Option.{option_or}
 use Rattle.std.proofs.lemmas.List.{at_drop_more, at_drop_all}
 use Rattle.std.proofs.lemmas.Result.{IfOk-weaker}
@@ -17,7 +18,8 @@ use Rattle.scr_judge.specs.inner.Listed.{first_among}
 use Rattle.scr_judge.specs.inner.View.{named_of}
 
 -- an arm: the condition is known, and its culprit is given a name
-pub own_arm : (p : WrittenPart) (k j : Own) (o : Option Culprit) (r : Result (Option Named) Memory) → k ≡ j → OfOwn j p o → IfOk r (λ n. named_of n ≡ o) → IfOk r (λ n. OfOwn k p (named_of n))
+pub own_arm : (p : WrittenPart) (k j : Own) (o : Option Culprit) (r : Result (Option Named) Memory) → k ≡ j → OfOwn j p o →
+    IfOk r (λ n. named_of n ≡ o) → IfOk r (λ n. OfOwn k p (named_of n))
 own_arm p k j o r e a h = IfOk-weaker r _ _ (λ n same. subst (λ x. OfOwn x p (named_of n)) (sym e) (subst (OfOwn j p) (sym same) a)) h
 
 -- ---- a loop over protocols
@@ -55,7 +57,8 @@ module _ {P C : Type 0} (At : P → Option C → Type 0) where
   first_in f right (p ∷ ps) = first_then p ps (f p) (first_among f ps) (right p) (first_in f right ps)
 
 -- of what they are seen as
-pub first_map : {P Q C : Type 0} (At : Q → Option C → Type 0) (f : P → Q) {ps : List P} {r : Option C} → FirstIn (λ p. At (f p)) ps r → FirstIn At (map f ps) r
+pub first_map : {P Q C : Type 0} (At : Q → Option C → Type 0) (f : P → Q) {ps : List P} {r : Option C} → FirstIn (λ p. At (f p)) ps r →
+    FirstIn At (map f ps) r
 first_map At f none = none
 first_map At f (here a) = here a
 first_map At f (later a more) = later a (first_map At f more)
@@ -67,13 +70,15 @@ module _ {P X : Type 0} (At : P → X → Culprit → Type 0) (f : P → List X)
   paired : (p : P) {xs : List X} {r : Option Culprit} → Judged (At p) xs r → Judged (λ (q : P × X). At q.0 q.1) (map (λ x. (p, x)) xs) r
   paired p j = judged-map (λ x. (p, x)) (λ x c a. a) (λ x c a. a) j
 
-  pub each_judged : {ps : List P} {r : Option Culprit} → FirstIn (λ p. Judged (At p) (f p)) ps r → Judged (λ (q : P × X). At q.0 q.1) (each_of f ps) r
+  pub each_judged : {ps : List P} {r : Option Culprit} → FirstIn (λ p. Judged (At p) (f p)) ps r →
+      Judged (λ (q : P × X). At q.0 q.1) (each_of f ps) r
   each_judged none = clean
   each_judged (here {p = p} {ps = ps} a) = judged-found (each_of f ps) (paired p a)
   each_judged (later {p = p} a more) = judged-append (paired p a) (each_judged more)
 
 -- the statements alone
-pub all_judged : {P : Type 0} (At : Spot → Culprit → Type 0) (body : P → Statements) {ps : List P} {r : Option Culprit} → FirstIn (λ p. Judged At (spots [] (body p))) ps r →
+pub all_judged : {P : Type 0} (At : Spot → Culprit → Type 0) (body : P → Statements) {ps : List P} {r : Option Culprit} →
+    FirstIn (λ p. Judged At (spots [] (body p))) ps r →
     Judged At (all_spots (map body ps)) r
 all_judged At body none = clean
 all_judged At body (here {p = p} {ps = ps} a) = judged-found (all_spots (map body ps)) a

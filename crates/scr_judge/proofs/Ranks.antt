@@ -4,7 +4,8 @@ use Rattle.scr_judge.specs.inner.Round.{Graph, HasEdge, Reaches, there, onward, 
 
 pub falls_all : (g : Graph) (ranks : List ℕ) → Falls g ranks → {v w : ℕ} → Reaches g v w → get_or ranks w 0 ≤ get_or ranks v 0
 falls_all g ranks f there = omega arith
-falls_all g ranks f (onward {v = v} {w = w} e more) = let first = f v w e in let rest = falls_all g ranks f more in omega (arith, first, rest)
+falls_all g ranks f (onward {v = v} {w = w} e more) = let first = f v w e in let rest = falls_all g ranks f more in omega
+    (arith, first, rest)
 
 -- so nothing leads back over it
 pub no_way_back : (g : Graph) (ranks : List ℕ) → Falls g ranks → (v w : ℕ) → get_or ranks w 0 < get_or ranks v 0 → Reaches g w v → ⊥

@@ -1,8 +1,11 @@
 -- A search comes to every node to which edges lead.
-use Rattle.std.proofs.Common.{Ok, drop, take_all, ◌≡◌, ◌≢◌, ◌⊎◌, ⊎_elim, inl, inr, ℕ, suc, zero, ◌+◌, ◌*◌, ◌<◌, ◌≤◌, ◌==◌, Bool, true, false, cond, List, [], ◌∷◌, ◌++◌, length, get_or, set, take, map, replicate, Contains, refl, sym, ap, subst, ◌∙◌, arith, true≢false}
+use Rattle.std.proofs.Common.{Ok, drop, take_all, ◌≡◌, ◌≢◌, ◌⊎◌, ⊎_elim, inl, inr, ℕ, suc, zero, ◌+◌, ◌*◌, ◌<◌, ◌≤◌, ◌==◌, Bool, true}
+use Rattle.std.proofs.Common.{false, cond, List, [], ◌∷◌, ◌++◌, length, get_or, set, take, map, replicate, Contains, refl, sym, ap, subst}
+use Rattle.std.proofs.Common.{◌∙◌, arith, true≢false}
 use Rattle.std.proofs.Math.ListN.{length-set, length-replicate, length-append}
 use Rattle.std.proofs.lemmas.List.{take_more, at_drop_all, append-nil, get_or-set_same, get_or-set_other}
-use Rattle.std.proofs.lemmas.List.Elements.{Contains-push, Contains-push_cases, Contains-append_left, Contains-append_right, Contains-append_cases}
+use Rattle.std.proofs.lemmas.List.Elements.{Contains-push, Contains-push_cases, Contains-append_left, Contains-append_right}
+use Rattle.std.proofs.lemmas.List.Elements.{Contains-append_cases}
 use Rattle.std.proofs.lemmas.List.Sums.{sum_by-set}
 use Rattle.std.proofs.lemmas.Grind.{common_steps}
 use Rattle.scr_judge.specs.inner.Round.{Graph, HasEdge, Reaches, there, onward}
@@ -40,11 +43,14 @@ pub came_before : (seen waiting : List ℕ) (v : ℕ) → get_or seen v 0 ≢ 0 
 came_before seen waiting v h = came_none seen waiting v (λ within. h)
 
 -- it is new
-pub came_new : (seen waiting : List ℕ) (v : ℕ) → v < length seen → get_or seen v 0 ≡ 0 → Came (v ∷ []) seen waiting (set seen v 1) (waiting ++ v ∷ [])
+pub came_new : (seen waiting : List ℕ) (v : ℕ) → v < length seen → get_or seen v 0 ≡ 0 → Came (v ∷ []) seen waiting (set seen v 1)
+    (waiting ++ v ∷ [])
 came_new seen waiting v within new = record {
   size = length-set seen v 1;
-  kept = λ u k. ⊎_elim (λ same. absurd (k (ap (λ n. get_or seen n 0) (sym same) ∙ new))) (λ other e. k (sym (get_or-set_other seen v u 1 0 (λ same. other (sym same))) ∙ e)) (same_or_not v u);
-  seen = λ u c inside e. let now : ◌≡◌ {A = ℕ} (get_or (set seen v 1) u 0) 1 = ap (λ n. get_or (set seen v 1) n 0) (sym (one_is v u c)) ∙ get_or-set_same seen v 1 0 within in
+  kept = λ u k. ⊎_elim (λ same. absurd (k (ap (λ n. get_or seen n 0) (sym same) ∙ new)))
+      (λ other e. k (sym (get_or-set_other seen v u 1 0 (λ same. other (sym same))) ∙ e)) (same_or_not v u);
+  seen = λ u c inside e. let now : ◌≡◌ {A = ℕ} (get_or (set seen v 1) u 0) 1 = ap (λ n. get_or (set seen v 1) n 0) (sym (one_is v u c)) ∙
+      get_or-set_same seen v 1 0 within in
       let none : ◌≡◌ {A = ℕ} (get_or (set seen v 1) u 0) 0 = e in omega (arith, now, none);
   fresh = λ u k. ⊎_elim (λ same. inr (subst (Contains (waiting ++ v ∷ [])) same (Contains-push waiting v)))
       (λ other. inl (λ e. k (get_or-set_other seen v u 1 0 (λ same. other (sym same)) ∙ e))) (same_or_not v u);
@@ -82,10 +88,13 @@ pub came_more : (nodes more a b c d e f : List ℕ) → Came nodes a b c d → C
 came_more nodes more a b c d e f p q = record {
   size = q.size ∙ p.size;
   kept = λ u k. q.kept u (p.kept u k);
-  seen = λ u h. ⊎_elim (λ old within. q.kept u (p.seen u old (subst (λ n. u < n) q.size within))) (λ new. q.seen u new) (Contains-append_cases nodes more u h);
-  fresh = λ u k. ⊎_elim (λ old. ⊎_elim (λ older. inl older) (λ waits. inr (q.waiting u waits)) (p.fresh u old)) (λ new. inr new) (q.fresh u k);
+  seen = λ u h. ⊎_elim (λ old within. q.kept u (p.seen u old (subst (λ n. u < n) q.size within))) (λ new. q.seen u new)
+      (Contains-append_cases nodes more u h);
+  fresh = λ u k. ⊎_elim (λ old. ⊎_elim (λ older. inl older) (λ waits. inr (q.waiting u waits)) (p.fresh u old)) (λ new. inr new)
+      (q.fresh u k);
   waiting = λ u h. q.waiting u (p.waiting u h);
-  from = λ u h. ⊎_elim (λ old. ⊎_elim (λ older. inl older) (λ one. inr (Contains-append_left nodes more u one)) (p.from u old)) (λ new. inr (behind u new)) (q.from u h);
+  from = λ u h. ⊎_elim (λ old. ⊎_elim (λ older. inl older) (λ one. inr (Contains-append_left nodes more u one)) (p.from u old))
+      (λ new. inr (behind u new)) (q.from u h);
   fewer = let first = p.fewer in let second = q.fewer in omega (arith, first, second);
 }
   where
@@ -95,12 +104,14 @@ came_more nodes more a b c d e f p q = record {
 pub spread_start : (to : ℕ) (seen waiting : List ℕ) → Spreads [] to seen waiting seen waiting
 spread_start to seen waiting = record { came = came_start seen waiting; missed = λ u c. absurd (Contains-nil u c) }
 
-pub spread_more : (nodes : List ℕ) (i x to : ℕ) (a b c d e f : List ℕ) → i < length nodes → x ≡ get_or nodes i x → (x ≢ to) → Spreads (take i nodes) to a b c d → Came (x ∷ []) c d e f →
+pub spread_more : (nodes : List ℕ) (i x to : ℕ) (a b c d e f : List ℕ) → i < length nodes → x ≡ get_or nodes i x → (x ≢ to) →
+    Spreads (take i nodes) to a b c d → Came (x ∷ []) c d e f →
     Spreads (take (i + 1) nodes) to a b e f
 spread_more nodes i x to a b c d e f within is other p q =
     subst (λ l. Spreads l to a b e f) (ap (λ y. take i nodes ++ y ∷ []) is ∙ sym (take_more nodes i x within)) (record {
       came = came_more (take i nodes) (x ∷ []) a b c d e f p.came q;
-      missed = λ u h. ⊎_elim (λ old. p.missed u old) (λ one. subst (λ z. z ≢ to) (one_is x u one) other) (Contains-append_cases (take i nodes) (x ∷ []) u h);
+      missed = λ u h. ⊎_elim (λ old. p.missed u old) (λ one. subst (λ z. z ≢ to) (one_is x u one) other)
+          (Contains-append_cases (take i nodes) (x ∷ []) u h);
     })
 
 pub ruleset comes = (common_steps, came_past, came_before, came_new)
@@ -124,7 +135,8 @@ no_mark zero v = refl
 no_mark (suc n) zero = refl
 no_mark (suc n) (suc v) = no_mark n v
 
-pub walked_start : (g : Graph) (from to n : ℕ) (seen waiting : List ℕ) → n ≡ length g → Came (from ∷ []) (replicate n 0) [] seen waiting → Walked g from to seen waiting
+pub walked_start : (g : Graph) (from to n : ℕ) (seen waiting : List ℕ) → n ≡ length g → Came (from ∷ []) (replicate n 0) [] seen waiting →
+    Walked g from to seen waiting
 walked_start g from to n seen waiting all came = record {
   size = came.size ∙ length-replicate n 0 ∙ all;
   start = came.seen from (Contains-push [] from);
@@ -133,14 +145,16 @@ walked_start g from to n seen waiting all came = record {
 }
 
 -- the same of what the program has
-pub walked_first : (g : Graph) (from to n : ℕ) (zeros none seen waiting : List ℕ) → zeros ≡ replicate n 0 → none ≡ [] → n ≡ length g → Came (from ∷ []) zeros none seen waiting →
+pub walked_first : (g : Graph) (from to n : ℕ) (zeros none seen waiting : List ℕ) → zeros ≡ replicate n 0 → none ≡ [] → n ≡ length g →
+    Came (from ∷ []) zeros none seen waiting →
     Walked g from to seen waiting
 walked_first g from to n zeros none seen waiting e f all came =
     walked_start g from to n seen waiting all
     (subst (λ l. Came (from ∷ []) (replicate n 0) l seen waiting) f (subst (λ l. Came (from ∷ []) l none seen waiting) e came))
 
 -- a node that waited, and the edges from it
-pub walked_more : (g : Graph) (from to v : ℕ) (seen rest after waits : List ℕ) → Walked g from to seen (rest ++ v ∷ []) → Spreads (get_or g v []) to seen rest after waits →
+pub walked_more : (g : Graph) (from to v : ℕ) (seen rest after waits : List ℕ) → Walked g from to seen (rest ++ v ∷ []) →
+    Spreads (get_or g v []) to seen rest after waits →
     Walked g from to after waits
 walked_more g from to v seen rest after waits w s = record {
   size = s.came.size ∙ w.size;
@@ -148,7 +162,8 @@ walked_more g from to v seen rest after waits w s = record {
   reached = λ u h. ⊎_elim (λ old. w.reached u (Contains-append_left rest (v ∷ []) u old))
       (λ new. further (w.reached v (Contains-push rest v)) new) (s.came.from u h);
   closed = λ u h. ⊎_elim (λ old. ⊎_elim
-      (λ waited. ⊎_elim (λ still. inl (s.came.waiting u still)) (λ same. inr (subst (Done g to after) same popped)) (Contains-push_cases rest v u waited))
+      (λ waited. ⊎_elim (λ still. inl (s.came.waiting u still)) (λ same. inr (subst (Done g to after) same popped))
+      (Contains-push_cases rest v u waited))
       (λ done. inr (λ x e. let d = done x e in (d.0, λ within. s.came.kept x (d.1 (subst (λ n. x < n) s.came.size within)))))
       (w.closed u old)) (λ new. inl new) (s.came.fresh u h);
 }
@@ -156,7 +171,8 @@ walked_more g from to v seen rest after waits w s = record {
     popped : Done g to after v
     popped x e = (s.missed x e, s.came.seen x e)
 
-pub found_further : (g : Graph) (from to v : ℕ) (seen rest : List ℕ) → Walked g from to seen (rest ++ v ∷ []) → HasEdge g v to → Reaches g from to
+pub found_further : (g : Graph) (from to v : ℕ) (seen rest : List ℕ) → Walked g from to seen (rest ++ v ∷ []) → HasEdge g v to →
+    Reaches g from to
 found_further g from to v seen rest w h = further (w.reached v (Contains-push rest v)) h
 
 -- an edge begins at a node that is there
@@ -178,7 +194,8 @@ module _ (g : Graph) (from to : ℕ) (seen : List ℕ) (w : Walked g from to see
 
 -- ---- the edges of a node, as the program has them
 
-pub row_at : {X Y : Type 0} (f : X → Y) (xs : List X) (i : ℕ) (x : X) (d : Y) → i < length xs → x ≡ get_or xs i x → get_or (map f xs) i d ≡ f x
+pub row_at : {X Y : Type 0} (f : X → Y) (xs : List X) (i : ℕ) (x : X) (d : Y) → i < length xs → x ≡ get_or xs i x → get_or (map f xs) i d
+    ≡ f x
 row_at f [] i x d within is = absurd (omega arith)
 row_at f (y ∷ xs) zero x d within is = ap f (sym is)
 row_at f (y ∷ xs) (suc i) x d within is = row_at f xs i x d (omega arith) is
@@ -191,7 +208,8 @@ row_past (y ∷ ys) (suc i) d past = row_past ys i d (omega arith)
 -- ---- what the program has
 
 -- all of a list is written over
-pub written_all : (new items : List ℕ) (len : ℕ) → length new ≡ length items → len ≡ length items → take len (new ++ drop (length new) items) ≡ new
+pub written_all : (new items : List ℕ) (len : ℕ) → length new ≡ length items → len ≡ length items →
+    take len (new ++ drop (length new) items) ≡ new
 written_all new items len same all =
     ap (λ (l : List ℕ). take len (new ++ l)) (at_drop_all (λ (l : List ℕ). l) items (length new) (omega arith))
     ∙ ap (take len) (append-nil new) ∙ take_all len new (omega arith)

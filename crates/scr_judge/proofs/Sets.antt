@@ -14,6 +14,8 @@ cond-or : (b d : Bool) → cond b true d ≡ (b || d)
 cond-or true d = refl
 cond-or false d = refl
 
-pub noted : {A S : Type 0} (name : String A) (s n : HashSet (String A) S) → UpdatesBy string_eq (λ k. bytes_eq (string_bytes name) (string_bytes k)) s n true →
+pub noted : {A S : Type 0} (name : String A) (s n : HashSet (String A) S) →
+    UpdatesBy string_eq (λ k. bytes_eq (string_bytes name) (string_bytes k)) s n true →
     contains_text n ≡ with_name (string_bytes name) (contains_text s)
-noted name s n u = λ i q. (hash_set_updates_text (string_bytes name) s n true u q ∙ cond-or (bytes_eq (string_bytes name) q) (contains_text s q)) i
+noted name s n u = λ i q. (hash_set_updates_text (string_bytes name) s n true u q ∙ cond-or (bytes_eq (string_bytes name) q)
+    (contains_text s q)) i

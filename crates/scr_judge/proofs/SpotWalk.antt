@@ -1,5 +1,6 @@
 -- A walk that asks each statement finds the first culprit, where the answer at each statement is right.
-use Rattle.std.proofs.Common.{◌≡◌, ◌↔◌, ⊎_elim, Bool, true, false, ◌||◌, IsTrue, List, [], ◌∷◌, Option, Some, None, Contains, Decides, refl, sym, subst, true≢false}
+use Rattle.std.proofs.Common.{◌≡◌, ◌↔◌, ⊎_elim, Bool, true, false, ◌||◌, IsTrue, List, [], ◌∷◌, Option, Some, None, Contains, Decides, refl}
+use Rattle.std.proofs.Common.{sym, subst, true≢false}
 use Rattle.std.specs.Option.{option_or}
 use Rattle.std.specs.Str.{bytes_eq}
 use Rattle.std.proofs.lemmas.Slice.Eq.{bytes_eq-Decides}
@@ -23,7 +24,11 @@ none_around = record { each = λ q. (λ t. absurd (true≢false (sym t)), λ c. 
 module _ {around : List Name} {way : Way} (h : AreAround around way) where
   pub around_past : (s : Statements) → AreAround around (Past s ∷ way)
   around_past s = record {
-    each = λ q. (λ t. Contains-later way (Past s) (Opens q) ((h.each q).0 t), λ c. ⊎_elim (λ e. let no : ⊥ = cc in absurd no) (h.each q).1 (Contains-cons_cases way (Past s) (Opens q) c));
+    each = λ q. (
+      λ t. Contains-later way (Past s) (Opens q) ((h.each q).0 t),
+      λ c. ⊎_elim (λ e. let no : ⊥ = cc in absurd no) (h.each q).1
+          (Contains-cons_cases way (Past s) (Opens q) c),
+    );
   }
 
   pub around_enters : (at : Name) (earlier : List Statements) → AreAround around (Enters at earlier ∷ way)
@@ -35,10 +40,14 @@ module _ {around : List Name} {way : Way} (h : AreAround around way) where
   }
 
   opens_one : (name q : Name) (t : Bool) → Decides t (q ≡ name) → IsTrue (t || is_among q around) ↔ Contains (Opens name ∷ way) (Opens q)
-  opens_one name q true d = (λ _. subst (λ z. Contains (Opens name ∷ way) (Opens z)) (sym (d.0 refl)) (Contains-first way (Opens name)), λ _. refl)
+  opens_one name q true d = (
+    λ _. subst (λ z. Contains (Opens name ∷ way) (Opens z)) (sym (d.0 refl)) (Contains-first way (Opens name)),
+    λ _. refl,
+  )
   opens_one name q false d = (
     λ i. Contains-later way (Opens name) (Opens q) ((h.each q).0 i),
-    λ c. ⊎_elim (λ e. let same : name ≡ q = cc in absurd (true≢false (sym (d.1 (sym same))))) (h.each q).1 (Contains-cons_cases way (Opens name) (Opens q) c),
+    λ c. ⊎_elim (λ e. let same : name ≡ q = cc in absurd (true≢false (sym (d.1 (sym same))))) (h.each q).1
+        (Contains-cons_cases way (Opens name) (Opens q) c),
   )
 
   pub around_opens : (name : Name) → AreAround (name ∷ around) (Opens name ∷ way)
@@ -57,7 +66,8 @@ Answers P (Some c) = P c
 module _ (At : Spot → Culprit → Type 0) (ask : Asks) where
   -- the answers at statements are right
   pub record AsksRight : Type 0 where
-    pub asks : (around : List Name) (way : Way) (ss : Statements) → AreAround around way → Answers (At (spot way ss)) (ask (beginning way) around ss)
+    pub asks : (around : List Name) (way : Way) (ss : Statements) → AreAround around way →
+        Answers (At (spot way ss)) (ask (beginning way) around ss)
 
   asked : (s : Spot) (o r : Option Culprit) (more : List Spot) → Answers (At s) o → Judged At more r → Judged At (s ∷ more) (option_or o r)
   asked s None r more a j = later a j
@@ -65,25 +75,31 @@ module _ (At : Spot → Culprit → Type 0) (ask : Asks) where
 
   module _ (right : AsksRight) where
     mutual
-      pub walk_exact : (around : List Name) (way : Way) (ss : Statements) → AreAround around way → Judged At (spots way ss) (walk ask (beginning way) around ss)
+      pub walk_exact : (around : List Name) (way : Way) (ss : Statements) → AreAround around way →
+          Judged At (spots way ss) (walk ask (beginning way) around ss)
       walk_exact around way Nothing h = clean
       walk_exact around way (Says m rest) h =
-          asked _ (ask (beginning way) around (Says m rest)) _ _ (right.asks around way _ h) (walk_exact around _ rest (around_past h (Says m Nothing)))
+          asked _ (ask (beginning way) around (Says m rest)) _ _ (right.asks around way _ h)
+          (walk_exact around _ rest (around_past h (Says m Nothing)))
       walk_exact around way (Choice p at bs rest) h =
           asked _ (ask (beginning way) around (Choice p at bs rest)) _ _ (right.asks around way _ h)
           (judged-append (walk_exact_in around way at [] bs h) (walk_exact around _ rest (around_past h (Choice p at bs Nothing))))
       walk_exact around way (Rec p name body rest) h =
           asked _ (ask (beginning way) around (Rec p name body rest)) _ _ (right.asks around way _ h)
-          (judged-append (walk_exact (name ∷ around) _ body (around_opens h name)) (walk_exact around _ rest (around_past h (Rec p name body Nothing))))
+          (judged-append (walk_exact (name ∷ around) _ body (around_opens h name))
+          (walk_exact around _ rest (around_past h (Rec p name body Nothing))))
       walk_exact around way (Continue p name rest) h =
-          asked _ (ask (beginning way) around (Continue p name rest)) _ _ (right.asks around way _ h) (walk_exact around _ rest (around_past h (Continue p name Nothing)))
+          asked _ (ask (beginning way) around (Continue p name rest)) _ _ (right.asks around way _ h)
+          (walk_exact around _ rest (around_past h (Continue p name Nothing)))
       walk_exact around way (Do p name rest) h =
-          asked _ (ask (beginning way) around (Do p name rest)) _ _ (right.asks around way _ h) (walk_exact around _ rest (around_past h (Do p name Nothing)))
+          asked _ (ask (beginning way) around (Do p name rest)) _ _ (right.asks around way _ h)
+          (walk_exact around _ rest (around_past h (Do p name Nothing)))
 
       walk_exact_in : (around : List Name) (way : Way) (at : Name) (earlier : List Statements) (bs : Branches) → AreAround around way →
           Judged At (branch_spots way at earlier bs) (walk_in ask at around bs)
       walk_exact_in around way at earlier NoBranch h = clean
-      walk_exact_in around way at earlier (Branch b more) h = judged-append (walk_exact around _ b (around_enters h at earlier)) (walk_exact_in around way at (b ∷ earlier) more h)
+      walk_exact_in around way at earlier (Branch b more) h = judged-append (walk_exact around _ b (around_enters h at earlier))
+          (walk_exact_in around way at (b ∷ earlier) more h)
 
     -- what the walk over a whole text finds
     pub first_asked : (ss : Statements) (r : Option Culprit) → r ≡ walk ask None [] ss → Judged At (spots [] ss) r

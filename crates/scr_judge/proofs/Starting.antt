@@ -1,5 +1,6 @@
 -- What comes first in the first protocol of several.
-use Rattle.std.proofs.Common.{◌≡◌, ⊎_elim, inl, inr, ℕ, suc, ◌+◌, ◌<◌, arith, map, length, get_or, drop, Bool, true, false, ◌||◌, List, [], ◌∷◌, ◌++◌, Option, Some, None, refl, sym, ap, ◌∙◌, true≢false}
+use Rattle.std.proofs.Common.{◌≡◌, ⊎_elim, inl, inr, ℕ, suc, ◌+◌, ◌<◌, arith, map, length, get_or, drop, Bool, true, false, ◌||◌, List, []}
+use Rattle.std.proofs.Common.{◌∷◌, ◌++◌, Option, Some, None, refl, sym, ap, ◌∙◌, true≢false}
 use Rattle.std.specs.List.{list_any}
 use Rattle.std.proofs.lemmas.Grind.{common_steps}
 use Rattle.mg_text.specs.Call.{Name}
@@ -117,7 +118,8 @@ module _ (p : Part) (ss : Statements) (same : ss ≡ statements p.body.items) wh
 
     -- none does
     pub acts_first : place_in (first_of ss) ≡ None → Judged StartsWithDo (part_written p ∷ []) None
-    acts_first e = later (λ c x. ⊎_elim (λ none. true≢false (sym acted ∙ none.1)) (λ goes. let both : Some goes.0 ≡ None = sym goes.3 ∙ (placed ∙ e) in cc) x) clean
+    acts_first e = later (λ c x. ⊎_elim (λ none. true≢false (sym acted ∙ none.1))
+        (λ goes. let both : Some goes.0 ≡ None = sym goes.3 ∙ (placed ∙ e) in cc) x) clean
 
 -- ---- one statement, and those behind it
 
@@ -128,7 +130,8 @@ or_neither (Goes place) = refl
 
 acts-front : (s : Statement) (rest : Statements) → acts (front s rest) ≡ (acts (front s Nothing) || acts rest)
 acts-front s rest =
-    each_front (λ f. acts (f rest) ≡ (acts (f Nothing) || acts rest)) (λ m. refl) (λ p at bs. refl) (λ p name body. ap (λ b. b || acts rest) (or_false (acts body))) (λ p name. refl) (λ p name. refl) s
+    each_front (λ f. acts (f rest) ≡ (acts (f Nothing) || acts rest)) (λ m. refl) (λ p at bs. refl)
+    (λ p name body. ap (λ b. b || acts rest) (or_false (acts body))) (λ p name. refl) (λ p name. refl) s
 
 first-front : (s : Statement) (rest : Statements) → first_of (front s rest) ≡ first_or (first_of (front s Nothing)) (first_of rest)
 first-front s rest =
@@ -149,13 +152,16 @@ module _ (ss : List Statement) (i : ℕ) (x : Statement) (within : i < length ss
 
     -- something does
     pub met_deed : r ≡ firsts.Deed → first_seen r ≡ first_of (statements (drop i ss))
-    met_deed e = ap first_seen e ∙ sym (first-step ∙ ap (λ f. first_or f (first_of (statements (drop (i + 1) ss)))) (sym found ∙ ap first_seen e))
+    met_deed e = ap first_seen e ∙ sym (first-step ∙ ap (λ f. first_or f (first_of (statements (drop (i + 1) ss))))
+        (sym found ∙ ap first_seen e))
 
     pub met_do : (place : Place) → r ≡ firsts.Goes place → first_seen r ≡ first_of (statements (drop i ss))
-    met_do place e = ap first_seen e ∙ sym (first-step ∙ ap (λ f. first_or f (first_of (statements (drop (i + 1) ss)))) (sym found ∙ ap first_seen e))
+    met_do place e = ap first_seen e ∙ sym (first-step ∙ ap (λ f. first_or f (first_of (statements (drop (i + 1) ss))))
+        (sym found ∙ ap first_seen e))
 
 -- one protocol stands alone
-pub one_alone : (p : WrittenPart) (ps now : List Part) → now ≡ ps → length now ≡ 0 → Judged StartsWithDo (first_of_several p (map part_written ps)) None
+pub one_alone : (p : WrittenPart) (ps now : List Part) → now ≡ ps → length now ≡ 0 →
+    Judged StartsWithDo (first_of_several p (map part_written ps)) None
 one_alone p [] now e h = clean
 one_alone p (q ∷ qs) now e h = absurd (let f : suc (length qs) ≡ 0 = sym (ap length e) ∙ h in omega (arith, f))
 
@@ -166,7 +172,8 @@ or-or false b d = refl
 pub acts-Rec : (p : _) (name : Name) (body : Row Statement) → acts (front (kinds.Rec p name body) Nothing) ≡ acts (statements body.items)
 acts-Rec p name body = ap (λ f. acts (f Nothing)) (front-Rec p name body) ∙ sym (or_false (acts (statements body.items)))
 
-pub first-Rec : (p : _) (name : Name) (body : Row Statement) → first_of (front (kinds.Rec p name body) Nothing) ≡ first_of (statements body.items)
+pub first-Rec : (p : _) (name : Name) (body : Row Statement) → first_of (front (kinds.Rec p name body) Nothing)
+    ≡ first_of (statements body.items)
 first-Rec p name body = ap (λ f. first_of (f Nothing)) (front-Rec p name body) ∙ sym (or_neither (first_of (statements body.items)))
 
 pub ruleset act_steps = (common_steps, acts-step, statements-past, or-or, or_false)

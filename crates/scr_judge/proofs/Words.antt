@@ -33,7 +33,8 @@ false_of false n = refl
 pub free_is_none : (me at label : Name) → is_free_label me at label ≡ true → (at ≢ me) → Contains java_words label → ⊥
 unfolding is_free_label
 free_is_none me at label e other reserved =
-    one_of (bytes_eq at me) (list_any (bytes_eq label) java_words) e (false_of _ (λ t. other ((bytes_eq-Decides at me).0 t))) (any_from label java_words reserved)
+    one_of (bytes_eq at me) (list_any (bytes_eq label) java_words) e (false_of _ (λ t. other ((bytes_eq-Decides at me).0 t)))
+    (any_from label java_words reserved)
 
 pub not_free : (me at label : Name) → is_free_label me at label ≡ false → (at ≢ me) × Contains java_words label
 unfolding is_free_label
@@ -47,7 +48,8 @@ both_same false true f g = g refl
 both_same false false f g = refl
 
 -- the program's test
-pub reserved_by : (me at label : Name) (r : Bool) → IsTrue r ↔ Contains java_words label → (bytes_eq at me || not r) ≡ is_free_label me at label
+pub reserved_by : (me at label : Name) (r : Bool) → IsTrue r ↔ Contains java_words label → (bytes_eq at me || not r) ≡ is_free_label me at
+    label
 unfolding is_free_label
 reserved_by me at label r h =
     ap (λ b. bytes_eq at me || not b) (both_same r _ (λ t. any_from label java_words (h.0 t)) (λ t. h.1 (any_to label java_words t)))

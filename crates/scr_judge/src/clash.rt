@@ -18,7 +18,8 @@ use std::collections::HashMap;
 
 /// The first action whose call name an earlier action has that is another one.
 pub fn find_name_clash(alloc: Global, written: &Written) -> Result<Option<Named>, Memory>
-    ensures { IfOk result (λ r. Judged NameClash (with_earlier (all_actions me_in body_of 1 (parts_in (written_of 0 written.now)))) (named_of r)) }
+    ensures { IfOk result (λ r. Judged NameClash (with_earlier (all_actions me_in body_of 1 (parts_in (written_of 0 written.now))))
+        (named_of r)) }
 {
     let mut actions = Vec::new(alloc);
     let first = &written.first;

@@ -13,7 +13,8 @@ ghost use Rattle.scr_tree.specs.declared.written.WrittenPart.{WrittenPart as Par
 ghost use Rattle.scr_judge.specs.inner.Cycles.{IsRound};
 ghost use Rattle.scr_judge.specs.inner.Gone.{part_name};
 ghost use Rattle.scr_judge.specs.inner.Own.{FirstIn, all_parts};
-ghost use Rattle.scr_judge.specs.inner.Round.{Falls, Reaches, FoundBad, IsGuarded, all_edges, edges_at, gone, leaves_to, numbers_of, titles, with_edges, with_texts};
+ghost use Rattle.scr_judge.specs.inner.Round.{Falls, Reaches, FoundBad, IsGuarded, all_edges, edges_at, gone, leaves_to, numbers_of};
+ghost use Rattle.scr_judge.specs.inner.Round.{titles, with_edges, with_texts};
 ghost use Rattle.scr_judge.specs.inner.View.{culprit_of, goal_of, graph_of, told_names};
 
 use crate::culprit::Culprit;
@@ -31,7 +32,8 @@ pub fn find_unguarded_in_file(
     alloc: Global,
     written: &Written,
 ) -> Result<Option<Culprit<'_>>, Memory>
-    ensures { IfOk result (λ r. Judged (Unguarded (map title_of (parts_in (written_of 0 written.now)))) (spots_of body_in (map title_of (parts_in (written_of 0 written.now)))) (culprit_of r)) }
+    ensures { IfOk result (λ r. Judged (Unguarded (map title_of (parts_in (written_of 0 written.now))))
+        (spots_of body_in (map title_of (parts_in (written_of 0 written.now)))) (culprit_of r)) }
 {
     let round = Round::of(alloc, written)?;
     match round.find_in(alloc, &written.first)? {
@@ -198,7 +200,8 @@ impl Round {
         alloc: Global,
         parts: &'a [WrittenPart],
     ) -> Result<Option<Culprit<'a>>, Memory>
-        ensures { IfOk result (λ r. (ps : List Part) → IsRound ps self.now → ((p : Part) → Contains parts.now p → Contains ps p) → FirstIn (IsGuarded ps) parts.now (culprit_of r)) }
+        ensures { IfOk result (λ r. (ps : List Part) → IsRound ps self.now → ((p : Part) → Contains parts.now p → Contains ps p) →
+            FirstIn (IsGuarded ps) parts.now (culprit_of r)) }
     {
         for part in parts {
             match self.find_in(alloc, part)? {
@@ -242,7 +245,8 @@ impl Round {
         own: u32,
         part: &'a WrittenPart,
     ) -> Result<Option<&'a str>, Memory>
-        ensures { IfOk result (λ g. (ps : List Part) (to : List ℕ) → IsRound ps self.now → position (bytes_eq to) self.now.names ≡ Some own →
+        ensures { IfOk result (λ g. (ps : List Part) (to : List ℕ) → IsRound ps self.now → position (bytes_eq to) self.now.names ≡ Some own
+            →
             FirstIn (FoundBad (λ n. Leads (titles ps) n to)) (gone true (statements part.now.body.items)) (goal_of g)) }
     {
         let mut names = Vec::new(alloc);
@@ -257,7 +261,8 @@ impl Round {
         own: u32,
         names: &[&'a str],
     ) -> Result<Option<&'a str>, Memory>
-        ensures { IfOk result (λ g. (ps : List Part) (to : List ℕ) → IsRound ps self.now → position (bytes_eq to) self.now.names ≡ Some own →
+        ensures { IfOk result (λ g. (ps : List Part) (to : List ℕ) → IsRound ps self.now → position (bytes_eq to) self.now.names ≡ Some own
+            →
             FirstIn (FoundBad (λ n. Leads (titles ps) n to)) (told_names names.now) (goal_of g)) }
     {
         for (i, name) in names.iter().enumerate() {
@@ -271,7 +276,8 @@ impl Round {
 
     // Whether protocols go on from this name to that of this number.
     fn goes_back(&self, alloc: Global, name: &str, own: u32) -> Result<bool, Memory>
-        ensures { IfOk result (λ b. (ps : List Part) (to : List ℕ) → IsRound ps self.now → position (bytes_eq to) self.now.names ≡ Some own →
+        ensures { IfOk result (λ b. (ps : List Part) (to : List ℕ) → IsRound ps self.now → position (bytes_eq to) self.now.names ≡ Some own
+            →
             IsTrue b ↔ Leads (titles ps) name.now to) }
     {
         match self.names.find(name) {

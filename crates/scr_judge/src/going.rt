@@ -22,7 +22,8 @@ use std::collections::HashSet;
 
 /// The first `do` that names no protocol of the file.
 pub fn find_unknown_do(alloc: Global, written: &Written) -> Result<Option<Culprit<'_>>, Memory>
-    ensures { IfOk result (λ r. Judged (UnknownProtocol (map name_in (parts_in (written_of 0 written.now)))) (all_spots (map body_of (parts_in (written_of 0 written.now)))) (culprit_of r)) }
+    ensures { IfOk result (λ r. Judged (UnknownProtocol (map name_in (parts_in (written_of 0 written.now))))
+        (all_spots (map body_of (parts_in (written_of 0 written.now)))) (culprit_of r)) }
 {
     let names = protocol_names(alloc, written)?;
     match find_unknown_protocol(&names, written.first.body.as_slice()) {

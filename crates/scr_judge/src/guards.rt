@@ -97,7 +97,8 @@ fn unguarded_behind<'a>(
     quiet: bool,
     statement: &'a Statement,
 ) -> Result<bool, Culprit<'a>>
-    ensures first { found result ≡ unguarded (kept quiet (names_of names.now)) (kept_goal quiet (goal_of goal.entry)) (front statement.now Nothing) }
+    ensures first { found result ≡ unguarded (kept quiet (names_of names.now)) (kept_goal quiet (goal_of goal.entry))
+        (front statement.now Nothing) }
     ensures passes { IfOk result (λ q. q ≡ passes (front statement.now Nothing)) }
 {
     if quiet {

@@ -8,7 +8,8 @@ ghost use Rattle.scr_tree.specs.View.{front, statements};
 ghost use Rattle.scr_tree.specs.Tree.{Nothing};
 ghost use Rattle.scr_tree.specs.Spots.{spots};
 ghost use Rattle.scr_tree.specs.Conditions as says;
-ghost use Rattle.scr_judge.specs.inner.OnSpot.{asks_role, asks_protocol, unknown_protocol, unknown_role, peer_is_self, is_free_label, unknown_rec, duplicate_rec, branch_start, mixed_choice, reserved_label, test, walk, walk_in};
+ghost use Rattle.scr_judge.specs.inner.OnSpot.{asks_role, asks_protocol, unknown_protocol, unknown_role, peer_is_self, is_free_label};
+ghost use Rattle.scr_judge.specs.inner.OnSpot.{unknown_rec, duplicate_rec, branch_start, mixed_choice, reserved_label, test, walk, walk_in};
 ghost use Rattle.scr_judge.specs.inner.View.{begins_of, names_of, culprit_of};
 ghost use Rattle.scr_tree.specs.View.{bodies};
 

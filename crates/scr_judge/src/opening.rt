@@ -25,7 +25,8 @@ pub enum First {
 /// The name of the first protocol, where others stand behind it and it has no message and no
 /// choice; or its `do` before them all.
 pub fn find_starts_with_do(written: &Written) -> Option<Culprit<'_>>
-    ensures { Judged StartsWithDo (first_of_several (written_of 0 written.now).first (written_of 0 written.now).others) (culprit_of result) }
+    ensures { Judged StartsWithDo (first_of_several (written_of 0 written.now).first (written_of 0 written.now).others)
+        (culprit_of result) }
 {
     if written.others.as_slice().is_empty() {
         return None;

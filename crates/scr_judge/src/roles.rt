@@ -38,7 +38,8 @@ pub fn find_listed_twice(alloc: Global, roles: &[Role]) -> Result<Option<Culprit
 /// The first place where a role is named that is not listed: the role itself, a peer, or that of a
 /// choice.
 pub fn find_unknown_role(alloc: Global, part: &WrittenPart) -> Result<Option<Culprit<'_>>, Memory>
-    ensures { IfOk result (λ r. Judged (UnknownRole (map role_name part.now.roles.items)) (itself part.now.me ∷ map within (spots [] (statements part.now.body.items))) (culprit_of r)) }
+    ensures { IfOk result (λ r. Judged (UnknownRole (map role_name part.now.roles.items))
+        (itself part.now.me ∷ map within (spots [] (statements part.now.body.items))) (culprit_of r)) }
 {
     let listed = listed_roles(alloc, part.roles.as_slice())?;
     let me = &part.me;

@@ -17,7 +17,8 @@ use scr_tree::{Arguments, Role, Written, WrittenPart};
 /// The first protocol whose roles or role differ from those of the first one, or `do` that isn't
 /// given the roles in their order.
 pub fn find_roles_differ(written: &Written) -> Option<Culprit<'_>>
-    ensures { Judged (RolesDiffer (part_written written.now.first)) (flat_map told_in (parts_in (written_of 0 written.now))) (culprit_of result) }
+    ensures { Judged (RolesDiffer (part_written written.now.first)) (flat_map told_in (parts_in (written_of 0 written.now)))
+        (culprit_of result) }
 {
     match find_told(&written.first, &written.first) {
         Some(culprit) => Some(culprit),

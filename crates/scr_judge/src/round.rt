@@ -274,7 +274,8 @@ fn follow(
     waiting: &mut Vec<u32>,
 ) -> Result<bool, Memory>
     ensures hit { IfOk result (λ b. IsTrue b → HasEdge (graph_of targets.now) node to) }
-    ensures spread { OnFalseOk result (Spreads (get_or (graph_of targets.now) node []) to seen.old waiting.old.items seen.new waiting.new.items) }
+    ensures spread { OnFalseOk result
+        (Spreads (get_or (graph_of targets.now) node []) to seen.old waiting.old.items seen.new waiting.new.items) }
 {
     match targets.get(node as usize) {
         Some(edges) => spread(edges.as_slice(), to, seen, waiting),

@@ -39,7 +39,8 @@ fn has_too_many_states(written: &Written) -> bool
 
 // Counts up to one state too many in all protocols.
 fn count_file(written: &Written) -> u32
-    ensures { result ≡ counted_parts (counted written.now.first.me.name false 0 (statements written.now.first.body.items)) written.now.others.items }
+    ensures { result ≡ counted_parts (counted written.now.first.me.name false 0 (statements written.now.first.body.items))
+        written.now.others.items }
 {
     let first = &written.first;
     let count = count_all(&first.me.name, false, 0, first.body.as_slice());

@@ -7,7 +7,8 @@ ghost use Rattle.std.specs.HashSet.{contains_text};
 ghost use Rattle.mg_read.specs.First.{Judged};
 ghost use Rattle.scr_tree.specs.Listing.{UnknownType, PayloadCount, declared, carried_by, typed, all_carries};
 ghost use Rattle.scr_tree.specs.Written.{carries_of, kind_of_class, written_of};
-ghost use Rattle.scr_judge.specs.inner.Listed.{alias_of, first_among, is_supported, unsupported, is_declared, undeclared, undeclared_in, undeclared_by, many, many_by};
+ghost use Rattle.scr_judge.specs.inner.Listed.{alias_of, first_among, is_supported, unsupported, is_declared, undeclared, undeclared_in};
+ghost use Rattle.scr_judge.specs.inner.Listed.{undeclared_by, many, many_by};
 ghost use Rattle.scr_judge.specs.inner.View.{culprit_of};
 
 use crate::culprit::Culprit;
@@ -26,7 +27,8 @@ pub fn find_unknown_type<'a>(
     types: &'a [Declaration],
     carries: &'a [Carries],
 ) -> Result<Option<Culprit<'a>>, Memory>
-    ensures { IfOk result (λ r. Judged (UnknownType types.now) (map declared types.now ++ flat_map carried_by (map carries_of carries.now)) (culprit_of r)) }
+    ensures { IfOk result (λ r. Judged (UnknownType types.now) (map declared types.now ++ flat_map carried_by (map carries_of carries.now))
+        (culprit_of r)) }
 {
     match find_unsupported(types) {
         Some(culprit) => Ok(Some(culprit)),

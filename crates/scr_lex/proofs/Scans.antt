@@ -10,7 +10,8 @@ use Rattle.scr_lex.specs.Pieces.{scribble}
 abbrev pub apart : AreApart scribble.signs
 apart = (refl, (refl, (refl, (refl, (refl, (refl, (refl, (refl, (refl, tt)))))))))
 
-module _ (signs rest : List ℕ) (is : signs ≡ scribble.signs) (told : Option FrontPiece) (e : told ≡ option_map shows (piece_at (record { signs = signs; has_texts = true }) rest)) where
+module _ (signs rest : List ℕ) (is : signs ≡ scribble.signs) (told : Option FrontPiece)
+    (e : told ≡ option_map shows (piece_at (record { signs = signs; has_texts = true }) rest)) where
   at_table : told ≡ option_map shows (piece_at scribble rest)
   at_table = e ∙ ap (λ (s : List ℕ). option_map shows (piece_at (record { signs = s; has_texts = true }) rest)) is
 

@@ -11,7 +11,8 @@ use Rattle.scr_tree.specs.declared.syntax.Message.{Message}
 use Rattle.scr_tree.specs.declared.written.Declaration.{Declaration}
 use Rattle.scr_tree.specs.Tree.{Statements, Nothing, Says, Choice, Rec, Continue, Do, Branches, NoBranch, Branch}
 use Rattle.scr_tree.specs.Written.{Carries, Arguments}
-use Rattle.scr_parse.specs.Grammar.{Behind, Listed, IsNaming, direction_mark, AreTypes, IsMessage, Note, carries, gives, carries_among, arguments_among, carried, given, IsBraced, AreStatements, AreBranches, AreOthers}
+use Rattle.scr_parse.specs.Grammar.{Behind, Listed, IsNaming, direction_mark, AreTypes, IsMessage, Note, carries, gives, carries_among}
+use Rattle.scr_parse.specs.Grammar.{arguments_among, carried, given, IsBraced, AreStatements, AreBranches, AreOthers}
 use Rattle.scr_parse.specs.inner.Reading.{is_at, names_up, carries_from, carries_in, arguments_in}
 
 -- ---- the types of a message
@@ -161,7 +162,8 @@ module _ (declared : List Declaration) where
     statements_carry (Choice place at branches behind) ns us rest (a, b, ms, ks, vs, ws, carry, parts, h, more) =
         let quiet = branches_open branches ms vs (ws ++ rest) h in
         let apart = append_assoc vs ws rest in
-        let g = in_turn ns ms ks vs ws rest carry (branches_carry branches ms vs (ws ++ rest) h) (statements_carry behind ks ws rest more) in
+        let g = in_turn ns ms ks vs ws rest carry (branches_carry branches ms vs (ws ++ rest) h) (statements_carry behind ks ws rest more)
+        in
         record { carried = rw parts (rw (apart, quiet) (rw (← apart) g.carried)); given = rw parts g.given }
     statements_carry (Rec place name body behind) ns us rest (a, ms, ks, vs, ws, carry, parts, h, more) =
         let quiet = braced_opens (AreStatements declared body ms) vs (ws ++ rest) h in
@@ -186,13 +188,15 @@ module _ (declared : List Declaration) where
     branches_carry : (bs : Branches) (ns : List Note) (us rest : List Tok) → AreBranches declared bs ns us → Gathers ns us rest
     branches_carry NoBranch ns us rest h = absurd h
     branches_carry (Branch b more) ns us rest (ms, ks, vs, ws, carry, parts, block, h) =
-        let g = in_turn ns ms ks vs ws rest carry (block_by b ms vs (ws ++ rest) (statements_carry b ms) block) (others_carry more ks ws rest h) in
+        let g = in_turn ns ms ks vs ws rest carry (block_by b ms vs (ws ++ rest) (statements_carry b ms) block)
+        (others_carry more ks ws rest h) in
         record { carried = rw parts g.carried; given = rw parts g.given }
 
     others_carry : (bs : Branches) (ns : List Note) (us rest : List Tok) → AreOthers declared bs ns us → Gathers ns us rest
     others_carry NoBranch ns us rest (e, f) = record { carried = rw (e, f) refl; given = rw (e, f) refl }
     others_carry (Branch b more) ns us rest (a, ms, ks, vs, ws, carry, parts, block, h) =
-        let g = in_turn ns ms ks vs ws rest carry (block_by b ms vs (ws ++ rest) (statements_carry b ms) block) (others_carry more ks ws rest h) in
+        let g = in_turn ns ms ks vs ws rest carry (block_by b ms vs (ws ++ rest) (statements_carry b ms) block)
+        (others_carry more ks ws rest h) in
         record { carried = rw parts g.carried; given = rw parts g.given }
 
   -- what is gathered from a block alone

@@ -1,5 +1,6 @@
 -- The header is read where the grammar spells it, and nowhere else.
-use Rattle.std.proofs.Common.{◌≡◌, ◌⊎◌, ◌<◌, List, [], ◌∷◌, ◌++◌, length, true, false, Some, refl, sym, ap, ◌∙◌, subst, append_assoc, arith, inl, inr}
+use Rattle.std.proofs.Common.{◌≡◌, ◌⊎◌, ◌<◌, List, [], ◌∷◌, ◌++◌, length, true, false, Some, refl, sym, ap, ◌∙◌, subst, append_assoc, arith}
+use Rattle.std.proofs.Common.{inl, inr}
 use Rattle.mg_text.specs.declared.place.Place.{Place}
 use Rattle.mg_read.specs.Reader.{◌>>=◌}
 use Rattle.mg_read.proofs.Steps.{bind_some, some_is, chosen, Takes}
@@ -8,7 +9,8 @@ use Rattle.scr_tree.specs.Tok.{Tok, named, marked}
 use Rattle.scr_tree.specs.declared.token.Mark.TheVariants as marks
 use Rattle.scr_tree.specs.declared.written.Role.{Role}
 use Rattle.scr_parse.specs.Grammar.{Behind, Before, Listed, IsRole, IsMyself, IsAtHeader, IsSelfHeader}
-use Rattle.scr_parse.specs.inner.Reading.{mark_at, name_at, is_at, role_at, earlier_role_at, other_role_at, more_roles_at, roles_at, is_other_role, earlier_roles_at, self_at, myself_at, at_header_at, self_header_at, header_at}
+use Rattle.scr_parse.specs.inner.Reading.{mark_at, name_at, is_at, role_at, earlier_role_at, other_role_at, more_roles_at, roles_at}
+use Rattle.scr_parse.specs.inner.Reading.{is_other_role, earlier_roles_at, self_at, myself_at, at_header_at, self_header_at, header_at}
 use Rattle.scr_parse.proofs.Steps.{Anything, after, mark_is, name_is}
 use Rattle.scr_parse.proofs.Turns.{front_sound, front_complete, shorter}
 

@@ -1,5 +1,6 @@
 -- Names in a row, module and type declarations are read where the grammar spells them, and nowhere else.
-use Rattle.std.proofs.Common.{◌≡◌, ◌<◌, List, [], ◌∷◌, ◌++◌, length, true, false, Some, refl, sym, ap, ◌∙◌, subst, append_assoc, arith, inl, inr}
+use Rattle.std.proofs.Common.{◌≡◌, ◌<◌, List, [], ◌∷◌, ◌++◌, length, true, false, Some, refl, sym, ap, ◌∙◌, subst, append_assoc, arith, inl}
+use Rattle.std.proofs.Common.{inr}
 use Rattle.mg_text.specs.Call.{Name}
 use Rattle.mg_read.specs.Reader.{all_of}
 use Rattle.mg_read.proofs.Steps.{bind_some, some_is, chosen, Takes}
@@ -10,7 +11,8 @@ use Rattle.scr_tree.specs.declared.token.Mark.{Mark}
 use Rattle.scr_tree.specs.declared.token.Mark.TheVariants as marks
 use Rattle.scr_tree.specs.declared.written.Declaration.{Declaration}
 use Rattle.scr_parse.specs.Grammar.{Behind, Listed, IsNaming, IsModule, IsType}
-use Rattle.scr_parse.specs.inner.Reading.{mark_at, name_at, quoted_at, is_at, other_name_at, names_at, module_at, after_module, language_at, class_at, type_at}
+use Rattle.scr_parse.specs.inner.Reading.{mark_at, name_at, quoted_at, is_at, other_name_at, names_at, module_at, after_module, language_at}
+use Rattle.scr_parse.specs.inner.Reading.{class_at, type_at}
 use Rattle.scr_parse.proofs.Steps.{Anything, after, mark_is, name_is, quoted_is, mark_again, is_at_again}
 use Rattle.scr_parse.proofs.Turns.{front_sound, front_complete, shorter}
 

@@ -1,5 +1,6 @@
 -- Statements are read where the grammar spells them, and nowhere else.
-use Rattle.std.proofs.Common.{◌≡◌, ℕ, zero, suc, ◌<◌, ◌≤◌, List, [], ◌∷◌, ◌++◌, length, map, true, false, Some, refl, sym, ap, ◌∙◌, subst, append_assoc, arith, inl, inr}
+use Rattle.std.proofs.Common.{◌≡◌, ℕ, zero, suc, ◌<◌, ◌≤◌, List, [], ◌∷◌, ◌++◌, length, map, true, false, Some, refl, sym, ap, ◌∙◌, subst}
+use Rattle.std.proofs.Common.{append_assoc, arith, inl, inr}
 use Rattle.mg_text.specs.Call.{Name}
 use Rattle.mg_text.specs.declared.place.Place.{Place}
 use Rattle.mg_read.specs.Reader.{Reader, ◌>>=◌, all_of}
@@ -15,9 +16,12 @@ use Rattle.scr_tree.specs.declared.written.Declaration.{Declaration}
 use Rattle.scr_tree.specs.Tree.{Statements, Nothing, Says, Choice, Rec, Continue, Do, Branches, NoBranch, Branch}
 use Rattle.scr_tree.specs.View.{branches_of}
 use Rattle.scr_tree.specs.Valid.{depth, depth_in}
-use Rattle.scr_parse.specs.Grammar.{Listed, IsNaming, direction_mark, AreTypes, IsMessage, Note, carries, gives, carried, given, IsBraced, AreStatements, AreBranches, AreOthers}
+use Rattle.scr_parse.specs.Grammar.{Listed, IsNaming, direction_mark, AreTypes, IsMessage, Note, carries, gives, carried, given, IsBraced}
+use Rattle.scr_parse.specs.Grammar.{AreStatements, AreBranches, AreOthers}
 use Rattle.scr_parse.specs.inner.View.{joined}
-use Rattle.scr_parse.specs.inner.Reading.{is_at, mark_at, name_at, names_at, direction_at, payload_at, message_at, continue_at, do_at, not_closed, block_with, other_with, branches_with, choice_with, rec_with, says_at, statement_with, statement_at}
+use Rattle.scr_parse.specs.inner.Reading.{is_at, mark_at, name_at, names_at, direction_at, payload_at, message_at, continue_at, do_at}
+use Rattle.scr_parse.specs.inner.Reading.{not_closed, block_with, other_with, branches_with, choice_with, rec_with, says_at, statement_with}
+use Rattle.scr_parse.specs.inner.Reading.{statement_at}
 use Rattle.scr_parse.proofs.Steps.{Anything, after, mark_is, name_is}
 use Rattle.scr_parse.proofs.Turns.{front_sound, front_complete, shorter}
 use Rattle.scr_parse.proofs.Names.{names_sound, names_complete}
@@ -130,7 +134,8 @@ module _ (declared : List Declaration) where
       (rest ≡ Nothing) × (a b : Place) × (us ≡ marked place marks.Continue ∷ named a name ∷ marked b marks.Semicolon ∷ []) × (1 ≤ d)
   Deep d (Do place name rest) us =
       (rest ≡ Nothing) × (a b c e : Place) × (roles : List Name) × (vs : List Tok)
-      × (us ≡ marked place marks.Do ∷ named a name ∷ marked b marks.OpenParen ∷ (vs ++ marked c marks.CloseParen ∷ marked e marks.Semicolon ∷ []))
+      × (us ≡ marked place marks.Do ∷ named a name ∷ marked b marks.OpenParen ∷
+      (vs ++ marked c marks.CloseParen ∷ marked e marks.Semicolon ∷ []))
       × Listed marks.Comma IsNaming roles vs × (1 ≤ d)
 
   abbrev NotOr : List Tok → Type 0
@@ -449,7 +454,8 @@ module _ (declared : List Declaration) where
         let end : List Tok = marked c.0.0 marks.CloseParen ∷ marked g.0.0 marks.Semicolon ∷ [] in
         let inner : b.0.1 ≡ (names.front ++ end) ++ g.0.1 =
         names.parts ∙ ap (λ (r : List Tok). names.front ++ r)
-        (after (mark_is marks.CloseParen p.0.1 c.0 c.1) (mark_is marks.Semicolon c.0.1 g.0 g.1)) ∙ sym (append_assoc names.front end g.0.1) in
+        (after (mark_is marks.CloseParen p.0.1 c.0 c.1) (mark_is marks.Semicolon c.0.1 g.0 g.1)) ∙ sym (append_assoc names.front end g.0.1)
+        in
         subst (λ (y : Statements × List Tok). Takes (Deep (suc d) y.0) ts y.1) (some_is _ x g.2)
         (record {
           front = marked s.0.0 marks.Do ∷ named n.0.0.0 n.0.0.1 ∷ marked b.0.0 marks.OpenParen ∷ (names.front ++ end);

@@ -1,5 +1,6 @@
 -- The table in which kinds are looked up.
-use Rattle.std.proofs.Common.{◌≡◌, ◌+◌, ◌<◌, ℕ, Bool, true, false, cond, List, [], ◌∷◌, ◌++◌, length, get_or, take, String, string_bytes, Option, None, Some, Decides, refl, sym, ap, ◌∙◌, option_map}
+use Rattle.std.proofs.Common.{◌≡◌, ◌+◌, ◌<◌, ℕ, Bool, true, false, cond, List, [], ◌∷◌, ◌++◌, length, get_or, take, String, string_bytes}
+use Rattle.std.proofs.Common.{Option, None, Some, Decides, refl, sym, ap, ◌∙◌, option_map}
 use Rattle.std.specs.Option.{option_or, is_some}
 use Rattle.std.proofs.lemmas.List.{take_more}
 use Rattle.std.proofs.lemmas.Map.Text.{hash_map_updates_text}

@@ -1,5 +1,6 @@
 -- A whole file is read where the grammar spells it, and nowhere else.
-use Rattle.std.proofs.Common.{◌≡◌, ◌≤◌, ◌<◌, ◌-◌, ◌==◌, ℕ, zero, suc, List, [], ◌∷◌, ◌++◌, length, take, Bool, true, false, Some, refl, sym, ap, ◌∙◌, subst, append_assoc, append-nil, length-append, arith, true≢false, inl, inr}
+use Rattle.std.proofs.Common.{◌≡◌, ◌≤◌, ◌<◌, ◌-◌, ◌==◌, ℕ, zero, suc, List, [], ◌∷◌, ◌++◌, length, take, Bool, true, false, Some, refl, sym}
+use Rattle.std.proofs.Common.{ap, ◌∙◌, subst, append_assoc, append-nil, length-append, arith, true≢false, inl, inr}
 use Rattle.std.specs.List.{AllByRecursion}
 use Rattle.std.proofs.lemmas.Bool.Decides.{nat_tests}
 use Rattle.mg_text.specs.Call.{Name}
@@ -16,7 +17,8 @@ use Rattle.scr_tree.specs.Valid.{depth}
 use Rattle.scr_tree.specs.Written.{Carries, Arguments, WrittenPart, WrittenTree}
 use Rattle.scr_parse.specs.Grammar.{IsType, IsBraced, AreStatements, Note, carries_among, arguments_among, IsLocal, IsShallow, IsSpelled}
 use Rattle.scr_parse.specs.inner.View.{joined}
-use Rattle.scr_parse.specs.inner.Reading.{mark_at, name_at, is_at, after_module, type_at, types_at, title_at, header_at, block_with, statement_at, carries_in, arguments_in, up_to, part_at, is_more, file_at}
+use Rattle.scr_parse.specs.inner.Reading.{mark_at, name_at, is_at, after_module, type_at, types_at, title_at, header_at, block_with}
+use Rattle.scr_parse.specs.inner.Reading.{statement_at, carries_in, arguments_in, up_to, part_at, is_more, file_at}
 use Rattle.scr_parse.proofs.Steps.{Anything, after, mark_is, name_is}
 use Rattle.scr_parse.proofs.Turns.{shorter}
 use Rattle.scr_parse.proofs.Names.{module_sound, module_complete, type_exact, type_starts}
@@ -97,11 +99,13 @@ module _ (declared : List Declaration) where
         );
       })
 
-  part_complete : (p : WrittenPart) (ts rest : List Tok) → Anything rest → PartOf declared p ts → part_at declared (ts ++ rest) ≡ Some (p, rest)
+  part_complete : (p : WrittenPart) (ts rest : List Tok) → Anything rest → PartOf declared p ts → part_at declared (ts ++ rest)
+      ≡ Some (p, rest)
   unfolding part_at title_at
   part_complete p ts rest fine (s, shallow) =
       let header = header_complete (p.me, p.roles) s.header (s.block ++ rest) s.heads in
-      let block = (blocks_exact declared 200).complete (list_of declared p.body) s.block rest tt (row_block declared 200 p.body s.notes s.block s.body shallow) in
+      let block = (blocks_exact declared 200).complete (list_of declared p.body) s.block rest tt
+      (row_block declared 200 p.body s.notes s.block s.body shallow) in
       let gathered = block_gathers declared p.body s.notes s.block s.body in
       let cut : up_to (s.block ++ rest) rest ≡ s.block = up_to_is s.block rest in
       let carried : carries_in (up_to (s.block ++ rest) rest) ≡ p.carries =
@@ -126,12 +130,14 @@ module _ (declared : List Declaration) where
   part_shorter = shorter (part_at declared) (PartOf declared) Anything part_exact part_nonempty
 
   -- several of them
-  each_local : (ps : List WrittenPart) (ts : List Tok) → Each (PartOf declared) ps ts → Each (IsLocal declared) ps ts × AllByRecursion IsShallow ps
+  each_local : (ps : List WrittenPart) (ts : List Tok) → Each (PartOf declared) ps ts → Each (IsLocal declared) ps ts
+      × AllByRecursion IsShallow ps
   each_local [] ts h = (h, tt)
   each_local (p ∷ ps) ts (us, vs, parts, one, more) =
       let r = each_local ps vs more in ((us, vs, parts, one.0, r.0), (one.1, r.1))
 
-  each_part : (ps : List WrittenPart) (ts : List Tok) → Each (IsLocal declared) ps ts → AllByRecursion IsShallow ps → Each (PartOf declared) ps ts
+  each_part : (ps : List WrittenPart) (ts : List Tok) → Each (IsLocal declared) ps ts → AllByRecursion IsShallow ps →
+      Each (PartOf declared) ps ts
   each_part [] ts h all = h
   each_part (p ∷ ps) ts (us, vs, parts, one, more) all = (us, vs, parts, (one, all.0), each_part ps vs more all.1)
 
@@ -191,7 +197,8 @@ renumber n w ts h =
     }
 
 -- behind the last protocol nothing is left
-all_read : (declared : List Declaration) (ts : List Tok) (x : List WrittenPart × List Tok) → all_of is_more (part_at declared) ts ≡ Some x → x.1 ≡ []
+all_read : (declared : List Declaration) (ts : List Tok) (x : List WrittenPart × List Tok) → all_of is_more (part_at declared) ts ≡ Some x →
+    x.1 ≡ []
 all_read declared ts x e = nothing x.1 (all_stops is_more (part_at declared) ts x e)
   where
     nothing : (us : List Tok) → is_more us ≡ false → us ≡ []
@@ -221,7 +228,8 @@ file_sound ts w e =
         types = types.front;
         first = first.front;
         others = others.front;
-        tokens = file_parts start.front types.front first.front others.front ts m.0 t.0.1 f.0.1 o.0.1 start.parts types.parts first.parts others.parts
+        tokens = file_parts start.front types.front first.front others.front ts m.0 t.0.1 f.0.1 o.0.1 start.parts types.parts first.parts
+            others.parts
             (all_read t.0.0 f.0.1 o.0 o.1);
         starts = start.holds;
         declares = types.holds;
@@ -247,9 +255,11 @@ file_complete w ts h =
     let opens : body ≡ marked l.local_at marks.Local ∷ inside = ap (λ (r : List Tok). r ++ s.others) l.tokens in
     let start = module_complete s.start (s.types ++ body)
     (rw opens (types_stop w.types s.types inside l.local_at s.declares)) s.starts in
-    let types = all_complete (is_at marks.Type) type_at IsType Anything type_exact type_starts w.types s.types body tt (rw opens refl) s.declares in
+    let types = all_complete (is_at marks.Type) type_at IsType Anything type_exact type_starts w.types s.types body tt
+    (rw opens refl) s.declares in
     let first = (part_exact w.types).complete w.first s.first s.others tt (s.begins, h.shallow.0) in
-    let others = all_complete is_more (part_at w.types) (PartOf w.types) Anything (part_exact w.types) (part_starts w.types) w.others s.others [] tt refl
+    let others = all_complete is_more (part_at w.types) (PartOf w.types) Anything (part_exact w.types) (part_starts w.types) w.others
+    s.others [] tt refl
     (each_part w.types w.others s.others s.goes_on h.shallow.1) in
     let others_here : all_of is_more (part_at w.types) s.others ≡ Some (w.others, []) =
     ap (all_of is_more (part_at w.types)) (sym (append-nil s.others)) ∙ others in

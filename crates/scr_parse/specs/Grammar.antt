@@ -92,7 +92,8 @@ AreTypes (name ∷ names) ts = Listed marks.Comma IsNaming (name ∷ names) ts
 abbrev pub IsMessage : List Declaration → Message → (types : List Name) → List Tok → Type 0
 IsMessage declared m types ts =
     (a b c d e : Place) × (us : List Tok)
-    × (ts ≡ named m.place m.label ∷ marked a marks.OpenParen ∷ (us ++ marked b marks.CloseParen ∷ marked c (direction_mark m.direction) ∷ named d m.peer ∷ marked e marks.Semicolon ∷ []))
+    × (ts ≡ named m.place m.label ∷ marked a marks.OpenParen ∷ (us ++ marked b marks.CloseParen ∷ marked c (direction_mark m.direction) ∷
+    named d m.peer ∷ marked e marks.Semicolon ∷ []))
     × AreTypes types us × (m.payload ≡ kind_of declared types)
 
 -- what a message carries
@@ -148,7 +149,8 @@ abbrev mutual
   AreStatements declared (Do place name rest) ns ts =
       (a b c d : Place) × (roles : List Name) × (ms : List Note) × (us vs : List Tok)
       × (ns ≡ gives (given place name roles) ∷ ms)
-      × (ts ≡ marked place marks.Do ∷ named a name ∷ marked b marks.OpenParen ∷ (us ++ marked c marks.CloseParen ∷ marked d marks.Semicolon ∷ vs))
+      × (ts ≡ marked place marks.Do ∷ named a name ∷ marked b marks.OpenParen ∷
+      (us ++ marked c marks.CloseParen ∷ marked d marks.Semicolon ∷ vs))
       × Listed marks.Comma IsNaming roles us × AreStatements declared rest ms vs
 
   -- block { "or" block }

@@ -8,7 +8,8 @@ ghost use Rattle.scr_tree.specs.declared.token.Mark.TheVariants as marks;
 ghost use Rattle.scr_parse.specs.Answer.{Gives};
 ghost use Rattle.scr_parse.specs.inner.Kinds.{IsTable};
 ghost use Rattle.scr_parse.specs.inner.View.{alone, all_alone, blocks_alone};
-ghost use Rattle.scr_parse.specs.inner.Reading.{is_at, direction_at, payload_at, message_at, continue_at, do_at, says_at, not_closed, block_with, other_with, branches_with, choice_with, rec_with, statement_with, statement_at};
+ghost use Rattle.scr_parse.specs.inner.Reading.{is_at, direction_at, payload_at, message_at, continue_at, do_at, says_at, not_closed};
+ghost use Rattle.scr_parse.specs.inner.Reading.{block_with, other_with, branches_with, choice_with, rec_with, statement_with, statement_at};
 
 use crate::fault::ParseFault;
 use crate::front::{is_mark, mark_of, name_of, names_of};

@@ -4,7 +4,9 @@
 ghost use Rattle.std.specs.Prelude.{◌≡◌, [], ◌∷◌, ◌++◌};
 ghost use Rattle.scr_tree.specs.Tok.{toks};
 ghost use Rattle.scr_parse.specs.Answer.{Gives};
-ghost use Rattle.scr_parse.specs.inner.Reading.{module_at, after_module, title_at, role_at, earlier_role_at, other_role_at, more_roles_at, roles_at, is_other_role, earlier_roles_at, self_at, myself_at, at_header_at, self_header_at, header_at};
+ghost use Rattle.scr_parse.specs.inner.Reading.{module_at, after_module, title_at, role_at, earlier_role_at, other_role_at, more_roles_at};
+ghost use Rattle.scr_parse.specs.inner.Reading.{roles_at, is_other_role, earlier_roles_at, self_at, myself_at, at_header_at};
+ghost use Rattle.scr_parse.specs.inner.Reading.{self_header_at, header_at};
 
 use crate::fault::ParseFault;
 use crate::front::{is_mark, mark_of, name_of, names_of};

@@ -1,5 +1,6 @@
 -- The lines of a statement alone, and behind it.
-use Rattle.std.proofs.Common.{◌≡◌, ℕ, ◌+◌, ◌<◌, ◌≤◌, get_or, drop, length, List, [], ◌∷◌, ◌++◌, map, refl, sym, ap, ◌∙◌, append_assoc, codes}
+use Rattle.std.proofs.Common.{◌≡◌, ℕ, ◌+◌, ◌<◌, ◌≤◌, get_or, drop, length, List, [], ◌∷◌, ◌++◌, map, refl, sym, ap, ◌∙◌, append_assoc}
+use Rattle.std.proofs.Common.{codes}
 use Rattle.std.proofs.lemmas.List.{append-nil, at_drop_more, at_drop_all}
 use Rattle.std.proofs.lemmas.Grind.{common_steps}
 use Rattle.mg_text.specs.Call.{Name}
@@ -13,7 +14,8 @@ use Rattle.scr_tree.specs.Tree.{Statements, Nothing, other}
 use Rattle.scr_tree.specs.View.{front, statements, bodies, part_of}
 use Rattle.scr_tree.proofs.ViewLemmas.{front-Message, front-Choice, front-Rec, front-Continue, front-Do}
 use Rattle.scr_tree.proofs.Behind.{each_front, statements-step, statements-past, bodies-step, bodies-past}
-use Rattle.scr_print.specs.Layout.{indent, message_text, do_text, argument_list, part_text, part_texts, block, lines, branch_lines, role_list}
+use Rattle.scr_print.specs.Layout.{indent, message_text, do_text, argument_list, part_text, part_texts, block, lines, branch_lines}
+use Rattle.scr_print.specs.Layout.{role_list}
 
 -- the end of a line, taken into the brackets
 two : (a n r : List ℕ) → a ++ (n ++ r) ≡ (a ++ n) ++ r
@@ -32,11 +34,13 @@ six : (a b c d e n r : List ℕ) → a ++ (b ++ (c ++ (d ++ (e ++ (n ++ r))))) �
 six a b c d e n r = ap (λ x. a ++ x) (five b c d e n r) ∙ two a (b ++ (c ++ (d ++ (e ++ n)))) r
 
 module _ (roles : List Name) (level : ℕ) where
-  pub lines-front : (s : Statement) (rest : Statements) → lines roles level (front s rest) ≡ lines roles level (front s Nothing) ++ lines roles level rest
+  pub lines-front : (s : Statement) (rest : Statements) → lines roles level (front s rest) ≡ lines roles level (front s Nothing)
+      ++ lines roles level rest
   lines-front s rest =
       each_front (λ f. lines roles level (f rest) ≡ lines roles level (f Nothing) ++ lines roles level rest)
       (λ m. three (indent level) (message_text m) (codes "\n") (lines roles level rest))
-      (λ p at bs. six (indent level) (codes "choice at ") at (codes " ") (branch_lines roles [] level bs) (codes "\n") (lines roles level rest))
+      (λ p at bs. six (indent level) (codes "choice at ") at (codes " ") (branch_lines roles [] level bs) (codes "\n")
+      (lines roles level rest))
       (λ p name body. six (indent level) (codes "rec ") name (codes " ") (block roles level body) (codes "\n") (lines roles level rest))
       (λ p name. four (indent level) (codes "continue ") name (codes ";\n") (lines roles level rest))
       (λ p name. three (indent level) (do_text roles name) (codes "\n") (lines roles level rest)) s
@@ -56,28 +60,34 @@ module _ (roles : List Name) (level : ℕ) where
       indent level ++ (codes "rec " ++ (name ++ (codes " " ++ (block roles level (statements body.items) ++ codes "\n"))))
   lines-Rec p name body = ap (λ f. lines roles level (f Nothing)) (front-Rec p name body)
 
-  pub lines-Continue : (p : Place) (name : Name) → lines roles level (front (kinds.Continue p name) Nothing) ≡ indent level ++ (codes "continue " ++ (name ++ codes ";\n"))
+  pub lines-Continue : (p : Place) (name : Name) → lines roles level (front (kinds.Continue p name) Nothing) ≡ indent level
+      ++ (codes "continue " ++ (name ++ codes ";\n"))
   lines-Continue p name = ap (λ f. lines roles level (f Nothing)) (front-Continue p name)
 
-  pub lines-Do : (p : Place) (name : Name) → lines roles level (front (kinds.Do p name) Nothing) ≡ indent level ++ (do_text roles name ++ codes "\n")
+  pub lines-Do : (p : Place) (name : Name) → lines roles level (front (kinds.Do p name) Nothing) ≡ indent level
+      ++ (do_text roles name ++ codes "\n")
   lines-Do p name = ap (λ f. lines roles level (f Nothing)) (front-Do p name)
 
 -- the branch at an index, and those behind it
-pub branches-step : (roles : List Name) (before : List ℕ) (level : ℕ) (bs : List (Row Statement)) (i : ℕ) (x : Row Statement) → i < length bs → x ≡ get_or bs i x →
-    branch_lines roles before level (bodies (drop i bs)) ≡ before ++ (block roles level (statements x.items) ++ branch_lines roles (codes " or ") level (bodies (drop (i + 1) bs)))
+pub branches-step : (roles : List Name) (before : List ℕ) (level : ℕ) (bs : List (Row Statement)) (i : ℕ) (x : Row Statement) →
+    i < length bs → x ≡ get_or bs i x →
+    branch_lines roles before level (bodies (drop i bs)) ≡ before ++ (block roles level (statements x.items) ++ branch_lines roles
+    (codes " or ") level (bodies (drop (i + 1) bs)))
 branches-step roles before level bs i x within is = ap (branch_lines roles before level) (bodies-step bs i x within is)
 
 -- the role at an index, and those behind it
 pub roles-step : (before : List ℕ) (rs : List Name) (i : ℕ) (x : Name) → i < length rs → x ≡ get_or rs i x →
     role_list before (drop i rs) ≡ before ++ (codes "role " ++ (x ++ role_list (codes ", ") (drop (i + 1) rs)))
 roles-step before rs i x within is =
-    at_drop_more (role_list before) rs i x within ∙ ap (λ y. before ++ (codes "role " ++ (y ++ role_list (codes ", ") (drop (i + 1) rs)))) (sym is)
+    at_drop_more (role_list before) rs i x within ∙ ap (λ y. before ++ (codes "role " ++ (y ++ role_list (codes ", ") (drop (i + 1) rs))))
+    (sym is)
 
 pub roles-past : (before : List ℕ) (rs : List Name) (i : ℕ) → length rs ≤ i → role_list before (drop i rs) ≡ []
 roles-past before rs i h = at_drop_all (role_list before) rs i h
 
 -- one more role is written
-pub role_more : (out new before : List ℕ) (rs : List Name) (i : ℕ) (x y : Name) → i < length rs → x ≡ get_or rs i x → y ≡ x → new ≡ out ++ (before ++ (codes "role " ++ (y ++ []))) →
+pub role_more : (out new before : List ℕ) (rs : List Name) (i : ℕ) (x y : Name) → i < length rs → x ≡ get_or rs i x → y ≡ x →
+    new ≡ out ++ (before ++ (codes "role " ++ (y ++ []))) →
     out ++ role_list before (drop i rs) ≡ new ++ role_list (codes ", ") (drop (i + 1) rs)
 role_more out new before rs i x y within is same e =
     ap (λ z. out ++ z) (roles-step before rs i x within is) ∙ four out before (codes "role ") x (role_list (codes ", ") (drop (i + 1) rs))
@@ -94,7 +104,8 @@ pub arguments-past : (before : List ℕ) (rs : List Name) (i : ℕ) → length r
 arguments-past before rs i h = at_drop_all (argument_list before) rs i h
 
 -- one more argument is written
-pub argument_more : (out new before : List ℕ) (rs : List Name) (i : ℕ) (x y : Name) → i < length rs → x ≡ get_or rs i x → y ≡ x → new ≡ out ++ (before ++ (y ++ [])) →
+pub argument_more : (out new before : List ℕ) (rs : List Name) (i : ℕ) (x y : Name) → i < length rs → x ≡ get_or rs i x → y ≡ x →
+    new ≡ out ++ (before ++ (y ++ [])) →
     out ++ argument_list before (drop i rs) ≡ new ++ argument_list (codes ", ") (drop (i + 1) rs)
 argument_more out new before rs i x y within is same e =
     ap (λ z. out ++ z) (arguments-step before rs i x within is) ∙ three out before x (argument_list (codes ", ") (drop (i + 1) rs))
@@ -108,7 +119,8 @@ texts_of me roles ps = part_texts me roles (map other (map part_of ps))
 pub parts-step : (me : Name) (roles : List Name) (ps : List Part) (i : ℕ) (x : Part) → i < length ps → x ≡ get_or ps i x →
     texts_of me roles (drop i ps) ≡ part_text me roles (other (part_of x)) ++ texts_of me roles (drop (i + 1) ps)
 parts-step me roles ps i x within is =
-    at_drop_more (texts_of me roles) ps i x within ∙ ap (λ y. part_text me roles (other (part_of y)) ++ texts_of me roles (drop (i + 1) ps)) (sym is)
+    at_drop_more (texts_of me roles) ps i x within ∙ ap (λ y. part_text me roles (other (part_of y)) ++ texts_of me roles (drop (i + 1) ps))
+    (sym is)
 
 pub parts-past : (me : Name) (roles : List Name) (ps : List Part) (i : ℕ) → length ps ≤ i → texts_of me roles (drop i ps) ≡ []
 parts-past me roles ps i h = at_drop_all (texts_of me roles) ps i h

@@ -23,7 +23,8 @@ direction_word directions.To = codes "to"
 direction_word directions.From = codes "from"
 
 abbrev pub message_text : Message → List ℕ
-message_text m = m.label ++ (codes "(" ++ (payload_word m.payload ++ (codes ") " ++ (direction_word m.direction ++ (codes " " ++ (m.peer ++ codes ";"))))))
+message_text m = m.label ++ (codes "("
+    ++ (payload_word m.payload ++ (codes ") " ++ (direction_word m.direction ++ (codes " " ++ (m.peer ++ codes ";"))))))
 
 -- lines between braces; the closing brace is at the level of the opening line
 abbrev pub braced : ℕ → List ℕ → List ℕ
@@ -43,9 +44,11 @@ abbrev mutual
   lines roles level Nothing = []
   lines roles level (Says m rest) = indent level ++ (message_text m ++ (codes "\n" ++ lines roles level rest))
   lines roles level (Choice place at branches rest) =
-      indent level ++ (codes "choice at " ++ (at ++ (codes " " ++ (branch_lines roles [] level branches ++ (codes "\n" ++ lines roles level rest)))))
+      indent level ++ (codes "choice at "
+      ++ (at ++ (codes " " ++ (branch_lines roles [] level branches ++ (codes "\n" ++ lines roles level rest)))))
   lines roles level (Rec place name body rest) =
-      indent level ++ (codes "rec " ++ (name ++ (codes " " ++ (braced level (lines roles (level + 1) body) ++ (codes "\n" ++ lines roles level rest)))))
+      indent level ++ (codes "rec " ++
+      (name ++ (codes " " ++ (braced level (lines roles (level + 1) body) ++ (codes "\n" ++ lines roles level rest)))))
   lines roles level (Continue place name rest) = indent level ++ (codes "continue " ++ (name ++ (codes ";\n" ++ lines roles level rest)))
   lines roles level (Do place name rest) = indent level ++ (do_text roles name ++ (codes "\n" ++ lines roles level rest))
 
@@ -67,7 +70,8 @@ role_list before (role ∷ roles) = before ++ (codes "role " ++ (role ++ role_li
 -- a protocol of a role, with all roles
 abbrev pub part_text : Name → List Name → Titled → List ℕ
 part_text me roles t =
-    codes "local protocol " ++ (t.name ++ (codes " at " ++ (me ++ (codes "(" ++ (role_list [] roles ++ (codes ") " ++ (block roles 0 t.body ++ codes "\n")))))))
+    codes "local protocol " ++ (t.name
+    ++ (codes " at " ++ (me ++ (codes "(" ++ (role_list [] roles ++ (codes ") " ++ (block roles 0 t.body ++ codes "\n")))))))
 
 abbrev pub part_texts : Name → List Name → List Titled → List ℕ
 part_texts me roles [] = []

@@ -5,7 +5,8 @@ ghost use Rattle.std.specs.List.{flat_map};
 ghost use Rattle.scr_tree.specs.Local.{tree_of};
 ghost use Rattle.scr_tree.specs.Tree.{Nothing, other};
 ghost use Rattle.scr_tree.specs.View.{front, statements, bodies, part_of};
-ghost use Rattle.scr_print.specs.Layout.{layout, part_text, part_texts, do_text, argument_list, block, lines, branch_lines, role_list, indent, message_text, payload_word, direction_word};
+ghost use Rattle.scr_print.specs.Layout.{layout, part_text, part_texts, do_text, argument_list, block, lines, branch_lines, role_list};
+ghost use Rattle.scr_print.specs.Layout.{indent, message_text, payload_word, direction_word};
 
 use mg_text::{List, Memory, Text};
 use scr_tree::{Direction, Local, Message, Part, Payload, Statement};
@@ -28,7 +29,8 @@ pub fn print_local(alloc: Global, local: &Local) -> Result<Text, Memory>
 // The protocols behind the first, of a role with these roles.
 #[tactic(auto, using(crate::proofs::Laid::part_steps))]
 fn put_others(out: &mut String, me: &str, roles: &[Text], others: &[Part]) -> Result<(), Memory>
-    ensures { OnOk result (string_bytes out.new ≡ string_bytes out.old ++ part_texts me.now roles.now (map other (map part_of others.now))) }
+    ensures { OnOk result (string_bytes out.new ≡ string_bytes out.old ++ part_texts me.now roles.now
+        (map other (map part_of others.now))) }
 {
     for part in others {
         put_part(out, me, roles, part.name.as_str(), part.body.as_slice())?;
@@ -44,7 +46,8 @@ fn put_part(
     name: &str,
     body: &[Statement],
 ) -> Result<(), Memory>
-    ensures { OnOk result (string_bytes out.new ≡ string_bytes out.old ++ part_text me.now roles.now (record { name = name.now; body = statements body.now })) }
+    ensures { OnOk result (string_bytes out.new ≡ string_bytes out.old ++ part_text me.now roles.now
+        (record { name = name.now; body = statements body.now })) }
 {
     put(out, &["local protocol ", name, " at ", me, "("])?;
     put_roles(out, roles)?;

@@ -1,5 +1,6 @@
 -- What is found of lists of statements and of branches, one behind another.
-use Rattle.std.proofs.Common.{◌≡◌, ℕ, max, List, [], ◌∷◌, ◌++◌, length, Bool, true, false, ◌||◌, Option, Some, None, refl, sym, ap, ◌∙◌, arith}
+use Rattle.std.proofs.Common.{◌≡◌, ℕ, max, List, [], ◌∷◌, ◌++◌, length, Bool, true, false, ◌||◌, Option, Some, None, refl, sym, ap, ◌∙◌}
+use Rattle.std.proofs.Common.{arith}
 use Rattle.std.specs.Option.{option_or}
 use Rattle.scr_tree.specs.Tree.{Statements, Nothing, Branches, NoBranch}
 use Rattle.scr_global.specs.Projecting.{both}
@@ -81,7 +82,8 @@ pub nothing_followed : (a : Found) → followed nothing a ≡ a
 nothing_followed a = found_is refl (zero_max a.reach) refl (nothing_says a.says)
 
 pub followed_both : (a b c : Found) → followed (followed a b) c ≡ followed a (followed b c)
-followed_both a b c = found_is (or_or a.named b.named c.named) (max_max a.reach b.reach c.reach) (option_both a.first b.first c.first) (says_both a.says b.says c.says)
+followed_both a b c = found_is (or_or a.named b.named c.named) (max_max a.reach b.reach c.reach) (option_both a.first b.first c.first)
+    (says_both a.says b.says c.says)
 
 pub followed_none : (a : FoundEach) → followed_each a no_branch ≡ a
 followed_none a = each_is (or_false a.named) (max_zero a.reach) (option_none a.first) (say_none a.says)
@@ -90,7 +92,8 @@ pub none_followed : (a : FoundEach) → followed_each no_branch a ≡ a
 none_followed a = each_is refl (zero_max a.reach) refl (none_say a.says)
 
 pub each_both : (a b c : FoundEach) → followed_each (followed_each a b) c ≡ followed_each a (followed_each b c)
-each_both a b c = each_is (or_or a.named b.named c.named) (max_max a.reach b.reach c.reach) (option_both a.first b.first c.first) (say_both a.says b.says c.says)
+each_both a b c = each_is (or_or a.named b.named c.named) (max_max a.reach b.reach c.reach) (option_both a.first b.first c.first)
+    (say_both a.says b.says c.says)
 
 pub nothing_left : {X : Type 0} (xs : List X) → length xs ≡ 0 → xs ≡ []
 nothing_left [] e = refl

@@ -1,5 +1,6 @@
 -- How far statements lead says whether a `continue` in a rec names a rec opened outside it.
-use Rattle.std.proofs.Common.{◌≡◌, ℕ, suc, ◌+◌, ◌-◌, ◌<◌, ◌≤◌, max, nat_le, length, List, [], ◌∷◌, ◌++◌, Bool, true, false, ◌&&◌, ◌||◌, if◌then◌else◌, refl, sym, ap, ◌∙◌, arith}
+use Rattle.std.proofs.Common.{◌≡◌, ℕ, suc, ◌+◌, ◌-◌, ◌<◌, ◌≤◌, max, nat_le, length, List, [], ◌∷◌, ◌++◌, Bool, true, false, ◌&&◌, ◌||◌}
+use Rattle.std.proofs.Common.{if◌then◌else◌, refl, sym, ap, ◌∙◌, arith}
 use Rattle.std.specs.Str.{bytes_eq}
 use Rattle.std.proofs.lemmas.Bool.Decides.{nat_tests}
 use Rattle.mg_text.specs.Call.{Name}
@@ -46,25 +47,32 @@ both_le : (p q : Bool) (a b n : ℕ) → p ≡ nat_le a n → q ≡ nat_le b n �
 both_le p q a b n e f = (λ i. e i && f i) ∙ max_le a b n
 
 mutual
-  pub closed_reach : (inner outer : List Name) (s : Statements) → is_closed inner (said s) ≡ nat_le (reached (inner ++ outer) s) (length inner)
+  pub closed_reach : (inner outer : List Name) (s : Statements) → is_closed inner (said s) ≡ nat_le (reached (inner ++ outer) s)
+      (length inner)
   closed_reach inner outer Nothing = zero_le (length inner)
   closed_reach inner outer (Says m rest) = closed_reach inner outer rest
   closed_reach inner outer (Choice place at branches rest) =
-      both_le (are_closed inner (said_each branches)) (is_closed inner (said rest)) (reached_in (inner ++ outer) branches) (reached (inner ++ outer) rest) (length inner)
+      both_le (are_closed inner (said_each branches)) (is_closed inner (said rest)) (reached_in (inner ++ outer) branches)
+      (reached (inner ++ outer) rest) (length inner)
       (closed_reach_in inner outer branches) (closed_reach inner outer rest)
   closed_reach inner outer (Rec place name body rest) =
-      both_le (is_closed (name ∷ inner) (said body)) (is_closed inner (said rest)) (reached (name ∷ (inner ++ outer)) body - 1) (reached (inner ++ outer) rest) (length inner)
-      (closed_reach (name ∷ inner) outer body ∙ less_le (reached (name ∷ (inner ++ outer)) body) (length inner)) (closed_reach inner outer rest)
+      both_le (is_closed (name ∷ inner) (said body)) (is_closed inner (said rest)) (reached (name ∷ (inner ++ outer)) body - 1)
+      (reached (inner ++ outer) rest) (length inner)
+      (closed_reach (name ∷ inner) outer body ∙ less_le (reached (name ∷ (inner ++ outer)) body) (length inner))
+      (closed_reach inner outer rest)
   closed_reach inner outer (Continue place name rest) =
       both_le (is_among inner name) (is_closed inner (said rest)) (far name (inner ++ outer)) (reached (inner ++ outer) rest) (length inner)
       (far_le name inner outer) (closed_reach inner outer rest)
 
-  closed_reach_in : (inner outer : List Name) (bs : Branches) → are_closed inner (said_each bs) ≡ nat_le (reached_in (inner ++ outer) bs) (length inner)
+  closed_reach_in : (inner outer : List Name) (bs : Branches) → are_closed inner (said_each bs) ≡ nat_le (reached_in (inner ++ outer) bs)
+      (length inner)
   closed_reach_in inner outer NoBranch = zero_le (length inner)
   closed_reach_in inner outer (Branch b more) =
-      both_le (is_closed inner (said b)) (are_closed inner (said_each more)) (reached (inner ++ outer) b) (reached_in (inner ++ outer) more) (length inner)
+      both_le (is_closed inner (said b)) (are_closed inner (said_each more)) (reached (inner ++ outer) b) (reached_in (inner ++ outer) more)
+      (length inner)
       (closed_reach inner outer b) (closed_reach_in inner outer more)
 
 -- a rec's body leads out of it exactly where it reaches further than the rec itself
-pub rec_closed : (name : Name) (around : List Name) (body : Statements) → is_closed (name ∷ []) (said body) ≡ nat_le (reached (name ∷ around) body) 1
+pub rec_closed : (name : Name) (around : List Name) (body : Statements) → is_closed (name ∷ []) (said body) ≡ nat_le
+    (reached (name ∷ around) body) 1
 rec_closed name around body = closed_reach (name ∷ []) around body

@@ -1,5 +1,6 @@
 -- What a projection keeps of the statements of a valid global protocol.
-use Rattle.std.proofs.Common.{◌≡◌, ◌≢◌, ◌≤◌, ℕ, suc, max, List, [], ◌∷◌, Bool, true, false, ◌&&◌, if◌then◌else◌, Option, Some, None, refl, sym, ap, subst, ◌∙◌, arith}
+use Rattle.std.proofs.Common.{◌≡◌, ◌≢◌, ◌≤◌, ℕ, suc, max, List, [], ◌∷◌, Bool, true, false, ◌&&◌, if◌then◌else◌, Option, Some, None, refl}
+use Rattle.std.proofs.Common.{sym, ap, subst, ◌∙◌, arith}
 use Rattle.std.specs.Prelude.{Contains}
 use Rattle.std.specs.Str.{bytes_eq}
 use Rattle.mg_text.specs.Call.{Name}
@@ -28,7 +29,8 @@ mapped_some : {A B : Type 0} (f : A → B) (o : Option A) (b : B) → mapped f o
 mapped_some f None b e = absurd (none_is_not b e)
 mapped_some f (Some a) b e = (a, refl, some_is (f a) b e)
 
-both_some : {A B C : Type 0} (f : A → B → Option C) (o : Option A) (q : Option B) (c : C) → both f o q ≡ Some c → (a : A) × (b : B) × (o ≡ Some a) × (q ≡ Some b) × (f a b ≡ Some c)
+both_some : {A B C : Type 0} (f : A → B → Option C) (o : Option A) (q : Option B) (c : C) → both f o q ≡ Some c →
+    (a : A) × (b : B) × (o ≡ Some a) × (q ≡ Some b) × (f a b ≡ Some c)
 both_some f None q c e = absurd (none_is_not c e)
 both_some f (Some a) None c e = absurd (none_is_not c e)
 both_some f (Some a) (Some b) c e = (a, b, refl, refl, e)
@@ -39,7 +41,8 @@ module _ (roles : List Name) (me : Name) where
     pub Keeps : List Name → local.Statements → Type 0
     Keeps names local.Nothing = Unit {0}
     Keeps names (local.Says m rest) = IsName m.label × IsName m.peer × Contains roles m.peer × (m.peer ≢ me) × Keeps names rest
-    Keeps names (local.Choice place at branches rest) = IsName at × Contains roles at × HaveBranches branches × KeepEach names branches × Keeps names rest
+    Keeps names (local.Choice place at branches rest) = IsName at × Contains roles at × HaveBranches branches × KeepEach names branches
+        × Keeps names rest
     Keeps names (local.Rec place name body rest) = IsName name × (Contains names name → ⊥) × Keeps (name ∷ names) body × Keeps names rest
     Keeps names (local.Continue place name rest) = IsName name × Contains names name × Keeps names rest
     Keeps names (local.Do place name rest) = ⊥
@@ -57,14 +60,16 @@ module _ (roles : List Name) (me : Name) where
   keeps_behind names (local.Do place name s) t h k = absurd h
 
   keeps_told : (names : List Name) (m : Passed) (b c : Bool) (s : local.Statements) → bytes_eq m.from me ≡ b → bytes_eq m.to me ≡ c →
-      IsName m.label → IsName m.from → IsName m.to → Contains roles m.from → Contains roles m.to → (m.from ≢ m.to) → Keeps names s → Keeps names (told_in b c m s)
+      IsName m.label → IsName m.from → IsName m.to → Contains roles m.from → Contains roles m.to → (m.from ≢ m.to) → Keeps names s →
+      Keeps names (told_in b c m s)
   keeps_told names m true c s e f label from to has_from has_to apart h = (label, to, has_to, (λ same. apart (is_same e ∙ sym same)), h)
   keeps_told names m false true s e f label from to has_from has_to apart h = (label, from, has_from, is_other e, h)
   keeps_told names m false false s e f label from to has_from has_to apart h = h
 
   -- the peer that tells is one from which a message is taken
   no_take : (b : Bool) (bs : Told) (p : Protocol) (more : Told) →
-      all_take (first_peer (if b then ChoiceHere bs p else ChoiceThere 0 bs p)) (protocol.Branch (if b then ChoiceHere bs p else ChoiceThere 0 bs p) more) ≡ true → ⊥
+      all_take (first_peer (if b then ChoiceHere bs p else ChoiceThere 0 bs p))
+      (protocol.Branch (if b then ChoiceHere bs p else ChoiceThere 0 bs p) more) ≡ true → ⊥
   no_take true bs p more e = cc
   no_take false bs p more e = cc
 
@@ -72,33 +77,41 @@ module _ (roles : List Name) (me : Name) where
   IsListed peer = IsName peer × Contains roles peer
 
   taken_listed : (names : List Name) (m : Message) (d : Direction) (p : Protocol) (more : Told) → IsListed m.peer →
-      all_take (first_peer (Does (towards d m.peer m.label m.payload) p)) (protocol.Branch (Does (towards d m.peer m.label m.payload) p) more) ≡ true →
+      all_take (first_peer (Does (towards d m.peer m.label m.payload) p))
+      (protocol.Branch (Does (towards d m.peer m.label m.payload) p) more) ≡ true →
       IsListed (first_peer (Does (towards d m.peer m.label m.payload) p))
   taken_listed names m directions.To p more h e = absurd cc
   taken_listed names m directions.From p more h e = h
 
-  peer_listed : (names : List Name) (b : local.Statements) (more : Told) → Keeps names b → all_take (first_peer (spoken me b)) (protocol.Branch (spoken me b) more) ≡ true → IsListed (first_peer (spoken me b))
+  peer_listed : (names : List Name) (b : local.Statements) (more : Told) → Keeps names b →
+      all_take (first_peer (spoken me b)) (protocol.Branch (spoken me b) more) ≡ true → IsListed (first_peer (spoken me b))
   peer_listed names local.Nothing more h e = absurd cc
   peer_listed names (local.Says m rest) more h e = taken_listed names m m.direction (spoken me rest) more (h.1, h.2) e
-  peer_listed names (local.Choice place at branches rest) more h e = absurd (no_take (bytes_eq at me) (spoken_each me branches) (spoken me rest) more e)
+  peer_listed names (local.Choice place at branches rest) more h e =
+      absurd (no_take (bytes_eq at me) (spoken_each me branches) (spoken me rest) more e)
   peer_listed names (local.Rec place name body rest) more h e = absurd cc
   peer_listed names (local.Continue place name rest) more h e = absurd cc
   peer_listed names (local.Do place name rest) more h e = absurd h
 
-  merged_by : (names : List Name) (place : Place) (b : local.Statements) (more : local.Branches) (r s : local.Statements) → KeepEach names (local.Branch b more) → Keeps names r → (c d : Bool) →
+  merged_by : (names : List Name) (place : Place) (b : local.Statements) (more : local.Branches) (r s : local.Statements) →
+      KeepEach names (local.Branch b more) → Keeps names r → (c d : Bool) →
       tells_apart (first_peer (spoken me b)) (spoken_each me (local.Branch b more)) ≡ d →
-      (if c then Some (behind b r) else (if d then Some (local.Choice place (first_peer (spoken me b)) (local.Branch b more) r) else None)) ≡ Some s → Keeps names s
+      (if c then Some (behind b r) else (if d then Some (local.Choice place (first_peer (spoken me b)) (local.Branch b more) r) else None))
+      ≡ Some s → Keeps names s
   merged_by names place b more r s h k true d t e = subst (Keeps names) (some_is (behind b r) s e) (keeps_behind names b r h.0 k)
   merged_by names place b more r s h k false true t e =
-      let takes = and_parts (all_take (first_peer (spoken me b)) (spoken_each me (local.Branch b more))) (all_differ (first_labels (spoken_each me (local.Branch b more)))) t in
+      let takes = and_parts (all_take (first_peer (spoken me b)) (spoken_each me (local.Branch b more)))
+      (all_differ (first_labels (spoken_each me (local.Branch b more)))) t in
       let l = peer_listed names b (spoken_each me more) h.0 takes.0 in
       subst (Keeps names) (some_is (local.Choice place (first_peer (spoken me b)) (local.Branch b more) r) s e) (l.0, l.1, tt, h, k)
   merged_by names place b more r s h k false false t e = absurd (none_is_not s e)
 
-  keeps_merged : (names : List Name) (place : Place) (bs : local.Branches) (r s : local.Statements) → KeepEach names bs → Keeps names r → merged_text me place bs r ≡ Some s → Keeps names s
+  keeps_merged : (names : List Name) (place : Place) (bs : local.Branches) (r s : local.Statements) → KeepEach names bs → Keeps names r →
+      merged_text me place bs r ≡ Some s → Keeps names s
   keeps_merged names place local.NoBranch r s h k e = absurd (none_is_not s e)
   keeps_merged names place (local.Branch b more) r s h k e =
-      merged_by names place b more r s h k (all_same (spoken me b) (spoken_each me more)) (tells_apart (first_peer (spoken me b)) (spoken_each me (local.Branch b more))) refl e
+      merged_by names place b more r s h k (all_same (spoken me b) (spoken_each me more))
+      (tells_apart (first_peer (spoken me b)) (spoken_each me (local.Branch b more))) refl e
 
   each_kept : (branches : Branches) (bs : local.Branches) → HasBranches branches → projected_each me branches ≡ Some bs → HaveBranches bs
   each_kept NoBranch bs h e = absurd h
@@ -106,8 +119,10 @@ module _ (roles : List Name) (me : Name) where
       let p = both_some (λ b bs. Some (local.Branch b bs)) (projected me b) (projected_each me more) bs e in
       subst HaveBranches (some_is (local.Branch p.0 p.1) bs p.4) tt
 
-  chosen_kept : (names : List Name) (place : Place) (at : Name) (branches : Branches) (o : Option local.Branches) (q : Option local.Statements) (s : local.Statements) → IsName at → Contains roles at →
-      ((bs : local.Branches) → o ≡ Some bs → HaveBranches bs × KeepEach names bs) → ((r : local.Statements) → q ≡ Some r → Keeps names r) → (b : Bool) →
+  chosen_kept : (names : List Name) (place : Place) (at : Name) (branches : Branches) (o : Option local.Branches)
+      (q : Option local.Statements) (s : local.Statements) → IsName at → Contains roles at →
+      ((bs : local.Branches) → o ≡ Some bs → HaveBranches bs × KeepEach names bs) → ((r : local.Statements) → q ≡ Some r → Keeps names r) →
+      (b : Bool) →
       (if b then both (λ bs r. Some (local.Choice place at bs r)) o q else both (merged_text me place) o q) ≡ Some s → Keeps names s
   chosen_kept names place at branches o q s is_name has each rest true e =
       let p = both_some (λ bs r. Some (local.Choice place at bs r)) o q s e in
@@ -116,7 +131,8 @@ module _ (roles : List Name) (me : Name) where
   chosen_kept names place at branches o q s is_name has each rest false e =
       let p = both_some (merged_text me place) o q s e in keeps_merged names place p.0 p.1 s (each p.0 p.2).1 (rest p.1 p.3) p.4
 
-  turned_kept : (names : List Name) (place : Place) (name : Name) (o q : Option local.Statements) (s : local.Statements) → IsName name → (Contains names name → ⊥) →
+  turned_kept : (names : List Name) (place : Place) (name : Name) (o q : Option local.Statements) (s : local.Statements) → IsName name →
+      (Contains names name → ⊥) →
       ((b : local.Statements) → o ≡ Some b → Keeps (name ∷ names) b) → ((r : local.Statements) → q ≡ Some r → Keeps names r) → (b : Bool) →
       (if b then q else both (λ b r. Some (local.Rec place name b r)) o q) ≡ Some s → Keeps names s
   turned_kept names place name o q s is_name new body rest true e = rest s e
@@ -129,7 +145,8 @@ module _ (roles : List Name) (me : Name) where
     keeps names Nothing s h e = subst (Keeps names) (some_is local.Nothing s e) tt
     keeps names (Says m rest) s h e =
         let p = mapped_some (told_in (bytes_eq m.from me) (bytes_eq m.to me) m) (projected me rest) s e in
-        subst (Keeps names) p.2 (keeps_told names m (bytes_eq m.from me) (bytes_eq m.to me) p.0 refl refl h.0 h.1 h.2 h.3 h.4 h.5 (keeps names rest p.0 h.6 p.1))
+        subst (Keeps names) p.2 (keeps_told names m (bytes_eq m.from me) (bytes_eq m.to me) p.0 refl refl h.0 h.1 h.2 h.3 h.4 h.5
+        (keeps names rest p.0 h.6 p.1))
     keeps names (Choice place at branches rest) s h e =
         chosen_kept names place at branches (projected_each me branches) (projected me rest) s h.0 h.1
         (λ bs f. (each_kept branches bs h.2 f, keeps_each names branches bs h.3 f)) (λ r f. keeps names rest r h.4 f) (bytes_eq at me) e
@@ -140,7 +157,8 @@ module _ (roles : List Name) (me : Name) where
         let p = mapped_some (local.Continue place name) (projected me rest) s e in
         subst (Keeps names) p.2 (h.0, h.1, keeps names rest p.0 h.2 p.1)
 
-    keeps_each : (names : List Name) (branches : Branches) (bs : local.Branches) → AreSound roles names branches → projected_each me branches ≡ Some bs → KeepEach names bs
+    keeps_each : (names : List Name) (branches : Branches) (bs : local.Branches) → AreSound roles names branches →
+        projected_each me branches ≡ Some bs → KeepEach names bs
     keeps_each names NoBranch bs h e = subst (KeepEach names) (some_is local.NoBranch bs e) tt
     keeps_each names (Branch b more) bs h e =
         let p = both_some (λ b bs. Some (local.Branch b bs)) (projected me b) (projected_each me more) bs e in
@@ -161,44 +179,57 @@ module _ (roles : List Name) (me : Name) where
   depth_told m false true s = omega arith
   depth_told m false false s = omega arith
 
-  depth_merged : (place : Place) (bs : local.Branches) (r s : local.Statements) → merged_text me place bs r ≡ Some s → valid.depth s ≤ max (suc (valid.depth_in bs)) (valid.depth r)
+  depth_merged : (place : Place) (bs : local.Branches) (r s : local.Statements) → merged_text me place bs r ≡ Some s →
+      valid.depth s ≤ max (suc (valid.depth_in bs)) (valid.depth r)
   depth_merged place local.NoBranch r s e = absurd (none_is_not s e)
-  depth_merged place (local.Branch b more) r s e = go (all_same (spoken me b) (spoken_each me more)) (tells_apart (first_peer (spoken me b)) (spoken_each me (local.Branch b more))) e
+  depth_merged place (local.Branch b more) r s e = go (all_same (spoken me b) (spoken_each me more))
+      (tells_apart (first_peer (spoken me b)) (spoken_each me (local.Branch b more))) e
     where
-      go : (c d : Bool) → (if c then Some (behind b r) else (if d then Some (local.Choice place (first_peer (spoken me b)) (local.Branch b more) r) else None)) ≡ Some s →
+      go : (c d : Bool) → (if c then Some (behind b r) else
+          (if d then Some (local.Choice place (first_peer (spoken me b)) (local.Branch b more) r) else None)) ≡ Some s →
           valid.depth s ≤ max (suc (valid.depth_in (local.Branch b more))) (valid.depth r)
       go true d e = let same = ap valid.depth (some_is (behind b r) s e) in let h = depth_behind b r in omega arith
-      go false true e = let same = ap valid.depth (some_is (local.Choice place (first_peer (spoken me b)) (local.Branch b more) r) s e) in omega arith
+      go false true e = let same = ap valid.depth (some_is (local.Choice place (first_peer (spoken me b)) (local.Branch b more) r) s e) in
+          omega arith
       go false false e = absurd (none_is_not s e)
 
-  chosen_depth : (place : Place) (at : Name) (o : Option local.Branches) (q : Option local.Statements) (s : local.Statements) (inner later : ℕ) →
-      ((bs : local.Branches) → o ≡ Some bs → valid.depth_in bs ≤ inner) → ((r : local.Statements) → q ≡ Some r → valid.depth r ≤ later) → (b : Bool) →
-      (if b then both (λ bs r. Some (local.Choice place at bs r)) o q else both (merged_text me place) o q) ≡ Some s → valid.depth s ≤ max (suc inner) later
+  chosen_depth : (place : Place) (at : Name) (o : Option local.Branches) (q : Option local.Statements) (s : local.Statements)
+      (inner later : ℕ) →
+      ((bs : local.Branches) → o ≡ Some bs → valid.depth_in bs ≤ inner) → ((r : local.Statements) → q ≡ Some r → valid.depth r ≤ later) →
+      (b : Bool) →
+      (if b then both (λ bs r. Some (local.Choice place at bs r)) o q else both (merged_text me place) o q) ≡ Some s →
+      valid.depth s ≤ max (suc inner) later
   chosen_depth place at o q s inner later each rest true e =
       let p = both_some (λ bs r. Some (local.Choice place at bs r)) o q s e in
-      let h = each p.0 p.2 in let k = rest p.1 p.3 in let same = ap valid.depth (some_is (local.Choice place at p.0 p.1) s p.4) in omega arith
+      let h = each p.0 p.2 in let k = rest p.1 p.3 in let same = ap valid.depth (some_is (local.Choice place at p.0 p.1) s p.4) in omega
+      arith
   chosen_depth place at o q s inner later each rest false e =
       let p = both_some (merged_text me place) o q s e in
       let h = each p.0 p.2 in let k = rest p.1 p.3 in let whole = depth_merged place p.0 p.1 s p.4 in omega arith
 
   turned_depth : (place : Place) (name : Name) (o q : Option local.Statements) (s : local.Statements) (inner later : ℕ) →
-      ((b : local.Statements) → o ≡ Some b → valid.depth b ≤ inner) → ((r : local.Statements) → q ≡ Some r → valid.depth r ≤ later) → (b : Bool) →
+      ((b : local.Statements) → o ≡ Some b → valid.depth b ≤ inner) → ((r : local.Statements) → q ≡ Some r → valid.depth r ≤ later) →
+      (b : Bool) →
       (if b then q else both (λ b r. Some (local.Rec place name b r)) o q) ≡ Some s → valid.depth s ≤ max (suc inner) later
   turned_depth place name o q s inner later body rest true e = let k = rest s e in omega arith
   turned_depth place name o q s inner later body rest false e =
       let p = both_some (λ b r. Some (local.Rec place name b r)) o q s e in
-      let h = body p.0 p.2 in let k = rest p.1 p.3 in let same = ap valid.depth (some_is (local.Rec place name p.0 p.1) s p.4) in omega arith
+      let h = body p.0 p.2 in let k = rest p.1 p.3 in let same = ap valid.depth (some_is (local.Rec place name p.0 p.1) s p.4) in omega
+      arith
 
   mutual
     pub no_deeper : (t : Statements) (s : local.Statements) → projected me t ≡ Some s → valid.depth s ≤ depth t
     no_deeper Nothing s e = let same = ap valid.depth (some_is local.Nothing s e) in omega arith
     no_deeper (Says m rest) s e =
         let p = mapped_some (told_in (bytes_eq m.from me) (bytes_eq m.to me) m) (projected me rest) s e in
-        let h = no_deeper rest p.0 p.1 in let told = depth_told m (bytes_eq m.from me) (bytes_eq m.to me) p.0 in let same = ap valid.depth p.2 in omega arith
+        let h = no_deeper rest p.0 p.1 in let told = depth_told m (bytes_eq m.from me) (bytes_eq m.to me) p.0 in
+        let same = ap valid.depth p.2 in omega arith
     no_deeper (Choice place at branches rest) s e =
-        chosen_depth place at (projected_each me branches) (projected me rest) s (depth_in branches) (depth rest) (none_deeper branches) (no_deeper rest) (bytes_eq at me) e
+        chosen_depth place at (projected_each me branches) (projected me rest) s (depth_in branches) (depth rest) (none_deeper branches)
+        (no_deeper rest) (bytes_eq at me) e
     no_deeper (Rec place name body rest) s e =
-        turned_depth place name (projected me body) (projected me rest) s (depth body) (depth rest) (no_deeper body) (no_deeper rest) (is_nothing_to me name (said body)) e
+        turned_depth place name (projected me body) (projected me rest) s (depth body) (depth rest) (no_deeper body) (no_deeper rest)
+        (is_nothing_to me name (said body)) e
     no_deeper (Continue place name rest) s e =
         let p = mapped_some (local.Continue place name) (projected me rest) s e in
         let h = no_deeper rest p.0 p.1 in let same = ap valid.depth p.2 in omega arith
@@ -207,4 +238,5 @@ module _ (roles : List Name) (me : Name) where
     none_deeper NoBranch bs e = let same = ap valid.depth_in (some_is local.NoBranch bs e) in omega arith
     none_deeper (Branch b more) bs e =
         let p = both_some (λ b bs. Some (local.Branch b bs)) (projected me b) (projected_each me more) bs e in
-        let inner = no_deeper b p.0 p.2 in let others = none_deeper more p.1 p.3 in let same = ap valid.depth_in (some_is (local.Branch p.0 p.1) bs p.4) in omega arith
+        let inner = no_deeper b p.0 p.2 in let others = none_deeper more p.1 p.3 in
+        let same = ap valid.depth_in (some_is (local.Branch p.0 p.1) bs p.4) in omega arith

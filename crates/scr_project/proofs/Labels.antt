@@ -1,5 +1,6 @@
 -- Branches tell what was chosen where each takes a first message from one peer, with a label that none before it has.
-use Rattle.std.proofs.Common.{◌≡◌, ◌≢◌, List, [], ◌∷◌, Bool, true, false, ◌&&◌, ◌||◌, not, if◌then◌else◌, Option, Some, None, Decides, refl, sym, ap, ◌∙◌, true≢false}
+use Rattle.std.proofs.Common.{◌≡◌, ◌≢◌, List, [], ◌∷◌, Bool, true, false, ◌&&◌, ◌||◌, not, if◌then◌else◌, Option, Some, None, Decides, refl}
+use Rattle.std.proofs.Common.{sym, ap, ◌∙◌, true≢false}
 use Rattle.std.specs.Str.{bytes_eq}
 use Rattle.std.proofs.lemmas.Slice.Eq.{bytes_eq-Decides}
 use Rattle.mg_text.specs.Call.{Name}
@@ -91,7 +92,8 @@ rearranged true false true f = refl
 rearranged true false false f = refl
 rearranged false n t f = refl
 
-not_take : (b : Bool) (peer : Name) (bs : Told) (p : Protocol) (more : Told) → all_take peer (protocol.Branch (if b then ChoiceHere bs p else ChoiceThere 0 bs p) more) ≡ false
+not_take : (b : Bool) (peer : Name) (bs : Told) (p : Protocol) (more : Told) →
+    all_take peer (protocol.Branch (if b then ChoiceHere bs p else ChoiceThere 0 bs p) more) ≡ false
 not_take true peer bs p more = refl
 not_take false peer bs p more = refl
 
@@ -107,20 +109,24 @@ module _ (me : Name) (peer : Name) where
   said_tells has m rest more h directions.To = refl
   said_tells has m rest more h directions.From =
       ap (λ (z : Bool). bytes_eq m.peer peer && (not (has m.label) && z)) h
-      ∙ rearranged (bytes_eq m.peer peer) (not (has m.label)) (all_take peer (spoken_each me more)) (fresh (with_name m.label has) (first_labels (spoken_each me more)))
+      ∙ rearranged (bytes_eq m.peer peer) (not (has m.label)) (all_take peer (spoken_each me more))
+      (fresh (with_name m.label has) (first_labels (spoken_each me more)))
 
-  pub tells_is : (has : Names) (bs : Branches) → tells peer has bs ≡ (all_take peer (spoken_each me bs) && fresh has (first_labels (spoken_each me bs)))
+  pub tells_is : (has : Names) (bs : Branches) →
+      tells peer has bs ≡ (all_take peer (spoken_each me bs) && fresh has (first_labels (spoken_each me bs)))
   tells_is has NoBranch = refl
   tells_is has (Branch Nothing more) = refl
   tells_is has (Branch (Says m rest) more) = said_tells has m rest more (tells_is (with_name m.label has) more) m.direction
   tells_is has (Branch (Choice p at bs rest) more) =
-      sym (ap (λ (z : Bool). z && fresh has (first_labels (spoken_each me (Branch (Choice p at bs rest) more)))) (not_take (bytes_eq at me) peer (spoken_each me bs) (spoken me rest) (spoken_each me more)))
+      sym (ap (λ (z : Bool). z && fresh has (first_labels (spoken_each me (Branch (Choice p at bs rest) more))))
+      (not_take (bytes_eq at me) peer (spoken_each me bs) (spoken me rest) (spoken_each me more)))
   tells_is has (Branch (Rec p name body rest) more) = refl
   tells_is has (Branch (Continue p name rest) more) = refl
   tells_is has (Branch (Do p name rest) more) = refl
 
   pub tells_none : (bs : Branches) → tells peer none bs ≡ tells_apart peer (spoken_each me bs)
-  tells_none bs = tells_is none bs ∙ ap (λ (z : Bool). all_take peer (spoken_each me bs) && z) (fresh_none (first_labels (spoken_each me bs)))
+  tells_none bs = tells_is none bs ∙ ap (λ (z : Bool). all_take peer (spoken_each me bs) && z)
+      (fresh_none (first_labels (spoken_each me bs)))
 
 -- ---- the peer that tells
 
@@ -133,7 +139,8 @@ told_by bs (Some m) = if tells m.peer none bs then Some m.peer else None
 abbrev apart_by : Protocol → Told → Option Name
 apart_by p behind = if tells_apart (first_peer p) (protocol.Branch p behind) then Some (first_peer p) else None
 
-none_tells : (b : Bool) (bs : Told) (p : Protocol) (behind : Told) → apart_by (if b then ChoiceHere bs p else ChoiceThere 0 bs p) behind ≡ None
+none_tells : (b : Bool) (bs : Told) (p : Protocol) (behind : Told) → apart_by (if b then ChoiceHere bs p else ChoiceThere 0 bs p) behind
+    ≡ None
 none_tells true bs p behind = refl
 none_tells false bs p behind = refl
 
@@ -144,7 +151,9 @@ module _ (me : Name) where
   one_tells m rest more directions.To e = refl
   one_tells m rest more directions.From e =
       ap (λ (z : Bool). if z then Some m.peer else None)
-      (sym (tells_none me m.peer (Branch (Says m rest) more) ∙ ap (λ (d : Direction). tells_apart m.peer (protocol.Branch (Does (towards d m.peer m.label m.payload) (spoken me rest)) (spoken_each me more))) e))
+      (sym (tells_none me m.peer (Branch (Says m rest) more) ∙
+      ap (λ (d : Direction). tells_apart m.peer (protocol.Branch (Does (towards d m.peer m.label m.payload) (spoken me rest))
+      (spoken_each me more))) e))
 
   pub telling_is : (b : Statements) (more : Branches) → telling me (Branch b more) ≡ told_by (Branch b more) (first_taken b)
   telling_is Nothing more = refl

@@ -27,7 +27,8 @@ use Rattle.scr_project.proofs.Premises.{can_be_written, early_clean, same_parts}
 use Rattle.scr_project.proofs.Answered.{stage_made, stage_unprojected, stage_unmerged}
 
 module _ (global : Global) (me : Name) (s : Statements) (e : projected me (tree_of global).body ≡ Some s) (t : LocalTree)
-    (file : t.file ≡ (tree_of global).file) (name : t.name ≡ (tree_of global).name) (role : t.me ≡ me) (roles : t.roles ≡ (tree_of global).roles) (body : t.body ≡ s) (alone : t.others ≡ []) where
+    (file : t.file ≡ (tree_of global).file) (name : t.name ≡ (tree_of global).name) (role : t.me ≡ me)
+    (roles : t.roles ≡ (tree_of global).roles) (body : t.body ≡ s) (alone : t.others ≡ []) where
   same : t ≡ projection_of (tree_of global) me s
   same = same_parts (tree_of global) me s t file name role roles body alone
 
@@ -37,11 +38,14 @@ module _ (global : Global) (me : Name) (s : Statements) (e : projected me (tree_
   module _ (listed : Contains (tree_of global).roles me) where
     pub made_of_parts : (made : Local) → Makes t (Ok made) → Stage (tree_of global) me (Ok made)
     made_of_parts made h =
-        stage_made (tree_of global) me s e (early_clean (tree_of global) me s e global.valid listed) made (subst (λ (u : LocalTree). Makes u (Ok made)) same h)
+        stage_made (tree_of global) me s e (early_clean (tree_of global) me s e global.valid listed) made
+        (subst (λ (u : LocalTree). Makes u (Ok made)) same h)
 
-    pub unmade_of_parts : (fault : ScrFault) (r : Result Local ProjectFault) → Makes t (Err fault) → IsUnprojected t.file me fault r → Stage (tree_of global) me r
+    pub unmade_of_parts : (fault : ScrFault) (r : Result Local ProjectFault) → Makes t (Err fault) → IsUnprojected t.file me fault r →
+        Stage (tree_of global) me r
     unmade_of_parts fault r h u =
-        stage_unprojected (tree_of global) me s e (early_clean (tree_of global) me s e global.valid listed) fault r (subst (λ (u : LocalTree). Makes u (Err fault)) same h)
+        stage_unprojected (tree_of global) me s e (early_clean (tree_of global) me s e global.valid listed) fault r
+        (subst (λ (u : LocalTree). Makes u (Err fault)) same h)
         (subst (λ (n : ℕ). IsUnprojected n me fault r) file u)
 
 some_unless : (o : Option Place) → (o ≡ None → ⊥) → IsSome o
@@ -49,7 +53,8 @@ some_unless (Some place) h = refl
 some_unless None h = absurd (h refl)
 
 -- what the walk found
-module _ (g : GlobalTree) (me name : Name) (p : Part) (b : List GStatement) (is : name ≡ me) (body : texts.statements b ≡ g.body) (h : found_of p ≡ found name [] (texts.statements b))
+module _ (g : GlobalTree) (me name : Name) (p : Part) (b : List GStatement) (is : name ≡ me) (body : texts.statements b ≡ g.body)
+    (h : found_of p ≡ found name [] (texts.statements b))
     (says : p.says ≡ None) where
   walked : found_of p ≡ found me [] g.body
   walked = h ∙ (λ i. found (is i) [] (body i))

@@ -1,5 +1,6 @@
 -- The steps of merging: branches one by one.
-use Rattle.std.proofs.Common.{◌≡◌, ℕ, ◌+◌, ◌<◌, ◌≤◌, length, get_or, drop, List, [], ◌∷◌, Bool, true, false, ◌&&◌, not, if◌then◌else◌, Option, Some, None, refl, sym, ap, ◌∙◌}
+use Rattle.std.proofs.Common.{◌≡◌, ℕ, ◌+◌, ◌<◌, ◌≤◌, length, get_or, drop, List, [], ◌∷◌, Bool, true, false, ◌&&◌, not, if◌then◌else◌}
+use Rattle.std.proofs.Common.{Option, Some, None, refl, sym, ap, ◌∙◌}
 use Rattle.std.specs.Str.{bytes_eq}
 use Rattle.std.proofs.lemmas.Grind.{common_steps}
 use Rattle.mg_text.specs.Call.{Name}
@@ -28,14 +29,17 @@ pub agreed-step : (me : Name) (b : Statements) (bs : List (Row Statement)) (i : 
     (is_same (spoken me (statements x.items)) (spoken me b) && all_same (spoken me b) (spoken_each me (bodies (drop (i + 1) bs))))
 agreed-step me b bs i x within is = ap (λ (s : Branches). all_same (spoken me b) (spoken_each me s)) (bodies-step bs i x within is)
 
-pub agreed-past : (me : Name) (b : Statements) (bs : List (Row Statement)) (i : ℕ) → length bs ≤ i → all_same (spoken me b) (spoken_each me (bodies (drop i bs))) ≡ true
+pub agreed-past : (me : Name) (b : Statements) (bs : List (Row Statement)) (i : ℕ) → length bs ≤ i →
+    all_same (spoken me b) (spoken_each me (bodies (drop i bs))) ≡ true
 agreed-past me b bs i h = ap (λ (s : Branches). all_same (spoken me b) (spoken_each me s)) (bodies-past bs i h)
 
 -- ---- what is merged
 
-pub merged_agreed : (me : Name) (place : Place) (b : Statements) (more : Branches) → agreed me (Branch b more) ≡ true → merged_text me place (Branch b more) Nothing ≡ Some b
+pub merged_agreed : (me : Name) (place : Place) (b : Statements) (more : Branches) → agreed me (Branch b more) ≡ true →
+    merged_text me place (Branch b more) Nothing ≡ Some b
 merged_agreed me place b more e =
-    ap (λ (z : Bool). if z then Some (behind b Nothing) else (if tells_apart (first_peer (spoken me b)) (spoken_each me (Branch b more)) then Some (Choice place (first_peer (spoken me b)) (Branch b more) Nothing) else None)) e
+    ap (λ (z : Bool). if z then Some (behind b Nothing) else (if tells_apart (first_peer (spoken me b)) (spoken_each me (Branch b more))
+    then Some (Choice place (first_peer (spoken me b)) (Branch b more) Nothing) else None)) e
     ∙ ap (λ (s : Statements). Some s) (behind_nothing b)
 
 -- a choice at the role that tells
@@ -43,10 +47,12 @@ abbrev pub told_at : Place → Branches → Option Name → Option Statements
 told_at place bs None = None
 told_at place bs (Some at) = Some (Choice place at bs Nothing)
 
-pub merged_told : (me : Name) (place : Place) (bs : Branches) → agreed me bs ≡ false → merged_text me place bs Nothing ≡ told_at place bs (telling me bs)
+pub merged_told : (me : Name) (place : Place) (bs : Branches) → agreed me bs ≡ false → merged_text me place bs Nothing ≡ told_at place bs
+    (telling me bs)
 merged_told me place NoBranch e = refl
 merged_told me place (Branch b more) e =
-    ap (λ (z : Bool). if z then Some (behind b Nothing) else (if apart then Some (Choice place peer (Branch b more) Nothing) else None)) e ∙ go apart
+    ap (λ (z : Bool). if z then Some (behind b Nothing) else (if apart then Some (Choice place peer (Branch b more) Nothing) else None)) e ∙
+    go apart
   where
     peer : Name
     peer = first_peer (spoken me b)
@@ -54,7 +60,8 @@ merged_told me place (Branch b more) e =
     apart : Bool
     apart = tells_apart peer (spoken_each me (Branch b more))
 
-    go : (z : Bool) → (if z then Some (Choice place peer (Branch b more) Nothing) else None) ≡ told_at place (Branch b more) (if z then Some peer else None)
+    go : (z : Bool) → (if z then Some (Choice place peer (Branch b more) Nothing) else None) ≡ told_at place (Branch b more)
+        (if z then Some peer else None)
     go true = refl
     go false = refl
 
@@ -63,10 +70,12 @@ merged_told me place (Branch b more) e =
 pub taken-Message : (m : Said) (rest : Statements) → first_taken (front (kinds.Message m) rest) ≡ taken m
 taken-Message m rest = ap (λ (f : Statements → Statements). first_taken (f rest)) (front-Message m)
 
-pub taken-Choice : (p : Place) (at : Name) (bs : Row (Row Statement)) (rest : Statements) → first_taken (front (kinds.Choice p at bs) rest) ≡ None
+pub taken-Choice : (p : Place) (at : Name) (bs : Row (Row Statement)) (rest : Statements) → first_taken (front (kinds.Choice p at bs) rest)
+    ≡ None
 taken-Choice p at bs rest = ap (λ (f : Statements → Statements). first_taken (f rest)) (front-Choice p at bs)
 
-pub taken-Rec : (p : Place) (name : Name) (body : Row Statement) (rest : Statements) → first_taken (front (kinds.Rec p name body) rest) ≡ None
+pub taken-Rec : (p : Place) (name : Name) (body : Row Statement) (rest : Statements) → first_taken (front (kinds.Rec p name body) rest)
+    ≡ None
 taken-Rec p name body rest = ap (λ (f : Statements → Statements). first_taken (f rest)) (front-Rec p name body)
 
 pub taken-Continue : (p : Place) (name : Name) (rest : Statements) → first_taken (front (kinds.Continue p name) rest) ≡ None
@@ -81,7 +90,8 @@ tells_by peer has more None = false
 tells_by peer has more (Some m) = bytes_eq m.peer peer && (not (has m.label) && tells peer (with_name m.label has) more)
 
 by_is : (peer : Name) (has : Names) (more : Branches) (o : Option Said) →
-    elim o as (λ _. Bool) [ None ↦ false | Some m ↦ bytes_eq m.peer peer && (not (has m.label) && tells peer (with_name m.label has) more) ] ≡ tells_by peer has more o
+    elim o as (λ _. Bool) [ None ↦ false | Some m ↦ bytes_eq m.peer peer && (not (has m.label) && tells peer (with_name m.label has) more) ]
+    ≡ tells_by peer has more o
 by_is peer has more None = refl
 by_is peer has more (Some m) = refl
 
@@ -90,19 +100,24 @@ pub tells-step : (peer : Name) (has : Names) (bs : List (Row Statement)) (i : �
 tells-step peer has bs i x within is =
     ap (tells peer has) (bodies-step bs i x within is) ∙ by_is peer has (bodies (drop (i + 1) bs)) (first_taken (statements x.items))
 
-pub tells-past : (peer : Name) (has : Names) (bs : List (Row Statement)) (i : ℕ) → length bs ≤ i → tells peer has (bodies (drop i bs)) ≡ true
+pub tells-past : (peer : Name) (has : Names) (bs : List (Row Statement)) (i : ℕ) → length bs ≤ i → tells peer has (bodies (drop i bs))
+    ≡ true
 tells-past peer has bs i h = ap (tells peer has) (bodies-past bs i h)
 
 -- the peer that tells, by the first message of the first branch
-pub peer_told : (me : Name) (bs : List (Row Statement)) (first : Row Statement) (rest : List (Row Statement)) (o : Option Said) (m : Said) (b : Bool) → bs ≡ first ∷ rest →
-    o ≡ first_taken (statements first.items) → o ≡ Some m → b ≡ tells m.peer none (bodies bs) → telling me (bodies bs) ≡ (if b then Some m.peer else None)
+pub peer_told : (me : Name) (bs : List (Row Statement)) (first : Row Statement) (rest : List (Row Statement)) (o : Option Said) (m : Said)
+    (b : Bool) → bs ≡ first ∷ rest →
+    o ≡ first_taken (statements first.items) → o ≡ Some m → b ≡ tells m.peer none (bodies bs) → telling me (bodies bs)
+    ≡ (if b then Some m.peer else None)
 peer_told me bs first rest o m b parts takes is told =
     ap (λ (l : List (Row Statement)). telling me (bodies l)) parts
     ∙ telling_is me (statements first.items) (bodies rest)
     ∙ ap (told_by (Branch (statements first.items) (bodies rest))) (sym takes ∙ is)
-    ∙ ap (λ (z : Bool). if z then Some m.peer else None) (sym (told ∙ ap (λ (l : List (Row Statement)). tells m.peer none (bodies l)) parts))
+    ∙ ap (λ (z : Bool). if z then Some m.peer else None)
+    (sym (told ∙ ap (λ (l : List (Row Statement)). tells m.peer none (bodies l)) parts))
 
-pub none_told : (me : Name) (bs : List (Row Statement)) (first : Row Statement) (rest : List (Row Statement)) (o : Option Said) → bs ≡ first ∷ rest → o ≡ first_taken (statements first.items) → o ≡ None →
+pub none_told : (me : Name) (bs : List (Row Statement)) (first : Row Statement) (rest : List (Row Statement)) (o : Option Said) →
+    bs ≡ first ∷ rest → o ≡ first_taken (statements first.items) → o ≡ None →
     telling me (bodies bs) ≡ None
 none_told me bs first rest o parts takes is =
     ap (λ (l : List (Row Statement)). telling me (bodies l)) parts

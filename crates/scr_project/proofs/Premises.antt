@@ -30,7 +30,8 @@ module _ (g : GlobalTree) (me : Name) (s : Statements) (e : projected me g.body 
   kept : IsValid g → Keeps g.roles me [] s
   kept v =
       keeps g.roles me [] g.body s
-      (sound.are_sound g.roles [] [] g.body sound.none_on_way v.written.body v.clean.roles_listed v.clean.roles_apart v.clean.recs_known v.clean.recs_differ) e
+      (sound.are_sound g.roles [] [] g.body sound.none_on_way v.written.body v.clean.roles_listed v.clean.roles_apart v.clean.recs_known
+      v.clean.recs_differ) e
 
   body_clean : IsValid g → AllClean g.roles me (spots [] s)
   body_clean v = all_clean g.roles me [] [] s none_on_way (kept v)
@@ -57,11 +58,21 @@ module _ (g : GlobalTree) (me : Name) (s : Statements) (e : projected me g.body 
       known = ∥∥₁_elim valid (clean_once UnknownRec (spots [] s)) (λ v. (body_clean v).known);
       differ = ∥∥₁_elim valid (clean_once DuplicateRec (spots [] s)) (λ v. (body_clean v).differ);
     };
-    undone = λ protocols. ∥∥₁_elim valid (clean_once (UnknownProtocol protocols) (spots [] s)) (λ v. none_unknown g.roles me protocols [] [] s (kept v));
+    undone = λ protocols. ∥∥₁_elim valid (clean_once (UnknownProtocol protocols) (spots [] s))
+        (λ v. none_unknown g.roles me protocols [] [] s (kept v));
     unheld = ∥∥₁_elim valid (clean_once NotLast (held false s)) (λ v. none_held g.roles me [] false s (kept v));
     alone = refl;
   }
 
 -- parts that are those of the projection make it
-pub same_parts : (g : GlobalTree) (me : Name) (s : Statements) (t : LocalTree) → t.file ≡ g.file → t.name ≡ g.name → t.me ≡ me → t.roles ≡ g.roles → t.body ≡ s → t.others ≡ [] → t ≡ projection_of g me s
-same_parts g me s t file name role roles body alone = λ i. record { file = file i; name = name i; me = role i; roles = roles i; body = body i; others = alone i }
+pub same_parts : (g : GlobalTree) (me : Name) (s : Statements) (t : LocalTree) → t.file ≡ g.file → t.name ≡ g.name → t.me ≡ me →
+    t.roles ≡ g.roles → t.body ≡ s → t.others ≡ [] → t ≡ projection_of g me s
+same_parts g me s t file name role roles body alone = λ i. record {
+  file = file i;
+  name = name i;
+  me = role i;
+  roles = roles i;
+  body =
+      body i;
+  others = alone i;
+}

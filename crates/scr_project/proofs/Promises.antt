@@ -14,7 +14,8 @@ use Rattle.scr_tree.specs.Meaning.{numbered}
 use Rattle.scr_tree.specs.Spots.{spots as local_spots}
 use Rattle.scr_tree.specs.Tree.{LocalTree, Titled}
 use Rattle.scr_read.specs.Parts.{parts}
-use Rattle.scr_global.specs.Conditions.{AreClean, HaveBranches, HaveBranchesIn, UnknownRole, PeerIsSelf, UnknownRec, DuplicateRec, Unguarded as IsUnguarded, Unreachable, BranchStart, MixedChoice, SameLabel}
+use Rattle.scr_global.specs.Conditions.{AreClean, HaveBranches, HaveBranchesIn, UnknownRole, PeerIsSelf, UnknownRec, DuplicateRec}
+use Rattle.scr_global.specs.Conditions.{Unguarded as IsUnguarded, Unreachable, BranchStart, MixedChoice, SameLabel}
 use Rattle.scr_global.specs.Laws.{AreProjections}
 use Rattle.scr_global.specs.Projection.{IsProjection}
 use Rattle.scr_global.specs.Spots.{spots}
@@ -27,7 +28,8 @@ use Rattle.scr_global.proofs.Written.{text_is_projected}
 use Rattle.scr_global_tree.specs.Tree.{GlobalTree}
 use Rattle.scr_global_tree.specs.Valid.{IsValid}
 use Rattle.scr_project.specs.Laws.{AreProjected, MessagesAreTaken, NoneIsStuck, RunsAreFollowed, CompleteRunsAreFollowed}
-use Rattle.scr_project.specs.Outcome.{projection_of, IsOpenFault, open_conditions, Answer, Protocol, Outcome, not_mergeable, unprojected, found}
+use Rattle.scr_project.specs.Outcome.{projection_of, IsOpenFault, open_conditions, Answer, Protocol, Outcome, not_mergeable, unprojected}
+use Rattle.scr_project.specs.Outcome.{found}
 use Rattle.scr_project.proofs.Premises.{clean_once}
 
 -- ---- a global protocol that is valid by its type
@@ -95,7 +97,8 @@ are_projections g locals are = record {
   valid = clean_is_valid g.roles g.body (clean_of g are.valid);
   projected = λ me c.
       let k = kept g me (Protocol (locals me)) (are.answered me c) (locals me) refl in
-      subst (λ (x : Name). IsProjection me (said g.body) (numbered x 1 (locals me).body)) (sym k.own) (text_is_projected me g.body (locals me).body k.body 1);
+      subst (λ (x : Name). IsProjection me (said g.body) (numbered x 1 (locals me).body)) (sym k.own)
+      (text_is_projected me g.body (locals me).body k.body 1);
   guarded = λ me c. (kept g me (Protocol (locals me)) (are.answered me c) (locals me) refl).guarded;
 }
 

@@ -22,7 +22,8 @@ pub record AreProjected (g : GlobalTree) (locals : Name → LocalTree) : Type 0 
 -- where next acts of a role take from or look at a list that isn't empty, one of them is a step
 abbrev pub MessagesAreTaken : Type 0
 MessagesAreTaken =
-    (g : GlobalTree) (locals : Name → LocalTree) → AreProjected g locals → (c : System) → IsReached g.roles locals c → (me peer : Name) → Contains g.roles me →
+    (g : GlobalTree) (locals : Name → LocalTree) → AreProjected g locals → (c : System) → IsReached g.roles locals c → (me peer : Name) →
+    Contains g.roles me →
     (act : Act) (to : Position) → Step (c.at me) act to → waits_for act ≡ Some peer → c.lists peer me ≢ [] →
     (other : Act) × (d : System) × (waits_for other ≡ Some peer) × Moved me c other d
 
@@ -35,11 +36,14 @@ NoneIsStuck =
 -- the messages of a run of the global protocol that name a role are a run of its projection, but for looks
 abbrev pub RunsAreFollowed : Type 0
 RunsAreFollowed =
-    (g : GlobalTree) (locals : Name → LocalTree) → AreProjected g locals → (messages : List Passing) (point : Point) → Goes (start (said g.body)) messages point → (me : Name) → Contains g.roles me →
+    (g : GlobalTree) (locals : Name → LocalTree) → AreProjected g locals → (messages : List Passing) (point : Point) →
+    Goes (start (said g.body)) messages point → (me : Name) → Contains g.roles me →
     (acts : List Act) × (end : Position) × Run (whole (first_of (locals me))) acts end × (messages_of acts ≡ named me messages)
 
 -- and where the run is complete, so is the role's
 abbrev pub CompleteRunsAreFollowed : Type 0
 CompleteRunsAreFollowed =
-    (g : GlobalTree) (locals : Name → LocalTree) → AreProjected g locals → (messages : List Passing) → Complete (said g.body) messages → (me : Name) → Contains g.roles me →
-    (acts : List Act) × (end : Position) × Run (whole (first_of (locals me))) acts end × Finished end × (messages_of acts ≡ named me messages)
+    (g : GlobalTree) (locals : Name → LocalTree) → AreProjected g locals → (messages : List Passing) → Complete (said g.body) messages →
+    (me : Name) → Contains g.roles me →
+    (acts : List Act) × (end : Position) × Run (whole (first_of (locals me))) acts end × Finished end
+    × (messages_of acts ≡ named me messages)

@@ -43,7 +43,8 @@ pub data Answer : Type 0 where
 
 pub data Outcome (g : GlobalTree) (me : Name) : Answer → Type 0 where
   -- some choice can't be merged: the first one that has no projection, though each of its branches has one
-  not_mergeable : {place : Place} {name : Name} → projected me g.body ≡ None → Judged (IsNotMergeable me) (spots [] g.body) (Some (culprit place name))
+  not_mergeable : {place : Place} {name : Name} → projected me g.body ≡ None → Judged (IsNotMergeable me) (spots [] g.body)
+      (Some (culprit place name))
       → Outcome g me (NotMergeable place name)
   -- there is a projection, which doesn't meet a condition
   unprojected : {body : Statements} {condition : Condition} {place : Place} {name : Name} → projected me g.body ≡ Some body

@@ -76,7 +76,8 @@ fn branches_with(
     branches: Option<List<List<Statement>>>,
     branch: Option<List<Statement>>,
 ) -> Result<Option<List<List<Statement>>>, Memory>
-    ensures { IfOk result (λ l. say_of l ≡ both (λ bs cs. Some (beside bs cs)) (say_of branches) (mapped (λ b. Branch b NoBranch) (says_of branch))) }
+    ensures { IfOk result (λ l. say_of l ≡ both (λ bs cs. Some (beside bs cs)) (say_of branches)
+        (mapped (λ b. Branch b NoBranch) (says_of branch))) }
 {
     let Some(mut branches) = branches else {
         return Ok(None);

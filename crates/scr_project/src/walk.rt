@@ -146,7 +146,9 @@ fn message(
     label: &Text,
     payload: Payload,
 ) -> Result<List<Statement>, Memory>
-    ensures { IfOk result (λ l. local_statements l.items ≡ local.Says (record { place = place; direction = direction; peer = peer.now; label = label.now; payload = payload }) local.Nothing) }
+    ensures { IfOk result (λ l. local_statements l.items
+        ≡ local.Says (record { place = place; direction = direction; peer = peer.now; label = label.now; payload = payload })
+        local.Nothing) }
 {
     let message = Message {
         place,

@@ -17,7 +17,8 @@ use Rattle.scr_tree.specs.Words.{IsName, is_name_start, is_name_byte, reserved, 
 use Rattle.scr_tree.specs.Valid.{IsWrittenPart, IsWritten, AreWritten, AreWrittenIn, HasBranches}
 use Rattle.scr_tree.specs.Written.{WrittenPart, WrittenTree, role_name, roles_in, part_meant, local_of}
 use Rattle.scr_lex.specs.Pieces.{scribble, word_tok, sign_toks, tok_said, AreTokens}
-use Rattle.scr_parse.specs.Grammar.{Behind, Before, Listed, IsRole, IsMyself, IsAtHeader, IsSelfHeader, direction_mark, IsBraced, AreStatements, AreBranches, AreOthers, Note, IsLocal, IsFile, IsShallow}
+use Rattle.scr_parse.specs.Grammar.{Behind, Before, Listed, IsRole, IsMyself, IsAtHeader, IsSelfHeader, direction_mark, IsBraced}
+use Rattle.scr_parse.specs.Grammar.{AreStatements, AreBranches, AreOthers, Note, IsLocal, IsFile, IsShallow}
 use Rattle.scr_read.specs.Spelling.{Spells}
 
 -- each name among tokens is one
@@ -104,7 +105,8 @@ all-append : (xs ys : List Role) → AllByRecursion IsName (map role_name xs) �
 all-append [] ys h g = g
 all-append (x ∷ xs) ys h g = (h.0, all-append xs ys h.1 g)
 
-pub listed_written : (rs : List Role) (ts : List Tok) → Listed marks.Comma IsRole rs ts → AreNamed ts → AllByRecursion IsName (map role_name rs)
+pub listed_written : (rs : List Role) (ts : List Tok) → Listed marks.Comma IsRole rs ts → AreNamed ts →
+    AllByRecursion IsName (map role_name rs)
 listed_written [] ts e h = absurd e
 listed_written (r ∷ rs) ts (us, vs, parts, one, more) h =
     let g = subst AreNamed parts h in

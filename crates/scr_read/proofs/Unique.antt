@@ -19,7 +19,8 @@ use Rattle.scr_parse.proofs.Answered.{same_tree}
 use Rattle.scr_judge.proofs.OneFault.{one_fault}
 use Rattle.scr_read.specs.Unsupported.{IsUnsupported}
 use Rattle.scr_read.specs.Spelling.{Separates, Spells}
-use Rattle.scr_read.specs.Outcome.{Answer, Protocol, BadByte, Unsupported, Refused, told, Outcome, too_large, bad_byte, unsupported, syntax, refused, found}
+use Rattle.scr_read.specs.Outcome.{Answer, Protocol, BadByte, Unsupported, Refused, told, Outcome, too_large, bad_byte, unsupported, syntax}
+use Rattle.scr_read.specs.Outcome.{refused, found}
 use Rattle.scr_read.proofs.Sought.{single}
 
 place_is : (p q : Place) (n m : Name) → culprit p n ≡ culprit q m → p ≡ q

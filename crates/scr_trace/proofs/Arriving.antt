@@ -33,17 +33,22 @@ find_at ts (t ∷ more) f k h = ⊎_elim
 
 -- what is known of the protocols of a valid file
 all_ended : (me : Name) (ts : List Titled) → AllSound (names ts) ts → AreDistinct (names ts) → Clean (Unguarded ts) (spots_of body_in ts) →
-    Clean (UnknownProtocol (names ts)) (all_spots (map body_in ts)) → (k : ℕ) → k < length (raw me ts).entries → (end : Hop) × Ends (raw me ts).entries (hops.Part k) end
+    Clean (UnknownProtocol (names ts)) (all_spots (map body_in ts)) → (k : ℕ) → k < length (raw me ts).entries →
+    (end : Hop) × Ends (raw me ts).entries (hops.Part k) end
 all_ended me ts sound distinct guarded named k h =
     let size = as_many me (number_among ts) ts nothing in
     let a = find_at ts ts all_of k (omega (arith, size, h)) in
     let r = reached me (names ts) ts (a.t ∷ a.more) sound distinct a.from in
     let c = map_contains (λ (t : Titled). t.name) ts a.t (from_contains ts (a.t ∷ a.more) a.from a.t (contains_first a.t a.more)) in
-    let e = each_arrives ts sound guarded named me distinct a.t.name c in
-    (e.end, subst (λ j. Ends (raw me ts).entries (hops.Part j) e.end) a.number (subst (λ o. Ends (raw me ts).entries (hop_to o) e.end) (number_here me ts a.t a.more r.0 r.1) e.ends))
+    let e = each_arrives ts sound guarded named me distinct a.t.name c in (
+      e.end,
+      subst (λ j. Ends (raw me ts).entries (hops.Part j) e.end) a.number (subst (λ o. Ends (raw me ts).entries (hop_to o) e.end)
+          (number_here me ts a.t a.more r.0 r.1) e.ends),
+    )
 
 -- each entry of a valid local protocol leads somewhere at last
-pub valid_ended : (local : LocalTree) → ∥ IsValid local ∥₁ → (k : ℕ) → k < length (laid_parts local).entries → (end : Hop) × Ends (laid_parts local).entries (hops.Part k) end
+pub valid_ended : (local : LocalTree) → ∥ IsValid local ∥₁ → (k : ℕ) → k < length (laid_parts local).entries →
+    (end : Hop) × Ends (laid_parts local).entries (hops.Part k) end
 valid_ended local v = all_ended local.me (titled local) (valid_sound local v)
     (∥∥₁_elim v (distinct_once (names_in local)) (λ i. i.protocols_differ))
     (∥∥₁_elim v (clean_once (Unguarded (titled local)) (spots_of body_in (titled local))) (λ i. i.guarded))

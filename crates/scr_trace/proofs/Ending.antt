@@ -1,5 +1,6 @@
 -- Where entries lead at last, and what writing that to them keeps.
-use Rattle.std.proofs.Common.{◌≡◌, ◌≢◌, ◌⊎◌, ⊎_elim, inl, inr, ℕ, zero, suc, ◌+◌, ◌-◌, ◌<◌, ◌≤◌, List, [], ◌∷◌, length, set, refl, sym, ap, subst, ◌∙◌, arith}
+use Rattle.std.proofs.Common.{◌≡◌, ◌≢◌, ◌⊎◌, ⊎_elim, inl, inr, ℕ, zero, suc, ◌+◌, ◌-◌, ◌<◌, ◌≤◌, List, [], ◌∷◌, length, set, refl, sym, ap}
+use Rattle.std.proofs.Common.{subst, ◌∙◌, arith}
 use Rattle.std.proofs.lemmas.List.{length-set, get_or-set_same, get_or-set_other, get_or_past}
 use Rattle.std.proofs.lemmas.Bool.{cases_eq, cases_lt}
 use Rattle.scr_tree.specs.Tree.{LocalTree}
@@ -33,7 +34,8 @@ plain_if hops.End h = tt
 -- ---- writing
 
 -- the entries that one leads on to are written
-pub kept : (old new : List Hop) (from : ℕ) (last : Hop) → ((k : ℕ) → IsWritten old new from last k) → ((end : Hop) → Ends old (hops.Part from) end → last ≡ end) →
+pub kept : (old new : List Hop) (from : ℕ) (last : Hop) → ((k : ℕ) → IsWritten old new from last k) →
+    ((end : Hop) → Ends old (hops.Part from) end → last ≡ end) →
     {hop end : Hop} → Ends old hop end → Ends new hop end
 kept old new from last written ends (stops p) = stops p
 kept old new from last written ends {end = end} (onward {k} r) =
@@ -51,14 +53,17 @@ pub record Settling (old now : List Hop) (i : ℕ) : Type 0 where
 pub settling_none : (old : List Hop) → Settling old old 0
 settling_none old = record { as_many = refl; kept = λ hop end r. r; first = λ k end h r. absurd (omega (arith, h)) }
 
-pub settling_more : (old now new : List Hop) (i : ℕ) (last : Hop) → Settling old now i → i < length now → length new ≡ length now → ((end : Hop) → Ends now (hops.Part i) end → last ≡ end) →
+pub settling_more : (old now new : List Hop) (i : ℕ) (last : Hop) → Settling old now i → i < length now → length new ≡ length now →
+    ((end : Hop) → Ends now (hops.Part i) end → last ≡ end) →
     ((k : ℕ) → IsWritten now new i last k) → (i < length now → entry_at i new ≡ last) → Settling old new (i + 1)
 settling_more old now new i last s within size ends written first = record {
   as_many = size ∙ s.as_many;
   kept = λ hop end r. kept now new i last written ends (s.kept hop end r);
   first = λ k end h r. ⊎_elim
-      (λ (e : k ≡ i). ap (λ j. entry_at j new) e ∙ first within ∙ ends end (subst (λ j. Ends now (hops.Part j) end) e (s.kept (hops.Part k) end r)))
-      (λ other. ⊎_elim (λ same. same ∙ s.first k end (omega (arith, h, other)) r) (λ w. w.0 ∙ ends end (along_ends w.1 (s.kept (hops.Part k) end r))) (written k))
+      (λ (e : k ≡ i). ap (λ j. entry_at j new) e ∙ first within ∙
+      ends end (subst (λ j. Ends now (hops.Part j) end) e (s.kept (hops.Part k) end r)))
+      (λ other. ⊎_elim (λ same. same ∙ s.first k end (omega (arith, h, other)) r)
+      (λ w. w.0 ∙ ends end (along_ends w.1 (s.kept (hops.Part k) end r))) (written k))
       (cases_eq k i);
 }
 
@@ -90,11 +95,14 @@ same_way (goes r) (stops_here q) = absurd q
 same_way (goes r) (goes s) = ap suc (same_way r s)
 
 -- what stands at the entry that is left behind doesn't matter
-unmoved : {es : List Hop} {m n k : ℕ} {hop a b : Hop} (x : Hop) → EndsIn es m hop a → EndsIn es n (hops.Part k) b → m < n → EndsIn (set es k x) m hop a
+unmoved : {es : List Hop} {m n k : ℕ} {hop a b : Hop} (x : Hop) → EndsIn es m hop a → EndsIn es n (hops.Part k) b → m < n →
+    EndsIn (set es k x) m hop a
 unmoved x (stops_here p) far h = stops_here p
 unmoved {es} {n = n} {k = k} {a = a} {b = b} x (goes {n = m} {k = j} r) far h = ⊎_elim
-    (λ (e : j ≡ k). absurd (let w : suc m ≡ n = same_way (goes r) (subst (λ i. EndsIn es n (hops.Part i) b) (sym e) far) in omega (arith, w, h)))
-    (λ other. goes (subst (λ y. EndsIn (set es k x) m y a) (sym (get_or-set_other es k j x hops.End other)) (unmoved x r far (omega (arith, h)))))
+    (λ (e : j ≡ k). absurd (let w : suc m ≡ n = same_way (goes r) (subst (λ i. EndsIn es n (hops.Part i) b) (sym e) far) in omega
+    (arith, w, h)))
+    (λ other. goes (subst (λ y. EndsIn (set es k x) m y a) (sym (get_or-set_other es k j x hops.End other))
+    (unmoved x r far (omega (arith, h)))))
     (cases_eq j k)
 
 -- how many entries lead to protocols
@@ -118,7 +126,8 @@ one_less [] k j e = cc
 one_less (hop ∷ es) zero j e = let w = ap (λ h. one_if h + leading es) e in omega (arith, w)
 one_less (hop ∷ es) (suc k) j e = let w = one_less es k j e in omega (arith, w)
 
-by_entry : (es : List Hop) (k n : ℕ) (h end : Hop) → entry_at k es ≡ h → EndsIn es n h end → n ≤ suc (leading (set es k hops.End)) → suc n ≤ suc (leading es)
+by_entry : (es : List Hop) (k n : ℕ) (h end : Hop) → entry_at k es ≡ h → EndsIn es n h end → n ≤ suc (leading (set es k hops.End)) →
+    suc n ≤ suc (leading es)
 by_entry es k n (hops.Part j) end e r w = omega (arith, one_less es k j e, w)
 by_entry es k n (hops.State i) end e (stops_here p) w = omega arith
 by_entry es k n (hops.Loop i) end e (stops_here p) w = omega arith
@@ -154,12 +163,17 @@ further e (stops_here p) = absurd (subst IsPlain e p)
 further e (goes r) = omega arith
 
 pub nears_first : (es : List Hop) (from : ℕ) → Nears es from from (length es)
-nears_first es from = record { near = λ end r. let w = some_way r in (w.0, w.1, (let few : w.0 ≤ suc (length es) = short w.1 in omega (arith, few))) }
+nears_first es from = record {
+  near =
+      λ end r. let w = some_way r in (w.0, w.1, (let few : w.0 ≤ suc (length es) = short w.1 in omega (arith, few)));
+}
 
-pub nears_last : (es : List Hop) (from at left : ℕ) (hop : Hop) → Nears es from at left → hop ≡ entry_at at es → IsPlain hop → (end : Hop) → Ends es (hops.Part from) end → hop ≡ end
+pub nears_last : (es : List Hop) (from at left : ℕ) (hop : Hop) → Nears es from at left → hop ≡ entry_at at es → IsPlain hop → (end : Hop) →
+    Ends es (hops.Part from) end → hop ≡ end
 nears_last es from at left hop n e p end r = let b = behind (n.near end r).1 in e ∙ stopped (subst IsPlain e p) b.2
 
-pub nears_next : (es : List Hop) (from at left k : ℕ) → Nears es from at left → entry_at at es ≡ hops.Part k → 0 < left → Nears es from k (left - 1)
+pub nears_next : (es : List Hop) (from at left k : ℕ) → Nears es from at left → entry_at at es ≡ hops.Part k → 0 < left →
+    Nears es from k (left - 1)
 nears_next es from at left k n e h = record {
   near = λ end r.
       let w = n.near end r in
@@ -167,7 +181,8 @@ nears_next es from at left k n e h = record {
       (b.0, subst (λ x. EndsIn es b.0 x end) e b.2, (let few = w.2 in let one = b.1 in omega (arith, few, one, h)));
 }
 
-pub nears_none : (es : List Hop) (from at left k : ℕ) (hop : Hop) → Nears es from at left → entry_at at es ≡ hops.Part k → left ≡ 0 → (end : Hop) → Ends es (hops.Part from) end → hop ≡ end
+pub nears_none : (es : List Hop) (from at left k : ℕ) (hop : Hop) → Nears es from at left → entry_at at es ≡ hops.Part k → left ≡ 0 →
+    (end : Hop) → Ends es (hops.Part from) end → hop ≡ end
 nears_none es from at left k hop n e z end r =
     let w = n.near end r in
     let b = behind w.1 in
@@ -189,19 +204,27 @@ pub record Writing (old now : List Hop) (from : ℕ) (end : Hop) (at left : ℕ)
 pub writing_none : (old : List Hop) (from : ℕ) (end : Hop) → Writing old old from end from (length old)
 writing_none old from end = record { as_many = refl; written = λ k. inl refl; along = here; first = inr (refl, refl) }
 
-pub written_more : (old now : List Hop) (from : ℕ) (end : Hop) (at left : ℕ) → Writing old now from end at left → at < length now → (k : ℕ) → IsWritten old (set now at end) from end k
+pub written_more : (old now : List Hop) (from : ℕ) (end : Hop) (at left : ℕ) → Writing old now from end at left → at < length now → (k : ℕ)
+    → IsWritten old (set now at end) from end k
 written_more old now from end at left w h k = ⊎_elim
-    (λ (e : k ≡ at). inr (ap (λ j. entry_at j (set now at end)) e ∙ get_or-set_same now at end hops.End h, subst (Along old from) (sym e) w.along))
-    (λ other. let same = get_or-set_other now at k end hops.End other in ⊎_elim (λ s. inl (same ∙ s)) (λ v. inr (same ∙ v.0, v.1)) (w.written k))
+    (λ (e : k ≡ at). inr (
+      ap (λ j. entry_at j (set now at end)) e ∙ get_or-set_same now at end hops.End h,
+      subst (Along old from)
+          (sym e) w.along,
+    ))
+    (λ other. let same = get_or-set_other now at k end hops.End other in ⊎_elim (λ s. inl (same ∙ s)) (λ v. inr (same ∙ v.0, v.1))
+    (w.written k))
     (cases_eq k at)
 
-pub first_more : (old now : List Hop) (from : ℕ) (end : Hop) (at left : ℕ) → Writing old now from end at left → at < length now → from < length old → entry_at from (set now at end) ≡ end
+pub first_more : (old now : List Hop) (from : ℕ) (end : Hop) (at left : ℕ) → Writing old now from end at left → at < length now →
+    from < length old → entry_at from (set now at end) ≡ end
 first_more old now from end at left w h within = ⊎_elim
     (λ (e : from ≡ at). ap (λ j. entry_at j (set now at end)) e ∙ get_or-set_same now at end hops.End h)
     (λ other. get_or-set_other now at from end hops.End other ∙ ⊎_elim (λ f. f within) (λ v. absurd (other (sym v.0))) w.first)
     (cases_eq from at)
 
-pub writing_more : (old now : List Hop) (from : ℕ) (end : Hop) (at left k : ℕ) → IsPlain end → Writing old now from end at left → at < length now → entry_at at now ≡ hops.Part k →
+pub writing_more : (old now : List Hop) (from : ℕ) (end : Hop) (at left k : ℕ) → IsPlain end → Writing old now from end at left →
+    at < length now → entry_at at now ≡ hops.Part k →
     Writing old (set now at end) from end k (left - 1)
 writing_more old now from end at left k plain w h e = record {
   as_many = length-set now at end ∙ w.as_many;
@@ -210,15 +233,18 @@ writing_more old now from end at left k plain w h e = record {
   first = inl (first_more old now from end at left w h);
 }
 
-pub writing_all : (old now : List Hop) (from : ℕ) (end : Hop) (at left : ℕ) → Writing old now from end at left → (left ≡ 0) ⊎ (length now ≤ at) → from < length old → entry_at from now ≡ end
+pub writing_all : (old now : List Hop) (from : ℕ) (end : Hop) (at left : ℕ) → Writing old now from end at left →
+    (left ≡ 0) ⊎ (length now ≤ at) → from < length old → entry_at from now ≡ end
 writing_all old now from end at left w stop within = ⊎_elim
     (λ f. f within)
-    (λ v. absurd (⊎_elim (λ (z : left ≡ 0). let e = v.1 in omega (arith, e, z, within)) (λ (past : length now ≤ at). let e = v.0 in let s = w.as_many in omega (arith, e, s, past, within)) stop))
+    (λ v. absurd (⊎_elim (λ (z : left ≡ 0). let e = v.1 in omega (arith, e, z, within))
+    (λ (past : length now ≤ at). let e = v.0 in let s = w.as_many in omega (arith, e, s, past, within)) stop))
     w.first
 
 -- ---- what is laid out
 
-pub settled_out : (local : LocalTree) (before after : Work) → before ≡ laid_parts local → record after { entries = before.entries } ≡ before → Settled before.entries after.entries → LaidOut local after
+pub settled_out : (local : LocalTree) (before after : Work) → before ≡ laid_parts local → record after { entries = before.entries } ≡ before
+    → Settled before.entries after.entries → LaidOut local after
 settled_out local before after is same settled = record {
   parts = ap (λ (w : Work). record after { entries = w.entries }) (sym is) ∙ same ∙ is;
   settled = subst (λ (w : Work). Settled w.entries after.entries) is settled;

@@ -1,11 +1,15 @@
 -- Where a position comes to says which steps it has, and silent moves keep it.
 use Rattle.std.proofs.Common.{◌≡◌, ℕ, zero, suc, List, [], ◌∷◌, ◌++◌, Some, refl, ap, subst, inl, inr, ⊎_elim}
 use Rattle.std.specs.Prelude.{slice_get, Option}
-use Rattle.scr_tree.specs.Protocol.{Message, peer_of, label_of, Protocol, Done, Does, ChoiceHere, ChoiceThere, Rec, Continue, Do, Branches, NoMore, Branch, Parts}
-use Rattle.scr_tree.specs.Steps.{Act, Moves, Looks, Part, Plain, Left, Position, whole, Silent, ends, begins, continues, goes_on, HasBranch, this, later, Step, silently as stepping, moves, chooses, looks as looking, Finished, nothing_left, after_silent}
+use Rattle.scr_tree.specs.Protocol.{Message, peer_of, label_of, Protocol, Done, Does, ChoiceHere, ChoiceThere, Rec, Continue, Do, Branches}
+use Rattle.scr_tree.specs.Protocol.{NoMore, Branch, Parts}
+use Rattle.scr_tree.specs.Steps.{Act, Moves, Looks, Part, Plain, Left, Position, whole, Silent, ends, begins, continues, goes_on, HasBranch}
+use Rattle.scr_tree.specs.Steps.{this, later, Step, silently as stepping, moves, chooses, looks as looking, Finished, nothing_left}
+use Rattle.scr_tree.specs.Steps.{after_silent}
 use Rattle.scr_trace.specs.declared.standing.Standing.{Standing}
 use Rattle.scr_trace.specs.declared.standing.Standing.TheVariants as standings
-use Rattle.scr_trace.specs.Positions.{states_in, states_here, states_behind, states_there, states_from, state_positions, ComesTo, at_state, at_end, silently}
+use Rattle.scr_trace.specs.Positions.{states_in, states_here, states_behind, states_there, states_from, state_positions, ComesTo, at_state}
+use Rattle.scr_trace.specs.Positions.{at_end, silently}
 use Rattle.scr_trace.specs.Onward.{Onward, sends, looks, steps_at}
 use Rattle.scr_trace.specs.inner.Goes.{Among}
 use Rattle.scr_trace.specs.Graph.{Edge, IsStep, AreSteps, AreStates}
@@ -39,28 +43,35 @@ settled_both : (parts : Parts) (ps qs : List Position) → AllSettled parts ps �
 settled_both parts [] qs a b = b
 settled_both parts (p ∷ ps) qs a b = (a.0, settled_both parts ps qs a.1 b)
 
-does_settled : {parts : Parts} {m : Message} {rest : Protocol} {part : Part} {around : Position} → IsState parts (Left (Does m rest) part ∷ around)
+does_settled : {parts : Parts} {m : Message} {rest : Protocol} {part : Part} {around : Position} →
+    IsState parts (Left (Does m rest) part ∷ around)
 does_settled = record { settled = λ q s. elim s [ ]; left = λ e. cc e }
 
-here_settled : {parts : Parts} {bs : Branches} {rest : Protocol} {part : Part} {around : Position} → IsState parts (Left (ChoiceHere bs rest) part ∷ around)
+here_settled : {parts : Parts} {bs : Branches} {rest : Protocol} {part : Part} {around : Position} →
+    IsState parts (Left (ChoiceHere bs rest) part ∷ around)
 here_settled = record { settled = λ q s. elim s [ ]; left = λ e. cc e }
 
-there_settled : {parts : Parts} {n : ℕ} {bs : Branches} {rest : Protocol} {part : Part} {around : Position} → IsState parts (Left (ChoiceThere n bs rest) part ∷ around)
+there_settled : {parts : Parts} {n : ℕ} {bs : Branches} {rest : Protocol} {part : Part} {around : Position} →
+    IsState parts (Left (ChoiceThere n bs rest) part ∷ around)
 there_settled = record { settled = λ q s. elim s [ ]; left = λ e. cc e }
 
 mutual
   pub states_settled : (parts : Parts) (t : Protocol) (part : Part) (around : Position) → AllSettled parts (states_in part around t)
   states_settled parts Done part around = tt
   states_settled parts (Does m rest) part around = (does_settled, states_settled parts rest part around)
-  states_settled parts (ChoiceHere bs rest) part around = (here_settled, settled_both parts (states_here _ bs) _ (here_all_settled parts bs _) (states_settled parts rest part around))
-  states_settled parts (ChoiceThere n bs rest) part around = (there_settled, settled_both parts (states_there _ bs) _ (there_all_settled parts bs _) (states_settled parts rest part around))
-  states_settled parts (Rec name body rest) part around = settled_both parts (states_in _ _ body) _ (states_settled parts body _ _) (states_settled parts rest part around)
+  states_settled parts (ChoiceHere bs rest) part around =
+      (here_settled, settled_both parts (states_here _ bs) _ (here_all_settled parts bs _) (states_settled parts rest part around))
+  states_settled parts (ChoiceThere n bs rest) part around =
+      (there_settled, settled_both parts (states_there _ bs) _ (there_all_settled parts bs _) (states_settled parts rest part around))
+  states_settled parts (Rec name body rest) part around = settled_both parts (states_in _ _ body) _ (states_settled parts body _ _)
+      (states_settled parts rest part around)
   states_settled parts (Continue name rest) part around = states_settled parts rest part around
   states_settled parts (Do name rest) part around = states_settled parts rest part around
 
   here_all_settled : (parts : Parts) (bs : Branches) (around : Position) → AllSettled parts (states_here around bs)
   here_all_settled parts NoMore around = tt
-  here_all_settled parts (Branch b more) around = settled_both parts (states_behind around b) _ (behind_settled parts b around) (here_all_settled parts more around)
+  here_all_settled parts (Branch b more) around = settled_both parts (states_behind around b) _ (behind_settled parts b around)
+      (here_all_settled parts more around)
 
   behind_settled : (parts : Parts) (b : Protocol) (around : Position) → AllSettled parts (states_behind around b)
   behind_settled parts (Does m rest) around = states_settled parts rest Plain around
@@ -73,7 +84,8 @@ mutual
 
   there_all_settled : (parts : Parts) (bs : Branches) (around : Position) → AllSettled parts (states_there around bs)
   there_all_settled parts NoMore around = tt
-  there_all_settled parts (Branch b more) around = settled_both parts (states_from around b) _ (from_settled parts b around) (there_all_settled parts more around)
+  there_all_settled parts (Branch b more) around = settled_both parts (states_from around b) _ (from_settled parts b around)
+      (there_all_settled parts more around)
 
   from_settled : (parts : Parts) (b : Protocol) (around : Position) → AllSettled parts (states_from around b)
   from_settled parts (Does m rest) around = (does_settled, states_settled parts rest Plain around)
@@ -87,16 +99,19 @@ mutual
 -- no state of a whole protocol has a silent move
 pub all_settled : (parts ps : Parts) → AllSettled parts (state_positions ps)
 all_settled parts [] = tt
-all_settled parts (part ∷ ps) = settled_both parts (states_in Plain [] part.body) (state_positions ps) (states_settled parts part.body Plain []) (all_settled parts ps)
+all_settled parts (part ∷ ps) = settled_both parts (states_in Plain [] part.body) (state_positions ps)
+    (states_settled parts part.body Plain []) (all_settled parts ps)
 
-pub settled_at : {parts : Parts} (ps : List Position) → AllSettled parts ps → (k : ℕ) (p : Position) → slice_get ps k ≡ Some p → IsState parts p
+pub settled_at : {parts : Parts} (ps : List Position) → AllSettled parts ps → (k : ℕ) (p : Position) → slice_get ps k ≡ Some p →
+    IsState parts p
 settled_at [] a k p e = cc
 settled_at {parts} (x ∷ ps) a zero p e = let f : x ≡ p = cc e in subst (λ y. IsState parts y) f a.0
 settled_at (x ∷ ps) a (suc k) p e = settled_at ps a.1 k p e
 
 -- ---- the steps in front
 
-sent_listed : {bs : Branches} {m : Message} {b : Protocol} → HasBranch bs m b → (around : Position) → Among (sends around bs) (record { act = Moves m; to = Left b Plain ∷ around })
+sent_listed : {bs : Branches} {m : Message} {b : Protocol} → HasBranch bs m b → (around : Position) →
+    Among (sends around bs) (record { act = Moves m; to = Left b Plain ∷ around })
 sent_listed this around = inl refl
 sent_listed (later {other = Done} h) around = sent_listed h around
 sent_listed (later {other = Does m rest} h) around = inr (sent_listed h around)
@@ -106,7 +121,8 @@ sent_listed (later {other = Rec name body rest} h) around = sent_listed h around
 sent_listed (later {other = Continue name rest} h) around = sent_listed h around
 sent_listed (later {other = Do name rest} h) around = sent_listed h around
 
-looked_listed : {bs : Branches} {m : Message} {b : Protocol} → HasBranch bs m b → (n : ℕ) (around : Position) → Among (looks n around bs) (record { act = Looks n (peer_of m) (label_of m); to = Left (Does m b) Plain ∷ around })
+looked_listed : {bs : Branches} {m : Message} {b : Protocol} → HasBranch bs m b → (n : ℕ) (around : Position) →
+    Among (looks n around bs) (record { act = Looks n (peer_of m) (label_of m); to = Left (Does m b) Plain ∷ around })
 looked_listed this n around = inl refl
 looked_listed (later {other = Done} h) n around = looked_listed h n around
 looked_listed (later {other = Does m rest} h) n around = inr (looked_listed h n around)
@@ -117,7 +133,8 @@ looked_listed (later {other = Continue name rest} h) n around = looked_listed h 
 looked_listed (later {other = Do name rest} h) n around = looked_listed h n around
 
 -- where no silent move is possible, each step is one of those in front
-pub step_listed : {parts : Parts} {p q : Position} {act : Act} → Step parts p act q → IsSettled parts p → Among (steps_at p) (record { act = act; to = q })
+pub step_listed : {parts : Parts} {p q : Position} {act : Act} → Step parts p act q → IsSettled parts p →
+    Among (steps_at p) (record { act = act; to = q })
 step_listed (stepping s st) settled = absurd (settled _ s)
 step_listed moves settled = inl refl
 step_listed (chooses h) settled = sent_listed h _
@@ -130,12 +147,15 @@ record OfBranch (bs : Branches) (make : Message → Protocol → Onward) (s : On
   has : HasBranch bs message rest
   is : make message rest ≡ s
 
-one_later : {b : Protocol} {bs : Branches} {make : Message → Protocol → Onward} {s : Onward} → OfBranch bs make s → OfBranch (Branch b bs) make s
+one_later : {b : Protocol} {bs : Branches} {make : Message → Protocol → Onward} {s : Onward} → OfBranch bs make s →
+    OfBranch (Branch b bs) make s
 one_later r = record { message = r.message; rest = r.rest; has = later r.has; is = r.is }
 
-sent_of : (bs : Branches) (around : Position) (s : Onward) → Among (sends around bs) s → OfBranch bs (λ m rest. record { act = Moves m; to = Left rest Plain ∷ around }) s
+sent_of : (bs : Branches) (around : Position) (s : Onward) → Among (sends around bs) s →
+    OfBranch bs (λ m rest. record { act = Moves m; to = Left rest Plain ∷ around }) s
 sent_of NoMore around s a = absurd a
-sent_of (Branch (Does m rest) more) around s a = ⊎_elim (λ e. record { message = m; rest = rest; has = this; is = e }) (λ a. one_later (sent_of more around s a)) a
+sent_of (Branch (Does m rest) more) around s a = ⊎_elim (λ e. record { message = m; rest = rest; has = this; is = e })
+    (λ a. one_later (sent_of more around s a)) a
 sent_of (Branch Done more) around s a = one_later (sent_of more around s a)
 sent_of (Branch (ChoiceHere bs rest) more) around s a = one_later (sent_of more around s a)
 sent_of (Branch (ChoiceThere n bs rest) more) around s a = one_later (sent_of more around s a)
@@ -143,9 +163,11 @@ sent_of (Branch (Rec name body rest) more) around s a = one_later (sent_of more 
 sent_of (Branch (Continue name rest) more) around s a = one_later (sent_of more around s a)
 sent_of (Branch (Do name rest) more) around s a = one_later (sent_of more around s a)
 
-looked_of : (bs : Branches) (n : ℕ) (around : Position) (s : Onward) → Among (looks n around bs) s → OfBranch bs (λ m rest. record { act = Looks n (peer_of m) (label_of m); to = Left (Does m rest) Plain ∷ around }) s
+looked_of : (bs : Branches) (n : ℕ) (around : Position) (s : Onward) → Among (looks n around bs) s →
+    OfBranch bs (λ m rest. record { act = Looks n (peer_of m) (label_of m); to = Left (Does m rest) Plain ∷ around }) s
 looked_of NoMore n around s a = absurd a
-looked_of (Branch (Does m rest) more) n around s a = ⊎_elim (λ e. record { message = m; rest = rest; has = this; is = e }) (λ a. one_later (looked_of more n around s a)) a
+looked_of (Branch (Does m rest) more) n around s a = ⊎_elim (λ e. record { message = m; rest = rest; has = this; is = e })
+    (λ a. one_later (looked_of more n around s a)) a
 looked_of (Branch Done more) n around s a = one_later (looked_of more n around s a)
 looked_of (Branch (ChoiceHere bs rest) more) n around s a = one_later (looked_of more n around s a)
 looked_of (Branch (ChoiceThere k bs rest) more) n around s a = one_later (looked_of more n around s a)
@@ -175,33 +197,41 @@ no_step : {parts : Parts} {act : Act} {to : Position} → Step parts [] act to �
 no_step (stepping s t) = elim s [ ]
 
 module _ (parts : Parts) (all : List Position) where
-  pub edge_of_step : (steps : List Onward) (edges : List Edge) → AreSteps parts all steps edges → (s : Onward) → Among steps s → (e : Edge) × Among edges e × IsStep parts all s e
+  pub edge_of_step : (steps : List Onward) (edges : List Edge) → AreSteps parts all steps edges → (s : Onward) → Among steps s →
+      (e : Edge) × Among edges e × IsStep parts all s e
   edge_of_step [] [] h s a = absurd a
   edge_of_step [] (e ∷ edges) h s a = absurd h
   edge_of_step (x ∷ steps) [] h s a = absurd h
   edge_of_step (x ∷ steps) (e ∷ edges) h s a =
-      ⊎_elim (λ same. (e, inl refl, subst (λ y. IsStep parts all y e) same h.0)) (λ a. let r = edge_of_step steps edges h.1 s a in (r.0, inr r.1, r.2)) a
+      ⊎_elim (λ same. (e, inl refl, subst (λ y. IsStep parts all y e) same h.0)) (λ a. let r = edge_of_step steps edges h.1 s a in
+      (r.0, inr r.1, r.2)) a
 
-  pub step_of_edge : (steps : List Onward) (edges : List Edge) → AreSteps parts all steps edges → (e : Edge) → Among edges e → (s : Onward) × Among steps s × IsStep parts all s e
+  pub step_of_edge : (steps : List Onward) (edges : List Edge) → AreSteps parts all steps edges → (e : Edge) → Among edges e →
+      (s : Onward) × Among steps s × IsStep parts all s e
   step_of_edge [] [] h e a = absurd a
   step_of_edge [] (e' ∷ edges) h e a = absurd h
   step_of_edge (x ∷ steps) [] h e a = absurd h
   step_of_edge (x ∷ steps) (e' ∷ edges) h e a =
-      ⊎_elim (λ same. (x, inl refl, subst (λ y. IsStep parts all x y) same h.0)) (λ a. let r = step_of_edge steps edges h.1 e a in (r.0, inr r.1, r.2)) a
+      ⊎_elim (λ same. (x, inl refl, subst (λ y. IsStep parts all x y) same h.0)) (λ a. let r = step_of_edge steps edges h.1 e a in
+      (r.0, inr r.1, r.2)) a
 
   -- the edges at a position's number
-  pub edges_there : (ps : List Position) (states : List (List Edge)) → AreStates parts all ps states → (k : ℕ) (p : Position) → slice_get ps k ≡ Some p → (edges : List Edge) × (slice_get states k ≡ Some edges) × AreSteps parts all (steps_at p) edges
+  pub edges_there : (ps : List Position) (states : List (List Edge)) → AreStates parts all ps states → (k : ℕ) (p : Position) →
+      slice_get ps k ≡ Some p → (edges : List Edge) × (slice_get states k ≡ Some edges) × AreSteps parts all (steps_at p) edges
   edges_there [] states h k p e = cc
   edges_there (x ∷ ps) [] h k p e = absurd h
-  edges_there (x ∷ ps) (edges ∷ states) h zero p e = let f : x ≡ p = cc e in (edges, refl, subst (λ y. AreSteps parts all (steps_at y) edges) f h.0)
+  edges_there (x ∷ ps) (edges ∷ states) h zero p e =
+      let f : x ≡ p = cc e in (edges, refl, subst (λ y. AreSteps parts all (steps_at y) edges) f h.0)
   edges_there (x ∷ ps) (edges ∷ states) h (suc k) p e = edges_there ps states h.1 k p e
 
   -- a number of a state is that of a position
-  pub position_there : (ps : List Position) (states : List (List Edge)) → AreStates parts all ps states → (k : ℕ) (edges : List Edge) → slice_get states k ≡ Some edges → (p : Position) × (slice_get ps k ≡ Some p) × AreSteps parts all (steps_at p) edges
+  pub position_there : (ps : List Position) (states : List (List Edge)) → AreStates parts all ps states → (k : ℕ) (edges : List Edge) →
+      slice_get states k ≡ Some edges → (p : Position) × (slice_get ps k ≡ Some p) × AreSteps parts all (steps_at p) edges
   position_there [] [] h k edges e = cc
   position_there [] (x ∷ states) h k edges e = absurd h
   position_there (p ∷ ps) [] h k edges e = absurd h
-  position_there (p ∷ ps) (x ∷ states) h zero edges e = let f : x ≡ edges = cc e in (p, refl, subst (λ y. AreSteps parts all (steps_at p) y) f h.0)
+  position_there (p ∷ ps) (x ∷ states) h zero edges e =
+      let f : x ≡ edges = cc e in (p, refl, subst (λ y. AreSteps parts all (steps_at p) y) f h.0)
   position_there (p ∷ ps) (x ∷ states) h (suc k) edges e = position_there ps states h.1 k edges e
 
   module _ (settled : AllSettled parts all) where
@@ -231,7 +261,8 @@ module _ (parts : Parts) (all : List Position) where
     steps_from (silently m c) st = steps_from c (behind_silent m st)
 
     -- a step that the state has is one of each position that comes to it
-    pub steps_to : {p : Position} {s : Standing} → ComesTo parts all p s → (k : ℕ) (place : Position) → s ≡ standings.State k → slice_get all k ≡ Some place → {act : Act} {q : Position} → Step parts place act q → Step parts p act q
+    pub steps_to : {p : Position} {s : Standing} → ComesTo parts all p s → (k : ℕ) (place : Position) → s ≡ standings.State k →
+        slice_get all k ≡ Some place → {act : Act} {q : Position} → Step parts place act q → Step parts p act q
     steps_to (at_state {number = n} {position = p} e) k place is there {act} {q} st =
         let same : n ≡ k = cc is in
         let f : place ≡ p = some_same there (subst (λ j. slice_get all j ≡ Some p) same e) in

@@ -17,7 +17,8 @@ abbrev pub first_in : Bool → Position → Protocol → List Position
 first_in true around b = states_behind around b
 first_in false around b = states_from around b
 
-pub within-Branch : (self : Bool) (around : Position) (b : Protocol) (more : Branches) → within self around (Branch b more) ≡ first_in self around b ++ within self around more
+pub within-Branch : (self : Bool) (around : Position) (b : Protocol) (more : Branches) → within self around (Branch b more)
+    ≡ first_in self around b ++ within self around more
 within-Branch true around b more = refl
 within-Branch false around b more = refl
 
@@ -26,7 +27,8 @@ within-NoMore true around = refl
 within-NoMore false around = refl
 
 -- a choice that stands first in a branch is none
-pub first-choice : (self b : Bool) (around : Position) (x z : Branches) (y r : Protocol) (n : ℕ) → first_in self around (if b then ChoiceHere x y else ChoiceThere n z r) ≡ []
+pub first-choice : (self b : Bool) (around : Position) (x z : Branches) (y r : Protocol) (n : ℕ) →
+    first_in self around (if b then ChoiceHere x y else ChoiceThere n z r) ≡ []
 first-choice true true around x z y r n = refl
 first-choice true false around x z y r n = refl
 first-choice false true around x z y r n = refl
@@ -48,7 +50,8 @@ pub first-done : (self : Bool) (around : Position) → first_in self around Done
 first-done true around = refl
 first-done false around = refl
 
-pub said_cells : (m : Said) (w : Work) → (said m w).cells ≡ record { number = None; drafts = record { message = m; to = w.next } ∷ [] } ∷ w.cells
+pub said_cells : (m : Said) (w : Work) → (said m w).cells ≡ record { number = None; drafts = record { message = m; to = w.next } ∷ [] } ∷
+    w.cells
 unfolding said
 said_cells m w = refl
 
@@ -96,7 +99,8 @@ pub closed_loops : (i : ℕ) (w : Work) → (closed i w).loops ≡ slice_set w.l
 unfolding closed
 closed_loops i w = refl
 
-pub chosen_cells : (self : Bool) (g : Gathered) → (chosen self g).cells ≡ record { number = if self then None else Some g.work.choices; drafts = g.drafts } ∷ g.work.cells
+pub chosen_cells : (self : Bool) (g : Gathered) → (chosen self g).cells
+    ≡ record { number = if self then None else Some g.work.choices; drafts = g.drafts } ∷ g.work.cells
 unfolding chosen
 chosen_cells self g = refl
 
@@ -112,10 +116,18 @@ pub chosen_loops : (self : Bool) (g : Gathered) → (chosen self g).loops ≡ g.
 unfolding chosen
 chosen_loops self g = refl
 
-pub joined_here : (m : Said) (g : Gathered) → joined true m g ≡ record { work = g.work; drafts = record { message = m; to = g.work.next } ∷ g.drafts }
+pub joined_here : (m : Said) (g : Gathered) → joined true m g ≡ record {
+  work = g.work;
+  drafts =
+      record { message = m; to = g.work.next } ∷ g.drafts;
+}
 unfolding joined
 joined_here m g = refl
 
-pub joined_there : (m : Said) (g : Gathered) → joined false m g ≡ record { work = said m g.work; drafts = record { message = m; to = hops.State (suc (length g.work.cells)) } ∷ g.drafts }
+pub joined_there : (m : Said) (g : Gathered) → joined false m g ≡ record {
+  work = said m g.work;
+  drafts =
+      record { message = m; to = hops.State (suc (length g.work.cells)) } ∷ g.drafts;
+}
 unfolding joined
 joined_there m g = refl

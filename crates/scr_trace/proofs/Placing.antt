@@ -1,5 +1,6 @@
 -- Protocols one after another: what is laid out of each stays, with its number, its states and its entry.
-use Rattle.std.proofs.Common.{◌≡◌, ℕ, suc, ◌+◌, List, [], ◌∷◌, ◌++◌, length, get_or, map, Some, refl, sym, ap, ◌∙◌, subst, Bool, true, false, if◌then◌else◌, Option, arith, append_assoc}
+use Rattle.std.proofs.Common.{◌≡◌, ℕ, suc, ◌+◌, List, [], ◌∷◌, ◌++◌, length, get_or, map, Some, refl, sym, ap, ◌∙◌, subst, Bool, true}
+use Rattle.std.proofs.Common.{false, if◌then◌else◌, Option, arith, append_assoc}
 use Rattle.std.specs.Prelude.{Contains}
 use Rattle.std.specs.Str.{bytes_eq}
 use Rattle.std.proofs.lemmas.List.{append-nil, length-append}
@@ -14,7 +15,8 @@ use Rattle.scr_tree.specs.Valid.{AreDistinct}
 use Rattle.scr_trace.specs.declared.arrow.Hop.{Hop}
 use Rattle.scr_trace.specs.declared.arrow.Hop.TheVariants as hops
 use Rattle.scr_trace.specs.Positions.{states_in, state_positions}
-use Rattle.scr_trace.specs.inner.Laying.{Work, Known, Gathered, nothing, lay, lay_in, branch_laid, turned, said, opened, closed, chosen, joined, gathering, parts_laid, number_among, entry_at}
+use Rattle.scr_trace.specs.inner.Laying.{Work, Known, Gathered, nothing, lay, lay_in, branch_laid, turned, said, opened, closed, chosen}
+use Rattle.scr_trace.specs.inner.Laying.{joined, gathering, parts_laid, number_among, entry_at}
 use Rattle.scr_trace.proofs.Growing.{Keeps, keeps_all, keeps_more, keeps}
 use Rattle.scr_trace.proofs.Counting.{counted, numbers}
 use Rattle.scr_trace.proofs.Rules.{Sound}
@@ -53,16 +55,20 @@ module _ (me : Name) (entry : Name → Option ℕ) where
         chosen_entries (bytes_eq at me) _ ∙ same_entries_in bs known (bytes_eq at me) v.next (gathering v) ∙ same_entries rest known w
     same_entries (Rec place name body rest) known w =
         let v = lay me entry known w rest in
-        closed_entries (length v.loops) _ ∙ same_entries body (record { name = name; number = length v.loops } ∷ known) (opened v) ∙ opened_entries v ∙ same_entries rest known w
+        closed_entries (length v.loops) _ ∙ same_entries body (record { name = name; number = length v.loops } ∷ known) (opened v) ∙
+        opened_entries v ∙ same_entries rest known w
     same_entries (Continue place name rest) known w = same_entries rest known w
     same_entries (Do place name rest) known w = same_entries rest known w
 
-    same_entries_in : (bs : tree.Branches) (known : List Known) (self : Bool) (behind : Hop) (g : Gathered) → (lay_in me entry known self behind g bs).work.entries ≡ g.work.entries
+    same_entries_in : (bs : tree.Branches) (known : List Known) (self : Bool) (behind : Hop) (g : Gathered) →
+        (lay_in me entry known self behind g bs).work.entries ≡ g.work.entries
     same_entries_in NoBranch known self behind g = refl
     same_entries_in (Branch b more) known self behind g =
-        same_entries_first b known self (turned behind (lay_in me entry known self behind g more)) ∙ same_entries_in more known self behind g
+        same_entries_first b known self (turned behind (lay_in me entry known self behind g more)) ∙
+        same_entries_in more known self behind g
 
-    same_entries_first : (b : Statements) (known : List Known) (self : Bool) (g : Gathered) → (branch_laid me entry self known b g).work.entries ≡ g.work.entries
+    same_entries_first : (b : Statements) (known : List Known) (self : Bool) (g : Gathered) →
+        (branch_laid me entry self known b g).work.entries ≡ g.work.entries
     same_entries_first (Says m rest) known self g =
         joined_entries self m (record { work = lay me entry known g.work rest; drafts = g.drafts }) ∙ same_entries rest known g.work
     same_entries_first Nothing known self g = refl
@@ -115,7 +121,8 @@ pub record Reached (me : Name) (ts xs : List Titled) (n : ℕ) : Type 0 where
   pub number : (z : Name) → Contains (names xs) z → number_among ts z ≡ number_among xs z
   pub distinct : AreDistinct (names xs)
 
-pub as_many : (me : Name) (entry : Name → Option ℕ) (xs : List Titled) (w : Work) → length (parts_laid me entry xs w).entries ≡ length xs + length w.entries
+pub as_many : (me : Name) (entry : Name → Option ℕ) (xs : List Titled) (w : Work) → length (parts_laid me entry xs w).entries
+    ≡ length xs + length w.entries
 as_many me entry [] w = omega arith
 as_many me entry (t ∷ more) w =
     let v = parts_laid me entry more w in
@@ -126,7 +133,8 @@ as_many me entry (t ∷ more) w =
     omega arith
 
 -- a name behind a protocol is another one
-other_name : (t : Titled) (more : List Titled) → AreDistinct (names (t ∷ more)) → (z : Name) → Contains (names more) z → bytes_eq z t.name ≡ false
+other_name : (t : Titled) (more : List Titled) → AreDistinct (names (t ∷ more)) → (z : Name) → Contains (names more) z →
+    bytes_eq z t.name ≡ false
 other_name t more d z c = go (bytes_eq z t.name) refl
   where
     go : (b : Bool) → bytes_eq z t.name ≡ b → b ≡ false
@@ -136,12 +144,17 @@ other_name t more d z c = go (bytes_eq z t.name) refl
 skip_body : (z : Name) (t : Titled) (me : Name) (n : ℕ) (more : List Titled) → bytes_eq z t.name ≡ false →
     body_named z (numbered_parts me n (t ∷ more)) ≡ body_named z (numbered_parts me (n + choices me t.body) more)
 skip_body z t me n more e =
-    ap (λ b. elim b as (λ (v : Bool). Option Protocol) [ true ↦ Some (numbered me n t.body) | false ↦ body_named z (numbered_parts me (n + choices me t.body) more) ]) e
+    ap (λ b. elim b as (λ (v : Bool). Option Protocol) [
+      | true ↦ Some (numbered me n t.body)
+      | false ↦ body_named z
+          (numbered_parts me (n + choices me t.body) more)
+    ]) e
 
 skip_number : (z : Name) (t : Titled) (more : List Titled) → bytes_eq z t.name ≡ false → number_among (t ∷ more) z ≡ number_among more z
 skip_number z t more e = ap (λ b. if b then Some (length more) else number_among more z) e
 
-pub next_reached : (me : Name) (ts : List Titled) (t : Titled) (more : List Titled) (protocols : List Name) → Sound protocols [] t.body → (n : ℕ) → Reached me ts (t ∷ more) n → Reached me ts more (n + choices me t.body)
+pub next_reached : (me : Name) (ts : List Titled) (t : Titled) (more : List Titled) (protocols : List Name) → Sound protocols [] t.body →
+    (n : ℕ) → Reached me ts (t ∷ more) n → Reached me ts more (n + choices me t.body)
 next_reached me ts t more protocols h n r =
     let entry : Name → Option ℕ = number_among ts in
     let v = parts_laid me (number_among ts) more nothing in
@@ -150,9 +163,11 @@ next_reached me ts t more protocols h n r =
     record {
       nums = let a = r.nums in omega (arith, a, many);
       front = r.front ++ states_in Plain [] (numbered me n t.body);
-      all_is = r.all_is ∙ sym (append_assoc r.front (states_in Plain [] (numbered me n t.body)) (state_positions (numbered_parts me (n + choices me t.body) more)));
+      all_is = r.all_is ∙ sym (append_assoc r.front (states_in Plain [] (numbered me n t.body))
+          (state_positions (numbered_parts me (n + choices me t.body) more)));
       later = u.next ∷ r.later;
-      entries_are = r.entries_are ∙ append_assoc u.entries (u.next ∷ []) r.later ∙ ap (λ es. es ++ u.next ∷ r.later) (same_entries me (number_among ts) t.body [] (before v));
+      entries_are = r.entries_are ∙ append_assoc u.entries (u.next ∷ []) r.later ∙ ap (λ es. es ++ u.next ∷ r.later)
+          (same_entries me (number_among ts) t.body [] (before v));
       size = as_many me (number_among ts) more nothing ∙ omega arith;
       loops = keeps_more v.loops u.loops (raw me ts).loops (keeps me (number_among ts) [] (before v) t.body) r.loops;
       body = λ z c. r.body z (contains_later t.name (names more) z c) ∙ skip_body z t me n more (other_name t more r.distinct z c);
@@ -178,7 +193,8 @@ reached_all me ts d = record {
   distinct = d;
 }
 
-pub reached : (me : Name) (protocols : List Name) (ts xs : List Titled) → AllSound protocols ts → AreDistinct (names ts) → From ts xs → (n : ℕ) × Reached me ts xs n
+pub reached : (me : Name) (protocols : List Name) (ts xs : List Titled) → AllSound protocols ts → AreDistinct (names ts) → From ts xs →
+    (n : ℕ) × Reached me ts xs n
 reached me protocols ts xs h d all_of = (1, reached_all me ts d)
 reached me protocols ts xs h d (rest_of {t} {more} f) =
     let r = reached me protocols ts (t ∷ more) h d f in
@@ -194,7 +210,11 @@ module _ (me : Name) (ts : List Titled) (t : Titled) (more : List Titled) (n : �
   pub body_here : body_named t.name (numbered_parts me 1 ts) ≡ Some (numbered me n t.body)
   body_here =
       r.body t.name (contains_first t.name (names more))
-      ∙ ap (λ b. elim b as (λ (v : Bool). Option Protocol) [ true ↦ Some (numbered me n t.body) | false ↦ body_named t.name (numbered_parts me (n + choices me t.body) more) ])
+      ∙ ap (λ b. elim b as (λ (v : Bool). Option Protocol) [
+        | true ↦ Some (numbered me n t.body)
+        | false ↦ body_named t.name
+            (numbered_parts me (n + choices me t.body) more)
+      ])
       ((bytes_eq-Decides t.name t.name).1 refl)
 
   pub number_here : number_among ts t.name ≡ Some (length more)
@@ -203,10 +223,12 @@ module _ (me : Name) (ts : List Titled) (t : Titled) (more : List Titled) (n : �
       ∙ ap (λ b. if b then Some (length more) else number_among more t.name) ((bytes_eq-Decides t.name t.name).1 refl)
 
   -- its entry is where it begins
-  pub entry_here : entry_at (length more) (raw me ts).entries ≡ (lay me (number_among ts) [] (before (parts_laid me (number_among ts) more nothing)) t.body).next
+  pub entry_here : entry_at (length more) (raw me ts).entries
+      ≡ (lay me (number_among ts) [] (before (parts_laid me (number_among ts) more nothing)) t.body).next
   entry_here =
       let v = parts_laid me (number_among ts) more nothing in
       let u = lay me (number_among ts) [] (before v) t.body in
-      let size : length more ≡ length u.entries = sym (ap length (same_entries me (number_among ts) t.body [] (before v)) ∙ as_many me (number_among ts) more nothing ∙ omega arith) in
+      let size : length more ≡ length u.entries = sym (ap length (same_entries me (number_among ts) t.body [] (before v)) ∙
+      as_many me (number_among ts) more nothing ∙ omega arith) in
       ap (entry_at (length more)) (r.entries_are ∙ append_assoc u.entries (u.next ∷ []) r.later)
       ∙ get_at u.entries u.next r.later hops.End (length more) size

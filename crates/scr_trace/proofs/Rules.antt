@@ -53,7 +53,8 @@ module _ (protocols : List Name) where
     Sound around Nothing = Unit {0}
     Sound around (Says m rest) = Sound around rest
     Sound around (Choice place at branches rest) = SoundIn around branches × Sound around rest
-    Sound around (Rec place name body rest) = Guards name body × Sound (name ∷ around) body × (stays body ≡ true → rest ≡ Nothing) × Sound around rest
+    Sound around (Rec place name body rest) = Guards name body × Sound (name ∷ around) body × (stays body ≡ true → rest ≡ Nothing)
+        × Sound around rest
     Sound around (Continue place name rest) = (is_among name around ≡ true) × (rest ≡ Nothing)
     Sound around (Do place name rest) = Contains protocols name × (rest ≡ Nothing)
 
@@ -70,6 +71,7 @@ module _ (protocols : List Name) where
   opens_known Nothing around h name o = absurd o
   opens_known (Says m rest) around h name o = absurd o
   opens_known (Choice place at branches rest) around h name o = absurd o
-  opens_known (Rec place other body rest) around h name o = ⊎_elim (λ b. opens_known body (other ∷ around) h.1 name b) (λ r. opens_known rest around h.3 name r.1) o
+  opens_known (Rec place other body rest) around h name o = ⊎_elim (λ b. opens_known body (other ∷ around) h.1 name b)
+      (λ r. opens_known rest around h.3 name r.1) o
   opens_known (Continue place other rest) around h name o = absurd o
   opens_known (Do place other rest) around h name o = subst (Contains protocols) o h.0

@@ -1,5 +1,6 @@
 -- How walks follow the protocol.
-use Rattle.std.proofs.Common.{◌≡◌, ◌≢◌, ℕ, zero, suc, ◌-◌, List, [], ◌∷◌, ◌++◌, map, reverse, Some, None, refl, sym, ap, ◌∙◌, subst, inl, inr, ◌⊎◌, ⊎_elim, Bool, true, false, ◌&&◌, if◌then◌else◌, Option}
+use Rattle.std.proofs.Common.{◌≡◌, ◌≢◌, ℕ, zero, suc, ◌-◌, List, [], ◌∷◌, ◌++◌, map, reverse, Some, None, refl, sym, ap, ◌∙◌, subst, inl}
+use Rattle.std.proofs.Common.{inr, ◌⊎◌, ⊎_elim, Bool, true, false, ◌&&◌, if◌then◌else◌, Option}
 use Rattle.std.specs.Prelude.{slice_get}
 use Rattle.std.specs.Str.{bytes_eq}
 use Rattle.std.proofs.lemmas.List.{reverse-append, map-append}
@@ -26,7 +27,8 @@ use Rattle.scr_trace.specs.inner.Goes.{Among, Edged, Taken, Goes}
 use Rattle.scr_trace.specs.inner.Laying.{Work}
 use Rattle.scr_trace.specs.inner.View.{draft_of, drafts_of, cell_of, work_of, standing_of, edge_of, edges_of}
 use Rattle.scr_trace.specs.inner.Search.{first_led, is_said, is_looked, led_if}
-use Rattle.scr_trace.proofs.Following.{AllSettled, all_settled, step_listed, listed_step, settled_at, edges_there, edge_of_step, step_of_edge, position_there, steps_from, steps_to, finished_end, end_finished}
+use Rattle.scr_trace.proofs.Following.{AllSettled, all_settled, step_listed, listed_step, settled_at, edges_there, edge_of_step}
+use Rattle.scr_trace.proofs.Following.{step_of_edge, position_there, steps_from, steps_to, finished_end, end_finished}
 use Rattle.scr_trace.proofs.Telling.{DiffersFrom, AllDiffer, calls_from, Told, AllTold, valid_told}
 
 -- ---- lists
@@ -69,7 +71,8 @@ true_or_false false = inr refl
 
 -- ---- the search
 
-found : (test : Arrow → Bool) (xs : List Arrow) (hop : Hop) → first_led test xs ≡ Some hop → (a : Arrow) × Among xs a × (test a ≡ true) × (a.to ≡ hop)
+found : (test : Arrow → Bool) (xs : List Arrow) (hop : Hop) → first_led test xs ≡ Some hop → (a : Arrow) × Among xs a × (test a ≡ true)
+    × (a.to ≡ hop)
 found test [] hop e = cc
 found test (a ∷ xs) hop e =
     ⊎_elim
@@ -82,7 +85,8 @@ missed test [] e a h = absurd h
 missed test (x ∷ xs) e a h =
     ⊎_elim
     (λ t. let f : Some x.to ≡ None = sym (ap (λ b. if b then Some x.to else first_led test xs) t) ∙ e in cc f)
-    (λ t. ⊎_elim (λ same. subst (λ y. test y ≡ false) same t) (λ later. missed test xs (sym (ap (λ b. if b then Some x.to else first_led test xs) t) ∙ e) a later) h)
+    (λ t. ⊎_elim (λ same. subst (λ y. test y ≡ false) same t)
+    (λ later. missed test xs (sym (ap (λ b. if b then Some x.to else first_led test xs) t) ∙ e) a later) h)
     (true_or_false (test x))
 
 both_parts : (a b : Bool) → (a && b) ≡ true → (a ≡ true) × (b ≡ true)
@@ -100,16 +104,20 @@ record Has (me : Name) (w : Work) (edges : List Edge) (call : Call) (hop : Hop) 
   named : call_of me edge.act ≡ call
   leads : edge.to ≡ standing_of w hop
 
-pub edge_among : (w : Work) (number : Option ℕ) (xs : List Arrow) (a : Arrow) → Among xs a → Among (map (edge_of w number) (drafts_of xs)) (edge_of w number (draft_of a))
-edge_among w number xs a h = among_map (edge_of w number) (drafts_of xs) (draft_of a) (among_reverse (map draft_of xs) (draft_of a) (among_map draft_of xs a h))
+pub edge_among : (w : Work) (number : Option ℕ) (xs : List Arrow) (a : Arrow) → Among xs a → Among (map (edge_of w number) (drafts_of xs))
+    (edge_of w number (draft_of a))
+edge_among w number xs a h = among_map (edge_of w number) (drafts_of xs) (draft_of a)
+    (among_reverse (map draft_of xs) (draft_of a) (among_map draft_of xs a h))
 
-among_edge : (w : Work) (number : Option ℕ) (xs : List Arrow) (e : Edge) → Among (map (edge_of w number) (drafts_of xs)) e → (a : Arrow) × Among xs a × (edge_of w number (draft_of a) ≡ e)
+among_edge : (w : Work) (number : Option ℕ) (xs : List Arrow) (e : Edge) → Among (map (edge_of w number) (drafts_of xs)) e →
+    (a : Arrow) × Among xs a × (edge_of w number (draft_of a) ≡ e)
 among_edge w number xs e h =
     let d = map_among (edge_of w number) (drafts_of xs) e h in
     let a = map_among draft_of xs d.0 (reverse_among (map draft_of xs) d.0 d.1) in
     (a.0, a.1, ap (edge_of w number) a.2 ∙ d.2)
 
-led_has : (me : Name) (w : Work) (number : Option ℕ) (xs : List Arrow) (method : Name) (answer : Option Name) (hop : Hop) → led_if me w number xs method answer ≡ Some hop →
+led_has : (me : Name) (w : Work) (number : Option ℕ) (xs : List Arrow) (method : Name) (answer : Option Name) (hop : Hop) →
+    led_if me w number xs method answer ≡ Some hop →
     Has me w (map (edge_of w number) (drafts_of xs)) (record { method = method; answer = answer }) hop
 led_has me w None xs method None hop e =
     let r = found (is_said method) xs hop e in
@@ -123,7 +131,8 @@ led_has me w None xs method (Some label) hop e = cc
 led_has me w (Some c) xs method None hop e = cc
 led_has me w (Some c) xs method (Some label) hop e =
     let r = found (is_looked me (w.choices - c) method label) xs hop e in
-    let both = both_parts (bytes_eq r.0.message.now.label label) (bytes_eq method (label_call me (w.choices - c) r.0.message.now.peer)) r.2 in
+    let both = both_parts (bytes_eq r.0.message.now.label label) (bytes_eq method (label_call me (w.choices - c) r.0.message.now.peer)) r.2
+    in
     record {
       edge = edge_of w (Some c) (draft_of r.0);
       among = edge_among w (Some c) xs r.0 r.1;
@@ -134,11 +143,13 @@ led_has me w (Some c) xs method (Some label) hop e =
       leads = ap (standing_of w) r.3;
     }
 
-led_lacks : (me : Name) (w : Work) (number : Option ℕ) (xs : List Arrow) (method : Name) (answer : Option Name) → led_if me w number xs method answer ≡ None →
+led_lacks : (me : Name) (w : Work) (number : Option ℕ) (xs : List Arrow) (method : Name) (answer : Option Name) →
+    led_if me w number xs method answer ≡ None →
     (edge : Edge) → Among (map (edge_of w number) (drafts_of xs)) edge → call_of me edge.act ≢ record { method = method; answer = answer }
 led_lacks me w None xs method None e edge h named =
     let a = among_edge w None xs edge h in
-    let f : message_call (message_of a.0.message.now) ≡ method = ap (λ (x : Edge). (call_of me x.act).method) a.2 ∙ ap (λ (c : Call). c.method) named in
+    let f : message_call (message_of a.0.message.now) ≡ method = ap (λ (x : Edge). (call_of me x.act).method) a.2 ∙
+    ap (λ (c : Call). c.method) named in
     let t = (bytes_eq-Decides method (message_call (message_of a.0.message.now))).1 (sym f) in
     let n = missed (is_said method) xs e a.0 a.1 in
     cc
@@ -152,11 +163,14 @@ led_lacks me w (Some c) xs method None e edge h named =
     cc
 led_lacks me w (Some c) xs method (Some label) e edge h named =
     let a = among_edge w (Some c) xs edge h in
-    let f : label_call me (w.choices - c) a.0.message.now.peer ≡ method = ap (λ (x : Edge). (call_of me x.act).method) a.2 ∙ ap (λ (c : Call). c.method) named in
-    let g : Some a.0.message.now.label ≡ Some label = ap (λ (x : Edge). (call_of me x.act).answer) a.2 ∙ ap (λ (c : Call). c.answer) named in
+    let f : label_call me (w.choices - c) a.0.message.now.peer ≡ method = ap (λ (x : Edge). (call_of me x.act).method) a.2 ∙
+    ap (λ (c : Call). c.method) named in
+    let g : Some a.0.message.now.label ≡ Some label = ap (λ (x : Edge). (call_of me x.act).answer) a.2 ∙
+    ap (λ (c : Call). c.answer) named in
     let same : a.0.message.now.label ≡ label = cc g in
     let t = parts_both (bytes_eq a.0.message.now.label label) (bytes_eq method (label_call me (w.choices - c) a.0.message.now.peer))
-    ((bytes_eq-Decides a.0.message.now.label label).1 same) ((bytes_eq-Decides method (label_call me (w.choices - c) a.0.message.now.peer)).1 (sym f)) in
+    ((bytes_eq-Decides a.0.message.now.label label).1 same)
+    ((bytes_eq-Decides method (label_call me (w.choices - c) a.0.message.now.peer)).1 (sym f)) in
     let n = missed (is_looked me (w.choices - c) method label) xs e a.0 a.1 in
     cc
 
@@ -173,29 +187,41 @@ pub state_same : (j k : ℕ) → standings.State j ≡ standings.State k → j �
 state_same j k e = cc
 
 -- the search finds the edge of the call
-pub goes_some : (walk : Walk) (number : ℕ) (exits : Exits) (call : Call) (hop : Hop) (to : Standing) → walk.standing ≡ standings.State number →
-    Some (cell_of exits) ≡ slice_get (work_of walk.laid).cells number → led_if (tree_of walk.local.now).me (work_of walk.laid) exits.number exits.arrows.items call.method call.answer ≡ Some hop →
+pub goes_some : (walk : Walk) (number : ℕ) (exits : Exits) (call : Call) (hop : Hop) (to : Standing) →
+    walk.standing ≡ standings.State number →
+    Some (cell_of exits) ≡ slice_get (work_of walk.laid).cells number → led_if (tree_of walk.local.now).me (work_of walk.laid) exits.number
+    exits.arrows.items call.method call.answer ≡ Some hop →
     to ≡ standing_of (work_of walk.laid) hop → Taken walk call to
 goes_some walk number exits call hop to at there led is =
     let w : Work = work_of walk.laid in
     let h = led_has (tree_of walk.local.now).me w exits.number exits.arrows.items call.method call.answer hop led in
     record {
       edge = h.edge;
-      edged = record { number = number; edges = edges_of w (cell_of exits); at = at; there = get_map (edges_of w) w.cells number (cell_of exits) (sym there); among = h.among };
+      edged = record {
+        number = number;
+        edges = edges_of w (cell_of exits);
+        at = at;
+        there =
+            get_map (edges_of w) w.cells number (cell_of exits) (sym there);
+        among = h.among;
+      };
       named = h.named;
       leads = h.leads ∙ sym is;
     }
 
 -- it finds none
 pub goes_none : (walk : Walk) (number : ℕ) (exits : Exits) (call : Call) → walk.standing ≡ standings.State number →
-    Some (cell_of exits) ≡ slice_get (work_of walk.laid).cells number → led_if (tree_of walk.local.now).me (work_of walk.laid) exits.number exits.arrows.items call.method call.answer ≡ None →
+    Some (cell_of exits) ≡ slice_get (work_of walk.laid).cells number → led_if (tree_of walk.local.now).me (work_of walk.laid) exits.number
+    exits.arrows.items call.method call.answer ≡ None →
     Goes walk call None
 goes_none walk number exits call at there led edge h named =
     let w : Work = work_of walk.laid in
     let same : h.number ≡ number = state_same h.number number (sym h.at ∙ at) in
     let e = get_map (edges_of w) w.cells number (cell_of exits) (sym there) in
-    let edges : h.edges ≡ edges_of w (cell_of exits) = some_same (subst (λ k. slice_get (graph_of walk).states k ≡ Some h.edges) same h.there) e in
-    led_lacks (tree_of walk.local.now).me w exits.number exits.arrows.items call.method call.answer led edge (subst (λ l. Among l edge) edges h.among) named
+    let edges : h.edges ≡ edges_of w (cell_of exits) =
+    some_same (subst (λ k. slice_get (graph_of walk).states k ≡ Some h.edges) same h.there) e in
+    led_lacks (tree_of walk.local.now).me w exits.number exits.arrows.items call.method call.answer led edge
+    (subst (λ l. Among l edge) edges h.among) named
 
 -- there are no edges
 pub get_none : {A B : Type 0} (f : A → B) (xs : List A) (k : ℕ) → None ≡ slice_get xs k → slice_get (map f xs) k ≡ None
@@ -203,12 +229,14 @@ get_none f [] k e = refl
 get_none f (y ∷ ys) zero e = cc
 get_none f (y ∷ ys) (suc k) e = get_none f ys k e
 
-pub goes_past : (walk : Walk) (number : ℕ) (call : Call) → walk.standing ≡ standings.State number → None ≡ slice_get (work_of walk.laid).cells number → Goes walk call None
+pub goes_past : (walk : Walk) (number : ℕ) (call : Call) → walk.standing ≡ standings.State number →
+    None ≡ slice_get (work_of walk.laid).cells number → Goes walk call None
 goes_past walk number call at none edge h named =
     let w : Work = work_of walk.laid in
     let same : h.number ≡ number = state_same h.number number (sym h.at ∙ at) in
     let e = get_none (edges_of w) w.cells number none in
-    let f : slice_get (graph_of walk).states number ≡ Some h.edges = subst (λ k. slice_get (graph_of walk).states k ≡ Some h.edges) same h.there in
+    let f : slice_get (graph_of walk).states number ≡ Some h.edges = subst (λ k. slice_get (graph_of walk).states k ≡ Some h.edges) same
+    h.there in
     cc
 
 pub goes_end : (walk : Walk) (call : Call) → walk.standing ≡ standings.End → Goes walk call None
@@ -223,11 +251,13 @@ pub settled_of : (local : LocalTree) → AllSettled (protocol_of local) (all_of 
 settled_of local = all_settled (protocol_of local) (protocol_of local)
 
 -- an edge of the state that a position comes to is one of its steps
-pub edge_steps : (local : LocalTree) (walk walk' : Walk) (position : Position) (call : Call) → Stands local walk position → (taken : Taken walk call walk'.standing) → walk'.local ≡ walk.local → graph_of walk' ≡ graph_of walk →
+pub edge_steps : (local : LocalTree) (walk walk' : Walk) (position : Position) (call : Call) → Stands local walk position →
+    (taken : Taken walk call walk'.standing) → walk'.local ≡ walk.local → graph_of walk' ≡ graph_of walk →
     StepsOn local position call walk'
 edge_steps local walk walk' position call h taken kept same =
     let d = taken.edged in
-    let p = position_there (protocol_of local) (all_of local) (all_of local) (graph_of walk).states h.along.states d.number d.edges d.there in
+    let p = position_there (protocol_of local) (all_of local) (all_of local) (graph_of walk).states h.along.states d.number d.edges d.there
+    in
     let s = step_of_edge (protocol_of local) (all_of local) (steps_at p.0) d.edges p.2 taken.edge d.among in
     let at_me : (tree_of walk.local.now).me ≡ local.me = ap (λ (t : LocalTree). t.me) h.of in
     record {
@@ -248,7 +278,8 @@ record EdgeOf (local : LocalTree) (walk : Walk) (act : Act) (to : Position) : Ty
   edged : Edged walk edge
   step : IsStep (protocol_of local) (all_of local) (record { act = act; to = to }) edge
 
-edge_of_a_step : (local : LocalTree) (walk : Walk) (position : Position) → Stands local walk position → (act : Act) (to : Position) → Step (protocol_of local) position act to → EdgeOf local walk act to
+edge_of_a_step : (local : LocalTree) (walk : Walk) (position : Position) → Stands local walk position → (act : Act) (to : Position) →
+    Step (protocol_of local) position act to → EdgeOf local walk act to
 edge_of_a_step local walk position h act to st =
     let f = steps_from (protocol_of local) (all_of local) (settled_of local) h.comes st in
     let e = edges_there (protocol_of local) (all_of local) (all_of local) (graph_of walk).states h.along.states f.number f.place f.there in
@@ -257,7 +288,8 @@ edge_of_a_step local walk position h act to st =
     record { edge = r.0; edged = record { number = f.number; edges = e.0; at = f.is_state; there = e.1; among = r.1 }; step = r.2 }
 
 -- where no edge has the call, no step has
-pub none_steps : (local : LocalTree) (walk : Walk) (position : Position) (call : Call) → Goes walk call None → Stands local walk position → (act : Act) (to : Position) → Step (protocol_of local) position act to → call_of local.me act ≢ call
+pub none_steps : (local : LocalTree) (walk : Walk) (position : Position) (call : Call) → Goes walk call None → Stands local walk position →
+    (act : Act) (to : Position) → Step (protocol_of local) position act to → call_of local.me act ≢ call
 none_steps local walk position call none h act to st named =
     let r = edge_of_a_step local walk position h act to st in
     let at_me : (tree_of walk.local.now).me ≡ local.me = ap (λ (t : LocalTree). t.me) h.of in
@@ -265,22 +297,28 @@ none_steps local walk position call none h act to st named =
 
 -- ---- no state has a call twice
 
-pub calls_edges : (me : Name) (parts : Parts) (all : List Position) (steps : List Onward) (edges : List Edge) → AreSteps parts all steps edges → map (λ (e : Edge). call_of me e.act) edges ≡ calls_from me steps
+pub calls_edges : (me : Name) (parts : Parts) (all : List Position) (steps : List Onward) (edges : List Edge) →
+    AreSteps parts all steps edges → map (λ (e : Edge). call_of me e.act) edges ≡ calls_from me steps
 calls_edges me parts all [] [] h = refl
 calls_edges me parts all [] (e ∷ edges) h = absurd h
 calls_edges me parts all (s ∷ steps) [] h = absurd h
 calls_edges me parts all (s ∷ steps) (e ∷ edges) h = λ i. call_of me (h.0.act i) ∷ calls_edges me parts all steps edges h.1 i
 
-differs_all : (me : Name) (call : Call) (edges : List Edge) → DiffersFrom call (map (λ (e : Edge). call_of me e.act) edges) → (e : Edge) → Among edges e → call ≡ call_of me e.act → ⊥
+differs_all : (me : Name) (call : Call) (edges : List Edge) → DiffersFrom call (map (λ (e : Edge). call_of me e.act) edges) → (e : Edge) →
+    Among edges e → call ≡ call_of me e.act → ⊥
 differs_all me call [] d e a same = a
-differs_all me call (x ∷ edges) d e a same = ⊎_elim (λ f. d.0 (same ∙ ap (λ (y : Edge). call_of me y.act) (sym f))) (λ b. differs_all me call edges d.1 e b same) a
+differs_all me call (x ∷ edges) d e a same = ⊎_elim (λ f. d.0 (same ∙ ap (λ (y : Edge). call_of me y.act) (sym f)))
+    (λ b. differs_all me call edges d.1 e b same) a
 
-one_edge : (me : Name) (edges : List Edge) → AllDiffer (map (λ (e : Edge). call_of me e.act) edges) → (a b : Edge) → Among edges a → Among edges b → call_of me a.act ≡ call_of me b.act → a ≡ b
+one_edge : (me : Name) (edges : List Edge) → AllDiffer (map (λ (e : Edge). call_of me e.act) edges) → (a b : Edge) → Among edges a →
+    Among edges b → call_of me a.act ≡ call_of me b.act → a ≡ b
 one_edge me [] d a b p q e = absurd p
 one_edge me (x ∷ edges) d a b p q e =
     ⊎_elim
-    (λ f. ⊎_elim (λ g. sym f ∙ g) (λ g. absurd (differs_all me (call_of me x.act) edges d.0 b g (ap (λ (y : Edge). call_of me y.act) f ∙ e))) q)
-    (λ f. ⊎_elim (λ g. absurd (differs_all me (call_of me x.act) edges d.0 a f (ap (λ (y : Edge). call_of me y.act) g ∙ sym e))) (λ g. one_edge me edges d.1 a b f g e) q)
+    (λ f. ⊎_elim (λ g. sym f ∙ g) (λ g. absurd (differs_all me (call_of me x.act) edges d.0 b g (ap (λ (y : Edge). call_of me y.act) f ∙
+    e))) q)
+    (λ f. ⊎_elim (λ g. absurd (differs_all me (call_of me x.act) edges d.0 a f (ap (λ (y : Edge). call_of me y.act) g ∙ sym e)))
+    (λ g. one_edge me edges d.1 a b f g e) q)
     p
 
 pub told_at : (me : Name) (ps : List Position) → AllTold me ps → (k : ℕ) (p : Position) → slice_get ps k ≡ Some p → Told me p
@@ -289,17 +327,22 @@ told_at me (x ∷ ps) h zero p e = let f : x ≡ p = cc e in subst (Told me) f h
 told_at me (x ∷ ps) h (suc k) p e = told_at me ps h.1 k p e
 
 -- two edges of a walk with one call are one
-same_edge : (local : LocalTree) (walk : Walk) → AllTold local.me (all_of local) → Automates (protocol_of local) (graph_of walk) → (a b : Edge) → Edged walk a → Edged walk b → call_of local.me a.act ≡ call_of local.me b.act → a ≡ b
+same_edge : (local : LocalTree) (walk : Walk) → AllTold local.me (all_of local) → Automates (protocol_of local) (graph_of walk) →
+    (a b : Edge) → Edged walk a → Edged walk b → call_of local.me a.act ≡ call_of local.me b.act → a ≡ b
 same_edge local walk told along a b p q e =
     let n : q.number ≡ p.number = state_same q.number p.number (sym q.at ∙ p.at) in
     let edges : q.edges ≡ p.edges = some_same (subst (λ k. slice_get (graph_of walk).states k ≡ Some q.edges) n q.there) p.there in
-    let place = position_there (protocol_of local) (all_of local) (all_of local) (graph_of walk).states along.states p.number p.edges p.there in
+    let place = position_there (protocol_of local) (all_of local) (all_of local) (graph_of walk).states along.states p.number p.edges
+    p.there in
     let t = told_at local.me (all_of local) told p.number place.0 place.1 in
-    one_edge local.me p.edges (subst AllDiffer (sym (calls_edges local.me (protocol_of local) (all_of local) (steps_at place.0) p.edges place.2)) t.differ) a b p.among (subst (λ l. Among l b) edges q.among) e
+    one_edge local.me p.edges (subst AllDiffer
+    (sym (calls_edges local.me (protocol_of local) (all_of local) (steps_at place.0) p.edges place.2)) t.differ) a b p.among
+    (subst (λ l. Among l b) edges q.among) e
 
 -- ---- runs
 
-run_more : {parts : Parts} {from mid end : Position} {acts : List Act} {act : Act} → Run parts from acts mid → Step parts mid act end → Run parts from (acts ++ act ∷ []) end
+run_more : {parts : Parts} {from mid end : Position} {acts : List Act} {act : Act} → Run parts from acts mid → Step parts mid act end →
+    Run parts from (acts ++ act ∷ []) end
 run_more stays st = goes st stays
 run_more (goes s r) st = goes s (run_more r st)
 
@@ -320,21 +363,49 @@ record Cut (parts : Parts) (me : Name) (from end : Position) (calls more : List 
 cons_parts : {A : Type 0} {x y : A} {xs ys : List A} → x ∷ xs ≡ y ∷ ys → (x ≡ y) × (xs ≡ ys)
 cons_parts e = (cc, cc)
 
-cut : {parts : Parts} (me : Name) {from end : Position} {acts : List Act} (calls more : List Call) (call : Call) → Run parts from acts end → map (call_of me) acts ≡ calls ++ call ∷ more → Cut parts me from end calls more call
+cut : {parts : Parts} (me : Name) {from end : Position} {acts : List Act} (calls more : List Call) (call : Call) → Run parts from acts end →
+    map (call_of me) acts ≡ calls ++ call ∷ more → Cut parts me from end calls more call
 cut me [] more call stays e = cc
 cut me [] more call (goes {act = a} st run) e =
-    let p = cons_parts e in record { acts = []; act = a; rest = _; mid = _; to = _; run = stays; named = refl; step = st; is = p.0; behind = run; rest_named = p.1 }
+    let p = cons_parts e in record {
+      acts = [];
+      act = a;
+      rest = _;
+      mid = _;
+      to = _;
+      run = stays;
+      named = refl;
+      step = st;
+      is = p.0;
+      behind =
+          run;
+      rest_named = p.1;
+    }
 cut me (c ∷ calls) more call stays e = cc
 cut me (c ∷ calls) more call (goes {act = a} st run) e =
     let p = cons_parts e in
     let r = cut me calls more call run p.1 in
-    record { acts = a ∷ r.acts; act = r.act; rest = r.rest; mid = r.mid; to = r.to; run = goes st r.run; named = (λ i. p.0 i ∷ r.named i); step = r.step; is = r.is; behind = r.behind; rest_named = r.rest_named }
+    record {
+      acts = a ∷ r.acts;
+      act = r.act;
+      rest = r.rest;
+      mid = r.mid;
+      to = r.to;
+      run = goes st r.run;
+      named =
+          (λ i. p.0 i ∷ r.named i);
+      step = r.step;
+      is = r.is;
+      behind = r.behind;
+      rest_named = r.rest_named;
+    }
 
 pub walk_told : (local : LocalTree) (walk : Walk) → tree_of walk.local.now ≡ local → AllTold local.me (all_of local)
 walk_told local walk e = subst (λ (t : LocalTree). AllTold t.me (all_of t)) e (valid_told (tree_of walk.local.now) walk.local.now.valid)
 
 -- a call that is taken
-pub takes : (local : LocalTree) (walk walk' : Walk) (call : Call) (calls : List Call) → Taken walk call walk'.standing → walk'.local ≡ walk.local → graph_of walk' ≡ graph_of walk → HasTaken local walk calls → HasTaken local walk' (calls ++ call ∷ [])
+pub takes : (local : LocalTree) (walk walk' : Walk) (call : Call) (calls : List Call) → Taken walk call walk'.standing →
+    walk'.local ≡ walk.local → graph_of walk' ≡ graph_of walk → HasTaken local walk calls → HasTaken local walk' (calls ++ call ∷ [])
 takes local walk walk' call calls taken kept same h =
     let here = h.each h.acts h.position h.run h.named in
     let s = edge_steps local walk walk' h.position call here taken kept same in
@@ -354,16 +425,19 @@ takes local walk walk' call calls taken kept same h =
           record {
             of = s.stands.of;
             along = s.stands.along;
-            comes = subst (λ q. ComesTo (protocol_of local) (all_of local) q walk'.standing) ends (subst (ComesTo (protocol_of local) (all_of local) c.to) (ap (λ (x : Edge). x.to) one ∙ taken.leads) edge.step.to);
+            comes = subst (λ q. ComesTo (protocol_of local) (all_of local) q walk'.standing) ends
+                (subst (ComesTo (protocol_of local) (all_of local) c.to) (ap (λ (x : Edge). x.to) one ∙ taken.leads) edge.step.to);
           };
     }
   where
-    stays_there : {parts : Parts} {from end : Position} {acts : List Act} → Run parts from acts end → map (call_of local.me) acts ≡ [] → from ≡ end
+    stays_there : {parts : Parts} {from end : Position} {acts : List Act} → Run parts from acts end → map (call_of local.me) acts ≡ [] →
+        from ≡ end
     stays_there stays e = refl
     stays_there (goes st run) e = cc
 
 -- a call that isn't offered ends every trace
-pub ends_traces : (local : LocalTree) (walk : Walk) (call : Call) (calls more : List Call) → Goes walk call None → HasTaken local walk calls → Trace local.me (protocol_of local) (calls ++ call ∷ more) → ⊥
+pub ends_traces : (local : LocalTree) (walk : Walk) (call : Call) (calls more : List Call) → Goes walk call None → HasTaken local walk calls
+    → Trace local.me (protocol_of local) (calls ++ call ∷ more) → ⊥
 ends_traces local walk call calls more none h trace =
     let c = cut local.me calls more call trace.2 trace.3 in
     none_steps local walk c.mid call none (h.each c.acts c.mid c.run c.named) c.act c.to c.step c.is
@@ -379,18 +453,24 @@ starts local walk h = record {
   each = λ others end run named. subst (Stands local walk) (no_calls run named) h;
 }
   where
-    no_calls : {parts : Parts} {from end : Position} {acts : List Act} → Run parts from acts end → map (call_of local.me) acts ≡ [] → from ≡ end
+    no_calls : {parts : Parts} {from end : Position} {acts : List Act} → Run parts from acts end → map (call_of local.me) acts ≡ [] →
+        from ≡ end
     no_calls stays e = refl
     no_calls (goes st run) e = cc
 
-pub done_finished : (local : LocalTree) (walk : Walk) (position : Position) → Stands local walk position → walk.standing ≡ standings.End → Finished (protocol_of local) position
+pub done_finished : (local : LocalTree) (walk : Walk) (position : Position) → Stands local walk position → walk.standing ≡ standings.End →
+    Finished (protocol_of local) position
 done_finished local walk position h e = end_finished (protocol_of local) (all_of local) (settled_of local) h.comes e
 
-pub finished_done : (local : LocalTree) (walk : Walk) (position : Position) → Stands local walk position → Finished (protocol_of local) position → walk.standing ≡ standings.End
+pub finished_done : (local : LocalTree) (walk : Walk) (position : Position) → Stands local walk position →
+    Finished (protocol_of local) position → walk.standing ≡ standings.End
 finished_done local walk position h f = finished_end (protocol_of local) (all_of local) (settled_of local) h.comes f
 
-pub done_complete : (local : LocalTree) (walk : Walk) (calls : List Call) → HasTaken local walk calls → walk.standing ≡ standings.End → Complete local.me (protocol_of local) calls
-done_complete local walk calls h e = (h.acts, h.position, h.run, done_finished local walk h.position (h.each h.acts h.position h.run h.named) e, h.named)
+pub done_complete : (local : LocalTree) (walk : Walk) (calls : List Call) → HasTaken local walk calls → walk.standing ≡ standings.End →
+    Complete local.me (protocol_of local) calls
+done_complete local walk calls h e =
+    (h.acts, h.position, h.run, done_finished local walk h.position (h.each h.acts h.position h.run h.named) e, h.named)
 
-pub complete_done : (local : LocalTree) (walk : Walk) (calls : List Call) → HasTaken local walk calls → Complete local.me (protocol_of local) calls → walk.standing ≡ standings.End
+pub complete_done : (local : LocalTree) (walk : Walk) (calls : List Call) → HasTaken local walk calls →
+    Complete local.me (protocol_of local) calls → walk.standing ≡ standings.End
 complete_done local walk calls h c = finished_done local walk c.1 (h.each c.0 c.1 c.2 c.4) c.3

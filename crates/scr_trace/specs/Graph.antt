@@ -29,7 +29,8 @@ AreSteps parts all _ _ = ⊥
 -- the states stand at these positions, one after another
 abbrev pub AreStates : Parts → List Position → List Position → List (List Edge) → Type 0
 AreStates parts all [] [] = Unit {0}
-AreStates parts all (position ∷ positions) (edges ∷ states) = AreSteps parts all (steps_at position) edges × AreStates parts all positions states
+AreStates parts all (position ∷ positions) (edges ∷ states) = AreSteps parts all (steps_at position) edges
+    × AreStates parts all positions states
 AreStates parts all _ _ = ⊥
 
 -- the automaton of a protocol

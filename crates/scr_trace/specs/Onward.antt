@@ -20,7 +20,8 @@ sends around (Branch other more) = sends around more
 abbrev pub looks : ℕ → Position → Branches → List Onward
 looks number around NoMore = []
 looks number around (Branch (Does message rest) more) =
-    record { act = Looks number (peer_of message) (label_of message); to = Left (Does message rest) Plain ∷ around } ∷ looks number around more
+    record { act = Looks number (peer_of message) (label_of message); to = Left (Does message rest) Plain ∷ around } ∷ looks number around
+    more
 looks number around (Branch other more) = looks number around more
 
 -- the steps of the message or the choice that stands in front

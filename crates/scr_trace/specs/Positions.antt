@@ -15,7 +15,8 @@ abbrev mutual
   states_in part around (ChoiceHere branches rest) =
       (Left (ChoiceHere branches rest) part ∷ around) ∷ (states_here (Left rest part ∷ around) branches ++ states_in part around rest)
   states_in part around (ChoiceThere number branches rest) =
-      (Left (ChoiceThere number branches rest) part ∷ around) ∷ (states_there (Left rest part ∷ around) branches ++ states_in part around rest)
+      (Left (ChoiceThere number branches rest) part ∷ around) ∷ (states_there (Left rest part ∷ around) branches
+      ++ states_in part around rest)
   states_in part around (Rec name body rest) = states_in (BodyOf name body) (Left rest part ∷ around) body ++ states_in part around rest
   states_in part around (Continue name rest) = states_in part around rest
   states_in part around (Do name rest) = states_in part around rest
@@ -47,6 +48,8 @@ state_positions (part ∷ parts) = states_in Plain [] part.body ++ state_positio
 
 -- where silent moves lead from a position: to the state of this number, or to the end
 pub data ComesTo (parts : Parts) (states : List Position) : Position → Standing → Type 0 where
-  at_state : {number : ℕ} {position : Position} → slice_get states number ≡ Some position → ComesTo parts states position (standings.State number)
+  at_state : {number : ℕ} {position : Position} → slice_get states number ≡ Some position →
+      ComesTo parts states position (standings.State number)
   at_end : ComesTo parts states [] standings.End
-  silently : {from to : Position} {standing : Standing} → Silent parts from to → ComesTo parts states to standing → ComesTo parts states from standing
+  silently : {from to : Position} {standing : Standing} → Silent parts from to → ComesTo parts states to standing →
+      ComesTo parts states from standing

@@ -26,7 +26,8 @@ Calls = List Call
 abbrev pub graph_of : Walk → Graph
 graph_of walk = graph_of_work (work_of walk.laid)
 
--- the walk, of a local protocol, stands at a position: it goes along the protocol's automaton, and silent moves come from the position to its state
+-- the walk, of a local protocol, stands at a position: it goes along the protocol's automaton, and silent moves come from the position to
+-- its state
 pub record Stands (local : LocalTree) (walk : Walk) (position : Position) : Type 0 where
   pub of : tree_of walk.local.now ≡ local
   pub along : Automates (protocol_of local) (graph_of walk)
@@ -46,7 +47,8 @@ pub record HasTaken (local : LocalTree) (walk : Walk) (calls : List Call) : Type
   pub position : Position
   pub run : Run (protocol_of local) (start (protocol_of local)) acts position
   pub named : map (call_of local.me) acts ≡ calls
-  pub each : (others : List Act) (end : Position) → Run (protocol_of local) (start (protocol_of local)) others end → map (call_of local.me) others ≡ calls → Stands local walk end
+  pub each : (others : List Act) (end : Position) → Run (protocol_of local) (start (protocol_of local)) others end →
+      map (call_of local.me) others ≡ calls → Stands local walk end
 
 -- The calls of the steps of a position, in the order of the text: behind all silent moves, `steps` are those of the message or the choice
 -- in front, and they are all steps of the position.

@@ -6,7 +6,8 @@ ghost use Rattle.scr_tree.specs.Tree.{Nothing, other};
 ghost use Rattle.scr_tree.specs.Local.{tree_of};
 ghost use Rattle.scr_tree.specs.Meaning.{protocol_of};
 ghost use Rattle.scr_trace.specs.Graph.{Automates};
-ghost use Rattle.scr_trace.specs.inner.Laying.{lay, lay_in, branch_laid, part_laid, parts_laid, LaidOut, joined, said, opened, closed, chosen, hop_named, hop_to};
+ghost use Rattle.scr_trace.specs.inner.Laying.{lay, lay_in, branch_laid, part_laid, parts_laid, LaidOut, joined, said, opened, closed};
+ghost use Rattle.scr_trace.specs.inner.Laying.{chosen, hop_named, hop_to};
 ghost use Rattle.scr_trace.specs.inner.View.{number_by, known_of, work_of, gathered, bodies, graph_of_work};
 
 use crate::arrow::{Arrow, Exits, Hop};
@@ -76,7 +77,8 @@ fn lay_all<'a>(
     out: &mut Laying<'a>,
     body: &'a [Statement],
 ) -> Result<(), Memory>
-    ensures { OnOk result (work_of out.new ≡ lay me.now (number_by names.now) (known_of around.now) (work_of out.old) (statements body.now)) }
+    ensures { OnOk result (work_of out.new ≡ lay me.now (number_by names.now) (known_of around.now) (work_of out.old)
+        (statements body.now)) }
 {
     let mut i = body.len();
     while i > 0 {
@@ -96,7 +98,8 @@ fn lay_at<'a>(
     out: &mut Laying<'a>,
     statement: &'a Statement,
 ) -> Result<(), Memory>
-    ensures { OnOk result (work_of out.new ≡ lay me.now (number_by names.now) (known_of around.now) (work_of out.old) (front statement.now Nothing)) }
+    ensures { OnOk result (work_of out.new ≡ lay me.now (number_by names.now) (known_of around.now) (work_of out.old)
+        (front statement.now Nothing)) }
 {
     match statement {
         Statement::Message(message) => out.put_message(alloc, message),
@@ -145,7 +148,8 @@ fn lay_branches<'a>(
     arrows: &mut List<Arrow<'a>>,
     branches: &'a [List<Statement>],
 ) -> Result<(), Memory>
-    ensures { OnOk result (gathered out.new arrows.new ≡ lay_in me.now (number_by names.now) (known_of around.now) at_self (work_of out.old).next (gathered out.old arrows.old) (bodies branches.now)) }
+    ensures { OnOk result (gathered out.new arrows.new ≡ lay_in me.now (number_by names.now) (known_of around.now) at_self
+        (work_of out.old).next (gathered out.old arrows.old) (bodies branches.now)) }
 {
     let behind = out.next;
     let mut i = branches.len();
@@ -177,7 +181,8 @@ fn lay_branch<'a>(
     arrows: &mut List<Arrow<'a>>,
     branch: &'a [Statement],
 ) -> Result<(), Memory>
-    ensures { OnOk result (gathered out.new arrows.new ≡ branch_laid me.now (number_by names.now) at_self (known_of around.now) (statements branch.now) (gathered out.old arrows.old)) }
+    ensures { OnOk result (gathered out.new arrows.new ≡ branch_laid me.now (number_by names.now) at_self (known_of around.now)
+        (statements branch.now) (gathered out.old arrows.old)) }
 {
     let Some((statement, rest)) = branch.split_first() else {
         return Ok(());
@@ -224,7 +229,8 @@ fn lay_others<'a>(
     out: &mut Laying<'a>,
     others: &'a [Part],
 ) -> Result<(), Memory>
-    ensures { OnOk result (work_of out.new ≡ parts_laid me.now (number_by names.now) (map other (map part_of others.now)) (work_of out.old)) }
+    ensures { OnOk result (work_of out.new ≡ parts_laid me.now (number_by names.now) (map other (map part_of others.now))
+        (work_of out.old)) }
 {
     let mut i = others.len();
     while i > 0 {

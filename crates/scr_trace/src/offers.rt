@@ -21,7 +21,8 @@ pub fn offers_of(
     laid: &Laying<'_>,
     exits: &Exits<'_>,
 ) -> Result<List<Offer>, Memory>
-    ensures calls { IfOk result (λ offers. ((c : ℕ) → exits.now.number ≡ Some c → SamePeer exits.now.arrows.items) → calls_offered offers.items ≡ edge_calls (tree_of local.now).me (edges_of (work_of laid.now) (cell_of exits.now))) }
+    ensures calls { IfOk result (λ offers. ((c : ℕ) → exits.now.number ≡ Some c → SamePeer exits.now.arrows.items) →
+        calls_offered offers.items ≡ edge_calls (tree_of local.now).me (edges_of (work_of laid.now) (cell_of exits.now))) }
     ensures apart { IfOk result (λ offers. AreApart exits.now.number (drafts_of exits.now.arrows.items) offers.items) }
 {
     let arrows = exits.arrows.as_slice();
@@ -39,7 +40,8 @@ fn message_offers(
     laid: &Laying<'_>,
     arrows: &[Arrow<'_>],
 ) -> Result<List<Offer>, Memory>
-    ensures calls { IfOk result (λ offers. calls_offered offers.items ≡ edge_calls (tree_of local.now).me (map (edge_of (work_of laid.now) None) (drafts_of arrows.now))) }
+    ensures calls { IfOk result (λ offers. calls_offered offers.items ≡ edge_calls (tree_of local.now).me
+        (map (edge_of (work_of laid.now) None) (drafts_of arrows.now))) }
     ensures methods { IfOk result (λ offers. methods_of offers.items ≡ messages_in (drafts_of arrows.now)) }
 {
     let mut offers = List::new(alloc);
@@ -63,7 +65,8 @@ fn label_offers(
     behind: u32,
     arrows: &[Arrow<'_>],
 ) -> Result<List<Offer>, Memory>
-    ensures calls { IfOk result (λ offers. SamePeer arrows.now → calls_offered offers.items ≡ edge_calls (tree_of local.now).me (map (edge_of (work_of laid.now) (Some behind)) (drafts_of arrows.now))) }
+    ensures calls { IfOk result (λ offers. SamePeer arrows.now → calls_offered offers.items ≡ edge_calls (tree_of local.now).me
+        (map (edge_of (work_of laid.now) (Some behind)) (drafts_of arrows.now))) }
     ensures one { IfOk result (λ offers. length offers.items ≤ 1) }
 {
     let mut offers = List::new(alloc);

@@ -103,7 +103,8 @@ impl<'a> Laying<'a> {
         exits: &Exits<'_>,
         call: &Call,
     ) -> Result<Option<Hop>, Memory>
-        ensures { IfOk result (λ hop. hop ≡ led_if me.now (work_of self.now) exits.now.number exits.now.arrows.items call.now.method call.now.answer) }
+        ensures { IfOk result (λ hop. hop ≡ led_if me.now (work_of self.now) exits.now.number exits.now.arrows.items call.now.method
+            call.now.answer) }
     {
         let method = call.method.as_str();
         let arrows = exits.arrows.as_slice();

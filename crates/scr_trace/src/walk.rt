@@ -73,12 +73,16 @@ impl<'a> Walk<'a> {
     /// `NotOffered` exactly where no step of the protocol from where the walk stands has the call,
     /// and `Memory` where there is too little of it. The walk is then unchanged.
     pub fn step(&mut self, call: &Call) -> Result<(), StepFault>
-        ensures steps { OnOk result ((tree : LocalTree) (position : Position) → Stands tree self.old position → StepsOn tree position (call_said call.now) self.new) }
-        ensures not_offered { result ≡ Err faults.NotOffered → (tree : LocalTree) (position : Position) → Stands tree self.old position → (act : Act) (to : Position) → Step (protocol_of tree) position act to → call_of tree.me act ≢ call_said call.now }
+        ensures steps { OnOk result ((tree : LocalTree) (position : Position) → Stands tree self.old position →
+            StepsOn tree position (call_said call.now) self.new) }
+        ensures not_offered { result ≡ Err faults.NotOffered → (tree : LocalTree) (position : Position) → Stands tree self.old position →
+            (act : Act) (to : Position) → Step (protocol_of tree) position act to → call_of tree.me act ≢ call_said call.now }
         ensures unchanged { OnErr result (self.new ≡ self.old) }
         // the calls that were taken are a trace, and one that isn't offered ends every trace
-        ensures taken { OnOk result ((tree : LocalTree) (calls : Calls) → HasTaken tree self.old calls → HasTaken tree self.new (calls ++ call_said call.now ∷ [])) }
-        ensures no_trace { result ≡ Err faults.NotOffered → (tree : LocalTree) (calls more : Calls) → HasTaken tree self.old calls → Trace tree.me (protocol_of tree) (calls ++ call_said call.now ∷ more) → ⊥ }
+        ensures taken { OnOk result ((tree : LocalTree) (calls : Calls) → HasTaken tree self.old calls →
+            HasTaken tree self.new (calls ++ call_said call.now ∷ [])) }
+        ensures no_trace { result ≡ Err faults.NotOffered → (tree : LocalTree) (calls more : Calls) → HasTaken tree self.old calls →
+            Trace tree.me (protocol_of tree) (calls ++ call_said call.now ∷ more) → ⊥ }
     {
         match self.led(call)? {
             Some(standing) => {
@@ -93,8 +97,10 @@ impl<'a> Walk<'a> {
     /// have one method.
     /// The only error is `Memory`, where there is too little of it.
     pub fn offers(&self) -> Result<List<Offer>, Memory>
-        ensures calls { IfOk result (λ offers. (tree : LocalTree) (position : Position) → Stands tree self.now position → Offered tree position (calls_offered offers.items)) }
-        ensures distinct { IfOk result (λ offers. (tree : LocalTree) (position : Position) → Stands tree self.now position → AreDistinct (methods_of offers.items)) }
+        ensures calls { IfOk result (λ offers. (tree : LocalTree) (position : Position) → Stands tree self.now position →
+            Offered tree position (calls_offered offers.items)) }
+        ensures distinct { IfOk result (λ offers. (tree : LocalTree) (position : Position) → Stands tree self.now position →
+            AreDistinct (methods_of offers.items)) }
     {
         let Standing::State(number) = self.standing else {
             return Ok(List::new(self.alloc));
@@ -108,8 +114,10 @@ impl<'a> Walk<'a> {
 
     /// Whether nothing is left to do.
     pub fn done(&self) -> bool
-        ensures finished { (tree : LocalTree) (position : Position) → Stands tree self.now position → IsTrue result ↔ Finished (protocol_of tree) position }
-        ensures complete { (tree : LocalTree) (calls : Calls) → HasTaken tree self.now calls → IsTrue result ↔ Complete tree.me (protocol_of tree) calls }
+        ensures finished { (tree : LocalTree) (position : Position) → Stands tree self.now position →
+            IsTrue result ↔ Finished (protocol_of tree) position }
+        ensures complete { (tree : LocalTree) (calls : Calls) → HasTaken tree self.now calls →
+            IsTrue result ↔ Complete tree.me (protocol_of tree) calls }
     {
         match self.standing {
             Standing::End => true,

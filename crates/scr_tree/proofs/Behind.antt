@@ -15,17 +15,21 @@ pub each_front : (P : Front → Type 0) → ((m : Message) → P (Says m)) → (
     ((p : Place) (name : Name) (body : Statements) → P (Rec p name body)) → ((p : Place) (name : Name) → P (Continue p name)) →
     ((p : Place) (name : Name) → P (Do p name)) → (s : Statement) → P (front s)
 each_front P said choice recursion continued goes_on =
-    each_kind (λ s. P (front s)) (λ m. subst P (sym (front-Message m)) (said m)) (λ p at bs. subst P (sym (front-Choice p at bs)) (choice p at _))
-    (λ p name body. subst P (sym (front-Rec p name body)) (recursion p name _)) (λ p name. subst P (sym (front-Continue p name)) (continued p name))
+    each_kind (λ s. P (front s)) (λ m. subst P (sym (front-Message m)) (said m)) (λ p at bs. subst P (sym (front-Choice p at bs))
+    (choice p at _))
+    (λ p name body. subst P (sym (front-Rec p name body)) (recursion p name _)) (λ p name. subst P (sym (front-Continue p name))
+    (continued p name))
     (λ p name. subst P (sym (front-Do p name)) (goes_on p name))
 
-pub statements-step : (ss : List Statement) (i : ℕ) (x : Statement) → i < length ss → x ≡ get_or ss i x → statements (drop i ss) ≡ front x (statements (drop (i + 1) ss))
+pub statements-step : (ss : List Statement) (i : ℕ) (x : Statement) → i < length ss → x ≡ get_or ss i x → statements (drop i ss)
+    ≡ front x (statements (drop (i + 1) ss))
 statements-step ss i x within is = at_drop_more statements ss i x within ∙ ap (λ y. front y (statements (drop (i + 1) ss))) (sym is)
 
 pub statements-past : (ss : List Statement) (i : ℕ) → length ss ≤ i → statements (drop i ss) ≡ Nothing
 statements-past ss i h = at_drop_all statements ss i h
 
-pub bodies-step : (bs : List (Row Statement)) (i : ℕ) (x : Row Statement) → i < length bs → x ≡ get_or bs i x → bodies (drop i bs) ≡ Branch (statements x.items) (bodies (drop (i + 1) bs))
+pub bodies-step : (bs : List (Row Statement)) (i : ℕ) (x : Row Statement) → i < length bs → x ≡ get_or bs i x →
+    bodies (drop i bs) ≡ Branch (statements x.items) (bodies (drop (i + 1) bs))
 bodies-step bs i x within is = at_drop_more bodies bs i x within ∙ ap (λ y. Branch (statements y.items) (bodies (drop (i + 1) bs))) (sym is)
 
 pub bodies-past : (bs : List (Row Statement)) (i : ℕ) → length bs ≤ i → bodies (drop i bs) ≡ NoBranch

@@ -10,7 +10,8 @@ use Rattle.scr_tree.specs.declared.written.Role.{Role}
 use Rattle.scr_tree.specs.Tree.{LocalTree, Titled, Statements, Nothing, Says, Choice, Do, NoBranch, Branch}
 use Rattle.scr_tree.specs.Written.{WrittenPart, WrittenTree, local_of, parts_in, title_of}
 use Rattle.scr_tree.specs.Protocol.{Send, Take}
-use Rattle.scr_tree.specs.Steps.{Act, Moves, Looks, this, later, moves, looks, silently, ends, goes_on, stays, goes, nothing_left, after_silent}
+use Rattle.scr_tree.specs.Steps.{Act, Moves, Looks, this, later, moves, looks, silently, ends, goes_on, stays, goes, nothing_left}
+use Rattle.scr_tree.specs.Steps.{after_silent}
 use Rattle.scr_tree.specs.CallNames.{call_of}
 use Rattle.scr_tree.specs.Meaning.{protocol_of}
 use Rattle.scr_tree.specs.Traces.{Trace, Complete}
@@ -37,7 +38,14 @@ abbrev role : (line column : ℕ) → Name → Role
 role line column name = record { place = at line column; name = name }
 
 abbrev said : (line column : ℕ) → Name → Said
-said line column label = record { place = at line column; direction = directions.From; peer = server; label = label; payload = payloads.Nothing }
+said line column label = record {
+  place = at line column;
+  direction = directions.From;
+  peer = server;
+  label = label;
+  payload =
+      payloads.Nothing;
+}
 
 -- ---- local protocol Ping at C(role C, role S) { ping() to S; do Pong(C, S); }
 -- local protocol Pong at C(role C, role S) { choice at S { again() from S; do Ping(C, S); } or { stop() from S; } }
@@ -51,7 +59,8 @@ first roles = record {
   roles = role 1 31 client ∷ role 1 39 server ∷ [];
   carries = record { place = at 2 3; types = [] } ∷ [];
   arguments = record { place = at 3 3; name = pong; roles = roles } ∷ [];
-  body = Says (record { place = at 2 3; direction = directions.To; peer = server; label = codes "ping"; payload = payloads.Nothing }) (Do (at 3 3) pong Nothing);
+  body = Says (record { place = at 2 3; direction = directions.To; peer = server; label = codes "ping"; payload = payloads.Nothing })
+      (Do (at 3 3) pong Nothing);
 }
 
 abbrev second : WrittenPart
@@ -63,7 +72,8 @@ second = record {
   carries = record { place = at 6 17; types = [] } ∷ record { place = at 6 55; types = [] } ∷ [];
   arguments = record { place = at 6 33; name = ping; roles = client ∷ server ∷ [] } ∷ [];
   body = Choice (at 6 3) server
-      (Branch (Says (said 6 17 (codes "again")) (Do (at 6 33) ping Nothing)) (Branch (Says (said 6 55 (codes "stop")) Nothing) NoBranch)) Nothing;
+      (Branch (Says (said 6 17 (codes "again")) (Do (at 6 33) ping Nothing)) (Branch (Says (said 6 55 (codes "stop")) Nothing) NoBranch))
+      Nothing;
 }
 
 abbrev pinging : List Name → WrittenTree
@@ -100,7 +110,8 @@ first_byte ([] ∷ names) = 0
 first_byte ((byte ∷ bytes) ∷ names) = byte
 
 -- with `do Pong(S, C)`: RolesDiffer, at the `do`, with the name of the protocol behind it
-roles_differ : RolesDiffer (first (server ∷ client ∷ [])) (gives (record { place = at 3 3; name = pong; roles = server ∷ client ∷ [] })) (culprit (at 3 3) pong)
+roles_differ : RolesDiffer (first (server ∷ client ∷ [])) (gives (record { place = at 3 3; name = pong; roles = server ∷ client ∷ [] }))
+    (culprit (at 3 3) pong)
 roles_differ = (refl, λ e. let one : 83 ≡ 67 = ap first_byte e in omega (arith, one))
 
 -- ---- local protocol P(self C, role S) { do P(C, S); }

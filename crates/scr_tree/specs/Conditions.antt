@@ -62,7 +62,8 @@ EmptyBranch _ c = ⊥
 
 -- a branch begins with no message; its first statement is at fault
 abbrev pub OtherStart : Spot → Culprit → Type 0
-OtherStart (spot (Enters at earlier ∷ way) here) c = (place : Place) × (head_place here ≡ Some place) × (c ≡ culprit place []) × BeginsOtherwise here
+OtherStart (spot (Enters at earlier ∷ way) here) c = (place : Place) × (head_place here ≡ Some place) × (c ≡ culprit place [])
+    × BeginsOtherwise here
 OtherStart _ c = ⊥
 
 -- BranchStart: a branch is empty, or begins with no message

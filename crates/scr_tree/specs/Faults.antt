@@ -8,7 +8,8 @@ use Rattle.scr_tree.specs.declared.condition.Condition.TheVariants as conditions
 use Rattle.scr_tree.specs.Tree.{body_in}
 use Rattle.scr_tree.specs.Spots.{Spot, all_spots, spots_of}
 use Rattle.scr_tree.specs.Conditions as says
-use Rattle.scr_tree.specs.Going.{Unguarded, UnknownProtocol, DuplicateProtocol, RolesDiffer, told_in, NotLast, all_held, StartsWithDo, first_of_several}
+use Rattle.scr_tree.specs.Going.{Unguarded, UnknownProtocol, DuplicateProtocol, RolesDiffer, told_in, NotLast, all_held, StartsWithDo}
+use Rattle.scr_tree.specs.Going.{first_of_several}
 use Rattle.scr_tree.specs.Actions.{NameClash, all_actions}
 use Rattle.scr_tree.specs.States.{TooManyStates, all_states}
 use Rattle.scr_tree.specs.Written.{WrittenPart, WrittenTree, parts_in, roles_in, me_in, name_in, body_of, title_of}

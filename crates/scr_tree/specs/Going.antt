@@ -27,7 +27,8 @@ pub data Leads (all : List Titled) : Name → Name → Type 0 where
   there : {name : Name} → Leads all name name
   onward : {from next to : Name} → GoesOn all from next → Leads all next to → Leads all from to
 
--- Unguarded: no message stands on a path from the opening of `rec X` to `continue X`, or a `do` stands on a cycle of protocols each of which
+-- Unguarded: no message stands on a path from the opening of `rec X` to `continue X`, or a `do` stands on a cycle of protocols each of
+-- which
 -- has a `do` of the next with no message on the path from its opening
 abbrev pub Unguarded : List Titled → Titled × Spot → Culprit → Type 0
 Unguarded all (t, spot way (Do place name rest)) c = (c ≡ culprit place name) × AtOnce way × Leads all name t.name

@@ -9,7 +9,8 @@ use Rattle.scr_tree.specs.declared.syntax.Payload.{Payload}
 use Rattle.scr_tree.specs.declared.syntax.Message.{Message as Said}
 use Rattle.scr_tree.specs.Tree.{Statements, Branches as Written, Titled, LocalTree, titled}
 use Rattle.scr_tree.specs.Tree as tree
-use Rattle.scr_tree.specs.Protocol.{Message, Send, Take, Protocol, Done, Does, ChoiceHere, ChoiceThere, Rec, Continue, Do, Branches, NoMore, Branch, Named, Parts}
+use Rattle.scr_tree.specs.Protocol.{Message, Send, Take, Protocol, Done, Does, ChoiceHere, ChoiceThere, Rec, Continue, Do, Branches, NoMore}
+use Rattle.scr_tree.specs.Protocol.{Branch, Named, Parts}
 
 abbrev pub towards : Direction → Name → Name → Payload → Message
 towards directions.To peer label kind = Send peer label kind

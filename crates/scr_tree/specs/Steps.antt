@@ -2,7 +2,8 @@
 use Rattle.std.specs.Prelude.{◌≡◌, ℕ, List, [], ◌∷◌, true, false, Option, Some, None}
 use Rattle.std.specs.Str.{bytes_eq}
 use Rattle.mg_text.specs.Call.{Name}
-use Rattle.scr_tree.specs.Protocol.{Message, peer_of, label_of, Protocol, Done, Does, ChoiceHere, ChoiceThere, Rec, Continue, Do, Branches, Branch, Named, Parts}
+use Rattle.scr_tree.specs.Protocol.{Message, peer_of, label_of, Protocol, Done, Does, ChoiceHere, ChoiceThere, Rec, Continue, Do, Branches}
+use Rattle.scr_tree.specs.Protocol.{Branch, Named, Parts}
 
 -- what is seen of a step: a message, or a look at which branch of a numbered choice a peer has taken
 pub data Act : Type 0 where
@@ -62,7 +63,8 @@ pub data Silent (parts : Parts) : Position → Position → Type 0 where
 -- one of the branches is this message and then these statements
 pub data HasBranch : Branches → Message → Protocol → Type 0 where
   this : {message : Message} {rest : Protocol} {more : Branches} → HasBranch (Branch (Does message rest) more) message rest
-  later : {message : Message} {rest other : Protocol} {more : Branches} → HasBranch more message rest → HasBranch (Branch other more) message rest
+  later : {message : Message} {rest other : Protocol} {more : Branches} → HasBranch more message rest →
+      HasBranch (Branch other more) message rest
 
 -- a step that is seen, behind any silent moves
 pub data Step (parts : Parts) : Position → Act → Position → Type 0 where
@@ -77,12 +79,14 @@ pub data Step (parts : Parts) : Position → Act → Position → Type 0 where
   -- the role looks at which branch was chosen, and the whole branch is the first frame
   looks : {number : ℕ} {branches : Branches} {message : Message} {branch rest : Protocol} {part : Part} {around : List Frame} →
       HasBranch branches message branch →
-      Step parts (Left (ChoiceThere number branches rest) part ∷ around) (Looks number (peer_of message) (label_of message)) (Left (Does message branch) Plain ∷ Left rest part ∷ around)
+      Step parts (Left (ChoiceThere number branches rest) part ∷ around) (Looks number (peer_of message) (label_of message))
+      (Left (Does message branch) Plain ∷ Left rest part ∷ around)
 
 -- these steps, one after another
 pub data Run (parts : Parts) : Position → List Act → Position → Type 0 where
   stays : {at : Position} → Run parts at [] at
-  goes : {from to end : Position} {act : Act} {acts : List Act} → Step parts from act to → Run parts to acts end → Run parts from (act ∷ acts) end
+  goes : {from to end : Position} {act : Act} {acts : List Act} → Step parts from act to → Run parts to acts end →
+      Run parts from (act ∷ acts) end
 
 -- silent moves leave no frames
 pub data Finished (parts : Parts) : Position → Type 0 where

@@ -3,10 +3,12 @@ use Rattle.std.specs.Prelude.{◌≡◌, ◌≢◌, ◌≤◌, ℕ, suc, max, Li
 use Rattle.std.specs.List.{AllByRecursion}
 use Rattle.mg_text.specs.Call.{Name}
 use Rattle.mg_read.specs.First.{Clean, with_earlier}
-use Rattle.scr_tree.specs.Tree.{PartTree, LocalTree, Titled, titled, bodies_in, body_in, Statements, Nothing, Says, Choice, Rec, Continue, Do, Branches, NoBranch, Branch}
+use Rattle.scr_tree.specs.Tree.{PartTree, LocalTree, Titled, titled, bodies_in, body_in, Statements, Nothing, Says, Choice, Rec, Continue}
+use Rattle.scr_tree.specs.Tree.{Do, Branches, NoBranch, Branch}
 use Rattle.scr_tree.specs.Words.{IsName}
 use Rattle.scr_tree.specs.Spots.{spots, all_spots, spots_of}
-use Rattle.scr_tree.specs.Conditions.{UnknownRole, PeerIsSelf, UnknownRec, DuplicateRec, Unreachable, BranchStart, MixedChoice, SameLabel, ReservedLabel}
+use Rattle.scr_tree.specs.Conditions.{UnknownRole, PeerIsSelf, UnknownRec, DuplicateRec, Unreachable, BranchStart, MixedChoice, SameLabel}
+use Rattle.scr_tree.specs.Conditions.{ReservedLabel}
 use Rattle.scr_tree.specs.Going.{Unguarded, UnknownProtocol, NotLast, all_held, has_deed, first_do}
 use Rattle.scr_tree.specs.Actions.{NameClash, all_actions}
 use Rattle.scr_tree.specs.States.{TooManyStates, all_states}

@@ -61,7 +61,8 @@ module _ (me : Name) (protocol : Parts) (apart : CallsTellApart me protocol) whe
   -- nor is the act of an open call
   not_open : {still_open : Option Name} {last : List Act} → OpenActs me still_open last → (closed : List Act) →
       AllByRecursion (OneOf (all_doings protocol)) (closed ++ last) → (number : ℕ) (peer label : Name) (labels : List Name) →
-      Contains (all_doings protocol) (Asks number peer labels) → (Contains labels label → ⊥) → still_open ≡ Some (label_call me number peer) →
+      Contains (all_doings protocol) (Asks number peer labels) → (Contains labels label → ⊥) → still_open ≡ Some (label_call me number peer)
+      →
       map unnumbered last ≡ Looked peer label ∷ [] → ⊥
   not_open none_yet closed ones number peer label labels asked without called e = nothing e
     where
@@ -77,7 +78,8 @@ module _ (me : Name) (protocol : Parts) (apart : CallsTellApart me protocol) whe
       deed_is : {a b : Deed} → a ∷ [] ≡ b ∷ [] → a ≡ b
       deed_is e = cc
 
-  pub exclude : OnePeers protocol → {made : List Call} {still_open : Option Name} {deeds : List Deed} {so_far : List Event} {run_of : Ended} →
+  pub exclude : OnePeers protocol → {made : List Call} {still_open : Option Name} {deeds : List Deed} {so_far : List Event} {run_of : Ended}
+      →
       Plays me protocol made still_open deeds → Refuses me protocol made still_open deeds so_far run_of → ⊥
   exclude one p r =
       not_open p.of_open p.closed (steps_are_all_doings protocol one p.run) r.number r.peer r.label r.labels r.asked r.no_branch r.of_open
@@ -90,7 +92,8 @@ pub record IsOver (so_far : List Event) (peer label : Name) (run_of : Ended) : T
 
 -- what was refused in one run is refused in each that comes as far
 pub refused_again : (local : LocalTree) → ∥ IsValid local ∥₁ →
-    {made : List Call} {still_open : Option Name} {deeds : List Deed} {so_far : List Event} {run_of other : Ended} → (r : Refuses local.me (protocol_of local) made still_open deeds so_far run_of) →
+    {made : List Call} {still_open : Option Name} {deeds : List Deed} {so_far : List Event} {run_of other : Ended} →
+    (r : Refuses local.me (protocol_of local) made still_open deeds so_far run_of) →
     Played local.me (protocol_of local) made still_open deeds so_far other → IsOver so_far r.peer r.label other
 refused_again local valid r (plays p) =
     absurd (exclude local.me (protocol_of local) (calls_tell_apart local valid) (has_one_peers local valid) p r)

@@ -1,5 +1,6 @@
 -- What a statement does alone, and with those behind it.
-use Rattle.std.proofs.Common.{◌≡◌, ℕ, ◌+◌, ◌<◌, ◌≤◌, get_or, drop, length, map, Bool, List, [], ◌∷◌, ◌++◌, Some, None, refl, sym, ap, ◌∙◌, append_assoc}
+use Rattle.std.proofs.Common.{◌≡◌, ℕ, ◌+◌, ◌<◌, ◌≤◌, get_or, drop, length, map, Bool, List, [], ◌∷◌, ◌++◌, Some, None, refl, sym, ap, ◌∙◌}
+use Rattle.std.proofs.Common.{append_assoc}
 use Rattle.std.specs.Str.{bytes_eq}
 use Rattle.std.proofs.lemmas.List.{append-nil, at_drop_more, at_drop_all}
 use Rattle.std.proofs.lemmas.Grind.{common_steps}
@@ -20,12 +21,14 @@ use Rattle.stm_api.specs.inner.Does.{does, does_in, all_does, part_body, look_un
 
 module _ (me : Name) (n : ℕ) where
   pub next-front : (s : Statement) (rest : Statements) → next me n (front s rest) ≡ next me (next me n (front s Nothing)) rest
-  next-front s rest = each_front (λ f. next me n (f rest) ≡ next me (next me n (f Nothing)) rest) (λ m. refl) (λ p at bs. refl) (λ p name body. refl) (λ p name. refl) (λ p name. refl) s
+  next-front s rest = each_front (λ f. next me n (f rest) ≡ next me (next me n (f Nothing)) rest) (λ m. refl) (λ p at bs. refl)
+      (λ p name body. refl) (λ p name. refl) (λ p name. refl) s
 
   alone-choice : (a b r : List Doing) → a ++ (b ++ r) ≡ (a ++ (b ++ [])) ++ r
   alone-choice a b r = ap (λ x. a ++ (x ++ r)) (sym (append-nil b)) ∙ sym (append_assoc a (b ++ []) r)
 
-  pub does-front : (s : Statement) (rest : Statements) → does me n (front s rest) ≡ does me n (front s Nothing) ++ does me (next me n (front s Nothing)) rest
+  pub does-front : (s : Statement) (rest : Statements) → does me n (front s rest) ≡ does me n (front s Nothing)
+      ++ does me (next me n (front s Nothing)) rest
   does-front s rest =
       each_front (λ f. does me n (f rest) ≡ does me n (f Nothing) ++ does me (next me n (f Nothing)) rest) (λ m. refl)
       (λ p at bs. alone-choice (look_unless (bytes_eq at me) n bs) (does_in me (opened (bytes_eq at me) n) bs) _)
@@ -38,7 +41,8 @@ module _ (me : Name) (n : ℕ) where
   next-Message m = ap (λ f. next me n (f Nothing)) (front-Message m)
 
   pub does-Choice : (p : _) (at : Name) (bs : Row (Row Statement)) (self : Bool) → bytes_eq at me ≡ self →
-      does me n (front (kinds.Choice p at bs) Nothing) ≡ look_unless self n (bodies bs.items) ++ does_in me (opened self n) (bodies bs.items)
+      does me n (front (kinds.Choice p at bs) Nothing) ≡ look_unless self n (bodies bs.items) ++ does_in me (opened self n)
+      (bodies bs.items)
   does-Choice p at bs self e =
       ap (λ f. does me n (f Nothing)) (front-Choice p at bs)
       ∙ ap (λ b. look_unless b n (bodies bs.items) ++ (does_in me (opened b n) (bodies bs.items) ++ [])) e
@@ -46,19 +50,23 @@ module _ (me : Name) (n : ℕ) where
 
   pub next-Choice : (p : _) (at : Name) (bs : Row (Row Statement)) (self : Bool) → bytes_eq at me ≡ self →
       next me n (front (kinds.Choice p at bs) Nothing) ≡ next_in me (opened self n) (bodies bs.items)
-  next-Choice p at bs self e = ap (λ f. next me n (f Nothing)) (front-Choice p at bs) ∙ ap (λ b. next_in me (opened b n) (bodies bs.items)) e
+  next-Choice p at bs self e = ap (λ f. next me n (f Nothing)) (front-Choice p at bs) ∙ ap (λ b. next_in me (opened b n) (bodies bs.items))
+      e
 
-  pub does-Rec : (p : _) (name : Name) (body : Row Statement) → does me n (front (kinds.Rec p name body) Nothing) ≡ does me n (statements body.items)
+  pub does-Rec : (p : _) (name : Name) (body : Row Statement) → does me n (front (kinds.Rec p name body) Nothing)
+      ≡ does me n (statements body.items)
   does-Rec p name body = ap (λ f. does me n (f Nothing)) (front-Rec p name body) ∙ append-nil _
 
-  pub next-Rec : (p : _) (name : Name) (body : Row Statement) → next me n (front (kinds.Rec p name body) Nothing) ≡ next me n (statements body.items)
+  pub next-Rec : (p : _) (name : Name) (body : Row Statement) → next me n (front (kinds.Rec p name body) Nothing)
+      ≡ next me n (statements body.items)
   next-Rec p name body = ap (λ f. next me n (f Nothing)) (front-Rec p name body)
 
   module _ (ss : List Statement) (i : ℕ) (x : Statement) (within : i < length ss) (is : x ≡ get_or ss i x) where
     pub next-step : next me n (statements (drop i ss)) ≡ next me (next me n (front x Nothing)) (statements (drop (i + 1) ss))
     next-step = ap (next me n) (statements-step ss i x within is) ∙ next-front x _
 
-    pub does-step : does me n (statements (drop i ss)) ≡ does me n (front x Nothing) ++ does me (next me n (front x Nothing)) (statements (drop (i + 1) ss))
+    pub does-step : does me n (statements (drop i ss)) ≡ does me n (front x Nothing) ++ does me (next me n (front x Nothing))
+        (statements (drop (i + 1) ss))
     does-step = ap (does me n) (statements-step ss i x within is) ∙ does-front x _
 
 -- the labels of the branch at an index, and of those behind it
@@ -90,14 +98,27 @@ pub part-step : (me : Name) (n : ℕ) (ps : List Part) (i : ℕ) (x : Part) → 
     does me n (statements x.body.items) ++ all_does me (next me n (statements x.body.items)) (map part_body (map part_of (drop (i + 1) ps)))
 part-step me n ps i x within is =
     at_drop_more (λ qs. all_does me n (map part_body (map part_of qs))) ps i x within
-    ∙ ap (λ (y : Part). does me n (statements y.body.items) ++ all_does me (next me n (statements y.body.items)) (map part_body (map part_of (drop (i + 1) ps)))) (sym is)
+    ∙ ap (λ (y : Part). does me n (statements y.body.items) ++ all_does me (next me n (statements y.body.items))
+    (map part_body (map part_of (drop (i + 1) ps)))) (sym is)
 
 pub part-past : (me : Name) (n : ℕ) (ps : List Part) (i : ℕ) → length ps ≤ i → all_does me n (map part_body (map part_of (drop i ps))) ≡ []
 part-past me n ps i h = at_drop_all (λ qs. all_does me n (map part_body (map part_of qs))) ps i h
 
 pub ruleset part_steps = (common_steps, part-step, part-past, append_assoc, append-nil)
 
-pub ruleset alone = (common_steps, front-Continue, front-Do, does-Message, next-Message, does-Choice, next-Choice, does-Rec, next-Rec, append_assoc, append-nil)
+pub ruleset alone = (
+  common_steps,
+  front-Continue,
+  front-Do,
+  does-Message,
+  next-Message,
+  does-Choice,
+  next-Choice,
+  does-Rec,
+  next-Rec,
+  append_assoc,
+  append-nil,
+)
 
 pub ruleset all_steps = (common_steps, next-step, does-step, statements-past, append_assoc, append-nil)
 

@@ -7,8 +7,10 @@ use Rattle.mg_text.specs.Call.{Name}
 use Rattle.jv_tree.proofs.ViewLaws as laws
 use Rattle.stm_api.specs.inner.View.{names_of}
 
-pub names-step : (names : List (Bor Name)) (i : ℕ) (x : Bor Name) → i < length names → x ≡ get_or names i x → names_of (drop i names) ≡ x.now ∷ names_of (drop (i + 1) names)
-names-step names i x within is = at_drop_more names_of names i x within ∙ ap (λ (y : Bor Name). y.now ∷ names_of (drop (i + 1) names)) (sym is)
+pub names-step : (names : List (Bor Name)) (i : ℕ) (x : Bor Name) → i < length names → x ≡ get_or names i x →
+    names_of (drop i names) ≡ x.now ∷ names_of (drop (i + 1) names)
+names-step names i x within is = at_drop_more names_of names i x within ∙ ap (λ (y : Bor Name). y.now ∷ names_of (drop (i + 1) names))
+    (sym is)
 
 pub names-past : (names : List (Bor Name)) (i : ℕ) → length names ≤ i → names_of (drop i names) ≡ []
 names-past names i h = at_drop_all names_of names i h

@@ -13,7 +13,8 @@ use Rattle.ts_tree.specs.declared.parts.TypeName.{TypeName}
 use Rattle.ts_tree.specs.declared.parts.TypeName.TheVariants as types
 use Rattle.stm_gen.specs.Laid.{carried_type, carried_params, choice_enum}
 use Rattle.jv_tree.specs.declared.tree.Param.{Param}
-use Rattle.jv_tree.specs.Source.{Expr, Text, Variable, Member, MethodCall, NoExpr, Argument, Stmt, Block, Local, If, Return, Eval, NoStmt, Then, Method, Class, ClassDecl, EnumDecl, File}
+use Rattle.jv_tree.specs.Source.{Expr, Text, Variable, Member, MethodCall, NoExpr, Argument, Stmt, Block, Local, If, Return, Eval, NoStmt}
+use Rattle.jv_tree.specs.Source.{Then, Method, Class, ClassDecl, EnumDecl, File}
 use Rattle.jv_tree.specs.View.{exprs_of, stmts_of}
 use Rattle.jv_print.specs.Layout.{layout}
 use Rattle.stm_api.specs.Doings.{Doing, Passes, Asks, all_doings, Firsts}
@@ -145,7 +146,8 @@ class_file p me firsts = written (me ++ codes "Role.java") (ClassDecl (class_wit
 
 abbrev pub enum_file : Place → Name → ℕ → List Name → ApiText
 enum_file p me number labels =
-    written (choice_enum me number ++ codes ".java") (EnumDecl (record { place = p; name = choice_enum me number; constants = labels }) ∷ [])
+    written (choice_enum me number ++ codes ".java") (EnumDecl (record { place = p; name = choice_enum me number; constants = labels }) ∷
+    [])
 
 -- the enums of the looks, by their numbers, which rise in the order of the text
 abbrev pub enum_of : Place → Name → Doing → List ApiText
@@ -160,4 +162,5 @@ enum_files p me (doing ∷ more) = enum_of p me doing ++ enum_files p me more
 pub record IsApi (local : LocalTree) (files : List ApiText) : Type 0 where
   pub firsts : List Doing
   pub are_firsts : Firsts local.me [] (all_doings (protocol_of local)) firsts
-  pub are_files : files ≡ class_file (start_of local.file) local.me firsts ∷ enum_files (start_of local.file) local.me (all_doings (protocol_of local))
+  pub are_files : files ≡ class_file (start_of local.file) local.me firsts ∷ enum_files (start_of local.file) local.me
+      (all_doings (protocol_of local))

@@ -3,7 +3,8 @@
 ghost use Rattle.std.specs.Prelude.{◌≡◌, ◌++◌, [], ◌∷◌, IfOk, OnOk, map, codes, Some as There};
 ghost use Rattle.jv_tree.specs.Source.{Text as Quoted, Return, Eval};
 ghost use Rattle.jv_tree.specs.View.{expr_of, stmt_of};
-ghost use Rattle.stm_api.specs.Api.{session_part, sent, send_body, take_body, answered, found_by, refusal, look_body, label_test, first_label};
+ghost use Rattle.stm_api.specs.Api.{session_part, sent, send_body, take_body, answered, found_by, refusal, look_body, label_test};
+ghost use Rattle.stm_api.specs.Api.{first_label};
 ghost use Rattle.stm_api.specs.inner.View.{names_of};
 
 use crate::exprs::{call_on, constant, one, session, text, two, variable};
@@ -66,7 +67,8 @@ fn address(alloc: Global, place: Place, message: &Message) -> Result<List<Expr>,
 
 // The peer, the label and what a message carries.
 fn sent_args(alloc: Global, place: Place, message: &Message) -> Result<List<Expr>, Memory>
-    ensures { IfOk result (λ es. map expr_of es.items ≡ Quoted place message.now.peer ∷ (Quoted place message.now.label ∷ sent place message.now.payload)) }
+    ensures { IfOk result (λ es. map expr_of es.items ≡ Quoted place message.now.peer ∷
+        (Quoted place message.now.label ∷ sent place message.now.payload)) }
 {
     let mut args = address(alloc, place, message)?;
     if message.payload == Payload::Nothing {

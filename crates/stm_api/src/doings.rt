@@ -42,7 +42,8 @@ fn collect_parts<'a>(
     number: u32,
     parts: &'a [Part],
 ) -> Result<(), Memory>
-    ensures { OnOk result (map doing_of out.new.items ≡ map doing_of out.old.items ++ all_does me.now number (map part_body (map part_of parts.now))) }
+    ensures { OnOk result (map doing_of out.new.items ≡ map doing_of out.old.items ++ all_does me.now number
+        (map part_body (map part_of parts.now))) }
 {
     let mut number = number;
     for part in parts {
@@ -82,7 +83,8 @@ fn collect_at<'a>(
     statement: &'a Statement,
 ) -> Result<u32, Memory>
     ensures next { IfOk result (λ n. n ≡ next me.now number (front statement.now Nothing)) }
-    ensures doings { OnOk result (map doing_of out.new.items ≡ map doing_of out.old.items ++ does me.now number (front statement.now Nothing)) }
+    ensures doings { OnOk result (map doing_of out.new.items ≡ map doing_of out.old.items ++ does me.now number
+        (front statement.now Nothing)) }
 {
     match statement {
         Statement::Message(message) => {
@@ -134,7 +136,8 @@ fn put_look<'a>(
     number: u32,
     branches: &'a [List<Statement>],
 ) -> Result<(), Memory>
-    ensures { OnOk result (map doing_of out.new.items ≡ map doing_of out.old.items ++ look_at number (peer_in (bodies branches.now)) (labels_in (bodies branches.now))) }
+    ensures { OnOk result (map doing_of out.new.items ≡ map doing_of out.old.items ++ look_at number (peer_in (bodies branches.now))
+        (labels_in (bodies branches.now))) }
 {
     let Some(peer) = first_peer(branches) else {
         return Ok(());

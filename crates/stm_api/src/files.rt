@@ -50,7 +50,8 @@ fn class_file(
     place: Place,
     doings: &[Doing<'_>],
 ) -> Result<ApiFile, Memory>
-    ensures { IfOk result (λ f. written_of f ≡ class_file place (tree_of local.now).me (firsts_of (tree_of local.now).me [] (map doing_of doings.now))) }
+    ensures { IfOk result (λ f. written_of f ≡ class_file place (tree_of local.now).me
+        (firsts_of (tree_of local.now).me [] (map doing_of doings.now))) }
 {
     let methods = methods_of(alloc, local, place, doings)?;
     let name = joined(alloc, local.me(), "Role")?;
@@ -74,7 +75,8 @@ fn methods_of(
     place: Place,
     doings: &[Doing<'_>],
 ) -> Result<List<MethodDecl>, Memory>
-    ensures { IfOk result (λ ms. map kept_method ms.items ≡ map (method_of place (tree_of local.now).me) (firsts_of (tree_of local.now).me [] (map doing_of doings.now))) }
+    ensures { IfOk result (λ ms. map kept_method ms.items ≡ map (method_of place (tree_of local.now).me)
+        (firsts_of (tree_of local.now).me [] (map doing_of doings.now))) }
 {
     let mut seen = Names::new(alloc);
     let mut methods = List::new(alloc);
@@ -117,7 +119,8 @@ fn add_enums(
     doings: &[Doing<'_>],
     files: &mut List<ApiFile>,
 ) -> Result<(), Memory>
-    ensures { OnOk result (map written_of files.new.items ≡ map written_of files.old.items ++ enum_files place me.now (map doing_of doings.now)) }
+    ensures { OnOk result (map written_of files.new.items ≡ map written_of files.old.items ++ enum_files place me.now
+        (map doing_of doings.now)) }
 {
     for doing in doings {
         let Doing::Asks(number, _, labels) = doing else {

@@ -65,7 +65,8 @@ fn message_method(alloc: Global, place: Place, message: &Message) -> Result<Meth
 
 // The method that sends a message.
 fn send_method(alloc: Global, place: Place, message: &Message) -> Result<MethodDecl, Memory>
-    ensures { IfOk result (λ m. kept_method m ≡ send_method place (message_call (message_of message.now)) message.now.peer message.now.label message.now.payload) }
+    ensures { IfOk result (λ m. kept_method m ≡ send_method place (message_call (message_of message.now)) message.now.peer message.now.label
+        message.now.payload) }
 {
     let name = call_name(alloc, message)?;
     let params = value_params(alloc, place, message.payload)?;
@@ -75,7 +76,8 @@ fn send_method(alloc: Global, place: Place, message: &Message) -> Result<MethodD
 
 // The method that takes a message, and answers what it carries.
 fn take_method(alloc: Global, place: Place, message: &Message) -> Result<MethodDecl, Memory>
-    ensures { IfOk result (λ m. kept_method m ≡ take_method place (message_call (message_of message.now)) message.now.peer message.now.label message.now.payload) }
+    ensures { IfOk result (λ m. kept_method m ≡ take_method place (message_call (message_of message.now)) message.now.peer message.now.label
+        message.now.payload) }
 {
     let name = call_name(alloc, message)?;
     let body = take_body(alloc, place, message)?;

@@ -16,7 +16,8 @@ use Rattle.scr_trace.specs.Positions.{states_in, state_positions, ComesTo, at_st
 use Rattle.scr_trace.specs.Onward.{Onward, steps_at}
 use Rattle.scr_trace.specs.Graph.{Edge, Graph, IsStep, AreSteps, AreStates, Automates}
 use Rattle.scr_trace.specs.inner.Goes.{Among}
-use Rattle.scr_trace.proofs.Following.{AllSettled, states_settled, step_listed, listed_step, settled_at, edges_there, edge_of_step, step_of_edge, steps_from, steps_to, finished_end, end_finished}
+use Rattle.scr_trace.proofs.Following.{AllSettled, states_settled, step_listed, listed_step, settled_at, edges_there, edge_of_step}
+use Rattle.scr_trace.proofs.Following.{step_of_edge, steps_from, steps_to, finished_end, end_finished}
 use Rattle.scr_trace.proofs.Telling.{AllDiffer, calls_from, Told, AllTold}
 use Rattle.ts_tree.specs.declared.parts.TypeName.TheVariants as types
 use Rattle.ts_tree.specs.declared.parts.To.{To}
@@ -27,7 +28,8 @@ use Rattle.ts_tree.specs.Calls.{initial, led_by, offered_in, next, next_from, le
 use Rattle.stm_gen.specs.Laid.{result_of, to_of, method_of, branches_of, label_method, methods_of, state_name, choice_enum, AreLaid}
 use Rattle.stm_gen.specs.inner.States.{states_from}
 use Rattle.stm_gen.specs.Agreement.{Agrees}
-use Rattle.stm_gen.proofs.Paths.{AllMessages, AllLooks, OneKind, messages, looks, one_kind, calls, methods-message, methods-look, leads, edge_leads, leads_edge}
+use Rattle.stm_gen.proofs.Paths.{AllMessages, AllLooks, OneKind, messages, looks, one_kind, calls, methods-message, methods-look, leads}
+use Rattle.stm_gen.proofs.Paths.{edge_leads, leads_edge}
 use Rattle.stm_gen.proofs.Proper.{HaveOneSignature}
 
 -- ---- lists
@@ -51,9 +53,11 @@ some_inside e = cc
 
 -- ---- the states of the typestate
 
-state_there : (me : Name) (k : ℕ) (gs : List (List Edge)) (j : ℕ) (edges : List Edge) → slice_get gs j ≡ Some edges → (s : State) × (slice_get (states_from me k gs) j ≡ Some s) × (s.methods ≡ methods_of me edges)
+state_there : (me : Name) (k : ℕ) (gs : List (List Edge)) (j : ℕ) (edges : List Edge) → slice_get gs j ≡ Some edges →
+    (s : State) × (slice_get (states_from me k gs) j ≡ Some s) × (s.methods ≡ methods_of me edges)
 state_there me k [] j edges e = cc
-state_there me k (g ∷ gs) zero edges e = let f : g ≡ edges = cc e in (record { name = state_name k; methods = methods_of me g; drops = false }, refl, ap (methods_of me) f)
+state_there me k (g ∷ gs) zero edges e =
+    let f : g ≡ edges = cc e in (record { name = state_name k; methods = methods_of me g; drops = false }, refl, ap (methods_of me) f)
 state_there me k (g ∷ gs) (suc j) edges e = state_there me (suc k) gs j edges e
 
 -- no message is answered by a value of a named type
@@ -75,28 +79,37 @@ settled_parts parts (p ∷ ps) qs a b = (a.0, settled_parts parts ps qs a.1 b)
 
 parts_settled : (parts some : Parts) → AllSettled parts (state_positions some)
 parts_settled parts [] = tt
-parts_settled parts (p ∷ ps) = settled_parts parts (states_in Plain [] p.body) (state_positions ps) (states_settled parts p.body Plain []) (parts_settled parts ps)
+parts_settled parts (p ∷ ps) = settled_parts parts (states_in Plain [] p.body) (state_positions ps) (states_settled parts p.body Plain [])
+    (parts_settled parts ps)
 
 module _ (me : Name) (parts : Parts) where
   -- the method of an edge that is a message stands there
-  message_method : (edges : List Edge) → AllMessages edges → (e : Edge) → Among edges e → (m : Message) → e.act ≡ Moves m → Contains (methods_of me edges) (method_of m e.to)
+  message_method : (edges : List Edge) → AllMessages edges → (e : Edge) → Among edges e → (m : Message) → e.act ≡ Moves m →
+      Contains (methods_of me edges) (method_of m e.to)
   message_method [] h e a m is = absurd a
   message_method (x ∷ xs) h e a m is =
       subst (λ ms. Contains ms (method_of m e.to)) (sym (methods-message me x xs h.0.0 h.0.1))
       (⊎_elim
-      (λ f. let same : h.0.0 ≡ m = moves_same h.0.0 m (sym h.0.1 ∙ ap (λ (y : Edge). y.act) f ∙ is) in first_contains (method_of m e.to) (method_of h.0.0 x.to) (methods_of me xs) (λ i. method_of (same i) ((f i).to)))
+      (λ f. let same : h.0.0 ≡ m = moves_same h.0.0 m (sym h.0.1 ∙ ap (λ (y : Edge). y.act) f ∙ is) in first_contains (method_of m e.to)
+      (method_of h.0.0 x.to) (methods_of me xs) (λ i. method_of (same i) ((f i).to)))
       (λ b. later_contains (method_of m e.to) (method_of h.0.0 x.to) (methods_of me xs) (message_method xs h.1 e b m is)) a)
     where
       moves_same : (p q : Message) → Moves p ≡ Moves q → p ≡ q
       moves_same p q e = cc
 
-  looks_none : (edges : List Edge) (n : ℕ) (peer : Name) → AllLooks n peer edges → (e : Edge) → Among edges e → (m : Message) → e.act ≡ Moves m → ⊥
+  looks_none : (edges : List Edge) (n : ℕ) (peer : Name) → AllLooks n peer edges → (e : Edge) → Among edges e → (m : Message) →
+      e.act ≡ Moves m → ⊥
   looks_none [] n peer h e a m is = a
-  looks_none (x ∷ xs) n peer h e a m is = ⊎_elim (λ f. let g : Looks n peer h.0.0 ≡ Moves m = sym h.0.1 ∙ ap (λ (y : Edge). y.act) f ∙ is in cc g) (λ b. looks_none xs n peer h.1 e b m is) a
+  looks_none (x ∷ xs) n peer h e a m is =
+      ⊎_elim (λ f. let g : Looks n peer h.0.0 ≡ Moves m = sym h.0.1 ∙ ap (λ (y : Edge). y.act) f ∙ is in cc g)
+      (λ b. looks_none xs n peer h.1 e b m is) a
 
-  messages_none : (edges : List Edge) → AllMessages edges → (e : Edge) → Among edges e → (n : ℕ) (peer label : Name) → e.act ≡ Looks n peer label → ⊥
+  messages_none : (edges : List Edge) → AllMessages edges → (e : Edge) → Among edges e → (n : ℕ) (peer label : Name) →
+      e.act ≡ Looks n peer label → ⊥
   messages_none [] h e a n peer label is = a
-  messages_none (x ∷ xs) h e a n peer label is = ⊎_elim (λ f. let g : Moves h.0.0 ≡ Looks n peer label = sym h.0.1 ∙ ap (λ (y : Edge). y.act) f ∙ is in cc g) (λ b. messages_none xs h.1 e b n peer label is) a
+  messages_none (x ∷ xs) h e a n peer label is =
+      ⊎_elim (λ f. let g : Moves h.0.0 ≡ Looks n peer label = sym h.0.1 ∙ ap (λ (y : Edge). y.act) f ∙ is in cc g)
+      (λ b. messages_none xs h.1 e b n peer label is) a
 
   -- the method of looks
   record HasLook (edges : List Edge) (n : ℕ) (peer : Name) : Type 0 where
@@ -105,7 +118,8 @@ module _ (me : Name) (parts : Parts) where
     named : method.name ≡ label_call me n peer
     result : method.result ≡ types.Named (choice_enum me n)
 
-  look_method : (edges : List Edge) → OneKind edges → (e : Edge) → Among edges e → (n : ℕ) (peer label : Name) → e.act ≡ Looks n peer label → HasLook edges n peer
+  look_method : (edges : List Edge) → OneKind edges → (e : Edge) → Among edges e → (n : ℕ) (peer label : Name) → e.act ≡ Looks n peer label
+      → HasLook edges n peer
   look_method edges (messages h) e a n peer label is = absurd (messages_none edges h e a n peer label is)
   look_method [] (looks k other h) e a n peer label is = absurd a
   look_method (x ∷ xs) (looks k other h) e a n peer label is =
@@ -113,7 +127,8 @@ module _ (me : Name) (parts : Parts) where
       let both = look_parts k n other peer same.0 label (sym same.1 ∙ is) in
       record {
         method = label_method me k other (branches_of (x ∷ xs));
-        contained = subst (λ ms. Contains ms (label_method me k other (branches_of (x ∷ xs)))) (sym (methods-look me x xs k other h.0.0 h.0.1)) (first_contains _ _ [] refl);
+        contained = subst (λ ms. Contains ms (label_method me k other (branches_of (x ∷ xs))))
+            (sym (methods-look me x xs k other h.0.0 h.0.1)) (first_contains _ _ [] refl);
         named = λ i. label_call me (both.0 i) (both.1 i);
         result = ap (λ j. types.Named (choice_enum me j)) both.0;
       }
@@ -125,7 +140,8 @@ module _ (me : Name) (parts : Parts) where
       look_parts : (a b : ℕ) (p r l m : Name) → Looks a p l ≡ Looks b r m → (a ≡ b) × (p ≡ r)
       look_parts a b p r l m e = (cc, cc)
 
-  calls_are : (all : List Position) (steps : List Onward) (edges : List Edge) → AreSteps parts all steps edges → calls me edges ≡ calls_from me steps
+  calls_are : (all : List Position) (steps : List Onward) (edges : List Edge) → AreSteps parts all steps edges →
+      calls me edges ≡ calls_from me steps
   calls_are all [] [] h = refl
   calls_are all [] (e ∷ edges) h = absurd h
   calls_are all (s ∷ steps) [] h = absurd h
@@ -136,7 +152,8 @@ module _ (me : Name) (parts : Parts) where
   told_at (x ∷ ps) h zero p e = let f : x ≡ p = cc e in subst (Told me) f h.0
   told_at (x ∷ ps) h (suc k) p e = told_at ps h.1 k p e
 
-  module _ (all : List Position) (gs : List (List Edge)) (settled : AllSettled parts all) (are : AreStates parts all all gs) (told : AllTold me all) (t : Typestate) (is : t.states ≡ states_from me 0 gs) (one : HaveOneSignature me t.states) where
+  module _ (all : List Position) (gs : List (List Edge)) (settled : AllSettled parts all) (are : AreStates parts all all gs)
+      (told : AllTold me all) (t : Typestate) (is : t.states ≡ states_from me 0 gs) (one : HaveOneSignature me t.states) where
     -- a state with its edges
     record Here (k : ℕ) : Type 0 where
       place : Position
@@ -152,7 +169,17 @@ module _ (me : Name) (parts : Parts) where
     here k p e =
         let r = edges_there parts all all gs are k p e in
         let s = state_there me 0 gs k r.0 r.1 in
-        record { place = p; there = e; edges = r.0; edged = r.1; steps = r.2; state = s.0; stands = ap (λ ss. slice_get ss k) is ∙ s.1; methods = s.2 }
+        record {
+          place = p;
+          there = e;
+          edges = r.0;
+          edged = r.1;
+          steps = r.2;
+          state = s.0;
+          stands = ap (λ ss. slice_get ss k) is ∙
+              s.1;
+          methods = s.2;
+        }
 
     kind_of : {k : ℕ} (h : Here k) → OneKind h.edges
     kind_of {k} h = one_kind parts all (steps_at h.place) h.edges h.steps (told_at all told k h.place h.there).one
@@ -160,7 +187,8 @@ module _ (me : Name) (parts : Parts) where
     differ_of : {k : ℕ} (h : Here k) → AllDiffer (calls me h.edges)
     differ_of {k} h = subst AllDiffer (sym (calls_are all (steps_at h.place) h.edges h.steps)) (told_at all told k h.place h.there).differ
 
-    next_is : (k : ℕ) (h : Here k) (name : Name) (answer : Option Name) → next t k name answer ≡ leads me (methods_of me h.edges) name answer
+    next_is : (k : ℕ) (h : Here k) (name : Name) (answer : Option Name) → next t k name answer
+        ≡ leads me (methods_of me h.edges) name answer
     next_is k h name answer =
         ap (λ o. option_and_then (λ f. led_by f.target answer) (option_and_then (λ s. offered_in s.methods name) o)) h.stands
         ∙ ap (λ ms. leads me ms name answer) h.methods
@@ -168,7 +196,8 @@ module _ (me : Name) (parts : Parts) where
     offered_there : (k : ℕ) (h : Here k) (m : Method) → Contains (methods_of me h.edges) m → IsOffered t.states m
     offered_there k h m c = (h.state, get_contains t.states k h.state h.stands, subst (λ ms. Contains ms m) (sym h.methods) c)
 
-    comes_state : {p : Position} {s : Standing} → ComesTo parts all p s → (k : ℕ) → s ≡ standings.State k → (q : Position) × (slice_get all k ≡ Some q)
+    comes_state : {p : Position} {s : Standing} → ComesTo parts all p s → (k : ℕ) → s ≡ standings.State k →
+        (q : Position) × (slice_get all k ≡ Some q)
     comes_state (at_state {number = n} {position = p} e) k f = (p, subst (λ j. slice_get all j ≡ Some p) (number_same n k f) e)
       where
         number_same : (n k : ℕ) → standings.State n ≡ standings.State k → n ≡ k
@@ -194,7 +223,8 @@ module _ (me : Name) (parts : Parts) where
         let r = edge_of_step parts all (steps_at f.place) h.edges h.steps (record { act = act; to = q }) l in
         record { number = f.number; at = f.is_state; start = h; edge = r.0; among = r.1; step = r.2 }
 
-    along_next : {s : Standing} {act : Act} {q : Position} (a : Along s act q) → next_from t (to_of s) (call_of me act) ≡ Some (to_of a.edge.to)
+    along_next : {s : Standing} {act : Act} {q : Position} (a : Along s act q) → next_from t (to_of s) (call_of me act)
+        ≡ Some (to_of a.edge.to)
     along_next {s} {act} a =
         ap (λ x. next_from t (to_of x) (call_of me act)) a.at
         ∙ next_is a.number a.start (call_of me act).method (call_of me act).answer
@@ -204,7 +234,8 @@ module _ (me : Name) (parts : Parts) where
     along_fits : {s : Standing} {act : Act} {q : Position} → Along s act q → Fits t (call_of me act)
     along_fits {act = act} a some = go act a.step.act some
       where
-        go : (b : Act) → a.edge.act ≡ b → IsSome (call_of me b).answer → (m : Method) × (type : Name) × IsOffered t.states m × (m.name ≡ (call_of me b).method) × (m.result ≡ types.Named type)
+        go : (b : Act) → a.edge.act ≡ b → IsSome (call_of me b).answer → (m : Method) × (type : Name) × IsOffered t.states m
+            × (m.name ≡ (call_of me b).method) × (m.result ≡ types.Named type)
         go (Moves m) e some = cc
         go (Looks n peer label) e some =
             let l = look_method a.start.edges (kind_of a.start) a.edge a.among n peer label e in
@@ -216,7 +247,8 @@ module _ (me : Name) (parts : Parts) where
       comes : ComesTo parts all end to
       fit : AllByRecursion (Fits t) cs
 
-    run_reaches : {p end : Position} {acts : List Act} (s : Standing) → ComesTo parts all p s → Run parts p acts end → Reaches s (map (call_of me) acts) end
+    run_reaches : {p end : Position} {acts : List Act} (s : Standing) → ComesTo parts all p s → Run parts p acts end →
+        Reaches s (map (call_of me) acts) end
     run_reaches s c stays = record { to = s; leads_to = refl; comes = c; fit = tt }
     run_reaches s c (goes {act = act} {acts = acts} st run) =
         let a = along c st in
@@ -238,7 +270,8 @@ module _ (me : Name) (parts : Parts) where
       comes : ComesTo parts all end standing
       at : to_of standing ≡ to
 
-    no_answer : (k : ℕ) (h : Here k) (e : Edge) → Among h.edges e → (m : Message) → e.act ≡ Moves m → (call : Call) → message_call m ≡ call.method → Fits t call → call.answer ≡ None
+    no_answer : (k : ℕ) (h : Here k) (e : Edge) → Among h.edges e → (m : Message) → e.act ≡ Moves m → (call : Call) →
+        message_call m ≡ call.method → Fits t call → call.answer ≡ None
     no_answer k h e a m moves call named fits = go call.answer refl
       where
         is_offered : OneKind h.edges → IsOffered t.states (method_of m e.to)
@@ -253,7 +286,8 @@ module _ (me : Name) (parts : Parts) where
             let s = one (method_of m _) f.0 (is_offered (kind_of h)) f.2 (named ∙ sym f.3) in
             absurd (unnamed m f.1 (s.0 ∙ f.4))
 
-    stepped : {p : Position} (s : Standing) → ComesTo parts all p s → (call : Call) → Fits t call → (to : To) → next_from t (to_of s) call ≡ Some to → Stepped p call to
+    stepped : {p : Position} (s : Standing) → ComesTo parts all p s → (call : Call) → Fits t call → (to : To) → next_from t (to_of s) call
+        ≡ Some to → Stepped p call to
     stepped standings.End c call fits to n = cc
     stepped (standings.State k) c call fits to n =
         let q = comes_state c k refl in
@@ -263,7 +297,8 @@ module _ (me : Name) (parts : Parts) where
         let answered : (call_of me l.edge.act).answer ≡ call.answer =
         ⊎_elim (λ e. e)
         (λ (moved : (m : Message) × (l.edge.act ≡ Moves m)). ap (λ a. (call_of me a).answer) moved.1
-        ∙ sym (no_answer k h l.edge l.among moved.0 moved.1 call (sym (ap (λ a. (call_of me a).method) moved.1) ∙ l.method) fits)) l.answered in
+        ∙ sym (no_answer k h l.edge l.among moved.0 moved.1 call (sym (ap (λ a. (call_of me a).method) moved.1) ∙ l.method) fits))
+        l.answered in
         record {
           act = s.0.act;
           end = s.0.to;
@@ -283,7 +318,8 @@ module _ (me : Name) (parts : Parts) where
       comes : ComesTo parts all end standing
       at : to_of standing ≡ to
 
-    led_runs : (cs : List Call) {p : Position} (s : Standing) → ComesTo parts all p s → AllByRecursion (Fits t) cs → (to : To) → led t (to_of s) cs ≡ Some to → Runs p cs to
+    led_runs : (cs : List Call) {p : Position} (s : Standing) → ComesTo parts all p s → AllByRecursion (Fits t) cs → (to : To) →
+        led t (to_of s) cs ≡ Some to → Runs p cs to
     led_runs [] {p} s c fit to l = record { acts = []; end = p; run = stays; named = refl; standing = s; comes = c; at = some_inside l }
     led_runs (call ∷ cs) {p} s c fit to l =
         option_and_then_some (λ x. led t x cs) (next_from t (to_of s) call) to l
@@ -301,8 +337,11 @@ module _ (me : Name) (parts : Parts) where
         })
 
 -- where the typestate begins
-initial_is : (me : Name) (parts : Parts) (all : List Position) (gs : List (List Edge)) → AreStates parts all all gs → (t : Typestate) → t.states ≡ states_from me 0 gs → {p : Position} {s : Standing} → ComesTo parts all p s → (s ≡ standings.State 0) ⊎ (all ≡ []) → initial t ≡ to_of s
-initial_is me parts [] [] are t e {p} {s} c first = ap (λ ss. elim ss as (λ (v : List State). To) [ [] ↦ tos.End | x ∷ xs ↦ tos.State 0 ]) e ∙ sym (ap to_of (only_end c))
+initial_is : (me : Name) (parts : Parts) (all : List Position) (gs : List (List Edge)) → AreStates parts all all gs → (t : Typestate) →
+    t.states ≡ states_from me 0 gs → {p : Position} {s : Standing} → ComesTo parts all p s → (s ≡ standings.State 0) ⊎ (all ≡ []) →
+    initial t ≡ to_of s
+initial_is me parts [] [] are t e {p} {s} c first = ap (λ ss. elim ss as (λ (v : List State). To) [ [] ↦ tos.End | x ∷ xs ↦ tos.State 0 ]) e
+    ∙ sym (ap to_of (only_end c))
   where
     only_end : {p : Position} {s : Standing} → ComesTo parts [] p s → s ≡ standings.End
     only_end (at_state f) = cc f
@@ -311,9 +350,11 @@ initial_is me parts [] [] are t e {p} {s} c first = ap (λ ss. elim ss as (λ (v
 initial_is me parts [] (g ∷ gs) are t e c first = absurd are
 initial_is me parts (q ∷ qs) [] are t e c first = absurd are
 initial_is me parts (q ∷ qs) (g ∷ gs) are t e {p} {s} c first =
-    ap (λ ss. elim ss as (λ (v : List State). To) [ [] ↦ tos.End | x ∷ xs ↦ tos.State 0 ]) e ∙ sym (ap to_of (⊎_elim (λ f. f) (λ f. cc f) first))
+    ap (λ ss. elim ss as (λ (v : List State). To) [ [] ↦ tos.End | x ∷ xs ↦ tos.State 0 ]) e ∙
+    sym (ap to_of (⊎_elim (λ f. f) (λ f. cc f) first))
 
-pub agrees : (local : LocalTree) (g : Graph) → Automates (protocol_of local) g → AllTold local.me (state_positions (protocol_of local)) → (t : Typestate) → t.states ≡ states_from local.me 0 g.states → HaveOneSignature local.me t.states →
+pub agrees : (local : LocalTree) (g : Graph) → Automates (protocol_of local) g → AllTold local.me (state_positions (protocol_of local)) →
+    (t : Typestate) → t.states ≡ states_from local.me 0 g.states → HaveOneSignature local.me t.states →
     (g.initial ≡ standings.State 0) ⊎ (state_positions (protocol_of local) ≡ []) → Agrees local.me (protocol_of local) t
 agrees local g along told t is one first =
     let me : Name = local.me in
@@ -332,7 +373,8 @@ agrees local g along told t is one first =
               offers = tt;
             },
         λ path.
-            let r = led_runs me parts all g.states settled along.states told t is one cs g.initial along.initial path.fit path.to (ap (λ from. led t from cs) (sym begin) ∙ path.leads) in
+            let r = led_runs me parts all g.states settled along.states told t is one cs g.initial along.initial path.fit path.to
+            (ap (λ from. led t from cs) (sym begin) ∙ path.leads) in
             (r.acts, r.end, r.run, r.named),
       );
       ends = λ cs. (
@@ -345,14 +387,20 @@ agrees local g along told t is one first =
                   ∙ ap (λ s. Some (to_of s)) (finished_end parts all settled r.comes complete.3);
             },
         λ path.
-            let r = led_runs me parts all g.states settled along.states told t is one cs g.initial along.initial path.fit tos.End (ap (λ from. led t from cs) (sym begin) ∙ path.leads) in
+            let r = led_runs me parts all g.states settled along.states told t is one cs g.initial along.initial path.fit tos.End
+            (ap (λ from. led t from cs) (sym begin) ∙ path.leads) in
             (r.acts, r.end, r.run, end_finished parts all settled r.comes (to_end r.standing r.at), r.named),
       );
     }
 
 -- the states are laid out as the protocol says
-pub laid : (me : Name) (parts : Parts) (all : List Position) (k : ℕ) (ps : List Position) (gs : List (List Edge)) → AreStates parts all ps gs → AreLaid me parts all ps k (states_from me k gs)
+pub laid : (me : Name) (parts : Parts) (all : List Position) (k : ℕ) (ps : List Position) (gs : List (List Edge)) →
+    AreStates parts all ps gs → AreLaid me parts all ps k (states_from me k gs)
 laid me parts all k [] [] h = tt
 laid me parts all k [] (g ∷ gs) h = absurd h
 laid me parts all k (p ∷ ps) [] h = absurd h
-laid me parts all k (p ∷ ps) (g ∷ gs) h = (record { name = refl; edges = g; steps = h.0; methods = refl; drops = refl }, laid me parts all (suc k) ps gs h.1)
+laid me parts all k (p ∷ ps) (g ∷ gs) h = (
+  record { name = refl; edges = g; steps = h.0; methods = refl; drops = refl },
+  laid me parts all
+      (suc k) ps gs h.1,
+)

@@ -1,5 +1,6 @@
 -- Parts begin where they are laid out to begin.
-use Rattle.std.proofs.Common.{◌≡◌, ℕ, zero, suc, ◌+◌, ◌-◌, ◌<◌, ◌≤◌, List, [], ◌∷◌, ◌++◌, length, get_or, map, Contains, Option, Some, None, refl, sym, ap, ◌∙◌, subst, ⊎_elim, Bool, true, false, ◌&&◌, ◌||◌, if◌then◌else◌, arith}
+use Rattle.std.proofs.Common.{◌≡◌, ℕ, zero, suc, ◌+◌, ◌-◌, ◌<◌, ◌≤◌, List, [], ◌∷◌, ◌++◌, length, get_or, map, Contains, Option, Some, None}
+use Rattle.std.proofs.Common.{refl, sym, ap, ◌∙◌, subst, ⊎_elim, Bool, true, false, ◌&&◌, ◌||◌, if◌then◌else◌, arith}
 use Rattle.std.specs.Option.{option_or}
 use Rattle.std.specs.Str.{bytes_eq}
 use Rattle.std.proofs.lemmas.List.{length-append, get_or_at}
@@ -15,7 +16,9 @@ use Rattle.scr_trace.specs.declared.standing.Standing.{Standing}
 use Rattle.scr_trace.specs.declared.standing.Standing.TheVariants as standings
 use Rattle.scr_trace.specs.declared.arrow.Hop.{Hop}
 use Rattle.scr_trace.specs.declared.arrow.Hop.TheVariants as hops
-use Rattle.scr_trace.specs.inner.Laying.{Work, Known, Gathered, nothing, lay, lay_in, branch_laid, turned, said, joined, opened, closed, chosen, gathering, parts_laid, laid_parts, LaidOut, number_among, number_in, hop_to, entry_at, IsPlain}
+use Rattle.scr_trace.specs.inner.Laying.{Work, Known, Gathered, nothing, lay, lay_in, branch_laid, turned, said, joined, opened, closed}
+use Rattle.scr_trace.specs.inner.Laying.{chosen, gathering, parts_laid, laid_parts, LaidOut, number_among, number_in, hop_to, entry_at}
+use Rattle.scr_trace.specs.inner.Laying.{IsPlain}
 use Rattle.scr_trace.specs.inner.View.{standing_of, plain_standing}
 use Rattle.scr_trace.proofs.Parts
 use Rattle.scr_trace.proofs.Leading.{true_or_false, among_rest}
@@ -43,7 +46,8 @@ or_none : (a b : Bool) → a ≡ false → b ≡ false → (a || b) ≡ false
 or_none a b e f = ap (λ x. x || b) e ∙ f
 
 -- a choice has a state
-has_chosen : (self : Bool) (c : ℕ) (x y : _) (r s : Protocol) → has_state (if self then protocol.ChoiceHere x r else protocol.ChoiceThere c y s) ≡ true
+has_chosen : (self : Bool) (c : ℕ) (x y : _) (r s : Protocol) →
+    has_state (if self then protocol.ChoiceHere x r else protocol.ChoiceThere c y s) ≡ true
 has_chosen true c x y r s = refl
 has_chosen false c x y r s = refl
 
@@ -83,43 +87,55 @@ module _ (me : Name) (parts : Name → Option ℕ) (protocols : List Name) (tota
   -- at their first state, where they have one; else at what follows them, or where their own `do` leads
   data Opens (t : Statements) (w u : Work) (n c : ℕ) : Type 0 where
     stands : has_state (numbered me c t) ≡ true → IsPlain u.next → standing_of total u.next ≡ standings.State n → Opens t w u n c
-    passed : has_state (numbered me c t) ≡ false → do_in (numbered me c t) ≡ None → after n (numbered me c t) ≡ n → passes t ≡ true → u.next ≡ w.next → Opens t w u n c
-    leaves : (name : Name) → Contains protocols name → has_state (numbered me c t) ≡ false → do_in (numbered me c t) ≡ Some name → after n (numbered me c t) ≡ n → stays t ≡ true →
+    passed : has_state (numbered me c t) ≡ false → do_in (numbered me c t) ≡ None → after n (numbered me c t) ≡ n → passes t ≡ true →
+        u.next ≡ w.next → Opens t w u n c
+    leaves : (name : Name) → Contains protocols name → has_state (numbered me c t) ≡ false → do_in (numbered me c t) ≡ Some name →
+        after n (numbered me c t) ≡ n → stays t ≡ true →
         u.next ≡ hop_to (parts name) → Opens t w u n c
 
   -- no `continue` of these names stands where no message stands before it
   abbrev AllGuarded : List Name → Statements → Type 0
   AllGuarded names t = (name : Name) → is_among name names ≡ true → Guards name t
 
-  guarded_in : (names : List Name) (place : _) (name : Name) (body rest : Statements) → Guards name body → AllGuarded names (Rec place name body rest) → AllGuarded (name ∷ names) body
+  guarded_in : (names : List Name) (place : _) (name : Name) (body rest : Statements) → Guards name body →
+      AllGuarded names (Rec place name body rest) → AllGuarded (name ∷ names) body
   guarded_in names place name body rest g h z among =
-      ⊎_elim (λ e. subst (λ x. Guards x body) (sym ((bytes_eq-Decides z name).0 e)) g) (λ e. (h z (among_rest z name names e among)).0) (true_or_false (bytes_eq z name))
+      ⊎_elim (λ e. subst (λ x. Guards x body) (sym ((bytes_eq-Decides z name).0 e)) g) (λ e. (h z (among_rest z name names e among)).0)
+      (true_or_false (bytes_eq z name))
 
   -- a body that is passed, and what stands behind it
-  opens_behind : (place : _) (name : Name) (body rest : Statements) (w v o x u : Work) (n c : ℕ) → has_state (numbered me c body) ≡ false → do_in (numbered me c body) ≡ None →
+  opens_behind : (place : _) (name : Name) (body rest : Statements) (w v o x u : Work) (n c : ℕ) → has_state (numbered me c body) ≡ false →
+      do_in (numbered me c body) ≡ None →
       after n (numbered me c body) ≡ n → passes body ≡ true → x.next ≡ o.next → o.next ≡ v.next → u.next ≡ x.next →
       Opens rest w v (after n (numbered me c body)) (c + choices me body) → Opens (Rec place name body rest) w u n c
   opens_behind place name body rest w v o x u n c none own same quiet xn on un (stands some plain at) =
       let all : u.next ≡ v.next = un ∙ xn ∙ on in
-      stands (or_second (has_state (numbered me c body)) (has_state (numbered me (c + choices me body) rest)) some) (subst IsPlain (sym all) plain) (ap (standing_of total) all ∙ at ∙ ap standings.State same)
+      stands (or_second (has_state (numbered me c body)) (has_state (numbered me (c + choices me body) rest)) some)
+      (subst IsPlain (sym all) plain) (ap (standing_of total) all ∙ at ∙ ap standings.State same)
   opens_behind place name body rest w v o x u n c none own same quiet xn on un (passed some gone stay pass next) =
       passed (or_none (has_state (numbered me c body)) (has_state (numbered me (c + choices me body) rest)) none some)
-      (ap (λ d. option_or d (do_in (numbered me (c + choices me body) rest))) own ∙ gone) (stay ∙ same) (both_true (passes body) (passes rest) quiet pass) (un ∙ xn ∙ on ∙ next)
+      (ap (λ d. option_or d (do_in (numbered me (c + choices me body) rest))) own ∙ gone) (stay ∙ same)
+      (both_true (passes body) (passes rest) quiet pass) (un ∙ xn ∙ on ∙ next)
   opens_behind place name body rest w v o x u n c none own same quiet xn on un (leaves to known some gone stay left next) =
       leaves to known (or_none (has_state (numbered me c body)) (has_state (numbered me (c + choices me body) rest)) none some)
-      (ap (λ d. option_or d (do_in (numbered me (c + choices me body) rest))) own ∙ gone) (stay ∙ same) (or_second (stays body) (stays rest) left) (un ∙ xn ∙ on ∙ next)
+      (ap (λ d. option_or d (do_in (numbered me (c + choices me body) rest))) own ∙ gone) (stay ∙ same)
+      (or_second (stays body) (stays rest) left) (un ∙ xn ∙ on ∙ next)
 
   -- a rec, by its body
-  opens_rec : (place : _) (name : Name) (body rest : Statements) (w v o x u : Work) (n c : ℕ) → (stays body ≡ true → rest ≡ Nothing) → o.next ≡ v.next → u.next ≡ x.next →
-      (passes body ≡ true → Opens rest w v (after n (numbered me c body)) (c + choices me body)) → Opens body o x n c → Opens (Rec place name body rest) w u n c
+  opens_rec : (place : _) (name : Name) (body rest : Statements) (w v o x u : Work) (n c : ℕ) → (stays body ≡ true → rest ≡ Nothing) →
+      o.next ≡ v.next → u.next ≡ x.next →
+      (passes body ≡ true → Opens rest w v (after n (numbered me c body)) (c + choices me body)) → Opens body o x n c →
+      Opens (Rec place name body rest) w u n c
   opens_rec place name body rest w v o x u n c last on un behind (stands some plain at) =
-      stands (or_first (has_state (numbered me c body)) (has_state (numbered me (c + choices me body) rest)) some) (subst IsPlain (sym un) plain) (ap (standing_of total) un ∙ at)
+      stands (or_first (has_state (numbered me c body)) (has_state (numbered me (c + choices me body) rest)) some)
+      (subst IsPlain (sym un) plain) (ap (standing_of total) un ∙ at)
   opens_rec place name body rest w v o x u n c last on un behind (passed none own same quiet next) =
       opens_behind place name body rest w v o x u n c none own same quiet next on un (behind quiet)
   opens_rec place name body rest w v o x u n c last on un behind (leaves to known none own same left next) =
       let empty : rest ≡ Nothing = last left in
       leaves to known
-      (or_none (has_state (numbered me c body)) (has_state (numbered me (c + choices me body) rest)) none (ap (λ (s : Statements). has_state (numbered me (c + choices me body) s)) empty))
+      (or_none (has_state (numbered me c body)) (has_state (numbered me (c + choices me body) rest)) none
+      (ap (λ (s : Statements). has_state (numbered me (c + choices me body) s)) empty))
       (ap (λ d. option_or d (do_in (numbered me (c + choices me body) rest))) own)
       (ap (λ (s : Statements). after (after n (numbered me c body)) (numbered me (c + choices me body) s)) empty ∙ same)
       (or_first (stays body) (stays rest) left) (un ∙ next)
@@ -130,14 +146,16 @@ module _ (me : Name) (parts : Name → Option ℕ) (protocols : List Name) (tota
   opens (Says m rest) names h guards known w n c nums =
       let v = lay me parts known w rest in
       let k = laid_count me parts rest known w (suc n) c in
-      stands refl (subst IsPlain (sym (Parts.said_next m v)) tt) (ap (standing_of total) (Parts.said_next m v) ∙ at_number n (suc (length v.cells)) (omega arith))
+      stands refl (subst IsPlain (sym (Parts.said_next m v)) tt) (ap (standing_of total) (Parts.said_next m v) ∙
+      at_number n (suc (length v.cells)) (omega arith))
   opens (Choice place at bs rest) names h guards known w n c nums =
       let v = lay me parts known w rest in
       let g = lay_in me parts known (bytes_eq at me) v.next (gathering v) bs in
       let k = laid_count me parts (Choice place at bs rest) known w n c in
       let l : length (chosen (bytes_eq at me) g).cells ≡ suc (length g.work.cells) = ap length (Parts.chosen_cells (bytes_eq at me) g) in
       stands
-      (has_chosen (bytes_eq at me) c (numbered_in me c bs) (numbered_in me (suc c) bs) (numbered me (c + choices_in me bs) rest) (numbered me (suc c + choices_in me bs) rest))
+      (has_chosen (bytes_eq at me) c (numbered_in me c bs) (numbered_in me (suc c) bs) (numbered me (c + choices_in me bs) rest)
+      (numbered me (suc c + choices_in me bs) rest))
       (subst IsPlain (sym (Parts.chosen_next (bytes_eq at me) g)) tt)
       (ap (standing_of total) (Parts.chosen_next (bytes_eq at me) g) ∙ at_number n (suc (length g.work.cells)) (omega arith))
   opens (Rec place name body rest) names h guards known w n c nums =
@@ -147,13 +165,15 @@ module _ (me : Name) (parts : Name → Option ℕ) (protocols : List Name) (tota
       let p : Protocol = numbered me c body in
       let k = laid_count me parts rest known w (after n p) (c + choices me body) in
       let l : length (opened v).cells ≡ length v.cells = ap length (Parts.opened_cells v) in
-      opens_rec place name body rest w v (opened v) x (closed (length v.loops) x) n c h.2 (Parts.opened_next v) (Parts.closed_next (length v.loops) x)
+      opens_rec place name body rest w v (opened v) x (closed (length v.loops) x) n c h.2 (Parts.opened_next v)
+      (Parts.closed_next (length v.loops) x)
       (λ quiet. opens rest names h.3 (λ z among. (guards z among).1 quiet) known w (after n p) (c + choices me body) nums)
       (opens body (name ∷ names) h.1 (guarded_in names place name body rest h.0 guards) inside (opened v) n c (omega arith))
   opens (Continue place name rest) names h guards known w n c nums =
       let no : bytes_eq name name ≡ false = guards name h.0 in let e = (bytes_eq-Decides name name).1 refl in cc
   opens (Do place name rest) names h guards known w n c nums =
-      leaves name h.0 (ap (λ (s : Statements). has_state (numbered me c s)) h.1) refl (ap (λ (s : Statements). after n (numbered me c s)) h.1) refl refl
+      leaves name h.0 (ap (λ (s : Statements). has_state (numbered me c s)) h.1) refl
+      (ap (λ (s : Statements). after n (numbered me c s)) h.1) refl refl
 
   -- ---- parts
 
@@ -164,10 +184,16 @@ module _ (me : Name) (parts : Name → Option ℕ) (protocols : List Name) (tota
     elsewhere : (name : Name) → Contains protocols name → p.first ≡ None → p.goes_on ≡ Some name → hop ≡ hop_to (parts name) → Entry p hop
 
   entry_of : (t : Titled) (o u : Work) (n c : ℕ) → o.next ≡ hops.End → Opens t.body o u n c →
-      Entry (record { name = t.name; first = if has_state (numbered me c t.body) then Some n else None; goes_on = do_in (numbered me c t.body) }) u.next
+      Entry (record {
+        name = t.name;
+        first = if has_state (numbered me c t.body) then Some n else None;
+        goes_on =
+            do_in (numbered me c t.body);
+      }) u.next
   entry_of t o u n c ends (stands some plain at) = first_state n (ap (λ b. if b then Some n else None) some) plain at
   entry_of t o u n c ends (passed none own same quiet next) = nowhere (ap (λ b. if b then Some n else None) none) own (next ∙ ends)
-  entry_of t o u n c ends (leaves name known none own same left next) = elsewhere name known (ap (λ b. if b then Some n else None) none) own next
+  entry_of t o u n c ends (leaves name known none own same left next) = elsewhere name known (ap (λ b. if b then Some n else None) none) own
+      next
 
   -- what is laid out of statements keeps the entries
   mutual
@@ -176,21 +202,26 @@ module _ (me : Name) (parts : Name → Option ℕ) (protocols : List Name) (tota
     lay_entries (Says m rest) known w = said_entries m (lay me parts known w rest) ∙ lay_entries rest known w
     lay_entries (Choice place at bs rest) known w =
         let v = lay me parts known w rest in
-        chosen_entries (bytes_eq at me) (lay_in me parts known (bytes_eq at me) v.next (gathering v) bs) ∙ in_entries bs known (bytes_eq at me) v.next (gathering v) ∙ lay_entries rest known w
+        chosen_entries (bytes_eq at me) (lay_in me parts known (bytes_eq at me) v.next (gathering v) bs) ∙ in_entries bs known
+        (bytes_eq at me) v.next (gathering v) ∙ lay_entries rest known w
     lay_entries (Rec place name body rest) known w =
         let v = lay me parts known w rest in
         let inside : List Known = record { name = name; number = length v.loops } ∷ known in
-        closed_entries (length v.loops) (lay me parts inside (opened v) body) ∙ lay_entries body inside (opened v) ∙ opened_entries v ∙ lay_entries rest known w
+        closed_entries (length v.loops) (lay me parts inside (opened v) body) ∙ lay_entries body inside (opened v) ∙ opened_entries v ∙
+        lay_entries rest known w
     lay_entries (Continue place name rest) known w = lay_entries rest known w
     lay_entries (Do place name rest) known w = lay_entries rest known w
 
-    in_entries : (bs : Branches) (known : List Known) (self : Bool) (behind : Hop) (g : Gathered) → (lay_in me parts known self behind g bs).work.entries ≡ g.work.entries
+    in_entries : (bs : Branches) (known : List Known) (self : Bool) (behind : Hop) (g : Gathered) →
+        (lay_in me parts known self behind g bs).work.entries ≡ g.work.entries
     in_entries NoBranch known self behind g = refl
     in_entries (Branch b more) known self behind g =
         branch_entries b known self (turned behind (lay_in me parts known self behind g more)) ∙ in_entries more known self behind g
 
-    branch_entries : (b : Statements) (known : List Known) (self : Bool) (g : Gathered) → (branch_laid me parts self known b g).work.entries ≡ g.work.entries
-    branch_entries (Says m rest) known self g = joined_entries self m (record { work = lay me parts known g.work rest; drafts = g.drafts }) ∙ lay_entries rest known g.work
+    branch_entries : (b : Statements) (known : List Known) (self : Bool) (g : Gathered) → (branch_laid me parts self known b g).work.entries
+        ≡ g.work.entries
+    branch_entries (Says m rest) known self g = joined_entries self m (record { work = lay me parts known g.work rest; drafts = g.drafts })
+        ∙ lay_entries rest known g.work
     branch_entries Nothing known self g = refl
     branch_entries (Choice place at bs rest) known self g = refl
     branch_entries (Rec place name body rest) known self g = refl
@@ -204,7 +235,8 @@ module _ (me : Name) (parts : Name → Option ℕ) (protocols : List Name) (tota
   abbrev part : Titled → List Titled → Work
   part t ts = lay me parts [] (begun ts) t.body
 
-  entries_are : (t : Titled) (ts : List Titled) → (parts_laid me parts (t ∷ ts) nothing).entries ≡ (parts_laid me parts ts nothing).entries ++ (part t ts).next ∷ []
+  entries_are : (t : Titled) (ts : List Titled) → (parts_laid me parts (t ∷ ts) nothing).entries ≡ (parts_laid me parts ts nothing).entries
+      ++ (part t ts).next ∷ []
   entries_are t ts = ap (λ (es : List Hop). es ++ (part t ts).next ∷ []) (lay_entries t.body [] (begun ts))
 
   pub entries_many : (ts : List Titled) → length (parts_laid me parts ts nothing).entries ≡ length ts
@@ -212,7 +244,9 @@ module _ (me : Name) (parts : Name → Option ℕ) (protocols : List Name) (tota
   entries_many (t ∷ ts) =
       let more = length-append (parts_laid me parts ts nothing).entries ((part t ts).next ∷ []) in
       let rest = entries_many ts in
-      ap length (entries_are t ts) ∙ (let all : length ((parts_laid me parts ts nothing).entries ++ (part t ts).next ∷ []) ≡ suc (length ts) = omega (arith, more, rest) in all)
+      ap length (entries_are t ts) ∙
+      (let all : length ((parts_laid me parts ts nothing).entries ++ (part t ts).next ∷ []) ≡ suc (length ts) =
+      omega (arith, more, rest) in all)
 
   -- what is found of a name
   record Found (ts : List Titled) (name : Name) (p : Placed) : Type 0 where
@@ -221,12 +255,14 @@ module _ (me : Name) (parts : Name → Option ℕ) (protocols : List Name) (tota
     within : number < length ts
     entry : Entry p (entry_at number (parts_laid me parts ts nothing).entries)
 
-  found_here : (b : Bool) (t : Titled) (ts : List Titled) (name : Name) (own p : Placed) (rest : Option Placed) → bytes_eq name t.name ≡ b → b ≡ true → (if b then Some own else rest) ≡ Some p →
+  found_here : (b : Bool) (t : Titled) (ts : List Titled) (name : Name) (own p : Placed) (rest : Option Placed) → bytes_eq name t.name ≡ b →
+      b ≡ true → (if b then Some own else rest) ≡ Some p →
       Entry own (part t ts).next → Found (t ∷ ts) name p
   found_here true t ts name own p rest is e f entry =
       let same : own ≡ p = cc in
       let at : entry_at (length ts) (parts_laid me parts (t ∷ ts) nothing).entries ≡ (part t ts).next =
-      ap (entry_at (length ts)) (entries_are t ts) ∙ get_or_at (parts_laid me parts ts nothing).entries (part t ts).next [] hops.End (length ts) (entries_many ts) in
+      ap (entry_at (length ts)) (entries_are t ts) ∙ get_or_at (parts_laid me parts ts nothing).entries (part t ts).next [] hops.End
+      (length ts) (entries_many ts) in
       record {
         number = length ts;
         numbered_so = ap (λ x. if x then Some (length ts) else number_among ts name) is;
@@ -235,12 +271,16 @@ module _ (me : Name) (parts : Name → Option ℕ) (protocols : List Name) (tota
       }
   found_here false t ts name own p rest is e f entry = absurd (cc e)
 
-  found_later : (b : Bool) (t : Titled) (ts : List Titled) (name : Name) (p : Placed) → bytes_eq name t.name ≡ b → b ≡ false → Found ts name p → Found (t ∷ ts) name p
+  found_later : (b : Bool) (t : Titled) (ts : List Titled) (name : Name) (p : Placed) → bytes_eq name t.name ≡ b → b ≡ false →
+      Found ts name p → Found (t ∷ ts) name p
   found_later true t ts name p is e f = absurd (cc e)
   found_later false t ts name p is e f =
-      let within : f.number < length (parts_laid me parts ts nothing).entries = subst (λ n. f.number < n) (sym (entries_many ts)) f.within in
-      let at : entry_at f.number (parts_laid me parts (t ∷ ts) nothing).entries ≡ entry_at f.number (parts_laid me parts ts nothing).entries =
-      ap (entry_at f.number) (entries_are t ts) ∙ front_at (parts_laid me parts ts nothing).entries ((part t ts).next ∷ []) f.number within in
+      let within : f.number < length (parts_laid me parts ts nothing).entries = subst (λ n. f.number < n) (sym (entries_many ts)) f.within
+      in
+      let at : entry_at f.number (parts_laid me parts (t ∷ ts) nothing).entries ≡ entry_at f.number
+      (parts_laid me parts ts nothing).entries =
+      ap (entry_at f.number) (entries_are t ts) ∙ front_at (parts_laid me parts ts nothing).entries ((part t ts).next ∷ []) f.number within
+      in
       record {
         number = f.number;
         numbered_so = ap (λ x. if x then Some (length ts) else number_among ts name) is ∙ f.numbered_so;
@@ -248,7 +288,8 @@ module _ (me : Name) (parts : Name → Option ℕ) (protocols : List Name) (tota
         entry = subst (Entry p) (sym at) f.entry;
       }
 
-  found : (ts : List Titled) → AllSound protocols ts → (n c : ℕ) → n + length (parts_laid me parts ts nothing).cells ≡ length total.cells → (name : Name) (p : Placed) →
+  found : (ts : List Titled) → AllSound protocols ts → (n c : ℕ) → n + length (parts_laid me parts ts nothing).cells ≡ length total.cells →
+      (name : Name) (p : Placed) →
       placed_as name (placed n (numbered_parts me c ts)) ≡ Some p → Found ts name p
   found [] h n c nums name p e = absurd (cc e)
   found (t ∷ ts) h n c nums name p e =
@@ -258,13 +299,14 @@ module _ (me : Name) (parts : Name → Option ℕ) (protocols : List Name) (tota
       let rest : Option Placed = placed_as name (placed (after n body) (numbered_parts me (c + choices me t.body) ts)) in
       ⊎_elim
       (λ yes. found_here (bytes_eq name t.name) t ts name own p rest refl yes e
-          (entry_of t (begun ts) (part t ts) n c refl (opens t.body [] h.0 (λ z among. absurd (cc among)) [] (begun ts) n c (omega arith))))
+      (entry_of t (begun ts) (part t ts) n c refl (opens t.body [] h.0 (λ z among. absurd (cc among)) [] (begun ts) n c (omega arith))))
       (λ no. found_later (bytes_eq name t.name) t ts name p refl no
-          (found ts h.1 (after n body) (c + choices me t.body) (omega arith) name p (sym (ap (λ x. if x then Some own else rest) no) ∙ e)))
+      (found ts h.1 (after n body) (c + choices me t.body) (omega arith) name p (sym (ap (λ x. if x then Some own else rest) no) ∙ e)))
       (true_or_false (bytes_eq name t.name))
 
   -- a name that is known is that of a part
-  there : (ts : List Titled) (n c : ℕ) (name : Name) → Contains (map (λ (t : Titled). t.name) ts) name → (p : Placed) × (placed_as name (placed n (numbered_parts me c ts)) ≡ Some p)
+  there : (ts : List Titled) (n c : ℕ) (name : Name) → Contains (map (λ (t : Titled). t.name) ts) name →
+      (p : Placed) × (placed_as name (placed n (numbered_parts me c ts)) ≡ Some p)
   there [] n c name h = absurd (none_contained name h)
   there (t ∷ ts) n c name h =
       let body : Protocol = numbered me c t.body in
@@ -273,8 +315,9 @@ module _ (me : Name) (parts : Name → Option ℕ) (protocols : List Name) (tota
       ⊎_elim
       (λ yes. (own, ap (λ x. if x then Some own else rest) yes))
       (λ no. let more = there ts (after n body) (c + choices me t.body) name
-          (⊎_elim (λ (same : t.name ≡ name). let yes = (bytes_eq-Decides name t.name).1 (sym same) in absurd (cc (sym yes ∙ no))) (λ later. later) (first_or_later t.name (map (λ (t : Titled). t.name) ts) name h)) in
-          (more.0, ap (λ x. if x then Some own else rest) no ∙ more.1))
+      (⊎_elim (λ (same : t.name ≡ name). let yes = (bytes_eq-Decides name t.name).1 (sym same) in absurd (cc (sym yes ∙ no)))
+      (λ later. later) (first_or_later t.name (map (λ (t : Titled). t.name) ts) name h)) in
+      (more.0, ap (λ x. if x then Some own else rest) no ∙ more.1))
       (true_or_false (bytes_eq name t.name))
 
 -- ---- a valid protocol
@@ -312,9 +355,11 @@ module _ (local : LocalTree) (v : ∥ IsValid local ∥₁) (w : Work) (laid : L
   by_entry : (room j : ℕ) (end : Hop) (p : Placed) → (n : ℕ) → EndsIn old n (entry_at j old) end →
       ((k : ℕ) → entry_at j old ≡ hops.Part k → (name : Name) (q : Placed) → placed_as name ps ≡ Some q → number_in local name ≡ Some k →
       entry_within room ps name ≡ plain_standing w end) →
-      Entry local.me (number_in local) (names_in local) w p (entry_at j old) → began p.first p.goes_on (entry_within room ps) ≡ plain_standing w end
+      Entry local.me (number_in local) (names_in local) w p (entry_at j old) → began p.first p.goes_on (entry_within room ps)
+      ≡ plain_standing w end
   by_entry room j end p n rest again (first_state m first plain at) =
-      ap (λ o. began o p.goes_on (entry_within room ps)) first ∙ sym (ap (plain_standing w) (ends_plain rest plain) ∙ standing_plain w (entry_at j old) plain ∙ at)
+      ap (λ o. began o p.goes_on (entry_within room ps)) first ∙ sym (ap (plain_standing w) (ends_plain rest plain) ∙ standing_plain w
+      (entry_at j old) plain ∙ at)
   by_entry room j end p n rest again (nowhere none own is) =
       (λ i. began (none i) (own i) (entry_within room ps)) ∙ sym (ap (plain_standing w) (ends_plain rest (subst IsPlain (sym is) tt) ∙ is))
   by_entry room j end p n rest again (elsewhere name known none own is) =
@@ -322,7 +367,8 @@ module _ (local : LocalTree) (v : ∥ IsValid local ∥₁) (w : Work) (laid : L
       let f = one_found name q.0 q.1 in
       (λ i. began (none i) (own i) (entry_within room ps)) ∙ again f.number (is ∙ ap hop_to f.numbered_so) name q.0 q.1 f.numbered_so
 
-  leads : {n : ℕ} {hop end : Hop} → EndsIn old n hop end → (room k : ℕ) → n ≤ room → hop ≡ hops.Part k → (name : Name) (p : Placed) → placed_as name ps ≡ Some p → number_in local name ≡ Some k →
+  leads : {n : ℕ} {hop end : Hop} → EndsIn old n hop end → (room k : ℕ) → n ≤ room → hop ≡ hops.Part k → (name : Name) (p : Placed) →
+      placed_as name ps ≡ Some p → number_in local name ≡ Some k →
       entry_within room ps name ≡ plain_standing w end
   leads (stops_here plain) room k h e name p f g = absurd (subst IsPlain e plain)
   leads (goes rest) zero k h e name p f g = absurd (omega arith)

@@ -52,7 +52,8 @@ module _ (p : Place) where
   adder =
       Rec p (codes "X")
       (Choice p (codes "C")
-      (Branch (Says (to (codes "S") (codes "add") payloads.Int) (Says (from (codes "S") (codes "total") payloads.Int) (Continue p (codes "X") Nothing)))
+      (Branch (Says (to (codes "S") (codes "add") payloads.Int) (Says (from (codes "S") (codes "total") payloads.Int)
+      (Continue p (codes "X") Nothing)))
       (Branch (Says (to (codes "S") (codes "bye") payloads.Nothing) Nothing) NoBranch))
       Nothing)
       Nothing
@@ -76,7 +77,8 @@ module _ (p : Place) where
   served =
       Rec p (codes "X")
       (Choice p (codes "C")
-      (Branch (Says (from (codes "C") (codes "add") payloads.Int) (Says (to (codes "C") (codes "total") payloads.Int) (Continue p (codes "X") Nothing)))
+      (Branch (Says (from (codes "C") (codes "add") payloads.Int) (Says (to (codes "C") (codes "total") payloads.Int)
+      (Continue p (codes "X") Nothing)))
       (Branch (Says (from (codes "C") (codes "bye") payloads.Nothing) Nothing) NoBranch))
       Nothing)
       Nothing

@@ -1,5 +1,6 @@
 -- The steps of the loops that make states and methods.
-use Rattle.std.proofs.Common.{◌≡◌, ℕ, zero, suc, ◌+◌, ◌<◌, ◌≤◌, List, [], ◌∷◌, ◌++◌, length, get_or, drop, map, refl, sym, ap, ◌∙◌, Some, None, arith, add-one, append_assoc, append-nil, false}
+use Rattle.std.proofs.Common.{◌≡◌, ℕ, zero, suc, ◌+◌, ◌<◌, ◌≤◌, List, [], ◌∷◌, ◌++◌, length, get_or, drop, map, refl, sym, ap, ◌∙◌, Some}
+use Rattle.std.proofs.Common.{None, arith, add-one, append_assoc, append-nil, false}
 use Rattle.std.specs.Prelude.{slice_get}
 use Rattle.std.proofs.lemmas.List.{at_drop_more, at_drop_all, map-append, reverse-append}
 use Rattle.std.proofs.lemmas.Grind.{common_steps}
@@ -20,7 +21,11 @@ use Rattle.stm_gen.specs.inner.States.{states_from}
 
 -- the states that are made, and those that are left, are all
 pub one_more : (me : Name) (w : Work) (cells : List Cell) (k : ℕ) (c : Cell) (made : List KeptState) (s : KeptState) (all : List State) →
-    k < length cells → Some c ≡ slice_get cells k → state_of s ≡ record { name = state_name k; methods = methods_of me (edges_of w c); drops = false } →
+    k < length cells → Some c ≡ slice_get cells k → state_of s ≡ record {
+      name = state_name k;
+      methods = methods_of me (edges_of w c);
+      drops = false;
+    } →
     map state_of made ++ states_from me k (map (edges_of w) (drop k cells)) ≡ all →
     map state_of (made ++ s ∷ []) ++ states_from me (k + 1) (map (edges_of w) (drop (k + 1) cells)) ≡ all
 one_more me w cells k c made s all h there is before =
@@ -37,8 +42,10 @@ one_more me w cells k c made s all h there is before =
     at (x ∷ cs) zero e = let f : x ≡ c = cc e in ap (λ y. y ∷ cs) f
     at (x ∷ cs) (suc j) e = at cs j e
 
-pub all_made : (me : Name) (w : Work) (cells : List Cell) (k : ℕ) (made all : List State) → length cells ≤ k → made ++ states_from me k (map (edges_of w) (drop k cells)) ≡ all → made ≡ all
-all_made me w cells k made all h e = sym (append-nil made) ∙ sym (at_drop_all (λ cs. made ++ states_from me k (map (edges_of w) cs)) cells k h) ∙ e
+pub all_made : (me : Name) (w : Work) (cells : List Cell) (k : ℕ) (made all : List State) → length cells ≤ k →
+    made ++ states_from me k (map (edges_of w) (drop k cells)) ≡ all → made ≡ all
+all_made me w cells k made all h e = sym (append-nil made) ∙ sym (at_drop_all (λ cs. made ++ states_from me k (map (edges_of w) cs)) cells k
+    h) ∙ e
 
 -- a state of each number below the count is there
 pub is_there : (cells : List Cell) (k : ℕ) → k < length cells → None ≡ slice_get cells k → ⊥
@@ -51,28 +58,34 @@ pub ruleset state_steps = (common_steps, one_more, all_made)
 -- ---- methods and branches
 
 -- the arrows from an index on, as drafts: that of the index stands last
-drafts-drop : (arrows : List Arrow) (i : ℕ) (a : Arrow) → i < length arrows → a ≡ get_or arrows i a → drafts_of (drop i arrows) ≡ drafts_of (drop (i + 1) arrows) ++ draft_of a ∷ []
+drafts-drop : (arrows : List Arrow) (i : ℕ) (a : Arrow) → i < length arrows → a ≡ get_or arrows i a → drafts_of (drop i arrows) ≡ drafts_of
+    (drop (i + 1) arrows) ++ draft_of a ∷ []
 drafts-drop arrows i a h e =
     at_drop_more drafts_of arrows i a h ∙ ap (λ (x : Arrow). drafts_of (x ∷ drop (i + 1) arrows)) (sym e)
     ∙ reverse-append (draft_of a ∷ []) (map draft_of (drop (i + 1) arrows))
 
-methods-more : (me : Name) (w : Work) (ds : List Draft) (d : Draft) → methods_of me (map (edge_of w None) (ds ++ d ∷ [])) ≡ methods_of me (map (edge_of w None) ds) ++ method_of (message_of d.message) (standing_of w d.to) ∷ []
+methods-more : (me : Name) (w : Work) (ds : List Draft) (d : Draft) → methods_of me (map (edge_of w None) (ds ++ d ∷ [])) ≡ methods_of me
+    (map (edge_of w None) ds) ++ method_of (message_of d.message) (standing_of w d.to) ∷ []
 methods-more me w [] d = refl
 methods-more me w (x ∷ ds) d = ap (λ ms. method_of (message_of x.message) (standing_of w x.to) ∷ ms) (methods-more me w ds d)
 
-branches-more : (w : Work) (c : ℕ) (ds : List Draft) (d : Draft) → branches_of (map (edge_of w (Some c)) (ds ++ d ∷ [])) ≡ branches_of (map (edge_of w (Some c)) ds) ++ record { label = d.message.label; to = to_of (standing_of w d.to) } ∷ []
+branches-more : (w : Work) (c : ℕ) (ds : List Draft) (d : Draft) → branches_of (map (edge_of w (Some c)) (ds ++ d ∷ [])) ≡ branches_of
+    (map (edge_of w (Some c)) ds) ++ record { label = d.message.label; to = to_of (standing_of w d.to) } ∷ []
 branches-more w c [] d = refl
 branches-more w c (x ∷ ds) d = ap (λ bs. record { label = x.message.label; to = to_of (standing_of w x.to) } ∷ bs) (branches-more w c ds d)
 
-pub method_more : (me : Name) (w : Work) (arrows : List Arrow) (i : ℕ) (a : Arrow) (made : List KeptMethod) (m : KeptMethod) → i < length arrows → a ≡ get_or arrows i a →
+pub method_more : (me : Name) (w : Work) (arrows : List Arrow) (i : ℕ) (a : Arrow) (made : List KeptMethod) (m : KeptMethod) →
+    i < length arrows → a ≡ get_or arrows i a →
     kept_method m ≡ method_of (message_of a.message.now) (standing_of w a.to) →
     map kept_method made ≡ methods_of me (map (edge_of w None) (drafts_of (drop (i + 1) arrows))) →
     map kept_method (made ++ m ∷ []) ≡ methods_of me (map (edge_of w None) (drafts_of (drop i arrows)))
 method_more me w arrows i a made m h e is before =
-    map-append kept_method made (m ∷ []) ∙ (λ i. before i ++ is i ∷ []) ∙ sym (methods-more me w (drafts_of (drop (i + 1) arrows)) (draft_of a))
+    map-append kept_method made (m ∷ []) ∙ (λ i. before i ++ is i ∷ []) ∙
+    sym (methods-more me w (drafts_of (drop (i + 1) arrows)) (draft_of a))
     ∙ ap (λ ds. methods_of me (map (edge_of w None) ds)) (sym (drafts-drop arrows i a h e))
 
-pub branch_more : (w : Work) (c : ℕ) (arrows : List Arrow) (i : ℕ) (a : Arrow) (made : List Branch) (b : Branch) → i < length arrows → a ≡ get_or arrows i a →
+pub branch_more : (w : Work) (c : ℕ) (arrows : List Arrow) (i : ℕ) (a : Arrow) (made : List Branch) (b : Branch) → i < length arrows →
+    a ≡ get_or arrows i a →
     b ≡ record { label = a.message.now.label; to = to_of (standing_of w a.to) } →
     made ≡ branches_of (map (edge_of w (Some c)) (drafts_of (drop (i + 1) arrows))) →
     made ++ b ∷ [] ≡ branches_of (map (edge_of w (Some c)) (drafts_of (drop i arrows)))

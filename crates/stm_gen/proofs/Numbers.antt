@@ -9,12 +9,14 @@ use Rattle.scr_tree.specs.Protocol.{Protocol, Done, Does, ChoiceHere, ChoiceTher
 use Rattle.scr_tree.specs.Steps.{Part, Plain, BodyOf, Left, Position}
 use Rattle.scr_trace.specs.declared.standing.Standing.{Standing}
 use Rattle.scr_trace.specs.declared.arrow.Hop.{Hop}
-use Rattle.scr_trace.specs.Positions.{states_in, states_here as positions_here, states_behind as positions_behind, states_there as positions_there, states_from as positions_from}
+use Rattle.scr_trace.specs.Positions.{states_in, states_here as positions_here, states_behind as positions_behind}
+use Rattle.scr_trace.specs.Positions.{states_there as positions_there, states_from as positions_from}
 use Rattle.scr_trace.specs.inner.Laying.{Work, Known, Gathered, lay, lay_in}
 use Rattle.scr_trace.proofs.Parts
 use Rattle.scr_trace.proofs.Counting.{counted, counted_in}
 use Rattle.scr_trace.proofs.Begins.{HasNone}
-use Rattle.stm_gen.specs.Numbered.{after, after_here, after_behind, after_there, after_from, Start, first, states, states_here, states_behind, states_there, states_from}
+use Rattle.stm_gen.specs.Numbered.{after, after_here, after_behind, after_there, after_from, Start, first, states, states_here}
+use Rattle.stm_gen.specs.Numbered.{states_behind, states_there, states_from}
 
 -- ---- positions
 
@@ -76,7 +78,8 @@ mutual
 
 module _ (me : Name) (entry : Name → Standing) where
   mutual
-    pub as_many : (p : Protocol) (n : ℕ) (follow : Standing) (starts : List Start) (part : Part) (around : Position) → length (states entry me n follow starts p) ≡ length (states_in part around p)
+    pub as_many : (p : Protocol) (n : ℕ) (follow : Standing) (starts : List Start) (part : Part) (around : Position) →
+        length (states entry me n follow starts p) ≡ length (states_in part around p)
     as_many Done n follow starts part around = refl
     as_many (Does m rest) n follow starts part around = ap suc (as_many rest (suc n) follow starts part around)
     as_many (ChoiceHere bs rest) n follow starts part around =
@@ -107,7 +110,8 @@ module _ (me : Name) (entry : Name → Standing) where
     as_many (Continue name rest) n follow starts part around = as_many rest n follow starts part around
     as_many (Do name rest) n follow starts part around = as_many rest n follow starts part around
 
-    here_many : (bs : Branches) (n : ℕ) (follow : Standing) (starts : List Start) (around : Position) → length (states_here entry me n follow starts bs) ≡ length (positions_here around bs)
+    here_many : (bs : Branches) (n : ℕ) (follow : Standing) (starts : List Start) (around : Position) →
+        length (states_here entry me n follow starts bs) ≡ length (positions_here around bs)
     here_many NoMore n follow starts around = refl
     here_many (Branch b more) n follow starts around =
         let a = behind_many b n follow starts around in
@@ -116,7 +120,8 @@ module _ (me : Name) (entry : Name → Standing) where
         let e = length-append (states_behind entry me n follow starts b) (states_here entry me (after_behind n b) follow starts more) in
         omega arith
 
-    behind_many : (b : Protocol) (n : ℕ) (follow : Standing) (starts : List Start) (around : Position) → length (states_behind entry me n follow starts b) ≡ length (positions_behind around b)
+    behind_many : (b : Protocol) (n : ℕ) (follow : Standing) (starts : List Start) (around : Position) →
+        length (states_behind entry me n follow starts b) ≡ length (positions_behind around b)
     behind_many (Does m rest) n follow starts around = as_many rest n follow starts Plain around
     behind_many Done n follow starts around = refl
     behind_many (ChoiceHere bs rest) n follow starts around = refl
@@ -125,7 +130,8 @@ module _ (me : Name) (entry : Name → Standing) where
     behind_many (Continue name rest) n follow starts around = refl
     behind_many (Do name rest) n follow starts around = refl
 
-    there_many : (bs : Branches) (n : ℕ) (follow : Standing) (starts : List Start) (around : Position) → length (states_there entry me n follow starts bs) ≡ length (positions_there around bs)
+    there_many : (bs : Branches) (n : ℕ) (follow : Standing) (starts : List Start) (around : Position) →
+        length (states_there entry me n follow starts bs) ≡ length (positions_there around bs)
     there_many NoMore n follow starts around = refl
     there_many (Branch b more) n follow starts around =
         let a = from_many b n follow starts around in
@@ -134,7 +140,8 @@ module _ (me : Name) (entry : Name → Standing) where
         let e = length-append (states_from entry me n follow starts b) (states_there entry me (after_from n b) follow starts more) in
         omega arith
 
-    from_many : (b : Protocol) (n : ℕ) (follow : Standing) (starts : List Start) (around : Position) → length (states_from entry me n follow starts b) ≡ length (positions_from around b)
+    from_many : (b : Protocol) (n : ℕ) (follow : Standing) (starts : List Start) (around : Position) →
+        length (states_from entry me n follow starts b) ≡ length (positions_from around b)
     from_many (Does m rest) n follow starts around = ap suc (as_many rest (suc n) follow starts Plain around)
     from_many Done n follow starts around = refl
     from_many (ChoiceHere bs rest) n follow starts around = refl
@@ -153,7 +160,8 @@ abbrev pub after_one : Bool → ℕ → Protocol → ℕ
 after_one true n b = after_behind n b
 after_one false n b = after_from n b
 
-pub after-Branch : (self : Bool) (n : ℕ) (b : Protocol) (more : Branches) → after_in self n (Branch b more) ≡ after_in self (after_one self n b) more
+pub after-Branch : (self : Bool) (n : ℕ) (b : Protocol) (more : Branches) → after_in self n (Branch b more)
+    ≡ after_in self (after_one self n b) more
 after-Branch true n b more = refl
 after-Branch false n b more = refl
 
@@ -170,7 +178,8 @@ in_is false bs n around = there_is bs n around
 -- `parts` gives the numbers of the protocols
 module _ (me : Name) (parts : Name → Option ℕ) where
   -- the number before the first state and those that are laid out from there on are as many as the number behind, and those behind
-  pub laid_count : (t : Statements) (known : List Known) (w : Work) (n c : ℕ) → after n (numbered me c t) + length w.cells ≡ n + length (lay me parts known w t).cells
+  pub laid_count : (t : Statements) (known : List Known) (w : Work) (n c : ℕ) → after n (numbered me c t) + length w.cells
+      ≡ n + length (lay me parts known w t).cells
   laid_count t known w n c =
       let a = after_is (numbered me c t) n Plain [] in
       let b = counted me parts t known w c Plain [] in
@@ -188,8 +197,11 @@ module _ (me : Name) (parts : Name → Option ℕ) where
   none_left [] e = refl
   none_left (x ∷ xs) e = cc
 
-  pub none_numbered : (entry : Name → Standing) (t : Statements) (n c : ℕ) (follow : Standing) (starts : List Start) → HasNone me parts t → states entry me n follow starts (numbered me c t) ≡ []
-  none_numbered entry t n c follow starts none = none_left _ (as_many me entry (numbered me c t) n follow starts Plain [] ∙ ap length (none c Plain []))
+  pub none_numbered : (entry : Name → Standing) (t : Statements) (n c : ℕ) (follow : Standing) (starts : List Start) → HasNone me parts t →
+      states entry me n follow starts (numbered me c t) ≡ []
+  none_numbered entry t n c follow starts none = none_left _ (as_many me entry (numbered me c t) n follow starts Plain [] ∙
+      ap length (none c Plain []))
 
   pub none_after : (t : Statements) (n c : ℕ) → HasNone me parts t → after n (numbered me c t) ≡ n
-  none_after t n c none = let a = after_is (numbered me c t) n Plain [] in let b : length (states_in Plain [] (numbered me c t)) ≡ 0 = ap length (none c Plain []) in omega arith
+  none_after t n c none = let a = after_is (numbered me c t) n Plain [] in let b : length (states_in Plain [] (numbered me c t)) ≡ 0 =
+      ap length (none c Plain []) in omega arith

@@ -1,5 +1,6 @@
 -- The states that are laid out are those of a typestate.
-use Rattle.std.proofs.Common.{◌≡◌, ◌≢◌, ℕ, zero, suc, ◌+◌, ◌^◌, ◌<◌, ◌≤◌, List, [], ◌∷◌, length, get_or, drop, map, Some, None, refl, sym, ap, ◌∙◌, subst, inl, inr, ⊎_elim, arith, false}
+use Rattle.std.proofs.Common.{◌≡◌, ◌≢◌, ℕ, zero, suc, ◌+◌, ◌^◌, ◌<◌, ◌≤◌, List, [], ◌∷◌, length, get_or, drop, map, Some, None, refl, sym}
+use Rattle.std.proofs.Common.{ap, ◌∙◌, subst, inl, inr, ⊎_elim, arith, false}
 use Rattle.std.specs.Prelude.{Contains, codes, slice_get}
 use Rattle.std.specs.List.{AllByRecursion}
 use Rattle.std.proofs.lemmas.Fmt.{decimal_injective}
@@ -18,7 +19,8 @@ use Rattle.ts_tree.specs.Typestate.{Method, State}
 use Rattle.ts_tree.specs.Proper.{AreDistinct, IsWithin, IsTarget, IsState, IsOffered, IsProper}
 use Rattle.stm_gen.specs.Laid.{to_of, branches_of, methods_of, state_name}
 use Rattle.stm_gen.specs.inner.States.{states_from}
-use Rattle.stm_gen.proofs.Paths.{AllMessages, AllLooks, OneKind, messages, looks, one_kind, calls, methods-message, methods-look, branches-look}
+use Rattle.stm_gen.proofs.Paths.{AllMessages, AllLooks, OneKind, messages, looks, one_kind, calls, methods-message, methods-look}
+use Rattle.stm_gen.proofs.Paths.{branches-look}
 
 -- ---- names of states
 
@@ -30,7 +32,8 @@ name_injective j k hj hk e = decimal_injective j k hj hk (ap (drop 5) e)
 not_end : (k : ℕ) → state_name k ≢ codes "end"
 not_end k e = let f = ap (λ l. get_or l 0 0) e in omega arith
 
-named_in : (me : Name) (k : ℕ) (gs : List (List Edge)) (name : Name) → Contains (map (λ s. s.name) (states_from me k gs)) name → (i : ℕ) × (k ≤ i) × (i < k + length gs) × (state_name i ≡ name)
+named_in : (me : Name) (k : ℕ) (gs : List (List Edge)) (name : Name) → Contains (map (λ s. s.name) (states_from me k gs)) name →
+    (i : ℕ) × (k ≤ i) × (i < k + length gs) × (state_name i ≡ name)
 named_in me k [] name c = absurd (none_contained name c)
 named_in me k (g ∷ gs) name c =
     ⊎_elim
@@ -68,7 +71,8 @@ abbrev AllWithin : ℕ → List Edge → Type 0
 AllWithin count [] = Unit {0}
 AllWithin count (e ∷ es) = IsWithin count (to_of e.to) × AllWithin count es
 
-edges_within : (parts : Parts) (all : List Position) (steps : List Onward) (edges : List Edge) → AreSteps parts all steps edges → AllWithin (length all) edges
+edges_within : (parts : Parts) (all : List Position) (steps : List Onward) (edges : List Edge) → AreSteps parts all steps edges →
+    AllWithin (length all) edges
 edges_within parts all [] [] h = tt
 edges_within parts all [] (e ∷ edges) h = absurd h
 edges_within parts all (s ∷ steps) [] h = absurd h
@@ -79,63 +83,95 @@ edges_within parts all (s ∷ steps) (e ∷ edges) h = (comes_within parts all h
 module _ (me : Name) where
   none_later : (call : Call) (ys : List Edge) (e : Edge) → DiffersFrom call (calls me ys) → Among ys e → call ≡ call_of me e.act → ⊥
   none_later call [] e d a f = a
-  none_later call (y ∷ ys) e d a f = ⊎_elim (λ g. d.0 (f ∙ ap (λ (z : Edge). call_of me z.act) (sym g))) (λ b. none_later call ys e d.1 b f) a
+  none_later call (y ∷ ys) e d a f = ⊎_elim (λ g. d.0 (f ∙ ap (λ (z : Edge). call_of me z.act) (sym g))) (λ b. none_later call ys e d.1 b f)
+      a
 
-  named_edge : (edges : List Edge) → AllMessages edges → (name : Name) → Contains (map (λ m. m.name) (methods_of me edges)) name → (e : Edge) × Among edges e × (call_of me e.act ≡ record { method = name; answer = None })
+  named_edge : (edges : List Edge) → AllMessages edges → (name : Name) → Contains (map (λ m. m.name) (methods_of me edges)) name →
+      (e : Edge) × Among edges e × (call_of me e.act ≡ record { method = name; answer = None })
   named_edge [] h name c = absurd (none_contained name c)
   named_edge (x ∷ xs) h name c =
       ⊎_elim
       (λ e. (x, inl refl, ap (call_of me) h.0.1 ∙ (λ i. record { method = e i; answer = None })))
       (λ later. let r = named_edge xs h.1 name later in (r.0, inr r.1, r.2))
-      (first_or_later (message_call h.0.0) (map (λ m. m.name) (methods_of me xs)) name (subst (λ ms. Contains (map (λ m. m.name) ms) name) (methods-message me x xs h.0.0 h.0.1) c))
+      (first_or_later (message_call h.0.0) (map (λ m. m.name) (methods_of me xs)) name (subst (λ ms. Contains (map (λ m. m.name) ms) name)
+      (methods-message me x xs h.0.0 h.0.1) c))
 
-  messages_differ : (edges : List Edge) → AllMessages edges → AllDiffer (calls me edges) → AreDistinct (map (λ m. m.name) (methods_of me edges))
+  messages_differ : (edges : List Edge) → AllMessages edges → AllDiffer (calls me edges) →
+      AreDistinct (map (λ m. m.name) (methods_of me edges))
   messages_differ [] h d = tt
   messages_differ (x ∷ xs) h d =
-      subst (λ ms. AreDistinct (map (λ m. m.name) ms)) (sym (methods-message me x xs h.0.0 h.0.1))
-      (λ c. let r = named_edge xs h.1 (message_call h.0.0) c in none_later (call_of me x.act) xs r.0 d.0 r.1 (ap (call_of me) h.0.1 ∙ sym r.2), messages_differ xs h.1 d.1)
+      subst (λ ms. AreDistinct (map (λ m. m.name) ms)) (sym (methods-message me x xs h.0.0 h.0.1)) (
+        λ c. let r = named_edge xs h.1 (message_call h.0.0) c in none_later (call_of me x.act) xs r.0 d.0 r.1
+            (ap (call_of me) h.0.1 ∙ sym r.2),
+        messages_differ xs h.1 d.1,
+      )
 
-  message_targets : (count : ℕ) (edges : List Edge) → AllMessages edges → AllWithin count edges → AllByRecursion (λ m. IsTarget count m.target) (methods_of me edges)
+  message_targets : (count : ℕ) (edges : List Edge) → AllMessages edges → AllWithin count edges →
+      AllByRecursion (λ m. IsTarget count m.target) (methods_of me edges)
   message_targets count [] h w = tt
   message_targets count (x ∷ xs) h w =
-      subst (AllByRecursion (λ m. IsTarget count m.target)) (sym (methods-message me x xs h.0.0 h.0.1)) (w.0, message_targets count xs h.1 w.1)
+      subst (AllByRecursion (λ m. IsTarget count m.target)) (sym (methods-message me x xs h.0.0 h.0.1))
+      (w.0, message_targets count xs h.1 w.1)
 
-  branch_targets : (count : ℕ) (n : ℕ) (peer : Name) (edges : List Edge) → AllLooks n peer edges → AllWithin count edges → AllByRecursion (λ b. IsWithin count b.to) (branches_of edges)
+  branch_targets : (count : ℕ) (n : ℕ) (peer : Name) (edges : List Edge) → AllLooks n peer edges → AllWithin count edges →
+      AllByRecursion (λ b. IsWithin count b.to) (branches_of edges)
   branch_targets count n peer [] h w = tt
   branch_targets count n peer (x ∷ xs) h w =
-      subst (AllByRecursion (λ b. IsWithin count b.to)) (sym (branches-look me x xs n peer h.0.0 h.0.1)) (w.0, branch_targets count n peer xs h.1 w.1)
+      subst (AllByRecursion (λ b. IsWithin count b.to)) (sym (branches-look me x xs n peer h.0.0 h.0.1))
+      (w.0, branch_targets count n peer xs h.1 w.1)
 
-  labelled : (n : ℕ) (peer : Name) (edges : List Edge) → AllLooks n peer edges → (label : Name) → Contains (map (λ b. b.label) (branches_of edges)) label → (e : Edge) × Among edges e × (e.act ≡ Looks n peer label)
+  labelled : (n : ℕ) (peer : Name) (edges : List Edge) → AllLooks n peer edges → (label : Name) →
+      Contains (map (λ b. b.label) (branches_of edges)) label → (e : Edge) × Among edges e × (e.act ≡ Looks n peer label)
   labelled n peer [] h label c = absurd (none_contained label c)
   labelled n peer (x ∷ xs) h label c =
       ⊎_elim
       (λ e. (x, inl refl, h.0.1 ∙ ap (Looks n peer) e))
       (λ later. let r = labelled n peer xs h.1 label later in (r.0, inr r.1, r.2))
-      (first_or_later h.0.0 (map (λ b. b.label) (branches_of xs)) label (subst (λ bs. Contains (map (λ b. b.label) bs) label) (branches-look me x xs n peer h.0.0 h.0.1) c))
+      (first_or_later h.0.0 (map (λ b. b.label) (branches_of xs)) label (subst (λ bs. Contains (map (λ b. b.label) bs) label)
+      (branches-look me x xs n peer h.0.0 h.0.1) c))
 
-  labels_differ : (n : ℕ) (peer : Name) (edges : List Edge) → AllLooks n peer edges → AllDiffer (calls me edges) → AreDistinct (map (λ b. b.label) (branches_of edges))
+  labels_differ : (n : ℕ) (peer : Name) (edges : List Edge) → AllLooks n peer edges → AllDiffer (calls me edges) →
+      AreDistinct (map (λ b. b.label) (branches_of edges))
   labels_differ n peer [] h d = tt
   labels_differ n peer (x ∷ xs) h d =
-      subst (λ bs. AreDistinct (map (λ b. b.label) bs)) (sym (branches-look me x xs n peer h.0.0 h.0.1))
-      (λ c. let r = labelled n peer xs h.1 h.0.0 c in none_later (call_of me x.act) xs r.0 d.0 r.1 (ap (call_of me) h.0.1 ∙ sym (ap (call_of me) r.2)), labels_differ n peer xs h.1 d.1)
+      subst (λ bs. AreDistinct (map (λ b. b.label) bs)) (sym (branches-look me x xs n peer h.0.0 h.0.1)) (
+        λ c. let r = labelled n peer xs h.1 h.0.0 c in none_later (call_of me x.act) xs r.0 d.0 r.1
+            (ap (call_of me) h.0.1 ∙ sym (ap (call_of me) r.2)),
+        labels_differ n peer xs h.1 d.1,
+      )
 
-  proper_state : (count k : ℕ) (edges : List Edge) → OneKind edges → AllDiffer (calls me edges) → AllWithin count edges → IsState count (record { name = state_name k; methods = methods_of me edges; drops = false })
-  proper_state count k edges (messages h) d w = record { named = not_end k; methods = messages_differ edges h d; targets = message_targets count edges h w }
+  proper_state : (count k : ℕ) (edges : List Edge) → OneKind edges → AllDiffer (calls me edges) → AllWithin count edges →
+      IsState count (record { name = state_name k; methods = methods_of me edges; drops = false })
+  proper_state count k edges (messages h) d w = record {
+    named = not_end k;
+    methods = messages_differ edges h d;
+    targets =
+        message_targets count edges h w;
+  }
   proper_state count k [] (looks n peer h) d w = record { named = not_end k; methods = tt; targets = tt }
   proper_state count k (x ∷ xs) (looks n peer h) d w =
-      subst (λ ms. IsState count (record { name = state_name k; methods = ms; drops = false })) (sym (methods-look me x xs n peer h.0.0 h.0.1))
-      (record { named = not_end k; methods = (none_contained (label_call me n peer), tt); targets = ((branch_targets count n peer (x ∷ xs) h w, labels_differ n peer (x ∷ xs) h d), tt) })
+      subst (λ ms. IsState count (record { name = state_name k; methods = ms; drops = false }))
+      (sym (methods-look me x xs n peer h.0.0 h.0.1))
+      (record {
+        named = not_end k;
+        methods = (none_contained (label_call me n peer), tt);
+        targets =
+            ((branch_targets count n peer (x ∷ xs) h w, labels_differ n peer (x ∷ xs) h d), tt);
+      })
 
-  each_state : (parts : Parts) (all : List Position) (k : ℕ) (ps : List Position) (gs : List (List Edge)) → AreStates parts all ps gs → AllTold me ps → AllByRecursion (IsState (length all)) (states_from me k gs)
+  each_state : (parts : Parts) (all : List Position) (k : ℕ) (ps : List Position) (gs : List (List Edge)) → AreStates parts all ps gs →
+      AllTold me ps → AllByRecursion (IsState (length all)) (states_from me k gs)
   each_state parts all k [] [] h t = tt
   each_state parts all k [] (g ∷ gs) h t = absurd h
   each_state parts all k (p ∷ ps) [] h t = absurd h
   each_state parts all k (p ∷ ps) (g ∷ gs) h t = (
-    proper_state (length all) k g (one_kind parts all (steps_at p) g h.0 t.0.one) (subst AllDiffer (sym (calls_are parts all (steps_at p) g h.0)) t.0.differ) (edges_within parts all (steps_at p) g h.0),
+    proper_state (length all) k g (one_kind parts all (steps_at p) g h.0 t.0.one)
+        (subst AllDiffer (sym (calls_are parts all (steps_at p) g h.0)) t.0.differ) (edges_within parts all (steps_at p) g h.0),
     each_state parts all (suc k) ps gs h.1 t.1,
   )
     where
-      calls_are : (parts : Parts) (all : List Position) (steps : List Onward) (edges : List Edge) → AreSteps parts all steps edges → calls me edges ≡ calls_from me steps
+      calls_are : (parts : Parts) (all : List Position) (steps : List Onward) (edges : List Edge) → AreSteps parts all steps edges →
+          calls me edges ≡ calls_from me steps
       calls_are parts all [] [] h = refl
       calls_are parts all [] (e ∷ edges) h = absurd h
       calls_are parts all (s ∷ steps) [] h = absurd h
@@ -150,11 +186,14 @@ module _ (me : Name) where
 
   -- methods of one name have one signature
   abbrev pub HaveOneSignature : List State → Type 0
-  HaveOneSignature states = (m n : Method) → IsOffered states m → IsOffered states n → m.name ≡ n.name → (m.result ≡ n.result) × (m.params ≡ n.params)
+  HaveOneSignature states = (m n : Method) → IsOffered states m → IsOffered states n → m.name ≡ n.name → (m.result ≡ n.result)
+      × (m.params ≡ n.params)
 
-  pub proper : (parts : Parts) (all : List Position) (gs : List (List Edge)) → length gs < 2 ^ 64 → AreStates parts all all gs → AllTold me all → HaveOneSignature (states_from me 0 gs) → IsProper (states_from me 0 gs)
+  pub proper : (parts : Parts) (all : List Position) (gs : List (List Edge)) → length gs < 2 ^ 64 → AreStates parts all all gs →
+      AllTold me all → HaveOneSignature (states_from me 0 gs) → IsProper (states_from me 0 gs)
   proper parts all gs few h t one = record {
     states_differ = names_differ me 0 gs (omega arith);
-    each = subst (λ n. AllByRecursion (IsState n) (states_from me 0 gs)) (sym (how_many me 0 gs ∙ as_many parts all all gs h)) (each_state parts all 0 all gs h t);
+    each = subst (λ n. AllByRecursion (IsState n) (states_from me 0 gs)) (sym (how_many me 0 gs ∙ as_many parts all all gs h))
+        (each_state parts all 0 all gs h t);
     one_signature = one;
   }

@@ -1,4 +1,5 @@
--- A typestate of a local protocol: a state for each of its states, with a method for each step there, which leads to a state with the text that
+-- A typestate of a local protocol: a state for each of its states, with a method for each step there, which leads to a state with the text
+-- that
 -- is reached. Where two states have the same text left it may be either; Numbered says which.
 use Rattle.std.specs.Prelude.{◌≡◌, ℕ, suc, List, [], ◌∷◌, ◌++◌, codes, false}
 use Rattle.std.specs.Fmt.{decimal}

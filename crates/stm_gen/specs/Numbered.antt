@@ -8,7 +8,8 @@ use Rattle.std.specs.Option.{option_or}
 use Rattle.std.specs.Str.{bytes_eq}
 use Rattle.mg_text.specs.Call.{Name}
 use Rattle.scr_tree.specs.Tree.{LocalTree}
-use Rattle.scr_tree.specs.Protocol.{peer_of, label_of, Protocol, Done, Does, ChoiceHere, ChoiceThere, Rec, Continue, Do, Branches, NoMore, Branch, Named, Parts}
+use Rattle.scr_tree.specs.Protocol.{peer_of, label_of, Protocol, Done, Does, ChoiceHere, ChoiceThere, Rec, Continue, Do, Branches, NoMore}
+use Rattle.scr_tree.specs.Protocol.{Branch, Named, Parts}
 use Rattle.scr_tree.specs.Meaning.{protocol_of}
 use Rattle.scr_trace.specs.declared.standing.Standing.{Standing}
 use Rattle.scr_trace.specs.declared.standing.Standing.TheVariants as standings
@@ -75,7 +76,8 @@ pub record Placed : Type 0 where
 abbrev pub placed : ℕ → Parts → List Placed
 placed n [] = []
 placed n (part ∷ parts) =
-    record { name = part.name; first = if has_state part.body then Some n else None; goes_on = do_in part.body } ∷ placed (after n part.body) parts
+    record { name = part.name; first = if has_state part.body then Some n else None; goes_on = do_in part.body } ∷ placed
+    (after n part.body) parts
 
 abbrev pub placed_as : Name → List Placed → Option Placed
 placed_as name [] = None
@@ -128,7 +130,8 @@ state n methods = record { name = state_name n; methods = methods; drops = false
 
 -- `begins` says where each part begins
 module _ (begins : Name → Standing) where
-  -- Where these statements begin, if their states are numbered from n on, `follow` is what follows them, and these are the starts of the recs
+  -- Where these statements begin, if their states are numbered from n on, `follow` is what follows them, and these are the starts of the
+  -- recs
   -- around.
   abbrev pub first : ℕ → Standing → List Start → Protocol → Standing
   first n follow starts Done = follow

@@ -23,7 +23,8 @@ pub fn methods_of(
     laid: &Laying<'_>,
     exits: &Exits<'_>,
 ) -> Result<List<Method>, Memory>
-    ensures { IfOk result (λ ms. map kept_method ms.items ≡ methods_of (tree_of local.now).me (edges_of (work_of laid.now) (cell_of exits.now))) }
+    ensures { IfOk result (λ ms. map kept_method ms.items ≡ methods_of (tree_of local.now).me
+        (edges_of (work_of laid.now) (cell_of exits.now))) }
 {
     let arrows = exits.arrows.as_slice();
     match exits.number {
@@ -40,7 +41,8 @@ fn message_methods(
     laid: &Laying<'_>,
     arrows: &[Arrow<'_>],
 ) -> Result<List<Method>, Memory>
-    ensures { IfOk result (λ ms. map kept_method ms.items ≡ methods_of (tree_of local.now).me (map (edge_of (work_of laid.now) None) (drafts_of arrows.now))) }
+    ensures { IfOk result (λ ms. map kept_method ms.items ≡ methods_of (tree_of local.now).me
+        (map (edge_of (work_of laid.now) None) (drafts_of arrows.now))) }
 {
     let mut methods = List::new(alloc);
     let mut i = arrows.len();
@@ -62,7 +64,8 @@ fn label_methods(
     behind: u32,
     arrows: &[Arrow<'_>],
 ) -> Result<List<Method>, Memory>
-    ensures { IfOk result (λ ms. map kept_method ms.items ≡ methods_of (tree_of local.now).me (map (edge_of (work_of laid.now) (Some behind)) (drafts_of arrows.now))) }
+    ensures { IfOk result (λ ms. map kept_method ms.items ≡ methods_of (tree_of local.now).me
+        (map (edge_of (work_of laid.now) (Some behind)) (drafts_of arrows.now))) }
 {
     let mut methods = List::new(alloc);
     if let Some(first) = arrows.last() {
@@ -131,7 +134,13 @@ fn choice_enum(alloc: Global, me: &str, number: u32) -> Result<Text, Memory>
 
 // The method of a message, which leads there.
 fn method_of(alloc: Global, message: &Message, to: To) -> Result<Method, Memory>
-    ensures { IfOk result (λ m. kept_method m ≡ record { result = result_of (message_of message.now); name = message_call (message_of message.now); params = params_of (message_of message.now); target = One to }) }
+    ensures { IfOk result (λ m. kept_method m ≡ record {
+      result = result_of (message_of message.now);
+      name =
+          message_call (message_of message.now);
+      params = params_of (message_of message.now);
+      target = One to;
+    }) }
 {
     let params = params_of(alloc, message)?;
     let name = call_name(alloc, message)?;

@@ -18,7 +18,8 @@ use ts_tree::State;
 #[tactic(auto, using(crate::proofs::Making::state_steps))]
 pub fn states_of(alloc: Global, local: &Local, laid: &Laying<'_>) -> Result<List<State>, Memory>
     ensures few { IfOk result (λ ss. length (work_of laid.now).cells < 2 ^ 32) }
-    ensures made { IfOk result (λ ss. map kept_state ss.items ≡ states_from (tree_of local.now).me 0 (graph_of_work (work_of laid.now)).states) }
+    ensures made { IfOk result (λ ss. map kept_state ss.items ≡ states_from (tree_of local.now).me 0
+        (graph_of_work (work_of laid.now)).states) }
 {
     let mut states = List::new(alloc);
     for number in 0..laid.len() {
@@ -39,7 +40,12 @@ fn state_of(
     number: u32,
     exits: &Exits<'_>,
 ) -> Result<State, Memory>
-    ensures { IfOk result (λ s. kept_state s ≡ record { name = state_name number; methods = methods_of (tree_of local.now).me (edges_of (work_of laid.now) (cell_of exits.now)); drops = false }) }
+    ensures { IfOk result (λ s. kept_state s
+        ≡ record {
+          name = state_name number;
+          methods = methods_of (tree_of local.now).me (edges_of (work_of laid.now) (cell_of exits.now));
+          drops = false;
+        }) }
 {
     let name = state_name(alloc, number)?;
     let methods = methods_of(alloc, local, laid, exits)?;

@@ -1,5 +1,6 @@
 -- The names among the tokens of a file are names, and each type is what its word says.
-use Rattle.std.proofs.Common.{◌≡◌, ℕ, ◌≤◌, List, [], ◌∷◌, ◌++◌, length, Bool, true, false, cond, Option, Some, None, codes, refl, sym, ap, ◌∙◌, subst}
+use Rattle.std.proofs.Common.{◌≡◌, ℕ, ◌≤◌, List, [], ◌∷◌, ◌++◌, length, Bool, true, false, cond, Option, Some, None, codes, refl, sym, ap}
+use Rattle.std.proofs.Common.{◌∙◌, subst}
 use Rattle.std.specs.List.{AllByRecursion}
 use Rattle.std.specs.Str.{bytes_eq}
 use Rattle.std.proofs.lemmas.Slice.Eq.{bytes_eq-Decides}
@@ -17,7 +18,8 @@ use Rattle.ts_parse.specs.declared.token.Mark.{Mark}
 use Rattle.ts_parse.specs.declared.token.Mark.TheVariants as marks
 use Rattle.ts_parse.specs.declared.written.WrittenBranch.{WrittenBranch}
 use Rattle.ts_parse.specs.Tok.{Tok, named, marked, reserved, sign_of, typestates, word_tok, sign_toks, tok_said, AreTokens}
-use Rattle.ts_parse.specs.Grammar.{Behind, Listed, type_named, param_named, IsParam, AreParams, IsBranch, IsTarget, IsMethod, IsEntry, AreEntries, IsState, IsSpelled}
+use Rattle.ts_parse.specs.Grammar.{Behind, Listed, type_named, param_named, IsParam, AreParams, IsBranch, IsTarget, IsMethod, IsEntry}
+use Rattle.ts_parse.specs.Grammar.{AreEntries, IsState, IsSpelled}
 use Rattle.ts_parse.specs.Written.{WTarget, to_one, by_label, WMethod, WEntry, offer, drop_end, WState, WFile, methods_in}
 use Rattle.ts_read.specs.Layout.{type_text}
 use Rattle.ts_back.proofs.Told.{IsName}

@@ -1,5 +1,6 @@
 -- The text of the typestate that a file means is told as the same file, places aside.
-use Rattle.std.proofs.Common.{◌≡◌, ℕ, inl, List, [], ◌∷◌, ◌++◌, map, get_or, Bool, true, false, cond, Option, Some, None, position, codes, refl, sym, ap, ◌∙◌, subst, append_assoc, arith}
+use Rattle.std.proofs.Common.{◌≡◌, ℕ, inl, List, [], ◌∷◌, ◌++◌, map, get_or, Bool, true, false, cond, Option, Some, None, position, codes}
+use Rattle.std.proofs.Common.{refl, sym, ap, ◌∙◌, subst, append_assoc, arith}
 use Rattle.std.specs.Prelude.{option_map, slice_get, is_some}
 use Rattle.std.specs.List.{AllByRecursion, flat_map}
 use Rattle.std.specs.Str.{bytes_eq}
@@ -24,10 +25,12 @@ use Rattle.ts_parse.specs.Grammar.{Listed, IsParam, AreParams, IsBranch, IsTarge
 use Rattle.ts_parse.specs.Written.{WTarget, to_one, by_label, WMethod, WEntry, offer, drop_end, WState, WFile, methods_in, has_drop}
 use Rattle.ts_read.specs.Conditions.{state_names, methods_of, leads_to, targets_of, texts, blamed, IsUnknown}
 use Rattle.ts_read.specs.Meaning.{place_named, state_numbered, branch_meant, target_meant, method_meant, state_meant, typestate_of}
-use Rattle.ts_read.specs.Layout.{line_feed, type_text, listed, name_of, to_text, branch_text, target_text, method_text, entry_lines, lines, state_text, layout}
+use Rattle.ts_read.specs.Layout.{line_feed, type_text, listed, name_of, to_text, branch_text, target_text, method_text, entry_lines, lines}
+use Rattle.ts_read.specs.Layout.{state_text, layout}
 use Rattle.ts_read.proofs.Judges.{contained_in, true_false}
 use Rattle.ts_read.proofs.Found.{map_map}
-use Rattle.ts_back.proofs.Told.{Any, NoName, Told, nothing, convert, regroup, space_then, line_then, level_then, Front, sign_then, word_then, IsName, name_then, name_told, typestate_word, drop_name, end_name, Both, both, Whole, whole}
+use Rattle.ts_back.proofs.Told.{Any, NoName, Told, nothing, convert, regroup, space_then, line_then, level_then, Front, sign_then}
+use Rattle.ts_back.proofs.Told.{word_then, IsName, name_then, name_told, typestate_word, drop_name, end_name, Both, both, Whole, whole}
 use Rattle.ts_back.proofs.Same.{Zip, SameBranch, SameTarget, SameMethod, LikeEntry, drop_last, ordered, SameState}
 use Rattle.ts_back.proofs.Named.{IsParamTyped, IsNamedBranch, IsNamedTarget, IsNamedMethod, IsNamedState, IsNamedFile}
 
@@ -235,7 +238,8 @@ module _ (names : List Name) (states : List State) where
       (sign_then 58 marks.Colon refl refl (omega arith) (space_then (name_told (codes "end") end_name))))))
     where
       form : (ts : List Tok) → Front (λ a. named a (codes "drop"))
-          (Front (λ a. marked a marks.Colon) (λ us. (a : Place) × (us ≡ named a (codes "end") ∷ []))) ts → Part LikeEntry IsEntry (drop_end place) ts
+          (Front (λ a. marked a marks.Colon) (λ us. (a : Place) × (us ≡ named a (codes "end") ∷ []))) ts →
+          Part LikeEntry IsEntry (drop_end place) ts
       form ts (p, us, e, (a, vs, f, (q, g))) = (drop_end p, tt, (a, q, e ∙ on (f ∙ on g)))
 
   -- each on a line of its own
@@ -265,7 +269,8 @@ module _ (names : List Name) (states : List State) where
   CanState s = IsNamedState s × AllByRecursion (λ (m : WMethod). AllByRecursion Known (leads_to m.target)) (methods_in s.entries)
 
   both_methods : (ms : List WMethod) (p : Place) (b : Bool) → AllByRecursion IsNamedMethod ms
-      → AllByRecursion (λ (m : WMethod). AllByRecursion Known (leads_to m.target)) ms → AllByRecursion CanEntry (map offer ms ++ drop_last p b)
+      → AllByRecursion (λ (m : WMethod). AllByRecursion Known (leads_to m.target)) ms →
+      AllByRecursion CanEntry (map offer ms ++ drop_last p b)
   both_methods [] p true h g = (tt, tt)
   both_methods [] p false h g = tt
   both_methods (m ∷ ms) p b h g = ((h.0, g.0), both_methods ms p b h.1 g.1)
@@ -274,13 +279,15 @@ module _ (names : List Name) (states : List State) where
   state_told s (is, known) =
       regroup (assoc7 (codes "    ") s.name.text (codes " = {") line_feed
       (lines (entry_lines states (map (method_meant names) (methods_in s.entries)) (has_drop s.entries))) (codes "    }") line_feed
-      ∙ ap (λ (ls : List (List ℕ)). codes "    " ++ (s.name.text ++ (codes " = {" ++ (line_feed ++ (lines ls ++ (codes "    }" ++ line_feed))))))
+      ∙ ap (λ (ls : List (List ℕ)). codes "    "
+      ++ (s.name.text ++ (codes " = {" ++ (line_feed ++ (lines ls ++ (codes "    }" ++ line_feed))))))
       (lines_are (methods_in s.entries) s.name.place (has_drop s.entries)))
       (level_then (convert (state_form s)
       (name_then s.name.text is.name (λ bytes o. refl) (space_then
       (sign_then 61 marks.Equals refl refl (omega arith) (space_then
       (sign_then 123 marks.OpenBrace refl refl (omega arith) (line_then
-      (both (entries_told (ordered s) (both_methods (methods_in s.entries) s.name.place (has_drop s.entries) is.methods known)) (λ bytes o. tt)
+      (both (entries_told (ordered s) (both_methods (methods_in s.entries) s.name.place (has_drop s.entries) is.methods known))
+      (λ bytes o. tt)
       (level_then (sign_then 125 marks.CloseBrace refl refl (omega arith) (line_then nothing))))))))))))
 
   states_told : (ss : List WState) → AllByRecursion CanState ss

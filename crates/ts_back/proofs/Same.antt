@@ -1,5 +1,6 @@
 -- Files that are the same, places aside: they mean the same, and one has no fault where the other has none.
-use Rattle.std.proofs.Common.{◌≡◌, zero, suc, List, [], ◌∷◌, ◌++◌, map, Bool, true, false, Option, None, inl, inr, Contains, refl, sym, ap, ◌∙◌, subst, arith}
+use Rattle.std.proofs.Common.{◌≡◌, zero, suc, List, [], ◌∷◌, ◌++◌, map, Bool, true, false, Option, None, inl, inr, Contains, refl, sym, ap}
+use Rattle.std.proofs.Common.{◌∙◌, subst, arith}
 use Rattle.std.specs.List.{flat_map}
 use Rattle.std.proofs.lemmas.List.{map-append}
 use Rattle.std.proofs.lemmas.List.Elements.{Contains-append_left, Contains-push, Contains-push_cases}
@@ -13,7 +14,8 @@ use Rattle.ts_tree.specs.Typestate.{One, ByAnswer, State, Typestate}
 use Rattle.ts_parse.specs.declared.written.Naming.{Naming}
 use Rattle.ts_parse.specs.declared.written.WrittenBranch.{WrittenBranch}
 use Rattle.ts_parse.specs.Written.{WTarget, to_one, by_label, WMethod, WEntry, offer, drop_end, WState, WFile, methods_in, has_drop}
-use Rattle.ts_read.specs.Conditions.{state_names, methods_of, branches_of, labels_of, leads_to, targets_of, texts, blamed, IsRepeat, SameEntry, entry_blamed, IsTwice, IsUnknown, SameSignature, HasOther, IsNamedEnd, IsFault}
+use Rattle.ts_read.specs.Conditions.{state_names, methods_of, branches_of, labels_of, leads_to, targets_of, texts, blamed, IsRepeat}
+use Rattle.ts_read.specs.Conditions.{SameEntry, entry_blamed, IsTwice, IsUnknown, SameSignature, HasOther, IsNamedEnd, IsFault}
 use Rattle.ts_read.specs.Meaning.{place_named, branch_meant, target_meant, method_meant, state_meant, typestate_of}
 
 -- two lists, element by element
@@ -205,7 +207,8 @@ ordered_drop (m ∷ ms) p b = ordered_drop ms p b
 
 same_methods : (s t : WState) → SameState s t → Zip SameMethod (methods_in s.entries) (methods_in t.entries)
 same_methods s t r =
-    subst (λ (ms : List WMethod). Zip SameMethod ms (methods_in t.entries)) (ordered_methods (methods_in s.entries) s.name.place (has_drop s.entries))
+    subst (λ (ms : List WMethod). Zip SameMethod ms (methods_in t.entries)) (ordered_methods (methods_in s.entries) s.name.place
+    (has_drop s.entries))
     (like_methods (ordered s) t.entries r.entries)
 
 same_drop : (s t : WState) → SameState s t → has_drop s.entries ≡ has_drop t.entries
@@ -236,11 +239,13 @@ once_names earlier (offer m ∷ es) seen from h = (
   once_names (earlier ++ offer m ∷ []) es (seen ++ m.name ∷ []) more h.1,
 )
   where
-    more : (t : Name) → Contains (texts (seen ++ m.name ∷ [])) t → (n : WMethod) × Contains (earlier ++ offer m ∷ []) (offer n) × (n.name.text ≡ t)
-    more t g = elim (Contains-push_cases (texts seen) m.name.text t (subst (λ (ts : List Name). Contains ts t) (map-append (λ (n : Naming). n.text) seen (m.name ∷ [])) g)) [
-      | inl old ↦ let x = from t old in (x.0, Contains-append_left earlier (offer m ∷ []) (offer x.0) x.1, x.2)
-      | inr e ↦ (m, Contains-push earlier (offer m), e)
-    ]
+    more : (t : Name) → Contains (texts (seen ++ m.name ∷ [])) t → (n : WMethod) × Contains (earlier ++ offer m ∷ []) (offer n)
+        × (n.name.text ≡ t)
+    more t g = elim (Contains-push_cases (texts seen) m.name.text t
+        (subst (λ (ts : List Name). Contains ts t) (map-append (λ (n : Naming). n.text) seen (m.name ∷ [])) g)) [
+          | inl old ↦ let x = from t old in (x.0, Contains-append_left earlier (offer m ∷ []) (offer x.0) x.1, x.2)
+          | inr e ↦ (m, Contains-push earlier (offer m), e)
+        ]
 once_names earlier (drop_end p ∷ es) seen from h =
     once_names (earlier ++ drop_end p ∷ []) es seen
     (λ t g. let x = from t g in (x.0, Contains-append_left earlier (drop_end p ∷ []) (offer x.0) x.1, x.2)) h.1
@@ -373,7 +378,8 @@ module _ (states : List Name) where
 
   state_same : (s t : WState) → SameState s t → state_meant states s ≡ state_meant states t
   state_same s t r =
-      let ms = zip_eq SameMethod (method_meant states) (method_meant states) method_same (methods_in s.entries) (methods_in t.entries) (same_methods s t r) in
+      let ms = zip_eq SameMethod (method_meant states) (method_meant states) method_same (methods_in s.entries) (methods_in t.entries)
+      (same_methods s t r) in
       let d = same_drop s t r in
       λ i. record { name = r.name i; methods = ms i; drops = d i }
 

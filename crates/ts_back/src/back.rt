@@ -9,5 +9,6 @@ ghost use Rattle.ts_read.specs.Outcome.{Outcome, Read};
 /// Reading the text of a typestate that some file is read as, in any file, gives the same
 /// typestate, where the text is no longer than a file. Such a typestate has at most 1,000 states.
 pub fn printed_reads_back()
-    ensures { (file source : ℕ) (bytes : List ℕ) (t : Typestate) → Outcome source bytes (Read t) → length (layout t) ≤ 1048576 → Outcome file (layout t) (Read t) }
+    ensures { (file source : ℕ) (bytes : List ℕ) (t : Typestate) → Outcome source bytes (Read t) → length (layout t) ≤ 1048576 →
+        Outcome file (layout t) (Read t) }
 {}

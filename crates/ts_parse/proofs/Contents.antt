@@ -1,5 +1,6 @@
 -- Entries are read where the grammar spells them, and nowhere else.
-use Rattle.std.proofs.Common.{◌≡◌, ◌<◌, List, [], ◌∷◌, ◌++◌, length, Bool, true, false, cond, Some, None, codes, refl, sym, ap, ◌∙◌, subst, append_assoc, inl, inr}
+use Rattle.std.proofs.Common.{◌≡◌, ◌<◌, List, [], ◌∷◌, ◌++◌, length, Bool, true, false, cond, Some, None, codes, refl, sym, ap, ◌∙◌, subst}
+use Rattle.std.proofs.Common.{append_assoc, inl, inr}
 use Rattle.std.specs.Str.{bytes_eq}
 use Rattle.std.proofs.lemmas.Slice.Eq.{bytes_eq-Decides}
 use Rattle.mg_text.specs.Call.{Name}
@@ -12,7 +13,8 @@ use Rattle.ts_parse.specs.declared.written.Naming.{Naming}
 use Rattle.ts_parse.specs.Tok.{Tok, named, marked}
 use Rattle.ts_parse.specs.Written.{WMethod, WEntry, offer, drop_end}
 use Rattle.ts_parse.specs.Grammar.{Behind, Listed, IsMethod, IsEntry, IsLastComma, AreEntries}
-use Rattle.ts_parse.specs.inner.Reading.{mark_at, name_at, is_at, is_more, behind_at, listed_at, method_at, is_drop, past_end, after_end, drop_at, offer_at, entry_at, after_comma, some_entries_at, entries_at}
+use Rattle.ts_parse.specs.inner.Reading.{mark_at, name_at, is_at, is_more, behind_at, listed_at, method_at, is_drop, past_end, after_end}
+use Rattle.ts_parse.specs.inner.Reading.{drop_at, offer_at, entry_at, after_comma, some_entries_at, entries_at}
 use Rattle.ts_parse.proofs.Steps.{Anything, after, mark_is, name_is}
 use Rattle.ts_parse.proofs.Lists.{behind_shorter, listed_sound, listed_complete}
 use Rattle.ts_parse.proofs.Members.{method_sound, method_complete}
@@ -40,8 +42,11 @@ end_is : (ts us : List Tok) → after_end ts ≡ Some us → Word (codes "end") 
 unfolding after_end
 end_is ts us e =
     let n = bind_some (name_at ts) (λ name. past_end name) us e in
-    let h = past_end_is n.0 us n.2 in
-    (n.0.0.place, name_is ts n.0 n.1 ∙ ap (λ (t : Name). named n.0.0.place t ∷ n.0.1) h.0 ∙ ap (λ (r : List Tok). named n.0.0.place (codes "end") ∷ r) h.1)
+    let h = past_end_is n.0 us n.2 in (
+      n.0.0.place,
+      name_is ts n.0 n.1 ∙ ap (λ (t : Name). named n.0.0.place t ∷ n.0.1) h.0 ∙
+          ap (λ (r : List Tok). named n.0.0.place (codes "end") ∷ r) h.1,
+    )
 
 drop_sound : (ts : List Tok) (x : WEntry × List Tok) → is_drop ts ≡ true → drop_at ts ≡ Some x → Takes (IsEntry x.0) ts x.1
 unfolding drop_at
@@ -88,7 +93,8 @@ entry_complete (drop_end place) ts rest fine (a, b, e) = rw e refl
 entry_exact : IsExact entry_at IsEntry Anything
 entry_exact = record { sound = entry_sound; complete = entry_complete }
 
-pub other_entry_shorter : (ts : List Tok) (x : WEntry) (us : List Tok) → behind_at marks.Comma entry_at ts ≡ Some (x, us) → length us < length ts
+pub other_entry_shorter : (ts : List Tok) (x : WEntry) (us : List Tok) → behind_at marks.Comma entry_at ts ≡ Some (x, us) →
+    length us < length ts
 other_entry_shorter = behind_shorter marks.Comma entry_at IsEntry entry_exact
 
 -- ---- the entries of a state
@@ -104,7 +110,8 @@ last_sound ts us e =
       | inr f ↦ subst (Takes IsLastComma ts) (some_is ts us f.1) (record { front = []; parts = refl; holds = inl refl })
     ]
 
-last_complete : (ts rest : List Tok) (a : Place) → IsLastComma ts → after_comma (ts ++ marked a marks.CloseBrace ∷ rest) ≡ Some (marked a marks.CloseBrace ∷ rest)
+last_complete : (ts rest : List Tok) (a : Place) → IsLastComma ts → after_comma (ts ++ marked a marks.CloseBrace ∷ rest) ≡ Some
+    (marked a marks.CloseBrace ∷ rest)
 unfolding after_comma
 last_complete ts rest a (inl e) = rw e refl
 last_complete ts rest a (inr (b, e)) = rw e refl
@@ -118,7 +125,8 @@ more_goes : (e : WEntry) (ts rest : List Tok) → Behind marks.Comma IsEntry e t
 more_goes (offer m) ts rest (x, ws, f, (a, b, c, d, text, us, vs, e, type, p, t)) = rw (f, e) refl
 more_goes (drop_end place) ts rest (x, ws, f, (a, b, e)) = rw (f, e) refl
 
-are_entries : (xs : List WEntry) (ts us vs : List Tok) → ts ≡ us ++ vs → Listed marks.Comma IsEntry xs us → IsLastComma vs → AreEntries xs ts
+are_entries : (xs : List WEntry) (ts us vs : List Tok) → ts ≡ us ++ vs → Listed marks.Comma IsEntry xs us → IsLastComma vs →
+    AreEntries xs ts
 are_entries [] ts us vs e h l = absurd h
 are_entries (x ∷ xs) ts us vs e h l = (us, vs, e, h, l)
 
@@ -140,21 +148,25 @@ pub entries_sound : (ts : List Tok) (x : List WEntry × List Tok) → entries_at
 unfolding entries_at
 entries_sound ts x e =
     elim (chosen (is_at marks.CloseBrace ts) (Some ([], ts)) (some_entries_at ts) (Some x) e) [
-      | inl t ↦ subst (λ (y : List WEntry × List Tok). Takes (AreEntries y.0) ts y.1) (some_is ([], ts) x t.1) (record { front = []; parts = refl; holds = refl })
+      | inl t ↦ subst (λ (y : List WEntry × List Tok). Takes (AreEntries y.0) ts y.1) (some_is ([], ts) x t.1)
+          (record { front = []; parts = refl; holds = refl })
       | inr f ↦ some_entries_sound ts x f.1
     ]
 
 -- entries begin with no brace
-entries_begin : (e : WEntry) (es : List WEntry) (ts rest : List Tok) → Listed marks.Comma IsEntry (e ∷ es) ts → is_at marks.CloseBrace (ts ++ rest) ≡ false
+entries_begin : (e : WEntry) (es : List WEntry) (ts rest : List Tok) → Listed marks.Comma IsEntry (e ∷ es) ts →
+    is_at marks.CloseBrace (ts ++ rest) ≡ false
 entries_begin (offer m) es ts rest (ps, qs, f, (a, b, c, d, text, us, vs, e, type, p, t), g) = rw (f, e) refl
 entries_begin (drop_end place) es ts rest (ps, qs, f, (a, b, e), g) = rw (f, e) refl
 
-pub entries_complete : (xs : List WEntry) (ts rest : List Tok) (a : Place) → AreEntries xs ts → entries_at (ts ++ marked a marks.CloseBrace ∷ rest) ≡ Some (xs, marked a marks.CloseBrace ∷ rest)
+pub entries_complete : (xs : List WEntry) (ts rest : List Tok) (a : Place) → AreEntries xs ts →
+    entries_at (ts ++ marked a marks.CloseBrace ∷ rest) ≡ Some (xs, marked a marks.CloseBrace ∷ rest)
 unfolding entries_at some_entries_at
 entries_complete [] ts rest a h = rw h refl
 entries_complete (x ∷ xs) ts rest a (us, vs, e, h, l) =
     let end : List Tok = marked a marks.CloseBrace ∷ rest in
     let begins = entries_begin x xs us (vs ++ end) h in
-    let reads = listed_complete marks.Comma entry_at IsEntry entry_exact is_more more_goes (x ∷ xs) us (vs ++ end) (last_stops vs rest a l) h in
+    let reads = listed_complete marks.Comma entry_at IsEntry entry_exact is_more more_goes (x ∷ xs) us (vs ++ end) (last_stops vs rest a l)
+    h in
     let last = last_complete vs rest a l in
     rw (e, append_assoc us vs end, begins, reads, last) refl

@@ -1,5 +1,6 @@
 -- A file is read where the grammar spells it, and nowhere else.
-use Rattle.std.proofs.Common.{◌≡◌, ◌<◌, List, [], ◌∷◌, ◌++◌, length, true, false, Some, refl, sym, ap, ◌∙◌, subst, append_assoc, append-nil, arith, inl, inr}
+use Rattle.std.proofs.Common.{◌≡◌, ◌<◌, List, [], ◌∷◌, ◌++◌, length, true, false, Some, refl, sym, ap, ◌∙◌, subst, append_assoc, append-nil}
+use Rattle.std.proofs.Common.{arith, inl, inr}
 use Rattle.mg_text.specs.declared.place.Place.{Place}
 use Rattle.mg_read.specs.Reader.{◌>>=◌}
 use Rattle.mg_read.proofs.Steps.{bind_some, some_is, chosen, Takes}
@@ -10,7 +11,8 @@ use Rattle.ts_parse.specs.declared.written.Naming.{Naming}
 use Rattle.ts_parse.specs.Tok.{Tok, named, marked}
 use Rattle.ts_parse.specs.Written.{WState, WFile}
 use Rattle.ts_parse.specs.Grammar.{Listed, IsNaming, IsPackage, IsStar, IsImport, IsState, IsSpelled}
-use Rattle.ts_parse.specs.inner.Reading.{mark_at, name_at, is_at, is_dot_name, not_closed, path_at, package_at, after_package, after_star, import_at, imports_at, entries_at, state_at, states_at, title_at, typestate_at, if_last, file_of}
+use Rattle.ts_parse.specs.inner.Reading.{mark_at, name_at, is_at, is_dot_name, not_closed, path_at, package_at, after_package, after_star}
+use Rattle.ts_parse.specs.inner.Reading.{import_at, imports_at, entries_at, state_at, states_at, title_at, typestate_at, if_last, file_of}
 use Rattle.ts_parse.proofs.Steps.{Anything, after, mark_is, name_is}
 use Rattle.ts_parse.proofs.Lists.{name_exact, dot_name_goes, listed_sound, listed_complete}
 use Rattle.ts_parse.proofs.Contents.{entries_sound, entries_complete}
@@ -20,7 +22,8 @@ use Rattle.ts_parse.proofs.Contents.{entries_sound, entries_complete}
 path_sound : (ts : List Tok) (x : List Naming × List Tok) → path_at ts ≡ Some x → Takes (Listed marks.Dot IsNaming x.0) ts x.1
 path_sound = listed_sound marks.Dot name_at IsNaming name_exact is_dot_name
 
-path_complete : (xs : List Naming) (ts rest : List Tok) → is_dot_name rest ≡ false → Listed marks.Dot IsNaming xs ts → path_at (ts ++ rest) ≡ Some (xs, rest)
+path_complete : (xs : List Naming) (ts rest : List Tok) → is_dot_name rest ≡ false → Listed marks.Dot IsNaming xs ts →
+    path_at (ts ++ rest) ≡ Some (xs, rest)
 path_complete = listed_complete marks.Dot name_at IsNaming name_exact is_dot_name dot_name_goes
 
 -- ---- the package
@@ -41,7 +44,8 @@ package_sound ts us e =
         let names = path_sound s.0.1 n.0 n.1 in
         let end : List Tok = marked d.0.0 marks.Semicolon ∷ [] in
         let inner : s.0.1 ≡ (names.front ++ end) ++ d.0.1 =
-        names.parts ∙ ap (λ (r : List Tok). names.front ++ r) (mark_is marks.Semicolon n.0.1 d.0 d.1) ∙ sym (append_assoc names.front end d.0.1) in
+        names.parts ∙ ap (λ (r : List Tok). names.front ++ r) (mark_is marks.Semicolon n.0.1 d.0 d.1) ∙
+        sym (append_assoc names.front end d.0.1) in
         subst (Takes IsPackage ts) (some_is d.0.1 us d.2)
         (record {
           front = marked s.0.0 marks.Package ∷ (names.front ++ end);
@@ -61,7 +65,8 @@ package_complete ts rest stops (inr (a, b, names, us, e, h)) =
 star_sound : (ts us : List Tok) → after_star ts ≡ Some us → Takes IsStar ts us
 unfolding after_star
 star_sound ts us e =
-    elim (chosen (is_at marks.Dot ts) (mark_at marks.Dot ts >>= λ dot. mark_at marks.Star dot.1 >>= λ star. Some star.1) (Some ts) (Some us) e) [
+    elim (chosen (is_at marks.Dot ts) (mark_at marks.Dot ts >>= λ dot. mark_at marks.Star dot.1 >>= λ star. Some star.1) (Some ts) (Some us)
+    e) [
       | inl t ↦
           let d = bind_some (mark_at marks.Dot ts) _ us t.1 in
           let s = bind_some (mark_at marks.Star d.0.1) _ us d.2 in
@@ -74,7 +79,8 @@ star_sound ts us e =
       | inr f ↦ subst (Takes IsStar ts) (some_is ts us f.1) (record { front = []; parts = refl; holds = inl refl })
     ]
 
-star_complete : (ts rest : List Tok) (b : Place) → IsStar ts → after_star (ts ++ marked b marks.Semicolon ∷ rest) ≡ Some (marked b marks.Semicolon ∷ rest)
+star_complete : (ts rest : List Tok) (b : Place) → IsStar ts → after_star (ts ++ marked b marks.Semicolon ∷ rest) ≡ Some
+    (marked b marks.Semicolon ∷ rest)
 unfolding after_star
 star_complete ts rest b (inl e) = rw e refl
 star_complete ts rest b (inr (c, d, e)) = rw e refl
@@ -96,7 +102,8 @@ import_sound ts x e =
     let names = path_sound s.0.1 n.0 n.1 in
     let star = star_sound n.0.1 r.0 r.1 in
     let end : List Tok = marked d.0.0 marks.Semicolon ∷ [] in
-    let inner = import_parts names.front star.front end d.0.1 s.0.1 n.0.1 r.0 names.parts star.parts (mark_is marks.Semicolon r.0 d.0 d.1) in
+    let inner = import_parts names.front star.front end d.0.1 s.0.1 n.0.1 r.0 names.parts star.parts (mark_is marks.Semicolon r.0 d.0 d.1)
+    in
     subst (λ (y : Place × List Tok). Takes (IsImport y.0) ts y.1) (some_is _ x d.2)
     (record {
       front = marked s.0.0 marks.Import ∷ (names.front ++ (star.front ++ end));
@@ -140,7 +147,8 @@ state_sound ts x e =
     let entries = entries_sound o.0.1 m.0 m.1 in
     let end : List Tok = marked d.0.0 marks.CloseBrace ∷ [] in
     let inner : o.0.1 ≡ (entries.front ++ end) ++ d.0.1 =
-    entries.parts ∙ ap (λ (r : List Tok). entries.front ++ r) (mark_is marks.CloseBrace m.0.1 d.0 d.1) ∙ sym (append_assoc entries.front end d.0.1) in
+    entries.parts ∙ ap (λ (r : List Tok). entries.front ++ r) (mark_is marks.CloseBrace m.0.1 d.0 d.1) ∙
+    sym (append_assoc entries.front end d.0.1) in
     subst (λ (y : WState × List Tok). Takes (IsState y.0) ts y.1) (some_is _ x d.2)
     (record {
       front = named n.0.0.place n.0.0.text ∷ marked q.0.0 marks.Equals ∷ marked o.0.0 marks.OpenBrace ∷ (entries.front ++ end);
@@ -175,7 +183,8 @@ last_is : (y : WFile × List Tok) (w : WFile) → if_last y ≡ Some w → (y.0 
 last_is (v, []) w e = (some_is v w e, refl)
 last_is (v, t ∷ ts) w e = absurd cc
 
-file_parts : (ps is ss head end ts s1 s2 s3 s4 : List Tok) → ts ≡ ps ++ s1 → s1 ≡ is ++ s2 → s2 ≡ head ++ s3 → s3 ≡ ss ++ s4 → s4 ≡ end ++ []
+file_parts : (ps is ss head end ts s1 s2 s3 s4 : List Tok) → ts ≡ ps ++ s1 → s1 ≡ is ++ s2 → s2 ≡ head ++ s3 → s3 ≡ ss ++ s4 →
+    s4 ≡ end ++ []
     → ts ≡ ps ++ (is ++ (head ++ (ss ++ end)))
 file_parts ps is ss head end ts s1 s2 s3 s4 e1 e2 e3 e4 e5 = rw (e1, e2, e3, e4, e5, append-nil end) refl
 
@@ -193,7 +202,8 @@ file_sound ts w e =
     let same : (n.0.0, o.0.1) ≡ t.0 = some_is (n.0.0, o.0.1) t.0 o.2 in
     let s = bind_some (states_at t.0.1) _ y.0 t.2 in
     let d = bind_some (mark_at marks.CloseBrace s.0.1) _ y.0 s.2 in
-    let made : (record { name = t.0.0.text; states = s.0.0 }, d.0.1) ≡ y.0 = some_is (record { name = t.0.0.text; states = s.0.0 }, d.0.1) y.0 d.2 in
+    let made : (record { name = t.0.0.text; states = s.0.0 }, d.0.1) ≡ y.0 = some_is (record { name = t.0.0.text; states = s.0.0 }, d.0.1)
+    y.0 d.2 in
     let named_package = package_sound ts p.0 p.1 in
     let imports = all_sound (is_at marks.Import) import_at IsImport Anything import_exact p.0 i.0 i.1 in
     let states = all_sound not_closed state_at IsState Anything state_exact t.0.1 s.0 s.1 in
@@ -202,7 +212,8 @@ file_sound ts w e =
     let head : Naming → List Tok = λ z. marked a.0.0 marks.Typestate ∷ named n.0.0.place z.text ∷ marked o.0.0 marks.OpenBrace ∷ [] in
     let opened : i.0.1 ≡ head t.0.0 ++ t.0.1 =
     subst (λ (z : Naming). i.0.1 ≡ head z ++ t.0.1) name_same
-    (after (mark_is marks.Typestate i.0.1 a.0 a.1) (after (name_is a.0.1 n.0 n.1) (after (mark_is marks.OpenBrace n.0.1 o.0 o.1) (ap (λ (z : Naming × List Tok). z.1) same)))) in
+    (after (mark_is marks.Typestate i.0.1 a.0 a.1)
+    (after (name_is a.0.1 n.0 n.1) (after (mark_is marks.OpenBrace n.0.1 o.0 o.1) (ap (λ (z : Naming × List Tok). z.1) same)))) in
     let closed : s.0.1 ≡ (marked d.0.0 marks.CloseBrace ∷ []) ++ [] = after (mark_is marks.CloseBrace s.0.1 d.0 d.1) nothing in
     subst (λ (z : WFile). IsSpelled z ts) (ap (λ (z : WFile × List Tok). z.0) made ∙ last.0)
     (record {
@@ -214,7 +225,8 @@ file_sound ts w e =
       name_at = n.0.0.place;
       open_at = o.0.0;
       close_at = d.0.0;
-      tokens = file_parts named_package.front imports.front states.front (head t.0.0) (marked d.0.0 marks.CloseBrace ∷ []) ts p.0 i.0.1 t.0.1 s.0.1
+      tokens = file_parts named_package.front imports.front states.front (head t.0.0) (marked d.0.0 marks.CloseBrace ∷ []) ts p.0 i.0.1
+          t.0.1 s.0.1
           named_package.parts imports.parts opened states.parts closed;
       packaged = named_package.holds;
       imported = imports.holds;
@@ -222,7 +234,8 @@ file_sound ts w e =
     })
 
 -- imports, or the title, begin no package
-imports_begin : (is : List Place) (ts rest : List Tok) → Each IsImport is ts → is_at marks.Package rest ≡ false → is_at marks.Package (ts ++ rest) ≡ false
+imports_begin : (is : List Place) (ts rest : List Tok) → Each IsImport is ts → is_at marks.Package rest ≡ false →
+    is_at marks.Package (ts ++ rest) ≡ false
 imports_begin [] ts rest e stops = rw e stops
 imports_begin (a ∷ is) ts rest (us, vs, e, (b, names, ps, qs, f, h, k), g) stops = rw (e, f) refl
 
@@ -230,8 +243,12 @@ pub file_complete : (w : WFile) (ts : List Tok) → IsSpelled w ts → file_of t
 unfolding file_of typestate_at title_at
 file_complete w ts h =
     let closing : List Tok = marked h.close_at marks.CloseBrace ∷ [] in
-    let title : List Tok = marked h.word_at marks.Typestate ∷ named h.name_at w.name ∷ marked h.open_at marks.OpenBrace ∷ (h.state_toks ++ closing) in
-    let packaged = package_complete h.package_toks (h.import_toks ++ title) (imports_begin h.imports h.import_toks title h.imported refl) h.packaged in
-    let imports = all_complete (is_at marks.Import) import_at IsImport Anything import_exact import_starts h.imports h.import_toks title tt refl h.imported in
-    let states = all_complete not_closed state_at IsState Anything state_exact state_starts w.states h.state_toks closing tt refl h.states in
+    let title : List Tok = marked h.word_at marks.Typestate ∷ named h.name_at w.name ∷ marked h.open_at marks.OpenBrace ∷
+    (h.state_toks ++ closing) in
+    let packaged = package_complete h.package_toks (h.import_toks ++ title) (imports_begin h.imports h.import_toks title h.imported refl)
+    h.packaged in
+    let imports = all_complete (is_at marks.Import) import_at IsImport Anything import_exact import_starts h.imports h.import_toks title tt
+    refl h.imported in
+    let states = all_complete not_closed state_at IsState Anything state_exact state_starts w.states h.state_toks closing tt refl h.states
+    in
     rw (h.tokens, packaged, imports, states) refl

@@ -1,5 +1,6 @@
 -- Parts in a row are read where the grammar spells them, and nowhere else.
-use Rattle.std.proofs.Common.{◌≡◌, ◌<◌, List, [], ◌∷◌, ◌++◌, length, Bool, true, false, Some, refl, sym, ap, ◌∙◌, subst, append_assoc, arith}
+use Rattle.std.proofs.Common.{◌≡◌, ◌<◌, List, [], ◌∷◌, ◌++◌, length, Bool, true, false, Some, refl, sym, ap, ◌∙◌, subst, append_assoc}
+use Rattle.std.proofs.Common.{arith}
 use Rattle.mg_read.specs.Reader.{Reader, all_of}
 use Rattle.mg_read.proofs.Steps.{bind_some, some_is, Takes}
 use Rattle.mg_read.proofs.Lists.{IsExact, Starts}
@@ -52,7 +53,13 @@ module _ {A : Type 0} (m : Mark) (f : Reader Tok A) (G : A → List Tok → Type
         (record {
           front = one.front ++ more.2.front;
           parts = one.parts ∙ ap (λ (r : List Tok). one.front ++ r) more.2.parts ∙ sym (append_assoc one.front more.2.front o.0.1);
-          holds = subst (λ (l : List A). Listed m G l (one.front ++ more.2.front)) (sym more.1) (one.front, more.2.front, refl, one.holds, more.2.holds);
+          holds = subst (λ (l : List A). Listed m G l (one.front ++ more.2.front)) (sym more.1) (
+            one.front,
+            more.2.front,
+            refl,
+            one.holds,
+            more.2.holds,
+          );
         })
 
     -- where go holds before each further part

@@ -1,5 +1,6 @@
 -- Methods are read where the grammar spells them, and nowhere else.
-use Rattle.std.proofs.Common.{◌≡◌, ◌<◌, List, [], ◌∷◌, ◌++◌, length, true, false, Option, Some, None, refl, sym, ap, ◌∙◌, subst, append_assoc, inl, inr}
+use Rattle.std.proofs.Common.{◌≡◌, ◌<◌, List, [], ◌∷◌, ◌++◌, length, true, false, Option, Some, None, refl, sym, ap, ◌∙◌, subst}
+use Rattle.std.proofs.Common.{append_assoc, inl, inr}
 use Rattle.mg_text.specs.declared.place.Place.{Place}
 use Rattle.mg_read.specs.Reader.{◌>>=◌}
 use Rattle.mg_read.proofs.Steps.{bind_some, some_is, chosen, Takes}
@@ -11,7 +12,8 @@ use Rattle.ts_parse.specs.declared.written.WrittenBranch.{WrittenBranch}
 use Rattle.ts_parse.specs.Tok.{Tok, named, marked}
 use Rattle.ts_parse.specs.Written.{WTarget, to_one, by_label, WMethod}
 use Rattle.ts_parse.specs.Grammar.{Behind, Listed, type_named, param_named, IsParam, AreParams, IsBranch, IsTarget, IsMethod}
-use Rattle.ts_parse.specs.inner.Reading.{mark_at, name_at, is_at, behind_at, listed_at, typed, param_at, params_at, branch_at, answers_at, target_at, head_at, method_at}
+use Rattle.ts_parse.specs.inner.Reading.{mark_at, name_at, is_at, behind_at, listed_at, typed, param_at, params_at, branch_at, answers_at}
+use Rattle.ts_parse.specs.inner.Reading.{target_at, head_at, method_at}
 use Rattle.ts_parse.proofs.Steps.{Anything, after, mark_is, name_is}
 use Rattle.ts_parse.proofs.Lists.{behind_shorter, listed_sound, listed_complete}
 
@@ -44,11 +46,13 @@ param_complete x ts rest fine (a, text, e, h) = rw e (typed_again (param_named t
 pub param_exact : IsExact param_at IsParam Anything
 param_exact = record { sound = param_sound; complete = param_complete }
 
-pub other_param_shorter : (ts : List Tok) (x : TypeName) (us : List Tok) → behind_at marks.Comma param_at ts ≡ Some (x, us) → length us < length ts
+pub other_param_shorter : (ts : List Tok) (x : TypeName) (us : List Tok) → behind_at marks.Comma param_at ts ≡ Some (x, us) →
+    length us < length ts
 other_param_shorter = behind_shorter marks.Comma param_at IsParam param_exact
 
 -- a comma comes before each further part
-comma_goes : {A : Type 0} (G : A → List Tok → Type 0) (x : A) (ts rest : List Tok) → Behind marks.Comma G x ts → is_at marks.Comma (ts ++ rest) ≡ true
+comma_goes : {A : Type 0} (G : A → List Tok → Type 0) (x : A) (ts rest : List Tok) → Behind marks.Comma G x ts →
+    is_at marks.Comma (ts ++ rest) ≡ true
 comma_goes G x ts rest (a, us, e, h) = rw e refl
 
 -- what is listed is not nothing
@@ -60,22 +64,26 @@ params_sound : (ts : List Tok) (x : List TypeName × List Tok) → params_at ts 
 unfolding params_at
 params_sound ts x e =
     elim (chosen (is_at marks.CloseParen ts) (Some ([], ts)) (listed_at marks.Comma (is_at marks.Comma) param_at ts) (Some x) e) [
-      | inl t ↦ subst (λ (y : List TypeName × List Tok). Takes (AreParams y.0) ts y.1) (some_is ([], ts) x t.1) (record { front = []; parts = refl; holds = refl })
+      | inl t ↦ subst (λ (y : List TypeName × List Tok). Takes (AreParams y.0) ts y.1) (some_is ([], ts) x t.1)
+          (record { front = []; parts = refl; holds = refl })
       | inr f ↦
           let l = listed_sound marks.Comma param_at IsParam param_exact (is_at marks.Comma) ts x f.1 in
           record { front = l.front; parts = l.parts; holds = are_params x.0 l.front l.holds }
     ]
 
 -- a list of parameters begins with no parenthesis
-params_begin : (x : TypeName) (xs : List TypeName) (ts rest : List Tok) → Listed marks.Comma IsParam (x ∷ xs) ts → is_at marks.CloseParen (ts ++ rest) ≡ false
+params_begin : (x : TypeName) (xs : List TypeName) (ts rest : List Tok) → Listed marks.Comma IsParam (x ∷ xs) ts →
+    is_at marks.CloseParen (ts ++ rest) ≡ false
 params_begin x xs ts rest (us, vs, e, (a, text, f, g), h) = rw (e, f) refl
 
-params_complete : (xs : List TypeName) (ts rest : List Tok) (a : Place) → AreParams xs ts → params_at (ts ++ marked a marks.CloseParen ∷ rest) ≡ Some (xs, marked a marks.CloseParen ∷ rest)
+params_complete : (xs : List TypeName) (ts rest : List Tok) (a : Place) → AreParams xs ts →
+    params_at (ts ++ marked a marks.CloseParen ∷ rest) ≡ Some (xs, marked a marks.CloseParen ∷ rest)
 unfolding params_at
 params_complete [] ts rest a h = rw h refl
 params_complete (x ∷ xs) ts rest a h =
     let begins = params_begin x xs ts (marked a marks.CloseParen ∷ rest) h in
-    let reads = listed_complete marks.Comma param_at IsParam param_exact (is_at marks.Comma) (comma_goes IsParam) (x ∷ xs) ts (marked a marks.CloseParen ∷ rest) refl h in
+    let reads = listed_complete marks.Comma param_at IsParam param_exact (is_at marks.Comma) (comma_goes IsParam) (x ∷ xs) ts
+    (marked a marks.CloseParen ∷ rest) refl h in
     rw (begins, reads) refl
 
 -- ---- where calls lead
@@ -100,7 +108,8 @@ branch_complete x ts rest fine (a, e) = rw e refl
 pub branch_exact : IsExact branch_at IsBranch Anything
 branch_exact = record { sound = branch_sound; complete = branch_complete }
 
-pub other_branch_shorter : (ts : List Tok) (x : WrittenBranch) (us : List Tok) → behind_at marks.Comma branch_at ts ≡ Some (x, us) → length us < length ts
+pub other_branch_shorter : (ts : List Tok) (x : WrittenBranch) (us : List Tok) → behind_at marks.Comma branch_at ts ≡ Some (x, us) →
+    length us < length ts
 other_branch_shorter = behind_shorter marks.Comma branch_at IsBranch branch_exact
 
 answers_sound : (ts : List Tok) (x : WTarget × List Tok) → answers_at ts ≡ Some x → Takes (IsTarget x.0) ts x.1
@@ -135,7 +144,8 @@ target_complete : (t : WTarget) (ts rest : List Tok) → IsTarget t ts → targe
 unfolding target_at answers_at
 target_complete (to_one n) ts rest e = rw e refl
 target_complete (by_label bs) ts rest (a, b, us, e, h) =
-    let reads = listed_complete marks.Comma branch_at IsBranch branch_exact (is_at marks.Comma) (comma_goes IsBranch) bs us (marked b marks.Greater ∷ rest) refl h in
+    let reads = listed_complete marks.Comma branch_at IsBranch branch_exact (is_at marks.Comma) (comma_goes IsBranch) bs us
+    (marked b marks.Greater ∷ rest) refl h in
     rw (e, append_assoc us (marked b marks.Greater ∷ []) rest, reads) refl
 
 -- ---- methods
@@ -157,8 +167,10 @@ method_sound ts x e =
     let tail : p.0.1 ≡ (marked d.0.0 marks.CloseParen ∷ marked c.0.0 marks.Colon ∷ target.front) ++ g.0.1 =
     after (mark_is marks.CloseParen p.0.1 d.0 d.1) (after (mark_is marks.Colon d.0.1 c.0 c.1) target.parts) in
     let end : List Tok = marked d.0.0 marks.CloseParen ∷ marked c.0.0 marks.Colon ∷ target.front in
-    let inner : h.0.1 ≡ (params.front ++ end) ++ g.0.1 = params.parts ∙ ap (λ (r : List Tok). params.front ++ r) tail ∙ sym (append_assoc params.front end g.0.1) in
-    let front : Naming → List Tok = λ name. named t.0.0.place t.0.0.text ∷ named name.place name.text ∷ marked o.0.0 marks.OpenParen ∷ (params.front ++ end) in
+    let inner : h.0.1 ≡ (params.front ++ end) ++ g.0.1 = params.parts ∙ ap (λ (r : List Tok). params.front ++ r) tail ∙
+    sym (append_assoc params.front end g.0.1) in
+    let front : Naming → List Tok = λ name. named t.0.0.place t.0.0.text ∷ named name.place name.text ∷ marked o.0.0 marks.OpenParen ∷
+    (params.front ++ end) in
     let name_same : n.0.0 ≡ h.0.0.1 = ap (λ (y : (TypeName × Naming) × List Tok). y.0.1) same in
     let type_same : type_named t.0.0.text ≡ h.0.0.0 = ap (λ (y : (TypeName × Naming) × List Tok). y.0.0) same in
     let whole : ts ≡ front n.0.0 ++ g.0.1 =

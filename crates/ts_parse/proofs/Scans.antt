@@ -10,7 +10,8 @@ use Rattle.ts_parse.specs.Tok.{typestates}
 abbrev pub apart : AreApart typestates.signs
 apart = (refl, (refl, (refl, (refl, (refl, (refl, (refl, (refl, (refl, (refl, (refl, (refl, tt))))))))))))
 
-module _ (signs rest : List ℕ) (is : signs ≡ typestates.signs) (told : Option FrontPiece) (e : told ≡ option_map shows (piece_at (record { signs = signs; has_texts = false }) rest)) where
+module _ (signs rest : List ℕ) (is : signs ≡ typestates.signs) (told : Option FrontPiece)
+    (e : told ≡ option_map shows (piece_at (record { signs = signs; has_texts = false }) rest)) where
   at_table : told ≡ option_map shows (piece_at typestates rest)
   at_table = e ∙ ap (λ (s : List ℕ). option_map shows (piece_at (record { signs = s; has_texts = false }) rest)) is
 

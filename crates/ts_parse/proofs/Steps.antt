@@ -1,5 +1,6 @@
 -- One step of a reader of tokens, taken apart.
-use Rattle.std.proofs.Common.{◌≡◌, ℕ, zero, suc, List, [], ◌∷◌, length, Bool, true, false, eqb, Some, None, refl, sym, ap, ◌∙◌, subst, inl, inr}
+use Rattle.std.proofs.Common.{◌≡◌, ℕ, zero, suc, List, [], ◌∷◌, length, Bool, true, false, eqb, Some, None, refl, sym, ap, ◌∙◌, subst, inl}
+use Rattle.std.proofs.Common.{inr}
 use Rattle.std.proofs.lemmas.Bool.{eqb-true, eq-eqb}
 use Rattle.mg_text.specs.declared.place.Place.{Place}
 use Rattle.mg_read.proofs.Steps.{some_is, none_is_not, chosen}
@@ -64,14 +65,16 @@ mark_is m (named p n ∷ ts) x e = absurd cc
 mark_is m (marked p k ∷ ts) x e =
     elim (chosen (eqb (code k) (code m)) (Some (p, ts)) None (Some x) e) [
       | inl t ↦ let same = code_same k m t.0 in
-          subst (λ (y : Place × List Tok). marked p k ∷ ts ≡ marked y.0 m ∷ y.1) (some_is (p, ts) x t.1) (ap (λ (j : Mark). marked p j ∷ ts) same)
+          subst (λ (y : Place × List Tok). marked p k ∷ ts ≡ marked y.0 m ∷ y.1) (some_is (p, ts) x t.1)
+          (ap (λ (j : Mark). marked p j ∷ ts) same)
       | inr f ↦ absurd (none_is_not x f.1)
     ]
 
 -- a name that was read stands there
 pub name_is : (ts : List Tok) (x : Naming × List Tok) → name_at ts ≡ Some x → ts ≡ named x.0.place x.0.text ∷ x.1
 name_is [] x e = absurd cc
-name_is (named p n ∷ ts) x e = ap (λ (y : Naming × List Tok). named y.0.place y.0.text ∷ y.1) (some_is (record { place = p; text = n }, ts) x e)
+name_is (named p n ∷ ts) x e = ap (λ (y : Naming × List Tok). named y.0.place y.0.text ∷ y.1)
+    (some_is (record { place = p; text = n }, ts) x e)
 name_is (marked p k ∷ ts) x e = absurd cc
 
 -- a mark that stands there is read

@@ -13,16 +13,19 @@ use Rattle.ts_parse.specs.Answer.{IsReadOrMemory, SaysSyntax}
 use Rattle.ts_parse.specs.inner.Reading.{file_of}
 use Rattle.ts_parse.proofs.Files.{file_sound, file_complete}
 
-pub read_found : (r : Result WrittenTypestate ParseFault) (ts : List Tok) → Gives wfile_of r (file_of ts) → IfOk r (λ w. IsSpelled (wfile_of w) ts)
+pub read_found : (r : Result WrittenTypestate ParseFault) (ts : List Tok) → Gives wfile_of r (file_of ts) →
+    IfOk r (λ w. IsSpelled (wfile_of w) ts)
 read_found (Ok w) ts h = file_sound ts (wfile_of w) h
 read_found (Err e) ts h = tt
 
-pub read_only : (r : Result WrittenTypestate ParseFault) (ts : List Tok) → Gives wfile_of r (file_of ts) → (w : WFile) → IsSpelled w ts → IsReadOrMemory r w
+pub read_only : (r : Result WrittenTypestate ParseFault) (ts : List Tok) → Gives wfile_of r (file_of ts) → (w : WFile) → IsSpelled w ts →
+    IsReadOrMemory r w
 read_only (Ok v) ts h w s = some_is (wfile_of v) w (sym h ∙ file_complete w ts s)
 read_only (Err faults.Memory) ts h w s = refl
 read_only (Err (faults.Syntax place)) ts h w s = absurd (none_is_not w (sym h ∙ file_complete w ts s))
 
-pub read_none : (r : Result WrittenTypestate ParseFault) (ts : List Tok) → Gives wfile_of r (file_of ts) → SaysSyntax r → (w : WFile) → IsSpelled w ts → ⊥
+pub read_none : (r : Result WrittenTypestate ParseFault) (ts : List Tok) → Gives wfile_of r (file_of ts) → SaysSyntax r → (w : WFile) →
+    IsSpelled w ts → ⊥
 read_none (Ok v) ts h says w s = says
 read_none (Err faults.Memory) ts h says w s = says
 read_none (Err (faults.Syntax place)) ts h says w s = none_is_not w (sym h ∙ file_complete w ts s)

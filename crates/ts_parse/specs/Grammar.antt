@@ -78,13 +78,15 @@ IsBranch b ts = (a : Place) × (ts ≡ named b.label.place b.label.text ∷ mark
 abbrev pub IsTarget : WTarget → List Tok → Type 0
 IsTarget (to_one n) ts = IsNaming n ts
 IsTarget (by_label branches) ts =
-    (a b : Place) × (us : List Tok) × (ts ≡ marked a marks.Less ∷ (us ++ marked b marks.Greater ∷ [])) × Listed marks.Comma IsBranch branches us
+    (a b : Place) × (us : List Tok) × (ts ≡ marked a marks.Less ∷ (us ++ marked b marks.Greater ∷ [])) × Listed marks.Comma IsBranch
+    branches us
 
 -- type name "(" types ")" ":" target
 abbrev pub IsMethod : WMethod → List Tok → Type 0
 IsMethod m ts =
     (a b c d : Place) × (text : Name) × (us vs : List Tok)
-    × (ts ≡ named a text ∷ named m.name.place m.name.text ∷ marked b marks.OpenParen ∷ (us ++ marked c marks.CloseParen ∷ marked d marks.Colon ∷ vs))
+    × (ts ≡ named a text ∷ named m.name.place m.name.text ∷ marked b marks.OpenParen ∷
+    (us ++ marked c marks.CloseParen ∷ marked d marks.Colon ∷ vs))
     × (type_named text ≡ m.result) × AreParams m.params us × IsTarget m.target vs
 
 -- [ "," ]
@@ -107,7 +109,8 @@ AreEntries (e ∷ es) ts = (us vs : List Tok) × (ts ≡ us ++ vs) × Listed mar
 abbrev pub IsState : WState → List Tok → Type 0
 IsState s ts =
     (a b c : Place) × (us : List Tok)
-    × (ts ≡ named s.name.place s.name.text ∷ marked a marks.Equals ∷ marked b marks.OpenBrace ∷ (us ++ marked c marks.CloseBrace ∷ [])) × AreEntries s.entries us
+    × (ts ≡ named s.name.place s.name.text ∷ marked a marks.Equals ∷ marked b marks.OpenBrace ∷ (us ++ marked c marks.CloseBrace ∷ []))
+    × AreEntries s.entries us
 
 -- [ package ] { import } "typestate" name "{" { state } "}"
 pub record IsSpelled (w : WFile) (ts : List Tok) : Type 0 where
@@ -119,7 +122,8 @@ pub record IsSpelled (w : WFile) (ts : List Tok) : Type 0 where
   pub name_at : Place
   pub open_at : Place
   pub close_at : Place
-  pub tokens : ts ≡ package_toks ++ (import_toks ++ marked word_at marks.Typestate ∷ named name_at w.name ∷ marked open_at marks.OpenBrace ∷ (state_toks ++ marked close_at marks.CloseBrace ∷ []))
+  pub tokens : ts ≡ package_toks ++ (import_toks ++ marked word_at marks.Typestate ∷ named name_at w.name ∷ marked open_at marks.OpenBrace ∷
+      (state_toks ++ marked close_at marks.CloseBrace ∷ []))
   pub packaged : IsPackage package_toks
   pub imported : Each IsImport imports import_toks
   pub states : Each IsState w.states state_toks

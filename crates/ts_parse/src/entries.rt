@@ -8,7 +8,8 @@ ghost use Rattle.mg_read.proofs.Loop.{with_front};
 ghost use Rattle.ts_parse.specs.declared.token.Mark.TheVariants as marks;
 ghost use Rattle.ts_parse.specs.Tok.{tok, toks};
 ghost use Rattle.ts_parse.specs.Written.{wentry_of};
-ghost use Rattle.ts_parse.specs.inner.Reading.{behind_at, listed_at, is_more, is_word, is_drop, after_end, drop_at, offer_at, entry_at, after_comma, some_entries_at, entries_at};
+ghost use Rattle.ts_parse.specs.inner.Reading.{behind_at, listed_at, is_more, is_word, is_drop, after_end, drop_at, offer_at, entry_at};
+ghost use Rattle.ts_parse.specs.inner.Reading.{after_comma, some_entries_at, entries_at};
 
 use crate::front::{is_mark, mark_of, name_of};
 use crate::methods::method_of;

@@ -9,7 +9,8 @@ ghost use Rattle.ts_parse.specs.declared.token.Mark.TheVariants as marks;
 ghost use Rattle.ts_parse.specs.Tok.{toks};
 ghost use Rattle.ts_parse.specs.Grammar.{type_named, param_named};
 ghost use Rattle.ts_parse.specs.Written.{wtarget_of, wmethod_of};
-ghost use Rattle.ts_parse.specs.inner.Reading.{is_at, behind_at, listed_at, param_at, params_at, branch_at, answers_at, target_at, head_at, method_at};
+ghost use Rattle.ts_parse.specs.inner.Reading.{is_at, behind_at, listed_at, param_at, params_at, branch_at, answers_at, target_at, head_at};
+ghost use Rattle.ts_parse.specs.inner.Reading.{method_at};
 
 use crate::front::{is_mark, mark_of, name_of};
 use crate::{Mark, Naming, Token, WrittenBranch, WrittenMethod, WrittenTarget};

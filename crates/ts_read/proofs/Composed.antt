@@ -22,7 +22,8 @@ use Rattle.ts_read.specs.declared.condition.Condition.TheVariants as conditions
 use Rattle.ts_read.specs.declared.fault.TsFault.{TsFault}
 use Rattle.ts_read.specs.declared.fault.TsFault.TheVariants as faults
 use Rattle.ts_read.specs.Conditions.{IsFault}
-use Rattle.ts_read.specs.Outcome.{Answer, Read, TooLarge, BadByte, Syntax, Refused, Spells, Outcome, too_large, too_many, bad_byte, syntax, refused, read}
+use Rattle.ts_read.specs.Outcome.{Answer, Read, TooLarge, BadByte, Syntax, Refused, Spells, Outcome, too_large, too_many, bad_byte, syntax}
+use Rattle.ts_read.specs.Outcome.{refused, read}
 use Rattle.ts_read.specs.inner.Composing.{condition_of, IsToldOf, MeantFault, IsMeant}
 
 abbrev lexed : {T : Type 0} → LexFault → Result T LexFault

@@ -1,5 +1,6 @@
 -- Entries of a state: what is found at methods is found among the methods, and what stands twice is the culprit.
-use Rattle.std.proofs.Common.{◌≡◌, List, [], ◌∷◌, ◌++◌, map, Option, Some, None, Bool, true, false, cond, inl, inr, codes, refl, sym, ap, ◌∙◌, subst, arith}
+use Rattle.std.proofs.Common.{◌≡◌, List, [], ◌∷◌, ◌++◌, map, Option, Some, None, Bool, true, false, cond, inl, inr, codes, refl, sym, ap}
+use Rattle.std.proofs.Common.{◌∙◌, subst, arith}
 use Rattle.std.specs.List.{Contains, flat_map}
 use Rattle.std.specs.Option.{option_or}
 use Rattle.std.proofs.lemmas.List.Elements.{Contains-append_left, Contains-push, Contains-push_cases}
@@ -30,12 +31,14 @@ kept_are [] = refl
 kept_are (entries.Method m ∷ es) = ap (λ (ms : List WMethod). wmethod_of m ∷ ms) (kept_are es)
 kept_are (entries.DropEnd place ∷ es) = kept_are es
 
-pub some_in : (f : WrittenMethod → Option Culprit) (es : List WrittenEntry) → first_some (map (at_method f) es) ≡ first_some (map f (kept_in es))
+pub some_in : (f : WrittenMethod → Option Culprit) (es : List WrittenEntry) → first_some (map (at_method f) es) ≡ first_some
+    (map f (kept_in es))
 some_in f [] = refl
 some_in f (entries.Method m ∷ es) = ap (option_or (f m)) (some_in f es)
 some_in f (entries.DropEnd place ∷ es) = some_in f es
 
-pub made_in : (names : List Name) (es : List WrittenEntry) → flat_map (entry_made names) es ≡ map (λ m. method_meant names (wmethod_of m)) (kept_in es)
+pub made_in : (names : List Name) (es : List WrittenEntry) → flat_map (entry_made names) es ≡ map (λ m. method_meant names (wmethod_of m))
+    (kept_in es)
 made_in names [] = refl
 made_in names (entries.Method m ∷ es) = ap (λ (ms : List Method). method_meant names (wmethod_of m) ∷ ms) (made_in names es)
 made_in names (entries.DropEnd place ∷ es) = made_in names es
@@ -45,7 +48,8 @@ or_there : (b : Bool) (x : Culprit) (o r : Option Culprit) → (o ≡ None → r
 or_there true x o r h e = absurd cc
 or_there false x o r h e = h e
 
-pub once_in : (dropped : Bool) (seen : List Name) (es : List WrittenEntry) → twice_in dropped seen es ≡ None → repeat_in seen (map method_name (kept_in es)) ≡ None
+pub once_in : (dropped : Bool) (seen : List Name) (es : List WrittenEntry) → twice_in dropped seen es ≡ None →
+    repeat_in seen (map method_name (kept_in es)) ≡ None
 once_in dropped seen [] e = refl
 once_in dropped seen (entries.Method m ∷ es) e =
     or_there (is_in seen m.name.text) (blamed m.name) (twice_in dropped (seen ++ m.name.text ∷ []) es)
@@ -100,12 +104,15 @@ with_drop earlier dropped seen p k = record {
   marked = λ h. (p, Contains-push earlier (drop_end p));
 }
 
-not_yet : (earlier : List WEntry) (dropped : Bool) (seen : List Name) (m : WMethod) (c : Culprit) → Knows earlier dropped seen → is_in seen m.name.text ≡ false
+not_yet : (earlier : List WEntry) (dropped : Bool) (seen : List Name) (m : WMethod) (c : Culprit) → Knows earlier dropped seen →
+    is_in seen m.name.text ≡ false
     → IsTwice (earlier, offer m) c → ⊥
-not_yet earlier dropped seen m c k e (is, offer n, among, same) = true_false (contained_in seen m.name.text (subst (Contains seen) same (k.met n among))) e
+not_yet earlier dropped seen m c k e (is, offer n, among, same) =
+    true_false (contained_in seen m.name.text (subst (Contains seen) same (k.met n among))) e
 not_yet earlier dropped seen m c k e (is, drop_end p, among, same) = same
 
-not_left : (earlier : List WEntry) (seen : List Name) (p : Place) (c : Culprit) → Knows earlier false seen → IsTwice (earlier, drop_end p) c → ⊥
+not_left : (earlier : List WEntry) (seen : List Name) (p : Place) (c : Culprit) → Knows earlier false seen → IsTwice (earlier, drop_end p) c
+    → ⊥
 not_left earlier seen p c k (is, offer n, among, same) = same
 not_left earlier seen p c k (is, drop_end q, among, same) = let no : false ≡ true = k.left q among in cc
 
@@ -113,7 +120,8 @@ twice_judged : (earlier : List WEntry) (dropped : Bool) (seen : List Name) (es :
     → Judged IsTwice (behind earlier (map wentry_of es)) (twice_in dropped seen es)
 twice_judged earlier dropped seen [] k = clean
 twice_judged earlier dropped seen (entries.Method m ∷ es) k =
-    go (is_in seen m.name.text) refl (twice_judged (earlier ++ offer (wmethod_of m) ∷ []) dropped (seen ++ m.name.text ∷ []) es (with_offer earlier dropped seen (wmethod_of m) k))
+    go (is_in seen m.name.text) refl (twice_judged (earlier ++ offer (wmethod_of m) ∷ []) dropped (seen ++ m.name.text ∷ []) es
+    (with_offer earlier dropped seen (wmethod_of m) k))
   where
     go : (b : Bool) → is_in seen m.name.text ≡ b
         → Judged IsTwice (behind (earlier ++ offer (wmethod_of m) ∷ []) (map wentry_of es)) (twice_in dropped (seen ++ m.name.text ∷ []) es)
@@ -123,7 +131,8 @@ twice_judged earlier dropped seen (entries.Method m ∷ es) k =
     go false e more = later (λ c h. not_yet earlier dropped seen (wmethod_of m) c k e h) more
 twice_judged earlier true seen (entries.DropEnd place ∷ es) k = let x = k.marked refl in here (refl, drop_end x.0, x.1, tt)
 twice_judged earlier false seen (entries.DropEnd place ∷ es) k =
-    later (λ c h. not_left earlier seen place c k h) (twice_judged (earlier ++ drop_end place ∷ []) true seen es (with_drop earlier false seen place k))
+    later (λ c h. not_left earlier seen place c k h) (twice_judged (earlier ++ drop_end place ∷ []) true seen es
+    (with_drop earlier false seen place k))
 
 pub entries_judged : (s : WrittenState) → Judged IsTwice (with_earlier (map wentry_of s.entries.items)) (twice_in false [] s.entries.items)
 entries_judged s = twice_judged [] false [] s.entries.items nothing

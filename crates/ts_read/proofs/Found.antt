@@ -16,10 +16,12 @@ use Rattle.ts_parse.specs.declared.written.WrittenTarget.TheVariants as kept
 use Rattle.ts_parse.specs.declared.written.WrittenMethod.{WrittenMethod}
 use Rattle.ts_parse.specs.declared.written.WrittenState.{WrittenState}
 use Rattle.ts_parse.specs.Written.{WMethod, WState, WFile, methods_in, wtarget_of, wmethod_of, wentry_of, wstate_of}
-use Rattle.ts_read.specs.Conditions.{branches_of, labels_of, leads_to, targets_of, texts, IsRepeat, IsTwice, IsUnknown, HasOther, IsNamedEnd, Judges, IsFault}
+use Rattle.ts_read.specs.Conditions.{branches_of, labels_of, leads_to, targets_of, texts, IsRepeat, IsTwice, IsUnknown, HasOther}
+use Rattle.ts_read.specs.Conditions.{IsNamedEnd, Judges, IsFault}
 use Rattle.ts_read.specs.declared.condition.Condition.{Condition}
 use Rattle.ts_read.specs.declared.condition.Condition.TheVariants as conditions
-use Rattle.ts_read.specs.inner.Finding.{repeat_in, first_some, noted, state_name, label_name, branches_in, at_method, repeat_entry, repeat_label, repeat_labels, unknown_to, unknown_target, unknown_method, unknown_state, named_end}
+use Rattle.ts_read.specs.inner.Finding.{repeat_in, first_some, noted, state_name, label_name, branches_in, at_method, repeat_entry}
+use Rattle.ts_read.specs.inner.Finding.{repeat_label, repeat_labels, unknown_to, unknown_target, unknown_method, unknown_state, named_end}
 use Rattle.ts_read.specs.inner.Signing.{Firsts, with_states, other_method, other_in_state}
 use Rattle.ts_read.specs.inner.Deciding.{tagged, fault_found}
 use Rattle.ts_read.proofs.Judges.{repeat_judged, first_judged, each_judged, noted_distinct, unknown_judged, end_judged}
@@ -63,7 +65,8 @@ pub some_kept : (T : Firsts) (ss : List WrittenState)
     → first_some (map (other_method T) (kept_methods ss)) ≡ first_some (map (other_in_state T) ss)
 some_kept T [] = refl
 some_kept T (s ∷ ss) = some_append (other_method T) (kept_in s.entries.items) (kept_methods ss)
-    ∙ ap (λ (o : Option Culprit). option_or o (first_some (map (other_method T) (kept_methods ss)))) (sym (some_in (other_method T) s.entries.items))
+    ∙ ap (λ (o : Option Culprit). option_or o (first_some (map (other_method T) (kept_methods ss))))
+    (sym (some_in (other_method T) s.entries.items))
     ∙ ap (λ (o : Option Culprit). option_or (other_in_state T s) o) (some_kept T ss)
 
 -- ---- each condition
@@ -88,17 +91,21 @@ at_methods : {Y : Type 0} (At : Y → Culprit → Type 0) (parts : WrittenMethod
     → ((m : WrittenMethod) → Judged At (parts m) (find m)) → (s : WrittenState)
     → Judged At (flat_map parts (kept_in s.entries.items)) (first_some (map (at_method find) s.entries.items))
 at_methods At parts find h s =
-    subst (Judged At (flat_map parts (kept_in s.entries.items))) (sym (some_in find s.entries.items)) (first_judged At parts find h (kept_in s.entries.items))
+    subst (Judged At (flat_map parts (kept_in s.entries.items))) (sym (some_in find s.entries.items))
+    (first_judged At parts find h (kept_in s.entries.items))
 
 unknown_all : (S : List Naming) (ss : List WrittenState)
-    → Judged (IsUnknown S) (flat_map (λ (m : WMethod). leads_to m.target) (flat_map (λ (s : WState). methods_in s.entries) (map wstate_of ss)))
+    → Judged (IsUnknown S) (flat_map (λ (m : WMethod). leads_to m.target) (flat_map (λ (s : WState). methods_in s.entries)
+    (map wstate_of ss)))
     (first_some (map (unknown_state (texts S)) ss))
 unknown_all S ss =
     subst (λ (ns : List Naming). Judged (IsUnknown S) ns (first_some (map (unknown_state (texts S)) ss)))
     (sym (nested (λ (m : WMethod). leads_to m.target) ss))
-    (first_judged (IsUnknown S) (λ (s : WrittenState). flat_map (λ (m : WrittenMethod). leads_to (wtarget_of m.target)) (kept_in s.entries.items))
+    (first_judged (IsUnknown S) (λ (s : WrittenState). flat_map (λ (m : WrittenMethod). leads_to (wtarget_of m.target))
+    (kept_in s.entries.items))
     (unknown_state (texts S))
-    (at_methods (IsUnknown S) (λ (m : WrittenMethod). leads_to (wtarget_of m.target)) (unknown_method (texts S)) (λ m. unknown_there S m.target)) ss)
+    (at_methods (IsUnknown S) (λ (m : WrittenMethod). leads_to (wtarget_of m.target)) (unknown_method (texts S))
+    (λ m. unknown_there S m.target)) ss)
 
 judge_targets : (name : Name) (names : List Name) (ss : List WrittenState) → names ≡ texts (map state_name ss)
     → Judges (file name ss) conditions.UnknownState (first_some (map (unknown_state names) ss))

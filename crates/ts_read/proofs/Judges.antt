@@ -1,5 +1,6 @@
 -- What the searches find is the culprit of each condition.
-use Rattle.std.proofs.Common.{◌≡◌, ℕ, List, [], ◌∷◌, ◌++◌, length, map, Option, Some, None, Bool, true, false, cond, ltb, ◌⊎◌, inl, inr, append_assoc, append-nil, position, codes, refl, sym, ◌∙◌, subst}
+use Rattle.std.proofs.Common.{◌≡◌, ℕ, List, [], ◌∷◌, ◌++◌, length, map, Option, Some, None, Bool, true, false, cond, ltb, ◌⊎◌, inl, inr}
+use Rattle.std.proofs.Common.{append_assoc, append-nil, position, codes, refl, sym, ◌∙◌, subst}
 use Rattle.std.specs.Prelude.{is_some, ◌||◌}
 use Rattle.std.specs.List.{Contains, list_any, flat_map, position_or_len}
 use Rattle.std.specs.Str.{bytes_eq}

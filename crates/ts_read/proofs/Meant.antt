@@ -31,7 +31,8 @@ meant_all names [] = refl
 meant_all names (s ∷ ss) =
     let F : List Method → State = λ ms. record { name = s.name.text; methods = ms; drops = has_drop (map wentry_of s.entries.items) } in
     ap (λ (ms : List Method). F ms ∷ map (meant names) ss)
-    (sym (map_map (method_meant names) wmethod_of (kept_in s.entries.items)) ∙ ap (map (method_meant names)) (sym (kept_are s.entries.items)))
+    (sym (map_map (method_meant names) wmethod_of (kept_in s.entries.items)) ∙ ap (map (method_meant names))
+    (sym (kept_are s.entries.items)))
     ∙ ap (λ (ts : List State). state_meant names (wstate_of s) ∷ ts) (meant_all names ss)
 
 made_all : (names : List Name) (ss : List WrittenState) → map (state_made names) ss ≡ map (meant names) ss
@@ -77,7 +78,8 @@ module _ (listed : List WrittenState) (names : List Name) (o : Option Broken) (i
       × (T copied made ≡ typestate_of (found.file name ss)) in
       let few : length (map wstate_of listed) ≤ 1000 = subst (λ (n : ℕ). n ≤ 1000) (sym (length-map listed wstate_of)) few in
       let is_states : made ≡ map (state_meant (texts (state_names (found.file name listed)))) (map wstate_of listed) =
-      built ∙ made_all names listed ∙ meant_all names listed ∙ ap (λ (ns : List Name). map (state_meant ns) (map wstate_of listed)) (names_are name none) in
+      built ∙ made_all names listed ∙ meant_all names listed ∙ ap (λ (ns : List Name). map (state_meant ns) (map wstate_of listed))
+      (names_are name none) in
       subst P same (
         few,
         subst (IsFault (found.file name listed)) (nothing none) (fault_is name names listed is),

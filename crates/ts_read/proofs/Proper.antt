@@ -1,5 +1,6 @@
 -- A file without a fault means a typestate whose states are as they must be.
-use Rattle.std.proofs.Common.{◌≡◌, ℕ, zero, suc, List, [], ◌∷◌, ◌++◌, length, map, Option, Some, None, Bool, true, false, cond, position, codes, refl, sym, ap, ◌∙◌, subst, arith}
+use Rattle.std.proofs.Common.{◌≡◌, ℕ, zero, suc, List, [], ◌∷◌, ◌++◌, length, map, Option, Some, None, Bool, true, false, cond, position}
+use Rattle.std.proofs.Common.{codes, refl, sym, ap, ◌∙◌, subst, arith}
 use Rattle.std.specs.Prelude.{is_some, ◌||◌, ◌≢◌}
 use Rattle.std.specs.List.{Contains, AllByRecursion}
 use Rattle.std.specs.Option.{option_or}
@@ -26,7 +27,9 @@ use Rattle.ts_read.specs.Conditions.{blamed, texts}
 use Rattle.ts_read.specs.Meaning.{place_named, state_numbered, branch_meant, target_meant, method_meant}
 use Rattle.ts_read.specs.declared.condition.Condition.{Condition}
 use Rattle.ts_read.specs.declared.condition.Condition.TheVariants as conditions
-use Rattle.ts_read.specs.inner.Finding.{is_in, repeat_in, first_some, noted, state_name, method_name, label_name, branches_in, repeat_entry, repeat_label, repeat_labels, unknown_name, unknown_to, unknown_target, unknown_method, unknown_state, named_end}
+use Rattle.ts_read.specs.inner.Finding.{is_in, repeat_in, first_some, noted, state_name, method_name, label_name, branches_in, repeat_entry}
+use Rattle.ts_read.specs.inner.Finding.{repeat_label, repeat_labels, unknown_name, unknown_to, unknown_target, unknown_method}
+use Rattle.ts_read.specs.inner.Finding.{unknown_state, named_end}
 use Rattle.ts_read.specs.inner.Signing.{Sig, Firsts, with_states, other_in_state}
 use Rattle.ts_read.specs.inner.Deciding.{tagged, labels_or_end, methods_or_later, fault_found}
 use Rattle.ts_read.proofs.Judges.{in_contained, contained_in, noted_distinct, true_false}

@@ -1,5 +1,6 @@
 -- Texts with something between two: the first, and then each other behind what separates it.
-use Rattle.std.proofs.Common.{◌≡◌, ℕ, Bool, ◌-◌, ◌≤◌, List, [], ◌∷◌, ◌++◌, length, get_or, drop, take, map, codes, refl, sym, ap, ◌∙◌, append_assoc, arith}
+use Rattle.std.proofs.Common.{◌≡◌, ℕ, Bool, ◌-◌, ◌≤◌, List, [], ◌∷◌, ◌++◌, length, get_or, drop, take, map, codes, refl, sym, ap, ◌∙◌}
+use Rattle.std.proofs.Common.{append_assoc, arith}
 use Rattle.std.specs.List.{flat_map}
 use Rattle.std.proofs.lemmas.Grind.{flat_map-append}
 use Rattle.std.proofs.lemmas.List.{append-nil, take_all}
@@ -75,7 +76,8 @@ module _ {X : Type 0} (states : List State) (v : X → Method) where
       let M = method_text states (v x) in
       let L = behind_lines ys in
       let rest : take (length (y ∷ ys) - 1) ys ≡ ys = take_all (length (y ∷ ys) - 1) ys (omega arith) in
-      let so_far : now ≡ (old ++ M) ++ L = done ∙ ap (λ (zs : List X). first ++ behind_lines zs) (take_all i _ all ∙ rest) ∙ ap (λ t. t ++ L) begun in
+      let so_far : now ≡ (old ++ M) ++ L = done ∙ ap (λ (zs : List X). first ++ behind_lines zs) (take_all i _ all ∙ rest) ∙
+      ap (λ t. t ++ L) begun in
       ap (λ t. t ++ line_feed) (ends ∙ ap (λ t. t ++ D) so_far ∙ append_assoc (old ++ M) L D ∙ append_assoc old M (L ++ D))
       ∙ append_assoc old (M ++ (L ++ D)) line_feed
       ∙ ap (λ t. old ++ t) (append_assoc M (L ++ D) line_feed

@@ -1,5 +1,6 @@
 -- What is held against the first signature of its name is held against all earlier ones.
-use Rattle.std.proofs.Common.{◌≡◌, ℕ, zero, suc, ◌+◌, List, [], ◌∷◌, ◌++◌, length, map, Option, Some, None, Bool, true, false, cond, position, refl, sym, ap, ◌∙◌, subst, arith, append_assoc, append-nil, length-append}
+use Rattle.std.proofs.Common.{◌≡◌, ℕ, zero, suc, ◌+◌, List, [], ◌∷◌, ◌++◌, length, map, Option, Some, None, Bool, true, false, cond}
+use Rattle.std.proofs.Common.{position, refl, sym, ap, ◌∙◌, subst, arith, append_assoc, append-nil, length-append}
 use Rattle.std.specs.Prelude.{nat_lt, not, slice_get, if◌then◌else◌, ◌&&◌, ◌||◌}
 use Rattle.std.specs.List.{Contains, list_any, position_or_len, flat_map}
 use Rattle.std.specs.Option.{option_or}
@@ -19,7 +20,8 @@ use Rattle.ts_parse.specs.declared.written.WrittenState.{WrittenState}
 use Rattle.ts_parse.specs.Written.{WMethod, wmethod_of}
 use Rattle.ts_read.specs.Conditions.{blamed, HasOther, SameSignature}
 use Rattle.ts_read.specs.inner.Finding.{is_in, first_some}
-use Rattle.ts_read.specs.inner.Signing.{type_eq, types_eq, Sig, sig_in, Firsts, with_method, with_entries, with_states, is_like, first_sig, other_method}
+use Rattle.ts_read.specs.inner.Signing.{type_eq, types_eq, Sig, sig_in, Firsts, with_method, with_entries, with_states, is_like, first_sig}
+use Rattle.ts_read.specs.inner.Signing.{other_method}
 use Rattle.ts_read.proofs.Judges.{is_in_any, true_false}
 use Rattle.ts_read.proofs.Contents.{kept_in}
 

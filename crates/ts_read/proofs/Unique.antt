@@ -21,7 +21,8 @@ use Rattle.ts_read.specs.declared.condition.Condition.TheVariants as conditions
 use Rattle.ts_read.specs.declared.fault.TsFault.{TsFault}
 use Rattle.ts_read.specs.Conditions.{IsRepeat, IsTwice, IsUnknown, HasOther, IsNamedEnd, Judges, IsFault}
 use Rattle.ts_read.specs.Meaning.{typestate_of}
-use Rattle.ts_read.specs.Outcome.{Answer, Read, BadByte, Refused, Spells, Outcome, too_large, too_many, bad_byte, syntax, refused, read, answer_of, IsAnswered}
+use Rattle.ts_read.specs.Outcome.{Answer, Read, BadByte, Refused, Spells, Outcome, too_large, too_many, bad_byte, syntax, refused, read}
+use Rattle.ts_read.specs.Outcome.{answer_of, IsAnswered}
 use Rattle.ts_read.specs.inner.Composing.{IsToldOf}
 
 -- ---- one fault

@@ -93,7 +93,8 @@ Judges w conditions.ReservedEnd = Judged IsNamedEnd (state_names w)
 -- the conditions in the order of their numbers
 abbrev pub in_order : List Condition
 in_order =
-    conditions.DuplicateState ∷ conditions.UnknownState ∷ conditions.DuplicateMethod ∷ conditions.SignatureDiffers ∷ conditions.DuplicateLabel
+    conditions.DuplicateState ∷ conditions.UnknownState ∷ conditions.DuplicateMethod ∷ conditions.SignatureDiffers ∷
+    conditions.DuplicateLabel
     ∷ conditions.ReservedEnd ∷ []
 
 -- the first condition that doesn't hold, with its first culprit, or none where all hold

@@ -44,7 +44,8 @@ target_text states (ByAnswer branches) = codes "<" ++ listed (map (branch_text s
 -- a method, two levels in
 abbrev pub method_text : List State → Method → List ℕ
 method_text states m =
-    codes "        " ++ type_text m.result ++ codes " " ++ m.name ++ codes "(" ++ listed (map type_text m.params) ++ codes "): " ++ target_text states m.target
+    codes "        " ++ type_text m.result ++ codes " " ++ m.name ++ codes "(" ++ listed (map type_text m.params) ++ codes "): "
+    ++ target_text states m.target
 
 -- `drop: end`, where a state is marked so
 abbrev pub drop_line : Bool → List (List ℕ)

@@ -4,7 +4,8 @@
 ghost use Rattle.std.specs.Prelude.{◌≡◌, ◌++◌, OnOk, string_bytes, map};
 ghost use Rattle.std.specs.List.{flat_map};
 ghost use Rattle.ts_tree.specs.View.{target_of, method_of, state_of};
-ghost use Rattle.ts_read.specs.Layout.{layout, listed, type_text, to_text, branch_text, target_text, method_text, drop_line, entry_lines, lines, state_text};
+ghost use Rattle.ts_read.specs.Layout.{layout, listed, type_text, to_text, branch_text, target_text, method_text, drop_line, entry_lines};
+ghost use Rattle.ts_read.specs.Layout.{lines, state_text};
 ghost use Rattle.ts_read.specs.inner.Printing.{behind};
 
 use mg_text::Memory;
@@ -24,7 +25,8 @@ pub fn print(out: &mut String, typestate: &Typestate) -> Result<(), Memory>
 
 /// Appends the text of states, one after another.
 pub fn print_states(out: &mut String, states: &[State]) -> Result<(), Memory>
-    ensures { OnOk result (string_bytes out.new ≡ string_bytes out.old ++ flat_map (state_text (map state_of states.now)) (map state_of states.now)) }
+    ensures { OnOk result (string_bytes out.new ≡ string_bytes out.old ++ flat_map (state_text (map state_of states.now))
+        (map state_of states.now)) }
 {
     for state in states {
         print_state(out, states, state)?;
@@ -69,7 +71,8 @@ fn print_entries(
     methods: &[Method],
     drops: bool,
 ) -> Result<(), Memory>
-    ensures { OnOk result (string_bytes out.new ≡ string_bytes out.old ++ lines (entry_lines (map state_of states.now) (map method_of methods.now) drops)) }
+    ensures { OnOk result (string_bytes out.new ≡ string_bytes out.old
+        ++ lines (entry_lines (map state_of states.now) (map method_of methods.now) drops)) }
 {
     let [first, rest @ ..] = methods else {
         return print_drop(out, drops);
@@ -144,7 +147,8 @@ fn print_target(out: &mut String, states: &[State], target: &Target) -> Result<(
 }
 
 fn print_branches(out: &mut String, states: &[State], branches: &[Branch]) -> Result<(), Memory>
-    ensures { OnOk result (string_bytes out.new ≡ string_bytes out.old ++ listed (map (branch_text (map state_of states.now)) branches.now)) }
+    ensures { OnOk result (string_bytes out.new ≡ string_bytes out.old
+        ++ listed (map (branch_text (map state_of states.now)) branches.now)) }
 {
     let [first, rest @ ..] = branches else {
         return Ok(());

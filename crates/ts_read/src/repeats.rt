@@ -2,7 +2,8 @@
 //! Each search looks at a name once, in a table of those before it.
 
 ghost use Rattle.std.specs.Prelude.{◌≡◌, [], false, IfOk, map, option_map};
-ghost use Rattle.ts_read.specs.inner.Finding.{blamed_of, repeat_in, first_some, state_name, label_name, at_method, twice_in, repeat_entry, branches_in, repeat_label, repeat_labels};
+ghost use Rattle.ts_read.specs.inner.Finding.{blamed_of, repeat_in, first_some, state_name, label_name, at_method, twice_in, repeat_entry};
+ghost use Rattle.ts_read.specs.inner.Finding.{branches_in, repeat_label, repeat_labels};
 
 use crate::blame::{Blamed, blame, blame_drop, note};
 use mg_text::{Memory, Names};

@@ -3,7 +3,8 @@
 
 ghost use Rattle.std.specs.Prelude.{◌≡◌, [], ◌&&◌, IfOk, OnOk, map, option_map};
 ghost use Rattle.ts_read.specs.inner.Finding.{blamed_of, first_some, at_method};
-ghost use Rattle.ts_read.specs.inner.Signing.{type_eq, types_eq, sig_of, sig_in, with_method, with_entry, with_entries, with_states, is_like, other_method, other_in_state};
+ghost use Rattle.ts_read.specs.inner.Signing.{type_eq, types_eq, sig_of, sig_in, with_method, with_entry, with_entries, with_states};
+ghost use Rattle.ts_read.specs.inner.Signing.{is_like, other_method, other_in_state};
 
 use crate::blame::{Blamed, blame};
 use mg_text::{List, Memory, Names};
@@ -154,7 +155,8 @@ fn unless_like(
     signatures: &[Signature],
     method: &WrittenMethod,
 ) -> Result<Option<Blamed>, Memory>
-    ensures { IfOk result (λ o. option_map blamed_of o ≡ other_method (record { names = names.now; sigs = map sig_of signatures.now }) method.now) }
+    ensures { IfOk result (λ o. option_map blamed_of o ≡ other_method (record { names = names.now; sigs = map sig_of signatures.now })
+        method.now) }
 {
     let Some(name) = names.find(method.name.text.as_str()) else {
         return Ok(None);
@@ -177,7 +179,8 @@ fn other_at(
     signatures: &[Signature],
     entry: &WrittenEntry,
 ) -> Result<Option<Blamed>, Memory>
-    ensures { IfOk result (λ o. option_map blamed_of o ≡ at_method (other_method (record { names = names.now; sigs = map sig_of signatures.now })) entry.now) }
+    ensures { IfOk result (λ o. option_map blamed_of o
+        ≡ at_method (other_method (record { names = names.now; sigs = map sig_of signatures.now })) entry.now) }
 {
     match entry {
         WrittenEntry::Method(method) => unless_like(names, signatures, method),
@@ -207,7 +210,8 @@ fn other_in_states(
     signatures: &[Signature],
     states: &[WrittenState],
 ) -> Result<Option<Blamed>, Memory>
-    ensures { IfOk result (λ o. option_map blamed_of o ≡ first_some (map (other_in_state (record { names = names.now; sigs = map sig_of signatures.now })) states.now)) }
+    ensures { IfOk result (λ o. option_map blamed_of o
+        ≡ first_some (map (other_in_state (record { names = names.now; sigs = map sig_of signatures.now })) states.now)) }
 {
     for item in states {
         let found = other_in_entries(names, signatures, item.entries.as_slice())?;
@@ -223,7 +227,8 @@ pub(crate) fn other_signature(
     alloc: Global,
     states: &[WrittenState],
 ) -> Result<Option<Blamed>, Memory>
-    ensures { IfOk result (λ o. option_map blamed_of o ≡ first_some (map (other_in_state (with_states (record { names = []; sigs = [] }) states.now)) states.now)) }
+    ensures { IfOk result (λ o. option_map blamed_of o
+        ≡ first_some (map (other_in_state (with_states (record { names = []; sigs = [] }) states.now)) states.now)) }
 {
     let mut names = Names::new(alloc);
     let mut signatures = List::new(alloc);

@@ -2,7 +2,8 @@
 //! The names of the states stand in one table.
 
 ghost use Rattle.std.specs.Prelude.{◌≡◌, [], IfOk, map, option_map};
-ghost use Rattle.ts_read.specs.inner.Finding.{blamed_of, first_some, at_method, noted, state_name, unknown_name, unknown_to, unknown_target, unknown_method, unknown_state, named_end};
+ghost use Rattle.ts_read.specs.inner.Finding.{blamed_of, first_some, at_method, noted, state_name, unknown_name, unknown_to};
+ghost use Rattle.ts_read.specs.inner.Finding.{unknown_target, unknown_method, unknown_state, named_end};
 
 use crate::blame::{Blamed, blame, note};
 use mg_text::{Memory, Names};

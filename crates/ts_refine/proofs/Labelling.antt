@@ -1,5 +1,6 @@
 -- Where a branch of a label stands.
-use Rattle.std.proofs.Common.{◌≡◌, ◌≢◌, ℕ, zero, suc, ◌+◌, ◌<◌, ◌≤◌, Bool, true, false, List, [], ◌∷◌, length, drop, map, None, is_some, option_map, slice_get, if◌then◌else◌, refl, sym, ap, subst, ◌∙◌, arith}
+use Rattle.std.proofs.Common.{◌≡◌, ◌≢◌, ℕ, zero, suc, ◌+◌, ◌<◌, ◌≤◌, Bool, true, false, List, [], ◌∷◌, length, drop, map, None, is_some}
+use Rattle.std.proofs.Common.{option_map, slice_get, if◌then◌else◌, refl, sym, ap, subst, ◌∙◌, arith}
 use Rattle.std.specs.Prelude.{Contains}
 use Rattle.std.specs.Str.{bytes_eq}
 use Rattle.std.proofs.lemmas.Bool.{false≢true}
@@ -35,7 +36,8 @@ labelled_among : (bs : List Branch) (i : ℕ) (label : Name) → label_stands_at
 labelled_among [] zero label h = absurd (false≢true h)
 labelled_among [] (suc i) label h = absurd (false≢true h)
 labelled_among (b ∷ bs) zero label h =
-    subst (Contains (b.label ∷ map (λ (b : Branch). b.label) bs)) (same_name b.label label h) (here b.label (map (λ (b : Branch). b.label) bs))
+    subst (Contains (b.label ∷ map (λ (b : Branch). b.label) bs)) (same_name b.label label h)
+    (here b.label (map (λ (b : Branch). b.label) bs))
 labelled_among (b ∷ bs) (suc i) label h = let c = labelled_among bs i label h in (suc c.0, omega (arith, c.1), c.2)
 
 -- where labels are distinct, what stands anywhere with a label is the one of this label

@@ -1,5 +1,6 @@
 -- Numbers tell pairs apart, and marks by them tell which pairs were met.
-use Rattle.std.proofs.Common.{◌≡◌, ◌≢◌, ℕ, ◌+◌, ◌*◌, ◌^◌, ◌<◌, Bool, true, false, List, [], ◌∷◌, ◌++◌, length, map, Option, Some, None, option_map, option_and_then, if◌then◌else◌, refl, sym, ap, subst, ◌∙◌, arith, inl, inr}
+use Rattle.std.proofs.Common.{◌≡◌, ◌≢◌, ℕ, ◌+◌, ◌*◌, ◌^◌, ◌<◌, Bool, true, false, List, [], ◌∷◌, ◌++◌, length, map, Option, Some, None}
+use Rattle.std.proofs.Common.{option_map, option_and_then, if◌then◌else◌, refl, sym, ap, subst, ◌∙◌, arith, inl, inr}
 use Rattle.std.specs.Prelude.{nat_lt}
 use Rattle.std.proofs.lemmas.Bool.{cases_eq, ltb-true, eq-eqb, ne_eqb}
 use Rattle.std.proofs.lemmas.Option.{none-some}
@@ -20,7 +21,8 @@ if_some true x i h = (refl, some_is x i h)
 if_some false x i h = absurd (none-some i h)
 
 place_same : (count : ℕ) (p q : To) (i : ℕ) → place_number count p ≡ Some i → place_number count q ≡ Some i → p ≡ q
-place_same count (tos.State m) (tos.State n) i h k = ap tos.State ((if_some (nat_lt m count) m i h).1 ∙ sym (if_some (nat_lt n count) n i k).1)
+place_same count (tos.State m) (tos.State n) i h k =
+    ap tos.State ((if_some (nat_lt m count) m i h).1 ∙ sym (if_some (nat_lt n count) n i k).1)
 place_same count (tos.State m) tos.End i h k =
     let t = if_some (nat_lt m count) m i h in
     absurd (omega (arith, ltb-true m count t.0, t.1, some_is count i k))
@@ -59,7 +61,8 @@ pub number_same : (a b : ℕ) (x y : Pair) (i : ℕ) → number a b x ≡ Some i
 number_same a b x y i h k =
     let s = numbered a b x i h in
     let t = numbered a b y i k in
-    let e = same_from_place s.row s.column t.row t.column (b + 1) (place_most b x.b s.column s.in_b) (place_most b y.b t.column t.in_b) (s.is ∙ sym t.is) in
+    let e = same_from_place s.row s.column t.row t.column (b + 1) (place_most b x.b s.column s.in_b) (place_most b y.b t.column t.in_b)
+    (s.is ∙ sym t.is) in
     ap (λ (p : To). record { a = p; b = x.b }) (place_same a x.a y.a s.row s.in_a (t.in_a ∙ ap Some (sym e.0)))
     ∙ ap (λ (q : To). record { a = y.a; b = q }) (place_same b x.b y.b s.column s.in_b (t.in_b ∙ ap Some (sym e.1)))
 
@@ -103,10 +106,12 @@ marked-more slot apart before after pairs x i m at now kept = record {
   each = λ pair k e. elim (cases_eq k i) [
     | inl is ↦
         ap after is ∙ now
-        ∙ sym (holds-push pairs x pair ∙ ap (λ (t : Bool). if holds pairs pair then true else t) (ap (same_pair x) (apart pair x i (e ∙ ap Some is) at) ∙ same_pair-self x) ∙ or_true (holds pairs pair))
+        ∙ sym (holds-push pairs x pair ∙ ap (λ (t : Bool). if holds pairs pair then true else t)
+        (ap (same_pair x) (apart pair x i (e ∙ ap Some is) at) ∙ same_pair-self x) ∙ or_true (holds pairs pair))
     | inr ne ↦
         kept k ne ∙ m.each pair k e
-        ∙ sym (holds-push pairs x pair ∙ ap (λ (t : Bool). if holds pairs pair then true else t) (apart-pair x pair (λ same. ne (some_is k i (sym e ∙ ap slot (sym same) ∙ at)))) ∙ or_false (holds pairs pair))
+        ∙ sym (holds-push pairs x pair ∙ ap (λ (t : Bool). if holds pairs pair then true else t)
+        (apart-pair x pair (λ same. ne (some_is k i (sym e ∙ ap slot (sym same) ∙ at)))) ∙ or_false (holds pairs pair))
   ];
 }
 
@@ -115,7 +120,8 @@ pub marked-past : (slot : Pair → Option ℕ) (is_marked : ℕ → Bool) (pairs
 marked-past slot is_marked pairs x m none = record {
   each = λ pair k e.
       m.each pair k e
-      ∙ sym (holds-push pairs x pair ∙ ap (λ (t : Bool). if holds pairs pair then true else t) (apart-pair x pair (λ same. none-some k (sym none ∙ ap slot same ∙ e))) ∙ or_false (holds pairs pair));
+      ∙ sym (holds-push pairs x pair ∙ ap (λ (t : Bool). if holds pairs pair then true else t)
+      (apart-pair x pair (λ same. none-some k (sym none ∙ ap slot same ∙ e))) ∙ or_false (holds pairs pair));
 }
 
 -- ---- what was met
@@ -143,7 +149,8 @@ pub search-blank : (a b : ℕ) (is : ℕ → Bool) (ms : List Met) → a < 2 ^ 3
 search-blank a b is ms h k blank none = record {
   few_a = h;
   few_b = k;
-  marked = subst (λ (ms : List Met). AreMarked (number a b) is (map (λ (m : Met). m.pair) ms)) (sym none) (blank-marked (number a b) is blank);
+  marked = subst (λ (ms : List Met). AreMarked (number a b) is (map (λ (m : Met). m.pair) ms)) (sym none)
+      (blank-marked (number a b) is blank);
   rooted = subst AreRooted (sym none) rooted-none;
 }
 
@@ -152,7 +159,8 @@ pairs-more : (a b : ℕ) (before after : ℕ → Bool) (pairs : List Pair) (pair
 pairs-more a b before after pairs pair None m of step =
     is-marked (number a b) before after (pairs ++ pair ∷ []) (marked-past (number a b) before pairs pair m of) step
 pairs-more a b before after pairs pair (Some i) m of step =
-    marked-more (number a b) (number_same a b) before after pairs pair i m of (step i ∙ ap (λ (t : Bool). if t then true else before i) (eq-eqb i i refl))
+    marked-more (number a b) (number_same a b) before after pairs pair i m of (step i ∙ ap (λ (t : Bool). if t then true else before i)
+    (eq-eqb i i refl))
     (λ k ne. step k ∙ ap (λ (t : Bool). if t then true else before k) (ne_eqb i k (λ e. ne (sym e))))
 
 pub search-kept : (a b : ℕ) (before after : ℕ → Bool) (ms news : List Met) (m : Met) (o : Option ℕ) → IsSearch a b before ms
@@ -161,7 +169,8 @@ pub search-kept : (a b : ℕ) (before after : ℕ → Bool) (ms news : List Met)
 search-kept a b before after ms news m o s fine is of step = subst (IsSearch a b after) (sym is) (record {
   few_a = s.few_a;
   few_b = s.few_b;
-  marked = subst (AreMarked (number a b) after) (sym (pairs-met ms m)) (pairs-more a b before after (map (λ (m : Met). m.pair) ms) m.pair o s.marked (sym of) step);
+  marked = subst (AreMarked (number a b) after) (sym (pairs-met ms m)) (pairs-more a b before after (map (λ (m : Met). m.pair) ms) m.pair o
+      s.marked (sym of) step);
   rooted = rooted-more ms m s.rooted fine;
 })
 

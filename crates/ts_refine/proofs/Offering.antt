@@ -1,5 +1,6 @@
 -- Where a method of a name stands.
-use Rattle.std.proofs.Common.{◌≡◌, ◌≢◌, ℕ, zero, suc, ◌+◌, ◌<◌, ◌≤◌, Bool, true, false, List, [], ◌∷◌, length, drop, map, Option, Some, None, option_map, slice_get, refl, sym, ap, subst, ◌∙◌, arith}
+use Rattle.std.proofs.Common.{◌≡◌, ◌≢◌, ℕ, zero, suc, ◌+◌, ◌<◌, ◌≤◌, Bool, true, false, List, [], ◌∷◌, length, drop, map, Option, Some}
+use Rattle.std.proofs.Common.{None, option_map, slice_get, refl, sym, ap, subst, ◌∙◌, arith}
 use Rattle.std.specs.Prelude.{Contains, IfSome}
 use Rattle.std.proofs.lemmas.Bool.{false≢true}
 use Rattle.std.proofs.lemmas.Option.{slice_get_past}
@@ -40,7 +41,8 @@ named_among : (ms : List KeptMethod) (i : ℕ) (name : Name) → stands_at ms i 
     → Contains (map (λ (m : Method). m.name) (map method_of ms)) name
 named_among [] zero name h = absurd (false≢true h)
 named_among [] (suc i) name h = absurd (false≢true h)
-named_among (m ∷ ms) zero name h = subst (Contains (m.name ∷ map (λ (m : Method). m.name) (map method_of ms))) (same_name m.name name h) (here m.name (map (λ (m : Method). m.name) (map method_of ms)))
+named_among (m ∷ ms) zero name h = subst (Contains (m.name ∷ map (λ (m : Method). m.name) (map method_of ms))) (same_name m.name name h)
+    (here m.name (map (λ (m : Method). m.name) (map method_of ms)))
 named_among (m ∷ ms) (suc i) name h = let c = named_among ms i name h in (suc c.0, omega (arith, c.1), c.2)
 
 -- where names are distinct, what stands anywhere with a name is the one of this name
@@ -50,7 +52,8 @@ stands-only [] zero name apart h = absurd (false≢true h)
 stands-only [] (suc i) name apart h = absurd (false≢true h)
 stands-only (m ∷ ms) zero name apart h = rw h refl
 stands-only (m ∷ ms) (suc i) name apart h =
-    let ne : m.name ≢ name = λ e. apart.0 (subst (Contains (map (λ (m : Method). m.name) (map method_of ms))) (sym e) (named_among ms i name h)) in
+    let ne : m.name ≢ name = λ e. apart.0 (subst (Contains (map (λ (m : Method). m.name) (map method_of ms))) (sym e)
+    (named_among ms i name h)) in
     rw (other_name m.name name ne) (stands-only ms i name apart.1 h)
 
 -- the labels of what is offered are distinct
@@ -78,7 +81,8 @@ found-along ms i name r so_far is holds = from-here ms i name (sym is ∙ holds)
 pub passed-along : (ms : List KeptMethod) (i : ℕ) (name : Name) (r : Bool)
     → offered_in (map method_of (drop i ms)) name ≡ offered_in (map method_of ms) name → i < length ms → r ≡ stands_at ms i name
     → r ≡ false → offered_in (map method_of (drop (i + 1) ms)) name ≡ offered_in (map method_of ms) name
-passed-along ms i name r so_far lt is fails = ap (λ k. offered_in (map method_of (drop k ms)) name) (plus-one i) ∙ sym (further ms i name lt (sym is ∙ fails)) ∙ so_far
+passed-along ms i name r so_far lt is fails = ap (λ k. offered_in (map method_of (drop k ms)) name) (plus-one i) ∙
+    sym (further ms i name lt (sym is ∙ fails)) ∙ so_far
 
 pub all-passed : (ms : List KeptMethod) (i : ℕ) (name : Name)
     → offered_in (map method_of (drop i ms)) name ≡ offered_in (map method_of ms) name → length ms ≤ i

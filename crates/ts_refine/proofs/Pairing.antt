@@ -1,5 +1,6 @@
 -- The pairs that were met: the first, and those of the visits.
-use Rattle.std.proofs.Common.{◌≡◌, ℕ, zero, suc, ◌+◌, ◌-◌, ◌^◌, ◌<◌, ◌≤◌, Bool, true, false, List, [], ◌∷◌, ◌++◌, length, get_or, drop, map, take, Option, Some, None, if◌then◌else◌, slice_get, refl, sym, ap, subst, ◌∙◌, arith}
+use Rattle.std.proofs.Common.{◌≡◌, ℕ, zero, suc, ◌+◌, ◌-◌, ◌^◌, ◌<◌, ◌≤◌, Bool, true, false, List, [], ◌∷◌, ◌++◌, length, get_or, drop, map}
+use Rattle.std.proofs.Common.{take, Option, Some, None, if◌then◌else◌, slice_get, refl, sym, ap, subst, ◌∙◌, arith}
 use Rattle.std.specs.Prelude.{IfSome}
 use Rattle.std.proofs.lemmas.List.{at_drop_more, at_drop_all, take_more, take_all}
 use Rattle.std.proofs.lemmas.Option.{slice_get-get_or}
@@ -31,7 +32,8 @@ step-later [] i v lt is = absurd (omega (arith, lt))
 step-later (w ∷ vs) zero v lt is = (ap (λ (v : Visit). v.step.parent) (sym is), ap (λ (v : Visit). call_by v.step) (sym is))
 step-later (w ∷ vs) (suc i) v lt is = step-later vs i v (omega (arith, lt)) is
 
-pair-later : (vs : List Visit) (i : ℕ) (d : Visit) → i < length vs → slice_get (map (λ (v : Visit). v.pair) vs) i ≡ Some (get_or vs i d).pair
+pair-later : (vs : List Visit) (i : ℕ) (d : Visit) → i < length vs → slice_get (map (λ (v : Visit). v.pair) vs) i ≡ Some
+    (get_or vs i d).pair
 pair-later [] i d lt = absurd (omega (arith, lt))
 pair-later (v ∷ vs) zero d lt = refl
 pair-later (v ∷ vs) (suc i) d lt = pair-later vs i d (omega (arith, lt))
@@ -40,7 +42,8 @@ pair-later (v ∷ vs) (suc i) d lt = pair-later vs i d (omega (arith, lt))
 pub begun : (a b : ℕ) (before after : ℕ → Bool) (p : Pair) (vs : List Visit) (o : Option ℕ) → a < 2 ^ 32 → b < 2 ^ 32
     → ((n : ℕ) → before n ≡ false) → o ≡ number a b p → ((k : ℕ) → after k ≡ marked before o k) → vs ≡ [] → IsSearch a b after (mets p vs)
 begun a b before after p vs o h k blank of step none =
-    search-kept a b before after [] (mets p vs) (met_first p) o (search-blank a b before [] h k blank refl) (λ lt. absurd (omega (arith, lt)))
+    search-kept a b before after [] (mets p vs) (met_first p) o (search-blank a b before [] h k blank refl)
+    (λ lt. absurd (omega (arith, lt)))
     (ap (λ (vs : List Visit). mets p vs) none) of step
 
 pub kept-view : (p : Pair) (vs news : List Visit) (v : Visit) → news ≡ vs ++ v ∷ [] → mets p news ≡ mets p vs ++ met_of v ∷ []
@@ -80,7 +83,8 @@ kept-step p vs (suc i) v some h is =
 pub kept-earlier : (a b : ℕ) (marks : ℕ → Bool) (p : Pair) (vs : List Visit) (i : ℕ) (v : Visit) → IsSearch a b marks (mets p vs)
     → 0 < i → i < length (mets p vs) → v ≡ get_or vs (i - 1) v → v.step.parent < i
 kept-earlier a b marks p vs i v s some h is = go (slice_get (mets p vs) i) refl (kept-step p vs i v some h is) where
-  go : (o : Option Met) → slice_get (mets p vs) i ≡ o → IfSome o (λ m. (m.parent ≡ v.step.parent) × (m.call ≡ call_by v.step)) → v.step.parent < i
+  go : (o : Option Met) → slice_get (mets p vs) i ≡ o → IfSome o (λ m. (m.parent ≡ v.step.parent) × (m.call ≡ call_by v.step)) →
+      v.step.parent < i
   go None e step = absurd (some_none (get_or (mets p vs) i (met_first p)) (sym (slice_get-get_or (mets p vs) i (met_first p) h) ∙ e))
   go (Some m) e step = subst (λ p. p < i) step.0 (s.rooted.each i m e some)
 
@@ -90,7 +94,8 @@ kept-marked a b marks p vs pair o i s of some = marked-is a b marks (mets p vs) 
 
 pub held-first : (p : Pair) (vs : List Visit) (pair : Pair) (r : Bool) → r ≡ same_pair p pair → r ≡ true
     → true ≡ holds (map (λ (m : Met). m.pair) (mets p vs)) pair
-held-first p vs pair r is e = sym (ap (λ (t : Bool). if t then true else holds (map (λ (m : Met). m.pair) (map met_of vs)) pair) (sym is ∙ e))
+held-first p vs pair r is e = sym (ap (λ (t : Bool). if t then true else holds (map (λ (m : Met). m.pair) (map met_of vs)) pair)
+    (sym is ∙ e))
 
 pub held-later : (p : Pair) (vs : List Visit) (pair : Pair) (r s : Bool) → r ≡ same_pair p pair → r ≡ false
     → s ≡ holds (map (λ (v : Visit). v.pair) vs) pair → s ≡ holds (map (λ (m : Met). m.pair) (mets p vs)) pair
@@ -117,10 +122,26 @@ pub taken-more : (p : Pair) (vs : List Visit) (i : ℕ) (v : Visit) (ps : List P
     → ps ≡ p ∷ map (λ (v : Visit). v.pair) (take i vs) → ps ++ v.pair ∷ [] ≡ p ∷ map (λ (v : Visit). v.pair) (take (i + 1) vs)
 taken-more p vs i v ps h is e =
     ap (λ (qs : List Pair). qs ++ v.pair ∷ []) e
-    ∙ ap (λ (qs : List Pair). p ∷ qs) (sym (ap (map (λ (v : Visit). v.pair)) (take_more vs i v h ∙ ap (λ (w : Visit). take i vs ++ w ∷ []) (sym is)) ∙ push-pairs (take i vs) v))
+    ∙ ap (λ (qs : List Pair). p ∷ qs)
+    (sym (ap (map (λ (v : Visit). v.pair)) (take_more vs i v h ∙ ap (λ (w : Visit). take i vs ++ w ∷ []) (sym is)) ∙
+    push-pairs (take i vs) v))
 
 pub taken-all : (p : Pair) (vs : List Visit) (i : ℕ) (ps : List Pair) → length vs ≤ i
     → ps ≡ p ∷ map (λ (v : Visit). v.pair) (take i vs) → ps ≡ p ∷ map (λ (v : Visit). v.pair) vs
 taken-all p vs i ps h e = e ∙ ap (λ (ws : List Visit). p ∷ map (λ (v : Visit). v.pair) ws) (take_all i vs h)
 
-pub ruleset pairs = (taken-more, taken-all, kept-length, first-pair, later-pair, later-within, kept-step, kept-earlier, kept-marked, held-first, held-later, visits-drop, visits-past)
+pub ruleset pairs = (
+  taken-more,
+  taken-all,
+  kept-length,
+  first-pair,
+  later-pair,
+  later-within,
+  kept-step,
+  kept-earlier,
+  kept-marked,
+  held-first,
+  held-later,
+  visits-drop,
+  visits-past,
+)

@@ -1,5 +1,6 @@
 -- Two typestates have one verdict.
-use Rattle.std.proofs.Common.{◌≡◌, ℕ, zero, suc, ◌<◌, ◌≤◌, List, [], ◌∷◌, length, Some, refl, sym, ap, subst, ◌∙◌, arith, inl, inr, ◌⊎◌, if◌then◌else◌, Bool, true, false}
+use Rattle.std.proofs.Common.{◌≡◌, ℕ, zero, suc, ◌<◌, ◌≤◌, List, [], ◌∷◌, length, Some, refl, sym, ap, subst, ◌∙◌, arith, inl, inr, ◌⊎◌}
+use Rattle.std.proofs.Common.{if◌then◌else◌, Bool, true, false}
 use Rattle.std.specs.Prelude.{Contains}
 use Rattle.std.specs.Str.{bytes_eq}
 use Rattle.std.proofs.Math.ListN.{length-map}
@@ -12,7 +13,8 @@ use Rattle.ts_refine.specs.declared.verdict.Pair.{Pair}
 use Rattle.ts_refine.specs.declared.verdict.Reason.{Reason}
 use Rattle.ts_refine.specs.declared.verdict.Reason.TheVariants as reasons
 use Rattle.ts_refine.specs.Standing.{Fails, no_method, signature, labels, offered_at}
-use Rattle.ts_refine.specs.Orders.{methods_at, place_of, method_names, ComesBefore, answer_place, labels_in, IsEarlier, differs, goes_on, IsBefore, reason_place}
+use Rattle.ts_refine.specs.Orders.{methods_at, place_of, method_names, ComesBefore, answer_place, labels_in, IsEarlier, differs, goes_on}
+use Rattle.ts_refine.specs.Orders.{IsBefore, reason_place}
 use Rattle.ts_refine.specs.Verdicts.{AreApart, Stands, FailsFirst}
 use Rattle.ts_refine.proofs.Relating.{same_name, name_is, some_is, offered_at-is, offered_in-sound}
 use Rattle.ts_refine.proofs.Ordering.{before-trans}
@@ -41,10 +43,20 @@ no_more : (xs ys : List Pair) → AreApart xs → ((x : Pair) → Contains xs x 
 no_more [] ys apart h = omega arith
 no_more (x ∷ xs) ys apart h =
     let c = h x (here x xs) in
-    omega (arith, shorter ys c.0 c.1, no_more xs (without c.0 ys) apart.1 (λ z d. still_there ys x z c (h z (behind x xs z d)) (λ e. apart.0 (subst (Contains xs) (sym e) d))))
+    omega (
+      arith,
+      shorter ys c.0 c.1,
+      no_more xs (without c.0 ys) apart.1 (λ z d. still_there ys x z c (h z (behind x xs z d))
+          (λ e. apart.0 (subst (Contains xs) (sym e) d))),
+    )
 
 pub one_count : (a b : Typestate) (xs ys : List Pair) → Stands a b xs → Stands a b ys → length xs ≡ length ys
-one_count a b xs ys h k = omega (arith, no_more xs ys h.apart (λ x c. k.all x (h.only x c)), no_more ys xs k.apart (λ x c. h.all x (k.only x c)))
+one_count a b xs ys h k = omega (
+  arith,
+  no_more xs ys h.apart (λ x c. k.all x (h.only x c)),
+  no_more ys xs k.apart
+      (λ x c. h.all x (k.only x c)),
+)
 
 -- ---- one path
 not_earlier : (t : Typestate) (from : To) (cs ds : List Call) → IsEarlier t from cs ds → cs ≡ ds → ⊥
@@ -83,9 +95,10 @@ one_place : (names : List Name) (x y : Name) → Contains names x → Contains n
 one_place [] x y c d e = absurd (omega (arith, c.1))
 one_place (z ∷ names) x y c d e = go (bytes_eq z x) refl (bytes_eq z y) refl e (one_place names x y) where
   left : (n : Name) → bytes_eq z n ≡ false → Contains (z ∷ names) n → Contains names n
-  left n f c = elim (first_or_behind z names n c) [ inl is ↦ absurd (yes_no (sym (name_is z) ∙ ap (bytes_eq z) is ∙ f)) | inr more ↦ more ] where
-    yes_no : true ≡ false → ⊥
-    yes_no h = absurd cc
+  left n f c = elim (first_or_behind z names n c) [ inl is ↦ absurd (yes_no (sym (name_is z) ∙ ap (bytes_eq z) is ∙ f)) | inr more ↦ more ]
+    where
+      yes_no : true ≡ false → ⊥
+      yes_no h = absurd cc
 
   go : (s : Bool) → bytes_eq z x ≡ s → (t : Bool) → bytes_eq z y ≡ t →
       (if s then 0 else suc (place_of names x)) ≡ (if t then 0 else suc (place_of names y)) →
@@ -115,19 +128,24 @@ is_among a b p q reasons.NotFinished h = tt
 
 same_reason : (ms : List Method) (r s : Reason) → IsAmong (method_names ms) r → IsAmong (method_names ms) s
     → reason_place ms r ≡ reason_place ms s → r ≡ s
-same_reason ms (reasons.NoMethod x) (reasons.NoMethod y) c d e = ap reasons.NoMethod (one_place (method_names ms) x y c d (omega (arith, e)))
+same_reason ms (reasons.NoMethod x) (reasons.NoMethod y) c d e =
+    ap reasons.NoMethod (one_place (method_names ms) x y c d (omega (arith, e)))
 same_reason ms (reasons.NoMethod x) (reasons.SignatureDiffers y) c d e = absurd (omega (arith, e))
 same_reason ms (reasons.NoMethod x) (reasons.LabelsDiffer y) c d e = absurd (omega (arith, e))
-same_reason ms (reasons.NoMethod x) reasons.NotFinished c d e = absurd (omega (arith, e, within (method_names ms) x c, length-map ms (λ (m : Method). m.name)))
+same_reason ms (reasons.NoMethod x) reasons.NotFinished c d e =
+    absurd (omega (arith, e, within (method_names ms) x c, length-map ms (λ (m : Method). m.name)))
 same_reason ms (reasons.SignatureDiffers x) (reasons.NoMethod y) c d e = absurd (omega (arith, e))
-same_reason ms (reasons.SignatureDiffers x) (reasons.SignatureDiffers y) c d e = ap reasons.SignatureDiffers (one_place (method_names ms) x y c d (omega (arith, e)))
+same_reason ms (reasons.SignatureDiffers x) (reasons.SignatureDiffers y) c d e =
+    ap reasons.SignatureDiffers (one_place (method_names ms) x y c d (omega (arith, e)))
 same_reason ms (reasons.SignatureDiffers x) (reasons.LabelsDiffer y) c d e = absurd (omega (arith, e))
 same_reason ms (reasons.SignatureDiffers x) reasons.NotFinished c d e = absurd (omega (arith, e))
 same_reason ms (reasons.LabelsDiffer x) (reasons.NoMethod y) c d e = absurd (omega (arith, e))
 same_reason ms (reasons.LabelsDiffer x) (reasons.SignatureDiffers y) c d e = absurd (omega (arith, e))
-same_reason ms (reasons.LabelsDiffer x) (reasons.LabelsDiffer y) c d e = ap reasons.LabelsDiffer (one_place (method_names ms) x y c d (omega (arith, e)))
+same_reason ms (reasons.LabelsDiffer x) (reasons.LabelsDiffer y) c d e =
+    ap reasons.LabelsDiffer (one_place (method_names ms) x y c d (omega (arith, e)))
 same_reason ms (reasons.LabelsDiffer x) reasons.NotFinished c d e = absurd (omega (arith, e))
-same_reason ms reasons.NotFinished (reasons.NoMethod y) c d e = absurd (omega (arith, e, within (method_names ms) y d, length-map ms (λ (m : Method). m.name)))
+same_reason ms reasons.NotFinished (reasons.NoMethod y) c d e =
+    absurd (omega (arith, e, within (method_names ms) y d, length-map ms (λ (m : Method). m.name)))
 same_reason ms reasons.NotFinished (reasons.SignatureDiffers y) c d e = absurd (omega (arith, e))
 same_reason ms reasons.NotFinished (reasons.LabelsDiffer y) c d e = absurd (omega (arith, e))
 same_reason ms reasons.NotFinished reasons.NotFinished c d e = refl
@@ -137,10 +155,15 @@ one_failure a b cs ds r s h k =
     let path = one_path a b cs ds r s h k in
     let p_is : h.p ≡ k.p = some_is h.p k.p (sym h.reach.in_a ∙ ap (led a (initial a)) path ∙ k.reach.in_a) in
     let q_is : h.q ≡ k.q = some_is h.q k.q (sym h.reach.in_b ∙ ap (led b (initial b)) path ∙ k.reach.in_b) in
-    let there : Fails a b h.p h.q s = subst (λ (p : To). Fails a b p h.q s) (sym p_is) (subst (λ (q : To). Fails a b k.p q s) (sym q_is) k.fails) in
+    let there : Fails a b h.p h.q s = subst (λ (p : To). Fails a b p h.q s) (sym p_is) (subst (λ (q : To). Fails a b k.p q s) (sym q_is)
+    k.fails) in
     let here : Fails a b k.p k.q r = subst (λ (p : To). Fails a b p k.q r) p_is (subst (λ (q : To). Fails a b h.p q r) q_is h.fails) in
-    let back : reason_place (methods_at b h.q) s ≤ reason_place (methods_at b h.q) r = subst (λ (q : To). reason_place (methods_at b q) s ≤ reason_place (methods_at b q) r) (sym q_is) (k.first r here) in
-    (path, same_reason (methods_at b h.q) r s (is_among a b h.p h.q r h.fails) (is_among a b h.p h.q s there) (omega (arith, h.first s there, back)))
+    let back : reason_place (methods_at b h.q) s ≤ reason_place (methods_at b h.q) r =
+    subst (λ (q : To). reason_place (methods_at b q) s ≤ reason_place (methods_at b q) r) (sym q_is) (k.first r here) in (
+      path,
+      same_reason (methods_at b h.q) r s (is_among a b h.p h.q r h.fails) (is_among a b h.p h.q s there)
+          (omega (arith, h.first s there, back)),
+    )
 
 -- what stands for the other fails nowhere
 pub not_both : (a b : Typestate) (pairs : List Pair) (cs : List Call) (r : Reason) → Stands a b pairs → FailsFirst a b cs r → ⊥

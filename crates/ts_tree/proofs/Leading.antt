@@ -1,11 +1,13 @@
 -- One call leads to exactly the targets of the methods that a state offers.
-use Rattle.std.proofs.Common.{◌≡◌, ◌≢◌, ℕ, zero, suc, Bool, true, false, List, [], ◌∷◌, length, map, Option, Some, None, option_and_then, if◌then◌else◌, slice_get, refl, sym, ap, subst, ◌∙◌, arith, inl, inr, ◌⊎◌}
+use Rattle.std.proofs.Common.{◌≡◌, ◌≢◌, ℕ, zero, suc, Bool, true, false, List, [], ◌∷◌, length, map, Option, Some, None, option_and_then}
+use Rattle.std.proofs.Common.{if◌then◌else◌, slice_get, refl, sym, ap, subst, ◌∙◌, arith, inl, inr, ◌⊎◌}
 use Rattle.std.specs.Prelude.{Contains, IsSome}
 use Rattle.std.specs.Str.{bytes_eq}
 use Rattle.std.proofs.lemmas.Slice.Eq.{bytes_eq-Decides}
 use Rattle.std.proofs.lemmas.Bool.{false≢true}
 use Rattle.std.proofs.lemmas.Option.{none-some, option_and_then_some, slice_get_within, get_or_from_slice_get}
-use Rattle.std.proofs.lemmas.List.Elements.{All-contains, All-from_recursion, Contains-append_left, Contains-append_right, Contains-append_cases}
+use Rattle.std.proofs.lemmas.List.Elements.{All-contains, All-from_recursion, Contains-append_left, Contains-append_right}
+use Rattle.std.proofs.lemmas.List.Elements.{Contains-append_cases}
 use Rattle.mg_text.specs.Call.{Name, Call}
 use Rattle.ts_tree.specs.declared.parts.To.{To}
 use Rattle.ts_tree.specs.declared.parts.TypeName.{TypeName}
@@ -29,13 +31,17 @@ first_or_behind y xs x (suc k, lt, e) = inr (k, omega (arith, lt), e)
 
 pub in_map : {X Y : Type 0} (f : X → Y) (xs : List X) (x : X) → Contains xs x → Contains (map f xs) (f x)
 in_map f [] x (k, lt, e) = absurd (omega (arith, lt))
-in_map f (y ∷ xs) x h = elim (first_or_behind y xs x h) [ inl e ↦ subst (λ z. Contains (f y ∷ map f xs) (f z)) e (here (f y) (map f xs)) | inr more ↦ behind (f y) (map f xs) (f x) (in_map f xs x more) ]
+in_map f (y ∷ xs) x h = elim (first_or_behind y xs x h) [
+  | inl e ↦ subst (λ z. Contains (f y ∷ map f xs) (f z)) e (here (f y) (map f xs))
+  | inr more ↦ behind (f y) (map f xs) (f x) (in_map f xs x more)
+]
 
 -- ---- tests
 some_is : {X : Type 0} (x y : X) → Some x ≡ Some y → x ≡ y
 some_is x y h = cc
 
-pub chosen : {X : Type 0} (t : Bool) (x : X) (rest : Option X) (found : X) → (if t then Some x else rest) ≡ Some found → ((t ≡ true) × (x ≡ found)) ⊎ ((t ≡ false) × (rest ≡ Some found))
+pub chosen : {X : Type 0} (t : Bool) (x : X) (rest : Option X) (found : X) → (if t then Some x else rest) ≡ Some found →
+    ((t ≡ true) × (x ≡ found)) ⊎ ((t ≡ false) × (rest ≡ Some found))
 chosen true x rest found h = inl (refl, some_is x found h)
 chosen false x rest found h = inr (refl, h)
 
@@ -115,28 +121,37 @@ method_to (m ∷ ms) to h =
       | inr more ↦ let found = method_to ms to more in (found.0, behind m ms found.0 found.1, found.2)
     ]
 
-led_by-sound : (type : TypeName) (target : Target) (answer : Option Name) (to : To) → (IsSome answer → is_named type ≡ true) → led_by target answer ≡ Some to → Contains (targets_by type target) to
+led_by-sound : (type : TypeName) (target : Target) (answer : Option Name) (to : To) → (IsSome answer → is_named type ≡ true) →
+    led_by target answer ≡ Some to → Contains (targets_by type target) to
 led_by-sound type (One x) answer to named h = subst (Contains (x ∷ [])) (some_is x to h) (here x [])
 led_by-sound type (ByAnswer bs) None to named h = absurd (none-some to h)
 led_by-sound type (ByAnswer bs) (Some label) to named h = rw (named refl) (by_label-sound bs label to h)
 
 -- the answer with which a method leads there, if it may have one
-led_by-complete : (count : ℕ) (type : TypeName) (target : Target) (to : To) → IsTarget count target → Contains (targets_by type target) to → (answer : Option Name) × (IsSome answer → is_named type ≡ true) × (led_by target answer ≡ Some to)
+led_by-complete : (count : ℕ) (type : TypeName) (target : Target) (to : To) → IsTarget count target → Contains (targets_by type target) to →
+    (answer : Option Name) × (IsSome answer → is_named type ≡ true) × (led_by target answer ≡ Some to)
 led_by-complete count type (One x) to fine h =
-    elim (first_or_behind x [] to h) [ inl e ↦ (None, λ some. absurd (false≢true some), ap Some e) | inr none ↦ absurd (omega (arith, none.1)) ]
+    elim (first_or_behind x [] to h) [
+      | inl e ↦ (None, λ some. absurd (false≢true some), ap Some e)
+      | inr none ↦ absurd
+          (omega (arith, none.1))
+    ]
 led_by-complete count type (ByAnswer bs) to fine h = go (is_named type) refl h where
-  go : (t : Bool) → is_named type ≡ t → Contains (if t then map (λ b. b.to) bs else []) to → (answer : Option Name) × (IsSome answer → is_named type ≡ true) × (led_by (ByAnswer bs) answer ≡ Some to)
+  go : (t : Bool) → is_named type ≡ t → Contains (if t then map (λ b. b.to) bs else []) to → (answer : Option Name)
+      × (IsSome answer → is_named type ≡ true) × (led_by (ByAnswer bs) answer ≡ Some to)
   go true named among = let b = branch_to bs to among in (Some b.0.label, λ _. named, by_label-complete bs b.0 fine.1 b.1 ∙ ap Some b.2)
   go false named among = absurd (omega (arith, among.1))
 
-target_within : (count : ℕ) (type : TypeName) (target : Target) (to : To) → IsTarget count target → Contains (targets_by type target) to → IsWithin count to
+target_within : (count : ℕ) (type : TypeName) (target : Target) (to : To) → IsTarget count target → Contains (targets_by type target) to →
+    IsWithin count to
 target_within count type (One x) to fine h =
     elim (first_or_behind x [] to h) [ inl e ↦ subst (IsWithin count) e fine | inr none ↦ absurd (omega (arith, none.1)) ]
 target_within count type (ByAnswer bs) to fine h = go (is_named type) h where
   go : (t : Bool) → Contains (if t then map (λ b. b.to) bs else []) to → IsWithin count to
   go true among =
       let b = branch_to bs to among in
-      subst (IsWithin count) b.2 (All-contains (λ (b : Branch). IsWithin count b.to) bs b.0 (All-from_recursion (λ (b : Branch). IsWithin count b.to) bs fine.0) b.1)
+      subst (IsWithin count) b.2 (All-contains (λ (b : Branch). IsWithin count b.to) bs b.0
+      (All-from_recursion (λ (b : Branch). IsWithin count b.to) bs fine.0) b.1)
   go false among = absurd (omega (arith, among.1))
 
 is_named-from : (type : TypeName) (name : Name) → type ≡ types.Named name → is_named type ≡ true
@@ -163,12 +178,15 @@ module _ (t : Typestate) (proper : IsProper t.states) (q : ℕ) (s : State) (at 
   state : IsState (length t.states) s
   state = All-contains (IsState (length t.states)) t.states s (All-from_recursion (IsState (length t.states)) t.states proper.each) stands
 
-  next-at : (name : Name) (answer : Option Name) → next t q name answer ≡ option_and_then (λ m. led_by m.target answer) (offered_in s.methods name)
-  next-at name answer = ap (λ (o : Option State). option_and_then (λ m. led_by m.target answer) (option_and_then (λ s. offered_in s.methods name) o)) at
+  next-at : (name : Name) (answer : Option Name) → next t q name answer ≡ option_and_then (λ m. led_by m.target answer)
+      (offered_in s.methods name)
+  next-at name answer = ap (λ (o : Option State). option_and_then (λ m. led_by m.target answer)
+      (option_and_then (λ s. offered_in s.methods name) o)) at
 
   pub leads-sound : (to : To) → LeadsTo t q to → Contains (targets_in s.methods) to
   leads-sound to l =
-      option_and_then_some (λ m. led_by m.target l.call.answer) (offered_in s.methods l.call.method) to (sym (next-at l.call.method l.call.answer) ∙ l.goes)
+      option_and_then_some (λ m. led_by m.target l.call.answer) (offered_in s.methods l.call.method) to
+      (sym (next-at l.call.method l.call.answer) ∙ l.goes)
       (λ m offers leads.
       let found = offered_in-sound s.methods l.call.method m offers in
       let named : IsSome l.call.answer → is_named m.result ≡ true = λ some.
@@ -179,17 +197,20 @@ module _ (t : Typestate) (proper : IsProper t.states) (q : ℕ) (s : State) (at 
   pub leads-complete : (to : To) → Contains (targets_in s.methods) to → LeadsTo t q to
   leads-complete to h =
       let m = method_to s.methods to h in
-      let fine : IsTarget (length t.states) m.0.target = All-contains (λ m. IsTarget (length t.states) m.target) s.methods m.0 (All-from_recursion (λ m. IsTarget (length t.states) m.target) s.methods state.targets) m.1 in
+      let fine : IsTarget (length t.states) m.0.target = All-contains (λ m. IsTarget (length t.states) m.target) s.methods m.0
+      (All-from_recursion (λ m. IsTarget (length t.states) m.target) s.methods state.targets) m.1 in
       let a = led_by-complete (length t.states) m.0.result m.0.target to fine m.2 in
       record {
         call = record { method = m.0.name; answer = a.0 };
         fits = λ some. let n = named_as m.0.result (a.1 some) in (m.0, n.0, (s, stands, m.1), refl, n.1);
-        goes = next-at m.0.name a.0 ∙ ap (option_and_then (λ m. led_by m.target a.0)) (offered_in-complete s.methods m.0 state.methods m.1) ∙ a.2;
+        goes = next-at m.0.name a.0 ∙ ap (option_and_then (λ m. led_by m.target a.0)) (offered_in-complete s.methods m.0 state.methods m.1)
+            ∙ a.2;
       }
 
   -- each target is a state or the end
   pub targets_within : (to : To) → Contains (targets_in s.methods) to → IsWithin (length t.states) to
   targets_within to h =
       let m = method_to s.methods to h in
-      let fine : IsTarget (length t.states) m.0.target = All-contains (λ m. IsTarget (length t.states) m.target) s.methods m.0 (All-from_recursion (λ m. IsTarget (length t.states) m.target) s.methods state.targets) m.1 in
+      let fine : IsTarget (length t.states) m.0.target = All-contains (λ m. IsTarget (length t.states) m.target) s.methods m.0
+      (All-from_recursion (λ m. IsTarget (length t.states) m.target) s.methods state.targets) m.1 in
       target_within (length t.states) m.0.result m.0.target to fine m.2

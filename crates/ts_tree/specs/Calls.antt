@@ -1,5 +1,6 @@
 -- Which calls a typestate allows.
-use Rattle.std.specs.Prelude.{◌≡◌, ℕ, Bool, true, false, List, [], ◌∷◌, Option, Some, None, IfSome, IsSome, slice_get, option_and_then, if◌then◌else◌}
+use Rattle.std.specs.Prelude.{◌≡◌, ℕ, Bool, true, false, List, [], ◌∷◌, Option, Some, None, IfSome, IsSome, slice_get, option_and_then}
+use Rattle.std.specs.Prelude.{if◌then◌else◌}
 use Rattle.std.specs.List.{AllByRecursion}
 use Rattle.std.specs.Str.{bytes_eq}
 use Rattle.mg_text.specs.Call.{Name, Call}
@@ -59,7 +60,8 @@ may_end t tos.End = true
 
 -- a call has an answer only if a method of its name has a result of a named type
 abbrev pub Fits : Typestate → Call → Type 0
-Fits t call = IsSome call.answer → (m : Method) × (type : Name) × IsOffered t.states m × (m.name ≡ call.method) × (m.result ≡ types.Named type)
+Fits t call = IsSome call.answer → (m : Method) × (type : Name) × IsOffered t.states m × (m.name ≡ call.method)
+    × (m.result ≡ types.Named type)
 
 -- the place offers this method
 abbrev pub Offers : Typestate → To → Name → Type 0

@@ -37,4 +37,5 @@ pub record IsProper (states : List State) : Type 0 where
   pub states_differ : AreDistinct (map (λ s. s.name) states)
   pub each : AllByRecursion (IsState (length states)) states
   -- methods of one name have one result and the same parameters
-  pub one_signature : (m n : Method) → IsOffered states m → IsOffered states n → m.name ≡ n.name → (m.result ≡ n.result) × (m.params ≡ n.params)
+  pub one_signature : (m n : Method) → IsOffered states m → IsOffered states n → m.name ≡ n.name → (m.result ≡ n.result)
+      × (m.params ≡ n.params)

@@ -19,7 +19,8 @@ pub one_demand : (p : Program) (a b : Demand) → FailsFirst p a → FailsFirst 
 one_demand p a b x y =
     let r : y.reached ≡ x.reached = reached_same p y.reached x.reached y.are x.are in
     let least : Least p x.reached y.tables = subst (λ r. Least p r y.tables) r y.least in
-    let first : slice_get (all_failed p x.reached y.tables) 0 ≡ Some b = subst (λ r. slice_get (all_failed p r y.tables) 0 ≡ Some b) r y.first in
+    let first : slice_get (all_failed p x.reached y.tables) 0 ≡ Some b = subst (λ r. slice_get (all_failed p r y.tables) 0 ≡ Some b) r
+    y.first in
     let same : all_failed p x.reached x.tables ≡ all_failed p x.reached y.tables = members_decide p x.reached x.tables y.tables
     (record { each = x.least.within y.tables least.closed }) (record { each = least.within x.tables x.least.closed }) in
     some_same a b (sym x.first ∙ ap (λ ds. slice_get ds 0) same ∙ first)

@@ -12,7 +12,8 @@ use Rattle.use_flow.proofs.Reached.{reached_same}
 use Rattle.use_check.specs.Report.{lines, report_text, IsReport, OneReport}
 use Rattle.use_check.specs.Verdict.{AreAnswer}
 
-members_same : (k : ℕ) (s t : List Bool) → ((i : ℕ) → has s i ≡ true → has t i ≡ true) → ((i : ℕ) → has t i ≡ true → has s i ≡ true) → members_from k s ≡ members_from k t
+members_same : (k : ℕ) (s t : List Bool) → ((i : ℕ) → has s i ≡ true → has t i ≡ true) → ((i : ℕ) → has t i ≡ true → has s i ≡ true) →
+    members_from k s ≡ members_from k t
 members_same k [] [] f g = refl
 members_same k [] (true ∷ t) f g = absurd (false≢true (g 0 refl))
 members_same k [] (false ∷ t) f g = members_same (suc k) [] t (λ i. f (suc i)) (λ i. g (suc i))
@@ -30,9 +31,13 @@ pub one_report : OneReport
 one_report p a b x y =
     let r : y.reached ≡ x.reached = reached_same p y.reached x.reached y.are x.are in
     let least : Least p x.reached y.tables = subst (λ r. Least p r y.tables) r y.least in
-    let same : (λ key. members (x.tables key)) ≡ (λ key. members (y.tables key)) = each_key (λ key. members (x.tables key)) (λ key. members (y.tables key))
-    (λ key. members_same 0 (x.tables key) (y.tables key) (x.least.within y.tables least.closed key).within (least.within x.tables x.least.closed key).within) in
-    x.is ∙ ap (λ e. lines (record { program = p; reached = x.reached; elements = e })) same ∙ ap (λ r. report_text p r y.tables) (sym r) ∙ sym y.is
+    let same : (λ key. members (x.tables key)) ≡ (λ key. members (y.tables key)) = each_key (λ key. members (x.tables key))
+    (λ key. members (y.tables key))
+    (λ key. members_same 0 (x.tables key) (y.tables key) (x.least.within y.tables least.closed key).within
+    (least.within x.tables x.least.closed key).within) in
+    x.is ∙ ap (λ e. lines (record { program = p; reached = x.reached; elements = e })) same ∙ ap (λ r. report_text p r y.tables) (sym r) ∙
+    sym y.is
 
-pub is_report : (p : Program) (t : held.Tables) (text : Name) → AreAnswer p t → text ≡ report_text p (reached_of t) (tables_of t) → IsReport p text
+pub is_report : (p : Program) (t : held.Tables) (text : Name) → AreAnswer p t → text ≡ report_text p (reached_of t) (tables_of t) →
+    IsReport p text
 is_report p t text a e = record { reached = reached_of t; are = a.made.reached; tables = tables_of t; least = a.least; is = e }

@@ -1,6 +1,8 @@
--- The report: what each table of a class's objects holds, a line for each. First the fields, class by class, state by state of those that calls
+-- The report: what each table of a class's objects holds, a line for each. First the fields, class by class, state by state of those that
+-- calls
 -- lead to; then, context by context, its parameters, its result, a helper's fields as it is entered and left, and its loops.
-use Rattle.std.specs.Prelude.{◌≡◌, ℕ, suc, ◌+◌, Bool, true, false, List, [], ◌∷◌, ◌++◌, length, take, Some, None, slice_get, codes, if◌then◌else◌}
+use Rattle.std.specs.Prelude.{◌≡◌, ℕ, suc, ◌+◌, Bool, true, false, List, [], ◌∷◌, ◌++◌, length, take, Some, None, slice_get, codes}
+use Rattle.std.specs.Prelude.{if◌then◌else◌}
 use Rattle.std.specs.List.{flat_map}
 use Rattle.std.specs.Fmt.{decimal}
 use Rattle.mg_text.specs.Call.{Name}

@@ -7,8 +7,10 @@ ghost use Rattle.std.specs.List.{flat_map};
 ghost use Rattle.jv_core.specs.View.{method_of, slot_of, loop_of};
 ghost use Rattle.use_rules.specs.Keys.{method_in};
 ghost use Rattle.use_flow.specs.inner.Fields.{key_in};
-ghost use Rattle.use_check.specs.Report.{is_instance, is_helper, class_text, where_text, context_text, param_lines, result_line, own_fields, field_lines, front_of, param_line};
-ghost use Rattle.use_check.specs.Report.{helper_lines, helper_lines_of, slot_line, head_fields, head_lines, loop_lines, named_lines, method_lines, context_lines, in_order};
+ghost use Rattle.use_check.specs.Report.{is_instance, is_helper, class_text, where_text, context_text, param_lines, result_line};
+ghost use Rattle.use_check.specs.Report.{own_fields, field_lines, front_of, param_line};
+ghost use Rattle.use_check.specs.Report.{helper_lines, helper_lines_of, slot_line, head_fields, head_lines, loop_lines, named_lines};
+ghost use Rattle.use_check.specs.Report.{method_lines, context_lines, in_order};
 ghost use Rattle.use_check.specs.inner.Reported.{seen};
 
 use crate::lines::{Reporter, put_state};
@@ -137,7 +139,8 @@ impl<'a> Reporter<'a> {
         place: usize,
         slot: &CoreSlot,
     ) -> Result<(), Memory>
-        ensures { OnOk result (string_bytes out.new ≡ string_bytes out.old ++ param_line (seen self.now) front.now context place (slot_of slot.now)) }
+        ensures { OnOk result (string_bytes out.new ≡ string_bytes out.old ++ param_line (seen self.now) front.now context place
+            (slot_of slot.now)) }
     {
         let param = number(place)?;
         let key = TableKey::Param { context, param };
@@ -153,7 +156,8 @@ impl<'a> Reporter<'a> {
         context: u32,
         params: &[CoreSlot],
     ) -> Result<(), Memory>
-        ensures { OnOk result (string_bytes out.new ≡ string_bytes out.old ++ param_lines (seen self.now) name.now context (map slot_of params.now)) }
+        ensures { OnOk result (string_bytes out.new ≡ string_bytes out.old ++ param_lines (seen self.now) name.now context
+            (map slot_of params.now)) }
     {
         let front = front_of(alloc, "param ", name)?;
         for place in 0..params.len() {
@@ -188,7 +192,8 @@ impl<'a> Reporter<'a> {
         table: FieldTable,
         method: &CoreMethod,
     ) -> Result<(), Memory>
-        ensures { OnOk result (string_bytes out.new ≡ string_bytes out.old ++ field_lines (seen self.now) front.now (key_in table) (own_fields (seen self.now) (method_of method.now))) }
+        ensures { OnOk result (string_bytes out.new ≡ string_bytes out.old ++ field_lines (seen self.now) front.now (key_in table)
+            (own_fields (seen self.now) (method_of method.now))) }
     {
         match class_at(self.core, method.class) {
             Some(class) => self.put_fields(out, front, table, class.fields.as_slice()),
@@ -206,7 +211,8 @@ impl<'a> Reporter<'a> {
         table: FieldTable,
         method: &CoreMethod,
     ) -> Result<(), Memory>
-        ensures { OnOk result (string_bytes out.new ≡ string_bytes out.old ++ field_lines (seen self.now) (front_of (seen self.now) word.now name.now) (key_in table) (own_fields (seen self.now) (method_of method.now))) }
+        ensures { OnOk result (string_bytes out.new ≡ string_bytes out.old ++ field_lines (seen self.now)
+            (front_of (seen self.now) word.now name.now) (key_in table) (own_fields (seen self.now) (method_of method.now))) }
     {
         let front = front_of(alloc, word, name)?;
         self.put_own_fields(out, front.as_str(), table, method)
@@ -221,7 +227,8 @@ impl<'a> Reporter<'a> {
         method_number: u32,
         method: &CoreMethod,
     ) -> Result<(), Memory>
-        ensures { OnOk result (string_bytes out.new ≡ string_bytes out.old ++ helper_lines (seen self.now) name.now method_number (own_fields (seen self.now) (method_of method.now))) }
+        ensures { OnOk result (string_bytes out.new ≡ string_bytes out.old ++ helper_lines (seen self.now) name.now method_number
+            (own_fields (seen self.now) (method_of method.now))) }
     {
         let entered = FieldTable::Enter {
             method: method_number,
@@ -244,7 +251,8 @@ impl<'a> Reporter<'a> {
         slots: &[CoreSlot],
         slot: u32,
     ) -> Result<(), Memory>
-        ensures { OnOk result (string_bytes out.new ≡ string_bytes out.old ++ slot_line (seen self.now) front.now context loop_number (map slot_of slots.now) slot) }
+        ensures { OnOk result (string_bytes out.new ≡ string_bytes out.old ++ slot_line (seen self.now) front.now context loop_number
+            (map slot_of slots.now) slot) }
     {
         let Some(kept) = slots.get(slot as usize) else {
             return Ok(());
@@ -267,7 +275,8 @@ impl<'a> Reporter<'a> {
         slots: &[CoreSlot],
         scope: &[u32],
     ) -> Result<(), Memory>
-        ensures { OnOk result (string_bytes out.new ≡ string_bytes out.old ++ flat_map (slot_line (seen self.now) front.now context loop_number (map slot_of slots.now)) scope.now) }
+        ensures { OnOk result (string_bytes out.new ≡ string_bytes out.old
+            ++ flat_map (slot_line (seen self.now) front.now context loop_number (map slot_of slots.now)) scope.now) }
     {
         for slot in scope {
             self.put_slot(out, front, context, loop_number, slots, *slot)?;
@@ -284,7 +293,8 @@ impl<'a> Reporter<'a> {
         loop_number: u32,
         method: &CoreMethod,
     ) -> Result<(), Memory>
-        ensures { OnOk result (string_bytes out.new ≡ string_bytes out.old ++ head_fields (seen self.now) front.now context loop_number (method_of method.now)) }
+        ensures { OnOk result (string_bytes out.new ≡ string_bytes out.old ++ head_fields (seen self.now) front.now context loop_number
+            (method_of method.now)) }
     {
         if !is_instance(method.kind) {
             return Ok(());
@@ -308,7 +318,8 @@ impl<'a> Reporter<'a> {
         method: &CoreMethod,
         kept: &CoreLoop,
     ) -> Result<(), Memory>
-        ensures { OnOk result (string_bytes out.new ≡ string_bytes out.old ++ head_lines (seen self.now) front.now context loop_number (method_of method.now) (loop_of kept.now)) }
+        ensures { OnOk result (string_bytes out.new ≡ string_bytes out.old ++ head_lines (seen self.now) front.now context loop_number
+            (method_of method.now) (loop_of kept.now)) }
     {
         let slots = method.slots.as_slice();
         let scope = kept.scope.as_slice();
@@ -325,7 +336,8 @@ impl<'a> Reporter<'a> {
         context: u32,
         method: &CoreMethod,
     ) -> Result<(), Memory>
-        ensures { OnOk result (string_bytes out.new ≡ string_bytes out.old ++ in_order (loop_lines (seen self.now) name.now context (method_of method.now)) 0 (method_of method.now).loops) }
+        ensures { OnOk result (string_bytes out.new ≡ string_bytes out.old
+            ++ in_order (loop_lines (seen self.now) name.now context (method_of method.now)) 0 (method_of method.now).loops) }
     {
         let loops = method.loops.as_slice();
         for place in 0..loops.len() {
@@ -346,7 +358,8 @@ impl<'a> Reporter<'a> {
         method_number: u32,
         method: &CoreMethod,
     ) -> Result<(), Memory>
-        ensures { OnOk result (string_bytes out.new ≡ string_bytes out.old ++ helper_lines_of (seen self.now) name.now method_number (method_of method.now)) }
+        ensures { OnOk result (string_bytes out.new ≡ string_bytes out.old ++ helper_lines_of (seen self.now) name.now method_number
+            (method_of method.now)) }
     {
         if !is_helper(method.kind) {
             return Ok(());
@@ -364,7 +377,8 @@ impl<'a> Reporter<'a> {
         context: Context,
         method: &CoreMethod,
     ) -> Result<(), Memory>
-        ensures { OnOk result (string_bytes out.new ≡ string_bytes out.old ++ named_lines (seen self.now) name.now context_number context (method_of method.now)) }
+        ensures { OnOk result (string_bytes out.new ≡ string_bytes out.old ++ named_lines (seen self.now) name.now context_number context
+            (method_of method.now)) }
     {
         self.put_params(alloc, out, name, context_number, params_of(method))?;
         self.put_result(out, name, context_number, method.result)?;
@@ -381,7 +395,8 @@ impl<'a> Reporter<'a> {
         context: Context,
         method: &CoreMethod,
     ) -> Result<(), Memory>
-        ensures { OnOk result (string_bytes out.new ≡ string_bytes out.old ++ method_lines (seen self.now) context_number context (method_of method.now)) }
+        ensures { OnOk result (string_bytes out.new ≡ string_bytes out.old ++ method_lines (seen self.now) context_number context
+            (method_of method.now)) }
     {
         let name = self.context_name(alloc, context, method)?;
         self.put_named(alloc, out, name.as_str(), context_number, context, method)

@@ -32,7 +32,8 @@ pub(crate) fn put_state(
     typestate: Option<&Typestate>,
     state: usize,
 ) -> Result<(), Memory>
-    ensures { OnOk result (string_bytes out.new ≡ string_bytes out.old ++ state_text (typestate_or_end (option_map (λ t. t.now) typestate.entry)) state) }
+    ensures { OnOk result (string_bytes out.new ≡ string_bytes out.old
+        ++ state_text (typestate_or_end (option_map (λ t. t.now) typestate.entry)) state) }
 {
     let Some(typestate) = typestate else {
         return Ok(());
@@ -46,7 +47,8 @@ pub(crate) fn put_state(
 // Appends an element by its place, with a blank before it.
 #[tactic(auto, using(use_flow::proofs::Leading::leading))]
 fn put_member(out: &mut String, typestate: Option<&Typestate>, element: usize) -> Result<(), Memory>
-    ensures { OnOk result (string_bytes out.new ≡ string_bytes out.old ++ member_text (typestate_or_end (option_map (λ t. t.now) typestate.entry)) element) }
+    ensures { OnOk result (string_bytes out.new ≡ string_bytes out.old
+        ++ member_text (typestate_or_end (option_map (λ t. t.now) typestate.entry)) element) }
 {
     if element == 0 {
         out.push_str(" null")?;
@@ -70,7 +72,8 @@ fn put_members(
     typestate: Option<&Typestate>,
     set: &StateSet,
 ) -> Result<(), Memory>
-    ensures { OnOk result (string_bytes out.new ≡ string_bytes out.old ++ flat_map (member_text (typestate_or_end (option_map (λ t. t.now) typestate.entry))) (members set.now)) }
+    ensures { OnOk result (string_bytes out.new ≡ string_bytes out.old
+        ++ flat_map (member_text (typestate_or_end (option_map (λ t. t.now) typestate.entry))) (members set.now)) }
 {
     for element in 0..set.width() {
         if !set.has(element) {
@@ -83,7 +86,8 @@ fn put_members(
 
 // Appends what a set has, or `-` for a set without members.
 fn put_set(out: &mut String, typestate: Option<&Typestate>, set: &StateSet) -> Result<(), Memory>
-    ensures { OnOk result (string_bytes out.new ≡ string_bytes out.old ++ set_text (typestate_or_end (option_map (λ t. t.now) typestate.entry)) (members set.now)) }
+    ensures { OnOk result (string_bytes out.new ≡ string_bytes out.old
+        ++ set_text (typestate_or_end (option_map (λ t. t.now) typestate.entry)) (members set.now)) }
 {
     if set.iter().next().is_none() {
         out.push_str(" -")?;
@@ -107,7 +111,8 @@ impl<'a> Reporter<'a> {
 
     // Appends what a table has.
     fn put_held(&self, out: &mut String, class: u32, key: TableKey) -> Result<(), Memory>
-        ensures { OnOk result (string_bytes out.new ≡ string_bytes out.old ++ set_text (typestate_of (seen self.now).program class) ((seen self.now).elements key)) }
+        ensures { OnOk result (string_bytes out.new ≡ string_bytes out.old ++ set_text (typestate_of (seen self.now).program class)
+            ((seen self.now).elements key)) }
     {
         let typestate = typestate_of(self.core, class);
         match self.tables.find(key) {
@@ -162,7 +167,8 @@ impl<'a> Reporter<'a> {
         table: FieldTable,
         fields: &[CoreField],
     ) -> Result<(), Memory>
-        ensures { OnOk result (string_bytes out.new ≡ string_bytes out.old ++ field_lines (seen self.now) front.now (key_in table) (map field_of fields.now)) }
+        ensures { OnOk result (string_bytes out.new ≡ string_bytes out.old ++ field_lines (seen self.now) front.now (key_in table)
+            (map field_of fields.now)) }
     {
         for place in 0..fields.len() {
             let key = key_of(table, place)?;

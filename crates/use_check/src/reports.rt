@@ -45,7 +45,8 @@ impl<'a> Reporter<'a> {
         class: &CoreClass,
         state: usize,
     ) -> Result<(), Memory>
-        ensures { OnOk result (string_bytes out.new ≡ string_bytes out.old ++ state_lines (seen self.now) class_number (class_of class.now) state) }
+        ensures { OnOk result (string_bytes out.new ≡ string_bytes out.old ++ state_lines (seen self.now) class_number
+            (class_of class.now) state) }
     {
         let front = self.state_front(alloc, class_number, class, state)?;
         let table = FieldTable::State {
@@ -79,7 +80,8 @@ impl<'a> Reporter<'a> {
 
     // Appends the lines of all fields.
     fn put_classes(&self, alloc: Global, out: &mut String) -> Result<(), Memory>
-        ensures { OnOk result (string_bytes out.new ≡ string_bytes out.old ++ in_order (class_lines (seen self.now)) 0 (seen self.now).program.classes) }
+        ensures { OnOk result (string_bytes out.new ≡ string_bytes out.old ++ in_order (class_lines (seen self.now)) 0
+            (seen self.now).program.classes) }
     {
         let classes = self.core.classes();
         for place in 0..classes.len() {

@@ -1,5 +1,6 @@
 -- No two contexts of a program are equal, so their numbers are their places.
-use Rattle.std.proofs.Common.{◌≡◌, ℕ, suc, ◌+◌, ◌<◌, ◌≤◌, Bool, true, false, cond, ◌&&◌, ◌||◌, List, [], ◌∷◌, ◌++◌, length, get_or, drop, Option, Some, None, slice_get, is_some, refl, sym, ap, ◌∙◌, subst, arith, append_assoc}
+use Rattle.std.proofs.Common.{◌≡◌, ℕ, suc, ◌+◌, ◌<◌, ◌≤◌, Bool, true, false, cond, ◌&&◌, ◌||◌, List, [], ◌∷◌, ◌++◌, length, get_or, drop}
+use Rattle.std.proofs.Common.{Option, Some, None, slice_get, is_some, refl, sym, ap, ◌∙◌, subst, arith, append_assoc}
 use Rattle.std.specs.Prelude.{nat_eq}
 use Rattle.std.specs.List.{AllByRecursion, list_any}
 use Rattle.std.proofs.lemmas.Bool.{false≢true, eqb-true}
@@ -15,7 +16,8 @@ use Rattle.jv_core.specs.Lookup.{text_at}
 use Rattle.jv_core.specs.Tree.{Class, Method, Program}
 use Rattle.use_rules.specs.declared.key.Context.{Context}
 use Rattle.use_rules.specs.declared.key.Context.TheVariants as contexts
-use Rattle.use_rules.specs.Keys.{contexts_from, contexts_in, contexts_of, in_states, method_in, offering_states, reached_states, same_context, typestate_of}
+use Rattle.use_rules.specs.Keys.{contexts_from, contexts_in, contexts_of, in_states, method_in, offering_states, reached_states}
+use Rattle.use_rules.specs.Keys.{same_context, typestate_of}
 use Rattle.use_flow.specs.inner.Holding.{AreApart}
 use Rattle.use_flow.proofs.Keyed.{context_eq}
 use Rattle.use_flow.proofs.Listing.{every_append}
@@ -37,7 +39,8 @@ unless_true false h = refl
 
 -- Parts that are apart.
 
-apart_append : (xs ys : List Context) → AreApart xs → AreApart ys → AllByRecursion (λ x. AllByRecursion (λ y. same_context y x ≡ false) ys) xs → AreApart (xs ++ ys)
+apart_append : (xs ys : List Context) → AreApart xs → AreApart ys → AllByRecursion (λ x. AllByRecursion (λ y. same_context y x ≡ false) ys)
+    xs → AreApart (xs ++ ys)
 apart_append [] ys a b h = b
 apart_append (x ∷ xs) ys a b h = (every_append (λ y. same_context y x ≡ false) xs ys a.0 h.0, apart_append xs ys a.1 b h.1)
 
@@ -47,13 +50,15 @@ AreOf n xs = AllByRecursion (λ x. method_in x ≡ n) xs
 abbrev AreFrom : ℕ → List Context → Type 0
 AreFrom n xs = AllByRecursion (λ x. n ≤ method_in x) xs
 
-crossed_one : (n : ℕ) (x : Context) → method_in x ≡ n → (ys : List Context) → AreFrom (suc n) ys → AllByRecursion (λ y. same_context y x ≡ false) ys
+crossed_one : (n : ℕ) (x : Context) → method_in x ≡ n → (ys : List Context) → AreFrom (suc n) ys →
+    AllByRecursion (λ y. same_context y x ≡ false) ys
 crossed_one n x h [] a = tt
 crossed_one n x h (y ∷ ys) a =
     let le : suc n ≤ method_in y = a.0 in
     (unless_true (same_context y x) (λ e. let s = same_method y x e in omega (arith, s, h, le)), crossed_one n x h ys a.1)
 
-crossed : (n : ℕ) (xs ys : List Context) → AreOf n xs → AreFrom (suc n) ys → AllByRecursion (λ x. AllByRecursion (λ y. same_context y x ≡ false) ys) xs
+crossed : (n : ℕ) (xs ys : List Context) → AreOf n xs → AreFrom (suc n) ys →
+    AllByRecursion (λ x. AllByRecursion (λ y. same_context y x ≡ false) ys) xs
 crossed n [] ys a b = tt
 crossed n (x ∷ xs) ys a b = (crossed_one n x a.0 ys b, crossed n xs ys a.1 b)
 
@@ -86,15 +91,22 @@ picked false k q rest le r = rising_less k (suc q) rest (omega (arith, le)) r
 
 offering_rise : (t : Typestate) (name : Name) (k : ℕ) (qs : List ℕ) → Rising k qs → Rising k (offering_states t qs name)
 offering_rise t name k [] r = tt
-offering_rise t name k (q ∷ qs) r = picked (is_some (offered t q name)) k q (offering_states t qs name) r.0 (offering_rise t name (suc q) qs r.1)
+offering_rise t name k (q ∷ qs) r = picked (is_some (offered t q name)) k q (offering_states t qs name) r.0
+    (offering_rise t name (suc q) qs r.1)
 
 state_apart : (c n q r : ℕ) → q < r → same_context (contexts.Protocol c r n) (contexts.Protocol c q n) ≡ false
 state_apart c n q r lt = unless_true (same_context (contexts.Protocol c r n) (contexts.Protocol c q n)) (λ e.
-    let same = eqb-true r q (both (nat_eq r q) (nat_eq n n) (both (nat_eq c c) (nat_eq r q && nat_eq n n) e).1).0 in omega (arith, same, lt))
+    let same = eqb-true r q (both (nat_eq r q) (nat_eq n n) (both (nat_eq c c) (nat_eq r q && nat_eq n n) e).1).0 in omega
+    (arith, same, lt))
 
-later_apart : (c n q k : ℕ) (qs : List ℕ) → q < k → Rising k qs → AllByRecursion (λ y. same_context y (contexts.Protocol c q n) ≡ false) (in_states c n qs)
+later_apart : (c n q k : ℕ) (qs : List ℕ) → q < k → Rising k qs → AllByRecursion (λ y. same_context y (contexts.Protocol c q n) ≡ false)
+    (in_states c n qs)
 later_apart c n q k [] lt r = tt
-later_apart c n q k (s ∷ qs) lt r = let le : k ≤ s = r.0 in (state_apart c n q s (omega (arith, le, lt)), later_apart c n q (suc s) qs (omega (arith, le, lt)) r.1)
+later_apart c n q k (s ∷ qs) lt r = let le : k ≤ s = r.0 in (
+  state_apart c n q s (omega (arith, le, lt)),
+  later_apart c n q (suc s) qs
+      (omega (arith, le, lt)) r.1,
+)
 
 states_apart : (c n k : ℕ) (qs : List ℕ) → Rising k qs → AreApart (in_states c n qs)
 states_apart c n k [] r = tt
@@ -125,7 +137,10 @@ module _ (p : Program) (reached : List (List Bool)) where
   method_apart : (n : ℕ) (m : Method) → AreApart (contexts_of p reached n m)
   method_apart n m = go m.kind
     where
-      go : (k : MethodKind) → AreApart (elim k as (λ _. List Context) [ kinds.Protocol ↦ in_states m.class n (offering m) | _ ↦ contexts.Plain n ∷ [] ])
+      go : (k : MethodKind) → AreApart (elim k as (λ _. List Context) [
+        | kinds.Protocol ↦ in_states m.class n (offering m)
+        | _ ↦ contexts.Plain n ∷ []
+      ])
       go kinds.Main = (tt, tt)
       go kinds.Static = (tt, tt)
       go kinds.Helper = (tt, tt)
@@ -135,7 +150,10 @@ module _ (p : Program) (reached : List (List Bool)) where
   method_of : (n : ℕ) (m : Method) → AreOf n (contexts_of p reached n m)
   method_of n m = go m.kind
     where
-      go : (k : MethodKind) → AreOf n (elim k as (λ _. List Context) [ kinds.Protocol ↦ in_states m.class n (offering m) | _ ↦ contexts.Plain n ∷ [] ])
+      go : (k : MethodKind) → AreOf n (elim k as (λ _. List Context) [
+        | kinds.Protocol ↦ in_states m.class n (offering m)
+        | _ ↦ contexts.Plain n ∷ []
+      ])
       go kinds.Main = (refl, tt)
       go kinds.Static = (refl, tt)
       go kinds.Helper = (refl, tt)
@@ -148,7 +166,8 @@ module _ (p : Program) (reached : List (List Bool)) where
 
   methods_apart : (n : ℕ) (ms : List Method) → AreApart (contexts_from p reached n ms)
   methods_apart n [] = tt
-  methods_apart n (m ∷ ms) = apart_append (contexts_of p reached n m) (contexts_from p reached (suc n) ms) (method_apart n m) (methods_apart (suc n) ms)
+  methods_apart n (m ∷ ms) = apart_append (contexts_of p reached n m) (contexts_from p reached (suc n) ms) (method_apart n m)
+      (methods_apart (suc n) ms)
       (crossed n (contexts_of p reached n m) (contexts_from p reached (suc n) ms) (method_of n m) (from_number (suc n) ms))
 
   pub contexts_apart : AreApart (contexts_in p reached)
@@ -168,9 +187,11 @@ same_eq _ _ = refl
 not_among : (ks rest : List Context) (x : Context) → AreApart (ks ++ x ∷ rest) → list_any (context_eq x) ks ≡ false
 not_among [] rest x a = refl
 not_among (k ∷ ks) rest x a =
-    ap (λ b. b || list_any (context_eq x) ks) (same_eq x k ∙ every_middle (λ y. same_context y k ≡ false) ks rest x a.0) ∙ not_among ks rest x a.1
+    ap (λ b. b || list_any (context_eq x) ks) (same_eq x k ∙ every_middle (λ y. same_context y k ≡ false) ks rest x a.0) ∙ not_among ks rest
+    x a.1
 
-pub inserted : (cs : List Context) (i : ℕ) (d : Context) (ks ks' : List Context) → i < length cs → ks' ≡ insert_key context_eq ks (get_or cs i d) →
+pub inserted : (cs : List Context) (i : ℕ) (d : Context) (ks ks' : List Context) → i < length cs →
+    ks' ≡ insert_key context_eq ks (get_or cs i d) →
     (AreApart cs → ks ++ drop i cs ≡ cs) → AreApart cs → ks' ++ drop (i + 1) cs ≡ cs
 inserted cs i d ks ks' lt e h a =
     let x = get_or cs i d in
@@ -179,7 +200,8 @@ inserted cs i d ks ks' lt e h a =
     let new : list_any (context_eq x) ks ≡ false = not_among ks (drop (i + 1) cs) x (subst AreApart (sym whole) a) in
     ap (λ r. r ++ drop (i + 1) cs) (e ∙ ap (λ b. cond b ks (ks ++ x ∷ [])) new) ∙ append_assoc ks (x ∷ []) (drop (i + 1) cs) ∙ whole
 
-pub all_inserted : (cs : List Context) (i : ℕ) (ks : List Context) → length cs ≤ i → (AreApart cs → ks ++ drop i cs ≡ cs) → AreApart cs → ks ≡ cs
+pub all_inserted : (cs : List Context) (i : ℕ) (ks : List Context) → length cs ≤ i → (AreApart cs → ks ++ drop i cs ≡ cs) → AreApart cs →
+    ks ≡ cs
 all_inserted cs i ks le h a = sym (ap (λ r. ks ++ r) (at_drop_all (λ (xs : List Context). xs) cs i le) ∙ append_nil ks) ∙ h a
 
 pub none_inserted : (cs ks : List Context) → ks ≡ [] → AreApart cs → ks ++ cs ≡ cs

@@ -11,13 +11,15 @@ use Rattle.jv_core.specs.declared.tree.CoreExprKind.{CoreExprKind}
 use Rattle.jv_core.specs.declared.tree.CoreExprKind.TheVariants as E
 use Rattle.jv_core.specs.Tree.{Expr, Not, Neg, Binary, Equals, Concat, Protocol, Helper, Static}
 use Rattle.jv_core.specs.View.{expr_of, exprs_of, kind_of}
-use Rattle.jv_core.proofs.ViewLaws.{expr_of-is, kind-Neg, kind-Not, kind-Binary, kind-Equals, kind-Concat, kind-Protocol, kind-Helper, kind-Static, views}
+use Rattle.jv_core.proofs.ViewLaws.{expr_of-is, kind-Neg, kind-Not, kind-Binary, kind-Equals, kind-Concat, kind-Protocol, kind-Helper}
+use Rattle.jv_core.proofs.ViewLaws.{kind-Static, views}
 use Rattle.use_flow.specs.declared.evaluated.Value.{Value}
 use Rattle.use_rules.specs.Elements.{Set}
 use Rattle.use_rules.specs.State.{Now, Log}
 use Rattle.use_rules.specs.Flow.{Evaluated, NullTest, null_test, alike}
 use Rattle.use_flow.specs.inner.Followed.{Followed, eval}
-use Rattle.use_flow.specs.inner.Values.{evaluated_of, settled, parted, both_ways, both_with, either_with, opposite, null_tested, called_protocol, called_helper, called_static}
+use Rattle.use_flow.specs.inner.Values.{evaluated_of, settled, parted, both_ways, both_with, either_with, opposite, null_tested}
+use Rattle.use_flow.specs.inner.Values.{called_protocol, called_helper, called_static}
 use Rattle.use_flow.proofs.Following.{operands_from, conjunction_from, disjunction_from, binary_tests, binary_other}
 
 is_form : (x : CoreExpr) (k : CoreExprKind) (e : Expr) → x.kind ≡ k → kind_of k x.place ≡ e → expr_of x ≡ e
@@ -28,24 +30,30 @@ module _ (s : Followed) (w : ℕ) (sets : List Set) (log : Log) (x : CoreExpr) w
   seen_as e t h g = g ∙ ap (λ z. eval s w z (Some sets) log) (sym h)
 
   module _ (a : Box CoreExpr Global) (l : CoreExpr) (el : l ≡ a.value) (lv : Log) (v : Value) where
-    pub neg_as : x.kind ≡ E.Neg a → evaluated_of v lv ≡ settled (eval s 0 (expr_of l) (Some sets) log) → evaluated_of v lv ≡ eval s w (expr_of x) (Some sets) log
-    neg_as is ev = seen_as (Neg x.place (expr_of l)) _ (is_form x (E.Neg a) _ is (kind-Neg a x.place ∙ ap (λ (z : CoreExpr). Neg x.place (expr_of z)) (sym el))) ev
+    pub neg_as : x.kind ≡ E.Neg a → evaluated_of v lv ≡ settled (eval s 0 (expr_of l) (Some sets) log) →
+        evaluated_of v lv ≡ eval s w (expr_of x) (Some sets) log
+    neg_as is ev = seen_as (Neg x.place (expr_of l)) _
+        (is_form x (E.Neg a) _ is (kind-Neg a x.place ∙ ap (λ (z : CoreExpr). Neg x.place (expr_of z)) (sym el))) ev
 
-    pub not_as : x.kind ≡ E.Not a → evaluated_of v lv ≡ opposite s (expr_of l) sets log → evaluated_of v lv ≡ eval s w (expr_of x) (Some sets) log
-    not_as is ev = seen_as (Not x.place (expr_of l)) _ (is_form x (E.Not a) _ is (kind-Not a x.place ∙ ap (λ (z : CoreExpr). Not x.place (expr_of z)) (sym el))) ev
+    pub not_as : x.kind ≡ E.Not a → evaluated_of v lv ≡ opposite s (expr_of l) sets log → evaluated_of v lv ≡ eval s w (expr_of x)
+        (Some sets) log
+    not_as is ev = seen_as (Not x.place (expr_of l)) _
+        (is_form x (E.Not a) _ is (kind-Not a x.place ∙ ap (λ (z : CoreExpr). Not x.place (expr_of z)) (sym el))) ev
 
   module _ (a b : Box CoreExpr Global) (l r : CoreExpr) (el : l ≡ a.value) (er : r ≡ b.value) (la lv : Log) (v : Value) where
     binary_is : (o : Op) → x.kind ≡ E.Binary o a b → expr_of x ≡ Binary x.place o (expr_of l) (expr_of r)
     binary_is o is =
         is_form x (E.Binary o a b) _ is (kind-Binary o a b x.place
-        ∙ ap (λ (z : CoreExpr). Binary x.place o (expr_of z) (expr_of b.value)) (sym el) ∙ ap (λ (z : CoreExpr). Binary x.place o (expr_of l) (expr_of z)) (sym er))
+        ∙ ap (λ (z : CoreExpr). Binary x.place o (expr_of z) (expr_of b.value)) (sym el) ∙
+        ap (λ (z : CoreExpr). Binary x.place o (expr_of l) (expr_of z)) (sym er))
 
     pub equals_as : (n : Now) → x.kind ≡ E.Equals a b → alike [] n la ≡ settled (eval s 0 (expr_of l) (Some sets) log) →
         evaluated_of v lv ≡ settled (eval s 0 (expr_of r) n la) → evaluated_of v lv ≡ eval s w (expr_of x) (Some sets) log
     equals_as n is en ev =
         seen_as (Equals x.place (expr_of l) (expr_of r)) _
         (is_form x (E.Equals a b) _ is (kind-Equals a b x.place
-        ∙ ap (λ (z : CoreExpr). Equals x.place (expr_of z) (expr_of b.value)) (sym el) ∙ ap (λ (z : CoreExpr). Equals x.place (expr_of l) (expr_of z)) (sym er)))
+        ∙ ap (λ (z : CoreExpr). Equals x.place (expr_of z) (expr_of b.value)) (sym el) ∙
+        ap (λ (z : CoreExpr). Equals x.place (expr_of l) (expr_of z)) (sym er)))
         (operands_from s sets log (expr_of l) (expr_of r) la lv v n en ev)
 
     pub concat_as : (n : Now) → x.kind ≡ E.Concat a b → alike [] n la ≡ settled (eval s 0 (expr_of l) (Some sets) log) →
@@ -53,16 +61,19 @@ module _ (s : Followed) (w : ℕ) (sets : List Set) (log : Log) (x : CoreExpr) w
     concat_as n is en ev =
         seen_as (Concat x.place (expr_of l) (expr_of r)) _
         (is_form x (E.Concat a b) _ is (kind-Concat a b x.place
-        ∙ ap (λ (z : CoreExpr). Concat x.place (expr_of z) (expr_of b.value)) (sym el) ∙ ap (λ (z : CoreExpr). Concat x.place (expr_of l) (expr_of z)) (sym er)))
+        ∙ ap (λ (z : CoreExpr). Concat x.place (expr_of z) (expr_of b.value)) (sym el) ∙
+        ap (λ (z : CoreExpr). Concat x.place (expr_of l) (expr_of z)) (sym er)))
         (operands_from s sets log (expr_of l) (expr_of r) la lv v n en ev)
 
-    pub and_as : (o : Op) (h f : Now) → x.kind ≡ E.Binary o a b → o ≡ ops.And → parted h f la ≡ both_ways (eval s 0 (expr_of l) (Some sets) log) →
+    pub and_as : (o : Op) (h f : Now) → x.kind ≡ E.Binary o a b → o ≡ ops.And →
+        parted h f la ≡ both_ways (eval s 0 (expr_of l) (Some sets) log) →
         evaluated_of v lv ≡ both_with f (eval s 0 (expr_of r) h la) → evaluated_of v lv ≡ eval s w (expr_of x) (Some sets) log
     and_as o h f is eo en ev =
         seen_as (Binary x.place ops.And (expr_of l) (expr_of r)) _ (binary_is o is ∙ ap (λ z. Binary x.place z (expr_of l) (expr_of r)) eo)
         (conjunction_from s sets log (expr_of l) (expr_of r) la lv v h f en ev)
 
-    pub or_as : (o : Op) (h f : Now) → x.kind ≡ E.Binary o a b → o ≡ ops.Or → parted h f la ≡ both_ways (eval s 0 (expr_of l) (Some sets) log) →
+    pub or_as : (o : Op) (h f : Now) → x.kind ≡ E.Binary o a b → o ≡ ops.Or →
+        parted h f la ≡ both_ways (eval s 0 (expr_of l) (Some sets) log) →
         evaluated_of v lv ≡ either_with h (eval s 0 (expr_of r) f la) → evaluated_of v lv ≡ eval s w (expr_of x) (Some sets) log
     or_as o h f is eo en ev =
         seen_as (Binary x.place ops.Or (expr_of l) (expr_of r)) _ (binary_is o is ∙ ap (λ z. Binary x.place z (expr_of l) (expr_of r)) eo)
@@ -73,30 +84,36 @@ module _ (s : Followed) (w : ℕ) (sets : List Set) (log : Log) (x : CoreExpr) w
         evaluated_of v lv ≡ eval s w (expr_of x) (Some sets) log
     other_as o n is none na nor en ev =
         seen_as (Binary x.place o (expr_of l) (expr_of r)) _ (binary_is o is)
-        (operands_from s sets log (expr_of l) (expr_of r) la lv v n en ev ∙ binary_other s sets log w x.place o (expr_of l) (expr_of r) none na nor)
+        (operands_from s sets log (expr_of l) (expr_of r) la lv v n en ev ∙ binary_other s sets log w x.place o (expr_of l) (expr_of r) none
+        na nor)
 
     pub test_as : (o : Op) (t : NullTest) → x.kind ≡ E.Binary o a b → Some t ≡ null_test o (expr_of l) (expr_of r) →
         evaluated_of v lv ≡ null_tested s t sets log → evaluated_of v lv ≡ eval s w (expr_of x) (Some sets) log
     test_as o t is some ev =
-        seen_as (Binary x.place o (expr_of l) (expr_of r)) _ (binary_is o is) (ev ∙ binary_tests s sets log w x.place o (expr_of l) (expr_of r) t some)
+        seen_as (Binary x.place o (expr_of l) (expr_of r)) _ (binary_is o is) (ev ∙ binary_tests s sets log w x.place o (expr_of l)
+        (expr_of r) t some)
 
   module _ (m : ℕ) (args : Row CoreExpr) (given : List CoreExpr) (eg : given ≡ args.items) (lv : Log) (v : Value) where
-    pub protocol_as : (y : CoreVar) → x.kind ≡ E.Protocol y m args → evaluated_of v lv ≡ called_protocol s y m (exprs_of (map expr_of given)) sets log →
+    pub protocol_as : (y : CoreVar) → x.kind ≡ E.Protocol y m args → evaluated_of v lv ≡ called_protocol s y m
+        (exprs_of (map expr_of given)) sets log →
         evaluated_of v lv ≡ eval s w (expr_of x) (Some sets) log
     protocol_as y is ev =
         seen_as (Protocol x.place y m (exprs_of (map expr_of given))) _
-        (is_form x (E.Protocol y m args) _ is (kind-Protocol y m args x.place ∙ ap (λ (z : List CoreExpr). Protocol x.place y m (exprs_of (map expr_of z))) (sym eg))) ev
+        (is_form x (E.Protocol y m args) _ is (kind-Protocol y m args x.place ∙
+        ap (λ (z : List CoreExpr). Protocol x.place y m (exprs_of (map expr_of z))) (sym eg))) ev
 
     pub helper_as : x.kind ≡ E.Helper m args → evaluated_of v lv ≡ called_helper s m (exprs_of (map expr_of given)) sets log →
         evaluated_of v lv ≡ eval s w (expr_of x) (Some sets) log
     helper_as is ev =
         seen_as (Helper x.place m (exprs_of (map expr_of given))) _
-        (is_form x (E.Helper m args) _ is (kind-Helper m args x.place ∙ ap (λ (z : List CoreExpr). Helper x.place m (exprs_of (map expr_of z))) (sym eg))) ev
+        (is_form x (E.Helper m args) _ is
+        (kind-Helper m args x.place ∙ ap (λ (z : List CoreExpr). Helper x.place m (exprs_of (map expr_of z))) (sym eg))) ev
 
     pub static_as : x.kind ≡ E.Static m args → evaluated_of v lv ≡ called_static s m (exprs_of (map expr_of given)) sets log →
         evaluated_of v lv ≡ eval s w (expr_of x) (Some sets) log
     static_as is ev =
         seen_as (Static x.place m (exprs_of (map expr_of given))) _
-        (is_form x (E.Static m args) _ is (kind-Static m args x.place ∙ ap (λ (z : List CoreExpr). Static x.place m (exprs_of (map expr_of z))) (sym eg))) ev
+        (is_form x (E.Static m args) _ is
+        (kind-Static m args x.place ∙ ap (λ (z : List CoreExpr). Static x.place m (exprs_of (map expr_of z))) (sym eg))) ev
 
 pub ruleset arms = (views, protocol_as, helper_as, static_as, neg_as, not_as, equals_as, concat_as, and_as, or_as, other_as, test_as)

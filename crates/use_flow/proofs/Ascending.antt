@@ -1,5 +1,6 @@
 -- Numbers in rising order, each once, and what stands for them.
-use Rattle.std.proofs.Common.{◌≡◌, ℕ, suc, ◌+◌, ◌-◌, ◌<◌, ◌≤◌, Bool, true, false, List, [], ◌∷◌, ◌++◌, length, get_or, drop, Option, Some, None, slice_get, nat_eq, refl, sym, ap, ◌∙◌, subst, arith, if◌then◌else◌, ◌⊎◌, ⊎_elim, ◌||◌}
+use Rattle.std.proofs.Common.{◌≡◌, ℕ, suc, ◌+◌, ◌-◌, ◌<◌, ◌≤◌, Bool, true, false, List, [], ◌∷◌, ◌++◌, length, get_or, drop, Option, Some}
+use Rattle.std.proofs.Common.{None, slice_get, nat_eq, refl, sym, ap, ◌∙◌, subst, arith, if◌then◌else◌, ◌⊎◌, ⊎_elim, ◌||◌}
 use Rattle.std.specs.List.{list_any, flat_map}
 use Rattle.std.specs.BTreeSet.{insert_key}
 use Rattle.std.specs.Ordering.{MatchOrdering, nat_cmp, match_ordering}
@@ -36,17 +37,21 @@ inserted-any : (k n : ℕ) (xs : List ℕ) → list_any (nat_eq k) (insert_key n
 inserted-any k n [] = refl
 inserted-any k n (x ∷ xs) = go (inserted-any k n xs) (nat_cmp n x) (ranked n x (nat_cmp n x) refl)
   where
-    go : list_any (nat_eq k) (insert_key nat_cmp xs n) ≡ (nat_eq k n || list_any (nat_eq k) xs) → (o : Ordering) → MatchOrdering o (n < x) (n ≡ x) (x < n) →
-        list_any (nat_eq k) (match_ordering o (n ∷ x ∷ xs) (x ∷ xs) (x ∷ insert_key nat_cmp xs n)) ≡ (nat_eq k n || (nat_eq k x || list_any (nat_eq k) xs))
+    go : list_any (nat_eq k) (insert_key nat_cmp xs n) ≡ (nat_eq k n || list_any (nat_eq k) xs) → (o : Ordering) →
+        MatchOrdering o (n < x) (n ≡ x) (x < n) →
+        list_any (nat_eq k) (match_ordering o (n ∷ x ∷ xs) (x ∷ xs) (x ∷ insert_key nat_cmp xs n)) ≡
+        (nat_eq k n || (nat_eq k x || list_any (nat_eq k) xs))
     go rest Less h = refl
-    go rest Equal h = ap (λ y. nat_eq k y || list_any (nat_eq k) xs) (sym h) ∙ doubled (nat_eq k n) (list_any (nat_eq k) xs) ∙ ap (λ y. nat_eq k n || (nat_eq k y || list_any (nat_eq k) xs)) h
+    go rest Equal h = ap (λ y. nat_eq k y || list_any (nat_eq k) xs) (sym h) ∙ doubled (nat_eq k n) (list_any (nat_eq k) xs) ∙
+        ap (λ y. nat_eq k n || (nat_eq k y || list_any (nat_eq k) xs)) h
     go rest Greater h = ap (λ b. nat_eq k x || b) rest ∙ swapped (nat_eq k x) (nat_eq k n) (list_any (nat_eq k) xs)
 
 risen-any : (k : ℕ) (ns ks : List ℕ) → list_any (nat_eq k) (risen ns ks) ≡ (list_any (nat_eq k) ns || list_any (nat_eq k) ks)
 risen-any k [] ks = refl
 risen-any k (n ∷ ns) ks =
     risen-any k ns (insert_key nat_cmp ks n) ∙ ap (λ b. list_any (nat_eq k) ns || b) (inserted-any k n ks)
-    ∙ swapped (list_any (nat_eq k) ns) (nat_eq k n) (list_any (nat_eq k) ks) ∙ regrouped (nat_eq k n) (list_any (nat_eq k) ns) (list_any (nat_eq k) ks)
+    ∙ swapped (list_any (nat_eq k) ns) (nat_eq k n) (list_any (nat_eq k) ks) ∙ regrouped (nat_eq k n) (list_any (nat_eq k) ns)
+    (list_any (nat_eq k) ks)
   where
     regrouped : (a b c : Bool) → (a || (b || c)) ≡ ((a || b) || c)
     regrouped true b c = refl
@@ -69,7 +74,8 @@ inserted-ascend : (b n : ℕ) (xs : List ℕ) → b ≤ n → Ascend b xs → As
 inserted-ascend b n [] le a = (le, tt)
 inserted-ascend b n (x ∷ xs) le a = go (λ lt. inserted-ascend (suc x) n xs lt a.1) (nat_cmp n x) (ranked n x (nat_cmp n x) refl)
   where
-    go : (suc x ≤ n → Ascend (suc x) (insert_key nat_cmp xs n)) → (o : Ordering) → MatchOrdering o (n < x) (n ≡ x) (x < n) → Ascend b (match_ordering o (n ∷ x ∷ xs) (x ∷ xs) (x ∷ insert_key nat_cmp xs n))
+    go : (suc x ≤ n → Ascend (suc x) (insert_key nat_cmp xs n)) → (o : Ordering) → MatchOrdering o (n < x) (n ≡ x) (x < n) →
+        Ascend b (match_ordering o (n ∷ x ∷ xs) (x ∷ xs) (x ∷ insert_key nat_cmp xs n))
     go rest Less h = (le, ((let lt : n < x = h in omega (arith, lt)), a.1))
     go rest Equal h = a
     go rest Greater h = (a.0, rest (let lt : x < n = h in omega (arith, lt)))
@@ -87,11 +93,13 @@ module _ {X Y : Type 0} (g : ℕ → X → List Y) where
   chosen ns i [] = []
   chosen ns i (x ∷ xs) = (if list_any (nat_eq i) ns then g i x else []) ++ chosen ns (suc i) xs
 
-  pub chosen-same : (ns ms : List ℕ) (i : ℕ) (xs : List X) → ((j : ℕ) → i ≤ j → list_any (nat_eq j) ns ≡ list_any (nat_eq j) ms) → chosen ns i xs ≡ chosen ms i xs
+  pub chosen-same : (ns ms : List ℕ) (i : ℕ) (xs : List X) → ((j : ℕ) → i ≤ j → list_any (nat_eq j) ns ≡ list_any (nat_eq j) ms) →
+      chosen ns i xs ≡ chosen ms i xs
   chosen-same ns ms i [] h = refl
   chosen-same ns ms i (x ∷ xs) h =
       ap (λ b. (if b then g i x else []) ++ chosen ns (suc i) xs) (h i (omega arith))
-      ∙ ap (λ r. (if list_any (nat_eq i) ms then g i x else []) ++ r) (chosen-same ns ms (suc i) xs (λ j le. h j (let l : suc i ≤ j = le in omega (arith, l))))
+      ∙ ap (λ r. (if list_any (nat_eq i) ms then g i x else []) ++ r)
+      (chosen-same ns ms (suc i) xs (λ j le. h j (let l : suc i ≤ j = le in omega (arith, l))))
 
   chosen-none : (i : ℕ) (xs : List X) → chosen [] i xs ≡ []
   chosen-none i [] = refl
@@ -123,24 +131,30 @@ module _ {X Y : Type 0} (g : ℕ → X → List Y) where
   chosen-each f i ks [] a s = sym (none-past f i i ks s (omega arith) a)
   chosen-each f i [] (x ∷ xs) a s = chosen-none (suc i) xs
   chosen-each f i (k ∷ ks) (x ∷ xs) a s =
-      ⊎_elim (below (λ b. chosen-each f (suc i) (k ∷ ks) xs b (stands-rest f i x xs s))) (here (λ b. chosen-each f (suc i) ks xs b (stands-rest f i x xs s))) (cases_lt i k)
+      ⊎_elim (below (λ b. chosen-each f (suc i) (k ∷ ks) xs b (stands-rest f i x xs s)))
+      (here (λ b. chosen-each f (suc i) ks xs b (stands-rest f i x xs s))) (cases_lt i k)
     where
-      below : (Ascend (suc i) (k ∷ ks) → chosen (k ∷ ks) (suc i) xs ≡ flat_map f (k ∷ ks)) → i < k → chosen (k ∷ ks) i (x ∷ xs) ≡ flat_map f (k ∷ ks)
+      below : (Ascend (suc i) (k ∷ ks) → chosen (k ∷ ks) (suc i) xs ≡ flat_map f (k ∷ ks)) → i < k → chosen (k ∷ ks) i (x ∷ xs) ≡ flat_map f
+          (k ∷ ks)
       below rest lt =
-          ap (λ b. (if b then g i x else []) ++ chosen (k ∷ ks) (suc i) xs) (above-any i (suc i) (k ∷ ks) (omega arith) ((let l : i < k = lt in omega (arith, l)), a.1))
+          ap (λ b. (if b then g i x else []) ++ chosen (k ∷ ks) (suc i) xs)
+          (above-any i (suc i) (k ∷ ks) (omega arith) ((let l : i < k = lt in omega (arith, l)), a.1))
           ∙ rest ((let l : i < k = lt in omega (arith, l)), a.1)
 
       here : (Ascend (suc i) ks → chosen ks (suc i) xs ≡ flat_map f ks) → k ≤ i → chosen (k ∷ ks) i (x ∷ xs) ≡ flat_map f (k ∷ ks)
       here rest le =
           let same : k ≡ i = (let h = a.0 in let l : k ≤ i = le in omega (arith, h, l)) in
-          ap (λ b. (if b then g i x else []) ++ chosen (k ∷ ks) (suc i) xs) (ap (λ n. nat_eq i n || list_any (nat_eq i) ks) same ∙ ap (λ b. b || list_any (nat_eq i) ks) (equal-same i))
-          ∙ ap (λ r. g i x ++ r) (chosen-same (k ∷ ks) ks (suc i) xs (λ j h. ap (λ b. b || list_any (nat_eq j) ks) (equal-below j k (let l : suc i ≤ j = h in omega (arith, l, same))))
+          ap (λ b. (if b then g i x else []) ++ chosen (k ∷ ks) (suc i) xs) (ap (λ n. nat_eq i n || list_any (nat_eq i) ks) same ∙
+          ap (λ b. b || list_any (nat_eq i) ks) (equal-same i))
+          ∙ ap (λ r. g i x ++ r) (chosen-same (k ∷ ks) ks (suc i) xs
+          (λ j h. ap (λ b. b || list_any (nat_eq j) ks) (equal-below j k (let l : suc i ≤ j = h in omega (arith, l, same))))
           ∙ rest (subst (λ n. Ascend (suc n) ks) same a.1))
           ∙ ap (λ r. r ++ flat_map f ks) (sym (ap f same ∙ s.each 0 i (omega arith)))
 
   -- by the numbers in rising order
   pub chosen-rising : (f : ℕ → List Y) (ns : List ℕ) (xs : List X) → Stands f 0 xs → chosen ns 0 xs ≡ flat_map f (rising ns)
-  chosen-rising f ns xs s = chosen-same ns (rising ns) 0 xs (λ j le. sym (rising-any j ns)) ∙ chosen-each f 0 (rising ns) xs (rising-ascend ns) s
+  chosen-rising f ns xs s = chosen-same ns (rising ns) 0 xs (λ j le. sym (rising-any j ns)) ∙ chosen-each f 0 (rising ns) xs
+      (rising-ascend ns) s
 
 -- A turn of a loop that puts numbers into a set.
 

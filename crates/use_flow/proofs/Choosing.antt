@@ -1,5 +1,6 @@
 -- What flows on with each constant of a switch.
-use Rattle.std.proofs.Common.{◌≡◌, ℕ, zero, suc, ◌+◌, ◌<◌, ◌≤◌, Bool, true, false, List, [], ◌∷◌, ◌++◌, length, get_or, drop, map, Option, Some, None, slice_get, refl, sym, ap, ◌∙◌, arith, add-one, append_assoc}
+use Rattle.std.proofs.Common.{◌≡◌, ℕ, zero, suc, ◌+◌, ◌<◌, ◌≤◌, Bool, true, false, List, [], ◌∷◌, ◌++◌, length, get_or, drop, map, Option}
+use Rattle.std.proofs.Common.{Some, None, slice_get, refl, sym, ap, ◌∙◌, arith, add-one, append_assoc}
 use Rattle.std.specs.Prelude.{◌||◌, nat_eq, slice_set, if◌then◌else◌, option_map}
 use Rattle.std.specs.List.{list_any}
 use Rattle.std.proofs.lemmas.List.{at_drop_more, at_drop_all}
@@ -12,7 +13,8 @@ use Rattle.jv_core.specs.declared.tree.CoreVar.{CoreVar}
 use Rattle.jv_core.specs.declared.tree.Var.{Var}
 use Rattle.jv_core.specs.declared.tree.CoreGroup.{CoreGroup, out-CoreGroup, fold_out-CoreGroup}
 use Rattle.jv_core.specs.Lookup.{text_at}
-use Rattle.jv_core.specs.Tree.{Expr, Int, Truth, Text, Null, Variable, Constant, Neg, Not, Binary, Protocol, Helper, Static, Equals, Concat, Session, New, Method, Stmt}
+use Rattle.jv_core.specs.Tree.{Expr, Int, Truth, Text, Null, Variable, Constant, Neg, Not, Binary, Protocol, Helper, Static, Equals, Concat}
+use Rattle.jv_core.specs.Tree.{Session, New, Method, Stmt}
 use Rattle.jv_core.specs.View.{stmt_of, stmts_of, group_of, groups_of, OneGroup, stmt_layer, group_layer, placed_stmt_layer}
 use Rattle.jv_core.specs.Lookup.{param_types}
 use Rattle.jv_core.specs.declared.program.CoreType.{CoreType}
@@ -25,12 +27,19 @@ use Rattle.use_rules.specs.Flow.{Evaluated, alike, after, placed, all_labels, is
 use Rattle.use_rules.specs.State.{Now, Log, Argued, joined, joined_sets}
 use Rattle.use_flow.specs.inner.Followed.{Followed, eval, eval_all, variable_at, width_of}
 use Rattle.use_flow.specs.inner.Simple.{constants_of, type_dropped}
-use Rattle.use_flow.specs.inner.Switching.{Called, spread, with_any, gathered, branched, variables, note_one, noted, uncased_by, label_now, known_set, uncased, entry_of, by_constants, switched, led_by, led_set, call_in, called_switch, plain_switch}
+use Rattle.use_flow.specs.inner.Switching.{Called, spread, with_any, gathered, branched, variables, note_one, noted, uncased_by, label_now}
+use Rattle.use_flow.specs.inner.Switching.{known_set, uncased, entry_of, by_constants, switched, led_by, led_set, call_in, called_switch}
+use Rattle.use_flow.specs.inner.Switching.{plain_switch}
 use Rattle.use_flow.specs.inner.Values.{yes_of, no_of, evaluated_of, argued_of, protocol_call}
 use Rattle.use_rules.proofs.Meeting.{joined-self, union-self, sets-self}
 use Rattle.use_flow.proofs.Jumping.{joined-assoc, joined-none}
 
-pub group_of-is : (g : CoreGroup) → group_of g ≡ record { labels = (out-CoreGroup g).labels.items; body = stmts_of (map stmt_of (out-CoreGroup g).body.items); end = (out-CoreGroup g).end }
+pub group_of-is : (g : CoreGroup) → group_of g ≡ record {
+  labels = (out-CoreGroup g).labels.items;
+  body =
+      stmts_of (map stmt_of (out-CoreGroup g).body.items);
+  end = (out-CoreGroup g).end;
+}
 unfolding stmt_of group_of
 group_of-is g = fold_out-CoreGroup (Place → Stmt) OneGroup Stmt stmt_layer group_layer placed_stmt_layer g
 
@@ -40,10 +49,12 @@ noted-append : (a b : List (Option ℕ)) (l : Labels) → noted (a ++ b) l ≡ n
 noted-append [] b l = refl
 noted-append (o ∷ a) b l = noted-append a b (note_one o l)
 
-pub noted_more : (os : List (Option ℕ)) (i : ℕ) (o : Option ℕ) (l l' total : Labels) → i < length os → o ≡ get_or os i o → l' ≡ note_one o l →
+pub noted_more : (os : List (Option ℕ)) (i : ℕ) (o : Option ℕ) (l l' total : Labels) → i < length os → o ≡ get_or os i o → l' ≡ note_one o l
+    →
     noted (drop i os) l ≡ total → noted (drop (i + 1) os) l' ≡ total
 noted_more os i o l l' total lt at e h =
-    ap (noted (drop (i + 1) os)) e ∙ sym (at_drop_more (λ (xs : List (Option ℕ)). noted xs l) os i o lt ∙ ap (λ x. noted (x ∷ drop (i + 1) os) l) (sym at)) ∙ h
+    ap (noted (drop (i + 1) os)) e ∙ sym (at_drop_more (λ (xs : List (Option ℕ)). noted xs l) os i o lt ∙
+    ap (λ x. noted (x ∷ drop (i + 1) os) l) (sym at)) ∙ h
 
 pub noted_all : (os : List (Option ℕ)) (i : ℕ) (l total : Labels) → length os ≤ i → noted (drop i os) l ≡ total → l ≡ total
 noted_all os i l total le h = sym (at_drop_all (λ (xs : List (Option ℕ)). noted xs l) os i le) ∙ h
@@ -51,14 +62,17 @@ noted_all os i l total le h = sym (at_drop_all (λ (xs : List (Option ℕ)). not
 abbrev group_labels : List CoreGroup → List (Option ℕ)
 group_labels gs = all_labels (groups_of (map group_of gs))
 
-pub groups_noted : (gs : List CoreGroup) (i : ℕ) (g : CoreGroup) (os : List (Option ℕ)) (l l' total : Labels) → i < length gs → g ≡ get_or gs i g → os ≡ (out-CoreGroup g).labels.items →
+pub groups_noted : (gs : List CoreGroup) (i : ℕ) (g : CoreGroup) (os : List (Option ℕ)) (l l' total : Labels) → i < length gs →
+    g ≡ get_or gs i g → os ≡ (out-CoreGroup g).labels.items →
     l' ≡ noted os l → noted (group_labels (drop i gs)) l ≡ total → noted (group_labels (drop (i + 1) gs)) l' ≡ total
 groups_noted gs i g os l l' total lt at eo e h =
     ap (noted (group_labels (drop (i + 1) gs))) (e ∙ ap (λ x. noted x l) (eo ∙ sym (ap (λ (x : OneGroup). x.labels) (group_of-is g))))
     ∙ sym (noted-append (group_of g).labels (group_labels (drop (i + 1) gs)) l)
-    ∙ sym (at_drop_more (λ (xs : List CoreGroup). noted (group_labels xs) l) gs i g lt ∙ ap (λ (x : CoreGroup). noted (group_labels (x ∷ drop (i + 1) gs)) l) (sym at)) ∙ h
+    ∙ sym (at_drop_more (λ (xs : List CoreGroup). noted (group_labels xs) l) gs i g lt ∙
+    ap (λ (x : CoreGroup). noted (group_labels (x ∷ drop (i + 1) gs)) l) (sym at)) ∙ h
 
-pub groups_all_noted : (gs : List CoreGroup) (i : ℕ) (l total : Labels) → length gs ≤ i → noted (group_labels (drop i gs)) l ≡ total → l ≡ total
+pub groups_all_noted : (gs : List CoreGroup) (i : ℕ) (l total : Labels) → length gs ≤ i → noted (group_labels (drop i gs)) l ≡ total →
+    l ≡ total
 groups_all_noted gs i l total le h = sym (at_drop_all (λ (xs : List CoreGroup). noted (group_labels xs) l) gs i le) ∙ h
 
 pub ruleset noting = (noted_more, noted_all, groups_noted, groups_all_noted)
@@ -94,12 +108,15 @@ has-set (b ∷ s) zero (suc n) lt = sym (ap (λ v. v || has s n) (eqb-zero-suc n
 has-set (b ∷ s) (suc k) zero lt = sym (ap (λ v. v || b) (eqb-suc-zero k))
 has-set (b ∷ s) (suc k) (suc n) lt = has-set s k n (omega (arith, lt)) ∙ sym (ap (λ v. v || has s n) (eqb-suc-suc k n))
 
-pub cased-noted : (os : List (Option ℕ)) (l : Labels) (n : ℕ) → n < length l.cased → has (noted os l).cased n ≡ (has l.cased n || list_any (is_label n) os)
+pub cased-noted : (os : List (Option ℕ)) (l : Labels) (n : ℕ) → n < length l.cased →
+    has (noted os l).cased n ≡ (has l.cased n || list_any (is_label n) os)
 cased-noted [] l n lt = sym (or_none (has l.cased n))
 cased-noted (None ∷ os) l n lt = cased-noted os (note_one None l) n lt
 cased-noted (Some k ∷ os) l n lt =
-    cased-noted os (note_one (Some k) l) n (let e : length (slice_set l.cased k true) ≡ length l.cased = length-set l.cased k in omega (arith, lt, e))
-    ∙ ap (λ b. b || list_any (is_label n) os) (has-set l.cased k n lt ∙ or_turned (nat_eq k n) (has l.cased n)) ∙ or_assoc (has l.cased n) (nat_eq k n) (list_any (is_label n) os)
+    cased-noted os (note_one (Some k) l) n (let e : length (slice_set l.cased k true) ≡ length l.cased = length-set l.cased k in omega
+    (arith, lt, e))
+    ∙ ap (λ b. b || list_any (is_label n) os) (has-set l.cased k n lt ∙ or_turned (nat_eq k n) (has l.cased n)) ∙ or_assoc (has l.cased n)
+    (nat_eq k n) (list_any (is_label n) os)
 
 has-none : (w n : ℕ) → has (none w) n ≡ false
 has-none zero n = refl
@@ -114,11 +131,14 @@ abbrev no_labels : ℕ → Labels
 no_labels w = record { cased = none w; has_default = false }
 
 -- the constants without a case are those that no label names
-pub uncased_is : (s : Followed) (os : List (Option ℕ)) (w n : ℕ) (nows : List Now) → n + length nows ≤ w → uncased_by (noted os (no_labels w)).cased n nows ≡ uncased s os n nows
+pub uncased_is : (s : Followed) (os : List (Option ℕ)) (w n : ℕ) (nows : List Now) → n + length nows ≤ w →
+    uncased_by (noted os (no_labels w)).cased n nows ≡ uncased s os n nows
 uncased_is s os w n [] le = refl
 uncased_is s os w n (now ∷ nows) le =
-    ap (λ b. if b then uncased_by (noted os (no_labels w)).cased (suc n) nows else joined now (uncased_by (noted os (no_labels w)).cased (suc n) nows))
-    (cased-noted os (no_labels w) n (let e : length (none w) ≡ w = length-none w in omega (arith, le, e)) ∙ ap (λ b. b || list_any (is_label n) os) (has-none w n))
+    ap (λ b. if b then uncased_by (noted os (no_labels w)).cased (suc n) nows else joined now
+    (uncased_by (noted os (no_labels w)).cased (suc n) nows))
+    (cased-noted os (no_labels w) n (let e : length (none w) ≡ w = length-none w in omega (arith, le, e)) ∙
+    ap (λ b. b || list_any (is_label n) os) (has-none w n))
     ∙ ap (λ r. if list_any (is_label n) os then r else joined now r) (uncased_is s os w (suc n) nows (omega (arith, le)))
 
 -- What is known with sets of one variable.
@@ -128,12 +148,14 @@ sets-at [] x s t = refl
 sets-at (y ∷ b) zero s t = ap (λ r. union s t ∷ r) (sym (sets-self b))
 sets-at (y ∷ b) (suc x) s t = ap (λ r. r ∷ slice_set b x (union s t)) (sym (union-self y)) ∙ ap (λ r. union y y ∷ r) (sets-at b x s t)
 
-pub gathered_is : (x : ℕ) (now : Now) (r : Option Set) (s : Set) → with_any x now (Some (gathered r s)) ≡ joined (with_any x now r) (placed x s now)
+pub gathered_is : (x : ℕ) (now : Now) (r : Option Set) (s : Set) → with_any x now (Some (gathered r s)) ≡ joined (with_any x now r)
+    (placed x s now)
 gathered_is x now None s = refl
 gathered_is x None (Some t) s = refl
 gathered_is x (Some b) (Some t) s = ap Some (sets-at b x t s)
 
-spread-at : (x : ℕ) (now : Now) (sets : List Set) (n : ℕ) → slice_get (spread x now sets) n ≡ option_map (λ s. placed x s now) (slice_get sets n)
+spread-at : (x : ℕ) (now : Now) (sets : List Set) (n : ℕ) → slice_get (spread x now sets) n ≡ option_map (λ s. placed x s now)
+    (slice_get sets n)
 spread-at x now [] zero = refl
 spread-at x now [] (suc n) = refl
 spread-at x now (s ∷ sets) zero = refl
@@ -147,39 +169,51 @@ module _ (cased : Set) (x : ℕ) (now : Now) (sets : List Set) (i : ℕ) (lt : i
       uncased_by cased i (spread x now (drop i sets)) ≡ (if has cased i then after_it else joined (placed x s now) after_it)
   one_uncased s e =
       at_drop_more (λ (xs : List Set). uncased_by cased i (spread x now xs)) sets i [] lt
-      ∙ ap (λ y. if has cased i then uncased_by cased (suc i) (spread x now (drop (i + 1) sets)) else joined (placed x y now) (uncased_by cased (suc i) (spread x now (drop (i + 1) sets)))) (sym e)
-      ∙ ap (λ k. if has cased i then uncased_by cased k (spread x now (drop (i + 1) sets)) else joined (placed x s now) (uncased_by cased k (spread x now (drop (i + 1) sets)))) (sym (add-one i))
+      ∙ ap (λ y. if has cased i then uncased_by cased (suc i) (spread x now (drop (i + 1) sets)) else joined (placed x y now)
+      (uncased_by cased (suc i) (spread x now (drop (i + 1) sets)))) (sym e)
+      ∙ ap (λ k. if has cased i then uncased_by cased k (spread x now (drop (i + 1) sets)) else joined (placed x s now)
+      (uncased_by cased k (spread x now (drop (i + 1) sets)))) (sym (add-one i))
 
-  pub rest_cased : has cased i ≡ true → joined (with_any x now r) (uncased_by cased i (spread x now (drop i sets))) ≡ total → joined (with_any x now r) after_it ≡ total
+  pub rest_cased : has cased i ≡ true → joined (with_any x now r) (uncased_by cased i (spread x now (drop i sets))) ≡ total →
+      joined (with_any x now r) after_it ≡ total
   rest_cased h e =
-      ap (joined (with_any x now r)) (sym (one_uncased (get_or sets i []) refl ∙ ap (λ b. if b then after_it else joined (placed x (get_or sets i []) now) after_it) h)) ∙ e
+      ap (joined (with_any x now r))
+      (sym (one_uncased (get_or sets i []) refl ∙ ap (λ b. if b then after_it else joined (placed x (get_or sets i []) now) after_it)
+      h)) ∙ e
 
   pub rest_uncased : (s t : Set) → has cased i ≡ false → s ≡ get_or sets i [] → t ≡ gathered r s →
-      joined (with_any x now r) (uncased_by cased i (spread x now (drop i sets))) ≡ total → joined (with_any x now (Some t)) after_it ≡ total
+      joined (with_any x now r) (uncased_by cased i (spread x now (drop i sets))) ≡ total → joined (with_any x now (Some t)) after_it ≡
+      total
   rest_uncased s t h es et e =
-      ap (λ y. joined (with_any x now (Some y)) after_it) et ∙ ap (λ y. joined y after_it) (gathered_is x now r s) ∙ joined-assoc (with_any x now r) (placed x s now) after_it
+      ap (λ y. joined (with_any x now (Some y)) after_it) et ∙ ap (λ y. joined y after_it) (gathered_is x now r s) ∙
+      joined-assoc (with_any x now r) (placed x s now) after_it
       ∙ ap (joined (with_any x now r)) (sym (one_uncased s es ∙ ap (λ b. if b then after_it else joined (placed x s now) after_it) h)) ∙ e
 
 pub rest_all : (cased : Set) (x : ℕ) (now : Now) (sets : List Set) (i : ℕ) (r : Option Set) (total : Now) → length sets ≤ i →
     joined (with_any x now r) (uncased_by cased i (spread x now (drop i sets))) ≡ total → with_any x now r ≡ total
 rest_all cased x now sets i r total le e =
-    sym (joined-none (with_any x now r)) ∙ ap (joined (with_any x now r)) (sym (at_drop_all (λ (xs : List Set). uncased_by cased i (spread x now xs)) sets i le)) ∙ e
+    sym (joined-none (with_any x now r)) ∙ ap (joined (with_any x now r))
+    (sym (at_drop_all (λ (xs : List Set). uncased_by cased i (spread x now xs)) sets i le)) ∙ e
 
 -- Labels of a group.
 
-pub label_led : (x : ℕ) (now : Now) (sets : List Set) (rest : Now) (all : Option Set) (n : ℕ) (s t : Set) → Some s ≡ slice_get sets n → t ≡ gathered all s →
+pub label_led : (x : ℕ) (now : Now) (sets : List Set) (rest : Now) (all : Option Set) (n : ℕ) (s t : Set) → Some s ≡ slice_get sets n →
+    t ≡ gathered all s →
     with_any x now (Some t) ≡ joined (with_any x now all) (label_now rest (spread x now sets) (Some n))
 label_led x now sets rest all n s t e et =
     ap (λ y. with_any x now (Some y)) et ∙ gathered_is x now all s
-    ∙ ap (λ o. joined (with_any x now all) (elim o [ None ↦ None | Some m ↦ m ])) (ap (option_map (λ y. placed x y now)) e ∙ sym (spread-at x now sets n))
+    ∙ ap (λ o. joined (with_any x now all) (elim o [ None ↦ None | Some m ↦ m ])) (ap (option_map (λ y. placed x y now)) e ∙
+    sym (spread-at x now sets n))
 
 pub label_past : (x : ℕ) (now : Now) (sets : List Set) (rest : Now) (all : Option Set) (n : ℕ) → None ≡ slice_get sets n →
     with_any x now all ≡ joined (with_any x now all) (label_now rest (spread x now sets) (Some n))
 label_past x now sets rest all n e =
     sym (joined-none (with_any x now all))
-    ∙ ap (λ o. joined (with_any x now all) (elim o [ None ↦ None | Some m ↦ m ])) (ap (option_map (λ y. placed x y now)) e ∙ sym (spread-at x now sets n))
+    ∙ ap (λ o. joined (with_any x now all) (elim o [ None ↦ None | Some m ↦ m ])) (ap (option_map (λ y. placed x y now)) e ∙
+    sym (spread-at x now sets n))
 
-entry_one : (s : Followed) (rest : Now) (nows : List Now) (o : Option ℕ) (os : List (Option ℕ)) → entry_of s rest nows (o ∷ os) ≡ joined (label_now rest nows o) (entry_of s rest nows os)
+entry_one : (s : Followed) (rest : Now) (nows : List Now) (o : Option ℕ) (os : List (Option ℕ)) → entry_of s rest nows (o ∷ os) ≡ joined
+    (label_now rest nows o) (entry_of s rest nows os)
 entry_one s rest nows None os = refl
 entry_one s rest nows (Some n) os = refl
 
@@ -187,8 +221,10 @@ module _ (s : Followed) (rest : Now) (nows : List Now) (os : List (Option ℕ)) 
   pub entry_more : (o : Option ℕ) (done' : Now) → i < length os → o ≡ get_or os i o → done' ≡ joined done (label_now rest nows o) →
       joined done (entry_of s rest nows (drop i os)) ≡ total → joined done' (entry_of s rest nows (drop (i + 1) os)) ≡ total
   entry_more o done' lt at e h =
-      ap (λ y. joined y (entry_of s rest nows (drop (i + 1) os))) e ∙ joined-assoc done (label_now rest nows o) (entry_of s rest nows (drop (i + 1) os))
-      ∙ ap (joined done) (sym (at_drop_more (entry_of s rest nows) os i o lt ∙ ap (λ y. entry_of s rest nows (y ∷ drop (i + 1) os)) (sym at) ∙ entry_one s rest nows o (drop (i + 1) os))) ∙ h
+      ap (λ y. joined y (entry_of s rest nows (drop (i + 1) os))) e ∙ joined-assoc done (label_now rest nows o)
+      (entry_of s rest nows (drop (i + 1) os))
+      ∙ ap (joined done) (sym (at_drop_more (entry_of s rest nows) os i o lt ∙ ap (λ y. entry_of s rest nows (y ∷ drop (i + 1) os)) (sym at)
+      ∙ entry_one s rest nows o (drop (i + 1) os))) ∙ h
 
   pub entry_all : length os ≤ i → joined done (entry_of s rest nows (drop i os)) ≡ total → done ≡ total
   entry_all le h = sym (joined-none done) ∙ ap (joined done) (sym (at_drop_all (entry_of s rest nows) os i le)) ∙ h
@@ -196,7 +232,8 @@ module _ (s : Followed) (rest : Now) (nows : List Now) (os : List (Option ℕ)) 
 -- A set for each constant.
 
 module _ {A B : Type 0} (f : A → B) (xs : List A) (i : ℕ) (done : List B) where
-  pub mapped_more : (x : A) (done' total : List B) → i < length xs → x ≡ get_or xs i x → done' ≡ done ++ f x ∷ [] → done ++ map f (drop i xs) ≡ total → done' ++ map f (drop (i + 1) xs) ≡ total
+  pub mapped_more : (x : A) (done' total : List B) → i < length xs → x ≡ get_or xs i x → done' ≡ done ++ f x ∷ [] →
+      done ++ map f (drop i xs) ≡ total → done' ++ map f (drop (i + 1) xs) ≡ total
   mapped_more x done' total lt at e h =
       ap (λ y. y ++ map f (drop (i + 1) xs)) e ∙ append_assoc done (f x ∷ []) (map f (drop (i + 1) xs))
       ∙ ap (λ y. done ++ y) (sym (at_drop_more (map f) xs i x lt ∙ ap (λ y. map f (y ∷ drop (i + 1) xs)) (sym at))) ∙ h
@@ -209,17 +246,20 @@ module _ {A B : Type 0} (f : A → B) (xs : List A) (i : ℕ) (done : List B) wh
       append_none (y ∷ ys) = ap (λ r. y ∷ r) (append_none ys)
 
 -- the same for each
-pub mapped_any : {A B : Type 0} (y : B) (xs : List A) (i : ℕ) (done done' total : List B) → i < length xs → done' ≡ done ++ y ∷ [] → done ++ map (λ (x : A). y) (drop i xs) ≡ total →
+pub mapped_any : {A B : Type 0} (y : B) (xs : List A) (i : ℕ) (done done' total : List B) → i < length xs → done' ≡ done ++ y ∷ [] →
+    done ++ map (λ (x : A). y) (drop i xs) ≡ total →
     done' ++ map (λ (x : A). y) (drop (i + 1) xs) ≡ total
 mapped_any y [] i done done' total lt e h = absurd (omega (arith, lt))
 mapped_any y (x ∷ xs) i done done' total lt e h =
     ap (λ r. r ++ map (λ x. y) (drop (i + 1) (x ∷ xs))) e ∙ append_assoc done (y ∷ []) (map (λ x. y) (drop (i + 1) (x ∷ xs)))
     ∙ ap (λ r. done ++ r) (sym (at_drop_more (map (λ x. y)) (x ∷ xs) i x lt)) ∙ h
 
-pub spread_by : (s : Followed) (x : ℕ) (now : Now) (f : Numbered → Set) (go : Name → Now) → ((c : Numbered) → placed x (f c) now ≡ go (text_at s.program c.0)) → (cs : List Numbered) →
+pub spread_by : (s : Followed) (x : ℕ) (now : Now) (f : Numbered → Set) (go : Name → Now) →
+    ((c : Numbered) → placed x (f c) now ≡ go (text_at s.program c.0)) → (cs : List Numbered) →
     spread x now (map f cs) ≡ by_constants s go (map (λ (c : Numbered). c.0) cs)
 spread_by s x now f go h [] = refl
-spread_by s x now f go h (c ∷ cs) = ap (λ y. y ∷ spread x now (map f cs)) (h c) ∙ ap (λ r. go (text_at s.program c.0) ∷ r) (spread_by s x now f go h cs)
+spread_by s x now f go h (c ∷ cs) = ap (λ y. y ∷ spread x now (map f cs)) (h c) ∙ ap (λ r. go (text_at s.program c.0) ∷ r)
+    (spread_by s x now f go h cs)
 
 set-past : (b : List Set) (s : Set) → slice_set b (length b) s ≡ b
 set-past [] s = refl
@@ -235,7 +275,8 @@ set-twice (y ∷ b) (suc x) s t = ap (λ r. y ∷ r) (set-twice b x s t)
 
 -- what a label leads to, from what all labels lead to
 pub led_now : (s : Followed) (x : CoreVar) (n : ℕ) (k : Method) (ss : List Set) (known now : Now) (log : Log) (set : Set) (label : Name) →
-    set ≡ known_set known (variable_at s x.var) → now ≡ joined (protocol_call s targets x n k ss known log).yes (protocol_call s targets x n k ss known log).no →
+    set ≡ known_set known (variable_at s x.var) → now ≡ joined (protocol_call s targets x n k ss known log).yes
+    (protocol_call s targets x n k ss known log).no →
     placed (variable_at s x.var) (led_set s x.var k set label) now ≡ led_by s x n k ss known log label
 led_now s x n k ss None now log set label es en = ap (placed (variable_at s x.var) (led_set s x.var k set label)) en
 led_now s x n k ss (Some b) now log set label es en =
@@ -246,7 +287,8 @@ led_now s x n k ss (Some b) now log set label es en =
 
 -- Values that are calls, and others.
 
-pub switched_other : (s : Followed) (e : Expr) (sets : List Set) (log : Log) → None ≡ call_in e → plain_switch s e sets log ≡ switched s e (Some sets) log
+pub switched_other : (s : Followed) (e : Expr) (sets : List Set) (log : Log) → None ≡ call_in e → plain_switch s e sets log ≡ switched s e
+    (Some sets) log
 switched_other s (Int q z) sets log h = refl
 switched_other s (Truth q b) sets log h = refl
 switched_other s (Text q t) sets log h = refl
@@ -264,7 +306,8 @@ switched_other s (Concat q l r) sets log h = refl
 switched_other s (Session q c args) sets log h = refl
 switched_other s (New q c) sets log h = refl
 
-pub switched_call : (s : Followed) (e : Expr) (c : Called) (sets : List Set) (log : Log) → Some c ≡ call_in e → called_switch s c sets log ≡ switched s e (Some sets) log
+pub switched_call : (s : Followed) (e : Expr) (c : Called) (sets : List Set) (log : Log) → Some c ≡ call_in e →
+    called_switch s c sets log ≡ switched s e (Some sets) log
 switched_call s (Protocol q x n args) c sets log h =
     let k : c ≡ record { receiver = x; method = n; args = args } = cc in ap (λ (y : Called). called_switch s y sets log) k
 switched_call s (Int q z) c sets log h = let no : ⊥ = cc in absurd no
@@ -302,15 +345,24 @@ module _ (s : Followed) (c : Called) (sets : List Set) (log la : Log) (b : Branc
   abbrev switch_by : Option Method → Evaluated × (List Now)
   switch_by o =
       let a = eval_all s (elim o as (λ _. List ℕ) [ None ↦ [] | Some k ↦ map (width_of s) (param_types k) ]) c.args (Some sets) log in (
-        elim o as (λ _. Evaluated) [ None ↦ alike [] a.now a.log | Some k ↦ protocol_call s targets c.receiver c.method k a.sets a.now a.log ],
-        by_constants s (λ label. after (elim o as (λ _. Evaluated) [ None ↦ alike [] a.now a.log | Some k ↦ protocol_call s (targets_by label) c.receiver c.method k a.sets a.now a.log ]))
+        elim o as (λ _. Evaluated) [
+          | None ↦ alike [] a.now a.log
+          | Some k ↦ protocol_call s targets c.receiver c.method k a.sets a.now a.log
+        ],
+        by_constants s (λ label. after
+            (elim o as (λ _. Evaluated) [
+              | None ↦ alike [] a.now a.log
+              | Some k ↦ protocol_call s (targets_by label) c.receiver c.method k
+                  a.sets a.now a.log
+            ]))
             (constants_of s (option_map (λ (m : Method). m.result) o)),
       )
 
   pub uncalled_nows : slice_get s.program.methods c.method ≡ None → b.sets.items ≡ [] → branched b ≡ (called_switch s c sets log).1
   uncalled_nows e eb = ap (spread b.variable b.known) eb ∙ ap (λ o. (switch_by o).1) (sym e)
 
-  pub uncalled_log : slice_get s.program.methods c.method ≡ None → argued_of a la ≡ eval_all s [] c.args (Some sets) log → la ≡ (called_switch s c sets log).0.log
+  pub uncalled_log : slice_get s.program.methods c.method ≡ None → argued_of a la ≡ eval_all s [] c.args (Some sets) log →
+      la ≡ (called_switch s c sets log).0.log
   uncalled_log e ea = ap (λ (x : Argued). x.log) ea ∙ ap (λ o. (switch_by o).0.log) (sym e)
 
   module _ (k : Method) (tys : List CoreType) (e : slice_get s.program.methods c.method ≡ Some k) (et : tys ≡ param_types k)
@@ -318,20 +370,28 @@ module _ (s : Followed) (c : Called) (sets : List Set) (log la : Log) (b : Branc
     given : argued_of a la ≡ eval_all s (map (width_of s) (param_types k)) c.args (Some sets) log
     given = ea ∙ ap (λ t. eval_all s (map (width_of s) t) c.args (Some sets) log) et
 
-    pub called_nows : branched b ≡ by_constants s (led_by s c.receiver c.method k a.sets a.now la) (constants_of s (Some k.result)) → branched b ≡ (called_switch s c sets log).1
-    called_nows h = h ∙ ap (λ (x : Argued). by_constants s (led_by s c.receiver c.method k x.sets x.now x.log) (constants_of s (Some k.result))) given ∙ ap (λ o. (switch_by o).1) (sym e)
+    pub called_nows : branched b ≡ by_constants s (led_by s c.receiver c.method k a.sets a.now la) (constants_of s (Some k.result)) →
+        branched b ≡ (called_switch s c sets log).1
+    called_nows h = h ∙ ap (λ (x : Argued). by_constants s (led_by s c.receiver c.method k x.sets x.now x.log)
+        (constants_of s (Some k.result))) given ∙ ap (λ o. (switch_by o).1) (sym e)
 
-    pub called_log : (lb : Log) → lb ≡ (protocol_call s targets c.receiver c.method k a.sets a.now la).log → lb ≡ (called_switch s c sets log).0.log
-    called_log lb h = h ∙ ap (λ (x : Argued). (protocol_call s targets c.receiver c.method k x.sets x.now x.log).log) given ∙ ap (λ o. (switch_by o).0.log) (sym e)
+    pub called_log : (lb : Log) → lb ≡ (protocol_call s targets c.receiver c.method k a.sets a.now la).log →
+        lb ≡ (called_switch s c sets log).0.log
+    called_log lb h = h ∙ ap (λ (x : Argued). (protocol_call s targets c.receiver c.method k x.sets x.now x.log).log) given ∙
+        ap (λ o. (switch_by o).0.log) (sym e)
 
-module _ (s : Followed) (x : CoreVar) (n : ℕ) (k : Method) (ss : List Set) (known : Now) (log la : Log) (v : Value) (ev : evaluated_of v la ≡ protocol_call s targets x n k ss known log) where
-  pub led_nows : (b : Branches) (cs : List Numbered) (set : Set) → b.variable ≡ variable_at s x.var → b.known ≡ joined (yes_of v.ways) (no_of v.ways) → set ≡ known_set known b.variable →
-      b.sets.items ≡ map (λ (c : Numbered). led_set s x.var k set (text_at s.program c.0)) cs → map (λ (c : Numbered). c.0) cs ≡ constants_of s (Some k.result) →
+module _ (s : Followed) (x : CoreVar) (n : ℕ) (k : Method) (ss : List Set) (known : Now) (log la : Log) (v : Value)
+    (ev : evaluated_of v la ≡ protocol_call s targets x n k ss known log) where
+  pub led_nows : (b : Branches) (cs : List Numbered) (set : Set) → b.variable ≡ variable_at s x.var →
+      b.known ≡ joined (yes_of v.ways) (no_of v.ways) → set ≡ known_set known b.variable →
+      b.sets.items ≡ map (λ (c : Numbered). led_set s x.var k set (text_at s.program c.0)) cs →
+      map (λ (c : Numbered). c.0) cs ≡ constants_of s (Some k.result) →
       branched b ≡ by_constants s (led_by s x n k ss known log) (constants_of s (Some k.result))
   led_nows b cs set ex en es eb ec =
       ap (λ y. spread y b.known b.sets.items) ex ∙ ap (spread (variable_at s x.var) b.known) eb
       ∙ spread_by s (variable_at s x.var) b.known (λ c. led_set s x.var k set (text_at s.program c.0)) (led_by s x n k ss known log)
-      (λ c. led_now s x n k ss known b.known log set (text_at s.program c.0) (es ∙ ap (known_set known) ex) (en ∙ ap (λ (y : Evaluated). joined y.yes y.no) ev)) cs
+      (λ c. led_now s x n k ss known b.known log set (text_at s.program c.0) (es ∙ ap (known_set known) ex)
+      (en ∙ ap (λ (y : Evaluated). joined y.yes y.no) ev)) cs
       ∙ ap (by_constants s (led_by s x n k ss known log)) ec
 
   pub led_log : la ≡ (protocol_call s targets x n k ss known log).log
@@ -344,11 +404,14 @@ placed-none None = refl
 placed-none (Some b) = placed-past b (length b) [] refl
 
 module _ (s : Followed) (e : Expr) (sets : List Set) (log la : Log) (v : Value) (ev : evaluated_of v la ≡ eval s 0 e (Some sets) log) where
-  pub plain_nows : (b : Branches) (cs : List Numbered) (ty : Option CoreType) → ty ≡ type_dropped s e → b.known ≡ joined (yes_of v.ways) (no_of v.ways) → b.variable ≡ variables b.known →
-      b.sets.items ≡ map (λ (c : Numbered). none 0) cs → map (λ (c : Numbered). c.0) cs ≡ constants_of s ty → branched b ≡ (plain_switch s e sets log).1
+  pub plain_nows : (b : Branches) (cs : List Numbered) (ty : Option CoreType) → ty ≡ type_dropped s e →
+      b.known ≡ joined (yes_of v.ways) (no_of v.ways) → b.variable ≡ variables b.known →
+      b.sets.items ≡ map (λ (c : Numbered). none 0) cs → map (λ (c : Numbered). c.0) cs ≡ constants_of s ty →
+      branched b ≡ (plain_switch s e sets log).1
   plain_nows b cs ty ety en ex eb ec =
       ap (λ y. spread y b.known b.sets.items) ex ∙ ap (spread (variables b.known) b.known) eb
-      ∙ spread_by s (variables b.known) b.known (λ c. none 0) (λ label. after (eval s 0 e (Some sets) log)) (λ c. placed-none b.known ∙ en ∙ ap (λ (y : Evaluated). joined y.yes y.no) ev) cs
+      ∙ spread_by s (variables b.known) b.known (λ c. none 0) (λ label. after (eval s 0 e (Some sets) log)) (λ c. placed-none b.known ∙ en ∙
+      ap (λ (y : Evaluated). joined y.yes y.no) ev) cs
       ∙ ap (by_constants s (λ label. after (eval s 0 e (Some sets) log))) (ec ∙ ap (constants_of s) ety)
 
   pub plain_log : la ≡ (plain_switch s e sets log).0.log
@@ -361,24 +424,31 @@ pub rest_led : (x : ℕ) (now : Now) (nows : List Now) (all r : Option Set) (s t
 rest_led x now nows all r s t er et =
     ap (λ y. with_any x now (Some y)) et ∙ gathered_is x now all s ∙ ap (λ o. joined (with_any x now all) (with_any x now o)) (sym er)
 
-pub rest_missing : (x : ℕ) (now : Now) (nows : List Now) (all r : Option Set) → r ≡ None → with_any x now all ≡ joined (with_any x now all) (label_now (with_any x now r) nows None)
-rest_missing x now nows all r er = sym (joined-none (with_any x now all)) ∙ ap (λ o. joined (with_any x now all) (with_any x now o)) (sym er)
+pub rest_missing : (x : ℕ) (now : Now) (nows : List Now) (all r : Option Set) → r ≡ None → with_any x now all ≡ joined (with_any x now all)
+    (label_now (with_any x now r) nows None)
+rest_missing x now nows all r er = sym (joined-none (with_any x now all)) ∙ ap (λ o. joined (with_any x now all) (with_any x now o))
+    (sym er)
 
 module _ (x : ℕ) (now : Now) (sets : List Set) (all r : Option Set) (label : Option ℕ) where
   pub some_led : (n : ℕ) (s t : Set) → label ≡ Some n → Some s ≡ slice_get sets n → t ≡ gathered all s →
       with_any x now (Some t) ≡ joined (with_any x now all) (label_now (with_any x now r) (spread x now sets) label)
-  some_led n s t el e et = label_led x now sets (with_any x now r) all n s t e et ∙ ap (λ o. joined (with_any x now all) (label_now (with_any x now r) (spread x now sets) o)) (sym el)
+  some_led n s t el e et = label_led x now sets (with_any x now r) all n s t e et ∙
+      ap (λ o. joined (with_any x now all) (label_now (with_any x now r) (spread x now sets) o)) (sym el)
 
   pub some_past : (n : ℕ) → label ≡ Some n → None ≡ slice_get sets n →
       with_any x now all ≡ joined (with_any x now all) (label_now (with_any x now r) (spread x now sets) label)
-  some_past n el e = label_past x now sets (with_any x now r) all n e ∙ ap (λ o. joined (with_any x now all) (label_now (with_any x now r) (spread x now sets) o)) (sym el)
+  some_past n el e = label_past x now sets (with_any x now r) all n e ∙
+      ap (λ o. joined (with_any x now all) (label_now (with_any x now r) (spread x now sets) o)) (sym el)
 
   pub none_led : (s t : Set) → label ≡ None → r ≡ Some s → t ≡ gathered all s →
       with_any x now (Some t) ≡ joined (with_any x now all) (label_now (with_any x now r) (spread x now sets) label)
-  none_led s t el er et = rest_led x now (spread x now sets) all r s t er et ∙ ap (λ o. joined (with_any x now all) (label_now (with_any x now r) (spread x now sets) o)) (sym el)
+  none_led s t el er et = rest_led x now (spread x now sets) all r s t er et ∙
+      ap (λ o. joined (with_any x now all) (label_now (with_any x now r) (spread x now sets) o)) (sym el)
 
-  pub none_past : label ≡ None → r ≡ None → with_any x now all ≡ joined (with_any x now all) (label_now (with_any x now r) (spread x now sets) label)
-  none_past el er = rest_missing x now (spread x now sets) all r er ∙ ap (λ o. joined (with_any x now all) (label_now (with_any x now r) (spread x now sets) o)) (sym el)
+  pub none_past : label ≡ None → r ≡ None → with_any x now all ≡ joined (with_any x now all)
+      (label_now (with_any x now r) (spread x now sets) label)
+  none_past el er = rest_missing x now (spread x now sets) all r er ∙
+      ap (λ o. joined (with_any x now all) (label_now (with_any x now r) (spread x now sets) o)) (sym el)
 
   pub some_led_at : (n : ℕ) (s t : Set) → label ≡ Some n → n < length sets → s ≡ get_or sets n [] → t ≡ gathered all s →
       with_any x now (Some t) ≡ joined (with_any x now all) (label_now (with_any x now r) (spread x now sets) label)
@@ -425,10 +495,12 @@ module _ (s : Followed) (x : Var) (k : Method) (set : Set) (cs : List Numbered) 
   abbrev led_all : List Numbered → List Set
   led_all ns = map (λ (c : Numbered). led_set s x k set (text_at s.program c.0)) ns
 
-  pub led_more : (c : Numbered) (led : Set) (done' total : List Set) → i < length cs → c ≡ get_or cs i c → led ≡ led_set s x k set (text_at s.program c.0) →
+  pub led_more : (c : Numbered) (led : Set) (done' total : List Set) → i < length cs → c ≡ get_or cs i c →
+      led ≡ led_set s x k set (text_at s.program c.0) →
       done' ≡ done ++ led ∷ [] → done ++ led_all (drop i cs) ≡ total → done' ++ led_all (drop (i + 1) cs) ≡ total
   led_more c led done' total lt at el ed h =
-      mapped_more (λ (c : Numbered). led_set s x k set (text_at s.program c.0)) cs i done c done' total lt at (ed ∙ ap (λ y. done ++ y ∷ []) el) h
+      mapped_more (λ (c : Numbered). led_set s x k set (text_at s.program c.0)) cs i done c done' total lt at
+      (ed ∙ ap (λ y. done ++ y ∷ []) el) h
 
   pub led_end : length cs ≤ i → done ++ led_all (drop i cs) ≡ led_all cs → done ≡ led_all cs
   led_end le h = mapped_all (λ (c : Numbered). led_set s x k set (text_at s.program c.0)) cs i done le h
@@ -447,14 +519,18 @@ length-spread x now [] = refl
 length-spread x now (s ∷ sets) = ap suc (length-spread x now sets)
 
 -- the choice of a switch, from the labels of its groups
-module _ (s : Followed) (os : List (Option ℕ)) (b : Branches) (l : Labels) (w : ℕ) (ew : w ≡ length b.sets.items) (el : l ≡ noted os (no_labels w)) where
-  pub rest_chosen : (r : Option Set) → with_any b.variable b.known r ≡ uncased_by l.cased 0 (branched b) → with_any b.variable b.known r ≡ uncased s os 0 (branched b)
+module _ (s : Followed) (os : List (Option ℕ)) (b : Branches) (l : Labels) (w : ℕ) (ew : w ≡ length b.sets.items)
+    (el : l ≡ noted os (no_labels w)) where
+  pub rest_chosen : (r : Option Set) → with_any b.variable b.known r ≡ uncased_by l.cased 0 (branched b) →
+      with_any b.variable b.known r ≡ uncased s os 0 (branched b)
   rest_chosen r h =
       h ∙ ap (λ (y : Labels). uncased_by y.cased 0 (branched b)) el
-      ∙ uncased_is s os w 0 (branched b) (let e : length (branched b) ≡ length b.sets.items = length-spread b.variable b.known b.sets.items in omega (arith, e, ew))
+      ∙ uncased_is s os w 0 (branched b) (let e : length (branched b) ≡ length b.sets.items = length-spread b.variable b.known b.sets.items
+      in omega (arith, e, ew))
 
   pub past_chosen : (r : Option Set) → with_any b.variable b.known r ≡ uncased_by l.cased 0 (branched b) →
-      (if l.has_default then None else with_any b.variable b.known r) ≡ (if list_any is_default os then None else uncased s os 0 (branched b))
+      (if l.has_default then None else with_any b.variable b.known r) ≡ (if list_any is_default os then None else uncased s os 0
+      (branched b))
   past_chosen r h =
       ap (λ v. if v then None else with_any b.variable b.known r) (ap (λ (y : Labels). y.has_default) el ∙ default-noted os (no_labels w))
       ∙ ap (λ y. if list_any is_default os then None else y) (rest_chosen r h)

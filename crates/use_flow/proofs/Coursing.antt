@@ -1,5 +1,6 @@
 -- Where scopes end, and what jumps.
-use Rattle.std.proofs.Common.{◌≡◌, ℕ, zero, suc, ◌+◌, ◌<◌, ◌≤◌, Bool, true, false, not, List, [], ◌∷◌, ◌++◌, length, get_or, drop, reverse, Some, None, refl, sym, ap, ◌∙◌, arith, append_assoc}
+use Rattle.std.proofs.Common.{◌≡◌, ℕ, zero, suc, ◌+◌, ◌<◌, ◌≤◌, Bool, true, false, not, List, [], ◌∷◌, ◌++◌, length, get_or, drop, reverse}
+use Rattle.std.proofs.Common.{Some, None, refl, sym, ap, ◌∙◌, arith, append_assoc}
 use Rattle.std.specs.Prelude.{◌||◌, nat_eq, slice_set, if◌then◌else◌}
 use Rattle.std.specs.List.{filter, list_any}
 use Rattle.std.proofs.lemmas.List.{at_drop_more, at_drop_all, reverse-append}
@@ -69,12 +70,15 @@ marked_has (k ∷ ks) s n lt =
     or_around false true c = refl
     or_around false false c = refl
 
-pub mark_more : (ks : List ℕ) (i k : ℕ) (s s' total : Set) → i < length ks → k ≡ get_or ks i k → s' ≡ slice_set s k true → marked (drop i ks) s ≡ total →
+pub mark_more : (ks : List ℕ) (i k : ℕ) (s s' total : Set) → i < length ks → k ≡ get_or ks i k → s' ≡ slice_set s k true →
+    marked (drop i ks) s ≡ total →
     marked (drop (i + 1) ks) s' ≡ total
 mark_more ks i k s s' total lt at e h =
-    ap (marked (drop (i + 1) ks)) e ∙ sym (at_drop_more (λ (xs : List ℕ). marked xs s) ks i k lt ∙ ap (λ x. marked (x ∷ drop (i + 1) ks) s) (sym at)) ∙ h
+    ap (marked (drop (i + 1) ks)) e ∙ sym (at_drop_more (λ (xs : List ℕ). marked xs s) ks i k lt ∙ ap (λ x. marked (x ∷ drop (i + 1) ks) s)
+    (sym at)) ∙ h
 
-pub all_marked : (ks : List ℕ) (i w : ℕ) (s : Set) → length ks ≤ i → marked (drop i ks) s ≡ marked ks (none w) → s ≡ marked ks (none (length s))
+pub all_marked : (ks : List ℕ) (i w : ℕ) (s : Set) → length ks ≤ i → marked (drop i ks) s ≡ marked ks (none w) →
+    s ≡ marked ks (none (length s))
 all_marked ks i w s le h =
     let e : s ≡ marked ks (none w) = sym (at_drop_all (λ (xs : List ℕ). marked xs s) ks i le) ∙ h in
     e ∙ ap (λ n. marked ks (none n)) (sym (ap length e ∙ marked_length ks (none w) ∙ none_length w))
@@ -106,7 +110,8 @@ module _ (p : ℕ → Bool) where
   filter_one x [] = refl
   filter_one x (z ∷ xs) = go (filter_one x xs) (p z) refl
     where
-      go : filter p (xs ++ x ∷ []) ≡ filter p xs ++ filter p (x ∷ []) → (b : Bool) → p z ≡ b → filter p (z ∷ (xs ++ x ∷ [])) ≡ filter p (z ∷ xs) ++ filter p (x ∷ [])
+      go : filter p (xs ++ x ∷ []) ≡ filter p xs ++ filter p (x ∷ []) → (b : Bool) → p z ≡ b → filter p (z ∷ (xs ++ x ∷ [])) ≡ filter p
+          (z ∷ xs) ++ filter p (x ∷ [])
       go ih true v = filter_with z (xs ++ x ∷ []) v ∙ ap (λ r. z ∷ r) ih ∙ ap (λ r. r ++ filter p (x ∷ [])) (sym (filter_with z xs v))
       go ih false v = filter_past z (xs ++ x ∷ []) v ∙ ih ∙ ap (λ r. r ++ filter p (x ∷ [])) (sym (filter_past z xs v))
 
@@ -138,7 +143,8 @@ module _ (xs stays : List ℕ) (i k : ℕ) (done total : List ℕ) (lt : i < len
       ap (λ z. z ++ filter (goes stays) (drop (i + 1) xs)) d ∙ append_assoc done (k ∷ []) (filter (goes stays) (drop (i + 1) xs))
       ∙ ap (λ z. done ++ z) (sym (rest_at ∙ filter_with (goes stays) k (drop (i + 1) xs) (ap not (sym e ∙ h)))) ∙ r
 
-pub all_left : (xs stays : List ℕ) (i : ℕ) (done : List ℕ) → length xs ≤ i → done ++ filter (goes stays) (drop i xs) ≡ filter (goes stays) xs →
+pub all_left : (xs stays : List ℕ) (i : ℕ) (done : List ℕ) → length xs ≤ i → done ++ filter (goes stays) (drop i xs) ≡ filter (goes stays)
+    xs →
     done ≡ leaving (reverse xs) stays
 all_left xs stays i done le r =
     sym (append_nil done) ∙ ap (λ z. done ++ z) (sym (at_drop_all (filter (goes stays)) xs i le)) ∙ r ∙ sym (filter_turned (goes stays) xs)
@@ -160,7 +166,8 @@ any_append p (x ∷ xs) ys = ap (λ b. p x || b) (any_append p xs ys) ∙ sym (o
 any_reverse : (p : ℕ → Bool) (xs : List ℕ) → list_any p (reverse xs) ≡ list_any p xs
 any_reverse p [] = refl
 any_reverse p (x ∷ xs) =
-    ap (list_any p) (reverse-append (x ∷ []) xs) ∙ any_append p (reverse xs) (x ∷ []) ∙ ap (λ b. b || (p x || false)) (any_reverse p xs) ∙ or_both (list_any p xs) (p x)
+    ap (list_any p) (reverse-append (x ∷ []) xs) ∙ any_append p (reverse xs) (x ∷ []) ∙ ap (λ b. b || (p x || false)) (any_reverse p xs) ∙
+    or_both (list_any p xs) (p x)
 
 filter_same : (p q : ℕ → Bool) → ((k : ℕ) → p k ≡ q k) → (xs : List ℕ) → filter p xs ≡ filter q xs
 filter_same p q e [] = refl
@@ -174,7 +181,8 @@ filter_same p q e (x ∷ xs) = go (filter_same p q e xs) (q x) refl
 pub leaving-turned : (scope ys : List ℕ) → leaving scope (reverse ys) ≡ leaving scope ys
 leaving-turned scope ys = ap reverse (filter_same (goes (reverse ys)) (goes ys) (λ k. ap not (any_reverse (nat_eq k) ys)) scope)
 
-pub slot_copied : (xs : List ℕ) (i k : ℕ) (done done' total : List ℕ) → i < length xs → k ≡ get_or xs i k → done' ≡ done ++ k ∷ [] → done ++ drop i xs ≡ total →
+pub slot_copied : (xs : List ℕ) (i k : ℕ) (done done' total : List ℕ) → i < length xs → k ≡ get_or xs i k → done' ≡ done ++ k ∷ [] →
+    done ++ drop i xs ≡ total →
     done' ++ drop (i + 1) xs ≡ total
 slot_copied xs i k done done' total lt at e h =
     ap (λ r. r ++ drop (i + 1) xs) e ∙ append_assoc done (k ∷ []) (drop (i + 1) xs)
@@ -191,17 +199,20 @@ one_caught : (v : Bool) (before now : Now) → (if v then joined before now else
 one_caught true before now = ap (joined before) (sym (joined-none now))
 one_caught false before now = sym (joined-none before)
 
-pub jump_follows : (s : Followed) (q : Place) (to : Leads) (sc stays left : List ℕ) (sets : List Set) (log : Log) (scope : List ℕ) (j : Jumps) (now : Now) (c : Course) →
+pub jump_follows : (s : Followed) (q : Place) (to : Leads) (sc stays left : List ℕ) (sets : List Set) (log : Log) (scope : List ℕ)
+    (j : Jumps) (now : Now) (c : Course) →
     left ≡ leaving sc stays → ((js : List Jump) → flow now js (log_of c.log) ≡ exit s q left (flow (Some sets) js log)) →
     ((at : Leads) → held c.jumps at ≡ (if same_lead to at then joined (held j at) now else held j at)) → c.scope.items ≡ scope →
     Follows (jump_flow s q to sc stays sets log) scope j None c
 jump_follows s q to sc stays left sets log scope j now c el ex h es =
-    let e : flow now [] (log_of c.log) ≡ exit s q (leaving sc stays) (flow (Some sets) [] log) = ex [] ∙ ap (λ ks. exit s q ks (flow (Some sets) [] log)) el in
+    let e : flow now [] (log_of c.log) ≡ exit s q (leaving sc stays) (flow (Some sets) [] log) =
+    ex [] ∙ ap (λ ks. exit s q ks (flow (Some sets) [] log)) el in
     record {
       now-is = refl;
       log-is = ap (λ (f : Flow). f.log) e;
       scope-is = es;
-      jumps = λ at. h at ∙ ap (λ v. if v then joined (held j at) now else held j at) (same_turned to at) ∙ one_caught (same_lead at to) (held j at) now
+      jumps = λ at. h at ∙ ap (λ v. if v then joined (held j at) now else held j at) (same_turned to at) ∙ one_caught (same_lead at to)
+          (held j at) now
           ∙ ap (λ (f : Flow). joined (held j at) (if same_lead at to then joined f.now None else None)) e;
     }
 

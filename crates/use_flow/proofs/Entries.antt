@@ -1,5 +1,7 @@
 -- What a turn of a loop over typestates, states and methods adds.
-use Rattle.std.proofs.Common.{◌≡◌, ℕ, zero, suc, ◌+◌, ◌<◌, ◌≤◌, Bool, true, false, cond, List, [], ◌∷◌, ◌++◌, length, get_or, drop, map, Some, slice_get, is_some, refl, sym, ap, ◌∙◌, subst, arith, add-one, append_assoc, length-append, ◌⊎◌, inl, inr, ⊎_elim}
+use Rattle.std.proofs.Common.{◌≡◌, ℕ, zero, suc, ◌+◌, ◌<◌, ◌≤◌, Bool, true, false, cond, List, [], ◌∷◌, ◌++◌, length, get_or, drop, map}
+use Rattle.std.proofs.Common.{Some, slice_get, is_some, refl, sym, ap, ◌∙◌, subst, arith, add-one, append_assoc, length-append, ◌⊎◌, inl}
+use Rattle.std.proofs.Common.{inr, ⊎_elim}
 use Rattle.std.proofs.lemmas.List.{at_drop_more, at_drop_all}
 use Rattle.std.proofs.lemmas.Option.{slice_get_within}
 use Rattle.mg_text.specs.Call.{Name}
@@ -26,12 +28,19 @@ pub record ReachedSoFar (ts : List Typestate) (reached : List (List Bool)) (i : 
   pub proper : (n : ℕ) (t : Typestate) → n < i → slice_get ts n ≡ Some t → IsProper t.states
 
 pub reached_none : (ts : List Typestate) → ReachedSoFar ts [] 0
-reached_none ts = record { as_many = refl; within = omega arith; each = λ n t s e h. absurd (none n s h); proper = λ n t lt e. (let no : ⊥ = omega (arith, lt) in absurd no) }
+reached_none ts = record {
+  as_many = refl;
+  within = omega arith;
+  each = λ n t s e h. absurd (none n s h);
+  proper =
+      λ n t lt e. (let no : ⊥ = omega (arith, lt) in absurd no);
+}
   where
     none : (n : ℕ) (s : List Bool) → slice_get [] n ≡ Some s → ⊥
     none n s h = cc
 
-pushed : (xs : List (List Bool)) (x : List Bool) (n : ℕ) (s : List Bool) → slice_get (xs ++ x ∷ []) n ≡ Some s → (slice_get xs n ≡ Some s) ⊎ ((n ≡ length xs) × (x ≡ s))
+pushed : (xs : List (List Bool)) (x : List Bool) (n : ℕ) (s : List Bool) → slice_get (xs ++ x ∷ []) n ≡ Some s → (slice_get xs n ≡ Some s)
+    ⊎ ((n ≡ length xs) × (x ≡ s))
 pushed [] x zero s h = inr (refl, (let e : x ≡ s = cc in e))
 pushed [] x (suc n) s h = let no : ⊥ = cc in absurd no
 pushed (y ∷ xs) x zero s h = inl h
@@ -46,27 +55,32 @@ pub last_or_before : (n i : ℕ) → n < i + 1 → (n < i) ⊎ (n ≡ i)
 last_or_before zero zero h = inr refl
 last_or_before zero (suc i) h = inl (omega arith)
 last_or_before (suc n) zero h = let no : ⊥ = omega (arith, h) in absurd no
-last_or_before (suc n) (suc i) h = ⊎_elim (λ l. inl (let lt : n < i = l in omega (arith, lt))) (λ e. inr (ap suc e)) (last_or_before n i (omega (arith, h)))
+last_or_before (suc n) (suc i) h = ⊎_elim (λ l. inl (let lt : n < i = l in omega (arith, lt))) (λ e. inr (ap suc e))
+    (last_or_before n i (omega (arith, h)))
 
-pub reached_more : (ts : List Typestate) (reached reached' : List (List Bool)) (i : ℕ) (t : Typestate) (s : List Bool) → ReachedSoFar ts reached i → i < length ts →
+pub reached_more : (ts : List Typestate) (reached reached' : List (List Bool)) (i : ℕ) (t : Typestate) (s : List Bool) →
+    ReachedSoFar ts reached i → i < length ts →
     t ≡ get_or ts i t → IsProper t.states → MarksReachable t s → reached' ≡ reached ++ s ∷ [] → ReachedSoFar ts reached' (i + 1)
 reached_more ts reached reached' i t s r lt at ok m e = record {
   as_many = ap length e ∙ length-append reached (s ∷ []) ∙ ap (λ n. n + 1) r.as_many;
   within = omega (arith, lt);
   each = λ n u v h g. ⊎_elim (r.each n u v h) (λ w.
-      subst (λ x. MarksReachable u x) w.1 (subst (λ x. MarksReachable x s) (same_item ts i t u at (sym (ap (slice_get ts) (w.0 ∙ r.as_many)) ∙ h)) m))
+      subst (λ x. MarksReachable u x) w.1
+      (subst (λ x. MarksReachable x s) (same_item ts i t u at (sym (ap (slice_get ts) (w.0 ∙ r.as_many)) ∙ h)) m))
       (pushed reached s n v (sym (ap (λ x. slice_get x n) e) ∙ g));
   proper = λ n u below h. ⊎_elim (λ l. r.proper n u l h) (λ w.
       subst (λ x. IsProper x.states) (same_item ts i t u at (sym (ap (slice_get ts) w) ∙ h)) ok) (last_or_before n i below);
 }
 
-pub reached_all : (p : Program) (ts : List Typestate) (reached : List (List Bool)) (i : ℕ) → ReachedSoFar ts reached i → length ts ≤ i → ts ≡ p.typestates → AreReached p reached
+pub reached_all : (p : Program) (ts : List Typestate) (reached : List (List Bool)) (i : ℕ) → ReachedSoFar ts reached i → length ts ≤ i →
+    ts ≡ p.typestates → AreReached p reached
 reached_all p ts reached i r e h = record {
   as_many = r.as_many ∙ (let k : i ≡ length ts = omega (arith, r.within) in k) ∙ ap length h;
   each = λ n t s g. r.each n t s (ap (λ x. slice_get x n) h ∙ g);
 }
 
-pub all_proper : (p : Program) (ts : List Typestate) (reached : List (List Bool)) (i : ℕ) → ReachedSoFar ts reached i → length ts ≤ i → ts ≡ p.typestates → AreProper p
+pub all_proper : (p : Program) (ts : List Typestate) (reached : List (List Bool)) (i : ℕ) → ReachedSoFar ts reached i → length ts ≤ i →
+    ts ≡ p.typestates → AreProper p
 all_proper p ts reached i r e h = record {
   each = λ n t g. let at = ap (λ x. slice_get x n) h ∙ g in r.proper n t (let lt = slice_get_within ts n t at in omega (arith, lt, e)) at;
 }
@@ -79,35 +93,45 @@ module _ (c n : ℕ) (t : Typestate) (name : Name) where
   next_member true k s e = let no : ⊥ = cc in absurd no
   next_member false k s e = refl
 
-  next_refused : (k : ℕ) (s : List Bool) → is_some (offered t k name) ≡ false → entered_from c n t name k (true ∷ s) ≡ entered_from c n t name (suc k) s
-  next_refused k s e = ap (λ b. in_states c n (cond b (k ∷ offering_states t (members_from (suc k) s) name) (offering_states t (members_from (suc k) s) name))) e
+  next_refused : (k : ℕ) (s : List Bool) → is_some (offered t k name) ≡ false → entered_from c n t name k (true ∷ s) ≡ entered_from c n t
+      name (suc k) s
+  next_refused k s e = ap (λ b. in_states c n (cond b (k ∷ offering_states t (members_from (suc k) s) name)
+      (offering_states t (members_from (suc k) s) name))) e
 
-  next_offered : (k : ℕ) (s : List Bool) → is_some (offered t k name) ≡ true → entered_from c n t name k (true ∷ s) ≡ contexts.Protocol c k n ∷ entered_from c n t name (suc k) s
-  next_offered k s e = ap (λ b. in_states c n (cond b (k ∷ offering_states t (members_from (suc k) s) name) (offering_states t (members_from (suc k) s) name))) e
+  next_offered : (k : ℕ) (s : List Bool) → is_some (offered t k name) ≡ true → entered_from c n t name k (true ∷ s) ≡ contexts.Protocol c k
+      n ∷ entered_from c n t name (suc k) s
+  next_offered k s e = ap (λ b. in_states c n (cond b (k ∷ offering_states t (members_from (suc k) s) name)
+      (offering_states t (members_from (suc k) s) name))) e
 
-  here : (k : ℕ) (s : List Bool) → k < length s → entered_from c n t name k (drop k s) ≡ entered_from c n t name k (has s k ∷ drop (k + 1) s)
+  here : (k : ℕ) (s : List Bool) → k < length s → entered_from c n t name k (drop k s) ≡ entered_from c n t name k
+      (has s k ∷ drop (k + 1) s)
   here k s lt = at_drop_more (entered_from c n t name k) s k false lt
 
-pub state_absent : (c n : ℕ) (t : Typestate) (name : Name) (k : ℕ) (s : List Bool) (cs total : List Context) → k < length s → has s k ≡ false →
+pub state_absent : (c n : ℕ) (t : Typestate) (name : Name) (k : ℕ) (s : List Bool) (cs total : List Context) → k < length s →
+    has s k ≡ false →
     cs ++ entered_from c n t name k (drop k s) ≡ total → cs ++ entered_from c n t name (k + 1) (drop (k + 1) s) ≡ total
 state_absent c n t name k s cs total lt b h =
     ap (λ m. cs ++ entered_from c n t name m (drop (k + 1) s)) (add-one k)
     ∙ ap (λ x. cs ++ x) (sym (here c n t name k s lt ∙ next_member c n t name (has s k) k (drop (k + 1) s) b)) ∙ h
 
-pub state_refused : (c n : ℕ) (t : Typestate) (name : Name) (k : ℕ) (s : List Bool) (cs total : List Context) → k < length s → has s k ≡ true → is_some (offered t k name) ≡ false →
+pub state_refused : (c n : ℕ) (t : Typestate) (name : Name) (k : ℕ) (s : List Bool) (cs total : List Context) → k < length s →
+    has s k ≡ true → is_some (offered t k name) ≡ false →
     cs ++ entered_from c n t name k (drop k s) ≡ total → cs ++ entered_from c n t name (k + 1) (drop (k + 1) s) ≡ total
 state_refused c n t name k s cs total lt b o h =
     ap (λ m. cs ++ entered_from c n t name m (drop (k + 1) s)) (add-one k)
-    ∙ ap (λ x. cs ++ x) (sym (here c n t name k s lt ∙ ap (λ v. entered_from c n t name k (v ∷ drop (k + 1) s)) b ∙ next_refused c n t name k (drop (k + 1) s) o)) ∙ h
+    ∙ ap (λ x. cs ++ x) (sym (here c n t name k s lt ∙ ap (λ v. entered_from c n t name k (v ∷ drop (k + 1) s)) b ∙ next_refused c n t name
+    k (drop (k + 1) s) o)) ∙ h
 
-pub state_entered : (c n : ℕ) (t : Typestate) (name : Name) (k : ℕ) (s : List Bool) (cs cs' total : List Context) → k < length s → has s k ≡ true → is_some (offered t k name) ≡ true →
+pub state_entered : (c n : ℕ) (t : Typestate) (name : Name) (k : ℕ) (s : List Bool) (cs cs' total : List Context) → k < length s →
+    has s k ≡ true → is_some (offered t k name) ≡ true →
     cs' ≡ cs ++ contexts.Protocol c k n ∷ [] →
     cs ++ entered_from c n t name k (drop k s) ≡ total → cs' ++ entered_from c n t name (k + 1) (drop (k + 1) s) ≡ total
 state_entered c n t name k s cs cs' total lt b o e h =
     ap (λ m. cs' ++ entered_from c n t name m (drop (k + 1) s)) (add-one k)
     ∙ ap (λ x. x ++ entered_from c n t name (suc k) (drop (k + 1) s)) e
     ∙ append_assoc cs (contexts.Protocol c k n ∷ []) (entered_from c n t name (suc k) (drop (k + 1) s))
-    ∙ ap (λ x. cs ++ x) (sym (here c n t name k s lt ∙ ap (λ v. entered_from c n t name k (v ∷ drop (k + 1) s)) b ∙ next_offered c n t name k (drop (k + 1) s) o)) ∙ h
+    ∙ ap (λ x. cs ++ x) (sym (here c n t name k s lt ∙ ap (λ v. entered_from c n t name k (v ∷ drop (k + 1) s)) b ∙ next_offered c n t name
+    k (drop (k + 1) s) o)) ∙ h
 
 pub states_end : (c n : ℕ) (t : Typestate) (name : Name) (k : ℕ) (s : List Bool) (cs total : List Context) → length s ≤ k →
     cs ++ entered_from c n t name k (drop k s) ≡ total → cs ≡ total
@@ -117,9 +141,11 @@ pub ruleset states = (state_absent, state_refused, state_entered, states_end)
 
 -- Method by method.
 
-pub method_next : (p : Program) (reached : List (List Bool)) (ms : List CoreMethod) (i : ℕ) (m : CoreMethod) (cs cs' total : List Context) → i < length ms → m ≡ get_or ms i m →
+pub method_next : (p : Program) (reached : List (List Bool)) (ms : List CoreMethod) (i : ℕ) (m : CoreMethod) (cs cs' total : List Context) →
+    i < length ms → m ≡ get_or ms i m →
     cs' ≡ cs ++ contexts_of p reached i (method_of m) →
-    cs ++ contexts_from p reached i (map method_of (drop i ms)) ≡ total → cs' ++ contexts_from p reached (i + 1) (map method_of (drop (i + 1) ms)) ≡ total
+    cs ++ contexts_from p reached i (map method_of (drop i ms)) ≡ total → cs' ++ contexts_from p reached (i + 1)
+    (map method_of (drop (i + 1) ms)) ≡ total
 method_next p reached ms i m cs cs' total lt at e h =
     ap (λ n. cs' ++ contexts_from p reached n (map method_of (drop (i + 1) ms))) (add-one i)
     ∙ ap (λ x. x ++ contexts_from p reached (suc i) (map method_of (drop (i + 1) ms))) e
@@ -130,6 +156,7 @@ method_next p reached ms i m cs cs' total lt at e h =
 pub methods_end : (p : Program) (reached : List (List Bool)) (ms : List CoreMethod) (i : ℕ) (cs total : List Context) → length ms ≤ i →
     cs ++ contexts_from p reached i (map method_of (drop i ms)) ≡ total → cs ≡ total
 methods_end p reached ms i cs total le h =
-    sym (ap (λ x. cs ++ x) (at_drop_all (λ (xs : List CoreMethod). contexts_from p reached i (map method_of xs)) ms i le) ∙ append_nil cs) ∙ h
+    sym (ap (λ x. cs ++ x) (at_drop_all (λ (xs : List CoreMethod). contexts_from p reached i (map method_of xs)) ms i le) ∙ append_nil cs) ∙
+    h
 
 pub ruleset methods = (method_next, methods_end)

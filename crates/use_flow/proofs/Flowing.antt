@@ -1,5 +1,6 @@
 -- A whole context, from its start to its end.
-use Rattle.std.proofs.Common.{◌≡◌, ℕ, zero, suc, ◌+◌, List, [], ◌∷◌, ◌++◌, reverse, Option, Some, None, slice_get, sym, ap, ◌∙◌, arith, add-one}
+use Rattle.std.proofs.Common.{◌≡◌, ℕ, zero, suc, ◌+◌, List, [], ◌∷◌, ◌++◌, reverse, Option, Some, None, slice_get, sym, ap, ◌∙◌, arith}
+use Rattle.std.proofs.Common.{add-one}
 use Rattle.std.proofs.lemmas.List.{reverse-append}
 use Rattle.jv_core.specs.Numbering.{numbers_from}
 use Rattle.jv_core.specs.Tree.{Method, Program, Stmts}
@@ -21,14 +22,17 @@ use Rattle.use_flow.specs.inner.Stepping.{Follows, steps}
 
 numbers-last : (n c : ℕ) → numbers_from n (suc c) ≡ numbers_from n c ++ (n + c) ∷ []
 numbers-last n zero = let e : n ≡ n + 0 = omega arith in ap (λ k. k ∷ []) e
-numbers-last n (suc c) = ap (λ r. n ∷ r) (numbers-last (suc n) c) ∙ (let e : suc n + c ≡ n + suc c = omega arith in ap (λ k. n ∷ (numbers_from (suc n) c ++ k ∷ [])) e)
+numbers-last n (suc c) = ap (λ r. n ∷ r) (numbers-last (suc n) c) ∙
+    (let e : suc n + c ≡ n + suc c = omega arith in ap (λ k. n ∷ (numbers_from (suc n) c ++ k ∷ [])) e)
 
 pub numbers_more : (ns ns' : List ℕ) (i : ℕ) → ns ≡ numbers_from 0 i → ns' ≡ ns ++ i ∷ [] → ns' ≡ numbers_from 0 (i + 1)
-numbers_more ns ns' i e en = en ∙ ap (λ r. r ++ i ∷ []) e ∙ (let z : i ≡ 0 + i = omega arith in ap (λ k. numbers_from 0 i ++ k ∷ []) z) ∙ sym (numbers-last 0 i) ∙ ap (numbers_from 0) (sym (add-one i))
+numbers_more ns ns' i e en = en ∙ ap (λ r. r ++ i ∷ []) e ∙ (let z : i ≡ 0 + i = omega arith in ap (λ k. numbers_from 0 i ++ k ∷ []) z) ∙
+    sym (numbers-last 0 i) ∙ ap (numbers_from 0) (sym (add-one i))
 
 pub ruleset numbering = (numbers_more)
 
-pub whole_is : (s : Followed) (body : Stmts) (scope : List ℕ) (sets : List Set) (value : Set) (j : Jumps) (n : Now) (c : Course) (log last : Log) → body ≡ s.method.body →
+pub whole_is : (s : Followed) (body : Stmts) (scope : List ℕ) (sets : List Set) (value : Set) (j : Jumps) (n : Now) (c : Course)
+    (log last : Log) → body ≡ s.method.body →
     scope ≡ numbers_from 0 s.method.params → sets ≡ start s → value ≡ [] → log ≡ quiet →
     Follows (steps s (reverse scope) [] body (Some sets) log) (scope ++ declared_here body) j n c →
     last ≡ left s s.method.end None value (reverse c.scope.items) n (log_of c.log) → last ≡ whole s
@@ -37,20 +41,26 @@ whole_is s body scope sets value j n c log last eb ec es ev eg a h =
     ∙ ap (λ y. left s s.method.end None [] (reverse y) n (log_of c.log)) a.scope-is
     ∙ ap (λ y. left s s.method.end None [] y n (log_of c.log)) (reverse-append scope (declared_here body))
     ∙ ap (λ y. left s s.method.end None [] (reverse (declared_here body) ++ reverse scope) y (log_of c.log)) a.now-is
-    ∙ ap (left s s.method.end None [] (reverse (declared_here body) ++ reverse scope) (steps s (reverse scope) [] body (Some sets) log).now) a.log-is
-    ∙ ap (ended body scope sets) eg ∙ ap (λ y. ended body scope y quiet) es ∙ ap (λ y. ended body y (start s) quiet) ec ∙ ap (λ y. ended y (numbers_from 0 s.method.params) (start s) quiet) eb
+    ∙ ap (left s s.method.end None [] (reverse (declared_here body) ++ reverse scope) (steps s (reverse scope) [] body (Some sets) log).now)
+    a.log-is
+    ∙ ap (ended body scope sets) eg ∙ ap (λ y. ended body scope y quiet) es ∙ ap (λ y. ended body y (start s) quiet) ec ∙
+    ap (λ y. ended y (numbers_from 0 s.method.params) (start s) quiet) eb
   where
     ended : Stmts → List ℕ → List Set → Log → Log
-    ended body scope sets log = let f = steps s (reverse scope) [] body (Some sets) log in left s s.method.end None [] (reverse (declared_here body) ++ reverse scope) f.now f.log
+    ended body scope sets log = let f = steps s (reverse scope) [] body (Some sets) log in left s s.method.end None []
+        (reverse (declared_here body) ++ reverse scope) f.now f.log
 
 abbrev flow_in : Program → held.Tables → Context → List Context → Option Method → Log
 flow_in p t c cs o = elim o as (λ _. Log) [ None ↦ quiet | Some m ↦ rules.whole p cs c m (tables_of t) ]
 
-pub flow_is : (p : Program) (t : held.Tables) (c : Context) (m : Method) (l : Log) → AreFor p t → Some m ≡ slice_get p.methods (method_in c) →
-    l ≡ whole (record { program = p; contexts = contexts_of t; context = c; method = m; held = t }) → l ≡ flow_of p (reached_of t) (tables_of t) c
+pub flow_is : (p : Program) (t : held.Tables) (c : Context) (m : Method) (l : Log) → AreFor p t → Some m ≡ slice_get p.methods (method_in c)
+    →
+    l ≡ whole (record { program = p; contexts = contexts_of t; context = c; method = m; held = t }) →
+    l ≡ flow_of p (reached_of t) (tables_of t) c
 flow_is p t c m l a e h = h ∙ ap (λ cs. rules.whole p cs c m (tables_of t)) a.contexts ∙ ap (flow_in p t c (contexts_in p (reached_of t))) e
 
-pub flow_none : (p : Program) (t : held.Tables) (c : Context) (l : Log) → None ≡ slice_get p.methods (method_in c) → l ≡ quiet → l ≡ flow_of p (reached_of t) (tables_of t) c
+pub flow_none : (p : Program) (t : held.Tables) (c : Context) (l : Log) → None ≡ slice_get p.methods (method_in c) → l ≡ quiet →
+    l ≡ flow_of p (reached_of t) (tables_of t) c
 flow_none p t c l e h = h ∙ ap (flow_in p t c (contexts_in p (reached_of t))) e
 
 pub ruleset flowing = (flow_is, flow_none)

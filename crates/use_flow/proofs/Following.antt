@@ -1,5 +1,6 @@
 -- What is made of the parts of an expression.
-use Rattle.std.proofs.Common.{◌≡◌, ◌≢◌, ℕ, zero, suc, ◌+◌, ◌<◌, ◌≤◌, List, [], ◌∷◌, ◌++◌, length, get_or, drop, map, Option, Some, None, slice_get, refl, sym, ap, ◌∙◌, arith, add-one, append_assoc}
+use Rattle.std.proofs.Common.{◌≡◌, ◌≢◌, ℕ, zero, suc, ◌+◌, ◌<◌, ◌≤◌, List, [], ◌∷◌, ◌++◌, length, get_or, drop, map, Option, Some, None}
+use Rattle.std.proofs.Common.{slice_get, refl, sym, ap, ◌∙◌, arith, add-one, append_assoc}
 use Rattle.std.proofs.lemmas.List.{at_drop_more, at_drop_all}
 use Rattle.mg_text.specs.declared.place.Place.{Place}
 use Rattle.jv_tree.specs.declared.tree.Op.{Op}
@@ -19,7 +20,8 @@ use Rattle.use_rules.specs.State.{Now, Log, Argued, joined}
 use Rattle.use_rules.specs.Flow.{Evaluated, NullTest, null_test, alike}
 use Rattle.use_flow.specs.inner.Followed.{Followed, eval, eval_all, width_of}
 use Rattle.use_flow.proofs.Rests.{append_nil}
-use Rattle.use_flow.specs.inner.Values.{yes_of, no_of, evaluated_of, argued_of, settled, parted, both_ways, both_with, either_with, turned, behind, null_tested, operands, conjunction, disjunction, called, widths_of}
+use Rattle.use_flow.specs.inner.Values.{yes_of, no_of, evaluated_of, argued_of, settled, parted, both_ways, both_with, either_with, turned}
+use Rattle.use_flow.specs.inner.Values.{behind, null_tested, operands, conjunction, disjunction, called, widths_of}
 
 -- what is left from an index on
 drop_some : {X : Type 0} (xs : List X) (i : ℕ) (x : X) → Some x ≡ slice_get xs i → drop i xs ≡ x ∷ drop (i + 1) xs
@@ -50,20 +52,24 @@ module _ (t : Evaluated) (la : Log) where
   pub past_is : (a : Value) (n : Now) → evaluated_of a la ≡ t → n ≡ joined (yes_of a.ways) (no_of a.ways) → alike [] n la ≡ settled t
   past_is a n ea en = ap (λ x. alike [] x la) en ∙ ap settled ea
 
-  pub last_is : (v : Value) (n : Now) → v ≡ record { set = []; ways = ways.Alike n } → alike [] n la ≡ settled t → evaluated_of v la ≡ settled t
+  pub last_is : (v : Value) (n : Now) → v ≡ record { set = []; ways = ways.Alike n } → alike [] n la ≡ settled t →
+      evaluated_of v la ≡ settled t
   last_is v n ev e = ap (λ (x : Value). evaluated_of x la) ev ∙ e
 
   pub ways_are : (a : Value) (y n : Now) → evaluated_of a la ≡ t → y ≡ yes_of a.ways → n ≡ no_of a.ways → parted y n la ≡ both_ways t
   ways_are a y n ea ey en = ap (λ x. parted x n la) ey ∙ ap (λ x. parted (yes_of a.ways) x la) en ∙ ap both_ways ea
 
-  pub opposite_is : (v : Value) (y n : Now) → parted y n la ≡ both_ways t → v ≡ record { set = []; ways = ways.Apart n y } → evaluated_of v la ≡ turned t
+  pub opposite_is : (v : Value) (y n : Now) → parted y n la ≡ both_ways t → v ≡ record { set = []; ways = ways.Apart n y } →
+      evaluated_of v la ≡ turned t
   opposite_is v y n e ev = ap (λ (x : Value). evaluated_of x la) ev ∙ ap turned e
 
-  pub both_are : (v : Value) (y n f g : Now) → parted y n la ≡ both_ways t → g ≡ joined f n → v ≡ record { set = []; ways = ways.Apart y g } →
+  pub both_are : (v : Value) (y n f g : Now) → parted y n la ≡ both_ways t → g ≡ joined f n → v ≡ record { set = []; ways = ways.Apart y g }
+      →
       evaluated_of v la ≡ both_with f t
   both_are v y n f g e eg ev = ap (λ (x : Value). evaluated_of x la) ev ∙ ap (λ x. parted y x la) eg ∙ ap (both_with f) e
 
-  pub either_is : (v : Value) (y n h g : Now) → parted y n la ≡ both_ways t → g ≡ joined h y → v ≡ record { set = []; ways = ways.Apart g n } →
+  pub either_is : (v : Value) (y n h g : Now) → parted y n la ≡ both_ways t → g ≡ joined h y →
+      v ≡ record { set = []; ways = ways.Apart g n } →
       evaluated_of v la ≡ either_with h t
   either_is v y n h g e eg ev = ap (λ (x : Value). evaluated_of x la) ev ∙ ap (λ x. parted x n la) eg ∙ ap (either_with h) e
 
@@ -130,11 +136,14 @@ module _ (s : Followed) (sets : List Set) (log : Log) where
 
     -- there is no such method
     pub uncalled : (lv : Log) (v : Value) → slice_get s.program.methods n ≡ None →
-        evaluated_of v lv ≡ behind (eval_all s [] args (Some sets) log) → evaluated_of v lv ≡ called s n call (eval_all s (widths_of s n) args (Some sets) log)
+        evaluated_of v lv ≡ behind (eval_all s [] args (Some sets) log) →
+        evaluated_of v lv ≡ called s n call (eval_all s (widths_of s n) args (Some sets) log)
     uncalled lv v e ev = ev ∙ ap by (sym e)
 
-    pub called_is : (k : Method) (types : List CoreType) (la lv : Log) (a : Arguments) (v : Value) → slice_get s.program.methods n ≡ Some k →
-        types ≡ param_types k → argued_of a la ≡ eval_all s (map (width_of s) types) args (Some sets) log → evaluated_of v lv ≡ call k a.sets a.now la →
+    pub called_is : (k : Method) (types : List CoreType) (la lv : Log) (a : Arguments) (v : Value) → slice_get s.program.methods n ≡ Some k
+        →
+        types ≡ param_types k → argued_of a la ≡ eval_all s (map (width_of s) types) args (Some sets) log →
+        evaluated_of v lv ≡ call k a.sets a.now la →
         evaluated_of v lv ≡ called s n call (eval_all s (widths_of s n) args (Some sets) log)
     called_is k types la lv a v e et ea ev =
         ev
@@ -155,10 +164,12 @@ abbrev before : List Set → Argued → Argued
 before done a = record { sets = done ++ a.sets; now = a.now; log = a.log }
 
 -- one more argument, with the width of its parameter
-module _ (s : Followed) (ps : List CoreSlot) (es : List CoreExpr) (i : ℕ) (e : CoreExpr) (lt : i < length es) (at : e ≡ get_or es i e) (now : Now) (log : Log) where
+module _ (s : Followed) (ps : List CoreSlot) (es : List CoreExpr) (i : ℕ) (e : CoreExpr) (lt : i < length es) (at : e ≡ get_or es i e)
+    (now : Now) (log : Log) where
   rest_here : (w : ℕ) (ws : List ℕ) → map (width_of s) (map (λ p. p.ty) (drop i ps)) ≡ w ∷ ws →
       eval_all s (map (width_of s) (map (λ p. p.ty) (drop i ps))) (exprs_of (map expr_of (drop i es))) now log
-      ≡ (let v = eval s w (expr_of e) now log in next v (eval_all s ws (exprs_of (map expr_of (drop (i + 1) es))) (joined v.yes v.no) v.log))
+      ≡ (let v = eval s w (expr_of e) now log in next v (eval_all s ws (exprs_of (map expr_of (drop (i + 1) es))) (joined v.yes v.no)
+      v.log))
   rest_here w ws h =
       ap (λ us. eval_all s us (exprs_of (map expr_of (drop i es))) now log) h
       ∙ at_drop_more (λ (xs : List CoreExpr). eval_all s (w ∷ ws) (exprs_of (map expr_of xs)) now log) es i e lt
@@ -166,7 +177,8 @@ module _ (s : Followed) (ps : List CoreSlot) (es : List CoreExpr) (i : ℕ) (e :
 
   rest_past : map (width_of s) (map (λ p. p.ty) (drop i ps)) ≡ [] →
       eval_all s (map (width_of s) (map (λ p. p.ty) (drop i ps))) (exprs_of (map expr_of (drop i es))) now log
-      ≡ (let v = eval s 0 (expr_of e) now log in next v (eval_all s [] (exprs_of (map expr_of (drop (i + 1) es))) (joined v.yes v.no) v.log))
+      ≡ (let v = eval s 0 (expr_of e) now log in next v (eval_all s [] (exprs_of (map expr_of (drop (i + 1) es))) (joined v.yes v.no)
+      v.log))
   rest_past h =
       ap (λ us. eval_all s us (exprs_of (map expr_of (drop i es))) now log) h
       ∙ at_drop_more (λ (xs : List CoreExpr). eval_all s [] (exprs_of (map expr_of xs)) now log) es i e lt
@@ -175,7 +187,8 @@ module _ (s : Followed) (ps : List CoreSlot) (es : List CoreExpr) (i : ℕ) (e :
   -- what the code has behind an argument is what the rules have
   step_from : (w : ℕ) (ws : List ℕ) (done done' : List Set) (la : Log) (v : Value) (n : Now) (total : Argued) →
       eval_all s (map (width_of s) (map (λ p. p.ty) (drop i ps))) (exprs_of (map expr_of (drop i es))) now log
-      ≡ (let v = eval s w (expr_of e) now log in next v (eval_all s ws (exprs_of (map expr_of (drop (i + 1) es))) (joined v.yes v.no) v.log)) →
+      ≡ (let v = eval s w (expr_of e) now log in next v (eval_all s ws (exprs_of (map expr_of (drop (i + 1) es))) (joined v.yes v.no)
+      v.log)) →
       map (width_of s) (map (λ p. p.ty) (drop (i + 1) ps)) ≡ ws →
       evaluated_of v la ≡ eval s w (expr_of e) now log → n ≡ joined (yes_of v.ways) (no_of v.ways) → done' ≡ done ++ v.set ∷ [] →
       rest_argued s ps es i done now log ≡ total → rest_argued s ps es (i + 1) done' n la ≡ total
@@ -189,11 +202,13 @@ module _ (s : Followed) (ps : List CoreSlot) (es : List CoreExpr) (i : ℕ) (e :
       ∙ ap (before done) (sym here) ∙ h
 
   pub argument_with : (p : CoreSlot) (done done' : List Set) (la : Log) (v : Value) (n : Now) (total : Argued) → Some p ≡ slice_get ps i →
-      evaluated_of v la ≡ eval s (width_of s p.ty) (expr_of e) now log → n ≡ joined (yes_of v.ways) (no_of v.ways) → done' ≡ done ++ v.set ∷ [] →
+      evaluated_of v la ≡ eval s (width_of s p.ty) (expr_of e) now log → n ≡ joined (yes_of v.ways) (no_of v.ways) →
+      done' ≡ done ++ v.set ∷ [] →
       rest_argued s ps es i done now log ≡ total → rest_argued s ps es (i + 1) done' n la ≡ total
   argument_with p done done' la v n total there ev en ed h =
       step_from (width_of s p.ty) (map (width_of s) (map (λ p. p.ty) (drop (i + 1) ps))) done done' la v n total
-      (rest_here (width_of s p.ty) (map (width_of s) (map (λ p. p.ty) (drop (i + 1) ps))) (ap (λ (xs : List CoreSlot). map (width_of s) (map (λ p. p.ty) xs)) (drop_some ps i p there)))
+      (rest_here (width_of s p.ty) (map (width_of s) (map (λ p. p.ty) (drop (i + 1) ps)))
+      (ap (λ (xs : List CoreSlot). map (width_of s) (map (λ p. p.ty) xs)) (drop_some ps i p there)))
       refl ev en ed h
 
   pub argument_without : (done done' : List Set) (la : Log) (v : Value) (n : Now) (total : Argued) → None ≡ slice_get ps i →
@@ -208,10 +223,12 @@ no_exprs : (s : Followed) (ws : List ℕ) (now : Now) (log : Log) → eval_all s
 no_exprs s [] now log = refl
 no_exprs s (w ∷ ws) now log = refl
 
-pub argued_end : (s : Followed) (ps : List CoreSlot) (es : List CoreExpr) (i : ℕ) (done : List Set) (now : Now) (log : Log) (total : Argued) → length es ≤ i →
+pub argued_end : (s : Followed) (ps : List CoreSlot) (es : List CoreExpr) (i : ℕ) (done : List Set) (now : Now) (log : Log) (total : Argued)
+    → length es ≤ i →
     rest_argued s ps es i done now log ≡ total → record { sets = done; now = now; log = log } ≡ total
 argued_end s ps es i done now log total le h =
-    sym (ap (before done) (at_drop_all (λ (xs : List CoreExpr). eval_all s (map (width_of s) (map (λ p. p.ty) (drop i ps))) (exprs_of (map expr_of xs)) now log) es i le
+    sym (ap (before done) (at_drop_all (λ (xs : List CoreExpr). eval_all s (map (width_of s) (map (λ p. p.ty) (drop i ps)))
+    (exprs_of (map expr_of xs)) now log) es i le
     ∙ no_exprs s (map (width_of s) (map (λ p. p.ty) (drop i ps))) now log)
     ∙ ap (λ (x : List Set). record { sets = x; now = now; log = log }) (append_nil done)) ∙ h
 

@@ -1,5 +1,6 @@
 -- What jumps to a place, joined as it comes.
-use Rattle.std.proofs.Common.{◌≡◌, ℕ, zero, suc, ◌+◌, ◌<◌, ◌≤◌, Bool, true, false, List, [], ◌∷◌, ◌++◌, length, Some, None, refl, sym, ap, ◌∙◌, arith, length-append}
+use Rattle.std.proofs.Common.{◌≡◌, ℕ, zero, suc, ◌+◌, ◌<◌, ◌≤◌, Bool, true, false, List, [], ◌∷◌, ◌++◌, length, Some, None, refl, sym, ap}
+use Rattle.std.proofs.Common.{◌∙◌, arith, length-append}
 use Rattle.std.specs.Prelude.{if◌then◌else◌, ◌||◌, nat_eq, slice_set, slice_index_or}
 use Rattle.std.proofs.lemmas.Bool.{false≢true, eq-eqb}
 use lib.Dec.{eqb-zero-suc, eqb-suc-zero, eqb-suc-suc}
@@ -33,13 +34,15 @@ with_one false n r s t h = h
 -- what jumps from one part and then from another
 pub caught-append : (to : Leads) (js ks : List Jump) → caught to (js ++ ks) ≡ joined (caught to js) (caught to ks)
 caught-append to [] ks = refl
-caught-append to (j ∷ js) ks = with_one (same_lead to j.to) j.now (caught to (js ++ ks)) (caught to js) (caught to ks) (caught-append to js ks)
+caught-append to (j ∷ js) ks = with_one (same_lead to j.to) j.now (caught to (js ++ ks)) (caught to js) (caught to ks)
+    (caught-append to js ks)
 
 -- joining as they come, part by part
 pub held_more : (to : Leads) (old mid new : Now) (js ks : List Jump) → mid ≡ joined old (caught to js) → new ≡ joined mid (caught to ks) →
     new ≡ joined old (caught to (js ++ ks))
 held_more to old mid new js ks em en =
-    en ∙ ap (λ x. joined x (caught to ks)) em ∙ joined-assoc old (caught to js) (caught to ks) ∙ ap (joined old) (sym (caught-append to js ks))
+    en ∙ ap (λ x. joined x (caught to ks)) em ∙ joined-assoc old (caught to js) (caught to ks) ∙
+    ap (joined old) (sym (caught-append to js ks))
 
 -- Loops: what jumps to a loop of this number from around it is set aside while the body is followed, and put back.
 
@@ -70,29 +73,35 @@ inside_other false false z c w h e = absurd (false≢true h)
 module _ (l : ℕ) (js : List Jump) (before cleared inside behind : Leads → Now)
     (e1 : (to : Leads) → cleared to ≡ (if same_lead (BehindLoop l) to || same_lead (GoesOn l) to then None else before to))
     (e2 : (to : Leads) → inside to ≡ joined (cleared to) (caught to js)) where
-  inside_at : (to : Leads) → inside to ≡ joined (if same_lead (BehindLoop l) to || same_lead (GoesOn l) to then None else before to) (caught to js)
+  inside_at : (to : Leads) → inside to ≡ joined (if same_lead (BehindLoop l) to || same_lead (GoesOn l) to then None else before to)
+      (caught to js)
   inside_at to = e2 to ∙ ap (λ n. joined n (caught to js)) (e1 to)
 
   -- what jumps there out of the body alone
   pub behind-caught : inside (BehindLoop l) ≡ caught (BehindLoop l) js
   behind-caught =
-      inside_is (same_lead (BehindLoop l) (BehindLoop l)) (same_lead (GoesOn l) (BehindLoop l)) (before (BehindLoop l)) (caught (BehindLoop l) js) (inside (BehindLoop l))
+      inside_is (same_lead (BehindLoop l) (BehindLoop l)) (same_lead (GoesOn l) (BehindLoop l)) (before (BehindLoop l))
+      (caught (BehindLoop l) js) (inside (BehindLoop l))
       (same_self (BehindLoop l)) (inside_at (BehindLoop l))
 
   pub on-caught : inside (GoesOn l) ≡ caught (GoesOn l) js
   on-caught =
-      inside_other (same_lead (BehindLoop l) (GoesOn l)) (same_lead (GoesOn l) (GoesOn l)) (before (GoesOn l)) (caught (GoesOn l) js) (inside (GoesOn l))
+      inside_other (same_lead (BehindLoop l) (GoesOn l)) (same_lead (GoesOn l) (GoesOn l)) (before (GoesOn l)) (caught (GoesOn l) js)
+      (inside (GoesOn l))
       (same_self (GoesOn l)) (inside_at (GoesOn l))
 
   pub loop_held : ((to : Leads) → behind to ≡ (if same_lead (BehindLoop l) to then before (BehindLoop l) else
-      (if same_lead (GoesOn l) to then before (GoesOn l) else (if same_lead (BehindLoop l) to || same_lead (GoesOn l) to then None else inside to)))) →
+      (if same_lead (GoesOn l) to then before (GoesOn l) else (if same_lead (BehindLoop l) to || same_lead (GoesOn l) to then None else
+      inside to)))) →
       (to : Leads) → behind to ≡ joined (before to) (caught to (passing (GoesOn l) (passing (BehindLoop l) js)))
   loop_held e4 to =
       e4 to
-      ∙ around_is (same_lead (BehindLoop l) to) (same_lead (GoesOn l) to) (before (BehindLoop l)) (before (GoesOn l)) (before to) (caught to js) (inside to)
+      ∙ around_is (same_lead (BehindLoop l) to) (same_lead (GoesOn l) to) (before (BehindLoop l)) (before (GoesOn l)) (before to)
+      (caught to js) (inside to)
       (λ h. ap before (same_is (BehindLoop l) to h)) (λ h. ap before (same_is (GoesOn l) to h)) (inside_at to)
       ∙ ap (joined (before to))
-      (sym (caught_passing (GoesOn l) to (passing (BehindLoop l) js) ∙ ap (λ n. if same_lead (GoesOn l) to then None else n) (caught_passing (BehindLoop l) to js)))
+      (sym (caught_passing (GoesOn l) to (passing (BehindLoop l) js) ∙ ap (λ n. if same_lead (GoesOn l) to then None else n)
+      (caught_passing (BehindLoop l) to js)))
 
 pub nat_turned : (k l : ℕ) → nat_eq k l ≡ nat_eq l k
 nat_turned zero zero = refl
@@ -132,7 +141,8 @@ module _ (n x : Now) where
   at_next k l = sym (ap (λ b. if b then n else x) (eqb-suc-suc k l))
 
 -- what is put there stands in place of what stood there
-pub placed-at : (ns : List Now) (at : ℕ) (n : Now) (l : ℕ) → at < length ns → slice_index_or (slice_set ns at n) l None ≡ put_now at n l (slice_index_or ns l None)
+pub placed-at : (ns : List Now) (at : ℕ) (n : Now) (l : ℕ) → at < length ns → slice_index_or (slice_set ns at n) l None ≡ put_now at n l
+    (slice_index_or ns l None)
 placed-at [] at n l lt = absurd (omega (arith, lt))
 placed-at (x ∷ ns) zero n zero lt = refl
 placed-at (x ∷ ns) zero n (suc l) lt = at_first n (slice_index_or ns l None) l
@@ -146,7 +156,8 @@ placed-past (x ∷ ns) zero l le = absurd (omega (arith, le))
 placed-past (x ∷ ns) (suc at) zero le = at_later None x at
 placed-past (x ∷ ns) (suc at) (suc l) le = placed-past ns at l (omega (arith, le)) ∙ at_next None (slice_index_or ns l None) at l
 
-pub placed-last : (ns : List Now) (at : ℕ) (n : Now) (l : ℕ) → length ns ≡ at → slice_index_or (ns ++ n ∷ []) l None ≡ put_now at n l (slice_index_or ns l None)
+pub placed-last : (ns : List Now) (at : ℕ) (n : Now) (l : ℕ) → length ns ≡ at → slice_index_or (ns ++ n ∷ []) l None ≡ put_now at n l
+    (slice_index_or ns l None)
 placed-last [] zero n zero e = refl
 placed-last [] zero n (suc l) e = index_none l ∙ sym (index_none (suc l)) ∙ at_first n (slice_index_or [] (suc l) None) l
 placed-last [] (suc at) n l e = absurd (omega (arith, e))
@@ -164,7 +175,8 @@ room-more (x ∷ ns) (suc l) = room-more ns l
 pub room_start : (ns : List Now) (n end : ℕ) → n ≡ length ns → n ≤ end → HasRoom ns ns n end
 room_start ns n end e le = record { length-is = sym e; within = le; same = λ l. refl }
 
-pub room_next : (ns ns' old : List Now) (at end : ℕ) → at < end → ns' ≡ ns ++ None ∷ [] → HasRoom ns old at end → HasRoom ns' old (at + 1) end
+pub room_next : (ns ns' old : List Now) (at end : ℕ) → at < end → ns' ≡ ns ++ None ∷ [] → HasRoom ns old at end →
+    HasRoom ns' old (at + 1) end
 room_next ns ns' old at end lt e h = record {
   length-is = ap length e ∙ length-append ns (None ∷ []) ∙ ap (λ n. n + 1) h.length-is;
   within = omega (arith, lt);
@@ -174,7 +186,8 @@ room_next ns ns' old at end lt e h = record {
 pub room_end : (ns ns' old : List Now) (at end : ℕ) (n : Now) → end ≤ at → ns' ≡ ns ++ n ∷ [] → HasRoom ns old at end →
     (l : ℕ) → slice_index_or ns' l None ≡ put_now end n l (slice_index_or old l None)
 room_end ns ns' old at end n le e h l =
-    ap (λ (x : List Now). slice_index_or x l None) e ∙ placed-last ns end n l (h.length-is ∙ (let k : at ≡ end = omega (arith, le, h.within) in k)) ∙ ap (put_now end n l) (h.same l)
+    ap (λ (x : List Now). slice_index_or x l None) e ∙ placed-last ns end n l
+    (h.length-is ∙ (let k : at ≡ end = omega (arith, le, h.within) in k)) ∙ ap (put_now end n l) (h.same l)
 
 pub room_made : (ns old : List Now) (at end : ℕ) → end ≤ at → HasRoom ns old at end → HasRoom ns old end end
 room_made ns old at end le h =

@@ -47,4 +47,13 @@ element_high (suc zero) a b c = absurd (b refl)
 element_high (suc (suc zero)) a b c = absurd (c refl)
 element_high (suc (suc (suc q))) a b c = ap elements.State (omega arith)
 
-pub ruleset leading = (as_value_other, left_behind_other, not_null_other, only_null_other, if_moved_other, if_open_low, if_open_high, element_high)
+pub ruleset leading = (
+  as_value_other,
+  left_behind_other,
+  not_null_other,
+  only_null_other,
+  if_moved_other,
+  if_open_low,
+  if_open_high,
+  element_high,
+)

@@ -1,5 +1,6 @@
 -- The tables that are listed are those that have a class, each with its class.
-use Rattle.std.proofs.Common.{◌≡◌, ℕ, zero, suc, ◌+◌, ◌-◌, ◌≤◌, Bool, true, false, cond, ◌||◌, List, [], ◌∷◌, ◌++◌, length, Option, Some, None, slice_get, option_map, refl, sym, ap, ◌∙◌, subst, arith}
+use Rattle.std.proofs.Common.{◌≡◌, ℕ, zero, suc, ◌+◌, ◌-◌, ◌≤◌, Bool, true, false, cond, ◌||◌, List, [], ◌∷◌, ◌++◌, length, Option, Some}
+use Rattle.std.proofs.Common.{None, slice_get, option_map, refl, sym, ap, ◌∙◌, subst, arith}
 use Rattle.std.specs.Prelude.{nat_eq, option_and_then, Contains}
 use Rattle.std.specs.List.{AllByRecursion, list_any}
 use Rattle.std.proofs.lemmas.Bool.{false≢true, eqb-true, eq-eqb}
@@ -17,8 +18,10 @@ use Rattle.use_rules.specs.declared.key.TableKey.{TableKey}
 use Rattle.use_rules.specs.declared.key.TableKey.TheVariants as keys
 use Rattle.use_rules.specs.Keys.{class_in, contexts_in, method_in, typestate_of}
 use Rattle.use_rules.specs.Shapes.{class_at, field_class, is_helper, is_instance, is_state, method_at, variable_class_at}
-use Rattle.use_flow.specs.inner.Listing.{listed_from, entry_if, field_entry, field_entries, fields_of, state_entry, class_entries, by_classes}
-use Rattle.use_flow.specs.inner.Listing.{method_entries, by_methods, param_entry, param_entries, slot_entry, scope_entries, head_key, head_entries, loop_entries, loops_entries}
+use Rattle.use_flow.specs.inner.Listing.{listed_from, entry_if, field_entry, field_entries, fields_of, state_entry, class_entries}
+use Rattle.use_flow.specs.inner.Listing.{by_classes}
+use Rattle.use_flow.specs.inner.Listing.{method_entries, by_methods, param_entry, param_entries, slot_entry, scope_entries, head_key}
+use Rattle.use_flow.specs.inner.Listing.{head_entries, loop_entries, loops_entries}
 use Rattle.use_flow.specs.inner.Listing.{context_entries, entries_at, by_contexts, entries_in}
 
 -- Lists.
@@ -43,16 +46,19 @@ zero_plus : (n : ℕ) → n ≡ 0 + n
 zero_plus n = omega arith
 
 module _ {A : Type 0} (f : ℕ → A → List Entry) where
-  every_from : (P : Entry → Type 0) (xs : List A) (k : ℕ) → ((n : ℕ) (x : A) → slice_get xs n ≡ Some x → AllByRecursion P (f (k + n) x)) → AllByRecursion P (listed_from f k xs)
+  every_from : (P : Entry → Type 0) (xs : List A) (k : ℕ) → ((n : ℕ) (x : A) → slice_get xs n ≡ Some x → AllByRecursion P (f (k + n) x)) →
+      AllByRecursion P (listed_from f k xs)
   every_from P [] k h = tt
   every_from P (x ∷ xs) k h = every_append P (f k x) (listed_from f (suc k) xs)
       (subst (λ j. AllByRecursion P (f j x)) (plus_zero k) (h 0 x refl))
       (every_from P xs (suc k) (λ n y e. subst (λ j. AllByRecursion P (f j y)) (plus_suc k n) (h (suc n) y e)))
 
-  every_listed : (P : Entry → Type 0) (xs : List A) → ((n : ℕ) (x : A) → slice_get xs n ≡ Some x → AllByRecursion P (f n x)) → AllByRecursion P (listed_from f 0 xs)
+  every_listed : (P : Entry → Type 0) (xs : List A) → ((n : ℕ) (x : A) → slice_get xs n ≡ Some x → AllByRecursion P (f n x)) →
+      AllByRecursion P (listed_from f 0 xs)
   every_listed P xs h = every_from P xs 0 (λ n x e. subst (λ j. AllByRecursion P (f j x)) (zero_plus n) (h n x e))
 
-  in_from : (xs : List A) (k n : ℕ) (x : A) (e : Entry) → slice_get xs n ≡ Some x → Contains (f (k + n) x) e → Contains (listed_from f k xs) e
+  in_from : (xs : List A) (k n : ℕ) (x : A) (e : Entry) → slice_get xs n ≡ Some x → Contains (f (k + n) x) e →
+      Contains (listed_from f k xs) e
   in_from [] k n x e at c = absurd (none-some x at)
   in_from (y ∷ xs) k zero x e at c = Contains-append_left (f k y) (listed_from f (suc k) xs) e
       (subst (λ j. Contains (f j y) e) (plus_zero k) (subst (λ z. Contains (f (k + 0) z) e) (sym (same_Some y x at)) c))
@@ -66,7 +72,8 @@ module _ {A : Type 0} (f : ℕ → A → List Entry) where
 abbrev entry : TableKey → ℕ → Entry
 entry key c = record { key = key; class = c }
 
-every_if : (P : Entry → Type 0) (key : TableKey) (o : Option ℕ) → ((c : ℕ) → o ≡ Some c → P (entry key c)) → AllByRecursion P (entry_if key o)
+every_if : (P : Entry → Type 0) (key : TableKey) (o : Option ℕ) → ((c : ℕ) → o ≡ Some c → P (entry key c)) →
+    AllByRecursion P (entry_if key o)
 every_if P key None h = tt
 every_if P key (Some c) h = (h c refl, tt)
 
@@ -74,16 +81,19 @@ in_if : (key : TableKey) (o : Option ℕ) (c : ℕ) → o ≡ Some c → Contain
 in_if key None c e = absurd (none-some c e)
 in_if key (Some d) c e = (0, omega arith, ap (entry key) (same_Some d c e))
 
-every_fields : (P : Entry → Type 0) (to : ℕ → TableKey) (ds : List Field) → ((f : ℕ) (d : Field) (c : ℕ) → slice_get ds f ≡ Some d → class_in d.ty ≡ Some c → P (entry (to f) c)) →
+every_fields : (P : Entry → Type 0) (to : ℕ → TableKey) (ds : List Field) → ((f : ℕ) (d : Field) (c : ℕ) → slice_get ds f ≡ Some d →
+    class_in d.ty ≡ Some c → P (entry (to f) c)) →
     AllByRecursion P (field_entries to ds)
 every_fields P to ds h = every_listed (field_entry to) P ds (λ n d at. every_if P (to n) (class_in d.ty) (λ c e. h n d c at e))
 
-in_fields : (to : ℕ → TableKey) (ds : List Field) (f : ℕ) (d : Field) (c : ℕ) → slice_get ds f ≡ Some d → class_in d.ty ≡ Some c → Contains (field_entries to ds) (entry (to f) c)
+in_fields : (to : ℕ → TableKey) (ds : List Field) (f : ℕ) (d : Field) (c : ℕ) → slice_get ds f ≡ Some d → class_in d.ty ≡ Some c →
+    Contains (field_entries to ds) (entry (to f) c)
 in_fields to ds f d c at e = in_listed (field_entry to) ds f d (entry (to f) c) at (in_if (to f) (class_in d.ty) c e)
 
 -- What options say.
 
-and_then_some : {A B : Type 0} (f : A → Option B) (o : Option A) (b : B) → option_and_then f o ≡ Some b → (x : A) × (o ≡ Some x) × (f x ≡ Some b)
+and_then_some : {A B : Type 0} (f : A → Option B) (o : Option A) (b : B) → option_and_then f o ≡ Some b → (x : A) × (o ≡ Some x)
+    × (f x ≡ Some b)
 and_then_some f None b e = absurd (none-some b e)
 and_then_some f (Some x) b e = (x, refl, e)
 
@@ -134,11 +144,13 @@ fields_behind m f = omega arith
 helper_true : (m : Method) → m.kind ≡ kinds.Helper → is_helper m ≡ true
 helper_true m e = ap (λ (k : MethodKind). elim k as (λ _. Bool) [ kinds.Helper ↦ true | _ ↦ false ]) e
 
-instance_if : (m : Method) (k : MethodKind) → m.kind ≡ k → elim k as (λ _. Bool) [ kinds.Protocol ↦ true | kinds.Helper ↦ true | _ ↦ false ] ≡ true → is_instance m ≡ true
+instance_if : (m : Method) (k : MethodKind) → m.kind ≡ k → elim k as (λ _. Bool) [ kinds.Protocol ↦ true | kinds.Helper ↦ true | _ ↦ false ]
+    ≡ true → is_instance m ≡ true
 instance_if m k e h = ap (λ (k : MethodKind). elim k as (λ _. Bool) [ kinds.Protocol ↦ true | kinds.Helper ↦ true | _ ↦ false ]) e ∙ h
 
 module _ (p : Program) where
-  field_at : (c f : ℕ) (k : Class) (d : Field) → slice_get p.classes c ≡ Some k → slice_get k.fields f ≡ Some d → field_class p c f ≡ class_in d.ty
+  field_at : (c f : ℕ) (k : Class) (d : Field) → slice_get p.classes c ≡ Some k → slice_get k.fields f ≡ Some d →
+      field_class p c f ≡ class_in d.ty
   field_at c f k d a b =
       ap (λ o. option_and_then class_in (option_and_then (λ (k : Class). option_map (λ (d : Field). d.ty) (slice_get k.fields f)) o)) a
       ∙ ap (λ o. option_and_then class_in (option_map (λ (d : Field). d.ty) o)) b
@@ -146,7 +158,8 @@ module _ (p : Program) where
   own_at : (c f : ℕ) (d : Field) → slice_get (fields_of p c) f ≡ Some d → field_class p c f ≡ class_in d.ty
   own_at c f d h = go (slice_get p.classes c) refl h
     where
-      go : (o : Option Class) → slice_get p.classes c ≡ o → slice_get (elim o as (λ _. List Field) [ None ↦ [] | Some k ↦ k.fields ]) f ≡ Some d → field_class p c f ≡ class_in d.ty
+      go : (o : Option Class) → slice_get p.classes c ≡ o → slice_get (elim o as (λ _. List Field) [ None ↦ [] | Some k ↦ k.fields ]) f ≡
+          Some d → field_class p c f ≡ class_in d.ty
       go None e h = absurd (none-some d h)
       go (Some k) e h = field_at c f k d e h
 
@@ -165,10 +178,12 @@ module _ (p : Program) where
       let d = map_some (λ (d : Field). d.ty) (slice_get (b.0).fields f) a.0 b.2 in
       record { within = b.0; at = b.1; field = d.0; named = d.1; is = ap class_in d.2 ∙ a.2 }
 
-  in_own : (to : ℕ → TableKey) (c f class : ℕ) → field_class p c f ≡ Some class → Contains (field_entries to (fields_of p c)) (entry (to f) class)
+  in_own : (to : ℕ → TableKey) (c f class : ℕ) → field_class p c f ≡ Some class → Contains (field_entries to (fields_of p c))
+      (entry (to f) class)
   in_own to c f class h =
       let k = known c f class h in
-      subst (λ ds. Contains (field_entries to ds) (entry (to f) class)) (sym (ap (λ o. elim o as (λ _. List Field) [ None ↦ [] | Some k ↦ k.fields ]) k.at))
+      subst (λ ds. Contains (field_entries to ds) (entry (to f) class))
+      (sym (ap (λ o. elim o as (λ _. List Field) [ None ↦ [] | Some k ↦ k.fields ]) k.at))
       (in_fields to (k.within).fields f k.field class k.named k.is)
 
   module _ (reached : List (List Bool)) where
@@ -184,7 +199,8 @@ module _ (p : Program) where
         ap (λ b. cond b (field_class p c f) None) (ap (λ o. elim o as (λ _. Bool) [ None ↦ false | Some s ↦ true ]) within)
         ∙ field_at c f k d at named ∙ is)))
 
-    helper_class : (n : ℕ) (m : Method) (f : ℕ) (d : Field) (class : ℕ) → slice_get p.methods n ≡ Some m → m.kind ≡ kinds.Helper → slice_get (fields_of p m.class) f ≡ Some d →
+    helper_class : (n : ℕ) (m : Method) (f : ℕ) (d : Field) (class : ℕ) → slice_get p.methods n ≡ Some m → m.kind ≡ kinds.Helper →
+        slice_get (fields_of p m.class) f ≡ Some d →
         class_in d.ty ≡ Some class → class_at p reached (keys.Enter n f) ≡ Some class
     helper_class n m f d class at h named is =
         ap (option_and_then (λ (m : Method). cond (is_helper m) (field_class p m.class f) None)) at
@@ -193,19 +209,22 @@ module _ (p : Program) where
     sound_methods : AllByRecursion Sound (by_methods p)
     sound_methods = every_listed (method_entries p) Sound p.methods (λ n m at. go n m at m.kind refl)
       where
-        go : (n : ℕ) (m : Method) → slice_get p.methods n ≡ Some m → (k : MethodKind) → m.kind ≡ k → AllByRecursion Sound (elim k as (λ _. List Entry) [
-          | kinds.Helper ↦ field_entries (keys.Enter n) (fields_of p m.class) ++ field_entries (keys.Leave n) (fields_of p m.class)
-          | _ ↦ []
-        ])
+        go : (n : ℕ) (m : Method) → slice_get p.methods n ≡ Some m → (k : MethodKind) → m.kind ≡ k →
+            AllByRecursion Sound (elim k as (λ _. List Entry) [
+              | kinds.Helper ↦ field_entries (keys.Enter n) (fields_of p m.class) ++ field_entries (keys.Leave n) (fields_of p m.class)
+              | _ ↦ []
+            ])
         go n m at kinds.Main h = tt
         go n m at kinds.Static h = tt
         go n m at kinds.Protocol h = tt
-        go n m at kinds.Helper h = every_append Sound (field_entries (keys.Enter n) (fields_of p m.class)) (field_entries (keys.Leave n) (fields_of p m.class))
+        go n m at kinds.Helper h = every_append Sound (field_entries (keys.Enter n) (fields_of p m.class))
+            (field_entries (keys.Leave n) (fields_of p m.class))
             (every_fields Sound (keys.Enter n) (fields_of p m.class) (λ f d class named is. helper_class n m f d class at h named is))
             (every_fields Sound (keys.Leave n) (fields_of p m.class) (λ f d class named is. helper_class n m f d class at h named is))
 
     module _ (c : ℕ) (m : Method) (here : method_at p reached c ≡ Some m) where
-      loop_class : (l k : ℕ) (head : Loop) → slice_get m.loops l ≡ Some head → class_at p reached (keys.Loop c l k) ≡ variable_class_at p m head k
+      loop_class : (l k : ℕ) (head : Loop) → slice_get m.loops l ≡ Some head → class_at p reached (keys.Loop c l k) ≡ variable_class_at p m
+          head k
       loop_class l k head at =
           ap (option_and_then (λ (m : Method). option_and_then (λ (head : Loop). variable_class_at p m head k) (slice_get m.loops l))) here
           ∙ ap (option_and_then (λ (head : Loop). variable_class_at p m head k)) at
@@ -216,11 +235,14 @@ module _ (p : Program) where
       slot_class (Some ty) b other class h e = ap (λ b. cond b (class_in ty) None) h ∙ e
 
       sound_scope : (l : ℕ) (head : Loop) → slice_get m.loops l ≡ Some head → AllByRecursion Sound (scope_entries m c l head.scope)
-      sound_scope l head at = every_listed (slot_entry m c l) Sound head.scope (λ i k within. every_if Sound (keys.Loop c l k) (option_and_then class_in (slot_type m k)) (λ class e.
+      sound_scope l head at = every_listed (slot_entry m c l) Sound head.scope
+          (λ i k within. every_if Sound (keys.Loop c l k) (option_and_then class_in (slot_type m k)) (λ class e.
           loop_class l k head at
-          ∙ slot_class (slot_type m k) (list_any (nat_eq k) head.scope) (cond (is_instance m) (field_class p m.class (k - length m.slots)) None) class (any_at head.scope i k within) e))
+          ∙ slot_class (slot_type m k) (list_any (nat_eq k) head.scope) (cond (is_instance m) (field_class p m.class (k - length m.slots))
+          None) class (any_at head.scope i k within) e))
 
-      field_of_head : (l f : ℕ) (head : Loop) (d : Field) (class : ℕ) → slice_get m.loops l ≡ Some head → is_instance m ≡ true → slice_get (fields_of p m.class) f ≡ Some d →
+      field_of_head : (l f : ℕ) (head : Loop) (d : Field) (class : ℕ) → slice_get m.loops l ≡ Some head → is_instance m ≡ true →
+          slice_get (fields_of p m.class) f ≡ Some d →
           class_in d.ty ≡ Some class → class_at p reached (head_key m c l f) ≡ Some class
       field_of_head l f head d class at h named is =
           loop_class l (length m.slots + f) head at
@@ -235,7 +257,8 @@ module _ (p : Program) where
       sound_head l head at = go m.kind refl
         where
           fields : is_instance m ≡ true → AllByRecursion Sound (field_entries (head_key m c l) (fields_of p m.class))
-          fields h = every_fields Sound (head_key m c l) (fields_of p m.class) (λ f d class named is. field_of_head l f head d class at h named is)
+          fields h = every_fields Sound (head_key m c l) (fields_of p m.class) (λ f d class named is. field_of_head l f head d class at h
+              named is)
 
           go : (k : MethodKind) → m.kind ≡ k → AllByRecursion Sound (elim k as (λ _. List Entry) [
             | kinds.Protocol ↦ field_entries (head_key m c l) (fields_of p m.class)
@@ -251,16 +274,20 @@ module _ (p : Program) where
       sound_context =
           every_append Sound (param_entries c (param_types m)) (entry_if (keys.Result c) (class_in m.result) ++ loops_entries p c m m.loops)
           (every_listed (param_entry c) Sound (param_types m) (λ i ty at. every_if Sound (keys.Param c i) (class_in ty) (λ class e.
-          ap (option_and_then (λ (m : Method). option_and_then class_in (slice_get (param_types m) i))) here ∙ ap (option_and_then class_in) at ∙ e)))
+          ap (option_and_then (λ (m : Method). option_and_then class_in (slice_get (param_types m) i))) here ∙ ap (option_and_then class_in)
+          at ∙ e)))
           (every_append Sound (entry_if (keys.Result c) (class_in m.result)) (loops_entries p c m m.loops)
-          (every_if Sound (keys.Result c) (class_in m.result) (λ class e. ap (option_and_then (λ (m : Method). class_in m.result)) here ∙ e))
+          (every_if Sound (keys.Result c) (class_in m.result) (λ class e. ap (option_and_then (λ (m : Method). class_in m.result)) here ∙
+          e))
           (every_listed (loop_entries p c m) Sound m.loops (λ l head at.
           every_append Sound (scope_entries m c l head.scope) (head_entries p c m l) (sound_scope l head at) (sound_head l head at))))
 
     sound_contexts : AllByRecursion Sound (by_contexts p (contexts_in p reached))
-    sound_contexts = every_listed (entries_at p) Sound (contexts_in p reached) (λ c x at. go c x at (slice_get p.methods (method_in x)) refl)
+    sound_contexts = every_listed (entries_at p) Sound (contexts_in p reached) (λ c x at. go c x at (slice_get p.methods (method_in x))
+        refl)
       where
-        go : (c : ℕ) (x : Context) → slice_get (contexts_in p reached) c ≡ Some x → (o : Option Method) → slice_get p.methods (method_in x) ≡ o →
+        go : (c : ℕ) (x : Context) → slice_get (contexts_in p reached) c ≡ Some x → (o : Option Method) →
+            slice_get p.methods (method_in x) ≡ o →
             AllByRecursion Sound (elim o as (λ _. List Entry) [ None ↦ [] | Some m ↦ context_entries p c m ])
         go c x at None e = tt
         go c x at (Some m) e = sound_context c m (ap (option_and_then (λ (x : Context). slice_get p.methods (method_in x))) at ∙ e)
@@ -271,7 +298,8 @@ module _ (p : Program) where
 
     -- Each table that has a class is listed.
 
-    in_classes : (c q f class : ℕ) → cond (is_state p c q) (field_class p c f) None ≡ Some class → Contains (by_classes p) (entry (keys.Field c q f) class)
+    in_classes : (c q f class : ℕ) → cond (is_state p c q) (field_class p c f) None ≡ Some class →
+        Contains (by_classes p) (entry (keys.Field c q f) class)
     in_classes c q f class h =
         let w = when (is_state p c q) (field_class p c f) class h in
         let s = state_some (slice_get (typestate_of p c).states q) w.0 in
@@ -280,7 +308,8 @@ module _ (p : Program) where
         (in_listed (state_entry c (k.within).fields) (typestate_of p c).states q s.0 (entry (keys.Field c q f) class) s.1
         (in_fields (keys.Field c q) (k.within).fields f k.field class k.named k.is))
 
-    in_helper : (k : MethodKind) (es : List Entry) (e : Entry) → elim k as (λ _. Bool) [ kinds.Helper ↦ true | _ ↦ false ] ≡ true → Contains es e →
+    in_helper : (k : MethodKind) (es : List Entry) (e : Entry) → elim k as (λ _. Bool) [ kinds.Helper ↦ true | _ ↦ false ] ≡ true →
+        Contains es e →
         Contains (elim k as (λ _. List Entry) [ kinds.Helper ↦ es | _ ↦ [] ]) e
     in_helper kinds.Main es e h c = absurd (false≢true h)
     in_helper kinds.Static es e h c = absurd (false≢true h)
@@ -288,24 +317,28 @@ module _ (p : Program) where
     in_helper kinds.Helper es e h c = c
 
     in_methods : (n : ℕ) (m : Method) (e : Entry) → slice_get p.methods n ≡ Some m → is_helper m ≡ true →
-        Contains (field_entries (keys.Enter n) (fields_of p m.class) ++ field_entries (keys.Leave n) (fields_of p m.class)) e → Contains (by_methods p) e
+        Contains (field_entries (keys.Enter n) (fields_of p m.class) ++ field_entries (keys.Leave n) (fields_of p m.class)) e →
+        Contains (by_methods p) e
     in_methods n m e at h c = in_listed (method_entries p) p.methods n m e at
         (in_helper m.kind (field_entries (keys.Enter n) (fields_of p m.class) ++ field_entries (keys.Leave n) (fields_of p m.class)) e h c)
 
-    in_contexts : (c : ℕ) (m : Method) (e : Entry) → method_at p reached c ≡ Some m → Contains (context_entries p c m) e → Contains (by_contexts p (contexts_in p reached)) e
+    in_contexts : (c : ℕ) (m : Method) (e : Entry) → method_at p reached c ≡ Some m → Contains (context_entries p c m) e →
+        Contains (by_contexts p (contexts_in p reached)) e
     in_contexts c m e h d =
         let x = and_then_some (λ (x : Context). slice_get p.methods (method_in x)) (slice_get (contexts_in p reached) c) m h in
         in_listed (entries_at p) (contexts_in p reached) c x.0 e x.1
         (subst (λ o. Contains (elim o as (λ _. List Entry) [ None ↦ [] | Some m ↦ context_entries p c m ]) e) (sym x.2) d)
 
-    in_instance : (k : MethodKind) (es : List Entry) (e : Entry) → elim k as (λ _. Bool) [ kinds.Protocol ↦ true | kinds.Helper ↦ true | _ ↦ false ] ≡ true → Contains es e →
+    in_instance : (k : MethodKind) (es : List Entry) (e : Entry) →
+        elim k as (λ _. Bool) [ kinds.Protocol ↦ true | kinds.Helper ↦ true | _ ↦ false ] ≡ true → Contains es e →
         Contains (elim k as (λ _. List Entry) [ kinds.Protocol ↦ es | kinds.Helper ↦ es | _ ↦ [] ]) e
     in_instance kinds.Main es e h c = absurd (false≢true h)
     in_instance kinds.Static es e h c = absurd (false≢true h)
     in_instance kinds.Protocol es e h c = c
     in_instance kinds.Helper es e h c = c
 
-    in_loop : (c l k : ℕ) (m : Method) (head : Loop) (class : ℕ) → variable_class_at p m head k ≡ Some class → Contains (loop_entries p c m l head) (entry (keys.Loop c l k) class)
+    in_loop : (c l k : ℕ) (m : Method) (head : Loop) (class : ℕ) → variable_class_at p m head k ≡ Some class →
+        Contains (loop_entries p c m l head) (entry (keys.Loop c l k) class)
     in_loop c l k m head class h = go (slot_type m k) refl h
       where
         go : (o : Option CoreType) → slot_type m k ≡ o → elim o as (λ _. Option ℕ) [
@@ -322,7 +355,8 @@ module _ (p : Program) where
             let w = when (is_instance m) (field_class p m.class (k - length m.slots)) class h in
             Contains-append_right (scope_entries m c l head.scope) (head_entries p c m l) (entry (keys.Loop c l k) class)
             (in_instance m.kind (field_entries (head_key m c l) (fields_of p m.class)) (entry (keys.Loop c l k) class) w.0
-            (subst (λ n. Contains (field_entries (head_key m c l) (fields_of p m.class)) (entry (keys.Loop c l n) class)) (behind_slots m k e)
+            (subst (λ n. Contains (field_entries (head_key m c l) (fields_of p m.class)) (entry (keys.Loop c l n) class))
+            (behind_slots m k e)
             (in_own (head_key m c l) m.class (k - length m.slots) class w.1)))
 
     of_classes : (e : Entry) → Contains (by_classes p) e → Contains (entries_in p (contexts_in p reached)) e
@@ -336,9 +370,11 @@ module _ (p : Program) where
     of_contexts e c = Contains-append_right (by_classes p) (by_methods p ++ by_contexts p (contexts_in p reached)) e
         (Contains-append_right (by_methods p) (by_contexts p (contexts_in p reached)) e c)
 
-    of_helper : (key : TableKey) (n f class : ℕ) (to : ℕ → TableKey) → option_and_then (λ (m : Method). cond (is_helper m) (field_class p m.class f) None) (slice_get p.methods n) ≡ Some class →
+    of_helper : (key : TableKey) (n f class : ℕ) (to : ℕ → TableKey) →
+        option_and_then (λ (m : Method). cond (is_helper m) (field_class p m.class f) None) (slice_get p.methods n) ≡ Some class →
         ((m : Method) → Contains (field_entries to (fields_of p m.class)) (entry key class) →
-        Contains (field_entries (keys.Enter n) (fields_of p m.class) ++ field_entries (keys.Leave n) (fields_of p m.class)) (entry key class)) →
+        Contains (field_entries (keys.Enter n) (fields_of p m.class) ++ field_entries (keys.Leave n) (fields_of p m.class))
+        (entry key class)) →
         to f ≡ key → Contains (entries_in p (contexts_in p reached)) (entry key class)
     of_helper key n f class to h side is =
         let m = and_then_some (λ (m : Method). cond (is_helper m) (field_class p m.class f) None) (slice_get p.methods n) class h in
@@ -346,28 +382,39 @@ module _ (p : Program) where
         of_methods (entry key class) (in_methods n m.0 (entry key class) m.1 w.0 (side m.0
         (subst (λ x. Contains (field_entries to (fields_of p (m.0).class)) (entry x class)) is (in_own to (m.0).class f class w.1))))
 
-    pub in_list : (key : TableKey) (class : ℕ) → class_at p reached key ≡ Some class → Contains (entries_in p (contexts_in p reached)) (entry key class)
+    pub in_list : (key : TableKey) (class : ℕ) → class_at p reached key ≡ Some class → Contains (entries_in p (contexts_in p reached))
+        (entry key class)
     in_list (keys.Field c q f) class h = of_classes (entry (keys.Field c q f) class) (in_classes c q f class h)
     in_list (keys.Enter n f) class h = of_helper (keys.Enter n f) n f class (keys.Enter n) h
-        (λ m c. Contains-append_left (field_entries (keys.Enter n) (fields_of p m.class)) (field_entries (keys.Leave n) (fields_of p m.class)) (entry (keys.Enter n f) class) c) refl
+        (λ m c. Contains-append_left (field_entries (keys.Enter n) (fields_of p m.class))
+        (field_entries (keys.Leave n) (fields_of p m.class)) (entry (keys.Enter n f) class) c) refl
     in_list (keys.Leave n f) class h = of_helper (keys.Leave n f) n f class (keys.Leave n) h
-        (λ m c. Contains-append_right (field_entries (keys.Enter n) (fields_of p m.class)) (field_entries (keys.Leave n) (fields_of p m.class)) (entry (keys.Leave n f) class) c) refl
+        (λ m c. Contains-append_right (field_entries (keys.Enter n) (fields_of p m.class))
+        (field_entries (keys.Leave n) (fields_of p m.class)) (entry (keys.Leave n f) class) c) refl
     in_list (keys.Param c i) class h =
         let m = and_then_some (λ (m : Method). option_and_then class_in (slice_get (param_types m) i)) (method_at p reached c) class h in
         let ty = and_then_some class_in (slice_get (param_types m.0) i) class m.2 in
         of_contexts (entry (keys.Param c i) class) (in_contexts c m.0 (entry (keys.Param c i) class) m.1
-        (Contains-append_left (param_entries c (param_types m.0)) (entry_if (keys.Result c) (class_in (m.0).result) ++ loops_entries p c m.0 (m.0).loops) (entry (keys.Param c i) class)
-        (in_listed (param_entry c) (param_types m.0) i ty.0 (entry (keys.Param c i) class) ty.1 (in_if (keys.Param c i) (class_in ty.0) class ty.2))))
+        (Contains-append_left (param_entries c (param_types m.0)) (entry_if (keys.Result c) (class_in (m.0).result) ++ loops_entries p c m.0
+        (m.0).loops) (entry (keys.Param c i) class)
+        (in_listed (param_entry c) (param_types m.0) i ty.0 (entry (keys.Param c i) class) ty.1
+        (in_if (keys.Param c i) (class_in ty.0) class ty.2))))
     in_list (keys.Result c) class h =
         let m = and_then_some (λ (m : Method). class_in m.result) (method_at p reached c) class h in
         of_contexts (entry (keys.Result c) class) (in_contexts c m.0 (entry (keys.Result c) class) m.1
-        (Contains-append_right (param_entries c (param_types m.0)) (entry_if (keys.Result c) (class_in (m.0).result) ++ loops_entries p c m.0 (m.0).loops) (entry (keys.Result c) class)
-        (Contains-append_left (entry_if (keys.Result c) (class_in (m.0).result)) (loops_entries p c m.0 (m.0).loops) (entry (keys.Result c) class)
+        (Contains-append_right (param_entries c (param_types m.0)) (entry_if (keys.Result c) (class_in (m.0).result) ++ loops_entries p c
+        m.0 (m.0).loops) (entry (keys.Result c) class)
+        (Contains-append_left (entry_if (keys.Result c) (class_in (m.0).result)) (loops_entries p c m.0 (m.0).loops)
+        (entry (keys.Result c) class)
         (in_if (keys.Result c) (class_in (m.0).result) class m.2))))
     in_list (keys.Loop c l k) class h =
-        let m = and_then_some (λ (m : Method). option_and_then (λ (head : Loop). variable_class_at p m head k) (slice_get m.loops l)) (method_at p reached c) class h in
+        let m = and_then_some (λ (m : Method). option_and_then (λ (head : Loop). variable_class_at p m head k) (slice_get m.loops l))
+        (method_at p reached c) class h in
         let head = and_then_some (λ (head : Loop). variable_class_at p m.0 head k) (slice_get (m.0).loops l) class m.2 in
         of_contexts (entry (keys.Loop c l k) class) (in_contexts c m.0 (entry (keys.Loop c l k) class) m.1
-        (Contains-append_right (param_entries c (param_types m.0)) (entry_if (keys.Result c) (class_in (m.0).result) ++ loops_entries p c m.0 (m.0).loops) (entry (keys.Loop c l k) class)
-        (Contains-append_right (entry_if (keys.Result c) (class_in (m.0).result)) (loops_entries p c m.0 (m.0).loops) (entry (keys.Loop c l k) class)
-        (in_listed (loop_entries p c m.0) (m.0).loops l head.0 (entry (keys.Loop c l k) class) head.1 (in_loop c l k m.0 head.0 class head.2)))))
+        (Contains-append_right (param_entries c (param_types m.0)) (entry_if (keys.Result c) (class_in (m.0).result) ++ loops_entries p c
+        m.0 (m.0).loops) (entry (keys.Loop c l k) class)
+        (Contains-append_right (entry_if (keys.Result c) (class_in (m.0).result)) (loops_entries p c m.0 (m.0).loops)
+        (entry (keys.Loop c l k) class)
+        (in_listed (loop_entries p c m.0) (m.0).loops l head.0 (entry (keys.Loop c l k) class) head.1
+        (in_loop c l k m.0 head.0 class head.2)))))

@@ -8,14 +8,16 @@ use Rattle.jv_core.specs.declared.tree.CoreStmt.{CoreStmt}
 use Rattle.jv_core.specs.declared.tree.CoreGroup.{CoreGroup, out-CoreGroup, fold_out-CoreGroup}
 use Rattle.jv_core.specs.Tree.{Stmt, Block, Empty, Local, Assign, If, IfElse, While, Do, Switch, Break, Continue, Return, Print, Eval}
 use Rattle.jv_core.specs.Tree.{Stmts}
-use Rattle.jv_core.specs.View.{expr_of, exprs_of, stmt_of, stmts_of, group_of, groups_of, before, OneGroup, stmt_layer, group_layer, placed_stmt_layer}
+use Rattle.jv_core.specs.View.{expr_of, exprs_of, stmt_of, stmts_of, group_of, groups_of, before, OneGroup, stmt_layer, group_layer}
+use Rattle.jv_core.specs.View.{placed_stmt_layer}
 use Rattle.jv_core.proofs.ViewLaws.{views}
 use Rattle.use_rules.specs.Reads.{calls_in, calls_in_all, named_in, named_in_all, named_in_groups}
 use Rattle.use_flow.proofs.Rests.{append_nil}
 
 -- a turn takes the first of what is left, and the last turn leaves nothing
 module _ {A : Type 0} (rest : List A → List ℕ) (xs : List A) (i : ℕ) (ns total : List ℕ) (h : ns ++ rest (drop i xs) ≡ total) where
-  next : (x : A) (first new : List ℕ) → i < length xs → x ≡ get_or xs i x → rest (x ∷ drop (i + 1) xs) ≡ first ++ rest (drop (i + 1) xs) → new ≡ ns ++ first →
+  next : (x : A) (first new : List ℕ) → i < length xs → x ≡ get_or xs i x → rest (x ∷ drop (i + 1) xs) ≡ first ++ rest (drop (i + 1) xs) →
+      new ≡ ns ++ first →
       new ++ rest (drop (i + 1) xs) ≡ total
   next x first new within is splits e =
       ap (λ r. r ++ rest (drop (i + 1) xs)) e ∙ append_assoc ns first (rest (drop (i + 1) xs))
@@ -64,18 +66,25 @@ module _ (ss : List CoreStmt) (i : ℕ) (ns total : List ℕ) (h : ns ++ named_i
 pub ruleset statements = (statement_named, statements_named)
 
 abbrev one_group : CoreGroup → OneGroup
-one_group g = record { labels = (out-CoreGroup g).labels.items; body = stmts_of (map stmt_of (out-CoreGroup g).body.items); end = (out-CoreGroup g).end }
+one_group g = record {
+  labels = (out-CoreGroup g).labels.items;
+  body = stmts_of (map stmt_of (out-CoreGroup g).body.items);
+  end =
+      (out-CoreGroup g).end;
+}
 
 group_of-is : (g : CoreGroup) → group_of g ≡ one_group g
 unfolding stmt_of group_of
 group_of-is g = fold_out-CoreGroup (Place → Stmt) OneGroup Stmt stmt_layer group_layer placed_stmt_layer g
 
 module _ (gs : List CoreGroup) (i : ℕ) (ns total : List ℕ) (h : ns ++ named_in_groups (groups_of (map group_of (drop i gs))) ≡ total) where
-  pub group_named : (g : CoreGroup) (body : List CoreStmt) (new : List ℕ) → i < length gs → g ≡ get_or gs i g → body ≡ (out-CoreGroup g).body.items →
+  pub group_named : (g : CoreGroup) (body : List CoreStmt) (new : List ℕ) → i < length gs → g ≡ get_or gs i g →
+      body ≡ (out-CoreGroup g).body.items →
       new ≡ ns ++ named_in_all (stmts_of (map stmt_of body)) →
       new ++ named_in_groups (groups_of (map group_of (drop (i + 1) gs))) ≡ total
   group_named g body new within is eb e =
-      next (λ (ys : List CoreGroup). named_in_groups (groups_of (map group_of ys))) gs i ns total h g (named_in_all (stmts_of (map stmt_of (out-CoreGroup g).body.items))) new within is
+      next (λ (ys : List CoreGroup). named_in_groups (groups_of (map group_of ys))) gs i ns total h g
+      (named_in_all (stmts_of (map stmt_of (out-CoreGroup g).body.items))) new within is
       (ap (λ o. named_in_groups (groups_of (o ∷ map group_of (drop (i + 1) gs)))) (group_of-is g))
       (e ∙ ap (λ (ys : List CoreStmt). ns ++ named_in_all (stmts_of (map stmt_of ys))) eb)
 

@@ -1,5 +1,6 @@
 -- What a turn of a loop over a set takes from the rest of it.
-use Rattle.std.proofs.Common.{◌≡◌, ℕ, suc, ◌+◌, ◌<◌, ◌≤◌, Bool, true, false, cond, List, [], ◌∷◌, ◌++◌, length, drop, Option, Some, None, refl, sym, ap, ◌∙◌, add-one, append_assoc}
+use Rattle.std.proofs.Common.{◌≡◌, ℕ, suc, ◌+◌, ◌<◌, ◌≤◌, Bool, true, false, cond, List, [], ◌∷◌, ◌++◌, length, drop, Option, Some, None}
+use Rattle.std.proofs.Common.{refl, sym, ap, ◌∙◌, add-one, append_assoc}
 use Rattle.std.specs.Prelude.{slice_set}
 use Rattle.std.proofs.lemmas.List.{at_drop_more, at_drop_all}
 use Rattle.mg_text.specs.Call.{Name}
@@ -37,21 +38,26 @@ pub image_skip : (to : ℕ → List ℕ) (i : ℕ) (s found total : Set) → i <
 image_skip to i s found total h b e =
     sym (ap (λ v. marked (leads_from to (i + 1) (drop (i + 1) s)) (marked (cond v (to i) []) found)) b) ∙ sym (image_one to i s found h) ∙ e
 
-pub image_take : (to : ℕ → List ℕ) (i : ℕ) (s found found' total : Set) (es : List ℕ) → i < length s → has s i ≡ true → es ≡ to i → found' ≡ marked es found →
+pub image_take : (to : ℕ → List ℕ) (i : ℕ) (s found found' total : Set) (es : List ℕ) → i < length s → has s i ≡ true → es ≡ to i →
+    found' ≡ marked es found →
     marked (leads_from to i (drop i s)) found ≡ total → marked (leads_from to (i + 1) (drop (i + 1) s)) found' ≡ total
 image_take to i s found found' total es h b l m e =
     ap (marked (leads_from to (i + 1) (drop (i + 1) s))) (m ∙ ap (λ x. marked x found) l)
-    ∙ sym (ap (λ v. marked (leads_from to (i + 1) (drop (i + 1) s)) (marked (cond v (to i) []) found)) b) ∙ sym (image_one to i s found h) ∙ e
+    ∙ sym (ap (λ v. marked (leads_from to (i + 1) (drop (i + 1) s)) (marked (cond v (to i) []) found)) b) ∙ sym (image_one to i s found h) ∙
+    e
 
-pub image_end : (to : ℕ → List ℕ) (i : ℕ) (s found total : Set) → length s ≤ i → marked (leads_from to i (drop i s)) found ≡ total → found ≡ total
+pub image_end : (to : ℕ → List ℕ) (i : ℕ) (s found total : Set) → length s ≤ i → marked (leads_from to i (drop i s)) found ≡ total →
+    found ≡ total
 image_end to i s found total h e = sym (at_drop_all (λ r. marked (leads_from to i r) found) s i h) ∙ e
 
 module _ (rule : ℕ → Option DemandKind) (q : Place) (x : Name) (c : ℕ) where
-  next_judged : (b : Bool) (i : ℕ) (s : Set) → judged_from rule q x c i (b ∷ s) ≡ cond b (blamed q x c i (rule i)) [] ++ judged_from rule q x c (suc i) s
+  next_judged : (b : Bool) (i : ℕ) (s : Set) → judged_from rule q x c i (b ∷ s) ≡ cond b (blamed q x c i (rule i)) [] ++ judged_from rule q
+      x c (suc i) s
   next_judged false i s = refl
   next_judged true i s = go (rule i) refl
     where
-      go : (k : Option DemandKind) → rule i ≡ k → judged_from rule q x c i (true ∷ s) ≡ blamed q x c i (rule i) ++ judged_from rule q x c (suc i) s
+      go : (k : Option DemandKind) → rule i ≡ k → judged_from rule q x c i (true ∷ s) ≡ blamed q x c i (rule i) ++ judged_from rule q x c
+          (suc i) s
       go None e = rw e refl
       go (Some k) e = rw e refl
 
@@ -62,18 +68,22 @@ module _ (rule : ℕ → Option DemandKind) (q : Place) (x : Name) (c : ℕ) whe
       ∙ next_judged (has s i) i (drop (i + 1) s)
       ∙ ap (λ n. cond (has s i) (blamed q x c i (rule i)) [] ++ judged_from rule q x c n (drop (i + 1) s)) (sym (add-one i))
 
-pub judged_skip : (rule : ℕ → Option DemandKind) (q : Place) (x : Name) (c i : ℕ) (s : Set) (ds total : List Demand) → i < length s → has s i ≡ false →
+pub judged_skip : (rule : ℕ → Option DemandKind) (q : Place) (x : Name) (c i : ℕ) (s : Set) (ds total : List Demand) → i < length s →
+    has s i ≡ false →
     ds ++ judged_from rule q x c i (drop i s) ≡ total → ds ++ judged_from rule q x c (i + 1) (drop (i + 1) s) ≡ total
 judged_skip rule q x c i s ds total h b e =
-    ap (λ r. ds ++ r) (sym (judged_one rule q x c i s h ∙ ap (λ v. cond v (blamed q x c i (rule i)) [] ++ judged_from rule q x c (i + 1) (drop (i + 1) s)) b)) ∙ e
+    ap (λ r. ds ++ r) (sym (judged_one rule q x c i s h ∙ ap (λ v. cond v (blamed q x c i (rule i)) [] ++ judged_from rule q x c (i + 1)
+    (drop (i + 1) s)) b)) ∙ e
 
-pub judged_take : (rule : ℕ → Option DemandKind) (q : Place) (x : Name) (c i : ℕ) (s : Set) (ds ds' total : List Demand) (k : Option DemandKind) →
+pub judged_take : (rule : ℕ → Option DemandKind) (q : Place) (x : Name) (c i : ℕ) (s : Set) (ds ds' total : List Demand)
+    (k : Option DemandKind) →
     i < length s → has s i ≡ true → k ≡ rule i → ds' ≡ ds ++ blamed q x c i k →
     ds ++ judged_from rule q x c i (drop i s) ≡ total → ds' ++ judged_from rule q x c (i + 1) (drop (i + 1) s) ≡ total
 judged_take rule q x c i s ds ds' total k h b r d e =
     ap (λ l. l ++ judged_from rule q x c (i + 1) (drop (i + 1) s)) (d ∙ ap (λ v. ds ++ blamed q x c i v) r)
     ∙ append_assoc ds (blamed q x c i (rule i)) (judged_from rule q x c (i + 1) (drop (i + 1) s))
-    ∙ ap (λ l. ds ++ l) (sym (judged_one rule q x c i s h ∙ ap (λ v. cond v (blamed q x c i (rule i)) [] ++ judged_from rule q x c (i + 1) (drop (i + 1) s)) b)) ∙ e
+    ∙ ap (λ l. ds ++ l) (sym (judged_one rule q x c i s h ∙ ap (λ v. cond v (blamed q x c i (rule i)) [] ++ judged_from rule q x c (i + 1)
+    (drop (i + 1) s)) b)) ∙ e
 
 pub judged_end : (rule : ℕ → Option DemandKind) (q : Place) (x : Name) (c i : ℕ) (s : Set) (ds total : List Demand) → length s ≤ i →
     ds ++ judged_from rule q x c i (drop i s) ≡ total → ds ≡ total

@@ -16,8 +16,10 @@ use Rattle.use_rules.specs.Keys.{typestate_of}
 use Rattle.use_rules.specs.State.{Now, Out, Log, Jump, joined, judged}
 use Rattle.use_rules.specs.Flow.{Evaluated, flow, placed}
 use Rattle.use_flow.specs.inner.Ending.{answer_of, left}
-use Rattle.use_flow.specs.inner.Followed.{Followed, eval, width_of, variable_at, variable_width, class_or_none, judged_variable, left_open, without}
-use Rattle.use_flow.specs.inner.Simple.{exit, slot_width, placed_flow, declared, local, overwritten, assigned, printed_flow, printed, type_dropped, dropped_flow, dropped, returned_flow, returned}
+use Rattle.use_flow.specs.inner.Followed.{Followed, eval, width_of, variable_at, variable_width, class_or_none, judged_variable, left_open}
+use Rattle.use_flow.specs.inner.Followed.{without}
+use Rattle.use_flow.specs.inner.Simple.{exit, slot_width, placed_flow, declared, local, overwritten, assigned, printed_flow, printed}
+use Rattle.use_flow.specs.inner.Simple.{type_dropped, dropped_flow, dropped, returned_flow, returned}
 use Rattle.use_flow.specs.inner.Values.{yes_of, no_of, evaluated_of}
 
 module _ (s : Followed) (q : Place) (ks : List ℕ) (js : List Jump) (sets sets' : List Set) (os : List Out) (ds ds' : List Demand) where
@@ -30,7 +32,8 @@ module _ (s : Followed) (q : Place) (ks : List ℕ) (js : List Jump) (sets sets'
 pub ruleset exits = (slots_left)
 
 module _ (s : Followed) (log : Log) (e : Expr) (la : Log) (n : Now) where
-  pub declared_is : (k : ℕ) (now n' : Now) (v : Value) → evaluated_of v la ≡ eval s (slot_width s k) e now log → n ≡ joined (yes_of v.ways) (no_of v.ways) →
+  pub declared_is : (k : ℕ) (now n' : Now) (v : Value) → evaluated_of v la ≡ eval s (slot_width s k) e now log →
+      n ≡ joined (yes_of v.ways) (no_of v.ways) →
       n' ≡ placed k v.set n → flow n' [] la ≡ declared s k e now log
   declared_is k now n' v ev en ep = ap (λ x. flow x [] la) (ep ∙ ap (placed k v.set) en) ∙ ap (placed_flow k) ev
 
@@ -46,18 +49,22 @@ module _ (s : Followed) (log : Log) (e : Expr) (la : Log) (n : Now) where
     pub assigned_none : None ≡ n → flow None [] la ≡ assigned s x e sets log
     assigned_none em = ended None em
 
-    pub assigned_some : (now now' : List Set) (ds' : List Demand) → Some now ≡ n → ds' ≡ la.failed ++ judged_variable s judging.Overwritten x.place x.var now →
-        now' ≡ slice_set now (variable_at s x.var) v.set → flow (Some now') [] (record { outs = la.outs; failed = ds' }) ≡ assigned s x e sets log
+    pub assigned_some : (now now' : List Set) (ds' : List Demand) → Some now ≡ n → ds' ≡ la.failed ++ judged_variable s judging.Overwritten
+        x.place x.var now →
+        now' ≡ slice_set now (variable_at s x.var) v.set → flow (Some now') [] (record { outs = la.outs; failed = ds' }) ≡ assigned s x e
+        sets log
     assigned_some now now' ds' em ed es =
         ap (λ (y : List Set). flow (Some y) [] (record { outs = la.outs; failed = ds' })) es
         ∙ ap (λ (y : List Demand). flow (Some (slice_set now (variable_at s x.var) v.set)) [] (record { outs = la.outs; failed = y })) ed
         ∙ ended (Some now) em
 
-  pub printed_is : (sets : List Set) (v : Value) → evaluated_of v la ≡ eval s 0 e (Some sets) log → n ≡ joined (yes_of v.ways) (no_of v.ways) →
+  pub printed_is : (sets : List Set) (v : Value) → evaluated_of v la ≡ eval s 0 e (Some sets) log →
+      n ≡ joined (yes_of v.ways) (no_of v.ways) →
       flow n [] la ≡ printed s e sets log
   printed_is sets v ev en = ap (λ (y : Now). flow y [] la) en ∙ ap printed_flow ev
 
-  dropped_is : (q : Place) (c : ℕ) (ts : Typestate) (sets : List Set) (v : Value) (ds' : List Demand) → ts ≡ typestate_of s.program c → evaluated_of v la ≡ eval s 0 e (Some sets) log →
+  dropped_is : (q : Place) (c : ℕ) (ts : Typestate) (sets : List Set) (v : Value) (ds' : List Demand) → ts ≡ typestate_of s.program c →
+      evaluated_of v la ≡ eval s 0 e (Some sets) log →
       n ≡ joined (yes_of v.ways) (no_of v.ways) → ds' ≡ la.failed ++ judged (if_open demands.LeftOpen ts) q (codes "value") c v.set →
       flow n [] (record { outs = la.outs; failed = ds' }) ≡ dropped_flow s q c (eval s 0 e (Some sets) log)
   dropped_is q c ts sets v ds' et ev en ed =
@@ -75,7 +82,8 @@ module _ (s : Followed) (log : Log) (e : Expr) (la : Log) (n : Now) where
       ∙ ap (λ (d : ℕ). dropped_flow s q d (eval s 0 e (Some sets) log)) (ec ∙ ap (class_or_none s) eo)
 
   pub returned_is : (q : Place) (sc : List ℕ) (sets : List Set) (v : Value) (label : Option Name) (lb : Log) →
-      evaluated_of v la ≡ eval s (width_of s s.method.result) e (Some sets) log → n ≡ joined (yes_of v.ways) (no_of v.ways) → label ≡ answer_of s (Some e) →
+      evaluated_of v la ≡ eval s (width_of s s.method.result) e (Some sets) log → n ≡ joined (yes_of v.ways) (no_of v.ways) →
+      label ≡ answer_of s (Some e) →
       lb ≡ left s q label v.set sc n la → flow None [] lb ≡ returned s q e sc sets log
   returned_is q sc sets v label lb ev en el h =
       ap (λ y. flow None [] y) (h ∙ ap (λ y. left s q y v.set sc n la) el ∙ ap (λ y. left s q (answer_of s (Some e)) v.set sc y la) en)

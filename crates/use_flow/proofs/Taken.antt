@@ -1,5 +1,6 @@
 -- What a turn of a loop over parameters and states does.
-use Rattle.std.proofs.Common.{◌≡◌, ℕ, zero, suc, ◌+◌, ◌<◌, ◌≤◌, Bool, true, false, List, [], ◌∷◌, ◌++◌, length, get_or, drop, take, map, Option, Some, None, refl, sym, ap, ◌∙◌, arith, add-one, append_assoc, ◌⊎◌, inl, inr}
+use Rattle.std.proofs.Common.{◌≡◌, ℕ, zero, suc, ◌+◌, ◌<◌, ◌≤◌, Bool, true, false, List, [], ◌∷◌, ◌++◌, length, get_or, drop, take, map}
+use Rattle.std.proofs.Common.{Option, Some, None, refl, sym, ap, ◌∙◌, arith, add-one, append_assoc, ◌⊎◌, inl, inr}
 use Rattle.std.specs.Prelude.{slice_index_or, min, ◌||◌}
 use Rattle.std.proofs.lemmas.Bool.{cases_lt}
 use Rattle.std.proofs.lemmas.List.{at_drop_more, at_drop_all}
@@ -34,9 +35,11 @@ take_least n xs = go (cases_lt n (length xs))
   where
     go : (n < length xs) ⊎ (length xs ≤ n) → take (min n (length xs)) xs ≡ take n xs
     go (inl lt) = let e : min n (length xs) ≡ n = omega arith in ap (λ m. take m xs) e
-    go (inr le) = let e : min n (length xs) ≡ length xs = omega arith in ap (λ m. take m xs) e ∙ all (length xs) xs (omega arith) ∙ sym (all n xs le)
+    go (inr le) = let e : min n (length xs) ≡ length xs = omega arith in ap (λ m. take m xs) e ∙ all (length xs) xs (omega arith) ∙
+        sym (all n xs le)
 
-pub params_taken : (n : ℕ) (xs ys : List CoreSlot) (k : ℕ) → k ≡ min n (length xs) → ys ≡ take k xs → map (λ s. s.ty) ys ≡ map (λ s. s.ty) (take n (map slot_of xs))
+pub params_taken : (n : ℕ) (xs ys : List CoreSlot) (k : ℕ) → k ≡ min n (length xs) → ys ≡ take k xs → map (λ s. s.ty) ys ≡ map (λ s. s.ty)
+    (take n (map slot_of xs))
 params_taken n xs ys k e h = ap (map (λ s. s.ty)) (h ∙ ap (λ m. take m xs) e ∙ take_least n xs) ∙ types_taken n xs
 
 pub ruleset taken = (params_taken)
@@ -49,20 +52,25 @@ rest_outs s c ps ss i = param_outs s c i (map (λ p. p.ty) (drop i ps)) (drop i 
 abbrev here : (context param : ℕ) → CoreType → Set → List Out
 here c i ty x = elim (class_in ty) [ None ↦ [] | Some k ↦ record { key = keys.Param c i; set = x } ∷ [] ]
 
-rest_one : (s : Followed) (c i : ℕ) (ps : List CoreSlot) (ss : List Set) (p : CoreSlot) → i < length ps → p ≡ get_or ps i p → i < length ss →
+rest_one : (s : Followed) (c i : ℕ) (ps : List CoreSlot) (ss : List Set) (p : CoreSlot) → i < length ps → p ≡ get_or ps i p → i < length ss
+    →
     rest_outs s c ps ss i ≡ here c i p.ty (slice_index_or ss i []) ++ rest_outs s c ps ss (i + 1)
 rest_one s c i ps ss p lt at within =
     at_drop_more (λ xs. param_outs s c i (map (λ p. p.ty) xs) (drop i ss)) ps i p lt
     ∙ ap (λ (x : CoreSlot). param_outs s c i (x.ty ∷ map (λ p. p.ty) (drop (i + 1) ps)) (drop i ss)) (sym at)
     ∙ at_drop_more (λ xs. param_outs s c i (p.ty ∷ map (λ p. p.ty) (drop (i + 1) ps)) xs) ss i [] within
-    ∙ ap (λ n. here c i p.ty (slice_index_or ss i []) ++ param_outs s c n (map (λ p. p.ty) (drop (i + 1) ps)) (drop (i + 1) ss)) (sym (add-one i))
+    ∙ ap (λ n. here c i p.ty (slice_index_or ss i []) ++ param_outs s c n (map (λ p. p.ty) (drop (i + 1) ps)) (drop (i + 1) ss))
+    (sym (add-one i))
 
-pub param_skip : (s : Followed) (c i : ℕ) (ps : List CoreSlot) (ss : List Set) (p : CoreSlot) (out total : List Out) → i < length ps → p ≡ get_or ps i p → i < length ss →
+pub param_skip : (s : Followed) (c i : ℕ) (ps : List CoreSlot) (ss : List Set) (p : CoreSlot) (out total : List Out) → i < length ps →
+    p ≡ get_or ps i p → i < length ss →
     class_in p.ty ≡ None → out ++ rest_outs s c ps ss i ≡ total → out ++ rest_outs s c ps ss (i + 1) ≡ total
 param_skip s c i ps ss p out total lt at within none h =
     ap (λ r. out ++ r) (sym (rest_one s c i ps ss p lt at within ∙ go (class_in p.ty) none)) ∙ h
   where
-    go : (o : Option ℕ) → o ≡ None → elim o as (λ _. List Out) [ None ↦ [] | Some k ↦ record { key = keys.Param c i; set = slice_index_or ss i [] } ∷ [] ] ++ rest_outs s c ps ss (i + 1) ≡ rest_outs s c ps ss (i + 1)
+    go : (o : Option ℕ) → o ≡ None →
+        elim o as (λ _. List Out) [ None ↦ [] | Some k ↦ record { key = keys.Param c i; set = slice_index_or ss i [] } ∷ [] ]
+        ++ rest_outs s c ps ss (i + 1) ≡ rest_outs s c ps ss (i + 1)
     go o e = rw e refl
 
 same_within : (xs : List CoreSlot) (i : ℕ) (d d' : CoreSlot) → i < length xs → get_or xs i d ≡ get_or xs i d'
@@ -71,12 +79,14 @@ same_within (x ∷ xs) zero d d' h = refl
 same_within (x ∷ xs) (suc i) d d' h = same_within xs i d d' (omega arith)
 
 -- the same of the parameter as the code reads it
-pub param_skip_at : (s : Followed) (c i : ℕ) (ps : List CoreSlot) (ss : List Set) (d : CoreSlot) (out total : List Out) → i < length ps → i < length ss →
+pub param_skip_at : (s : Followed) (c i : ℕ) (ps : List CoreSlot) (ss : List Set) (d : CoreSlot) (out total : List Out) → i < length ps →
+    i < length ss →
     class_in (get_or ps i d).ty ≡ None → out ++ rest_outs s c ps ss i ≡ total → out ++ rest_outs s c ps ss (i + 1) ≡ total
 param_skip_at s c i ps ss d out total lt within none h =
     param_skip s c i ps ss (get_or ps i d) out total lt (same_within ps i d (get_or ps i d) lt) within none h
 
-pub param_take : (s : Followed) (c i : ℕ) (ps : List CoreSlot) (ss : List Set) (p : CoreSlot) (k : ℕ) (out out' total : List Out) → i < length ps → p ≡ get_or ps i p → i < length ss →
+pub param_take : (s : Followed) (c i : ℕ) (ps : List CoreSlot) (ss : List Set) (p : CoreSlot) (k : ℕ) (out out' total : List Out) →
+    i < length ps → p ≡ get_or ps i p → i < length ss →
     class_in p.ty ≡ Some k → out' ≡ out ++ record { key = keys.Param c i; set = slice_index_or ss i [] } ∷ [] →
     out ++ rest_outs s c ps ss i ≡ total → out' ++ rest_outs s c ps ss (i + 1) ≡ total
 param_take s c i ps ss p k out out' total lt at within some e h =
@@ -84,11 +94,14 @@ param_take s c i ps ss p k out out' total lt at within some e h =
     ∙ append_assoc out (record { key = keys.Param c i; set = slice_index_or ss i [] } ∷ []) (rest_outs s c ps ss (i + 1))
     ∙ ap (λ r. out ++ r) (sym (rest_one s c i ps ss p lt at within ∙ go (class_in p.ty) some)) ∙ h
   where
-    go : (o : Option ℕ) → o ≡ Some k → elim o as (λ _. List Out) [ None ↦ [] | Some k ↦ record { key = keys.Param c i; set = slice_index_or ss i [] } ∷ [] ] ++ rest_outs s c ps ss (i + 1)
+    go : (o : Option ℕ) → o ≡ Some k →
+        elim o as (λ _. List Out) [ None ↦ [] | Some k ↦ record { key = keys.Param c i; set = slice_index_or ss i [] } ∷ [] ]
+        ++ rest_outs s c ps ss (i + 1)
         ≡ (record { key = keys.Param c i; set = slice_index_or ss i [] } ∷ []) ++ rest_outs s c ps ss (i + 1)
     go o e = rw e refl
 
-pub param_last : (s : Followed) (c i : ℕ) (ps : List CoreSlot) (ss : List Set) (out total : List Out) → length ps ≤ i → out ++ rest_outs s c ps ss i ≡ total → out ≡ total
+pub param_last : (s : Followed) (c i : ℕ) (ps : List CoreSlot) (ss : List Set) (out total : List Out) → length ps ≤ i →
+    out ++ rest_outs s c ps ss i ≡ total → out ≡ total
 param_last s c i ps ss out total le h =
     sym (ap (λ r. out ++ r) (at_drop_all (λ xs. param_outs s c i (map (λ p. p.ty) xs) (drop i ss)) ps i le) ∙ append_nil out) ∙ h
 
@@ -96,25 +109,32 @@ no_args : (s : Followed) (c i : ℕ) (tys : List CoreType) → param_outs s c i 
 no_args s c i [] = refl
 no_args s c i (ty ∷ tys) = refl
 
-pub param_short : (s : Followed) (c i : ℕ) (ps : List CoreSlot) (ss : List Set) (out total : List Out) → length ss ≤ i → out ++ rest_outs s c ps ss i ≡ total → out ≡ total
+pub param_short : (s : Followed) (c i : ℕ) (ps : List CoreSlot) (ss : List Set) (out total : List Out) → length ss ≤ i →
+    out ++ rest_outs s c ps ss i ≡ total → out ≡ total
 param_short s c i ps ss out total le h =
-    sym (ap (λ r. out ++ r) (at_drop_all (λ xs. param_outs s c i (map (λ p. p.ty) (drop i ps)) xs) ss i le ∙ no_args s c i (map (λ p. p.ty) (drop i ps))) ∙ append_nil out) ∙ h
+    sym (ap (λ r. out ++ r) (at_drop_all (λ xs. param_outs s c i (map (λ p. p.ty) (drop i ps)) xs) ss i le ∙
+    no_args s c i (map (λ p. p.ty) (drop i ps))) ∙ append_nil out) ∙ h
 
 pub ruleset sent = (param_skip, param_take, param_last, param_short)
 
 -- State by state.
 
-pub state_next : (s : Followed) (n : ℕ) (k : Method) (qs : List ℕ) (i q c : ℕ) (ss : List Set) (types : List CoreType) (out out' total : List Out) → i < length qs → q ≡ get_or qs i q →
+pub state_next : (s : Followed) (n : ℕ) (k : Method) (qs : List ℕ) (i q c : ℕ) (ss : List Set) (types : List CoreType)
+    (out out' total : List Out) → i < length qs → q ≡ get_or qs i q →
     c ≡ number_of s.contexts (contexts.Protocol k.class q n) → types ≡ param_types k → out' ≡ out ++ param_outs s c 0 types ss →
     out ++ state_outs s n k (drop i qs) ss ≡ total → out' ++ state_outs s n k (drop (i + 1) qs) ss ≡ total
 state_next s n k qs i q c ss types out out' total lt at num tys e h =
-    ap (λ r. r ++ state_outs s n k (drop (i + 1) qs) ss) (e ∙ ap (λ x. out ++ param_outs s x 0 types ss) num ∙ ap (λ x. out ++ param_outs s (number_of s.contexts (contexts.Protocol k.class q n)) 0 x ss) tys)
-    ∙ append_assoc out (param_outs s (number_of s.contexts (contexts.Protocol k.class q n)) 0 (param_types k) ss) (state_outs s n k (drop (i + 1) qs) ss)
-    ∙ ap (λ r. out ++ r) (sym (at_drop_more (λ xs. state_outs s n k xs ss) qs i q lt ∙ ap (λ x. state_outs s n k (x ∷ drop (i + 1) qs) ss) (sym at))) ∙ h
+    ap (λ r. r ++ state_outs s n k (drop (i + 1) qs) ss) (e ∙ ap (λ x. out ++ param_outs s x 0 types ss) num ∙
+    ap (λ x. out ++ param_outs s (number_of s.contexts (contexts.Protocol k.class q n)) 0 x ss) tys)
+    ∙ append_assoc out (param_outs s (number_of s.contexts (contexts.Protocol k.class q n)) 0 (param_types k) ss)
+    (state_outs s n k (drop (i + 1) qs) ss)
+    ∙ ap (λ r. out ++ r) (sym (at_drop_more (λ xs. state_outs s n k xs ss) qs i q lt ∙ ap (λ x. state_outs s n k (x ∷ drop (i + 1) qs) ss)
+    (sym at))) ∙ h
 
 pub states_last : (s : Followed) (n : ℕ) (k : Method) (qs : List ℕ) (i : ℕ) (ss : List Set) (out total : List Out) → length qs ≤ i →
     out ++ state_outs s n k (drop i qs) ss ≡ total → out ≡ total
-states_last s n k qs i ss out total le h = sym (ap (λ r. out ++ r) (at_drop_all (λ xs. state_outs s n k xs ss) qs i le) ∙ append_nil out) ∙ h
+states_last s n k qs i ss out total le h = sym (ap (λ r. out ++ r) (at_drop_all (λ xs. state_outs s n k xs ss) qs i le) ∙ append_nil out) ∙
+    h
 
 pub ruleset states = (state_next, states_last)
 
@@ -132,7 +152,8 @@ union-assoc (a ∷ s) [] u = refl
 union-assoc (a ∷ s) (b ∷ t) [] = refl
 union-assoc (a ∷ s) (b ∷ t) (c ∷ u) = ap (λ x. x ∷ union (union s t) u) (or_assoc a b c) ∙ ap (λ r. (a || (b || c)) ∷ r) (union-assoc s t u)
 
-pub result_next : (s : Followed) (n : ℕ) (k : Method) (qs : List ℕ) (i q c : ℕ) (all all' one total : Set) → i < length qs → q ≡ get_or qs i q →
+pub result_next : (s : Followed) (n : ℕ) (k : Method) (qs : List ℕ) (i q c : ℕ) (all all' one total : Set) → i < length qs →
+    q ≡ get_or qs i q →
     c ≡ number_of s.contexts (contexts.Protocol k.class q n) → one ≡ result_in s c k → all' ≡ union all one →
     union all (state_results s n k (drop i qs)) ≡ total → union all' (state_results s n k (drop (i + 1) qs)) ≡ total
 result_next s n k qs i q c all all' one total lt at num is e h =

@@ -49,7 +49,8 @@ impl<'a> Scene<'a> {
         params: &[CoreSlot],
         args: &Sets,
     ) -> Result<(), Memory>
-        ensures { OnOk result (outs_in outs.new.items ≡ outs_in outs.old.items ++ param_outs (seen self.now) context 0 (map (λ s. s.ty) params.now) args.now) }
+        ensures { OnOk result (outs_in outs.new.items ≡ outs_in outs.old.items ++ param_outs (seen self.now) context 0
+            (map (λ s. s.ty) params.now) args.now) }
     {
         for param in 0..params.len() {
             if param >= args.len() {
@@ -91,7 +92,8 @@ impl<'a> Scene<'a> {
         method: &CoreMethod,
         state: usize,
     ) -> Result<u32, Memory>
-        ensures { IfOk result (λ n. n ≡ number_of (seen self.now).contexts (contexts.Protocol (method_of method.now).class state method_number)) }
+        ensures { IfOk result (λ n. n ≡ number_of (seen self.now).contexts
+            (contexts.Protocol (method_of method.now).class state method_number)) }
     {
         let state = number(state)?;
         self.tables.context_number(Context::Protocol {
@@ -112,7 +114,8 @@ impl<'a> Scene<'a> {
         states: &[usize],
         args: &Sets,
     ) -> Result<(), Memory>
-        ensures { OnOk result (outs_in outs.new.items ≡ outs_in outs.old.items ++ state_outs (seen self.now) method_number (method_of method.now) states.now args.now) }
+        ensures { OnOk result (outs_in outs.new.items ≡ outs_in outs.old.items ++ state_outs (seen self.now) method_number
+            (method_of method.now) states.now args.now) }
     {
         for state in states {
             let context = self.number_in(method_number, method, *state)?;

@@ -50,7 +50,8 @@ pub(crate) fn target_at<'t>(
     method: &str,
     state: usize,
 ) -> Option<&'t Target>
-    ensures { option_map (λ t. target_of t.now) result ≡ target_at (typestate_or_end (option_map (λ t. t.now) typestate.entry)) method.now state }
+    ensures { option_map (λ t. target_of t.now) result ≡ target_at (typestate_or_end (option_map (λ t. t.now) typestate.entry)) method.now
+        state }
 {
     let state = typestate?.states.as_slice().get(state)?;
     let offered = offered_in(state.methods.as_slice(), method)?;
@@ -112,7 +113,8 @@ fn mark_led(
     label: Option<&str>,
     element: usize,
 )
-    ensures { found.new ≡ marked (along (which_of (option_map (λ l. l.now) label.entry)) (typestate_or_end (option_map (λ t. t.now) typestate.entry)) method.now element) found.old }
+    ensures { found.new ≡ marked (along (which_of (option_map (λ l. l.now) label.entry))
+        (typestate_or_end (option_map (λ t. t.now) typestate.entry)) method.now element) found.old }
 {
     if element < 3 {
         return;
@@ -132,7 +134,9 @@ pub(crate) fn image_along(
     label: Option<&str>,
     set: &StateSet,
 ) -> Result<StateSet, Memory>
-    ensures { IfOk result (λ s. s ≡ image width (along (which_of (option_map (λ l. l.now) label.entry)) (typestate_or_end (option_map (λ t. t.now) typestate.entry)) method.now) set.now) }
+    ensures { IfOk result (λ s. s ≡ image width
+        (along (which_of (option_map (λ l. l.now) label.entry)) (typestate_or_end (option_map (λ t. t.now) typestate.entry)) method.now)
+        set.now) }
 {
     let mut found = empty_set(alloc, width)?;
     for element in 0..set.width() {
@@ -174,7 +178,9 @@ pub(crate) fn judge_call(
     method: &str,
     set: &StateSet,
 ) -> Result<(), Memory>
-    ensures { OnOk result (failed.new.items ≡ failed.old.items ++ judged (unless_called (typestate_or_end (option_map (λ t. t.now) typestate.entry)) method.now) subject.place (title_in names.now subject.title) subject.class set.now) }
+    ensures { OnOk result (failed.new.items ≡ failed.old.items
+        ++ judged (unless_called (typestate_or_end (option_map (λ t. t.now) typestate.entry)) method.now) subject.place
+        (title_in names.now subject.title) subject.class set.now) }
 {
     for element in 0..set.width() {
         if set.has(element) {

@@ -30,7 +30,8 @@ impl<'a> Scene<'a> {
         args: Arguments,
         log: &mut Flow,
     ) -> Result<Value, Memory>
-        ensures { IfOk result (λ v. evaluated_of v (log_of log.new) ≡ static_call (seen self.now) number (method_of method.now) args.sets args.now (log_of log.old)) }
+        ensures { IfOk result (λ v. evaluated_of v (log_of log.new) ≡ static_call (seen self.now) number (method_of method.now) args.sets
+            args.now (log_of log.old)) }
     {
         let Arguments { sets: given, now } = args;
         let Some(sets) = now else {
@@ -57,7 +58,8 @@ impl<'a> Scene<'a> {
         args: Arguments,
         log: &mut Flow,
     ) -> Result<Value, Memory>
-        ensures { IfOk result (λ v. evaluated_of v (log_of log.new) ≡ helper_call (seen self.now) number (method_of method.now) args.sets args.now (log_of log.old)) }
+        ensures { IfOk result (λ v. evaluated_of v (log_of log.new) ≡ helper_call (seen self.now) number (method_of method.now) args.sets
+            args.now (log_of log.old)) }
     {
         let Arguments { sets: given, now } = args;
         let Some(mut sets) = now else {
@@ -95,7 +97,8 @@ impl<'a> Scene<'a> {
         log: &mut Flow,
     ) -> Result<Value, Memory>
         requires { name.now ≡ text_at (seen self.now).program (method_of method.now).name }
-        ensures { IfOk result (λ v. evaluated_of v (log_of log.new) ≡ protocol_call (seen self.now) targets receiver number (method_of method.now) args.now (Some sets) (log_of log.old)) }
+        ensures { IfOk result (λ v. evaluated_of v (log_of log.new) ≡ protocol_call (seen self.now) targets receiver number
+            (method_of method.now) args.now (Some sets) (log_of log.old)) }
     {
         let mut sets = sets;
         let typestate = typestate_of(self.core, method.class);
@@ -142,7 +145,8 @@ impl<'a> Scene<'a> {
         args: Arguments,
         log: &mut Flow,
     ) -> Result<Value, Memory>
-        ensures { IfOk result (λ v. evaluated_of v (log_of log.new) ≡ protocol_call (seen self.now) targets receiver number (method_of method.now) args.sets args.now (log_of log.old)) }
+        ensures { IfOk result (λ v. evaluated_of v (log_of log.new) ≡ protocol_call (seen self.now) targets receiver number
+            (method_of method.now) args.sets args.now (log_of log.old)) }
     {
         let Arguments { sets: given, now } = args;
         let Some(sets) = now else {

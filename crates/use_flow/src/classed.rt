@@ -66,7 +66,8 @@ pub(crate) fn add_fields_of(
     table: FieldTable,
     class: u32,
 ) -> Result<(), Memory>
-    ensures { OnOk result (entries.new.items ≡ entries.old.items ++ listing.field_entries (key_in table) (listing.fields_of (tree_of core.now) class)) }
+    ensures { OnOk result (entries.new.items ≡ entries.old.items ++ listing.field_entries (key_in table)
+        (listing.fields_of (tree_of core.now) class)) }
 {
     match class_at(core, class) {
         Some(class) => add_fields(entries, table, class.fields.as_slice()),
@@ -82,7 +83,8 @@ fn add_states(
     fields: &[CoreField],
     states: &[State],
 ) -> Result<(), Memory>
-    ensures { OnOk result (entries.new.items ≡ entries.old.items ++ listing.state_entries class (map field_of fields.now) (map state_of states.now)) }
+    ensures { OnOk result (entries.new.items ≡ entries.old.items ++ listing.state_entries class (map field_of fields.now)
+        (map state_of states.now)) }
 {
     for place in 0..states.len() {
         let state = number(place)?;
@@ -99,7 +101,8 @@ fn add_class(
     class_number: u32,
     class: &CoreClass,
 ) -> Result<(), Memory>
-    ensures { OnOk result (entries.new.items ≡ entries.old.items ++ listing.class_entries (tree_of core.now) class_number (class_of class.now)) }
+    ensures { OnOk result (entries.new.items ≡ entries.old.items ++ listing.class_entries (tree_of core.now) class_number
+        (class_of class.now)) }
 {
     let fields = class.fields.as_slice();
     match typestate_of(core, class_number) {
@@ -129,7 +132,8 @@ fn add_method(
     method_number: u32,
     method: &CoreMethod,
 ) -> Result<(), Memory>
-    ensures { OnOk result (entries.new.items ≡ entries.old.items ++ listing.method_entries (tree_of core.now) method_number (method_of method.now)) }
+    ensures { OnOk result (entries.new.items ≡ entries.old.items ++ listing.method_entries (tree_of core.now) method_number
+        (method_of method.now)) }
 {
     match method.kind {
         MethodKind::Helper => {
@@ -199,7 +203,8 @@ pub(crate) fn add_scope(
     loop_number: u32,
     scope: &[u32],
 ) -> Result<(), Memory>
-    ensures { OnOk result (entries.new.items ≡ entries.old.items ++ listing.scope_entries (method_of method.now) context loop_number scope.now) }
+    ensures { OnOk result (entries.new.items ≡ entries.old.items ++ listing.scope_entries (method_of method.now) context loop_number
+        scope.now) }
 {
     for place in 0..scope.len() {
         let slot = scope[place];
@@ -222,7 +227,8 @@ pub(crate) fn add_head(
     context: u32,
     loop_number: u32,
 ) -> Result<(), Memory>
-    ensures { OnOk result (entries.new.items ≡ entries.old.items ++ listing.head_entries (tree_of core.now) context (method_of method.now) loop_number) }
+    ensures { OnOk result (entries.new.items ≡ entries.old.items ++ listing.head_entries (tree_of core.now) context
+        (method_of method.now) loop_number) }
 {
     match method.kind {
         MethodKind::Protocol | MethodKind::Helper => {
@@ -247,7 +253,8 @@ fn add_loop(
     loop_number: u32,
     head: &CoreLoop,
 ) -> Result<(), Memory>
-    ensures { OnOk result (entries.new.items ≡ entries.old.items ++ listing.loop_entries (tree_of core.now) context (method_of method.now) loop_number (loop_of head.now)) }
+    ensures { OnOk result (entries.new.items ≡ entries.old.items ++ listing.loop_entries (tree_of core.now) context
+        (method_of method.now) loop_number (loop_of head.now)) }
 {
     add_scope(entries, method, context, loop_number, head.scope.as_slice())?;
     add_head(core, entries, method, context, loop_number)?;
@@ -263,7 +270,8 @@ fn add_loops(
     context: u32,
     loops: &[CoreLoop],
 ) -> Result<(), Memory>
-    ensures { OnOk result (entries.new.items ≡ entries.old.items ++ listing.loops_entries (tree_of core.now) context (method_of method.now) (map loop_of loops.now)) }
+    ensures { OnOk result (entries.new.items ≡ entries.old.items ++ listing.loops_entries (tree_of core.now) context (method_of method.now)
+        (map loop_of loops.now)) }
 {
     for place in 0..loops.len() {
         let loop_number = number(place)?;
@@ -280,7 +288,8 @@ fn add_context(
     context: u32,
     method: &CoreMethod,
 ) -> Result<(), Memory>
-    ensures { OnOk result (entries.new.items ≡ entries.old.items ++ listing.context_entries (tree_of core.now) context (method_of method.now)) }
+    ensures { OnOk result (entries.new.items ≡ entries.old.items ++ listing.context_entries (tree_of core.now) context
+        (method_of method.now)) }
 {
     add_params(entries, context, params_of(method))?;
     add(

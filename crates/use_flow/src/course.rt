@@ -92,7 +92,8 @@ impl<'a> Scene<'a> {
         sets: Sets,
         course: &mut Course,
     ) -> Result<Option<Sets>, Memory>
-        ensures { IfOk result (λ n. Follows (jump_flow (seen self.now) place (lead_of lead) (scope_of course.old) stays.now sets (log_of course.old.log)) course.old.scope.items course.old.jumps n course.new) }
+        ensures { IfOk result (λ n. Follows (jump_flow (seen self.now) place (lead_of lead) (scope_of course.old) stays.now sets
+            (log_of course.old.log)) course.old.scope.items course.old.jumps n course.new) }
     {
         let width = self.method.slots.len();
         let left = leaving(alloc, width, course.scope.as_slice(), stays)?;
@@ -111,7 +112,9 @@ impl<'a> Scene<'a> {
         course: &mut Course,
     ) -> Result<Option<Sets>, Memory>
         requires { depth ≤ length course.old.scope.items }
-        ensures flows { (js : List Jump) → IfOk result (λ n. flow n js (log_of course.new.log) ≡ exit (seen self.now) place (drop depth course.old.scope.items) (flow now js (log_of course.old.log))) }
+        ensures flows { (js : List Jump) →
+            IfOk result (λ n. flow n js (log_of course.new.log) ≡ exit (seen self.now) place (drop depth course.old.scope.items)
+            (flow now js (log_of course.old.log))) }
         ensures scope { OnOk result (course.new.scope.items ≡ take depth course.old.scope.items) }
         ensures jumps { OnOk result (course.new.jumps ≡ course.old.jumps) }
     {
@@ -131,7 +134,9 @@ impl<'a> Scene<'a> {
         sets: Sets,
         course: &mut Course,
     ) -> Result<Option<Sets>, Memory>
-        ensures { IfOk result (λ n. Follows (jump_flow (seen self.now) place (lead_of lead) (scope_of course.old) (loop_scope (seen self.now) number) sets (log_of course.old.log)) course.old.scope.items course.old.jumps n course.new) }
+        ensures { IfOk result (λ n. Follows
+            (jump_flow (seen self.now) place (lead_of lead) (scope_of course.old) (loop_scope (seen self.now) number) sets
+            (log_of course.old.log)) course.old.scope.items course.old.jumps n course.new) }
     {
         match self.loop_at(number) {
             Some(found) => self.jump(alloc, place, lead, found.scope.as_slice(), sets, course),

@@ -218,7 +218,8 @@ pub(crate) fn blame(
     place: usize,
     kind: Option<DemandKind>,
 ) -> Result<(), Memory>
-    ensures { OnOk result (failed.new.items ≡ failed.old.items ++ blamed subject.place (title_in names.now subject.title) subject.class place kind) }
+    ensures { OnOk result (failed.new.items ≡ failed.old.items ++ blamed subject.place (title_in names.now subject.title) subject.class
+        place kind) }
 {
     if let Some(kind) = kind {
         let element = element_at(place)?;
@@ -245,7 +246,8 @@ pub(crate) fn judge(
     typestate: Option<&Typestate>,
     set: &StateSet,
 ) -> Result<(), Memory>
-    ensures { OnOk result (failed.new.items ≡ failed.old.items ++ judged (rule_of rule (typestate_or_end (option_map (λ t. t.now) typestate.entry)))
+    ensures { OnOk result (failed.new.items ≡ failed.old.items
+        ++ judged (rule_of rule (typestate_or_end (option_map (λ t. t.now) typestate.entry)))
         subject.place (title_in names.now subject.title) subject.class set.now) }
 {
     for element in 0..set.width() {

@@ -72,7 +72,8 @@ fn add_states(
     name: &str,
     set: &StateSet,
 ) -> Result<(), Memory>
-    ensures { OnOk result (contexts.new.items ≡ contexts.old.items ++ entered_from class method_number (typestate_or_end (option_map (λ t. t.now) typestate.entry)) name.now 0 set.now) }
+    ensures { OnOk result (contexts.new.items ≡ contexts.old.items ++ entered_from class method_number
+        (typestate_or_end (option_map (λ t. t.now) typestate.entry)) name.now 0 set.now) }
 {
     for place in 0..set.width() {
         if !set.has(place) {
@@ -99,7 +100,9 @@ fn add_protocol(
     method_number: u32,
     method: &CoreMethod,
 ) -> Result<(), Memory>
-    ensures { OnOk result (contexts.new.items ≡ contexts.old.items ++ in_states method.now.class method_number (offering_states (typestate_of (tree_of core.now) method.now.class) (reached_states (tree_of core.now) reached.now method.now.class) (text_at (tree_of core.now) method.now.name.0))) }
+    ensures { OnOk result (contexts.new.items ≡ contexts.old.items ++ in_states method.now.class method_number
+        (offering_states (typestate_of (tree_of core.now) method.now.class) (reached_states (tree_of core.now) reached.now method.now.class)
+        (text_at (tree_of core.now) method.now.name.0))) }
 {
     let Some(set) = reached_in(core, reached, method.class) else {
         return Ok(());
@@ -121,7 +124,8 @@ pub(crate) fn add_contexts(
     method_number: u32,
     method: &CoreMethod,
 ) -> Result<(), Memory>
-    ensures { OnOk result (contexts.new.items ≡ contexts.old.items ++ contexts_of (tree_of core.now) reached.now method_number (method_of method.now)) }
+    ensures { OnOk result (contexts.new.items ≡ contexts.old.items ++ contexts_of (tree_of core.now) reached.now method_number
+        (method_of method.now)) }
 {
     match method.kind {
         MethodKind::Protocol => add_protocol(core, reached, contexts, method_number, method),

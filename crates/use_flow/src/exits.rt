@@ -47,7 +47,8 @@ fn branch_ends(typestate: Option<&Typestate>, branches: &[Branch]) -> bool
 // Whether calls lead to where the object may be left.
 #[tactic(auto, using(crate::proofs::Leaving::ends))]
 pub(crate) fn ends(typestate: Option<&Typestate>, target: &Target, label: Option<&str>) -> bool
-    ensures { result ≡ list_any (may_end (typestate_or_end (option_map (λ t. t.now) typestate.entry))) (which_of (option_map (λ l. l.now) label.entry) (target_of target.now)) }
+    ensures { result ≡ list_any (may_end (typestate_or_end (option_map (λ t. t.now) typestate.entry)))
+        (which_of (option_map (λ l. l.now) label.entry) (target_of target.now)) }
 {
     match target {
         Target::One(to) => may_end(typestate, *to),
@@ -104,7 +105,8 @@ impl<'a> Scene<'a> {
         fields: &[CoreField],
         sets: &Sets,
     ) -> Result<(), Memory>
-        ensures { OnOk result (failed.new.items ≡ failed.old.items ++ open_fields (seen self.now) place 0 (map field_of fields.now) sets.now) }
+        ensures { OnOk result (failed.new.items ≡ failed.old.items ++ open_fields (seen self.now) place 0 (map field_of fields.now)
+            sets.now) }
     {
         for field in 0..fields.len() {
             let at = number(field)?;
@@ -143,7 +145,8 @@ impl<'a> Scene<'a> {
         branches: &[Branch],
         sets: &Sets,
     ) -> Result<(), Memory>
-        ensures { OnOk result (outs_in outs.new.items ≡ outs_in outs.old.items ++ to_states (seen self.now) class (map (λ b. b.to) branches.now) sets.now) }
+        ensures { OnOk result (outs_in outs.new.items ≡ outs_in outs.old.items ++ to_states (seen self.now) class
+            (map (λ b. b.to) branches.now) sets.now) }
     {
         for branch in branches {
             self.send_to(alloc, outs, class, branch.to, sets)?;
@@ -161,7 +164,8 @@ impl<'a> Scene<'a> {
         label: Option<&str>,
         sets: &Sets,
     ) -> Result<(), Memory>
-        ensures { OnOk result (outs_in outs.new.items ≡ outs_in outs.old.items ++ to_states (seen self.now) class (which_of (option_map (λ l. l.now) label.entry) (target_of target.now)) sets.now) }
+        ensures { OnOk result (outs_in outs.new.items ≡ outs_in outs.old.items ++ to_states (seen self.now) class
+            (which_of (option_map (λ l. l.now) label.entry) (target_of target.now)) sets.now) }
     {
         match target {
             Target::One(to) => self.send_to(alloc, outs, class, *to, sets),

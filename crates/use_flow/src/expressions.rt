@@ -7,7 +7,8 @@ ghost use Rattle.use_rules.specs.Flow.{alike};
 ghost use Rattle.use_rules.specs.State.{Log};
 ghost use Rattle.use_flow.specs.View.{log_of};
 ghost use Rattle.use_flow.specs.inner.Followed.{seen, eval, eval_all, width_of};
-ghost use Rattle.use_flow.specs.inner.Values.{evaluated_of, argued_of, test_of, called_protocol, called_static, called_helper, null_tested, read, settled, parted, both_ways, both_with, either_with, opposite, behind};
+ghost use Rattle.use_flow.specs.inner.Values.{evaluated_of, argued_of, test_of, called_protocol, called_static, called_helper, null_tested};
+ghost use Rattle.use_flow.specs.inner.Values.{read, settled, parted, both_ways, both_with, either_with, opposite, behind};
 
 use crate::Flow;
 use crate::arguments::{method_at, params_of};
@@ -70,7 +71,8 @@ impl<'a> Scene<'a> {
         sets: Sets,
         log: &mut Flow,
     ) -> Result<Value, Memory>
-        ensures { IfOk result (λ v. evaluated_of v (log_of log.new) ≡ eval (seen self.now) width (expr_of expr.now) (Some sets) (log_of log.old)) }
+        ensures { IfOk result (λ v. evaluated_of v (log_of log.new) ≡ eval (seen self.now) width (expr_of expr.now) (Some sets)
+            (log_of log.old)) }
     {
         match &expr.kind {
             CoreExprKind::Int(_) => Value::plain(alloc, Some(sets)),
@@ -144,7 +146,8 @@ impl<'a> Scene<'a> {
         now: Option<Sets>,
         log: &mut Flow,
     ) -> Result<Option<Sets>, Memory>
-        ensures { IfOk result (λ n. alike [] n (log_of log.new) ≡ settled (eval (seen self.now) 0 (expr_of expr.now) now (log_of log.old))) }
+        ensures { IfOk result (λ n. alike [] n (log_of log.new)
+            ≡ settled (eval (seen self.now) 0 (expr_of expr.now) now (log_of log.old))) }
     {
         let Value { set, ways } = self.eval_now(alloc, 0, expr, now, log)?;
         drop(set);
@@ -162,7 +165,8 @@ impl<'a> Scene<'a> {
         now: Option<Sets>,
         log: &mut Flow,
     ) -> Result<Value, Memory>
-        ensures { IfOk result (λ v. evaluated_of v (log_of log.new) ≡ settled (eval (seen self.now) 0 (expr_of expr.now) now (log_of log.old))) }
+        ensures { IfOk result (λ v. evaluated_of v (log_of log.new)
+            ≡ settled (eval (seen self.now) 0 (expr_of expr.now) now (log_of log.old))) }
     {
         let now = self.eval_past(alloc, expr, now, log)?;
         let value = Value::plain(alloc, now)?;
@@ -179,7 +183,8 @@ impl<'a> Scene<'a> {
         now: Option<Sets>,
         log: &mut Flow,
     ) -> Result<(Option<Sets>, Option<Sets>), Memory>
-        ensures { IfOk result (λ r. parted r.0 r.1 (log_of log.new) ≡ both_ways (eval (seen self.now) 0 (expr_of expr.now) now (log_of log.old))) }
+        ensures { IfOk result (λ r. parted r.0 r.1 (log_of log.new)
+            ≡ both_ways (eval (seen self.now) 0 (expr_of expr.now) now (log_of log.old))) }
     {
         let Value { set, ways } = self.eval_now(alloc, 0, expr, now, log)?;
         drop(set);
@@ -215,7 +220,8 @@ impl<'a> Scene<'a> {
         fails: Option<Sets>,
         log: &mut Flow,
     ) -> Result<Value, Memory>
-        ensures { IfOk result (λ v. evaluated_of v (log_of log.new) ≡ both_with fails (eval (seen self.now) 0 (expr_of right.now) holds (log_of log.old))) }
+        ensures { IfOk result (λ v. evaluated_of v (log_of log.new) ≡ both_with fails
+            (eval (seen self.now) 0 (expr_of right.now) holds (log_of log.old))) }
     {
         let (both, neither) = self.eval_ways(alloc, right, holds, log)?;
         let fails = meet(fails, neither)?;
@@ -234,7 +240,8 @@ impl<'a> Scene<'a> {
         fails: Option<Sets>,
         log: &mut Flow,
     ) -> Result<Value, Memory>
-        ensures { IfOk result (λ v. evaluated_of v (log_of log.new) ≡ either_with holds (eval (seen self.now) 0 (expr_of right.now) fails (log_of log.old))) }
+        ensures { IfOk result (λ v. evaluated_of v (log_of log.new) ≡ either_with holds
+            (eval (seen self.now) 0 (expr_of right.now) fails (log_of log.old))) }
     {
         let (either, neither) = self.eval_ways(alloc, right, fails, log)?;
         let holds = meet(holds, either)?;
@@ -252,7 +259,8 @@ impl<'a> Scene<'a> {
         sets: Sets,
         log: &mut Flow,
     ) -> Result<Value, Memory>
-        ensures { IfOk result (λ v. evaluated_of v (log_of log.new) ≡ behind (eval_all (seen self.now) [] (exprs_of (map expr_of args.now)) (Some sets) (log_of log.old))) }
+        ensures { IfOk result (λ v. evaluated_of v (log_of log.new)
+            ≡ behind (eval_all (seen self.now) [] (exprs_of (map expr_of args.now)) (Some sets) (log_of log.old))) }
     {
         let Arguments { sets: given, now } = self.eval_all(alloc, &[], args, Some(sets), log)?;
         drop(given);
@@ -290,7 +298,8 @@ impl<'a> Scene<'a> {
         now: Option<Sets>,
         log: &mut Flow,
     ) -> Result<Arguments, Memory>
-        ensures { IfOk result (λ a. argued_of a (log_of log.new) ≡ eval_all (seen self.now) (map (width_of (seen self.now)) (map (λ s. s.ty) params.now)) (exprs_of (map expr_of args.now)) now (log_of log.old)) }
+        ensures { IfOk result (λ a. argued_of a (log_of log.new) ≡ eval_all (seen self.now)
+            (map (width_of (seen self.now)) (map (λ s. s.ty) params.now)) (exprs_of (map expr_of args.now)) now (log_of log.old)) }
     {
         let mut sets = Sets::new(alloc);
         let mut now = now;
@@ -318,7 +327,8 @@ impl<'a> Scene<'a> {
         sets: Sets,
         log: &mut Flow,
     ) -> Result<Value, Memory>
-        ensures { IfOk result (λ v. evaluated_of v (log_of log.new) ≡ called_protocol (seen self.now) receiver method (exprs_of (map expr_of args.now)) sets (log_of log.old)) }
+        ensures { IfOk result (λ v. evaluated_of v (log_of log.new) ≡ called_protocol (seen self.now) receiver method
+            (exprs_of (map expr_of args.now)) sets (log_of log.old)) }
     {
         let Some(called) = method_at(self.core, method) else {
             let value = self.eval_session(alloc, args, sets, log)?;
@@ -340,7 +350,8 @@ impl<'a> Scene<'a> {
         sets: Sets,
         log: &mut Flow,
     ) -> Result<Value, Memory>
-        ensures { IfOk result (λ v. evaluated_of v (log_of log.new) ≡ called_helper (seen self.now) method (exprs_of (map expr_of args.now)) sets (log_of log.old)) }
+        ensures { IfOk result (λ v. evaluated_of v (log_of log.new) ≡ called_helper (seen self.now) method (exprs_of (map expr_of args.now))
+            sets (log_of log.old)) }
     {
         let Some(called) = method_at(self.core, method) else {
             let value = self.eval_session(alloc, args, sets, log)?;
@@ -362,7 +373,8 @@ impl<'a> Scene<'a> {
         sets: Sets,
         log: &mut Flow,
     ) -> Result<Value, Memory>
-        ensures { IfOk result (λ v. evaluated_of v (log_of log.new) ≡ called_static (seen self.now) method (exprs_of (map expr_of args.now)) sets (log_of log.old)) }
+        ensures { IfOk result (λ v. evaluated_of v (log_of log.new) ≡ called_static (seen self.now) method (exprs_of (map expr_of args.now))
+            sets (log_of log.old)) }
     {
         let Some(called) = method_at(self.core, method) else {
             let value = self.eval_session(alloc, args, sets, log)?;

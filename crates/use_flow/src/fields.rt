@@ -132,7 +132,8 @@ impl<'a> Scene<'a> {
         fields: &[CoreField],
         sets: &Sets,
     ) -> Result<(), Memory>
-        ensures { OnOk result (outs_in outs.new.items ≡ outs_in outs.old.items ++ field_outs_from (seen self.now) (key_in table) 0 (map field_of fields.now) sets.now) }
+        ensures { OnOk result (outs_in outs.new.items ≡ outs_in outs.old.items ++ field_outs_from (seen self.now) (key_in table) 0
+            (map field_of fields.now) sets.now) }
     {
         for field in 0..fields.len() {
             if class_in(fields[field].ty).is_none() {

@@ -5,7 +5,8 @@ ghost use Rattle.std.specs.Prelude.{◌≡◌, ◌++◌, [], Some, option_map, s
 ghost use Rattle.jv_core.specs.View.{loop_of};
 ghost use Rattle.use_flow.specs.View.{log_of};
 ghost use Rattle.use_flow.specs.inner.Fields.{key_in, outs_in};
-ghost use Rattle.use_flow.specs.inner.Followed.{seen, here, slot_class, slot_heads, has_fields, heads, field_head, field_outs, loop_scope, slots_at, at_head};
+ghost use Rattle.use_flow.specs.inner.Followed.{seen, here, slot_class, slot_heads, has_fields, heads, field_head, field_outs, loop_scope};
+ghost use Rattle.use_flow.specs.inner.Followed.{slots_at, at_head};
 
 use crate::fields::{FieldTable, copy_at, send};
 use crate::scene::{Scene, class_in};
@@ -88,7 +89,8 @@ impl<'a> Scene<'a> {
         sets: &Sets,
     ) -> Result<(), Memory>
         requires { context ≡ here (seen self.now) }
-        ensures { OnOk result (outs_in outs.new.items ≡ outs_in outs.old.items ++ slot_heads (seen self.now) number (loop_scope (seen self.now) number) sets.now) }
+        ensures { OnOk result (outs_in outs.new.items ≡ outs_in outs.old.items ++ slot_heads (seen self.now) number
+            (loop_scope (seen self.now) number) sets.now) }
     {
         match self.loop_at(number) {
             Some(found) => {
@@ -107,7 +109,8 @@ impl<'a> Scene<'a> {
         table: FieldTable,
         sets: &Sets,
     ) -> Result<(), Memory>
-        ensures { OnOk result (outs_in outs.new.items ≡ outs_in outs.old.items ++ (if has_fields (seen self.now) then field_outs (seen self.now) (key_in table) sets.now else [])) }
+        ensures { OnOk result (outs_in outs.new.items ≡ outs_in outs.old.items
+            ++ (if has_fields (seen self.now) then field_outs (seen self.now) (key_in table) sets.now else [])) }
     {
         if !self.has_fields() {
             return Ok(());

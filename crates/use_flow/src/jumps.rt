@@ -110,7 +110,8 @@ impl Jumps {
 
     // Something more jumps to a place.
     pub(crate) fn add(&mut self, lead: Lead, now: Option<Sets>) -> Result<(), Memory>
-        ensures { OnOk result ((to : Leads) → held self.new to ≡ (if same_lead (lead_of lead) to then joined (held self.old to) now else held self.old to)) }
+        ensures { OnOk result ((to : Leads) →
+            held self.new to ≡ (if same_lead (lead_of lead) to then joined (held self.old to) now else held self.old to)) }
     {
         let before = self.take(lead);
         let now = meet(before, now)?;
@@ -121,7 +122,8 @@ impl Jumps {
     pub(crate) fn set_aside(&mut self, number: u32) -> Aside
         ensures behind { result.behind ≡ held self.old (BehindLoop number) }
         ensures going_on { result.going_on ≡ held self.old (GoesOn number) }
-        ensures left { (to : Leads) → held self.new to ≡ (if same_lead (BehindLoop number) to || same_lead (GoesOn number) to then None else held self.old to) }
+        ensures left { (to : Leads) → held self.new to
+            ≡ (if same_lead (BehindLoop number) to || same_lead (GoesOn number) to then None else held self.old to) }
     {
         let behind = self.take(Lead::BehindLoop(number));
         let going_on = self.take(Lead::GoesOn(number));
@@ -130,7 +132,9 @@ impl Jumps {
 
     // What jumps to a loop is this alone.
     pub(crate) fn put_back(&mut self, number: u32, aside: Aside) -> Result<(), Memory>
-        ensures { OnOk result ((to : Leads) → held self.new to ≡ (if same_lead (BehindLoop number) to then aside.behind else (if same_lead (GoesOn number) to then aside.going_on else held self.old to))) }
+        ensures { OnOk result ((to : Leads) →
+            held self.new to ≡ (if same_lead (BehindLoop number) to then aside.behind else
+            (if same_lead (GoesOn number) to then aside.going_on else held self.old to))) }
     {
         let Aside { behind, going_on } = aside;
         self.put(Lead::GoesOn(number), going_on)?;

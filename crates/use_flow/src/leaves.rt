@@ -46,7 +46,8 @@ impl<'a> Scene<'a> {
         label: Option<&str>,
         sets: &Sets,
     ) -> Result<(), Memory>
-        ensures { OnOk result (log_of log.new ≡ fields_left (seen self.now) class (which_of (option_map (λ l. l.now) label.entry) (target_of target.now)) place sets.now (log_of log.old)) }
+        ensures { OnOk result (log_of log.new ≡ fields_left (seen self.now) class
+            (which_of (option_map (λ l. l.now) label.entry) (target_of target.now)) place sets.now (log_of log.old)) }
     {
         self.send_target(alloc, &mut log.outs, class, target, label, sets)?;
         if !ends(typestate_of(self.core, class), target, label) {
@@ -67,7 +68,8 @@ impl<'a> Scene<'a> {
         label: Option<&str>,
         sets: &Sets,
     ) -> Result<(), Memory>
-        ensures { OnOk result (log_of log.new ≡ fields_left (seen self.now) class (followed (seen self.now) class state (option_map (λ l. l.now) label.entry)) place sets.now (log_of log.old)) }
+        ensures { OnOk result (log_of log.new ≡ fields_left (seen self.now) class
+            (followed (seen self.now) class state (option_map (λ l. l.now) label.entry)) place sets.now (log_of log.old)) }
     {
         let name = self.text_of(self.method.name);
         match target_at(typestate_of(self.core, class), name, state as usize) {
@@ -85,7 +87,8 @@ impl<'a> Scene<'a> {
         label: Option<&str>,
         sets: &Sets,
     ) -> Result<(), Memory>
-        ensures { OnOk result (log_of log.new ≡ leaves_fields (seen self.now) place (option_map (λ l. l.now) label.entry) sets.now (log_of log.old)) }
+        ensures { OnOk result (log_of log.new ≡ leaves_fields (seen self.now) place (option_map (λ l. l.now) label.entry) sets.now
+            (log_of log.old)) }
     {
         match self.context {
             Context::Protocol { class, state, .. } => {
@@ -113,7 +116,8 @@ impl<'a> Scene<'a> {
         now: Option<Sets>,
         log: &mut Flow,
     ) -> Result<(), Memory>
-        ensures { OnOk result (log_of log.new ≡ left (seen self.now) place (option_map (λ l. l.now) label.entry) set (reverse scope.now) now (log_of log.old)) }
+        ensures { OnOk result (log_of log.new ≡ left (seen self.now) place (option_map (λ l. l.now) label.entry) set (reverse scope.now) now
+            (log_of log.old)) }
     {
         let Some(sets) = now else {
             return Ok(());

@@ -57,7 +57,8 @@ fn tested(left: &CoreExpr, right: &CoreExpr) -> Option<Var>
 
 // A test of the variable that is compared with null, if one is.
 fn test_with(holds: bool, left: &CoreExpr, right: &CoreExpr) -> Option<NullTest>
-    ensures { option_map test_of result ≡ option_map (λ x. record { variable = x; holds = holds }) (tested (expr_of left.now) (expr_of right.now)) }
+    ensures { option_map test_of result ≡ option_map (λ x. record { variable = x; holds = holds })
+        (tested (expr_of left.now) (expr_of right.now)) }
 {
     let variable = tested(left, right)?;
     Some(NullTest { variable, holds })

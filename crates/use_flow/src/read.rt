@@ -30,7 +30,8 @@ fn add_state(
     context: Context,
     method: &CoreMethod,
 ) -> Result<(), Memory>
-    ensures { OnOk result (entries.new.items ≡ entries.old.items ++ reading.state_entries (tree_of core.now) context (method_of method.now)) }
+    ensures { OnOk result (entries.new.items ≡ entries.old.items ++ reading.state_entries (tree_of core.now) context
+        (method_of method.now)) }
 {
     match context {
         Context::Protocol { class, state, .. } => {
@@ -48,7 +49,8 @@ fn add_enter(
     context: Context,
     method: &CoreMethod,
 ) -> Result<(), Memory>
-    ensures { OnOk result (entries.new.items ≡ entries.old.items ++ reading.enter_entries (tree_of core.now) context (method_of method.now)) }
+    ensures { OnOk result (entries.new.items ≡ entries.old.items ++ reading.enter_entries (tree_of core.now) context
+        (method_of method.now)) }
 {
     match context {
         Context::Plain {
@@ -114,7 +116,8 @@ fn add_results(
     runs: &Runs,
     methods: &[u32],
 ) -> Result<(), Memory>
-    ensures { OnOk result (entries.new.items ≡ entries.old.items ++ reading.result_entries (tree_of core.now) (starts_of runs.now) methods.now) }
+    ensures { OnOk result (entries.new.items ≡ entries.old.items ++ reading.result_entries (tree_of core.now)
+        (starts_of runs.now) methods.now) }
 {
     for method in methods {
         add_result(core, entries, runs, *method)?;
@@ -163,7 +166,8 @@ fn add_loop(
     loop_number: u32,
     head: &CoreLoop,
 ) -> Result<(), Memory>
-    ensures { OnOk result (entries.new.items ≡ entries.old.items ++ reading.loop_entry (tree_of core.now) context (method_of method.now) loop_number (loop_of head.now)) }
+    ensures { OnOk result (entries.new.items ≡ entries.old.items ++ reading.loop_entry (tree_of core.now) context
+        (method_of method.now) loop_number (loop_of head.now)) }
 {
     let scope = rising(alloc, head.scope.as_slice())?;
     add_scope(entries, method, context, loop_number, scope.as_slice())?;
@@ -181,7 +185,8 @@ fn add_loops(
     context: u32,
     loops: &[CoreLoop],
 ) -> Result<(), Memory>
-    ensures { OnOk result (entries.new.items ≡ entries.old.items ++ reading.loop_entries (tree_of core.now) context (method_of method.now) (map loop_of loops.now)) }
+    ensures { OnOk result (entries.new.items ≡ entries.old.items ++ reading.loop_entries (tree_of core.now) context (method_of method.now)
+        (map loop_of loops.now)) }
 {
     for place in 0..loops.len() {
         let loop_number = number(place)?;
@@ -208,7 +213,8 @@ fn entries_read(
     context: Context,
     method: &CoreMethod,
 ) -> Result<List<Entry>, Memory>
-    ensures { IfOk result (λ l. l.items ≡ reading.read_entries (tree_of core.now) (starts_of runs.now) here context (method_of method.now)) }
+    ensures { IfOk result (λ l. l.items ≡ reading.read_entries (tree_of core.now) (starts_of runs.now) here context
+        (method_of method.now)) }
 {
     let named = named_by(alloc, method.body.as_slice())?;
     let named = rising(alloc, named.as_slice())?;

@@ -23,7 +23,8 @@ impl<'a> Scene<'a> {
         place: Place,
         sets: &Sets,
     ) -> Result<(), Memory>
-        ensures { OnOk result (failed.new.items ≡ failed.old.items ++ open_fields (seen self.now) place 0 (own_fields (seen self.now)) sets.now) }
+        ensures { OnOk result (failed.new.items ≡ failed.old.items ++ open_fields (seen self.now) place 0 (own_fields (seen self.now))
+            sets.now) }
     {
         match self.own_class() {
             Some(class) => { self.judge_these(alloc, failed, place, class.fields.as_slice(), sets) }

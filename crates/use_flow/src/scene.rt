@@ -6,7 +6,8 @@ ghost use Rattle.jv_core.specs.Core.{tree_of};
 ghost use Rattle.jv_core.specs.View.{class_of};
 ghost use Rattle.jv_core.specs.Lookup.{slot_type, field_type, variable_type};
 ghost use Rattle.use_rules.specs.Keys.{class_in, typestate_of};
-ghost use Rattle.use_flow.specs.inner.Followed.{seen, typestate_or_end, variable_at, variable_text, class_or_none, variable_class, elements_of, width_of, variable_width};
+ghost use Rattle.use_flow.specs.inner.Followed.{seen, typestate_or_end, variable_at, variable_text, class_or_none, variable_class};
+ghost use Rattle.use_flow.specs.inner.Followed.{elements_of, width_of, variable_width};
 ghost use Rattle.use_flow.specs.inner.Mappings.{title_in};
 
 use crate::elements::{Subject, Title};

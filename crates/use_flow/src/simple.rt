@@ -50,7 +50,8 @@ impl<'a> Scene<'a> {
         now: Option<Sets>,
         log: &mut Flow,
     ) -> Result<Option<Sets>, Memory>
-        ensures { (js : List Jump) → IfOk result (λ n. flow n js (log_of log.new) ≡ exit (seen self.now) place slots.now (flow now js (log_of log.old))) }
+        ensures { (js : List Jump) → IfOk result
+            (λ n. flow n js (log_of log.new) ≡ exit (seen self.now) place slots.now (flow now js (log_of log.old))) }
     {
         let Some(mut sets) = now else {
             return Ok(None);
@@ -89,7 +90,8 @@ impl<'a> Scene<'a> {
         sets: Sets,
         log: &mut Flow,
     ) -> Result<Option<Sets>, Memory>
-        ensures { IfOk result (λ n. flow n [] (log_of log.new) ≡ local (seen self.now) place slot (expr_of value.now) sets (log_of log.old)) }
+        ensures { IfOk result (λ n. flow n [] (log_of log.new) ≡ local (seen self.now) place slot (expr_of value.now) sets
+            (log_of log.old)) }
     {
         let now = self.declare(alloc, slot, value, Some(sets), log)?;
         let left = [slot];
@@ -107,7 +109,8 @@ impl<'a> Scene<'a> {
         sets: Sets,
         log: &mut Flow,
     ) -> Result<Option<Sets>, Memory>
-        ensures { IfOk result (λ n. flow n [] (log_of log.new) ≡ assigned (seen self.now) target (expr_of value.now) sets (log_of log.old)) }
+        ensures { IfOk result (λ n. flow n [] (log_of log.new) ≡ assigned (seen self.now) target (expr_of value.now) sets
+            (log_of log.old)) }
     {
         let width = self.variable_width(target.var);
         let Value { set, ways } = self.eval(alloc, width, value, sets, log)?;
@@ -190,7 +193,8 @@ impl<'a> Scene<'a> {
         sets: Sets,
         log: &mut Flow,
     ) -> Result<(), Memory>
-        ensures { OnOk result (flow None [] (log_of log.new) ≡ returned (seen self.now) place (expr_of value.now) (reverse scope.now) sets (log_of log.old)) }
+        ensures { OnOk result (flow None [] (log_of log.new) ≡ returned (seen self.now) place (expr_of value.now) (reverse scope.now) sets
+            (log_of log.old)) }
     {
         let width = self.width_of(self.method.result);
         let label = self.label_of(value);

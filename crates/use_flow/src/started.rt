@@ -55,7 +55,8 @@ impl<'a> Scene<'a> {
     // How many variables are no parameters.
     #[tactic(auto, using(crate::proofs::Scenes::scenes))]
     fn others(&self) -> Result<usize, Memory>
-        ensures { IfOk result (λ n. n ≡ length (seen self.now).method.slots - (seen self.now).method.params + length (own_fields (seen self.now))) }
+        ensures { IfOk result (λ n. n ≡ length (seen self.now).method.slots - (seen self.now).method.params + length
+            (own_fields (seen self.now))) }
     {
         let slots = self.method.slots.len();
         let locals = slots.saturating_sub(self.method.params as usize);

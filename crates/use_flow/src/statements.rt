@@ -31,7 +31,8 @@ impl<'a> Scene<'a> {
         sets: Sets,
         course: &mut Course,
     ) -> Result<Option<Sets>, Memory>
-        ensures { IfOk result (λ n. Follows (step (seen self.now) (scope_of course.old) (reverse outer.now) (stmt_of statement.now) (Some sets) (log_of course.old.log)) course.old.scope.items course.old.jumps n course.new) }
+        ensures { IfOk result (λ n. Follows (step (seen self.now) (scope_of course.old) (reverse outer.now) (stmt_of statement.now)
+            (Some sets) (log_of course.old.log)) course.old.scope.items course.old.jumps n course.new) }
     {
         let place = statement.place;
         match &statement.kind {
@@ -108,7 +109,8 @@ impl<'a> Scene<'a> {
         now: Option<Sets>,
         course: &mut Course,
     ) -> Result<Option<Sets>, Memory>
-        ensures { IfOk result (λ n. Follows (step (seen self.now) (scope_of course.old) (reverse outer.now) (stmt_of statement.now) now (log_of course.old.log)) course.old.scope.items course.old.jumps n course.new) }
+        ensures { IfOk result (λ n. Follows (step (seen self.now) (scope_of course.old) (reverse outer.now) (stmt_of statement.now) now
+            (log_of course.old.log)) course.old.scope.items course.old.jumps n course.new) }
     {
         match now {
             Some(sets) => self.step(alloc, statement, outer, sets, course),
@@ -129,7 +131,9 @@ impl<'a> Scene<'a> {
         sets: Sets,
         course: &mut Course,
     ) -> Result<Option<Sets>, Memory>
-        ensures { IfOk result (λ n. Follows (while_flow (seen self.now) (scope_of course.old) (reverse outer.now) number (expr_of condition.now) (stmt_of body.now) sets (log_of course.old.log)) course.old.scope.items course.old.jumps n course.new) }
+        ensures { IfOk result (λ n. Follows
+            (while_flow (seen self.now) (scope_of course.old) (reverse outer.now) number (expr_of condition.now) (stmt_of body.now) sets
+            (log_of course.old.log)) course.old.scope.items course.old.jumps n course.new) }
     {
         let mut sets = sets;
         self.send_heads(alloc, number, &sets, &mut course.log)?;
@@ -157,7 +161,8 @@ impl<'a> Scene<'a> {
         sets: Sets,
         course: &mut Course,
     ) -> Result<Option<Sets>, Memory>
-        ensures { IfOk result (λ n. Follows (do_flow (seen self.now) (scope_of course.old) (reverse outer.now) number (stmt_of body.now) (expr_of condition.now) sets (log_of course.old.log)) course.old.scope.items course.old.jumps n course.new) }
+        ensures { IfOk result (λ n. Follows (do_flow (seen self.now) (scope_of course.old) (reverse outer.now) number (stmt_of body.now)
+            (expr_of condition.now) sets (log_of course.old.log)) course.old.scope.items course.old.jumps n course.new) }
     {
         let mut sets = sets;
         self.send_heads(alloc, number, &sets, &mut course.log)?;
@@ -184,7 +189,10 @@ impl<'a> Scene<'a> {
         now: Option<Sets>,
         course: &mut Course,
     ) -> Result<Option<Sets>, Memory>
-        ensures { IfOk result (λ n. Follows (exit (seen self.now) end (declared_here (stmts_of (map stmt_of body.now))) (steps (seen self.now) (scope_of course.old) (reverse outer.now) (stmts_of (map stmt_of body.now)) now (log_of course.old.log))) course.old.scope.items course.old.jumps n course.new) }
+        ensures { IfOk result (λ n. Follows
+            (exit (seen self.now) end (declared_here (stmts_of (map stmt_of body.now)))
+            (steps (seen self.now) (scope_of course.old) (reverse outer.now) (stmts_of (map stmt_of body.now)) now (log_of course.old.log)))
+            course.old.scope.items course.old.jumps n course.new) }
     {
         let depth = course.scope.len();
         let now = self.steps(alloc, body, outer, now, course)?;
@@ -202,7 +210,9 @@ impl<'a> Scene<'a> {
         now: Option<Sets>,
         course: &mut Course,
     ) -> Result<Option<Sets>, Memory>
-        ensures { IfOk result (λ n. Follows (steps (seen self.now) (scope_of course.old) (reverse outer.now) (stmts_of (map stmt_of body.now)) now (log_of course.old.log)) (course.old.scope.items ++ declared_here (stmts_of (map stmt_of body.now))) course.old.jumps n course.new) }
+        ensures { IfOk result (λ n. Follows
+            (steps (seen self.now) (scope_of course.old) (reverse outer.now) (stmts_of (map stmt_of body.now)) now (log_of course.old.log))
+            (course.old.scope.items ++ declared_here (stmts_of (map stmt_of body.now))) course.old.jumps n course.new) }
     {
         let mut now = now;
         for statement in body {
@@ -221,7 +231,10 @@ impl<'a> Scene<'a> {
         now: Option<Sets>,
         course: &mut Course,
     ) -> Result<Option<Sets>, Memory>
-        ensures { IfOk result (λ n. Follows (item (seen self.now) (scope_of course.old) (reverse outer.now) (local_in (stmt_of statement.now)) (stmt_of statement.now) now (log_of course.old.log)) (course.old.scope.items ++ declared_by (local_in (stmt_of statement.now))) course.old.jumps n course.new) }
+        ensures { IfOk result (λ n. Follows
+            (item (seen self.now) (scope_of course.old) (reverse outer.now) (local_in (stmt_of statement.now)) (stmt_of statement.now) now
+            (log_of course.old.log)) (course.old.scope.items ++ declared_by (local_in (stmt_of statement.now))) course.old.jumps n
+            course.new) }
     {
         match local_in(statement) {
             Some(declared) => {
@@ -244,7 +257,9 @@ impl<'a> Scene<'a> {
         sprouts: Sprouts,
         course: &mut Course,
     ) -> Result<Option<Sets>, Memory>
-        ensures { IfOk result (λ n. Follows (switch_flow (seen self.now) (scope_of course.old) (rest_of sprouts) (past_of sprouts) (nows_of sprouts) (groups_of (map group_of groups.now)) (log_of course.old.log)) course.old.scope.items course.old.jumps n course.new) }
+        ensures { IfOk result (λ n. Follows (switch_flow (seen self.now) (scope_of course.old) (rest_of sprouts) (past_of sprouts)
+            (nows_of sprouts) (groups_of (map group_of groups.now)) (log_of course.old.log)) course.old.scope.items course.old.jumps n
+            course.new) }
     {
         let past = sprouts.past(alloc)?;
         let around = course.jumps.take(Lead::BehindSwitch);
@@ -265,7 +280,8 @@ impl<'a> Scene<'a> {
         sprouts: Sprouts,
         course: &mut Course,
     ) -> Result<Option<Sets>, Memory>
-        ensures { IfOk result (λ n. Follows (follow (seen self.now) (scope_of course.old) (rest_of sprouts) (nows_of sprouts) (groups_of (map group_of groups.now)) None (log_of course.old.log)) course.old.scope.items course.old.jumps n course.new) }
+        ensures { IfOk result (λ n. Follows (follow (seen self.now) (scope_of course.old) (rest_of sprouts) (nows_of sprouts)
+            (groups_of (map group_of groups.now)) None (log_of course.old.log)) course.old.scope.items course.old.jumps n course.new) }
     {
         let outer = copy_slots(alloc, course.scope.as_slice())?;
         let mut now = None;
@@ -286,7 +302,9 @@ impl<'a> Scene<'a> {
         before: Option<Sets>,
         course: &mut Course,
     ) -> Result<Option<Sets>, Memory>
-        ensures { IfOk result (λ n. Follows (group_flow (seen self.now) (scope_of course.old) (reverse outer.now) (rest_of sprouts.now) (nows_of sprouts.now) (group_of group.now) before (log_of course.old.log)) course.old.scope.items course.old.jumps n course.new) }
+        ensures { IfOk result (λ n. Follows (group_flow (seen self.now) (scope_of course.old) (reverse outer.now) (rest_of sprouts.now)
+            (nows_of sprouts.now) (group_of group.now) before (log_of course.old.log)) course.old.scope.items course.old.jumps n
+            course.new) }
     {
         let entry = sprouts.entry(alloc, group.labels.as_slice())?;
         let start = meet(entry, before)?;

@@ -12,7 +12,9 @@ ghost use Rattle.use_flow.specs.View.{log_of};
 ghost use Rattle.use_flow.specs.inner.Followed.{Followed, seen};
 ghost use Rattle.use_flow.specs.inner.Listed.{call_of};
 ghost use Rattle.use_flow.specs.inner.Simple.{constants_of};
-ghost use Rattle.use_flow.specs.inner.Switching.{spread, with_any, gathered, branched, nows_of, rest_of, past_of, note_one, noted, uncased_by, label_now, variables, known_set, uncased, entry_of, by_constants, switched, led_by, led_set, called_switch, plain_switch, past};
+ghost use Rattle.use_flow.specs.inner.Switching.{spread, with_any, gathered, branched, nows_of, rest_of, past_of, note_one, noted};
+ghost use Rattle.use_flow.specs.inner.Switching.{uncased_by, label_now, variables, known_set, uncased, entry_of, by_constants, switched};
+ghost use Rattle.use_flow.specs.inner.Switching.{led_by, led_set, called_switch, plain_switch, past};
 ghost use Rattle.use_flow.specs.inner.Values.{protocol_call};
 
 use crate::Flow;
@@ -87,7 +89,8 @@ fn note_labels(labels: &mut Labels, given: &[Option<u32>])
 // The labels of a switch over so many constants.
 #[tactic(auto, using(crate::proofs::Choosing::noting))]
 fn labels_of(alloc: Global, width: usize, groups: &[CoreGroup]) -> Result<Labels, Memory>
-    ensures { IfOk result (λ l. l ≡ noted (all_labels (groups_of (map group_of groups.now))) (record { cased = none width; has_default = false })) }
+    ensures { IfOk result (λ l. l ≡ noted (all_labels (groups_of (map group_of groups.now)))
+        (record { cased = none width; has_default = false })) }
 {
     let mut labels = Labels {
         cased: empty_set(alloc, width)?,
@@ -125,7 +128,8 @@ impl Branches {
     // The sets of the constants that have no case.
     #[tactic(auto, using(crate::proofs::Choosing::resting))]
     fn rest(&self, cased: &StateSet) -> Result<Option<StateSet>, Memory>
-        ensures { IfOk result (λ r. with_any self.now.variable self.now.known r ≡ uncased_by cased.now 0 (spread self.now.variable self.now.known self.now.sets.items)) }
+        ensures { IfOk result (λ r. with_any self.now.variable self.now.known r ≡ uncased_by cased.now 0
+            (spread self.now.variable self.now.known self.now.sets.items)) }
     {
         let mut rest = None;
         for constant in 0..self.sets.len() {
@@ -161,7 +165,9 @@ impl Sprouts {
         all: Option<StateSet>,
         label: Option<u32>,
     ) -> Result<Option<StateSet>, Memory>
-        ensures { IfOk result (λ r. with_any self.now.branches.variable self.now.branches.known r ≡ joined (with_any self.now.branches.variable self.now.branches.known all) (label_now (rest_of self.now) (nows_of self.now) label)) }
+        ensures { IfOk result (λ r. with_any self.now.branches.variable self.now.branches.known r
+            ≡ joined (with_any self.now.branches.variable self.now.branches.known all)
+            (label_now (rest_of self.now) (nows_of self.now) label)) }
     {
         match label {
             Some(constant) => {
@@ -243,7 +249,8 @@ impl<'a> Scene<'a> {
         set: &StateSet,
         label: Name,
     ) -> Result<StateSet, Memory>
-        ensures { IfOk result (λ s. s ≡ led_set (seen self.now) receiver (method_of method.now) set.now (text_at (seen self.now).program label.0)) }
+        ensures { IfOk result (λ s. s ≡ led_set (seen self.now) receiver (method_of method.now) set.now
+            (text_at (seen self.now).program label.0)) }
     {
         let typestate = typestate_of(self.core, method.class);
         let name = self.text_of(method.name);
@@ -263,7 +270,9 @@ impl<'a> Scene<'a> {
         set: &StateSet,
         constants: &[Name],
     ) -> Result<Vec<StateSet>, Memory>
-        ensures { IfOk result (λ v. v.items ≡ map (λ (c : Name). led_set (seen self.now) receiver (method_of method.now) set.now (text_at (seen self.now).program c.0)) constants.now) }
+        ensures { IfOk result (λ v. v.items
+            ≡ map (λ (c : Name). led_set (seen self.now) receiver (method_of method.now) set.now (text_at (seen self.now).program c.0))
+            constants.now) }
     {
         let mut sets = Vec::new(alloc);
         for constant in constants {
@@ -284,8 +293,11 @@ impl<'a> Scene<'a> {
         args: Arguments,
         log: &mut Flow,
     ) -> Result<Branches, Memory>
-        ensures nows { IfOk result (λ b. branched b ≡ by_constants (seen self.now) (led_by (seen self.now) receiver number (method_of method.now) args.sets args.now (log_of log.old)) (constants_of (seen self.now) (Some (method_of method.now).result))) }
-        ensures log { OnOk result (log_of log.new ≡ (protocol_call (seen self.now) targets receiver number (method_of method.now) args.sets args.now (log_of log.old)).log) }
+        ensures nows { IfOk result (λ b. branched b ≡ by_constants (seen self.now)
+            (led_by (seen self.now) receiver number (method_of method.now) args.sets args.now (log_of log.old))
+            (constants_of (seen self.now) (Some (method_of method.now).result))) }
+        ensures log { OnOk result (log_of log.new
+            ≡ (protocol_call (seen self.now) targets receiver number (method_of method.now) args.sets args.now (log_of log.old)).log) }
     {
         let variable = self.variable_at(receiver.var);
         let set = set_at(alloc, &args.now, variable)?;
@@ -390,7 +402,8 @@ impl<'a> Scene<'a> {
         log: &mut Flow,
     ) -> Result<Sprouts, Memory>
         ensures nows { IfOk result (λ r. nows_of r ≡ (switched (seen self.now) (expr_of value.now) (Some sets) (log_of log.old)).1) }
-        ensures rest { IfOk result (λ r. rest_of r ≡ uncased (seen self.now) (all_labels (groups_of (map group_of groups.now))) 0 (nows_of r)) }
+        ensures rest { IfOk result (λ r. rest_of r ≡ uncased (seen self.now) (all_labels (groups_of (map group_of groups.now))) 0
+            (nows_of r)) }
         ensures past { IfOk result (λ r. past_of r ≡ past (seen self.now) (groups_of (map group_of groups.now)) (nows_of r)) }
         ensures log { OnOk result (log_of log.new ≡ (switched (seen self.now) (expr_of value.now) (Some sets) (log_of log.old)).0.log) }
     {

@@ -28,7 +28,8 @@ impl<'a> Scene<'a> {
     // The type of a variable of the context's method.
     #[tactic(auto, using(crate::proofs::Scenes::scenes))]
     fn given_variable(&self, variable: Var) -> Option<CoreType>
-        ensures { result ≡ option_and_then (λ m. variable_type (seen self.now).program m variable) (slice_get (seen self.now).program.methods (method_in (seen self.now).context)) }
+        ensures { result ≡ option_and_then (λ m. variable_type (seen self.now).program m variable)
+            (slice_get (seen self.now).program.methods (method_in (seen self.now).context)) }
     {
         let method = method_at(self.core, method_in(self.context))?;
         let scene = Scene {

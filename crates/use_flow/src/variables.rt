@@ -72,7 +72,9 @@ impl<'a> Scene<'a> {
         variable: Var,
         sets: &mut Sets,
     ) -> Result<(), Memory>
-        ensures { OnOk result (sets.new ≡ slice_set sets.old (variable_at (seen self.now) variable) (image (variable_width (seen self.now) variable) (mapping_of mapping) (slice_index_or sets.old (variable_at (seen self.now) variable) []))) }
+        ensures { OnOk result (sets.new ≡ slice_set sets.old (variable_at (seen self.now) variable)
+            (image (variable_width (seen self.now) variable) (mapping_of mapping)
+            (slice_index_or sets.old (variable_at (seen self.now) variable) []))) }
     {
         let at = self.variable_at(variable);
         let set = image_at(alloc, self.variable_width(variable), mapping, sets, at)?;
@@ -89,9 +91,13 @@ impl<'a> Scene<'a> {
         sets: &mut Sets,
         log: &mut Flow,
     ) -> Result<StateSet, Memory>
-        ensures value { IfOk result (λ s. s ≡ image (variable_width (seen self.now) variable) as_value (slice_index_or sets.old (variable_at (seen self.now) variable) [])) }
-        ensures sets { OnOk result (sets.new ≡ slice_set sets.old (variable_at (seen self.now) variable) (image (variable_width (seen self.now) variable) left_behind (slice_index_or sets.old (variable_at (seen self.now) variable) []))) }
-        ensures log { OnOk result (log_of log.new ≡ asks (judged_variable (seen self.now) (Rule.Moved) place variable sets.old) (log_of log.old)) }
+        ensures value { IfOk result (λ s. s ≡ image (variable_width (seen self.now) variable) as_value
+            (slice_index_or sets.old (variable_at (seen self.now) variable) [])) }
+        ensures sets { OnOk result (sets.new ≡ slice_set sets.old (variable_at (seen self.now) variable)
+            (image (variable_width (seen self.now) variable) left_behind
+            (slice_index_or sets.old (variable_at (seen self.now) variable) []))) }
+        ensures log { OnOk result (log_of log.new ≡ asks (judged_variable (seen self.now) (Rule.Moved) place variable sets.old)
+            (log_of log.old)) }
     {
         self.judge_variable(alloc, &mut log.failed, Rule::Moved, place, variable, sets)?;
         let at = self.variable_at(variable);

@@ -1,5 +1,6 @@
 -- Key by key, or context by context: the widths of what contexts read.
-use Rattle.std.proofs.Common.{◌≡◌, ◌⊎◌, ℕ, suc, ◌+◌, ◌*◌, ◌<◌, ◌≤◌, Bool, true, false, ◌||◌, List, [], ◌∷◌, refl, sym, ap, subst, ◌∙◌, arith, inl, inr, ⊎_elim}
+use Rattle.std.proofs.Common.{◌≡◌, ◌⊎◌, ℕ, suc, ◌+◌, ◌*◌, ◌<◌, ◌≤◌, Bool, true, false, ◌||◌, List, [], ◌∷◌, refl, sym, ap, subst, ◌∙◌}
+use Rattle.std.proofs.Common.{arith, inl, inr, ⊎_elim}
 use Rattle.std.specs.Prelude.{nat_eq, if◌then◌else◌}
 use Rattle.std.specs.List.{list_any}
 use Rattle.std.proofs.lemmas.Bool.{false≢true}
@@ -43,7 +44,8 @@ of_any : (k : TableKey) (ks : List TableKey) → list_any (same_key k) ks ≡ tr
 of_any k [] h = absurd (false≢true h)
 of_any k (x ∷ ks) h = go (same_key k x) refl (of_any k ks) h
   where
-    go : (b : Bool) → same_key k x ≡ b → (list_any (same_key k) ks ≡ true → Mem k ks) → (b || list_any (same_key k) ks) ≡ true → Mem k (x ∷ ks)
+    go : (b : Bool) → same_key k x ≡ b → (list_any (same_key k) ks ≡ true → Mem k ks) → (b || list_any (same_key k) ks) ≡ true →
+        Mem k (x ∷ ks)
     go true e rest g = inl (same-true k x e)
     go false e rest g = inr (rest g)
 
@@ -58,12 +60,14 @@ once_has (x ∷ ks) k h = go (list_any (same_key x) ks) refl (once_has ks k)
 
 -- no key stands before itself
 before_self : (k : TableKey) → Precedes k k → ⊥
-before_self (keys.Field c q f) h = ⊎_elim (λ (a : c < c). omega (arith, a)) (λ r. ⊎_elim (λ (a : q < q). omega (arith, a)) (λ s. let a : f < f = s.1 in omega (arith, a)) r.1) h
+before_self (keys.Field c q f) h = ⊎_elim (λ (a : c < c). omega (arith, a))
+    (λ r. ⊎_elim (λ (a : q < q). omega (arith, a)) (λ s. let a : f < f = s.1 in omega (arith, a)) r.1) h
 before_self (keys.Param c i) h = ⊎_elim (λ (a : c < c). omega (arith, a)) (λ r. let a : i < i = r.1 in omega (arith, a)) h
 before_self (keys.Result c) h = omega (arith, h)
 before_self (keys.Enter m f) h = ⊎_elim (λ (a : m < m). omega (arith, a)) (λ r. let a : f < f = r.1 in omega (arith, a)) h
 before_self (keys.Leave m f) h = ⊎_elim (λ (a : m < m). omega (arith, a)) (λ r. let a : f < f = r.1 in omega (arith, a)) h
-before_self (keys.Loop c l k) h = ⊎_elim (λ (a : c < c). omega (arith, a)) (λ r. ⊎_elim (λ (a : l < l). omega (arith, a)) (λ s. let a : k < k = s.1 in omega (arith, a)) r.1) h
+before_self (keys.Loop c l k) h = ⊎_elim (λ (a : c < c). omega (arith, a))
+    (λ r. ⊎_elim (λ (a : l < l). omega (arith, a)) (λ s. let a : k < k = s.1 in omega (arith, a)) r.1) h
 
 times_more : (w n : ℕ) → w * suc n ≡ w + w * n
 times_more w n = grind arith
@@ -119,17 +123,21 @@ module _ (p : Program) (reached : List (List Bool)) where
   one_more_reader true k n = times_more (width k) n
   one_more_reader false k n = omega arith
 
-  costs_more : (c : Context) (cs : List Context) (ks : List TableKey) → costs p reached (c ∷ cs) ks ≡ share (reads p reached c) ks + costs p reached cs ks
+  costs_more : (c : Context) (cs : List Context) (ks : List TableKey) → costs p reached (c ∷ cs) ks ≡ share (reads p reached c) ks + costs p
+      reached cs ks
   costs_more c cs [] = omega arith
   costs_more c cs (k ∷ ks) =
-      let a : width k * readers p reached (c ∷ cs) k ≡ if_width (list_any (same_key k) (reads p reached c)) k + width k * readers p reached cs k = one_more_reader (list_any (same_key k) (reads p reached c)) k (readers p reached cs k) in
+      let a : width k * readers p reached (c ∷ cs) k ≡ if_width (list_any (same_key k) (reads p reached c)) k + width k * readers p reached
+      cs k = one_more_reader (list_any (same_key k) (reads p reached c)) k (readers p reached cs k) in
       let b : costs p reached (c ∷ cs) ks ≡ share (reads p reached c) ks + costs p reached cs ks = costs_more c cs ks in
       omega (arith, a, b)
 
-  costs_most : (cs : List Context) (ks : List TableKey) → ((c : Context) → Mem c cs → (k : TableKey) → Mem k (reads p reached c) → Mem k ks) → widths_read p reached cs ≤ costs p reached cs ks
+  costs_most : (cs : List Context) (ks : List TableKey) → ((c : Context) → Mem c cs → (k : TableKey) → Mem k (reads p reached c) → Mem k ks)
+      → widths_read p reached cs ≤ costs p reached cs ks
   costs_most [] ks h = omega arith
   costs_most (c ∷ cs) ks h =
-      let a : widths p reached (reads p reached c) ≤ share (reads p reached c) ks = all_shared (reads p reached c) ks (reads_rising p reached c) (h c (inl refl)) in
+      let a : widths p reached (reads p reached c) ≤ share (reads p reached c) ks =
+      all_shared (reads p reached c) ks (reads_rising p reached c) (h c (inl refl)) in
       let b : widths_read p reached cs ≤ costs p reached cs ks = costs_most cs ks (λ x i. h x (inr i)) in
       let d : costs p reached (c ∷ cs) ks ≡ share (reads p reached c) ks + costs p reached cs ks = costs_more c cs ks in
       omega (arith, a, b, d)

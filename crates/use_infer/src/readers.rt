@@ -46,7 +46,8 @@ fn note_all(
     keys: &[TableKey],
     reader: usize,
 ) -> Result<(), Memory>
-    ensures { OnOk result (map (λ l. l.items) lists.new.items ≡ noted tables.now.keys.keys reader keys.now (map (λ l. l.items) lists.old.items)) }
+    ensures { OnOk result (map (λ l. l.items) lists.new.items ≡ noted tables.now.keys.keys reader keys.now
+        (map (λ l. l.items) lists.old.items)) }
 {
     for key in keys {
         match tables.number_of(*key) {
@@ -65,7 +66,8 @@ pub(crate) fn all_readers(
     contexts: &[Context],
 ) -> Result<Readers, Memory>
     requires made { AreFor (tree_of core.now) tables.now }
-    ensures { IfOk result (λ r. lists_of r ≡ all_readers (tree_of core.now) (reached_of tables.now) tables.now.keys.keys (length tables.now.sets.items) contexts.now) }
+    ensures { IfOk result (λ r. lists_of r ≡ all_readers (tree_of core.now) (reached_of tables.now) tables.now.keys.keys
+        (length tables.now.sets.items) contexts.now) }
 {
     let runs = tables.runs(alloc, core)?;
     let mut lists = no_readers(alloc, tables.count())?;

@@ -1,7 +1,8 @@
 //! A context waits until it is followed, and waits again where a table that it reads has grown.
 //! Each growth is forced, so that the tables stay within all closed tables.
 
-ghost use Rattle.std.specs.Prelude.{◌≡◌, ◌<◌, ◌≤◌, ◌+◌, ℕ, List, Bool, false, true, length, replicate, slice_get, slice_index_or, slice_set, Some, IfOk, OnOk, MatchOption};
+ghost use Rattle.std.specs.Prelude.{◌≡◌, ◌<◌, ◌≤◌, ◌+◌, ℕ, List, Bool, false, true, length, replicate, slice_get, slice_index_or};
+ghost use Rattle.std.specs.Prelude.{slice_set, Some, IfOk, OnOk, MatchOption};
 ghost use Rattle.mg_sets.specs.Sets.{has};
 ghost use Rattle.jv_core.specs.Core.{tree_of};
 ghost use Rattle.use_rules.specs.Elements.{marked};
@@ -79,12 +80,15 @@ fn follow(
     requires waits { Waiting (tree_of core.now) tables.old due.old }
     requires is_due { has due.old number ≡ true }
     requires at { slice_get (contexts_of tables.old) number ≡ Some context }
-    requires readers { lists_of readers.now ≡ all_readers (tree_of core.now) (reached_of tables.old) tables.old.keys.keys (length tables.old.sets.items) (contexts_of tables.old) }
+    requires readers { lists_of readers.now ≡ all_readers (tree_of core.now) (reached_of tables.old) tables.old.keys.keys
+        (length tables.old.sets.items) (contexts_of tables.old) }
     ensures waits { OnOk result (Waiting (tree_of core.now) tables.new due.new) }
     ensures contexts { OnOk result (contexts_of tables.new ≡ contexts_of tables.old) }
-    ensures readers { OnOk result (lists_of readers.now ≡ all_readers (tree_of core.now) (reached_of tables.new) tables.new.keys.keys (length tables.new.sets.items) (contexts_of tables.new)) }
+    ensures readers { OnOk result (lists_of readers.now ≡ all_readers (tree_of core.now) (reached_of tables.new) tables.new.keys.keys
+        (length tables.new.sets.items) (contexts_of tables.new)) }
     ensures falls { OnOk result (left (tree_of core.now) tables.new due.new < left (tree_of core.now) tables.old due.old) }
-    ensures pays { OnOk result (follows.new + left (tree_of core.now) tables.new due.new ≤ follows.old + left (tree_of core.now) tables.old due.old) }
+    ensures pays { OnOk result (follows.new + left (tree_of core.now) tables.new due.new ≤ follows.old + left (tree_of core.now) tables.old
+        due.old) }
     ensures most { follows.new ≤ follows.old + left (tree_of core.now) tables.old due.old }
     ensures rises { follows.old ≤ follows.new }
 {
@@ -147,7 +151,8 @@ fn all_due(alloc: Global, count: usize) -> Result<Vec<bool>, Memory>
 pub fn infer(alloc: Global, core: &Core, follows: &mut Follows) -> Result<Tables, Memory>
     ensures made { IfOk result (λ t. AreFor (tree_of core.now) t) }
     ensures least { IfOk result (λ t. Least (tree_of core.now) (reached_of t) (tables_of t)) }
-    ensures most { (reached : List (List Bool)) → AreReached (tree_of core.now) reached → follows.new ≤ follows.old + most_follows (tree_of core.now) reached }
+    ensures most { (reached : List (List Bool)) → AreReached (tree_of core.now) reached → follows.new ≤ follows.old + most_follows
+        (tree_of core.now) reached }
     ensures rises { follows.old ≤ follows.new }
 {
     let mut tables = Tables::new(alloc, core)?;

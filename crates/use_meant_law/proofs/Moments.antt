@@ -11,7 +11,8 @@ use Rattle.ts_tree.specs.declared.parts.To.TheVariants as tos
 use Rattle.ts_tree.specs.Typestate.{Typestate}
 use Rattle.ts_tree.specs.Calls.{Path, Fits, Offers, led, led_by, next_from, offered, initial}
 use Rattle.jv_values.specs.Alike.{Prefix}
-use Rattle.jv_values.specs.Seen.{Told, Enters, Leaves, told, told_by, label_in, Results, Alternates, AlternatesInside, IsMade, calls_told, open_told}
+use Rattle.jv_values.specs.Seen.{Told, Enters, Leaves, told, told_by, label_in, Results, Alternates, AlternatesInside, IsMade, calls_told}
+use Rattle.jv_values.specs.Seen.{open_told}
 use Rattle.jv_meaning.specs.Program.{Sources}
 use Rattle.jv_meaning.specs.Calls.{Follows, IsPath, results_of}
 
@@ -47,7 +48,12 @@ record Front (results : Results) (xs ys : List Told) : Type 0 where
 
 front : (results : Results) (xs ys : List Told) → Alternates (xs ++ ys) → Front results xs ys
 front results [] ys h = record { more = calls_told results ys; calls = refl; opens = λ m e. absurd (some_none e) }
-front results (Enters n ∷ []) [] h = record { more = []; calls = refl; opens = λ m e. subst (λ z. OpenHere z [] (Some n)) (some_is e) still }
+front results (Enters n ∷ []) [] h = record {
+  more = [];
+  calls = refl;
+  opens = λ m e. subst (λ z. OpenHere z [] (Some n)) (some_is e)
+      still;
+}
 front results (Enters n ∷ []) (Leaves a ∷ ys) h = record {
   more = record { method = n; answer = label_in (results n) a } ∷ calls_told results ys;
   calls = refl;
@@ -88,7 +94,8 @@ leads_offers : (t : Typestate) (from to : To) (c : Call) (more : List Call) → 
 leads_offers t tos.End to c more h = absurd (some_none h)
 leads_offers t (tos.State q) to c more h = go (offered t q c.method) refl h
   where
-    go : (o : Option _) → offered t q c.method ≡ o → option_and_then (λ to'. led t to' more) (option_and_then (λ m. led_by m.target c.answer) o) ≡ Some to →
+    go : (o : Option _) → offered t q c.method ≡ o → option_and_then (λ to'. led t to' more)
+        (option_and_then (λ m. led_by m.target c.answer) o) ≡ Some to →
         IsSome (offered t q c.method)
     go None e h = absurd (some_none h)
     go (Some m) e h = subst (λ o. IsSome o) (sym e) refl
@@ -96,7 +103,8 @@ leads_offers t (tos.State q) to c more h = go (offered t q c.method) refl h
 offers_here : (t : Typestate) (from to : To) (m : Name) (more : List Call) (at_the_end : Option Name) → OpenHere m more at_the_end →
     led t from more ≡ Some to → IfSome at_the_end (Offers t to) → Offers t from m
 offers_here t from to m more at_the_end still h o = subst (λ q. Offers t q m) (sym (some_is h)) o
-offers_here t from to m more at_the_end (left_later {c = c} {more = rest} is) h o = subst (Offers t from) is (leads_offers t from to c rest h)
+offers_here t from to m more at_the_end (left_later {c = c} {more = rest} is) h o =
+    subst (Offers t from) is (leads_offers t from to c rest h)
 
 path_front : (t : Typestate) (results : Results) (xs ys : List Told) → Alternates (xs ++ ys) →
     Path t (calls_told results (xs ++ ys)) (open_told (xs ++ ys)) → Path t (calls_told results xs) (open_told xs)
@@ -117,7 +125,8 @@ path_front t results xs ys h p =
 
 -- ---- of a program
 
-pub follows_so_far : (j : Sources) (typestates : List Typestate) (so_far events : List Event) → Prefix so_far events → Follows j typestates events →
+pub follows_so_far : (j : Sources) (typestates : List Typestate) (so_far events : List Event) → Prefix so_far events →
+    Follows j typestates events →
     Follows j typestates so_far
 follows_so_far j typestates so_far events before h = record {
   alternate = λ o c made. alternates_front (told o so_far) (told o before.later) (alternates o c made);
@@ -134,12 +143,14 @@ follows_so_far j typestates so_far events before h = record {
     alternates o c made = subst Alternates (told_is o) (h.alternate o c (made_too o c made))
 
     path : (o : ℕ) (c : Name) → IsMade so_far o c →
-        IsPath j typestates c (calls_told (results_of j c) (told o so_far ++ told o before.later)) (open_told (told o so_far ++ told o before.later))
+        IsPath j typestates c (calls_told (results_of j c) (told o so_far ++ told o before.later))
+        (open_told (told o so_far ++ told o before.later))
     path o c made =
         subst (λ ts. IsPath j typestates c (calls_told (results_of j c) ts) (open_told ts)) (told_is o) (h.path o c (made_too o c made))
 
     path_so_far : (o : ℕ) (c : Name) → Alternates (told o so_far ++ told o before.later) →
-        IsPath j typestates c (calls_told (results_of j c) (told o so_far ++ told o before.later)) (open_told (told o so_far ++ told o before.later)) →
+        IsPath j typestates c (calls_told (results_of j c) (told o so_far ++ told o before.later))
+        (open_told (told o so_far ++ told o before.later)) →
         IsPath j typestates c (calls_told (results_of j c) (told o so_far)) (open_told (told o so_far))
     path_so_far o c alt p = record {
       typestate = p.typestate;

@@ -31,4 +31,5 @@ pub record KeepsTo (program : Program) (run : Ended) : Type 0 where
 abbrev pub SourcesKeepTypestates : Type 0
 SourcesKeepTypestates = (program : Program) (core : Core.Program) → IsWellTyped program → IsShaped program → Resolves program core →
     (reached : List (List Bool)) → AreReached core reached → (tables : Tables) → Solves core reached tables →
-    (class : Name) → main_of program.files class ≢ None → (inputs : Inputs) (budget : ℕ) → KeepsTo program (mean program.files class inputs budget)
+    (class : Name) → main_of program.files class ≢ None → (inputs : Inputs) (budget : ℕ) →
+    KeepsTo program (mean program.files class inputs budget)

@@ -1,5 +1,6 @@
 -- Members and classes, judged one after another.
-use Rattle.std.proofs.Common.{◌≡◌, ℕ, ◌+◌, ◌<◌, List, [], ◌∷◌, ◌++◌, length, map, drop, get_or, Option, Some, None, Result, Ok, Err, IfOk, refl, sym, ap, ◌∙◌, add-one}
+use Rattle.std.proofs.Common.{◌≡◌, ℕ, ◌+◌, ◌<◌, List, [], ◌∷◌, ◌++◌, length, map, drop, get_or, Option, Some, None, Result, Ok, Err, IfOk}
+use Rattle.std.proofs.Common.{refl, sym, ap, ◌∙◌, add-one}
 use Rattle.std.proofs.lemmas.List.{append_assoc}
 use Rattle.std.proofs.Math.Seq.{drop-cons}
 use Rattle.std.specs.List.{flat_map}
@@ -29,13 +30,16 @@ is_flaw_of (faults.BadDescriptor name) flaw h m = h
 is_flaw_of (faults.NoCode name) flaw h m = h
 is_flaw_of faults.Memory flaw h m = absurd (m refl)
 
-pub noted_told : (r : Result (Option LoadFault) Memory) (judged : Result (Unit {0}) LoadFault) (best wanted : Option Flaw) → Tells judged wanted →
-    IfOk r (λ b. best_flaw b ≡ lower best (found_flaw judged)) → IfOk r (λ _. IsToldOf judged) → IfOk r (λ b. best_flaw b ≡ lower best wanted)
+pub noted_told : (r : Result (Option LoadFault) Memory) (judged : Result (Unit {0}) LoadFault) (best wanted : Option Flaw) →
+    Tells judged wanted →
+    IfOk r (λ b. best_flaw b ≡ lower best (found_flaw judged)) → IfOk r (λ _. IsToldOf judged) →
+    IfOk r (λ b. best_flaw b ≡ lower best wanted)
 noted_told (Ok b) judged best wanted h e m = e ∙ ap (λ f. lower best f) (told_found judged wanted h m)
 noted_told (Err x) judged best wanted h e m = tt
 
 pub noted_flaw : (r : Result (Option LoadFault) Memory) (fault : LoadFault) (best : Option Flaw) (flaw : Flaw) → IsFlaw fault flaw →
-    IfOk r (λ b. best_flaw b ≡ lower best (flaw_of fault)) → IfOk r (λ _. fault ≡ faults.Memory → ⊥) → IfOk r (λ b. best_flaw b ≡ lower best (Some flaw))
+    IfOk r (λ b. best_flaw b ≡ lower best (flaw_of fault)) → IfOk r (λ _. fault ≡ faults.Memory → ⊥) →
+    IfOk r (λ b. best_flaw b ≡ lower best (Some flaw))
 noted_flaw (Ok b) fault best flaw h e m = e ∙ ap (λ f. lower best f) (is_flaw_of fault flaw h m)
 noted_flaw (Err x) fault best flaw h e m = tt
 
@@ -43,7 +47,8 @@ module _ {A : Type 0} (xs : List A) (k : ℕ) (d : A) (lt : k < length xs) where
   cut : drop k xs ≡ get_or xs k d ∷ drop (k + 1) xs
   cut = drop-cons xs k d lt ∙ ap (λ n. get_or xs k d ∷ drop n xs) (sym (add-one k))
 
-  some-first : (f : Option Flaw) (fs : List (Option Flaw)) (best : Option Flaw) → lower (lower best f) (least (some_in fs)) ≡ lower best (least (some_in (f ∷ fs)))
+  some-first : (f : Option Flaw) (fs : List (Option Flaw)) (best : Option Flaw) → lower (lower best f) (least (some_in fs)) ≡ lower best
+      (least (some_in (f ∷ fs)))
   some-first None fs best = ap (λ b. lower b (least (some_in fs))) (lower-none best)
   some-first (Some f) fs best = lower-assoc best (Some f) (least (some_in fs))
 
@@ -72,10 +77,12 @@ module _ {A : Type 0} (xs : List A) (k : ℕ) (d : A) (lt : k < length xs) where
       ∙ ap (λ l. front ++ flat_map right l) (sym cut) ∙ e
 
 -- a class: the super class, the fields, the methods and their codes
-pub class_noted : (b0 b1 b2 b3 b4 s : Option Flaw) (fs ms bs : List Flaw) → b1 ≡ lower b0 s → b2 ≡ lower b1 (least fs) → b3 ≡ lower b2 (least ms) → b4 ≡ lower b3 (least bs) →
+pub class_noted : (b0 b1 b2 b3 b4 s : Option Flaw) (fs ms bs : List Flaw) → b1 ≡ lower b0 s → b2 ≡ lower b1 (least fs) →
+    b3 ≡ lower b2 (least ms) → b4 ≡ lower b3 (least bs) →
     b4 ≡ lower b0 (least (some_in (s ∷ []) ++ (fs ++ (ms ++ bs))))
 class_noted b0 b1 b2 b3 b4 s fs ms bs e1 e2 e3 e4 =
-    e4 ∙ ap (λ b. lower b (least bs)) e3 ∙ ap (λ b. lower (lower b (least ms)) (least bs)) e2 ∙ ap (λ b. lower (lower (lower b (least fs)) (least ms)) (least bs)) e1
+    e4 ∙ ap (λ b. lower b (least bs)) e3 ∙ ap (λ b. lower (lower b (least ms)) (least bs)) e2 ∙
+    ap (λ b. lower (lower (lower b (least fs)) (least ms)) (least bs)) e1
     ∙ lower-assoc (lower (lower b0 s) (least fs)) (least ms) (least bs) ∙ lower-assoc (lower b0 s) (least fs) (lower (least ms) (least bs))
     ∙ lower-assoc b0 s (lower (least fs) (lower (least ms) (least bs)))
     ∙ ap (λ o. lower b0 o) (
@@ -87,7 +94,8 @@ class_noted b0 b1 b2 b3 b4 s fs ms bs e1 e2 e3 e4 =
     single (Some f) rest = refl
 
 -- a class is made of its outline and its methods
-pub class_right : (o p : Outline) (ms ns : List MethodOf) (l : ClassOf) → l ≡ record { name = o.name; fields = map field_made o.own; methods = ms } → o ≡ p → ms ≡ ns →
+pub class_right : (o p : Outline) (ms ns : List MethodOf) (l : ClassOf) →
+    l ≡ record { name = o.name; fields = map field_made o.own; methods = ms } → o ≡ p → ms ≡ ns →
     l ≡ record { name = p.name; fields = map field_made p.own; methods = ns }
 class_right o p ms ns l e f g =
     e ∙ ap (λ (x : Outline). let k : ClassOf = record { name = x.name; fields = map field_made x.own; methods = ms } in k) f
@@ -95,8 +103,10 @@ class_right o p ms ns l e f g =
 
 -- and what is wrong with it
 pub class_wrong : (field method : Declared → Option Flaw) (o p : Outline) (b0 b1 b3 b4 s : Option Flaw) (bs : List Flaw) → b1 ≡ lower b0 s →
-    b3 ≡ lower (lower b1 (least (some_in (map field o.fields)))) (least (some_in (map method o.methods))) → o ≡ p → b4 ≡ lower b3 (least bs) →
+    b3 ≡ lower (lower b1 (least (some_in (map field o.fields)))) (least (some_in (map method o.methods))) → o ≡ p → b4 ≡ lower b3 (least bs)
+    →
     b4 ≡ lower b0 (least (some_in (s ∷ []) ++ (some_in (map field p.fields) ++ (some_in (map method p.methods) ++ bs))))
 class_wrong field method o p b0 b1 b3 b4 s bs e1 e3 same e4 =
-    class_noted b0 b1 (lower b1 (least (some_in (map field p.fields)))) b3 b4 s (some_in (map field p.fields)) (some_in (map method p.methods)) bs e1 refl
+    class_noted b0 b1 (lower b1 (least (some_in (map field p.fields)))) b3 b4 s (some_in (map field p.fields))
+    (some_in (map method p.methods)) bs e1 refl
     (e3 ∙ ap (λ (x : Outline). lower (lower b1 (least (some_in (map field x.fields)))) (least (some_in (map method x.methods)))) same) e4

@@ -1,5 +1,6 @@
 -- Looking through lists from the front.
-use Rattle.std.proofs.Common.{◌≡◌, ℕ, zero, suc, ◌+◌, ◌<◌, ◌≤◌, Bool, true, false, ◌||◌, List, [], ◌∷◌, length, map, take, drop, get_or, Some, None, slice_get, refl, sym, ap, ◌∙◌, arith, add-one}
+use Rattle.std.proofs.Common.{◌≡◌, ℕ, zero, suc, ◌+◌, ◌<◌, ◌≤◌, Bool, true, false, ◌||◌, List, [], ◌∷◌, length, map, take, drop, get_or}
+use Rattle.std.proofs.Common.{Some, None, slice_get, refl, sym, ap, ◌∙◌, arith, add-one}
 use Rattle.std.proofs.lemmas.Option.{slice_get-map}
 use Rattle.std.proofs.lemmas.Bool.Decides.{nat_tests}
 use Rattle.std.specs.List.{position, position_or_len, list_any}
@@ -16,7 +17,8 @@ passed op r (x ∷ bs) zero b at test =
     let same : x ≡ b = cc in
     let no : is_named op r x ≡ false = ap (is_named op r) same ∙ test in
     rw no refl
-passed op r (x ∷ bs) (suc i) b at test = passed op r bs i b at test ∙ ap (λ k. built_in op r (drop k bs)) (add-one i) ∙ ap (λ k. built_in op r (drop k (x ∷ bs))) (sym (add-one (suc i)))
+passed op r (x ∷ bs) (suc i) b at test = passed op r bs i b at test ∙ ap (λ k. built_in op r (drop k bs)) (add-one i) ∙
+    ap (λ k. built_in op r (drop k (x ∷ bs))) (sym (add-one (suc i)))
 
 pub stopped : (op : ℕ) (r : Reference) (bs : List Member_of) (i : ℕ) (b : Member_of) → slice_get bs i ≡ Some b → is_named op r b ≡ true →
     built_in op r (drop i bs) ≡ Some b.member
@@ -28,7 +30,8 @@ stopped op r (x ∷ bs) zero b at test =
 stopped op r (x ∷ bs) (suc i) b at test = stopped op r bs i b at test
 
 -- what is looked for isn't first, or is
-later : {X : Type 0} (p : X → Bool) (x : X) (xs : List X) (i : ℕ) → p x ≡ false → position p xs ≡ Some i → position p (x ∷ xs) ≡ Some (suc i)
+later : {X : Type 0} (p : X → Bool) (x : X) (xs : List X) (i : ℕ) → p x ≡ false → position p xs ≡ Some i →
+    position p (x ∷ xs) ≡ Some (suc i)
 later p x xs i h at = rw h (grind (arith, nat_tests))
 
 not_there : {X : Type 0} (p : X → Bool) (x : X) (xs : List X) → p x ≡ false → position p xs ≡ None → position p (x ∷ xs) ≡ None
@@ -43,7 +46,8 @@ either_false false b h = (refl, h)
 
 module _ {X Y : Type 0} (p : Y → Bool) (f : X → Y) where
   -- the first that passes
-  pub first_at : (xs : List X) (i : ℕ) (d : X) → i < length xs → list_any p (map f (take i xs)) ≡ false → p (f (get_or xs i d)) ≡ true → position p (map f xs) ≡ Some i
+  pub first_at : (xs : List X) (i : ℕ) (d : X) → i < length xs → list_any p (map f (take i xs)) ≡ false → p (f (get_or xs i d)) ≡ true →
+      position p (map f xs) ≡ Some i
   first_at [] i d lt none here = absurd (omega arith)
   first_at (x ∷ xs) zero d lt none here = at_once p (f x) (map f xs) here
   first_at (x ∷ xs) (suc i) d lt none here =
@@ -63,7 +67,8 @@ module _ {X Y : Type 0} (p : Y → Bool) (f : X → Y) where
       list_any p (map f (take (i + 1) xs)) ≡ false
   one_fewer xs i d lt none here = ap (λ k. list_any p (map f (take k xs))) (add-one i) ∙ go xs i lt none here
     where
-      go : (ys : List X) (k : ℕ) → k < length ys → list_any p (map f (take k ys)) ≡ false → p (f (get_or ys k d)) ≡ false → list_any p (map f (take (suc k) ys)) ≡ false
+      go : (ys : List X) (k : ℕ) → k < length ys → list_any p (map f (take k ys)) ≡ false → p (f (get_or ys k d)) ≡ false →
+          list_any p (map f (take (suc k) ys)) ≡ false
       go [] k l n h = absurd (omega arith)
       go (y ∷ ys) zero l n h = rw h refl
       go (y ∷ ys) (suc k) l n h =
@@ -72,7 +77,8 @@ module _ {X Y : Type 0} (p : Y → Bool) (f : X → Y) where
 
 -- the place of the first that passes
 module _ {X : Type 0} (p : X → Bool) where
-  pub first_index : (xs : List X) (i : ℕ) (d : X) → i < length xs → list_any p (take i xs) ≡ false → p (get_or xs i d) ≡ true → position_or_len p xs ≡ i
+  pub first_index : (xs : List X) (i : ℕ) (d : X) → i < length xs → list_any p (take i xs) ≡ false → p (get_or xs i d) ≡ true →
+      position_or_len p xs ≡ i
   first_index [] i d lt none here = absurd (omega arith)
   first_index (x ∷ xs) zero d lt none here = rw here refl
   first_index (x ∷ xs) (suc i) d lt none here =

@@ -17,7 +17,8 @@ judged_flaw view (faults.NoCode name) flaw h = cc
 judged_flaw view faults.Memory flaw h = tt
 
 -- what is wrong with a descriptor is wrong with its reference
-pub judged_told : {X : Type 0} (view : X → Args) (os : List Outline) (op : ℕ) (r : Reference) (fault : LoadFault) (flaw : Option Flaw) → Tells (Err fault) flaw →
+pub judged_told : {X : Type 0} (view : X → Args) (os : List Outline) (op : ℕ) (r : Reference) (fault : LoadFault) (flaw : Option Flaw) →
+    Tells (Err fault) flaw →
     Judges view (Err fault) (judged_member os op r flaw)
 judged_told view os op r (faults.DuplicateClass name) flaw h = rw h refl
 judged_told view os op r (faults.UnknownClass name) flaw h = rw h refl
@@ -27,7 +28,8 @@ judged_told view os op r (faults.NoCode name) flaw h = rw h refl
 judged_told view os op r faults.Memory flaw h = tt
 
 -- an instruction is wrong where what it works with is
-pub judged_instr_of : (count op : ℕ) (fault : LoadFault) (wanted : Result Args Flaw) → Judges args_of (Err fault) wanted → Judges instr_of (Err fault) (with_op count op wanted)
+pub judged_instr_of : (count op : ℕ) (fault : LoadFault) (wanted : Result Args Flaw) → Judges args_of (Err fault) wanted →
+    Judges instr_of (Err fault) (with_op count op wanted)
 judged_instr_of count op (faults.DuplicateClass name) wanted h = rw h refl
 judged_instr_of count op (faults.UnknownClass name) wanted h = rw h refl
 judged_instr_of count op (faults.UnknownMember name) wanted h = rw h refl

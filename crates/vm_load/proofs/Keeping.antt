@@ -1,5 +1,7 @@
 -- What links keeps the conditions of linked programs.
-use Rattle.std.proofs.Common.{◌≡◌, ℕ, zero, suc, ◌+◌, ◌<◌, Bool, true, false, cond, ◌&&◌, ◌||◌, List, [], ◌∷◌, ◌++◌, length, map, Option, Some, None, option_map, Result, Ok, Err, is_some, nat_lt, if◌then◌else◌, ◌==◌, position, slice_get, refl, sym, ap, ◌∙◌, arith}
+use Rattle.std.proofs.Common.{◌≡◌, ℕ, zero, suc, ◌+◌, ◌<◌, Bool, true, false, cond, ◌&&◌, ◌||◌, List, [], ◌∷◌, ◌++◌, length, map, Option}
+use Rattle.std.proofs.Common.{Some, None, option_map, Result, Ok, Err, is_some, nat_lt, if◌then◌else◌, ◌==◌, position, slice_get, refl, sym}
+use Rattle.std.proofs.Common.{ap, ◌∙◌, arith}
 use Rattle.std.specs.List.{list_all, list_any, filter, flat_map}
 use Rattle.std.specs.Str.{bytes_eq}
 use Rattle.std.proofs.lemmas.Bool.Decides.{nat_tests}
@@ -16,13 +18,22 @@ use Rattle.cls_tree.specs.Layout.{instr_bytes}
 use Rattle.cls_tree.specs.Jumps.{starts_from}
 use Rattle.cls_tree.specs.Pool.{text_at, class_at, field_at, method_at, pushed_at, Pushed, Reference, Signature}
 use Rattle.cls_tree.specs.Pool as pool
-use Rattle.vm_model.specs.Types.{FieldType, Int, Truth, Named, Texts, Signature as Typed, is_main_alone, signature_of, type_of, types_of_signature}
+use Rattle.vm_model.specs.Types.{FieldType, Int, Truth, Named, Texts, Signature as Typed, is_main_alone, signature_of, type_of}
+use Rattle.vm_model.specs.Types.{types_of_signature}
 use Rattle.vm_model.specs.Program.{Args, Class, Field, Method, Built, Instr, FieldOf, MethodOf, ClassOf, Program}
 use Rattle.vm_model.specs.Program as program
 use Rattle.vm_model.specs.declared.linked.Built.{Built as BuiltIn}
-use Rattle.vm_model.specs.Linked.{class_names, is_class, is_type, is_field_type, is_method_type, fits_code, names_part, links_instr, links_field, links_method, links_class, is_linked, is_built_in}
+use Rattle.vm_model.specs.Linked.{class_names, is_class, is_type, is_field_type, is_method_type, fits_code, names_part, links_instr}
+use Rattle.vm_model.specs.Linked.{links_field, links_method, links_class, is_linked, is_built_in}
 use Rattle.vm_model.specs.Links as links
-use Rattle.vm_model.specs.Links.{Flaw, UnknownClass, BadDescriptor, UnknownMember, NoCode, Declared, Outline, declared, outline, outlines, is_known, unknown_in, descriptor_flaw, field_types, method_types, field_flaw, method_flaw, field_made, is_dynamic, some_in, right_in, wrong_in, judged_from, judged_instr, judged_instr_args, judged_code, judged_pool, judged_new, judged_args, judged_member, judged_reference, judged_field_reference, judged_method_reference, member_args, named_args, loaded_member, built_in, built_members, pushed_args, or_empty, loaded, with_op, method_made, method_of_member, method_flaws, code_flaws, code_among, class_flaws, linked_class, linked, flaws, duplicates, field_of_class, method_of_class, is_member, args_by, super_flaw}
+use Rattle.vm_model.specs.Links.{Flaw, UnknownClass, BadDescriptor, UnknownMember, NoCode, Declared, Outline, declared, outline, outlines}
+use Rattle.vm_model.specs.Links.{is_known, unknown_in, descriptor_flaw, field_types, method_types, field_flaw, method_flaw, field_made}
+use Rattle.vm_model.specs.Links.{is_dynamic, some_in, right_in, wrong_in, judged_from, judged_instr, judged_instr_args, judged_code}
+use Rattle.vm_model.specs.Links.{judged_pool, judged_new, judged_args, judged_member, judged_reference, judged_field_reference}
+use Rattle.vm_model.specs.Links.{judged_method_reference, member_args, named_args, loaded_member, built_in, built_members, pushed_args}
+use Rattle.vm_model.specs.Links.{or_empty, loaded, with_op, method_made, method_of_member, method_flaws, code_flaws, code_among}
+use Rattle.vm_model.specs.Links.{class_flaws, linked_class, linked, flaws, duplicates, field_of_class, method_of_class, is_member, args_by}
+use Rattle.vm_model.specs.Links.{super_flaw}
 
 both_true : (a b : Bool) → a ≡ true → b ≡ true → (a && b) ≡ true
 both_true a b h k = rw h k
@@ -99,7 +110,8 @@ module _ (os : List Outline) (names : List Name) (same : (name : Name) → is_kn
       one false e = absurd cc
 
   method_known : (flaw : Flaw) (b : Bool) (o : Option Typed) →
-      descriptor_flaw os (Some flaw) (if b then elim o [ None ↦ None | Some s ↦ Some (types_of_signature s) ] else None) ≡ None → is_method_type names o ≡ true
+      descriptor_flaw os (Some flaw) (if b then elim o [ None ↦ None | Some s ↦ Some (types_of_signature s) ] else None) ≡ None →
+      is_method_type names o ≡ true
   method_known flaw false o h = absurd cc
   method_known flaw true None h = absurd cc
   method_known flaw true (Some s) h = all_known (types_of_signature s) (none_mapped (unknown_in os (types_of_signature s)) h)
@@ -187,7 +199,8 @@ module _ (p : Program) where
         let fields : Result Args Flaw = if op == 178 || (op == 180 || op == 181) then of_fields else more in
         fine_if (op == 187) (judged_new name (loaded os name)) fields (made name)
         (fine_if (op == 178 || (op == 180 || op == 181)) of_fields more (fine_field op (field_at constants n))
-        (fine_if (op == 182 || (op == 183 || op == 184)) of_methods rest (fine_method op (method_at constants n)) (fine_pushed (pushed_at constants n))))
+        (fine_if (op == 182 || (op == 183 || op == 184)) of_methods rest (fine_method op (method_at constants n))
+        (fine_pushed (pushed_at constants n))))
 
     fine_instr_args : (constants : List Const) (starts : List ℕ) (place op : ℕ) (args : file.Args) →
         fine (judged_instr_args os constants starts place op args) ≡ true
@@ -203,8 +216,10 @@ module _ (p : Program) where
         list_all (links_instr p (length starts)) (right_in (judged_from os constants starts place is)) ≡ true
     all_right constants starts place [] = refl
     all_right constants starts place (i ∷ is) =
-        right_cons (length starts) (judged_instr os constants starts place i) (judged_from os constants starts (place + length (instr_bytes place i)) is)
-        (fine_op (length starts) i.op (judged_instr_args os constants starts place i.op i.args) (fine_instr_args constants starts place i.op i.args))
+        right_cons (length starts) (judged_instr os constants starts place i)
+        (judged_from os constants starts (place + length (instr_bytes place i)) is)
+        (fine_op (length starts) i.op (judged_instr_args os constants starts place i.op i.args)
+        (fine_instr_args constants starts place i.op i.args))
         (all_right constants starts (place + length (instr_bytes place i)) is)
 
 -- what a sound code keeps
@@ -233,17 +248,21 @@ module _ (os : List Outline) (constants : List Const) where
   one_more d None rest h = absurd cc
   one_more d (Some c) rest h = refl
 
-  methods_length : (ms : List Member) → flat_map (method_flaws os constants) ms ≡ [] → length (flat_map (method_of_member os constants) ms) ≡ length ms
+  methods_length : (ms : List Member) → flat_map (method_flaws os constants) ms ≡ [] → length (flat_map (method_of_member os constants) ms)
+      ≡ length ms
   methods_length [] h = refl
   methods_length (m ∷ ms) h =
       let both = split_nil (method_flaws os constants m) (flat_map (method_flaws os constants) ms) h in
-      one_more (declared constants m) (code_among m.attributes) (flat_map (method_of_member os constants) ms) both.0 ∙ ap suc (methods_length ms both.1)
+      one_more (declared constants m) (code_among m.attributes) (flat_map (method_of_member os constants) ms) both.0 ∙
+      ap suc (methods_length ms both.1)
 
 -- where nothing is wrong with a class
 module _ (os : List Outline) (f : File) (right : class_flaws os f ≡ []) where
-  behind_super : some_in (map (field_flaw os) (outline f).fields) ++ (some_in (map (method_flaw os) (outline f).methods) ++ flat_map (method_flaws os f.pool) f.methods) ≡ []
+  behind_super : some_in (map (field_flaw os) (outline f).fields) ++ (some_in (map (method_flaw os) (outline f).methods)
+      ++ flat_map (method_flaws os f.pool) f.methods) ≡ []
   behind_super = (split_nil (some_in (super_flaw (or_empty (class_at f.pool f.super_class)) ∷ []))
-      (some_in (map (field_flaw os) (outline f).fields) ++ (some_in (map (method_flaw os) (outline f).methods) ++ flat_map (method_flaws os f.pool) f.methods)) right).1
+      (some_in (map (field_flaw os) (outline f).fields) ++ (some_in (map (method_flaw os) (outline f).methods)
+      ++ flat_map (method_flaws os f.pool) f.methods)) right).1
 
   right_fields : some_in (map (field_flaw os) (outline f).fields) ≡ []
   right_fields = (split_nil (some_in (map (field_flaw os) (outline f).fields))
@@ -254,10 +273,12 @@ module _ (os : List Outline) (f : File) (right : class_flaws os f ≡ []) where
       (some_in (map (method_flaw os) (outline f).methods) ++ flat_map (method_flaws os f.pool) f.methods) behind_super).1
 
   right_methods : some_in (map (method_flaw os) (outline f).methods) ≡ []
-  right_methods = (split_nil (some_in (map (method_flaw os) (outline f).methods)) (flat_map (method_flaws os f.pool) f.methods) behind_fields).0
+  right_methods = (split_nil (some_in (map (method_flaw os) (outline f).methods)) (flat_map (method_flaws os f.pool) f.methods)
+      behind_fields).0
 
   right_codes : flat_map (method_flaws os f.pool) f.methods ≡ []
-  right_codes = (split_nil (some_in (map (method_flaw os) (outline f).methods)) (flat_map (method_flaws os f.pool) f.methods) behind_fields).1
+  right_codes = (split_nil (some_in (map (method_flaw os) (outline f).methods)) (flat_map (method_flaws os f.pool) f.methods)
+      behind_fields).1
 
 -- classes, one after another
 module _ (os : List Outline) (p : Program) (same : (name : Name) → is_known os name ≡ is_class (class_names p) name)
@@ -277,20 +298,24 @@ module _ (os : List Outline) (p : Program) (same : (name : Name) → is_known os
       (right_length (judged_code os constants is) h ∙ judged_length os constants (starts_from 0 is) 0 is ∙ sym (starts_length 0 is))
       ∙ all_right p os member made constants (starts_from 0 is) 0 is
 
-  method_kept : (constants : List Const) (d : Declared) (code : Option Code) → method_flaw os d ≡ None → code_flaws os constants d.name code ≡ [] →
+  method_kept : (constants : List Const) (d : Declared) (code : Option Code) → method_flaw os d ≡ None →
+      code_flaws os constants d.name code ≡ [] →
       list_all (links_method p) (method_made os constants d code) ≡ true
   method_kept constants d None h k = absurd cc
   method_kept constants d (Some c) h k =
-      let types = method_known os (class_names p) same (BadDescriptor d.descriptor) (is_main_alone d.name d.descriptor) (signature_of d.descriptor) h in
+      let types = method_known os (class_names p) same (BadDescriptor d.descriptor) (is_main_alone d.name d.descriptor)
+      (signature_of d.descriptor) h in
       let code = code_kept constants c.instrs k in
       let alone = main_alone os (class_names p) same (BadDescriptor d.descriptor) (is_main_alone d.name d.descriptor)
       (elim (signature_of d.descriptor) [ None ↦ None | Some s ↦ Some (types_of_signature s) ]) h in
-      let described = both_true (is_main_alone d.name d.descriptor) (is_method_type (class_names p) (signature_of d.descriptor)) alone types in
+      let described = both_true (is_main_alone d.name d.descriptor) (is_method_type (class_names p) (signature_of d.descriptor)) alone types
+      in
       let links = both_true (is_main_alone d.name d.descriptor && is_method_type (class_names p) (signature_of d.descriptor))
       (list_all (links_instr p (length (right_in (judged_code os constants c.instrs)))) (right_in (judged_code os constants c.instrs)))
       described code in
       both_true ((is_main_alone d.name d.descriptor && is_method_type (class_names p) (signature_of d.descriptor))
-      && list_all (links_instr p (length (right_in (judged_code os constants c.instrs)))) (right_in (judged_code os constants c.instrs))) true links refl
+      && list_all (links_instr p (length (right_in (judged_code os constants c.instrs)))) (right_in (judged_code os constants c.instrs)))
+      true links refl
 
   methods_kept : (constants : List Const) (ms : List Member) → some_in (map (method_flaw os) (map (declared constants) ms)) ≡ [] →
       flat_map (method_flaws os constants) ms ≡ [] → list_all (links_method p) (flat_map (method_of_member os constants) ms) ≡ true
@@ -299,12 +324,14 @@ module _ (os : List Outline) (p : Program) (same : (name : Name) → is_known os
       let first = some_none (method_flaw os (declared constants m)) (map (method_flaw os) (map (declared constants) ms)) h in
       let both = split_nil (method_flaws os constants m) (flat_map (method_flaws os constants) ms) k in
       list_all-append (links_method p) (method_of_member os constants m) (flat_map (method_of_member os constants) ms)
-      ∙ both_true (list_all (links_method p) (method_of_member os constants m)) (list_all (links_method p) (flat_map (method_of_member os constants) ms))
+      ∙ both_true (list_all (links_method p) (method_of_member os constants m))
+      (list_all (links_method p) (flat_map (method_of_member os constants) ms))
       (method_kept constants (declared constants m) (code_among m.attributes) first.0 both.0) (methods_kept constants ms first.1 both.1)
 
   class_kept : (f : File) → class_flaws os f ≡ [] → links_class p (linked_class os f) ≡ true
   class_kept f h =
-      both_true (list_all (links_field p) (map field_made (outline f).own)) (list_all (links_method p) (flat_map (method_of_member os f.pool) f.methods))
+      both_true (list_all (links_field p) (map field_made (outline f).own))
+      (list_all (links_method p) (flat_map (method_of_member os f.pool) f.methods))
       (list_all-map (links_field p) field_made (outline f).own
       ∙ all_filter (λ d. links_field p (field_made d)) is_dynamic (outline f).fields (fields_kept (outline f).fields (right_fields os f h)))
       (methods_kept f.pool f.methods (right_methods os f h) (right_codes os f h))
@@ -313,7 +340,8 @@ module _ (os : List Outline) (p : Program) (same : (name : Name) → is_known os
   classes_kept [] h = refl
   classes_kept (f ∷ cs) h =
       let both = split_nil (class_flaws os f) (flat_map (class_flaws os) cs) h in
-      both_true (links_class p (linked_class os f)) (list_all (links_class p) (map (linked_class os) cs)) (class_kept f both.0) (classes_kept cs both.1)
+      both_true (links_class p (linked_class os f)) (list_all (links_class p) (map (linked_class os) cs)) (class_kept f both.0)
+      (classes_kept cs both.1)
 
 same_names : (os : List Outline) (cs : List File) → map (λ o. o.name) (map outline cs) ≡ class_names (map (linked_class os) cs)
 same_names os [] = refl
@@ -324,17 +352,20 @@ less n m h = grind (arith, nat_tests)
 
 -- what a program's own numbers name
 module _ (cs : List File) (right : flat_map (class_flaws (outlines cs)) cs ≡ []) where
-  class_of_number : (c : ℕ) (o : Option File) → slice_get cs c ≡ o → program.class_at (linked cs) c ≡ option_map (linked_class (outlines cs)) o
+  class_of_number : (c : ℕ) (o : Option File) → slice_get cs c ≡ o → program.class_at (linked cs) c ≡ option_map
+      (linked_class (outlines cs)) o
   class_of_number c o at = slice_get-map (linked_class (outlines cs)) cs c ∙ ap (option_map (linked_class (outlines cs))) at
 
-  field_part : (m : Signature) (c : ℕ) (o : Option File) → slice_get cs c ≡ o → (k : Option ℕ) → field_of_class m (option_map outline o) ≡ k →
+  field_part : (m : Signature) (c : ℕ) (o : Option File) → slice_get cs c ≡ o → (k : Option ℕ) → field_of_class m (option_map outline o) ≡ k
+      →
       parts (linked cs) (args_by (Field c) k) ≡ true
   field_part m c o at None h = refl
   field_part m c None at (Some n) h = absurd cc
   field_part m c (Some f) at (Some n) h =
       let within = found_within (is_member m false) (outline f).own n h in
       let count = length-map (outline f).own field_made in
-      ap (λ x. is_some (slice_get (program.fields_in x) n)) (class_of_number c (Some f) at) ∙ some_at (map field_made (outline f).own) n (omega (arith, within, count))
+      ap (λ x. is_some (slice_get (program.fields_in x) n)) (class_of_number c (Some f) at) ∙ some_at (map field_made (outline f).own) n
+      (omega (arith, within, count))
 
   method_part : (m : Signature) (static : Bool) (c : ℕ) (o : Option File) → slice_get cs c ≡ o → (k : Option ℕ) →
       method_of_class m static (option_map outline o) ≡ k → parts (linked cs) (args_by (Method c) k) ≡ true
@@ -343,7 +374,8 @@ module _ (cs : List File) (right : flat_map (class_flaws (outlines cs)) cs ≡ [
   method_part m static c (Some f) at (Some n) h =
       let within = found_within (is_member m static) (outline f).methods n h in
       let count = length-map f.methods (declared f.pool) in
-      let whole = methods_length (outlines cs) f.pool f.methods (right_codes (outlines cs) f (flat_at (class_flaws (outlines cs)) cs c f right at)) in
+      let whole = methods_length (outlines cs) f.pool f.methods
+      (right_codes (outlines cs) f (flat_at (class_flaws (outlines cs)) cs c f right at)) in
       ap (λ x. is_some (slice_get (program.methods_in x) n)) (class_of_number c (Some f) at)
       ∙ some_at (flat_map (method_of_member (outlines cs) f.pool) f.methods) n (omega (arith, within, count, whole))
 
@@ -354,11 +386,14 @@ module _ (cs : List File) (right : flat_map (class_flaws (outlines cs)) cs ≡ [
       let field : Option Args = args_by (Field c) (field_of_class m (slice_get (outlines cs) c)) in
       let method : Option Args = args_by (Method c) (method_of_class m false (slice_get (outlines cs) c)) in
       let static : Option Args = args_by (Method c) (method_of_class m true (slice_get (outlines cs) c)) in
-      let f : parts (linked cs) field ≡ true = field_part m c (slice_get cs c) refl (field_of_class m (slice_get (outlines cs) c)) (ap (field_of_class m) (sym here)) in
+      let f : parts (linked cs) field ≡ true = field_part m c (slice_get cs c) refl (field_of_class m (slice_get (outlines cs) c))
+      (ap (field_of_class m) (sym here)) in
       let g : parts (linked cs) method ≡ true =
-      method_part m false c (slice_get cs c) refl (method_of_class m false (slice_get (outlines cs) c)) (ap (method_of_class m false) (sym here)) in
+      method_part m false c (slice_get cs c) refl (method_of_class m false (slice_get (outlines cs) c))
+      (ap (method_of_class m false) (sym here)) in
       let h : parts (linked cs) static ≡ true =
-      method_part m true c (slice_get cs c) refl (method_of_class m true (slice_get (outlines cs) c)) (ap (method_of_class m true) (sym here)) in
+      method_part m true c (slice_get cs c) refl (method_of_class m true (slice_get (outlines cs) c))
+      (ap (method_of_class m true) (sym here)) in
       let last : Option Args = if op == 184 then static else None in
       let special : Option Args = if op == 183 then method else last in
       let virtual : Option Args = if op == 182 then method else special in

@@ -1,5 +1,6 @@
 -- The names of classes, and the whole.
-use Rattle.std.proofs.Common.{◌≡◌, ℕ, ◌+◌, ◌<◌, Bool, true, false, ◌||◌, List, [], ◌∷◌, ◌++◌, length, map, take, drop, get_or, position, Option, Some, None, nat_lt, if◌then◌else◌, refl, sym, ap, subst, ◌∙◌, arith, add-one}
+use Rattle.std.proofs.Common.{◌≡◌, ℕ, ◌+◌, ◌<◌, Bool, true, false, ◌||◌, List, [], ◌∷◌, ◌++◌, length, map, take, drop, get_or, position}
+use Rattle.std.proofs.Common.{Option, Some, None, nat_lt, if◌then◌else◌, refl, sym, ap, subst, ◌∙◌, arith, add-one}
 use Rattle.std.proofs.lemmas.Bool.Decides.{nat_tests}
 use Rattle.std.proofs.lemmas.List.{take_more, map-append}
 use Rattle.std.specs.List.{list_any, flat_map}
@@ -11,7 +12,8 @@ use Rattle.mg_text.specs.Call.{Name}
 use Rattle.cls_tree.specs.Tree.{Class as File}
 use Rattle.vm_model.specs.Linked.{is_built_in}
 use Rattle.vm_model.specs.Program.{Program}
-use Rattle.vm_model.specs.Links.{Flaw, DuplicateClass, UnknownClass, UnknownMember, BadDescriptor, NoCode, number_of, lower, least, duplicates, flaws, outlines, class_flaws, linked_class, Links, Outline}
+use Rattle.vm_model.specs.Links.{Flaw, DuplicateClass, UnknownClass, UnknownMember, BadDescriptor, NoCode, number_of, lower, least}
+use Rattle.vm_model.specs.Links.{duplicates, flaws, outlines, class_flaws, linked_class, Links, Outline}
 use Rattle.vm_load.specs.declared.fault.LoadFault.{LoadFault}
 use Rattle.vm_load.specs.declared.fault.LoadFault.TheVariants as faults
 use Rattle.vm_load.specs.Faults.{IsFlaw, IsLeast, IsRefused, flaw_of}
@@ -38,19 +40,23 @@ second_false false b h = h
 pub taken : (names : List Name) (name : Name) (n : ℕ) → Some n ≡ position (bytes_eq name) names → true ≡ is_taken names name
 taken names name n e = sym (or_true (is_built_in name) (list_any (bytes_eq name) names) (some_any (bytes_eq name) names n (sym e)))
 
-pub not_taken : (names : List Name) (name : Name) (b : Bool) → None ≡ position (bytes_eq name) names → b ≡ is_built_in name → b ≡ is_taken names name
-not_taken names name b e h = h ∙ sym (or_false (is_built_in name) (list_any (bytes_eq name) names) (list_any-from_None (bytes_eq name) names (sym e)))
+pub not_taken : (names : List Name) (name : Name) (b : Bool) → None ≡ position (bytes_eq name) names → b ≡ is_built_in name →
+    b ≡ is_taken names name
+not_taken names name b e h = h ∙ sym (or_false (is_built_in name) (list_any (bytes_eq name) names)
+    (list_any-from_None (bytes_eq name) names (sym e)))
 
 -- a name that isn't taken goes last
 pub added : (names new : List Name) (name : Name) → is_taken names name ≡ false → new ≡ with_text names name → new ≡ names ++ name ∷ []
 added names new name free e =
-    let none : position (bytes_eq name) names ≡ None = none_any (bytes_eq name) names (second_false (is_built_in name) (list_any (bytes_eq name) names) free) in
+    let none : position (bytes_eq name) names ≡ None =
+    none_any (bytes_eq name) names (second_false (is_built_in name) (list_any (bytes_eq name) names) free) in
     e ∙ with_new names name none
   where
     with_new : (old : List Name) (text : Name) → position (bytes_eq text) old ≡ None → with_text old text ≡ old ++ text ∷ []
     with_new old text h = rw h refl
 
-pub free_next : (before : List Name) (name : Name) (rest : List Name) → is_taken before name ≡ false → duplicates before (name ∷ rest) ≡ duplicates (before ++ name ∷ []) rest
+pub free_next : (before : List Name) (name : Name) (rest : List Name) → is_taken before name ≡ false →
+    duplicates before (name ∷ rest) ≡ duplicates (before ++ name ∷ []) rest
 free_next before name rest h = rw h refl
 
 first_number : (name : Name) (o : Option Flaw) → lower (Some (DuplicateClass name)) o ≡ Some (DuplicateClass name)
@@ -105,7 +111,8 @@ pub flat_map-map : {A B C : Type 0} (f : B → List C) (g : A → B) (xs : List 
 flat_map-map f g [] = refl
 flat_map-map f g (x ∷ xs) = ap (λ l. f (g x) ++ l) (flat_map-map f g xs)
 
-pub links : (os : List Outline) (cs : List File) (p : Program) → os ≡ outlines cs → duplicates [] (map (λ o. o.name) os) ≡ [] → None ≡ least (flat_map (class_flaws os) cs) →
+pub links : (os : List Outline) (cs : List File) (p : Program) → os ≡ outlines cs → duplicates [] (map (λ o. o.name) os) ≡ [] →
+    None ≡ least (flat_map (class_flaws os) cs) →
     p ≡ map (linked_class os) cs → Links cs p
 links os cs p same distinct none made = record {
   right = ap (λ o. duplicates [] (map (λ x. x.name) o) ++ flat_map (class_flaws o) cs) (sym same)
@@ -125,24 +132,31 @@ refused_at_once f os cs same h =
     subst (λ o. IsLeast f (duplicates [] (map (λ x. x.name) o) ++ flat_map (class_flaws o) cs)) same h
 
 -- outlines, one after another, by their names
-module _ {X : Type 0} (name_of : X → Name) (xs : List X) (k : ℕ) (item : X) (lt : k < length xs) (is : item ≡ get_or xs k item) (names : List Name)
-    (before : names ≡ map name_of (take k xs)) (distinct : duplicates names (map name_of (drop k xs)) ≡ duplicates [] (map name_of xs)) where
-  cut_here : map name_of (drop k xs) ≡ name_of item ∷ map name_of (drop (k + 1) xs)
-  cut_here = names_cut name_of xs k item lt ∙ ap (λ x. name_of x ∷ map name_of (drop (k + 1) xs)) (sym is)
+module _ {X : Type 0} (name_of : X → Name) (xs : List X) (k : ℕ) (item : X) (lt : k < length xs) (is : item ≡ get_or xs k item)
+    (names : List Name)
+    (before : names ≡ map name_of (take k xs)) (distinct : duplicates names (map name_of (drop k xs)) ≡ duplicates [] (map name_of xs))
+  where
+    cut_here : map name_of (drop k xs) ≡ name_of item ∷ map name_of (drop (k + 1) xs)
+    cut_here = names_cut name_of xs k item lt ∙ ap (λ x. name_of x ∷ map name_of (drop (k + 1) xs)) (sym is)
 
-  pub refused_here : (all : List Name) → all ≡ map name_of xs → is_taken names (name_of item) ≡ true → (f : LoadFault) → IsFlaw f (DuplicateClass (name_of item)) →
-      (more : List Flaw) → IsLeast f (duplicates [] all ++ more)
-  refused_here all same free f h more =
-      is_least f (DuplicateClass (name_of item)) (duplicates [] all ++ more) h
-      (ap (λ l. least (duplicates [] l ++ more)) same ∙ ap (λ l. least (l ++ more)) (sym distinct)
-      ∙ ap (λ l. least (duplicates names l ++ more)) cut_here ∙ taken_first names (name_of item) (map name_of (drop (k + 1) xs)) more free)
+    pub refused_here : (all : List Name) → all ≡ map name_of xs → is_taken names (name_of item) ≡ true → (f : LoadFault) →
+        IsFlaw f (DuplicateClass (name_of item)) →
+        (more : List Flaw) → IsLeast f (duplicates [] all ++ more)
+    refused_here all same free f h more =
+        is_least f (DuplicateClass (name_of item)) (duplicates [] all ++ more) h
+        (ap (λ l. least (duplicates [] l ++ more)) same ∙ ap (λ l. least (l ++ more)) (sym distinct)
+        ∙ ap (λ l. least (duplicates names l ++ more)) cut_here ∙ taken_first names (name_of item) (map name_of (drop (k + 1) xs)) more
+        free)
 
-  pub names_on : (new : List Name) → is_taken names (name_of item) ≡ false → new ≡ with_text names (name_of item) → new ≡ map name_of (take (k + 1) xs)
-  names_on new free e =
-      added names new (name_of item) free e ∙ ap (λ l. l ++ name_of item ∷ []) before ∙ ap (λ x. map name_of (take k xs) ++ name_of x ∷ []) is ∙ sym (names_more name_of xs k item lt)
+    pub names_on : (new : List Name) → is_taken names (name_of item) ≡ false → new ≡ with_text names (name_of item) →
+        new ≡ map name_of (take (k + 1) xs)
+    names_on new free e =
+        added names new (name_of item) free e ∙ ap (λ l. l ++ name_of item ∷ []) before ∙
+        ap (λ x. map name_of (take k xs) ++ name_of x ∷ [])
+        is ∙ sym (names_more name_of xs k item lt)
 
-  pub distinct_on : (new : List Name) → is_taken names (name_of item) ≡ false → new ≡ with_text names (name_of item) →
-      duplicates new (map name_of (drop (k + 1) xs)) ≡ duplicates [] (map name_of xs)
-  distinct_on new free e =
-      ap (λ l. duplicates l (map name_of (drop (k + 1) xs))) (added names new (name_of item) free e)
-      ∙ sym (free_next names (name_of item) (map name_of (drop (k + 1) xs)) free) ∙ ap (duplicates names) (sym cut_here) ∙ distinct
+    pub distinct_on : (new : List Name) → is_taken names (name_of item) ≡ false → new ≡ with_text names (name_of item) →
+        duplicates new (map name_of (drop (k + 1) xs)) ≡ duplicates [] (map name_of xs)
+    distinct_on new free e =
+        ap (λ l. duplicates l (map name_of (drop (k + 1) xs))) (added names new (name_of item) free e)
+        ∙ sym (free_next names (name_of item) (map name_of (drop (k + 1) xs)) free) ∙ ap (duplicates names) (sym cut_here) ∙ distinct

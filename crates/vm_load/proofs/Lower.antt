@@ -1,5 +1,6 @@
 -- The first flaw of the lowest number, as more is judged.
-use Rattle.std.proofs.Common.{◌≡◌, ℕ, suc, ◌+◌, Bool, true, false, List, [], ◌∷◌, ◌++◌, map, Option, Some, None, Result, Ok, Err, nat_lt, if◌then◌else◌, refl, sym, ap, ◌∙◌, arith, append-nil, append_assoc}
+use Rattle.std.proofs.Common.{◌≡◌, ℕ, suc, ◌+◌, Bool, true, false, List, [], ◌∷◌, ◌++◌, map, Option, Some, None, Result, Ok, Err, nat_lt}
+use Rattle.std.proofs.Common.{if◌then◌else◌, refl, sym, ap, ◌∙◌, arith, append-nil, append_assoc}
 use Rattle.std.proofs.lemmas.Bool.Decides.{nat_tests}
 use Rattle.vm_model.specs.View.{instr_of}
 use Rattle.vm_model.specs.Program.{Instr}
@@ -29,12 +30,16 @@ some-if false f g = refl
 three : (f g h : Flaw) → lower (lower (Some f) (Some g)) (Some h) ≡ lower (Some f) (lower (Some g) (Some h))
 three f g h =
     ap (λ o. lower o (Some h)) (some-if (nat_lt (number_of g) (number_of f)) f g)
-    ∙ some-if (nat_lt (number_of h) (number_of (if nat_lt (number_of g) (number_of f) then g else f))) (if nat_lt (number_of g) (number_of f) then g else f) h
-    ∙ ap (λ n. Some (if nat_lt (number_of h) n then h else (if nat_lt (number_of g) (number_of f) then g else f))) (number-if (nat_lt (number_of g) (number_of f)) f g)
+    ∙ some-if (nat_lt (number_of h) (number_of (if nat_lt (number_of g) (number_of f) then g else f)))
+    (if nat_lt (number_of g) (number_of f) then g else f) h
+    ∙ ap (λ n. Some (if nat_lt (number_of h) n then h else (if nat_lt (number_of g) (number_of f) then g else f)))
+    (number-if (nat_lt (number_of g) (number_of f)) f g)
     ∙ ap Some (pick (number_of f) (number_of g) (number_of h) f g h)
     ∙ sym (ap (λ o. lower (Some f) o) (some-if (nat_lt (number_of h) (number_of g)) g h)
-    ∙ some-if (nat_lt (number_of (if nat_lt (number_of h) (number_of g) then h else g)) (number_of f)) f (if nat_lt (number_of h) (number_of g) then h else g)
-    ∙ ap (λ n. Some (if nat_lt n (number_of f) then (if nat_lt (number_of h) (number_of g) then h else g) else f)) (number-if (nat_lt (number_of h) (number_of g)) g h))
+    ∙ some-if (nat_lt (number_of (if nat_lt (number_of h) (number_of g) then h else g)) (number_of f)) f
+    (if nat_lt (number_of h) (number_of g) then h else g)
+    ∙ ap (λ n. Some (if nat_lt n (number_of f) then (if nat_lt (number_of h) (number_of g) then h else g) else f))
+    (number-if (nat_lt (number_of h) (number_of g)) g h))
 
 pub lower-assoc : (a b c : Option Flaw) → lower (lower a b) c ≡ lower a (lower b c)
 lower-assoc None b c = refl

@@ -15,7 +15,8 @@ module _ (c : File) (pool : List Const) (is_pool : pool ≡ c.pool) where
   declared_is ms ns e = ap (λ p. map (declared p) ms) is_pool ∙ ap (map (declared c.pool)) e
 
   pub outline_is : (name : Name) (fields methods : List Member) (fs os ms : List Declared) → fields ≡ c.fields → methods ≡ c.methods →
-      name ≡ or_empty (class_at pool c.this_class) → fs ≡ map (declared pool) fields → os ≡ filter is_dynamic fs → ms ≡ map (declared pool) methods →
+      name ≡ or_empty (class_at pool c.this_class) → fs ≡ map (declared pool) fields → os ≡ filter is_dynamic fs →
+      ms ≡ map (declared pool) methods →
       parts name fs os ms ≡ outline c
   outline_is name fields methods fs os ms e1 e2 e3 e4 e5 e6 =
       let f = e4 ∙ declared_is fields c.fields e1 in

@@ -1,5 +1,6 @@
 -- What is remembered of the constants of a class stays right.
-use Rattle.std.proofs.Common.{◌≡◌, ℕ, Bool, true, false, cond, ◌&&◌, List, Option, Some, None, Result, Ok, Err, IfOk, IfSome, refl, sym, ap, ◌∙◌, nat_eq, arith}
+use Rattle.std.proofs.Common.{◌≡◌, ℕ, Bool, true, false, cond, ◌&&◌, List, Option, Some, None, Result, Ok, Err, IfOk, IfSome, refl, sym, ap}
+use Rattle.std.proofs.Common.{◌∙◌, nat_eq, arith}
 use Rattle.std.proofs.lemmas.Bool.Decides.{nat_tests}
 use Rattle.cls_tree.specs.declared.class.Const.{Const}
 use Rattle.vm_model.specs.declared.linked.LinkedArgs.{LinkedArgs}
@@ -29,7 +30,8 @@ some_same a b h = cc
 
 module _ (os : List Outline) (pool : List Const) (find : Use → Option LinkedArgs) (h : AreRight os pool find) (k : Use) where
   -- one more
-  one_right : (a : LinkedArgs) → judged_pool os pool k.op k.number ≡ Ok (args_of a) → (u : Use) (x : LinkedArgs) (b : Bool) → use_eq k u ≡ b →
+  one_right : (a : LinkedArgs) → judged_pool os pool k.op k.number ≡ Ok (args_of a) → (u : Use) (x : LinkedArgs) (b : Bool) → use_eq k u ≡ b
+      →
       cond b (Some a) (find u) ≡ Some x → judged_pool os pool u.op u.number ≡ Ok (args_of x)
   one_right a right u x true e at =
       let same = same_use k u e in
@@ -46,7 +48,8 @@ module _ (os : List Outline) (pool : List Const) (find : Use → Option LinkedAr
   right_as after e = record { each = λ u x at. h.each u x (sym (e u) ∙ at) }
 
   -- what is found is right
-  pub found_right : {E : Type 0} (x : LinkedArgs) → find k ≡ Some x → (r : Result (Option LinkedArgs) E) → IfOk r (λ o. IfSome o (λ a. args_of a ≡ args_of x)) →
+  pub found_right : {E : Type 0} (x : LinkedArgs) → find k ≡ Some x → (r : Result (Option LinkedArgs) E) →
+      IfOk r (λ o. IfSome o (λ a. args_of a ≡ args_of x)) →
       IfOk r (λ o. IfSome o (λ a. judged_pool os pool k.op k.number ≡ Ok (args_of a)))
   found_right x at (Ok (Some a)) e = h.each k x at ∙ ap Ok (sym e)
   found_right x at (Ok None) e = tt

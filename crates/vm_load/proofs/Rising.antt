@@ -1,5 +1,6 @@
 -- Instructions start at rising places, so that the number of one is found by halving.
-use Rattle.std.proofs.Common.{◌≡◌, ℕ, zero, suc, ◌+◌, ◌<◌, ◌≤◌, ℤ, pos, Bool, true, false, ◌||◌, List, [], ◌∷◌, length, take, get_or, Result, Ok, Err, MatchResult, nat_eq, refl, sym, ap, subst, ◌∙◌, arith}
+use Rattle.std.proofs.Common.{◌≡◌, ℕ, zero, suc, ◌+◌, ◌<◌, ◌≤◌, ℤ, pos, Bool, true, false, ◌||◌, List, [], ◌∷◌, length, take, get_or}
+use Rattle.std.proofs.Common.{Result, Ok, Err, MatchResult, nat_eq, refl, sym, ap, subst, ◌∙◌, arith}
 use Rattle.std.specs.List.{list_any}
 use Rattle.std.specs.List.Sorted.{IsBinarySearchResult}
 use Rattle.std.specs.Ordering.{int_eq, nat_cmp}
@@ -25,7 +26,8 @@ not_before place (i ∷ is) (suc j) h =
     let rest = not_before (place + length (instr_bytes place i)) is j (omega arith) in
     omega (arith, rest)
 
-rising : (place : ℕ) (is : List Instr) (i j : ℕ) → i < j → j < length (starts_from place is) → get_or (starts_from place is) i 0 < get_or (starts_from place is) j 0
+rising : (place : ℕ) (is : List Instr) (i j : ℕ) → i < j → j < length (starts_from place is) → get_or (starts_from place is) i 0 < get_or
+    (starts_from place is) j 0
 unfolding starts_from
 rising place [] i j lt h = absurd (omega arith)
 rising place (x ∷ is) i zero lt h = absurd (omega arith)
@@ -38,12 +40,14 @@ rising place (x ∷ is) (suc i) (suc j) lt h = rising (place + length (instr_byt
 pub starts_rise : (is : List Instr) (starts : List ℕ) → starts ≡ starts_from 0 is → AreRising starts
 starts_rise is starts e = subst AreRising (sym e) (record { each = rising 0 is })
 
-none_before : (p : ℕ → Bool) (xs : List ℕ) (i : ℕ) → ((k : ℕ) → k < i → k < length xs → p (get_or xs k 0) ≡ false) → list_any p (take i xs) ≡ false
+none_before : (p : ℕ → Bool) (xs : List ℕ) (i : ℕ) → ((k : ℕ) → k < i → k < length xs → p (get_or xs k 0) ≡ false) →
+    list_any p (take i xs) ≡ false
 none_before p [] zero h = refl
 none_before p [] (suc i) h = refl
 none_before p (x ∷ xs) zero h = refl
 none_before p (x ∷ xs) (suc i) h =
-    both_false (p x) (list_any p (take i xs)) (h 0 (omega arith) (omega arith)) (none_before p xs i (λ k lt within. h (suc k) (omega arith) (omega arith)))
+    both_false (p x) (list_any p (take i xs)) (h 0 (omega arith) (omega arith))
+    (none_before p xs i (λ k lt within. h (suc k) (omega arith) (omega arith)))
   where
     both_false : (a b : Bool) → a ≡ false → b ≡ false → (a || b) ≡ false
     both_false a b e f = rw e f
@@ -59,9 +63,11 @@ apart s place h = go (int_eq (pos s) place) refl
     go true e = absurd (h ((Decides-int_eq (pos s) place).0 e))
 
 -- no start is the same as the place
-pub no_start_at : (starts : List ℕ) (place : ℤ) → ((k : ℕ) → k < length starts → int_eq (pos (get_or starts k 0)) place ≡ false) → started starts place ≡ length starts
+pub no_start_at : (starts : List ℕ) (place : ℤ) → ((k : ℕ) → k < length starts → int_eq (pos (get_or starts k 0)) place ≡ false) →
+    started starts place ≡ length starts
 no_start_at starts place h =
-    no_index (λ s. int_eq (pos s) place) starts (length starts) (omega arith) (none_before (λ s. int_eq (pos s) place) starts (length starts) (λ k lt within. h k within))
+    no_index (λ s. int_eq (pos s) place) starts (length starts) (omega arith)
+    (none_before (λ s. int_eq (pos s) place) starts (length starts) (λ k lt within. h k within))
 
 module _ (starts : List ℕ) (rise : AreRising starts) (p : ℕ) where
   other_place : (s : ℕ) → (s ≡ p → ⊥) → int_eq (pos s) (pos p) ≡ false
@@ -100,27 +106,33 @@ module _ (starts : List ℕ) (rise : AreRising starts) (p : ℕ) where
   halved r h = go r (searched starts p r h not_falling)
     where
       go : (r : Result ℕ ℕ) → MatchResult r (λ i. (i < length starts) × (get_or starts i 0 ≡ p))
-          (λ i. (i ≤ length starts) × ((k : ℕ) → k < i → get_or starts k 0 < p) × ((k : ℕ) → i ≤ k → k < length starts → p < get_or starts k 0)) →
+          (λ i. (i ≤ length starts) × ((k : ℕ) → k < i → get_or starts k 0 < p) × ((k : ℕ) → i ≤ k → k < length starts →
+          p < get_or starts k 0)) →
           MatchResult r (λ n. started starts (pos p) ≡ n) (λ _. started starts (pos p) ≡ length starts)
       go (Ok n) f = found_number n f.0 f.1
       go (Err i) f = no_start_at starts (pos p) (λ k within. other_place (get_or starts k 0) (apart i k within f.1 f.2))
         where
-          apart : (i k : ℕ) → k < length starts → ((k : ℕ) → k < i → get_or starts k 0 < p) → ((k : ℕ) → i ≤ k → k < length starts → p < get_or starts k 0) → get_or starts k 0 ≡ p → ⊥
+          apart : (i k : ℕ) → k < length starts → ((k : ℕ) → k < i → get_or starts k 0 < p) →
+              ((k : ℕ) → i ≤ k → k < length starts → p < get_or starts k 0) → get_or starts k 0 ≡ p → ⊥
           apart i k within low high e = grind (arith, low k, high k, within, e)
 
 -- the same of what a search answers
-pub found_by_halving : (starts : List ℕ) (p n : ℕ) (r : Result ℕ ℕ) → AreRising starts → IsBinarySearchResult (λ y. nat_cmp y p) starts r → r ≡ Ok n → started starts (pos p) ≡ n
+pub found_by_halving : (starts : List ℕ) (p n : ℕ) (r : Result ℕ ℕ) → AreRising starts → IsBinarySearchResult (λ y. nat_cmp y p) starts r →
+    r ≡ Ok n → started starts (pos p) ≡ n
 found_by_halving starts p n r rise h e = go r e (halved starts rise p r h)
   where
-    go : (x : Result ℕ ℕ) → x ≡ Ok n → MatchResult x (λ m. started starts (pos p) ≡ m) (λ _. started starts (pos p) ≡ length starts) → started starts (pos p) ≡ n
+    go : (x : Result ℕ ℕ) → x ≡ Ok n → MatchResult x (λ m. started starts (pos p) ≡ m) (λ _. started starts (pos p) ≡ length starts) →
+        started starts (pos p) ≡ n
     go (Ok m) is found =
         let same : m ≡ n = cc in
         found ∙ same
     go (Err m) is found = absurd cc
 
-pub missed_by_halving : (starts : List ℕ) (p i : ℕ) (r : Result ℕ ℕ) → AreRising starts → IsBinarySearchResult (λ y. nat_cmp y p) starts r → r ≡ Err i → started starts (pos p) ≡ length starts
+pub missed_by_halving : (starts : List ℕ) (p i : ℕ) (r : Result ℕ ℕ) → AreRising starts → IsBinarySearchResult (λ y. nat_cmp y p) starts r →
+    r ≡ Err i → started starts (pos p) ≡ length starts
 missed_by_halving starts p i r rise h e = go r e (halved starts rise p r h)
   where
-    go : (x : Result ℕ ℕ) → x ≡ Err i → MatchResult x (λ m. started starts (pos p) ≡ m) (λ _. started starts (pos p) ≡ length starts) → started starts (pos p) ≡ length starts
+    go : (x : Result ℕ ℕ) → x ≡ Err i → MatchResult x (λ m. started starts (pos p) ≡ m) (λ _. started starts (pos p) ≡ length starts) →
+        started starts (pos p) ≡ length starts
     go (Ok m) is found = absurd cc
     go (Err m) is found = found

@@ -13,7 +13,13 @@ use Rattle.vm_load.specs.Declaring.{declared_of}
 use Rattle.vm_load.specs.declared.outline.Outline.{Outline as KeptOutline}
 
 abbrev pub outline_of : KeptOutline → Outline
-outline_of o = record { name = o.name.now; fields = map declared_of o.fields.items; own = map declared_of o.own.all.items; methods = map declared_of o.methods.all.items }
+outline_of o = record {
+  name = o.name.now;
+  fields = map declared_of o.fields.items;
+  own = map declared_of o.own.all.items;
+  methods =
+      map declared_of o.methods.all.items;
+}
 
 abbrev pub outlines_of : List KeptOutline → List Outline
 outlines_of os = map outline_of os

@@ -5,7 +5,8 @@ ghost use Rattle.std.specs.List.{flat_map};
 ghost use Rattle.cls_tree.specs.View.{attr_of, code_of, member_of, class_of};
 ghost use Rattle.cls_tree.specs.Pool.{class_at};
 ghost use Rattle.vm_model.specs.View as model;
-ghost use Rattle.vm_model.specs.Links.{code_among, method_of_member, method_flaws, field_flaw, method_flaw, field_made, class_flaws, linked_class, super_flaw, or_empty as empty_or, outline, lower, least, some_in};
+ghost use Rattle.vm_model.specs.Links.{code_among, method_of_member, method_flaws, field_flaw, method_flaw, field_made, class_flaws};
+ghost use Rattle.vm_model.specs.Links.{linked_class, super_flaw, or_empty as empty_or, outline, lower, least, some_in};
 ghost use Rattle.indexmap.specs.IndexMap.{get};
 ghost use Rattle.vm_load.specs.Faults.{best_flaw};
 ghost use Rattle.vm_load.specs.Known.{AreRight};
@@ -62,8 +63,10 @@ fn judge_body(
 ) -> Result<(Option<LinkedMethod>, Option<LoadFault>), Memory>
     requires names { names.now ≡ names_of (outlines_of outlines.now) }
     requires known { AreRight (outlines_of outlines.now) pool.now (get ⟦<Use as PartialEq>⟧.eq known.old) }
-    ensures right { IfOk result (λ r. option_to_list (option_map model.method_of r.0) ≡ method_of_member (outlines_of outlines.now) pool.now (member_of member.now)) }
-    ensures wrong { IfOk result (λ r. best_flaw r.1 ≡ lower (best_flaw first) (least (method_flaws (outlines_of outlines.now) pool.now (member_of member.now)))) }
+    ensures right { IfOk result (λ r. option_to_list (option_map model.method_of r.0) ≡ method_of_member (outlines_of outlines.now) pool.now
+        (member_of member.now)) }
+    ensures wrong { IfOk result (λ r. best_flaw r.1 ≡ lower (best_flaw first)
+        (least (method_flaws (outlines_of outlines.now) pool.now (member_of member.now)))) }
     ensures known { IfOk result (λ _. AreRight (outlines_of outlines.now) pool.now (get ⟦<Use as PartialEq>⟧.eq known.new)) }
 {
     let declared = declared_by(pool, member);
@@ -79,7 +82,8 @@ fn judge_body(
 
 /// Appends a method, where there is one.
 fn add_method(methods: &mut List<LinkedMethod>, method: Option<LinkedMethod>) -> Result<(), Memory>
-    ensures { OnOk result (map model.method_of methods.new.items ≡ map model.method_of methods.old.items ++ option_to_list (option_map model.method_of method)) }
+    ensures { OnOk result (map model.method_of methods.new.items ≡ map model.method_of methods.old.items ++ option_to_list
+        (option_map model.method_of method)) }
 {
     match method {
         Some(method) => {
@@ -102,8 +106,10 @@ fn judge_bodies(
 ) -> Result<(List<LinkedMethod>, Option<LoadFault>), Memory>
     requires names { names.now ≡ names_of (outlines_of outlines.now) }
     requires known { AreRight (outlines_of outlines.now) pool.now (get ⟦<Use as PartialEq>⟧.eq known.old) }
-    ensures right { IfOk result (λ r. map model.method_of r.0.items ≡ flat_map (method_of_member (outlines_of outlines.now) pool.now) (map member_of members.now)) }
-    ensures wrong { IfOk result (λ r. best_flaw r.1 ≡ lower (best_flaw first) (least (flat_map (method_flaws (outlines_of outlines.now) pool.now) (map member_of members.now)))) }
+    ensures right { IfOk result (λ r. map model.method_of r.0.items ≡ flat_map (method_of_member (outlines_of outlines.now) pool.now)
+        (map member_of members.now)) }
+    ensures wrong { IfOk result (λ r. best_flaw r.1 ≡ lower (best_flaw first)
+        (least (flat_map (method_flaws (outlines_of outlines.now) pool.now) (map member_of members.now)))) }
     ensures known { IfOk result (λ _. AreRight (outlines_of outlines.now) pool.now (get ⟦<Use as PartialEq>⟧.eq known.new)) }
 {
     let mut methods = List::new(alloc);
@@ -125,7 +131,8 @@ fn judge_fields(
     first: Option<LoadFault>,
 ) -> Result<Option<LoadFault>, Memory>
     requires { names.now ≡ names_of (outlines_of outlines.now) }
-    ensures { IfOk result (λ b. best_flaw b ≡ lower (best_flaw first) (least (some_in (map (field_flaw (outlines_of outlines.now)) (map declared_of fields.now))))) }
+    ensures { IfOk result (λ b. best_flaw b ≡ lower (best_flaw first)
+        (least (some_in (map (field_flaw (outlines_of outlines.now)) (map declared_of fields.now))))) }
 {
     let mut best = first;
     for field in fields {
@@ -144,7 +151,8 @@ fn judge_methods(
     first: Option<LoadFault>,
 ) -> Result<Option<LoadFault>, Memory>
     requires { names.now ≡ names_of (outlines_of outlines.now) }
-    ensures { IfOk result (λ b. best_flaw b ≡ lower (best_flaw first) (least (some_in (map (method_flaw (outlines_of outlines.now)) (map declared_of methods.now))))) }
+    ensures { IfOk result (λ b. best_flaw b ≡ lower (best_flaw first)
+        (least (some_in (map (method_flaw (outlines_of outlines.now)) (map declared_of methods.now))))) }
 {
     let mut best = first;
     for method in methods {
@@ -172,7 +180,8 @@ fn judge_top(
     class: &Class,
     first: Option<LoadFault>,
 ) -> Result<Option<LoadFault>, Memory>
-    ensures { IfOk result (λ b. best_flaw b ≡ lower (best_flaw first) (super_flaw (empty_or (class_at (class_of class.now).pool (class_of class.now).super_class)))) }
+    ensures { IfOk result (λ b. best_flaw b ≡ lower (best_flaw first)
+        (super_flaw (empty_or (class_at (class_of class.now).pool (class_of class.now).super_class)))) }
 {
     let name = or_empty(class_at(class.pool.as_slice(), class.super_class));
     let judged = judge_super(alloc, name);
@@ -188,8 +197,10 @@ fn judge_own_bodies(
     first: Option<LoadFault>,
 ) -> Result<(List<LinkedMethod>, Option<LoadFault>), Memory>
     requires { names.now ≡ names_of (outlines_of outlines.now) }
-    ensures right { IfOk result (λ r. map model.method_of r.0.items ≡ flat_map (method_of_member (outlines_of outlines.now) (class_of class.now).pool) (class_of class.now).methods) }
-    ensures wrong { IfOk result (λ r. best_flaw r.1 ≡ lower (best_flaw first) (least (flat_map (method_flaws (outlines_of outlines.now) (class_of class.now).pool) (class_of class.now).methods))) }
+    ensures right { IfOk result (λ r. map model.method_of r.0.items
+        ≡ flat_map (method_of_member (outlines_of outlines.now) (class_of class.now).pool) (class_of class.now).methods) }
+    ensures wrong { IfOk result (λ r. best_flaw r.1 ≡ lower (best_flaw first)
+        (least (flat_map (method_flaws (outlines_of outlines.now) (class_of class.now).pool) (class_of class.now).methods))) }
 {
     let mut known = IndexMap::new(alloc);
     judge_bodies(
@@ -209,7 +220,13 @@ fn made(
     own: &Outline<'_>,
     methods: List<LinkedMethod>,
 ) -> Result<LinkedClass, Memory>
-    ensures { IfOk result (λ l. model.class_of l ≡ record { name = (outline_of own.now).name; fields = map field_made (outline_of own.now).own; methods = map model.method_of methods.items }) }
+    ensures { IfOk result (λ l. model.class_of l
+        ≡ record {
+          name = (outline_of own.now).name;
+          fields = map field_made (outline_of own.now).own;
+          methods =
+              map model.method_of methods.items;
+        }) }
 {
     let fields = fields_of(alloc, own.own.all.as_slice())?;
     let name = Text::of(alloc, own.name)?;
@@ -229,7 +246,9 @@ fn judge_descriptors(
     first: Option<LoadFault>,
 ) -> Result<Option<LoadFault>, Memory>
     requires { names.now ≡ names_of (outlines_of outlines.now) }
-    ensures { IfOk result (λ b. best_flaw b ≡ lower (lower (best_flaw first) (least (some_in (map (field_flaw (outlines_of outlines.now)) (outline_of own.now).fields)))) (least (some_in (map (method_flaw (outlines_of outlines.now)) (outline_of own.now).methods)))) }
+    ensures { IfOk result (λ b. best_flaw b
+        ≡ lower (lower (best_flaw first) (least (some_in (map (field_flaw (outlines_of outlines.now)) (outline_of own.now).fields))))
+        (least (some_in (map (method_flaw (outlines_of outlines.now)) (outline_of own.now).methods)))) }
 {
     let best = judge_fields(alloc, outlines, names, own.fields.as_slice(), first)?;
     judge_methods(alloc, outlines, names, own.methods.all.as_slice(), best)
@@ -245,7 +264,8 @@ pub(crate) fn judge_class(
 ) -> Result<(LinkedClass, Option<LoadFault>), Memory>
     requires { names.now ≡ names_of (outlines_of outlines.now) }
     ensures right { IfOk result (λ r. model.class_of r.0 ≡ linked_class (outlines_of outlines.now) (class_of class.now)) }
-    ensures wrong { IfOk result (λ r. best_flaw r.1 ≡ lower (best_flaw first) (least (class_flaws (outlines_of outlines.now) (class_of class.now)))) }
+    ensures wrong { IfOk result (λ r. best_flaw r.1 ≡ lower (best_flaw first)
+        (least (class_flaws (outlines_of outlines.now) (class_of class.now)))) }
 {
     let own = outlined(alloc, class)?;
     let top = judge_top(alloc, class, first)?;

@@ -8,7 +8,8 @@ ghost use Rattle.cls_tree.specs.Layout.{pad, instr_bytes};
 ghost use Rattle.cls_tree.specs.Jumps.{starts_from};
 ghost use Rattle.vm_model.specs.View.{args_of};
 ghost use Rattle.vm_model.specs.View as model;
-ghost use Rattle.vm_model.specs.Links.{started, judged_instr_args, judged_instr, judged_from, judged_code, with_op, right_in, wrong_in, lower, least};
+ghost use Rattle.vm_model.specs.Links.{started, judged_instr_args, judged_instr, judged_from, judged_code, with_op, right_in, wrong_in};
+ghost use Rattle.vm_model.specs.Links.{lower, least};
 ghost use Rattle.vm_model.specs.Program.{Table, Instr as InstrOf};
 ghost use Rattle.vm_model.specs.Links.{Flaw};
 ghost use Rattle.vm_load.specs.Faults.{Judges, best_flaw};
@@ -155,7 +156,8 @@ fn table(
 ) -> Result<LinkedArgs, Memory>
     requires rising { AreRising starts.now }
     requires place { place < 2 ^ 33 }
-    ensures { IfOk result (λ a. args_of a ≡ Table (started starts.now (pos place +ℤ default)) low (map (λ d. started starts.now (pos place +ℤ d)) offsets.now)) }
+    ensures { IfOk result (λ a. args_of a ≡ Table (started starts.now (pos place +ℤ default)) low
+        (map (λ d. started starts.now (pos place +ℤ d)) offsets.now)) }
 {
     let default = target(starts, place, default)?;
     let targets = targets(alloc, starts, place, offsets)?;
@@ -181,7 +183,8 @@ fn judge_args(
     requires rising { AreRising starts.now }
     requires place { place < 2 ^ 33 }
     requires known { AreRight (outlines_of outlines.now) pool.now (get ⟦<Use as PartialEq>⟧.eq known.old) }
-    ensures judges { Judges args_of result (judged_instr_args (outlines_of outlines.now) pool.now starts.now place instr.now.op (file.args_of instr.now.args)) }
+    ensures judges { Judges args_of result (judged_instr_args (outlines_of outlines.now) pool.now starts.now place instr.now.op
+        (file.args_of instr.now.args)) }
     ensures known { AreRight (outlines_of outlines.now) pool.now (get ⟦<Use as PartialEq>⟧.eq known.new) }
 {
     match &instr.args {
@@ -248,8 +251,10 @@ fn add(
     best: Option<LoadFault>,
     judged: Result<LinkedInstr, LoadFault>,
 ) -> Result<Option<LoadFault>, Memory>
-    ensures right { (wanted : Result InstrOf Flaw) → Judges model.instr_of judged wanted → OnOk result (map model.instr_of code.new.items ≡ map model.instr_of code.old.items ++ right_in (wanted ∷ [])) }
-    ensures wrong { (wanted : Result InstrOf Flaw) → Judges model.instr_of judged wanted → IfOk result (λ b. best_flaw b ≡ lower (best_flaw best) (least (wrong_in (wanted ∷ [])))) }
+    ensures right { (wanted : Result InstrOf Flaw) → Judges model.instr_of judged wanted →
+        OnOk result (map model.instr_of code.new.items ≡ map model.instr_of code.old.items ++ right_in (wanted ∷ [])) }
+    ensures wrong { (wanted : Result InstrOf Flaw) → Judges model.instr_of judged wanted →
+        IfOk result (λ b. best_flaw b ≡ lower (best_flaw best) (least (wrong_in (wanted ∷ [])))) }
 {
     match judged {
         Ok(instr) => {
@@ -275,8 +280,10 @@ fn judge_from(
     requires names { names.now ≡ names_of (outlines_of outlines.now) }
     requires rising { AreRising starts.now }
     requires known { AreRight (outlines_of outlines.now) pool.now (get ⟦<Use as PartialEq>⟧.eq known.old) }
-    ensures right { IfOk result (λ r. map model.instr_of r.0.items ≡ right_in (judged_from (outlines_of outlines.now) pool.now starts.now 0 (instrs_of instrs.now))) }
-    ensures wrong { IfOk result (λ r. best_flaw r.1 ≡ lower (best_flaw first) (least (wrong_in (judged_from (outlines_of outlines.now) pool.now starts.now 0 (instrs_of instrs.now))))) }
+    ensures right { IfOk result (λ r. map model.instr_of r.0.items
+        ≡ right_in (judged_from (outlines_of outlines.now) pool.now starts.now 0 (instrs_of instrs.now))) }
+    ensures wrong { IfOk result (λ r. best_flaw r.1 ≡ lower (best_flaw first)
+        (least (wrong_in (judged_from (outlines_of outlines.now) pool.now starts.now 0 (instrs_of instrs.now))))) }
     ensures known { IfOk result (λ _. AreRight (outlines_of outlines.now) pool.now (get ⟦<Use as PartialEq>⟧.eq known.new)) }
 {
     let mut code = List::new(alloc);
@@ -305,8 +312,10 @@ pub(crate) fn judge_code(
 ) -> Result<(List<LinkedInstr>, Option<LoadFault>), Memory>
     requires names { names.now ≡ names_of (outlines_of outlines.now) }
     requires known { AreRight (outlines_of outlines.now) pool.now (get ⟦<Use as PartialEq>⟧.eq known.old) }
-    ensures right { IfOk result (λ r. map model.instr_of r.0.items ≡ right_in (judged_code (outlines_of outlines.now) pool.now (instrs_of instrs.now))) }
-    ensures wrong { IfOk result (λ r. best_flaw r.1 ≡ lower (best_flaw best) (least (wrong_in (judged_code (outlines_of outlines.now) pool.now (instrs_of instrs.now))))) }
+    ensures right { IfOk result (λ r. map model.instr_of r.0.items
+        ≡ right_in (judged_code (outlines_of outlines.now) pool.now (instrs_of instrs.now))) }
+    ensures wrong { IfOk result (λ r. best_flaw r.1 ≡ lower (best_flaw best)
+        (least (wrong_in (judged_code (outlines_of outlines.now) pool.now (instrs_of instrs.now))))) }
     ensures known { IfOk result (λ _. AreRight (outlines_of outlines.now) pool.now (get ⟦<Use as PartialEq>⟧.eq known.new)) }
 {
     let starts = starts_of(alloc, instrs)?;

@@ -1,7 +1,8 @@
 //! Why class files don't link, and which of several faults is answered.
 
 ghost use Rattle.std.specs.Prelude.{◌≡◌, Option, Some, IfOk};
-ghost use Rattle.vm_model.specs.Links.{Flaw, lower, DuplicateClass as A, UnknownClass as B, UnknownMember as C, BadDescriptor as D, NoCode as E};
+ghost use Rattle.vm_model.specs.Links.{Flaw, lower, DuplicateClass as A, UnknownClass as B, UnknownMember as C, BadDescriptor as D};
+ghost use Rattle.vm_model.specs.Links.{NoCode as E};
 ghost use Rattle.vm_load.specs.Faults.{IsFlaw, IsToldOf, Tells, found_flaw, best_flaw, number_of_fault};
 
 use mg_text::{Memory, Text};

@@ -4,7 +4,8 @@
 ghost use Rattle.std.specs.Prelude.{◌≡◌, is_some, nat_lt};
 ghost use Rattle.std.specs.List.{list_all};
 ghost use Rattle.vm_model.specs.View.{args_of};
-ghost use Rattle.vm_model.specs.Actions.{plain_action, int_action, text_action, local_action, jump_action, field_action, method_action, built_op, action};
+ghost use Rattle.vm_model.specs.Actions.{plain_action, int_action, text_action, local_action, jump_action, field_action, method_action};
+ghost use Rattle.vm_model.specs.Actions.{built_op, action};
 ghost use Rattle.vm_model.specs.Linked.{fits_code, leads_within};
 
 use vm_model::{Built, LinkedArgs};

@@ -2,7 +2,8 @@
 
 ghost use Rattle.std.specs.Prelude.{◌≡◌, ◌<◌, Some, map, option_map, slice_get, IfOk};
 ghost use Rattle.vm_model.specs.View.{args_of};
-ghost use Rattle.vm_model.specs.Links.{is_named, built_in, built_members, loaded_member, member_args, field_of_class, method_of_class, args_by};
+ghost use Rattle.vm_model.specs.Links.{is_named, built_in, built_members, loaded_member, member_args, field_of_class, method_of_class};
+ghost use Rattle.vm_model.specs.Links.{args_by};
 ghost use Rattle.vm_model.specs.Program.{Field, Method};
 ghost use Rattle.vm_load.specs.Declaring.{named_of, member_of};
 ghost use Rattle.vm_load.specs.Outlines.{outlines_of, outline_of, names_of, built_view};

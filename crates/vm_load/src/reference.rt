@@ -3,7 +3,8 @@
 ghost use Rattle.std.specs.Prelude.{◌≡◌, option_map, IfOk};
 ghost use Rattle.vm_model.specs.Descriptors.{types_view};
 ghost use Rattle.vm_model.specs.View.{args_of};
-ghost use Rattle.vm_model.specs.Links.{field_types, judged_args, judged_member, judged_reference, judged_field_reference, judged_method_reference, judged_new, judged_pool, member_args, pushed_args, or_empty, loaded};
+ghost use Rattle.vm_model.specs.Links.{field_types, judged_args, judged_member, judged_reference, judged_field_reference};
+ghost use Rattle.vm_model.specs.Links.{judged_method_reference, judged_new, judged_pool, member_args, pushed_args, or_empty, loaded};
 ghost use Rattle.cls_tree.specs.Pool.{field_at, method_at, pushed_at, class_at};
 ghost use Rattle.vm_load.specs.Faults.{Judges, pushed_text};
 ghost use Rattle.vm_load.specs.Declaring.{member_of};
@@ -47,7 +48,8 @@ fn found_member(
     reference: Named<'_>,
 ) -> Result<LinkedArgs, LoadFault>
     requires { names.now ≡ names_of (outlines_of outlines.now) }
-    ensures { Judges args_of result (judged_args (member_of reference.entry).member.name (member_args (outlines_of outlines.now) op (member_of reference.entry))) }
+    ensures { Judges args_of result
+        (judged_args (member_of reference.entry).member.name (member_args (outlines_of outlines.now) op (member_of reference.entry))) }
 {
     match member_args(alloc, outlines, names, op, reference)? {
         Some(args) => Ok(args),
@@ -67,7 +69,8 @@ fn judge_reference(
     types: Option<Vec<FieldType<'_>>>,
 ) -> Result<LinkedArgs, LoadFault>
     requires { names.now ≡ names_of (outlines_of outlines.now) }
-    ensures { Judges args_of result (judged_reference (outlines_of outlines.now) op (member_of reference.entry) (option_map (λ v. types_view v.items) types.entry)) }
+    ensures { Judges args_of result
+        (judged_reference (outlines_of outlines.now) op (member_of reference.entry) (option_map (λ v. types_view v.items) types.entry)) }
 {
     if !is_known(outlines, names, reference.class) {
         return Err(unknown_class(alloc, reference.class));

@@ -1,5 +1,6 @@
 -- Lists of queues, as contracts see them.
-use Rattle.std.proofs.Common.{◌≡◌, ℕ, zero, suc, ◌+◌, ◌<◌, ◌≤◌, Bool, false, List, [], ◌∷◌, ◌++◌, length, map, take, drop, Option, Some, None, slice_get, get_or, set, position, option_to_list, refl, sym, ap, ◌∙◌, arith}
+use Rattle.std.proofs.Common.{◌≡◌, ℕ, zero, suc, ◌+◌, ◌<◌, ◌≤◌, Bool, false, List, [], ◌∷◌, ◌++◌, length, map, take, drop, Option, Some}
+use Rattle.std.proofs.Common.{None, slice_get, get_or, set, position, option_to_list, refl, sym, ap, ◌∙◌, arith}
 use Rattle.std.proofs.lemmas.Option.{slice_get_past}
 use Rattle.std.proofs.lemmas.List.{map-set, set_past}
 use Rattle.std.proofs.Math.ListN.{length-map}
@@ -38,11 +39,13 @@ module _ {Q X : Type 0} (f : Q → List X) where
   same_at qs i d q h same = map-set_same f qs i q d same
 
   -- the same where the queue was borrowed
-  pub changed_by : (qs : List Q) (i : ℕ) (old : Q) (change : List X → List X) (q : Q) → i < length qs → old ≡ get_or qs i old → f q ≡ change (f old) →
+  pub changed_by : (qs : List Q) (i : ℕ) (old : Q) (change : List X → List X) (q : Q) → i < length qs → old ≡ get_or qs i old →
+      f q ≡ change (f old) →
       map f (set qs i q) ≡ set (map f qs) i (change (or_nothing (slice_get (map f qs) i)))
   changed_by qs i old change q h e same = changed_at qs i old change q h (same ∙ ap (λ x. change (f x)) e)
 
-  pub same_by : (qs : List Q) (i : ℕ) (old : Q) (q : Q) → i < length qs → old ≡ get_or qs i old → f q ≡ f old → map f (set qs i q) ≡ map f qs
+  pub same_by : (qs : List Q) (i : ℕ) (old : Q) (q : Q) → i < length qs → old ≡ get_or qs i old → f q ≡ f old →
+      map f (set qs i q) ≡ map f qs
   same_by qs i old q h e same = same_at qs i old q h (same ∙ ap f e)
 
   pub list_by : (qs : List Q) (i : ℕ) (old : Q) → i < length qs → old ≡ get_or qs i old → f old ≡ or_nothing (slice_get (map f qs) i)
@@ -67,7 +70,8 @@ on_err f (Err e) h = f h
 module _ {R X : Type 0} (g : R → List (List X)) (rows : List R) (i to : ℕ) (old : R) (change : List X → List X) (row : R) where
   pub row_changed : i < length rows → old ≡ get_or rows i old →
       g row ≡ set (g old) to (change (or_nothing (slice_get (g old) to))) →
-      map g (set rows i row) ≡ set (map g rows) i (set (or_nothing (slice_get (map g rows) i)) to (change (or_nothing (slice_get (or_nothing (slice_get (map g rows) i)) to))))
+      map g (set rows i row) ≡ set (map g rows) i
+      (set (or_nothing (slice_get (map g rows) i)) to (change (or_nothing (slice_get (or_nothing (slice_get (map g rows) i)) to))))
   row_changed h e same = changed_by g rows i old (λ queues. set queues to (change (or_nothing (slice_get queues to)))) row h e same
 
 -- roles that are distinct: none of them stands among those before it
@@ -82,16 +86,19 @@ all_at P [] k d h l = absurd (omega arith)
 all_at P (x ∷ xs) zero d h l = h.0
 all_at P (x ∷ xs) (suc k) d h l = all_at P xs k d h.1 (omega arith)
 
-pub not_before : (xs : List (List ℕ)) (k : ℕ) (d : List ℕ) → IsDistinct bytes_eq xs → k < length xs → position (bytes_eq (get_or xs k d)) (take k xs) ≡ None
+pub not_before : (xs : List (List ℕ)) (k : ℕ) (d : List ℕ) → IsDistinct bytes_eq xs → k < length xs →
+    position (bytes_eq (get_or xs k d)) (take k xs) ≡ None
 unfolding IsDistinct
 not_before [] k d h l = absurd (omega arith)
 not_before (x ∷ xs) zero d h l = refl
 not_before (x ∷ xs) (suc k) d h l =
     let lt : k < length xs = omega arith in
-    no_match (bytes_eq (get_or xs k d)) x (take k xs) (sym_false x (get_or xs k d) (all_at (λ y. bytes_eq x y ≡ false) xs k d h.0 lt)) (not_before xs k d h.1 lt)
+    no_match (bytes_eq (get_or xs k d)) x (take k xs) (sym_false x (get_or xs k d) (all_at (λ y. bytes_eq x y ≡ false) xs k d h.0 lt))
+    (not_before xs k d h.1 lt)
 
 -- one more of distinct names goes last
-pub one_more : (roles : List (List ℕ)) (k : ℕ) (role : List ℕ) (old new : List (List ℕ)) → IsDistinct bytes_eq roles → k < length roles → role ≡ get_or roles k role →
+pub one_more : (roles : List (List ℕ)) (k : ℕ) (role : List ℕ) (old new : List (List ℕ)) → IsDistinct bytes_eq roles → k < length roles →
+    role ≡ get_or roles k role →
     old ≡ take k roles → new ≡ with_text old role → new ≡ take (k + 1) roles
 one_more roles k role old new distinct lt at before added =
     let none : position (bytes_eq role) old ≡ None = rw (before, at) (not_before roles k role distinct lt) in

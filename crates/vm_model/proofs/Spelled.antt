@@ -1,11 +1,15 @@
 -- A descriptor is read as the grammar says: it spells one signature at most, and a signature has one descriptor.
-use Rattle.std.proofs.Common.{◌≡◌, ◌≢◌, ℕ, Bool, true, false, List, [], ◌∷◌, ◌++◌, Option, Some, None, if◌then◌else◌, ◌==◌, ◌↔◌, codes, refl, sym, ap, subst, ◌∙◌, arith, append-nil, append_assoc}
+use Rattle.std.proofs.Common.{◌≡◌, ◌≢◌, ℕ, Bool, true, false, List, [], ◌∷◌, ◌++◌, Option, Some, None, if◌then◌else◌, ◌==◌, ◌↔◌, codes}
+use Rattle.std.proofs.Common.{refl, sym, ap, subst, ◌∙◌, arith, append-nil, append_assoc}
 use Rattle.std.specs.List.{fold, flat_map, AllByRecursion}
 use Rattle.std.specs.Str.{bytes_eq}
 use Rattle.std.proofs.lemmas.Bool.Decides.{nat_tests}
 use Rattle.std.proofs.lemmas.Slice.Eq.{bytes_eq-Decides}
 use Rattle.mg_text.specs.Call.{Name}
-use Rattle.vm_model.specs.Types.{FieldType, Int, Truth, Named, Texts, Signature, type_text, result_text, signature_text, IsPlain, IsPlainResult, main_signature, IsFieldDescriptor, IsMethodDescriptor, Reading, Begins, Params, ParamName, Result, ResultName, Whole, Wrong, reads, read_param, read_result, read_param_name, read_result_name, whole, signature_in, signature_of, result_in, type_of}
+use Rattle.vm_model.specs.Types.{FieldType, Int, Truth, Named, Texts, Signature, type_text, result_text, signature_text, IsPlain}
+use Rattle.vm_model.specs.Types.{IsPlainResult, main_signature, IsFieldDescriptor, IsMethodDescriptor, Reading, Begins, Params, ParamName}
+use Rattle.vm_model.specs.Types.{Result, ResultName, Whole, Wrong, reads, read_param, read_result, read_param_name, read_result_name, whole}
+use Rattle.vm_model.specs.Types.{signature_in, signature_of, result_in, type_of}
 use Rattle.vm_model.specs.Types as types
 
 other : (b n : ℕ) → b ≢ n → (b == n) ≡ false
@@ -32,16 +36,19 @@ answer_name_read ps acc (b ∷ name) h =
     ap (λ t. fold reads (if t then whole ps (Some (Named acc)) else ResultName ps (acc ++ b ∷ [])) (name ++ 59 ∷ [])) (other b 59 h.0)
     ∙ answer_name_read ps (acc ++ b ∷ []) name h.1 ∙ ap (λ n. whole ps (Some (Named n))) (append_assoc acc (b ∷ []) name)
 
-one_read : (ps : List FieldType) (t : FieldType) (rest : List ℕ) → IsPlain t → fold reads (Params ps) (type_text t ++ rest) ≡ fold reads (Params (ps ++ t ∷ [])) rest
+one_read : (ps : List FieldType) (t : FieldType) (rest : List ℕ) → IsPlain t → fold reads (Params ps) (type_text t ++ rest) ≡ fold reads
+    (Params (ps ++ t ∷ [])) rest
 one_read ps Int rest h = refl
 one_read ps Truth rest h = refl
 one_read ps Texts rest h = absurd h
 one_read ps (Named name) rest h = ap (fold reads (ParamName ps [])) (append_assoc name (59 ∷ []) rest) ∙ name_read ps [] name rest h
 
-params_read : (ps ts : List FieldType) (rest : List ℕ) → AllByRecursion IsPlain ts → fold reads (Params ps) (flat_map type_text ts ++ rest) ≡ fold reads (Params (ps ++ ts)) rest
+params_read : (ps ts : List FieldType) (rest : List ℕ) → AllByRecursion IsPlain ts → fold reads (Params ps) (flat_map type_text ts ++ rest)
+    ≡ fold reads (Params (ps ++ ts)) rest
 params_read ps [] rest h = ap (λ l. fold reads (Params l) rest) (sym (append-nil ps))
 params_read ps (t ∷ ts) rest h =
-    ap (fold reads (Params ps)) (append_assoc (type_text t) (flat_map type_text ts) rest) ∙ one_read ps t (flat_map type_text ts ++ rest) h.0
+    ap (fold reads (Params ps)) (append_assoc (type_text t) (flat_map type_text ts) rest) ∙ one_read ps t (flat_map type_text ts ++ rest)
+    h.0
     ∙ params_read (ps ++ t ∷ []) ts rest h.1 ∙ ap (λ l. fold reads (Params l) rest) (append_assoc ps (t ∷ []) ts)
 
 answer_read : (ps : List FieldType) (r : Option FieldType) → IsPlainResult r → fold reads (Result ps) (result_text r) ≡ whole ps r
@@ -112,13 +119,15 @@ last_fits (Whole w) s h = record { text = refl; is = cc }
 last_fits Wrong s h = absurd cc
 
 -- one more parameter
-more : (ps : List FieldType) (t : FieldType) (d e : List ℕ) (s : Signature) → IsPlain t → d ≡ type_text t ++ e → Rest (ps ++ t ∷ []) e s → Rest ps d s
+more : (ps : List FieldType) (t : FieldType) (d e : List ℕ) (s : Signature) → IsPlain t → d ≡ type_text t ++ e → Rest (ps ++ t ∷ []) e s →
+    Rest ps d s
 more ps t d e s h text rest = record {
   params = t ∷ rest.params;
   answer = rest.answer;
   plain = (h, rest.plain);
   plain_answer = rest.plain_answer;
-  text = text ∙ ap (λ l. type_text t ++ l) rest.text ∙ sym (append_assoc (type_text t) (flat_map type_text rest.params) (41 ∷ result_text rest.answer));
+  text = text ∙ ap (λ l. type_text t ++ l) rest.text ∙ sym (append_assoc (type_text t) (flat_map type_text rest.params)
+      (41 ∷ result_text rest.answer));
   is = rest.is ∙ ap (λ l. let w : Signature = record { params = l; result = rest.answer } in w) (append_assoc ps (t ∷ []) rest.params);
 }
 
@@ -134,7 +143,8 @@ closed ps d s a = record {
 
 param_fits : (ps : List FieldType) (b : ℕ) (d : List ℕ) (s : Signature) (ends int truth named : Bool) →
     (b == 41) ≡ ends → (b == 73) ≡ int → (b == 90) ≡ truth → (b == 76) ≡ named →
-    Fits (if ends then Result ps else if int then Params (ps ++ Int ∷ []) else if truth then Params (ps ++ Truth ∷ []) else if named then ParamName ps [] else Wrong) d s →
+    Fits (if ends then Result ps else if int then Params (ps ++ Int ∷ []) else if truth then Params (ps ++ Truth ∷ []) else if named then
+    ParamName ps [] else Wrong) d s →
     Rest ps (b ∷ d) s
 param_fits ps b d s true int truth named e1 e2 e3 e4 h = subst (λ c. Rest ps (c ∷ d) s) (sym (same b 41 e1)) (closed ps d s h)
 param_fits ps b d s false true truth named e1 e2 e3 e4 h = more ps Int (b ∷ d) d s tt (ap (λ c. c ∷ d) (same b 73 e2)) h
@@ -180,7 +190,8 @@ named_answer ps b d s e h = record {
 
 answer_fits : (ps : List FieldType) (b : ℕ) (d : List ℕ) (s : Signature) (nothing int truth named : Bool) →
     (b == 86) ≡ nothing → (b == 73) ≡ int → (b == 90) ≡ truth → (b == 76) ≡ named →
-    Fits (if nothing then whole ps None else if int then whole ps (Some Int) else if truth then whole ps (Some Truth) else if named then ResultName ps [] else Wrong) d s →
+    Fits (if nothing then whole ps None else if int then whole ps (Some Int) else if truth then whole ps (Some Truth) else if named then
+    ResultName ps [] else Wrong) d s →
     Answer ps (b ∷ d) s
 answer_fits ps b d s true int truth named e1 e2 e3 e4 h = ended_answer ps None (b ∷ []) d s tt (ap (λ c. c ∷ []) (same b 86 e1)) h
 answer_fits ps b d s false true truth named e1 e2 e3 e4 h = ended_answer ps (Some Int) (b ∷ []) d s tt (ap (λ c. c ∷ []) (same b 73 e2)) h
@@ -203,7 +214,8 @@ answer_name_fits ps acc b d s false e h = record {
   is = h.is ∙ ap (λ n. let w : Signature = record { params = ps; result = Some (Named n) } in w) (append_assoc acc (b ∷ []) h.name);
 }
 
-begin_fits : (b : ℕ) (d : List ℕ) (s : Signature) (opens : Bool) → (b == 40) ≡ opens → Fits (if opens then Params [] else Wrong) d s → Opened (b ∷ d) s
+begin_fits : (b : ℕ) (d : List ℕ) (s : Signature) (opens : Bool) → (b == 40) ≡ opens → Fits (if opens then Params [] else Wrong) d s →
+    Opened (b ∷ d) s
 begin_fits b d s true e h = record { tail = d; text = ap (λ c. c ∷ d) (same b 40 e); rest = h }
 begin_fits b d s false e h = absurd h
 
@@ -234,7 +246,8 @@ main_text = codes "([Ljava/lang/String;)V"
 
 opened_descriptor : (d : Name) (s : Signature) → Opened d s → IsMethodDescriptor d s
 opened_descriptor d s o =
-    subst (λ x. IsMethodDescriptor d x) (sym o.rest.is) (types.plain o.rest.plain o.rest.plain_answer (o.text ∙ ap (λ l. 40 ∷ l) o.rest.text))
+    subst (λ x. IsMethodDescriptor d x) (sym o.rest.is)
+    (types.plain o.rest.plain o.rest.plain_answer (o.text ∙ ap (λ l. 40 ∷ l) o.rest.text))
 
 method_sound : (d : Name) (s : Signature) (b : Bool) → bytes_eq d main_text ≡ b →
     (if b then Some main_signature else signature_in (fold reads Begins d)) ≡ Some s → IsMethodDescriptor d s
@@ -253,7 +266,8 @@ whole_chosen d s true e h =
     no_whole w = cc
 whole_chosen d s false e h = ap signature_in h
 
-method_complete : (d : Name) (s : Signature) → IsMethodDescriptor d s → (if bytes_eq d main_text then Some main_signature else signature_in (fold reads Begins d)) ≡ Some s
+method_complete : (d : Name) (s : Signature) → IsMethodDescriptor d s →
+    (if bytes_eq d main_text then Some main_signature else signature_in (fold reads Begins d)) ≡ Some s
 method_complete d s (types.plain h k e) =
     whole_chosen d s (bytes_eq d main_text) refl (ap (fold reads Begins) e ∙ signature_read s.params s.result h k)
 method_complete d s (types.main is e) =
@@ -264,7 +278,8 @@ pub method_exact : (d : Name) (s : Signature) → (signature_of d ≡ Some s) �
 unfolding signature_of
 method_exact d s = (method_sound d s (bytes_eq d main_text) refl, method_complete d s)
 
-field_sound : (d : Name) (t : FieldType) (r : Reading) → fold reads (Result []) d ≡ r → result_in (signature_in r) ≡ Some t → IsFieldDescriptor d t
+field_sound : (d : Name) (t : FieldType) (r : Reading) → fold reads (Result []) d ≡ r → result_in (signature_in r) ≡ Some t →
+    IsFieldDescriptor d t
 field_sound d t Begins e h = absurd cc
 field_sound d t (Params ps) e h = absurd cc
 field_sound d t (ParamName ps acc) e h = absurd cc

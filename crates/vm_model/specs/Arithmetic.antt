@@ -1,7 +1,9 @@
 -- Ints are 32-bit two's complement: sums, differences and products wrap, and quotients are cut toward zero (JVMS 6.5).
-use Rattle.std.specs.Prelude.{ℕ, ℤ, pos, negsuc, ◌+ℤ◌, ◌-ℤ◌, ◌*ℤ◌, Bool, not, ◌&&◌, List, Option, Some, None, if◌then◌else◌, int_lt, int_le, int_div, int_rem, slice_get}
+use Rattle.std.specs.Prelude.{ℕ, ℤ, pos, negsuc, ◌+ℤ◌, ◌-ℤ◌, ◌*ℤ◌, Bool, not, ◌&&◌, List, Option, Some, None, if◌then◌else◌, int_lt, int_le}
+use Rattle.std.specs.Prelude.{int_div, int_rem, slice_get}
 use Rattle.std.specs.Int.{int_wrap}
-use Rattle.vm_model.specs.Actions.{Operation, Plus, Minus, Times, Divide, Remain, Comparison, Equal, Unequal, Less, AtLeast, Greater, AtMost}
+use Rattle.vm_model.specs.Actions.{Operation, Plus, Minus, Times, Divide, Remain, Comparison, Equal, Unequal, Less, AtLeast, Greater}
+use Rattle.vm_model.specs.Actions.{AtMost}
 use mir.Syntax.{w32}
 
 abbrev pub wrap : ℤ → ℤ

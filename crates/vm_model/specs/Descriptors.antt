@@ -7,7 +7,8 @@ use Rattle.vm_model.specs.declared.types.Signature.{Signature as KeptSignature}
 use Rattle.vm_model.specs.declared.types.Stage.{Stage}
 use Rattle.vm_model.specs.declared.types.Stage.TheVariants as stages
 use Rattle.vm_model.specs.declared.types.Next.{Next}
-use Rattle.vm_model.specs.Types.{FieldType, Int, Truth, Named, Texts, Signature, Reading, Begins, Params, ParamName, Result, ResultName, Whole, Wrong}
+use Rattle.vm_model.specs.Types.{FieldType, Int, Truth, Named, Texts, Signature, Reading, Begins, Params, ParamName, Result, ResultName}
+use Rattle.vm_model.specs.Types.{Whole, Wrong}
 
 abbrev pub type_view : Kept → FieldType
 type_view kept.Int = Int

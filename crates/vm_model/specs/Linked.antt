@@ -1,4 +1,5 @@
--- What every linked program meets: its instructions have the arguments of their opcodes, their numbers are in range, and its descriptors link.
+-- What every linked program meets: its instructions have the arguments of their opcodes, their numbers are in range, and its descriptors
+-- link.
 use Rattle.std.specs.Prelude.{◌≡◌, ℕ, List, map, Bool, true, false, Option, Some, None, ◌&&◌, ◌||◌, is_some, nat_lt, length, codes}
 use Rattle.std.specs.List.{list_all, list_any}
 use Rattle.std.specs.Str.{bytes_eq}

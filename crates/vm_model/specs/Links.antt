@@ -1,6 +1,7 @@
 -- What class files link to, and what is wrong where they don't link. All that is judged stands in one order:
 -- class by class, the super class, the descriptors of fields and of methods, and what instructions name, by method and place.
-use Rattle.std.specs.Prelude.{◌≡◌, ℕ, ◌+◌, ◌+ℤ◌, ℤ, pos, List, [], ◌∷◌, ◌++◌, length, map, Bool, true, false, not, Option, Some, None, Result, Ok, Err, if◌then◌else◌, nat_lt, ◌==◌, ◌&&◌, ◌||◌, bit_and, codes, slice_get, option_map}
+use Rattle.std.specs.Prelude.{◌≡◌, ℕ, ◌+◌, ◌+ℤ◌, ℤ, pos, List, [], ◌∷◌, ◌++◌, length, map, Bool, true, false, not, Option, Some, None}
+use Rattle.std.specs.Prelude.{Result, Ok, Err, if◌then◌else◌, nat_lt, ◌==◌, ◌&&◌, ◌||◌, bit_and, codes, slice_get, option_map}
 use Rattle.std.specs.List.{position, position_or_len, flat_map, filter, list_any}
 use Rattle.std.specs.Ordering.{int_eq}
 use Rattle.std.specs.Str.{bytes_eq}
@@ -14,7 +15,8 @@ use Rattle.cls_tree.specs.Pool.{text_at, class_at, field_at, method_at, pushed_a
 use Rattle.cls_tree.specs.Pool as pool
 use Rattle.vm_model.specs.declared.linked.Built.{Built as BuiltIn}
 use Rattle.vm_model.specs.declared.linked.Built.TheVariants as built
-use Rattle.vm_model.specs.Program.{Args, Nothing, Int, Text, Local, Add, Jump, Table, Class, Field, Method, Built, Instr, FieldOf, MethodOf, ClassOf, Program}
+use Rattle.vm_model.specs.Program.{Args, Nothing, Int, Text, Local, Add, Jump, Table, Class, Field, Method, Built, Instr, FieldOf, MethodOf}
+use Rattle.vm_model.specs.Program.{ClassOf, Program}
 use Rattle.vm_model.specs.Types.{FieldType, Named, is_main_alone, signature_of, type_of, types_of_signature}
 use Rattle.vm_model.specs.Linked.{is_built_in, fits_code}
 
@@ -75,7 +77,12 @@ abbrev pub is_static : ℕ → Bool
 is_static access = bit_and access 8 == 8
 
 abbrev pub declared : List Const → Member → Declared
-declared pool m = record { name = or_empty (text_at pool m.name); descriptor = or_empty (text_at pool m.descriptor); is_static = is_static m.access }
+declared pool m = record {
+  name = or_empty (text_at pool m.name);
+  descriptor = or_empty (text_at pool m.descriptor);
+  is_static =
+      is_static m.access;
+}
 
 -- a class, by what its constants say
 pub record Outline : Type 0 where
@@ -169,12 +176,14 @@ built_members =
     ∷ member (codes "mungo/lib/Session") (codes "send") (codes "(Ljava/lang/String;Ljava/lang/String;)V") 184 built.Send
     ∷ member (codes "mungo/lib/Session") (codes "sendInt") (codes "(Ljava/lang/String;Ljava/lang/String;I)V") 184 built.SendInt
     ∷ member (codes "mungo/lib/Session") (codes "sendBoolean") (codes "(Ljava/lang/String;Ljava/lang/String;Z)V") 184 built.SendTruth
-    ∷ member (codes "mungo/lib/Session") (codes "sendString") (codes "(Ljava/lang/String;Ljava/lang/String;Ljava/lang/String;)V") 184 built.SendText
+    ∷ member (codes "mungo/lib/Session") (codes "sendString") (codes "(Ljava/lang/String;Ljava/lang/String;Ljava/lang/String;)V") 184
+    built.SendText
     ∷ member (codes "mungo/lib/Session") (codes "look") (codes "(Ljava/lang/String;)Ljava/lang/String;") 184 built.Look
     ∷ member (codes "mungo/lib/Session") (codes "take") (codes "(Ljava/lang/String;Ljava/lang/String;)V") 184 built.Take
     ∷ member (codes "mungo/lib/Session") (codes "takeInt") (codes "(Ljava/lang/String;Ljava/lang/String;)I") 184 built.TakeInt
     ∷ member (codes "mungo/lib/Session") (codes "takeBoolean") (codes "(Ljava/lang/String;Ljava/lang/String;)Z") 184 built.TakeTruth
-    ∷ member (codes "mungo/lib/Session") (codes "takeString") (codes "(Ljava/lang/String;Ljava/lang/String;)Ljava/lang/String;") 184 built.TakeText
+    ∷ member (codes "mungo/lib/Session") (codes "takeString") (codes "(Ljava/lang/String;Ljava/lang/String;)Ljava/lang/String;") 184
+    built.TakeText
     ∷ member (codes "mungo/lib/Session") (codes "refuse") (codes "(Ljava/lang/String;Ljava/lang/String;)V") 184 built.Refuse
     ∷ []
 
@@ -185,7 +194,8 @@ abbrev pub built_in : ℕ → Reference → List Member_of → Option BuiltIn
 built_in op r [] = None
 built_in op r (b ∷ bs) = if is_named op r b then Some b.member else built_in op r bs
 
--- the member of a loaded class that an opcode names: a field for getfield and putfield, a static method for invokestatic, another method for the other two
+-- the member of a loaded class that an opcode names: a field for getfield and putfield, a static method for invokestatic, another method
+-- for the other two
 abbrev pub field_of_class : Signature → Option Outline → Option ℕ
 field_of_class m None = None
 field_of_class m (Some o) = position (is_member m false) o.own

@@ -5,7 +5,8 @@ use Rattle.mg_text.specs.declared.event.Ending.{Ending}
 use Rattle.vm_model.specs.declared.value.Value.{Value}
 use Rattle.vm_model.specs.Messages.{Messages}
 
--- What runs of a method: its class and its number there, the number of its next instruction, its locals, of which some may be unset, and its operands, the topmost last.
+-- What runs of a method: its class and its number there, the number of its next instruction, its locals, of which some may be unset, and
+-- its operands, the topmost last.
 pub record Frame : Type 0 where
   pub class : ℕ
   pub method : ℕ

@@ -7,7 +7,8 @@ use Rattle.vm_model.specs.Messages.{Messages}
 use Rattle.vm_model.specs.Machine.{Machine, Stepped, Stops, Steps}
 
 -- From a machine and its messages a run comes to this ending after so many instructions, the last counted, with these events.
-pub record Runs (step : Machine → Messages → Stepped) (m : Machine) (q : Messages) (count : ℕ) (events : List Event) (ending : Ending) : Type 0 where
+pub record Runs (step : Machine → Messages → Stepped) (m : Machine) (q : Messages) (count : ℕ) (events : List Event)
+    (ending : Ending) : Type 0 where
   pub steps : ℕ
   pub last : Machine
   pub messages : Messages

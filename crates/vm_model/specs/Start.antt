@@ -26,7 +26,15 @@ pub record IsMain (p : Program) (name : Name) (class method : ℕ) : Type 0 wher
 -- the machine of a `main`: one frame, whose locals are unset, and no objects
 abbrev pub started : Program → ℕ → ℕ → Machine
 started p class method = record {
-  frame = record { class = class; method = method; place = 0; locals = replicate (max_locals_in (method_at p class method)) None; operands = []; told = None };
+  frame = record {
+    class = class;
+    method = method;
+    place = 0;
+    locals = replicate (max_locals_in (method_at p class method)) None;
+    operands =
+        [];
+    told = None;
+  };
   callers = [];
   heap = [];
 }

@@ -1,5 +1,6 @@
 -- What a step does: first the tests, then the instruction, one line for each action.
-use Rattle.std.specs.Prelude.{ℕ, zero, ◌+◌, ◌-◌, ℤ, pos, neg_ℤ, ◌+ℤ◌, List, [], ◌∷◌, ◌++◌, length, map, replicate, Bool, true, false, not, Option, Some, None, if◌then◌else◌, ◌==◌, slice_get, slice_set, codes}
+use Rattle.std.specs.Prelude.{ℕ, zero, ◌+◌, ◌-◌, ℤ, pos, neg_ℤ, ◌+ℤ◌, List, [], ◌∷◌, ◌++◌, length, map, replicate, Bool, true, false, not}
+use Rattle.std.specs.Prelude.{Option, Some, None, if◌then◌else◌, ◌==◌, slice_get, slice_set, codes}
 use Rattle.std.specs.Str.{bytes_eq}
 use Rattle.std.specs.Fmt.{signed_decimal}
 use Rattle.mg_text.specs.Call.{Name}
@@ -21,7 +22,9 @@ use Rattle.vm_model.specs.Types as types
 use Rattle.vm_model.specs.Messages.{Messages, on_way, with_list, sending, role_named}
 use Rattle.vm_model.specs.Machine.{Frame, Object, Machine, Stepped, Went, Waits, Stops}
 use Rattle.vm_model.specs.Arithmetic.{wrap, computed, compares, switched}
-use Rattle.vm_model.specs.Actions.{Calling, Telling, Silent, Static, Operation, Comparison, Action, Push, Load, Store, Pop, Double, Swap, Compute, Negate, Increase, IfZero, IfBoth, IfNull, Go, Switch, Return, Read, Write, Make, Call, Use, action}
+use Rattle.vm_model.specs.Actions.{Calling, Telling, Silent, Static, Operation, Comparison, Action, Push, Load, Store, Pop, Double, Swap}
+use Rattle.vm_model.specs.Actions.{Compute, Negate, Increase, IfZero, IfBoth, IfNull, Go, Switch, Return, Read, Write, Make, Call, Use}
+use Rattle.vm_model.specs.Actions.{action}
 use Rattle.vm_model.specs.Tests.{needs, wrong, on_top, below, method_of_frame, max_locals_in, name_of_method, is_null}
 
 abbrev pub broken : BadKind → Stepped
@@ -120,7 +123,8 @@ returns q m vs (f ∷ fs) = Went (record m { frame = record f { operands = f.ope
 
 abbrev pub reads_object : Messages → Machine → List Value → ℕ → Option Object → Stepped
 reads_object q m rest field None = broken bad.Member
-reads_object q m rest field (Some o) = elim (slice_get o.fields field) [ None ↦ broken bad.Member | Some v ↦ goes q (next m (rest ++ v ∷ [])) ]
+reads_object q m rest field (Some o) =
+    elim (slice_get o.fields field) [ None ↦ broken bad.Member | Some v ↦ goes q (next m (rest ++ v ∷ [])) ]
 
 abbrev pub reads : Messages → Machine → ℕ → List Value → List Value → Stepped
 reads q m field rest (values.Object n ∷ []) = reads_object q m rest field (slice_get m.heap n)
@@ -149,7 +153,8 @@ blank f = blank_of (type_of f.descriptor)
 abbrev pub makes : Program → Messages → Machine → ℕ → List Value → Stepped
 makes p q m class rest =
     tells q (seen.Made (length m.heap) (class_name p class))
-    (next (record m { heap = m.heap ++ record { class = class; fields = map blank (fields_in (class_at p class)) } ∷ [] }) (rest ++ values.Object (length m.heap) ∷ []))
+    (next (record m { heap = m.heap ++ record { class = class; fields = map blank (fields_in (class_at p class)) } ∷ [] })
+    (rest ++ values.Object (length m.heap) ∷ []))
 
 -- the frame of a method: its arguments are the first locals, and the others are unset
 abbrev pub entered : Program → ℕ → ℕ → List Value → Option ℕ → Frame

@@ -1,5 +1,6 @@
 -- What an instruction needs of the machine, and what is wrong where it isn't there.
-use Rattle.std.specs.Prelude.{ℕ, ◌+◌, ◌-◌, List, [], ◌∷◌, ◌++◌, length, take, drop, map, Bool, true, false, Option, Some, None, if◌then◌else◌, nat_lt, ◌&&◌, ◌||◌, not, is_some, codes, slice_get}
+use Rattle.std.specs.Prelude.{ℕ, ◌+◌, ◌-◌, List, [], ◌∷◌, ◌++◌, length, take, drop, map, Bool, true, false, Option, Some, None}
+use Rattle.std.specs.Prelude.{if◌then◌else◌, nat_lt, ◌&&◌, ◌||◌, not, is_some, codes, slice_get}
 use Rattle.std.specs.Str.{bytes_eq}
 use Rattle.mg_text.specs.Call.{Name}
 use Rattle.mg_text.specs.declared.event.BadKind.{BadKind}
@@ -11,7 +12,8 @@ use Rattle.vm_model.specs.declared.linked.Built.TheVariants as built
 use Rattle.vm_model.specs.Program.{Program, FieldOf, MethodOf, class_name, method_at, field_at}
 use Rattle.vm_model.specs.Types.{FieldType, Named, Texts, Signature, signature_of, type_of}
 use Rattle.vm_model.specs.Machine.{Frame, Object, Machine}
-use Rattle.vm_model.specs.Actions.{Sort, Number, Reference, Calling, Static, Action, Push, Load, Store, Pop, Double, Swap, Compute, Negate, Increase, IfZero, IfBoth, IfNull, Go, Switch, Return, Read, Write, Make, Call, Use}
+use Rattle.vm_model.specs.Actions.{Sort, Number, Reference, Calling, Static, Action, Push, Load, Store, Pop, Double, Swap, Compute, Negate}
+use Rattle.vm_model.specs.Actions.{Increase, IfZero, IfBoth, IfNull, Go, Switch, Return, Read, Write, Make, Call, Use}
 
 -- what an operand or a local must be
 pub data Want : Type 0 where
@@ -205,7 +207,11 @@ returned (Some sort) result = Returned sort result ∷ []
 -- the frame that a value is returned to
 abbrev pub returning : Program → List Frame → Option Sort → Needs → Needs
 returning p [] sort n = record n { operands = 0; max_stack = 0 }
-returning p (f ∷ fs) sort n = record n { operands = length f.operands + length (returned sort None); max_stack = max_stack_in (method_of_frame p f) }
+returning p (f ∷ fs) sort n = record n {
+  operands = length f.operands + length (returned sort None);
+  max_stack =
+      max_stack_in (method_of_frame p f);
+}
 
 abbrev pub return_needs : Program → Machine → Option Sort → Option FieldType → Needs
 return_needs p m sort result =

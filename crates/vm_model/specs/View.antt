@@ -6,7 +6,8 @@ use Rattle.vm_model.specs.declared.linked.LinkedInstr.{LinkedInstr}
 use Rattle.vm_model.specs.declared.linked.LinkedMethod.{LinkedMethod}
 use Rattle.vm_model.specs.declared.linked.LinkedField.{LinkedField}
 use Rattle.vm_model.specs.declared.linked.LinkedClass.{LinkedClass}
-use Rattle.vm_model.specs.Program.{Args, Nothing, Int, Text, Local, Add, Jump, Table, Class, Field, Method, Built, Instr, FieldOf, MethodOf, ClassOf, Program}
+use Rattle.vm_model.specs.Program.{Args, Nothing, Int, Text, Local, Add, Jump, Table, Class, Field, Method, Built, Instr, FieldOf, MethodOf}
+use Rattle.vm_model.specs.Program.{ClassOf, Program}
 
 abbrev pub args_of : LinkedArgs → Args
 args_of kept.None = Nothing

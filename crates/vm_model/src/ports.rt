@@ -1,7 +1,8 @@
 //! The messages between the roles of a run: a queue for each ordered pair of them.
 //! Taking the first message of a queue shifts no other.
 
-ghost use Rattle.std.specs.Prelude.{◌≡◌, ◌<◌, [], ◌∷◌, ◌++◌, length, map, drop, slice_get, slice_set, option_map, IfOk, OnOk, OnErr, replicate};
+ghost use Rattle.std.specs.Prelude.{◌≡◌, ◌<◌, [], ◌∷◌, ◌++◌, length, map, drop, slice_get, slice_set, option_map, IfOk, OnOk, OnErr};
+ghost use Rattle.std.specs.Prelude.{replicate};
 ghost use Rattle.std.specs.List.{IsDistinct};
 ghost use Rattle.std.specs.Str.{bytes_eq};
 ghost use Rattle.vm_model.specs.Messages.{on_way, sending, with_list, role_named, no_messages, or_nothing};
@@ -55,7 +56,8 @@ fn table_of(alloc: Global, roles: &[Text]) -> Result<Names, Memory>
 
 /// Appends a message to the queue of a receiver, where there is one.
 fn append_to(queues: &mut Vec<VecDeque<Sent>>, to: usize, message: Sent) -> Result<(), Memory>
-    ensures ok { OnOk result (map (λ queue. queue.items) queues.new.items ≡ (let lists = map (λ queue. queue.items) queues.old.items in slice_set lists to (or_nothing (slice_get lists to) ++ message ∷ []))) }
+    ensures ok { OnOk result (map (λ queue. queue.items) queues.new.items
+        ≡ (let lists = map (λ queue. queue.items) queues.old.items in slice_set lists to (or_nothing (slice_get lists to) ++ message ∷ []))) }
     ensures err { OnErr result (map (λ queue. queue.items) queues.new.items ≡ map (λ queue. queue.items) queues.old.items) }
 {
     if to < queues.len() {
@@ -70,7 +72,8 @@ fn append_to(queues: &mut Vec<VecDeque<Sent>>, to: usize, message: Sent) -> Resu
 
 /// Takes the first message of the queue of a receiver.
 fn take_first(queues: &mut Vec<VecDeque<Sent>>, to: usize) -> Option<Sent>
-    ensures list { map (λ queue. queue.items) queues.new.items ≡ (let lists = map (λ queue. queue.items) queues.old.items in slice_set lists to (drop 1 (or_nothing (slice_get lists to)))) }
+    ensures list { map (λ queue. queue.items) queues.new.items
+        ≡ (let lists = map (λ queue. queue.items) queues.old.items in slice_set lists to (drop 1 (or_nothing (slice_get lists to)))) }
     ensures first { result ≡ slice_get (or_nothing (slice_get (map (λ queue. queue.items) queues.old.items) to)) 0 }
 {
     if to < queues.len() {

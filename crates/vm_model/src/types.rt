@@ -1,7 +1,8 @@
 //! Descriptors: the types of fields, parameters and results, read from left to right (JVMS 4.3).
 //! Nothing is copied: a class's name is a part of the descriptor.
 
-ghost use Rattle.std.specs.Prelude.{◌≡◌, ◌+◌, ◌<◌, ◌≤◌, ◌++◌, List as Seq, map, length, option_map, option_to_list, slice_index, IfOk, IfSome, OnOk, [], fold};
+ghost use Rattle.std.specs.Prelude.{◌≡◌, ◌+◌, ◌<◌, ◌≤◌, ◌++◌, List as Seq, map, length, option_map, option_to_list, slice_index, IfOk};
+ghost use Rattle.std.specs.Prelude.{IfSome, OnOk, [], fold};
 ghost use Rattle.std.specs.Str.{IsCharBoundary, bytes_eq};
 ghost use Rattle.vm_model.specs.Types.{signature_of, signature_in, type_of, reads, FieldType as Typed};
 ghost use Rattle.vm_model.specs.Descriptors.{type_view, types_view, signature_view, reading_of, after_of, IsStage, IsNext};
@@ -68,7 +69,8 @@ fn read_param<'a>(descriptor: &'a str, at: usize, byte: u8) -> Option<Next<'a>>
     requires within { at < length descriptor.now }
     requires byte { byte ≡ slice_index descriptor.now at }
     ensures next { IfSome result (λ n. IsNext descriptor.now (at + 1) n) }
-    ensures reads { (params : Seq Typed) → reads (reading_of descriptor.now at params Stage.Params) byte ≡ after_of descriptor.now (at + 1) params result }
+    ensures reads { (params : Seq Typed) → reads (reading_of descriptor.now at params Stage.Params) byte ≡ after_of descriptor.now
+        (at + 1) params result }
 {
     match byte {
         b')' => to(Stage::Answer),
@@ -85,7 +87,8 @@ fn read_answer<'a>(descriptor: &'a str, at: usize, byte: u8) -> Option<Next<'a>>
     requires within { at < length descriptor.now }
     requires byte { byte ≡ slice_index descriptor.now at }
     ensures next { IfSome result (λ n. IsNext descriptor.now (at + 1) n) }
-    ensures reads { (params : Seq Typed) → reads (reading_of descriptor.now at params Stage.Answer) byte ≡ after_of descriptor.now (at + 1) params result }
+    ensures reads { (params : Seq Typed) → reads (reading_of descriptor.now at params Stage.Answer) byte ≡ after_of descriptor.now
+        (at + 1) params result }
 {
     match byte {
         b'V' => to(Stage::Whole(None)),
@@ -104,7 +107,8 @@ fn read_param_name<'a>(descriptor: &'a str, at: usize, byte: u8, start: usize) -
     requires order { start ≤ at }
     requires cut { IsCharBoundary descriptor.now start }
     ensures next { IfSome result (λ n. IsNext descriptor.now (at + 1) n) }
-    ensures reads { (params : Seq Typed) → reads (reading_of descriptor.now at params (Stage.ParamName start)) byte ≡ after_of descriptor.now (at + 1) params result }
+    ensures reads { (params : Seq Typed) → reads (reading_of descriptor.now at params (Stage.ParamName start)) byte
+        ≡ after_of descriptor.now (at + 1) params result }
 {
     if byte == b';' {
         param(FieldType::Named(&descriptor[start..at]))
@@ -121,7 +125,8 @@ fn read_answer_name<'a>(descriptor: &'a str, at: usize, byte: u8, start: usize) 
     requires order { start ≤ at }
     requires cut { IsCharBoundary descriptor.now start }
     ensures next { IfSome result (λ n. IsNext descriptor.now (at + 1) n) }
-    ensures reads { (params : Seq Typed) → reads (reading_of descriptor.now at params (Stage.AnswerName start)) byte ≡ after_of descriptor.now (at + 1) params result }
+    ensures reads { (params : Seq Typed) → reads (reading_of descriptor.now at params (Stage.AnswerName start)) byte
+        ≡ after_of descriptor.now (at + 1) params result }
 {
     if byte == b';' {
         to(Stage::Whole(Some(FieldType::Named(&descriptor[start..at]))))
@@ -136,7 +141,8 @@ fn read<'a>(descriptor: &'a str, at: usize, byte: u8, stage: Stage<'a>) -> Optio
     requires byte { byte ≡ slice_index descriptor.now at }
     requires stage { (params : Seq Typed) × IsStage descriptor.now at params stage }
     ensures next { IfSome result (λ n. IsNext descriptor.now (at + 1) n) }
-    ensures reads { (params : Seq Typed) → IsStage descriptor.now at params stage.entry → reads (reading_of descriptor.now at params stage.entry) byte ≡ after_of descriptor.now (at + 1) params result }
+    ensures reads { (params : Seq Typed) → IsStage descriptor.now at params stage.entry →
+        reads (reading_of descriptor.now at params stage.entry) byte ≡ after_of descriptor.now (at + 1) params result }
 {
     match stage {
         Stage::Begins => {
@@ -171,7 +177,8 @@ fn read_from<'a>(
     first: Stage<'a>,
 ) -> Result<Option<Signature<'a>>, Memory>
     requires { IsStage descriptor.now 0 [] first }
-    ensures { IfOk result (λ s. option_map signature_view s ≡ signature_in (fold reads (reading_of descriptor.now 0 [] first.entry) descriptor.now)) }
+    ensures { IfOk result (λ s. option_map signature_view s
+        ≡ signature_in (fold reads (reading_of descriptor.now 0 [] first.entry) descriptor.now)) }
 {
     let mut params = Vec::new(alloc);
     let mut stage = first;

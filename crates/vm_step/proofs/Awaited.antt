@@ -7,7 +7,8 @@ use Rattle.vm_model.specs.declared.linked.Built.{Built as BuiltIn}
 use Rattle.vm_model.specs.declared.linked.Built.TheVariants as built
 use Rattle.vm_model.specs.Messages.{Messages, on_way, role_named}
 use Rattle.vm_model.specs.Machine.{Machine}
-use Rattle.vm_model.specs.Actions.{Action, Push, Load, Store, Pop, Double, Swap, Compute, Negate, Increase, IfZero, IfBoth, IfNull, Go, Switch, Return, Read, Write, Make, Call, Use}
+use Rattle.vm_model.specs.Actions.{Action, Push, Load, Store, Pop, Double, Swap, Compute, Negate, Increase, IfZero, IfBoth, IfNull, Go}
+use Rattle.vm_model.specs.Actions.{Switch, Return, Read, Write, Make, Call, Use}
 use Rattle.vm_model.specs.Step.{Payload, other_role, takes_first}
 use Rattle.vm_step.specs.Doing.{waits_in}
 use Rattle.vm_step.specs.inner.Sessions.{looks_head, looks_role, looks_by, taken_where, takes_head, takes_role, takes_by}

@@ -1,5 +1,6 @@
 -- What the frequent actions do where nothing is wrong with them.
-use Rattle.std.proofs.Common.{◌≡◌, ℕ, ℤ, ◌+◌, ◌-◌, ◌<◌, ◌≤◌, Bool, true, false, List, [], ◌∷◌, ◌++◌, length, slice_get, Option, Some, None, nat_lt, refl, sym, ap, ◌∙◌, arith, pos, ◌+ℤ◌}
+use Rattle.std.proofs.Common.{◌≡◌, ℕ, ℤ, ◌+◌, ◌-◌, ◌<◌, ◌≤◌, Bool, true, false, List, [], ◌∷◌, ◌++◌, length, slice_get, Option, Some, None}
+use Rattle.std.proofs.Common.{nat_lt, refl, sym, ap, ◌∙◌, arith, pos, ◌+ℤ◌}
 use Rattle.std.specs.Prelude.{neg_ℤ, if◌then◌else◌}
 use Rattle.std.proofs.lemmas.Option.{slice_get_within}
 use Rattle.std.proofs.lemmas.Bool.Decides.{nat_tests}
@@ -16,16 +17,20 @@ use Rattle.std.proofs.lemmas.List.{map_push, length-map, take_all}
 use Rattle.vm_step.specs.declared.state.Cell.{Cell}
 use Rattle.vm_step.specs.declared.state.Cell.TheVariants as cells
 use Rattle.vm_step.specs.State.{value_of, values_of}
-use Rattle.vm_model.specs.Actions.{Action, Sort, Number, Reference, Operation, Comparison, Push, Load, Store, Pop, Double, Compute, Negate, Increase, IfZero, IfBoth, IfNull, Go, Switch}
+use Rattle.vm_model.specs.Actions.{Action, Sort, Number, Reference, Operation, Comparison, Push, Load, Store, Pop, Double, Compute, Negate}
+use Rattle.vm_model.specs.Actions.{Increase, IfZero, IfBoth, IfNull, Go, Switch}
 use Rattle.vm_model.specs.Tests as model
-use Rattle.vm_model.specs.Tests.{Needs, needs, wrong, wrong_by, below, on_top, misfits, misfit_read, misfit_local, misfit_sort, some_of, is_kind, is_member, is_null, max_stack_in, method_of_frame}
+use Rattle.vm_model.specs.Tests.{Needs, needs, wrong, wrong_by, below, on_top, misfits, misfit_read, misfit_local, misfit_sort, some_of}
+use Rattle.vm_model.specs.Tests.{is_kind, is_member, is_null, max_stack_in, method_of_frame}
 use Rattle.vm_model.specs.Step.{code_in, goes, next, at_place, with_local, pushed, computed_to, branch, same_truth}
 use Rattle.vm_step.specs.Alone.{SameMethod, Alone, NextAlone, AllAlone}
 use Rattle.vm_step.specs.inner.Tops.{at_top, int_in, int_of_local}
-use Rattle.vm_step.specs.inner.Acts.{stored_by, doubled_by, computes_by, negates_by, increased_by, on_zero_by, on_both_by, on_null_by, switches_by}
+use Rattle.vm_step.specs.inner.Acts.{stored_by, doubled_by, computes_by, negates_by, increased_by, on_zero_by, on_both_by, on_null_by}
+use Rattle.vm_step.specs.inner.Acts.{switches_by}
 use Rattle.vm_step.proofs.Acts.{by_one, by_two, There, there}
 use Rattle.vm_step.proofs.Tops.{doubles, below_map, put_last}
-use Rattle.vm_step.proofs.Whole.{push_is, load_is, store_is, pop_is, double_is, compute_is, negate_is, increase_is, if_zero_is, if_both_is, if_null_is, go_is, switch_is}
+use Rattle.vm_step.proofs.Whole.{push_is, load_is, store_is, pop_is, double_is, compute_is, negate_is, increase_is, if_zero_is, if_both_is}
+use Rattle.vm_step.proofs.Whole.{if_null_is, go_is, switch_is}
 
 not_below : (a b : ℕ) → b ≤ a → nat_lt a b ≡ false
 not_below a b h = grind (arith, nat_tests)
@@ -34,7 +39,14 @@ nothing_wrong : (n : Needs) (m : Machine) (found : List (Option BadKind)) → le
     some_of is_kind found ≡ false → n.locals ≤ n.of_locals → some_of is_member found ≡ false → n.returns ≡ true → n.operands ≤ n.max_stack →
     None ≡ wrong_by n m found
 nothing_wrong n m found enough kinds locals members returns room =
-    sym (rw (not_below (length m.frame.operands) (length n.takes) enough, kinds, not_below n.of_locals n.locals locals, members, returns, not_below n.max_stack n.operands room) refl)
+    sym (rw (
+      not_below (length m.frame.operands) (length n.takes) enough,
+      kinds,
+      not_below n.of_locals n.locals locals,
+      members,
+      returns,
+      not_below n.max_stack n.operands room,
+    ) refl)
 
 int_is : (o : Option Value) (x : ℤ) → Some x ≡ int_in o → o ≡ Some (values.Int x)
 int_is (Some (values.Int y)) x e = cc
@@ -95,7 +107,8 @@ module _ (max : ℕ) (m m' : Machine) where
         ∙ ap (pushed q m m.frame.operands) holds ∙ ap (λ n. Went n q None) (sym is),
   )
 
-  pub increase_alone : (local : ℕ) (by : ℤ) (x : ℤ) → Some x ≡ int_of_local (slice_get m.frame.locals local) → length m.frame.operands ≤ max →
+  pub increase_alone : (local : ℕ) (by : ℤ) (x : ℤ) → Some x ≡ int_of_local (slice_get m.frame.locals local) → length m.frame.operands ≤ max
+      →
       m' ≡ next (with_local m local (values.Int (wrap (x +ℤ by)))) m.frame.operands → Alone max (Increase local by) m m' true
   increase_alone local by x int room is = (
     stays is,
@@ -125,7 +138,8 @@ module _ (max : ℕ) (m m' : Machine) where
       stays is,
       λ p most me q.
           store_is p q m me sort local
-          (nothing_wrong (needs p m (Store sort local)) m (None ∷ misfits p m.heap (model.Sorted sort ∷ []) (on_top 1 m.frame.operands)) some
+          (nothing_wrong (needs p m (Store sort local)) m (None ∷ misfits p m.heap (model.Sorted sort ∷ []) (on_top 1 m.frame.operands))
+          some
           (ap (λ l. some_of is_kind (None ∷ misfits p m.heap (model.Sorted sort ∷ []) l)) (top_one m.frame.operands v some top)
           ∙ ap (λ o. some_of is_kind (None ∷ o ∷ [])) fits)
           (omega arith)
@@ -143,7 +157,8 @@ module _ (max : ℕ) (m m' : Machine) where
           (nothing_wrong (needs p m Pop) m (None ∷ misfits p m.heap (model.Any ∷ []) (on_top 1 m.frame.operands)) some
           (ap (λ l. some_of is_kind (None ∷ misfits p m.heap (model.Any ∷ []) l)) (top_one m.frame.operands t.value some t.is))
           (omega arith)
-          (ap (λ l. some_of is_member (None ∷ misfits p m.heap (model.Any ∷ []) l)) (top_one m.frame.operands t.value some t.is)) refl (omega arith))
+          (ap (λ l. some_of is_member (None ∷ misfits p m.heap (model.Any ∷ []) l)) (top_one m.frame.operands t.value some t.is)) refl
+          (omega arith))
           ∙ ap (λ n. Went n q None) (sym is),
     )
 
@@ -156,7 +171,8 @@ module _ (max : ℕ) (m m' : Machine) where
           (nothing_wrong (needs p m Double) m (None ∷ misfits p m.heap (model.Any ∷ []) (on_top 1 m.frame.operands)) some
           (ap (λ l. some_of is_kind (None ∷ misfits p m.heap (model.Any ∷ []) l)) (top_one m.frame.operands v some top))
           (omega arith)
-          (ap (λ l. some_of is_member (None ∷ misfits p m.heap (model.Any ∷ []) l)) (top_one m.frame.operands v some top)) refl (omega arith))
+          (ap (λ l. some_of is_member (None ∷ misfits p m.heap (model.Any ∷ []) l)) (top_one m.frame.operands v some top)) refl
+          (omega arith))
           ∙ doubles q m m' m.frame.operands v w top same is,
     )
 
@@ -186,7 +202,8 @@ module _ (max : ℕ) (m m' : Machine) where
         stays is,
         λ p most me q.
             if_zero_is p q m me comparison target
-            (nothing_wrong (needs p m (IfZero comparison target)) m (None ∷ misfits p m.heap (model.number ∷ []) (on_top 1 m.frame.operands)) some
+            (nothing_wrong (needs p m (IfZero comparison target)) m
+            (None ∷ misfits p m.heap (model.number ∷ []) (on_top 1 m.frame.operands)) some
             (found p is_kind refl) (omega arith) (found p is_member refl) refl (omega arith))
             ∙ ap (on_zero_by q m comparison target (below 1 m.frame.operands)) (sym int)
             ∙ ap (λ k. Went (at_place m k (below 1 m.frame.operands)) q None) (sym to) ∙ ap (λ n. Went n q None) (sym is),
@@ -199,20 +216,23 @@ module _ (max : ℕ) (m m' : Machine) where
         stays is,
         λ p most me q.
             switch_is p q m me default low targets
-            (nothing_wrong (needs p m (Switch default low targets)) m (None ∷ misfits p m.heap (model.number ∷ []) (on_top 1 m.frame.operands)) some
+            (nothing_wrong (needs p m (Switch default low targets)) m
+            (None ∷ misfits p m.heap (model.number ∷ []) (on_top 1 m.frame.operands)) some
             (found p is_kind refl) (omega arith) (found p is_member refl) refl (omega arith))
             ∙ ap (switches_by q m default low targets (below 1 m.frame.operands)) (sym int)
             ∙ ap (λ k. Went (at_place m k (below 1 m.frame.operands)) q None) (sym to) ∙ ap (λ n. Went n q None) (sym is),
       )
 
-    pub if_null_alone : (wanted : Bool) (target place : ℕ) (v : Value) → at_top m.frame.operands 0 ≡ Some v → misfit_sort Reference v ≡ None →
+    pub if_null_alone : (wanted : Bool) (target place : ℕ) (v : Value) → at_top m.frame.operands 0 ≡ Some v → misfit_sort Reference v ≡ None
+        →
         length m.frame.operands - 1 ≤ max → place ≡ (if same_truth wanted (is_null v) then target else m.frame.place + 1) →
         m' ≡ at_place m place (below 1 m.frame.operands) → Alone max (IfNull wanted target) m m' true
     if_null_alone wanted target place v top fits room to is = (
       stays is,
       λ p most me q.
           if_null_is p q m me wanted target
-          (nothing_wrong (needs p m (IfNull wanted target)) m (None ∷ misfits p m.heap (model.Sorted Reference ∷ []) (on_top 1 m.frame.operands)) some
+          (nothing_wrong (needs p m (IfNull wanted target)) m (None ∷ misfits p m.heap (model.Sorted Reference ∷ [])
+          (on_top 1 m.frame.operands)) some
           (ap (λ l. some_of is_kind (None ∷ misfits p m.heap (model.Sorted Reference ∷ []) l)) (top_one m.frame.operands v some top)
           ∙ ap (λ o. some_of is_kind (None ∷ o ∷ [])) fits)
           (omega arith)
@@ -228,7 +248,8 @@ module _ (max : ℕ) (m m' : Machine) where
         some_of test (None ∷ misfits p m.heap (model.number ∷ model.number ∷ []) (on_top 2 m.frame.operands)) ≡ false
     found_two p test none =
         ap (λ l. some_of test (None ∷ misfits p m.heap (model.number ∷ model.number ∷ []) l))
-        (top_two m.frame.operands (values.Int x) (values.Int y) some (int_is (at_top m.frame.operands 1) x first) (int_is (at_top m.frame.operands 0) y second))
+        (top_two m.frame.operands (values.Int x) (values.Int y) some (int_is (at_top m.frame.operands 1) x first)
+        (int_is (at_top m.frame.operands 0) y second))
         ∙ (rw none refl)
 
     pub compute_alone : (operation : Operation) (z : ℤ) → Some z ≡ computed operation x y → length m.frame.operands - 1 ≤ max →
@@ -237,7 +258,8 @@ module _ (max : ℕ) (m m' : Machine) where
       stays is,
       λ p most me q.
           compute_is p q m me operation
-          (nothing_wrong (needs p m (Compute operation)) m (None ∷ misfits p m.heap (model.number ∷ model.number ∷ []) (on_top 2 m.frame.operands)) some
+          (nothing_wrong (needs p m (Compute operation)) m (None ∷ misfits p m.heap (model.number ∷ model.number ∷ [])
+          (on_top 2 m.frame.operands)) some
           (found_two p is_kind refl) (omega arith) (found_two p is_member refl) refl (omega arith))
           ∙ ap (λ o. computes_by q m operation (below 2 m.frame.operands) o (int_in (at_top m.frame.operands 0))) (sym first)
           ∙ ap (computes_by q m operation (below 2 m.frame.operands) (Some x)) (sym second)
@@ -251,7 +273,8 @@ module _ (max : ℕ) (m m' : Machine) where
       stays is,
       λ p most me q.
           if_both_is p q m me comparison target
-          (nothing_wrong (needs p m (IfBoth comparison target)) m (None ∷ misfits p m.heap (model.number ∷ model.number ∷ []) (on_top 2 m.frame.operands)) some
+          (nothing_wrong (needs p m (IfBoth comparison target)) m (None ∷ misfits p m.heap (model.number ∷ model.number ∷ [])
+          (on_top 2 m.frame.operands)) some
           (found_two p is_kind refl) (omega arith) (found_two p is_member refl) refl (omega arith))
           ∙ ap (λ o. on_both_by q m comparison target (below 2 m.frame.operands) o (int_in (at_top m.frame.operands 0))) (sym first)
           ∙ ap (on_both_by q m comparison target (below 2 m.frame.operands) (Some x)) (sym second)
@@ -277,7 +300,8 @@ put_last_int cs new k x at some made =
     ∙ ap values_of (sets_front cs x (omega arith)) ∙ map_push value_of (take (length cs - 1) cs) (cells.Int x)
     ∙ ap (λ l. l ++ values.Int x ∷ []) (sym (below_map 1 cs))
   where
-    sets_front : (cs : List Cell) (x : ℤ) → 1 ≤ length cs → set cs (length cs - 1) (cells.Int x) ≡ take (length cs - 1) cs ++ cells.Int x ∷ []
+    sets_front : (cs : List Cell) (x : ℤ) → 1 ≤ length cs → set cs (length cs - 1) (cells.Int x) ≡ take (length cs - 1) cs ++ cells.Int x ∷
+        []
     sets_front cs x h =
         let e : suc (length cs - 1) ≡ length cs = omega arith in
         let lt : length cs - 1 < length cs = omega arith in
@@ -294,7 +318,8 @@ module _ (p : Program) (m n : Machine) (same : SameMethod m n) (method : MethodO
   runs : method_of_frame p n.frame ≡ Some method
   runs = (λ i. method_at p (same.0 i) (same.1 i)) ∙ sym is
 
-  pub more_alone : (k : Machine) (taken max : ℕ) (code : List Instr) (b : Bool) → b ≡ true → AllAlone p m taken n → NextAlone max code n k b →
+  pub more_alone : (k : Machine) (taken max : ℕ) (code : List Instr) (b : Bool) → b ≡ true → AllAlone p m taken n → NextAlone max code n k b
+      →
       method.max_stack ≡ max → method.code ≡ code → AllAlone p m (taken + 1) k × SameMethod m k
   more_alone k taken max code true e all (stays, one) room here = (
     subst (λ j. AllAlone p m j k) (sym (add-one taken)) (n, (all, one p (ap max_stack_in runs ∙ room) (ap code_in runs ∙ here))),
@@ -302,7 +327,8 @@ module _ (p : Program) (m n : Machine) (same : SameMethod m n) (method : MethodO
   )
   more_alone k taken max code false e all h room here = absurd (cc e)
 
-pub all_alone : (p : Program) (m n k : Machine) (taken max : ℕ) (code : List Instr) (b : Bool) → b ≡ false → AllAlone p m taken n → NextAlone max code n k b →
+pub all_alone : (p : Program) (m n k : Machine) (taken max : ℕ) (code : List Instr) (b : Bool) → b ≡ false → AllAlone p m taken n →
+    NextAlone max code n k b →
     AllAlone p m taken k
 all_alone p m n k taken max code false e all h = subst (AllAlone p m taken) (sym h) all
 all_alone p m n k taken max code true e all h = absurd (cc e)

@@ -13,7 +13,8 @@ use Rattle.vm_model.specs.Program.{Program}
 use Rattle.vm_model.specs.Messages.{Messages, role_named}
 use Rattle.vm_model.specs.Machine.{Machine, Object, Frame}
 use Rattle.vm_model.specs.Arithmetic.{computed}
-use Rattle.vm_model.specs.Actions.{Operation, Comparison, Calling, Telling, Silent, Static, Action, Push, Load, Store, Pop, Double, Swap, Compute, Negate, Increase, IfZero, IfBoth, IfNull, Go, Switch, Return, Read, Write, Make, Call, Use}
+use Rattle.vm_model.specs.Actions.{Operation, Comparison, Calling, Telling, Silent, Static, Action, Push, Load, Store, Pop, Double, Swap}
+use Rattle.vm_model.specs.Actions.{Compute, Negate, Increase, IfZero, IfBoth, IfNull, Go, Switch, Return, Read, Write, Make, Call, Use}
 use Rattle.vm_model.specs.Tests.{needs, wrong, below, on_top}
 use Rattle.vm_model.specs.Step as model
 use Rattle.vm_step.specs.Doing.{waits_in}

@@ -9,17 +9,22 @@ use Rattle.vm_model.specs.Program.{Program, method_at}
 use Rattle.vm_model.specs.Messages.{Messages}
 use Rattle.vm_model.specs.Machine.{Machine, Frame}
 use Rattle.vm_model.specs.Types.{signature_of}
-use Rattle.vm_model.specs.Actions.{Sort, Operation, Comparison, Calling, Push, Load, Store, Pop, Double, Swap, Compute, Negate, Increase, IfZero, IfBoth, IfNull, Go, Switch, Return, Read, Write, Make, Call, Use}
-use Rattle.vm_model.specs.Tests.{Want, Needs, needs, wrong, below, on_top, returning, returned, call_takes, result_in, descriptor_in, method_of_frame}
+use Rattle.vm_model.specs.Actions.{Sort, Operation, Comparison, Calling, Push, Load, Store, Pop, Double, Swap, Compute, Negate, Increase}
+use Rattle.vm_model.specs.Actions.{IfZero, IfBoth, IfNull, Go, Switch, Return, Read, Write, Make, Call, Use}
+use Rattle.vm_model.specs.Tests.{Want, Needs, needs, wrong, below, on_top, returning, returned, call_takes, result_in, descriptor_in}
+use Rattle.vm_model.specs.Tests.{method_of_frame}
 use Rattle.vm_model.specs.Step as model
 use Rattle.vm_model.specs.Step.{act, goes, next, at_place}
 use Rattle.vm_step.specs.inner.Tops.{at_top, int_in, text_in, int_of_local}
-use Rattle.vm_step.specs.inner.Acts.{stored_by, doubled_by, swapped_by, computes_by, negates_by, increased_by, on_zero_by, on_both_by, on_null_by, switches_by}
+use Rattle.vm_step.specs.inner.Acts.{stored_by, doubled_by, swapped_by, computes_by, negates_by, increased_by, on_zero_by, on_both_by}
+use Rattle.vm_step.specs.inner.Acts.{on_null_by, switches_by}
 use Rattle.vm_step.specs.inner.Objects.{reads_by, writes_by}
 use Rattle.vm_step.specs.inner.Sessions.{payload_in, sends_by, looks_by, takes_by, refuses_by}
 use Rattle.vm_step.specs.inner.Builts.{inits_by, joins_by, equals_by, shows_int_by, shows_truth_by, prints_by}
 use Rattle.vm_step.proofs.Acts.{act_right, enough, below_none, by_none, by_one, by_two, by_three}
-use Rattle.vm_step.proofs.Cases.{computes_cases, negates_cases, on_zero_cases, on_both_cases, switches_cases, increased_cases, reads_cases, writes_cases, inits_cases, joins_cases, equals_cases, shows_int_cases, shows_truth_cases, prints_cases, send_cases, send_int_cases, send_truth_cases, send_text_cases, looks_cases, takes_cases, refuses_cases}
+use Rattle.vm_step.proofs.Cases.{computes_cases, negates_cases, on_zero_cases, on_both_cases, switches_cases, increased_cases, reads_cases}
+use Rattle.vm_step.proofs.Cases.{writes_cases, inits_cases, joins_cases, equals_cases, shows_int_cases, shows_truth_cases, prints_cases}
+use Rattle.vm_step.proofs.Cases.{send_cases, send_int_cases, send_truth_cases, send_text_cases, looks_cases, takes_cases, refuses_cases}
 
 returning_takes : (p : Program) (fs : List Frame) (sort : Option Sort) (n : Needs) → (returning p fs sort n).takes ≡ n.takes
 returning_takes p [] sort n = refl

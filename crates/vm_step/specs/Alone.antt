@@ -11,10 +11,12 @@ use Rattle.vm_model.specs.Step.{act, code_in, step}
 abbrev pub SameMethod : (m m' : Machine) → Type 0
 SameMethod m m' = (m'.frame.class ≡ m.frame.class) × (m'.frame.method ≡ m.frame.method)
 
--- Where the running frame may have so many operands, the action leads from one machine to another in the same method, or nothing has changed.
+-- Where the running frame may have so many operands, the action leads from one machine to another in the same method, or nothing has
+-- changed.
 abbrev pub Alone : (max : ℕ) → Action → (m m' : Machine) → Bool → Type 0
 Alone max a m m' true =
-    SameMethod m m' × ((p : Program) → max_stack_in (method_of_frame p m.frame) ≡ max → (me : ℕ) (q : Messages) → act p q m me a ≡ Went m' q None)
+    SameMethod m m' × ((p : Program) → max_stack_in (method_of_frame p m.frame) ≡ max → (me : ℕ) (q : Messages) →
+    act p q m me a ≡ Went m' q None)
 Alone max a m m' false = m' ≡ m
 
 -- a step that is taken alone
@@ -24,7 +26,8 @@ StepAlone p m m' = (me : ℕ) (q : Messages) → step p me m q ≡ Went m' q Non
 -- The same of the next instruction of the method that runs, whose code is this.
 abbrev pub NextAlone : (max : ℕ) → List Instr → (m m' : Machine) → Bool → Type 0
 NextAlone max code m m' true =
-    SameMethod m m' × ((p : Program) → max_stack_in (method_of_frame p m.frame) ≡ max → code_in (method_of_frame p m.frame) ≡ code → StepAlone p m m')
+    SameMethod m m' × ((p : Program) → max_stack_in (method_of_frame p m.frame) ≡ max → code_in (method_of_frame p m.frame) ≡ code →
+    StepAlone p m m')
 NextAlone max code m m' false = m' ≡ m
 
 -- so many of them, one after another

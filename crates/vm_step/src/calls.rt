@@ -1,7 +1,8 @@
 //! Calls of methods and returns from them.
 //! A call costs what the called method has of locals.
 
-ghost use Rattle.std.specs.Prelude.{◌≡◌, ℕ, ◌<◌, ◌≤◌, ◌-◌, ◌^◌, ◌++◌, ◌∷◌, [], length, map, replicate, option_map, vec_len, vec_capacity, IfOk, OnErr, Some, None};
+ghost use Rattle.std.specs.Prelude.{◌≡◌, ℕ, ◌<◌, ◌≤◌, ◌-◌, ◌^◌, ◌++◌, ◌∷◌, [], length, map, replicate, option_map, vec_len, vec_capacity};
+ghost use Rattle.std.specs.Prelude.{IfOk, OnErr, Some, None};
 ghost use Rattle.vm_model.specs.Program.{method_at};
 ghost use Rattle.vm_model.specs.View.{classes_of, method_of};
 ghost use Rattle.vm_model.specs.Types.{signature_of};

@@ -1,7 +1,8 @@
 //! Objects: their making, and their fields.
 //! Each is found by its number.
 
-ghost use Rattle.std.specs.Prelude.{◌≡◌, ◌<◌, ◌≤◌, ◌-◌, ◌^◌, ◌++◌, ◌∷◌, [], length, map, slice_set, option_map, vec_len, vec_capacity, IfOk, OnErr};
+ghost use Rattle.std.specs.Prelude.{◌≡◌, ◌<◌, ◌≤◌, ◌-◌, ◌^◌, ◌++◌, ◌∷◌, [], length, map, slice_set, option_map, vec_len, vec_capacity};
+ghost use Rattle.std.specs.Prelude.{IfOk, OnErr};
 ghost use Rattle.vm_model.specs.Program.{fields_in, class_at};
 ghost use Rattle.vm_model.specs.View.{classes_of, class_of, field_of};
 ghost use Rattle.vm_model.specs.Tests.{below};

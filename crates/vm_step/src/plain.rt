@@ -8,7 +8,8 @@ ghost use Rattle.vm_step.specs.State.{value_of, locals_of, state_of};
 ghost use Rattle.vm_step.specs.Table.{constant_of, operation_of, comparison_of};
 ghost use Rattle.vm_step.specs.Doing.{Plays};
 ghost use Rattle.vm_step.specs.inner.Tops.{operands_of, at_top, int_in, int_of_local};
-ghost use Rattle.vm_step.specs.inner.Acts.{stored_by, doubled_by, swapped_by, computes_by, negates_by, increased_by, on_zero_by, on_both_by, on_null_by, switches_by};
+ghost use Rattle.vm_step.specs.inner.Acts.{stored_by, doubled_by, swapped_by, computes_by, negates_by, increased_by, on_zero_by};
+ghost use Rattle.vm_step.specs.inner.Acts.{on_both_by, on_null_by, switches_by};
 
 use crate::action::{Comparison, Constant, Operation};
 use crate::arithmetic::{added, compares, computed, negated, switched};

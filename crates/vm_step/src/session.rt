@@ -8,7 +8,8 @@ ghost use Rattle.vm_model.specs.Step as model;
 ghost use Rattle.vm_step.specs.State.{value_of, state_of};
 ghost use Rattle.vm_step.specs.Doing.{Does};
 ghost use Rattle.vm_step.specs.inner.Tops.{operands_of, at_top, text_in};
-ghost use Rattle.vm_step.specs.inner.Sessions.{payload_of, payload_in, sent_count, given_of, taken_where, sends_by, looks_by, takes_by, refuses_by};
+ghost use Rattle.vm_step.specs.inner.Sessions.{payload_of, payload_in, sent_count, given_of, taken_where, sends_by, looks_by, takes_by};
+ghost use Rattle.vm_step.specs.inner.Sessions.{refuses_by};
 
 use crate::operands::{int_at, replace, settle, text_at};
 use crate::state::{Cell, State};

@@ -1,6 +1,7 @@
 -- Roles that took steps alone before their turns came: the world differs from that of the turns in these roles alone,
 -- and the turn of another role does the same in both.
-use Rattle.std.proofs.Common.{◌≡◌, ◌≢◌, ◌⊎◌, inl, inr, ◌<◌, ◌+◌, ◌++◌, ℕ, zero, suc, List, length, map, set, get_or, slice_get, slice_set, Option, Some, None, true, false, refl, sym, ap, ◌∙◌, subst, arith}
+use Rattle.std.proofs.Common.{◌≡◌, ◌≢◌, ◌⊎◌, inl, inr, ◌<◌, ◌+◌, ◌++◌, ℕ, zero, suc, List, length, map, set, get_or, slice_get, slice_set}
+use Rattle.std.proofs.Common.{Option, Some, None, true, false, refl, sym, ap, ◌∙◌, subst, arith}
 use Rattle.std.specs.Prelude.{◌==◌}
 use Rattle.std.proofs.lemmas.Bool.Decides.{eqb_tells}
 use Rattle.std.proofs.lemmas.List.{get_or-set_same, get_or-set_other}
@@ -21,7 +22,8 @@ use Rattle.vm_world.proofs.Alone.{AllCount, running, by_roles, none_alone}
 
 -- The first of several steps.
 
-first_step : (p : Program) (m : Machine) (k : ℕ) (m' : Machine) → AllAlone p m (suc k) m' → (n : Machine) × (StepAlone p m n × AllAlone p n k m')
+first_step : (p : Program) (m : Machine) (k : ℕ) (m' : Machine) → AllAlone p m (suc k) m' →
+    (n : Machine) × (StepAlone p m n × AllAlone p n k m')
 first_step p m zero m' (n, (same, one)) = (m', (subst (λ (x : Machine). StepAlone p x m') same one, refl))
 first_step p m (suc k) m' (n, (all, one)) = let h = first_step p m k n all in (h.0, (h.1.0, (n, (h.1.1, one))))
 
@@ -45,7 +47,8 @@ first_of p before after k h = by_states before.state after.state before.count af
     by_states (Over ending) t c d all more = absurd (omega (arith, all.0))
 
 -- who goes on alone isn't still
-not_still : (p : Program) (w : World) (r : ℕ) (before after : Role) (k : ℕ) → RoleAlone p before (suc k) after → IsStill p w r before.state → ⊥
+not_still : (p : Program) (w : World) (r : ℕ) (before after : Role) (k : ℕ) → RoleAlone p before (suc k) after → IsStill p w r before.state
+    → ⊥
 not_still p w r before after k h still = by_states before.state after.state h.state still
   where
     by_states : (s t : State) → StateAlone p (suc k) s t → IsStill p w r s → ⊥
@@ -61,7 +64,8 @@ not_still p w r before after k h still = by_states before.state after.state h.st
 pub record RolesAhead (p : Program) (roles : List Role) (ahead : List ℕ) (now : List Role) : Type 0 where
   pub many : length now ≡ length roles
   pub as_many : length ahead ≡ length roles
-  pub each : (r : ℕ) (before after : Role) → slice_get roles r ≡ Some before → slice_get now r ≡ Some after → RoleAlone p before (get_or ahead r 0) after
+  pub each : (r : ℕ) (before after : Role) → slice_get roles r ≡ Some before → slice_get now r ≡ Some after →
+      RoleAlone p before (get_or ahead r 0) after
 
 -- a world in which roles are ahead of the turns that were counted
 pub record WorldAhead (p : Program) (w : World) (ahead : List ℕ) (now : World) : Type 0 where
@@ -92,13 +96,15 @@ module _ (p : Program) where
 
   -- the world is that of the turns where no role that is there is ahead
   pub caught_up : (w now : World) (ahead : List ℕ) → WorldAhead p w ahead now →
-      ((r k : ℕ) (before after : Role) → slice_get w.roles r ≡ Some before → get_or ahead r 0 ≡ suc k → RoleAlone p before (suc k) after → ⊥) → now ≡ w
+      ((r k : ℕ) (before after : Role) → slice_get w.roles r ≡ Some before → get_or ahead r 0 ≡ suc k → RoleAlone p before (suc k) after →
+      ⊥) → now ≡ w
   caught_up w now ahead h none =
       ap (λ l. record { roles = l; messages = now.messages; events = now.events }) (same_at_each now.roles w.roles each)
       ∙ ap (λ q. record { roles = w.roles; messages = q; events = now.events }) h.messages
       ∙ ap (λ es. record { roles = w.roles; messages = w.messages; events = es }) h.events
     where
-      same : (r k : ℕ) (before after : Role) → slice_get w.roles r ≡ Some before → get_or ahead r 0 ≡ k → RoleAlone p before k after → after ≡ before
+      same : (r k : ℕ) (before after : Role) → slice_get w.roles r ≡ Some before → get_or ahead r 0 ≡ k → RoleAlone p before k after →
+          after ≡ before
       same r zero before after at is a = none_alone p before after a
       same r (suc k) before after at is a = absurd (none r k before after at is a)
 
@@ -131,7 +137,8 @@ module _ (p : Program) where
           let first : before ≡ x =
           some_is (sym (set_here roles r before lt) ∙ ap (slice_get (slice_set roles r before)) (sym is.1) ∙ at) in
           let second : after ≡ y =
-          some_is (sym (set_here now r after (subst (λ n. r < n) (sym h.many) lt)) ∙ ap (slice_get (slice_set now r after)) (sym is.1) ∙ bt) in
+          some_is (sym (set_here now r after (subst (λ n. r < n) (sym h.many) lt)) ∙ ap (slice_get (slice_set now r after)) (sym is.1) ∙ bt)
+          in
           let steps : k ≡ get_or (set ahead r k) i 0 =
           sym (ap (λ j. get_or (set ahead r k) j 0) is.1 ∙ get_or-set_same ahead r k 0 (subst (λ n. r < n) (sym h.as_many) lt)) in
           subst (λ (b : Role). RoleAlone p b (get_or (set ahead r k) i 0) y) first
@@ -157,7 +164,8 @@ module _ (p : Program) where
     Follows later after = (v : World) × (Advances p w r v true × WorldAhead p v later after)
 
     -- the first of the role's steps is its turn
-    catches_up : (k : ℕ) (before after now_after : Role) (v : World) → slice_get w.roles r ≡ Some before → RoleAlone p before (suc k) after →
+    catches_up : (k : ℕ) (before after now_after : Role) (v : World) → slice_get w.roles r ≡ Some before → RoleAlone p before (suc k) after
+        →
         v ≡ with_role now r after → Follows (set ahead r k) v
     catches_up k before after now_after v at alone is = go (first_of p before after k alone)
       where

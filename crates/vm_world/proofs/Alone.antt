@@ -1,5 +1,6 @@
 -- What turns that are taken alone make of the world.
-use Rattle.std.proofs.Common.{◌≡◌, ℕ, zero, suc, ◌+◌, ◌<◌, List, [], ◌∷◌, length, set, get_or, slice_get, slice_set, Option, Some, None, true, refl, sym, ap, ◌∙◌, subst, add-zero, add-suc, append-nil, ◌≤◌, ◌-◌, ◌^◌, Bool, false, IfSome, arith}
+use Rattle.std.proofs.Common.{◌≡◌, ℕ, zero, suc, ◌+◌, ◌<◌, List, [], ◌∷◌, length, set, get_or, slice_get, slice_set, Option, Some, None}
+use Rattle.std.proofs.Common.{true, refl, sym, ap, ◌∙◌, subst, add-zero, add-suc, append-nil, ◌≤◌, ◌-◌, ◌^◌, Bool, false, IfSome, arith}
 use Rattle.std.proofs.lemmas.List.{map-set}
 use Rattle.vm_model.specs.Program.{Program}
 use Rattle.vm_model.specs.Messages.{Messages}
@@ -42,12 +43,16 @@ module _ (p : Program) (w : World) (r : ℕ) where
   one_turn before x n count at one =
       let u : World = with_role w r (running x count) in
       let here : slice_get u.roles r ≡ Some (running x count) = get_set w.roles r before (running x count) at in
-      let made : turn p u r ≡ stepped u r count (Went n u.messages None) = ap (turn_at p u r) here ∙ ap (stepped u r count) (one r u.messages) in
+      let made : turn p u r ≡ stepped u r count (Went n u.messages None) = ap (turn_at p u r) here ∙ ap (stepped u r count)
+      (one r u.messages) in
       let goes : with_role w r (running n (suc count)) ≡ turn p u r =
-      ap (λ l. record { roles = l; messages = w.messages; events = w.events }) (sym (set_set w.roles r (running x count) (running n (suc count))))
-      ∙ ap (λ es. record { roles = slice_set u.roles r (running n (suc count)); messages = w.messages; events = es }) (sym (append-nil w.events))
+      ap (λ l. record { roles = l; messages = w.messages; events = w.events })
+      (sym (set_set w.roles r (running x count) (running n (suc count))))
+      ∙ ap (λ es. record { roles = slice_set u.roles r (running n (suc count)); messages = w.messages; events = es })
+      (sym (append-nil w.events))
       ∙ sym made in
-      let answer : Some answers.Went ≡ turned p u r = sym (ap (turned_at p u r) here ∙ ap (λ (s : Stepped). Some (turned_by s)) (one r u.messages)) in
+      let answer : Some answers.Went ≡ turned p u r =
+      sym (ap (turned_at p u r) here ∙ ap (λ (s : Stepped). Some (turned_by s)) (one r u.messages)) in
       subst (λ (v : World). Advances p u r v true) (sym goes) (went p u r answer)
 
   turns_of : (m : Machine) (count k : ℕ) (n : Machine) → slice_get w.roles r ≡ Some (running m count) → AllAlone p m k n →
@@ -65,7 +70,8 @@ module _ (p : Program) (w : World) (r : ℕ) where
     ),
   )
 
-  by_states : (k : ℕ) (s t : State) (c d : ℕ) → slice_get w.roles r ≡ Some (record { state = s; count = c }) → StateAlone p k s t → d ≡ c + k →
+  by_states : (k : ℕ) (s t : State) (c d : ℕ) → slice_get w.roles r ≡ Some (record { state = s; count = c }) → StateAlone p k s t →
+      d ≡ c + k →
       AllCount p w r k (with_role w r (record { state = t; count = d }))
   by_states k (Runs m) (Runs n) c d at h more =
       subst (λ e. AllCount p w r k (with_role w r (running n e))) (sym more) (turns_of m c k n at h)
@@ -77,7 +83,8 @@ module _ (p : Program) (w : World) (r : ℕ) where
       (ap (slice_set w.roles r) (ap (λ x. record { state = x; count = d }) h.1 ∙ ap (λ e. record { state = Over ending; count = e }) none)
       ∙ set_same w.roles r (record { state = Over ending; count = c }) at))
 
-  pub by_roles : (k : ℕ) (before after : model.Role) → slice_get w.roles r ≡ Some before → RoleAlone p before k after → AllCount p w r k (with_role w r after)
+  pub by_roles : (k : ℕ) (before after : model.Role) → slice_get w.roles r ≡ Some before → RoleAlone p before k after →
+      AllCount p w r k (with_role w r after)
   by_roles k before after at h = by_states k before.state after.state before.count after.count at h.state h.count
 
   pub all_count : (k : ℕ) (v : World) → TurnsAlone p w r k v → AllCount p w r k v
@@ -87,7 +94,8 @@ module _ (p : Program) (w : World) (r : ℕ) where
 pub none_alone : (p : Program) (before after : model.Role) → RoleAlone p before 0 after → after ≡ before
 none_alone p before after h = by_states before.state after.state before.count after.count h.state h.count
   where
-    same_count : (s : State) (c d : ℕ) → d ≡ c + 0 → ◌≡◌ {A = model.Role} (record { state = s; count = d }) (record { state = s; count = c })
+    same_count : (s : State) (c d : ℕ) → d ≡ c + 0 → ◌≡◌ {A = model.Role} (record { state = s; count = d })
+        (record { state = s; count = c })
     same_count s c d more = ap (λ e. record { state = s; count = e }) (more ∙ add-zero c)
 
     by_states : (s t : State) (c d : ℕ) → StateAlone p 0 s t → d ≡ c + 0 →
@@ -124,7 +132,8 @@ all_of_counts p w v r zero h = (w, (refl, h))
 all_of_counts p w v r (suc k) h = all_count p w r (suc (suc k)) v h
 
 -- where none was nothing has changed
-pub none_taken : (before after : Seen) (r k : ℕ) → after.program ≡ before.program → TurnsAlone before.program before.world r k after.world → k ≤ 0 →
+pub none_taken : (before after : Seen) (r k : ℕ) → after.program ≡ before.program → TurnsAlone before.program before.world r k after.world →
+    k ≤ 0 →
     after ≡ before
 none_taken before after r zero same h none =
     let w : World = before.world in
@@ -145,6 +154,7 @@ pub counts_none : (before now : Seen) (r : ℕ) (v : World) (b : Bool) → now �
 counts_none before now r v false same e a = subst (λ (s : Seen). Advances s.program s.world r v false) same a
 counts_none before now r v true same e a = absurd (cc e)
 
-pub still_room : (o : Option model.Role) (most : ℕ) → 0 < most → IfSome o (λ r. r.count + most < 2 ^ 32) → IfSome o (λ r. r.count < 2 ^ 32 - 1)
+pub still_room : (o : Option model.Role) (most : ℕ) → 0 < most → IfSome o (λ r. r.count + most < 2 ^ 32) →
+    IfSome o (λ r. r.count < 2 ^ 32 - 1)
 still_room None most some h = tt
 still_room (Some role) most some h = omega (arith, some, h)

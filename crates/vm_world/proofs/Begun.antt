@@ -11,7 +11,8 @@ use Rattle.vm_world.specs.declared.role.State.TheVariants as states
 use Rattle.vm_world.specs.View.{role_of, roles_of}
 
 -- one role more
-pub start_more : (p : Program) (mains : List RoleMain) (roles : List Role) (main : RoleMain) (m : Machine) → StartAt p mains roles → IsStart p main.class m →
+pub start_more : (p : Program) (mains : List RoleMain) (roles : List Role) (main : RoleMain) (m : Machine) → StartAt p mains roles →
+    IsStart p main.class m →
     StartAt p (mains ++ main ∷ []) (roles ++ record { state = Runs m; count = 0 } ∷ [])
 start_more p [] [] main m h start = ((m, start, refl), tt)
 start_more p [] (role ∷ roles) main m h start = absurd h
@@ -19,7 +20,8 @@ start_more p (x ∷ mains) [] main m h start = absurd h
 start_more p (x ∷ mains) (role ∷ roles) main m h start = (h.0, start_more p mains roles main m h.1 start)
 
 -- the next role of the list begins
-pub next_begun : (p : Program) (mains : List RoleMain) (roles new : List Kept) (k : ℕ) (main : RoleMain) (m : Machine) → k < length mains → main ≡ get_or mains k main →
+pub next_begun : (p : Program) (mains : List RoleMain) (roles new : List Kept) (k : ℕ) (main : RoleMain) (m : Machine) → k < length mains →
+    main ≡ get_or mains k main →
     StartAt p (take k mains) (roles_of roles) → IsStart p main.class m → new ≡ roles ++ record { state = states.Runs m; count = 0 } ∷ [] →
     StartAt p (take (k + 1) mains) (roles_of new)
 next_begun p mains roles new k main m lt is h start added =

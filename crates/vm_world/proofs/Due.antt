@@ -1,5 +1,6 @@
 -- When the turns of a role come: each that it was taken ahead by comes before those that are left have ended.
-use Rattle.std.proofs.Common.{◌≡◌, ◌≢◌, ◌⊎◌, inl, inr, ◌<◌, ◌≤◌, ◌+◌, ◌-◌, ◌*◌, ◌/◌, ◌%◌, ℕ, zero, suc, List, length, get_or, set, true, false, refl, sym, ap, ◌∙◌, subst, arith, mod-eq_of_lt}
+use Rattle.std.proofs.Common.{◌≡◌, ◌≢◌, ◌⊎◌, inl, inr, ◌<◌, ◌≤◌, ◌+◌, ◌-◌, ◌*◌, ◌/◌, ◌%◌, ℕ, zero, suc, List, length, get_or, set, true}
+use Rattle.std.proofs.Common.{false, refl, sym, ap, ◌∙◌, subst, arith, mod-eq_of_lt}
 use Rattle.std.specs.Prelude.{◌==◌}
 use Rattle.std.proofs.lemmas.Bool.Decides.{eqb_tells}
 use Rattle.std.proofs.lemmas.List.{get_or-set_same, get_or-set_other}
@@ -7,7 +8,8 @@ use Rattle.std.proofs.Math.Nat.{div-add-mod', mul-add-mod_self_right}
 
 mod_more : (k t n : ℕ) → (k % n + t) % n ≡ (k + t) % n
 mod_more k t n =
-    sym (ap (λ m. m % n) (let e : k + t ≡ k / n * n + (k % n + t) = omega (arith, div-add-mod' k n) in e) ∙ mul-add-mod_self_right (k / n) n (k % n + t))
+    sym (ap (λ m. m % n) (let e : k + t ≡ k / n * n + (k % n + t) = omega (arith, div-add-mod' k n) in e) ∙ mul-add-mod_self_right (k / n) n
+    (k % n + t))
 
 -- a whole cycle on is the same place
 mod_whole : (k n : ℕ) → (k + n) % n ≡ k % n
@@ -97,10 +99,12 @@ module _ (order : List ℕ) (next left : ℕ) (within : next < length order) whe
       same_for_others r many not = get_or-set_other ahead role r many 0 not
 
       -- behind a turn that counts
-      behind : (many : ℕ) → role < length ahead → IsDue order place (left - 1) role many → AllDue order place (left - 1) (set ahead role many)
+      behind : (many : ℕ) → role < length ahead → IsDue order place (left - 1) role many →
+          AllDue order place (left - 1) (set ahead role many)
       behind many lt h r = go (eqb_tells r role)
         where
-          go : ((r == role) ≡ true) × (r ≡ role) ⊎ ((r == role) ≡ false) × (r ≢ role) → IsDue order place (left - 1) r (get_or (set ahead role many) r 0)
+          go : ((r == role) ≡ true) × (r ≡ role) ⊎ ((r == role) ≡ false) × (r ≢ role) →
+              IsDue order place (left - 1) r (get_or (set ahead role many) r 0)
           go (inl is) =
               subst (λ k. IsDue order place (left - 1) k (get_or (set ahead role many) k 0)) (sym is.1)
               (subst (IsDue order place (left - 1) role) (sym (get_or-set_same ahead role many 0 lt)) h)
@@ -108,7 +112,8 @@ module _ (order : List ℕ) (next left : ℕ) (within : next < length order) whe
               subst (IsDue order place (left - 1) r) (sym (same_for_others r many not.1))
               (of_other r (get_or ahead r 0) not.1 (due r))
 
-      pub behind_counted : (many : ℕ) → role < length ahead → get_or ahead role 0 ≡ suc many → AllDue order place (left - 1) (set ahead role many)
+      pub behind_counted : (many : ℕ) → role < length ahead → get_or ahead role 0 ≡ suc many →
+          AllDue order place (left - 1) (set ahead role many)
       behind_counted many lt is = behind many lt (of_itself many (subst (IsDue order next left role) is (due role)))
 
       pub behind_taken : (many : ℕ) → role < length ahead → (suc many ≤ 1) ⊎ (suc many * length order ≤ left) →

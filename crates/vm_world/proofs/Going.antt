@@ -1,5 +1,6 @@
 -- How far a run of several roles has come.
-use Rattle.std.proofs.Common.{◌≡◌, ◌⊎◌, inl, inr, ◌<◌, ◌≤◌, ◌+◌, ◌-◌, ◌*◌, ◌/◌, ◌%◌, ◌^◌, ℕ, zero, suc, List, length, get_or, Option, Some, None, slice_get, true, false, Contains, IfSome, refl, sym, ap, ◌∙◌, subst, arith, mod-eq_of_lt}
+use Rattle.std.proofs.Common.{◌≡◌, ◌⊎◌, inl, inr, ◌<◌, ◌≤◌, ◌+◌, ◌-◌, ◌*◌, ◌/◌, ◌%◌, ◌^◌, ℕ, zero, suc, List, length, get_or, Option, Some}
+use Rattle.std.proofs.Common.{None, slice_get, true, false, Contains, IfSome, refl, sym, ap, ◌∙◌, subst, arith, mod-eq_of_lt}
 use Rattle.std.proofs.lemmas.Nat.{mod_below}
 use Rattle.std.proofs.Math.Nat.{add-mul, div-add-mod', mul-add-mod_self_right}
 use Rattle.vm_model.specs.Program.{Program}
@@ -12,7 +13,8 @@ use Rattle.vm_world_law.proofs.Moments.{Moment, first_moment, idle_moment, count
 use Rattle.vm_world_law.proofs.Stopping.{turn_long}
 use Rattle.vm_world.specs.Seen.{Seen}
 
--- a moment of the run, so many instructions that may still be counted, so many turns that changed nothing since the last that did, and the place of the next
+-- a moment of the run, so many instructions that may still be counted, so many turns that changed nothing since the last that did, and the
+-- place of the next
 pub record Going (p : Program) (first : World) (order : List ℕ) (limit : ℕ) (now : Seen) (left idle next : ℕ) : Type 0 where
   pub program : now.program ≡ p
   pub since : ℕ
@@ -25,7 +27,8 @@ pub record Going (p : Program) (first : World) (order : List ℕ) (limit : ℕ) 
 -- the place behind the next
 next_mod : (k n : ℕ) → 0 < n → (k % n + 1) % n ≡ suc k % n
 next_mod k n pos =
-    sym (ap (λ m. m % n) (let e : suc k ≡ k / n * n + (k % n + 1) = omega (arith, div-add-mod' k n) in e) ∙ mul-add-mod_self_right (k / n) n (k % n + 1))
+    sym (ap (λ m. m % n) (let e : suc k ≡ k / n * n + (k % n + 1) = omega (arith, div-add-mod' k n) in e) ∙ mul-add-mod_self_right (k / n) n
+    (k % n + 1))
 
 module _ (p : Program) (first : World) (order : List ℕ) (limit : ℕ) where
   pub begin : (now : Seen) → now.program ≡ p → now.world ≡ first → counted first ≡ 0 → Going p first order limit now limit 0 0
@@ -55,7 +58,8 @@ module _ (p : Program) (first : World) (order : List ℕ) (limit : ℕ) where
       next_place place is =
           is ∙ ap (λ i. (i + 1) % length order) (h.next_is some) ∙ next_mod (h.since + idle) (length order) some
 
-      pub following_idle : (after : Seen) (place : ℕ) → after.program ≡ now.program → Advances now.program now.world role after.world false →
+      pub following_idle : (after : Seen) (place : ℕ) → after.program ≡ now.program → Advances now.program now.world role after.world false
+          →
           place ≡ (next + 1) % length order → Going p first order limit after left (idle + 1) place
       following_idle after place same a is = record {
         program = same ∙ h.program;
@@ -65,13 +69,15 @@ module _ (p : Program) (first : World) (order : List ℕ) (limit : ℕ) where
             (idle_moment p first order limit h.since idle now.world h.moment
             (subst (λ (q : Program). StillAt q now.world (role_of_turn order (h.since + idle))) h.program
             (subst (StillAt now.program now.world) (sym role_is) a.0))));
-        next_is = λ pos. next_place place is ∙ ap (λ i. i % length order) (let e : suc (h.since + idle) ≡ h.since + (idle + 1) = omega arith in e);
+        next_is = λ pos. next_place place is ∙ ap (λ i. i % length order) (let e : suc (h.since + idle) ≡ h.since + (idle + 1) = omega arith
+            in e);
         left_is = ap (λ (w : World). counted w + left) a.1 ∙ h.left_is;
         long = ap (λ (w : World). length w.roles) a.1 ∙ h.long;
         few = omega (arith, more);
       }
 
-      pub following_count : (after : Seen) (place : ℕ) → after.program ≡ now.program → Advances now.program now.world role after.world true →
+      pub following_count : (after : Seen) (place : ℕ) → after.program ≡ now.program → Advances now.program now.world role after.world true
+          →
           place ≡ (next + 1) % length order → 0 < left → Going p first order limit after (left - 1) 0 place
       following_count after place same a is pos =
           let turned : after.world ≡ turn p now.world (role_of_turn order (h.since + idle)) =
@@ -82,7 +88,8 @@ module _ (p : Program) (first : World) (order : List ℕ) (limit : ℕ) where
             since = suc (h.since + idle);
             moment = subst (λ (w : World). Moment p first order limit (suc (h.since + idle)) 0 w) (sym turned)
                 (count_moment p first order limit h.since idle now.world h.moment not_stopped);
-            next_is = λ pos. next_place place is ∙ ap (λ i. i % length order) (let e : suc (h.since + idle) ≡ suc (h.since + idle) + 0 = omega arith in e);
+            next_is = λ pos. next_place place is ∙ ap (λ i. i % length order)
+                (let e : suc (h.since + idle) ≡ suc (h.since + idle) + 0 = omega arith in e);
             left_is = fewer;
             long = ap (λ (w : World). length w.roles) turned ∙ turn_long p now.world (role_of_turn order (h.since + idle)) ∙ h.long;
             few = omega arith;
@@ -93,7 +100,8 @@ module _ (p : Program) (first : World) (order : List ℕ) (limit : ℕ) where
           not_stopped (inr all) = absurd (omega (arith, all, h.left_is, pos))
 
   -- it stops
-  pub stopped : (now : Seen) (left idle next : ℕ) → Going p first order limit now left idle next → ((r : ℕ) → r < length first.roles → Contains order r) →
+  pub stopped : (now : Seen) (left idle next : ℕ) → Going p first order limit now left idle next →
+      ((r : ℕ) → r < length first.roles → Contains order r) →
       (left ≡ 0) ⊎ (length order ≤ idle) → IsRun p first order limit now.world
   stopped now left idle next h named (inl none) =
       run_here p first order limit h.since idle now.world h.moment (inr (omega (arith, h.left_is, none)))
@@ -120,7 +128,8 @@ module _ (p : Program) (first : World) (order : List ℕ) (limit : ℕ) where
         let e : next ≡ (next + 1) % 1 = omega arith in
         subst (λ n. next ≡ (next + 1) % n) (sym one) e
 
-    in_a_row : (k : ℕ) (after : Seen) → after.program ≡ now.program → AllCount now.program now.world role (suc k) after.world → suc k ≤ left →
+    in_a_row : (k : ℕ) (after : Seen) → after.program ≡ now.program → AllCount now.program now.world role (suc k) after.world → suc k ≤ left
+        →
         Going p first order limit after (left - suc k) 0 next
     in_a_row zero after same (u, (t, a)) le =
         following_count now left idle next h more role at after next same
@@ -130,9 +139,11 @@ module _ (p : Program) (first : World) (order : List ℕ) (limit : ℕ) where
         let some : 0 < length order = omega (arith, one) in
         let fewer : left - suc k - 1 ≡ left - suc (suc k) = omega arith in
         subst (λ n. Going p first order limit after n 0 next) fewer
-        (following_count s (left - suc k) 0 next (in_a_row k s refl t (omega (arith, le))) some role at after next same a stays (omega (arith, le)))
+        (following_count s (left - suc k) 0 next (in_a_row k s refl t (omega (arith, le))) some role at after next same a stays
+        (omega (arith, le)))
 
-    pub following_row : (k : ℕ) (after : Seen) → after.program ≡ now.program → Counts now.program now.world role k after.world → 0 < k → k ≤ left →
+    pub following_row : (k : ℕ) (after : Seen) → after.program ≡ now.program → Counts now.program now.world role k after.world → 0 < k →
+        k ≤ left →
         Going p first order limit after (left - k) 0 next
     following_row zero after same t some le = absurd (omega (arith, some))
     following_row (suc k) after same t some le =
@@ -163,7 +174,8 @@ fewer_idle left idle n lt = omega (arith, lt)
 pub zero_is : (k : ℕ) → k ≤ 0 → k ≡ 0
 zero_is k h = omega (arith, h)
 
-pub less_room : (o : Option Role) (most left : ℕ) → most ≤ left → IfSome o (λ r. r.count + left < 2 ^ 32) → IfSome o (λ r. r.count + most < 2 ^ 32)
+pub less_room : (o : Option Role) (most left : ℕ) → most ≤ left → IfSome o (λ r. r.count + left < 2 ^ 32) →
+    IfSome o (λ r. r.count + most < 2 ^ 32)
 less_room None most left le h = tt
 less_room (Some role) most left le h = omega (arith, le, h)
 

@@ -1,5 +1,6 @@
 -- How far a run of several roles has come, some of which are ahead of the turns that were counted.
-use Rattle.std.proofs.Common.{◌≡◌, ◌⊎◌, inl, inr, ◌<◌, ◌≤◌, ◌+◌, ◌-◌, ◌*◌, ◌%◌, ◌^◌, ℕ, zero, suc, List, length, get_or, set, replicate, Option, Some, slice_get, false, Contains, IfSome, refl, sym, ap, ◌∙◌, subst, arith}
+use Rattle.std.proofs.Common.{◌≡◌, ◌⊎◌, inl, inr, ◌<◌, ◌≤◌, ◌+◌, ◌-◌, ◌*◌, ◌%◌, ◌^◌, ℕ, zero, suc, List, length, get_or, set, replicate}
+use Rattle.std.proofs.Common.{Option, Some, slice_get, false, Contains, IfSome, refl, sym, ap, ◌∙◌, subst, arith}
 use Rattle.std.proofs.lemmas.List.{length-replicate}
 use Rattle.std.proofs.lemmas.Option.{slice_get-get_or}
 use Rattle.vm_model.specs.Program.{Program}
@@ -13,12 +14,13 @@ use Rattle.vm_world.proofs.Due.{AllDue, none_due, behind_counted, behind_taken, 
 use Rattle.vm_world.proofs.Going.{Going, begin, in_order, following_idle, following_count, room, stopped}
 
 -- the moment of the turns that were counted, and the world that is ahead of it
-pub record Several (p : Program) (first : World) (order : List ℕ) (limit : ℕ) (now : Seen) (ahead : List ℕ) (left idle next : ℕ) : Type 0 where
-  pub so_far : World
-  pub going : Going p first order limit (record { program = p; world = so_far }) left idle next
-  pub program : now.program ≡ p
-  pub world : WorldAhead p so_far ahead now.world
-  pub due : AllDue order next left ahead
+pub record Several (p : Program) (first : World) (order : List ℕ) (limit : ℕ) (now : Seen) (ahead : List ℕ) (left idle next : ℕ) : Type 0
+  where
+    pub so_far : World
+    pub going : Going p first order limit (record { program = p; world = so_far }) left idle next
+    pub program : now.program ≡ p
+    pub world : WorldAhead p so_far ahead now.world
+    pub due : AllDue order next left ahead
 
 zero_there : (n r : ℕ) → get_or {A = ℕ} (replicate n 0) r 0 ≡ 0
 zero_there zero r = refl

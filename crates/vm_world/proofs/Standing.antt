@@ -1,5 +1,6 @@
 -- How the roles of a world stand, one after another.
-use Rattle.std.proofs.Common.{◌≡◌, ◌<◌, ◌≤◌, ◌+◌, ℕ, zero, suc, List, [], ◌∷◌, ◌++◌, length, map, take, get_or, Option, Some, None, option_map, slice_get, IfSome, refl, sym, ap, ◌∙◌, subst, arith}
+use Rattle.std.proofs.Common.{◌≡◌, ◌<◌, ◌≤◌, ◌+◌, ℕ, zero, suc, List, [], ◌∷◌, ◌++◌, length, map, take, get_or, Option, Some, None}
+use Rattle.std.proofs.Common.{option_map, slice_get, IfSome, refl, sym, ap, ◌∙◌, subst, arith}
 use Rattle.std.proofs.lemmas.List.{take_more, map-append}
 use Rattle.std.proofs.lemmas.Option.{slice_get-map, slice_get-get_or, get_or_from_slice_get}
 use Rattle.mg_text.specs.Call.{Name}
@@ -18,7 +19,8 @@ use Rattle.vm_world.specs.View.{ending_in}
 use Rattle.vm_world.specs.Standing.{stand_at, waiting_in}
 
 module _ (p : Program) (w : World) (r : ℕ) where
-  ended_state : (ending : Ending) (role : Role) (state : State) → role.state ≡ state → Some ending ≡ ending_in role → stands.Ended ending ≡ stand_of p w r state
+  ended_state : (ending : Ending) (role : Role) (state : State) → role.state ≡ state → Some ending ≡ ending_in role →
+      stands.Ended ending ≡ stand_of p w r state
   ended_state ending role (Runs m) is h =
       absurd (let no : Some ending ≡ None = h ∙ ap (λ s. ending_in (record { state = s; count = role.count })) is in cc)
   ended_state ending role (Over e) is h =
@@ -50,10 +52,12 @@ module _ (p : Program) (w : World) (r : ℕ) where
   pub running_is : (names : List Name) (o : Option ℕ) (s : Stand) → w.messages.roles ≡ names → o ≡ waits p w r →
       Some None ≡ option_map ending_in (slice_get w.roles r) → s ≡ waiting_in names o → Some s ≡ stand_at p w r
   running_is names o s same is h waiting =
-      ap (λ x. Some x) (waiting ∙ ap (λ l. waiting_in l o) (sym same) ∙ named_wait o ∙ ap (waiting_for w) is) ∙ running_stand (slice_get w.roles r) h
+      ap (λ x. Some x) (waiting ∙ ap (λ l. waiting_in l o) (sym same) ∙ named_wait o ∙ ap (waiting_for w) is) ∙
+      running_stand (slice_get w.roles r) h
 
   -- whoever waits, waits for one of these roles
-  pub peer_within : (mains : List RoleMain) (o : Option ℕ) → w.messages.roles ≡ map (λ m. m.role) mains → o ≡ waits p w r → IfSome o (λ k. k < length mains)
+  pub peer_within : (mains : List RoleMain) (o : Option ℕ) → w.messages.roles ≡ map (λ m. m.role) mains → o ≡ waits p w r →
+      IfSome o (λ k. k < length mains)
   peer_within mains None same is = tt
   peer_within mains (Some peer) same is =
       subst (λ n. peer < n) (ap length same ∙ many mains) (waits_within p w r peer (sym is))
@@ -71,11 +75,13 @@ name_there mains k main lt is =
     ∙ ap (λ (x : RoleMain). Some x.role) (sym is))
 
 module _ (p : Program) (w : World) where
-  stands_more : (r : ℕ) (xs : List Role) (x : Role) → stands_from p w r (xs ++ x ∷ []) ≡ stands_from p w r xs ++ stand_of p w (r + length xs) x.state ∷ []
+  stands_more : (r : ℕ) (xs : List Role) (x : Role) → stands_from p w r (xs ++ x ∷ []) ≡ stands_from p w r xs
+      ++ stand_of p w (r + length xs) x.state ∷ []
   stands_more r [] x = ap (λ k. stand_of p w k x.state ∷ []) (let e : r ≡ r + 0 = omega arith in e)
   stands_more r (y ∷ xs) x =
       ap (λ l. stand_of p w r y.state ∷ l) (stands_more (suc r) xs x
-      ∙ ap (λ k. stands_from p w (suc r) xs ++ stand_of p w k x.state ∷ []) (let e : suc r + length xs ≡ r + suc (length xs) = omega arith in e))
+      ∙ ap (λ k. stands_from p w (suc r) xs ++ stand_of p w k x.state ∷ []) (let e : suc r + length xs ≡ r + suc (length xs) = omega arith
+      in e))
 
   -- what is told of the first roles
   pub record RanSoFar (k : ℕ) (ran : List RoleRan) : Type 0 where
@@ -98,7 +104,8 @@ module _ (p : Program) (w : World) where
 
   -- one role more
   pub ran_more : (k : ℕ) (old new : List RoleRan) (ran : RoleRan) → new ≡ old ++ ran ∷ [] →
-      Some ran.instructions ≡ option_map (λ r. r.count) (slice_get w.roles k) → Some ran.stand ≡ stand_at p w k → RanSoFar k old → RanSoFar (k + 1) new
+      Some ran.instructions ≡ option_map (λ r. r.count) (slice_get w.roles k) → Some ran.stand ≡ stand_at p w k → RanSoFar k old →
+      RanSoFar (k + 1) new
   ran_more k old new ran grown count stand h = go (slice_get w.roles k) refl
     where
       none : slice_get w.roles k ≡ None → RanSoFar (k + 1) new
@@ -111,11 +118,13 @@ module _ (p : Program) (w : World) where
           let taken : take (k + 1) w.roles ≡ take k w.roles ++ role ∷ [] =
           take_more w.roles k role lt ∙ ap (λ (x : Role). take k w.roles ++ x ∷ []) (get_or_from_slice_get w.roles k role role at) in
           let same_count : ran.instructions ≡ role.count = some_is (count ∙ ap (option_map (λ (r : Role). r.count)) at) in
-          let same_stand : ran.stand ≡ stand_of p w k role.state = some_is (stand ∙ ap (option_map (λ (r : Role). stand_of p w k r.state)) at) in
+          let same_stand : ran.stand ≡ stand_of p w k role.state =
+          some_is (stand ∙ ap (option_map (λ (r : Role). stand_of p w k r.state)) at) in
           let long : length (take k w.roles) ≡ k = taken_long k w.roles (omega (arith, lt)) in
           record {
             counts = ap (map (λ (r : RoleRan). r.instructions)) grown ∙ map-append (λ (r : RoleRan). r.instructions) old (ran ∷ [])
-                ∙ ap (λ l. l ++ ran.instructions ∷ []) h.counts ∙ ap (λ n. map (λ (r : Role). r.count) (take k w.roles) ++ n ∷ []) same_count
+                ∙ ap (λ l. l ++ ran.instructions ∷ []) h.counts ∙ ap (λ n. map (λ (r : Role). r.count) (take k w.roles) ++ n ∷ [])
+                same_count
                 ∙ sym (map-append (λ (r : Role). r.count) (take k w.roles) (role ∷ [])) ∙ ap (map (λ (r : Role). r.count)) (sym taken);
             stands = ap (map (λ (r : RoleRan). r.stand)) grown ∙ map-append (λ (r : RoleRan). r.stand) old (ran ∷ [])
                 ∙ ap (λ l. l ++ ran.stand ∷ []) h.stands ∙ ap (λ s. stands_from p w 0 (take k w.roles) ++ s ∷ []) same_stand
@@ -124,7 +133,8 @@ module _ (p : Program) (w : World) where
                 ∙ sym (stands_more 0 (take k w.roles) role) ∙ ap (stands_from p w 0) (sym taken);
           }
 
-  pub ran_counts : (k : ℕ) (ran : List RoleRan) → length w.roles ≤ k → RanSoFar k ran → map (λ r. r.instructions) ran ≡ map (λ r. r.count) w.roles
+  pub ran_counts : (k : ℕ) (ran : List RoleRan) → length w.roles ≤ k → RanSoFar k ran → map (λ r. r.instructions) ran ≡ map (λ r. r.count)
+      w.roles
   ran_counts k ran le h = h.counts ∙ ap (map (λ (r : Role). r.count)) (taken_all k w.roles le)
 
   pub ran_stands : (k : ℕ) (ran : List RoleRan) → length w.roles ≤ k → RanSoFar k ran → map (λ r. r.stand) ran ≡ stands_in p w

@@ -1,5 +1,6 @@
 -- What a turn of a role makes of the world.
-use Rattle.std.proofs.Common.{Result, Ok, Err, OnErr, ◌≡◌, ℕ, zero, suc, ◌<◌, List, [], ◌∷◌, ◌++◌, length, map, set, get_or, slice_get, slice_set, Option, Some, None, refl, sym, ap, ◌∙◌, subst, arith}
+use Rattle.std.proofs.Common.{Result, Ok, Err, OnErr, ◌≡◌, ℕ, zero, suc, ◌<◌, List, [], ◌∷◌, ◌++◌, length, map, set, get_or, slice_get}
+use Rattle.std.proofs.Common.{slice_set, Option, Some, None, refl, sym, ap, ◌∙◌, subst, arith}
 use Rattle.std.proofs.lemmas.List.{map-set}
 use Rattle.std.proofs.lemmas.Option.{slice_get-map, slice_get-get_or}
 use Rattle.mg_text.specs.declared.event.Event.{Event}
@@ -23,13 +24,19 @@ set_same (y ∷ xs) (suc i) x at = ap (λ l. y ∷ l) (set_same xs i x at)
 
 -- the world with what a turn made of it
 abbrev pub with_outcome : World → ℕ → Outcome → World
-with_outcome w r o = record { roles = slice_set w.roles r o.role; messages = o.messages; events = w.events ++ map (of_role r) (noted o.event) }
+with_outcome w r o = record {
+  roles = slice_set w.roles r o.role;
+  messages = o.messages;
+  events =
+      w.events ++ map (of_role r) (noted o.event);
+}
 
 module _ (p : Program) (w : World) (r : ℕ) (role : model.Role) (at : slice_get w.roles r ≡ Some role) where
   nothing : w ≡ record { roles = w.roles; messages = w.messages; events = w.events ++ [] }
   nothing = ap (λ es. record { roles = w.roles; messages = w.messages; events = es }) (sym (Rattle.std.proofs.Common.append-nil w.events))
 
-  by_step : (m : Machine) (out : Stepped) → role.state ≡ Runs m → stepped w r role.count out ≡ with_outcome w r (outcome_of role.count m w.messages out)
+  by_step : (m : Machine) (out : Stepped) → role.state ≡ Runs m → stepped w r role.count out ≡ with_outcome w r
+      (outcome_of role.count m w.messages out)
   by_step m (Went n q e) is = refl
   by_step m (Waits peer) is =
       let same : role ≡ record { state = Runs m; count = role.count } = ap (λ s. record { state = s; count = role.count }) is in
@@ -37,10 +44,16 @@ module _ (p : Program) (w : World) (r : ℕ) (role : model.Role) (at : slice_get
       ∙ ap (λ l. record { roles = l; messages = w.messages; events = w.events ++ [] })
       (sym (set_same w.roles r (record { state = Runs m; count = role.count }) (at ∙ ap (λ x. Some x) same)))
   by_step m (Stops ending) is =
-      ap (λ es. record { roles = slice_set w.roles r (record { state = Over ending; count = suc role.count }); messages = w.messages; events = es })
+      ap (λ es. record {
+        roles = slice_set w.roles r (record { state = Over ending; count = suc role.count });
+        messages =
+            w.messages;
+        events = es;
+      })
       (sym (Rattle.std.proofs.Common.append-nil w.events))
 
-  by_state : (state : State) → role.state ≡ state → turn_in p w r role.count state ≡ with_outcome w r (outcome_in p r role.count w.messages state)
+  by_state : (state : State) → role.state ≡ state → turn_in p w r role.count state ≡ with_outcome w r
+      (outcome_in p r role.count w.messages state)
   by_state (Runs m) is = by_step m (step p r m w.messages) is
   by_state (Over ending) is =
       let same : role ≡ record { state = Over ending; count = role.count } = ap (λ s. record { state = s; count = role.count }) is in
@@ -72,7 +85,8 @@ module _ (roles : List Role) (i : ℕ) (old : Role) (lt : i < length roles) (is 
       ∙ ap (λ x. Some (role_of x)) (sym is)
 
   pub roles_same : (new : Role) → role_of new ≡ role_of old → roles_of (set roles i new) ≡ roles_of roles
-  roles_same new same = map-set role_of roles i new ∙ ap (λ x. set (roles_of roles) i x) same ∙ set_same (roles_of roles) i (role_of old) role_there
+  roles_same new same = map-set role_of roles i new ∙ ap (λ x. set (roles_of roles) i x) same ∙ set_same (roles_of roles) i (role_of old)
+      role_there
 
   -- the world behind the turn
   pub turned_world : (p : Program) (q q' : Messages) (events : List RoleEvent) (new : Role) (e : Option Event) (t : Turned) →

@@ -16,8 +16,20 @@ pub record Outcome : Type 0 where
   pub turned : Turned
 
 abbrev pub outcome_of : (count : ℕ) → Machine → Messages → Stepped → Outcome
-outcome_of count m q (Went n q' event) = record { role = record { state = Runs n; count = suc count }; messages = q'; event = event; turned = answers.Went }
-outcome_of count m q (Waits peer) = record { role = record { state = Runs m; count = count }; messages = q; event = None; turned = answers.Waits peer }
+outcome_of count m q (Went n q' event) = record {
+  role = record { state = Runs n; count = suc count };
+  messages = q';
+  event =
+      event;
+  turned = answers.Went;
+}
+outcome_of count m q (Waits peer) = record {
+  role = record { state = Runs m; count = count };
+  messages = q;
+  event = None;
+  turned =
+      answers.Waits peer;
+}
 outcome_of count m q (Stops ending) =
     record { role = record { state = Over ending; count = suc count }; messages = q; event = None; turned = answers.Ended ending }
 

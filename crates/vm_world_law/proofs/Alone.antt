@@ -1,5 +1,6 @@
 -- Whatever turns are taken, what was sent arrives in its order, and a role does what its machine does alone.
-use Rattle.std.proofs.Common.{◌≡◌, ◌≢◌, ◌⊎◌, inl, inr, ℕ, suc, ◌<◌, true, false, List, [], ◌∷◌, ◌++◌, length, map, Option, Some, None, refl, sym, ap, ◌∙◌, subst, append_assoc, append-nil, arith}
+use Rattle.std.proofs.Common.{◌≡◌, ◌≢◌, ◌⊎◌, inl, inr, ℕ, suc, ◌<◌, true, false, List, [], ◌∷◌, ◌++◌, length, map, Option, Some, None, refl}
+use Rattle.std.proofs.Common.{sym, ap, ◌∙◌, subst, append_assoc, append-nil, arith}
 use Rattle.std.specs.Prelude.{◌==◌, slice_get, slice_set}
 use Rattle.std.specs.List.{IsDistinct}
 use Rattle.std.specs.Str.{bytes_eq}
@@ -12,7 +13,8 @@ use Rattle.vm_model.specs.Messages.{Messages, on_way}
 use Rattle.vm_model.specs.Machine.{Machine, Stepped, Went, Waits, Stops, Steps, none, more, noted}
 use Rattle.vm_model.specs.Runs as whole
 use Rattle.vm_model.specs.Step.{step}
-use Rattle.vm_world_law.specs.World.{State, Runs, Over, Role, World, of_role, turn, turns, turn_at, turn_in, stepped, IsFresh, events_of, sent, took}
+use Rattle.vm_world_law.specs.World.{State, Runs, Over, Role, World, of_role, turn, turns, turn_at, turn_in, stepped, IsFresh, events_of}
+use Rattle.vm_world_law.specs.World.{sent, took}
 use Rattle.vm_world_law.specs.Laws.{Delivers, Begin, Arrives, ComesAlone, Longer}
 use Rattle.vm_world_law.proofs.Lists.{some_is, set_here, set_there, set_long, got_within}
 use Rattle.vm_world_law.proofs.Ways.{IsSquare, none_square, none_on_way}
@@ -22,7 +24,8 @@ use Rattle.vm_world_law.proofs.Delivering.{behind, Grown, sent_by_others, delive
 
 -- Runs of one machine: one step more.
 module _ (next : Machine → Messages → Stepped) where
-  pub steps_more : (m : Machine) (q : Messages) (k : ℕ) (es : List Event) (n : Machine) (r : Messages) (n' : Machine) (r' : Messages) (e : Option Event)
+  pub steps_more : (m : Machine) (q : Messages) (k : ℕ) (es : List Event) (n : Machine) (r : Messages) (n' : Machine) (r' : Messages)
+      (e : Option Event)
       → Steps next m q k es n r → next n r ≡ Went n' r' e → Steps next m q (suc k) (es ++ noted e) n' r'
   steps_more m q _ _ _ _ n' r' e none h = subst (λ xs. Steps next m q 1 xs n' r') (append-nil (noted e)) (more h none)
   steps_more m q _ _ n r n' r' e (more {m' = m'} {q' = q'} {e = a} {k = k} {events = events} first rest) h =
@@ -45,10 +48,12 @@ module _ (p : Program) (first : World) (fresh : IsFresh first) where
   nothing_seen r = ap (events_of r) fresh.unseen
 
   nothing_sent : (from to : ℕ) → sent first from to ≡ []
-  nothing_sent from to = ap (λ es. Rattle.vm_world_law.specs.World.sent_to (Rattle.vm_world_law.specs.World.name_of first to) es) (nothing_seen from)
+  nothing_sent from to = ap (λ es. Rattle.vm_world_law.specs.World.sent_to (Rattle.vm_world_law.specs.World.name_of first to) es)
+      (nothing_seen from)
 
   nothing_taken : (to from : ℕ) → took first to from ≡ []
-  nothing_taken to from = ap (λ es. Rattle.vm_world_law.specs.World.taken_from (Rattle.vm_world_law.specs.World.name_of first from) es) (nothing_seen to)
+  nothing_taken to from = ap (λ es. Rattle.vm_world_law.specs.World.taken_from (Rattle.vm_world_law.specs.World.name_of first from) es)
+      (nothing_seen to)
 
   nothing_there : (from to : ℕ) → on_way first.messages from to ≡ []
   nothing_there from to = ap (λ q. on_way q from to) fresh.no_message ∙ none_on_way first.messages.roles from to
@@ -59,13 +64,15 @@ module _ (p : Program) (first : World) (fresh : IsFresh first) where
     distinct = fresh.distinct;
     as_many = fresh.as_many;
     square = subst IsSquare (sym fresh.no_message) (none_square first.messages.roles);
-    delivers = λ from to lf lt. nothing_sent from to ∙ sym (ap (λ l. l ++ on_way first.messages from to) (nothing_taken to from) ∙ nothing_there from to);
+    delivers = λ from to lf lt. nothing_sent from to ∙ sym (ap (λ l. l ++ on_way first.messages from to) (nothing_taken to from) ∙
+        nothing_there from to);
     alone = λ r start role at now later q begin.
         let same : record { state = Runs start; count = 0 } ≡ role = some_is (sym at ∙ now) in
         subst (λ x. ComesAlone p first r later start q x.count x.state) same (begins r start later q begin);
   }
     where
-      begins : (r : ℕ) (start : Machine) (later : ℕ → List Sent) (q : Messages) → Begin first r later q → Arrives p first r later start q 0 start
+      begins : (r : ℕ) (start : Machine) (later : ℕ → List Sent) (q : Messages) → Begin first r later q →
+          Arrives p first r later start q 0 start
       begins r start later q begin = record {
         messages = q;
         steps = subst (λ es. Steps (step p r) start q 0 es start q) (sym (nothing_seen r)) none;
@@ -94,11 +101,14 @@ module _ (p : Program) (first : World) (fresh : IsFresh first) where
       names_same = moves_roles w s w.roles kept.distinct kept.square in_roles q e moves
 
       -- what another role does is as before, over lists where less came
-      others_alone : (r : ℕ) (start : Machine) (other : Role) → r ≢ s → slice_get first.roles r ≡ Some (record { state = Runs start; count = 0 }) →
+      others_alone : (r : ℕ) (start : Machine) (other : Role) → r ≢ s →
+          slice_get first.roles r ≡ Some (record { state = Runs start; count = 0 }) →
           slice_get w.roles r ≡ Some other → (later : ℕ → List Sent) (begun : Messages) →
           Begin (behind w s (slice_set w.roles s (record { state = Runs n; count = suc role.count })) q e) r later begun →
-          ComesAlone p (behind w s (slice_set w.roles s (record { state = Runs n; count = suc role.count })) q e) r later start begun other.count other.state
-      others_alone r start other apart begins stands later begun begin = turn_to other.state (kept.alone r start other begins stands sooner begun begin')
+          ComesAlone p (behind w s (slice_set w.roles s (record { state = Runs n; count = suc role.count })) q e) r later start begun
+          other.count other.state
+      others_alone r start other apart begins stands later begun begin =
+          turn_to other.state (kept.alone r start other begins stands sooner begun begin')
         where
           roles : List Role
           roles = slice_set w.roles s (record { state = Runs n; count = suc role.count })
@@ -107,7 +117,8 @@ module _ (p : Program) (first : World) (fresh : IsFresh first) where
           lt = subst (λ k. r < k) kept.as_many (got_within w.roles r other stands)
 
           grown : (from : ℕ) → Grown w (behind w s (slice_set w.roles s (record { state = Runs n; count = suc role.count })) q e) from r
-          grown from = grows w s (slice_set w.roles s (record { state = Runs n; count = suc role.count })) kept.distinct kept.square in_roles q e moves from r lt apart
+          grown from = grows w s (slice_set w.roles s (record { state = Runs n; count = suc role.count })) kept.distinct kept.square
+              in_roles q e moves from r lt apart
 
           sooner : ℕ → List Sent
           sooner from = (grown from).extra ++ later from
@@ -124,7 +135,8 @@ module _ (p : Program) (first : World) (fresh : IsFresh first) where
           same_events = others_more r s w.events (noted e) apart
 
           turn_to : (state : State) → ComesAlone p w r sooner start begun other.count state →
-              ComesAlone p (behind w s (slice_set w.roles s (record { state = Runs n; count = suc role.count })) q e) r later start begun other.count state
+              ComesAlone p (behind w s (slice_set w.roles s (record { state = Runs n; count = suc role.count })) q e) r later start begun
+              other.count state
           turn_to (Runs x) h = record {
             messages = h.messages;
             steps = subst (λ es. Steps (step p r) start begun other.count es x h.messages) (sym same_events) h.steps;
@@ -141,11 +153,13 @@ module _ (p : Program) (first : World) (fresh : IsFresh first) where
       own_alone : (start : Machine) → slice_get first.roles s ≡ Some (record { state = Runs start; count = 0 }) →
           (later : ℕ → List Sent) (begun : Messages) →
           Begin (behind w s (slice_set w.roles s (record { state = Runs n; count = suc role.count })) q e) s later begun →
-          Arrives p (behind w s (slice_set w.roles s (record { state = Runs n; count = suc role.count })) q e) s later start begun (suc role.count) n
+          Arrives p (behind w s (slice_set w.roles s (record { state = Runs n; count = suc role.count })) q e) s later start begun
+          (suc role.count) n
       own_alone start begins later begun begin =
           let begin' : Begin w s later begun = record {
             roles = begin.roles ∙ names_same;
-            lists = λ from in_names far. begin.lists from (subst (λ names. from < length names) (sym names_same) in_names) far ∙ ap (λ l. l ++ later from)
+            lists = λ from in_names far. begin.lists from (subst (λ names. from < length names) (sym names_same) in_names) far ∙
+                ap (λ l. l ++ later from)
                 (sent_by_others w s (slice_set w.roles s (record { state = Runs n; count = suc role.count })) q e from s names_same far);
           } in
           let before : Arrives p w s later start begun role.count m =
@@ -169,25 +183,31 @@ module _ (p : Program) (first : World) (fresh : IsFresh first) where
         distinct = subst (IsDistinct bytes_eq) (sym names_same) kept.distinct;
         as_many = set_long w.roles s (record { state = Runs n; count = suc role.count }) ∙ kept.as_many ∙ ap length (sym names_same);
         square = moves_square w s w.roles kept.distinct kept.square in_roles q e moves;
-        delivers = delivers w s (slice_set w.roles s (record { state = Runs n; count = suc role.count })) kept.distinct kept.square in_roles q e moves kept.delivers;
+        delivers = delivers w s (slice_set w.roles s (record { state = Runs n; count = suc role.count })) kept.distinct kept.square in_roles
+            q e moves kept.delivers;
         alone = λ r start other begins stands later begun begin. go r start other begins stands later begun begin (eqb_tells r s);
       }
         where
           go : (r : ℕ) (start : Machine) (other : Role) → slice_get first.roles r ≡ Some (record { state = Runs start; count = 0 }) →
-              slice_get (slice_set w.roles s (record { state = Runs n; count = suc role.count })) r ≡ Some other → (later : ℕ → List Sent) (begun : Messages) →
+              slice_get (slice_set w.roles s (record { state = Runs n; count = suc role.count })) r ≡ Some other →
+              (later : ℕ → List Sent) (begun : Messages) →
               Begin (behind w s (slice_set w.roles s (record { state = Runs n; count = suc role.count })) q e) r later begun →
               ((r == s) ≡ true) × (r ≡ s) ⊎ ((r == s) ≡ false) × (r ≢ s) →
-              ComesAlone p (behind w s (slice_set w.roles s (record { state = Runs n; count = suc role.count })) q e) r later start begun other.count other.state
+              ComesAlone p (behind w s (slice_set w.roles s (record { state = Runs n; count = suc role.count })) q e) r later start begun
+              other.count other.state
           go r start other begins stands later begun begin (inl is) =
               let here : Some (record { state = Runs n; count = suc role.count }) ≡ Some other =
               sym (set_here w.roles s (record { state = Runs n; count = suc role.count }) (got_within w.roles s role at))
               ∙ ap (λ k. slice_get (slice_set w.roles s (record { state = Runs n; count = suc role.count })) k) (sym is.1) ∙ stands in
-              subst (λ x. ComesAlone p (behind w s (slice_set w.roles s (record { state = Runs n; count = suc role.count })) q e) r later start begun x.count x.state)
+              subst (λ x. ComesAlone p (behind w s (slice_set w.roles s (record { state = Runs n; count = suc role.count })) q e) r later
+              start begun x.count x.state)
               (some_is here)
-              (subst (λ k. ComesAlone p (behind w s (slice_set w.roles s (record { state = Runs n; count = suc role.count })) q e) k later start begun (suc role.count) (Runs n))
+              (subst (λ k. ComesAlone p (behind w s (slice_set w.roles s (record { state = Runs n; count = suc role.count })) q e) k later
+              start begun (suc role.count) (Runs n))
               (sym is.1)
               (own_alone start (ap (λ k. slice_get first.roles k) (sym is.1) ∙ begins) later begun
-              (subst (λ k. Begin (behind w s (slice_set w.roles s (record { state = Runs n; count = suc role.count })) q e) k later begun) is.1 begin)))
+              (subst (λ k. Begin (behind w s (slice_set w.roles s (record { state = Runs n; count = suc role.count })) q e) k later begun)
+              is.1 begin)))
           go r start other begins stands later begun begin (inr is) =
               others_alone r start other is.1 begins
               (sym (set_there w.roles s r (record { state = Runs n; count = suc role.count }) is.1) ∙ stands) later begun begin
@@ -248,7 +268,8 @@ module _ (p : Program) (first : World) (fresh : IsFresh first) where
               (subst (λ k. Begin w k later begun) is.1 (same_world r later begun begin))))
           go r start other begins stands later begun begin (inr is) =
               same_alone r later start begun other.count other.state
-              (kept.alone r start other begins (sym (set_there w.roles s r (record { state = Over ending; count = suc role.count }) is.1) ∙ stands) later begun
+              (kept.alone r start other begins (sym (set_there w.roles s r (record { state = Over ending; count = suc role.count }) is.1) ∙
+              stands) later begun
               (same_world r later begun begin))
 
     stepped_kept : (m : Machine) (out : Stepped) → role.state ≡ Runs m → step p s m w.messages ≡ out → MovesTo s w.messages out →

@@ -12,14 +12,16 @@ use Rattle.vm_world_law.specs.World.{Runs, Role, StartAt}
 use Rattle.vm_world_law.specs.Laws.{BegunIsFresh}
 use Rattle.vm_world_law.proofs.Lists.{some_is}
 
-as_many : (p : Program) (mains : List RoleMain) (roles : List Role) → StartAt p mains roles → length roles ≡ length (map (λ main. main.role) mains)
+as_many : (p : Program) (mains : List RoleMain) (roles : List Role) → StartAt p mains roles →
+    length roles ≡ length (map (λ main. main.role) mains)
 as_many p [] [] h = refl
 as_many p [] (role ∷ roles) h = absurd h
 as_many p (main ∷ mains) [] h = absurd h
 as_many p (main ∷ mains) (role ∷ roles) h = ap suc (as_many p mains roles h.1)
 
 -- each role runs, and none of its instructions was counted
-runs_there : (p : Program) (mains : List RoleMain) (roles : List Role) (r : ℕ) (role : Role) → StartAt p mains roles → slice_get roles r ≡ Some role →
+runs_there : (p : Program) (mains : List RoleMain) (roles : List Role) (r : ℕ) (role : Role) → StartAt p mains roles →
+    slice_get roles r ≡ Some role →
     (m : Machine) × (role ≡ record { state = Runs m; count = 0 })
 runs_there p [] [] r role h at = absurd (cc at)
 runs_there p [] (x ∷ roles) r role h at = absurd h
@@ -27,7 +29,8 @@ runs_there p (main ∷ mains) [] r role h at = absurd h
 runs_there p (main ∷ mains) (x ∷ roles) zero role h at = (h.0.0, sym (some_is at) ∙ h.0.2)
 runs_there p (main ∷ mains) (x ∷ roles) (suc r) role h at = runs_there p mains roles r role h.1 at
 
-starts_there : (p : Program) (mains : List RoleMain) (roles : List Role) (r : ℕ) (main : RoleMain) → StartAt p mains roles → slice_get mains r ≡ Some main →
+starts_there : (p : Program) (mains : List RoleMain) (roles : List Role) (r : ℕ) (main : RoleMain) → StartAt p mains roles →
+    slice_get mains r ≡ Some main →
     (m : Machine) × IsStart p main.class m × (slice_get roles r ≡ Some (record { state = Runs m; count = 0 }))
 starts_there p [] [] r main h at = absurd (cc at)
 starts_there p [] (x ∷ roles) r main h at = absurd h
@@ -54,5 +57,11 @@ begun_is_fresh p mains w h =
       },
       λ r main at.
           let s = starts_there p mains w.roles r main h.roles at in
-          record { start = s.0; starts = s.1; role = s.2; name = ap (λ (l : List Name). or_nothing (slice_get l r)) names ∙ name_there mains r main at },
+          record {
+            start = s.0;
+            starts = s.1;
+            role = s.2;
+            name = ap (λ (l : List Name). or_nothing (slice_get l r)) names ∙ name_there mains
+                r main at;
+          },
     )

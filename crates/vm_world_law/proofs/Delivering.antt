@@ -1,5 +1,6 @@
 -- What a turn changes in what was sent, what was taken and what is on its way.
-use Rattle.std.proofs.Common.{◌≡◌, ◌≢◌, ◌⊎◌, inl, inr, ℕ, ◌<◌, true, false, List, [], ◌∷◌, ◌++◌, length, map, Option, Some, position, refl, sym, ap, ◌∙◌, subst, append_assoc, append-nil}
+use Rattle.std.proofs.Common.{◌≡◌, ◌≢◌, ◌⊎◌, inl, inr, ℕ, ◌<◌, true, false, List, [], ◌∷◌, ◌++◌, length, map, Option, Some, position, refl}
+use Rattle.std.proofs.Common.{sym, ap, ◌∙◌, subst, append_assoc, append-nil}
 use Rattle.std.specs.Prelude.{◌==◌, slice_get}
 use Rattle.std.specs.List.{IsDistinct}
 use Rattle.std.specs.Str.{bytes_eq}
@@ -15,7 +16,8 @@ use Rattle.vm_world_law.specs.World.{Role, World, of_role, events_of, sent_to, t
 use Rattle.vm_world_law.specs.Laws.{Delivers}
 use Rattle.vm_world_law.proofs.Ways.{still_by, still_to, set_some, set_square_way, IsSquare, other_is, named_within, set_square}
 use Rattle.vm_world_law.proofs.Moves.{IsStill, Moves, stays, sends, takes}
-use Rattle.vm_world_law.proofs.Events.{own_more, others_more, sent_still, taken_still, take_sends_none, send_takes_none, sent_here, sent_elsewhere, taken_here, taken_elsewhere}
+use Rattle.vm_world_law.proofs.Events.{own_more, others_more, sent_still, taken_still, take_sends_none, send_takes_none, sent_here}
+use Rattle.vm_world_law.proofs.Events.{sent_elsewhere, taken_here, taken_elsewhere}
 
 -- the world behind a step of the role `s`, which may have told of an event
 abbrev pub behind : World → ℕ → List Role → Messages → Option Event → World
@@ -48,7 +50,8 @@ module _ (w : World) (s : ℕ) (roles : List Role) where
   sent_quiet : (e : Option Event) (from to : ℕ) → IsStill e → sent (behind w s roles w.messages e) from to ≡ sent w from to
   sent_quiet e from to still = go (eqb_tells from s)
     where
-      go : ((from == s) ≡ true) × (from ≡ s) ⊎ ((from == s) ≡ false) × (from ≢ s) → sent (behind w s roles w.messages e) from to ≡ sent w from to
+      go : ((from == s) ≡ true) × (from ≡ s) ⊎ ((from == s) ≡ false) × (from ≢ s) → sent (behind w s roles w.messages e) from to ≡ sent w
+          from to
       go (inl is) =
           ap (λ k. sent (behind w s roles w.messages e) k to) is.1
           ∙ ap (λ es. sent_to (name_of w to) es) (own_more s w.events (noted e))
@@ -76,7 +79,8 @@ module _ (w : World) (s : ℕ) (roles : List Role) where
           took (behind w s roles q (Some (seen.Send peer label payload))) to from ≡ took w to from
       go (inl is) =
           ap (λ k. took (behind w s roles q (Some (seen.Send peer label payload))) k from) is.1
-          ∙ ap (λ es. taken_from (or_nothing (slice_get q.roles from)) es) (own_more s w.events (noted (Some (seen.Send peer label payload))))
+          ∙ ap (λ es. taken_from (or_nothing (slice_get q.roles from)) es)
+          (own_more s w.events (noted (Some (seen.Send peer label payload))))
           ∙ send_takes_none (or_nothing (slice_get q.roles from)) (events_of s w.events) peer label payload
           ∙ ap (λ names. taken_from (or_nothing (slice_get names from)) (events_of s w.events)) same
           ∙ sym (ap (λ k. took w k from) is.1)
@@ -137,7 +141,8 @@ module _ (w : World) (s : ℕ) (roles : List Role) where
               })
           by_sender (inr f) t = record {
             extra = [];
-            sent_is = sent_by_others (sending w.messages s to message) sent_event from other refl f.1 ∙ sym (append-nil (sent w from other));
+            sent_is = sent_by_others (sending w.messages s to message) sent_event from other refl f.1 ∙
+                sym (append-nil (sent w from other));
             way_is = still_by w.messages from other s to sent_list f.1 ∙ sym (append-nil (on_way w.messages from other));
           }
 
@@ -153,57 +158,62 @@ module _ (w : World) (s : ℕ) (roles : List Role) where
 
     -- Takes.
     module _ (from : ℕ) (peer : Name) (message : Sent) (rest : List Sent)
-        (named : other_role s (position (bytes_eq peer) w.messages.roles) ≡ Some from) (way : on_way w.messages from s ≡ message ∷ rest) where
-      abbrev taken_event : Option Event
-      taken_event = Some (seen.Take peer message.label message.payload)
+        (named : other_role s (position (bytes_eq peer) w.messages.roles) ≡ Some from) (way : on_way w.messages from s ≡ message ∷ rest)
+      where
+        abbrev taken_event : Option Event
+        taken_event = Some (seen.Take peer message.label message.payload)
 
-      abbrev behind_take : World
-      behind_take = behind w s roles (with_list w.messages from s rest) taken_event
+        abbrev behind_take : World
+        behind_take = behind w s roles (with_list w.messages from s rest) taken_event
 
-      take_grows : (other to : ℕ) → to ≢ s → Grown w behind_take other to
-      take_grows other to apart = record {
-        extra = [];
-        sent_is = sent_at_take (with_list w.messages from s rest) peer message.label message.payload other to refl ∙ sym (append-nil (sent w other to));
-        way_is = still_to w.messages other to from s rest apart ∙ sym (append-nil (on_way w.messages other to));
-      }
+        take_grows : (other to : ℕ) → to ≢ s → Grown w behind_take other to
+        take_grows other to apart = record {
+          extra = [];
+          sent_is = sent_at_take (with_list w.messages from s rest) peer message.label message.payload other to refl ∙
+              sym (append-nil (sent w other to));
+          way_is = still_to w.messages other to from s rest apart ∙ sym (append-nil (on_way w.messages other to));
+        }
 
-      take_delivers : Delivers w → Delivers behind_take
-      take_delivers h other to lf lt = by_taker (eqb_tells to s) (eqb_tells other from)
-        where
-          place : position (bytes_eq peer) w.messages.roles ≡ Some from
-          place = (other_is s (position (bytes_eq peer) w.messages.roles) from named).is
+        take_delivers : Delivers w → Delivers behind_take
+        take_delivers h other to lf lt = by_taker (eqb_tells to s) (eqb_tells other from)
+          where
+            place : position (bytes_eq peer) w.messages.roles ≡ Some from
+            place = (other_is s (position (bytes_eq peer) w.messages.roles) from named).is
 
-          same_sent : sent behind_take other to ≡ sent w other to
-          same_sent = sent_at_take (with_list w.messages from s rest) peer message.label message.payload other to refl
+            same_sent : sent behind_take other to ≡ sent w other to
+            same_sent = sent_at_take (with_list w.messages from s rest) peer message.label message.payload other to refl
 
-          by_taker : ((to == s) ≡ true) × (to ≡ s) ⊎ ((to == s) ≡ false) × (to ≢ s) →
-              ((other == from) ≡ true) × (other ≡ from) ⊎ ((other == from) ≡ false) × (other ≢ from) →
-              sent behind_take other to ≡ took behind_take to other ++ on_way behind_take.messages other to
-          by_taker (inl t) (inl f) =
-              same_sent
-              ∙ h other to lf lt
-              ∙ ap (λ k. took w to k ++ on_way w.messages k to) f.1
-              ∙ ap (λ k. took w k from ++ on_way w.messages from k) t.1
-              ∙ ap (λ l. took w s from ++ l) way
-              ∙ sym (append_assoc (took w s from) (message ∷ []) rest)
-              ∙ ap (λ l. l ++ rest) (sym (ap (λ es. taken_from (name_of w from) es) (own_more s w.events (noted taken_event))
-              ∙ taken_here w.messages.roles distinct from peer message place (events_of s w.events) (named_within w.messages.roles peer from place)))
-              ∙ ap (λ l. took behind_take s from ++ l) (sym (set_some w.messages from s rest message rest way))
-              ∙ ap (λ k. took behind_take k from ++ on_way behind_take.messages from k) (sym t.1)
-              ∙ ap (λ k. took behind_take to k ++ on_way behind_take.messages k to) (sym f.1)
-          by_taker (inl t) (inr f) =
-              same_sent
-              ∙ h other to lf lt
-              ∙ ap (λ k. took w k other ++ on_way w.messages other k) t.1
-              ∙ ap (λ l. l ++ on_way w.messages other s) (sym (ap (λ es. taken_from (name_of w other) es) (own_more s w.events (noted taken_event))
-              ∙ taken_elsewhere w.messages.roles distinct from peer message place (events_of s w.events) other lf f.1))
-              ∙ ap (λ l. took behind_take s other ++ l) (sym (still_by w.messages other s from s rest f.1))
-              ∙ ap (λ k. took behind_take k other ++ on_way behind_take.messages other k) (sym t.1)
-          by_taker (inr t) f =
-              same_sent
-              ∙ h other to lf lt
-              ∙ ap (λ l. l ++ on_way w.messages other to) (sym (took_by_others (with_list w.messages from s rest) taken_event to other refl t.1))
-              ∙ ap (λ l. took behind_take to other ++ l) (sym (still_to w.messages other to from s rest t.1))
+            by_taker : ((to == s) ≡ true) × (to ≡ s) ⊎ ((to == s) ≡ false) × (to ≢ s) →
+                ((other == from) ≡ true) × (other ≡ from) ⊎ ((other == from) ≡ false) × (other ≢ from) →
+                sent behind_take other to ≡ took behind_take to other ++ on_way behind_take.messages other to
+            by_taker (inl t) (inl f) =
+                same_sent
+                ∙ h other to lf lt
+                ∙ ap (λ k. took w to k ++ on_way w.messages k to) f.1
+                ∙ ap (λ k. took w k from ++ on_way w.messages from k) t.1
+                ∙ ap (λ l. took w s from ++ l) way
+                ∙ sym (append_assoc (took w s from) (message ∷ []) rest)
+                ∙ ap (λ l. l ++ rest) (sym (ap (λ es. taken_from (name_of w from) es) (own_more s w.events (noted taken_event))
+                ∙ taken_here w.messages.roles distinct from peer message place (events_of s w.events)
+                (named_within w.messages.roles peer from place)))
+                ∙ ap (λ l. took behind_take s from ++ l) (sym (set_some w.messages from s rest message rest way))
+                ∙ ap (λ k. took behind_take k from ++ on_way behind_take.messages from k) (sym t.1)
+                ∙ ap (λ k. took behind_take to k ++ on_way behind_take.messages k to) (sym f.1)
+            by_taker (inl t) (inr f) =
+                same_sent
+                ∙ h other to lf lt
+                ∙ ap (λ k. took w k other ++ on_way w.messages other k) t.1
+                ∙ ap (λ l. l ++ on_way w.messages other s)
+                (sym (ap (λ es. taken_from (name_of w other) es) (own_more s w.events (noted taken_event))
+                ∙ taken_elsewhere w.messages.roles distinct from peer message place (events_of s w.events) other lf f.1))
+                ∙ ap (λ l. took behind_take s other ++ l) (sym (still_by w.messages other s from s rest f.1))
+                ∙ ap (λ k. took behind_take k other ++ on_way behind_take.messages other k) (sym t.1)
+            by_taker (inr t) f =
+                same_sent
+                ∙ h other to lf lt
+                ∙ ap (λ l. l ++ on_way w.messages other to)
+                (sym (took_by_others (with_list w.messages from s rest) taken_event to other refl t.1))
+                ∙ ap (λ l. took behind_take to other ++ l) (sym (still_to w.messages other to from s rest t.1))
 
     -- Without messages.
     quiet_grows : (e : Option Event) (from to : ℕ) → IsStill e → Grown w (behind w s roles w.messages e) from to

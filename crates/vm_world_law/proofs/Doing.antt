@@ -16,11 +16,14 @@ use Rattle.vm_model.specs.declared.linked.Built.TheVariants as built
 use Rattle.vm_model.specs.Program.{Program, Instr}
 use Rattle.vm_model.specs.Messages.{Messages, on_way, role_named}
 use Rattle.vm_model.specs.Machine.{Frame, Object, Machine, Went, Stops}
-use Rattle.vm_model.specs.Actions.{Calling, Telling, Silent, Static, Operation, Comparison, Action, Push, Load, Store, Pop, Double, Swap, Compute, Negate, Increase, IfZero, IfBoth, IfNull, Go, Switch, Return, Read, Write, Make, Call, Use, action}
+use Rattle.vm_model.specs.Actions.{Calling, Telling, Silent, Static, Operation, Comparison, Action, Push, Load, Store, Pop, Double, Swap}
+use Rattle.vm_model.specs.Actions.{Compute, Negate, Increase, IfZero, IfBoth, IfNull, Go, Switch, Return, Read, Write, Make, Call, Use}
+use Rattle.vm_model.specs.Actions.{action}
 use Rattle.vm_model.specs.Arithmetic.{computed}
 use Rattle.vm_model.specs.Tests.{needs, wrong, on_top, below, method_of_frame}
 use Rattle.vm_model.specs.Step
-use Rattle.vm_model.specs.Step.{step, act, act_some, act_at, tested, acts, code_in, other_role, taken_as, NoPayload, IntPayload, TruthPayload, TextPayload, Payload}
+use Rattle.vm_model.specs.Step.{step, act, act_some, act_at, tested, acts, code_in, other_role, taken_as, NoPayload, IntPayload}
+use Rattle.vm_model.specs.Step.{TruthPayload, TextPayload, Payload}
 use Rattle.vm_world_law.specs.Doing.{Answer, Looks, Takes, Refuses, Goes, Ends, Sends, Receives, answers, receives, IsQuiet, DoesOne}
 
 module _ (roles : List Name) (me : ℕ) where
@@ -83,7 +86,8 @@ module _ (roles : List Name) (me : ℕ) where
     on_null wanted target (v ∷ []) = goes _
     on_null wanted target vs = over _
 
-    switches : (default : ℕ) (low : ℤ) (targets : List ℕ) (vs : List Value) → DoesOne roles me (λ q. Step.switches q m default low targets rest vs)
+    switches : (default : ℕ) (low : ℤ) (targets : List ℕ) (vs : List Value) →
+        DoesOne roles me (λ q. Step.switches q m default low targets rest vs)
     switches default low targets (values.Int x ∷ []) = goes _
     switches default low targets vs = over _
 
@@ -120,7 +124,8 @@ module _ (roles : List Name) (me : ℕ) where
     writes field (values.Null ∷ v ∷ []) = over _
     writes field vs = over _
 
-    calls : (p : Program) (calling : Calling) (class method : ℕ) (vs : List Value) → DoesOne roles me (λ q. Step.calls p q m calling class method rest vs)
+    calls : (p : Program) (calling : Calling) (class method : ℕ) (vs : List Value) →
+        DoesOne roles me (λ q. Step.calls p q m calling class method rest vs)
     calls p Static class method vs = went _ _ tt
     calls p Telling class method (values.Object n ∷ vs) = went _ _ tt
     calls p Silent class method (values.Object n ∷ vs) = went _ _ tt
@@ -167,7 +172,8 @@ module _ (roles : List Name) (me : ℕ) where
         message : Sent
         message = record { label = label; payload = payload }
 
-        go : (o : Option ℕ) → other_role me (position (bytes_eq peer) roles) ≡ o → DoesOne roles me (λ q. Step.sends q m me rest peer label payload)
+        go : (o : Option ℕ) → other_role me (position (bytes_eq peer) roles) ≡ o →
+            DoesOne roles me (λ q. Step.sends q m me rest peer label payload)
         go None is = record {
           doing = Ends _;
           right = tt;
@@ -207,7 +213,8 @@ module _ (roles : List Name) (me : ℕ) where
         go (Some from) is = record {
           doing = Receives from peer looked;
           right = is;
-          is = λ q same. ap (Step.looks_from q m me rest peer) (named peer (Some from) is q same) ∙ looks_same q peer from (on_way q from me);
+          is = λ q same. ap (Step.looks_from q m me rest peer) (named peer (Some from) is q same) ∙ looks_same q peer from
+              (on_way q from me);
         }
 
     looks : (vs : List Value) → DoesOne roles me (λ q. Step.looks q m me rest vs)
@@ -262,7 +269,12 @@ module _ (roles : List Name) (me : ℕ) where
         go : (o : Option ℕ) → other_role me (position (bytes_eq peer) roles) ≡ o →
             DoesOne roles me (λ q. Step.refuses_from peer found (other_role me (role_named q peer)))
         go None is = record { doing = Ends _; right = tt; is = λ q same. ap (Step.refuses_from peer found) (named peer None is q same) }
-        go (Some from) is = record { doing = Ends _; right = tt; is = λ q same. ap (Step.refuses_from peer found) (named peer (Some from) is q same) }
+        go (Some from) is = record {
+          doing = Ends _;
+          right = tt;
+          is = λ q same. ap (Step.refuses_from peer found)
+              (named peer (Some from) is q same);
+        }
 
     refuses : (vs : List Value) → DoesOne roles me (λ q. Step.refuses q me vs)
     refuses (values.Text peer ∷ values.Text found ∷ []) = refuses_from peer found

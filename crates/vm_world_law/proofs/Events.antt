@@ -1,5 +1,6 @@
 -- The events of a role, and the messages that they send and take, where one event more is seen.
-use Rattle.std.proofs.Common.{◌≡◌, ◌≢◌, ℕ, ◌<◌, Bool, true, false, List, [], ◌∷◌, ◌++◌, length, map, Option, Some, None, position, refl, sym, ap, ◌∙◌, append-nil}
+use Rattle.std.proofs.Common.{◌≡◌, ◌≢◌, ℕ, ◌<◌, Bool, true, false, List, [], ◌∷◌, ◌++◌, length, map, Option, Some, None, position, refl}
+use Rattle.std.proofs.Common.{sym, ap, ◌∙◌, append-nil}
 use Rattle.std.specs.Prelude.{if◌then◌else◌, ◌==◌, slice_get}
 use Rattle.std.specs.List.{IsDistinct}
 use Rattle.std.specs.Str.{bytes_eq}
@@ -29,7 +30,8 @@ events-append r (x ∷ xs) ys = go (x.role == r) (events-append r xs ys)
 own : (r : ℕ) (es : List Event) → events_of r (map (of_role r) es) ≡ es
 own r [] = refl
 own r (e ∷ es) =
-    ap (λ b. if b then e ∷ events_of r (map (of_role r) es) else events_of r (map (of_role r) es)) (eq-eqb r r refl) ∙ ap (λ l. e ∷ l) (own r es)
+    ap (λ b. if b then e ∷ events_of r (map (of_role r) es) else events_of r (map (of_role r) es)) (eq-eqb r r refl) ∙
+    ap (λ l. e ∷ l) (own r es)
 
 others : (r s : ℕ) (es : List Event) → r ≢ s → events_of r (map (of_role s) es) ≡ []
 others r s [] n = refl
@@ -42,7 +44,8 @@ pub own_more : (r : ℕ) (before : List RoleEvent) (es : List Event) → events_
 own_more r before es = events-append r before (map (of_role r) es) ∙ ap (λ l. events_of r before ++ l) (own r es)
 
 -- and is none of another's
-pub others_more : (r s : ℕ) (before : List RoleEvent) (es : List Event) → r ≢ s → events_of r (before ++ map (of_role s) es) ≡ events_of r before
+pub others_more : (r s : ℕ) (before : List RoleEvent) (es : List Event) → r ≢ s → events_of r (before ++ map (of_role s) es) ≡ events_of r
+    before
 others_more r s before es n =
     events-append r before (map (of_role s) es) ∙ ap (λ l. events_of r before ++ l) (others r s es n) ∙ append-nil (events_of r before)
 
@@ -52,7 +55,8 @@ pub sent_more : (name : Name) (es : List Event) (e : Event) → sent_to name (es
 sent_more name es e = flat_map-append (message_to name) es (e ∷ []) ∙ ap (λ l. sent_to name es ++ l) (append-nil (message_to name e))
 
 pub taken_more : (name : Name) (es : List Event) (e : Event) → taken_from name (es ++ e ∷ []) ≡ taken_from name es ++ message_from name e
-taken_more name es e = flat_map-append (message_from name) es (e ∷ []) ∙ ap (λ l. taken_from name es ++ l) (append-nil (message_from name e))
+taken_more name es e = flat_map-append (message_from name) es (e ∷ []) ∙ ap (λ l. taken_from name es ++ l)
+    (append-nil (message_from name e))
 
 still_sends : (name : Name) (e : Event) → IsStill (Some e) → message_to name e ≡ []
 still_sends name (seen.Print text) h = refl
@@ -78,7 +82,8 @@ sent_still name es (Some e) h = sent_more name es e ∙ ap (λ l. sent_to name e
 
 pub taken_still : (name : Name) (es : List Event) (e : Option Event) → IsStill e → taken_from name (es ++ noted e) ≡ taken_from name es
 taken_still name es None h = ap (taken_from name) (append-nil es)
-taken_still name es (Some e) h = taken_more name es e ∙ ap (λ l. taken_from name es ++ l) (still_takes name e h) ∙ append-nil (taken_from name es)
+taken_still name es (Some e) h = taken_more name es e ∙ ap (λ l. taken_from name es ++ l) (still_takes name e h) ∙
+    append-nil (taken_from name es)
 
 -- a take sends nothing, and a send takes nothing
 pub take_sends_none : (name : Name) (es : List Event) (peer label : Name) (payload : _) →
@@ -90,7 +95,8 @@ pub send_takes_none : (name : Name) (es : List Event) (peer label : Name) (paylo
 send_takes_none name es peer label payload = taken_more name es (seen.Send peer label payload) ∙ append-nil (taken_from name es)
 
 -- To whom a message goes, and from whom it comes.
-module _ (roles : List Name) (distinct : IsDistinct bytes_eq roles) (k : ℕ) (peer : Name) (message : Sent) (named : position (bytes_eq peer) roles ≡ Some k) where
+module _ (roles : List Name) (distinct : IsDistinct bytes_eq roles) (k : ℕ) (peer : Name) (message : Sent)
+    (named : position (bytes_eq peer) roles ≡ Some k) where
   pub sent_here : (es : List Event) → k < length roles →
       sent_to (or_nothing (slice_get roles k)) (es ++ seen.Send peer message.label message.payload ∷ [])
       ≡ sent_to (or_nothing (slice_get roles k)) es ++ message ∷ []

@@ -1,13 +1,16 @@
 -- The moments of a run: what a loop over turns knows, which takes turns also while roles are found still.
-use Rattle.std.proofs.Common.{◌≡◌, ◌⊎◌, inl, inr, ◌<◌, ◌≤◌, ◌+◌, ◌-◌, leb, ℕ, zero, suc, List, [], ◌∷◌, length, Option, Some, None, slice_get, true, false, Contains, refl, sym, ap, ◌∙◌, subst, arith}
+use Rattle.std.proofs.Common.{◌≡◌, ◌⊎◌, inl, inr, ◌<◌, ◌≤◌, ◌+◌, ◌-◌, leb, ℕ, zero, suc, List, [], ◌∷◌, length, Option, Some, None}
+use Rattle.std.proofs.Common.{slice_get, true, false, Contains, refl, sym, ap, ◌∙◌, subst, arith}
 use Rattle.std.proofs.lemmas.Bool.Decides.{leb_tells}
 use Rattle.vm_model.specs.Program.{Program}
 use Rattle.vm_model.specs.Machine.{Machine, Stepped, Went, Waits, Stops}
 use Rattle.vm_model.specs.Step.{step}
 use Rattle.vm_world_law.specs.declared.role.Turned.{Turned}
 use Rattle.vm_world_law.specs.declared.role.Turned.TheVariants as answers
-use Rattle.vm_world_law.specs.World.{State, Runs, Over, Role, World, turn, turns, turn_at, turn_in, stepped, turned, turned_at, turned_in, turned_by, IsStill, Rests}
-use Rattle.vm_world_law.specs.Turns.{is_over, over_at, over_in, Advances, role_of_turn, first_turns, all_counts, counted, StopsAt, IsRun, StillAt}
+use Rattle.vm_world_law.specs.World.{State, Runs, Over, Role, World, turn, turns, turn_at, turn_in, stepped, turned, turned_at, turned_in}
+use Rattle.vm_world_law.specs.World.{turned_by, IsStill, Rests}
+use Rattle.vm_world_law.specs.Turns.{is_over, over_at, over_in, Advances, role_of_turn, first_turns, all_counts, counted, StopsAt, IsRun}
+use Rattle.vm_world_law.specs.Turns.{StillAt}
 use Rattle.vm_world_law.proofs.Lists.{some_is}
 use Rattle.vm_world_law.proofs.Turns.{one_turn_more, still_rounds_rest}
 use Rattle.vm_world_law.proofs.Stopping.{turns_count}
@@ -59,7 +62,8 @@ module _ (p : Program) (w : World) (r : ℕ) where
       go (inl still) = absurd (moves (still.1 role at))
       go (inr more) = (refl, more, λ rests. moves (rests r role at))
 
-  there : {t : Turned} (o : Option Role) → slice_get w.roles r ≡ o → Some t ≡ turned_at p w r o → (role : Role) × (slice_get w.roles r ≡ Some role) × (t ≡ turned_in p w r role.state)
+  there : {t : Turned} (o : Option Role) → slice_get w.roles r ≡ o → Some t ≡ turned_at p w r o →
+      (role : Role) × (slice_get w.roles r ≡ Some role) × (t ≡ turned_in p w r role.state)
   there None at is = absurd (cc is)
   there (Some role) at is = (role, at, some_is is)
 
@@ -80,7 +84,8 @@ module _ (p : Program) (w : World) (r : ℕ) where
       let h = there (slice_get w.roles r) refl is in
       counted_so h.0 h.1 (λ still. by_state h.0.state (ap over_at (sym h.1) ∙ running) h.2 still)
     where
-      by_step : (m : Machine) (out : Stepped) → step p r m w.messages ≡ out → answers.Ended ending ≡ turned_by out → IsStill p w r (Runs m) → ⊥
+      by_step : (m : Machine) (out : Stepped) → step p r m w.messages ≡ out → answers.Ended ending ≡ turned_by out → IsStill p w r (Runs m)
+          → ⊥
       by_step m (Went n q e) at is still = absurd (cc is)
       by_step m (Waits from) at is still = absurd (cc is)
       by_step m (Stops x) at is still = absurd (let e : ◌≡◌ {A = Stepped} _ _ = sym at ∙ still.1 in cc)
@@ -99,7 +104,8 @@ module _ (p : Program) (first : World) (order : List ℕ) (limit : ℕ) where
   abbrev pub after : ℕ → World
   after k = turns p first (first_turns order k)
 
-  -- A moment of a run: the world is that of a moment before which the run hasn't stopped, and as many turns as `idle` found their roles still since.
+  -- A moment of a run: the world is that of a moment before which the run hasn't stopped, and as many turns as `idle` found their roles
+  -- still since.
   pub record Moment (k idle : ℕ) (w : World) : Type 0 where
     pub is : w ≡ after k
     pub no_sooner : (j : ℕ) → j < k → StopsAt p limit (after j) → ⊥
@@ -138,7 +144,8 @@ module _ (p : Program) (first : World) (order : List ℕ) (limit : ℕ) where
       where
         go : (j : ℕ) → j < suc (k + idle) → (leb k j ≡ true) × (k ≤ j) ⊎ (leb k j ≡ false) × (j < k) → StopsAt p limit (after j) → ⊥
         go j lt (inl ge) stops =
-            not (subst (StopsAt p limit) (ap after (let e : j ≡ k + (j - k) = omega (arith, ge.1) in e) ∙ same_since (j - k) (omega (arith, ge.1, lt))) stops)
+            not (subst (StopsAt p limit) (ap after (let e : j ≡ k + (j - k) = omega (arith, ge.1) in e) ∙ same_since (j - k)
+            (omega (arith, ge.1, lt))) stops)
         go j lt (inr less) stops = m.no_sooner j less.1 stops
 
     -- as many still turns as the order is long

@@ -1,5 +1,6 @@
 -- What a step does to the lists of messages, and the same step on longer lists.
-use Rattle.std.proofs.Common.{◌≡◌, ◌≢◌, ◌⊎◌, inl, inr, ℕ, ◌<◌, true, false, List, [], ◌∷◌, ◌++◌, length, Option, Some, None, position, refl, sym, ap, ◌∙◌, subst}
+use Rattle.std.proofs.Common.{◌≡◌, ◌≢◌, ◌⊎◌, inl, inr, ℕ, ◌<◌, true, false, List, [], ◌∷◌, ◌++◌, length, Option, Some, None, position, refl}
+use Rattle.std.proofs.Common.{sym, ap, ◌∙◌, subst}
 use Rattle.std.specs.Prelude.{◌==◌}
 use Rattle.std.specs.Str.{bytes_eq}
 use Rattle.std.proofs.lemmas.Bool.Decides.{eqb_tells}
@@ -11,7 +12,8 @@ use Rattle.vm_model.specs.Program.{Program}
 use Rattle.vm_model.specs.Messages.{Messages, on_way, with_list, sending}
 use Rattle.vm_model.specs.Machine.{Machine, Stepped, Went, Waits, Stops, Steps, none, more}
 use Rattle.vm_model.specs.Step.{step, other_role}
-use Rattle.vm_world_law.specs.Doing.{Answer, Looks, Takes, Refuses, Doing, Goes, Ends, Sends, Receives, answers, receives, done, IsQuiet, IsDoing}
+use Rattle.vm_world_law.specs.Doing.{Answer, Looks, Takes, Refuses, Doing, Goes, Ends, Sends, Receives, answers, receives, done, IsQuiet}
+use Rattle.vm_world_law.specs.Doing.{IsDoing}
 use Rattle.vm_world_law.specs.Laws.{Longer, StepsOn}
 use Rattle.vm_world_law.proofs.Doing.{does_one}
 use Rattle.vm_world_law.proofs.Ways.{still_by, set_some, other_is, named_within}
@@ -91,9 +93,11 @@ module _ (me : ℕ) (later : ℕ → List Sent) where
   took_longer : (q q' : Messages) (from : ℕ) (message : Sent) (rest : List Sent) → on_way q from me ≡ message ∷ rest →
       on_way q' from me ≡ message ∷ (rest ++ later from) → Longer me later q q' →
       Longer me later (with_list q from me rest) (with_list q' from me (rest ++ later from))
-  took_longer q q' from message rest way way' h = record { roles = h.roles; lists = λ other lt apart. go other lt apart (eqb_tells other from) }
+  took_longer q q' from message rest way way' h =
+      record { roles = h.roles; lists = λ other lt apart. go other lt apart (eqb_tells other from) }
     where
-      go : (other : ℕ) → other < length q.roles → other ≢ me → ((other == from) ≡ true) × (other ≡ from) ⊎ ((other == from) ≡ false) × (other ≢ from) →
+      go : (other : ℕ) → other < length q.roles → other ≢ me → ((other == from) ≡ true) × (other ≡ from) ⊎ ((other == from) ≡ false)
+          × (other ≢ from) →
           on_way (with_list q' from me (rest ++ later from)) other me ≡ on_way (with_list q from me rest) other me ++ later other
       go other lt apart (inl is) =
           ap (λ k. on_way (with_list q' from me (rest ++ later from)) k me) is.1
@@ -105,7 +109,8 @@ module _ (me : ℕ) (later : ℕ → List Sent) where
           ∙ h.lists other lt apart
           ∙ ap (λ l. l ++ later other) (sym (still_by q other me from me rest is.1))
 
-  answer_alike : (q q' : Messages) (from : ℕ) (peer : Name) (message : Sent) (rest : List Sent) (a : Answer) → on_way q from me ≡ message ∷ rest →
+  answer_alike : (q q' : Messages) (from : ℕ) (peer : Name) (message : Sent) (rest : List Sent) (a : Answer) →
+      on_way q from me ≡ message ∷ rest →
       on_way q' from me ≡ message ∷ (rest ++ later from) → Longer me later q q' →
       GoesAlike me later (answers q me from peer message rest a) (answers q' me from peer message (rest ++ later from) a)
   answer_alike q q' from peer message rest (Looks m) way way' h = (q', refl, h)
@@ -131,7 +136,8 @@ module _ (me : ℕ) (later : ℕ → List Sent) where
       (receive_alike q q' from peer a (on_way q from me) refl way h)
 
   -- on longer lists a step that doesn't wait does the same, and one that waits does so where nothing came
-  pub step_alike : (p : Program) (m : Machine) (q q' : Messages) → Longer me later q q' → GoesAlike me later (step p me m q) (step p me m q')
+  pub step_alike : (p : Program) (m : Machine) (q q' : Messages) → Longer me later q q' →
+      GoesAlike me later (step p me m q) (step p me m q')
   step_alike p m q q' h =
       let one = does_one q.roles me p m in
       subst (λ s. GoesAlike me later s (step p me m q')) (sym (one.is q refl))
@@ -142,6 +148,7 @@ module _ (me : ℕ) (later : ℕ → List Sent) where
       Longer me later q q' → Steps (step p me) m q count events n left → StepsOn p me later m q' count events n left
   steps_alike p m q q' _ _ _ _ h none = record { messages = q'; steps = none; longer = h }
   steps_alike p m q q' _ _ n left h (more {m' = m1} {q' = q1} {e = e} {k = k} {events = events} first rest) =
-      let alike : GoesAlike me later (Went m1 q1 e) (step p me m q') = subst (λ s. GoesAlike me later s (step p me m q')) first (step_alike p m q q' h) in
+      let alike : GoesAlike me later (Went m1 q1 e) (step p me m q') = subst (λ s. GoesAlike me later s (step p me m q')) first
+      (step_alike p m q q' h) in
       let on = steps_alike p m1 q1 alike.0 k events n left alike.2 rest in
       record { messages = on.messages; steps = more alike.1 on.steps; longer = on.longer }

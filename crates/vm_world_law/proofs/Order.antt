@@ -1,5 +1,6 @@
 -- In which order roles take turns makes no difference to any of them.
-use Rattle.std.proofs.Common.{◌≡◌, ◌≢◌, ◌⊎◌, inl, inr, ℕ, zero, suc, ◌<◌, true, false, List, [], ◌∷◌, ◌++◌, length, drop, replicate, Option, Some, None, refl, sym, ap, ◌∙◌, subst, append-nil, arith}
+use Rattle.std.proofs.Common.{◌≡◌, ◌≢◌, ◌⊎◌, inl, inr, ℕ, zero, suc, ◌<◌, true, false, List, [], ◌∷◌, ◌++◌, length, drop, replicate, Option}
+use Rattle.std.proofs.Common.{Some, None, refl, sym, ap, ◌∙◌, subst, append-nil, arith}
 use Rattle.std.specs.Prelude.{◌==◌, slice_get}
 use Rattle.std.proofs.lemmas.Bool.Decides.{eqb_tells}
 use Rattle.std.proofs.lemmas.Grind.{flat_map-append}
@@ -9,7 +10,8 @@ use Rattle.vm_model.specs.Program.{Program}
 use Rattle.vm_model.specs.Messages.{Messages, or_nothing, on_way}
 use Rattle.vm_model.specs.Machine.{Machine, Stepped, Went, Waits, Stops, noted}
 use Rattle.vm_model.specs.Step.{step}
-use Rattle.vm_world_law.specs.World.{State, Runs, Over, Role, World, turn, turns, turn_at, turn_in, stepped, IsFresh, events_of, sent, sent_to, message_to, name_of, IsStill, Rests}
+use Rattle.vm_world_law.specs.World.{State, Runs, Over, Role, World, turn, turns, turn_at, turn_in, stepped, IsFresh, events_of, sent}
+use Rattle.vm_world_law.specs.World.{sent_to, message_to, name_of, IsStill, Rests}
 use Rattle.vm_world_law.specs.declared.stand.Stand.{Stand}
 use Rattle.vm_world_law.specs.Turns.{first_turns, stand_of, stands_from, OrdersAgree}
 use Rattle.vm_world_law.specs.Laws.{Begin, Left, Arrives, ComesAlone, Longer, EventsBegin, SameForAll}
@@ -47,14 +49,16 @@ held_roles w r = refl
 abbrev pub none_later : ℕ → List Sent
 none_later from = []
 
-pub on_held : (w : World) (r from : ℕ) → r < length w.messages.roles → from < length w.messages.roles → on_way (held w r) from r ≡ sent w from r
+pub on_held : (w : World) (r from : ℕ) → r < length w.messages.roles → from < length w.messages.roles →
+    on_way (held w r) from r ≡ sent w from r
 unfolding held
 on_held w r from rt ft =
     ap (λ o. or_nothing (slice_get (or_nothing o) r))
     (row_at (λ k. replicate (length w.messages.roles) (sent w k r)) (length w.messages.roles) from ft)
     ∙ ap or_nothing (replicate_there (length w.messages.roles) r (sent w from r) rt)
 
-pub held_begin : (w : World) (r : ℕ) → r < length w.messages.roles → (later : ℕ → List Sent) (v : World) → v.messages.roles ≡ w.messages.roles →
+pub held_begin : (w : World) (r : ℕ) → r < length w.messages.roles → (later : ℕ → List Sent) (v : World) →
+    v.messages.roles ≡ w.messages.roles →
     ((from : ℕ) → from < length w.messages.roles → from ≢ r → sent w from r ≡ sent v from r ++ later from) → Begin v r later (held w r)
 unfolding held
 held_begin w r within later v names all = record {
@@ -192,7 +196,8 @@ module _ (p : Program) (first : World) where
         (λ r lt. record { later = events_of r w.events; is = ap (λ es. events_of r es ++ events_of r w.events) (sym fresh.unseen) }) order
 
     -- Two worlds at rest.
-    module _ (v : World) (kept' : Kept p first v) (rests' : Rests p v) (same : (r : ℕ) → r < length w.roles → events_of r v.events ≡ events_of r w.events) where
+    module _ (v : World) (kept' : Kept p first v) (rests' : Rests p v) (same : (r : ℕ) → r < length w.roles →
+        events_of r v.events ≡ events_of r w.events) where
       same_names : v.messages.roles ≡ w.messages.roles
       same_names = kept'.names ∙ sym kept.names
 
@@ -208,8 +213,10 @@ module _ (p : Program) (first : World) where
           (λ from lt apart. sym (same_sent p first v kept' w kept same from r lt) ∙ sym (append-nil (sent v from r))) in
           y.1
           ∙ ap (λ z. Some z) (final_same (step p r) b.0 (held w r) (events_of r v.events) (events_of r w.events) y.0 x.0
-          (final_of v r b.0 (held w r) y.0.count y.0.state (kept'.alone r b.0 y.0 started y.1 none_later (held w r) begin) (rests' r y.0 y.1))
-          (final_of w r b.0 (held w r) x.0.count x.0.state (kept.alone r b.0 x.0 started x.1 none_later (held w r) (held_all w r within)) (rests r x.0 x.1)))
+          (final_of v r b.0 (held w r) y.0.count y.0.state (kept'.alone r b.0 y.0 started y.1 none_later (held w r) begin)
+          (rests' r y.0 y.1))
+          (final_of w r b.0 (held w r) x.0.count x.0.state (kept.alone r b.0 x.0 started x.1 none_later (held w r) (held_all w r within))
+          (rests r x.0 x.1)))
           ∙ sym x.1
 
       pub same_all : SameForAll v w
@@ -236,7 +243,8 @@ order_is_free p first fresh resting other rests =
     )
 
 -- how roles stand is told by the roles and the messages
-stands_alike : (p : Program) (v w : World) → v.messages ≡ w.messages → (r : ℕ) (roles : List Role) → stands_from p v r roles ≡ stands_from p w r roles
+stands_alike : (p : Program) (v w : World) → v.messages ≡ w.messages → (r : ℕ) (roles : List Role) → stands_from p v r roles ≡ stands_from p
+    w r roles
 stands_alike p v w same r [] = refl
 stands_alike p v w same r (role ∷ roles) =
     let rest : stands_from p v (suc r) roles ≡ stands_from p w (suc r) roles = stands_alike p v w same (suc r) roles in
@@ -250,6 +258,7 @@ stands_alike p v w same r (role ∷ roles) =
 pub orders_agree : OrdersAgree
 orders_agree p first fresh order other limit bound v w a b rests rests' =
     let both = order_is_free p first fresh (first_turns other b.taken) (first_turns order a.taken) (subst (Rests p) b.is rests') in
-    let same : SameForAll v w = subst (λ x. SameForAll x w) (sym a.is) (subst (λ x. SameForAll (turns p first (first_turns order a.taken)) x) (sym b.is)
+    let same : SameForAll v w = subst (λ x. SameForAll x w) (sym a.is)
+    (subst (λ x. SameForAll (turns p first (first_turns order a.taken)) x) (sym b.is)
     (both.1 (subst (Rests p) a.is rests))) in
     (same, stands_alike p v w same.messages 0 v.roles ∙ ap (stands_from p w 0) same.roles)

@@ -17,12 +17,14 @@ waits_same : (a b : ℕ) → ◌≡◌ {A = Stepped} (Waits a) (Waits b) → a �
 waits_same a b h = cc
 
 module _ (q : Messages) (me peer : ℕ) where
-  by_answer : (from : ℕ) (name : Name) (message : Sent) (more : List Sent) (answer : Answer) → answers q me from name message more answer ≡ Waits peer → ⊥
+  by_answer : (from : ℕ) (name : Name) (message : Sent) (more : List Sent) (answer : Answer) → answers q me from name message more answer ≡
+      Waits peer → ⊥
   by_answer from name message more (Looks m) h = cc
   by_answer from name message more (Takes m) h = cc
   by_answer from name message more Refuses h = cc
 
-  by_list : (from : ℕ) (name : Name) (answer : Sent → Answer) (list : List Sent) → receives q me from name answer list ≡ Waits peer → from ≡ peer
+  by_list : (from : ℕ) (name : Name) (answer : Sent → Answer) (list : List Sent) → receives q me from name answer list ≡ Waits peer →
+      from ≡ peer
   by_list from name answer [] h = waits_same from peer h
   by_list from name answer (message ∷ more) h = absurd (by_answer from name message more (answer message) h)
 

@@ -1,5 +1,6 @@
 -- Two runs of one machine over the same messages: one is the beginning of the other.
-use Rattle.std.proofs.Common.{◌≡◌, ◌⊎◌, inl, inr, ℕ, suc, ◌+◌, List, [], ◌∷◌, ◌++◌, length, drop, Option, refl, sym, ap, ◌∙◌, subst, append_assoc, append-nil, arith}
+use Rattle.std.proofs.Common.{◌≡◌, ◌⊎◌, inl, inr, ℕ, suc, ◌+◌, List, [], ◌∷◌, ◌++◌, length, drop, Option, refl, sym, ap, ◌∙◌, subst}
+use Rattle.std.proofs.Common.{append_assoc, append-nil, arith}
 use Rattle.std.proofs.lemmas.List.{length-append}
 use Rattle.mg_text.specs.declared.event.Event.{Event}
 use Rattle.vm_model.specs.Messages.{Messages}
@@ -42,14 +43,16 @@ led_same m n q r a b h = record { machine = cc; messages = cc; event = cc }
 
 module _ (next : Machine → Messages → Stepped) where
   -- a run goes on behind another
-  pub record GoesOn (n : Machine) (r : Messages) (k : ℕ) (es : List Event) (n' : Machine) (r' : Messages) (l : ℕ) (fs : List Event) : Type 0 where
-    pub left : ℕ
-    pub events : List Event
-    pub leads : Steps next n r left events n' r'
-    pub count : l ≡ k + left
-    pub all : fs ≡ es ++ events
+  pub record GoesOn (n : Machine) (r : Messages) (k : ℕ) (es : List Event) (n' : Machine) (r' : Messages) (l : ℕ) (fs : List Event) : Type 0
+    where
+      pub left : ℕ
+      pub events : List Event
+      pub leads : Steps next n r left events n' r'
+      pub count : l ≡ k + left
+      pub all : fs ≡ es ++ events
 
-  one_more : (n : Machine) (r : Messages) (k : ℕ) (es : List Event) (n' : Machine) (r' : Messages) (l : ℕ) (fs : List Event) (e : Option Event) →
+  one_more : (n : Machine) (r : Messages) (k : ℕ) (es : List Event) (n' : Machine) (r' : Messages) (l : ℕ) (fs : List Event)
+      (e : Option Event) →
       GoesOn n r k es n' r' l fs → GoesOn n r (suc k) (noted e ++ es) n' r' (suc l) (noted e ++ fs)
   one_more n r k es n' r' l fs e h = record {
     left = h.left;
@@ -59,26 +62,34 @@ module _ (next : Machine → Messages → Stepped) where
     all = ap (λ xs. noted e ++ xs) h.all ∙ sym (append_assoc (noted e) es h.events);
   }
 
-  pub compare : (m : Machine) (q : Messages) (k : ℕ) (es : List Event) (n : Machine) (r : Messages) (l : ℕ) (fs : List Event) (n' : Machine) (r' : Messages) →
+  pub compare : (m : Machine) (q : Messages) (k : ℕ) (es : List Event) (n : Machine) (r : Messages) (l : ℕ) (fs : List Event) (n' : Machine)
+      (r' : Messages) →
       Steps next m q k es n r → Steps next m q l fs n' r' → GoesOn n r k es n' r' l fs ⊎ GoesOn n' r' l fs n r k es
   compare m q _ _ _ _ l fs n' r' none run = inl (record { left = l; events = fs; leads = run; count = omega arith; all = refl })
-  compare m q k es n r _ _ _ _ (more first rest) none = inr (record { left = k; events = es; leads = more first rest; count = omega arith; all = refl })
-  compare m q _ _ n r _ _ n' r' (more {m' = a} {q' = b} {e = x} {k = k} {events = es} first rest) (more {m' = c} {q' = d} {e = y} {k = l} {events = fs} first' rest') =
+  compare m q k es n r _ _ _ _ (more first rest) none =
+      inr (record { left = k; events = es; leads = more first rest; count = omega arith; all = refl })
+  compare m q _ _ n r _ _ n' r' (more {m' = a} {q' = b} {e = x} {k = k} {events = es} first rest)
+      (more {m' = c} {q' = d} {e = y} {k = l} {events = fs} first' rest') =
       let led = led_same a c b d x y (sym first ∙ first') in
-      let run : Steps next a b l fs n' r' = subst (λ z. Steps next z b l fs n' r') led.machine (subst (λ z. Steps next c z l fs n' r') led.messages rest') in
+      let run : Steps next a b l fs n' r' = subst (λ z. Steps next z b l fs n' r') led.machine
+      (subst (λ z. Steps next c z l fs n' r') led.messages rest') in
       go (compare a b k es n r l fs n' r' rest run) led.event
     where
       go : GoesOn n r k es n' r' l fs ⊎ GoesOn n' r' l fs n r k es → x ≡ y →
-          GoesOn n r (suc k) (noted x ++ es) n' r' (suc l) (noted y ++ fs) ⊎ GoesOn n' r' (suc l) (noted y ++ fs) n r (suc k) (noted x ++ es)
-      go (inl h) e = inl (subst (λ o. GoesOn n r (suc k) (noted x ++ es) n' r' (suc l) (noted o ++ fs)) e (one_more n r k es n' r' l fs x h))
-      go (inr h) e = inr (subst (λ o. GoesOn n' r' (suc l) (noted o ++ fs) n r (suc k) (noted x ++ es)) e (one_more n' r' l fs n r k es x h))
+          GoesOn n r (suc k) (noted x ++ es) n' r' (suc l) (noted y ++ fs) ⊎ GoesOn n' r' (suc l) (noted y ++ fs) n r (suc k)
+          (noted x ++ es)
+      go (inl h) e = inl (subst (λ o. GoesOn n r (suc k) (noted x ++ es) n' r' (suc l) (noted o ++ fs)) e
+          (one_more n r k es n' r' l fs x h))
+      go (inr h) e = inr (subst (λ o. GoesOn n' r' (suc l) (noted o ++ fs) n r (suc k) (noted x ++ es)) e
+          (one_more n' r' l fs n r k es x h))
 
   -- the step doesn't go on
   abbrev pub Halts : Stepped → Type 0
   Halts (Went m q e) = ⊥
   Halts _ = Unit {0}
 
-  halts_there : (n : Machine) (r : Messages) (out : Stepped) → next n r ≡ out → Halts out → (n' : Machine) (r' : Messages) (k : ℕ) (es : List Event) →
+  halts_there : (n : Machine) (r : Messages) (out : Stepped) → next n r ≡ out → Halts out → (n' : Machine) (r' : Messages) (k : ℕ)
+      (es : List Event) →
       Steps next n r k es n' r' → (es ≡ []) × (k ≡ 0) × (n' ≡ n) × (r' ≡ r)
   halts_there n r out is h _ _ _ _ none = (refl, refl, refl, refl)
   halts_there n r out is h n' r' _ _ (more {m' = a} {q' = b} {e = e} first rest) = absurd (subst Halts (sym is ∙ first) h)
@@ -119,9 +130,11 @@ module _ (next : Machine → Messages → Stepped) (start : Machine) (q : Messag
   -- two that halt stand at the same place
   pub final_same : (es fs : List Event) (role other : Role) → Final es role → Final fs other → role ≡ other
   final_same es fs role other f g =
-      go (compare next start q f.shows.steps es f.shows.last f.shows.left g.shows.steps fs g.shows.last g.shows.left f.shows.leads g.shows.leads)
+      go (compare next start q f.shows.steps es f.shows.last f.shows.left g.shows.steps fs g.shows.last g.shows.left f.shows.leads
+      g.shows.leads)
     where
-      at_same : (k l : ℕ) (m n : Machine) (a b : Messages) (x y : Stepped) → l ≡ k → n ≡ m → b ≡ a → next m a ≡ x → next n b ≡ y → standing k m x ≡ standing l n y
+      at_same : (k l : ℕ) (m n : Machine) (a b : Messages) (x y : Stepped) → l ≡ k → n ≡ m → b ≡ a → next m a ≡ x → next n b ≡ y →
+          standing k m x ≡ standing l n y
       at_same k l m n a b x y count machine messages is other_is =
           let out : x ≡ y = sym is ∙ sym (ap (λ z. next z a) machine) ∙ sym (ap (λ z. next n z) messages) ∙ other_is in
           ap (λ z. standing k m z) out ∙ ap (λ z. standing k z y) (sym machine) ∙ ap (λ z. standing z n y) (sym count)

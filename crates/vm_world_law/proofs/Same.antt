@@ -13,11 +13,13 @@ use Rattle.vm_world_law.proofs.Ways.{IsSquare}
 use Rattle.vm_world_law.proofs.Alone.{Kept}
 
 -- lists of the same length that are the same at each place within
-pub same_within : {A : Type 0} (xs ys : List A) (n : ℕ) → length xs ≡ n → length ys ≡ n → ((i : ℕ) → i < n → slice_get xs i ≡ slice_get ys i) → xs ≡ ys
+pub same_within : {A : Type 0} (xs ys : List A) (n : ℕ) → length xs ≡ n → length ys ≡ n →
+    ((i : ℕ) → i < n → slice_get xs i ≡ slice_get ys i) → xs ≡ ys
 same_within {A} xs ys n long long' h = same_at_each xs ys (λ i. go i (leb_tells n i))
   where
     go : (i : ℕ) → (leb n i ≡ true) × (n ≤ i) ⊎ (leb n i ≡ false) × (i < n) → slice_get xs i ≡ slice_get ys i
-    go i (inl past) = slice_get_past xs i (subst (λ k. k ≤ i) (sym long) past.1) ∙ sym (slice_get_past ys i (subst (λ k. k ≤ i) (sym long') past.1))
+    go i (inl past) = slice_get_past xs i (subst (λ k. k ≤ i) (sym long) past.1) ∙
+        sym (slice_get_past ys i (subst (λ k. k ≤ i) (sym long') past.1))
     go i (inr there) = h i there.1
 
 -- messages are known by their lists
@@ -28,7 +30,8 @@ messages_by q r square square' roles ways =
     let lists : q.lists ≡ r.lists = same_within q.lists r.lists (length r.roles) (square.rows ∙ ap length roles) square'.rows each in
     whole q.roles r.roles q.lists r.lists roles lists
   where
-    whole : (a b : _) (l m : List (List (List Sent))) → a ≡ b → l ≡ m → ◌≡◌ {A = Messages} (record { roles = a; lists = l }) (record { roles = b; lists = m })
+    whole : (a b : _) (l m : List (List (List Sent))) → a ≡ b → l ≡ m → ◌≡◌ {A = Messages} (record { roles = a; lists = l })
+        (record { roles = b; lists = m })
     whole a b l m e f = cc
 
     got : (l m : List (List Sent)) (to : ℕ) → to < length l → to < length m → or_nothing (slice_get l to) ≡ or_nothing (slice_get m to) →
@@ -47,7 +50,8 @@ messages_by q r square square' roles ways =
         let long' : length y.0 ≡ length r.roles = sym (ap (λ o. length (or_nothing o)) y.1) ∙ square'.row from lt in
         let row : x.0 ≡ y.0 = same_within x.0 y.0 (length r.roles) long long' (λ to tt.
         got x.0 y.0 to (subst (λ n. to < n) (sym long) tt) (subst (λ n. to < n) (sym long') tt)
-        (sym (ap (λ o. or_nothing (slice_get (or_nothing o) to)) x.1) ∙ ways from to lt tt ∙ ap (λ o. or_nothing (slice_get (or_nothing o) to)) y.1)) in
+        (sym (ap (λ o. or_nothing (slice_get (or_nothing o) to)) x.1) ∙ ways from to lt tt ∙
+        ap (λ o. or_nothing (slice_get (or_nothing o) to)) y.1)) in
         x.1 ∙ ap (λ z. Some z) row ∙ sym y.1
 
 module _ (p : Program) (first : World) (v : World) (kept' : Kept p first v) (w : World) (kept : Kept p first w) where
@@ -68,7 +72,8 @@ module _ (p : Program) (first : World) (v : World) (kept' : Kept p first v) (w :
         ap (λ es. taken_from (name_of v from) es) (same to (subst (λ n. to < n) (sym kept.as_many) lt))
         ∙ ap (λ l. taken_from (or_nothing (slice_get l from)) (events_of to w.events)) names_same
 
-    same_way : (from to : ℕ) → from < length w.messages.roles → to < length w.messages.roles → on_way v.messages from to ≡ on_way w.messages from to
+    same_way : (from to : ℕ) → from < length w.messages.roles → to < length w.messages.roles → on_way v.messages from to ≡ on_way w.messages
+        from to
     same_way from to lf lt =
         append_cancel_left (took w to from) (on_way v.messages from to) (on_way w.messages from to)
         (ap (λ l. l ++ on_way v.messages from to) (sym (same_took to from lt))

@@ -1,12 +1,14 @@
 -- Every run of roles stops.
-use Rattle.std.proofs.Common.{◌≡◌, ◌⊎◌, inl, inr, ◌<◌, ◌≤◌, ◌+◌, ◌-◌, leb, ℕ, zero, suc, List, [], ◌∷◌, length, Option, Some, None, slice_get, slice_set, Bool, true, false, Contains, refl, sym, ap, ◌∙◌, subst, arith}
+use Rattle.std.proofs.Common.{◌≡◌, ◌⊎◌, inl, inr, ◌<◌, ◌≤◌, ◌+◌, ◌-◌, leb, ℕ, zero, suc, List, [], ◌∷◌, length, Option, Some, None}
+use Rattle.std.proofs.Common.{slice_get, slice_set, Bool, true, false, Contains, refl, sym, ap, ◌∙◌, subst, arith}
 use Rattle.std.specs.List.{list_any}
 use Rattle.std.proofs.lemmas.Bool.Decides.{leb_tells}
 use Rattle.vm_model.specs.Program.{Program}
 use Rattle.vm_model.specs.Machine.{Machine, Stepped, Went, Waits, Stops}
 use Rattle.vm_model.specs.Step.{step}
 use Rattle.vm_world_law.specs.World.{State, Runs, Over, Role, World, turn, turns, turn_at, turn_in, stepped, IsStill, Rests}
-use Rattle.vm_world_law.specs.Turns.{role_of_turn, first_turns, all_counts, counted, StopsAt, IsRun, stands_in, is_bound, StillAt, TurnsCount, RunsStop}
+use Rattle.vm_world_law.specs.Turns.{role_of_turn, first_turns, all_counts, counted, StopsAt, IsRun, stands_in, is_bound, StillAt}
+use Rattle.vm_world_law.specs.Turns.{TurnsCount, RunsStop}
 use Rattle.vm_world_law.proofs.Lists.{some_is, set_long}
 use Rattle.vm_world_law.proofs.Turns.{one_turn_more, still_rounds_rest, rest_is_no_bound}
 
@@ -23,12 +25,18 @@ counted_set (role ∷ roles) (suc r) old new at e =
 pub turns_count : TurnsCount
 turns_count p w r = go (slice_get w.roles r) refl
   where
-    by_step : (role : Role) (m : Machine) (out : Stepped) → slice_get w.roles r ≡ Some role → role.state ≡ Runs m → step p r m w.messages ≡ out →
+    by_step : (role : Role) (m : Machine) (out : Stepped) → slice_get w.roles r ≡ Some role → role.state ≡ Runs m →
+        step p r m w.messages ≡ out →
         (stepped w r role.count out ≡ w) × StillAt p w r ⊎ (counted (stepped w r role.count out) ≡ suc (counted w))
     by_step role m (Went n q e) at running is = inr (counted_set w.roles r role (record { state = Runs n; count = suc role.count }) at refl)
     by_step role m (Waits peer) at running is =
-        inl (refl, λ other there. subst (λ x. IsStill p w r x.state) (some_is (sym at ∙ there)) (subst (IsStill p w r) (sym running) (peer, is)))
-    by_step role m (Stops ending) at running is = inr (counted_set w.roles r role (record { state = Over ending; count = suc role.count }) at refl)
+        inl (
+          refl,
+          λ other there. subst (λ x. IsStill p w r x.state) (some_is (sym at ∙ there))
+              (subst (IsStill p w r) (sym running) (peer, is)),
+        )
+    by_step role m (Stops ending) at running is = inr (counted_set w.roles r role (record { state = Over ending; count = suc role.count })
+        at refl)
 
     by_state : (role : Role) (state : State) → slice_get w.roles r ≡ Some role → role.state ≡ state →
         (turn_in p w r role.count state ≡ w) × StillAt p w r ⊎ (counted (turn_in p w r role.count state) ≡ suc (counted w))
@@ -136,8 +144,10 @@ module _ (p : Program) (first : World) (order : List ℕ) (limit : ℕ) where
             let next : counted (after (suc k)) ≡ suc (counted (after k)) = ap counted (one_turn_more p first order k) ∙ more in
             fewer (counting_reached k idle h not) (omega (arith, next, count))
 
-    not_stopped : (f k : ℕ) → counted (after k) + suc f ≡ limit → list_any is_bound (stands_in p (after k)) ≡ true → StopsAt p limit (after k) → ⊥
-    not_stopped f k count is (inl rests) = absurd (let e : list_any is_bound (stands_in p (after k)) ≡ false = (rest_is_no_bound p (after k)).0 rests in cc)
+    not_stopped : (f k : ℕ) → counted (after k) + suc f ≡ limit → list_any is_bound (stands_in p (after k)) ≡ true →
+        StopsAt p limit (after k) → ⊥
+    not_stopped f k count is (inl rests) =
+        absurd (let e : list_any is_bound (stands_in p (after k)) ≡ false = (rest_is_no_bound p (after k)).0 rests in cc)
     not_stopped f k count is (inr same) = absurd (omega (arith, count, same))
 
     -- with so many instructions to go, and so many turns that may still be still
@@ -148,7 +158,8 @@ module _ (p : Program) (first : World) (order : List ℕ) (limit : ℕ) where
         go (list_any is_bound (stands_in p (after k))) refl
         (λ h' c. inner f fewer g (suc k) (suc idle) h' (omega (arith, within)) (omega (arith, left)) c)
       where
-        go : (b : Bool) → list_any is_bound (stands_in p (after k)) ≡ b → (Reached (suc k) (suc idle) → counted (after (suc k)) + suc f ≡ limit → Found) → Found
+        go : (b : Bool) → list_any is_bound (stands_in p (after k)) ≡ b →
+            (Reached (suc k) (suc idle) → counted (after (suc k)) + suc f ≡ limit → Found) → Found
         go false is again = found k idle h (inl ((rest_is_no_bound p (after k)).1 is))
         go true is again = take_one f k idle h (not_stopped f k count is) count again (λ h' c. fewer (suc k) h' c)
 

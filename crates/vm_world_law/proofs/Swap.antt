@@ -1,5 +1,6 @@
 -- Turns of two roles come to the same whichever is first, but where one waits for what the other sends.
-use Rattle.std.proofs.Common.{◌≡◌, ◌≢◌, ◌⊎◌, inl, inr, ℕ, suc, ◌<◌, true, false, List, [], ◌∷◌, ◌++◌, length, Option, Some, None, refl, sym, ap, ◌∙◌, subst, append-nil}
+use Rattle.std.proofs.Common.{◌≡◌, ◌≢◌, ◌⊎◌, inl, inr, ℕ, suc, ◌<◌, true, false, List, [], ◌∷◌, ◌++◌, length, Option, Some, None, refl, sym}
+use Rattle.std.proofs.Common.{ap, ◌∙◌, subst, append-nil}
 use Rattle.std.specs.Prelude.{◌==◌, slice_get, slice_set}
 use Rattle.std.proofs.lemmas.Bool.Decides.{eqb_tells}
 use Rattle.mg_text.specs.declared.event.Sent.{Sent}
@@ -7,7 +8,8 @@ use Rattle.vm_model.specs.Program.{Program}
 use Rattle.vm_model.specs.Messages.{on_way}
 use Rattle.vm_model.specs.Machine.{Stepped, Went, Waits, Stops, noted}
 use Rattle.vm_model.specs.Step.{step}
-use Rattle.vm_world_law.specs.World.{State, Runs, Over, Role, World, turn, turns, turn_at, turn_in, stepped, IsFresh, events_of, waits, waits_at, waits_in, waits_by}
+use Rattle.vm_world_law.specs.World.{State, Runs, Over, Role, World, turn, turns, turn_at, turn_in, stepped, IsFresh, events_of, waits}
+use Rattle.vm_world_law.specs.World.{waits_at, waits_in, waits_by}
 use Rattle.vm_world_law.specs.Laws.{Longer, SendsNone, SameForAll, TurnsSwap}
 use Rattle.vm_world_law.proofs.Lists.{set_here, set_there, got_within}
 use Rattle.vm_world_law.proofs.Moves.{MovesTo, step_moves, GoesAlike, step_alike}
@@ -89,7 +91,8 @@ module _ (p : Program) (first : World) where
     turned_state : (count : ℕ) (state : State) → waits_in p w r state ≡ None → r < length w.roles → r < length v.roles →
         slice_get v.roles r ≡ slice_get w.roles r → Alike (turn_in p v r count state) (turn_in p w r count state) r
     turned_state count (Runs m) free lw lv stands =
-        turned_step count (step p r m w.messages) (step p r m v.messages) free (step_alike r same.later p m w.messages v.messages same.longer) lw lv
+        turned_step count (step p r m w.messages) (step p r m v.messages) free (step_alike r same.later p m w.messages v.messages
+        same.longer) lw lv
     turned_state count (Over ending) free lw lv stands = record { stands = stands; events = same.events }
 
     turned : waits p w r ≡ None → Alike (turn p v r) (turn p w r) r
@@ -99,7 +102,8 @@ module _ (p : Program) (first : World) where
         go : (o : Option Role) → slice_get w.roles r ≡ o → waits_at p w r o ≡ None → Alike (turn_at p v r o) (turn_at p w r o) r
         go None at free = record { stands = same.stands; events = same.events }
         go (Some role) at free =
-            turned_state role.count role.state free (got_within w.roles r role at) (got_within v.roles r role (same.stands ∙ at)) same.stands
+            turned_state role.count role.state free (got_within w.roles r role at) (got_within v.roles r role (same.stands ∙ at))
+            same.stands
 
   -- a turn of a role that waits changes nothing
   waiting_turn : (w : World) (r peer : ℕ) → waits p w r ≡ Some peer → turn p w r ≡ w
@@ -134,7 +138,8 @@ module _ (p : Program) (first : World) where
           subst (λ x. Alike x (turn p w r) r) (sym still') (subst (λ x. Alike (turn p w s) x r) (sym still)
           (record { stands = side.stands; events = side.events }))
 
-  module _ (fresh : IsFresh first) (w : World) (kept : Kept p first w) (a b : ℕ) (apart : a ≢ b) (none : SendsNone p w a b) (none' : SendsNone p w b a) where
+  module _ (fresh : IsFresh first) (w : World) (kept : Kept p first w) (a b : ℕ) (apart : a ≢ b) (none : SendsNone p w a b)
+      (none' : SendsNone p w b a) where
     ab : World
     ab = turn p (turn p w a) b
 
@@ -189,10 +194,12 @@ module _ (p : Program) (first : World) where
         let from_names : (r : ℕ) → r < length (turn p (turn p w b) a).messages.roles → r < length w.messages.roles =
         (λ r lt. subst (λ l. r < length l) (kept_ba.names ∙ sym kept.names) lt) in
         let same : (r : ℕ) → r < length (turn p (turn p w b) a).roles →
-        events_of r (turn p (turn p w a) b).events ≡ events_of r (turn p (turn p w b) a).events = (λ r lt. (each r (from_roles r lt)).events) in
+        events_of r (turn p (turn p w a) b).events ≡ events_of r (turn p (turn p w b) a).events =
+        (λ r lt. (each r (from_roles r lt)).events) in
         record {
           events = same;
-          roles = roles_same p first (turn p (turn p w a) b) kept_ab (turn p (turn p w b) a) kept_ba (λ r lt. (each r (from_names r lt)).stands);
+          roles = roles_same p first (turn p (turn p w a) b) kept_ab (turn p (turn p w b) a) kept_ba
+              (λ r lt. (each r (from_names r lt)).stands);
           messages = messages_same p first (turn p (turn p w a) b) kept_ab (turn p (turn p w b) a) kept_ba same;
         }
 

@@ -1,5 +1,6 @@
 -- Runs of several roles.
-use Rattle.std.proofs.Common.{◌≡◌, ◌⊎◌, inl, inr, ◌<◌, ◌≤◌, ◌+◌, ◌*◌, ◌/◌, ◌%◌, leb, ℕ, zero, suc, List, [], ◌∷◌, length, get_or, Some, slice_get, Bool, true, false, ◌||◌, refl, sym, ap, ◌∙◌, subst, arith}
+use Rattle.std.proofs.Common.{◌≡◌, ◌⊎◌, inl, inr, ◌<◌, ◌≤◌, ◌+◌, ◌*◌, ◌/◌, ◌%◌, leb, ℕ, zero, suc, List, [], ◌∷◌, length, get_or, Some}
+use Rattle.std.proofs.Common.{slice_get, Bool, true, false, ◌||◌, refl, sym, ap, ◌∙◌, subst, arith}
 use Rattle.std.specs.List.{list_any}
 use Rattle.std.proofs.lemmas.Bool.Decides.{leb_tells}
 use Rattle.std.proofs.lemmas.Nat.{mod-mul-add, mod_below}
@@ -8,7 +9,8 @@ use Rattle.vm_model.specs.Program.{Program}
 use Rattle.vm_model.specs.Machine.{Stepped, Went, Waits, Stops}
 use Rattle.vm_model.specs.Step.{step}
 use Rattle.vm_world_law.specs.World.{State, Runs, Over, Role, World, turn, turns, waits_by, IsStill}
-use Rattle.vm_world_law.specs.Turns.{role_of_turn, first_turns, StopsAt, waiting_for, stand_of, stands_from, is_bound, OneRun, StillRoundsRest, RestIsNoBound}
+use Rattle.vm_world_law.specs.Turns.{role_of_turn, first_turns, StopsAt, waiting_for, stand_of, stands_from, is_bound, OneRun}
+use Rattle.vm_world_law.specs.Turns.{StillRoundsRest, RestIsNoBound}
 use Rattle.vm_world_law.proofs.Swap.{turns-append}
 use Rattle.vm_world_law.proofs.Lists.{some_is, got_within}
 
@@ -79,7 +81,8 @@ module _ (p : Program) (w : World) where
   still_where : (r : ℕ) (state : State) → is_bound (stand_of p w r state) ≡ false → IsStill p w r state
   still_where r (Runs m) h = go (step p r m w.messages) refl h
     where
-      go : (out : Stepped) → step p r m w.messages ≡ out → is_bound (waiting_for w (waits_by out)) ≡ false → (peer : ℕ) × (step p r m w.messages ≡ Waits peer)
+      go : (out : Stepped) → step p r m w.messages ≡ out → is_bound (waiting_for w (waits_by out)) ≡ false →
+          (peer : ℕ) × (step p r m w.messages ≡ Waits peer)
       go (Went n q e) is h = absurd (cc h)
       go (Waits peer) is h = (peer, is)
       go (Stops ending) is h = absurd (cc h)

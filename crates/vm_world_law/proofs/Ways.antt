@@ -1,5 +1,6 @@
 -- The lists of messages between roles as one of them changes.
-use Rattle.std.proofs.Common.{◌≡◌, ◌≢◌, ◌⊎◌, inl, inr, ℕ, ◌<◌, Bool, true, false, true≢false, List, [], ◌∷◌, length, replicate, Option, Some, None, refl, sym, ap, ◌∙◌, subst, arith, position}
+use Rattle.std.proofs.Common.{◌≡◌, ◌≢◌, ◌⊎◌, inl, inr, ℕ, ◌<◌, Bool, true, false, true≢false, List, [], ◌∷◌, length, replicate, Option}
+use Rattle.std.proofs.Common.{Some, None, refl, sym, ap, ◌∙◌, subst, arith, position}
 use Rattle.std.specs.Prelude.{slice_get, slice_set, ◌==◌, if◌then◌else◌}
 use Rattle.std.proofs.lemmas.List.{length-replicate}
 use Rattle.std.proofs.lemmas.Bool.{eq-eqb}
@@ -34,7 +35,8 @@ row_set q sender receiver to list apart = go (slice_get q.lists sender) refl
   where
     go : (o : Option (List (List Sent))) → slice_get q.lists sender ≡ o →
         slice_get (sent_by (with_list q sender receiver list) sender) to ≡ slice_get (sent_by q sender) to
-    go None is = ap (λ o. slice_get (or_nothing o) to) (none_past q sender receiver list is) ∙ sym (ap (λ o. slice_get (or_nothing o) to) is)
+    go None is = ap (λ o. slice_get (or_nothing o) to) (none_past q sender receiver list is) ∙
+        sym (ap (λ o. slice_get (or_nothing o) to) is)
     go (Some row) is =
         ap (λ o. slice_get (or_nothing o) to)
         (set_here q.lists sender (slice_set (sent_by q sender) receiver list) (got_within q.lists sender row is))

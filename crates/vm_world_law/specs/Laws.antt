@@ -12,7 +12,8 @@ use Rattle.mg_text.specs.Call.{Name}
 use Rattle.jv_values.specs.Alike.{Prefix}
 use Rattle.vm_world_law.specs.declared.role.RoleMain.{RoleMain}
 use Rattle.vm_world_law.specs.Doing.{DoesOne}
-use Rattle.vm_world_law.specs.World.{State, Runs, Over, Role, World, turn, turns, IsFresh, IsBegun, name_of, events_of, sent, took, waits, Rests}
+use Rattle.vm_world_law.specs.World.{State, Runs, Over, Role, World, turn, turns, IsFresh, IsBegun, name_of, events_of, sent, took, waits}
+use Rattle.vm_world_law.specs.World.{Rests}
 
 -- A step looks at and changes the lists of its role alone.
 abbrev pub StepsDoOne : Type 0
@@ -76,7 +77,8 @@ pub record Longer (r : ℕ) (later : ℕ → List Sent) (q q' : Messages) : Type
   pub lists : (from : ℕ) → from < length q.roles → from ≢ r → on_way q' from r ≡ on_way q from r ++ later from
 
 -- what is come to on longer lists
-pub record StepsOn (p : Program) (r : ℕ) (later : ℕ → List Sent) (m : Machine) (q : Messages) (count : ℕ) (events : List Event) (n : Machine)
+pub record StepsOn (p : Program) (r : ℕ) (later : ℕ → List Sent) (m : Machine) (q : Messages) (count : ℕ) (events : List Event)
+    (n : Machine)
     (left : Messages) : Type 0 where
   pub messages : Messages
   pub steps : Steps (step p r) m q count events n messages
@@ -99,7 +101,8 @@ pub record SameForAll (v w : World) : Type 0 where
   pub roles : v.roles ≡ w.roles
   pub messages : v.messages ≡ w.messages
 
--- Two lists of turns after which the world rests come to the same, and what a role shows under any turns is a prefix of what it shows there.
+-- Two lists of turns after which the world rests come to the same, and what a role shows under any turns is a prefix of what it shows
+-- there.
 abbrev pub OrderIsFreeFrom : Program → World → Type 0
 OrderIsFreeFrom p w = (resting other : List ℕ) → Rests p (turns p w resting) →
     EventsBegin (turns p w other) (turns p w resting)

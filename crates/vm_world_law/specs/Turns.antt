@@ -1,5 +1,6 @@
 -- A run of several roles: turns in an order that is repeated as a cycle, up to a number of instructions.
-use Rattle.std.specs.Prelude.{◌≡◌, ◌⊎◌, ◌<◌, ◌≤◌, ◌+◌, ◌%◌, ℕ, zero, suc, List, [], ◌∷◌, ◌++◌, length, get_or, Option, Some, None, slice_get, Bool, true, false, Contains}
+use Rattle.std.specs.Prelude.{◌≡◌, ◌⊎◌, ◌<◌, ◌≤◌, ◌+◌, ◌%◌, ℕ, zero, suc, List, [], ◌∷◌, ◌++◌, length, get_or, Option, Some, None}
+use Rattle.std.specs.Prelude.{slice_get, Bool, true, false, Contains}
 use Rattle.std.specs.List.{list_any}
 use Rattle.mg_text.specs.declared.event.Ending.TheVariants as endings
 use Rattle.vm_model.specs.Program.{Program}
@@ -113,12 +114,14 @@ RunsStop = (p : Program) (first : World) (order : List ℕ) → ((r : ℕ) → r
 
 -- Two runs, in whatever orders and with whatever limits, that end at rest come to the same, and their roles stand alike.
 abbrev pub OrdersAgree : Type 0
-OrdersAgree = (p : Program) (first : World) → IsFresh first → (order other : List ℕ) (limit bound : ℕ) (v w : World) → IsRun p first order limit v →
+OrdersAgree = (p : Program) (first : World) → IsFresh first → (order other : List ℕ) (limit bound : ℕ) (v w : World) →
+    IsRun p first order limit v →
     IsRun p first other bound w → Rests p v → Rests p w → SameForAll v w × (stands_in p v ≡ stands_in p w)
 
 -- there is one run
 abbrev pub OneRun : Type 0
-OneRun = (p : Program) (first : World) (order : List ℕ) (limit : ℕ) (v w : World) → IsRun p first order limit v → IsRun p first order limit w → v ≡ w
+OneRun = (p : Program) (first : World) (order : List ℕ) (limit : ℕ) (v w : World) → IsRun p first order limit v →
+    IsRun p first order limit w → v ≡ w
 
 -- Where as many turns in a row as the order is long found their roles still, of an order that names each role, the world rests.
 abbrev pub StillRoundsRest : Type 0
@@ -127,4 +130,5 @@ StillRoundsRest = (p : Program) (w : World) (order : List ℕ) → ((r : ℕ) �
 
 -- a world rests where no role stands at the bound
 abbrev pub RestIsNoBound : Type 0
-RestIsNoBound = (p : Program) (w : World) → (Rests p w → list_any is_bound (stands_in p w) ≡ false) × (list_any is_bound (stands_in p w) ≡ false → Rests p w)
+RestIsNoBound = (p : Program) (w : World) → (Rests p w → list_any is_bound (stands_in p w) ≡ false)
+    × (list_any is_bound (stands_in p w) ≡ false → Rests p w)

@@ -6,7 +6,8 @@
 mod role;
 mod stand;
 
-ghost use Rattle.vm_world_law.specs.Laws.{BegunIsFresh, LongerListsDoNoHarm, OrderIsFree, RolesRunAlone, StepsDoOne, TurnsDeliver, TurnsSwap};
+ghost use Rattle.vm_world_law.specs.Laws.{BegunIsFresh, LongerListsDoNoHarm, OrderIsFree, RolesRunAlone, StepsDoOne, TurnsDeliver};
+ghost use Rattle.vm_world_law.specs.Laws.{TurnsSwap};
 ghost use Rattle.vm_world_law.specs.Turns.{OneRun, OrdersAgree, RestIsNoBound, RunsStop, StillRoundsRest, TurnsCount};
 
 pub use role::{RoleEvent, RoleMain, Turned};

@@ -1,5 +1,6 @@
 -- What the others sent to a role, by their names, is what the lists hold.
-use Rattle.std.proofs.Common.{◌≡◌, ◌≢◌, ◌⊎◌, inl, inr, ◌<◌, ◌+◌, ℕ, zero, suc, Bool, true, false, List, [], ◌∷◌, length, Option, Some, None, position, slice_get, ◌||◌, if◌then◌else◌, ◌==◌, refl, sym, ap, ◌∙◌, subst, arith}
+use Rattle.std.proofs.Common.{◌≡◌, ◌≢◌, ◌⊎◌, inl, inr, ◌<◌, ◌+◌, ℕ, zero, suc, Bool, true, false, List, [], ◌∷◌, length, Option, Some, None}
+use Rattle.std.proofs.Common.{position, slice_get, ◌||◌, if◌then◌else◌, ◌==◌, refl, sym, ap, ◌∙◌, subst, arith}
 use Rattle.std.specs.List.{IsDistinct, list_any, AllByRecursion}
 use Rattle.std.specs.Str.{bytes_eq}
 use Rattle.std.proofs.lemmas.Bool.{eq-eqb, ne_eqb}
@@ -52,7 +53,8 @@ module _ (w : World) (r : ℕ) (peer : Name) where
       ∙ its_inputs (suc k) names i d.1 at (λ e. apart (sym z ∙ e))
       ∙ ap (λ x. Some (sent w x r)) z
     where
-      differs : (name : Name) (names : List Name) (i : ℕ) → IsDistinct bytes_eq (name ∷ names) → slice_get names i ≡ Some peer → peer ≡ name → ⊥
+      differs : (name : Name) (names : List Name) (i : ℕ) → IsDistinct bytes_eq (name ∷ names) → slice_get names i ≡ Some peer → peer ≡ name
+          → ⊥
       differs name names i d at e =
           let same : 0 ≡ suc i = one_place (name ∷ names) 0 (suc i) peer d (ap (λ x. Some x) (sym e)) at in
           absurd (omega (arith, same))
@@ -71,35 +73,42 @@ module _ (w : World) (r : ℕ) (peer : Name) where
       none_of [] h = refl
       none_of (y ∷ ys) h = ap (λ (b : Bool). b || list_any (bytes_eq peer) ys) h.0 ∙ none_of ys h.1
 
-      none_here : (name : Name) (names : List Name) → IsDistinct bytes_eq (name ∷ names) → Some name ≡ Some peer → list_any (bytes_eq peer) names ≡ false
-      none_here name names d e = none_of names (subst (λ n. AllByRecursion (λ y. bytes_eq n y ≡ false) names) (let f : name ≡ peer = cc in f) d.0)
+      none_here : (name : Name) (names : List Name) → IsDistinct bytes_eq (name ∷ names) → Some name ≡ Some peer →
+          list_any (bytes_eq peer) names ≡ false
+      none_here name names d e = none_of names (subst (λ n. AllByRecursion (λ y. bytes_eq n y ≡ false) names)
+          (let f : name ≡ peer = cc in f) d.0)
   own_inputs k (name ∷ names) (suc i) d at same =
       let z : suc k + i ≡ k + suc i = omega arith in
       passed k name names (k == r) (names_differ peer name (λ e. differs name names i d at e))
       ∙ own_inputs (suc k) names i d.1 at (z ∙ same)
     where
-      differs : (name : Name) (names : List Name) (i : ℕ) → IsDistinct bytes_eq (name ∷ names) → slice_get names i ≡ Some peer → peer ≡ name → ⊥
+      differs : (name : Name) (names : List Name) (i : ℕ) → IsDistinct bytes_eq (name ∷ names) → slice_get names i ≡ Some peer → peer ≡ name
+          → ⊥
       differs name names i d at e =
           let same : 0 ≡ suc i = one_place (name ∷ names) 0 (suc i) peer d (ap (λ x. Some x) (sym e)) at in
           absurd (omega (arith, same))
 
 -- lists that hold what the others sent hold these inputs
-pub held_holds : (w : World) (r : ℕ) → IsDistinct bytes_eq w.messages.roles → r < length w.messages.roles → Holds (inputs_of w r) (held w r) r []
+pub held_holds : (w : World) (r : ℕ) → IsDistinct bytes_eq w.messages.roles → r < length w.messages.roles →
+    Holds (inputs_of w r) (held w r) r []
 held_holds w r distinct within = record { peers = λ peer. at_peer peer (position (bytes_eq peer) w.messages.roles) refl }
   where
     roles_held : (held w r).roles ≡ w.messages.roles
     roles_held = Rattle.vm_world_law.proofs.Order.held_roles w r
 
-    by_role : (peer : Name) (i : ℕ) → position (bytes_eq peer) w.messages.roles ≡ Some i → ((i == r) ≡ true) × (i ≡ r) ⊎ ((i == r) ≡ false) × (i ≢ r) →
+    by_role : (peer : Name) (i : ℕ) → position (bytes_eq peer) w.messages.roles ≡ Some i → ((i == r) ≡ true) × (i ≡ r) ⊎ ((i == r) ≡ false)
+        × (i ≢ r) →
         PeerHolds (inputs_of w r) (held w r) r [] peer
     by_role peer i is (inl same) =
-        unknown (own_inputs w r peer 0 w.messages.roles i distinct (stands_at w.messages.roles peer i is) (let z : 0 + i ≡ i = omega arith in z ∙ same.1))
+        unknown (own_inputs w r peer 0 w.messages.roles i distinct (stands_at w.messages.roles peer i is)
+        (let z : 0 + i ≡ i = omega arith in z ∙ same.1))
         (ap (λ names. other_role r (position (bytes_eq peer) names)) roles_held
         ∙ ap (other_role r) is ∙ ap (λ (b : Bool). if b then None else Some i) same.0)
     by_role peer i is (inr apart) =
         let z : 0 + i ≡ i = omega arith in
         known (sent w i r) i
-        (its_inputs w r peer 0 w.messages.roles i distinct (stands_at w.messages.roles peer i is) (λ e. apart.1 (sym z ∙ e)) ∙ ap (λ k. Some (sent w k r)) z)
+        (its_inputs w r peer 0 w.messages.roles i distinct (stands_at w.messages.roles peer i is) (λ e. apart.1 (sym z ∙ e)) ∙
+        ap (λ k. Some (sent w k r)) z)
         (ap (λ names. other_role r (position (bytes_eq peer) names)) roles_held
         ∙ ap (other_role r) is ∙ ap (λ (b : Bool). if b then None else Some i) apart.0)
         (on_held w r i within (named_within w.messages.roles peer i is))

@@ -40,7 +40,8 @@ module _ (p : Program) (first : World) (w : World) (kept : Kept p first w) (r : 
       (subst (λ s. ComesAlone p w r none_later start (held w r) role.count s) is alone)
 
   is_waiting : (from : ℕ) → waits_for p w r ≡ Some from →
-      (peer : Name) × (slice_get w.messages.roles from ≡ Some peer) × Means (meant (inputs_of w r)) (suc role.count) (events_of r w.events) (Wait peer)
+      (peer : Name) × (slice_get w.messages.roles from ≡ Some peer) × Means (meant (inputs_of w r)) (suc role.count) (events_of r w.events)
+      (Wait peer)
   is_waiting from is = by_state role.state alone (sym (ap (waits_at p w r) stands) ∙ is)
     where
       by_step : (m : Machine) (out : Stepped) → step p r m w.messages ≡ out → waits_by out ≡ Some from → step p r m w.messages ≡ Waits from
@@ -48,11 +49,13 @@ module _ (p : Program) (first : World) (w : World) (kept : Kept p first w) (r : 
       by_step m (Waits peer) at h = at ∙ ap Waits (some_is h)
       by_step m (Stops ending) at h = absurd (cc h)
 
-      named : (a : Messages) (peer : Name) → a.roles ≡ w.messages.roles → role_named a peer ≡ Some from → slice_get w.messages.roles from ≡ Some peer
+      named : (a : Messages) (peer : Name) → a.roles ≡ w.messages.roles → role_named a peer ≡ Some from →
+          slice_get w.messages.roles from ≡ Some peer
       named a peer roles h = subst (λ l. slice_get l from ≡ Some peer) roles (stands_at a.roles peer from h)
 
       by_state : (state : State) → ComesAlone p w r none_later start (held w r) role.count state → waits_in p w r state ≡ Some from →
-          (peer : Name) × (slice_get w.messages.roles from ≡ Some peer) × Means (meant (inputs_of w r)) (suc role.count) (events_of r w.events) (Wait peer)
+          (peer : Name) × (slice_get w.messages.roles from ≡ Some peer) × Means (meant (inputs_of w r)) (suc role.count)
+          (events_of r w.events) (Wait peer)
       by_state (Runs m) h at =
           let waits : step p r m w.messages ≡ Waits from = by_step m (step p r m w.messages) refl at in
           let longer : Longer r none_later w.messages h.messages = record { roles = h.left.roles; lists = h.left.lists } in
@@ -81,7 +84,8 @@ module _ (p : Program) (first : World) (w : World) (kept : Kept p first w) (r : 
           let (peer, named, means) = is_waiting from at in
           subst (λ n. Means (meant (inputs_of w r)) (suc role.count) (events_of r w.events) (Wait n)) (sym (ap or_nothing named)) means
 
-      by_state : (state : State) → role.state ≡ state → Shows (meant (inputs_of w r)) role.count (events_of r w.events) (stand_of p w r state)
+      by_state : (state : State) → role.state ≡ state → Shows (meant (inputs_of w r)) role.count (events_of r w.events)
+          (stand_of p w r state)
       by_state (Runs m) is = by_wait (waits_in p w r (Runs m)) (ap (waits_at p w r) stands ∙ ap (waits_in p w r) is)
       by_state (Over ending) is = is_ended ending is
 

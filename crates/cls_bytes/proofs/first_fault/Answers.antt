@@ -6,7 +6,8 @@ use Rattle.cls_bytes.specs.Faults.{First}
 use Rattle.cls_bytes.specs.Spelling.{Found}
 use Rattle.cls_bytes.proofs.first_fault.Goals as goal
 
-found_so : (bytes : List ℕ) (row : List Field) (places : List ℕ) (r : Option ClassFault) → LaysAll bytes row places → First bytes places row r → Found bytes r
+found_so : (bytes : List ℕ) (row : List Field) (places : List ℕ) (r : Option ClassFault) → LaysAll bytes row places →
+    First bytes places row r → Found bytes r
 found_so bytes row places None l f = record { row = row; places = places; lays = l; first = f }
 found_so bytes row places (Some fault) l f = record { row = row; places = places; lays = l; first = f }
 

@@ -23,4 +23,5 @@ pub returns-in_err-file_of-clause-fault : goal.returns-in_err-file_of-clause-fau
 returns-in_err-file_of-clause-fault c =
     let e = err_from_is_err_and c.from_residual.result c.from_residual.ensures.1 in
     rw (e.1, e.2) (file_fails (tree_of c.args.core.now) c.classes-classes.result.now c.classes-classes.ensures c.loop-number.number
-    c.index-classes-number.result _ _ c.loop-number-test.true c.index-classes-number.is c.in_err-file_of.ensures.fault c.loop-number.invariant)
+    c.index-classes-number.result _ _ c.loop-number-test.true c.index-classes-number.is c.in_err-file_of.ensures.fault
+    c.loop-number.invariant)

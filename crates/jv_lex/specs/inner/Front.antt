@@ -1,5 +1,6 @@
 -- The piece at the front of the bytes and what follows it, or why none stands there.
-use Rattle.std.specs.Prelude.{ℕ, ◌+◌, ◌-◌, ◌≤◌, List, [], ◌∷◌, length, take, drop, map, Option, Some, None, option_map, Result, Ok, Err, if◌then◌else◌, ◌==◌, ◌&&◌, ◌||◌, nat_lt, not, Bool, true, false, slice_index}
+use Rattle.std.specs.Prelude.{ℕ, ◌+◌, ◌-◌, ◌≤◌, List, [], ◌∷◌, length, take, drop, map, Option, Some, None, option_map, Result, Ok, Err}
+use Rattle.std.specs.Prelude.{if◌then◌else◌, ◌==◌, ◌&&◌, ◌||◌, nat_lt, not, Bool, true, false, slice_index}
 use Rattle.std.specs.Char.{is_ascii_digit}
 use Rattle.std.specs.Str.{IsAscii, IsUtf8}
 use Rattle.std.specs.Str.Parse.{digits_value}
@@ -85,7 +86,8 @@ numbered after (Some n) = Ok (number n, after)
 
 abbrev pub number_at : List ℕ → Front
 number_at bytes =
-    numbered (drop (span is_ascii_digit bytes) bytes) (number_of (take (span is_ascii_digit bytes) bytes) (drop (span is_ascii_digit bytes) bytes))
+    numbered (drop (span is_ascii_digit bytes) bytes) (number_of (take (span is_ascii_digit bytes) bytes)
+    (drop (span is_ascii_digit bytes) bytes))
 
 -- ---- comments
 

@@ -4,7 +4,8 @@ use Rattle.mg_text.specs.Call.{Name}
 use Rattle.mg_text.specs.declared.place.Place.{Place}
 use Rattle.jv_core.specs.Tree as Core
 use Rattle.jv_resolve_law.specs.Tables.{◌>>=◌, Tables}
-use Rattle.jv_resolve_law.specs.Expressions.{Known, Standing, Resolved, Receiver, found, own_found, variable_at, constant_at, named_receiver, only, text_call}
+use Rattle.jv_resolve_law.specs.Expressions.{Known, Standing, Resolved, Receiver, found, own_found, variable_at, constant_at}
+use Rattle.jv_resolve_law.specs.Expressions.{named_receiver, only, text_call}
 
 module _ (tables : Tables) (at : Standing) (locals : List Known) (p : Place) where
   abbrev pub variable_named : Name → Option Resolved

@@ -1,5 +1,6 @@
 -- What each condition answers at a spot, by computing.
-use Rattle.std.specs.Prelude.{ℕ, List, [], ◌∷◌, length, Option, Some, None, is_some, Bool, true, false, not, ◌&&◌, ◌||◌, ◌==◌, if◌then◌else◌, codes}
+use Rattle.std.specs.Prelude.{ℕ, List, [], ◌∷◌, length, Option, Some, None, is_some, Bool, true, false, not, ◌&&◌, ◌||◌, ◌==◌}
+use Rattle.std.specs.Prelude.{if◌then◌else◌, codes}
 use Rattle.std.specs.List.{list_any}
 use Rattle.std.specs.Option.{option_or}
 use Rattle.std.specs.Str.{bytes_eq}
@@ -58,7 +59,8 @@ unknown_name (AtNode scope (Qualifier p x)) = when (not (is_qualifier scope x)) 
 unknown_name (AtNode scope (Value (Variable p x))) = when (not (is_some (variable_type scope x))) (culprit p x)
 unknown_name (AtNode scope (Value (Member p e name))) = when (not (is_some (type_of scope (Member p e name)))) (culprit p name)
 unknown_name (AtNode scope (Value (Call p name args))) = when (not (is_some (called scope name))) (culprit p name)
-unknown_name (AtNode scope (Value (MethodCall p e name args))) = when (not (is_some (called_on scope e (type_of scope e) name))) (culprit p name)
+unknown_name (AtNode scope (Value (MethodCall p e name args))) = when (not (is_some (called_on scope e (type_of scope e) name)))
+    (culprit p name)
 unknown_name _ = None
 
 abbrev pub duplicate_local : Spot → Option Culprit

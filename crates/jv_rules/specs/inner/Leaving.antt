@@ -64,7 +64,8 @@ abbrev mutual
       (is_through exit && (not (is_always_true c) || for_loop loop (λ l. leaves s (Breaks l)))) || (passes loop exit && leaves s exit)
   leaves (Do p loop s c) exit =
       (is_through exit
-      && ((not (is_always_true c) && (leaves s Through || for_loop loop (λ l. leaves s (Continues l)))) || for_loop loop (λ l. leaves s (Breaks l))))
+      && ((not (is_always_true c) && (leaves s Through || for_loop loop (λ l. leaves s (Continues l)))) || for_loop loop
+      (λ l. leaves s (Breaks l))))
       || (passes loop exit && leaves s exit)
   leaves (Switch p e groups end) exit =
       (is_through exit && (not (has_default groups) || (leaves_last groups || leaves_some groups (Breaks None))))

@@ -1,5 +1,6 @@
 -- What is judged at a call, once its receiver and its arguments are fine.
-use Rattle.std.specs.Prelude.{◌≡◌, List, [], ◌∷◌, ◌++◌, map, length, Option, Some, None, option_map, Result, MatchResult, Bool, true, false, not, ◌||◌, ◌==◌}
+use Rattle.std.specs.Prelude.{◌≡◌, List, [], ◌∷◌, ◌++◌, map, length, Option, Some, None, option_map, Result, MatchResult, Bool, true, false}
+use Rattle.std.specs.Prelude.{not, ◌||◌, ◌==◌}
 use Rattle.std.specs.Option.{option_or}
 use Rattle.mg_text.specs.Call.{Name}
 use Rattle.mg_text.specs.declared.place.Place.{Place}
@@ -50,12 +51,17 @@ field_named_by scope name = elim (local_named scope name) [ None ↦ own_field s
 
 -- what `x.name(..)` calls
 abbrev pub called_on_named : Scope → Name → Name → Option Signature
-called_on_named scope x name = elim (variable_type scope x) [ None ↦ called_on_class scope.program x name | Some type ↦ called_on_value scope.program type name ]
+called_on_named scope x name = elim (variable_type scope x) [
+  | None ↦ called_on_class scope.program x name
+  | Some type ↦ called_on_value
+      scope.program type name
+]
 
 -- what is told of a call: a type that differs, else another number, else that it is one of the own protocol, else that it may move a field
 abbrev pub call_told : Place → (mismatch : Option Culprit) → (counted : Bool) → (own moves : Option Culprit) → Option (Condition × Culprit)
 call_told p mismatch counted own moves =
-    told conditions.TypeMismatch mismatch (told conditions.Arity (when (not counted) (culprit p [])) (told conditions.SelfCall own (told conditions.ArgsMayMove moves None)))
+    told conditions.TypeMismatch mismatch (told conditions.Arity (when (not counted) (culprit p []))
+    (told conditions.SelfCall own (told conditions.ArgsMayMove moves None)))
 
 abbrev pub own_told : Site → Option Culprit
 own_told site = when site.is_own (culprit site.place site.name.now)
@@ -66,17 +72,20 @@ moves_told site helper = moved site.place (option_map (λ f. field_of f.now) sit
 -- what is told of a call of a method with these parameters, with arguments of these types, in which a helper is called or not
 abbrev pub site_told : Site → Exprs → (params types : List ValueType) → Bool → Option (Condition × Culprit)
 site_told site args params types helper =
-    call_told site.place (option_or (option_map at_place site.receiver) (args_misfit args params types)) (count_of args == length params) (own_told site) (moves_told site helper)
+    call_told site.place (option_or (option_map at_place site.receiver) (args_misfit args params types)) (count_of args == length params)
+    (own_told site) (moves_told site helper)
 
 -- what is told of a call of a method of this signature
 abbrev pub method_told : Scope → Site → Exprs → Signature → Option (Condition × Culprit)
 method_told scope site args s =
-    call_told site.place (option_or (option_map at_place site.receiver) (first_by type_mismatch (all_taken scope (paired args s.params)))) (count_of args == length s.params)
+    call_told site.place (option_or (option_map at_place site.receiver) (first_by type_mismatch (all_taken scope (paired args s.params))))
+    (count_of args == length s.params)
     (own_told site) (moves_told site (calls_helper_in scope args))
 
 -- an expression is this call, of a method of this signature or of none, once its receiver is fine
 pub record IsSite (scope : Scope) (e : Expr) (site : Site) (o : Option Signature) (args : Exprs) : Type 0 where
-  pub unknown : o ≡ None → expr_fault scope e ≡ option_or (args_fault scope args) (Some (conditions.UnknownName, culprit site.place site.name.now))
+  pub unknown : o ≡ None → expr_fault scope e ≡ option_or (args_fault scope args)
+      (Some (conditions.UnknownName, culprit site.place site.name.now))
   pub known : (s : Signature) → o ≡ Some s → expr_fault scope e ≡ option_or (args_fault scope args) (method_told scope site args s)
   pub typed : type_of scope e ≡ option_map (λ s. s.result) o
   pub helper : calls_helper scope e ≡ (site.helper || calls_helper_in scope args)
@@ -96,4 +105,5 @@ ReceiverIs scope e (kept.Value c) = (is_this e ≡ false) × ((variable_name e �
 -- what judging it answers: what is wrong with it is wrong with each call on it
 abbrev pub JudgesReceiver : Scope → Expr → Result Receiver Wrong → Type 0
 JudgesReceiver scope e result =
-    MatchResult result (λ r. ReceiverIs scope e r) (λ w. (p : Place) (n : Name) (args : Exprs) → Tells w (expr_fault scope (MethodCall p e n args)))
+    MatchResult result (λ r. ReceiverIs scope e r) (λ w. (p : Place) (n : Name) (args : Exprs) →
+    Tells w (expr_fault scope (MethodCall p e n args)))

@@ -15,7 +15,8 @@ use Rattle.jv_types.specs.declared.demands.Demand.TheVariants as demands
 use Rattle.jv_types.specs.declared.declarations.Found.{Found}
 use Rattle.jv_types.specs.inner.Blaming.{blamed_of}
 use Rattle.jv_types.specs.inner.Repeating.{repeat_type, repeat_typestate, repeat_in}
-use Rattle.jv_types.specs.inner.Declaring.{unknown_in_class, unknown_typestate, missing_in_class, broken_in_class, fields_need_values, plain_in_class}
+use Rattle.jv_types.specs.inner.Declaring.{unknown_in_class, unknown_typestate, missing_in_class, broken_in_class, fields_need_values}
+use Rattle.jv_types.specs.inner.Declaring.{plain_in_class}
 use Rattle.jv_types.specs.inner.Kept.{typestate_in}
 use Rattle.jv_types.specs.inner.Tabled.{class_in, AreEntriesOf}
 
@@ -23,11 +24,14 @@ abbrev pub found_of : Found → Condition × Culprit
 found_of f = (f.condition, blamed_of f.blamed)
 
 abbrev pub declared_answer : Program → List ℕ → Condition → Option Culprit
-declared_answer program origins conditions.DuplicateName = option_or (repeat_type [] (decls_of program.files)) (repeat_typestate [] program.typestates origins)
+declared_answer program origins conditions.DuplicateName = option_or (repeat_type [] (decls_of program.files))
+    (repeat_typestate [] program.typestates origins)
 declared_answer program origins conditions.DuplicateMember = first_by repeat_in (decls_of program.files)
 declared_answer program origins conditions.UnknownClass = first_by (unknown_in_class program) (classes_of program.files)
-declared_answer program origins conditions.UnknownTypestate = first_by (λ c. unknown_typestate (typestate_of program c) c) (classes_of program.files)
-declared_answer program origins conditions.MissingMethod = first_by (λ c. missing_in_class (typestate_of program c) c) (classes_of program.files)
+declared_answer program origins conditions.UnknownTypestate = first_by (λ c. unknown_typestate (typestate_of program c) c)
+    (classes_of program.files)
+declared_answer program origins conditions.MissingMethod = first_by (λ c. missing_in_class (typestate_of program c) c)
+    (classes_of program.files)
 declared_answer program origins conditions.SignatureDiffers =
     first_by (λ c. broken_in_class program demands.OfSignature (typestate_of program c) c) (classes_of program.files)
 declared_answer program origins conditions.LabelsDiffer =

@@ -38,7 +38,8 @@ abbrev pub followed : List Typestate → ClassEntry → Option Typestate
 followed typestates e = option_and_then (typestate_named typestates) e.class.now.typestate
 
 -- the tables have all typestates, and all classes and enums of files, and their names
-pub record IsTabled (files : List File) (typestates : List Typestate) (protocols : List Protocol) (typestate_names : List Name) (classes : List ClassEntry) (class_names : List Name)
+pub record IsTabled (files : List File) (typestates : List Typestate) (protocols : List Protocol) (typestate_names : List Name)
+    (classes : List ClassEntry) (class_names : List Name)
     (enums : List EnumEntry) (enum_names : List Name) : Type 0 where
   pub all_typestates : map (λ p. p.of.now) protocols ≡ typestates
   pub typestates_named : typestate_names ≡ map (λ t. t.name) typestates

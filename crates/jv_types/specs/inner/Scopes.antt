@@ -22,4 +22,11 @@ abbrev pub class_seen : Scope → Class
 class_seen s = class_in s.class.now
 
 abbrev pub scope_seen : Scope → List rules.Declared → rules.Scope
-scope_seen s locals = record { program = program_seen s; class = class_seen s; method = method_of s.method.now; locals = locals; around = around_seen s.around.now }
+scope_seen s locals = record {
+  program = program_seen s;
+  class = class_seen s;
+  method = method_of s.method.now;
+  locals = locals;
+  around =
+      around_seen s.around.now;
+}

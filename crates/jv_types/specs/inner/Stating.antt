@@ -44,7 +44,8 @@ groups_fault scope groups = fault_in (group_spots scope groups)
 -- what a value that is taken tells: a fault in it, or that its type isn't what is wanted
 abbrev pub value_told : Scope → Expr → rules.Wanted → Option (Condition × Culprit)
 value_told scope e wanted =
-    option_or (expr_fault scope e) (told conditions.TypeMismatch (first_by type_mismatch (rules.all_taken scope (rules.taken e wanted ∷ []))) None)
+    option_or (expr_fault scope e)
+    (told conditions.TypeMismatch (first_by type_mismatch (rules.all_taken scope (rules.taken e wanted ∷ []))) None)
 
 -- nothing is wrong with a value, and this is its type
 pub record IsTaken (scope : Scope) (e : Expr) (wanted : rules.Wanted) (t : KeptType) : Type 0 where

@@ -3,7 +3,8 @@ use Rattle.jv_values.specs.Further.{FurtherShared}
 use Rattle.jv_values.specs.Values.{Shared}
 use Rattle.jv_values.specs.Alike.{Relation, Shares}
 use Rattle.jv_values.specs.Laws.{GoesThrough}
-use Rattle.jv_values.proofs.Expressions.{binary_same, negative_same, opposite_same, equal_texts_same, joined_texts_same, print_same, read_field_same, write_field_same, make_same, receiver_same, telling_same, session_same}
+use Rattle.jv_values.proofs.Expressions.{binary_same, negative_same, opposite_same, equal_texts_same, joined_texts_same, print_same}
+use Rattle.jv_values.proofs.Expressions.{read_field_same, write_field_same, make_same, receiver_same, telling_same, session_same}
 use Rattle.jv_values.proofs.Further.{further_shares, budget_law}
 use Rattle.jv_values.proofs.library_laws.Goals as goal
 

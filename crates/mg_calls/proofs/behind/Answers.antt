@@ -7,4 +7,5 @@ pub returns-then-end-bytes : goal.returns-then-end-bytes
 returns-then-end-bytes c =
     let e = length-drop (c.args.end + 1) c.args.bytes.now in
     behind_is c.args.end c.args.bytes.now _ c.if-end-bytes.true
-    (take_all (length c.args.bytes.now - (c.args.end + 1)) (drop (c.args.end + 1) c.args.bytes.now) (omega (arith, e)) ∙ ap (λ (n : ℕ). drop n c.args.bytes.now) (add-one c.args.end))
+    (take_all (length c.args.bytes.now - (c.args.end + 1)) (drop (c.args.end + 1) c.args.bytes.now) (omega (arith, e)) ∙
+    ap (λ (n : ℕ). drop n c.args.bytes.now) (add-one c.args.end))

@@ -6,19 +6,32 @@ use Rattle.mg_calls.proofs.read_lines.Goals.{in-Nothing, in-Call+in_ok-push-in-C
 
 pub returns-in-Bad : goal.returns-in-Bad
 returns-in-Bad c =
-    let left = at_text c.args.file c.args.bytes.now c.loop-rest.rest c.in-Some.text c.loop-rest.line (map call_of c.loop-rest.calls.items) c.in-Some.is c.loop-rest.invariant in
-    (c.requires, first_bad c.args.file c.args.bytes.now c.in-Some.text.now c.loop-rest.line (map call_of c.loop-rest.calls.items) left c.line_end-end.result c.line_end-end.ensures.value c.in-Bad.ensures)
+    let left = at_text c.args.file c.args.bytes.now c.loop-rest.rest c.in-Some.text c.loop-rest.line (map call_of c.loop-rest.calls.items)
+    c.in-Some.is c.loop-rest.invariant in (
+      c.requires,
+      first_bad c.args.file c.args.bytes.now c.in-Some.text.now c.loop-rest.line (map call_of c.loop-rest.calls.items) left
+          c.line_end-end.result c.line_end-end.ensures.value c.in-Bad.ensures,
+    )
 
 pub loop-rest-smaller : goal.loop-rest-smaller
 loop-rest-smaller c = smaller c.line_end-end.result c.in-Some.text.now _ _ c.behind-rest.ensures (ap (option_map (λ b. b.now)) c.in-Some.is)
 
 pub loop-rest-preserved : goal.loop-rest-preserved
 loop-rest-preserved c =
-    let left = at_text c.args.file c.args.bytes.now c.loop-rest.rest c.in-Some.text c.loop-rest.line (map call_of c.loop-rest.calls.items) c.in-Some.is c.loop-rest.invariant in
+    let left = at_text c.args.file c.args.bytes.now c.loop-rest.rest c.in-Some.text c.loop-rest.line (map call_of c.loop-rest.calls.items)
+    c.in-Some.is c.loop-rest.invariant in
     elim c.match-read_line.branch [
-      | in-Nothing w ↦ silent_step c.args.file c.args.bytes.now c.in-Some.text.now c.loop-rest.line c.loop-rest.calls.items _ c.line_end-end.result _ left c.line_end-end.ensures.value w.in-Nothing.ensures (ap (λ z. z.items) w.calls-is) c.behind-rest.ensures
-      | in-Call+in_ok-push-in-Call w ↦ call_step c.args.file c.args.bytes.now c.in-Some.text.now c.loop-rest.line c.loop-rest.calls.items _ c.line_end-end.result _ _ left c.line_end-end.ensures.value w.in-Call.ensures refl (ap (λ z. z.items) w.calls-is ∙ w.in_ok-push-in-Call.ensures.ok) c.behind-rest.ensures
+      | in-Nothing w ↦ silent_step c.args.file c.args.bytes.now c.in-Some.text.now c.loop-rest.line c.loop-rest.calls.items _
+          c.line_end-end.result _ left c.line_end-end.ensures.value w.in-Nothing.ensures (ap (λ z. z.items) w.calls-is)
+          c.behind-rest.ensures
+      | in-Call+in_ok-push-in-Call w ↦ call_step c.args.file c.args.bytes.now c.in-Some.text.now c.loop-rest.line c.loop-rest.calls.items _
+          c.line_end-end.result _ _ left c.line_end-end.ensures.value w.in-Call.ensures refl
+          (ap (λ z. z.items) w.calls-is ∙ w.in_ok-push-in-Call.ensures.ok) c.behind-rest.ensures
     ]
 
 pub returns : goal.returns
-returns c = (c.requires, left_end c.args.file c.args.bytes.now _ c.loop-rest.line (map call_of c.loop-rest.calls.items) (ap (option_map (λ b. b.now)) c.in_default.is) c.loop-rest.invariant)
+returns c = (
+  c.requires,
+  left_end c.args.file c.args.bytes.now _ c.loop-rest.line (map call_of c.loop-rest.calls.items)
+      (ap (option_map (λ b. b.now)) c.in_default.is) c.loop-rest.invariant,
+)

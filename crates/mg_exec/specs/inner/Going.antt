@@ -24,7 +24,8 @@ use Rattle.mg_exec.specs.View.{Shows}
 -- why files are no program, with its line
 pub data IsNone (files : List Source) (line : List ℕ) : Type 0 where
   unread : Judged IsRefused files (Some line) → IsNone files line
-  unlinked : (classes : List File) (flaw : Flaw) → AreFiles files classes → IsUnlinked classes flaw → line ≡ flaw_line flaw → IsNone files line
+  unlinked : (classes : List File) (flaw : Flaw) → AreFiles files classes → IsUnlinked classes flaw → line ≡ flaw_line flaw →
+      IsNone files line
 
 -- the program of files, or why there is none
 abbrev pub IsProgramOf : List Source → Result Linked Stop → Type 0

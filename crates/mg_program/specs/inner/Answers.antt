@@ -15,7 +15,8 @@ use Rattle.mg_program.specs.inner.Saying.{said_of}
 
 -- the refusal by a type fault, or want of memory
 abbrev pub IsTypeRefusal : List (List ℕ) → TypeFault → Stop → Type 0
-IsTypeRefusal names fault (stops.Refused line) = (told : Fault) × (said_of fault ≡ Some told) × (line ≡ fault_line (name_at names told.place.file) told)
+IsTypeRefusal names fault (stops.Refused line) = (told : Fault) × (said_of fault ≡ Some told)
+    × (line ≡ fault_line (name_at names told.place.file) told)
 IsTypeRefusal names fault stops.Memory = Unit {0}
 
 -- the line of a condition that is at fault, in files of these names
@@ -24,10 +25,12 @@ type_line_in names condition place name = fault_line (name_at names place.file) 
 
 -- the line of the first type fault of a program
 pub data TypeRefusal (names : List (List ℕ)) (sourced : Sourced) (line : List ℕ) : Type 0 where
-  declarations : (condition : Condition) (place : Place) (name : List ℕ) → IsTableFault sourced.program sourced.origins (Some (condition, culprit place name))
+  declarations : (condition : Condition) (place : Place) (name : List ℕ) → IsTableFault sourced.program sourced.origins
+      (Some (condition, culprit place name))
       → line ≡ type_line_in names condition place name → TypeRefusal names sourced line
   methods : (condition : Condition) (place : Place) (name : List ℕ) → IsTableFault sourced.program sourced.origins None
-      → IsFault sourced.program (Some (condition, culprit place name)) → line ≡ type_line_in names condition place name → TypeRefusal names sourced line
+      → IsFault sourced.program (Some (condition, culprit place name)) → line ≡ type_line_in names condition place name →
+      TypeRefusal names sourced line
 
 -- no type condition is at fault, or the line of the first that is
 pub record HasNoFault (sourced : Sourced) : Type 0 where

@@ -1,5 +1,6 @@
 -- The piece at the front of the bytes, and what follows it.
-use Rattle.std.specs.Prelude.{ℕ, ◌+◌, ◌-◌, ◌≤◌, min, List, [], ◌∷◌, length, take, drop, Option, Some, None, option_map, if◌then◌else◌, ◌==◌, ◌&&◌, nat_lt, Bool, false}
+use Rattle.std.specs.Prelude.{ℕ, ◌+◌, ◌-◌, ◌≤◌, min, List, [], ◌∷◌, length, take, drop, Option, Some, None, option_map, if◌then◌else◌, ◌==◌}
+use Rattle.std.specs.Prelude.{◌&&◌, nat_lt, Bool, false}
 use Rattle.std.specs.Str.{IsAscii}
 use Rattle.mg_read.specs.declared.front.PieceKind.{PieceKind}
 use Rattle.mg_read.specs.declared.front.PieceKind.TheVariants as kinds

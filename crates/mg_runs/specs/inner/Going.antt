@@ -18,7 +18,8 @@ abbrev pub told : Core.Program → (names : List Name) → List RoleEvent → (t
 told core names events traced = if traced then trace core names events else []
 
 -- a run of these class files, and what is shown of it
-pub record IsRunOf (core : Core.Program) (written : List ClassFile) (mains : List RoleMain) (order : List ℕ) (limit : ℕ) (named traced : Bool) (ran : Ran) :
+pub record IsRunOf (core : Core.Program) (written : List ClassFile) (mains : List RoleMain) (order : List ℕ) (limit : ℕ)
+    (named traced : Bool) (ran : Ran) :
     Type 0 where
   pub program : Program
   pub first : World

@@ -1,12 +1,16 @@
 -- What judging the words may answer.
 use Rattle.std.specs.Borrow.{Bor}
 use Rattle.std.specs.Fmt.{decimal}
-use Rattle.std.specs.Prelude.{◌≡◌, ◌≢◌, ◌≤◌, ℕ, List, [], ◌∷◌, ◌++◌, All, Contains, map, flat_map, filter, filter_map, Bool, true, false, ◌&&◌, not, ◌==◌, Option, Some, None, IfSome, is_some, option_map, option_to_list, codes, if◌then◌else◌, ⊤}
+use Rattle.std.specs.Prelude.{◌≡◌, ◌≢◌, ◌≤◌, ℕ, List, [], ◌∷◌, ◌++◌, All, Contains, map, flat_map, filter, filter_map, Bool, true, false}
+use Rattle.std.specs.Prelude.{◌&&◌, not, ◌==◌, Option, Some, None, IfSome, is_some, option_map, option_to_list, codes, if◌then◌else◌, ⊤}
 use Rattle.std.specs.List.{IsDistinct, list_any, list_all, slice_split, before_first, after_first}
 use Rattle.std.specs.Str.{bytes_eq}
 use Rattle.mg_words.specs.declared.asked.Asked.{Asked as Kept}
 use Rattle.mg_words.specs.declared.asked.RoleClass.{RoleClass as KeptRole}
-use Rattle.mg_words.specs.Words.{Word, RoleClass, Roles, Alone, Several, role_names, Asked, Command, Translate, Conform, Check, Compile, Run, Exec, Refine, Project, IsFileOf, IsSourceName, IsCommand, AreWrong, RunOption, Main, Role, Order, Steps, Trace, Out, option_words, IsOption, class_in, role_in, order_in, steps_in, is_trace, folder_in, AreOptions}
+use Rattle.mg_words.specs.Words.{Word, RoleClass, Roles, Alone, Several, role_names, Asked, Command, Translate, Conform, Check, Compile}
+use Rattle.mg_words.specs.Words.{Run, Exec, Refine, Project, IsFileOf, IsSourceName, IsCommand, AreWrong, RunOption, Main, Role, Order}
+use Rattle.mg_words.specs.Words.{Steps, Trace, Out, option_words, IsOption, class_in, role_in, order_in, steps_in, is_trace, folder_in}
+use Rattle.mg_words.specs.Words.{AreOptions}
 use Rattle.mg_words.specs.declared.words.Command.{Command as Found}
 use Rattle.mg_words.specs.declared.words.Command.TheVariants as found
 use Rattle.mg_words.specs.declared.words.Judged.{Judged}
@@ -308,4 +312,5 @@ IsStep given option words step.Barred = can_follow (asked_of given) option ≡ f
 -- what the words are, where these files stand behind options that ask for this
 abbrev pub IsRunnable : Input → Asked → List Word → Judged → Type 0
 IsRunnable k asked files result =
-    (options : List RunOption) → AreGiven options asked → Keeps k asked.folder → IsJudged (verb_of k ∷ (flat_map option_words options ++ files)) result
+    (options : List RunOption) → AreGiven options asked → Keeps k asked.folder →
+    IsJudged (verb_of k ∷ (flat_map option_words options ++ files)) result

@@ -1,4 +1,5 @@
--- For private clauses: the outline of a global protocol, a local protocol's text that meets the conditions which don't ask for two roles of one message exactly where the global one does.
+-- For private clauses: the outline of a global protocol, a local protocol's text that meets the conditions which don't ask for two roles of
+-- one message exactly where the global one does.
 use Rattle.std.specs.Prelude.{[], Option, Some, None, if◌then◌else◌}
 use Rattle.std.specs.Str.{bytes_eq}
 use Rattle.mg_text.specs.Call.{Name}

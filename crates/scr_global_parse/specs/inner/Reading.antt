@@ -1,4 +1,5 @@
--- For private clauses: reading from left to right, where a global protocol differs from a local one. Each function gives a value and the tokens behind it.
+-- For private clauses: reading from left to right, where a global protocol differs from a local one. Each function gives a value and the
+-- tokens behind it.
 use Rattle.std.specs.Prelude.{ℕ, zero, suc, List, [], ◌∷◌, map, Option, Some, None, if◌then◌else◌}
 use Rattle.mg_text.specs.Call.{Name}
 use Rattle.mg_read.specs.Reader.{Reader, ◌>>=◌, all_of}

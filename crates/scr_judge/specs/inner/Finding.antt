@@ -22,7 +22,8 @@ abbrev mutual
   unguarded names goal Nothing = None
   unguarded names goal (Says m rest) = unguarded [] None rest
   unguarded names goal (Choice p at branches rest) =
-      option_or (unguarded_in names goal branches) (unguarded (kept (some_passes branches) names) (kept_goal (some_passes branches) goal) rest)
+      option_or (unguarded_in names goal branches) (unguarded (kept (some_passes branches) names) (kept_goal (some_passes branches) goal)
+      rest)
   unguarded names goal (Rec p name body rest) =
       option_or (unguarded (name ∷ names) goal body) (unguarded (kept (passes body) names) (kept_goal (passes body) goal) rest)
   unguarded names goal (Continue p name rest) = if is_among name names then Some (culprit p name) else unguarded [] None rest
@@ -45,7 +46,8 @@ abbrev mutual
   pub unreachable : Statements → Option Culprit
   unreachable Nothing = None
   unreachable (Says m rest) = unreachable rest
-  unreachable (Choice p at branches rest) = option_or (unreachable_in branches) (if some_falls branches then unreachable rest else stands rest)
+  unreachable (Choice p at branches rest) =
+      option_or (unreachable_in branches) (if some_falls branches then unreachable rest else stands rest)
   unreachable (Rec p name body rest) = option_or (unreachable body) (if falls body then unreachable rest else stands rest)
   unreachable (Continue p name rest) = stands rest
   unreachable (Do p name rest) = stands rest
@@ -80,7 +82,8 @@ abbrev mutual
 
   pub same_in : Name → Name → Names → Branches → Option Culprit
   same_in me at has NoBranch = None
-  same_in me at has (Branch b more) = option_or (head_fault me at has b) (option_or (same me b) (same_in me at (with_head me at has b) more))
+  same_in me at has (Branch b more) =
+      option_or (head_fault me at has b) (option_or (same me b) (same_in me at (with_head me at has b) more))
 
 -- the first message of statements that begin with one
 abbrev pub first_said : Statements → Option Message

@@ -51,7 +51,8 @@ abbrev pub arguments_differ : Part → Arguments → Option Culprit
 arguments_differ first a = unless (same_names a.roles.items (names_of_roles first)) (culprit a.place a.name)
 
 abbrev pub roles_differ : Part → Part → Option Culprit
-roles_differ first p = option_or (unless (same_header first p) (culprit p.place p.name)) (first_among (arguments_differ first) p.arguments.items)
+roles_differ first p = option_or (unless (same_header first p) (culprit p.place p.name))
+    (first_among (arguments_differ first) p.arguments.items)
 
 -- ---- what stands behind
 
@@ -60,7 +61,8 @@ abbrev mutual
   pub not_last : Bool → Statements → Option Culprit
   not_last followed Nothing = None
   not_last followed (Says m rest) = not_last followed rest
-  not_last followed (Choice place at branches rest) = option_or (not_last_in (followed || is_some_statement rest) branches) (not_last followed rest)
+  not_last followed (Choice place at branches rest) = option_or (not_last_in (followed || is_some_statement rest) branches)
+      (not_last followed rest)
   not_last followed (Rec place name body rest) = option_or (not_last (followed || is_some_statement rest) body) (not_last followed rest)
   not_last followed (Continue place name rest) = not_last followed rest
   not_last followed (Do place name rest) = if followed then Some (culprit place name) else not_last followed rest

@@ -28,7 +28,8 @@ all_send (Branch b more) = all_send more
 abbrev pub one_peer : Option Name → Branches → Bool
 one_peer known NoBranch = true
 one_peer None (Branch (Says m rest) more) = if is_send m.direction then false else one_peer (Some m.peer) more
-one_peer (Some peer) (Branch (Says m rest) more) = if is_send m.direction then false else (if bytes_eq m.peer peer then one_peer (Some peer) more else false)
+one_peer (Some peer) (Branch (Says m rest) more) = if is_send m.direction then false else
+    (if bytes_eq m.peer peer then one_peer (Some peer) more else false)
 one_peer known (Branch b more) = one_peer known more
 
 abbrev pub uniform : Name → Name → Branches → Bool

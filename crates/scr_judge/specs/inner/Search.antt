@@ -1,5 +1,6 @@
 -- How a search goes through a graph: which nodes were come to, and which of them wait for their edges to be followed.
-use Rattle.std.specs.Prelude.{◌≡◌, ◌≢◌, ◌≤◌, ◌<◌, ◌⊎◌, ℕ, ◌+◌, ◌*◌, ◌==◌, Bool, true, false, List, [], ◌∷◌, length, get_or, count_by, Contains, Result, Ok, Err}
+use Rattle.std.specs.Prelude.{◌≡◌, ◌≢◌, ◌≤◌, ◌<◌, ◌⊎◌, ℕ, ◌+◌, ◌*◌, ◌==◌, Bool, true, false, List, [], ◌∷◌, length, get_or, count_by}
+use Rattle.std.specs.Prelude.{Contains, Result, Ok, Err}
 
 -- how many nodes weren't come to
 abbrev pub unseen : List ℕ → ℕ

@@ -1,5 +1,6 @@
 -- For private clauses: reading from left to right. Each function gives a value and the tokens behind it.
-use Rattle.std.specs.Prelude.{ℕ, zero, suc, ◌-◌, List, [], ◌∷◌, ◌++◌, map, length, take, Option, Some, None, Bool, true, false, if◌then◌else◌, ◌==◌}
+use Rattle.std.specs.Prelude.{ℕ, zero, suc, ◌-◌, List, [], ◌∷◌, ◌++◌, map, length, take, Option, Some, None, Bool, true, false}
+use Rattle.std.specs.Prelude.{if◌then◌else◌, ◌==◌}
 use Rattle.mg_text.specs.Call.{Name}
 use Rattle.mg_text.specs.declared.place.Place.{Place}
 use Rattle.mg_read.specs.Reader.{Reader, ◌>>=◌, all_of}
@@ -254,7 +255,10 @@ message_at declared ts = do
   direction ← direction_at close_paren.1
   peer ← name_at direction.1
   end ← mark_at marks.Semicolon peer.1
-  Some (record { place = label.0.0; direction = direction.0; peer = peer.0.1; label = label.0.1; payload = kind_of declared types.0 }, end.1)
+  Some (
+    record { place = label.0.0; direction = direction.0; peer = peer.0.1; label = label.0.1; payload = kind_of declared types.0 },
+    end.1,
+  )
 
 -- "continue" name ";"
 unfoldable pub continue_at : Reader Tok Statements

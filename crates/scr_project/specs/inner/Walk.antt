@@ -1,5 +1,6 @@
 -- For private clauses: what one walk over a text finds for a role.
-use Rattle.std.specs.Prelude.{ℕ, suc, ◌-◌, max, nat_le, List, [], ◌∷◌, Bool, true, false, ◌&&◌, ◌||◌, not, if◌then◌else◌, Option, Some, None}
+use Rattle.std.specs.Prelude.{ℕ, suc, ◌-◌, max, nat_le, List, [], ◌∷◌, Bool, true, false, ◌&&◌, ◌||◌, not, if◌then◌else◌, Option, Some}
+use Rattle.std.specs.Prelude.{None}
 use Rattle.std.specs.Option.{option_or}
 use Rattle.std.specs.Str.{bytes_eq}
 use Rattle.mg_text.specs.Call.{Name}
@@ -12,7 +13,8 @@ use Rattle.scr_global_tree.proofs.Appends.{beside}
 
 -- ---- how far a `continue` leads
 
--- how many of the recs around, the innermost first, are left or begun again by a `continue` of this name; one too many where none has the name
+-- how many of the recs around, the innermost first, are left or begun again by a `continue` of this name; one too many where none has the
+-- name
 abbrev pub far : Name → List Name → ℕ
 far name [] = 1
 far name (other ∷ around) = if bytes_eq other name then 1 else suc (far name around)
@@ -49,7 +51,8 @@ abbrev mutual
   unmerged me Nothing = None
   unmerged me (Says m rest) = unmerged me rest
   unmerged me (Choice place at branches rest) =
-      option_or (choice_fault me place (bytes_eq at me) (projected_each me branches)) (option_or (unmerged_in me branches) (unmerged me rest))
+      option_or (choice_fault me place (bytes_eq at me) (projected_each me branches))
+      (option_or (unmerged_in me branches) (unmerged me rest))
   unmerged me (Rec place name body rest) = option_or (unmerged me body) (unmerged me rest)
   unmerged me (Continue place name rest) = unmerged me rest
 
@@ -77,7 +80,13 @@ pub record FoundEach : Type 0 where
   pub says : Option local.Branches
 
 abbrev pub found_each : Name → List Name → Branches → FoundEach
-found_each me around bs = record { named = are_named me (said_each bs); reach = reached_in around bs; first = unmerged_in me bs; says = projected_each me bs }
+found_each me around bs = record {
+  named = are_named me (said_each bs);
+  reach = reached_in around bs;
+  first = unmerged_in me bs;
+  says =
+      projected_each me bs;
+}
 
 -- of no statements, and of no branches
 abbrev pub nothing : Found

@@ -1,7 +1,6 @@
 -- What the program's values say.
 use Rattle.std.specs.Prelude.{ℕ, ◌-◌, String, Option, Some, None, List, [], ◌∷◌, map, reverse, length, slice_index_or}
 use Rattle.std.specs.HashMap.{HashMap, get_by_text}
-
 use Rattle.mg_text.specs.Call.{Name}
 use Rattle.mg_text.specs.Row.{Row}
 use Rattle.scr_tree.specs.declared.syntax.Message.{Message as Said}

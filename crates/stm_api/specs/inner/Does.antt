@@ -43,7 +43,8 @@ abbrev mutual
   does me n Nothing = []
   does me n (Says m rest) = Passes (message_of m) ∷ does me n rest
   does me n (Choice place at branches rest) =
-      look_unless (bytes_eq at me) n branches ++ (does_in me (opened (bytes_eq at me) n) branches ++ does me (next_in me (opened (bytes_eq at me) n) branches) rest)
+      look_unless (bytes_eq at me) n branches ++ (does_in me (opened (bytes_eq at me) n) branches
+      ++ does me (next_in me (opened (bytes_eq at me) n) branches) rest)
   does me n (Rec place name body rest) = does me n body ++ does me (next me n body) rest
   does me n (Continue place name rest) = does me n rest
   does me n (Do place name rest) = does me n rest
@@ -68,4 +69,5 @@ first_before seen doing firsts others = if seen then firsts else doing ∷ other
 abbrev pub firsts_of : Name → List Name → List Doing → List Doing
 firsts_of me seen [] = []
 firsts_of me seen (doing ∷ more) =
-    first_before (is_some (position (bytes_eq (call_of me doing)) seen)) doing (firsts_of me seen more) (firsts_of me (seen ++ call_of me doing ∷ []) more)
+    first_before (is_some (position (bytes_eq (call_of me doing)) seen)) doing (firsts_of me seen more)
+    (firsts_of me (seen ++ call_of me doing ∷ []) more)

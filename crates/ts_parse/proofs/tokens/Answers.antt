@@ -6,7 +6,9 @@ use Rattle.ts_parse.proofs.Scans.{apart}
 use Rattle.ts_parse.proofs.tokens.Goals as goal
 
 pub returns-clause-only : goal.returns-clause-only
-returns-clause-only c = only_tokens typestates apart tok_said (λ (v : Row Token). toks v.items) c.args.file c.scan_tokens.result c.args.bytes.now c.scan_tokens.ensures
+returns-clause-only c = only_tokens typestates apart tok_said (λ (v : Row Token). toks v.items) c.args.file c.scan_tokens.result
+    c.args.bytes.now c.scan_tokens.ensures
 
 pub returns-clause-fault : goal.returns-clause-fault
-returns-clause-fault c = only_bad typestates apart tok_said (λ (v : Row Token). toks v.items) c.args.file c.scan_tokens.result c.args.bytes.now c.scan_tokens.ensures
+returns-clause-fault c = only_bad typestates apart tok_said (λ (v : Row Token). toks v.items) c.args.file c.scan_tokens.result
+    c.args.bytes.now c.scan_tokens.ensures

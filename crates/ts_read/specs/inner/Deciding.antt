@@ -24,7 +24,8 @@ labels_or_end ss =
 abbrev pub methods_or_later : List WrittenState → Option (Condition × Culprit)
 methods_or_later ss =
     option_or (tagged conditions.DuplicateMethod (first_some (map repeat_entry ss)))
-    (option_or (tagged conditions.SignatureDiffers (first_some (map (other_in_state (with_states (record { names = []; sigs = [] }) ss)) ss)))
+    (option_or (tagged conditions.SignatureDiffers
+    (first_some (map (other_in_state (with_states (record { names = []; sigs = [] }) ss)) ss)))
     (labels_or_end ss))
 
 abbrev pub fault_found : List Name → List WrittenState → Option (Condition × Culprit)

@@ -1,5 +1,6 @@
 -- Finding who breaks a condition, from the front on.
-use Rattle.std.specs.Prelude.{List, [], ◌∷◌, ◌++◌, map, Option, Some, None, is_some, position, Bool, true, false, ◌||◌, if◌then◌else◌, codes}
+use Rattle.std.specs.Prelude.{List, [], ◌∷◌, ◌++◌, map, Option, Some, None, is_some, position, Bool, true, false, ◌||◌, if◌then◌else◌}
+use Rattle.std.specs.Prelude.{codes}
 use Rattle.std.specs.Option.{option_or}
 use Rattle.std.specs.Str.{bytes_eq}
 use Rattle.mg_text.specs.Call.{Name}
@@ -54,7 +55,8 @@ at_method f (entries.DropEnd place) = None
 -- the first entry that is the same as an earlier one: `drop: end` was seen or not, and methods of these names
 abbrev pub twice_in : Bool → List Name → List WrittenEntry → Option Culprit
 twice_in dropped seen [] = None
-twice_in dropped seen (entries.Method m ∷ es) = if is_in seen m.name.text then Some (blamed m.name) else twice_in dropped (seen ++ m.name.text ∷ []) es
+twice_in dropped seen (entries.Method m ∷ es) = if is_in seen m.name.text then Some (blamed m.name) else twice_in dropped
+    (seen ++ m.name.text ∷ []) es
 twice_in dropped seen (entries.DropEnd place ∷ es) = if dropped then Some (culprit place (codes "drop")) else twice_in true seen es
 
 abbrev pub repeat_entry : WrittenState → Option Culprit

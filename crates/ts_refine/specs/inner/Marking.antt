@@ -1,5 +1,6 @@
 -- Pairs of places by numbers, and tables of marks by such numbers.
-use Rattle.std.specs.Prelude.{◌≡◌, ℕ, ◌+◌, ◌*◌, ◌/◌, ◌^◌, ◌<◌, Bool, List, length, map, Option, Some, None, option_map, option_and_then, slice_get, nat_eq, nat_lt, true, if◌then◌else◌}
+use Rattle.std.specs.Prelude.{◌≡◌, ℕ, ◌+◌, ◌*◌, ◌/◌, ◌^◌, ◌<◌, Bool, List, length, map, Option, Some, None, option_map, option_and_then}
+use Rattle.std.specs.Prelude.{slice_get, nat_eq, nat_lt, true, if◌then◌else◌}
 use Rattle.mg_sets.specs.Sets.{has}
 use Rattle.mg_sets.specs.Words.{bit}
 use Rattle.ts_tree.specs.declared.parts.To.{To}

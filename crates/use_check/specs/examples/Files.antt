@@ -11,7 +11,8 @@ use Rattle.jv_core.specs.declared.program.CoreType.{CoreType}
 use Rattle.jv_core.specs.declared.program.CoreType.TheVariants as types
 use Rattle.jv_core.specs.declared.program.MethodKind.TheVariants as kinds
 use Rattle.jv_core.specs.Tree.{Expr, Int, Truth, Text, Variable, Constant, Binary, Protocol, New, NoExpr}
-use Rattle.jv_core.specs.Tree.{Stmt, Stmts, Block, Assign, If, Do, Switch, Break, Continue, Return, Print, Eval, NoStmt, Then, Declare, NoGroup, Group, Method, Program}
+use Rattle.jv_core.specs.Tree.{Stmt, Stmts, Block, Assign, If, Do, Switch, Break, Continue, Return, Print, Eval, NoStmt, Then, Declare}
+use Rattle.jv_core.specs.Tree.{NoGroup, Group, Method, Program}
 use Rattle.use_rules.specs.declared.demand.DemandKind.TheVariants as demands
 use Rattle.use_rules.specs.declared.demand.Demand.{Demand}
 use Rattle.use_rules.specs.declared.element.Element.TheVariants as elements
@@ -52,8 +53,18 @@ protocol = record {
         } ∷ [];
         drops = false;
       } ∷
-      record { name = codes "Read"; methods = record { result = written.Void; name = codes "read"; params = []; target = One (tos.State 1) } ∷ []; drops = false } ∷
-      record { name = codes "Close"; methods = record { result = written.Void; name = codes "close"; params = []; target = One tos.End } ∷ []; drops = false } ∷
+      record {
+        name = codes "Read";
+        methods = record { result = written.Void; name = codes "read"; params = []; target = One (tos.State 1) }
+            ∷ [];
+        drops = false;
+      } ∷
+      record {
+        name = codes "Close";
+        methods = record { result = written.Void; name = codes "close"; params = []; target = One tos.End } ∷
+            [];
+        drops = false;
+      } ∷
       [];
 }
 
@@ -85,7 +96,8 @@ method_of n ty body = record {
 abbrev methods : List Method
 methods =
     method_of 8 (types.Enum 0) (Then (sets_left (Int q (pos 2))) (Then (Return q (Some (Constant q 0 0))) NoStmt)) ∷
-    method_of 9 (types.Enum 1) (Then (If q (Binary q ops.Gt left (Int q (pos 0))) (Block q (Then (Return q (Some (Constant q 1 0))) NoStmt) q))
+    method_of 9 (types.Enum 1) (Then (If q (Binary q ops.Gt left (Int q (pos 0))) (Block q (Then (Return q (Some (Constant q 1 0))) NoStmt)
+    q))
     (Then (Return q (Some (Constant q 1 1))) NoStmt)) ∷
     method_of 10 types.Void (Then (Print q (Binary q ops.Add (Text q (codes "line ")) left))
     (Then (sets_left (Binary q ops.Sub left (Int q (pos 1)))) NoStmt)) ∷
@@ -124,7 +136,8 @@ main_of last = record {
   loops = record { place = q; scope = 0 ∷ [] } ∷ [];
   body = Declare q 0 (New q 0) (Then (Switch q (call 0)
       (Group (Some 0 ∷ []) (Then (Do q 0 (Block q (Then (Switch q (call 1)
-      (Group (Some 0 ∷ []) (Then (Eval q (call 2)) (Then (Continue q 0) NoStmt)) q (Group (Some 1 ∷ []) last q NoGroup)) q) NoStmt) q) (Truth q true))
+      (Group (Some 0 ∷ []) (Then (Eval q (call 2)) (Then (Continue q 0) NoStmt)) q (Group (Some 1 ∷ []) last q NoGroup)) q) NoStmt) q)
+      (Truth q true))
       (Then (Break q None) NoStmt)) q
       (Group (Some 1 ∷ []) (Then (Break q None) NoStmt) q NoGroup)) q) NoStmt);
 }
@@ -144,7 +157,8 @@ program_of last = record {
   enums = record { name = 0; constants = 1 ∷ 2 ∷ [] } ∷ record { name = 3; constants = 4 ∷ 5 ∷ [] } ∷ [];
   methods = methods ++ (main_of last ∷ []);
   typestates = protocol ∷ [];
-  names = codes "FileStatus" ∷ codes "OK" ∷ codes "ERROR" ∷ codes "BooleanEnum" ∷ codes "TRUE" ∷ codes "FALSE" ∷ codes "File" ∷ codes "left" ∷
+  names = codes "FileStatus" ∷ codes "OK" ∷ codes "ERROR" ∷ codes "BooleanEnum" ∷ codes "TRUE" ∷ codes "FALSE" ∷ codes "File" ∷ codes "left"
+      ∷
       codes "open" ∷ codes "hasNext" ∷ codes "read" ∷ codes "close" ∷ codes "Main" ∷ codes "main" ∷ codes "f" ∷ [];
 }
 

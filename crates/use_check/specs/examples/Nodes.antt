@@ -24,8 +24,23 @@ abbrev protocol : Typestate
 protocol = record {
   name = codes "NodeProtocol";
   states =
-      record { name = codes "Fresh"; methods = record { result = written.Void; name = codes "link"; params = written.Int ∷ written.Named (codes "Node") ∷ []; target = One (tos.State 1) } ∷ []; drops = false } ∷
-      record { name = codes "Open"; methods = record { result = written.Void; name = codes "close"; params = []; target = One tos.End } ∷ []; drops = false } ∷
+      record {
+        name = codes "Fresh";
+        methods = record {
+          result = written.Void;
+          name = codes "link";
+          params =
+              written.Int ∷ written.Named (codes "Node") ∷ [];
+          target = One (tos.State 1);
+        } ∷ [];
+        drops = false;
+      } ∷
+      record {
+        name = codes "Open";
+        methods = record { result = written.Void; name = codes "close"; params = []; target = One tos.End } ∷
+            [];
+        drops = false;
+      } ∷
       [];
 }
 
@@ -106,7 +121,8 @@ nodes = record {
         name = 0;
         typestate = Some 0;
         methods = 0 ∷ 1 ∷ [];
-        fields = record { name = 1; ty = types.Int; value = Some (Int q (pos 0)) } ∷ record { name = 2; ty = types.Object 0; value = None } ∷ [];
+        fields = record { name = 1; ty = types.Int; value = Some (Int q (pos 0)) } ∷ record { name = 2; ty = types.Object 0; value = None }
+            ∷ [];
       } ∷
       record { place = q; name = 7; typestate = None; fields = []; methods = 2 ∷ [] } ∷
       [];

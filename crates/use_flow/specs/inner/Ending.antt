@@ -19,7 +19,8 @@ followed s = rules.followed s.program s.contexts s.context s.method
 -- what a protocol method leaves of the fields, where calls lead to these places
 abbrev pub fields_left : Followed → (class : ℕ) → List To → Place → List Set → Log → Log
 fields_left s c tos q sets log =
-    asks (if list_any (may_end (typestate_of s.program c)) tos then open_fields s q 0 (own_fields s) sets else []) (sends (to_states s c tos sets) log)
+    asks (if list_any (may_end (typestate_of s.program c)) tos then open_fields s q 0 (own_fields s) sets else [])
+    (sends (to_states s c tos sets) log)
 
 abbrev pub leaves_fields : Followed → Place → (answer : Option Name) → List Set → Log → Log
 leaves_fields s = rules.leaves_fields s.program s.contexts s.context s.method

@@ -31,7 +31,13 @@ pub record Followed : Type 0 where
   pub held : held.Tables
 
 abbrev pub seen : Scene → Followed
-seen s = record { program = tree_of s.core.now; contexts = contexts_of s.tables.now; context = s.context; method = method_of s.method.now; held = s.tables.now }
+seen s = record {
+  program = tree_of s.core.now;
+  contexts = contexts_of s.tables.now;
+  context = s.context;
+  method = method_of s.method.now;
+  held = s.tables.now;
+}
 
 -- the typestate that there may be
 abbrev pub typestate_or_end : Option Typestate → Typestate
@@ -63,7 +69,8 @@ abbrev pub variable_width : Followed → Var → ℕ
 variable_width s = rules.variable_width s.program s.contexts s.context s.method
 
 abbrev pub judged_variable : Followed → Rule → Place → Var → List Set → List Demand
-judged_variable s rule q x = rules.judged_variable s.program s.contexts s.context s.method (rule_of rule (typestate_of s.program (variable_class s x))) q x
+judged_variable s rule q x = rules.judged_variable s.program s.contexts s.context s.method
+    (rule_of rule (typestate_of s.program (variable_class s x))) q x
 
 abbrev pub field_outs_from : Followed → (ℕ → TableKey) → (field : ℕ) → List Field → List Set → List Out
 field_outs_from s = rules.field_outs_from s.program s.contexts s.context s.method

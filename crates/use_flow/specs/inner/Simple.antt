@@ -42,7 +42,8 @@ local s q k e sets log = exit s q (k ∷ []) (declared s k e (Some sets) log)
 abbrev pub overwritten : Followed → CoreVar → rules.Evaluated → Now → Flow
 overwritten s x v n = elim n [
   | None ↦ rules.flow None [] v.log
-  | Some now ↦ rules.flow (Some (with_set now (variable_at s x.var) v.set)) [] (asks (judged_variable s judging.Overwritten x.place x.var now) v.log)
+  | Some now ↦ rules.flow (Some (with_set now (variable_at s x.var) v.set)) []
+      (asks (judged_variable s judging.Overwritten x.place x.var now) v.log)
 ]
 
 abbrev pub assigned : Followed → CoreVar → Expr → List Set → Log → Flow
@@ -55,7 +56,8 @@ abbrev pub printed : Followed → Expr → List Set → Log → Flow
 printed s e sets log = printed_flow (eval s 0 e (Some sets) log)
 
 abbrev pub dropped_flow : Followed → Place → (class : ℕ) → rules.Evaluated → Flow
-dropped_flow s q c v = rules.flow (rules.after v) [] (asks (judged (if_open demands.LeftOpen (typestate_of s.program c)) q (codes "value") c v.set) v.log)
+dropped_flow s q c v = rules.flow (rules.after v) []
+    (asks (judged (if_open demands.LeftOpen (typestate_of s.program c)) q (codes "value") c v.set) v.log)
 
 abbrev pub dropped : Followed → Place → Expr → List Set → Log → Flow
 dropped s q e sets log = dropped_flow s q (class_or_none s (type_dropped s e)) (eval s 0 e (Some sets) log)

@@ -1,5 +1,6 @@
 -- Switches, as the code follows them.
-use Rattle.std.specs.Prelude.{ℕ, suc, true, List, [], ◌∷◌, Option, Some, None, slice_get, slice_set, slice_index_or, length, option_map, if◌then◌else◌}
+use Rattle.std.specs.Prelude.{ℕ, suc, true, List, [], ◌∷◌, Option, Some, None, slice_get, slice_set, slice_index_or, length, option_map}
+use Rattle.std.specs.Prelude.{if◌then◌else◌}
 use Rattle.mg_text.specs.Call.{Name}
 use Rattle.jv_core.specs.declared.tree.CoreVar.{CoreVar}
 use Rattle.jv_core.specs.Tree.{Expr, Protocol, Exprs, Groups, Method}
@@ -112,17 +113,20 @@ type_called s n = option_map (λ (m : Method). m.result) (slice_get s.program.me
 
 -- where a call leads with a label, from what the variable has
 abbrev pub led_set : Followed → Var → Method → Set → Name → Set
-led_set s x k set label = image (variable_width s x) (along (targets_by label) (typestate_of s.program k.class) (text_at s.program k.name)) set
+led_set s x k set label = image (variable_width s x) (along (targets_by label) (typestate_of s.program k.class) (text_at s.program k.name))
+    set
 
 abbrev pub called_switch : Followed → Called → List Set → Log → rules.Evaluated × (List Now)
 called_switch s c sets log =
     let a = eval_all s (widths_of s c.method) c.args (Some sets) log in (
       called s c.method (protocol_call s targets c.receiver c.method) a,
-      by_constants s (λ label. rules.after (called s c.method (protocol_call s (targets_by label) c.receiver c.method) a)) (constants_of s (type_called s c.method)),
+      by_constants s (λ label. rules.after (called s c.method (protocol_call s (targets_by label) c.receiver c.method) a))
+          (constants_of s (type_called s c.method)),
     )
 
 abbrev pub plain_switch : Followed → Expr → List Set → Log → rules.Evaluated × (List Now)
-plain_switch s e sets log = let v = eval s 0 e (Some sets) log in (v, by_constants s (λ label. rules.after v) (constants_of s (type_dropped s e)))
+plain_switch s e sets log = let v = eval s 0 e (Some sets) log in
+    (v, by_constants s (λ label. rules.after v) (constants_of s (type_dropped s e)))
 
 abbrev pub past : Followed → Groups → List Now → Now
 past s = rules.past s.program s.contexts s.context s.method

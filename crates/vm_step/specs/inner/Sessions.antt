@@ -11,7 +11,8 @@ use Rattle.vm_model.specs.declared.value.Value.{Value}
 use Rattle.vm_model.specs.declared.value.Value.TheVariants as values
 use Rattle.vm_model.specs.Messages.{Messages, on_way, role_named}
 use Rattle.vm_model.specs.Machine.{Machine, Stepped, Waits, Stops}
-use Rattle.vm_model.specs.Step.{next, tells, is_true, other_role, sends, taken_as, takes_first, refuses_from, Payload, NoPayload, IntPayload, TruthPayload, TextPayload}
+use Rattle.vm_model.specs.Step.{next, tells, is_true, other_role, sends, taken_as, takes_first, refuses_from, Payload, NoPayload}
+use Rattle.vm_model.specs.Step.{IntPayload, TruthPayload, TextPayload}
 use Rattle.vm_step.specs.declared.session.Payload.{Payload as Kept}
 use Rattle.vm_step.specs.declared.session.Payload.TheVariants as kept
 use Rattle.vm_step.specs.declared.state.Cell.{Cell}

@@ -10,37 +10,44 @@ pub returns-then-ends_in : goal.returns-then-ends_in
 returns-then-ends_in c = cut (sym c.ends_in.ensures ∙ c.if-ends_in.true)
 
 pub slice_bounds-text_fault-end : goal.slice_bounds-text_fault-end
-slice_bounds-text_fault-end c = taken c.args.bytes.now c.tail-rest.result.now c.args.field c.in-Letters.len (sym c.ends_in.ensures ∙ c.if-ends_in.false) (ap size c.in-Letters.is) c.tail-rest.ensures
+slice_bounds-text_fault-end c = taken c.args.bytes.now c.tail-rest.result.now c.args.field c.in-Letters.len
+    (sym c.ends_in.ensures ∙ c.if-ends_in.false) (ap size c.in-Letters.is) c.tail-rest.ensures
 
 pub slice_bounds-code_fault-end : goal.slice_bounds-code_fault-end
-slice_bounds-code_fault-end c = taken c.args.bytes.now c.tail-rest.result.now c.args.field c.in-Code.len (sym c.ends_in.ensures ∙ c.if-ends_in.false) (ap size c.in-Code.is) c.tail-rest.ensures
+slice_bounds-code_fault-end c = taken c.args.bytes.now c.tail-rest.result.now c.args.field c.in-Code.len
+    (sym c.ends_in.ensures ∙ c.if-ends_in.false) (ap size c.in-Code.is) c.tail-rest.ensures
 
 pub code_fault-requires : goal.code_fault-requires
 code_fault-requires c =
     let at : c.args.field.at < 2 ^ 32 = omega arith in
     let k = space c.args.bytes.now c.args.field (sym c.ends_in.ensures ∙ c.if-ends_in.false) at c.requires in
-    let t = taken c.args.bytes.now c.tail-rest.result.now c.args.field c.in-Code.len (sym c.ends_in.ensures ∙ c.if-ends_in.false) (ap size c.in-Code.is) c.tail-rest.ensures in
+    let t = taken c.args.bytes.now c.tail-rest.result.now c.args.field c.in-Code.len (sym c.ends_in.ensures ∙ c.if-ends_in.false)
+    (ap size c.in-Code.is) c.tail-rest.ensures in
     let s : size c.args.field.part ≡ c.in-Code.len = ap size c.in-Code.is in
     omega (arith, k, t, s)
 
 pub returns-in_ok-fault-in-Letters : goal.returns-in_ok-fault-in-Letters
 returns-in_ok-fault-in-Letters c =
-    letters_judged c.args.bytes.now c.args.places.now c.args.field c.args.later.now c.in_ok-fault-in-Letters.fault (sym c.ends_in.ensures ∙ c.if-ends_in.false) c.tail-rest.result.now c.tail-rest.ensures
+    letters_judged c.args.bytes.now c.args.places.now c.args.field c.args.later.now c.in_ok-fault-in-Letters.fault
+    (sym c.ends_in.ensures ∙ c.if-ends_in.false) c.tail-rest.result.now c.tail-rest.ensures
     c.in-Letters.len c.in-Letters.is c.in_ok-fault-in-Letters.ensures
 
 pub returns-in_ok-fault-in-Code : goal.returns-in_ok-fault-in-Code
 returns-in_ok-fault-in-Code c =
-    code_judged c.args.bytes.now c.args.places.now c.args.field c.args.later.now c.in_ok-fault-in-Code.fault (sym c.ends_in.ensures ∙ c.if-ends_in.false) c.tail-rest.result.now c.tail-rest.ensures
+    code_judged c.args.bytes.now c.args.places.now c.args.field c.args.later.now c.in_ok-fault-in-Code.fault
+    (sym c.ends_in.ensures ∙ c.if-ends_in.false) c.tail-rest.result.now c.tail-rest.ensures
     c.in-Code.len c.in-Code.is c.in_ok-fault-in-Code.ensures
 
 pub returns-in-End : goal.returns-in-End
 returns-in-End c =
-    end_judged c.args.bytes.now c.args.places.now c.args.field c.args.later.now c.fault_unless.result (sym c.ends_in.ensures ∙ c.if-ends_in.false) c.tail-rest.result.now c.tail-rest.ensures
+    end_judged c.args.bytes.now c.args.places.now c.args.field c.args.later.now c.fault_unless.result
+    (sym c.ends_in.ensures ∙ c.if-ends_in.false) c.tail-rest.result.now c.tail-rest.ensures
     c.in-End.is (c.fault_unless.ensures ∙ ap (λ b. unless b (faults.TrailingBytes c.args.field.at)) c.is_empty.ensures)
 
 pub returns-in_default : goal.returns-in_default
 returns-in_default c =
     let n = c.number_in.ensures in
     whole (sym c.ends_in.ensures ∙ c.if-ends_in.false)
-    (judges_number c.args.bytes.now c.args.places.now c.args.later.now c.args.field.at c.number_in.result (number c.args.bytes.now c.args.field) _ c.number_fault.result
+    (judges_number c.args.bytes.now c.args.places.now c.args.later.now c.args.field.at c.number_in.result
+    (number c.args.bytes.now c.args.field) _ c.number_fault.result
     c.args.field.part c.in_default.not-Letters c.in_default.not-Code c.in_default.not-End n.one n.two n.four c.number_fault.ensures)

@@ -20,10 +20,12 @@ returns-then-is_last c =
     let f : Field = field c.args.layout.now.at c.args.part in
     let n = c.number_in-number.result in
     let read = c.number_in-number.ensures in
-    let named : c.is_code_name-named.result ≡ is_code c.args.bytes.now c.args.layout.now.places.items n = c.is_code_name-named.ensures ∙ ap (λ (p : List ℕ). is_code c.args.bytes.now p n) c.as_slice.ensures.items in
+    let named : c.is_code_name-named.result ≡ is_code c.args.bytes.now c.args.layout.now.places.items n = c.is_code_name-named.ensures ∙
+    ap (λ (p : List ℕ). is_code c.args.bytes.now p n) c.as_slice.ensures.items in
     record {
       row = c.in_ok-push.ensures.ok;
-      ends = same_stops c.args.bytes.now c.args.layout.now.places.items f n read.one read.two read.four _ (sym c.ends_in.ensures ∙ c.if-ends_in.false)
+      ends = same_stops c.args.bytes.now c.args.layout.now.places.items f n read.one read.two read.four _
+          (sym c.ends_in.ensures ∙ c.if-ends_in.false)
           (ap (λ (b : Bool). ends_row c.args.part n b) (sym named) ∙ (sym c.is_last.ensures ∙ c.if-is_last.true));
       places = refl;
     }
@@ -48,7 +50,8 @@ returns c =
     let f : Field = field c.args.layout.now.at c.args.part in
     let n = c.number_in-number.result in
     let read = c.number_in-number.ensures in
-    let named : c.is_code_name-named.result ≡ is_code c.args.bytes.now c.args.layout.now.places.items n = c.is_code_name-named.ensures ∙ ap (λ (p : List ℕ). is_code c.args.bytes.now p n) c.as_slice.ensures.items in
+    let named : c.is_code_name-named.result ≡ is_code c.args.bytes.now c.args.layout.now.places.items n = c.is_code_name-named.ensures ∙
+    ap (λ (p : List ℕ). is_code c.args.bytes.now p n) c.as_slice.ensures.items in
     let whole : is_cut c.args.bytes.now f ≡ false = sym c.ends_in.ensures ∙ c.if-ends_in.false in
     let k = end_within c.args.bytes.now f whole c.requires.within in
     let e = c.size_of.ensures in
@@ -59,6 +62,7 @@ returns c =
       places = c.in_ok-enter.ensures;
       at = ap (λ k. c.args.layout.now.at + k) e;
       due = c.in_ok-add_brought.ensures
-          ∙ ap (λ xs. xs ++ reverse c.args.layout.now.due.items) (ap (λ (b : Bool). brings c.args.part c.args.layout.now.at n b) named ∙ same_due c.args.bytes.now c.args.layout.now.places.items f n read.one read.two read.four);
+          ∙ ap (λ xs. xs ++ reverse c.args.layout.now.due.items) (ap (λ (b : Bool). brings c.args.part c.args.layout.now.at n b) named ∙
+          same_due c.args.bytes.now c.args.layout.now.places.items f n read.one read.two read.four);
       within = omega arith;
     }

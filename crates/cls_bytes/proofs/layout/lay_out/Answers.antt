@@ -8,7 +8,8 @@ returns-then-not-branch c =
     let l = c.fields.layout in
     let old : Layout = record l { due = c.pop.new.self } in
     laid_last c.args.bytes.now l old c.lay.new.layout c.in-Some.part refl refl refl c.in-Some.ensures.items
-    (was_last c.args.bytes.now c.in-Some.part old c.lay.new.layout c.in_ok-lay.field-0 (c.if-not-branch.true) c.in_ok-lay.ensures) c.fields.invariant
+    (was_last c.args.bytes.now c.in-Some.part old c.lay.new.layout c.in_ok-lay.field-0 (c.if-not-branch.true) c.in_ok-lay.ensures)
+    c.fields.invariant
 
 pub fields-smaller : goal.fields-smaller
 fields-smaller c =
@@ -22,7 +23,8 @@ fields-preserved c =
     let l = c.fields.layout in
     let old : Layout = record l { due = c.pop.new.self } in
     laying_more c.args.bytes.now l old c.lay.new.layout c.in-Some.part refl refl refl c.in-Some.ensures.items
-    (went c.args.bytes.now c.in-Some.part old c.lay.new.layout c.in_ok-lay.field-0 (c.if-not-branch.false) c.in_ok-lay.ensures) c.fields.invariant
+    (went c.args.bytes.now c.in-Some.part old c.lay.new.layout c.in_ok-lay.field-0 (c.if-not-branch.false) c.in_ok-lay.ensures)
+    c.fields.invariant
 
 pub fields-init : goal.fields-init
 fields-init c = laying_first c.args.bytes.now c.in_ok-layout.layout c.in_ok-layout.ensures
@@ -32,4 +34,5 @@ returns c =
     let l = c.fields.layout in
     let none : vec_len l.due ≡ 0 = c.in_default.ensures.cases.0 in
     let less : vec_len l.due - 1 ≡ 0 = omega arith in
-    laid_all c.args.bytes.now l (c.in_default.ensures.items ∙ ap (λ xs. xs ++ []) (c.in_default.ensures.rest ∙ ap (λ k. take k l.due.items) less)) c.fields.invariant
+    laid_all c.args.bytes.now l (c.in_default.ensures.items ∙ ap (λ xs. xs ++ []) (c.in_default.ensures.rest ∙ ap (λ k. take k l.due.items)
+    less)) c.fields.invariant

@@ -5,4 +5,5 @@ use Rattle.cls_bytes.specs.Reading.{counted, attr_at}
 use Rattle.cls_bytes.proofs.reading.attrs_of.Given as goal
 
 abbrev pub invariant-loop : goal.invariant-loop
-invariant-loop l = with_front (map attr_of l.attributes.items) (counted (attr_at l.pool l.of_method) (l.count - l.counter) l.rest) ≡ counted (attr_at l.pool l.of_method) l.count l.bytes
+invariant-loop l = with_front (map attr_of l.attributes.items) (counted (attr_at l.pool l.of_method) (l.count - l.counter) l.rest) ≡ counted
+    (attr_at l.pool l.of_method) l.count l.bytes

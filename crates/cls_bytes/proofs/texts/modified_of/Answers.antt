@@ -12,5 +12,6 @@ as_they_are (x ∷ xs) = ap (λ (ys : List ℕ). x ∷ ys) (as_they_are xs)
 pub returns : goal.returns
 unfolding modified
 returns c =
-    let t = YieldsList-end (YieldsList-from_chars c.args.text.now c.utf8.text cc) c.loop-character.yielded _ c.loop-character.yielded_by _ _ c.in-None.is c.next.ensures.steps in
+    let t = YieldsList-end (YieldsList-from_chars c.args.text.now c.utf8.text cc) c.loop-character.yielded _ c.loop-character.yielded_by _ _
+    c.in-None.is c.next.ensures.steps in
     c.loop-character.invariant ∙ ap (flat_map modified_char) (sym (as_they_are c.loop-character.yielded) ∙ t.0)

@@ -8,4 +8,5 @@ use Rattle.cls_bytes.proofs.writing.put_attrs.Given as goal
 
 abbrev pub invariant-loop-attribute : goal.invariant-loop-attribute
 invariant-loop-attribute l =
-    Left attr_bytes FitsAttr (λ xs. attrs_refusal xs None) (map attr_of l.attributes) (map attr_of (drop l.attribute-index l.attributes)) l.initial.out l.out
+    Left attr_bytes FitsAttr (λ xs. attrs_refusal xs None) (map attr_of l.attributes) (map attr_of (drop l.attribute-index l.attributes))
+    l.initial.out l.out

@@ -8,6 +8,7 @@ use Rattle.cls_bytes.proofs.writing.put_inners.Given as goal
 abbrev pub invariant-loop-attribute : goal.invariant-loop-attribute
 invariant-loop-attribute l =
     record {
-      so_far : l.out ++ flat_map inner_bytes (map inner_of (drop l.attribute-index l.attributes)) ≡ l.fn.out ++ flat_map inner_bytes (map inner_of l.attributes);
+      so_far : l.out ++ flat_map inner_bytes (map inner_of (drop l.attribute-index l.attributes)) ≡ l.fn.out ++ flat_map inner_bytes
+          (map inner_of l.attributes);
       fits : AllByRecursion FitsInner (map inner_of (drop l.attribute-index l.attributes));
     }

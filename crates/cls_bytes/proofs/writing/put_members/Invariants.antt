@@ -8,4 +8,5 @@ use Rattle.cls_bytes.proofs.writing.put_members.Given as goal
 
 abbrev pub invariant-loop-member : goal.invariant-loop-member
 invariant-loop-member l =
-    Left member_bytes FitsMember (λ ms. members_refusal ms None) (map member_of l.members) (map member_of (drop l.member-index l.members)) l.initial.out l.out
+    Left member_bytes FitsMember (λ ms. members_refusal ms None) (map member_of l.members) (map member_of (drop l.member-index l.members))
+    l.initial.out l.out

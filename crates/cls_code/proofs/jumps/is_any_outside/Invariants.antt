@@ -7,4 +7,5 @@ use Rattle.cls_code.proofs.jumps.is_any_outside.Given as goal
 abbrev pub invariant-loop-distance : goal.invariant-loop-distance
 invariant-loop-distance l =
     (starts : List ℕ) → IsMarked starts l.marks
-    → list_any (λ d. not (is_start starts (pos l.place +ℤ d))) l.distances ≡ list_any (λ d. not (is_start starts (pos l.place +ℤ d))) (drop l.distance-index l.distances)
+    → list_any (λ d. not (is_start starts (pos l.place +ℤ d))) l.distances ≡ list_any (λ d. not (is_start starts (pos l.place +ℤ d)))
+    (drop l.distance-index l.distances)

@@ -16,16 +16,19 @@ loop-instr-preserved c =
     let x = c.instr-item.result in
     let w = written_more kept k x c.loop-instr-test.true in
     let is : x ≡ get_or kept k x = c.instr-item.is in
-    let place : c.len-place.result ≡ length (code_bytes (instrs_of (take k kept))) = c.len-place.ensures ∙ ap length c.loop-instr.invariant.bytes in
+    let place : c.len-place.result ≡ length (code_bytes (instrs_of (take k kept))) = c.len-place.ensures ∙
+    ap length c.loop-instr.invariant.bytes in
     record {
       bytes = c.in_ok-put_instr.ensures
           ∙ ap (λ bs. bs ++ instr_bytes c.len-place.result (instr_of x)) c.loop-instr.invariant.bytes
           ∙ ap (λ n. code_bytes (instrs_of (take k kept)) ++ instr_bytes n (instr_of x)) place
-          ∙ ap (λ y. code_bytes (instrs_of (take k kept)) ++ instr_bytes (length (code_bytes (instrs_of (take k kept)))) (instr_of y)) is ∙ sym w.0;
+          ∙ ap (λ y. code_bytes (instrs_of (take k kept)) ++ instr_bytes (length (code_bytes (instrs_of (take k kept)))) (instr_of y)) is ∙
+          sym w.0;
       starts = c.in_ok-push.ensures.ok ∙ ap (λ ns. ns ++ c.len-place.result ∷ []) c.loop-instr.invariant.starts
           ∙ ap (λ n. starts_from 0 (instrs_of (take k kept)) ++ n ∷ []) place ∙ sym w.1;
       fit = rest_fit kept k x c.loop-instr-test.true is c.loop-instr.invariant.fit;
     }
 
 pub put_instr-requires : goal.put_instr-requires
-put_instr-requires c = first_fit c.args.instrs.now c.loop-instr.instr-index c.instr-item.result c.loop-instr-test.true c.instr-item.is c.loop-instr.invariant.fit
+put_instr-requires c = first_fit c.args.instrs.now c.loop-instr.instr-index c.instr-item.result c.loop-instr-test.true c.instr-item.is
+    c.loop-instr.invariant.fit

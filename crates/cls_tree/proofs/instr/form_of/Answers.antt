@@ -9,7 +9,8 @@ returns-in_default c = settled 0 ([]) 1 0 c.args.op (omega arith) (omega arith) 
 
 pub returns-in_default-2 : goal.returns-in_default-2
 unfolding agree form_of
-returns-in_default-2 c = settled 0 (16 ∷ 17 ∷ 18 ∷ 19 ∷ 21 ∷ []) 16 9 c.args.op (omega arith) (omega arith) (λ e. grind arith, (λ e. grind arith, (λ e. grind arith, (λ e. grind arith, (λ e. grind arith, tt))))) refl
+returns-in_default-2 c = settled 0 (16 ∷ 17 ∷ 18 ∷ 19 ∷ 21 ∷ []) 16 9 c.args.op (omega arith) (omega arith)
+    (λ e. grind arith, (λ e. grind arith, (λ e. grind arith, (λ e. grind arith, (λ e. grind arith, tt))))) refl
 
 pub returns-in_default-3 : goal.returns-in_default-3
 unfolding agree form_of
@@ -25,15 +26,18 @@ returns-in_default-5 c = settled 0 ([]) 12 63 c.args.op (omega arith) (omega ari
 
 pub returns-in_default-6 : goal.returns-in_default-6
 unfolding agree form_of
-returns-in_default-6 c = settled 0 (87 ∷ 89 ∷ []) 16 79 c.args.op (omega arith) (omega arith) (λ e. grind arith, (λ e. grind arith, tt)) refl
+returns-in_default-6 c = settled 0 (87 ∷ 89 ∷ []) 16 79 c.args.op (omega arith) (omega arith) (λ e. grind arith, (λ e. grind arith, tt))
+    refl
 
 pub returns-in_default-7 : goal.returns-in_default-7
 unfolding agree form_of
-returns-in_default-7 c = settled 0 (100 ∷ 104 ∷ 108 ∷ 112 ∷ 116 ∷ 132 ∷ []) 56 97 c.args.op (omega arith) (omega arith) (λ e. grind arith, (λ e. grind arith, (λ e. grind arith, (λ e. grind arith, (λ e. grind arith, (λ e. grind arith, tt)))))) refl
+returns-in_default-7 c = settled 0 (100 ∷ 104 ∷ 108 ∷ 112 ∷ 116 ∷ 132 ∷ []) 56 97 c.args.op (omega arith) (omega arith)
+    (λ e. grind arith, (λ e. grind arith, (λ e. grind arith, (λ e. grind arith, (λ e. grind arith, (λ e. grind arith, tt)))))) refl
 
 pub returns-in_default-8 : goal.returns-in_default-8
 unfolding agree form_of
-returns-in_default-8 c = settled 0 (167 ∷ 170 ∷ 172 ∷ []) 11 165 c.args.op (omega arith) (omega arith) (λ e. grind arith, (λ e. grind arith, (λ e. grind arith, tt))) refl
+returns-in_default-8 c = settled 0 (167 ∷ 170 ∷ 172 ∷ []) 11 165 c.args.op (omega arith) (omega arith)
+    (λ e. grind arith, (λ e. grind arith, (λ e. grind arith, tt))) refl
 
 pub returns-in_default-9 : goal.returns-in_default-9
 unfolding agree form_of

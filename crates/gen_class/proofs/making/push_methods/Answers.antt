@@ -7,4 +7,5 @@ loop-number-preserved c = found_more (tree_of c.args.core.now) c.args.numbers.no
     c.loop-number-test.true c.in_ok-push_method.ensures c.loop-number.invariant
 
 pub returns : goal.returns
-returns c = found_all (tree_of c.args.core.now) c.args.numbers.now c.loop-number.number-index _ _ c.loop-number-test.false c.loop-number.invariant
+returns c = found_all (tree_of c.args.core.now) c.args.numbers.now c.loop-number.number-index _ _ c.loop-number-test.false
+    c.loop-number.invariant

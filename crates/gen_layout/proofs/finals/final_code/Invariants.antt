@@ -9,5 +9,6 @@ use Rattle.gen_layout.proofs.finals.final_code.Given as goal
 -- the instructions so far, and those that are left, are all
 abbrev pub invariant-loop-index : goal.invariant-loop-index
 invariant-loop-index l = (p : Program) →
-    AreLeft l.fn.laid.starts.items p (finals l.fn.laid.starts.items l.fn.laid.starts.items (symbolics_of p l.fn.instrs) l.fn.laid.numbers.items)
+    AreLeft l.fn.laid.starts.items p (finals l.fn.laid.starts.items l.fn.laid.starts.items (symbolics_of p l.fn.instrs)
+    l.fn.laid.numbers.items)
     (drop l.index l.fn.laid.starts.items) (drop l.index l.fn.instrs) (drop l.index l.fn.laid.numbers.items) (instrs_of l.code.items)

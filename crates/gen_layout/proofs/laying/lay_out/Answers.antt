@@ -9,13 +9,16 @@ use Rattle.gen_layout.specs.Laid.{laid}
 use Rattle.gen_layout.proofs.laying.lay_out.Goals as goal
 
 pub loop-instr-init : goal.loop-instr-init
-loop-instr-init c =
-    (rw (c.new.ensures.items, c.new-2.ensures.items) (begins (instrs_of (tree_of c.args.core.now) c.args.instrs.now) c.args.pool.now), front_none c.args.pool.now)
+loop-instr-init c = (
+  rw (c.new.ensures.items, c.new-2.ensures.items) (begins (instrs_of (tree_of c.args.core.now) c.args.instrs.now) c.args.pool.now),
+  front_none c.args.pool.now,
+)
 
 pub loop-instr-preserved : goal.loop-instr-preserved
 loop-instr-preserved c = (
   lay_more (tree_of c.args.core.now) c.args.instrs.now c.loop-instr.instr-index c.instr-item.result _ _ _ _ _ _ _
-      c.loop-instr-test.true c.instr-item.is c.in_ok-number.ensures.made (c.size_at-size.ensures.size (tree_of c.args.core.now)) c.in_ok-push.ensures
+      c.loop-instr-test.true c.instr-item.is c.in_ok-number.ensures.made (c.size_at-size.ensures.size (tree_of c.args.core.now))
+      c.in_ok-push.ensures
       c.loop-instr.invariant.0,
   front_twice c.loop-instr.invariant.1 c.constant.ensures.kept,
 )

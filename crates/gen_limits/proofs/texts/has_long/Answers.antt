@@ -9,7 +9,8 @@ loop-key-preserved c = go_on is_long const_of c.args.keys.now c.loop-key.key-ind
     (sym c.is_long.ensures ∙ c.if-is_long.false) c.loop-key.invariant
 
 pub returns-then-is_long : goal.returns-then-is_long
-returns-then-is_long c = is_there is_long const_of c.args.keys.now c.loop-key.key-index c.key-item.result _ c.loop-key-test.true c.key-item.is
+returns-then-is_long c = is_there is_long const_of c.args.keys.now c.loop-key.key-index c.key-item.result _ c.loop-key-test.true
+    c.key-item.is
     (sym c.is_long.ensures ∙ c.if-is_long.true) c.loop-key.invariant
 
 pub returns : goal.returns

@@ -16,6 +16,7 @@ loop-character-init c = none_counted
 pub returns : goal.returns
 unfolding modified
 returns c =
-    let t = YieldsList-end (YieldsList-from_chars c.args.text.now c.utf8.text cc) c.loop-character.yielded _ c.loop-character.yielded_by _ _ c.in-None.is c.next.ensures.steps in
+    let t = YieldsList-end (YieldsList-from_chars c.args.text.now c.utf8.text cc) c.loop-character.yielded _ c.loop-character.yielded_by _ _
+    c.in-None.is c.next.ensures.steps in
     told_by c.loop-character.size c.loop-character.yielded c.loop-character.invariant
     ∙ ap (λ cs. nat_lt 65535 (length (flat_map modified_char cs))) (sym (as_they_are c.loop-character.yielded) ∙ t.0)

@@ -9,7 +9,8 @@ use Rattle.gen_members.proofs.classes.methods.Goals as goal
 
 pub loop-making-init : goal.loop-making-init
 loop-making-init c = λ k. rw c.new-members.ensures
-    (parts_begin (tree_of c.args.core.now) k method_in_file OfMethod (map (compiled_of (tree_of c.args.core.now)) c.args.makings.now) c.args.pool.now)
+    (parts_begin (tree_of c.args.core.now) k method_in_file OfMethod (map (compiled_of (tree_of c.args.core.now)) c.args.makings.now)
+    c.args.pool.now)
 
 pub loop-making-preserved : goal.loop-making-preserved
 loop-making-preserved c = λ k. kept_more (tree_of c.args.core.now) k (compiled_of (tree_of c.args.core.now)) method_in_file OfMethod

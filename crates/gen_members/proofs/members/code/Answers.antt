@@ -14,7 +14,8 @@ use Rattle.gen_members.proofs.members.code.Goals as goal
 pub code_in_file-requires-clause-numbers : goal.code_in_file-requires-clause-numbers
 code_in_file-requires-clause-numbers c =
     let p = tree_of c.args.core.now in
-    let lay = subst (λ is. IsMade (laid_of c.in_ok-laid.laid) c.lay_out.new.pool (laid 0 (instrs_of p is) c.utf8-2.new.self)) c.as_slice-instrs.ensures.items
+    let lay = subst (λ is. IsMade (laid_of c.in_ok-laid.laid) c.lay_out.new.pool (laid 0 (instrs_of p is) c.utf8-2.new.self))
+    c.as_slice-instrs.ensures.items
     c.in_ok-laid.ensures.made in
     (many_alone (compiled_of p c.args.making.now) c.args.pool.now _ _ _ _ c.in_ok-name.ensures.made lay).0
     ∙ length-map c.args.making.now.instrs.items (instr_of p)
@@ -22,7 +23,8 @@ code_in_file-requires-clause-numbers c =
 pub code_in_file-requires-clause-starts : goal.code_in_file-requires-clause-starts
 code_in_file-requires-clause-starts c =
     let p = tree_of c.args.core.now in
-    let lay = subst (λ is. IsMade (laid_of c.in_ok-laid.laid) c.lay_out.new.pool (laid 0 (instrs_of p is) c.utf8-2.new.self)) c.as_slice-instrs.ensures.items
+    let lay = subst (λ is. IsMade (laid_of c.in_ok-laid.laid) c.lay_out.new.pool (laid 0 (instrs_of p is) c.utf8-2.new.self))
+    c.as_slice-instrs.ensures.items
     c.in_ok-laid.ensures.made in
     (many_alone (compiled_of p c.args.making.now) c.args.pool.now _ _ _ _ c.in_ok-name.ensures.made lay).1
     ∙ length-map c.args.making.now.instrs.items (instr_of p)
@@ -30,23 +32,27 @@ code_in_file-requires-clause-starts c =
 pub returns-clause-made : goal.returns-clause-made
 returns-clause-made c =
     let p = tree_of c.args.core.now in
-    let lay = subst (λ is. IsMade (laid_of c.in_ok-laid.laid) c.lay_out.new.pool (laid 0 (instrs_of p is) c.utf8-2.new.self)) c.as_slice-instrs.ensures.items
+    let lay = subst (λ is. IsMade (laid_of c.in_ok-laid.laid) c.lay_out.new.pool (laid 0 (instrs_of p is) c.utf8-2.new.self))
+    c.as_slice-instrs.ensures.items
     c.in_ok-laid.ensures.made in
     rw (c.in_ok-code.ensures p) (code_made (compiled_of p c.args.making.now) c.args.pool.now _ _ _ _ c.in_ok-name.ensures.made lay)
 
 pub returns-clause-fine : goal.returns-clause-fine
 returns-clause-fine c =
     let p = tree_of c.args.core.now in
-    let lay = subst (λ is. IsMade (laid_of c.in_ok-laid.laid) c.lay_out.new.pool (laid 0 (instrs_of p is) c.utf8-2.new.self)) c.as_slice-instrs.ensures.items
+    let lay = subst (λ is. IsMade (laid_of c.in_ok-laid.laid) c.lay_out.new.pool (laid 0 (instrs_of p is) c.utf8-2.new.self))
+    c.as_slice-instrs.ensures.items
     c.in_ok-laid.ensures.made in
-    sym (judged_alone (compiled_of p c.args.making.now) c.args.pool.now _ _ _ _ c.in_ok-name.ensures.made lay c.len-old.result c.len-old.ensures)
+    sym (judged_alone (compiled_of p c.args.making.now) c.args.pool.now _ _ _ _ c.in_ok-name.ensures.made lay c.len-old.result
+    c.len-old.ensures)
     ∙ c.in_ok-judge.ensures.fine
 
 pub returns-in_err-judge-clause-fault : goal.returns-in_err-judge-clause-fault
 returns-in_err-judge-clause-fault c =
     let p = tree_of c.args.core.now in
     let m = compiled_of p c.args.making.now in
-    let lay = subst (λ is. IsMade (laid_of c.in_ok-laid.laid) c.lay_out.new.pool (laid 0 (instrs_of p is) c.utf8-2.new.self)) c.as_slice-instrs.ensures.items
+    let lay = subst (λ is. IsMade (laid_of c.in_ok-laid.laid) c.lay_out.new.pool (laid 0 (instrs_of p is) c.utf8-2.new.self))
+    c.as_slice-instrs.ensures.items
     c.in_ok-laid.ensures.made in
     let e = err_from_is_err_and c.from_residual-in_err-judge.result c.from_residual-in_err-judge.ensures.1 in
     rw (e.1, e.2) (subst (λ x. Tells (excess_at m.place m.told_as x) c.in_err-judge.field-0.0)

@@ -17,8 +17,10 @@ pub code_in_file-requires-clause-numbers : goal.code_in_file-requires-clause-num
 code_in_file-requires-clause-numbers c =
     let p = tree_of c.args.core.now in
     let m = compiled_of p c.args.making.now in
-    let text = subst (λ t. IsMade c.in_ok-descriptor.descriptor c.utf8-2-2.new.self (utf8 t c.utf8-2.new.self)) c.as_str-text.ensures.value c.in_ok-descriptor.ensures.made in
-    let lay = subst (λ is. IsMade (laid_of c.in_ok-laid.laid) c.lay_out.new.pool (laid 0 (instrs_of p is) c.utf8-3.new.self)) c.as_slice-instrs.ensures.items
+    let text = subst (λ t. IsMade c.in_ok-descriptor.descriptor c.utf8-2-2.new.self (utf8 t c.utf8-2.new.self)) c.as_str-text.ensures.value
+    c.in_ok-descriptor.ensures.made in
+    let lay = subst (λ is. IsMade (laid_of c.in_ok-laid.laid) c.lay_out.new.pool (laid 0 (instrs_of p is) c.utf8-3.new.self))
+    c.as_slice-instrs.ensures.items
     c.in_ok-laid.ensures.made in
     (many m c.args.pool.now _ _ _ _ _ _ _ _ c.in_ok-name.ensures.made text c.in_ok-code_name.ensures.made lay).0
     ∙ length-map c.args.making.now.instrs.items (instr_of p)
@@ -27,8 +29,10 @@ pub code_in_file-requires-clause-starts : goal.code_in_file-requires-clause-star
 code_in_file-requires-clause-starts c =
     let p = tree_of c.args.core.now in
     let m = compiled_of p c.args.making.now in
-    let text = subst (λ t. IsMade c.in_ok-descriptor.descriptor c.utf8-2-2.new.self (utf8 t c.utf8-2.new.self)) c.as_str-text.ensures.value c.in_ok-descriptor.ensures.made in
-    let lay = subst (λ is. IsMade (laid_of c.in_ok-laid.laid) c.lay_out.new.pool (laid 0 (instrs_of p is) c.utf8-3.new.self)) c.as_slice-instrs.ensures.items
+    let text = subst (λ t. IsMade c.in_ok-descriptor.descriptor c.utf8-2-2.new.self (utf8 t c.utf8-2.new.self)) c.as_str-text.ensures.value
+    c.in_ok-descriptor.ensures.made in
+    let lay = subst (λ is. IsMade (laid_of c.in_ok-laid.laid) c.lay_out.new.pool (laid 0 (instrs_of p is) c.utf8-3.new.self))
+    c.as_slice-instrs.ensures.items
     c.in_ok-laid.ensures.made in
     (many m c.args.pool.now _ _ _ _ _ _ _ _ c.in_ok-name.ensures.made text c.in_ok-code_name.ensures.made lay).1
     ∙ length-map c.args.making.now.instrs.items (instr_of p)
@@ -37,11 +41,19 @@ pub returns-clause-made : goal.returns-clause-made
 returns-clause-made c =
     let p = tree_of c.args.core.now in
     let m = compiled_of p c.args.making.now in
-    let text = subst (λ t. IsMade c.in_ok-descriptor.descriptor c.utf8-2-2.new.self (utf8 t c.utf8-2.new.self)) c.as_str-text.ensures.value c.in_ok-descriptor.ensures.made in
-    let lay = subst (λ is. IsMade (laid_of c.in_ok-laid.laid) c.lay_out.new.pool (laid 0 (instrs_of p is) c.utf8-3.new.self)) c.as_slice-instrs.ensures.items
+    let text = subst (λ t. IsMade c.in_ok-descriptor.descriptor c.utf8-2-2.new.self (utf8 t c.utf8-2.new.self)) c.as_str-text.ensures.value
+    c.in_ok-descriptor.ensures.made in
+    let lay = subst (λ is. IsMade (laid_of c.in_ok-laid.laid) c.lay_out.new.pool (laid 0 (instrs_of p is) c.utf8-3.new.self))
+    c.as_slice-instrs.ensures.items
     c.in_ok-laid.ensures.made in
     let is = c.in_ok-member.ensures
-    ∙ ap (λ code. record { access = m.access; name = c.in_ok-name.name; descriptor = c.in_ok-descriptor.descriptor; attributes = file.Coded code ∷ [] })
+    ∙ ap (λ code. record {
+      access = m.access;
+      name = c.in_ok-name.name;
+      descriptor = c.in_ok-descriptor.descriptor;
+      attributes =
+          file.Coded code ∷ [];
+    })
     (c.in_ok-code.ensures p) in
     rw is (member_made m c.args.pool.now _ _ _ _ _ _ _ _ c.in_ok-name.ensures.made text c.in_ok-code_name.ensures.made lay)
 
@@ -49,19 +61,25 @@ pub returns-clause-fine : goal.returns-clause-fine
 returns-clause-fine c = λ k.
     let p = tree_of c.args.core.now in
     let m = compiled_of p c.args.making.now in
-    let text = subst (λ t. IsMade c.in_ok-descriptor.descriptor c.utf8-2-2.new.self (utf8 t c.utf8-2.new.self)) c.as_str-text.ensures.value c.in_ok-descriptor.ensures.made in
-    let lay = subst (λ is. IsMade (laid_of c.in_ok-laid.laid) c.lay_out.new.pool (laid 0 (instrs_of p is) c.utf8-3.new.self)) c.as_slice-instrs.ensures.items
+    let text = subst (λ t. IsMade c.in_ok-descriptor.descriptor c.utf8-2-2.new.self (utf8 t c.utf8-2.new.self)) c.as_str-text.ensures.value
+    c.in_ok-descriptor.ensures.made in
+    let lay = subst (λ is. IsMade (laid_of c.in_ok-laid.laid) c.lay_out.new.pool (laid 0 (instrs_of p is) c.utf8-3.new.self))
+    c.as_slice-instrs.ensures.items
     c.in_ok-laid.ensures.made in
-    sym (judged_as m c.args.pool.now _ _ _ _ _ _ _ _ c.in_ok-name.ensures.made text c.in_ok-code_name.ensures.made lay p k c.len-old.result c.len-old.ensures)
+    sym (judged_as m c.args.pool.now _ _ _ _ _ _ _ _ c.in_ok-name.ensures.made text c.in_ok-code_name.ensures.made lay p k c.len-old.result
+    c.len-old.ensures)
     ∙ c.in_ok-judge.ensures.fine
 
 pub returns-in_err-judge-clause-fault : goal.returns-in_err-judge-clause-fault
 returns-in_err-judge-clause-fault c =
     let p = tree_of c.args.core.now in
     let m = compiled_of p c.args.making.now in
-    let text = subst (λ t. IsMade c.in_ok-descriptor.descriptor c.utf8-2-2.new.self (utf8 t c.utf8-2.new.self)) c.as_str-text.ensures.value c.in_ok-descriptor.ensures.made in
-    let lay = subst (λ is. IsMade (laid_of c.in_ok-laid.laid) c.lay_out.new.pool (laid 0 (instrs_of p is) c.utf8-3.new.self)) c.as_slice-instrs.ensures.items
+    let text = subst (λ t. IsMade c.in_ok-descriptor.descriptor c.utf8-2-2.new.self (utf8 t c.utf8-2.new.self)) c.as_str-text.ensures.value
+    c.in_ok-descriptor.ensures.made in
+    let lay = subst (λ is. IsMade (laid_of c.in_ok-laid.laid) c.lay_out.new.pool (laid 0 (instrs_of p is) c.utf8-3.new.self))
+    c.as_slice-instrs.ensures.items
     c.in_ok-laid.ensures.made in
     let e = err_from_is_err_and c.from_residual-in_err-judge.result c.from_residual-in_err-judge.ensures.1 in
     rw (e.1, e.2) (λ k. subst (λ x. Tells (excess_at m.place m.told_as x) c.in_err-judge.field-0.0)
-    (judged_as m c.args.pool.now _ _ _ _ _ _ _ _ c.in_ok-name.ensures.made text c.in_ok-code_name.ensures.made lay p k c.len-old.result c.len-old.ensures) c.in_err-judge.ensures.fault)
+    (judged_as m c.args.pool.now _ _ _ _ _ _ _ _ c.in_ok-name.ensures.made text c.in_ok-code_name.ensures.made lay p k c.len-old.result
+    c.len-old.ensures) c.in_err-judge.ensures.fault)

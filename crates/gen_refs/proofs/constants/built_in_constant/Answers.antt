@@ -24,4 +24,5 @@ returns-in-ValueOfTruth-clause-made c = rw c.in-ValueOfTruth.is c.method_const-i
 
 pub returns-in-Session-clause-made : goal.returns-in-Session-clause-made
 returns-in-Session-clause-made c =
-    rw (c.in-Session.is, ← c.session_name.ensures, ← c.session_descriptor.ensures (tree_of c.args.core.now)) c.method_const-in-Session.ensures.made
+    rw (c.in-Session.is, ← c.session_name.ensures, ← c.session_descriptor.ensures (tree_of c.args.core.now))
+    c.method_const-in-Session.ensures.made

@@ -7,4 +7,5 @@ loop-param-preserved c = param_put (tree_of c.args.core.now) c.args.params.now c
     c.loop-param-test.true c.in_ok-put_type.ensures c.loop-param.invariant
 
 pub returns : goal.returns
-returns c = params_put (tree_of c.args.core.now) c.args.params.now c.loop-param.param-index _ _ c.loop-param-test.false c.loop-param.invariant
+returns c = params_put (tree_of c.args.core.now) c.args.params.now c.loop-param.param-index _ _ c.loop-param-test.false
+    c.loop-param.invariant

@@ -6,11 +6,13 @@ use Rattle.gen_symbolic.proofs.locals_of.+locals.Given as goal
 
 abbrev pub invariant-locals_of_all-loop-stmt : goal.invariant-locals_of_all-loop-stmt
 invariant-locals_of_all-loop-stmt l =
-    AreTaken l.most l.taken (locals_of_all l.taken (stmts_of (map stmt_of (drop l.stmt-index l.stmts)))) (locals_of_all l.initial.taken (stmts_of (map stmt_of l.stmts)))
+    AreTaken l.most l.taken (locals_of_all l.taken (stmts_of (map stmt_of (drop l.stmt-index l.stmts))))
+    (locals_of_all l.initial.taken (stmts_of (map stmt_of l.stmts)))
 
 abbrev pub invariant-locals_of_groups-loop-group : goal.invariant-locals_of_groups-loop-group
 invariant-locals_of_groups-loop-group l =
-    AreTaken l.most l.taken (locals_of_groups l.taken (groups_of (map group_of (drop l.group-index l.groups)))) (locals_of_groups l.taken (groups_of (map group_of l.groups)))
+    AreTaken l.most l.taken (locals_of_groups l.taken (groups_of (map group_of (drop l.group-index l.groups))))
+    (locals_of_groups l.taken (groups_of (map group_of l.groups)))
 
 abbrev pub decreases-locals_of : goal.decreases-locals_of
 decreases-locals_of l = 4 * goal.size-locals_of l + 0

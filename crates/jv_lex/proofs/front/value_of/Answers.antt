@@ -2,7 +2,8 @@ use Rattle.jv_lex.proofs.Told.{ok_where, digits_utf8, too_great}
 use Rattle.jv_lex.proofs.front.value_of.Goals as goal
 
 pub unwrap-text-requires : goal.unwrap-text-requires
-unwrap-text-requires c = ok_where c.from_utf8.result _ _ c.from_utf8.ensures.cases (λ e q. q.0 (digits_utf8 c.args.digits.now c.requires.passes))
+unwrap-text-requires c = ok_where c.from_utf8.result _ _ c.from_utf8.ensures.cases
+    (λ e q. q.0 (digits_utf8 c.args.digits.now c.requires.passes))
 
 pub returns-in-Err : goal.returns-in-Err
 returns-in-Err c =

@@ -16,8 +16,10 @@ returns-in-Some c =
 pub returns-in_default : goal.returns-in_default
 returns-in_default c =
     let behind : (s : Stop) → c.stop_of.result ≡ Some s → c.args.at ≤ s.at = λ s e. elim c.in_default.branch [
-      | in_default-via-in-Some+else-stop-at w ↦ let same : ◌≡◌ (Some w.in-Some.stop) (Some s) = sym w.in-Some.is ∙ e in let is : w.in-Some.stop ≡ s = cc in rw (← is) w.if-stop-at.false
+      | in_default-via-in-Some+else-stop-at w ↦ let same : ◌≡◌ (Some w.in-Some.stop) (Some s) = sym w.in-Some.is ∙ e in
+          let is : w.in-Some.stop ≡ s = cc in rw (← is) w.if-stop-at.false
       | in_default-via-in_default w ↦ absurd (w.in_default.not-Some s e)
     ] in
-    let first = first_of_text c.args.bytes.now c.args.at c.requires.ill (none_before c.args.bytes.now c.args.at c.stop_of.result c.stop_of.ensures behind) in
+    let first = first_of_text c.args.bytes.now c.args.at c.requires.ill (none_before c.args.bytes.now c.args.at c.stop_of.result
+    c.stop_of.ensures behind) in
     rw (c.fault_at-in_default.ensures, c.place_of-in_default.ensures) (refused causes.BadByte c.args.at c.requires.bound first)

@@ -6,7 +6,12 @@ pub overflow_add-result : goal.overflow_add-result
 overflow_add-result c =
     let long : 0 < length c.pieces.rest.now = omega (arith, false-eqb _ 0 c.pieces-test.ensures) in
     let s = stop_told c.in-Err.field-0 c.pieces.rest.now long (sym c.in-Err.is ∙ c.piece_of.ensures) in
-    omega (arith, stop_within c.args.bytes.now c.pieces.offset c.pieces.rest.now c.in-Err.field-0.cause c.in-Err.field-0.at s c.pieces.invariant, c.requires)
+    omega (
+      arith,
+      stop_within c.args.bytes.now c.pieces.offset c.pieces.rest.now c.in-Err.field-0.cause c.in-Err.field-0.at s
+          c.pieces.invariant,
+      c.requires,
+    )
 
 pub returns-in-Err : goal.returns-in-Err
 returns-in-Err c =

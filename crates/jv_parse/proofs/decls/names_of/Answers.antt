@@ -31,9 +31,11 @@ pub more-preserved : goal.more-preserved
 more-preserved c =
     let shorter = next_name_shorter c.more.rest.now (c.in_ok-name.name, c.in_ok-name.after.now) c.in_ok-name.ensures in
     rw c.in_ok-push-2.ensures.ok
-    (Left-more is_more_names next_name_at c.more.names.items c.more.rest.now c.in_ok-name.name c.in_ok-name.after.now (names_at c.args.tokens.now)
+    (Left-more is_more_names next_name_at c.more.names.items c.more.rest.now c.in_ok-name.name c.in_ok-name.after.now
+    (names_at c.args.tokens.now)
     (sym c.is_more_names.ensures ∙ c.more-test.true) c.in_ok-name.ensures shorter c.more.invariant)
 
 pub returns : goal.returns
 returns c =
-    Left-done is_more_names next_name_at c.more.names.items c.more.rest.now (names_at c.args.tokens.now) (sym c.is_more_names.ensures ∙ c.more-test.false) c.more.invariant
+    Left-done is_more_names next_name_at c.more.names.items c.more.rest.now (names_at c.args.tokens.now)
+    (sym c.is_more_names.ensures ∙ c.more-test.false) c.more.invariant

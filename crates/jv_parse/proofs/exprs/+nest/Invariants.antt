@@ -48,7 +48,8 @@ decreases-closed_of l = 600 * l.room + l.levels + 1
 
 abbrev pub invariant-args_of-more : goal.invariant-args_of-more
 invariant-args_of-more l =
-    Left (is_sign signs.Comma) (next_arg_with (expr_at l.room l.levels)) (map expr_of l.args.items) l.rest (args_with (expr_at l.room l.levels) l.fn.tokens)
+    Left (is_sign signs.Comma) (next_arg_with (expr_at l.room l.levels)) (map expr_of l.args.items) l.rest
+    (args_with (expr_at l.room l.levels) l.fn.tokens)
     × (l.deepest ≡ depth_of_args (exprs_of (map expr_of l.args.items)))
 
 abbrev pub decreases-args_of-more : goal.decreases-args_of-more
@@ -56,14 +57,16 @@ decreases-args_of-more l = length l.rest
 
 abbrev pub invariant-post_of-tails : goal.invariant-post_of-tails
 invariant-post_of-tails l =
-    Growing (is_sign signs.Dot) (tail_at l.room l.levels) (expr_of l.left.value) l.rest (post_at l.room l.levels l.fn.tokens) × (l.deep ≡ depth (expr_of l.left.value))
+    Growing (is_sign signs.Dot) (tail_at l.room l.levels) (expr_of l.left.value) l.rest (post_at l.room l.levels l.fn.tokens)
+    × (l.deep ≡ depth (expr_of l.left.value))
 
 abbrev pub decreases-post_of-tails : goal.decreases-post_of-tails
 decreases-post_of-tails l = length l.rest
 
 abbrev pub invariant-chain_of-parts : goal.invariant-chain_of-parts
 invariant-chain_of-parts l =
-    Growing (is_op l.strength) (joined_at l.room l.strength l.levels) (expr_of l.left.value) l.rest (binary_at l.room l.looseness l.levels l.fn.tokens)
+    Growing (is_op l.strength) (joined_at l.room l.strength l.levels) (expr_of l.left.value) l.rest
+    (binary_at l.room l.looseness l.levels l.fn.tokens)
     × (l.deep ≡ depth (expr_of l.left.value))
 
 abbrev pub decreases-chain_of-parts : goal.decreases-chain_of-parts

@@ -18,7 +18,8 @@ pub returns-in_err-decl : goal.returns-in_err-decl
 returns-in_err-decl c =
     let p = err_from_is_err_and c.from_residual.result c.from_residual.ensures.1 in
     rw (p.1, p.2)
-    (Left-fails is_some_token decl_at c.in_err-decl.field-0.0 (map decl_of c.turns.decls.items) c.turns.rest.now (decls_at c.args.tokens.now)
+    (Left-fails is_some_token decl_at c.in_err-decl.field-0.0 (map decl_of c.turns.decls.items) c.turns.rest.now
+    (decls_at c.args.tokens.now)
     (sym c.is_some_token.ensures ∙ c.turns-test.true) c.in_err-decl.ensures c.turns.invariant)
 
 pub turns-smaller : goal.turns-smaller
@@ -28,11 +29,14 @@ pub turns-preserved : goal.turns-preserved
 turns-preserved c =
     let one = c.in_ok-decl.decl in
     let shorter = decl_shorter c.turns.rest.now (decl_of one, c.in_ok-decl.after.now) c.in_ok-decl.ensures in
-    let e : map decl_of c.push.new.self.items ≡ map decl_of c.turns.decls.items ++ decl_of one ∷ [] = rw c.in_ok-push.ensures.ok (map_push _ c.turns.decls.items one) in
+    let e : map decl_of c.push.new.self.items ≡ map decl_of c.turns.decls.items ++ decl_of one ∷ [] =
+    rw c.in_ok-push.ensures.ok (map_push _ c.turns.decls.items one) in
     rw e
-    (Left-more is_some_token decl_at (map decl_of c.turns.decls.items) c.turns.rest.now (decl_of one) c.in_ok-decl.after.now (decls_at c.args.tokens.now)
+    (Left-more is_some_token decl_at (map decl_of c.turns.decls.items) c.turns.rest.now (decl_of one) c.in_ok-decl.after.now
+    (decls_at c.args.tokens.now)
     (sym c.is_some_token.ensures ∙ c.turns-test.true) c.in_ok-decl.ensures shorter c.turns.invariant)
 
 pub returns : goal.returns
 returns c =
-    Left-done is_some_token decl_at (map decl_of c.turns.decls.items) c.turns.rest.now (decls_at c.args.tokens.now) (sym c.is_some_token.ensures ∙ c.turns-test.false) c.turns.invariant
+    Left-done is_some_token decl_at (map decl_of c.turns.decls.items) c.turns.rest.now (decls_at c.args.tokens.now)
+    (sym c.is_some_token.ensures ∙ c.turns-test.false) c.turns.invariant

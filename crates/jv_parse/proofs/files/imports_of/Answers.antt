@@ -16,16 +16,20 @@ pub returns-in_err-after : goal.returns-in_err-after
 returns-in_err-after c =
     let p = err_from_is_err_and c.from_residual.result c.from_residual.ensures.1 in
     rw (p.1, p.2)
-    (Walking-fails (is_word (codes "import")) import_at c.in_err-after.field-0.0 c.imports.rest.now (imports_at c.args.tokens.now) (sym c.is_word.ensures ∙ c.imports-test.true)
+    (Walking-fails (is_word (codes "import")) import_at c.in_err-after.field-0.0 c.imports.rest.now (imports_at c.args.tokens.now)
+    (sym c.is_word.ensures ∙ c.imports-test.true)
     c.in_err-after.ensures c.imports.invariant)
 
 pub imports-smaller : goal.imports-smaller
-imports-smaller c = Walking-shorter (is_word (codes "import")) import_at c.imports.rest.now c.in_ok-after.after.now (import_shorter c.imports.rest.now) c.in_ok-after.ensures
+imports-smaller c = Walking-shorter (is_word (codes "import")) import_at c.imports.rest.now c.in_ok-after.after.now
+    (import_shorter c.imports.rest.now) c.in_ok-after.ensures
 
 pub imports-preserved : goal.imports-preserved
 imports-preserved c =
-    Walking-more (is_word (codes "import")) import_at c.imports.rest.now c.in_ok-after.after.now (imports_at c.args.tokens.now) (import_shorter c.imports.rest.now)
+    Walking-more (is_word (codes "import")) import_at c.imports.rest.now c.in_ok-after.after.now (imports_at c.args.tokens.now)
+    (import_shorter c.imports.rest.now)
     (sym c.is_word.ensures ∙ c.imports-test.true) c.in_ok-after.ensures c.imports.invariant
 
 pub returns : goal.returns
-returns c = Walking-done (is_word (codes "import")) import_at c.imports.rest.now (imports_at c.args.tokens.now) (sym c.is_word.ensures ∙ c.imports-test.false) c.imports.invariant
+returns c = Walking-done (is_word (codes "import")) import_at c.imports.rest.now (imports_at c.args.tokens.now)
+    (sym c.is_word.ensures ∙ c.imports-test.false) c.imports.invariant

@@ -18,16 +18,20 @@ pub returns-in_err-after : goal.returns-in_err-after
 returns-in_err-after c =
     let p = err_from_is_err_and c.from_residual-in_err-after.result c.from_residual-in_err-after.ensures.1 in
     rw (p.1, p.2)
-    (Walking-fails is_more_steps next_step_at c.in_err-after.field-0.0 c.steps.rest.now (path_at c.args.tokens.now) (sym c.is_more_steps.ensures ∙ c.steps-test.true)
+    (Walking-fails is_more_steps next_step_at c.in_err-after.field-0.0 c.steps.rest.now (path_at c.args.tokens.now)
+    (sym c.is_more_steps.ensures ∙ c.steps-test.true)
     c.in_err-after.ensures c.steps.invariant)
 
 pub steps-smaller : goal.steps-smaller
-steps-smaller c = Walking-shorter is_more_steps next_step_at c.steps.rest.now c.in_ok-after.after.now (next_step_shorter c.steps.rest.now) c.in_ok-after.ensures
+steps-smaller c = Walking-shorter is_more_steps next_step_at c.steps.rest.now c.in_ok-after.after.now (next_step_shorter c.steps.rest.now)
+    c.in_ok-after.ensures
 
 pub steps-preserved : goal.steps-preserved
 steps-preserved c =
-    Walking-more is_more_steps next_step_at c.steps.rest.now c.in_ok-after.after.now (path_at c.args.tokens.now) (next_step_shorter c.steps.rest.now)
+    Walking-more is_more_steps next_step_at c.steps.rest.now c.in_ok-after.after.now (path_at c.args.tokens.now)
+    (next_step_shorter c.steps.rest.now)
     (sym c.is_more_steps.ensures ∙ c.steps-test.true) c.in_ok-after.ensures c.steps.invariant
 
 pub returns : goal.returns
-returns c = Walking-done is_more_steps next_step_at c.steps.rest.now (path_at c.args.tokens.now) (sym c.is_more_steps.ensures ∙ c.steps-test.false) c.steps.invariant
+returns c = Walking-done is_more_steps next_step_at c.steps.rest.now (path_at c.args.tokens.now)
+    (sym c.is_more_steps.ensures ∙ c.steps-test.false) c.steps.invariant

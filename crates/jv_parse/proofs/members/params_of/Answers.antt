@@ -23,7 +23,8 @@ pub returns-in_err-param : goal.returns-in_err-param
 returns-in_err-param c =
     let p = err_from_is_err_and c.from_residual-in_err-param.result c.from_residual-in_err-param.ensures.1 in
     rw (p.1, p.2)
-    (Left-fails (is_sign signs.Comma) next_param_at c.in_err-param.field-0.0 c.more.params.items c.more.rest.now (params_at c.args.tokens.now)
+    (Left-fails (is_sign signs.Comma) next_param_at c.in_err-param.field-0.0 c.more.params.items c.more.rest.now
+    (params_at c.args.tokens.now)
     (sym c.is_sign.ensures ∙ c.more-test.true) c.in_err-param.ensures c.more.invariant)
 
 pub more-smaller : goal.more-smaller
@@ -33,9 +34,11 @@ pub more-preserved : goal.more-preserved
 more-preserved c =
     let shorter = next_param_shorter c.more.rest.now (c.in_ok-param.param, c.in_ok-param.after.now) c.in_ok-param.ensures in
     rw c.in_ok-push-2.ensures.ok
-    (Left-more (is_sign signs.Comma) next_param_at c.more.params.items c.more.rest.now c.in_ok-param.param c.in_ok-param.after.now (params_at c.args.tokens.now)
+    (Left-more (is_sign signs.Comma) next_param_at c.more.params.items c.more.rest.now c.in_ok-param.param c.in_ok-param.after.now
+    (params_at c.args.tokens.now)
     (sym c.is_sign.ensures ∙ c.more-test.true) c.in_ok-param.ensures shorter c.more.invariant)
 
 pub returns : goal.returns
 returns c =
-    Left-done (is_sign signs.Comma) next_param_at c.more.params.items c.more.rest.now (params_at c.args.tokens.now) (sym c.is_sign.ensures ∙ c.more-test.false) c.more.invariant
+    Left-done (is_sign signs.Comma) next_param_at c.more.params.items c.more.rest.now (params_at c.args.tokens.now)
+    (sym c.is_sign.ensures ∙ c.more-test.false) c.more.invariant

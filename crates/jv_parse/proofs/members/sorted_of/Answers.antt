@@ -15,19 +15,25 @@ pub returns-in_err-member : goal.returns-in_err-member
 returns-in_err-member c =
     let p = err_from_is_err_and c.from_residual.result c.from_residual.ensures.1 in
     rw (p.1, p.2)
-    (sorting_fails c.in_err-member.field-0.0 (map field_of c.turns.members.fields.items) (map method_of c.turns.members.methods.items) c.turns.rest.now
-    (all_of not_closed member_at c.args.tokens.now) (sym c.not_closed.ensures ∙ c.turns-test.true) c.in_err-member.ensures c.turns.invariant)
+    (sorting_fails c.in_err-member.field-0.0 (map field_of c.turns.members.fields.items) (map method_of c.turns.members.methods.items)
+    c.turns.rest.now
+    (all_of not_closed member_at c.args.tokens.now) (sym c.not_closed.ensures ∙ c.turns-test.true) c.in_err-member.ensures
+    c.turns.invariant)
 
 pub turns-smaller : goal.turns-smaller
 turns-smaller c = member_at_shorter c.turns.rest.now (member_of c.in_ok-member.member) c.in_ok-member.after.now c.in_ok-member.ensures
 
 pub turns-preserved : goal.turns-preserved
 turns-preserved c =
-    sorting_more (map field_of c.turns.members.fields.items) (map field_of c.in_ok-members.members.fields.items) (map method_of c.turns.members.methods.items)
-    (map method_of c.in_ok-members.members.methods.items) c.turns.rest.now c.in_ok-member.after.now (member_of c.in_ok-member.member) (all_of not_closed member_at c.args.tokens.now)
-    (sym c.not_closed.ensures ∙ c.turns-test.true) c.in_ok-member.ensures c.in_ok-members.ensures.fields c.in_ok-members.ensures.methods c.turns.invariant
+    sorting_more (map field_of c.turns.members.fields.items) (map field_of c.in_ok-members.members.fields.items)
+    (map method_of c.turns.members.methods.items)
+    (map method_of c.in_ok-members.members.methods.items) c.turns.rest.now c.in_ok-member.after.now (member_of c.in_ok-member.member)
+    (all_of not_closed member_at c.args.tokens.now)
+    (sym c.not_closed.ensures ∙ c.turns-test.true) c.in_ok-member.ensures c.in_ok-members.ensures.fields c.in_ok-members.ensures.methods
+    c.turns.invariant
 
 pub returns : goal.returns
 returns c =
-    sorting_done (map field_of c.turns.members.fields.items) (map method_of c.turns.members.methods.items) c.turns.rest.now (all_of not_closed member_at c.args.tokens.now)
+    sorting_done (map field_of c.turns.members.fields.items) (map method_of c.turns.members.methods.items) c.turns.rest.now
+    (all_of not_closed member_at c.args.tokens.now)
     (sym c.not_closed.ensures ∙ c.turns-test.false) c.turns.invariant

@@ -7,7 +7,8 @@ use Rattle.jv_parse.proofs.MemberTurns.{Sorting}
 use Rattle.jv_parse.proofs.members.sorted_of.Given as goal
 
 abbrev pub invariant-turns : goal.invariant-turns
-invariant-turns l = Sorting (map field_of l.members.fields.items) (map method_of l.members.methods.items) l.rest (all_of not_closed member_at l.fn.tokens)
+invariant-turns l = Sorting (map field_of l.members.fields.items) (map method_of l.members.methods.items) l.rest
+    (all_of not_closed member_at l.fn.tokens)
 
 abbrev pub decreases-turns : goal.decreases-turns
 decreases-turns l = length l.rest

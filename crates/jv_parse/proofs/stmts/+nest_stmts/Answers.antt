@@ -15,20 +15,28 @@ items_of-items-init t c = rw c.new-stmts.ensures (items_start c.args.levels c.ar
 pub items_of-returns-in_err-stmt : goal.items_of-returns-in_err-stmt
 items_of-returns-in_err-stmt t c =
     let p = err_from_is_err_and c.from_residual.result c.from_residual.ensures.1 in
-    rw (p.1, p.2) (Left-fails goes_on (item_with c.args.levels (stmt_at c.args.levels)) c.in_err-stmt.field-0.0 (map stmt_of c.items.stmts.items) c.items.rest.now (items_with c.args.levels (stmt_at c.args.levels) c.args.tokens.now) (sym c.goes_on.ensures ∙ c.items-test.true) c.in_err-stmt.ensures c.items.invariant)
+    rw (p.1, p.2) (Left-fails goes_on (item_with c.args.levels (stmt_at c.args.levels)) c.in_err-stmt.field-0.0
+    (map stmt_of c.items.stmts.items) c.items.rest.now (items_with c.args.levels (stmt_at c.args.levels) c.args.tokens.now)
+    (sym c.goes_on.ensures ∙ c.items-test.true) c.in_err-stmt.ensures c.items.invariant)
 
 pub items_of-items-smaller : goal.items_of-items-smaller
-items_of-items-smaller t c = item_at_shorter c.args.levels c.items.rest.now (stmt_of c.in_ok-stmt.stmt) c.in_ok-stmt.after.now c.in_ok-stmt.ensures
+items_of-items-smaller t c = item_at_shorter c.args.levels c.items.rest.now (stmt_of c.in_ok-stmt.stmt) c.in_ok-stmt.after.now
+    c.in_ok-stmt.ensures
 
 pub items_of-items-preserved : goal.items_of-items-preserved
 items_of-items-preserved t c =
     let one = c.in_ok-stmt.stmt in
     let shorter = item_at_shorter c.args.levels c.items.rest.now (stmt_of one) c.in_ok-stmt.after.now c.in_ok-stmt.ensures in
-    let e : map stmt_of c.push.new.self.items ≡ map stmt_of c.items.stmts.items ++ stmt_of one ∷ [] = rw c.in_ok-push.ensures.ok (map_push _ c.items.stmts.items one) in
-    rw e (Left-more goes_on (item_with c.args.levels (stmt_at c.args.levels)) (map stmt_of c.items.stmts.items) c.items.rest.now (stmt_of one) c.in_ok-stmt.after.now (items_with c.args.levels (stmt_at c.args.levels) c.args.tokens.now) (sym c.goes_on.ensures ∙ c.items-test.true) c.in_ok-stmt.ensures shorter c.items.invariant)
+    let e : map stmt_of c.push.new.self.items ≡ map stmt_of c.items.stmts.items ++ stmt_of one ∷ [] =
+    rw c.in_ok-push.ensures.ok (map_push _ c.items.stmts.items one) in
+    rw e (Left-more goes_on (item_with c.args.levels (stmt_at c.args.levels)) (map stmt_of c.items.stmts.items) c.items.rest.now
+    (stmt_of one) c.in_ok-stmt.after.now (items_with c.args.levels (stmt_at c.args.levels) c.args.tokens.now)
+    (sym c.goes_on.ensures ∙ c.items-test.true) c.in_ok-stmt.ensures shorter c.items.invariant)
 
 pub items_of-returns : goal.items_of-returns
-items_of-returns t c = Left-done goes_on (item_with c.args.levels (stmt_at c.args.levels)) (map stmt_of c.items.stmts.items) c.items.rest.now (items_with c.args.levels (stmt_at c.args.levels) c.args.tokens.now) (sym c.goes_on.ensures ∙ c.items-test.false) c.items.invariant
+items_of-returns t c = Left-done goes_on (item_with c.args.levels (stmt_at c.args.levels)) (map stmt_of c.items.stmts.items)
+    c.items.rest.now (items_with c.args.levels (stmt_at c.args.levels) c.args.tokens.now) (sym c.goes_on.ensures ∙ c.items-test.false)
+    c.items.invariant
 
 pub groups_of-turns-init : goal.groups_of-turns-init
 groups_of-turns-init t c = rw c.new-groups.ensures (groups_start c.args.levels c.args.tokens.now)
@@ -36,17 +44,25 @@ groups_of-turns-init t c = rw c.new-groups.ensures (groups_start c.args.levels c
 pub groups_of-returns-in_err-group : goal.groups_of-returns-in_err-group
 groups_of-returns-in_err-group t c =
     let p = err_from_is_err_and c.from_residual.result c.from_residual.ensures.1 in
-    rw (p.1, p.2) (Left-fails is_case (group_with c.args.levels (stmt_at c.args.levels)) c.in_err-group.field-0.0 (map group_of c.turns.groups.items) c.turns.rest.now (groups_with c.args.levels (stmt_at c.args.levels) c.args.tokens.now) (sym c.is_case.ensures ∙ c.turns-test.true) c.in_err-group.ensures c.turns.invariant)
+    rw (p.1, p.2) (Left-fails is_case (group_with c.args.levels (stmt_at c.args.levels)) c.in_err-group.field-0.0
+    (map group_of c.turns.groups.items) c.turns.rest.now (groups_with c.args.levels (stmt_at c.args.levels) c.args.tokens.now)
+    (sym c.is_case.ensures ∙ c.turns-test.true) c.in_err-group.ensures c.turns.invariant)
 
 pub groups_of-turns-smaller : goal.groups_of-turns-smaller
-groups_of-turns-smaller t c = group_at_shorter c.args.levels c.turns.rest.now (group_of c.in_ok-group.group) c.in_ok-group.after.now c.in_ok-group.ensures
+groups_of-turns-smaller t c = group_at_shorter c.args.levels c.turns.rest.now (group_of c.in_ok-group.group) c.in_ok-group.after.now
+    c.in_ok-group.ensures
 
 pub groups_of-turns-preserved : goal.groups_of-turns-preserved
 groups_of-turns-preserved t c =
     let one = c.in_ok-group.group in
     let shorter = group_at_shorter c.args.levels c.turns.rest.now (group_of one) c.in_ok-group.after.now c.in_ok-group.ensures in
-    let e : map group_of c.push.new.self.items ≡ map group_of c.turns.groups.items ++ group_of one ∷ [] = rw c.in_ok-push.ensures.ok (map_push _ c.turns.groups.items one) in
-    rw e (Left-more is_case (group_with c.args.levels (stmt_at c.args.levels)) (map group_of c.turns.groups.items) c.turns.rest.now (group_of one) c.in_ok-group.after.now (groups_with c.args.levels (stmt_at c.args.levels) c.args.tokens.now) (sym c.is_case.ensures ∙ c.turns-test.true) c.in_ok-group.ensures shorter c.turns.invariant)
+    let e : map group_of c.push.new.self.items ≡ map group_of c.turns.groups.items ++ group_of one ∷ [] =
+    rw c.in_ok-push.ensures.ok (map_push _ c.turns.groups.items one) in
+    rw e (Left-more is_case (group_with c.args.levels (stmt_at c.args.levels)) (map group_of c.turns.groups.items) c.turns.rest.now
+    (group_of one) c.in_ok-group.after.now (groups_with c.args.levels (stmt_at c.args.levels) c.args.tokens.now)
+    (sym c.is_case.ensures ∙ c.turns-test.true) c.in_ok-group.ensures shorter c.turns.invariant)
 
 pub groups_of-returns : goal.groups_of-returns
-groups_of-returns t c = Left-done is_case (group_with c.args.levels (stmt_at c.args.levels)) (map group_of c.turns.groups.items) c.turns.rest.now (groups_with c.args.levels (stmt_at c.args.levels) c.args.tokens.now) (sym c.is_case.ensures ∙ c.turns-test.false) c.turns.invariant
+groups_of-returns t c = Left-done is_case (group_with c.args.levels (stmt_at c.args.levels)) (map group_of c.turns.groups.items)
+    c.turns.rest.now (groups_with c.args.levels (stmt_at c.args.levels) c.args.tokens.now) (sym c.is_case.ensures ∙ c.turns-test.false)
+    c.turns.invariant

@@ -43,13 +43,15 @@ abbrev pub decreases-switch_of : goal.decreases-switch_of
 decreases-switch_of l = 10 * l.levels + 5
 
 abbrev pub invariant-items_of-items : goal.invariant-items_of-items
-invariant-items_of-items l = Left goes_on (item_with l.levels (stmt_at l.levels)) (map stmt_of l.stmts.items) l.rest (items_with l.levels (stmt_at l.levels) l.fn.tokens)
+invariant-items_of-items l = Left goes_on (item_with l.levels (stmt_at l.levels)) (map stmt_of l.stmts.items) l.rest
+    (items_with l.levels (stmt_at l.levels) l.fn.tokens)
 
 abbrev pub decreases-items_of-items : goal.decreases-items_of-items
 decreases-items_of-items l = length l.rest
 
 abbrev pub invariant-groups_of-turns : goal.invariant-groups_of-turns
-invariant-groups_of-turns l = Left is_case (group_with l.levels (stmt_at l.levels)) (map group_of l.groups.items) l.rest (groups_with l.levels (stmt_at l.levels) l.fn.tokens)
+invariant-groups_of-turns l = Left is_case (group_with l.levels (stmt_at l.levels)) (map group_of l.groups.items) l.rest
+    (groups_with l.levels (stmt_at l.levels) l.fn.tokens)
 
 abbrev pub decreases-groups_of-turns : goal.decreases-groups_of-turns
 decreases-groups_of-turns l = length l.rest

@@ -20,7 +20,8 @@ more-init c =
 pub returns-in_err-label : goal.returns-in_err-label
 returns-in_err-label c =
     let p = err_from_is_err_and c.from_residual-in_err-label.result c.from_residual-in_err-label.ensures.1 in
-    rw (p.1, p.2) (Left-fails is_case case_at c.in_err-label.field-0.0 c.more.labels.items c.more.rest.now (cases_at c.args.tokens.now) (sym c.is_case.ensures ∙ c.more-test.true) c.in_err-label.ensures c.more.invariant)
+    rw (p.1, p.2) (Left-fails is_case case_at c.in_err-label.field-0.0 c.more.labels.items c.more.rest.now (cases_at c.args.tokens.now)
+    (sym c.is_case.ensures ∙ c.more-test.true) c.in_err-label.ensures c.more.invariant)
 
 pub more-smaller : goal.more-smaller
 more-smaller c = case_shorter c.more.rest.now (c.in_ok-label.label, c.in_ok-label.after.now) c.in_ok-label.ensures
@@ -29,7 +30,9 @@ pub more-preserved : goal.more-preserved
 more-preserved c =
     let shorter = case_shorter c.more.rest.now (c.in_ok-label.label, c.in_ok-label.after.now) c.in_ok-label.ensures in
     rw c.in_ok-push-2.ensures.ok
-    (Left-more is_case case_at c.more.labels.items c.more.rest.now c.in_ok-label.label c.in_ok-label.after.now (cases_at c.args.tokens.now) (sym c.is_case.ensures ∙ c.more-test.true) c.in_ok-label.ensures shorter c.more.invariant)
+    (Left-more is_case case_at c.more.labels.items c.more.rest.now c.in_ok-label.label c.in_ok-label.after.now (cases_at c.args.tokens.now)
+    (sym c.is_case.ensures ∙ c.more-test.true) c.in_ok-label.ensures shorter c.more.invariant)
 
 pub returns : goal.returns
-returns c = Left-done is_case case_at c.more.labels.items c.more.rest.now (cases_at c.args.tokens.now) (sym c.is_case.ensures ∙ c.more-test.false) c.more.invariant
+returns c = Left-done is_case case_at c.more.labels.items c.more.rest.now (cases_at c.args.tokens.now)
+    (sym c.is_case.ensures ∙ c.more-test.false) c.more.invariant

@@ -8,7 +8,8 @@ use Rattle.jv_print.proofs.exprs.+exprs.Given as goal
 abbrev pub invariant-put_args-loop-arg : goal.invariant-put_args-loop-arg
 invariant-put_args-loop-arg l =
     shadow (Utf8 l.before)
-    × (string_bytes l.initial.out ++ args_text [] (exprs_of (map expr_of l.args)) ≡ string_bytes l.out ++ args_text l.before (exprs_of (map expr_of (drop l.arg-index l.args))))
+    × (string_bytes l.initial.out ++ args_text [] (exprs_of (map expr_of l.args)) ≡ string_bytes l.out ++ args_text l.before
+    (exprs_of (map expr_of (drop l.arg-index l.args))))
 
 abbrev pub decreases-put_expr : goal.decreases-put_expr
 decreases-put_expr l = 4 * goal.size-put_expr l

@@ -4,5 +4,6 @@ use Rattle.jv_print.proofs.files.put_annotation.Goals as goal
 
 pub returns : goal.returns
 returns c =
-    annotated (string_bytes c.args.out.now) (string_bytes c.put.new.out) (string_bytes c.put_quoted.new.out) (string_bytes c.put-2.new.out) c.args.typestate.now c.in-Some.typestate
+    annotated (string_bytes c.args.out.now) (string_bytes c.put.new.out) (string_bytes c.put_quoted.new.out) (string_bytes c.put-2.new.out)
+    c.args.typestate.now c.in-Some.typestate
     c.as_str.result.now c.in-Some.is c.as_str.ensures c.in_ok-put.ensures c.in_ok-put_quoted.ensures c.in_ok-put-2.ensures

@@ -5,4 +5,5 @@ use Rattle.jv_print.specs.Layout.{field_line}
 use Rattle.jv_print.proofs.files.put_fields.Given as goal
 
 abbrev pub invariant-loop-field : goal.invariant-loop-field
-invariant-loop-field l = string_bytes l.initial.out ++ flat_map field_line (map field_of l.fields) ≡ string_bytes l.out ++ flat_map field_line (map field_of (drop l.field-index l.fields))
+invariant-loop-field l = string_bytes l.initial.out ++ flat_map field_line (map field_of l.fields) ≡ string_bytes l.out
+    ++ flat_map field_line (map field_of (drop l.field-index l.fields))

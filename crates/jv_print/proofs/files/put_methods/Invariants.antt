@@ -5,4 +5,5 @@ use Rattle.jv_print.specs.Layout.{method_lines}
 use Rattle.jv_print.proofs.files.put_methods.Given as goal
 
 abbrev pub invariant-loop-method : goal.invariant-loop-method
-invariant-loop-method l = string_bytes l.initial.out ++ flat_map method_lines (map method_of l.methods) ≡ string_bytes l.out ++ flat_map method_lines (map method_of (drop l.method-index l.methods))
+invariant-loop-method l = string_bytes l.initial.out ++ flat_map method_lines (map method_of l.methods) ≡ string_bytes l.out
+    ++ flat_map method_lines (map method_of (drop l.method-index l.methods))

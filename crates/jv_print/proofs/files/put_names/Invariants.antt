@@ -6,4 +6,5 @@ use Rattle.jv_print.proofs.files.put_names.Given as goal
 
 abbrev pub invariant-loop-name : goal.invariant-loop-name
 invariant-loop-name l =
-    shadow (Utf8 l.before) × (string_bytes l.initial.out ++ names_text [] l.names ≡ string_bytes l.out ++ names_text l.before (drop l.name-index l.names))
+    shadow (Utf8 l.before) × (string_bytes l.initial.out ++ names_text [] l.names ≡ string_bytes l.out ++ names_text l.before
+    (drop l.name-index l.names))

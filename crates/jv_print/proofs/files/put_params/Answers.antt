@@ -7,6 +7,7 @@ unfolding lib.Utf8.encode
 loop-param-preserved c = (
   (44 ∷ 32 ∷ [], (refl, refl)),
   c.loop-param.invariant.1
-      ∙ param_more (string_bytes c.loop-param.out) (string_bytes c.put.new.out) (string_bytes c.put_param.new.out) c.loop-param.before.now c.args.params.now c.loop-param.param-index
+      ∙ param_more (string_bytes c.loop-param.out) (string_bytes c.put.new.out) (string_bytes c.put_param.new.out) c.loop-param.before.now
+      c.args.params.now c.loop-param.param-index
       c.param-item.result c.loop-param-test.true c.param-item.is c.in_ok-put.ensures c.in_ok-put_param.ensures,
 )

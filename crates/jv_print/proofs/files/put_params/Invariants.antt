@@ -6,4 +6,5 @@ use Rattle.jv_print.proofs.files.put_params.Given as goal
 
 abbrev pub invariant-loop-param : goal.invariant-loop-param
 invariant-loop-param l =
-    shadow (Utf8 l.before) × (string_bytes l.initial.out ++ params_text [] l.params ≡ string_bytes l.out ++ params_text l.before (drop l.param-index l.params))
+    shadow (Utf8 l.before) × (string_bytes l.initial.out ++ params_text [] l.params ≡ string_bytes l.out ++ params_text l.before
+    (drop l.param-index l.params))

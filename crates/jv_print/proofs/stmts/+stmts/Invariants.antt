@@ -5,11 +5,13 @@ use Rattle.jv_print.proofs.stmts.+stmts.Given as goal
 
 abbrev pub invariant-put_lines-loop-stmt : goal.invariant-put_lines-loop-stmt
 invariant-put_lines-loop-stmt l =
-    string_bytes l.initial.out ++ lines l.level (stmts_of (map stmt_of l.body)) ≡ string_bytes l.out ++ lines l.level (stmts_of (map stmt_of (drop l.stmt-index l.body)))
+    string_bytes l.initial.out ++ lines l.level (stmts_of (map stmt_of l.body)) ≡ string_bytes l.out ++ lines l.level
+    (stmts_of (map stmt_of (drop l.stmt-index l.body)))
 
 abbrev pub invariant-put_group_lines-loop-group : goal.invariant-put_group_lines-loop-group
 invariant-put_group_lines-loop-group l =
-    string_bytes l.initial.out ++ group_lines l.level (groups_of (map group_of l.groups)) ≡ string_bytes l.out ++ group_lines l.level (groups_of (map group_of (drop l.group-index l.groups)))
+    string_bytes l.initial.out ++ group_lines l.level (groups_of (map group_of l.groups)) ≡ string_bytes l.out ++ group_lines l.level
+    (groups_of (map group_of (drop l.group-index l.groups)))
 
 abbrev pub decreases-put_stmt : goal.decreases-put_stmt
 decreases-put_stmt l = 8 * goal.size-put_stmt l

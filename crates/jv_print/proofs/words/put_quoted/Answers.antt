@@ -14,6 +14,8 @@ loop-c-preserved c =
 
 pub returns : goal.returns
 returns c =
-    let t = YieldsList-end (YieldsList-from_chars c.args.text.now c.utf8.text cc) c.loop-c.yielded _ c.loop-c.yielded_by _ _ c.in-None.is c.next.ensures.steps in
-    all_written (string_bytes c.push_str.new.self) (string_bytes c.loop-c.out) (string_bytes c.push_str-2.new.self) (string_bytes c.args.out.now) c.loop-c.yielded c.args.text.now (34 ∷ [])
+    let t = YieldsList-end (YieldsList-from_chars c.args.text.now c.utf8.text cc) c.loop-c.yielded _ c.loop-c.yielded_by _ _ c.in-None.is
+    c.next.ensures.steps in
+    all_written (string_bytes c.push_str.new.self) (string_bytes c.loop-c.out) (string_bytes c.push_str-2.new.self)
+    (string_bytes c.args.out.now) c.loop-c.yielded c.args.text.now (34 ∷ [])
     c.utf8.text t.0 c.in_ok-push_str.ensures.bytes c.loop-c.invariant c.in_ok-push_str-2.ensures.bytes

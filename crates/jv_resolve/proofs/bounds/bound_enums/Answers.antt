@@ -7,7 +7,8 @@ pub loop-of-init : goal.loop-of-init
 loop-of-init c = λ h. h
 
 pub loop-of-preserved : goal.loop-of-preserved
-loop-of-preserved c = all_more (λ e. length e.constants ≤ 2 ^ 31) enum_of c.args.enums.now c.loop-of.of-index c.loop-of.invariant c.of-item.result c.loop-of-test.true c.of-item.is c.in_ok-bound_enum.ensures
+loop-of-preserved c = all_more (λ e. length e.constants ≤ 2 ^ 31) enum_of c.args.enums.now c.loop-of.of-index c.loop-of.invariant
+    c.of-item.result c.loop-of-test.true c.of-item.is c.in_ok-bound_enum.ensures
 
 pub returns : goal.returns
 returns c = all_done (λ e. length e.constants ≤ 2 ^ 31) enum_of c.args.enums.now c.loop-of.of-index c.loop-of.invariant c.loop-of-test.false

@@ -11,4 +11,5 @@ returns-in-None c = λ k h. none_there (slice_get (map class_of c.args.classes.n
 pub returns-in-Some : goal.returns-in-Some
 returns-in-Some c =
     ok_there (λ (k : Core.Class). length (method_of c.args.method.now).slots + length k.fields ≤ 2 ^ 32 - 1) c.bound_variables.result
-    (slice_get (map class_of c.args.classes.now) c.args.method.now.class) (class_of c.in-Some.class.now) c.in-Some.ensures c.bound_variables.ensures
+    (slice_get (map class_of c.args.classes.now) c.args.method.now.class) (class_of c.in-Some.class.now) c.in-Some.ensures
+    c.bound_variables.ensures

@@ -13,21 +13,38 @@ pub loop-class-preserved : goal.loop-class-preserved
 loop-class-preserved c =
     let m = c.loop-class.first_method in
     let pushed = ap (map entry_seen) c.in_ok-add_entry.ensures ∙ map_push entry_seen c.loop-class.entries.items c.in_ok-entry.entry in
-    let first = c.in_ok-first_method.ensures ∙ ap (λ k. m + k) (c.len.ensures.value ∙ sym (length-map c.class-item.result.now.methods.items method_of)) in
-    entries_more c.args.typestate_names.now (entries_by c.args.typestate_names.now 0 0 (map (λ x. class_of x.now) c.args.classes.now)) (map entry_seen c.loop-class.entries.items) c.loop-class.number c.loop-class.first_method (map (λ x. class_of x.now) (drop c.loop-class.class-index c.args.classes.now)) c.loop-class.invariant
-    (class_of c.class-item.result.now) (map (λ x. class_of x.now) (drop (c.loop-class.class-index + 1) c.args.classes.now)) (ap (map (λ x. class_of x.now)) (drop_at c.args.classes.now c.loop-class.class-index c.class-item.result c.loop-class-test.true c.class-item.is))
+    let first = c.in_ok-first_method.ensures ∙
+    ap (λ k. m + k) (c.len.ensures.value ∙ sym (length-map c.class-item.result.now.methods.items method_of)) in
+    entries_more c.args.typestate_names.now (entries_by c.args.typestate_names.now 0 0 (map (λ x. class_of x.now) c.args.classes.now))
+    (map entry_seen c.loop-class.entries.items) c.loop-class.number c.loop-class.first_method
+    (map (λ x. class_of x.now) (drop c.loop-class.class-index c.args.classes.now)) c.loop-class.invariant
+    (class_of c.class-item.result.now) (map (λ x. class_of x.now) (drop (c.loop-class.class-index + 1) c.args.classes.now))
+    (ap (map (λ x. class_of x.now)) (drop_at c.args.classes.now c.loop-class.class-index c.class-item.result c.loop-class-test.true
+    c.class-item.is))
     (entry_seen c.in_ok-entry.entry) c.in_ok-entry.ensures
-    ∙ ap (λ d. with_entries d (entries_by c.args.typestate_names.now (c.loop-class.number + 1) (m + length (class_of c.class-item.result.now).methods) (map (λ x. class_of x.now) (drop (c.loop-class.class-index + 1) c.args.classes.now)))) (sym pushed)
-    ∙ ap (λ k. with_entries (map entry_seen c.add_entry.new.entries.items) (entries_by c.args.typestate_names.now k (m + length (class_of c.class-item.result.now).methods) (map (λ x. class_of x.now) (drop (c.loop-class.class-index + 1) c.args.classes.now)))) (sym c.in_ok-number.ensures)
-    ∙ ap (λ k. with_entries (map entry_seen c.add_entry.new.entries.items) (entries_by c.args.typestate_names.now c.in_ok-number.number k (map (λ x. class_of x.now) (drop (c.loop-class.class-index + 1) c.args.classes.now)))) (sym first)
+    ∙ ap (λ d. with_entries d (entries_by c.args.typestate_names.now (c.loop-class.number + 1)
+    (m + length (class_of c.class-item.result.now).methods)
+    (map (λ x. class_of x.now) (drop (c.loop-class.class-index + 1) c.args.classes.now)))) (sym pushed)
+    ∙ ap (λ k. with_entries (map entry_seen c.add_entry.new.entries.items)
+    (entries_by c.args.typestate_names.now k (m + length (class_of c.class-item.result.now).methods)
+    (map (λ x. class_of x.now) (drop (c.loop-class.class-index + 1) c.args.classes.now)))) (sym c.in_ok-number.ensures)
+    ∙ ap (λ k. with_entries (map entry_seen c.add_entry.new.entries.items) (entries_by c.args.typestate_names.now c.in_ok-number.number k
+    (map (λ x. class_of x.now) (drop (c.loop-class.class-index + 1) c.args.classes.now)))) (sym first)
 
 pub returns-in_err-entry : goal.returns-in_err-entry
 returns-in_err-entry c =
     let p = err_from_is_err_and c.from_residual.result c.from_residual.ensures.1 in
     rw (p.1, p.2)
-    (entries_fail c.args.typestate_names.now (entries_by c.args.typestate_names.now 0 0 (map (λ x. class_of x.now) c.args.classes.now)) (map entry_seen c.loop-class.entries.items) c.loop-class.number c.loop-class.first_method (map (λ x. class_of x.now) (drop c.loop-class.class-index c.args.classes.now)) c.loop-class.invariant
-    (class_of c.class-item.result.now) (map (λ x. class_of x.now) (drop (c.loop-class.class-index + 1) c.args.classes.now)) (ap (map (λ x. class_of x.now)) (drop_at c.args.classes.now c.loop-class.class-index c.class-item.result c.loop-class-test.true c.class-item.is))
+    (entries_fail c.args.typestate_names.now (entries_by c.args.typestate_names.now 0 0 (map (λ x. class_of x.now) c.args.classes.now))
+    (map entry_seen c.loop-class.entries.items) c.loop-class.number c.loop-class.first_method
+    (map (λ x. class_of x.now) (drop c.loop-class.class-index c.args.classes.now)) c.loop-class.invariant
+    (class_of c.class-item.result.now) (map (λ x. class_of x.now) (drop (c.loop-class.class-index + 1) c.args.classes.now))
+    (ap (map (λ x. class_of x.now)) (drop_at c.args.classes.now c.loop-class.class-index c.class-item.result c.loop-class-test.true
+    c.class-item.is))
     c.in_err-entry.field-0.0 c.in_err-entry.ensures)
 
 pub returns : goal.returns
-returns c = entries_done c.args.typestate_names.now (entries_by c.args.typestate_names.now 0 0 (map (λ x. class_of x.now) c.args.classes.now)) (map entry_seen c.loop-class.entries.items) c.loop-class.number c.loop-class.first_method (map (λ x. class_of x.now) (drop c.loop-class.class-index c.args.classes.now)) c.loop-class.invariant (ap (map (λ x. class_of x.now)) (drop_end c.args.classes.now c.loop-class.class-index c.loop-class-test.false))
+returns c = entries_done c.args.typestate_names.now
+    (entries_by c.args.typestate_names.now 0 0 (map (λ x. class_of x.now) c.args.classes.now)) (map entry_seen c.loop-class.entries.items)
+    c.loop-class.number c.loop-class.first_method (map (λ x. class_of x.now) (drop c.loop-class.class-index c.args.classes.now))
+    c.loop-class.invariant (ap (map (λ x. class_of x.now)) (drop_end c.args.classes.now c.loop-class.class-index c.loop-class-test.false))

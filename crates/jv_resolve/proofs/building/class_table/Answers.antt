@@ -9,6 +9,7 @@ use Rattle.jv_resolve.proofs.building.class_table.Goals as goal
 pub returns : goal.returns
 returns c =
     gives_as (λ v. map entry_seen v.items) c.class_entries.result _ _
-    (entries_as c.args.typestates.now c.in_ok-typestate_names.typestate_names (map (λ x. class_of x.now) c.as_slice.result.now) (classes_of (map file_of c.args.files.now)) c.in_ok-typestate_names.ensures
+    (entries_as c.args.typestates.now c.in_ok-typestate_names.typestate_names (map (λ x. class_of x.now) c.as_slice.result.now)
+    (classes_of (map file_of c.args.files.now)) c.in_ok-typestate_names.ensures
     (ap (map (λ x. class_of x.now)) c.as_slice.ensures.value ∙ c.in_ok-classes.ensures))
     c.class_entries.ensures

@@ -14,5 +14,6 @@ returns-in_err-classes c =
 pub returns : goal.returns
 returns c =
     tables_made (program_of c.args.files.now c.args.typestates.now)
-    (map entry_seen c.in_ok-classes.classes.items) (map (λ e. enum_of e.of.now) c.in_ok-enums.enums.items) (map (λ e. e.typestate.now) c.in_ok-typestates.typestates.items)
+    (map entry_seen c.in_ok-classes.classes.items) (map (λ e. enum_of e.of.now) c.in_ok-enums.enums.items)
+    (map (λ e. e.typestate.now) c.in_ok-typestates.typestates.items)
     c.in_ok-classes.ensures c.in_ok-enums.ensures c.in_ok-typestates.ensures

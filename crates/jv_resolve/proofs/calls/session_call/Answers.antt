@@ -11,6 +11,7 @@ use Rattle.jv_resolve.proofs.calls.session_call.Goals as goal
 
 pub returns : goal.returns
 returns c =
-    ap (λ o. o >>= λ (k : SessionCall). Some (typed (Core.Session c.args.place k (exprs_of (map expr_of c.args.args.items))) (session_result k))) (sym c.in-Some.ensures)
+    ap (λ o. o >>= λ (k : SessionCall). Some (typed (Core.Session c.args.place k (exprs_of (map expr_of c.args.args.items)))
+    (session_result k))) (sym c.in-Some.ensures)
     ∙ ap Some (sym (c.typed.ensures ∙ ap (λ e. typed e c.session_result.result) (kind-Session c.in-Some.call c.args.args c.args.place)
     ∙ ap (typed (Core.Session c.args.place c.in-Some.call (exprs_of (map expr_of c.args.args.items)))) c.session_result.ensures))

@@ -14,7 +14,8 @@ pub returns : goal.returns
 returns c =
     let k = numbered_seen c.in-Some.numbered in
     let i = c.in-Some-find.position in
-    ap (λ o. o >>= λ (e : Numbered). constant_position e.enum c.args.name.now >>= λ j. Some (typed (Core.Constant c.args.place e.number j) (types.Enum e.number))) (sym c.in-Some.ensures)
+    ap (λ o. o >>= λ (e : Numbered). constant_position e.enum c.args.name.now
+    >>= λ j. Some (typed (Core.Constant c.args.place e.number j) (types.Enum e.number))) (sym c.in-Some.ensures)
     ∙ ap (λ o. o >>= λ j. Some (typed (Core.Constant c.args.place k.number j) (types.Enum k.number)))
     (ap (position (bytes_eq c.args.name.now)) (sym c.in-Some.numbered.entry.now.named) ∙ sym c.in-Some-find.ensures)
     ∙ ap Some (sym (c.typed.ensures ∙ ap (λ e. typed e (types.Enum k.number)) (kind-Constant k.number i c.args.place)))

@@ -7,4 +7,5 @@ use Rattle.jv_resolve.proofs.literals.quoted.Goals as goal
 
 pub returns : goal.returns
 returns c =
-    c.typed.ensures ∙ ap (λ e. typed e types.Text) (kind-Text c.in_ok-text.text c.args.place) ∙ ap (λ t. typed (Core.Text c.args.place t) types.Text) c.in_ok-text.ensures
+    c.typed.ensures ∙ ap (λ e. typed e types.Text) (kind-Text c.in_ok-text.text c.args.place) ∙
+    ap (λ t. typed (Core.Text c.args.place t) types.Text) c.in_ok-text.ensures

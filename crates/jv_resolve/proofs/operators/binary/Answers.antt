@@ -9,4 +9,5 @@ pub returns : goal.returns
 returns c =
     c.typed.ensures
     ∙ ap (λ e. typed e c.operator_type-given.result) (kind-Binary c.args.op c.args.left.expr c.args.right.expr c.args.place)
-    ∙ ap (typed (Core.Binary c.args.place c.args.op (expr_of c.args.left.expr.value) (expr_of c.args.right.expr.value))) c.operator_type-given.ensures
+    ∙ ap (typed (Core.Binary c.args.place c.args.op (expr_of c.args.left.expr.value) (expr_of c.args.right.expr.value)))
+    c.operator_type-given.ensures

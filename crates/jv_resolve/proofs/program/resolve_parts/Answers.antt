@@ -17,10 +17,15 @@ pub returns-in_err-resolved : goal.returns-in_err-resolved
 returns-in_err-resolved c =
     let p = err_from_is_err_and c.from_residual-in_err-resolved.result c.from_residual-in_err-resolved.ensures.1 in
     rw (p.1, p.2)
-    (core_methods_fail (tables_seen c.args.tables.now) c.args.typestates.now (heads_seen c.in_ok-heads.heads) c.in_ok-heads.ensures c.in_err-resolved.field-0.0
-    (fails_as c.in_err-resolved.field-0.0 _ _ (ap (λ es. methods (tables_seen c.args.tables.now) c.in_ok-heads.heads.names (map entry_seen es)) (sym c.as_slice.ensures.value)) c.in_err-resolved.ensures))
+    (core_methods_fail (tables_seen c.args.tables.now) c.args.typestates.now (heads_seen c.in_ok-heads.heads) c.in_ok-heads.ensures
+    c.in_err-resolved.field-0.0
+    (fails_as c.in_err-resolved.field-0.0 _ _
+    (ap (λ es. methods (tables_seen c.args.tables.now) c.in_ok-heads.heads.names (map entry_seen es)) (sym c.as_slice.ensures.value))
+    c.in_err-resolved.ensures))
 
 pub returns : goal.returns
 returns c =
-    core_made (tables_seen c.args.tables.now) c.args.typestates.now (heads_seen c.in_ok-heads.heads) c.in_ok-heads.ensures (map method_of c.in_ok-resolved.resolved.methods.items) c.in_ok-resolved.resolved.names c.in_ok-typestates.typestates.items
-    (ap (λ es. methods (tables_seen c.args.tables.now) c.in_ok-heads.heads.names (map entry_seen es)) (sym c.as_slice.ensures.value) ∙ c.in_ok-resolved.ensures) c.in_ok-typestates.ensures
+    core_made (tables_seen c.args.tables.now) c.args.typestates.now (heads_seen c.in_ok-heads.heads) c.in_ok-heads.ensures
+    (map method_of c.in_ok-resolved.resolved.methods.items) c.in_ok-resolved.resolved.names c.in_ok-typestates.typestates.items
+    (ap (λ es. methods (tables_seen c.args.tables.now) c.in_ok-heads.heads.names (map entry_seen es)) (sym c.as_slice.ensures.value) ∙
+    c.in_ok-resolved.ensures) c.in_ok-typestates.ensures

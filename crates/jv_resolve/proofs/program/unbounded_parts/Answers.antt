@@ -13,4 +13,5 @@ returns-in_err-tables c =
 
 pub returns : goal.returns
 returns c =
-    gives_as parts_seen c.resolve_parts.result _ _ (whole_tabled (program_of c.args.files.now c.args.typestates.now) (tables_seen c.in_ok-tables.tables) c.in_ok-tables.ensures) c.resolve_parts.ensures
+    gives_as parts_seen c.resolve_parts.result _ _ (whole_tabled (program_of c.args.files.now c.args.typestates.now)
+    (tables_seen c.in_ok-tables.tables) c.in_ok-tables.ensures) c.resolve_parts.ensures

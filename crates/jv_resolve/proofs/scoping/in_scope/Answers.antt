@@ -12,7 +12,8 @@ use Rattle.jv_resolve.proofs.scoping.in_scope.Goals as goal
 pub returns : goal.returns
 returns c =
     let d = c.args.declaration in
-    ap (λ o. o >>= λ more. Some (itemed (Core.Local d.place d.local.slot (expr_of d.value)) more (counted_seen c.args.body.now))) c.in_ok-declare.ensures.ok
+    ap (λ o. o >>= λ more. Some (itemed (Core.Local d.place d.local.slot (expr_of d.value)) more (counted_seen c.args.body.now)))
+    c.in_ok-declare.ensures.ok
     ∙ ap (λ s. Some (itemed s c.declare.new.self (counted_seen c.args.body.now))) (sym c.local_stmt.ensures)
 
 pub returns-in_err-declare : goal.returns-in_err-declare
@@ -20,4 +21,6 @@ returns-in_err-declare c =
     let p = err_from_is_err_and c.from_residual.result c.from_residual.ensures.1 in
     let d = c.args.declaration in
     rw (p.1, p.2)
-    (fails_then c.in_err-declare.field-0.0 (declared (known c.args.name.now d.local) c.args.body.now.locals) (λ more. Some (itemed (Core.Local d.place d.local.slot (expr_of d.value)) more (counted_seen c.args.body.now))) c.in_err-declare.ensures.err)
+    (fails_then c.in_err-declare.field-0.0 (declared (known c.args.name.now d.local) c.args.body.now.locals)
+    (λ more. Some (itemed (Core.Local d.place d.local.slot (expr_of d.value)) more (counted_seen c.args.body.now)))
+    c.in_err-declare.ensures.err)

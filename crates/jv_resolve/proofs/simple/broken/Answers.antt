@@ -11,5 +11,6 @@ use Rattle.jv_resolve.proofs.simple.broken.Goals as goal
 pub returns : goal.returns
 returns c =
     one_made (left_by (around_seen c.args.around.now) c.args.label.now) c.in_ok-number.number (λ n. Core.Break c.args.place n)
-    (stmt_of c.stmt_at.result) (counted_seen c.args.body.now) (ap (left_by (around_seen c.args.around.now)) (sym c.label_of.ensures) ∙ c.in_ok-number.ensures)
+    (stmt_of c.stmt_at.result) (counted_seen c.args.body.now) (ap (left_by (around_seen c.args.around.now)) (sym c.label_of.ensures) ∙
+    c.in_ok-number.ensures)
     (c.stmt_at.ensures ∙ stmt-Break c.in_ok-number.number c.args.place)

@@ -11,5 +11,6 @@ use Rattle.jv_resolve.proofs.simple.continued.Goals as goal
 pub returns : goal.returns
 returns c =
     one_made (gone_on_by (around_seen c.args.around.now) c.args.label.now) c.in_ok-number.number (λ n. Core.Continue c.args.place n)
-    (stmt_of c.stmt_at.result) (counted_seen c.args.body.now) (ap (gone_on_by (around_seen c.args.around.now)) (sym c.label_of.ensures) ∙ c.in_ok-number.ensures)
+    (stmt_of c.stmt_at.result) (counted_seen c.args.body.now) (ap (gone_on_by (around_seen c.args.around.now)) (sym c.label_of.ensures) ∙
+    c.in_ok-number.ensures)
     (c.stmt_at.ensures ∙ stmt-Continue c.in_ok-number.number c.args.place)

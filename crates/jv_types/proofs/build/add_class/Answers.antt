@@ -10,4 +10,5 @@ returns-clause-classes c =
 
 pub returns-clause-follow : goal.returns-clause-follow
 returns-clause-follow c =
-    follow_more c.args.typestates.now _ _ c.in_ok-entry.entry c.in-Class.class _ c.in_ok-entry.ensures.class c.in_ok-entry.ensures.typestate c.typestate_for-typestate.ensures c.in_ok-push.ensures.items
+    follow_more c.args.typestates.now _ _ c.in_ok-entry.entry c.in-Class.class _ c.in_ok-entry.ensures.class c.in_ok-entry.ensures.typestate
+    c.typestate_for-typestate.ensures c.in_ok-push.ensures.items

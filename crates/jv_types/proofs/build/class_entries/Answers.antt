@@ -3,11 +3,14 @@ use Rattle.jv_types.proofs.Building.{none_here, none_later, kept_more}
 use Rattle.jv_types.proofs.build.class_entries.Goals as goal
 
 pub add_class-requires-clause-member : goal.add_class-requires-clause-member
-add_class-requires-clause-member c = none_here c.args.decls.now c.loop-decl.decl-index c.decl-item.result c.loop-decl-test.true c.decl-item.is c.loop-decl.invariant.members
+add_class-requires-clause-member c = none_here c.args.decls.now c.loop-decl.decl-index c.decl-item.result c.loop-decl-test.true
+    c.decl-item.is c.loop-decl.invariant.members
 
 pub loop-decl-preserved : goal.loop-decl-preserved
 loop-decl-preserved c = record {
-  members = none_later c.args.decls.now c.loop-decl.decl-index c.decl-item.result c.loop-decl-test.true c.decl-item.is c.loop-decl.invariant.members;
-  classes = kept_more c.args.decls.now c.loop-decl.decl-index c.decl-item.result c.loop-decl-test.true c.decl-item.is class_kept _ _ _ c.loop-decl.invariant.classes c.in_ok-add_class.ensures.classes;
+  members = none_later c.args.decls.now c.loop-decl.decl-index c.decl-item.result c.loop-decl-test.true c.decl-item.is
+      c.loop-decl.invariant.members;
+  classes = kept_more c.args.decls.now c.loop-decl.decl-index c.decl-item.result c.loop-decl-test.true c.decl-item.is class_kept _ _ _
+      c.loop-decl.invariant.classes c.in_ok-add_class.ensures.classes;
   follow = c.in_ok-add_class.ensures.follow c.loop-decl.invariant.follow;
 }

@@ -9,10 +9,12 @@ invariant_of-result c =
         typestates_named = c.requires.named;
         all_classes = c.requires.classes;
         classes_named =
-            class_table c.args.files.now c.requires.types c.in_ok-class_names.class_names c.args.classes.items c.as_slice.result.now c.as_slice.ensures.value c.requires.classes c.in_ok-class_names.ensures;
+            class_table c.args.files.now c.requires.types c.in_ok-class_names.class_names c.args.classes.items c.as_slice.result.now
+            c.as_slice.ensures.value c.requires.classes c.in_ok-class_names.ensures;
         follow = c.requires.follow;
         all_enums = c.requires.enums;
         enums_named =
-            enum_table c.args.files.now c.requires.types c.in_ok-enum_names.enum_names c.args.enums.items c.as_slice-2.result.now c.as_slice-2.ensures.value c.requires.enums c.in_ok-enum_names.ensures;
+            enum_table c.args.files.now c.requires.types c.in_ok-enum_names.enum_names c.args.enums.items c.as_slice-2.result.now
+            c.as_slice-2.ensures.value c.requires.enums c.in_ok-enum_names.ensures;
       };
     }

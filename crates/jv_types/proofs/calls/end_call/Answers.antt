@@ -12,7 +12,15 @@ pub returns : goal.returns
 returns c =
     let s = scope_seen c.args.scope.now c.args.locals.now in
     let args = exprs_of (map expr_of c.args.args.now) in
-    let site : Site = record { place = c.args.place; name = c.args.name; receiver = None; is_own = c.calls_protocol.result; field = None; helper = c.calls_helper.result } in
+    let site : Site = record {
+      place = c.args.place;
+      name = c.args.name;
+      receiver = None;
+      is_own = c.calls_protocol.result;
+      field =
+          None;
+      helper = c.calls_helper.result;
+    } in
     let e = Call c.args.place c.args.name.now args in
     c.end_method.ensures e (subst (λ (o : Option Signature). IsSite s e site o args) (sym c.called-signature.ensures)
     (plain_site s site args refl c.calls_protocol.ensures refl c.calls_helper.ensures))

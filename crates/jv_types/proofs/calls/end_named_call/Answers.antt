@@ -12,7 +12,15 @@ pub returns : goal.returns
 returns c =
     let s = scope_seen c.args.scope.now c.args.locals.now in
     let args = exprs_of (map expr_of c.args.args.now) in
-    let site : Site = record { place = c.args.place; name = c.args.name; receiver = None; is_own = false; field = c.field_named.result; helper = false } in
+    let site : Site = record {
+      place = c.args.place;
+      name = c.args.name;
+      receiver = None;
+      is_own = false;
+      field = c.field_named.result;
+      helper = false;
+    } in
     let e = MethodCall c.args.place (expr_of c.args.of.now) c.args.name.now args in
     c.end_method.ensures e (subst (λ (o : Option Signature). IsSite s e site o args) (sym c.called_on_name-signature.ensures)
-    (behind_name s site args (expr_of c.args.of.now) c.args.x.now c.requires.named c.requires.receiver refl refl c.field_named.ensures refl))
+    (behind_name s site args (expr_of c.args.of.now) c.args.x.now c.requires.named c.requires.receiver refl refl c.field_named.ensures
+    refl))

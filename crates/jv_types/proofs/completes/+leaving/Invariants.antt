@@ -19,4 +19,5 @@ invariant-leave_stmts-loop-stmt l =
 
 abbrev pub invariant-leave_groups-loop-group : goal.invariant-leave_groups-loop-group
 invariant-leave_groups-loop-group l =
-    GroupsAreLeft (groups_of (map group_of l.groups)) (groups_of (map group_of (drop l.group-index l.groups))) (met_at l.initial.exits) (met_at l.exits) l.last
+    GroupsAreLeft (groups_of (map group_of l.groups)) (groups_of (map group_of (drop l.group-index l.groups))) (met_at l.initial.exits)
+    (met_at l.exits) l.last

@@ -6,14 +6,18 @@ use Rattle.jv_types.proofs.completes.has_default.Goals as goal
 
 pub loop-group-preserved : goal.loop-group-preserved
 loop-group-preserved c =
-    sym (default_at c.args.groups.now c.loop-group.group-index c.group-item.result c.loop-group-test.true c.group-item.is c.as_slice.result.now c.as_slice.ensures.items
-    ∙ ap (λ b. b || has_default (groups_of (map group_of (drop (c.loop-group.group-index + 1) c.args.groups.now)))) (sym c.is_default_in.ensures ∙ c.if-is_default_in.false))
+    sym (default_at c.args.groups.now c.loop-group.group-index c.group-item.result c.loop-group-test.true c.group-item.is
+    c.as_slice.result.now c.as_slice.ensures.items
+    ∙ ap (λ b. b || has_default (groups_of (map group_of (drop (c.loop-group.group-index + 1) c.args.groups.now))))
+    (sym c.is_default_in.ensures ∙ c.if-is_default_in.false))
     ∙ c.loop-group.invariant
 
 pub returns-then-is_default_in : goal.returns-then-is_default_in
 returns-then-is_default_in c =
-    sym (sym c.loop-group.invariant ∙ default_at c.args.groups.now c.loop-group.group-index c.group-item.result c.loop-group-test.true c.group-item.is c.as_slice.result.now c.as_slice.ensures.items
-    ∙ ap (λ b. b || has_default (groups_of (map group_of (drop (c.loop-group.group-index + 1) c.args.groups.now)))) (sym c.is_default_in.ensures ∙ c.if-is_default_in.true))
+    sym (sym c.loop-group.invariant ∙ default_at c.args.groups.now c.loop-group.group-index c.group-item.result c.loop-group-test.true
+    c.group-item.is c.as_slice.result.now c.as_slice.ensures.items
+    ∙ ap (λ b. b || has_default (groups_of (map group_of (drop (c.loop-group.group-index + 1) c.args.groups.now))))
+    (sym c.is_default_in.ensures ∙ c.if-is_default_in.true))
 
 pub returns : goal.returns
 returns c = sym (sym c.loop-group.invariant ∙ default_done c.args.groups.now c.loop-group.group-index c.loop-group-test.false)

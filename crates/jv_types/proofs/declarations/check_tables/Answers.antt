@@ -7,8 +7,20 @@ use Rattle.jv_types.proofs.declarations.check_tables.Goals as goal
 pub returns-in-Some-clause-fault : goal.returns-in-Some-clause-fault
 returns-in-Some-clause-fault c =
     told_as (IsLater (program_in c.args.table.now)) (found_of c.in-Some.found) c.fault_of.result c.fault_of.ensures
-    (record { entries = c.classes.result.now; classes = c.classes.ensures.classes; each = c.classes.ensures.entries; is = sym (ap (option_map found_of) c.in-Some.is) ∙ c.in_ok-found.ensures })
+    (record {
+      entries = c.classes.result.now;
+      classes = c.classes.ensures.classes;
+      each = c.classes.ensures.entries;
+      is =
+          sym (ap (option_map found_of) c.in-Some.is) ∙ c.in_ok-found.ensures;
+    })
 
 pub returns-in-None-clause-fine : goal.returns-in-None-clause-fine
 returns-in-None-clause-fine c =
-    record { entries = c.classes.result.now; classes = c.classes.ensures.classes; each = c.classes.ensures.entries; is = sym (ap (option_map found_of) c.in-None.is) ∙ c.in_ok-found.ensures }
+    record {
+      entries = c.classes.result.now;
+      classes = c.classes.ensures.classes;
+      each = c.classes.ensures.entries;
+      is =
+          sym (ap (option_map found_of) c.in-None.is) ∙ c.in_ok-found.ensures;
+    }

@@ -17,10 +17,13 @@ pub returns-in_err-check_tables-clause-fault : goal.returns-in_err-check_tables-
 returns-in_err-check_tables-clause-fault c =
     let r = err_from_is_err_and c.from_residual-in_err-check_tables.result c.from_residual-in_err-check_tables.ensures.1 in
     rw (r.1, r.2)
-    (told_more (IsLater (program_in c.in_ok-table.table)) (IsTableFault (program_of c.args.files.now c.args.typestates.now) c.args.origins.now)
-    (λ f. later_as c.args.files.now c.args.typestates.now c.args.origins.now c.in_ok-table.ensures.fine (program_in c.in_ok-table.table) c.in_ok-table.ensures.program (Some f))
+    (told_more (IsLater (program_in c.in_ok-table.table)) (IsTableFault (program_of c.args.files.now c.args.typestates.now)
+    c.args.origins.now)
+    (λ f. later_as c.args.files.now c.args.typestates.now c.args.origins.now c.in_ok-table.ensures.fine (program_in c.in_ok-table.table)
+    c.in_ok-table.ensures.program (Some f))
     c.in_err-check_tables.field-0.0 c.in_err-check_tables.ensures.fault)
 
 pub returns-clause-fine : goal.returns-clause-fine
 returns-clause-fine c =
-    later_as c.args.files.now c.args.typestates.now c.args.origins.now c.in_ok-table.ensures.fine (program_in c.in_ok-table.table) c.in_ok-table.ensures.program None c.in_ok-check_tables.ensures.fine
+    later_as c.args.files.now c.args.typestates.now c.args.origins.now c.in_ok-table.ensures.fine (program_in c.in_ok-table.table)
+    c.in_ok-table.ensures.program None c.in_ok-check_tables.ensures.fine

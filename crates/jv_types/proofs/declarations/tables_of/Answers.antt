@@ -8,21 +8,26 @@ use Rattle.jv_types.proofs.declarations.tables_of.Goals as goal
 
 pub returns-in-Some-clause-fault : goal.returns-in-Some-clause-fault
 returns-in-Some-clause-fault c =
-    told_as (IsTableFault (program_of c.args.files.now c.args.typestates.now) c.args.origins.now) (found_of c.in-Some.found) c.fault_of.result c.fault_of.ensures
+    told_as (IsTableFault (program_of c.args.files.now c.args.typestates.now) c.args.origins.now) (found_of c.in-Some.found)
+    c.fault_of.result c.fault_of.ensures
     (early_told c.args.files.now c.args.typestates.now c.args.origins.now c.as_slice.result.now
-    (ap (map (λ (d : Bor Decl). d.now)) c.as_slice.ensures.value ∙ c.in_ok-decls.ensures) (found_of c.in-Some.found) (sym (ap (option_map found_of) c.in-Some.is) ∙ c.in_ok-found.ensures))
+    (ap (map (λ (d : Bor Decl). d.now)) c.as_slice.ensures.value ∙ c.in_ok-decls.ensures) (found_of c.in-Some.found)
+    (sym (ap (option_map found_of) c.in-Some.is) ∙ c.in_ok-found.ensures))
 
 pub build-requires-clause-types : goal.build-requires-clause-types
 build-requires-clause-types c =
-    types_none c.args.files.now c.args.typestates.now c.args.origins.now c.as_slice.result.now (ap (map (λ (d : Bor Decl). d.now)) c.as_slice.ensures.value ∙ c.in_ok-decls.ensures)
+    types_none c.args.files.now c.args.typestates.now c.args.origins.now c.as_slice.result.now
+    (ap (map (λ (d : Bor Decl). d.now)) c.as_slice.ensures.value ∙ c.in_ok-decls.ensures)
     (sym (ap (option_map found_of) c.in_default.is) ∙ c.in_ok-found.ensures)
 
 pub build-requires-clause-typestates : goal.build-requires-clause-typestates
 build-requires-clause-typestates c =
-    typestates_apart c.args.files.now c.args.typestates.now c.args.origins.now c.as_slice.result.now (ap (map (λ (d : Bor Decl). d.now)) c.as_slice.ensures.value ∙ c.in_ok-decls.ensures)
+    typestates_apart c.args.files.now c.args.typestates.now c.args.origins.now c.as_slice.result.now
+    (ap (map (λ (d : Bor Decl). d.now)) c.as_slice.ensures.value ∙ c.in_ok-decls.ensures)
     (sym (ap (option_map found_of) c.in_default.is) ∙ c.in_ok-found.ensures) c.requires
 
 pub returns-clause-fine : goal.returns-clause-fine
 returns-clause-fine c =
-    early_kept c.args.files.now c.args.typestates.now c.args.origins.now c.as_slice.result.now (ap (map (λ (d : Bor Decl). d.now)) c.as_slice.ensures.value ∙ c.in_ok-decls.ensures)
+    early_kept c.args.files.now c.args.typestates.now c.args.origins.now c.as_slice.result.now
+    (ap (map (λ (d : Bor Decl). d.now)) c.as_slice.ensures.value ∙ c.in_ok-decls.ensures)
     (sym (ap (option_map found_of) c.in_default.is) ∙ c.in_ok-found.ensures)

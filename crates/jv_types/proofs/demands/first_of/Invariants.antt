@@ -6,4 +6,5 @@ use Rattle.jv_types.proofs.demands.first_of.Given as goal
 
 abbrev pub invariant-loop-item : goal.invariant-loop-item
 invariant-loop-item l =
-    first_by (broken_by_name l.met) (map method_of (drop l.item-index l.methods)) ≡ first_by (broken_by_name l.met) (map method_of l.methods)
+    first_by (broken_by_name l.met) (map method_of (drop l.item-index l.methods)) ≡ first_by (broken_by_name l.met)
+    (map method_of l.methods)

@@ -7,4 +7,5 @@ use Rattle.jv_types.proofs.demands.missing_in.Given as goal
 
 abbrev pub invariant-loop-item : goal.invariant-loop-item
 invariant-loop-item l =
-    first_by (missing_method (class_in l.entry)) (offers_seen (drop l.item-index l.methods)) ≡ first_by (missing_method (class_in l.entry)) (offers_seen l.methods)
+    first_by (missing_method (class_in l.entry)) (offers_seen (drop l.item-index l.methods)) ≡ first_by (missing_method (class_in l.entry))
+    (offers_seen l.methods)

@@ -7,4 +7,5 @@ use Rattle.jv_types.proofs.demands.missing_method.Given as goal
 
 abbrev pub invariant-loop-item : goal.invariant-loop-item
 invariant-loop-item l =
-    first_by (λ e. missing_in_class (typestate_in e) (class_in e)) (drop l.item-index l.entries) ≡ first_by (λ e. missing_in_class (typestate_in e) (class_in e)) l.entries
+    first_by (λ e. missing_in_class (typestate_in e) (class_in e)) (drop l.item-index l.entries) ≡ first_by
+    (λ e. missing_in_class (typestate_in e) (class_in e)) l.entries

@@ -12,7 +12,9 @@ pub returns-in-Some : goal.returns-in-Some
 returns-in-Some c =
     let k = class_in c.args.entry.now in
     c.missing_in.ensures ∙ ap (λ l. first_by (missing_method k) (offers_seen l)) c.as_slice.ensures.value
-    ∙ missing_of (program_in c.args.table.now) k (typestate_in c.args.entry.now) c.requires.follows c.in-Some.protocol.now.of.now _ c.in-Some.protocol.now.first c.in-Some.ensures
+    ∙ missing_of (program_in c.args.table.now) k (typestate_in c.args.entry.now) c.requires.follows c.in-Some.protocol.now.of.now _
+    c.in-Some.protocol.now.first c.in-Some.ensures
 
 pub returns-in-None : goal.returns-in-None
-returns-in-None c = missing_none (program_in c.args.table.now) (class_in c.args.entry.now) (typestate_in c.args.entry.now) c.requires.follows c.in-None.ensures
+returns-in-None c = missing_none (program_in c.args.table.now) (class_in c.args.entry.now) (typestate_in c.args.entry.now)
+    c.requires.follows c.in-None.ensures

@@ -18,8 +18,10 @@ returns-in-Some c =
     let k = class_in c.args.entry.now in
     subst (λ (x : Option Culprit). IfOk c.broken_by.result (λ o. option_map blamed_of o ≡ x))
     (ap (λ l. first_by (broken_method p demands.OfSignature (offers_seen l)) k.methods) c.as_slice-firsts.ensures.value
-    ∙ signature_of p k (typestate_in c.args.entry.now) c.requires.follows c.in-Some.protocol.now.of.now _ c.in-Some.protocol.now.alike c.in-Some.protocol.now.first c.in-Some.ensures)
+    ∙ signature_of p k (typestate_in c.args.entry.now) c.requires.follows c.in-Some.protocol.now.of.now _ c.in-Some.protocol.now.alike
+    c.in-Some.protocol.now.first c.in-Some.ensures)
     c.broken_by.ensures
 
 pub returns-in-None : goal.returns-in-None
-returns-in-None c = broken_none (program_in c.args.table.now) (class_in c.args.entry.now) (typestate_in c.args.entry.now) c.requires.follows demands.OfSignature c.in-None.ensures
+returns-in-None c = broken_none (program_in c.args.table.now) (class_in c.args.entry.now) (typestate_in c.args.entry.now) c.requires.follows
+    demands.OfSignature c.in-None.ensures

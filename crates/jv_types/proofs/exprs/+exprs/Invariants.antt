@@ -5,7 +5,8 @@ use Rattle.jv_types.specs.inner.Calls.{AreLeft}
 use Rattle.jv_types.proofs.exprs.+exprs.Given as goal
 
 abbrev pub invariant-check_args-loop-arg : goal.invariant-check_args-loop-arg
-invariant-check_args-loop-arg l = AreLeft (scope_seen l.scope l.locals) (exprs_of (map expr_of l.args)) (exprs_of (map expr_of (drop l.arg-index l.args))) l.given
+invariant-check_args-loop-arg l = AreLeft (scope_seen l.scope l.locals) (exprs_of (map expr_of l.args))
+    (exprs_of (map expr_of (drop l.arg-index l.args))) l.given
 
 abbrev pub decreases-check_expr : goal.decreases-check_expr
 decreases-check_expr l = 4 * goal.size-check_expr l

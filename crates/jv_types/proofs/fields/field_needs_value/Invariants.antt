@@ -7,4 +7,5 @@ use Rattle.jv_types.proofs.fields.field_needs_value.Given as goal
 
 abbrev pub invariant-loop-item : goal.invariant-loop-item
 invariant-loop-item l =
-    first_by (fields_need_values (program_in l.table)) (map class_in (drop l.item-index l.entries)) ≡ first_by (fields_need_values (program_in l.table)) (map class_in l.entries)
+    first_by (fields_need_values (program_in l.table)) (map class_in (drop l.item-index l.entries)) ≡ first_by
+    (fields_need_values (program_in l.table)) (map class_in l.entries)

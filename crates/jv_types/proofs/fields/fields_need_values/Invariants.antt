@@ -7,4 +7,5 @@ use Rattle.jv_types.proofs.fields.fields_need_values.Given as goal
 
 abbrev pub invariant-loop-item : goal.invariant-loop-item
 invariant-loop-item l =
-    first_by (field_needs_value (program_in l.table)) (map field_of (drop l.item-index l.fields)) ≡ first_by (field_needs_value (program_in l.table)) (map field_of l.fields)
+    first_by (field_needs_value (program_in l.table)) (map field_of (drop l.item-index l.fields)) ≡ first_by
+    (field_needs_value (program_in l.table)) (map field_of l.fields)

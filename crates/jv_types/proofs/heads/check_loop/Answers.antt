@@ -15,12 +15,14 @@ returns-in_err-check_condition c =
     let s = scope_seen c.args.scope.now c.args.locals.now in
     let e = expr_of c.args.condition.now in
     rw (r.1, r.2)
-    (tells_first c.in_err-check_condition.field-0.0 (value_told s e (Fitting BooleanType)) (label_told s c.args.place c.args.label.now) (loop_told s c.args.place c.args.label.now e)
+    (tells_first c.in_err-check_condition.field-0.0 (value_told s e (Fitting BooleanType)) (label_told s c.args.place c.args.label.now)
+    (loop_told s c.args.place c.args.label.now e)
     refl c.in_err-check_condition.ensures)
 
 pub returns : goal.returns
 returns c =
     let s = scope_seen c.args.scope.now c.args.locals.now in
     let e = expr_of c.args.condition.now in
-    answers_last c.check_label.result (value_told s e (Fitting BooleanType)) (label_told s c.args.place c.args.label.now) (loop_told s c.args.place c.args.label.now e)
+    answers_last c.check_label.result (value_told s e (Fitting BooleanType)) (label_told s c.args.place c.args.label.now)
+    (loop_told s c.args.place c.args.label.now e)
     refl c.in_ok-check_condition.ensures c.check_label.ensures

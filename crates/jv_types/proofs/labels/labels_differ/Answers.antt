@@ -9,9 +9,11 @@ use Rattle.jv_types.proofs.labels.labels_differ.Goals as goal
 
 pub other_answers-requires-clause-entry : goal.other_answers-requires-clause-entry
 other_answers-requires-clause-entry c =
-    entry_in (program_in c.args.table.now) c.args.entries.now c.requires.entries c.loop-item.item-index c.item-item.result c.loop-item-test.true c.item-item.is
+    entry_in (program_in c.args.table.now) c.args.entries.now c.requires.entries c.loop-item.item-index c.item-item.result
+    c.loop-item-test.true c.item-item.is
 
 pub other_answers-requires-clause-alike : goal.other_answers-requires-clause-alike
 other_answers-requires-clause-alike c =
-    none_at (λ e. broken_in_class (program_in c.args.table.now) demands.OfSignature (typestate_in e) (class_in e)) c.args.entries.now c.requires.alike
+    none_at (λ e. broken_in_class (program_in c.args.table.now) demands.OfSignature (typestate_in e) (class_in e)) c.args.entries.now
+    c.requires.alike
     c.loop-item.item-index c.item-item.result c.loop-item-test.true c.item-item.is

@@ -21,17 +21,21 @@ returns-then-is_some c =
     let k = class_in c.args.entry.now in
     subst (λ (x : Option Culprit). IfOk c.broken_by.result (λ o. option_map blamed_of o ≡ x))
     (ap (λ l. first_by (broken_method p demands.OfLabels (offers_seen l)) k.methods) c.as_slice-offers.ensures.value
-    ∙ labels_of p k (typestate_in c.args.entry.now) c.requires.entry.follows c.in-Some.protocol.now.of.now _ c.in-Some.protocol.now.all c.in-Some.ensures)
+    ∙ labels_of p k (typestate_in c.args.entry.now) c.requires.entry.follows c.in-Some.protocol.now.of.now _ c.in-Some.protocol.now.all
+    c.in-Some.ensures)
     c.broken_by.ensures
 
 pub returns-else-is_some : goal.returns-else-is_some
 returns-else-is_some c =
-    none_answer (program_in c.args.table.now) (class_in c.args.entry.now) (typestate_in c.args.entry.now) c.in-Some.protocol.now.of.now c.args.wrong.now c.is_some.result c.requires.entry.follows c.in-Some.ensures
+    none_answer (program_in c.args.table.now) (class_in c.args.entry.now) (typestate_in c.args.entry.now) c.in-Some.protocol.now.of.now
+    c.args.wrong.now c.is_some.result c.requires.entry.follows c.in-Some.ensures
     c.requires.wrong c.requires.alike
     (any_found (λ n. n.0) c.as_str.result.now c.args.wrong.now c.find.result c.is_some.result c.find.ensures c.is_some.ensures
     ∙ ap (λ n. list_any (bytes_eq n) c.args.wrong.now)
-    (name_is c.in-Some.protocol.now.of.now c.typestate.inside.name c.typestate.inside.states.items c.typestate.view_is c.as_str.result.now c.as_str.ensures))
+    (name_is c.in-Some.protocol.now.of.now c.typestate.inside.name c.typestate.inside.states.items c.typestate.view_is c.as_str.result.now
+    c.as_str.ensures))
     c.if-is_some.false
 
 pub returns-in-None : goal.returns-in-None
-returns-in-None c = broken_none (program_in c.args.table.now) (class_in c.args.entry.now) (typestate_in c.args.entry.now) c.requires.entry.follows demands.OfLabels c.in-None.ensures
+returns-in-None c = broken_none (program_in c.args.table.now) (class_in c.args.entry.now) (typestate_in c.args.entry.now)
+    c.requires.entry.follows demands.OfLabels c.in-None.ensures

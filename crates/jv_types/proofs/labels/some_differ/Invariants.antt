@@ -6,4 +6,5 @@ use Rattle.jv_types.proofs.labels.some_differ.Given as goal
 
 abbrev pub invariant-loop-offer : goal.invariant-loop-offer
 invariant-loop-offer l =
-    list_any (labels_differ (program_in l.table)) (offers_seen (drop l.offer-index l.offers)) ≡ list_any (labels_differ (program_in l.table)) (offers_seen l.offers)
+    list_any (labels_differ (program_in l.table)) (offers_seen (drop l.offer-index l.offers)) ≡ list_any
+    (labels_differ (program_in l.table)) (offers_seen l.offers)

@@ -12,16 +12,26 @@ use Rattle.jv_types.proofs.mentions.+mentioned.Goals as goal
 
 pub unknown_in_groups-returns-then-is_some : goal.unknown_in_groups-returns-then-is_some
 unknown_in_groups-returns-then-is_some t c =
-    found_here blamed_of c.unknown_in_stmts-found.result _ _ _ (groups-step (unknown_class (program_in c.args.table.now)) c.args.groups.now c.loop-item.item-index c.item-item.result c.loop-item-test.true c.item-item.is) (c.unknown_in_stmts-found.ensures ∙ ap (λ (l : List Stmt). first_by (unknown_class (program_in c.args.table.now)) (mentions_in_stmts (stmts_of (map stmt_of l)))) c.as_slice.ensures.items) (sym c.if-is_some.true ∙ c.is_some.ensures) ∙ c.loop-item.invariant
+    found_here blamed_of c.unknown_in_stmts-found.result _ _ _ (groups-step (unknown_class (program_in c.args.table.now)) c.args.groups.now
+    c.loop-item.item-index c.item-item.result c.loop-item-test.true c.item-item.is) (c.unknown_in_stmts-found.ensures ∙
+    ap (λ (l : List Stmt). first_by (unknown_class (program_in c.args.table.now)) (mentions_in_stmts (stmts_of (map stmt_of l))))
+    c.as_slice.ensures.items) (sym c.if-is_some.true ∙ c.is_some.ensures) ∙ c.loop-item.invariant
 
 pub unknown_in_groups-loop-item-preserved : goal.unknown_in_groups-loop-item-preserved
 unknown_in_groups-loop-item-preserved t c =
-    sym (missed_here blamed_of c.unknown_in_stmts-found.result _ _ _ (groups-step (unknown_class (program_in c.args.table.now)) c.args.groups.now c.loop-item.item-index c.item-item.result c.loop-item-test.true c.item-item.is) (c.unknown_in_stmts-found.ensures ∙ ap (λ (l : List Stmt). first_by (unknown_class (program_in c.args.table.now)) (mentions_in_stmts (stmts_of (map stmt_of l)))) c.as_slice.ensures.items) (sym c.if-is_some.false ∙ c.is_some.ensures)) ∙ c.loop-item.invariant
+    sym (missed_here blamed_of c.unknown_in_stmts-found.result _ _ _ (groups-step (unknown_class (program_in c.args.table.now))
+    c.args.groups.now c.loop-item.item-index c.item-item.result c.loop-item-test.true c.item-item.is) (c.unknown_in_stmts-found.ensures
+    ∙ ap (λ (l : List Stmt). first_by (unknown_class (program_in c.args.table.now)) (mentions_in_stmts (stmts_of (map stmt_of l))))
+    c.as_slice.ensures.items) (sym c.if-is_some.false ∙ c.is_some.ensures)) ∙ c.loop-item.invariant
 
 pub unknown_in_stmts-returns-then-is_some : goal.unknown_in_stmts-returns-then-is_some
 unknown_in_stmts-returns-then-is_some t c =
-    found_here blamed_of c.unknown_in_stmt-found.result _ _ _ (stmts-step (unknown_class (program_in c.args.table.now)) c.args.body.now c.loop-item.item-index c.item-item.result c.loop-item-test.true c.item-item.is) c.unknown_in_stmt-found.ensures (sym c.if-is_some.true ∙ c.is_some.ensures) ∙ c.loop-item.invariant
+    found_here blamed_of c.unknown_in_stmt-found.result _ _ _ (stmts-step (unknown_class (program_in c.args.table.now)) c.args.body.now
+    c.loop-item.item-index c.item-item.result c.loop-item-test.true c.item-item.is) c.unknown_in_stmt-found.ensures
+    (sym c.if-is_some.true ∙ c.is_some.ensures) ∙ c.loop-item.invariant
 
 pub unknown_in_stmts-loop-item-preserved : goal.unknown_in_stmts-loop-item-preserved
 unknown_in_stmts-loop-item-preserved t c =
-    sym (missed_here blamed_of c.unknown_in_stmt-found.result _ _ _ (stmts-step (unknown_class (program_in c.args.table.now)) c.args.body.now c.loop-item.item-index c.item-item.result c.loop-item-test.true c.item-item.is) c.unknown_in_stmt-found.ensures (sym c.if-is_some.false ∙ c.is_some.ensures)) ∙ c.loop-item.invariant
+    sym (missed_here blamed_of c.unknown_in_stmt-found.result _ _ _ (stmts-step (unknown_class (program_in c.args.table.now))
+    c.args.body.now c.loop-item.item-index c.item-item.result c.loop-item-test.true c.item-item.is) c.unknown_in_stmt-found.ensures
+    (sym c.if-is_some.false ∙ c.is_some.ensures)) ∙ c.loop-item.invariant

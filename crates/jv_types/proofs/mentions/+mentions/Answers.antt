@@ -12,17 +12,24 @@ use Rattle.jv_types.proofs.mentions.+mentions.Goals as goal
 
 pub unknown_in_args-returns-then-is_some : goal.unknown_in_args-returns-then-is_some
 unknown_in_args-returns-then-is_some t c =
-    found_here blamed_of c.unknown_in-found.result _ _ _ (args-step (unknown_class (program_in c.args.table.now)) c.args.args.now c.loop-item.item-index c.item-item.result c.loop-item-test.true c.item-item.is) c.unknown_in-found.ensures (sym c.if-is_some.true ∙ c.is_some.ensures) ∙ c.loop-item.invariant
+    found_here blamed_of c.unknown_in-found.result _ _ _ (args-step (unknown_class (program_in c.args.table.now)) c.args.args.now
+    c.loop-item.item-index c.item-item.result c.loop-item-test.true c.item-item.is) c.unknown_in-found.ensures
+    (sym c.if-is_some.true ∙ c.is_some.ensures) ∙ c.loop-item.invariant
 
 pub unknown_in_args-loop-item-preserved : goal.unknown_in_args-loop-item-preserved
 unknown_in_args-loop-item-preserved t c =
-    sym (missed_here blamed_of c.unknown_in-found.result _ _ _ (args-step (unknown_class (program_in c.args.table.now)) c.args.args.now c.loop-item.item-index c.item-item.result c.loop-item-test.true c.item-item.is) c.unknown_in-found.ensures (sym c.if-is_some.false ∙ c.is_some.ensures)) ∙ c.loop-item.invariant
+    sym (missed_here blamed_of c.unknown_in-found.result _ _ _ (args-step (unknown_class (program_in c.args.table.now)) c.args.args.now
+    c.loop-item.item-index c.item-item.result c.loop-item-test.true c.item-item.is) c.unknown_in-found.ensures
+    (sym c.if-is_some.false ∙ c.is_some.ensures)) ∙ c.loop-item.invariant
 
 pub unknown_in-returns-else-is_some-2 : goal.unknown_in-returns-else-is_some-2
 unknown_in-returns-else-is_some-2 t c =
     c.unknown_in_args-in-MethodCall.ensures
-    ∙ ap (λ (l : List Expr). first_by (unknown_class (program_in c.args.table.now)) (mentions_in_args (exprs_of (map expr_of l)))) c.as_slice-in-MethodCall.ensures.items
+    ∙ ap (λ (l : List Expr). first_by (unknown_class (program_in c.args.table.now)) (mentions_in_args (exprs_of (map expr_of l))))
+    c.as_slice-in-MethodCall.ensures.items
     ∙ sym (missed_here blamed_of c.unknown_in-found-in-MethodCall.result _ _ _
-    (call-parts (unknown_class (program_in c.args.table.now)) c.args.expr.now c.in-MethodCall.of c.in-MethodCall.field-1 c.in-MethodCall.args c.in-MethodCall.is)
-    (c.unknown_in-found-in-MethodCall.ensures ∙ ap (λ (x : Expr). first_by (unknown_class (program_in c.args.table.now)) (mentions_in (expr_of x))) c.deref-in-MethodCall.ensures)
+    (call-parts (unknown_class (program_in c.args.table.now)) c.args.expr.now c.in-MethodCall.of c.in-MethodCall.field-1
+    c.in-MethodCall.args c.in-MethodCall.is)
+    (c.unknown_in-found-in-MethodCall.ensures ∙ ap (λ (x : Expr). first_by (unknown_class (program_in c.args.table.now))
+    (mentions_in (expr_of x))) c.deref-in-MethodCall.ensures)
     (sym c.if-is_some-2.false ∙ c.is_some-in-MethodCall.ensures))

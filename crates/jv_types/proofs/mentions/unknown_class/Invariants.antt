@@ -7,4 +7,5 @@ use Rattle.jv_types.proofs.mentions.unknown_class.Given as goal
 
 abbrev pub invariant-loop-item : goal.invariant-loop-item
 invariant-loop-item l =
-    first_by (unknown_in_class (program_in l.table)) (map class_in (drop l.item-index l.entries)) ≡ first_by (unknown_in_class (program_in l.table)) (map class_in l.entries)
+    first_by (unknown_in_class (program_in l.table)) (map class_in (drop l.item-index l.entries)) ≡ first_by
+    (unknown_in_class (program_in l.table)) (map class_in l.entries)

@@ -7,4 +7,5 @@ use Rattle.jv_types.proofs.mentions.unknown_in_params.Given as goal
 
 abbrev pub invariant-loop-item : goal.invariant-loop-item
 invariant-loop-item l =
-    first_by (unknown_class (program_in l.table)) (map param_mention (drop l.item-index l.params)) ≡ first_by (unknown_class (program_in l.table)) (map param_mention l.params)
+    first_by (unknown_class (program_in l.table)) (map param_mention (drop l.item-index l.params)) ≡ first_by
+    (unknown_class (program_in l.table)) (map param_mention l.params)

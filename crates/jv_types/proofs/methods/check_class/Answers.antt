@@ -10,11 +10,13 @@ returns-in_err-check_method c =
     let p = program_in c.args.table.now in
     let k = class_in c.args.class.now in
     rw (r.1, r.2)
-    (method_wrong p k c.as_slice-method-items.result.now c.loop-method.method-index k.methods c.loop-method.invariant c.method-item.result c.loop-method-test.true c.method-item.is
+    (method_wrong p k c.as_slice-method-items.result.now c.loop-method.method-index k.methods c.loop-method.invariant c.method-item.result
+    c.loop-method-test.true c.method-item.is
     c.in_err-check_method.field-0.0 c.in_err-check_method.ensures)
 
 pub loop-method-preserved : goal.loop-method-preserved
 loop-method-preserved c =
     let p = program_in c.args.table.now in
     let k = class_in c.args.class.now in
-    method_more p k c.as_slice-method-items.result.now c.loop-method.method-index k.methods c.loop-method.invariant c.method-item.result c.loop-method-test.true c.method-item.is c.in_ok-check_method.ensures
+    method_more p k c.as_slice-method-items.result.now c.loop-method.method-index k.methods c.loop-method.invariant c.method-item.result
+    c.loop-method-test.true c.method-item.is c.in_ok-check_method.ensures

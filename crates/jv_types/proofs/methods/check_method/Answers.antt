@@ -15,7 +15,8 @@ returns-in_err-check_params c =
     let m = method_of c.args.method.now in
     rw (r.1, r.2)
     (params_wrong p k m c.as_slice.result.now (stmts_of (map stmt_of c.args.method.now.body.items)) c.as_slice.ensures.items refl
-    c.in_err-check_params.field-0.0 _ (ap (λ l. record (entered p k m) { locals = l }) c.new-locals.ensures) c.in_err-check_params.ensures.told)
+    c.in_err-check_params.field-0.0 _ (ap (λ l. record (entered p k m) { locals = l }) c.new-locals.ensures)
+    c.in_err-check_params.ensures.told)
 
 pub returns-in_err-check_stmts : goal.returns-in_err-check_stmts
 returns-in_err-check_stmts c =
@@ -24,8 +25,10 @@ returns-in_err-check_stmts c =
     let k = class_in c.args.class.now in
     let m = method_of c.args.method.now in
     rw (r.1, r.2)
-    (body_wrong p k m c.as_slice.result.now (stmts_of (map stmt_of c.as_slice-2.result.now)) c.as_slice.ensures.items (ap (λ xs. stmts_of (map stmt_of xs)) c.as_slice-2.ensures.items)
-    _ _ (ap (λ l. record (entered p k m) { locals = l }) c.new-locals.ensures) c.in_ok-check_params.ensures.scope c.in_ok-check_params.ensures.told
+    (body_wrong p k m c.as_slice.result.now (stmts_of (map stmt_of c.as_slice-2.result.now)) c.as_slice.ensures.items
+    (ap (λ xs. stmts_of (map stmt_of xs)) c.as_slice-2.ensures.items)
+    _ _ (ap (λ l. record (entered p k m) { locals = l }) c.new-locals.ensures) c.in_ok-check_params.ensures.scope
+    c.in_ok-check_params.ensures.told
     c.in_err-check_stmts.field-0.0 c.in_err-check_stmts.ensures.told)
 
 pub returns : goal.returns
@@ -33,6 +36,8 @@ returns c =
     let p = program_in c.args.table.now in
     let k = class_in c.args.class.now in
     let m = method_of c.args.method.now in
-    end_tells p k m c.as_slice.result.now (stmts_of (map stmt_of c.as_slice-2.result.now)) c.as_slice.ensures.items (ap (λ xs. stmts_of (map stmt_of xs)) c.as_slice-2.ensures.items)
-    _ _ (ap (λ l. record (entered p k m) { locals = l }) c.new-locals.ensures) c.in_ok-check_params.ensures.scope c.in_ok-check_params.ensures.told
+    end_tells p k m c.as_slice.result.now (stmts_of (map stmt_of c.as_slice-2.result.now)) c.as_slice.ensures.items
+    (ap (λ xs. stmts_of (map stmt_of xs)) c.as_slice-2.ensures.items)
+    _ _ (ap (λ l. record (entered p k m) { locals = l }) c.new-locals.ensures) c.in_ok-check_params.ensures.scope
+    c.in_ok-check_params.ensures.told
     c.in_ok-check_stmts.ensures.told c.check_end.result c.check_end.ensures

@@ -6,7 +6,8 @@ use Rattle.jv_types.proofs.MethodSteps.{no_fault, found_told}
 use Rattle.jv_types.proofs.methods.type_check.Goals as goal
 
 pub returns-in-Ok-clause-fine : goal.returns-in-Ok-clause-fine
-returns-in-Ok-clause-fine c = no_fault (program_in c.args.table.now) (map class_in c.classes.result.now) c.classes.ensures.classes c.in-Ok.ensures
+returns-in-Ok-clause-fine c = no_fault (program_in c.args.table.now) (map class_in c.classes.result.now) c.classes.ensures.classes
+    c.in-Ok.ensures
 
 pub returns-in-Err-clause-fault : goal.returns-in-Err-clause-fault
 returns-in-Err-clause-fault c =

@@ -17,9 +17,11 @@ loop-param-init c = record { left = refl; scope = refl }
 pub returns-then-is_declared-clause-told : goal.returns-then-is_declared-clause-told
 returns-then-is_declared-clause-told c =
     let x = c.param-item.result in
-    param_twice (scope_seen c.args.scope.now c.loop-param.locals) c.args.params.now c.loop-param.param-index x c.loop-param-test.true c.param-item.is
+    param_twice (scope_seen c.args.scope.now c.loop-param.locals) c.args.params.now c.loop-param.param-index x c.loop-param-test.true
+    c.param-item.is
     (params_fault (scope_seen c.args.scope.now c.args.locals.now) c.args.params.now) c.loop-param.invariant.left
-    (ap (λ n. is_some (declared_named c.loop-param.locals n)) (sym c.as_str-name.ensures) ∙ sym c.is_declared.ensures ∙ c.if-is_declared.true)
+    (ap (λ n. is_some (declared_named c.loop-param.locals n)) (sym c.as_str-name.ensures) ∙ sym c.is_declared.ensures ∙
+    c.if-is_declared.true)
     ∙ ap (λ n. Some (conditions.DuplicateLocal, culprit x.place n)) (sym c.as_str-name.ensures)
 
 pub returns-in_err-declare-clause-told : goal.returns-in_err-declare-clause-told
@@ -35,11 +37,13 @@ loop-param-preserved c =
     let x = c.param-item.result in
     let now = scope_seen c.args.scope.now c.loop-param.locals in
     let new = scope_seen c.args.scope.now c.declare.new.self in
-    let e = declared_scope c.args.scope.now c.loop-param.locals c.declare.new.self x.name c.as_str-name.result.now (type_seen c.meant.result) x.ty c.in_ok-declare.ensures c.as_str-name.ensures c.meant.ensures in
+    let e = declared_scope c.args.scope.now c.loop-param.locals c.declare.new.self x.name c.as_str-name.result.now
+    (type_seen c.meant.result) x.ty c.in_ok-declare.ensures c.as_str-name.ensures c.meant.ensures in
     record {
       left = param_more now c.args.params.now c.loop-param.param-index x c.loop-param-test.true c.param-item.is
           (params_fault (scope_seen c.args.scope.now c.args.locals.now) c.args.params.now) new c.loop-param.invariant.left
-          (ap (λ n. is_some (declared_named c.loop-param.locals n)) (sym c.as_str-name.ensures) ∙ sym c.is_declared.ensures ∙ c.if-is_declared.false) e;
+          (ap (λ n. is_some (declared_named c.loop-param.locals n)) (sym c.as_str-name.ensures) ∙ sym c.is_declared.ensures ∙
+          c.if-is_declared.false) e;
       scope = param_scope now c.args.params.now c.loop-param.param-index x c.loop-param-test.true c.param-item.is
           (with_params c.args.params.now (scope_seen c.args.scope.now c.args.locals.now)) new c.loop-param.invariant.scope e;
     }

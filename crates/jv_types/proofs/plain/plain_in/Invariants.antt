@@ -6,4 +6,5 @@ use Rattle.jv_types.proofs.plain.plain_in.Given as goal
 
 abbrev pub invariant-loop-item : goal.invariant-loop-item
 invariant-loop-item l =
-    first_by (plain_member l.typestate) (map member_seen (drop l.item-index l.members)) ≡ first_by (plain_member l.typestate) (map member_seen l.members)
+    first_by (plain_member l.typestate) (map member_seen (drop l.item-index l.members)) ≡ first_by (plain_member l.typestate)
+    (map member_seen l.members)

@@ -7,4 +7,5 @@ use Rattle.jv_types.proofs.plain.unknown_typestate.Given as goal
 
 abbrev pub invariant-loop-item : goal.invariant-loop-item
 invariant-loop-item l =
-    first_by (λ e. unknown_typestate (typestate_in e) (class_in e)) (drop l.item-index l.entries) ≡ first_by (λ e. unknown_typestate (typestate_in e) (class_in e)) l.entries
+    first_by (λ e. unknown_typestate (typestate_in e) (class_in e)) (drop l.item-index l.entries) ≡ first_by
+    (λ e. unknown_typestate (typestate_in e) (class_in e)) l.entries

@@ -5,6 +5,8 @@ use Rattle.jv_types.proofs.protocols.first_offers.Given as goal
 
 abbrev pub invariant-loop-offer : goal.invariant-loop-offer
 invariant-loop-offer l = record {
-  names : noted l.names (map (λ m. m.name) (offers_seen (drop l.offer-index l.offers))) ≡ noted l.initial.names (map (λ m. m.name) (offers_seen l.offers));
-  firsts : offers_seen l.firsts.items ++ firsts_among l.names (offers_seen (drop l.offer-index l.offers)) ≡ firsts_among l.initial.names (offers_seen l.offers);
+  names : noted l.names (map (λ m. m.name) (offers_seen (drop l.offer-index l.offers))) ≡ noted l.initial.names
+      (map (λ m. m.name) (offers_seen l.offers));
+  firsts : offers_seen l.firsts.items ++ firsts_among l.names (offers_seen (drop l.offer-index l.offers)) ≡ firsts_among l.initial.names
+      (offers_seen l.offers);
 }

@@ -5,4 +5,5 @@ use Rattle.jv_types.specs.inner.Repeating.{repeat_in}
 use Rattle.jv_types.proofs.repeats.repeated.Given as goal
 
 abbrev pub invariant-loop-decl : goal.invariant-loop-decl
-invariant-loop-decl l = first_by repeat_in (map (λ d. decl_of d.now) (drop l.decl-index l.decls)) ≡ first_by repeat_in (map (λ d. decl_of d.now) l.decls)
+invariant-loop-decl l = first_by repeat_in (map (λ d. decl_of d.now) (drop l.decl-index l.decls)) ≡ first_by repeat_in
+    (map (λ d. decl_of d.now) l.decls)

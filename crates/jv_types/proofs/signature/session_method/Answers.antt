@@ -24,11 +24,13 @@ parted (m ∷ ms) ns name = go (bytes_eq m.0 name) (parted ms ns name)
 
 pub returns-in-Some : goal.returns-in-Some
 returns-in-Some c program =
-    ap (λ o. option_or o (built_in (drop 4 session_methods) c.args.name.now)) (ap (option_map (signature_seen program)) (sym c.in-Some.is) ∙ c.sending.ensures program)
+    ap (λ o. option_or o (built_in (drop 4 session_methods) c.args.name.now)) (ap (option_map (signature_seen program)) (sym c.in-Some.is) ∙
+    c.sending.ensures program)
     ∙ parted (take 4 session_methods) (drop 4 session_methods) c.args.name.now
 
 pub returns-in-None : goal.returns-in-None
 returns-in-None c program =
     c.taking.ensures program
-    ∙ ap (λ o. option_or o (built_in (drop 4 session_methods) c.args.name.now)) (ap (option_map (signature_seen program)) (sym c.in-None.is) ∙ c.sending.ensures program)
+    ∙ ap (λ o. option_or o (built_in (drop 4 session_methods) c.args.name.now)) (ap (option_map (signature_seen program)) (sym c.in-None.is)
+    ∙ c.sending.ensures program)
     ∙ parted (take 4 session_methods) (drop 4 session_methods) c.args.name.now

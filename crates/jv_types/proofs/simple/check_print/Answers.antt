@@ -9,7 +9,10 @@ use Rattle.jv_types.proofs.simple.check_print.Goals as goal
 pub returns-in_err-check_value : goal.returns-in_err-check_value
 returns-in_err-check_value c =
     let r = err_from_is_err_and c.from_residual.result c.from_residual.ensures.1 in
-    rw (r.1, r.2) (subst (Tells c.in_err-check_value.field-0.0) (sym (print_told (scope_seen c.args.scope.now c.args.locals.now) c.args.place (expr_of c.args.value.now))) c.in_err-check_value.ensures)
+    rw (r.1, r.2) (subst (Tells c.in_err-check_value.field-0.0)
+    (sym (print_told (scope_seen c.args.scope.now c.args.locals.now) c.args.place (expr_of c.args.value.now)))
+    c.in_err-check_value.ensures)
 
 pub returns : goal.returns
-returns c = print_told (scope_seen c.args.scope.now c.args.locals.now) c.args.place (expr_of c.args.value.now) ∙ c.in_ok-check_value.ensures.fine
+returns c = print_told (scope_seen c.args.scope.now c.args.locals.now) c.args.place (expr_of c.args.value.now) ∙
+    c.in_ok-check_value.ensures.fine

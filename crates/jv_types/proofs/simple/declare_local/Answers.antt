@@ -9,7 +9,8 @@ use Rattle.jv_types.proofs.ParamSteps.{declared_extends, on_ok}
 use Rattle.jv_types.proofs.simple.declare_local.Goals as goal
 
 pub declare-requires : goal.declare-requires
-declare-requires c = written_new (scope_seen c.args.scope.now c.args.locals.now) (stmt_of c.args.stmt.now) (written_seen c.in-Some.local) c.in-Some.ensures c.requires
+declare-requires c = written_new (scope_seen c.args.scope.now c.args.locals.now) (stmt_of c.args.stmt.now) (written_seen c.in-Some.local)
+    c.in-Some.ensures c.requires
 
 pub returns-in-Some-clause-locals : goal.returns-in-Some-clause-locals
 returns-in-Some-clause-locals c =

@@ -21,10 +21,12 @@ abbrev pub decreases-check_chosen : goal.decreases-check_chosen
 decreases-check_chosen l = 4 * goal.size-check_chosen l + 3
 
 abbrev pub invariant-check_stmts-loop-stmt : goal.invariant-check_stmts-loop-stmt
-invariant-check_stmts-loop-stmt l = AreJudged (scope_seen l.scope l.initial.locals) (scope_seen l.scope l.locals) (stmts_of (map stmt_of l.stmts)) (stmts_of (map stmt_of (drop l.stmt-index l.stmts)))
+invariant-check_stmts-loop-stmt l = AreJudged (scope_seen l.scope l.initial.locals) (scope_seen l.scope l.locals)
+    (stmts_of (map stmt_of l.stmts)) (stmts_of (map stmt_of (drop l.stmt-index l.stmts)))
 
 abbrev pub invariant-check_groups-loop-group : goal.invariant-check_groups-loop-group
 invariant-check_groups-loop-group l = record {
-  left : groups_fault (scope_seen l.scope l.initial.locals) (groups_of (map group_of l.groups)) ≡ groups_fault (scope_seen l.scope l.initial.locals) (groups_of (map group_of (drop l.group-index l.groups)));
+  left : groups_fault (scope_seen l.scope l.initial.locals) (groups_of (map group_of l.groups)) ≡ groups_fault
+      (scope_seen l.scope l.initial.locals) (groups_of (map group_of (drop l.group-index l.groups)));
   locals : l.locals ≡ l.initial.locals;
 }

@@ -20,12 +20,16 @@ returns-in_err-bad c =
 
 pub returns-in-Some : goal.returns-in-Some
 returns-in-Some c =
-    cases_decided (scope_seen c.args.scope.now c.args.locals.now) c.args.place (expr_of c.args.value.now) (type_seen c.args.ty) c.requires (groups_of (map group_of c.args.groups.now))
+    cases_decided (scope_seen c.args.scope.now c.args.locals.now) c.args.place (expr_of c.args.value.now) (type_seen c.args.ty) c.requires
+    (groups_of (map group_of c.args.groups.now))
     (map (λ (l : Bor (Option Text)). l.now) c.as_slice.result.now) (Some c.in-Some.name.now)
-    (ap (map (λ (l : Bor (Option Text)). l.now)) c.as_slice.ensures.value ∙ c.in_ok-labels.ensures) (ap (option_map (λ n. n.now)) (sym c.in-Some.is) ∙ c.in_ok-bad.ensures)
+    (ap (map (λ (l : Bor (Option Text)). l.now)) c.as_slice.ensures.value ∙ c.in_ok-labels.ensures)
+    (ap (option_map (λ n. n.now)) (sym c.in-Some.is) ∙ c.in_ok-bad.ensures)
 
 pub returns : goal.returns
 returns c =
-    cases_decided (scope_seen c.args.scope.now c.args.locals.now) c.args.place (expr_of c.args.value.now) (type_seen c.args.ty) c.requires (groups_of (map group_of c.args.groups.now))
+    cases_decided (scope_seen c.args.scope.now c.args.locals.now) c.args.place (expr_of c.args.value.now) (type_seen c.args.ty) c.requires
+    (groups_of (map group_of c.args.groups.now))
     (map (λ (l : Bor (Option Text)). l.now) c.as_slice.result.now) None
-    (ap (map (λ (l : Bor (Option Text)). l.now)) c.as_slice.ensures.value ∙ c.in_ok-labels.ensures) (ap (option_map (λ n. n.now)) (sym c.in-None.is) ∙ c.in_ok-bad.ensures)
+    (ap (map (λ (l : Bor (Option Text)). l.now)) c.as_slice.ensures.value ∙ c.in_ok-labels.ensures)
+    (ap (option_map (λ n. n.now)) (sym c.in-None.is) ∙ c.in_ok-bad.ensures)

@@ -15,7 +15,8 @@ returns-in_err-ty c =
     let e = expr_of c.args.value.now in
     let gs = groups_of (map group_of c.args.groups.now) in
     rw (r.1, r.2)
-    (tells_first c.in_err-ty.field-0.0 (value_told s e AnyEnum) (cases_told s c.args.place e gs) (choice_told s c.args.place e gs) refl c.in_err-ty.ensures)
+    (tells_first c.in_err-ty.field-0.0 (value_told s e AnyEnum) (cases_told s c.args.place e gs) (choice_told s c.args.place e gs) refl
+    c.in_err-ty.ensures)
 
 pub check_cases-requires : goal.check_cases-requires
 check_cases-requires c = c.in_ok-ty.ensures.typed
@@ -25,4 +26,5 @@ returns c =
     let s = scope_seen c.args.scope.now c.args.locals.now in
     let e = expr_of c.args.value.now in
     let gs = groups_of (map group_of c.args.groups.now) in
-    answers_last c.check_cases.result (value_told s e AnyEnum) (cases_told s c.args.place e gs) (choice_told s c.args.place e gs) refl c.in_ok-ty.ensures.fine c.check_cases.ensures
+    answers_last c.check_cases.result (value_told s e AnyEnum) (cases_told s c.args.place e gs) (choice_told s c.args.place e gs) refl
+    c.in_ok-ty.ensures.fine c.check_cases.ensures

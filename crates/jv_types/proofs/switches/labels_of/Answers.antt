@@ -6,5 +6,7 @@ use Rattle.jv_types.proofs.switches.labels_of.Goals as goal
 
 pub loop-group-preserved : goal.loop-group-preserved
 loop-group-preserved c =
-    labels_more c.args.groups.now c.loop-group.group-index c.group-item.result c.loop-group-test.true c.group-item.is (map (λ l. l.now) c.loop-group.all.items) (map (λ l. l.now) c.add_labels.new.all.items)
-    c.as_slice.result.now (cases (groups_of (map group_of c.args.groups.now))) c.loop-group.invariant c.in_ok-add_labels.ensures c.as_slice.ensures.items
+    labels_more c.args.groups.now c.loop-group.group-index c.group-item.result c.loop-group-test.true c.group-item.is
+    (map (λ l. l.now) c.loop-group.all.items) (map (λ l. l.now) c.add_labels.new.all.items)
+    c.as_slice.result.now (cases (groups_of (map group_of c.args.groups.now))) c.loop-group.invariant c.in_ok-add_labels.ensures
+    c.as_slice.ensures.items

@@ -4,4 +4,6 @@ use Rattle.mg_calls.proofs.line.is_word.Goals as goal
 
 pub returns-then-not-is_empty : goal.returns-then-not-is_empty
 returns-then-not-is_empty c =
-    word_is c.args.bytes.now c.word_end.result (nat_eq c.word_end.result (length c.args.bytes.now)) c.word_end.ensures.value (filled_is c.args.bytes.now c.is_empty.result c.if-not-is_empty.true c.is_empty.ensures) (λ t. eqb-true c.word_end.result (length c.args.bytes.now) t, λ e. eq-eqb c.word_end.result (length c.args.bytes.now) e)
+    word_is c.args.bytes.now c.word_end.result (nat_eq c.word_end.result (length c.args.bytes.now)) c.word_end.ensures.value
+    (filled_is c.args.bytes.now c.is_empty.result c.if-not-is_empty.true c.is_empty.ensures)
+    (λ t. eqb-true c.word_end.result (length c.args.bytes.now) t, λ e. eq-eqb c.word_end.result (length c.args.bytes.now) e)

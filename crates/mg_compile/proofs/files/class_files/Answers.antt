@@ -11,7 +11,8 @@ pub write_all-requires-clause-spelled : goal.write_all-requires-clause-spelled
 write_all-requires-clause-spelled c =
     subst (AllByRecursion IsSpelled) (sym (ap (map file_of) c.as_slice.ensures.items))
     (all_spelled c.spelled_is_shaped.ensures c.core_is_kept.ensures c.written_cores_are_held.ensures c.members_are_few.ensures.few
-    c.files_fit.ensures.cores (tree_of c.args.core.now) c.requires (map file_of c.in-Ok.classes.items) c.in-Ok.ensures.made c.in-Ok.ensures.fine)
+    c.files_fit.ensures.cores (tree_of c.args.core.now) c.requires (map file_of c.in-Ok.classes.items) c.in-Ok.ensures.made
+    c.in-Ok.ensures.fine)
 
 pub write_all-requires-clause-same : goal.write_all-requires-clause-same
 write_all-requires-clause-same c =
@@ -19,4 +20,5 @@ write_all-requires-clause-same c =
     ∙ sym (ap length c.as_slice.ensures.items)
 
 pub returns-in-Err : goal.returns-in-Err
-returns-in-Err c = excess_given c.args.names.now (tree_of c.args.core.now) c.in-Err.fault c.refusal.result c.in-Err.ensures.fault c.refusal.ensures
+returns-in-Err c = excess_given c.args.names.now (tree_of c.args.core.now) c.in-Err.fault c.refusal.result c.in-Err.ensures.fault
+    c.refusal.ensures

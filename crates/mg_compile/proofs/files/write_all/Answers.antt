@@ -8,7 +8,8 @@ loop-number-init c = rw c.new-files.ensures (left_begin (tree_of c.args.core.now
 
 pub write_one-requires : goal.write_one-requires
 write_one-requires c =
-    next_fits (tree_of c.args.core.now) c.args.own.now c.args.classes.now c.loop-number.number c.index-classes-number.result c.loop-number-test.true
+    next_fits (tree_of c.args.core.now) c.args.own.now c.args.classes.now c.loop-number.number c.index-classes-number.result
+    c.loop-number-test.true
     c.index-classes-number.is _ c.loop-number.invariant
 
 pub loop-number-preserved : goal.loop-number-preserved

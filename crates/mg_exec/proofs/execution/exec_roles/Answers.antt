@@ -4,7 +4,8 @@ use Rattle.mg_exec.proofs.execution.exec_roles.Goals as goal
 
 pub returns-clause-only : goal.returns-clause-only
 returns-clause-only c =
-    only_run (sources c.args.names.now c.args.contents.now) c.args.mains.now c.args.order.now c.args.limit c.args.named c.args.traced c.ran_roles.result
+    only_run (sources c.args.names.now c.args.contents.now) c.args.mains.now c.args.order.now c.args.limit c.args.named c.args.traced
+    c.ran_roles.result
     c.ran_roles.ensures
 
 pub returns-clause-refused : goal.returns-clause-refused

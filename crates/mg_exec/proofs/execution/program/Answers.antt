@@ -14,5 +14,6 @@ returns-in_err-classes c =
 
 pub returns : goal.returns
 returns c =
-    program_linked (sources c.args.names.now c.args.contents.now) (map file_of c.in_ok-classes.classes.items) c.link.result c.in_ok-classes.ensures
+    program_linked (sources c.args.names.now c.args.contents.now) (map file_of c.in_ok-classes.classes.items) c.link.result
+    c.in_ok-classes.ensures
     (subst (λ (z : List File). IsLinkedOf z c.link.result) (ap (map file_of) c.as_slice.ensures.items) c.link.ensures)

@@ -22,7 +22,8 @@ offset_bounds-mains-number c = let within = bounds-mains-number c in search rule
 pub returns-in-Some : goal.returns-in-Some
 returns-in-Some c =
     run_no_main (sources c.args.names.now c.args.contents.now) c.args.mains.now c.args.order.now c.args.limit c.args.named c.args.traced
-    (classes_of c.in_ok-linked.linked.classes.items) c.in-Some.number _ c.no_main.result c.in_ok-linked.ensures c.in-Some.ensures c.no_main.ensures
+    (classes_of c.in_ok-linked.linked.classes.items) c.in-Some.number _ c.no_main.result c.in_ok-linked.ensures c.in-Some.ensures
+    c.no_main.ensures
 
 pub returns-in_err-ran : goal.returns-in_err-ran
 returns-in_err-ran c =

@@ -21,7 +21,8 @@ returns-in_err-class c =
     let e = err_from_is_err_and c.from_residual.result c.from_residual.ensures.1 in
     read_stopped c.loop-number.invariant (source_of c.loop-number.number c.index-names-number.result c.as_slice.result.now)
     (source_within c.args.names.now c.args.contents.now c.loop-number.number c.requires c.loop-number-test.true)
-    (source_is c.args.names.now c.args.contents.now c.loop-number.number c.index-names-number.result c.index-contents-number.result c.as_slice.result.now
+    (source_is c.args.names.now c.args.contents.now c.loop-number.number c.index-names-number.result c.index-contents-number.result
+    c.as_slice.result.now
     c.requires c.loop-number-test.true c.index-names-number.is c.index-contents-number.is c.as_slice.ensures)
     c.in_err-class.field-0.0 (c.in_err-class.ensures c.loop-number.number) c.from_residual.result (e.1 ∙ ap failed e.2)
 
@@ -30,7 +31,8 @@ loop-number-preserved c =
     subst (ReadSoFar (sources c.args.names.now c.args.contents.now) (c.loop-number.number + 1)) (sym c.in_ok-push.ensures.ok)
     (read_more c.loop-number.invariant (source_of c.loop-number.number c.index-names-number.result c.as_slice.result.now)
     (source_within c.args.names.now c.args.contents.now c.loop-number.number c.requires c.loop-number-test.true)
-    (source_is c.args.names.now c.args.contents.now c.loop-number.number c.index-names-number.result c.index-contents-number.result c.as_slice.result.now
+    (source_is c.args.names.now c.args.contents.now c.loop-number.number c.index-names-number.result c.index-contents-number.result
+    c.as_slice.result.now
     c.requires c.loop-number-test.true c.index-names-number.is c.index-contents-number.is c.as_slice.ensures)
     c.in_ok-class.class (c.in_ok-class.ensures c.loop-number.number))
 

@@ -18,6 +18,7 @@ returns-in-Ok c = λ number.
 
 pub returns-in-Err : goal.returns-in-Err
 returns-in-Err c = λ number.
-    read_failed (source_of number c.args.name.now c.args.bytes.now) c.in-Err.fault c.refused_by.result (omega (arith, c.if-bytes-gt-MOST_BYTES.false))
+    read_failed (source_of number c.args.name.now c.args.bytes.now) c.in-Err.fault c.refused_by.result
+    (omega (arith, c.if-bytes-gt-MOST_BYTES.false))
     c.in-Err.ensures.fault
     (subst (λ (z : List ℕ). IsRefusal z (class_fault c.in-Err.fault) c.refused_by.result) c.as_str-in-Err.ensures c.refused_by.ensures)

@@ -4,7 +4,8 @@ use Rattle.mg_io.proofs.whole.write_whole.Goals as goal
 
 pub returns-in_err-taken-clause-front : goal.returns-in_err-taken-clause-front
 returns-in_err-taken-clause-front g c =
-    front_after_write (g.W.Write.contents c.args.writer.now) (g.W.Write.contents c.loop-rest.writer) (g.W.Write.contents c.write-answer.new.self)
+    front_after_write (g.W.Write.contents c.args.writer.now) (g.W.Write.contents c.loop-rest.writer)
+    (g.W.Write.contents c.write-answer.new.self)
     c.args.bytes.now c.loop-rest.rest.now c.write-answer.result c.loop-rest.invariant.written c.write-answer.ensures.bytes
 
 pub loop-rest-preserved : goal.loop-rest-preserved

@@ -3,19 +3,40 @@ use Rattle.mg_program.proofs.judged.judge.Goals as goal
 
 pub table-requires : goal.table-requires
 table-requires c =
-    same_count c.args.sources.now (record { files = c.as_slice.ensures.items; typestates = c.as_slice-2.ensures.items; origins = c.as_slice-3.ensures.items }) c.requires
+    same_count c.args.sources.now (record {
+      files = c.as_slice.ensures.items;
+      typestates = c.as_slice-2.ensures.items;
+      origins =
+          c.as_slice-3.ensures.items;
+    }) c.requires
 
 pub returns-in-Err : goal.returns-in-Err
 returns-in-Err c =
-    table_failed c.args.sources.now (record { files = c.as_slice.ensures.items; typestates = c.as_slice-2.ensures.items; origins = c.as_slice-3.ensures.items }) c.args.names.now
+    table_failed c.args.sources.now (record {
+      files = c.as_slice.ensures.items;
+      typestates = c.as_slice-2.ensures.items;
+      origins =
+          c.as_slice-3.ensures.items;
+    }) c.args.names.now
     c.in-Err.fault c.refusal.result c.in-Err.ensures.fault c.refusal.ensures
 
 pub returns-in-Ok-type_check : goal.returns-in-Ok-type_check
 returns-in-Ok-type_check c =
-    no_fault c.args.sources.now (record { files = c.as_slice.ensures.items; typestates = c.as_slice-2.ensures.items; origins = c.as_slice-3.ensures.items }) _ c.in-Ok.ensures.program
+    no_fault c.args.sources.now (record {
+      files = c.as_slice.ensures.items;
+      typestates = c.as_slice-2.ensures.items;
+      origins =
+          c.as_slice-3.ensures.items;
+    }) _ c.in-Ok.ensures.program
     c.in-Ok.ensures.fine c.in-Ok-type_check.ensures.fine
 
 pub returns : goal.returns
 returns c =
-    method_failed c.args.sources.now (record { files = c.as_slice.ensures.items; typestates = c.as_slice-2.ensures.items; origins = c.as_slice-3.ensures.items }) c.args.names.now _
-    c.in-Ok.ensures.program c.in-Err-type_check.fault c.refusal-in-Err-type_check.result c.in-Ok.ensures.fine c.in-Err-type_check.ensures.fault c.refusal-in-Err-type_check.ensures
+    method_failed c.args.sources.now (record {
+      files = c.as_slice.ensures.items;
+      typestates = c.as_slice-2.ensures.items;
+      origins =
+          c.as_slice-3.ensures.items;
+    }) c.args.names.now _
+    c.in-Ok.ensures.program c.in-Err-type_check.fault c.refusal-in-Err-type_check.result c.in-Ok.ensures.fine
+    c.in-Err-type_check.ensures.fault c.refusal-in-Err-type_check.ensures

@@ -13,7 +13,8 @@ failed f = Err f
 pub returns-in_err-sources : goal.returns-in_err-sources
 returns-in_err-sources c =
     let f = err_from_is_err_and c.from_residual.result c.from_residual.ensures.1 in
-    read_failed (sources c.args.names.now c.args.contents.now) c.in_err-sources.field-0.0 c.from_residual.result c.in_err-sources.ensures.answered (f.1 ∙ ap failed f.2)
+    read_failed (sources c.args.names.now c.args.contents.now) c.in_err-sources.field-0.0 c.from_residual.result
+    c.in_err-sources.ensures.answered (f.1 ∙ ap failed f.2)
 
 pub judge-requires : goal.judge-requires
 judge-requires c = files_numbered c.in_ok-sources.sources c.in_ok-sources.ensures.answered
@@ -21,23 +22,36 @@ judge-requires c = files_numbered c.in_ok-sources.sources c.in_ok-sources.ensure
 pub returns-in_err-judge : goal.returns-in_err-judge
 returns-in_err-judge c =
     let f = err_from_is_err_and c.from_residual-in_err-judge.result c.from_residual-in_err-judge.ensures.1 in
-    judge_failed c.args.names.now c.args.contents.now (sourced_of c.in_ok-sources.sources) c.in_err-judge.field-0.0 c.from_residual-in_err-judge.result c.requires.same
+    judge_failed c.args.names.now c.args.contents.now (sourced_of c.in_ok-sources.sources) c.in_err-judge.field-0.0
+    c.from_residual-in_err-judge.result c.requires.same
     c.in_ok-sources.ensures.answered c.in_err-judge.ensures (f.1 ∙ ap failed f.2)
 
 pub resolve-requires-clause-well_typed : goal.resolve-requires-clause-well_typed
 resolve-requires-clause-well_typed c =
-    is_well_typed c.in_ok-sources.sources (record { files = c.as_slice.ensures.items; typestates = c.as_slice-2.ensures.items; origins = refl }) c.spelled_is_shaped.ensures
+    is_well_typed c.in_ok-sources.sources (record {
+      files = c.as_slice.ensures.items;
+      typestates = c.as_slice-2.ensures.items;
+      origins =
+          refl;
+    }) c.spelled_is_shaped.ensures
     c.in_ok-sources.ensures.answered c.in_ok-judge.ensures
 
 pub resolve-requires-clause-shaped : goal.resolve-requires-clause-shaped
 resolve-requires-clause-shaped c =
-    is_shaped c.in_ok-sources.sources (record { files = c.as_slice.ensures.items; typestates = c.as_slice-2.ensures.items; origins = refl }) c.spelled_is_shaped.ensures c.in_ok-sources.ensures.answered
+    is_shaped c.in_ok-sources.sources (record { files = c.as_slice.ensures.items; typestates = c.as_slice-2.ensures.items; origins = refl })
+    c.spelled_is_shaped.ensures c.in_ok-sources.ensures.answered
 
 pub resolve-requires-clause-assigns : goal.resolve-requires-clause-assigns
 resolve-requires-clause-assigns c =
-    only_assigns c.in_ok-sources.sources (record { files = c.as_slice.ensures.items; typestates = c.as_slice-2.ensures.items; origins = refl }) c.spelled_is_shaped.ensures c.in_ok-sources.ensures.answered
+    only_assigns c.in_ok-sources.sources (record {
+      files = c.as_slice.ensures.items;
+      typestates = c.as_slice-2.ensures.items;
+      origins =
+          refl;
+    }) c.spelled_is_shaped.ensures c.in_ok-sources.ensures.answered
 
 pub returns : goal.returns
 returns c =
-    resolved c.in_ok-sources.sources (record { files = c.as_slice.ensures.items; typestates = c.as_slice-2.ensures.items; origins = refl }) c.spelled_is_shaped.ensures
+    resolved c.in_ok-sources.sources (record { files = c.as_slice.ensures.items; typestates = c.as_slice-2.ensures.items; origins = refl })
+    c.spelled_is_shaped.ensures
     c.in_ok-sources.ensures.answered c.in_ok-judge.ensures c.in_ok-core.core c.in_ok-core.ensures.stands c.in_ok-core.ensures.resolved

@@ -10,4 +10,5 @@ returns-in-Ok c =
 
 pub returns-in-Err : goal.returns-in-Err
 returns-in-Err c =
-    told_refused (source_of 0 c.args.name.now c.args.bytes.now) c.in-Err.fault c.told.result c.told.ensures c.in-Err.ensures.answered c.in-Err.ensures.nothing
+    told_refused (source_of 0 c.args.name.now c.args.bytes.now) c.in-Err.fault c.told.result c.told.ensures c.in-Err.ensures.answered
+    c.in-Err.ensures.nothing

@@ -9,4 +9,5 @@ ok_where (Ok x) P Q h never = refl
 ok_where (Err e) P Q h never = absurd (never e h)
 
 pub unwrap-text-requires : goal.unwrap-text-requires
-unwrap-text-requires c = ok_where c.from_utf8.result _ _ c.from_utf8.ensures.cases (λ e q. q.0 (IsUtf8-from_ascii c.args.bytes.now c.requires))
+unwrap-text-requires c = ok_where c.from_utf8.result _ _ c.from_utf8.ensures.cases
+    (λ e q. q.0 (IsUtf8-from_ascii c.args.bytes.now c.requires))

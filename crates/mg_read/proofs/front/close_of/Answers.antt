@@ -7,6 +7,7 @@ pub bytes-preserved : goal.bytes-preserved
 bytes-preserved c =
     let split : c.bytes.rest.now ≡ c.in-Some.field-0-0.now ∷ c.in-Some.after.now = c.in-Some.ensures.cases.0 in
     record {
-      so_far = close_more c.bytes.n c.in-Some.field-0-0.now c.bytes.rest.now c.in-Some.after.now (close_at c.args.bytes.now) split (sym c.if-is_close.ensures) c.bytes.invariant.so_far;
+      so_far = close_more c.bytes.n c.in-Some.field-0-0.now c.bytes.rest.now c.in-Some.after.now (close_at c.args.bytes.now) split
+          (sym c.if-is_close.ensures) c.bytes.invariant.so_far;
       in_range = omega (arith, ap length split, c.bytes.invariant.in_range);
     }

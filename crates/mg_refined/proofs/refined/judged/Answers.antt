@@ -10,4 +10,5 @@ pub typestate_at-requires-2 : goal.typestate_at-requires-2
 typestate_at-requires-2 c = (c.requires.1, second_there (map part_of c.args.parts.now) c.requires.0 c.requires.1 c.requires.2)
 
 pub returns : goal.returns
-returns c = told_same (map part_of c.args.parts.now) c.typestate_at.result.now c.typestate_at-2.result.now c.tell.result c.typestate_at.ensures c.typestate_at-2.ensures c.tell.ensures
+returns c = told_same (map part_of c.args.parts.now) c.typestate_at.result.now c.typestate_at-2.result.now c.tell.result
+    c.typestate_at.ensures c.typestate_at-2.ensures c.tell.ensures

@@ -6,7 +6,8 @@ use Rattle.mg_runs.proofs.going.go.Goals as goal
 pub run-requires-clause-numbers : goal.run-requires-clause-numbers
 run-requires-clause-numbers c = λ i r at.
     let w = c.in_ok-world.world in
-    subst (λ n. r < n) (sym (begun_many w.program c.args.mains.now w.world.roles c.in_ok-world.ensures.begun.roles)) (c.requires.order.numbers i r at)
+    subst (λ n. r < n) (sym (begun_many w.program c.args.mains.now w.world.roles c.in_ok-world.ensures.begun.roles))
+    (c.requires.order.numbers i r at)
 
 pub run-requires-clause-named : goal.run-requires-clause-named
 run-requires-clause-named c = λ r lt.
@@ -19,6 +20,7 @@ run-requires-clause-fresh c =
 
 pub roles_ran-requires : goal.roles_ran-requires
 roles_ran-requires c = record {
-  names = names_stay c.in_ok-world.world.program c.args.mains.now c.in_ok-world.world.world c.args.order.now c.args.limit c.run.new.self.world
+  names = names_stay c.in_ok-world.world.program c.args.mains.now c.in_ok-world.world.world c.args.order.now c.args.limit
+      c.run.new.self.world
       c.in_ok-world.ensures.begun c.in_ok-run.ensures.run;
 }

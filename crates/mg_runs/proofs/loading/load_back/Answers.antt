@@ -23,5 +23,6 @@ pub returns-in-Ok : goal.returns-in-Ok
 returns-in-Ok c = (
   map file_of c.in_ok-classes.classes.items,
   c.in_ok-classes.ensures,
-  subst (λ (z : List File). Links z (classes_of c.in-Ok.linked.classes.items)) (ap (map file_of) c.as_slice.ensures.items) c.in-Ok.ensures.found,
+  subst (λ (z : List File). Links z (classes_of c.in-Ok.linked.classes.items)) (ap (map file_of) c.as_slice.ensures.items)
+      c.in-Ok.ensures.found,
 )

@@ -15,7 +15,8 @@ unreachable-requires c =
 pub loop-file-preserved : goal.loop-file-preserved
 loop-file-preserved c =
     read_more c.args.files.now c.loop-file.file-index c.file-item.result c.loop-file-test.true c.file-item.is c.in-Ok.class _ _
-    (subst (λ (z : List ℕ). ClassSpells z (file_of c.in-Ok.class)) c.as_slice.ensures c.in-Ok.ensures.found) c.in_ok-push-in-Ok.ensures.ok c.loop-file.invariant
+    (subst (λ (z : List ℕ). ClassSpells z (file_of c.in-Ok.class)) c.as_slice.ensures c.in-Ok.ensures.found) c.in_ok-push-in-Ok.ensures.ok
+    c.loop-file.invariant
 
 pub returns : goal.returns
 returns c = read_all c.args.files.now c.loop-file.file-index _ c.loop-file-test.false c.loop-file.invariant

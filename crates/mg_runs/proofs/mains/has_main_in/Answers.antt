@@ -9,4 +9,5 @@ pub returns : goal.returns
 returns c =
     let p = tree_of c.args.core.now in
     has_main_is p c.args.class p.methods c.some_main.result
-    (c.some_main.ensures ∙ sym (any-map method_of (is_main_of c.args.class) c.methods.result.now) ∙ ap (list_any (is_main_of c.args.class)) c.methods.ensures)
+    (c.some_main.ensures ∙ sym (any-map method_of (is_main_of c.args.class) c.methods.result.now) ∙ ap (list_any (is_main_of c.args.class))
+    c.methods.ensures)

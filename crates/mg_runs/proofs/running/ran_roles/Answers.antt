@@ -10,7 +10,8 @@ pub returns-in_err-program : goal.returns-in_err-program
 returns-in_err-program c =
     let e = err_from_is_err_and c.from_residual.result c.from_residual.ensures.1 in
     rw (e.1, e.2)
-    (run_unaccepted (sources c.args.names.now c.args.contents.now) c.args.mains.now c.args.order.now c.args.limit c.args.named c.args.traced _
+    (run_unaccepted (sources c.args.names.now c.args.contents.now) c.args.mains.now c.args.order.now c.args.limit c.args.named c.args.traced
+    _
     c.in_err-program.ensures.answered)
 
 pub bounds-mains-number : goal.bounds-mains-number
@@ -22,7 +23,8 @@ offset_bounds-mains-number c = let within = bounds-mains-number c in search rule
 pub returns-in-Some : goal.returns-in-Some
 returns-in-Some c =
     let files = sources c.args.names.now c.args.contents.now in
-    run_no_main files c.args.mains.now c.args.order.now c.args.limit c.args.named c.args.traced (tree_of c.in_ok-program.program.core) c.in-Some.number
+    run_no_main files c.args.mains.now c.args.order.now c.args.limit c.args.named c.args.traced (tree_of c.in_ok-program.program.core)
+    c.in-Some.number
     _ c.no_main.result c.in_ok-program.ensures.answered.files_are c.in-Some.ensures c.no_main.ensures
 
 pub returns-in_err-files : goal.returns-in_err-files
@@ -30,7 +32,8 @@ returns-in_err-files c =
     let e = err_from_is_err_and c.from_residual-in_err-files.result c.from_residual-in_err-files.ensures.1 in
     rw (e.1, e.2)
     (run_exceeded c.args.names.now c.args.contents.now c.args.mains.now c.args.order.now c.args.limit c.args.named c.args.traced
-    (tree_of c.in_ok-program.program.core) _ c.requires.same c.in_ok-program.ensures.answered.files_are c.in-None.ensures c.in_err-files.ensures)
+    (tree_of c.in_ok-program.program.core) _ c.requires.same c.in_ok-program.ensures.answered.files_are c.in-None.ensures
+    c.in_err-files.ensures)
 
 pub returns-in_err-ran : goal.returns-in_err-ran
 returns-in_err-ran c =

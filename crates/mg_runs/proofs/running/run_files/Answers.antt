@@ -15,5 +15,6 @@ go-requires-clause-mains c =
     let (sources, have) = c.requires.files in
     let program = classes_of c.in_ok-linked.linked.classes.items in
     let loaded = subst (λ (z : List ClassFile). IsLoaded (map (λ f. f.bytes) z) program) c.as_slice.ensures.items c.in_ok-linked.ensures in
-    have_mains c.runs_are_meant.ensures sources (tree_of c.args.core.now) c.args.files.items have c.requires.made program loaded c.args.mains.now
+    have_mains c.runs_are_meant.ensures sources (tree_of c.args.core.now) c.args.files.items have c.requires.made program loaded
+    c.args.mains.now
     c.requires.mains

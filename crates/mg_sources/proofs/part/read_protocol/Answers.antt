@@ -11,5 +11,6 @@ returns-in-Ok c = protocol c.requires (c.in-Ok.ensures.answered (Protocol (tree_
 
 pub returns-in-Err : goal.returns-in-Err
 returns-in-Err c =
-    protocol_refused (source_of c.args.number c.args.name.now c.args.bytes.now) c.in-Err.fault c.told.result c.requires c.in-Err.ensures.place
+    protocol_refused (source_of c.args.number c.args.name.now c.args.bytes.now) c.in-Err.fault c.told.result c.requires
+    c.in-Err.ensures.place
     (told_refused _ _ _ c.told_of_protocol.ensures c.told.result c.told.ensures) c.in-Err.ensures.answered

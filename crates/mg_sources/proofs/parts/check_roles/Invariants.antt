@@ -8,6 +8,7 @@ use Rattle.mg_sources.proofs.parts.check_roles.Given as goal
 
 abbrev pub invariant-loop-number : goal.invariant-loop-number
 invariant-loop-number l = record {
-  left : (contents : List (List ℕ)) → EachSpells (sources l.names contents) (map part_of l.parts) → Left SharesRole (sources l.names contents) l.number;
+  left : (contents : List (List ℕ)) → EachSpells (sources l.names contents) (map part_of l.parts) →
+      Left SharesRole (sources l.names contents) l.number;
   exact : HasExactly l.roles (roles (take l.number (map part_of l.parts)));
 }

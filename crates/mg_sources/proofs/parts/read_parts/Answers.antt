@@ -20,7 +20,8 @@ loop-number-init c =
 
 pub read_part-requires : goal.read_part-requires
 read_part-requires c =
-    kind_at c.args.names.now c.loop-number.number c.index-names-number.result c.as_slice.result.now (omega (arith, c.requires.same)) c.index-names-number.is c.requires.kinds
+    kind_at c.args.names.now c.loop-number.number c.index-names-number.result c.as_slice.result.now (omega (arith, c.requires.same))
+    c.index-names-number.is c.requires.kinds
 
 pub returns-in_err-part : goal.returns-in_err-part
 returns-in_err-part c =
@@ -28,7 +29,8 @@ returns-in_err-part c =
     read_failed (sources c.args.names.now c.args.contents.now) c.loop-number.number _ c.loop-number.invariant
     (source_of c.loop-number.number c.index-names-number.result c.as_slice.result.now)
     (source_within c.args.names.now c.args.contents.now c.loop-number.number c.requires.same c.loop-number-test.true)
-    (source_is c.args.names.now c.args.contents.now c.loop-number.number c.index-names-number.result c.index-contents-number.result c.as_slice.result.now
+    (source_is c.args.names.now c.args.contents.now c.loop-number.number c.index-names-number.result c.index-contents-number.result
+    c.as_slice.result.now
     c.requires.same c.loop-number-test.true c.index-names-number.is c.index-contents-number.is c.as_slice.ensures)
     c.in_err-part.field-0.0 c.in_err-part.ensures c.from_residual.result (f.1 ∙ ap failed f.2)
 
@@ -36,7 +38,8 @@ pub loop-number-preserved : goal.loop-number-preserved
 loop-number-preserved c =
     let more = read_more c.loop-number.invariant (source_of c.loop-number.number c.index-names-number.result c.as_slice.result.now)
     (source_within c.args.names.now c.args.contents.now c.loop-number.number c.requires.same c.loop-number-test.true)
-    (source_is c.args.names.now c.args.contents.now c.loop-number.number c.index-names-number.result c.index-contents-number.result c.as_slice.result.now
+    (source_is c.args.names.now c.args.contents.now c.loop-number.number c.index-names-number.result c.index-contents-number.result
+    c.as_slice.result.now
     c.requires.same c.loop-number-test.true c.index-names-number.is c.index-contents-number.is c.as_slice.ensures)
     (part_of c.in_ok-part.part) c.in_ok-part.ensures in
     subst (ReadSoFar (sources c.args.names.now c.args.contents.now) (c.loop-number.number + 1))

@@ -39,7 +39,8 @@ loop-part-preserved c =
     let some = ap length step.0 in
     record {
       count = let count = was.count in omega (arith, count, some, step.1);
-      made = made_more (subst (λ (z : List KeptPart). MadeSoFar (map part_of c.args.parts.items) c.loop-part.number (map part_of z) (sourced_of c.loop-part.sources)) step.0 was.made)
+      made = made_more (subst (λ (z : List KeptPart). MadeSoFar (map part_of c.args.parts.items) c.loop-part.number (map part_of z)
+          (sourced_of c.loop-part.sources)) step.0 was.made)
           (add-one c.loop-part.number) c.in_ok-add_part.ensures;
     }
 
@@ -47,4 +48,5 @@ pub returns : goal.returns
 returns c =
     let was = c.loop-part.invariant in
     let none : into_iter_items c.loop-part.part-iterator ≡ [] = nothing_left _ (sym was.count ∙ c.in-None.ensures.steps.0) in
-    made_end (subst (λ (z : List KeptPart). MadeSoFar (map part_of c.args.parts.items) c.loop-part.number (map part_of z) (sourced_of c.loop-part.sources)) none was.made)
+    made_end (subst (λ (z : List KeptPart). MadeSoFar (map part_of c.args.parts.items) c.loop-part.number (map part_of z)
+    (sourced_of c.loop-part.sources)) none was.made)

@@ -14,21 +14,26 @@ failed f = Err f
 pub returns-in_err-parts : goal.returns-in_err-parts
 returns-in_err-parts c =
     let f = err_from_is_err_and c.from_residual.result c.from_residual.ensures.1 in
-    parts_failed (sources c.args.names.now c.args.contents.now) c.in_err-parts.field-0.0 c.from_residual.result c.in_err-parts.ensures (f.1 ∙ ap failed f.2)
+    parts_failed (sources c.args.names.now c.args.contents.now) c.in_err-parts.field-0.0 c.from_residual.result c.in_err-parts.ensures
+    (f.1 ∙ ap failed f.2)
 
 pub check_roles-requires-clause-same : goal.check_roles-requires-clause-same
 check_roles-requires-clause-same c =
-    part_count c.args.names.now c.args.contents.now c.in_ok-parts.parts.items c.as_slice.result.now c.requires.same c.in_ok-parts.ensures c.as_slice.ensures.items
+    part_count c.args.names.now c.args.contents.now c.in_ok-parts.parts.items c.as_slice.result.now c.requires.same c.in_ok-parts.ensures
+    c.as_slice.ensures.items
 
 pub returns-in_err-check_roles : goal.returns-in_err-check_roles
 returns-in_err-check_roles c =
     let f = err_from_is_err_and c.from_residual-in_err-check_roles.result c.from_residual-in_err-check_roles.ensures.1 in
-    let each = of_slice (sources c.args.names.now c.args.contents.now) c.in_ok-parts.parts.items c.as_slice.result.now c.as_slice.ensures.items c.in_ok-parts.ensures in
+    let each = of_slice (sources c.args.names.now c.args.contents.now) c.in_ok-parts.parts.items c.as_slice.result.now
+    c.as_slice.ensures.items c.in_ok-parts.ensures in
     roles_failed (sources c.args.names.now c.args.contents.now) (map part_of c.as_slice.result.now) c.in_err-check_roles.field-0.0
     c.from_residual-in_err-check_roles.result each (c.in_err-check_roles.ensures c.args.contents.now each) (f.1 ∙ ap failed f.2)
 
 pub returns : goal.returns
 returns c =
-    let each = of_slice (sources c.args.names.now c.args.contents.now) c.in_ok-parts.parts.items c.as_slice.result.now c.as_slice.ensures.items c.in_ok-parts.ensures in
-    is_program c.args.names.now c.args.contents.now (map part_of c.in_ok-parts.parts.items) (sourced_of c.in_ok-sources.sources) c.in_ok-parts.ensures
+    let each = of_slice (sources c.args.names.now c.args.contents.now) c.in_ok-parts.parts.items c.as_slice.result.now
+    c.as_slice.ensures.items c.in_ok-parts.ensures in
+    is_program c.args.names.now c.args.contents.now (map part_of c.in_ok-parts.parts.items) (sourced_of c.in_ok-sources.sources)
+    c.in_ok-parts.ensures
     (c.in_ok-check_roles.ensures c.args.contents.now each) c.in_ok-sources.ensures

@@ -5,7 +5,8 @@ use Rattle.mg_top.proofs.check.check.Goals as goal
 
 pub returns-in-Ok : goal.returns-in-Ok
 returns-in-Ok c =
-    report_given c.args.names.now c.args.contents.now (tree_of c.in-Ok.program.core) c.show.result c.in-Ok.ensures.answered.files_are c.show.ensures
+    report_given c.args.names.now c.args.contents.now (tree_of c.in-Ok.program.core) c.show.result c.in-Ok.ensures.answered.files_are
+    c.show.ensures
 
 pub returns-in-Err-Refused : goal.returns-in-Err-Refused
 returns-in-Err-Refused c =

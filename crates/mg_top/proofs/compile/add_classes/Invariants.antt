@@ -3,4 +3,5 @@ use Rattle.mg_top.specs.Writing.{classes_written}
 use Rattle.mg_top.proofs.compile.add_classes.Given as goal
 
 abbrev pub invariant-loop-file : goal.invariant-loop-file
-invariant-loop-file l = l.actions.items ≡ l.initial.actions.items ++ classes_written (option_map (λ f. f.now) l.folder) (take l.file-index l.files)
+invariant-loop-file l = l.actions.items ≡ l.initial.actions.items ++ classes_written (option_map (λ f. f.now) l.folder)
+    (take l.file-index l.files)

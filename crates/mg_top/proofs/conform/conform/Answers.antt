@@ -12,8 +12,11 @@ returns-in-Err-Refused c =
 
 pub returns-in-Ok-read_calls : goal.returns-in-Ok-read_calls
 returns-in-Ok-read_calls c =
-    followed c.args.protocol.now c.args.calls.now c.args.bytes.now c.args.listed.now (tree_of c.in-Ok.local) c.in-Ok-read_calls.list.items c.as_slice.result.now c.follow.result c.in-Ok.ensures c.in-Ok-read_calls.list refl c.in-Ok-read_calls.ensures c.as_slice.ensures.items c.follow.ensures
+    followed c.args.protocol.now c.args.calls.now c.args.bytes.now c.args.listed.now (tree_of c.in-Ok.local) c.in-Ok-read_calls.list.items
+    c.as_slice.result.now c.follow.result c.in-Ok.ensures c.in-Ok-read_calls.list refl c.in-Ok-read_calls.ensures
+    c.as_slice.ensures.items c.follow.ensures
 
 pub returns : goal.returns
 returns c =
-    list_refused c.args.protocol.now c.args.calls.now c.args.bytes.now c.args.listed.now (tree_of c.in-Ok.local) c.in-Err.fault c.refuse.result c.in-Ok.ensures c.in-Err.ensures c.refuse.ensures
+    list_refused c.args.protocol.now c.args.calls.now c.args.bytes.now c.args.listed.now (tree_of c.in-Ok.local) c.in-Err.fault
+    c.refuse.result c.in-Ok.ensures c.in-Err.ensures c.refuse.ensures

@@ -10,22 +10,29 @@ loop-line-init c = c.in_ok-walk.ensures.taken
 
 pub loop-line-preserved : goal.loop-line-preserved
 loop-line-preserved c =
-    taken_at (tree_of c.args.local.now) _ c.args.calls.now c.loop-line.line-index _ (call_said c.in_ok-call.call) c.loop-line-test.true c.in_ok-call.ensures
+    taken_at (tree_of c.args.local.now) _ c.args.calls.now c.loop-line.line-index _ (call_said c.in_ok-call.call) c.loop-line-test.true
+    c.in_ok-call.ensures
     (c.in-Ok.ensures.taken _ _ c.loop-line.invariant)
 
 pub returns-in-Err-NotOffered : goal.returns-in-Err-NotOffered
 returns-in-Err-NotOffered c =
     let told = rw c.in-Err-NotOffered.field-0-is at c.in-Err-NotOffered.ensures in
-    answered (tree_of c.args.local.now) (map call_of c.args.calls.now) _ c.as_str.result.now _ c.printed.result c.printed.ensures.actions c.printed.ensures.status (c.as_str.ensures ∙ c.in_ok-text-in-Err-NotOffered.ensures)
-    (refused_at (tree_of c.args.local.now) _ c.args.calls.now c.loop-line.line-index _ (call_said c.in_ok-call.call) c.loop-line-test.true c.in_ok-call.ensures c.loop-line.invariant
+    answered (tree_of c.args.local.now) (map call_of c.args.calls.now) _ c.as_str.result.now _ c.printed.result c.printed.ensures.actions
+    c.printed.ensures.status (c.as_str.ensures ∙ c.in_ok-text-in-Err-NotOffered.ensures)
+    (refused_at (tree_of c.args.local.now) _ c.args.calls.now c.loop-line.line-index _ (call_said c.in_ok-call.call) c.loop-line-test.true
+    c.in_ok-call.ensures c.loop-line.invariant
     (λ more. told.no_trace refl (tree_of c.args.local.now) _ more c.loop-line.invariant))
 
 pub returns-then-done : goal.returns-then-done
 returns-then-done c =
-    answered (tree_of c.args.local.now) (map call_of c.args.calls.now) _ _ _ c.printed-then-done.result c.printed-then-done.ensures.actions c.printed-then-done.ensures.status refl
-    (complete_at (tree_of c.args.local.now) _ c.args.calls.now c.loop-line.line-index c.done.result (omega arith) c.loop-line.invariant (c.done.ensures.complete (tree_of c.args.local.now)) c.if-done.true)
+    answered (tree_of c.args.local.now) (map call_of c.args.calls.now) _ _ _ c.printed-then-done.result c.printed-then-done.ensures.actions
+    c.printed-then-done.ensures.status refl
+    (complete_at (tree_of c.args.local.now) _ c.args.calls.now c.loop-line.line-index c.done.result (omega arith) c.loop-line.invariant
+    (c.done.ensures.complete (tree_of c.args.local.now)) c.if-done.true)
 
 pub returns : goal.returns
 returns c =
-    answered (tree_of c.args.local.now) (map call_of c.args.calls.now) _ _ _ c.printed-else-done.result c.printed-else-done.ensures.actions c.printed-else-done.ensures.status refl
-    (open_at (tree_of c.args.local.now) _ c.args.calls.now c.loop-line.line-index c.done.result (omega arith) c.loop-line.invariant (c.done.ensures.complete (tree_of c.args.local.now)) c.if-done.false)
+    answered (tree_of c.args.local.now) (map call_of c.args.calls.now) _ _ _ c.printed-else-done.result c.printed-else-done.ensures.actions
+    c.printed-else-done.ensures.status refl
+    (open_at (tree_of c.args.local.now) _ c.args.calls.now c.loop-line.line-index c.done.result (omega arith) c.loop-line.invariant
+    (c.done.ensures.complete (tree_of c.args.local.now)) c.if-done.false)

@@ -10,16 +10,19 @@ pub returns-in-Err-Failed : goal.returns-in-Err-Failed
 returns-in-Err-Failed g c =
     let act = rw c.in-Err-Failed.field-0-is at c.in-Err-Failed.ensures in
     of_slice c.as_slice-actions.result.now c.args.delivery.now.actions.items c.as_slice-actions.ensures.items
-    (stopped_at c.as_slice-actions.result.now c.loop-action.action-index c.action-item.result c.loop-action-test.true c.action-item.is c.loop-action.invariant (fails _ act (c.tell.ensures _ refl)))
+    (stopped_at c.as_slice-actions.result.now c.loop-action.action-index c.action-item.result c.loop-action-test.true c.action-item.is
+    c.loop-action.invariant (fails _ act (c.tell.ensures _ refl)))
 
 pub returns-in-Err-Memory : goal.returns-in-Err-Memory
 returns-in-Err-Memory g c =
     let act = rw c.in-Err-Memory.field-0-is at c.in-Err-Memory.ensures in
     of_slice c.as_slice-actions.result.now c.args.delivery.now.actions.items c.as_slice-actions.ensures.items
-    (stopped_at c.as_slice-actions.result.now c.loop-action.action-index c.action-item.result c.loop-action-test.true c.action-item.is c.loop-action.invariant (lacks act))
+    (stopped_at c.as_slice-actions.result.now c.loop-action.action-index c.action-item.result c.loop-action-test.true c.action-item.is
+    c.loop-action.invariant (lacks act))
 
 pub loop-action-preserved : goal.loop-action-preserved
-loop-action-preserved g c = done_more c.as_slice-actions.result.now c.loop-action.action-index c.action-item.result c.loop-action-test.true c.action-item.is c.loop-action.invariant c.in-Ok.ensures
+loop-action-preserved g c = done_more c.as_slice-actions.result.now c.loop-action.action-index c.action-item.result c.loop-action-test.true
+    c.action-item.is c.loop-action.invariant c.in-Ok.ensures
 
 pub returns : goal.returns
 returns g c =

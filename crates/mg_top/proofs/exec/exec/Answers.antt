@@ -12,13 +12,16 @@ use Rattle.mg_top.proofs.exec.exec.Goals as goal
 
 pub returns-in-Ok : goal.returns-in-Ok
 returns-in-Ok c =
-    exec_given (asked_of c.args.asked.now) c.args.names.now c.args.contents.now _ _ c.limit_of-limit.result c.is_named-named.result c.in-Ok.ran c.show.result
-    (c.as_slice-roles.ensures.items ∙ c.in_ok-mains.ensures.items) (c.as_slice.ensures.value ∙ c.in_ok-order.ensures.items) c.limit_of-limit.ensures
+    exec_given (asked_of c.args.asked.now) c.args.names.now c.args.contents.now _ _ c.limit_of-limit.result c.is_named-named.result
+    c.in-Ok.ran c.show.result
+    (c.as_slice-roles.ensures.items ∙ c.in_ok-mains.ensures.items) (c.as_slice.ensures.value ∙ c.in_ok-order.ensures.items)
+    c.limit_of-limit.ensures
     c.is_named-named.ensures c.in-Ok.ensures.answered c.show.ensures.actions c.show.ensures.status
 
 pub exec_roles-requires-clause-roles : goal.exec_roles-requires-clause-roles
 exec_roles-requires-clause-roles c =
-    roles_distinct _ (asked_of c.args.asked.now) (c.as_slice-roles.ensures.items ∙ c.in_ok-mains.ensures.items) c.in_ok-mains.ensures.distinct
+    roles_distinct _ (asked_of c.args.asked.now) (c.as_slice-roles.ensures.items ∙ c.in_ok-mains.ensures.items)
+    c.in_ok-mains.ensures.distinct
 
 pub exec_roles-requires-clause-numbers : goal.exec_roles-requires-clause-numbers
 exec_roles-requires-clause-numbers c =

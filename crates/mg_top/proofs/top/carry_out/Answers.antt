@@ -17,7 +17,8 @@ translate-requires-clause-scribble c =
 pub conform-requires : goal.conform-requires
 conform-requires c =
     let known = c.requires.known in
-    protocol_of_two known.0 c.in-Conform.files.now _ (subst (λ (z : Command). IsCommand (command_of z) known.0) c.in-Conform.is known.1) c.index-files-0.is
+    protocol_of_two known.0 c.in-Conform.files.now _ (subst (λ (z : Command). IsCommand (command_of z) known.0) c.in-Conform.is known.1)
+    c.index-files-0.is
 
 pub check-requires-clause-kinds : goal.check-requires-clause-kinds
 check-requires-clause-kinds c =
@@ -33,12 +34,14 @@ compile-requires-clause-kinds c =
 pub run-requires-clause-kinds : goal.run-requires-clause-kinds
 run-requires-clause-kinds c =
     let known = c.requires.known in
-    kinds_of_run known.0 (asked_of c.in-Run.asked) c.in-Run.files.now (subst (λ (z : Command). IsCommand (command_of z) known.0) c.in-Run.is known.1)
+    kinds_of_run known.0 (asked_of c.in-Run.asked) c.in-Run.files.now (subst (λ (z : Command). IsCommand (command_of z) known.0) c.in-Run.is
+    known.1)
 
 pub run-requires-clause-asked : goal.run-requires-clause-asked
 run-requires-clause-asked c =
     let known = c.requires.known in
-    asked_of_run known.0 (asked_of c.in-Run.asked) c.in-Run.files.now (subst (λ (z : Command). IsCommand (command_of z) known.0) c.in-Run.is known.1)
+    asked_of_run known.0 (asked_of c.in-Run.asked) c.in-Run.files.now (subst (λ (z : Command). IsCommand (command_of z) known.0) c.in-Run.is
+    known.1)
 
 pub exec-requires-clause-asked : goal.exec-requires-clause-asked
 exec-requires-clause-asked c =

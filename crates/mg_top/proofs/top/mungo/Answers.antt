@@ -10,7 +10,8 @@ returns-in-Ok g c =
       actions = c.in-Ok.delivery.actions.items;
       meant = c.in-Ok.delivery.status;
       at = _;
-      due = c.in-Ok.ensures (stream (g.O.Sink.bytes c.args.out.now) (g.O.Sink.faults c.args.out.now)) (stream (g.E.Sink.bytes c.args.err.now) (g.E.Sink.faults c.args.err.now));
+      due = c.in-Ok.ensures (stream (g.O.Sink.bytes c.args.out.now) (g.O.Sink.faults c.args.out.now))
+          (stream (g.E.Sink.bytes c.args.err.now) (g.E.Sink.faults c.args.err.now));
       delivered = c.deliver.ensures;
     })
 
@@ -20,6 +21,7 @@ returns-in-Err g c =
       actions = _;
       meant = _;
       at = _;
-      due = starved_due c.args.words.now _ _ (c.in-Err.ensures (stream (g.O.Sink.bytes c.args.out.now) (g.O.Sink.faults c.args.out.now)) (stream (g.E.Sink.bytes c.args.err.now) (g.E.Sink.faults c.args.err.now)));
+      due = starved_due c.args.words.now _ _ (c.in-Err.ensures (stream (g.O.Sink.bytes c.args.out.now) (g.O.Sink.faults c.args.out.now))
+          (stream (g.E.Sink.bytes c.args.err.now) (g.E.Sink.faults c.args.err.now)));
       delivered = c.starve.ensures _ refl;
     })

@@ -5,4 +5,5 @@ use Rattle.mg_top.proofs.translate.add_files.Given as goal
 
 abbrev pub invariant-loop-file : goal.invariant-loop-file
 invariant-loop-file l =
-    l.writes.items ≡ l.initial.writes.items ++ map (api_written (option_map (λ f. f.now) l.folder)) (map written_of (take l.file-index l.files))
+    l.writes.items ≡ l.initial.writes.items ++ map (api_written (option_map (λ f. f.now) l.folder))
+    (map written_of (take l.file-index l.files))

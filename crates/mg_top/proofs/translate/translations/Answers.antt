@@ -23,17 +23,22 @@ returns-in_err-parts c =
 
 pub check_roles-requires-clause-same : goal.check_roles-requires-clause-same
 check_roles-requires-clause-same c =
-    part_count c.args.names.now c.args.contents.now c.in_ok-parts.parts.items c.as_slice.result.now c.requires.same c.in_ok-parts.ensures c.as_slice.ensures.items
+    part_count c.args.names.now c.args.contents.now c.in_ok-parts.parts.items c.as_slice.result.now c.requires.same c.in_ok-parts.ensures
+    c.as_slice.ensures.items
 
 pub returns-in_err-check_roles : goal.returns-in_err-check_roles
 returns-in_err-check_roles c =
     let f = err_from_is_err_and c.from_residual-in_err-check_roles.result c.from_residual-in_err-check_roles.ensures.1 in
-    let each = of_slice (sources c.args.names.now c.args.contents.now) c.in_ok-parts.parts.items c.as_slice.result.now c.as_slice.ensures.items c.in_ok-parts.ensures in
+    let each = of_slice (sources c.args.names.now c.args.contents.now) c.in_ok-parts.parts.items c.as_slice.result.now
+    c.as_slice.ensures.items c.in_ok-parts.ensures in
     roles_failed _ _ (map part_of c.as_slice.result.now) c.in_err-check_roles.field-0.0 c.from_residual-in_err-check_roles.result each
     (c.in_err-check_roles.ensures c.args.contents.now each) (f.1 ∙ ap failed f.2)
 
 pub returns : goal.returns
 returns c =
-    let each = of_slice (sources c.args.names.now c.args.contents.now) c.in_ok-parts.parts.items c.as_slice.result.now c.as_slice.ensures.items c.in_ok-parts.ensures in
-    all_written _ c.args.names.now c.args.contents.now (map part_of c.in_ok-parts.parts.items) (map part_of c.as_slice-2.result.now) _ c.requires.scribble
-    c.in_ok-parts.ensures (ap (map part_of) c.as_slice-2.ensures.items) (c.in_ok-check_roles.ensures c.args.contents.now each) c.in_ok-writes.ensures
+    let each = of_slice (sources c.args.names.now c.args.contents.now) c.in_ok-parts.parts.items c.as_slice.result.now
+    c.as_slice.ensures.items c.in_ok-parts.ensures in
+    all_written _ c.args.names.now c.args.contents.now (map part_of c.in_ok-parts.parts.items) (map part_of c.as_slice-2.result.now) _
+    c.requires.scribble
+    c.in_ok-parts.ensures (ap (map part_of) c.as_slice-2.ensures.items) (c.in_ok-check_roles.ensures c.args.contents.now each)
+    c.in_ok-writes.ensures

@@ -16,5 +16,6 @@ loop-part-preserved c =
 
 pub returns : goal.returns
 returns c =
-    subst (λ (z : List KeptPart). EachIsWritten (option_map (λ f. f.now) c.args.folder) (locals_in (map part_of z)) c.loop-part.writes.items)
+    subst (λ (z : List KeptPart). EachIsWritten (option_map (λ f. f.now) c.args.folder) (locals_in (map part_of z))
+    c.loop-part.writes.items)
     (take_all c.loop-part.part-index c.args.parts.now (omega arith)) c.loop-part.invariant

@@ -4,4 +4,5 @@ use Rattle.mg_top.specs.inner.Preparing.{EachIsWritten, locals_in}
 use Rattle.mg_top.proofs.translate.write_all.Given as goal
 
 abbrev pub invariant-loop-part : goal.invariant-loop-part
-invariant-loop-part l = EachIsWritten (option_map (λ f. f.now) l.folder) (locals_in (map part_of (take l.part-index l.parts))) l.writes.items
+invariant-loop-part l = EachIsWritten (option_map (λ f. f.now) l.folder) (locals_in (map part_of (take l.part-index l.parts)))
+    l.writes.items

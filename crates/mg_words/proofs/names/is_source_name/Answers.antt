@@ -10,4 +10,5 @@ pub returns-then-is_file-2 : goal.returns-then-is_file-2
 returns-then-is_file-2 c = (λ t. source_of_kind Typestates c.args.word.now (c.if-is_file-2.ensures.0 refl), λ h. refl)
 
 pub returns : goal.returns
-returns c = other_kinds c.is_file-3.result c.args.word.now (refuted c.if-is_file.ensures.1) (refuted c.if-is_file-2.ensures.1) c.is_file-3.ensures
+returns c = other_kinds c.is_file-3.result c.args.word.now (refuted c.if-is_file.ensures.1) (refuted c.if-is_file-2.ensures.1)
+    c.is_file-3.ensures

@@ -18,8 +18,11 @@ returns-then-not-is_file c = (
 
 pub loop-word-preserved : goal.loop-word-preserved
 loop-word-preserved c =
-    subst (All (IsFileOf c.args.suffix.now)) (sym (take_more c.args.words.now c.loop-word.word-index c.word-item.result c.loop-word-test.true ∙ ap (λ (z : Word). take c.loop-word.word-index c.args.words.now ++ z ∷ []) (sym c.word-item.is)))
-    (All-push (IsFileOf c.args.suffix.now) (take c.loop-word.word-index c.args.words.now) c.word-item.result c.loop-word.invariant (c.if-not-is_file.ensures.0 refl))
+    subst (All (IsFileOf c.args.suffix.now))
+    (sym (take_more c.args.words.now c.loop-word.word-index c.word-item.result c.loop-word-test.true ∙
+    ap (λ (z : Word). take c.loop-word.word-index c.args.words.now ++ z ∷ []) (sym c.word-item.is)))
+    (All-push (IsFileOf c.args.suffix.now) (take c.loop-word.word-index c.args.words.now) c.word-item.result c.loop-word.invariant
+    (c.if-not-is_file.ensures.0 refl))
 
 pub returns : goal.returns
 returns c = subst (All (IsFileOf c.args.suffix.now)) (take_all c.loop-word.word-index c.args.words.now (omega arith)) c.loop-word.invariant

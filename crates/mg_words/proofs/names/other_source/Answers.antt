@@ -18,8 +18,10 @@ returns-then-not-is_source_name c = (
 
 pub loop-word-preserved : goal.loop-word-preserved
 loop-word-preserved c =
-    subst (All IsSourceName) (sym (take_more c.args.words.now c.loop-word.word-index c.word-item.result c.loop-word-test.true ∙ ap (λ (z : Word). take c.loop-word.word-index c.args.words.now ++ z ∷ []) (sym c.word-item.is)))
-    (All-push IsSourceName (take c.loop-word.word-index c.args.words.now) c.word-item.result c.loop-word.invariant (c.if-not-is_source_name.ensures.0 refl))
+    subst (All IsSourceName) (sym (take_more c.args.words.now c.loop-word.word-index c.word-item.result c.loop-word-test.true ∙
+    ap (λ (z : Word). take c.loop-word.word-index c.args.words.now ++ z ∷ []) (sym c.word-item.is)))
+    (All-push IsSourceName (take c.loop-word.word-index c.args.words.now) c.word-item.result c.loop-word.invariant
+    (c.if-not-is_source_name.ensures.0 refl))
 
 pub returns : goal.returns
 returns c = subst (All IsSourceName) (take_all c.loop-word.word-index c.args.words.now (omega arith)) c.loop-word.invariant

@@ -9,12 +9,15 @@ pub returns-then-not-is_file : goal.returns-then-not-is_file
 returns-then-not-is_file c = wrong_protocol _ _ _ c.in-Some.ensures.cases.0 (refuted c.if-not-is_file.ensures.1)
 
 pub returns-in-None-split_first : goal.returns-in-None-split_first
-returns-in-None-split_first c = few_protocol _ _ _ c.in-Some.ensures.cases.0 (c.if-not-is_file.ensures.0 refl) c.in-None-split_first.ensures.cases
+returns-in-None-split_first c = few_protocol _ _ _ c.in-Some.ensures.cases.0 (c.if-not-is_file.ensures.0 refl)
+    c.in-None-split_first.ensures.cases
 
 pub returns-then-not-is_file_name : goal.returns-then-not-is_file_name
 returns-then-not-is_file_name c =
-    wrong_calls _ _ _ _ _ c.in-Some.ensures.cases.0 c.in-Some-split_first.ensures.cases.0 (c.if-not-is_file.ensures.0 refl) (refuted c.if-not-is_file_name.ensures.1)
+    wrong_calls _ _ _ _ _ c.in-Some.ensures.cases.0 c.in-Some-split_first.ensures.cases.0 (c.if-not-is_file.ensures.0 refl)
+    (refuted c.if-not-is_file_name.ensures.1)
 
 pub returns-in-Some-split_first-2 : goal.returns-in-Some-split_first-2
 returns-in-Some-split_first-2 c =
-    wrong_third _ _ _ _ _ _ _ c.in-Some.ensures.cases.0 c.in-Some-split_first.ensures.cases.0 c.in-Some-split_first-2.ensures.cases.0 (c.if-not-is_file.ensures.0 refl) (c.if-not-is_file_name.ensures.0 refl)
+    wrong_third _ _ _ _ _ _ _ c.in-Some.ensures.cases.0 c.in-Some-split_first.ensures.cases.0 c.in-Some-split_first-2.ensures.cases.0
+    (c.if-not-is_file.ensures.0 refl) (c.if-not-is_file_name.ensures.0 refl)

@@ -4,8 +4,10 @@ use Rattle.mg_words.proofs.words.judge_files.Goals as goal
 
 pub returns-in-Some : goal.returns-in-Some
 returns-in-Some c =
-    wrong_file (option_map (λ f. f.now) c.args.folder) c.args.files.now c.in-Some.word.now (named_folder c.args.folder c.requires.name) (λ n. c.requires.option (no_folder c.args.folder n)) c.in-Some.ensures
+    wrong_file (option_map (λ f. f.now) c.args.folder) c.args.files.now c.in-Some.word.now (named_folder c.args.folder c.requires.name)
+    (λ n. c.requires.option (no_folder c.args.folder n)) c.in-Some.ensures
 
 pub returns-then-is_empty : goal.returns-then-is_empty
 returns-then-is_empty c =
-    few_files (option_map (λ f. f.now) c.args.folder) c.args.files.now (named_folder c.args.folder c.requires.name) (eqb-true (length c.args.files.now) 0 (sym c.is_empty.ensures ∙ c.if-is_empty.true))
+    few_files (option_map (λ f. f.now) c.args.folder) c.args.files.now (named_folder c.args.folder c.requires.name)
+    (eqb-true (length c.args.files.now) 0 (sym c.is_empty.ensures ∙ c.if-is_empty.true))

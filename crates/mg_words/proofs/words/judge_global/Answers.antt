@@ -5,7 +5,8 @@ use Rattle.mg_words.proofs.words.judge_global.Goals as goal
 
 pub returns-in-None : goal.returns-in-None
 returns-in-None c =
-    few_protocols (option_map (λ f. f.now) c.args.folder) c.args.files.now (named_folder c.args.folder c.requires.name) c.in-None.ensures.cases
+    few_protocols (option_map (λ f. f.now) c.args.folder) c.args.files.now (named_folder c.args.folder c.requires.name)
+    c.in-None.ensures.cases
 
 pub returns-then-not-is_file : goal.returns-then-not-is_file
 returns-then-not-is_file c =

@@ -10,12 +10,15 @@ pub returns-then-not-is_file : goal.returns-then-not-is_file
 returns-then-not-is_file c = wrong_first _ _ _ c.in-Some.ensures.cases.0 (refuted c.if-not-is_file.ensures.1)
 
 pub returns-in-None-split_first : goal.returns-in-None-split_first
-returns-in-None-split_first c = few_first _ _ _ c.in-Some.ensures.cases.0 (c.if-not-is_file.ensures.0 refl) c.in-None-split_first.ensures.cases
+returns-in-None-split_first c = few_first _ _ _ c.in-Some.ensures.cases.0 (c.if-not-is_file.ensures.0 refl)
+    c.in-None-split_first.ensures.cases
 
 pub returns-then-not-is_file-2 : goal.returns-then-not-is_file-2
 returns-then-not-is_file-2 c =
-    wrong_second _ _ _ _ _ c.in-Some.ensures.cases.0 c.in-Some-split_first.ensures.cases.0 (c.if-not-is_file.ensures.0 refl) (refuted c.if-not-is_file-2.ensures.1)
+    wrong_second _ _ _ _ _ c.in-Some.ensures.cases.0 c.in-Some-split_first.ensures.cases.0 (c.if-not-is_file.ensures.0 refl)
+    (refuted c.if-not-is_file-2.ensures.1)
 
 pub returns-in-Some-split_first-2 : goal.returns-in-Some-split_first-2
 returns-in-Some-split_first-2 c =
-    wrong_surplus _ _ _ _ _ _ _ c.in-Some.ensures.cases.0 c.in-Some-split_first.ensures.cases.0 c.in-Some-split_first-2.ensures.cases.0 (c.if-not-is_file.ensures.0 refl) (c.if-not-is_file-2.ensures.0 refl)
+    wrong_surplus _ _ _ _ _ _ _ c.in-Some.ensures.cases.0 c.in-Some-split_first.ensures.cases.0 c.in-Some-split_first-2.ensures.cases.0
+    (c.if-not-is_file.ensures.0 refl) (c.if-not-is_file-2.ensures.0 refl)

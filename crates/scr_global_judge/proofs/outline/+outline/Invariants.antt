@@ -9,11 +9,13 @@ use Rattle.scr_global_judge.proofs.outline.+outline.Given as goal
 
 abbrev pub invariant-outline_all-loop-statement : goal.invariant-outline_all-loop-statement
 invariant-outline_all-loop-statement l =
-    outlined (begins_of l.fn.begins) (statements l.body) ≡ behind (locals.statements l.outline.items) (outlined (begins_of l.begins) (statements (drop l.statement-index l.body)))
+    outlined (begins_of l.fn.begins) (statements l.body) ≡ behind (locals.statements l.outline.items)
+    (outlined (begins_of l.begins) (statements (drop l.statement-index l.body)))
 
 abbrev pub invariant-outline_in-loop-branch : goal.invariant-outline_in-loop-branch
 invariant-outline_in-loop-branch l =
-    outlined_each l.at (bodies l.branches) ≡ beside (locals.bodies l.outline.items) (outlined_each l.at (bodies (drop l.branch-index l.branches)))
+    outlined_each l.at (bodies l.branches) ≡ beside (locals.bodies l.outline.items)
+    (outlined_each l.at (bodies (drop l.branch-index l.branches)))
 
 abbrev pub decreases-outline_at : goal.decreases-outline_at
 decreases-outline_at l = 3 * goal.size-outline_at l

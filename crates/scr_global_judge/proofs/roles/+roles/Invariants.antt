@@ -4,10 +4,12 @@ use Rattle.scr_global_judge.specs.inner.Roles.{test, walk, walk_in}
 use Rattle.scr_global_judge.proofs.roles.+roles.Given as goal
 
 abbrev pub invariant-find_all-loop-statement : goal.invariant-find_all-loop-statement
-invariant-find_all-loop-statement l = walk (test l.check) (statements l.body) ≡ walk (test l.check) (statements (drop l.statement-index l.body))
+invariant-find_all-loop-statement l = walk (test l.check) (statements l.body) ≡ walk (test l.check)
+    (statements (drop l.statement-index l.body))
 
 abbrev pub invariant-find_in-loop-branch : goal.invariant-find_in-loop-branch
-invariant-find_in-loop-branch l = walk_in (test l.check) (bodies l.branches) ≡ walk_in (test l.check) (bodies (drop l.branch-index l.branches))
+invariant-find_in-loop-branch l = walk_in (test l.check) (bodies l.branches) ≡ walk_in (test l.check)
+    (bodies (drop l.branch-index l.branches))
 
 abbrev pub decreases-find_at : goal.decreases-find_at
 decreases-find_at l = 3 * goal.size-find_at l

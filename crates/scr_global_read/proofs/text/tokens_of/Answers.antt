@@ -7,7 +7,8 @@ use Rattle.scr_global_read.proofs.text.tokens_of.Goals as goal
 pub place_of-requires-clause-within : goal.place_of-requires-clause-within
 place_of-requires-clause-within c =
     let fault = c.in-Err-BadByte in
-    bad_within fault.offset c.args.bytes.now (bad_of fault.field-0 fault.offset c.args.bytes.now fault.field-0-is c.in-Err-BadByte.ensures.bad)
+    bad_within fault.offset c.args.bytes.now (bad_of fault.field-0 fault.offset c.args.bytes.now fault.field-0-is
+    c.in-Err-BadByte.ensures.bad)
 
 pub returns-in-Err-BadByte : goal.returns-in-Err-BadByte
 returns-in-Err-BadByte c =

@@ -8,13 +8,15 @@ use Rattle.scr_judge.proofs.actions.+actions.Given as goal
 abbrev pub invariant-collect_all-loop-statement : goal.invariant-collect_all-loop-statement
 invariant-collect_all-loop-statement l = record {
   next : next l.me l.fn.number (statements l.body) ≡ next l.me l.number (statements (drop l.statement-index l.body));
-  actions : map act l.fn.out.items ++ actions l.me l.fn.number (statements l.body) ≡ map act l.out.items ++ actions l.me l.number (statements (drop l.statement-index l.body));
+  actions : map act l.fn.out.items ++ actions l.me l.fn.number (statements l.body) ≡ map act l.out.items ++ actions l.me l.number
+      (statements (drop l.statement-index l.body));
 }
 
 abbrev pub invariant-collect_in-loop-branch : goal.invariant-collect_in-loop-branch
 invariant-collect_in-loop-branch l = record {
   next : next_in l.me l.fn.number (bodies l.branches) ≡ next_in l.me l.number (bodies (drop l.branch-index l.branches));
-  actions : map act l.fn.out.items ++ actions_in l.me l.fn.number (bodies l.branches) ≡ map act l.out.items ++ actions_in l.me l.number (bodies (drop l.branch-index l.branches));
+  actions : map act l.fn.out.items ++ actions_in l.me l.fn.number (bodies l.branches) ≡ map act l.out.items ++ actions_in l.me l.number
+      (bodies (drop l.branch-index l.branches));
 }
 
 abbrev pub decreases-collect_at : goal.decreases-collect_at

@@ -12,7 +12,8 @@ pub bounds-actions-first : goal.bounds-actions-first
 bounds-actions-first c =
     let seen : get_by_text c.loop-i.firsts c.index-actions-i.result.call ≡ Some c.in-Some.first.now =
     ap (get_by_text c.loop-i.firsts) (sym c.as_str.ensures) ∙ sym c.in-Some.ensures.value in
-    below call_of does c.loop-i.firsts c.args.actions.now c.loop-i.i c.index-actions-i.result c.loop-i-test.true c.index-actions-i.is c.loop-i.invariant.indexes c.in-Some.first.now seen
+    below call_of does c.loop-i.firsts c.args.actions.now c.loop-i.i c.index-actions-i.result c.loop-i-test.true c.index-actions-i.is
+    c.loop-i.invariant.indexes c.in-Some.first.now seen
 
 pub offset_bounds-actions-first : goal.offset_bounds-actions-first
 offset_bounds-actions-first c = let within = bounds-actions-first c in search rules
@@ -23,7 +24,8 @@ returns-then-not-is_same_deed c =
     ap (get_by_text c.loop-i.firsts) (sym c.as_str.ensures) ∙ sym c.in-Some.ensures.value in
     left_here (Clash call_of does clashing) c.loop-i.invariant.left c.index-actions-i.result c.loop-i-test.true c.index-actions-i.is _ (
       refl,
-      differs call_of does c.loop-i.firsts c.args.actions.now c.loop-i.i c.index-actions-i.result c.loop-i-test.true c.index-actions-i.is c.loop-i.invariant.indexes c.in-Some.first.now seen
+      differs call_of does c.loop-i.firsts c.args.actions.now c.loop-i.i c.index-actions-i.result c.loop-i-test.true c.index-actions-i.is
+          c.loop-i.invariant.indexes c.in-Some.first.now seen
           c.index-actions-first.result c.index-actions-first.is (λ same. true≢false (sym (c.if-not-is_same_deed.ensures.1 same))),
     )
 
@@ -36,10 +38,13 @@ loop-i-preserved c =
           let same = w.if-not-is_same_deed.ensures.0 refl in
           record {
             indexes = subst (λ m. Indexes call_of does m (take (c.loop-i.i + 1) c.args.actions.now)) (sym w.firsts-is)
-                (same_indexes call_of does c.loop-i.firsts c.args.actions.now c.loop-i.i c.index-actions-i.result c.loop-i-test.true c.index-actions-i.is c.loop-i.invariant.indexes
+                (same_indexes call_of does c.loop-i.firsts c.args.actions.now c.loop-i.i c.index-actions-i.result c.loop-i-test.true
+                c.index-actions-i.is c.loop-i.invariant.indexes
                 w.in-Some.first.now seen w.index-actions-first.result w.index-actions-first.is same);
-            left = left_later (Clash call_of does clashing) c.loop-i.invariant.left c.index-actions-i.result c.loop-i-test.true c.index-actions-i.is
-                (λ k a. same_fine call_of does c.loop-i.firsts c.args.actions.now c.loop-i.i c.index-actions-i.result c.loop-i-test.true c.index-actions-i.is c.loop-i.invariant.indexes
+            left = left_later (Clash call_of does clashing) c.loop-i.invariant.left c.index-actions-i.result c.loop-i-test.true
+                c.index-actions-i.is
+                (λ k a. same_fine call_of does c.loop-i.firsts c.args.actions.now c.loop-i.i c.index-actions-i.result c.loop-i-test.true
+                c.index-actions-i.is c.loop-i.invariant.indexes
                 w.in-Some.first.now seen w.index-actions-first.result w.index-actions-first.is same a.1);
           }
       | in-None+in_ok-key-in-None+in_ok-insert-in-None w ↦
@@ -47,10 +52,14 @@ loop-i-preserved c =
           ap (get_by_text c.loop-i.firsts) (sym c.as_str.ensures) ∙ sym w.in-None.ensures.value in
           record {
             indexes = subst (λ m. Indexes call_of does m (take (c.loop-i.i + 1) c.args.actions.now)) (sym w.firsts-is)
-                (new_indexed call_of does c.loop-i.firsts c.args.actions.now c.loop-i.i c.index-actions-i.result c.loop-i-test.true c.index-actions-i.is c.loop-i.invariant.indexes none
-                w.insert.new.self w.in_ok-key-in-None.key (w.in_ok-key-in-None.ensures.ok ∙ w.as_str-in-None.ensures) w.in_ok-insert-in-None.ensures.updates);
-            left = left_later (Clash call_of does clashing) c.loop-i.invariant.left c.index-actions-i.result c.loop-i-test.true c.index-actions-i.is
-                (λ k a. none_fine call_of does c.loop-i.firsts c.args.actions.now c.loop-i.i c.index-actions-i.result c.loop-i-test.true c.index-actions-i.is c.loop-i.invariant.indexes none a.1);
+                (new_indexed call_of does c.loop-i.firsts c.args.actions.now c.loop-i.i c.index-actions-i.result c.loop-i-test.true
+                c.index-actions-i.is c.loop-i.invariant.indexes none
+                w.insert.new.self w.in_ok-key-in-None.key (w.in_ok-key-in-None.ensures.ok ∙ w.as_str-in-None.ensures)
+                w.in_ok-insert-in-None.ensures.updates);
+            left = left_later (Clash call_of does clashing) c.loop-i.invariant.left c.index-actions-i.result c.loop-i-test.true
+                c.index-actions-i.is
+                (λ k a. none_fine call_of does c.loop-i.firsts c.args.actions.now c.loop-i.i c.index-actions-i.result c.loop-i-test.true
+                c.index-actions-i.is c.loop-i.invariant.indexes none a.1);
           }
     ]
 

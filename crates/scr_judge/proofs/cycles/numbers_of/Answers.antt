@@ -11,12 +11,17 @@ pub loop-name-preserved : goal.loop-name-preserved
 loop-name-preserved c =
     let none : Bor Name = record { ref_ptr = (0, 0); now = [] } in
     let here : Bor Name = get_or c.args.sought.now c.loop-name.name-index none in
-    let is : here ≡ get_or c.args.sought.now c.loop-name.name-index here = get_or_default c.args.sought.now c.loop-name.name-index none here c.loop-name-test.true in
+    let is : here ≡ get_or c.args.sought.now c.loop-name.name-index here = get_or_default c.args.sought.now c.loop-name.name-index none here
+    c.loop-name-test.true in
     elim c.match-find.branch [
       | in-Some+in_ok-push-in-Some w ↦
-          numbers_more c.args.names.now c.args.sought.now c.loop-name.name-index here c.loop-name-test.true is _ c.loop-name.numbers.items c.match-find.numbers.items _ c.loop-name.invariant
-          (ap (option_map (λ n. n.0)) (sym w.in-Some.is) ∙ c.find.ensures) (ap (λ v. v.items) w.numbers-is ∙ w.in_ok-push-in-Some.ensures.items)
+          numbers_more c.args.names.now c.args.sought.now c.loop-name.name-index here c.loop-name-test.true is _ c.loop-name.numbers.items
+          c.match-find.numbers.items _ c.loop-name.invariant
+          (ap (option_map (λ n. n.0)) (sym w.in-Some.is) ∙ c.find.ensures) (ap (λ v. v.items) w.numbers-is ∙
+          w.in_ok-push-in-Some.ensures.items)
       | in-None w ↦
-          numbers_more c.args.names.now c.args.sought.now c.loop-name.name-index here c.loop-name-test.true is _ c.loop-name.numbers.items c.match-find.numbers.items None c.loop-name.invariant
-          (ap (option_map (λ n. n.0)) (sym w.in-None.is) ∙ c.find.ensures) (ap (λ v. v.items) w.numbers-is ∙ sym (append-nil c.loop-name.numbers.items))
+          numbers_more c.args.names.now c.args.sought.now c.loop-name.name-index here c.loop-name-test.true is _ c.loop-name.numbers.items
+          c.match-find.numbers.items None c.loop-name.invariant
+          (ap (option_map (λ n. n.0)) (sym w.in-None.is) ∙ c.find.ensures) (ap (λ v. v.items) w.numbers-is ∙
+          sym (append-nil c.loop-name.numbers.items))
     ]

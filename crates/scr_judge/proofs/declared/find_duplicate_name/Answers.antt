@@ -14,4 +14,5 @@ returns-in-Some c =
 pub returns-in-None : goal.returns-in-None
 returns-in-None c =
     IfOk-weaker c.find_listed_twice.result _ _ (λ r j. duplicate_name c.args.types.now c.args.roles.now
-    (subst (λ o. Judged DeclaredTwice (with_earlier c.args.types.now) (culprit_of o)) c.in-None.is c.in_ok-culprit.ensures) j) c.find_listed_twice.ensures
+    (subst (λ o. Judged DeclaredTwice (with_earlier c.args.types.now) (culprit_of o)) c.in-None.is c.in_ok-culprit.ensures) j)
+    c.find_listed_twice.ensures

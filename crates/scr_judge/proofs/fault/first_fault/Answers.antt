@@ -8,4 +8,5 @@ use Rattle.scr_judge.proofs.fault.first_fault.Goals as goal
 
 pub returns : goal.returns
 returns c =
-    IfOk-weaker c.first_of.result _ _ (λ r f. subst (λ ks. FirstOf (Of (written_of c.args.file c.args.written.now)) ks (fault_of r)) c.as_slice.ensures f) c.first_of.ensures
+    IfOk-weaker c.first_of.result _ _ (λ r f. subst (λ ks. FirstOf (Of (written_of c.args.file c.args.written.now)) ks (fault_of r))
+    c.as_slice.ensures f) c.first_of.ensures

@@ -5,4 +5,5 @@ use Rattle.scr_judge.specs.inner.Listed.{first_among}
 use Rattle.scr_judge.proofs.going.find_unknown_in.Given as goal
 
 abbrev pub invariant-loop-part : goal.invariant-loop-part
-invariant-loop-part l = first_among (unknown_in (contains_text l.names)) l.parts ≡ first_among (unknown_in (contains_text l.names)) (drop l.part-index l.parts)
+invariant-loop-part l = first_among (unknown_in (contains_text l.names)) l.parts ≡ first_among (unknown_in (contains_text l.names))
+    (drop l.part-index l.parts)

@@ -8,13 +8,15 @@ use Rattle.scr_judge.proofs.gone.+gone.Given as goal
 abbrev pub invariant-gone_all-loop-statement : goal.invariant-gone_all-loop-statement
 invariant-gone_all-loop-statement l = record {
   passes : passes (statements l.body) ≡ (l.quiet && passes (statements (drop l.statement-index l.body)));
-  names : told_names l.initial.out.items ++ gone l.at_once (statements l.body) ≡ told_names l.out.items ++ gone (l.quiet && l.at_once) (statements (drop l.statement-index l.body));
+  names : told_names l.initial.out.items ++ gone l.at_once (statements l.body) ≡ told_names l.out.items ++ gone (l.quiet && l.at_once)
+      (statements (drop l.statement-index l.body));
 }
 
 abbrev pub invariant-gone_in-loop-branch : goal.invariant-gone_in-loop-branch
 invariant-gone_in-loop-branch l = record {
   passes : some_passes (bodies l.branches) ≡ (l.some || some_passes (bodies (drop l.branch-index l.branches)));
-  names : told_names l.initial.out.items ++ gone_in l.at_once (bodies l.branches) ≡ told_names l.out.items ++ gone_in l.at_once (bodies (drop l.branch-index l.branches));
+  names : told_names l.initial.out.items ++ gone_in l.at_once (bodies l.branches) ≡ told_names l.out.items ++ gone_in l.at_once
+      (bodies (drop l.branch-index l.branches));
 }
 
 abbrev pub decreases-gone_at : goal.decreases-gone_at

@@ -10,7 +10,8 @@ abbrev pub invariant-same_all-loop-statement : goal.invariant-same_all-loop-stat
 invariant-same_all-loop-statement l = same l.me (statements l.body) ≡ same l.me (statements (drop l.statement-index l.body))
 
 abbrev pub invariant-same_in-loop-branch : goal.invariant-same_in-loop-branch
-invariant-same_in-loop-branch l = same_in l.me l.at none (bodies l.branches) ≡ same_in l.me l.at (contains_text l.keys) (bodies (drop l.branch-index l.branches))
+invariant-same_in-loop-branch l = same_in l.me l.at none (bodies l.branches) ≡ same_in l.me l.at (contains_text l.keys)
+    (bodies (drop l.branch-index l.branches))
 
 abbrev pub decreases-same_at : goal.decreases-same_at
 decreases-same_at l = 3 * goal.size-same_at l

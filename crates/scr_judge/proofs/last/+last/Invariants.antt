@@ -7,7 +7,8 @@ abbrev pub invariant-last_all-loop-i : goal.invariant-last_all-loop-i
 invariant-last_all-loop-i l = not_last l.followed (statements l.body) ≡ not_last l.followed (statements (drop l.i l.body))
 
 abbrev pub invariant-last_in-loop-branch : goal.invariant-last_in-loop-branch
-invariant-last_in-loop-branch l = not_last_in l.followed (bodies l.branches) ≡ not_last_in l.followed (bodies (drop l.branch-index l.branches))
+invariant-last_in-loop-branch l = not_last_in l.followed (bodies l.branches) ≡ not_last_in l.followed
+    (bodies (drop l.branch-index l.branches))
 
 abbrev pub decreases-last_at : goal.decreases-last_at
 decreases-last_at l = 3 * goal.size-last_at l

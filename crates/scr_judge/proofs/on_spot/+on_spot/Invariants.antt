@@ -12,7 +12,8 @@ invariant-find_all-loop-statement l =
 
 abbrev pub invariant-find_in-loop-branch : goal.invariant-find_in-loop-branch
 invariant-find_in-loop-branch l =
-    walk_in (test l.check) l.at (names_of l.around) (bodies l.branches) ≡ walk_in (test l.check) l.at (names_of l.around) (bodies (drop l.branch-index l.branches))
+    walk_in (test l.check) l.at (names_of l.around) (bodies l.branches) ≡ walk_in (test l.check) l.at (names_of l.around)
+    (bodies (drop l.branch-index l.branches))
 
 abbrev pub decreases-find_at : goal.decreases-find_at
 decreases-find_at l = 3 * goal.size-find_at l

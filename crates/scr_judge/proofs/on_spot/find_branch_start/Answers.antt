@@ -7,4 +7,5 @@ use Rattle.scr_judge.proofs.Asking.{start_right}
 use Rattle.scr_judge.proofs.on_spot.find_branch_start.Goals as goal
 
 pub returns : goal.returns
-returns c = first_asked BranchStart (λ begins around. branch_start (is_some begins)) start_right (statements c.args.body.now) _ c.find_all.ensures
+returns c = first_asked BranchStart (λ begins around. branch_start (is_some begins)) start_right (statements c.args.body.now) _
+    c.find_all.ensures

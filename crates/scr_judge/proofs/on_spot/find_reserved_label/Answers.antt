@@ -6,4 +6,5 @@ use Rattle.scr_judge.proofs.Asking.{label_right}
 use Rattle.scr_judge.proofs.on_spot.find_reserved_label.Goals as goal
 
 pub returns : goal.returns
-returns c = first_asked (ReservedLabel c.args.me.now) (λ begins around. reserved_label c.args.me.now begins) (label_right c.args.me.now) (statements c.args.body.now) _ c.find_all.ensures
+returns c = first_asked (ReservedLabel c.args.me.now) (λ begins around. reserved_label c.args.me.now begins) (label_right c.args.me.now)
+    (statements c.args.body.now) _ c.find_all.ensures

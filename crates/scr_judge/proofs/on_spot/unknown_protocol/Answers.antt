@@ -12,4 +12,5 @@ returns-in-Do c =
     let listed = c.contains.ensures ∙ ap (contains_text c.args.names.now) c.as_str-name.ensures in
     c.culprit_unless.ensures
     ∙ (λ i. unless (listed i) (culprit c.in-Do.place (c.as_str-name.ensures i)))
-    ∙ sym (ap (λ s. unknown_protocol (contains_text c.args.names.now) (front s Nothing)) c.in-Do.is ∙ protocol-Do (contains_text c.args.names.now) c.in-Do.place c.in-Do.name)
+    ∙ sym (ap (λ s. unknown_protocol (contains_text c.args.names.now) (front s Nothing)) c.in-Do.is ∙
+    protocol-Do (contains_text c.args.names.now) c.in-Do.place c.in-Do.name)

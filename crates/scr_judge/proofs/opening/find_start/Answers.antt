@@ -10,21 +10,26 @@ use Rattle.scr_judge.proofs.opening.find_start.Goals as goal
 
 pub returns-then-not-has_deed : goal.returns-then-not-has_deed
 returns-then-not-has_deed c =
-    subst (λ n. Judged StartsWithDo (part_written c.args.part.now ∷ []) (Some (culprit c.args.part.now.place n))) (sym c.as_str-name.ensures)
-    (no_deed c.args.part.now (statements c.as_slice-body.result.now) (ap statements c.as_slice-body.ensures.items) (sym c.if-not-has_deed.ensures))
+    subst (λ n. Judged StartsWithDo (part_written c.args.part.now ∷ []) (Some (culprit c.args.part.now.place n)))
+    (sym c.as_str-name.ensures)
+    (no_deed c.args.part.now (statements c.as_slice-body.result.now) (ap statements c.as_slice-body.ensures.items)
+    (sym c.if-not-has_deed.ensures))
 
 pub returns-in-Neither : goal.returns-in-Neither
 returns-in-Neither c =
-    acts_first c.args.part.now (statements c.as_slice-body.result.now) (ap statements c.as_slice-body.ensures.items) (sym c.if-not-has_deed.ensures)
+    acts_first c.args.part.now (statements c.as_slice-body.result.now) (ap statements c.as_slice-body.ensures.items)
+    (sym c.if-not-has_deed.ensures)
     (ap place_in (sym c.first_of.ensures ∙ ap first_seen c.in-Neither.is))
 
 pub returns-in-Deed : goal.returns-in-Deed
 returns-in-Deed c =
-    acts_first c.args.part.now (statements c.as_slice-body.result.now) (ap statements c.as_slice-body.ensures.items) (sym c.if-not-has_deed.ensures)
+    acts_first c.args.part.now (statements c.as_slice-body.result.now) (ap statements c.as_slice-body.ensures.items)
+    (sym c.if-not-has_deed.ensures)
     (ap place_in (sym c.first_of.ensures ∙ ap first_seen c.in-Deed.is))
 
 pub returns-in-Goes : goal.returns-in-Goes
 returns-in-Goes c =
     subst (λ n. Judged StartsWithDo (part_written c.args.part.now ∷ []) (Some (culprit c.in-Goes.place n))) (sym c.as_str-name.ensures)
-    (do_first c.args.part.now (statements c.as_slice-body.result.now) (ap statements c.as_slice-body.ensures.items) (sym c.if-not-has_deed.ensures)
+    (do_first c.args.part.now (statements c.as_slice-body.result.now) (ap statements c.as_slice-body.ensures.items)
+    (sym c.if-not-has_deed.ensures)
     c.in-Goes.place (sym c.first_of.ensures ∙ ap first_seen c.in-Goes.is))

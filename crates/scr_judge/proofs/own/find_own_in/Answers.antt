@@ -10,12 +10,14 @@ loop-part-init c = rest_start (λ p. OfOwn c.args.own (part_written p)) c.args.p
 
 pub returns-in-Some : goal.returns-in-Some
 returns-in-Some c =
-    rest_here (λ p. OfOwn c.args.own (part_written p)) c.args.parts.now c.loop-part.part-index c.loop-part.invariant c.loop-part-test.true c.part-item.result c.part-item.is
+    rest_here (λ p. OfOwn c.args.own (part_written p)) c.args.parts.now c.loop-part.part-index c.loop-part.invariant c.loop-part-test.true
+    c.part-item.result c.part-item.is
     _ (named_of c.in_ok-found.field-0) c.in_ok-found.ensures (ap named_of c.in-Some.is)
 
 pub loop-part-preserved : goal.loop-part-preserved
 loop-part-preserved c =
-    rest_later (λ p. OfOwn c.args.own (part_written p)) c.args.parts.now c.loop-part.part-index c.loop-part.invariant c.loop-part-test.true c.part-item.result c.part-item.is
+    rest_later (λ p. OfOwn c.args.own (part_written p)) c.args.parts.now c.loop-part.part-index c.loop-part.invariant c.loop-part-test.true
+    c.part-item.result c.part-item.is
     (named_of c.in_ok-found.field-0) c.in_ok-found.ensures (ap named_of c.in-None.is)
 
 pub returns : goal.returns

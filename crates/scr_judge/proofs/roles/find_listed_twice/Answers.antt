@@ -14,17 +14,21 @@ loop-role-init c = record { names = has_none _ c.no_names-names.ensures; left = 
 pub returns-then-not-branch : goal.returns-then-not-branch
 returns-then-not-branch c =
     let same : string_bytes c.in_ok-name.name ≡ c.role-item.result.name = c.in_ok-name.ensures.ok ∙ c.as_str.ensures in
-    subst (λ n. Judged ListedTwice (with_earlier c.args.roles.now) (Some (culprit c.role-item.result.place n))) (sym c.as_str-then-not-branch.ensures)
-    (repeated_role (contains_text c.loop-role.names) c.args.roles.now c.loop-role.role-index c.role-item.result c.loop-role-test.true c.role-item.is c.loop-role.invariant.names
+    subst (λ n. Judged ListedTwice (with_earlier c.args.roles.now) (Some (culprit c.role-item.result.place n)))
+    (sym c.as_str-then-not-branch.ensures)
+    (repeated_role (contains_text c.loop-role.names) c.args.roles.now c.loop-role.role-index c.role-item.result c.loop-role-test.true
+    c.role-item.is c.loop-role.invariant.names
     (string_bytes c.in_ok-name.name) same c.loop-role.invariant.left (sym c.in_ok-add_name.ensures.new ∙ c.if-not-branch.true))
 
 pub loop-role-preserved : goal.loop-role-preserved
 loop-role-preserved c =
     let same : string_bytes c.in_ok-name.name ≡ c.role-item.result.name = c.in_ok-name.ensures.ok ∙ c.as_str.ensures in
     record {
-      names = has_one_more role_name (contains_text c.loop-role.names) c.args.roles.now c.loop-role.role-index c.role-item.result c.loop-role-test.true c.role-item.is c.loop-role.invariant.names
+      names = has_one_more role_name (contains_text c.loop-role.names) c.args.roles.now c.loop-role.role-index c.role-item.result
+          c.loop-role-test.true c.role-item.is c.loop-role.invariant.names
           (string_bytes c.in_ok-name.name) same (contains_text c.add_name.new.names) c.in_ok-add_name.ensures.names;
-      left = new_role (contains_text c.loop-role.names) c.args.roles.now c.loop-role.role-index c.role-item.result c.loop-role-test.true c.role-item.is c.loop-role.invariant.names
+      left = new_role (contains_text c.loop-role.names) c.args.roles.now c.loop-role.role-index c.role-item.result c.loop-role-test.true
+          c.role-item.is c.loop-role.invariant.names
           (string_bytes c.in_ok-name.name) same c.loop-role.invariant.left (sym c.in_ok-add_name.ensures.new ∙ c.if-not-branch.false);
     }
 

@@ -7,4 +7,7 @@ use Rattle.scr_judge.proofs.Duplicates.{HasNames}
 use Rattle.scr_judge.proofs.roles.find_listed_twice.Given as goal
 
 abbrev pub invariant-loop-role : goal.invariant-loop-role
-invariant-loop-role l = record { names : HasNames (contains_text l.names) (map role_name (take l.role-index l.roles)); left : Left ListedTwice l.roles l.role-index }
+invariant-loop-role l = record {
+  names : HasNames (contains_text l.names) (map role_name (take l.role-index l.roles));
+  left : Left ListedTwice l.roles l.role-index;
+}

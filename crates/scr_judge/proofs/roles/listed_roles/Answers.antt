@@ -10,8 +10,10 @@ loop-role-init c = has_none _ c.no_names-names.ensures
 pub loop-role-preserved : goal.loop-role-preserved
 loop-role-preserved c =
     let same : string_bytes c.in_ok-name.name ≡ c.role-item.result.name = c.in_ok-name.ensures.ok ∙ c.as_str.ensures in
-    has_one_more role_name (contains_text c.loop-role.names) c.args.roles.now c.loop-role.role-index c.role-item.result c.loop-role-test.true c.role-item.is c.loop-role.invariant
+    has_one_more role_name (contains_text c.loop-role.names) c.args.roles.now c.loop-role.role-index c.role-item.result
+    c.loop-role-test.true c.role-item.is c.loop-role.invariant
     (string_bytes c.in_ok-name.name) same (contains_text c.add_name.new.names) c.in_ok-add_name.ensures.names
 
 pub returns : goal.returns
-returns c = (subst (λ xs. HasNames (contains_text c.loop-role.names) (map role_name xs)) (take_all c.loop-role.role-index c.args.roles.now (omega arith)) c.loop-role.invariant).each
+returns c = (subst (λ xs. HasNames (contains_text c.loop-role.names) (map role_name xs)) (take_all c.loop-role.role-index c.args.roles.now
+    (omega arith)) c.loop-role.invariant).each

@@ -11,4 +11,5 @@ returns-in-Some c = file_roles c.args.written.now _ (or_here _ _ _ (sym c.find_t
 pub returns-in-None : goal.returns-in-None
 returns-in-None c =
     file_roles c.args.written.now _
-    (or_behind _ _ _ (sym c.find_told.ensures ∙ ap culprit_of c.in-None.is) (c.find_told_in.ensures ∙ ap (first_among (roles_differ c.args.written.now.first)) c.as_slice.ensures.items))
+    (or_behind _ _ _ (sym c.find_told.ensures ∙ ap culprit_of c.in-None.is)
+    (c.find_told_in.ensures ∙ ap (first_among (roles_differ c.args.written.now.first)) c.as_slice.ensures.items))

@@ -9,5 +9,6 @@ pub returns-in-Some-clause-hit : goal.returns-in-Some-clause-hit
 returns-in-Some-clause-hit c =
     let edges : c.as_slice.result.now ≡ get_or (graph_of c.args.targets.now) c.args.node [] =
     c.as_slice.ensures.value
-    ∙ sym (row_at (λ (v : Vec ℕ Global). v.items) c.args.targets.now c.args.node c.in-Some.edges.now [] c.in-Some.ensures.lookup.3.0 c.in-Some.ensures.lookup.1) in
+    ∙ sym (row_at (λ (v : Vec ℕ Global). v.items) c.args.targets.now c.args.node c.in-Some.edges.now [] c.in-Some.ensures.lookup.3.0
+    c.in-Some.ensures.lookup.1) in
     IfOk-weaker c.spread.result _ _ (λ b h t. subst (λ (es : List ℕ). Contains es c.args.to) edges (h t)) c.spread.ensures.hit

@@ -5,4 +5,5 @@ use Rattle.scr_tree.specs.View.{bodies}
 use Rattle.scr_judge.proofs.starts.one_peer.Given as goal
 
 abbrev pub invariant-loop-branch : goal.invariant-loop-branch
-invariant-loop-branch l = one_peer None (bodies l.branches) ≡ one_peer (option_map (λ p. p.now) l.known) (bodies (drop l.branch-index l.branches))
+invariant-loop-branch l = one_peer None (bodies l.branches) ≡ one_peer (option_map (λ p. p.now) l.known)
+    (bodies (drop l.branch-index l.branches))

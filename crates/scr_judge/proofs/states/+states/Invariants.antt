@@ -5,10 +5,12 @@ use Rattle.scr_tree.specs.View.{bodies}
 use Rattle.scr_judge.proofs.states.+states.Given as goal
 
 abbrev pub invariant-count_all-loop-statement : goal.invariant-count_all-loop-statement
-invariant-count_all-loop-statement l = counted l.me l.fn.first l.fn.count (statements l.body) ≡ counted l.me l.first l.count (statements (drop l.statement-index l.body))
+invariant-count_all-loop-statement l = counted l.me l.fn.first l.fn.count (statements l.body) ≡ counted l.me l.first l.count
+    (statements (drop l.statement-index l.body))
 
 abbrev pub invariant-count_in-loop-branch : goal.invariant-count_in-loop-branch
-invariant-count_in-loop-branch l = counted_in l.me l.at_self l.fn.count (bodies l.branches) ≡ counted_in l.me l.at_self l.count (bodies (drop l.branch-index l.branches))
+invariant-count_in-loop-branch l = counted_in l.me l.at_self l.fn.count (bodies l.branches) ≡ counted_in l.me l.at_self l.count
+    (bodies (drop l.branch-index l.branches))
 
 abbrev pub decreases-count_at : goal.decreases-count_at
 decreases-count_at l = 3 * goal.size-count_at l

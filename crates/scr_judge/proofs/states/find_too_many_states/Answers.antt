@@ -8,8 +8,11 @@ use Rattle.scr_judge.proofs.states.find_too_many_states.Goals as goal
 
 pub returns-then-has_too_many_states : goal.returns-then-has_too_many_states
 returns-then-has_too_many_states c =
-    subst (λ p. Judged (TooManyStates c.args.file) (all_states me_in body_of (parts_in (written_of c.args.file c.args.written.now)) ∷ []) (Some (culprit p []))) (sym c.start.ensures)
-    (judged_file c.args.file (all_states me_in body_of (parts_in (written_of c.args.file c.args.written.now))) true c.if-has_too_many_states.ensures)
+    subst (λ p. Judged (TooManyStates c.args.file) (all_states me_in body_of (parts_in (written_of c.args.file c.args.written.now)) ∷ [])
+    (Some (culprit p []))) (sym c.start.ensures)
+    (judged_file c.args.file (all_states me_in body_of (parts_in (written_of c.args.file c.args.written.now))) true
+    c.if-has_too_many_states.ensures)
 
 pub returns : goal.returns
-returns c = judged_file c.args.file (all_states me_in body_of (parts_in (written_of c.args.file c.args.written.now))) false c.if-has_too_many_states.ensures
+returns c = judged_file c.args.file (all_states me_in body_of (parts_in (written_of c.args.file c.args.written.now))) false
+    c.if-has_too_many_states.ensures

@@ -13,15 +13,18 @@ returns-in-Some c =
 
 pub returns-in-Some-find_undeclared : goal.returns-in-Some-find_undeclared
 returns-in-Some-find_undeclared c =
-    file_unknown c.args.written.now _ (contains_text c.in_ok-aliases-in-None.aliases) c.as_slice-types.ensures.items c.in_ok-aliases-in-None.ensures
+    file_unknown c.args.written.now _ (contains_text c.in_ok-aliases-in-None.aliases) c.as_slice-types.ensures.items
+    c.in_ok-aliases-in-None.ensures
     (sym (ap culprit_of c.in-None.is) ∙ c.find_unsupported.ensures) _
     (or_here _ _ _ (ap (first_among (undeclared_in (contains_text c.in_ok-aliases-in-None.aliases))) (sym c.as_slice.ensures.items)
     ∙ sym c.find_undeclared.ensures ∙ ap culprit_of c.in-Some-find_undeclared.is))
 
 pub returns : goal.returns
 returns c =
-    file_unknown c.args.written.now _ (contains_text c.in_ok-aliases-in-None.aliases) c.as_slice-types.ensures.items c.in_ok-aliases-in-None.ensures
+    file_unknown c.args.written.now _ (contains_text c.in_ok-aliases-in-None.aliases) c.as_slice-types.ensures.items
+    c.in_ok-aliases-in-None.ensures
     (sym (ap culprit_of c.in-None.is) ∙ c.find_unsupported.ensures) _
     (or_behind _ _ _ (ap (first_among (undeclared_in (contains_text c.in_ok-aliases-in-None.aliases))) (sym c.as_slice.ensures.items)
     ∙ sym c.find_undeclared.ensures ∙ ap culprit_of c.in-None-find_undeclared.is)
-    (c.find_undeclared_among.ensures ∙ ap (first_among (undeclared_by (contains_text c.in_ok-aliases-in-None.aliases))) c.as_slice-in-None-find_undeclared.ensures.items))
+    (c.find_undeclared_among.ensures ∙ ap (first_among (undeclared_by (contains_text c.in_ok-aliases-in-None.aliases)))
+    c.as_slice-in-None-find_undeclared.ensures.items))

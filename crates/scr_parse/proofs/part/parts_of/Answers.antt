@@ -36,7 +36,8 @@ parts-preserved c =
     let goes = more_goes c.is_empty.result c.parts.rest.now c.is_empty.ensures c.parts-test.true in
     let e : all_parts c.push.new.self.items ≡ all_parts c.parts.parts.items ++ part_written p ∷ [] = rw c.in_ok-push.ensures.ok
     (map_push _ c.parts.parts.items p) in
-    let less = part_shorter c.args.types.now.declared.items (toks c.parts.rest.now) (part_written p) (toks c.in_ok-part.after.now) c.in_ok-part.ensures in
+    let less = part_shorter c.args.types.now.declared.items (toks c.parts.rest.now) (part_written p) (toks c.in_ok-part.after.now)
+    c.in_ok-part.ensures in
     rw e (Left-more is_more f (all_parts c.parts.parts.items) (toks c.parts.rest.now) (part_written p) (toks c.in_ok-part.after.now)
     (all_of is_more f (toks c.args.tokens.now)) goes c.in_ok-part.ensures less c.parts.invariant)
 

@@ -6,4 +6,5 @@ use Rattle.scr_print.proofs.print.put_roles.Given as goal
 
 abbrev pub invariant-loop-role : goal.invariant-loop-role
 invariant-loop-role l =
-    shadow (Utf8 l.before) × (string_bytes l.initial.out ++ role_list [] l.roles ≡ string_bytes l.out ++ role_list l.before (drop l.role-index l.roles))
+    shadow (Utf8 l.before) × (string_bytes l.initial.out ++ role_list [] l.roles ≡ string_bytes l.out ++ role_list l.before
+    (drop l.role-index l.roles))

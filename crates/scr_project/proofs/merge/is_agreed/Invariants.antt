@@ -6,4 +6,5 @@ use Rattle.scr_project.proofs.merge.is_agreed.Given as goal
 
 abbrev pub invariant-loop-other : goal.invariant-loop-other
 invariant-loop-other l =
-    all_same (spoken l.me (statements l.first.items)) (spoken_each l.me (bodies l.others)) ≡ all_same (spoken l.me (statements l.first.items)) (spoken_each l.me (bodies (drop l.other-index l.others)))
+    all_same (spoken l.me (statements l.first.items)) (spoken_each l.me (bodies l.others)) ≡ all_same
+    (spoken l.me (statements l.first.items)) (spoken_each l.me (bodies (drop l.other-index l.others)))

@@ -6,4 +6,5 @@ use Rattle.scr_project.specs.inner.Merge.{tells}
 use Rattle.scr_project.proofs.merge.tells.Given as goal
 
 abbrev pub invariant-loop-branch : goal.invariant-loop-branch
-invariant-loop-branch l = tells l.peer none (bodies l.branches) ≡ tells l.peer (contains_text l.labels) (bodies (drop l.branch-index l.branches))
+invariant-loop-branch l = tells l.peer none (bodies l.branches) ≡ tells l.peer (contains_text l.labels)
+    (bodies (drop l.branch-index l.branches))

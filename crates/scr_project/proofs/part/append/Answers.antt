@@ -11,5 +11,6 @@ pub returns : goal.returns
 returns c =
     let was = c.loop-statement.invariant in
     let none : into_iter_items c.loop-statement.statement-iterator ≡ [] = nothing_left _ (sym was.count ∙ c.in-None.ensures.steps.0) in
-    ap statements (sym (append-nil c.loop-statement.front.items) ∙ ap (λ (z : List Statement). c.loop-statement.front.items ++ z) (sym none) ∙ was.moved)
+    ap statements (sym (append-nil c.loop-statement.front.items) ∙ ap (λ (z : List Statement). c.loop-statement.front.items ++ z) (sym none)
+    ∙ was.moved)
     ∙ statements-append c.args.front.now.items c.args.more.items

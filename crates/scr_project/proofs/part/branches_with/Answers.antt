@@ -10,4 +10,5 @@ use Rattle.scr_project.proofs.part.branches_with.Goals as goal
 pub returns : goal.returns
 returns c =
     ap Some (ap bodies c.in_ok-push.ensures.ok ∙ bodies-push c.in-Some.branches.items c.in-Some-branch.branch)
-    ∙ sym (λ i. both some_beside (say_of (c.in-Some.is i)) (mapped (λ (b : Statements). Branch b NoBranch) (says_of (c.in-Some-branch.is i))))
+    ∙ sym (λ i. both some_beside (say_of (c.in-Some.is i))
+    (mapped (λ (b : Statements). Branch b NoBranch) (says_of (c.in-Some-branch.is i))))

@@ -19,4 +19,5 @@ pub returns-in-Err : goal.returns-in-Err
 returns-in-Err c =
     unmade_of_parts c.args.global.now c.args.role.now (statements c.args.body.items) c.requires.body
     (written c.file-file.result c.in_ok-name.name c.in_ok-me.me c.in_ok-roles.roles.items c.args.body.items [])
-    c.file-file.ensures (search rules) (search rules) (search rules) refl refl c.requires.listed c.in-Err.fault c.unprojected.result c.in-Err.ensures c.unprojected.ensures
+    c.file-file.ensures (search rules) (search rules) (search rules) refl refl c.requires.listed c.in-Err.fault c.unprojected.result
+    c.in-Err.ensures c.unprojected.ensures

@@ -26,7 +26,8 @@ loop-name-preserved c =
       moved =
           ap (λ (z : List Role). z ++ map (listed c.args.file) (into_iter_items c.next.new.self)) c.in_ok-push.ensures.ok
           ∙ append_assoc c.loop-name.roles.items _ (map (listed c.args.file) (into_iter_items c.next.new.self))
-          ∙ ap (λ (p : Place). c.loop-name.roles.items ++ (record { place = p; name = c.in-Some.name } ∷ map (listed c.args.file) (into_iter_items c.next.new.self))) c.start-place.ensures
+          ∙ ap (λ (p : Place). c.loop-name.roles.items ++ (record { place = p; name = c.in-Some.name } ∷ map (listed c.args.file)
+          (into_iter_items c.next.new.self))) c.start-place.ensures
           ∙ ap (λ (z : List Name). c.loop-name.roles.items ++ map (listed c.args.file) z) (sym step.0)
           ∙ was.moved;
     }

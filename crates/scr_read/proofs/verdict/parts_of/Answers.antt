@@ -24,7 +24,7 @@ loop-part-preserved c =
       count = let count = was.count in omega (arith, count, some, step.1);
       moved =
           ap (λ (z : List PartTree). z ++ map meant_of (into_iter_items c.next.new.self))
-              (ap (map part_of) c.in_ok-push.ensures.ok ∙ map_push part_of c.loop-part.parts.items _)
+          (ap (map part_of) c.in_ok-push.ensures.ok ∙ map_push part_of c.loop-part.parts.items _)
           ∙ append_assoc (map part_of c.loop-part.parts.items) _ (map meant_of (into_iter_items c.next.new.self))
           ∙ ap (λ (z : List Written). map part_of c.loop-part.parts.items ++ map meant_of z) (sym step.0)
           ∙ was.moved;

@@ -9,5 +9,6 @@ loop-left-init c = writing_none c.args.entries.now c.args.from c.args.end
 
 pub loop-left-preserved : goal.loop-left-preserved
 loop-left-preserved c =
-    writing_more c.args.entries.now c.loop-left.entries c.args.from c.args.end c.loop-left.at c.loop-left.left c.in-Part.number c.requires c.loop-left.invariant c.if-at-entries.true
+    writing_more c.args.entries.now c.loop-left.entries c.args.from c.args.end c.loop-left.at c.loop-left.left c.in-Part.number c.requires
+    c.loop-left.invariant c.if-at-entries.true
     (get_or_default c.loop-left.entries c.loop-left.at hops.End (hops.State 0) c.if-at-entries.true ∙ c.in-Part.is)

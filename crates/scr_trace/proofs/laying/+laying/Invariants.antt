@@ -16,7 +16,8 @@ decreases-lay_all-loop-i l = l.i
 abbrev pub invariant-lay_branches-loop-i : goal.invariant-lay_branches-loop-i
 invariant-lay_branches-loop-i l = record {
   within : l.i ≤ length l.branches;
-  laid : gathered l.out l.arrows ≡ lay_in l.me (number_by l.names) (known_of l.around) l.at_self (work_of l.fn.out).next (gathered l.fn.out l.fn.arrows) (bodies (drop l.i l.branches));
+  laid : gathered l.out l.arrows ≡ lay_in l.me (number_by l.names) (known_of l.around) l.at_self (work_of l.fn.out).next
+      (gathered l.fn.out l.fn.arrows) (bodies (drop l.i l.branches));
 }
 
 abbrev pub decreases-lay_branches-loop-i : goal.decreases-lay_branches-loop-i

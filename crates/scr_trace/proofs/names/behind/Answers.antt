@@ -6,5 +6,6 @@ use Rattle.scr_trace.proofs.names.behind.Goals as goal
 
 pub returns : goal.returns
 returns c =
-    subst (λ (p : List ℕ). MatchOption c.strip_prefix.result ((rest : List ℕ) → c.args.text.now ≢ p ++ rest) (λ r. c.args.text.now ≡ p ++ r.now)) c.as_bytes.ensures.value
+    subst (λ (p : List ℕ). MatchOption c.strip_prefix.result ((rest : List ℕ) → c.args.text.now ≢ p ++ rest)
+    (λ r. c.args.text.now ≡ p ++ r.now)) c.as_bytes.ensures.value
     (strip_prefix_is Decides-eqb c.args.text.now c.as_bytes.result.now c.strip_prefix.result c.strip_prefix.ensures.cases)

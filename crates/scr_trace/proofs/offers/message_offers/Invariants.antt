@@ -8,7 +8,8 @@ use Rattle.scr_trace.proofs.offers.message_offers.Given as goal
 abbrev pub invariant-loop-i : goal.invariant-loop-i
 invariant-loop-i l = record {
   within : l.i ≤ length l.arrows;
-  made : calls_offered l.offers.items ≡ edge_calls (tree_of l.local).me (map (edge_of (work_of l.laid) None) (drafts_of (drop l.i l.arrows)));
+  made : calls_offered l.offers.items ≡ edge_calls (tree_of l.local).me
+      (map (edge_of (work_of l.laid) None) (drafts_of (drop l.i l.arrows)));
   named : methods_of l.offers.items ≡ messages_in (drafts_of (drop l.i l.arrows));
 }
 

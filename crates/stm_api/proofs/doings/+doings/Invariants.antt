@@ -8,13 +8,15 @@ use Rattle.stm_api.proofs.doings.+doings.Given as goal
 abbrev pub invariant-collect_all-loop-statement : goal.invariant-collect_all-loop-statement
 invariant-collect_all-loop-statement l = record {
   next : next l.me l.fn.number (statements l.body) ≡ next l.me l.number (statements (drop l.statement-index l.body));
-  doings : map doing_of l.fn.out.items ++ does l.me l.fn.number (statements l.body) ≡ map doing_of l.out.items ++ does l.me l.number (statements (drop l.statement-index l.body));
+  doings : map doing_of l.fn.out.items ++ does l.me l.fn.number (statements l.body) ≡ map doing_of l.out.items ++ does l.me l.number
+      (statements (drop l.statement-index l.body));
 }
 
 abbrev pub invariant-collect_in-loop-branch : goal.invariant-collect_in-loop-branch
 invariant-collect_in-loop-branch l = record {
   next : next_in l.me l.fn.number (bodies l.branches) ≡ next_in l.me l.number (bodies (drop l.branch-index l.branches));
-  doings : map doing_of l.fn.out.items ++ does_in l.me l.fn.number (bodies l.branches) ≡ map doing_of l.out.items ++ does_in l.me l.number (bodies (drop l.branch-index l.branches));
+  doings : map doing_of l.fn.out.items ++ does_in l.me l.fn.number (bodies l.branches) ≡ map doing_of l.out.items ++ does_in l.me l.number
+      (bodies (drop l.branch-index l.branches));
 }
 
 abbrev pub decreases-collect_at : goal.decreases-collect_at

@@ -9,6 +9,9 @@ use Rattle.stm_api.proofs.files.methods_of.Goals as goal
 pub loop-doing-preserved : goal.loop-doing-preserved
 loop-doing-preserved c =
     let me = (tree_of c.args.local.now).me in
-    method_more me c.args.place c.loop-doing.seen c.add_new.new.seen c.args.doings.now c.loop-doing.doing-index c.doing-item.result c.loop-doing.methods.items c.push.new.self.items
-    c.in_ok-method.method c.as_str.result.now c.in_ok-is_new.is_new (map (method_of c.args.place me) (firsts_of me [] (map doing_of c.args.doings.now))) c.loop-doing-test.true c.doing-item.is
-    (c.as_str.ensures ∙ c.in_ok-call.ensures) c.in_ok-is_new.ensures.new c.if-not-is_new.false c.in_ok-is_new.ensures.added c.in_ok-method.ensures c.in_ok-push.ensures.ok c.loop-doing.invariant
+    method_more me c.args.place c.loop-doing.seen c.add_new.new.seen c.args.doings.now c.loop-doing.doing-index c.doing-item.result
+    c.loop-doing.methods.items c.push.new.self.items
+    c.in_ok-method.method c.as_str.result.now c.in_ok-is_new.is_new
+    (map (method_of c.args.place me) (firsts_of me [] (map doing_of c.args.doings.now))) c.loop-doing-test.true c.doing-item.is
+    (c.as_str.ensures ∙ c.in_ok-call.ensures) c.in_ok-is_new.ensures.new c.if-not-is_new.false c.in_ok-is_new.ensures.added
+    c.in_ok-method.ensures c.in_ok-push.ensures.ok c.loop-doing.invariant

@@ -8,7 +8,8 @@ use Rattle.stm_gen.proofs.methods.message_methods.Given as goal
 abbrev pub invariant-loop-i : goal.invariant-loop-i
 invariant-loop-i l = record {
   within : l.i ≤ length l.arrows;
-  made : map kept_method l.methods.items ≡ methods_of (tree_of l.local).me (map (edge_of (work_of l.laid) None) (drafts_of (drop l.i l.arrows)));
+  made : map kept_method l.methods.items ≡ methods_of (tree_of l.local).me
+      (map (edge_of (work_of l.laid) None) (drafts_of (drop l.i l.arrows)));
 }
 
 abbrev pub decreases-loop-i : goal.decreases-loop-i

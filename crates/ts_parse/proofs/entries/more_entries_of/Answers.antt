@@ -20,23 +20,30 @@ returns-in_err-other c =
     let p = err_from_is_err_and c.from_residual.result c.from_residual.ensures.1 in
     let goes = sym c.is_more.ensures ∙ c.others-test.true in
     rw (p.1, p.2)
-    (Left-refused is_more (behind_at marks.Comma entry_at) c.in_err-other.field-0.0 (map wentry_of c.others.entries.items) (toks c.others.rest.now)
-    (with_front (map wentry_of c.args.entries.items) (all_of is_more (behind_at marks.Comma entry_at) (toks c.args.tokens.now))) goes c.in_err-other.ensures c.others.invariant)
+    (Left-refused is_more (behind_at marks.Comma entry_at) c.in_err-other.field-0.0 (map wentry_of c.others.entries.items)
+    (toks c.others.rest.now)
+    (with_front (map wentry_of c.args.entries.items) (all_of is_more (behind_at marks.Comma entry_at) (toks c.args.tokens.now))) goes
+    c.in_err-other.ensures c.others.invariant)
 
 pub others-smaller : goal.others-smaller
 others-smaller c =
-    let h = other_entry_shorter (toks c.others.rest.now) (wentry_of c.in_ok-other.other) (toks c.in_ok-other.after.now) c.in_ok-other.ensures in
+    let h = other_entry_shorter (toks c.others.rest.now) (wentry_of c.in_ok-other.other) (toks c.in_ok-other.after.now)
+    c.in_ok-other.ensures in
     omega (arith, h, length_toks c.others.rest.now, length_toks c.in_ok-other.after.now)
 
 pub others-preserved : goal.others-preserved
 others-preserved c =
     let goes = sym c.is_more.ensures ∙ c.others-test.true in
-    let less = other_entry_shorter (toks c.others.rest.now) (wentry_of c.in_ok-other.other) (toks c.in_ok-other.after.now) c.in_ok-other.ensures in
+    let less = other_entry_shorter (toks c.others.rest.now) (wentry_of c.in_ok-other.other) (toks c.in_ok-other.after.now)
+    c.in_ok-other.ensures in
     rw (c.in_ok-push.ensures.ok, map-append)
-    (Left-more is_more (behind_at marks.Comma entry_at) (map wentry_of c.others.entries.items) (toks c.others.rest.now) (wentry_of c.in_ok-other.other) (toks c.in_ok-other.after.now)
-    (with_front (map wentry_of c.args.entries.items) (all_of is_more (behind_at marks.Comma entry_at) (toks c.args.tokens.now))) goes c.in_ok-other.ensures less c.others.invariant)
+    (Left-more is_more (behind_at marks.Comma entry_at) (map wentry_of c.others.entries.items) (toks c.others.rest.now)
+    (wentry_of c.in_ok-other.other) (toks c.in_ok-other.after.now)
+    (with_front (map wentry_of c.args.entries.items) (all_of is_more (behind_at marks.Comma entry_at) (toks c.args.tokens.now))) goes
+    c.in_ok-other.ensures less c.others.invariant)
 
 pub returns : goal.returns
 returns c =
     Left-done is_more (behind_at marks.Comma entry_at) (map wentry_of c.others.entries.items) (toks c.others.rest.now)
-    (with_front (map wentry_of c.args.entries.items) (all_of is_more (behind_at marks.Comma entry_at) (toks c.args.tokens.now))) (sym c.is_more.ensures ∙ c.others-test.false) c.others.invariant
+    (with_front (map wentry_of c.args.entries.items) (all_of is_more (behind_at marks.Comma entry_at) (toks c.args.tokens.now)))
+    (sym c.is_more.ensures ∙ c.others-test.false) c.others.invariant

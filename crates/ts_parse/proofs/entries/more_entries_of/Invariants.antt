@@ -8,7 +8,8 @@ use Rattle.ts_parse.specs.inner.Reading.{is_more, behind_at, entry_at}
 use Rattle.ts_parse.proofs.entries.more_entries_of.Given as goal
 
 abbrev pub invariant-others : goal.invariant-others
-invariant-others l = Left is_more (behind_at marks.Comma entry_at) (map wentry_of l.entries.items) (toks l.rest) (with_front (map wentry_of l.fn.entries.items) (all_of is_more (behind_at marks.Comma entry_at) (toks l.fn.tokens)))
+invariant-others l = Left is_more (behind_at marks.Comma entry_at) (map wentry_of l.entries.items) (toks l.rest)
+    (with_front (map wentry_of l.fn.entries.items) (all_of is_more (behind_at marks.Comma entry_at) (toks l.fn.tokens)))
 
 abbrev pub decreases-others : goal.decreases-others
 decreases-others l = length l.rest

@@ -17,7 +17,9 @@ pub returns-in_err-other : goal.returns-in_err-other
 returns-in_err-other c =
     let p = err_from_is_err_and c.from_residual.result c.from_residual.ensures.1 in
     let goes = sym c.is_dot_name.ensures ∙ c.others-test.true in
-    rw (p.1, p.2) (Left-refused is_dot_name (behind_at marks.Dot name_at) c.in_err-other.field-0.0 c.others.names.items (toks c.others.rest.now) (with_front c.args.names.items (all_of is_dot_name (behind_at marks.Dot name_at) (toks c.args.tokens.now))) goes c.in_err-other.ensures c.others.invariant)
+    rw (p.1, p.2) (Left-refused is_dot_name (behind_at marks.Dot name_at) c.in_err-other.field-0.0 c.others.names.items
+    (toks c.others.rest.now) (with_front c.args.names.items (all_of is_dot_name (behind_at marks.Dot name_at) (toks c.args.tokens.now)))
+    goes c.in_err-other.ensures c.others.invariant)
 
 pub others-smaller : goal.others-smaller
 others-smaller c =
@@ -29,8 +31,12 @@ others-preserved c =
     let s = c.in_ok-other.other in
     let goes = sym c.is_dot_name.ensures ∙ c.others-test.true in
     let less = dot_name_shorter (toks c.others.rest.now) s (toks c.in_ok-other.after.now) c.in_ok-other.ensures in
-    rw c.in_ok-push.ensures.ok (Left-more is_dot_name (behind_at marks.Dot name_at) c.others.names.items (toks c.others.rest.now) s (toks c.in_ok-other.after.now) (with_front c.args.names.items (all_of is_dot_name (behind_at marks.Dot name_at) (toks c.args.tokens.now)))
+    rw c.in_ok-push.ensures.ok (Left-more is_dot_name (behind_at marks.Dot name_at) c.others.names.items (toks c.others.rest.now) s
+    (toks c.in_ok-other.after.now)
+    (with_front c.args.names.items (all_of is_dot_name (behind_at marks.Dot name_at) (toks c.args.tokens.now)))
     goes c.in_ok-other.ensures less c.others.invariant)
 
 pub returns : goal.returns
-returns c = Left-done is_dot_name (behind_at marks.Dot name_at) c.others.names.items (toks c.others.rest.now) (with_front c.args.names.items (all_of is_dot_name (behind_at marks.Dot name_at) (toks c.args.tokens.now))) (sym c.is_dot_name.ensures ∙ c.others-test.false) c.others.invariant
+returns c = Left-done is_dot_name (behind_at marks.Dot name_at) c.others.names.items (toks c.others.rest.now)
+    (with_front c.args.names.items (all_of is_dot_name (behind_at marks.Dot name_at) (toks c.args.tokens.now)))
+    (sym c.is_dot_name.ensures ∙ c.others-test.false) c.others.invariant

@@ -31,7 +31,8 @@ others-preserved c =
     let goes = sym c.is_mark.ensures ∙ c.others-test.true in
     let less = import_shorter (toks c.others.rest.now) c.in_ok-other.other (toks c.in_ok-other.after.now) c.in_ok-other.ensures in
     rw c.in_ok-push.ensures.ok
-    (Left-more (is_at marks.Import) import_at c.others.imports.items (toks c.others.rest.now) c.in_ok-other.other (toks c.in_ok-other.after.now)
+    (Left-more (is_at marks.Import) import_at c.others.imports.items (toks c.others.rest.now) c.in_ok-other.other
+    (toks c.in_ok-other.after.now)
     (all_of (is_at marks.Import) import_at (toks c.args.tokens.now)) goes c.in_ok-other.ensures less c.others.invariant)
 
 pub returns : goal.returns

@@ -18,8 +18,10 @@ returns-in_err-other c =
     let p = err_from_is_err_and c.from_residual.result c.from_residual.ensures.1 in
     let goes = sym c.is_mark.ensures ∙ c.others-test.true in
     rw (p.1, p.2)
-    (Left-refused (is_at marks.Comma) (behind_at marks.Comma branch_at) c.in_err-other.field-0.0 c.others.branches.items (toks c.others.rest.now)
-    (with_front c.args.branches.items (all_of (is_at marks.Comma) (behind_at marks.Comma branch_at) (toks c.args.tokens.now))) goes c.in_err-other.ensures c.others.invariant)
+    (Left-refused (is_at marks.Comma) (behind_at marks.Comma branch_at) c.in_err-other.field-0.0 c.others.branches.items
+    (toks c.others.rest.now)
+    (with_front c.args.branches.items (all_of (is_at marks.Comma) (behind_at marks.Comma branch_at) (toks c.args.tokens.now))) goes
+    c.in_err-other.ensures c.others.invariant)
 
 pub others-smaller : goal.others-smaller
 others-smaller c =
@@ -31,10 +33,13 @@ others-preserved c =
     let goes = sym c.is_mark.ensures ∙ c.others-test.true in
     let less = other_branch_shorter (toks c.others.rest.now) c.in_ok-other.other (toks c.in_ok-other.after.now) c.in_ok-other.ensures in
     rw c.in_ok-push.ensures.ok
-    (Left-more (is_at marks.Comma) (behind_at marks.Comma branch_at) c.others.branches.items (toks c.others.rest.now) c.in_ok-other.other (toks c.in_ok-other.after.now)
-    (with_front c.args.branches.items (all_of (is_at marks.Comma) (behind_at marks.Comma branch_at) (toks c.args.tokens.now))) goes c.in_ok-other.ensures less c.others.invariant)
+    (Left-more (is_at marks.Comma) (behind_at marks.Comma branch_at) c.others.branches.items (toks c.others.rest.now) c.in_ok-other.other
+    (toks c.in_ok-other.after.now)
+    (with_front c.args.branches.items (all_of (is_at marks.Comma) (behind_at marks.Comma branch_at) (toks c.args.tokens.now))) goes
+    c.in_ok-other.ensures less c.others.invariant)
 
 pub returns : goal.returns
 returns c =
     Left-done (is_at marks.Comma) (behind_at marks.Comma branch_at) c.others.branches.items (toks c.others.rest.now)
-    (with_front c.args.branches.items (all_of (is_at marks.Comma) (behind_at marks.Comma branch_at) (toks c.args.tokens.now))) (sym c.is_mark.ensures ∙ c.others-test.false) c.others.invariant
+    (with_front c.args.branches.items (all_of (is_at marks.Comma) (behind_at marks.Comma branch_at) (toks c.args.tokens.now)))
+    (sym c.is_mark.ensures ∙ c.others-test.false) c.others.invariant

@@ -7,7 +7,8 @@ use Rattle.ts_parse.specs.inner.Reading.{is_at, behind_at, param_at}
 use Rattle.ts_parse.proofs.methods.more_params_of.Given as goal
 
 abbrev pub invariant-others : goal.invariant-others
-invariant-others l = Left (is_at marks.Comma) (behind_at marks.Comma param_at) l.params.items (toks l.rest) (with_front l.fn.params.items (all_of (is_at marks.Comma) (behind_at marks.Comma param_at) (toks l.fn.tokens)))
+invariant-others l = Left (is_at marks.Comma) (behind_at marks.Comma param_at) l.params.items (toks l.rest)
+    (with_front l.fn.params.items (all_of (is_at marks.Comma) (behind_at marks.Comma param_at) (toks l.fn.tokens)))
 
 abbrev pub decreases-others : goal.decreases-others
 decreases-others l = length l.rest

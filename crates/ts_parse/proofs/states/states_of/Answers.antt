@@ -30,12 +30,15 @@ others-smaller c =
 pub others-preserved : goal.others-preserved
 others-preserved c =
     let goes = not_closed_goes c.is_mark.result (toks c.others.rest.now) c.is_mark.ensures c.others-test.true in
-    let less = state_shorter (toks c.others.rest.now) (wstate_of c.in_ok-other.other) (toks c.in_ok-other.after.now) c.in_ok-other.ensures in
+    let less = state_shorter (toks c.others.rest.now) (wstate_of c.in_ok-other.other) (toks c.in_ok-other.after.now) c.in_ok-other.ensures
+    in
     rw (c.in_ok-push.ensures.ok, map-append)
-    (Left-more not_closed state_at (map wstate_of c.others.states.items) (toks c.others.rest.now) (wstate_of c.in_ok-other.other) (toks c.in_ok-other.after.now)
+    (Left-more not_closed state_at (map wstate_of c.others.states.items) (toks c.others.rest.now) (wstate_of c.in_ok-other.other)
+    (toks c.in_ok-other.after.now)
     (all_of not_closed state_at (toks c.args.tokens.now)) goes c.in_ok-other.ensures less c.others.invariant)
 
 pub returns : goal.returns
 returns c =
     Left-done not_closed state_at (map wstate_of c.others.states.items) (toks c.others.rest.now)
-    (all_of not_closed state_at (toks c.args.tokens.now)) (not_closed_stops c.is_mark.result (toks c.others.rest.now) c.is_mark.ensures c.others-test.false) c.others.invariant
+    (all_of not_closed state_at (toks c.args.tokens.now)) (not_closed_stops c.is_mark.result (toks c.others.rest.now) c.is_mark.ensures
+    c.others-test.false) c.others.invariant

@@ -7,4 +7,5 @@ use Rattle.ts_read.proofs.printer.print_branches.Goals as goal
 
 pub returns : goal.returns
 returns c = listed_done (branch_text
-    (map state_of c.args.states.now)) _ _ _ _ _ _ c.in-len1-up.len_at_least c.first-item.is c.loop-branch-test.false c.in_ok-print_branch.ensures c.loop-branch.invariant
+    (map state_of c.args.states.now)) _ _ _ _ _ _ c.in-len1-up.len_at_least c.first-item.is c.loop-branch-test.false
+    c.in_ok-print_branch.ensures c.loop-branch.invariant

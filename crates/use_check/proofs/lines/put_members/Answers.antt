@@ -9,18 +9,21 @@ pub loop-element-preserved-then-not-has : goal.loop-element-preserved-then-not-h
 loop-element-preserved-then-not-has c =
     let lt : c.loop-element.element < length c.args.set.now = omega (arith, c.width-element-end.ensures) in
     let absent : c.has.result ≡ false = search rules in
-    member_skip (member_text (typestate_or_end (option_map (λ t. t.now) c.args.typestate))) c.loop-element.element c.args.set.now (string_bytes c.loop-element.out) _
+    member_skip (member_text (typestate_or_end (option_map (λ t. t.now) c.args.typestate))) c.loop-element.element c.args.set.now
+    (string_bytes c.loop-element.out) _
     lt (sym c.has.ensures ∙ absent) c.loop-element.invariant
 
 pub loop-element-preserved : goal.loop-element-preserved
 loop-element-preserved c =
     let lt : c.loop-element.element < length c.args.set.now = omega (arith, c.width-element-end.ensures) in
     let there : c.has.result ≡ true = search rules in
-    member_take (member_text (typestate_or_end (option_map (λ t. t.now) c.args.typestate))) c.loop-element.element c.args.set.now (string_bytes c.loop-element.out) _ _
+    member_take (member_text (typestate_or_end (option_map (λ t. t.now) c.args.typestate))) c.loop-element.element c.args.set.now
+    (string_bytes c.loop-element.out) _ _
     lt (sym c.has.ensures ∙ there) c.in_ok-put_member.ensures c.loop-element.invariant
 
 pub returns : goal.returns
 returns c =
     let end : length c.args.set.now ≤ c.loop-element.element = omega (arith, c.width-element-end.ensures) in
-    member_end (member_text (typestate_or_end (option_map (λ t. t.now) c.args.typestate))) c.loop-element.element c.args.set.now (string_bytes c.loop-element.out) _
+    member_end (member_text (typestate_or_end (option_map (λ t. t.now) c.args.typestate))) c.loop-element.element c.args.set.now
+    (string_bytes c.loop-element.out) _
     end c.loop-element.invariant

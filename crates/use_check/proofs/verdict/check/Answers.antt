@@ -10,7 +10,8 @@ pub first_in-requires-clause-made : goal.first_in-requires-clause-made
 first_in-requires-clause-made c = c.in_ok-tables.ensures.made
 
 pub first_in-requires-clause-known : goal.first_in-requires-clause-known
-first_in-requires-clause-known c = c.as_slice.ensures.items ∙ same_contexts (tree_of c.args.core.now) c.in_ok-tables.tables c.in_ok-all.all.items c.in_ok-tables.ensures.made c.in_ok-all.ensures
+first_in-requires-clause-known c = c.as_slice.ensures.items ∙ same_contexts (tree_of c.args.core.now) c.in_ok-tables.tables
+    c.in_ok-all.all.items c.in_ok-tables.ensures.made c.in_ok-all.ensures
 
 pub returns-in_err-tables : goal.returns-in_err-tables
 returns-in_err-tables c =
@@ -31,13 +32,15 @@ pub invariant_of-result : goal.invariant_of-result
 invariant_of-result c = record {
   answer = ∣ record {
     program = tree_of c.args.core.now;
-    answer = is_answer (tree_of c.args.core.now) c.in_ok-tables.tables c.in_ok-tables.ensures.made c.in_ok-tables.ensures.least (sym c.in_default.is ∙ c.in_ok-demand.ensures);
+    answer = is_answer (tree_of c.args.core.now) c.in_ok-tables.tables c.in_ok-tables.ensures.made c.in_ok-tables.ensures.least
+        (sym c.in_default.is ∙ c.in_ok-demand.ensures);
   } ∣₁;
 }
 
 pub returns : goal.returns
 returns c = record {
-  accepted = is_answer (tree_of c.args.core.now) c.in_ok-tables.tables c.in_ok-tables.ensures.made c.in_ok-tables.ensures.least (sym c.in_default.is ∙ c.in_ok-demand.ensures);
+  accepted = is_answer (tree_of c.args.core.now) c.in_ok-tables.tables c.in_ok-tables.ensures.made c.in_ok-tables.ensures.least
+      (sym c.in_default.is ∙ c.in_ok-demand.ensures);
   complete = λ a. tt;
   fault = tt;
 }
@@ -47,7 +50,9 @@ returns-in-Some c =
     let p = tree_of c.args.core.now in
     record {
       accepted = tt;
-      complete = λ a. absurd (none_fails p c.in_ok-tables.tables c.in-Some.demand c.in_ok-tables.ensures.made c.in_ok-tables.ensures.least (sym c.in-Some.is ∙ c.in_ok-demand.ensures) a);
+      complete = λ a. absurd (none_fails p c.in_ok-tables.tables c.in-Some.demand c.in_ok-tables.ensures.made c.in_ok-tables.ensures.least
+          (sym c.in-Some.is ∙ c.in_ok-demand.ensures) a);
       fault = subst (IsFault p) (sym c.fault_of.ensures)
-          (is_fault p c.in_ok-tables.tables c.in-Some.demand c.in_ok-tables.ensures.made c.in_ok-tables.ensures.least (sym c.in-Some.is ∙ c.in_ok-demand.ensures));
+          (is_fault p c.in_ok-tables.tables c.in-Some.demand c.in_ok-tables.ensures.made c.in_ok-tables.ensures.least
+          (sym c.in-Some.is ∙ c.in_ok-demand.ensures));
     }

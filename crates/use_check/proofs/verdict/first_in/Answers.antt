@@ -11,13 +11,16 @@ flow-requires c = c.requires.made
 
 pub loop-context-preserved : goal.loop-context-preserved
 loop-context-preserved c =
-    passed_over (tree_of c.args.core.now) c.args.tables.now c.args.contexts.now c.loop-context.context-index c.in_ok-met.met c.loop-context-test.true c.in_ok-met.ensures.flows
+    passed_over (tree_of c.args.core.now) c.args.tables.now c.args.contexts.now c.loop-context.context-index c.in_ok-met.met
+    c.loop-context-test.true c.in_ok-met.ensures.flows
     (sym c.in_default.is ∙ c.first_failed.ensures) c.loop-context.invariant
 
 pub returns : goal.returns
-returns c = none_left (tree_of c.args.core.now) c.args.tables.now c.args.contexts.now c.loop-context.context-index c.loop-context-test.false c.loop-context.invariant
+returns c = none_left (tree_of c.args.core.now) c.args.tables.now c.args.contexts.now c.loop-context.context-index c.loop-context-test.false
+    c.loop-context.invariant
 
 pub returns-in-Some : goal.returns-in-Some
 returns-in-Some c =
-    first_here (tree_of c.args.core.now) c.args.tables.now c.args.contexts.now c.loop-context.context-index c.in_ok-met.met c.in-Some.demand c.loop-context-test.true c.in_ok-met.ensures.flows
+    first_here (tree_of c.args.core.now) c.args.tables.now c.args.contexts.now c.loop-context.context-index c.in_ok-met.met c.in-Some.demand
+    c.loop-context-test.true c.in_ok-met.ensures.flows
     (sym c.in-Some.is ∙ c.first_failed.ensures) c.loop-context.invariant

@@ -6,5 +6,6 @@ use Rattle.use_flow.proofs.classed.add_loops.Given as goal
 
 abbrev pub invariant-loop-place : goal.invariant-loop-place
 invariant-loop-place l =
-    l.entries.items ++ listed_from (loop_entries (tree_of l.core) l.context (method_of l.method)) l.place (map loop_of (drop l.place l.loops))
+    l.entries.items ++ listed_from (loop_entries (tree_of l.core) l.context (method_of l.method)) l.place
+    (map loop_of (drop l.place l.loops))
     ≡ l.initial.entries.items ++ loops_entries (tree_of l.core) l.context (method_of l.method) (map loop_of l.loops)

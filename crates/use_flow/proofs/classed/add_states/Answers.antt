@@ -7,6 +7,8 @@ use Rattle.use_flow.proofs.classed.add_states.Goals as goal
 
 pub loop-place-preserved : goal.loop-place-preserved
 loop-place-preserved c =
-    state_listed c.args.class (map field_of c.args.fields.now) c.loop-place.place c.args.states.now c.loop-place.entries.items c.add_fields.new.entries.items _ (omega arith)
+    state_listed c.args.class (map field_of c.args.fields.now) c.loop-place.place c.args.states.now c.loop-place.entries.items
+    c.add_fields.new.entries.items _ (omega arith)
     (c.in_ok-add_fields.ensures
-    ∙ ap (λ q. c.loop-place.entries.items ++ field_entries (keys.Field c.args.class q) (map field_of c.args.fields.now)) c.in_ok-state.ensures) c.loop-place.invariant
+    ∙ ap (λ q. c.loop-place.entries.items ++ field_entries (keys.Field c.args.class q) (map field_of c.args.fields.now))
+    c.in_ok-state.ensures) c.loop-place.invariant

@@ -5,4 +5,5 @@ use Rattle.use_flow.proofs.course.leaving.Given as goal
 
 abbrev pub invariant-loop-slot : goal.invariant-loop-slot
 invariant-loop-slot l =
-    l.left.items ++ filter (λ k. not (list_any (nat_eq k) l.stays)) (drop l.slot-index l.scope) ≡ filter (λ k. not (list_any (nat_eq k) l.stays)) l.scope
+    l.left.items ++ filter (λ k. not (list_any (nat_eq k) l.stays)) (drop l.slot-index l.scope) ≡ filter
+    (λ k. not (list_any (nat_eq k) l.stays)) l.scope

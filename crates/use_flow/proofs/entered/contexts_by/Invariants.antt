@@ -6,4 +6,5 @@ use Rattle.use_flow.proofs.entered.contexts_by.Given as goal
 
 abbrev pub invariant-loop-place : goal.invariant-loop-place
 invariant-loop-place l =
-    l.contexts.items ++ contexts_from (tree_of l.core) l.reached l.place (map method_of (drop l.place l.methods)) ≡ contexts_in (tree_of l.core) l.reached
+    l.contexts.items ++ contexts_from (tree_of l.core) l.reached l.place (map method_of (drop l.place l.methods)) ≡ contexts_in
+    (tree_of l.core) l.reached

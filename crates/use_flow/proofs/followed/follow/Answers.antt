@@ -8,5 +8,7 @@ use Rattle.use_flow.proofs.followed.follow.Goals as goal
 
 pub returns : goal.returns
 returns c =
-    flow_is (tree_of c.args.core.now) c.args.tables.now c.args.context (method_of c.in-Some.method.now) (log_of c.in_ok-flow.flow) c.requires
-    (ap (option_map (λ m. method_of m.now)) (sym c.in-Some.is) ∙ c.method_at.ensures ∙ ap (slice_get (tree_of c.args.core.now).methods) c.method_in.ensures) c.in_ok-flow.ensures
+    flow_is (tree_of c.args.core.now) c.args.tables.now c.args.context (method_of c.in-Some.method.now) (log_of c.in_ok-flow.flow)
+    c.requires
+    (ap (option_map (λ m. method_of m.now)) (sym c.in-Some.is) ∙ c.method_at.ensures ∙ ap (slice_get (tree_of c.args.core.now).methods)
+    c.method_in.ensures) c.in_ok-flow.ensures

@@ -6,7 +6,8 @@ use Rattle.use_flow.proofs.named.+calls.Given as goal
 
 abbrev pub invariant-calls_in_all-loop-arg : goal.invariant-calls_in_all-loop-arg
 invariant-calls_in_all-loop-arg l =
-    l.named.items ++ calls_in_all (exprs_of (map expr_of (drop l.arg-index l.args))) ≡ l.initial.named.items ++ calls_in_all (exprs_of (map expr_of l.args))
+    l.named.items ++ calls_in_all (exprs_of (map expr_of (drop l.arg-index l.args))) ≡ l.initial.named.items
+    ++ calls_in_all (exprs_of (map expr_of l.args))
 
 abbrev pub decreases-calls_in : goal.decreases-calls_in
 decreases-calls_in l = 4 * goal.size-calls_in l + 0

@@ -4,4 +4,5 @@ use Rattle.use_rules.specs.Elements.{none}
 use Rattle.use_flow.proofs.switches.empty_sets.Given as goal
 
 abbrev pub invariant-loop-constant : goal.invariant-loop-constant
-invariant-loop-constant l = l.sets.items ++ map (λ (c : Name). none 0) (drop l._constant-index l.constants) ≡ map (λ (c : Name). none 0) l.constants
+invariant-loop-constant l = l.sets.items ++ map (λ (c : Name). none 0) (drop l._constant-index l.constants) ≡ map (λ (c : Name). none 0)
+    l.constants

@@ -16,13 +16,17 @@ loop-member-preserved c =
     let within : c.loop-member.member-index < length c.args.members.now = search rules in
     record {
       right = rights_next c.args.members.now c.loop-member.member-index c.member-item.result within
-          (λ m. method_of_member (outlines_of c.args.outlines.now) c.args.pool.now (member_of m)) (map method_of c.loop-member.methods.items) _ _ c.loop-member.invariant.right
+          (λ m. method_of_member (outlines_of c.args.outlines.now) c.args.pool.now (member_of m))
+          (map method_of c.loop-member.methods.items) _ _ c.loop-member.invariant.right
           (c.in_ok-add_method.ensures ∙ ap (λ l. map method_of c.loop-member.methods.items ++ l)
-          (c.in_ok-method.ensures.right ∙ ap (λ m. method_of_member (outlines_of c.args.outlines.now) c.args.pool.now (member_of m)) c.member-item.is));
+          (c.in_ok-method.ensures.right ∙ ap (λ m. method_of_member (outlines_of c.args.outlines.now) c.args.pool.now (member_of m))
+          c.member-item.is));
       wrong = flaws_next c.args.members.now c.loop-member.member-index c.member-item.result within
-          (λ m. method_flaws (outlines_of c.args.outlines.now) c.args.pool.now (member_of m)) (best_flaw c.loop-member.best) _ _ c.loop-member.invariant.wrong
+          (λ m. method_flaws (outlines_of c.args.outlines.now) c.args.pool.now (member_of m)) (best_flaw c.loop-member.best) _ _
+          c.loop-member.invariant.wrong
           (c.in_ok-method.ensures.wrong
-          ∙ ap (λ m. lower (best_flaw c.loop-member.best) (least (method_flaws (outlines_of c.args.outlines.now) c.args.pool.now (member_of m)))) c.member-item.is);
+          ∙ ap (λ m. lower (best_flaw c.loop-member.best)
+          (least (method_flaws (outlines_of c.args.outlines.now) c.args.pool.now (member_of m)))) c.member-item.is);
       known = c.in_ok-method.ensures.known;
     }
 
@@ -30,15 +34,19 @@ pub returns-clause-right : goal.returns-clause-right
 returns-clause-right c =
     let past : length c.args.members.now ≤ c.loop-member.member-index = search rules in
     sym (append-nil (map method_of c.loop-member.methods.items))
-    ∙ ap (λ l. map method_of c.loop-member.methods.items ++ flat_map (λ m. method_of_member (outlines_of c.args.outlines.now) c.args.pool.now (member_of m)) l)
+    ∙ ap (λ l. map method_of c.loop-member.methods.items ++ flat_map (λ m. method_of_member (outlines_of c.args.outlines.now)
+    c.args.pool.now (member_of m)) l)
     (sym (drop_whole c.args.members.now c.loop-member.member-index past))
-    ∙ c.loop-member.invariant.right ∙ sym (flat_map-map (method_of_member (outlines_of c.args.outlines.now) c.args.pool.now) member_of c.args.members.now)
+    ∙ c.loop-member.invariant.right ∙ sym (flat_map-map (method_of_member (outlines_of c.args.outlines.now) c.args.pool.now) member_of
+    c.args.members.now)
 
 pub returns-clause-wrong : goal.returns-clause-wrong
 returns-clause-wrong c =
     let past : length c.args.members.now ≤ c.loop-member.member-index = search rules in
     sym (lower-none (best_flaw c.loop-member.best))
-    ∙ ap (λ l. lower (best_flaw c.loop-member.best) (least (flat_map (λ m. method_flaws (outlines_of c.args.outlines.now) c.args.pool.now (member_of m)) l)))
+    ∙ ap (λ l. lower (best_flaw c.loop-member.best)
+    (least (flat_map (λ m. method_flaws (outlines_of c.args.outlines.now) c.args.pool.now (member_of m)) l)))
     (sym (drop_whole c.args.members.now c.loop-member.member-index past))
     ∙ c.loop-member.invariant.wrong
-    ∙ ap (λ l. lower (best_flaw c.args.first) (least l)) (sym (flat_map-map (method_flaws (outlines_of c.args.outlines.now) c.args.pool.now) member_of c.args.members.now))
+    ∙ ap (λ l. lower (best_flaw c.args.first) (least l))
+    (sym (flat_map-map (method_flaws (outlines_of c.args.outlines.now) c.args.pool.now) member_of c.args.members.now))

@@ -12,9 +12,11 @@ use Rattle.vm_load.proofs.classes.judge_bodies.Given as goal
 
 abbrev pub invariant-loop-member : goal.invariant-loop-member
 invariant-loop-member l = record {
-  right : map method_of l.methods.items ++ flat_map (λ m. method_of_member (outlines_of l.outlines) l.pool (member_of m)) (drop l.member-index l.members)
+  right : map method_of l.methods.items ++ flat_map (λ m. method_of_member (outlines_of l.outlines) l.pool (member_of m))
+      (drop l.member-index l.members)
       ≡ flat_map (λ m. method_of_member (outlines_of l.outlines) l.pool (member_of m)) l.members;
-  wrong : lower (best_flaw l.best) (least (flat_map (λ m. method_flaws (outlines_of l.outlines) l.pool (member_of m)) (drop l.member-index l.members)))
+  wrong : lower (best_flaw l.best)
+      (least (flat_map (λ m. method_flaws (outlines_of l.outlines) l.pool (member_of m)) (drop l.member-index l.members)))
       ≡ lower (best_flaw l.fn.first) (least (flat_map (λ m. method_flaws (outlines_of l.outlines) l.pool (member_of m)) l.members));
   known : AreRight (outlines_of l.outlines) l.pool (get use_eq l.known);
 }

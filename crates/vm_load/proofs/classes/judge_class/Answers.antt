@@ -9,11 +9,13 @@ use Rattle.vm_load.proofs.classes.judge_class.Goals as goal
 
 pub returns-clause-right : goal.returns-clause-right
 returns-clause-right c =
-    class_right (outline_of c.in_ok-own.own) (outline (class_of c.args.class.now)) _ _ _ c.in_ok-linked.ensures c.in_ok-own.ensures c.in_ok-methods.ensures.right
+    class_right (outline_of c.in_ok-own.own) (outline (class_of c.args.class.now)) _ _ _ c.in_ok-linked.ensures c.in_ok-own.ensures
+    c.in_ok-methods.ensures.right
 
 pub returns-clause-wrong : goal.returns-clause-wrong
 returns-clause-wrong c =
-    class_wrong (field_flaw (outlines_of c.args.outlines.now)) (method_flaw (outlines_of c.args.outlines.now)) (outline_of c.in_ok-own.own) (outline (class_of c.args.class.now))
+    class_wrong (field_flaw (outlines_of c.args.outlines.now)) (method_flaw (outlines_of c.args.outlines.now)) (outline_of c.in_ok-own.own)
+    (outline (class_of c.args.class.now))
     (best_flaw c.args.first) (best_flaw c.in_ok-top.top) (best_flaw c.in_ok-declared.declared) (best_flaw c.in_ok-methods.best)
     (super_flaw (or_empty (class_at (class_of c.args.class.now).pool (class_of c.args.class.now).super_class)))
     (flat_map (method_flaws (outlines_of c.args.outlines.now) (class_of c.args.class.now).pool) (class_of c.args.class.now).methods)

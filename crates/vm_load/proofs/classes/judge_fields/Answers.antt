@@ -12,13 +12,17 @@ use Rattle.vm_load.proofs.classes.judge_fields.Goals as goal
 pub loop-field-preserved : goal.loop-field-preserved
 loop-field-preserved c =
     let within : c.loop-field.field-index < length c.args.fields.now = search rules in
-    some_next c.args.fields.now c.loop-field.field-index _ within (λ d. field_flaw (outlines_of c.args.outlines.now) (declared_of d)) _ _ _ c.loop-field.invariant
+    some_next c.args.fields.now c.loop-field.field-index _ within (λ d. field_flaw (outlines_of c.args.outlines.now) (declared_of d)) _ _ _
+    c.loop-field.invariant
     (c.in_ok-best.ensures _ c.judge_field-judged.ensures)
 
 pub returns : goal.returns
 returns c =
     let past : length c.args.fields.now ≤ c.loop-field.field-index = search rules in
     sym (lower-none (best_flaw c.loop-field.best))
-    ∙ ap (λ l. lower (best_flaw c.loop-field.best) (least (some_in (map (λ d. field_flaw (outlines_of c.args.outlines.now) (declared_of d)) l)))) (sym (drop_whole c.args.fields.now c.loop-field.field-index past))
+    ∙ ap (λ l. lower (best_flaw c.loop-field.best)
+    (least (some_in (map (λ d. field_flaw (outlines_of c.args.outlines.now) (declared_of d)) l))))
+    (sym (drop_whole c.args.fields.now c.loop-field.field-index past))
     ∙ c.loop-field.invariant
-    ∙ ap (λ l. lower (best_flaw c.args.first) (least (some_in l))) (sym (map-map (field_flaw (outlines_of c.args.outlines.now)) declared_of c.args.fields.now))
+    ∙ ap (λ l. lower (best_flaw c.args.first) (least (some_in l)))
+    (sym (map-map (field_flaw (outlines_of c.args.outlines.now)) declared_of c.args.fields.now))

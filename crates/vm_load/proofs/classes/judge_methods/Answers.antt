@@ -12,13 +12,17 @@ use Rattle.vm_load.proofs.classes.judge_methods.Goals as goal
 pub loop-method-preserved : goal.loop-method-preserved
 loop-method-preserved c =
     let within : c.loop-method.method-index < length c.args.methods.now = search rules in
-    some_next c.args.methods.now c.loop-method.method-index _ within (λ d. method_flaw (outlines_of c.args.outlines.now) (declared_of d)) _ _ _ c.loop-method.invariant
+    some_next c.args.methods.now c.loop-method.method-index _ within (λ d. method_flaw (outlines_of c.args.outlines.now) (declared_of d)) _
+    _ _ c.loop-method.invariant
     (c.in_ok-best.ensures _ c.judge_method-judged.ensures)
 
 pub returns : goal.returns
 returns c =
     let past : length c.args.methods.now ≤ c.loop-method.method-index = search rules in
     sym (lower-none (best_flaw c.loop-method.best))
-    ∙ ap (λ l. lower (best_flaw c.loop-method.best) (least (some_in (map (λ d. method_flaw (outlines_of c.args.outlines.now) (declared_of d)) l)))) (sym (drop_whole c.args.methods.now c.loop-method.method-index past))
+    ∙ ap (λ l. lower (best_flaw c.loop-method.best)
+    (least (some_in (map (λ d. method_flaw (outlines_of c.args.outlines.now) (declared_of d)) l))))
+    (sym (drop_whole c.args.methods.now c.loop-method.method-index past))
     ∙ c.loop-method.invariant
-    ∙ ap (λ l. lower (best_flaw c.args.first) (least (some_in l))) (sym (map-map (method_flaw (outlines_of c.args.outlines.now)) declared_of c.args.methods.now))
+    ∙ ap (λ l. lower (best_flaw c.args.first) (least (some_in l)))
+    (sym (map-map (method_flaw (outlines_of c.args.outlines.now)) declared_of c.args.methods.now))

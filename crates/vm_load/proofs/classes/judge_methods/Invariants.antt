@@ -7,5 +7,6 @@ use Rattle.vm_load.proofs.classes.judge_methods.Given as goal
 
 abbrev pub invariant-loop-method : goal.invariant-loop-method
 invariant-loop-method l =
-    lower (best_flaw l.best) (least (some_in (map (λ d. method_flaw (outlines_of l.outlines) (declared_of d)) (drop l.method-index l.methods))))
+    lower (best_flaw l.best) (least
+    (some_in (map (λ d. method_flaw (outlines_of l.outlines) (declared_of d)) (drop l.method-index l.methods))))
     ≡ lower (best_flaw l.fn.first) (least (some_in (map (λ d. method_flaw (outlines_of l.outlines) (declared_of d)) l.methods)))

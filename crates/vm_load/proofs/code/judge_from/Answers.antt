@@ -10,10 +10,14 @@ loop-instr-preserved c =
     let within : c.loop-instr.instr-index < length c.args.instrs.now = search rules in
     let w : c.width-place.result ≡ length (instr_bytes c.loop-instr.place (instr_of c.instr-item.result)) = c.width-place.ensures.value in
     record {
-      right = right_on (outlines_of c.args.outlines.now) c.args.pool.now c.args.starts.now c.args.instrs.now c.loop-instr.instr-index c.instr-item.result c.loop-instr.place
-          c.width-place.result within c.instr-item.is w _ _ _ c.loop-instr.invariant.right (c.in_ok-best.ensures.right _ c.judge_instr-judged.ensures.judges);
-      wrong = wrong_on (outlines_of c.args.outlines.now) c.args.pool.now c.args.starts.now c.args.instrs.now c.loop-instr.instr-index c.instr-item.result c.loop-instr.place
-          c.width-place.result within c.instr-item.is w _ _ _ c.loop-instr.invariant.wrong (c.in_ok-best.ensures.wrong _ c.judge_instr-judged.ensures.judges);
+      right = right_on (outlines_of c.args.outlines.now) c.args.pool.now c.args.starts.now c.args.instrs.now c.loop-instr.instr-index
+          c.instr-item.result c.loop-instr.place
+          c.width-place.result within c.instr-item.is w _ _ _ c.loop-instr.invariant.right
+          (c.in_ok-best.ensures.right _ c.judge_instr-judged.ensures.judges);
+      wrong = wrong_on (outlines_of c.args.outlines.now) c.args.pool.now c.args.starts.now c.args.instrs.now c.loop-instr.instr-index
+          c.instr-item.result c.loop-instr.place
+          c.width-place.result within c.instr-item.is w _ _ _ c.loop-instr.invariant.wrong
+          (c.in_ok-best.ensures.wrong _ c.judge_instr-judged.ensures.judges);
       bound = omega (arith, c.width-place.ensures.bound);
       known = c.judge_instr-judged.ensures.known;
     }

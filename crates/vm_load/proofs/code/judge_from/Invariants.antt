@@ -11,9 +11,11 @@ use Rattle.vm_load.proofs.code.judge_from.Given as goal
 
 abbrev pub invariant-loop-instr : goal.invariant-loop-instr
 invariant-loop-instr l = record {
-  right : map instr_of l.code.items ++ right_in (judged_from (outlines_of l.outlines) l.pool l.starts l.place (instrs_of (drop l.instr-index l.instrs)))
+  right : map instr_of l.code.items ++ right_in (judged_from (outlines_of l.outlines) l.pool l.starts l.place
+      (instrs_of (drop l.instr-index l.instrs)))
       ≡ right_in (judged_from (outlines_of l.outlines) l.pool l.starts 0 (instrs_of l.instrs));
-  wrong : lower (best_flaw l.best) (least (wrong_in (judged_from (outlines_of l.outlines) l.pool l.starts l.place (instrs_of (drop l.instr-index l.instrs)))))
+  wrong : lower (best_flaw l.best)
+      (least (wrong_in (judged_from (outlines_of l.outlines) l.pool l.starts l.place (instrs_of (drop l.instr-index l.instrs)))))
       ≡ lower (best_flaw l.fn.first) (least (wrong_in (judged_from (outlines_of l.outlines) l.pool l.starts 0 (instrs_of l.instrs))));
   bound : l.place < 2 ^ 42;
   known : AreRight (outlines_of l.outlines) l.pool (get use_eq l.known);

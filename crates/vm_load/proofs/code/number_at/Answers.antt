@@ -11,7 +11,8 @@ use Rattle.vm_load.proofs.code.number_at.Goals as goal
 pub returns-then-place-lt0 : goal.returns-then-place-lt0
 returns-then-place-lt0 c =
     let same = to_z-of_z w64 c.args.place c.ranges.place in
-    if_ok _ _ (sym (no_start_at c.args.starts.now c.args.place (λ k within. apart (get_or c.args.starts.now k 0) c.args.place (λ e. omega (arith, ints, e, same)))))
+    if_ok _ _ (sym (no_start_at c.args.starts.now c.args.place (λ k within. apart (get_or c.args.starts.now k 0) c.args.place
+    (λ e. omega (arith, ints, e, same)))))
     c.listed.result c.listed.ensures
 
 pub returns-then-place-gt4294967295 : goal.returns-then-place-gt4294967295

@@ -10,7 +10,8 @@ loop-instr-preserved c =
     let within : c.loop-instr.instr-index < length c.args.instrs.now = search rules in
     let w : c.width-place.result ≡ length (instr_bytes c.loop-instr.place (instr_of c.instr-item.result)) = c.width-place.ensures.value in
     record {
-      whole = starts_on [] [] [] c.args.instrs.now c.loop-instr.instr-index c.instr-item.result c.loop-instr.place c.width-place.result within c.instr-item.is w
+      whole = starts_on [] [] [] c.args.instrs.now c.loop-instr.instr-index c.instr-item.result c.loop-instr.place c.width-place.result
+          within c.instr-item.is w
           c.loop-instr.starts.items _ _ c.loop-instr.invariant.whole c.in_ok-push.ensures.items;
       bound = omega (arith, c.width-place.ensures.bound);
     }
@@ -24,4 +25,5 @@ pub returns-clause-rising : goal.returns-clause-rising
 returns-clause-rising c =
     let past : length c.args.instrs.now ≤ c.loop-instr.instr-index = search rules in
     starts_rise (instrs_of c.args.instrs.now) c.loop-instr.starts.items
-    (starts_done c.args.instrs.now c.loop-instr.instr-index c.loop-instr.starts.items c.loop-instr.place _ past c.loop-instr.invariant.whole)
+    (starts_done c.args.instrs.now c.loop-instr.instr-index c.loop-instr.starts.items c.loop-instr.place _ past
+    c.loop-instr.invariant.whole)

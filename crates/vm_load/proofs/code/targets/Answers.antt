@@ -10,6 +10,7 @@ pub loop-offset-preserved : goal.loop-offset-preserved
 loop-offset-preserved c =
     let within : c.loop-offset.offset-index < length c.args.offsets.now = search rules in
     let f : SFits w32 (get_or c.args.offsets.now c.loop-offset.offset-index (pos 0)) = search rules in
-    mapped_more (λ d. started c.args.starts.now (pos c.args.place +ℤ d)) c.args.offsets.now _ _ c.loop-offset.offset-index (pos 0) _ within c.loop-offset.invariant
+    mapped_more (λ d. started c.args.starts.now (pos c.args.place +ℤ d)) c.args.offsets.now _ _ c.loop-offset.offset-index (pos 0) _ within
+    c.loop-offset.invariant
     c.in_ok-push.ensures.ok
     (c.in_ok-one.ensures ∙ ap (λ z. started c.args.starts.now (pos c.args.place +ℤ z)) (to_z-of_z w32 _ f))

@@ -17,19 +17,23 @@ pub loop-class-preserved : goal.loop-class-preserved
 loop-class-preserved c =
     let within : c.loop-class.class-index < length c.args.classes.now = search rules in
     record {
-      right = mapped_more (λ k. linked_class (outlines_of c.args.outlines.now) (class_of k)) c.args.classes.now (map model.class_of c.loop-class.linked.items) _
+      right = mapped_more (λ k. linked_class (outlines_of c.args.outlines.now) (class_of k)) c.args.classes.now
+          (map model.class_of c.loop-class.linked.items) _
           c.loop-class.class-index c.class-item.result (model.class_of c.in_ok-one.one) within c.loop-class.invariant.right
           (ap (map model.class_of) c.in_ok-push.ensures.ok ∙ map-append model.class_of c.loop-class.linked.items (c.in_ok-one.one ∷ []))
           (c.in_ok-one.ensures.right ∙ ap (λ k. linked_class (outlines_of c.args.outlines.now) (class_of k)) c.class-item.is);
       wrong = flaws_next c.args.classes.now c.loop-class.class-index c.class-item.result within
           (λ k. class_flaws (outlines_of c.args.outlines.now) (class_of k)) (best_flaw c.loop-class.best) _ _ c.loop-class.invariant.wrong
-          (c.in_ok-one.ensures.wrong ∙ ap (λ k. lower (best_flaw c.loop-class.best) (least (class_flaws (outlines_of c.args.outlines.now) (class_of k)))) c.class-item.is);
+          (c.in_ok-one.ensures.wrong ∙ ap
+          (λ k. lower (best_flaw c.loop-class.best) (least (class_flaws (outlines_of c.args.outlines.now) (class_of k))))
+          c.class-item.is);
     }
 
 pub returns-clause-right : goal.returns-clause-right
 returns-clause-right c =
     let past : length c.args.classes.now ≤ c.loop-class.class-index = search rules in
-    mapped_twice (linked_class (outlines_of c.args.outlines.now)) class_of c.args.classes.now _ c.loop-class.class-index c.loop-class.invariant.right past
+    mapped_twice (linked_class (outlines_of c.args.outlines.now)) class_of c.args.classes.now _ c.loop-class.class-index
+    c.loop-class.invariant.right past
 
 pub returns-clause-wrong : goal.returns-clause-wrong
 returns-clause-wrong c =

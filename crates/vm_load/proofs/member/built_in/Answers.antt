@@ -7,6 +7,7 @@ use Rattle.vm_load.proofs.member.built_in.Goals as goal
 
 pub loop-index-preserved : goal.loop-index-preserved
 loop-index-preserved c =
-    sym (passed c.args.op (member_of c.args.reference) built_members c.loop-index.index (built_view c.built_member-built.result) c.built_member-built.ensures
+    sym (passed c.args.op (member_of c.args.reference) built_members c.loop-index.index (built_view c.built_member-built.result)
+    c.built_member-built.ensures
     (sym c.is_named.ensures ∙ c.if-is_named.false))
     ∙ c.loop-index.invariant

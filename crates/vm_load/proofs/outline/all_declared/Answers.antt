@@ -4,4 +4,5 @@ use Rattle.vm_load.proofs.Maps.{mapped_twice}
 use Rattle.vm_load.proofs.outline.all_declared.Goals as goal
 
 pub returns : goal.returns
-returns c = mapped_twice (declared c.args.pool.now) member_of c.args.members.now _ c.loop-member.member-index c.loop-member.invariant c.loop-member-test.false
+returns c = mapped_twice (declared c.args.pool.now) member_of c.args.members.now _ c.loop-member.member-index c.loop-member.invariant
+    c.loop-member-test.false

@@ -9,7 +9,8 @@ use Rattle.vm_load.proofs.outline.outlines.Goals as goal
 pub loop-class-preserved : goal.loop-class-preserved
 loop-class-preserved c =
     let within : c.loop-class.class-index < length c.args.classes.now = search rules in
-    mapped_more (λ k. outline (class_of k)) c.args.classes.now (map outline_of c.loop-class.all.items) _ c.loop-class.class-index c.class-item.result
+    mapped_more (λ k. outline (class_of k)) c.args.classes.now (map outline_of c.loop-class.all.items) _ c.loop-class.class-index
+    c.class-item.result
     (outline_of c.in_ok-one.one) within c.loop-class.invariant
     (ap (map outline_of) c.in_ok-push.ensures.items ∙ map-append outline_of c.loop-class.all.items (c.in_ok-one.one ∷ []))
     (c.in_ok-one.ensures ∙ ap (λ k. outline (class_of k)) c.class-item.is)

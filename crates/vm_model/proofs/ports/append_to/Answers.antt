@@ -9,5 +9,6 @@ returns-in-Err-clause-err c =
 
 pub returns-in-Ok-clause-ok : goal.returns-in-Ok-clause-ok
 returns-in-Ok-clause-ok c =
-    changed_by (λ queue. queue.items) c.args.queues.now.items c.args.to c.index_mut-queue.result.now (λ l. l ++ c.args.message ∷ []) c.push_back.new.self
+    changed_by (λ queue. queue.items) c.args.queues.now.items c.args.to c.index_mut-queue.result.now (λ l. l ++ c.args.message ∷ [])
+    c.push_back.new.self
     (search rules) c.index_mut-queue.ensures.value c.in-Ok.ensures.items

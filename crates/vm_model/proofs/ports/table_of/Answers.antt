@@ -5,5 +5,6 @@ use Rattle.vm_model.proofs.ports.table_of.Goals as goal
 
 pub loop-role-preserved : goal.loop-role-preserved
 loop-role-preserved c =
-    one_more c.args.roles.now c.loop-role.role-index c.role-item.result c.loop-role.names c.add.new.self c.requires c.loop-role-test.true c.role-item.is
+    one_more c.args.roles.now c.loop-role.role-index c.role-item.result c.loop-role.names c.add.new.self c.requires c.loop-role-test.true
+    c.role-item.is
     c.loop-role.invariant (c.in_ok-add.ensures.ok ∙ ap (λ t. with_text c.loop-role.names t) c.as_str.ensures)

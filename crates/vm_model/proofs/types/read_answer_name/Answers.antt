@@ -3,5 +3,6 @@ use Rattle.vm_model.proofs.types.read_answer_name.Goals as goal
 
 pub returns-else-byte-eq59-clause-reads : goal.returns-else-byte-eq59-clause-reads
 returns-else-byte-eq59-clause-reads c = λ params.
-    result_name_on c.args.descriptor.now c.args.start c.args.at c.args.byte params c.to-else-byte-eq59.result c.requires.order c.requires.within c.requires.byte
+    result_name_on c.args.descriptor.now c.args.start c.args.at c.args.byte params c.to-else-byte-eq59.result c.requires.order
+    c.requires.within c.requires.byte
     c.if-byte-eq59.false c.to-else-byte-eq59.ensures

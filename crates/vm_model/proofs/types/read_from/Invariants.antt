@@ -5,5 +5,6 @@ use Rattle.vm_model.proofs.types.read_from.Given as goal
 
 abbrev pub invariant-loop-at : goal.invariant-loop-at
 invariant-loop-at l =
-    (fold reads (reading_of l.descriptor 0 [] l.first) (take l.at l.descriptor) ≡ reading_of l.descriptor l.at (types_view l.params.items) l.stage)
+    (fold reads (reading_of l.descriptor 0 [] l.first) (take l.at l.descriptor) ≡ reading_of l.descriptor l.at (types_view l.params.items)
+    l.stage)
     × IsStage l.descriptor l.at (types_view l.params.items) l.stage

@@ -23,5 +23,6 @@ returns c =
     let g : to_z w32 (of_z w32 c.in-Some-computed.z) ≡ c.in-Some-computed.z = grind (arith, to_z-of_z) in
     compute_alone c.args.max (state_of c.args.state.now) (state_of c.put_int_for_two.new.state) (omega arith) c.in-Some.x c.in-Some-int_at.y
     (sym c.in-Some.is ∙ c.int_at.ensures) (sym c.in-Some-int_at.is ∙ c.int_at-2.ensures)
-    (operation_of c.args.operation) c.in-Some-computed.z (sym c.in-Some-computed.is ∙ c.computed.ensures ∙ (λ i. computed (operation_of c.args.operation) (e i) (f i))) (omega arith)
+    (operation_of c.args.operation) c.in-Some-computed.z (sym c.in-Some-computed.is ∙ c.computed.ensures ∙
+    (λ i. computed (operation_of c.args.operation) (e i) (f i))) (omega arith)
     (c.put_int_for_two.ensures ∙ ap (λ z. next (state_of c.args.state.now) (below 2 (operands_of c.args.state.now) ++ values.Int z ∷ [])) g)

@@ -14,6 +14,8 @@ use Rattle.vm_step.proofs.frequent.double.Goals as goal
 
 pub returns-in-Some : goal.returns-in-Some
 returns-in-Some c =
-    alone_if c.args.max Double (state_of c.args.state.now) (state_of c.push.new.state) c.push.result c.push.ensures.room c.push.ensures.yes c.push.ensures.no
-    (λ room is. double_alone c.args.max (state_of c.args.state.now) (state_of c.push.new.state) (omega arith) (value_of c.operand.result.now)
+    alone_if c.args.max Double (state_of c.args.state.now) (state_of c.push.new.state) c.push.result c.push.ensures.room c.push.ensures.yes
+    c.push.ensures.no
+    (λ room is. double_alone c.args.max (state_of c.args.state.now) (state_of c.push.new.state) (omega arith)
+    (value_of c.operand.result.now)
     (value_of c.in-Some.cell) c.operand.ensures c.in-Some.ensures room is)

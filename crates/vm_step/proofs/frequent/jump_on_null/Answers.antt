@@ -14,8 +14,11 @@ use Rattle.vm_step.proofs.frequent.jump_on_null.Goals as goal
 
 pub returns : goal.returns
 returns c =
-    if_null_alone c.args.max (state_of c.args.state.now) (state_of c.drop_one.new.state) (omega arith) c.args.wanted c.args.target c.place_after-place.result
-    (value_of c.operand.result.now) c.operand.ensures (when_true c.is_of_sort.result c.if-not-is_of_sort.false c.is_of_sort.ensures) (omega arith)
+    if_null_alone c.args.max (state_of c.args.state.now) (state_of c.drop_one.new.state) (omega arith) c.args.wanted c.args.target
+    c.place_after-place.result
+    (value_of c.operand.result.now) c.operand.ensures (when_true c.is_of_sort.result c.if-not-is_of_sort.false c.is_of_sort.ensures)
+    (omega arith)
     (c.place_after-place.ensures ∙ ap (λ (b : Bool). if b then c.args.target else c.args.state.now.frame.place + 1)
     (c.same_truth-test.ensures ∙ ap (same_truth c.args.wanted) (c.is_null.ensures
-    ∙ ap is_null (some_is (value_of c.operand-2.result.now) (value_of c.operand.result.now) (sym c.operand-2.ensures ∙ c.operand.ensures))))) c.drop_one.ensures
+    ∙ ap is_null (some_is (value_of c.operand-2.result.now) (value_of c.operand.result.now)
+    (sym c.operand-2.ensures ∙ c.operand.ensures))))) c.drop_one.ensures

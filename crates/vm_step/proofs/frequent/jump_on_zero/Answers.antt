@@ -19,7 +19,8 @@ use Rattle.vm_step.proofs.frequent.jump_on_zero.Goals as goal
 pub returns : goal.returns
 returns c =
     let e : to_z w32 (of_z w32 c.in-Some.x) ≡ c.in-Some.x = grind (arith, to_z-of_z) in
-    if_zero_alone c.args.max (state_of c.args.state.now) (state_of c.drop_one.new.state) (omega arith) c.in-Some.x (sym c.in-Some.is ∙ c.int_at.ensures)
+    if_zero_alone c.args.max (state_of c.args.state.now) (state_of c.drop_one.new.state) (omega arith) c.in-Some.x
+    (sym c.in-Some.is ∙ c.int_at.ensures)
     (comparison_of c.args.comparison) c.args.target c.place_after-place.result (omega arith)
     (c.place_after-place.ensures ∙ ap (λ (b : Bool). if b then c.args.target else c.args.state.now.frame.place + 1)
     (c.compares.ensures ∙ ap (λ z. compares (comparison_of c.args.comparison) z (pos 0)) e)) c.drop_one.ensures

@@ -16,6 +16,7 @@ pub returns-in-Some : goal.returns-in-Some
 returns-in-Some c =
     alone_if c.args.max (Load (sort_of c.args.sort) c.args.local) (state_of c.args.state.now) (state_of c.push.new.state) c.push.result
     c.push.ensures.room c.push.ensures.yes c.push.ensures.no
-    (λ room is. load_alone c.args.max (state_of c.args.state.now) (state_of c.push.new.state) (sort_of c.args.sort) c.args.local (value_of c.in-Some.cell)
+    (λ room is. load_alone c.args.max (state_of c.args.state.now) (state_of c.push.new.state) (sort_of c.args.sort) c.args.local
+    (value_of c.in-Some.cell)
     (ap (λ l. slice_get (locals_of l) c.args.local) (sym c.as_slice.ensures.value)
     ∙ ap (slice_get (locals_of c.as_slice.result.now)) (sym c.from.ensures) ∙ c.in-Some.ensures.holds) c.in-Some.ensures.fits room is)

@@ -21,5 +21,7 @@ pub returns : goal.returns
 returns c =
     let e : to_z w32 (of_z w32 c.in-Some.x) ≡ c.in-Some.x = grind (arith, to_z-of_z) in
     let g : to_z w32 (of_z w32 c.negated.result) ≡ c.negated.result = grind (arith, to_z-of_z) in
-    negate_alone c.args.max (state_of c.args.state.now) (state_of c.put_int.new.state) (omega arith) c.in-Some.x (sym c.in-Some.is ∙ c.int_at.ensures) (omega arith)
-    (c.put_int.ensures ∙ ap (λ z. next (state_of c.args.state.now) (below 1 (operands_of c.args.state.now) ++ values.Int z ∷ [])) (g ∙ c.negated.ensures ∙ ap (λ z. wrap (neg_ℤ z)) e))
+    negate_alone c.args.max (state_of c.args.state.now) (state_of c.put_int.new.state) (omega arith) c.in-Some.x
+    (sym c.in-Some.is ∙ c.int_at.ensures) (omega arith)
+    (c.put_int.ensures ∙ ap (λ z. next (state_of c.args.state.now) (below 1 (operands_of c.args.state.now) ++ values.Int z ∷ []))
+    (g ∙ c.negated.ensures ∙ ap (λ z. wrap (neg_ℤ z)) e))

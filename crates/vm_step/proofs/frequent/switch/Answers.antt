@@ -20,6 +20,7 @@ pub returns : goal.returns
 returns c =
     let e : to_z w32 (of_z w32 c.in-Some.x) ≡ c.in-Some.x = grind (arith, to_z-of_z) in
     let g : to_z w32 (of_z w32 c.args.low.now) ≡ c.args.low.now = grind (arith, to_z-of_z) in
-    switch_alone c.args.max (state_of c.args.state.now) (state_of c.drop_one.new.state) (omega arith) c.in-Some.x (sym c.in-Some.is ∙ c.int_at.ensures)
+    switch_alone c.args.max (state_of c.args.state.now) (state_of c.drop_one.new.state) (omega arith) c.in-Some.x
+    (sym c.in-Some.is ∙ c.int_at.ensures)
     c.args.default c.args.low.now c.args.targets.now c.switched.result (omega arith)
     (c.switched.ensures ∙ (λ i. switched c.args.default (g i) c.args.targets.now (e i))) c.drop_one.ensures

@@ -14,7 +14,8 @@ loop-at-preserved c =
           _ _ _ c.loop-at-test.true within c.index-top-at.is (rw c.misfit.ensures at c.noted-found.ensures.kind) c.loop-at.invariant.kind;
       member = found_more (classes_of c.args.linked.now.classes.items) (objects_of c.args.heap.now) model.is_member c.args.takes.now
           c.args.top.now c.loop-at.at _ c.index-top-at.result
-          _ _ _ c.loop-at-test.true within c.index-top-at.is (rw c.misfit.ensures at c.noted-found.ensures.member) c.loop-at.invariant.member;
+          _ _ _ c.loop-at-test.true within c.index-top-at.is (rw c.misfit.ensures at c.noted-found.ensures.member)
+          c.loop-at.invariant.member;
     }
 
 pub returns : goal.returns

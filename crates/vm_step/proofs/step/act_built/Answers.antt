@@ -2,7 +2,8 @@ use Rattle.std.proofs.Common.{◌∙◌, sym, Ok, refl}
 use Rattle.vm_model.specs.View.{classes_of}
 use Rattle.vm_step.specs.State.{state_of}
 use Rattle.vm_step.proofs.Acts.{act_wrong, does_same, does_plays_same}
-use Rattle.vm_step.proofs.Whole.{init_is, concat_is, equals_is, show_int_is, show_truth_is, out_is, print_is, send_is, send_int_is, send_truth_is, send_text_is, look_is, take_is, take_int_is, take_truth_is, take_text_is, refuse_is}
+use Rattle.vm_step.proofs.Whole.{init_is, concat_is, equals_is, show_int_is, show_truth_is, out_is, print_is, send_is, send_int_is}
+use Rattle.vm_step.proofs.Whole.{send_truth_is, send_text_is, look_is, take_is, take_int_is, take_truth_is, take_text_is, refuse_is}
 use Rattle.vm_step.proofs.step.act_built.Goals as goal
 
 pub returns-in-Some-clause-ok : goal.returns-in-Some-clause-ok

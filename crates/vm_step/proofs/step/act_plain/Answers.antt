@@ -2,7 +2,8 @@ use Rattle.std.proofs.Common.{◌∙◌, sym, Ok, refl}
 use Rattle.vm_model.specs.View.{classes_of}
 use Rattle.vm_step.specs.State.{state_of}
 use Rattle.vm_step.proofs.Acts.{act_wrong, plays_for}
-use Rattle.vm_step.proofs.Whole.{push_is, load_is, store_is, pop_is, double_is, swap_is, compute_is, negate_is, increase_is, if_zero_is, if_both_is, if_null_is, go_is, switch_is}
+use Rattle.vm_step.proofs.Whole.{push_is, load_is, store_is, pop_is, double_is, swap_is, compute_is, negate_is, increase_is, if_zero_is}
+use Rattle.vm_step.proofs.Whole.{if_both_is, if_null_is, go_is, switch_is}
 use Rattle.vm_step.proofs.step.act_plain.Goals as goal
 
 pub returns-in-Some-clause-ok : goal.returns-in-Some-clause-ok

@@ -5,4 +5,5 @@ use Rattle.vm_world.specs.View.{roles_of}
 use Rattle.vm_world.proofs.world.begun.Given as goal
 
 abbrev pub invariant-loop-main : goal.invariant-loop-main
-invariant-loop-main l = (length l.roles.items ≡ l.main-index) × StartAt (classes_of l.fn.linked.classes.items) (take l.main-index l.mains) (roles_of l.roles.items)
+invariant-loop-main l = (length l.roles.items ≡ l.main-index) × StartAt (classes_of l.fn.linked.classes.items) (take l.main-index l.mains)
+    (roles_of l.roles.items)

@@ -8,4 +8,5 @@ pub arguments_depth-returns : goal.arguments_depth-returns
 arguments_depth-returns t c =
     let s = c.args.self.now in
     let none : c.loop-left.left ≡ 0 = omega arith in
-    c.loop-left.invariant.depth ∙ ap (λ k. depth_of_arguments (program_in s) (method_in s) (exprs_of (map expr_of (drop k c.args.args.now)))) none
+    c.loop-left.invariant.depth ∙ ap (λ k. depth_of_arguments (program_in s) (method_in s)
+    (exprs_of (map expr_of (drop k c.args.args.now)))) none

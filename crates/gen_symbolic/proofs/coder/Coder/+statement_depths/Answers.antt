@@ -5,6 +5,7 @@ use Rattle.gen_symbolic.proofs.coder.Coder.+statement_depths.Goals as goal
 
 pub depth_of_groups-loop-group-preserved : goal.depth_of_groups-loop-group-preserved
 depth_of_groups-loop-group-preserved t c =
-    group_depth_more (program_in c.args.self.now) (method_in c.args.self.now) c.args.groups.now c.loop-group.group-index c.loop-group.depth _
+    group_depth_more (program_in c.args.self.now) (method_in c.args.self.now) c.args.groups.now c.loop-group.group-index c.loop-group.depth
+    _
     c.loop-group.invariant c.group-item.result c.as_slice.result.now c.in_ok-next.next c.max-depth.result (omega arith) c.group-item.is
     c.as_slice.ensures.items c.in_ok-next.ensures (search)

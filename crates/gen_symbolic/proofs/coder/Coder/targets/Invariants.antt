@@ -6,4 +6,5 @@ use Rattle.gen_symbolic.proofs.coder.Coder.targets.Given as goal
 
 abbrev pub invariant-loop-position : goal.invariant-loop-position
 invariant-loop-position l =
-    l.targets.items ≡ map (target_by (groups_of (map group_of l.groups)) (numbers_from l.first (length l.groups)) l.default) (numbers_from 0 l.position)
+    l.targets.items ≡ map (target_by (groups_of (map group_of l.groups)) (numbers_from l.first (length l.groups)) l.default)
+    (numbers_from 0 l.position)

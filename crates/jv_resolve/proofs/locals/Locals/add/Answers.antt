@@ -12,9 +12,13 @@ pub invariant_of-self-2 : goal.invariant_of-self-2
 invariant_of-self-2 c =
     let key : string_bytes c.in_ok-key.key ≡ c.args.name.now = c.in_ok-key.ensures.ok in
     let u = changed_at c.self.inside.by_name c.insert.new.self c.args.name.now (Some c.args.local)
-    (subst (λ n. UpdatesBy string_eq (λ k. bytes_eq n (string_bytes k)) c.self.inside.by_name c.insert.new.self (Some c.args.local)) key c.in_ok-insert.ensures.updates) in
-    let new : known_named (row_seen c.self.inside.stack.items) c.args.name.now ≡ None = ap (λ l. known_named l c.args.name.now) c.self.view_is ∙ c.requires in
+    (subst (λ n. UpdatesBy string_eq (λ k. bytes_eq n (string_bytes k)) c.self.inside.by_name c.insert.new.self (Some c.args.local)) key
+    c.in_ok-insert.ensures.updates) in
+    let new : known_named (row_seen c.self.inside.stack.items) c.args.name.now ≡ None = ap (λ l. known_named l c.args.name.now)
+    c.self.view_is ∙ c.requires in
     let d : Declared = record { name = c.args.name; local = c.args.local } in
-    let pushed = ap row_seen (c.in_ok-push.ensures.items ∙ ap (λ xs. xs ++ d ∷ []) c.in_ok-reserve.ensures.items) ∙ row_push c.self.inside.stack.items d in
+    let pushed = ap row_seen (c.in_ok-push.ensures.items ∙ ap (λ xs. xs ++ d ∷ []) c.in_ok-reserve.ensures.items) ∙
+    row_push c.self.inside.stack.items d in
     subst (AreLookedUp (get_by_text c.insert.new.self)) (sym pushed)
-    (looked_up_more (row_seen c.self.inside.stack.items) (known c.args.name.now c.args.local) (get_by_text c.self.inside.by_name) (get_by_text c.insert.new.self) c.args.local refl c.self.invariant new u)
+    (looked_up_more (row_seen c.self.inside.stack.items) (known c.args.name.now c.args.local) (get_by_text c.self.inside.by_name)
+    (get_by_text c.insert.new.self) c.args.local refl c.self.invariant new u)

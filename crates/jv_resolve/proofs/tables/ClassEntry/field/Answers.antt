@@ -3,9 +3,11 @@ use Rattle.jv_resolve.proofs.Called.{called_got, not_called}
 use Rattle.jv_resolve.proofs.tables.ClassEntry.field.Goals as goal
 
 pub returns-in-None : goal.returns-in-None
-returns-in-None c = not_called field_of (λ x. x.name) (λ n f. record { field = f; place = n }) c.args.self.now.class.now.fields.items c.args.self.now.fields c.args.self.now.named_fields c.args.name.now c.in-None.ensures
+returns-in-None c = not_called field_of (λ x. x.name) (λ n f. record { field = f; place = n }) c.args.self.now.class.now.fields.items
+    c.args.self.now.fields c.args.self.now.named_fields c.args.name.now c.in-None.ensures
 
 pub returns-in-Some-get : goal.returns-in-Some-get
 returns-in-Some-get c =
-    called_got field_of (λ x. x.name) (λ n f. record { field = f; place = n }) c.args.self.now.class.now.fields.items c.args.self.now.fields c.args.self.now.named_fields c.args.name.now c.in-Some.place c.in-Some.ensures c.as_slice.result.now c.as_slice.ensures.items
+    called_got field_of (λ x. x.name) (λ n f. record { field = f; place = n }) c.args.self.now.class.now.fields.items c.args.self.now.fields
+    c.args.self.now.named_fields c.args.name.now c.in-Some.place c.in-Some.ensures c.as_slice.result.now c.as_slice.ensures.items
     c.in-Some-get.field c.in-Some-get.ensures.lookup

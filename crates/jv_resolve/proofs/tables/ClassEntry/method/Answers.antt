@@ -4,9 +4,12 @@ use Rattle.jv_resolve.proofs.Called.{called_got, not_called}
 use Rattle.jv_resolve.proofs.tables.ClassEntry.method.Goals as goal
 
 pub returns-in-None : goal.returns-in-None
-returns-in-None c = not_called method_of (λ x. x.name) (λ n m. record { method = m; number = c.args.self.now.first_method + n }) c.args.self.now.class.now.methods.items c.args.self.now.methods c.args.self.now.named_methods c.args.name.now c.in-None.ensures
+returns-in-None c = not_called method_of (λ x. x.name) (λ n m. record { method = m; number = c.args.self.now.first_method + n })
+    c.args.self.now.class.now.methods.items c.args.self.now.methods c.args.self.now.named_methods c.args.name.now c.in-None.ensures
 
 pub returns-in-Some-get : goal.returns-in-Some-get
 returns-in-Some-get c =
-    called_got method_of (λ x. x.name) (λ n m. record { method = m; number = c.args.self.now.first_method + n }) c.args.self.now.class.now.methods.items c.args.self.now.methods c.args.self.now.named_methods c.args.name.now c.in-Some.place c.in-Some.ensures c.as_slice.result.now c.as_slice.ensures.items
+    called_got method_of (λ x. x.name) (λ n m. record { method = m; number = c.args.self.now.first_method + n })
+    c.args.self.now.class.now.methods.items c.args.self.now.methods c.args.self.now.named_methods c.args.name.now c.in-Some.place
+    c.in-Some.ensures c.as_slice.result.now c.as_slice.ensures.items
     c.in-Some-get.method c.in-Some-get.ensures.lookup

@@ -16,19 +16,23 @@ returns-then-back c = λ ps to h k.
     let none : Bor Name = record { ref_ptr = (0, 0); now = [] } in
     let here : Bor Name = get_or c.args.names.now c.loop-i.i none in
     first_map (FoundBad (λ n. Leads (titles ps) n to)) (λ (b : Bor Name). b.now)
-    (rest_here (λ (b : Bor Name). FoundBad (λ n. Leads (titles ps) n to) b.now) c.args.names.now c.loop-i.i (c.loop-i.invariant ps to h k) c.loop-i-test.true here
+    (rest_here (λ (b : Bor Name). FoundBad (λ n. Leads (titles ps) n to) b.now) c.args.names.now c.loop-i.i (c.loop-i.invariant ps to h k)
+    c.loop-i-test.true here
     (get_or_default c.args.names.now c.loop-i.i none here c.loop-i-test.true)
-    _ (Some here.now) (bad_here (λ n. Leads (titles ps) n to) here.now c.in_ok-back.back (c.in_ok-back.ensures ps to h k) c.if-back.true) refl)
+    _ (Some here.now) (bad_here (λ n. Leads (titles ps) n to) here.now c.in_ok-back.back (c.in_ok-back.ensures ps to h k) c.if-back.true)
+    refl)
 
 pub loop-i-preserved : goal.loop-i-preserved
 loop-i-preserved c = λ ps to h k.
     let none : Bor Name = record { ref_ptr = (0, 0); now = [] } in
     let here : Bor Name = get_or c.args.names.now c.loop-i.i none in
-    rest_later (λ (b : Bor Name). FoundBad (λ n. Leads (titles ps) n to) b.now) c.args.names.now c.loop-i.i (c.loop-i.invariant ps to h k) c.loop-i-test.true here
+    rest_later (λ (b : Bor Name). FoundBad (λ n. Leads (titles ps) n to) b.now) c.args.names.now c.loop-i.i (c.loop-i.invariant ps to h k)
+    c.loop-i-test.true here
     (get_or_default c.args.names.now c.loop-i.i none here c.loop-i-test.true)
     None (bad_later (λ n. Leads (titles ps) n to) here.now c.in_ok-back.back (c.in_ok-back.ensures ps to h k) c.if-back.false) refl
 
 pub returns : goal.returns
 returns c = λ ps to h k.
     first_map (FoundBad (λ n. Leads (titles ps) n to)) (λ (b : Bor Name). b.now)
-    (rest_end (λ (b : Bor Name). FoundBad (λ n. Leads (titles ps) n to) b.now) c.args.names.now c.loop-i.i (c.loop-i.invariant ps to h k) (omega arith))
+    (rest_end (λ (b : Bor Name). FoundBad (λ n. Leads (titles ps) n to) b.now) c.args.names.now c.loop-i.i (c.loop-i.invariant ps to h k)
+    (omega arith))

@@ -11,6 +11,7 @@ pub returns : goal.returns
 returns c =
     let told : told_names c.as_slice-2.result.now ≡ gone true (statements c.args.part.now.body.items) =
     ap told_names c.as_slice-2.ensures.value ∙ c.in_ok-gone_all.ensures.names
-    ∙ ap (λ l. told_names l ++ gone true (statements c.as_slice.result.now)) c.new-names.ensures.items ∙ ap (λ b. gone true (statements b)) c.as_slice.ensures.items in
+    ∙ ap (λ l. told_names l ++ gone true (statements c.as_slice.result.now)) c.new-names.ensures.items ∙
+    ap (λ b. gone true (statements b)) c.as_slice.ensures.items in
     IfOk-weaker c.first_back.result _ _
     (λ g f ps to h k. subst (λ ns. FirstIn (FoundBad (λ n. Leads (titles ps) n to)) ns (goal_of g)) told (f ps to h k)) c.first_back.ensures

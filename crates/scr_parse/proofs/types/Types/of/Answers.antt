@@ -3,5 +3,6 @@ use Rattle.scr_parse.proofs.types.Types.of.Goals as goal
 
 pub loop-declaration-preserved : goal.loop-declaration-preserved
 loop-declaration-preserved c =
-    kinds_more c.loop-declaration.kinds c.add_kind.new.kinds c.as_slice-declaration-items.result.now c.loop-declaration.declaration-index c.declaration-item.result
+    kinds_more c.loop-declaration.kinds c.add_kind.new.kinds c.as_slice-declaration-items.result.now c.loop-declaration.declaration-index
+    c.declaration-item.result
     c.loop-declaration-test.true c.declaration-item.is c.loop-declaration.invariant c.in_ok-add_kind.ensures

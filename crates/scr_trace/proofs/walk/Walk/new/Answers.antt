@@ -14,14 +14,17 @@ use Rattle.scr_trace.proofs.walk.Walk.new.Goals as goal
 pub returns-clause-stands : goal.returns-clause-stands
 returns-clause-stands c =
     let tree : LocalTree = tree_of c.args.local.now in
-    let at : c.standing-standing.result ≡ standing_of (work_of c.in_ok-laid.laid) c.in_ok-laid.laid.next = c.standing-standing.ensures ∙ ap (λ (h : Hop). standing_of (work_of c.in_ok-laid.laid) h) c.start.ensures in
+    let at : c.standing-standing.result ≡ standing_of (work_of c.in_ok-laid.laid) c.in_ok-laid.laid.next = c.standing-standing.ensures ∙
+    ap (λ (h : Hop). standing_of (work_of c.in_ok-laid.laid) h) c.start.ensures in
     record {
       of = refl;
       along = c.in_ok-laid.ensures.automaton;
-      comes = subst (λ (s : Standing). ComesTo (protocol_of tree) (state_positions (protocol_of tree)) (start (protocol_of tree)) s) (sym at) c.in_ok-laid.ensures.automaton.initial;
+      comes = subst (λ (s : Standing). ComesTo (protocol_of tree) (state_positions (protocol_of tree)) (start (protocol_of tree)) s)
+          (sym at) c.in_ok-laid.ensures.automaton.initial;
     }
 
 pub returns-clause-taken : goal.returns-clause-taken
 returns-clause-taken c =
-    let walk : Walk = record { alloc = c.args.alloc; local = c.args.local; laid = c.in_ok-laid.laid; standing = c.standing-standing.result } in
+    let walk : Walk = record { alloc = c.args.alloc; local = c.args.local; laid = c.in_ok-laid.laid; standing = c.standing-standing.result }
+    in
     starts (tree_of c.args.local.now) walk (returns-clause-stands c)

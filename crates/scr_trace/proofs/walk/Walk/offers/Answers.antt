@@ -23,10 +23,13 @@ returns-in_default-exits_of-clause-distinct c =
 
 pub returns-clause-calls : goal.returns-clause-calls
 returns-clause-calls c =
-    λ tree position h. offered_at tree c.args.self.now position c.in-State.number (cell_of c.in-Some.exits.now) (calls_offered c.in_ok-offers.offers.items) h c.in-State.is c.in-Some.ensures
-    (c.in_ok-offers.ensures.calls (λ k e. peers_same tree c.args.self.now position c.in-State.number k c.in-Some.exits.now h c.in-State.is c.in-Some.ensures e))
+    λ tree position h. offered_at tree c.args.self.now position c.in-State.number (cell_of c.in-Some.exits.now)
+    (calls_offered c.in_ok-offers.offers.items) h c.in-State.is c.in-Some.ensures
+    (c.in_ok-offers.ensures.calls (λ k e. peers_same tree c.args.self.now position c.in-State.number k c.in-Some.exits.now h c.in-State.is
+    c.in-Some.ensures e))
 
 pub returns-clause-distinct : goal.returns-clause-distinct
 returns-clause-distinct c =
-    λ tree position h. offers_distinct tree c.args.self.now position c.in-State.number c.in-Some.exits.now c.in_ok-offers.offers.items h c.in-Some.ensures
+    λ tree position h. offers_distinct tree c.args.self.now position c.in-State.number c.in-Some.exits.now c.in_ok-offers.offers.items h
+    c.in-Some.ensures
     c.in_ok-offers.ensures.apart

@@ -13,7 +13,8 @@ number-number-requires-clause-b c = c.self.invariant.few_b
 
 pub invariant_of-self-2 : goal.invariant_of-self-2
 invariant_of-self-2 c =
-    kept-more c.self.inside.a c.self.inside.b (is_marked c.self.inside.marks) (is_marked c.mark.new.self) c.self.inside.first c.self.inside.visits.items c.add.new.self.items
+    kept-more c.self.inside.a c.self.inside.b (is_marked c.self.inside.marks) (is_marked c.mark.new.self) c.self.inside.first
+    c.self.inside.visits.items c.add.new.self.items
     (record { pair = c.args.pair; step = c.args.step }) c.number-number.result c.self.invariant
     (subst (λ (ms : List Met). c.args.step.parent < length ms) (sym c.self.view_is) c.requires)
     (c.add.ensures.items ∙ ap (λ (vs : List Visit). vs ++ record { pair = c.args.pair; step = c.args.step } ∷ []) c.reserve.ensures.items)

@@ -7,5 +7,6 @@ use Rattle.ts_refine.proofs.search.Search.meet_all.Given as goal
 abbrev pub invariant-loop-method : goal.invariant-loop-method
 invariant-loop-method l = record {
   within : l.parent < length l.self;
-  rest : gone (found_by l.self) l.parent (arrows_in (map method_of l.others) (map method_of (drop l.method-index l.methods))) ≡ gone (found_by l.initial.self) l.parent (arrows_in (map method_of l.others) (map method_of l.methods));
+  rest : gone (found_by l.self) l.parent (arrows_in (map method_of l.others) (map method_of (drop l.method-index l.methods))) ≡ gone
+      (found_by l.initial.self) l.parent (arrows_in (map method_of l.others) (map method_of l.methods));
 }

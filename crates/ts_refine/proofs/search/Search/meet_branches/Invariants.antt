@@ -8,5 +8,6 @@ abbrev pub invariant-loop-branch : goal.invariant-loop-branch
 invariant-loop-branch l = record {
   within : l.parent < length l.self;
   counted : l.place ≡ l.branch-index;
-  rest : gone (found_by l.self) l.parent (arrows_by l.method.name (target_of l.target) (drop l.branch-index l.branches)) ≡ gone (found_by l.initial.self) l.parent (arrows_by l.method.name (target_of l.target) l.branches);
+  rest : gone (found_by l.self) l.parent (arrows_by l.method.name (target_of l.target) (drop l.branch-index l.branches)) ≡ gone
+      (found_by l.initial.self) l.parent (arrows_by l.method.name (target_of l.target) l.branches);
 }

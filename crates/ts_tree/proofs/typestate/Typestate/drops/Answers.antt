@@ -4,4 +4,5 @@ use Rattle.ts_tree.proofs.Searches.{drops_by}
 use Rattle.ts_tree.proofs.typestate.Typestate.drops.Goals as goal
 
 pub returns : goal.returns
-returns c = sym (drops_by c.args.self.now c.self.inside.name c.self.inside.states.items _ c.args.q _ c.self.view_is c.requires c.as_slice.ensures.items c.index-as_slice-q.is)
+returns c = sym (drops_by c.args.self.now c.self.inside.name c.self.inside.states.items _ c.args.q _ c.self.view_is c.requires
+    c.as_slice.ensures.items c.index-as_slice-q.is)

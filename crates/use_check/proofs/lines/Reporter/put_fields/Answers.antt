@@ -9,14 +9,17 @@ use Rattle.use_check.proofs.lines.Reporter.put_fields.Goals as goal
 pub loop-place-preserved : goal.loop-place-preserved
 loop-place-preserved c =
     let lt : c.loop-place.place < length c.args.fields.now = omega arith in
-    order_next (field_line (seen c.args.self.now) c.args.front.now (key_in c.args.table)) field_of c.args.fields.now c.loop-place.place c.index-fields-place.result
+    order_next (field_line (seen c.args.self.now) c.args.front.now (key_in c.args.table)) field_of c.args.fields.now c.loop-place.place
+    c.index-fields-place.result
     (string_bytes c.loop-place.out) _ _ lt c.index-fields-place.is
     (c.in_ok-put_variable.ensures ∙ ap (λ k. string_bytes c.loop-place.out
-    ++ variable_line (seen c.args.self.now) c.args.front.now c.index-fields-place.result.name.0 c.index-fields-place.result.ty k) c.in_ok-key.ensures)
+    ++ variable_line (seen c.args.self.now) c.args.front.now c.index-fields-place.result.name.0 c.index-fields-place.result.ty k)
+    c.in_ok-key.ensures)
     c.loop-place.invariant
 
 pub returns : goal.returns
 returns c =
     let end : length c.args.fields.now ≤ c.loop-place.place = omega arith in
-    order_end (field_line (seen c.args.self.now) c.args.front.now (key_in c.args.table)) field_of c.args.fields.now c.loop-place.place (string_bytes c.loop-place.out) _
+    order_end (field_line (seen c.args.self.now) c.args.front.now (key_in c.args.table)) field_of c.args.fields.now c.loop-place.place
+    (string_bytes c.loop-place.out) _
     end c.loop-place.invariant

@@ -16,7 +16,9 @@ returns c =
     on_ok_weaker c.put_head_fields.result (λ e. two (string_bytes c.args.out.now) (string_bytes c.put_slots.new.out) _ _ _
     (c.in_ok-put_slots.ensures
     ∙ ap (λ (xs : List CoreSlot). string_bytes c.args.out.now
-    ++ flat_map (slot_line (seen c.args.self.now) c.args.front.now c.args.context c.args.loop_number (map slot_of xs)) c.as_slice-scope.result.now) c.as_slice-slots.ensures.items
+    ++ flat_map (slot_line (seen c.args.self.now) c.args.front.now c.args.context c.args.loop_number (map slot_of xs))
+    c.as_slice-scope.result.now) c.as_slice-slots.ensures.items
     ∙ ap (λ (ks : List ℕ). string_bytes c.args.out.now
-    ++ flat_map (slot_line (seen c.args.self.now) c.args.front.now c.args.context c.args.loop_number (map slot_of c.args.method.now.slots.items)) ks) c.as_slice-scope.ensures.items)
+    ++ flat_map (slot_line (seen c.args.self.now) c.args.front.now c.args.context c.args.loop_number
+    (map slot_of c.args.method.now.slots.items)) ks) c.as_slice-scope.ensures.items)
     e) c.put_head_fields.ensures

@@ -17,6 +17,9 @@ returns-then-not-is_instance c =
 pub returns : goal.returns
 returns c =
     let there : c.is_instance.result ≡ true = search rules in
-    on_ok_weaker c.put_own_fields.result (λ e. some_put c.is_instance.result (is_instance c.args.method.now.kind) _ (string_bytes c.args.out.now) _ c.is_instance.ensures there
-    (e ∙ ap (λ (n : ℕ). string_bytes c.args.out.now ++ field_lines (seen c.args.self.now) c.args.front.now (key_in (tables.Head c.args.context c.args.loop_number n))
-    (own_fields (seen c.args.self.now) (method_of c.args.method.now))) (c.len-slots.ensures.value ∙ sym (length-map c.args.method.now.slots.items slot_of)))) c.put_own_fields.ensures
+    on_ok_weaker c.put_own_fields.result (λ e. some_put c.is_instance.result (is_instance c.args.method.now.kind) _
+    (string_bytes c.args.out.now) _ c.is_instance.ensures there
+    (e ∙ ap (λ (n : ℕ). string_bytes c.args.out.now ++ field_lines (seen c.args.self.now) c.args.front.now
+    (key_in (tables.Head c.args.context c.args.loop_number n))
+    (own_fields (seen c.args.self.now) (method_of c.args.method.now)))
+    (c.len-slots.ensures.value ∙ sym (length-map c.args.method.now.slots.items slot_of)))) c.put_own_fields.ensures

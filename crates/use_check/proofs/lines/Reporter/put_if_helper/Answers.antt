@@ -12,5 +12,6 @@ returns-then-not-is_helper c =
 pub returns : goal.returns
 returns c =
     let there : c.is_helper.result ≡ true = search rules in
-    on_ok_weaker c.put_helper.result (λ e. some_put c.is_helper.result (is_helper c.args.method.now.kind) _ (string_bytes c.args.out.now) _ c.is_helper.ensures there e)
+    on_ok_weaker c.put_helper.result (λ e. some_put c.is_helper.result (is_helper c.args.method.now.kind) _ (string_bytes c.args.out.now) _
+    c.is_helper.ensures there e)
     c.put_helper.ensures

@@ -12,4 +12,5 @@ returns-in_err-name c = left_by _ _ c.from_residual.result c.from_residual.ensur
 pub returns : goal.returns
 returns c =
     on_ok_weaker c.put_named.result (λ e. e ∙ ap (λ (n : List ℕ). string_bytes c.args.out.now
-    ++ named_lines (seen c.args.self.now) n c.args.context_number c.args.context (method_of c.args.method.now)) (c.as_str.ensures.value ∙ c.in_ok-name.ensures)) c.put_named.ensures
+    ++ named_lines (seen c.args.self.now) n c.args.context_number c.args.context (method_of c.args.method.now))
+    (c.as_str.ensures.value ∙ c.in_ok-name.ensures)) c.put_named.ensures

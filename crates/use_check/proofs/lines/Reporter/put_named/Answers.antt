@@ -18,10 +18,13 @@ returns-in_err-put_if_helper c = left_by _ _ c.from_residual-in_err-put_if_helpe
 
 pub returns : goal.returns
 returns c =
-    on_ok_weaker c.put_loops.result (λ e. four (string_bytes c.args.out.now) (string_bytes c.put_params.new.out) (string_bytes c.put_result.new.out) (string_bytes c.put_if_helper.new.out) _ _ _ _ _
+    on_ok_weaker c.put_loops.result (λ e. four (string_bytes c.args.out.now) (string_bytes c.put_params.new.out)
+    (string_bytes c.put_result.new.out) (string_bytes c.put_if_helper.new.out) _ _ _ _ _
     (c.in_ok-put_params.ensures
-    ∙ ap (λ (xs : List Slot). string_bytes c.args.out.now ++ param_lines (seen c.args.self.now) c.args.name.now c.args.context_number xs) c.params_of.ensures)
+    ∙ ap (λ (xs : List Slot). string_bytes c.args.out.now ++ param_lines (seen c.args.self.now) c.args.name.now c.args.context_number xs)
+    c.params_of.ensures)
     c.in_ok-put_result.ensures
     (c.in_ok-put_if_helper.ensures
-    ∙ ap (λ (n : ℕ). string_bytes c.put_result.new.out ++ helper_lines_of (seen c.args.self.now) c.args.name.now n (method_of c.args.method.now)) c.method_in.ensures)
+    ∙ ap (λ (n : ℕ). string_bytes c.put_result.new.out ++ helper_lines_of (seen c.args.self.now) c.args.name.now n
+    (method_of c.args.method.now)) c.method_in.ensures)
     e) c.put_loops.ensures

@@ -8,7 +8,8 @@ use Rattle.use_flow.proofs.scene.Scene.+expressions.Given as goal
 abbrev pub invariant-eval_all-loop-i : goal.invariant-eval_all-loop-i
 invariant-eval_all-loop-i l =
     rest_argued (seen l.self) l.params l.args l.i l.sets l.now (log_of l.log)
-    ≡ eval_all (seen l.self) (map (width_of (seen l.self)) (map (λ s. s.ty) l.params)) (exprs_of (map expr_of l.args)) l.initial.now (log_of l.initial.log)
+    ≡ eval_all (seen l.self) (map (width_of (seen l.self)) (map (λ s. s.ty) l.params)) (exprs_of (map expr_of l.args)) l.initial.now
+    (log_of l.initial.log)
 
 abbrev pub decreases-eval : goal.decreases-eval
 decreases-eval l = 5 * goal.size-eval l + 0

@@ -12,13 +12,16 @@ use Rattle.use_flow.proofs.scene.Scene.+statements.Given as goal
 abbrev pub invariant-steps-loop-statement : goal.invariant-steps-loop-statement
 invariant-steps-loop-statement l =
     Running (seen l.self) (reverse l.outer)
-    (steps (seen l.self) (reverse l.initial.course.scope.items) (reverse l.outer) (stmts_of (map stmt_of l.body)) l.initial.now (log_of l.initial.course.log))
-    (l.initial.course.scope.items ++ declared_here (stmts_of (map stmt_of l.body))) l.initial.course.jumps (stmts_of (map stmt_of (drop l.statement-index l.body))) l.now l.course
+    (steps (seen l.self) (reverse l.initial.course.scope.items) (reverse l.outer) (stmts_of (map stmt_of l.body)) l.initial.now
+    (log_of l.initial.course.log))
+    (l.initial.course.scope.items ++ declared_here (stmts_of (map stmt_of l.body))) l.initial.course.jumps
+    (stmts_of (map stmt_of (drop l.statement-index l.body))) l.now l.course
 
 abbrev pub invariant-step_groups-loop-group : goal.invariant-step_groups-loop-group
 invariant-step_groups-loop-group l =
     Following (seen l.self) l.initial.course.scope.items (rest_of l.sprouts) (nows_of l.sprouts)
-    (follow (seen l.self) (reverse l.initial.course.scope.items) (rest_of l.sprouts) (nows_of l.sprouts) (groups_of (map group_of l.groups)) None (log_of l.initial.course.log))
+    (follow (seen l.self) (reverse l.initial.course.scope.items) (rest_of l.sprouts) (nows_of l.sprouts) (groups_of (map group_of l.groups))
+    None (log_of l.initial.course.log))
     l.initial.course.jumps (groups_of (map group_of (drop l.group-index l.groups))) l.now l.course
 
 abbrev pub decreases-step : goal.decreases-step

@@ -9,5 +9,6 @@ use Rattle.use_flow.proofs.scene.Scene.branches.Goals as goal
 
 pub returns-in_ok-branches-in-Some-clause-nows : goal.returns-in_ok-branches-in-Some-clause-nows
 returns-in_ok-branches-in-Some-clause-nows c =
-    call_nows (seen c.args.self.now) (expr_of c.args.value.now) c.args.sets (log_of c.args.log.now) (log_of c.args.log.now) _ (call_of c.in-Some.call)
+    call_nows (seen c.args.self.now) (expr_of c.args.value.now) c.args.sets (log_of c.args.log.now) (log_of c.args.log.now) _
+    (call_of c.in-Some.call)
     (ap (option_map call_of) (sym c.in-Some.is) ∙ c.call_in.ensures) c.in_ok-branches-in-Some.ensures.nows

@@ -5,5 +5,6 @@ use Rattle.use_flow.proofs.scene.Scene.judge_these.Goals as goal
 
 pub loop-field-preserved : goal.loop-field-preserved
 loop-field-preserved c =
-    field_opened (seen c.args.self.now) c.args.place c.args.fields.now c.loop-field.field c.in_ok-at.at c.args.sets.now c.loop-field.failed.items
+    field_opened (seen c.args.self.now) c.args.place c.args.fields.now c.loop-field.field c.in_ok-at.at c.args.sets.now
+    c.loop-field.failed.items
     c.judge_variable.new.failed.items _ (omega arith) c.in_ok-at.ensures c.in_ok-judge_variable.ensures c.loop-field.invariant

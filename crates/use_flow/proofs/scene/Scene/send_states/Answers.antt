@@ -11,5 +11,6 @@ loop-state-preserved c =
     state_next (seen c.args.self.now) c.args.method_number (method_of c.args.method.now) c.args.states.now c.loop-state.state-index
     (get_or c.args.states.now c.loop-state.state-index 0) c.in_ok-context.context c.args.args.now (map (λ s. s.ty) c.params_of.result.now)
     (outs_in c.loop-state.outs.items) (outs_in c.send_params.new.outs.items) _ (omega arith)
-    (sym (get_or_default_zero c.args.states.now c.loop-state.state-index _ (omega arith))) c.in_ok-context.ensures c.params_of.ensures c.in_ok-send_params.ensures
+    (sym (get_or_default_zero c.args.states.now c.loop-state.state-index _ (omega arith))) c.in_ok-context.ensures c.params_of.ensures
+    c.in_ok-send_params.ensures
     c.loop-state.invariant

@@ -8,6 +8,8 @@ use Rattle.use_flow.proofs.scene.Scene.step_dropped.Goals as goal
 -- src/simple.rt:149:5
 pub returns : goal.returns
 returns c =
-    dropped_as (seen c.args.self.now) (log_of c.args.log.now) (expr_of c.args.value.now) (log_of c.eval.new.log) c.in_ok-now.now c.args.place
+    dropped_as (seen c.args.self.now) (log_of c.args.log.now) (expr_of c.args.value.now) (log_of c.eval.new.log) c.in_ok-now.now
+    c.args.place
     c.type_dropped.result c.class_or_none.result _ c.args.sets c.in_ok-set.field-0 _
-    c.type_dropped.ensures c.class_or_none.ensures c.typestate_of-typestate.ensures c.in_ok-set.ensures c.in_ok-now.ensures c.in_ok-judge.ensures
+    c.type_dropped.ensures c.class_or_none.ensures c.typestate_of-typestate.ensures c.in_ok-set.ensures c.in_ok-now.ensures
+    c.in_ok-judge.ensures

@@ -6,7 +6,8 @@ use Rattle.use_flow.proofs.switches.Sprouts.entry.Goals as goal
 pub returns : goal.returns
 returns c =
     entry_last (rest_of c.args.self.now) (nows_of c.args.self.now) c.args.labels.now c.loop-label.label-index
-    (with_any c.args.self.now.branches.variable c.args.self.now.branches.known c.loop-label.all) c.loop-label.invariant c.in_ok-now.now c.loop-label-test.false c.in_ok-now.ensures
+    (with_any c.args.self.now.branches.variable c.args.self.now.branches.known c.loop-label.all) c.loop-label.invariant c.in_ok-now.now
+    c.loop-label-test.false c.in_ok-now.ensures
 
 pub loop-label-preserved : goal.loop-label-preserved
 loop-label-preserved c =

@@ -6,5 +6,6 @@ use Rattle.use_flow.proofs.switches.Sprouts.entry.Given as goal
 
 abbrev pub invariant-loop-label : goal.invariant-loop-label
 invariant-loop-label l =
-    (s : Followed) → joined (with_any l.self.branches.variable l.self.branches.known l.all) (entry_of s (rest_of l.self) (nows_of l.self) (drop l.label-index l.labels))
+    (s : Followed) → joined (with_any l.self.branches.variable l.self.branches.known l.all)
+    (entry_of s (rest_of l.self) (nows_of l.self) (drop l.label-index l.labels))
     ≡ entry_of s (rest_of l.self) (nows_of l.self) l.labels

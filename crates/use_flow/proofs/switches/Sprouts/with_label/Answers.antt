@@ -7,5 +7,6 @@ pub returns-then-at-len : goal.returns-then-at-len
 returns-then-at-len c =
     let at : c.index.result.now ≡ get_or c.args.self.now.branches.sets.items c.in-Some.constant [] = grind (arith, common_steps) in
     let within : c.in-Some.constant < length c.args.self.now.branches.sets.items = grind (arith, common_steps) in
-    some_led_at c.args.self.now.branches.variable c.args.self.now.branches.known c.args.self.now.branches.sets.items c.args.all c.args.self.now.rest c.args.label c.in-Some.constant
+    some_led_at c.args.self.now.branches.variable c.args.self.now.branches.known c.args.self.now.branches.sets.items c.args.all
+    c.args.self.now.rest c.args.label c.in-Some.constant
     c.index.result.now c.in_ok-all-in-Some.all c.in-Some.is within at c.in_ok-all-in-Some.ensures

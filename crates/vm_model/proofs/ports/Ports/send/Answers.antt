@@ -17,6 +17,7 @@ returns-then-from-len-clause-err c =
     rw (← c.self.view_is)
     (on_err
     (λ h. ap (λ lists. let q : Messages = record { roles = c.self.inside.roles; lists = lists } in q)
-    (same_by (λ row. map (λ queue. queue.items) row.items) c.self.inside.queues.items c.args.from c.index_mut-row.result.now c.append_to.new.queues
+    (same_by (λ row. map (λ queue. queue.items) row.items) c.self.inside.queues.items c.args.from c.index_mut-row.result.now
+    c.append_to.new.queues
     (search rules) c.index_mut-row.ensures.value h))
     c.append_to.result c.append_to.ensures.err)

@@ -7,7 +7,8 @@ pub returns-then-from-len-clause-list : goal.returns-then-from-len-clause-list
 returns-then-from-len-clause-list c =
     rw (← c.self.view_is)
     (ap (λ lists. let q : Messages = record { roles = c.self.inside.roles; lists = lists } in q)
-    (row_changed (λ row. map (λ queue. queue.items) row.items) c.self.inside.queues.items c.args.from c.args.to c.index_mut-row.result.now (drop 1)
+    (row_changed (λ row. map (λ queue. queue.items) row.items) c.self.inside.queues.items c.args.from c.args.to c.index_mut-row.result.now
+    (drop 1)
     c.take_first.new.queues (search rules) c.index_mut-row.ensures.value c.take_first.ensures.list))
 
 pub returns-then-from-len-clause-first : goal.returns-then-from-len-clause-first
@@ -16,10 +17,12 @@ returns-then-from-len-clause-first c =
     rw (← c.self.view_is)
     (c.take_first.ensures.first
     ∙ ap (λ l. slice_get (or_nothing (slice_get l c.args.to)) 0)
-    (list_by (λ row. map (λ queue. queue.items) row.items) c.self.inside.queues.items c.args.from c.index_mut-row.result.now lt c.index_mut-row.ensures.value))
+    (list_by (λ row. map (λ queue. queue.items) row.items) c.self.inside.queues.items c.args.from c.index_mut-row.result.now lt
+    c.index_mut-row.ensures.value))
 
 pub returns-else-from-len-clause-first : goal.returns-else-from-len-clause-first
 returns-else-from-len-clause-first c =
     let past : length c.self.inside.queues.items ≤ c.args.from = search rules in
     rw (← c.self.view_is)
-    (sym (ap (λ l. slice_get (or_nothing (slice_get l c.args.to)) 0) (list_past (λ row. map (λ queue. queue.items) row.items) c.self.inside.queues.items c.args.from past)))
+    (sym (ap (λ l. slice_get (or_nothing (slice_get l c.args.to)) 0) (list_past (λ row. map (λ queue. queue.items) row.items)
+    c.self.inside.queues.items c.args.from past)))

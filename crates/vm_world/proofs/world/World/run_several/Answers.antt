@@ -1,12 +1,14 @@
 use Rattle.std.proofs.Common.{◌<◌, ◌≤◌, ℕ, get_or, length, inl, inr, refl, subst, arith}
 use Rattle.vm_world.specs.Alone.{Counts}
 use Rattle.vm_world.proofs.Going.{zero_is}
-use Rattle.vm_world.proofs.Several.{begin_several, several_stopped, within_ahead, within_roles, taken_several, idle_several, down_several, room_several}
+use Rattle.vm_world.proofs.Several.{begin_several, several_stopped, within_ahead, within_roles, taken_several, idle_several, down_several}
+use Rattle.vm_world.proofs.Several.{room_several}
 use Rattle.vm_world.proofs.world.World.run_several.Goals as goal
 
 pub loop-left-init : goal.loop-left-init
 loop-left-init c =
-    begin_several c.args.self.now.program c.args.self.now.world c.args.order.now c.args.limit c.args.self.now c.args.ahead.now refl refl c.requires.fresh
+    begin_several c.args.self.now.program c.args.self.now.world c.args.order.now c.args.limit c.args.self.now c.args.ahead.now refl refl
+    c.requires.fresh
     c.requires.ahead
 
 pub bounds-ahead-place : goal.bounds-ahead-place
@@ -19,7 +21,8 @@ pub loop-left-preserved-then-ahead-place-gt0 : goal.loop-left-preserved-then-ahe
 loop-left-preserved-then-ahead-place-gt0 c =
     down_several c.args.self.now.program c.args.self.now.world c.args.order.now c.args.limit c.loop-left.self c.loop-left.ahead
     c.loop-left.left c.loop-left.idle c.loop-left.next c.loop-left.invariant c.if-idle-order.true c.requires.numbers
-    (get_or c.args.order.now c.loop-left.next 0) refl c.following-next.result c.following-next.ensures c.if-ahead-place-gt0.true c.loop-left-test.true
+    (get_or c.args.order.now c.loop-left.next 0) refl c.following-next.result c.following-next.ensures c.if-ahead-place-gt0.true
+    c.loop-left-test.true
 
 pub take_at_once-requires-clause-number : goal.take_at_once-requires-clause-number
 take_at_once-requires-clause-number c =
@@ -69,4 +72,5 @@ returns-else-idle-order-clause-run c =
 pub returns-after-loop-left-clause-run : goal.returns-after-loop-left-clause-run
 returns-after-loop-left-clause-run c =
     several_stopped c.args.self.now.program c.args.self.now.world c.args.order.now c.args.limit c.loop-left.self c.loop-left.ahead
-    c.loop-left.left c.loop-left.idle c.loop-left.next c.loop-left.invariant c.requires.named (inl (zero_is c.loop-left.left c.loop-left-test.false))
+    c.loop-left.left c.loop-left.idle c.loop-left.next c.loop-left.invariant c.requires.named
+    (inl (zero_is c.loop-left.left c.loop-left-test.false))

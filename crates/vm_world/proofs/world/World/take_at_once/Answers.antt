@@ -4,7 +4,8 @@ use Rattle.vm_world.proofs.world.World.take_at_once.Goals as goal
 
 pub take_turns-requires-clause-count : goal.take_turns-requires-clause-count
 take_turns-requires-clause-count c =
-    less_room (slice_get c.args.self.now.world.roles c.args.role) c.most_at_once.result c.args.left c.most_at_once.ensures.within c.requires.room
+    less_room (slice_get c.args.self.now.world.roles c.args.role) c.most_at_once.result c.args.left c.most_at_once.ensures.within
+    c.requires.room
 
 pub returns-clause-come : goal.returns-clause-come
 returns-clause-come c =

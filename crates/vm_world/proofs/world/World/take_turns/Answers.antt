@@ -6,7 +6,8 @@ use Rattle.vm_world.proofs.world.World.take_turns.Goals as goal
 
 pub returns-then-taken-gt0-clause-turns : goal.returns-then-taken-gt0-clause-turns
 returns-then-taken-gt0-clause-turns c =
-    counts_some c.args.self.now.program c.args.self.now.world c.turns_alone-taken.new.self.world c.args.role c.turns_alone-taken.result c.if-taken-gt0.true
+    counts_some c.args.self.now.program c.args.self.now.world c.turns_alone-taken.new.self.world c.args.role c.turns_alone-taken.result
+    c.if-taken-gt0.true
     c.turns_alone-taken.ensures.turns
 
 pub advance-requires-clause-number : goal.advance-requires-clause-number
@@ -29,7 +30,8 @@ returns-then-counted-clause-turns c =
     let same : c.turns_alone-taken.new.self ≡ c.args.self.now =
     none_taken c.args.self.now c.turns_alone-taken.new.self c.args.role c.turns_alone-taken.result c.turns_alone-taken.ensures.program
     c.turns_alone-taken.ensures.turns c.if-taken-gt0.false in
-    counts_one c.args.self.now c.turns_alone-taken.new.self c.args.role c.advance.new.self.world c.in_ok-counted.counted same c.if-counted.true
+    counts_one c.args.self.now c.turns_alone-taken.new.self c.args.role c.advance.new.self.world c.in_ok-counted.counted same
+    c.if-counted.true
     c.in_ok-counted.ensures.advances
 
 pub returns-else-counted-clause-turns : goal.returns-else-counted-clause-turns
@@ -37,5 +39,6 @@ returns-else-counted-clause-turns c =
     let same : c.turns_alone-taken.new.self ≡ c.args.self.now =
     none_taken c.args.self.now c.turns_alone-taken.new.self c.args.role c.turns_alone-taken.result c.turns_alone-taken.ensures.program
     c.turns_alone-taken.ensures.turns c.if-taken-gt0.false in
-    counts_none c.args.self.now c.turns_alone-taken.new.self c.args.role c.advance.new.self.world c.in_ok-counted.counted same c.if-counted.false
+    counts_none c.args.self.now c.turns_alone-taken.new.self c.args.role c.advance.new.self.world c.in_ok-counted.counted same
+    c.if-counted.false
     c.in_ok-counted.ensures.advances

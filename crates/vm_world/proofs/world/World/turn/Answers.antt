@@ -12,7 +12,8 @@ returns-in_err-taken-clause-err c =
     let lt : c.args.role < length c.self.inside.roles.items =
     subst (λ k. c.args.role < k) (many c.self.inside.roles.items)
     (subst (λ (s : Seen). c.args.role < length s.world.roles) (sym c.self.view_is) c.requires.number) in
-    let roles = roles_same c.self.inside.roles.items c.args.role c.index_mut.result.now lt c.index_mut.ensures.value c.take_turn.new.role c.in_err-taken.ensures.err in
+    let roles = roles_same c.self.inside.roles.items c.args.role c.index_mut.result.now lt c.index_mut.ensures.value c.take_turn.new.role
+    c.in_err-taken.ensures.err in
     let events = c.reserve.ensures.items in
     on_err_of _
     (ap (λ l. record {

@@ -18,4 +18,5 @@ returns-clause-turns c =
       events = c.self.inside.events.items;
     })) c.self.view_is
     (turns_world (classes_of c.self.inside.linked.classes.items) c.self.inside.roles.items c.args.role c.index_mut.result.now lt
-    c.index_mut.ensures.value c.self.inside.ports c.self.inside.events.items c.turns_alone.new.role c.turns_alone.result c.turns_alone.ensures.turns)
+    c.index_mut.ensures.value c.self.inside.ports c.self.inside.events.items c.turns_alone.new.role c.turns_alone.result
+    c.turns_alone.ensures.turns)
