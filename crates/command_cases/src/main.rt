@@ -36,7 +36,7 @@ use std::alloc::Global;
 use std::rt::Files;
 
 /// The files of cases, in the order in which they are answered.
-const FILES: [&str; 13] = [
+const FILES: [&str; 14] = [
     "translate.txt",
     "conform.txt",
     "check.txt",
@@ -49,6 +49,7 @@ const FILES: [&str; 13] = [
     "faults.txt",
     "refine.txt",
     "project.txt",
+    "load.txt",
     "words.txt",
 ];
 

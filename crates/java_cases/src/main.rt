@@ -1,5 +1,5 @@
 //! Java sources as files of cases, by public calls: their tokens, their trees, the faults of those
-//! that are refused, and their one layout.
+//! that are refused, and their one layout; and the files of workloads, which are in their layouts.
 //! What is wanted is read off the sources by hand.
 #![tactic(auto)]
 
@@ -9,6 +9,7 @@ mod sources;
 mod spelled;
 mod tokens;
 mod trees;
+mod workloads;
 
 use cases::{Answers, CasesFault, tell};
 use mg_text::Memory;
@@ -35,6 +36,8 @@ impl Answers for Java {
             "sources.txt" => sources::tree(alloc, given),
             "faults.txt" => sources::verdict(alloc, given),
             "layouts.txt" => printed::layout(alloc, given),
+            "workloads.txt" => workloads::laid_out(alloc, given),
+            "workload_texts.txt" => workloads::text(alloc, given),
             _ => printed::again(alloc, given),
         }
     }

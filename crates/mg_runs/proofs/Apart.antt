@@ -22,7 +22,7 @@ use Rattle.mg_compile.specs.declared.files.ClassFile.{ClassFile}
 use Rattle.mg_compile.specs.Files.{AreClassFiles}
 use Rattle.mg_compile.proofs.Apart.{one_list, not_exceeded}
 use Rattle.mg_runs.specs.declared.ran.Ran.{Ran}
-use Rattle.mg_runs.specs.Runs.{IsLoaded, HaveMains, names_of}
+use Rattle.mg_runs.specs.Runs.{IsLoaded, HaveMains, names_of, messages_in}
 use Rattle.mg_runs.specs.Headline.{Course, IsRun}
 use Rattle.mg_runs.specs.View.{Shows, IsRunning, IsThatRun}
 use Rattle.mg_runs.specs.Commanded.{Refusal, unaccepted, no_main, too_large}
@@ -91,6 +91,7 @@ shows_same files mains order limit named traced a b ran h g s =
       stands = s.stands ∙ (λ i. stands_in (same.program i) (same.last i));
       printed_is = s.printed_is ∙ ap (λ (w : World). printed named (names_of mains) w.events) same.last;
       trace_is = s.trace_is ∙ (λ i. if traced then trace (same.core i) (names_of mains) (same.last i).events else []);
+      messages_are = s.messages_are ∙ ap (λ (w : World). messages_in w.events) same.last;
     }
 
 pub only_run : (files : List Source) (mains : List RoleMain) (order : List ℕ) (limit : ℕ) (named traced : Bool) (result : Result Ran Stop) →

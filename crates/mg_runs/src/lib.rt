@@ -9,6 +9,7 @@ mod loading;
 mod mains;
 mod ran;
 mod running;
+mod sent;
 
 pub use going::{Gone, go};
 pub use laws::{

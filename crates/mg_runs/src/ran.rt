@@ -16,4 +16,6 @@ pub struct Ran {
     pub printed: Bytes,
     /// The lines of the other events, where they are asked for; else it is empty.
     pub trace: Text,
+    /// How many messages were sent.
+    pub messages: usize,
 }

@@ -21,6 +21,7 @@ use crate::laws::{protocols_agree, roles_are_meant, roles_keep, roles_play, runs
 use crate::loading::load_back;
 use crate::mains::first_without;
 use crate::ran::Ran;
+use crate::sent::messages_in;
 use jv_core::Core;
 use mg_accepted::accept;
 use mg_compile::{ClassFile, class_files};
@@ -131,6 +132,7 @@ fn run_files(
     let gone = go(alloc, linked, mains, order, limit, named)?;
     let events = gone.world.events().as_slice();
     let trace = told(alloc, core, gone.names.as_slice(), events, traced)?;
+    let messages = messages_in(events);
     let Gone {
         world: _world,
         names: _names,
@@ -142,6 +144,7 @@ fn run_files(
         roles,
         printed,
         trace,
+        messages,
     })
 }
 

@@ -38,6 +38,7 @@ use Rattle.mg_top.specs.Commands.{checked, not_checked}
 use Rattle.mg_top.specs.Commands.{CompileGives, compiled, not_compiled, RunGives, ran, not_run, ExecGives, executed, not_executed}
 use Rattle.mg_top.specs.Commands.{RefineGives, refined, not_refined, refined_status, ProjectGives, projected, not_projected, role_mains_of}
 use Rattle.mg_top.specs.Commands.{status_of, Yields}
+use Rattle.mg_top.specs.Commands.{LoadGives, loaded, not_loaded, load_asked, load_sources}
 use Rattle.mg_top.specs.Commands as commands
 use Rattle.mg_top.specs.Promises.{IsYielded}
 use Rattle.mg_top.proofs.SourceLemmas.{none_refused_of_translated}
@@ -93,6 +94,16 @@ run_status {asked = asked} {files = files} (ran r h) (not_run {line = line} q) =
 run_status {asked = asked} {files = files} (not_run {line = line} q) (ran r h) =
     absurd (not_halted files (role_mains_of asked) (order_of asked) (limit_of asked) r line h q)
 run_status (not_run q) (not_run p) = refl
+
+-- the same of a workload
+load_status : {n seed : ℕ} {xa xb : List Action} {m k : Status} → LoadGives n seed xa m → LoadGives n seed xb k → m ≡ k
+load_status {n = n} {seed = seed} (loaded r h) (loaded s k) =
+    ap status_of (one_stand (load_sources n seed) (role_mains_of load_asked) (order_of load_asked) (limit_of load_asked) r s h k)
+load_status {n = n} {seed = seed} (loaded r h) (not_loaded {line = line} q) =
+    absurd (not_halted (load_sources n seed) (role_mains_of load_asked) (order_of load_asked) (limit_of load_asked) r line h q)
+load_status {n = n} {seed = seed} (not_loaded {line = line} q) (loaded r h) =
+    absurd (not_halted (load_sources n seed) (role_mains_of load_asked) (order_of load_asked) (limit_of load_asked) r line h q)
+load_status (not_loaded q) (not_loaded p) = refl
 
 -- of two files one thing is told
 refine_status : {files : List Source} {xa xb : List Action} {m n : Status} → RefineGives files xa m → RefineGives files xb n → m ≡ n
@@ -193,6 +204,7 @@ one_status (commands.run y) (commands.run z) = run_status y z
 one_status (commands.exec y) (commands.exec z) = exec_status y z
 one_status (commands.refine y) (commands.refine z) = refine_status y z
 one_status (commands.project y) (commands.project z) = project_status y z
+one_status (commands.load y) (commands.load z) = load_status y z
 
 -- ---- the statuses that a command may have
 
@@ -249,6 +261,8 @@ proper (commands.refine (refined {stands = stands} h)) = told_proper stands
 proper (commands.refine (not_refined r)) = refused_proper
 proper (commands.project (projected written h)) = done_proper
 proper (commands.project (not_projected r)) = refused_proper
+proper (commands.load (loaded r h)) = stands_proper (stands_in r.program r.last)
+proper (commands.load (not_loaded r)) = refused_proper
 
 -- ---- what is said of a refusal
 
@@ -302,6 +316,8 @@ refusal_says (commands.refine (refined {text = text} {stands = stands} h)) e = t
 refusal_says (commands.refine (not_refined {line = line} r)) e = inl (line, refl)
 refusal_says (commands.project (projected written h)) e = absurd cc
 refusal_says (commands.project (not_projected {line = line} r)) e = inl (line, refl)
+refusal_says (commands.load (loaded r h)) e = absurd (never_refused (stands_in r.program r.last) e)
+refusal_says (commands.load (not_loaded {line = line} r)) e = inl (line, refl)
 
 -- ---- no command is broken but that of class files
 
@@ -345,4 +361,10 @@ broken_command (commands.refine (refined {stands = stands} h)) e = absurd (told_
 broken_command (commands.refine (not_refined r)) e = absurd cc
 broken_command (commands.project (projected written h)) e = absurd cc
 broken_command (commands.project (not_projected r)) e = absurd cc
+broken_command (commands.load {branches = n} {seed = seed} (loaded r h)) e =
+    let all : List Stand = stands_in r.program r.last in
+    absurd (tests_whole (list_any is_bound all) (list_any is_broken all) (list_any is_zero all) (list_any is_mismatch all)
+    (list_any is_waiting all)
+    (none_broken (load_sources n seed) (role_mains_of load_asked) (order_of load_asked) (limit_of load_asked) r h) e)
+broken_command (commands.load (not_loaded r)) e = absurd cc
 broken_command (commands.exec {asked = asked} {files = files} y) e = (asked, files, refl)

@@ -5,6 +5,7 @@ pub mod RoleLemmas
 pub mod CommandLemmas
 pub mod ConformLemmas
 pub mod ExecLemmas
+pub mod LoadLemmas
 pub mod Unbroken
 pub mod Exact
 pub mod OneThing

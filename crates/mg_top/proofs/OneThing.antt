@@ -15,6 +15,7 @@ use Rattle.jv_core.specs.Tree as Core
 use Rattle.use_check.specs.Report.{IsReport}
 use Rattle.use_check.proofs.Reporting.{one_report}
 use Rattle.mg_words.specs.Words.{Word, Asked, limit_of, order_of, Command, Exec}
+use Rattle.vm_world_law.specs.Turns.{stands_in}
 use Rattle.mg_sources.specs.Files.{Source}
 use Rattle.mg_sources.specs.Faults.{fault_line, AreAlike}
 use Rattle.mg_sources.specs.Reading.{Protocol, States}
@@ -26,7 +27,9 @@ use Rattle.mg_program.proofs.Apart.{one_core}
 use Rattle.mg_accepted.proofs.Alike as accepted_alike
 use Rattle.mg_compile.proofs.Apart.{one_compiled}
 use Rattle.mg_compile.proofs.Alike as compiled_alike
+use Rattle.mg_load.specs.Workload.{loaded_line}
 use Rattle.mg_runs.specs.Headline.{Course}
+use Rattle.mg_runs.specs.Runs.{messages_in}
 use Rattle.mg_runs.proofs.Apart.{one_of_run}
 use Rattle.mg_runs.proofs.Alike as runs_alike
 use Rattle.mg_exec.specs.Runs as executing
@@ -48,6 +51,7 @@ use Rattle.mg_top.specs.Commands.{TranslateGives, translated, not_translated, Co
 use Rattle.mg_top.specs.Commands.{checked, not_checked}
 use Rattle.mg_top.specs.Commands.{CompileGives, compiled, not_compiled, RunGives, ran, not_run, ExecGives, executed, not_executed}
 use Rattle.mg_top.specs.Commands.{RefineGives, refined, not_refined, ProjectGives, projected, not_projected, Yields}
+use Rattle.mg_top.specs.Commands.{LoadGives, loaded, not_loaded, load_asked, load_sources}
 use Rattle.mg_top.specs.Commands as commands
 use Rattle.mg_top.specs.Once.{SameActions, YieldsOnce}
 use Rattle.mg_top.proofs.Exact.{one_status, never_refused, listed_once}
@@ -178,6 +182,24 @@ run_once {asked = asked} {files = files} (ran r h) (ran s k) e ne =
 run_once (ran r h) (not_run q) e ne = absurd (ne e)
 run_once (not_run r) z e ne = absurd (ne refl)
 
+abbrev load_actions : (n seed : ℕ) → Course → List Action
+load_actions n seed r = Print (run_printed load_asked r ++ loaded_line n seed (messages_in r.last.events)) ∷ Say (run_said load_asked r) ∷
+    []
+
+load_once : {n seed : ℕ} {a b : List Action} {m k : Status} → LoadGives n seed a m → LoadGives n seed b k → m ≡ k → m ≢ statuses.Refused →
+    a ≡ b
+load_once {n = n} {seed = seed} (loaded r h) (loaded s k) e ne =
+    let same = one_of_run (load_sources n seed) (role_mains_of load_asked) (order_of load_asked) (limit_of load_asked) r s h k in
+    λ i. load_actions n seed (record {
+      core = same.core i;
+      written = same.written i;
+      program = same.program i;
+      first = r.first;
+      last = same.last i;
+    })
+load_once (loaded r h) (not_loaded q) e ne = absurd (ne e)
+load_once (not_loaded r) z e ne = absurd (ne refl)
+
 abbrev exec_actions : Asked → executing.Course → List Action
 exec_actions asked r = prints (exec_printed asked r) ++ Say (exec_said asked r) ∷ []
 
@@ -202,6 +224,7 @@ same_actions (commands.run y) (commands.run z) e ne = run_once y z e ne
 same_actions (commands.exec y) (commands.exec z) e ne = exec_once y z e ne
 same_actions (commands.refine y) (commands.refine z) e ne = refine_once y z e ne
 same_actions (commands.project y) (commands.project z) e ne = project_once y z e ne
+same_actions (commands.load y) (commands.load z) e ne = load_once y z e ne
 
 -- ---- what is refused
 
@@ -235,11 +258,19 @@ compile_alike {files = files} (not_compiled {line = l} r) (not_compiled {line = 
 run_alike : {asked : Asked} {files : List Source} {a b : List Action} {m n : Status} → RunGives asked files a m → RunGives asked files b n →
     m ≡ n →
     SameActions a b
-run_alike (ran r h) (ran s k) e = inl (run_once (ran r h) (ran s k) e (never_refused _))
-run_alike (ran r h) (not_run q) e = absurd (never_refused _ e)
-run_alike (not_run r) (ran s k) e = absurd (never_refused _ (sym e))
+run_alike {asked = asked} {files = files} (ran r h) (ran s k) e =
+    inl (run_once {asked = asked} {files = files} (ran r h) (ran s k) e (never_refused (stands_in r.program r.last)))
+run_alike (ran r h) (not_run q) e = absurd (never_refused (stands_in r.program r.last) e)
+run_alike (not_run r) (ran s k) e = absurd (never_refused (stands_in s.program s.last) (sym e))
 run_alike {asked = asked} {files = files} (not_run {line = l} r) (not_run {line = k} q) e =
     say l k (runs_alike.same_refusal files (role_mains_of asked) l k r q)
+
+load_alike : {n seed : ℕ} {a b : List Action} {m k : Status} → LoadGives n seed a m → LoadGives n seed b k → m ≡ k → SameActions a b
+load_alike (loaded r h) (loaded s k) e = inl (load_once (loaded r h) (loaded s k) e (never_refused (stands_in r.program r.last)))
+load_alike (loaded r h) (not_loaded q) e = absurd (never_refused (stands_in r.program r.last) e)
+load_alike (not_loaded r) (loaded s k) e = absurd (never_refused (stands_in s.program s.last) (sym e))
+load_alike {n = n} {seed = seed} (not_loaded {line = l} r) (not_loaded {line = k} q) e =
+    say l k (runs_alike.same_refusal (load_sources n seed) (role_mains_of load_asked) l k r q)
 
 refine_alike : {files : List Source} {a b : List Action} {m n : Status} → RefineGives files a m → RefineGives files b n → m ≡ n →
     SameActions a b
@@ -358,6 +389,7 @@ alike (commands.run y) (commands.run z) e ne = run_alike y z e
 alike (commands.exec {asked = asked} {files = files} y) z e ne = absurd (ne asked files refl)
 alike (commands.refine y) (commands.refine z) e ne = refine_alike y z e
 alike (commands.project y) (commands.project z) e ne = project_alike y z e
+alike (commands.load y) (commands.load z) e ne = load_alike y z e
 
 pub yields_once : YieldsOnce
 yields_once command contents a b m n y z =

@@ -1,5 +1,5 @@
 -- What each command gives: what it does about the contents that were read of its files, in their order, and the status that it then has.
-use Rattle.std.specs.Prelude.{ℕ, Bool, true, false, List, [], ◌∷◌, ◌++◌, map, Option, Some, None, if◌then◌else◌}
+use Rattle.std.specs.Prelude.{ℕ, Bool, true, false, List, [], ◌∷◌, ◌++◌, map, codes, Option, Some, None, if◌then◌else◌}
 use Rattle.std.specs.List.{list_any}
 use Rattle.scr_tree.specs.Tree.{LocalTree}
 use Rattle.mg_calls.specs.Calls.{CallAt}
@@ -15,12 +15,13 @@ use Rattle.vm_world_law.specs.declared.stand.Stand.{Stand}
 use Rattle.vm_world_law.specs.Turns.{stands_in, is_bound, is_broken, is_zero, is_mismatch, is_waiting}
 use Rattle.mg_trace.specs.Trace.{trace, plain_trace, printed}
 use Rattle.mg_runs.specs.Lines.{role_lines}
-use Rattle.mg_runs.specs.Runs.{names_of}
+use Rattle.mg_runs.specs.Runs.{names_of, messages_in}
 use Rattle.mg_runs.specs.Headline.{Course, IsRun}
 use Rattle.mg_runs.specs.Commanded as running
 use Rattle.mg_refined.specs.Refined.{AreJudged}
 use Rattle.mg_refined.specs.Refined as refining
 use Rattle.mg_exec.specs.Runs as executing
+use Rattle.mg_load.specs.Workload.{file_names, file_texts, loaded_line}
 use Rattle.mg_projected.specs.declared.files.RoleFile.{RoleFile}
 use Rattle.mg_projected.specs.Told.{AreWritten}
 use Rattle.mg_projected.specs.Told as projecting
@@ -30,7 +31,7 @@ use Rattle.mg_top.specs.declared.status.Status.TheVariants as statuses
 use Rattle.mg_top.specs.declared.delivery.Action.{Action}
 use Rattle.mg_top.specs.declared.delivery.Action.TheVariants.{Print, Say}
 use Rattle.mg_words.specs.Words.{Word, RoleClass, Asked, limit_of, mains_of, order_of, are_named, Command, Translate, Conform, Check}
-use Rattle.mg_words.specs.Words.{Compile, Run, Exec, Refine, Project}
+use Rattle.mg_words.specs.Words.{Compile, Run, Exec, Refine, Project, Load, Several}
 use Rattle.mg_sources.specs.Files.{Source, source_of, sources}
 use Rattle.mg_sources.specs.Reading.{Protocol, Reads}
 use Rattle.mg_sources.specs.Sources.{IsRefused, Refusal}
@@ -118,6 +119,29 @@ pub data ExecGives (asked : Asked) (files : List Source) : List Action → Statu
       ExecGives asked files (prints (exec_printed asked r) ++ Say (exec_said asked r) ∷ []) (status_of (stands_in r.program r.last))
   not_executed : {line : List ℕ} → executing.Refusal files (role_mains_of asked) line → ExecGives asked files (Say line ∷ []) Refused
 
+-- what is asked for of a workload: the two roles of its classes take turns, up to 20,000,000 instructions
+abbrev pub load_asked : Asked
+load_asked = record {
+  roles = Several (record { role = codes "A"; class = codes "AMain" } ∷ record { role = codes "B"; class = codes "BMain" } ∷ []);
+  order = None;
+  steps = Some 20000000;
+  traced = false;
+  folder = None;
+}
+
+-- its files, as if they had been read
+abbrev pub load_sources : (branches seed : ℕ) → List Source
+load_sources branches seed = sources file_names (file_texts branches seed)
+
+-- It is run as other files are; behind what is printed stands the line that tells how large it was.
+pub data LoadGives (branches seed : ℕ) : List Action → Status → Type 0 where
+  loaded : (r : Course) → IsRun (load_sources branches seed) (role_mains_of load_asked) (order_of load_asked) (limit_of load_asked) r →
+      LoadGives branches seed
+      (Print (run_printed load_asked r ++ loaded_line branches seed (messages_in r.last.events)) ∷ Say (run_said load_asked r) ∷ [])
+      (status_of (stands_in r.program r.last))
+  not_loaded : {line : List ℕ} → running.Refusal (load_sources branches seed) (role_mains_of load_asked) line →
+      LoadGives branches seed (Say line ∷ []) Refused
+
 -- the status of an answer
 abbrev pub refined_status : Bool → Status
 refined_status true = Done
@@ -151,3 +175,5 @@ pub data Yields : Command → List (List ℕ) → List Action → Status → Typ
       RefineGives (sources files contents) actions status → Yields (Refine files) contents actions status
   project : {folder : Option Word} {files : List Word} {contents : List (List ℕ)} {actions : List Action} {status : Status} →
       ProjectGives folder (sources files contents) actions status → Yields (Project folder files) contents actions status
+  load : {branches seed : ℕ} {contents : List (List ℕ)} {actions : List Action} {status : Status} →
+      LoadGives branches seed actions status → Yields (Load branches seed) contents actions status

@@ -10,6 +10,7 @@ mod conform;
 mod delivery;
 mod exec;
 mod lines;
+mod load;
 mod project;
 mod reading;
 mod refine;

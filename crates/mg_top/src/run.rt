@@ -99,6 +99,7 @@ fn show(alloc: Global, asked: &Asked<'_>, mains: &[RoleMain], ran: Ran) -> Resul
         roles,
         printed,
         trace,
+        messages: _messages,
     } = ran;
     let said = said_of(alloc, &trace, mains, roles.as_slice())?;
     let mut actions = List::new(alloc);

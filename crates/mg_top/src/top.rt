@@ -14,6 +14,7 @@ use crate::compile::compile;
 use crate::conform::conform;
 use crate::delivery::{Delivery, deliver, starve};
 use crate::exec::exec;
+use crate::load::load;
 use crate::project::project;
 use crate::reading::{Unread, read_all};
 use crate::refine::refine;
@@ -56,6 +57,10 @@ const CLASS_LIMIT: usize = 16_777_217;
 /// `exec [--steps N] [--order A,B,..] [--trace] (--main C | --role R=C ..) F..` runs class files as they
 /// are, in the same way: nothing is asked of how they were made, so that a role may also end at a null
 /// or because its code is wrong. What a method answered is told as a number in the trace.
+/// `load N SEED` makes the files of a workload of two roles that answer each other, over a choice of
+/// N branches, from 1 to 400, in 4 * N rounds that the number SEED picks, and runs them as `run` does,
+/// up to 20,000,000 instructions. Behind what was printed stands how many rounds and messages there
+/// were. It reads and writes no file.
 pub fn mungo<F: Folder, O: Sink, E: Sink>(
     alloc: Global,
     words: &[Text],
@@ -111,7 +116,8 @@ fn read_limit(command: &Command<'_>) -> usize
         | Command::Compile { .. }
         | Command::Run { .. }
         | Command::Refine { .. }
-        | Command::Project { .. } => SOURCE_LIMIT,
+        | Command::Project { .. }
+        | Command::Load { .. } => SOURCE_LIMIT,
         Command::Exec { .. } => CLASS_LIMIT,
     }
 }
@@ -138,5 +144,6 @@ fn carry_out(alloc: Global, command: &Command<'_>, contents: &[Bytes]) -> Result
         Command::Exec { asked, files } => exec(alloc, &asked, files, contents),
         Command::Refine { files } => refine(alloc, files, contents),
         Command::Project { folder, files } => project(alloc, folder, files, contents),
+        Command::Load { branches, seed } => load(alloc, branches, seed),
     }
 }

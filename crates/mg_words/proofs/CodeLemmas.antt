@@ -20,7 +20,7 @@ use Rattle.mg_words.specs.Words.{IsOption, role_in, IsFileName, Command, IsComma
 use Rattle.mg_words.specs.inner.Judging.{role_read, roles_in, names_in, names_left, has_name, roles_with, asked_with, asked_of}
 use Rattle.mg_words.specs.inner.Judging.{IsFirstOther, AreGiven, AreRead, word_of, kind_of, IsPlain, IsNewRole, AreAllNamed, Fits}
 use Rattle.mg_words.specs.inner.Judging.{is_wanted, is_empty, is_several, can_follow, are_whole, roles_more, with_more, IsMore, IsNoValue}
-use Rattle.mg_words.specs.inner.Judging.{IsWith, IsStep, IsSteps, unasked, made, verb_of, IsFor, Keeps, is_barred}
+use Rattle.mg_words.specs.inner.Judging.{IsWith, IsStep, IsUpTo, unasked, made, verb_of, IsFor, Keeps, is_barred}
 use Rattle.mg_words.proofs.WordsLemmas.{head_is, tail_is, filled, empty_is, All-first, All-rest, All-cons}
 use Rattle.mg_words.proofs.NameLemmas.{has_is, is_has, have_all, all_have, never_both, names_joined, hasnt}
 use Rattle.mg_words.proofs.OptionLemmas.{same_kind, at_end, given_more, none_given, keeps_more}
@@ -280,7 +280,8 @@ pub class_value : (given more : Kept) (value : Word) → IsName value → can_fo
 class_value given more value h can same =
     (Main value, record { spelled = refl; right = h; new = free_class (asked_of given) can }, same (roles_in given.words.now ++ []))
 
-pub steps_value : (given more : Kept) (value : Word) (n : ℕ) → IsSteps value (Some n) → can_follow (asked_of given) named.Steps ≡ true
+pub steps_value : (given more : Kept) (value : Word) (n : ℕ) → IsUpTo 20000000 value (Some n) → can_follow (asked_of given) named.Steps
+    ≡ true
     → ((rs : List RoleClass) → asked_with rs more ≡ with_more (Steps n) (asked_with rs given)) → IsWith given named.Steps value (Some more)
 steps_value given more value n (e, low, high) can same = (
   Steps n,

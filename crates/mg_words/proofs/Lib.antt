@@ -2,6 +2,7 @@ pub mod Verbs
 pub mod WordsLemmas
 pub mod RefineLemmas
 pub mod ProjectLemmas
+pub mod LoadLemmas
 pub mod NameLemmas
 pub mod RoleLemmas
 pub mod OptionLemmas

@@ -10,7 +10,7 @@ use Rattle.mg_words.specs.declared.runs.Input.TheVariants as input
 use Rattle.mg_words.specs.declared.options.Named.{Named}
 use Rattle.mg_words.specs.declared.options.Named.TheVariants as named
 use Rattle.mg_words.specs.Words.{Word, RoleClass, Roles, Alone, Several, role_names, Command, Translate, Conform, Check, Compile, Run, Exec}
-use Rattle.mg_words.specs.Words.{Refine, Project, Asked, RunOption, Main, Role, Order, Steps, Trace, Out, option_words, IsOption}
+use Rattle.mg_words.specs.Words.{Refine, Project, Load, Asked, RunOption, Main, Role, Order, Steps, Trace, Out, option_words, IsOption}
 use Rattle.mg_words.specs.Words.{AreOptions, IsCommand, AreCommand, CanBegin, AreWrong}
 use Rattle.mg_words.specs.inner.Judging.{IsFirstOther, has_name, AreGiven, word_of, kind_of, IsPlain, IsNewRole, Fits, IsNoValue}
 use Rattle.mg_words.specs.inner.Judging.{can_follow, are_whole, roles_more, with_more, made, verb_of, IsFor, AreFor, Keeps, is_barred}
@@ -19,6 +19,7 @@ use Rattle.mg_words.proofs.WordsLemmas.{some_for, for_named, some_class, classed
 use Rattle.mg_words.proofs.WordsLemmas.{same_translate, same_conform, same_check, same_compile}
 use Rattle.mg_words.proofs.RefineLemmas.{same_refine}
 use Rattle.mg_words.proofs.ProjectLemmas.{same_project}
+use Rattle.mg_words.proofs.LoadLemmas.{same_load}
 use Rattle.mg_words.proofs.NameLemmas.{here, one_of, in_none, has_is, is_has, have_all, never_both, All-itself, names_push}
 use Rattle.mg_words.proofs.RoleLemmas.{words_of}
 use Rattle.mg_words.proofs.OptionLemmas.{AreAll, values_of, begins_with, same_kind, same_option, no_word, no_option, at_end, given_more}
@@ -226,8 +227,8 @@ module _ (ran : Input) where
     go (inr e) = lacks a.roles a.order refl refl e
 
   -- an option that fits can follow
-  begins_word : (o : List RunOption) (a : Asked) (option : Named) (word : Word) → AreGiven o a → Keeps ran a.folder →
-      is_barred ran option ≡ false
+  begins_word : (o : List RunOption) (a : Asked) (option : Named) (word : Word) → AreGiven o a → Keeps ran a.folder → is_barred ran option
+      ≡ false
       → CanFollow a option → word ≡ word_of option → CanBegin AreCommand (run ∷ (words_of o ++ word ∷ []))
   begins_word o a option word h keeps free (x, kind, fits) is =
       let b =
@@ -320,8 +321,8 @@ module _ (ran : Input) where
             by more goes.more goes.files goes.asked (ap (λ (w : Word). w ∷ value ∷ more) (sym is) ∙ goes.words) goes.sources goes.all
 
   -- a value is lacking
-  pub few_value : (o : List RunOption) (a : Asked) (option : Named) (word : Word) → AreGiven o a → Keeps ran a.folder →
-      is_barred ran option ≡ false
+  pub few_value : (o : List RunOption) (a : Asked) (option : Named) (word : Word) → AreGiven o a → Keeps ran a.folder → is_barred ran option
+      ≡ false
       → CanFollow a option
       → word ≡ word_of option → option ≢ named.Trace
       → AreWrong (run ∷ (words_of o ++ word ∷ [])) None
@@ -448,3 +449,4 @@ same_command words (Run asked files) b (rest, e, (options, words_are, how, are))
 same_command words (Refine files) b (rest, e, behind) is = same_refine b files rest behind (subst (IsCommand b) e is)
 same_command words (Project folder files) b (rest, e, behind) is = same_project b folder files rest behind (subst (IsCommand b) e is)
 same_command words (Exec asked files) b (rest, e, behind) is = same_run input.Classes b asked files rest behind (subst (IsCommand b) e is)
+same_command words (Load branches seed) b (rest, e, behind) is = same_load b branches seed rest behind (subst (IsCommand b) e is)

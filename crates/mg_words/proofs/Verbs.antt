@@ -26,6 +26,9 @@ refine = codes "refine"
 abbrev pub project : Word
 project = codes "project"
 
+abbrev pub load : Word
+load = codes "load"
+
 pub translate_conform : {P : Type 0} → translate ≡ conform → P
 translate_conform e = absurd (omega (arith, ap length e))
 
@@ -109,3 +112,27 @@ exec_project e = absurd (omega (arith, ap length e))
 
 pub refine_project : {P : Type 0} → refine ≡ project → P
 refine_project e = absurd (omega (arith, ap length e))
+
+pub translate_load : {P : Type 0} → translate ≡ load → P
+translate_load e = absurd (omega (arith, ap length e))
+
+pub conform_load : {P : Type 0} → conform ≡ load → P
+conform_load e = absurd (omega (arith, ap length e))
+
+pub check_load : {P : Type 0} → check ≡ load → P
+check_load e = absurd (omega (arith, ap length e))
+
+pub compile_load : {P : Type 0} → compile ≡ load → P
+compile_load e = absurd (omega (arith, ap length e))
+
+pub run_load : {P : Type 0} → run ≡ load → P
+run_load e = absurd (omega (arith, ap length e))
+
+pub exec_load : {P : Type 0} → exec ≡ load → P
+exec_load e = absurd (omega (arith, ap (λ (w : Word). get_or w 0 0) e))
+
+pub refine_load : {P : Type 0} → refine ≡ load → P
+refine_load e = absurd (omega (arith, ap length e))
+
+pub project_load : {P : Type 0} → project ≡ load → P
+project_load e = absurd (omega (arith, ap length e))

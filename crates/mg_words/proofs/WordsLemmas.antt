@@ -9,14 +9,15 @@ use Rattle.std.specs.List.{ends_with, list_all}
 use Rattle.mg_read.specs.Passes.{AllPasses}
 use Rattle.scr_tree.specs.Words.{reserved, IsName}
 use Rattle.mg_sources.specs.Files.{EndsWith, Kind, Scribble, Typestates, Java, suffix_of, HaveKinds}
-use Rattle.mg_words.specs.Words.{Word, Command, Translate, Conform, Check, Compile, Run, Exec, Refine, Project, Asked, AreOptions}
+use Rattle.mg_words.specs.Words.{Word, Command, Translate, Conform, Check, Compile, Run, Exec, Refine, Project, Load, Asked, AreOptions}
 use Rattle.mg_words.specs.Words.{AreProtocolAndCalls, IsFileName, IsFileOf, IsSourceName, AreSourceNames, AreFilesOf, out_words, verb}
 use Rattle.mg_words.specs.Words.{IsBehind, IsCommand, AreCommand, CanBegin, AreWrong}
-use Rattle.mg_words.proofs.Verbs.{translate, conform, check, compile, run, exec, refine, project, translate_conform, translate_check}
+use Rattle.mg_words.proofs.Verbs.{translate, conform, check, compile, run, exec, refine, project, load, translate_conform, translate_check}
 use Rattle.mg_words.proofs.Verbs.{translate_compile, translate_run, conform_check, conform_compile, conform_run, check_compile, check_run}
 use Rattle.mg_words.proofs.Verbs.{compile_run, translate_exec, conform_exec, check_exec, compile_exec, run_exec, translate_refine}
 use Rattle.mg_words.proofs.Verbs.{conform_refine, check_refine, compile_refine, run_refine, exec_refine, translate_project, conform_project}
-use Rattle.mg_words.proofs.Verbs.{check_project, compile_project, run_project, exec_project}
+use Rattle.mg_words.proofs.Verbs.{check_project, compile_project, run_project, exec_project, translate_load, conform_load, check_load}
+use Rattle.mg_words.proofs.Verbs.{compile_load, run_load, exec_load}
 use Rattle.mg_words.specs.declared.runs.Input.{Input}
 use Rattle.mg_words.specs.declared.runs.Input.TheVariants as input
 use Rattle.mg_words.specs.inner.Judging.{IsFirstOther, made, verb_of, IsFor, AreFor, Keeps}
@@ -202,7 +203,7 @@ begins_class_out = let b = begins_classes (Some some_class) [] is_name (none_yet
 -- its first word is one of the verbs
 first_word : (command : Command)
     → (verb command ≡ translate) ⊎ (verb command ≡ conform) ⊎ (verb command ≡ check) ⊎ (verb command ≡ compile) ⊎ (verb command ≡ run)
-    ⊎ (verb command ≡ exec) ⊎ (verb command ≡ refine) ⊎ (verb command ≡ project)
+    ⊎ (verb command ≡ exec) ⊎ (verb command ≡ refine) ⊎ (verb command ≡ project) ⊎ (verb command ≡ load)
 first_word (Translate folder files) = inl refl
 first_word (Conform files) = inr (inl refl)
 first_word (Check files) = inr (inr (inl refl))
@@ -210,7 +211,8 @@ first_word (Compile folder files) = inr (inr (inr (inl refl)))
 first_word (Run asked files) = inr (inr (inr (inr (inl refl))))
 first_word (Exec asked files) = inr (inr (inr (inr (inr (inl refl)))))
 first_word (Refine files) = inr (inr (inr (inr (inr (inr (inl refl))))))
-first_word (Project folder files) = inr (inr (inr (inr (inr (inr (inr refl))))))
+first_word (Project folder files) = inr (inr (inr (inr (inr (inr (inr (inl refl)))))))
+first_word (Load branches seed) = inr (inr (inr (inr (inr (inr (inr (inr refl)))))))
 
 none_is_none : (command : Command) → IsCommand command [] → ⊥
 none_is_none command (rest, e, b) = filled e
@@ -226,6 +228,7 @@ is_translate (Run asked files) rest (r, e, b) = translate_run (head_is e)
 is_translate (Exec asked files) rest (r, e, b) = translate_exec (head_is e)
 is_translate (Refine files) rest (r, e, b) = translate_refine (head_is e)
 is_translate (Project folder files) rest (r, e, b) = translate_project (head_is e)
+is_translate (Load branches seed) rest (r, e, b) = translate_load (head_is e)
 
 pub is_conform : (command : Command) (rest : List Word) → IsCommand command (conform ∷ rest)
     → (files : List Word) × (command ≡ Conform files) × IsBehind (Conform files) rest
@@ -237,6 +240,7 @@ is_conform (Run asked files) rest (r, e, b) = conform_run (head_is e)
 is_conform (Exec asked files) rest (r, e, b) = conform_exec (head_is e)
 is_conform (Refine files) rest (r, e, b) = conform_refine (head_is e)
 is_conform (Project folder files) rest (r, e, b) = conform_project (head_is e)
+is_conform (Load branches seed) rest (r, e, b) = conform_load (head_is e)
 
 pub is_check : (command : Command) (rest : List Word) → IsCommand command (check ∷ rest)
     → (files : List Word) × (command ≡ Check files) × IsBehind (Check files) rest
@@ -248,6 +252,7 @@ is_check (Run asked files) rest (r, e, b) = check_run (head_is e)
 is_check (Exec asked files) rest (r, e, b) = check_exec (head_is e)
 is_check (Refine files) rest (r, e, b) = check_refine (head_is e)
 is_check (Project folder files) rest (r, e, b) = check_project (head_is e)
+is_check (Load branches seed) rest (r, e, b) = check_load (head_is e)
 
 pub is_compile : (command : Command) (rest : List Word) → IsCommand command (compile ∷ rest)
     → (folder : Option Word) × (files : List Word) × (command ≡ Compile folder files) × IsBehind (Compile folder files) rest
@@ -259,6 +264,7 @@ is_compile (Run asked files) rest (r, e, b) = compile_run (head_is e)
 is_compile (Exec asked files) rest (r, e, b) = compile_exec (head_is e)
 is_compile (Refine files) rest (r, e, b) = compile_refine (head_is e)
 is_compile (Project folder files) rest (r, e, b) = compile_project (head_is e)
+is_compile (Load branches seed) rest (r, e, b) = compile_load (head_is e)
 
 -- what stands behind the word of a run
 abbrev pub IsRunBehind : Input → Asked → (files rest : List Word) → Type 0
@@ -275,6 +281,7 @@ is_run input.Sources (Run asked files) rest (r, e, (options, is, how, are)) = (a
 is_run input.Sources (Exec asked files) rest (r, e, b) = run_exec (head_is e)
 is_run input.Sources (Refine files) rest (r, e, b) = run_refine (head_is e)
 is_run input.Sources (Project folder files) rest (r, e, b) = run_project (head_is e)
+is_run input.Sources (Load branches seed) rest (r, e, b) = run_load (head_is e)
 is_run input.Classes (Translate folder files) rest (r, e, b) = translate_exec (sym (head_is e))
 is_run input.Classes (Conform files) rest (r, e, b) = conform_exec (sym (head_is e))
 is_run input.Classes (Check files) rest (r, e, b) = check_exec (sym (head_is e))
@@ -284,6 +291,7 @@ is_run input.Classes (Exec asked files) rest (r, e, (options, is, how, none, are
     (asked, files, refl, (options, tail_is e ∙ is, how, none, are))
 is_run input.Classes (Refine files) rest (r, e, b) = exec_refine (head_is e)
 is_run input.Classes (Project folder files) rest (r, e, b) = exec_project (head_is e)
+is_run input.Classes (Load branches seed) rest (r, e, b) = exec_load (head_is e)
 
 -- and such words are that command
 pub run_is : (k : Input) (asked : Asked) (files rest : List Word) → IsRunBehind k asked files rest →
@@ -450,11 +458,12 @@ wrong_at before rest word more e can cannot = subst (λ (ws : List Word). AreWro
 pub wrong_command : (rest : List Word) (word : Word) (more : List Word) → rest ≡ word ∷ more → (word ≡ translate → ⊥)
     → (word ≡ conform → ⊥)
     → (word ≡ check → ⊥) → (word ≡ compile → ⊥) → (word ≡ run → ⊥) → (word ≡ exec → ⊥) → (word ≡ refine → ⊥)
-    → (word ≡ project → ⊥) → AreWrong rest (Some word)
-wrong_command rest word more e is_no_translate is_no_conform is_no_check is_no_compile is_no_run is_no_exec is_no_refine is_no_project =
+    → (word ≡ project → ⊥) → (word ≡ load → ⊥) → AreWrong rest (Some word)
+wrong_command rest word more e is_no_translate is_no_conform is_no_check is_no_compile is_no_run is_no_exec is_no_refine is_no_project
+    is_no_load =
     wrong_at [] rest word more e begins_empty (λ b. cannot b.0 b.1.0 b.1.1) where
       neither : (word ≡ translate) ⊎ (word ≡ conform) ⊎ (word ≡ check) ⊎ (word ≡ compile) ⊎ (word ≡ run) ⊎ (word ≡ exec) ⊎ (word ≡ refine)
-          ⊎ (word ≡ project) → ⊥
+          ⊎ (word ≡ project) ⊎ (word ≡ load) → ⊥
       neither (inl h) = is_no_translate h
       neither (inr (inl h)) = is_no_conform h
       neither (inr (inr (inl h))) = is_no_check h
@@ -462,12 +471,14 @@ wrong_command rest word more e is_no_translate is_no_conform is_no_check is_no_c
       neither (inr (inr (inr (inr (inl h))))) = is_no_run h
       neither (inr (inr (inr (inr (inr (inl h)))))) = is_no_exec h
       neither (inr (inr (inr (inr (inr (inr (inl h))))))) = is_no_refine h
-      neither (inr (inr (inr (inr (inr (inr (inr h))))))) = is_no_project h
+      neither (inr (inr (inr (inr (inr (inr (inr (inl h)))))))) = is_no_project h
+      neither (inr (inr (inr (inr (inr (inr (inr (inr h)))))))) = is_no_load h
 
       cannot : (after : List Word) (command : Command) → IsCommand command (word ∷ after) → ⊥
       cannot after command (r, is, behind) = neither
           (subst (λ (w : Word). (w ≡ translate) ⊎ (w ≡ conform) ⊎ (w ≡ check) ⊎ (w ≡ compile) ⊎ (w ≡ run) ⊎ (w ≡ exec) ⊎ (w ≡ refine)
-          ⊎ (w ≡ project))
+          ⊎ (w ≡ project)
+          ⊎ (w ≡ load))
           (sym (head_is is)) (first_word command))
 
 pub wrong_protocol : (rest : List Word) (word : Word) (more : List Word) → rest ≡ word ∷ more → (IsFileOf (codes ".scr") word → ⊥)
@@ -526,8 +537,8 @@ wrong_file folder files word name plain (before, after, is, each, isnt) = record
 } where
   found : CanBegin AreCommand ((translate ∷ (out_words folder ++ before)) ++ word ∷ []) → IsFileOf (codes ".scr") word
   found (more, (command, k)) =
-      let split : ((translate ∷ (out_words folder ++ before)) ++ word ∷ []) ++ more ≡ translate ∷
-      (out_words folder ++ (before ++ word ∷ more)) =
+      let split : ((translate ∷ (out_words folder ++ before)) ++ word ∷ []) ++ more
+      ≡ translate ∷ (out_words folder ++ (before ++ word ∷ more)) =
       append_assoc (translate ∷ (out_words folder ++ before)) (word ∷ []) more ∙ ap (λ (z : List Word). translate ∷ z)
       (append_assoc (out_words folder) before (word ∷ more)) in
       let there : IsCommand command (translate ∷ (out_words folder ++ (before ++ word ∷ more))) = subst (IsCommand command) split k in
@@ -544,8 +555,8 @@ wrong_source files word (before, after, is, each, isnt) = record {
 } where
   found : CanBegin AreCommand ((check ∷ before) ++ word ∷ []) → IsSourceName word
   found (more, (command, k)) =
-      let split : ((check ∷ before) ++ word ∷ []) ++ more ≡ check ∷ (before ++ word ∷ more) = append_assoc (check ∷ before) (word ∷ []) more
-      in
+      let split : ((check ∷ before) ++ word ∷ []) ++ more ≡ check ∷ (before ++ word ∷ more) =
+      append_assoc (check ∷ before) (word ∷ []) more in
       All-mid IsSourceName before word more (check_files command (before ++ word ∷ more) (subst (IsCommand command) split k)).1
 
 pub wrong_class_folder : (rest : List Word) (word : Word) (more : List Word) → rest ≡ word ∷ more → (IsFileName word → ⊥)
@@ -566,8 +577,8 @@ wrong_class_source folder files word name plain (before, after, is, each, isnt) 
 } where
   found : CanBegin AreCommand ((compile ∷ (out_words folder ++ before)) ++ word ∷ []) → IsSourceName word
   found (more, (command, k)) =
-      let split : ((compile ∷ (out_words folder ++ before)) ++ word ∷ []) ++ more ≡ compile ∷
-      (out_words folder ++ (before ++ word ∷ more)) =
+      let split : ((compile ∷ (out_words folder ++ before)) ++ word ∷ []) ++ more
+      ≡ compile ∷ (out_words folder ++ (before ++ word ∷ more)) =
       append_assoc (compile ∷ (out_words folder ++ before)) (word ∷ []) more ∙ ap (λ (z : List Word). compile ∷ z)
       (append_assoc (out_words folder) before (word ∷ more)) in
       let there : IsCommand command (compile ∷ (out_words folder ++ (before ++ word ∷ more))) = subst (IsCommand command) split k in

@@ -77,6 +77,8 @@ pub data Command : Type 0 where
   Refine : (files : List Word) → Command
   -- write the local protocols of the roles of this file's global protocol, into a folder where one is named
   Project : (folder : Option Word) → (files : List Word) → Command
+  -- run the workload of so many branches, whose order a number picks
+  Load : (branches seed : ℕ) → Command
 
 -- the files that a command reads, in their order
 abbrev pub files_of : Command → List Word
@@ -88,6 +90,7 @@ files_of (Run asked files) = files
 files_of (Exec asked files) = files
 files_of (Refine files) = files
 files_of (Project folder files) = files
+files_of (Load branches seed) = []
 
 -- no name of a file or folder is empty or begins with "-"
 abbrev pub IsFileName : Word → Type 0
@@ -131,6 +134,12 @@ pub record IsOneProtocol (files : List Word) : Type 0 where
   pub file : Word
   pub one : files ≡ file ∷ []
   pub scribble : IsFileOf (codes ".scr") file
+
+-- how many branches a workload may have, and which numbers may pick their order
+pub record IsWorkload (branches seed : ℕ) : Type 0 where
+  pub some : 1 ≤ branches
+  pub most : branches ≤ 400
+  pub picks : seed ≤ 18446744073709551615
 
 -- the option that names a folder
 abbrev pub out_words : Option Word → List Word
@@ -223,8 +232,9 @@ verb (Run asked files) = codes "run"
 verb (Exec asked files) = codes "exec"
 verb (Refine files) = codes "refine"
 verb (Project folder files) = codes "project"
+verb (Load branches seed) = codes "load"
 
--- the words behind the first: options and then files
+-- the words behind the first: options and then files, or numbers
 abbrev pub IsBehind : Command → List Word → Type 0
 IsBehind (Translate folder files) rest = (rest ≡ out_words folder ++ files) × IfSome folder IsFileName × AreFilesOf (codes ".scr") files
 IsBehind (Conform files) rest = (rest ≡ files) × AreProtocolAndCalls files
@@ -232,6 +242,7 @@ IsBehind (Check files) rest = (rest ≡ files) × AreSourceNames files
 IsBehind (Compile folder files) rest = (rest ≡ out_words folder ++ files) × IfSome folder IsFileName × AreSourceNames files
 IsBehind (Refine files) rest = (rest ≡ files) × AreTwoTypestates files
 IsBehind (Project folder files) rest = (rest ≡ out_words folder ++ files) × IfSome folder IsFileName × IsOneProtocol files
+IsBehind (Load branches seed) rest = (rest ≡ decimal branches ∷ decimal seed ∷ []) × IsWorkload branches seed
 IsBehind (Run asked files) rest = (options : List Word) × (rest ≡ options ++ files) × AreOptions asked options × AreSourceNames files
 IsBehind (Exec asked files) rest =
     (options : List Word) × (rest ≡ options ++ files) × AreOptions asked options × (asked.folder ≡ None) × AreFilesOf (codes ".class") files

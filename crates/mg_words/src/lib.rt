@@ -3,6 +3,7 @@
 
 mod asked;
 mod names;
+mod numbers;
 mod options;
 mod roles;
 mod runs;

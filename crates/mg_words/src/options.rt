@@ -3,12 +3,13 @@
 ghost use Rattle.std.specs.Prelude.{◌≡◌, ◌≢◌, ◌↔◌, IsTrue, true, All, is_some, option_map};
 ghost use Rattle.mg_words.specs.Words.{role_names};
 ghost use Rattle.scr_tree.specs.Words.{IsName};
-ghost use Rattle.mg_words.specs.inner.Judging.{asked_of, IsSteps, StartsNumber, IsNamed, IsStep, IsWith, can_follow, are_whole, lacks_role};
-ghost use Rattle.mg_words.specs.inner.Judging.{is_wanted, names_in, roles_in};
+ghost use Rattle.mg_words.specs.inner.Judging.{asked_of, IsNamed, IsStep, IsWith, can_follow, are_whole, lacks_role, is_wanted, names_in};
+ghost use Rattle.mg_words.specs.inner.Judging.{roles_in};
 ghost use Rattle.mg_words.specs.declared.options.Named.TheVariants as named;
 
 use crate::asked::Asked;
 use crate::names::{is_file_name, is_name, is_word};
+use crate::numbers::number_up_to;
 use crate::roles::{first_name, has_role, names_each, names_it, names_only, next_role, role_of};
 use mg_text::Text;
 
@@ -262,7 +263,7 @@ fn with_steps<'a>(asked: Asked<'a>, value: &'a Text) -> Option<Asked<'a>>
     requires { can_follow (asked_of asked) named.Steps ≡ true }
     ensures { IsWith asked.entry named.Steps value.now result }
 {
-    match steps_of(value) {
+    match number_up_to(value, MOST_STEPS) {
         None => None,
         Some(steps) => Some(Asked {
             steps: Some(steps),
@@ -283,34 +284,4 @@ fn with_folder<'a>(asked: Asked<'a>, value: &'a Text) -> Option<Asked<'a>>
         folder: Some(value),
         ..asked
     })
-}
-
-// The number of instructions that a word names: decimal, from 1 to 20,000,000.
-fn steps_of(word: &Text) -> Option<u32>
-    ensures { IsSteps word.now result }
-{
-    let text = word.as_str();
-    if !starts_number(text.as_bytes()) {
-        return None;
-    }
-    match text.parse::<u32>() {
-        Err(_) => None,
-        Ok(steps) => {
-            if steps <= MOST_STEPS {
-                Some(steps)
-            } else {
-                None
-            }
-        }
-    }
-}
-
-// Whether the first byte is a digit other than 0.
-fn starts_number(bytes: &[u8]) -> bool
-    ensures { IsTrue result ↔ StartsNumber bytes.now }
-{
-    match bytes {
-        [] => false,
-        [first, ..] => b'1' <= *first && *first <= b'9',
-    }
 }

@@ -7,8 +7,12 @@ ghost use Rattle.mg_words.specs.inner.Judging.{IsJudged, command_of};
 
 use crate::asked::Asked;
 use crate::names::{is_file, is_file_name, is_word, other_file, other_source};
+use crate::numbers::{number_of, number_up_to};
 use crate::runs::{Input, judge_run};
 use mg_text::Text;
+
+// The most branches that a workload may have.
+const MOST_BRANCHES: u32 = 400;
 
 /// A command, with the words that it is about.
 #[derive(Clone, Copy)]
@@ -50,6 +54,12 @@ pub enum Command<'a> {
         folder: Option<&'a Text>,
         files: &'a [Text],
     },
+    /// `load`, how many branches the workload has, from 1 to 400, and the number that picks their
+    /// order.
+    Load {
+        branches: u32,
+        seed: u64,
+    },
 }
 
 impl<'a> Command<'a> {
@@ -66,6 +76,7 @@ impl<'a> Command<'a> {
             Command::Exec { files, .. } => files,
             Command::Refine { files } => files,
             Command::Project { files, .. } => files,
+            Command::Load { .. } => &[],
         }
     }
 }
@@ -101,6 +112,8 @@ pub fn judge(words: &[Text]) -> Judged<'_>
                 judge_refine(rest)
             } else if is_word(command, "project") {
                 judge_project(rest)
+            } else if is_word(command, "load") {
+                judge_load(rest)
             } else {
                 Judged::Wrong(Some(command))
             }
@@ -320,4 +333,30 @@ fn judge_sources<'a>(folder: Option<&'a Text>, files: &'a [Text]) -> Judged<'a>
         return Judged::Wrong(None);
     }
     Judged::Known(Command::Compile { folder, files })
+}
+
+// The same of the words behind `load`.
+fn judge_load(words: &[Text]) -> Judged<'_>
+    ensures { IsJudged (codes "load" ∷ words.now) result }
+{
+    match words.split_first() {
+        None => Judged::Wrong(None),
+        Some((first, rest)) => {
+            let Some(branches) = number_up_to(first, MOST_BRANCHES) else {
+                return Judged::Wrong(Some(first));
+            };
+            match rest.split_first() {
+                None => Judged::Wrong(None),
+                Some((second, surplus)) => {
+                    let Some(seed) = number_of(second) else {
+                        return Judged::Wrong(Some(second));
+                    };
+                    match surplus.split_first() {
+                        None => Judged::Known(Command::Load { branches, seed }),
+                        Some((word, _)) => Judged::Wrong(Some(word)),
+                    }
+                }
+            }
+        }
+    }
 }

@@ -1,6 +1,6 @@
 -- What the definitions say of an action, by the operands that stand so far from the top.
-use Rattle.std.proofs.Common.{◌≡◌, ℕ, ◌+◌, ◌-◌, ◌<◌, ◌≤◌, ◌⊎◌, inl, inr, true, List, [], ◌∷◌, length, take, drop, get_or, Option, Some}
-use Rattle.std.proofs.Common.{None, nat_lt, refl, sym, ap, ◌∙◌, arith}
+use Rattle.std.proofs.Common.{◌≡◌, ℕ, ◌+◌, ◌-◌, ◌<◌, ◌≤◌, ◌⊎◌, inl, inr, Bool, true, false, List, [], ◌∷◌, length, take, drop, get_or}
+use Rattle.std.proofs.Common.{Option, Some, None, nat_lt, refl, sym, ap, ◌∙◌, arith}
 use Rattle.std.proofs.lemmas.List.{take_all, drop_all, drop_more, take-take, length-take}
 use Rattle.std.proofs.lemmas.Option.{slice_get-get_or, get_or_from_slice_get}
 use Rattle.std.proofs.lemmas.Bool.Decides.{nat_tests}
@@ -14,7 +14,8 @@ use Rattle.vm_model.specs.Messages.{Messages}
 use Rattle.vm_model.specs.Machine as model
 use Rattle.vm_model.specs.Machine.{Machine}
 use Rattle.vm_model.specs.Actions.{Action}
-use Rattle.vm_model.specs.Tests.{Needs, needs, wrong, wrong_by, below, on_top, misfits, misfit_read}
+use Rattle.std.specs.Prelude.{not, if◌then◌else◌}
+use Rattle.vm_model.specs.Tests.{Needs, needs, wrong, wrong_by, below, on_top, misfits, misfit_read, some_of, is_kind, is_member}
 use Rattle.vm_model.specs.Step.{act, acts, tested, broken}
 use Rattle.vm_step.specs.declared.stepped.Stepped.{Stepped}
 use Rattle.vm_step.specs.Doing.{Does, Plays}
@@ -49,6 +50,31 @@ enough p n m e =
   where
     below_or : (a b : ℕ) → (nat_lt a b ≡ true) ⊎ (b ≤ a)
     below_or a b = grind (arith, nat_tests)
+
+-- the tests in their order, none of which fails
+none_fails : (short kinds lacks members returns over : Bool) →
+    None ≡ (if short then Some bad.Underflow else if kinds then Some bad.Kind else if lacks then Some bad.Local else if members then Some
+    bad.Member
+    else if not returns then Some bad.Return else if over then Some bad.Overflow else None) → (lacks ≡ false) × (over ≡ false)
+none_fails true kinds lacks members returns over e = absurd (cc e)
+none_fails false true lacks members returns over e = absurd (cc e)
+none_fails false false true members returns over e = absurd (cc e)
+none_fails false false false true returns over e = absurd (cc e)
+none_fails false false false false false over e = absurd (cc e)
+none_fails false false false false true true e = absurd (cc e)
+none_fails false false false false true false e = (refl, refl)
+
+at_least : (a b : ℕ) → nat_lt a b ≡ false → b ≤ a
+at_least a b e = grind (arith, nat_tests)
+
+-- where nothing is wrong there is room for what is pushed, and for the locals
+pub room_in : (p : Program) (n : Needs) (m : Machine) → None ≡ wrong p n m → (n.locals ≤ n.of_locals) × (n.operands ≤ n.max_stack)
+room_in p n m e =
+    let found : List (Option BadKind) =
+    misfit_read n.reads m.frame.locals ∷ misfits p m.heap n.takes (on_top (length n.takes) m.frame.operands) in
+    let right = none_fails (nat_lt (length m.frame.operands) (length n.takes)) (some_of is_kind found) (nat_lt n.of_locals n.locals)
+    (some_of is_member found) n.returns
+    (nat_lt n.max_stack n.operands) e in (at_least n.of_locals n.locals right.0, at_least n.max_stack n.operands right.1)
 
 -- what a step is may be said in other words
 pub in_other_words : (s : Stepped) (wanted other : model.Stepped) (m m' : Machine) (q q' : Messages) → wanted ≡ other → Does other m

@@ -6,6 +6,8 @@ pub mod Cases
 pub mod Whole
 pub mod Ready
 pub mod Frames
+pub mod Added
+pub mod Calling
 pub mod Places
 pub mod Mains
 pub mod Waiting

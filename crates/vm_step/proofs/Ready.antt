@@ -8,27 +8,23 @@ use Rattle.mg_text.specs.declared.event.BadKind.{BadKind}
 use Rattle.vm_model.specs.declared.value.Value.{Value}
 use Rattle.vm_model.specs.declared.value.Value.TheVariants as values
 use Rattle.vm_model.specs.Program.{Program, Instr, MethodOf, method_at}
-use Rattle.vm_model.specs.Messages.{Messages}
 use Rattle.vm_model.specs.Machine.{Machine, Went}
 use Rattle.vm_model.specs.Arithmetic.{wrap, computed, compares, switched}
 use Rattle.std.specs.Bool.{OnTrue, OnFalse}
-use Rattle.std.proofs.Common.{set, take, suc, add-one, subst}
-use Rattle.std.proofs.lemmas.List.{map_push, length-map, take_all}
-use Rattle.vm_step.specs.declared.state.Cell.{Cell}
-use Rattle.vm_step.specs.declared.state.Cell.TheVariants as cells
-use Rattle.vm_step.specs.State.{value_of, values_of}
+use Rattle.std.proofs.Common.{add-one, subst}
+use Rattle.vm_frames.specs.Seen.{held_in}
 use Rattle.vm_model.specs.Actions.{Action, Sort, Number, Reference, Operation, Comparison, Push, Load, Store, Pop, Double, Compute, Negate}
 use Rattle.vm_model.specs.Actions.{Increase, IfZero, IfBoth, IfNull, Go, Switch}
 use Rattle.vm_model.specs.Tests as model
-use Rattle.vm_model.specs.Tests.{Needs, needs, wrong, wrong_by, below, on_top, misfits, misfit_read, misfit_local, misfit_sort, some_of}
+use Rattle.vm_model.specs.Tests.{Needs, needs, wrong_by, below, on_top, misfits, misfit_local, misfit_sort, some_of}
 use Rattle.vm_model.specs.Tests.{is_kind, is_member, is_null, max_stack_in, method_of_frame}
-use Rattle.vm_model.specs.Step.{code_in, goes, next, at_place, with_local, pushed, computed_to, branch, same_truth}
+use Rattle.vm_model.specs.Step.{code_in, next, at_place, with_local, pushed, computed_to, same_truth}
 use Rattle.vm_step.specs.Alone.{SameMethod, Alone, NextAlone, AllAlone}
 use Rattle.vm_step.specs.inner.Tops.{at_top, int_in, int_of_local}
-use Rattle.vm_step.specs.inner.Acts.{stored_by, doubled_by, computes_by, negates_by, increased_by, on_zero_by, on_both_by, on_null_by}
+use Rattle.vm_step.specs.inner.Acts.{stored_by, computes_by, negates_by, increased_by, on_zero_by, on_both_by, on_null_by}
 use Rattle.vm_step.specs.inner.Acts.{switches_by}
 use Rattle.vm_step.proofs.Acts.{by_one, by_two, There, there}
-use Rattle.vm_step.proofs.Tops.{doubles, below_map, put_last}
+use Rattle.vm_step.proofs.Tops.{doubles}
 use Rattle.vm_step.proofs.Whole.{push_is, load_is, store_is, pop_is, double_is, compute_is, negate_is, increase_is, if_zero_is, if_both_is}
 use Rattle.vm_step.proofs.Whole.{if_null_is, go_is, switch_is}
 
@@ -107,8 +103,8 @@ module _ (max : ℕ) (m m' : Machine) where
         ∙ ap (pushed q m m.frame.operands) holds ∙ ap (λ n. Went n q None) (sym is),
   )
 
-  pub increase_alone : (local : ℕ) (by : ℤ) (x : ℤ) → Some x ≡ int_of_local (slice_get m.frame.locals local) → length m.frame.operands ≤ max
-      →
+  pub increase_alone : (local : ℕ) (by : ℤ) (x : ℤ) → Some x ≡ int_of_local (slice_get m.frame.locals local) →
+      length m.frame.operands ≤ max →
       m' ≡ next (with_local m local (values.Int (wrap (x +ℤ by)))) m.frame.operands → Alone max (Increase local by) m m' true
   increase_alone local by x int room is = (
     stays is,
@@ -138,8 +134,8 @@ module _ (max : ℕ) (m m' : Machine) where
       stays is,
       λ p most me q.
           store_is p q m me sort local
-          (nothing_wrong (needs p m (Store sort local)) m (None ∷ misfits p m.heap (model.Sorted sort ∷ []) (on_top 1 m.frame.operands))
-          some
+          (nothing_wrong (needs p m (Store sort local)) m
+          (None ∷ misfits p m.heap (model.Sorted sort ∷ []) (on_top 1 m.frame.operands)) some
           (ap (λ l. some_of is_kind (None ∷ misfits p m.heap (model.Sorted sort ∷ []) l)) (top_one m.frame.operands v some top)
           ∙ ap (λ o. some_of is_kind (None ∷ o ∷ [])) fits)
           (omega arith)
@@ -223,16 +219,16 @@ module _ (max : ℕ) (m m' : Machine) where
             ∙ ap (λ k. Went (at_place m k (below 1 m.frame.operands)) q None) (sym to) ∙ ap (λ n. Went n q None) (sym is),
       )
 
-    pub if_null_alone : (wanted : Bool) (target place : ℕ) (v : Value) → at_top m.frame.operands 0 ≡ Some v → misfit_sort Reference v ≡ None
-        →
+    pub if_null_alone : (wanted : Bool) (target place : ℕ) (v : Value) → at_top m.frame.operands 0 ≡ Some v →
+        misfit_sort Reference v ≡ None →
         length m.frame.operands - 1 ≤ max → place ≡ (if same_truth wanted (is_null v) then target else m.frame.place + 1) →
         m' ≡ at_place m place (below 1 m.frame.operands) → Alone max (IfNull wanted target) m m' true
     if_null_alone wanted target place v top fits room to is = (
       stays is,
       λ p most me q.
           if_null_is p q m me wanted target
-          (nothing_wrong (needs p m (IfNull wanted target)) m (None ∷ misfits p m.heap (model.Sorted Reference ∷ [])
-          (on_top 1 m.frame.operands)) some
+          (nothing_wrong (needs p m (IfNull wanted target)) m
+          (None ∷ misfits p m.heap (model.Sorted Reference ∷ []) (on_top 1 m.frame.operands)) some
           (ap (λ l. some_of is_kind (None ∷ misfits p m.heap (model.Sorted Reference ∷ []) l)) (top_one m.frame.operands v some top)
           ∙ ap (λ o. some_of is_kind (None ∷ o ∷ [])) fits)
           (omega arith)
@@ -258,8 +254,8 @@ module _ (max : ℕ) (m m' : Machine) where
       stays is,
       λ p most me q.
           compute_is p q m me operation
-          (nothing_wrong (needs p m (Compute operation)) m (None ∷ misfits p m.heap (model.number ∷ model.number ∷ [])
-          (on_top 2 m.frame.operands)) some
+          (nothing_wrong (needs p m (Compute operation)) m
+          (None ∷ misfits p m.heap (model.number ∷ model.number ∷ []) (on_top 2 m.frame.operands)) some
           (found_two p is_kind refl) (omega arith) (found_two p is_member refl) refl (omega arith))
           ∙ ap (λ o. computes_by q m operation (below 2 m.frame.operands) o (int_in (at_top m.frame.operands 0))) (sym first)
           ∙ ap (computes_by q m operation (below 2 m.frame.operands) (Some x)) (sym second)
@@ -273,8 +269,8 @@ module _ (max : ℕ) (m m' : Machine) where
       stays is,
       λ p most me q.
           if_both_is p q m me comparison target
-          (nothing_wrong (needs p m (IfBoth comparison target)) m (None ∷ misfits p m.heap (model.number ∷ model.number ∷ [])
-          (on_top 2 m.frame.operands)) some
+          (nothing_wrong (needs p m (IfBoth comparison target)) m
+          (None ∷ misfits p m.heap (model.number ∷ model.number ∷ []) (on_top 2 m.frame.operands)) some
           (found_two p is_kind refl) (omega arith) (found_two p is_member refl) refl (omega arith))
           ∙ ap (λ o. on_both_by q m comparison target (below 2 m.frame.operands) o (int_in (at_top m.frame.operands 0))) (sym first)
           ∙ ap (on_both_by q m comparison target (below 2 m.frame.operands) (Some x)) (sym second)
@@ -285,28 +281,20 @@ pub when_true : {P : Type 0} (b : Bool) → b ≡ true → OnTrue b P → P
 when_true true e h = h
 when_true false e h = absurd (cc e)
 
+pub when_false : {P : Type 0} (b : Bool) → b ≡ false → OnFalse b P → P
+when_false false e h = h
+when_false true e h = absurd (cc e)
+
 -- an action that ends with a push
 pub alone_if : (max : ℕ) (a : Action) (m m' : Machine) {R S : Type 0} (b : Bool) → OnTrue b R → OnTrue b S → OnFalse b (m' ≡ m) →
     (R → S → Alone max a m m' true) → Alone max a m m' b
 alone_if max a m m' true room is same f = f room is
 alone_if max a m m' false room is same f = same
 
--- an int in the place of the last operand
-pub put_last_int : (cs new : List Cell) (k : ℕ) (x : ℤ) → k ≡ length cs - 1 → 1 ≤ length (values_of cs) → new ≡ set cs k (cells.Int x) →
-    values_of new ≡ below 1 (values_of cs) ++ values.Int x ∷ []
-put_last_int cs new k x at some made =
-    let same : length (values_of cs) ≡ length cs = length-map cs value_of in
-    ap values_of (made ∙ ap (λ j. set cs j (cells.Int x)) at)
-    ∙ ap values_of (sets_front cs x (omega arith)) ∙ map_push value_of (take (length cs - 1) cs) (cells.Int x)
-    ∙ ap (λ l. l ++ values.Int x ∷ []) (sym (below_map 1 cs))
-  where
-    sets_front : (cs : List Cell) (x : ℤ) → 1 ≤ length cs → set cs (length cs - 1) (cells.Int x) ≡ take (length cs - 1) cs ++ cells.Int x ∷
-        []
-    sets_front cs x h =
-        let e : suc (length cs - 1) ≡ length cs = omega arith in
-        let lt : length cs - 1 < length cs = omega arith in
-        ap (λ l. set l (length cs - 1) (cells.Int x)) (sym (ap (λ k. take k cs) e ∙ take_all (length cs) cs (omega arith)))
-        ∙ put_last cs (length cs - 1) (cells.Int x) lt
+-- a local that holds a value
+pub held_is : (o : Option (Option Value)) (v : Value) → Some v ≡ held_in o → o ≡ Some (Some v)
+held_is None v e = absurd (cc e)
+held_is (Some o) v e = ap Some (sym e)
 
 pub some_is : {A : Type 0} (x y : A) → Some x ≡ Some y → x ≡ y
 some_is x y e = cc
@@ -318,8 +306,8 @@ module _ (p : Program) (m n : Machine) (same : SameMethod m n) (method : MethodO
   runs : method_of_frame p n.frame ≡ Some method
   runs = (λ i. method_at p (same.0 i) (same.1 i)) ∙ sym is
 
-  pub more_alone : (k : Machine) (taken max : ℕ) (code : List Instr) (b : Bool) → b ≡ true → AllAlone p m taken n → NextAlone max code n k b
-      →
+  pub more_alone : (k : Machine) (taken max : ℕ) (code : List Instr) (b : Bool) → b ≡ true → AllAlone p m taken n →
+      NextAlone max code n k b →
       method.max_stack ≡ max → method.code ≡ code → AllAlone p m (taken + 1) k × SameMethod m k
   more_alone k taken max code true e all (stays, one) room here = (
     subst (λ j. AllAlone p m j k) (sym (add-one taken)) (n, (all, one p (ap max_stack_in runs ∙ room) (ap code_in runs ∙ here))),

@@ -11,8 +11,8 @@ use Rattle.vm_model.specs.Step.{act, code_in, step}
 abbrev pub SameMethod : (m m' : Machine) → Type 0
 SameMethod m m' = (m'.frame.class ≡ m.frame.class) × (m'.frame.method ≡ m.frame.method)
 
--- Where the running frame may have so many operands, the action leads from one machine to another in the same method, or nothing has
--- changed.
+-- Where the running frame may have so many operands, the action leads from one machine to another in the same method,
+-- or nothing has changed.
 abbrev pub Alone : (max : ℕ) → Action → (m m' : Machine) → Bool → Type 0
 Alone max a m m' true =
     SameMethod m m' × ((p : Program) → max_stack_in (method_of_frame p m.frame) ≡ max → (me : ℕ) (q : Messages) →

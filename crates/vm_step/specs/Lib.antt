@@ -2,6 +2,7 @@ pub mod State
 pub mod Table
 pub mod Doing
 pub mod Alone
+pub mod Steady
 pub mod Needing
 pub mod Main
 pub mod inner

@@ -3,7 +3,6 @@ pub mod Acts
 pub mod Judged
 pub mod Objects
 pub mod Calls
-pub mod Returning
 pub mod Sessions
 pub mod Builts
 pub mod Awaiting

@@ -15,10 +15,10 @@ mod plain;
 mod program;
 mod returns;
 mod session;
-mod state;
 mod step;
 mod stepped;
 mod waits;
 
 pub use machine::{Machine, has_main};
 pub use stepped::Stepped;
+pub use vm_frames::Cell;

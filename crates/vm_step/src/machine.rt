@@ -1,7 +1,7 @@
 //! The machine as other crates see it.
 //! It starts at a `main`, takes one step at a time, and says for whose message it waits.
 
-ghost use Rattle.std.specs.Prelude.{◌≡◌, ◌<◌, ◌≤◌, ◌↔◌, length, position, IsTrue, IfSome, IfOk, OnErr};
+ghost use Rattle.std.specs.Prelude.{◌≡◌, ◌∷◌, ◌<◌, ◌≤◌, ◌↔◌, false, length, position, IsTrue, IfSome, IfOk, OnErr};
 ghost use Rattle.std.specs.Str.{bytes_eq};
 ghost use Rattle.vm_model.specs.View.{method_of, classes_of};
 ghost use Rattle.vm_model.specs.Program as program;
@@ -11,17 +11,19 @@ ghost use Rattle.vm_step.specs.State.{state_of};
 ghost use Rattle.vm_step.specs.Doing.{Does, waits_in};
 ghost use Rattle.vm_step.specs.Alone.{AllAlone};
 ghost use Rattle.vm_step.specs.Main.{HasMain};
+ghost use Rattle.vm_step.specs.Steady.{is_steady, next_action};
+ghost use Rattle.vm_frames.specs.Lying.{AllLie};
 
-use crate::calls::unset;
 use crate::frequent::steps_alone;
 use crate::program::{class_at, max_locals, method_at};
-use crate::state::{Frame, State};
 use crate::step::take_step;
 use crate::stepped::Stepped;
 use crate::waits::waits;
-use mg_text::Memory;
+use mg_text::{List, Memory, Text};
+use raw_stack::RawStack;
 use std::alloc::Global;
 use std::marker::Model;
+use vm_frames::{Cell, State};
 use vm_model::{Linked, LinkedClass, LinkedMethod, Ports};
 
 /// A machine that runs a linked program. Contracts see its frames and its objects.
@@ -31,13 +33,11 @@ pub struct Machine {
 }
 
 impl Model for Machine {
-    ghost use Rattle.vm_model.specs.Machine as model;
+    ghost use Rattle.vm_frames.specs.Seen.{Seen};
 
-    ghost Value = { model.Machine };
+    ghost Value = { Seen };
 
-    ghost use Rattle.vm_step.specs.State.{state_of};
-
-    ghost view = { λ m. state_of m.state };
+    ghost view = { λ m. m.state };
 }
 
 /// Whether this is `static void main(String[])`.
@@ -102,21 +102,8 @@ pub fn has_main(linked: &Linked, main: &str) -> bool
 fn started(alloc: Global, linked: &Linked, class: u32, method: u32) -> Result<State, Memory>
     ensures { IfOk result (λ s. state_of s ≡ started (classes_of linked.now.classes.items) class method) }
 {
-    let mut locals = Vec::new(alloc);
-    unset(&mut locals, max_locals(method_at(linked, class, method)))?;
-    let frame = Frame {
-        class,
-        method,
-        place: 0,
-        locals,
-        operands: Vec::new(alloc),
-        told: None,
-    };
-    Ok(State {
-        frame,
-        callers: Vec::new(alloc),
-        heap: Vec::new(alloc),
-    })
+    let locals = max_locals(method_at(linked, class, method)) as u16;
+    State::start(alloc, linked, class, method, locals)
 }
 
 /// The state at the `main` of a class.
@@ -134,6 +121,22 @@ fn start(alloc: Global, linked: &Linked, main: &str) -> Result<State, Memory>
 }
 
 impl Machine {
+    /// The frames, in one region: an empty one, and on it those of the machine, the running one last.
+    /// The cells of each are its locals, and then its operands; a text stands in a cell by its place
+    /// in `texts`.
+    pub fn frames(&self) -> &RawStack<Cell>
+        ensures { AllLie self.now.texts (self.now.machine.frame ∷ self.now.machine.callers) (result.now.running ∷ result.now.callers) }
+    {
+        self.state.frames()
+    }
+
+    /// The texts that cells number.
+    pub fn texts(&self) -> &List<Text>
+        ensures { result.now.items ≡ self.now.texts }
+    {
+        self.state.texts()
+    }
+
     /// A machine at the first `static void main(String[])` of the first class of this name, which
     /// has one: one frame, whose locals are unset, and no objects.
     ///
@@ -141,7 +144,7 @@ impl Machine {
     /// `Memory` only.
     pub fn start(alloc: Global, linked: &Linked, main: &str) -> Result<Machine, Memory>
         requires { HasMain (classes_of linked.now.classes.items) main.now }
-        ensures { IfOk result (λ m. IsStart (classes_of linked.now.classes.items) main.now m) }
+        ensures { IfOk result (λ m. IsStart (classes_of linked.now.classes.items) main.now m.machine) }
     {
         let state = start(alloc, linked, main)?;
         Ok(Machine { state })
@@ -151,7 +154,7 @@ impl Machine {
     /// were: steps that stay in their frame, tell nothing and look at no message. Nothing is allocated.
     pub fn steps_alone(&mut self, linked: &Linked, most: u32) -> u32
         ensures most { result ≤ most }
-        ensures steps { AllAlone (classes_of linked.now.classes.items) self.old result self.new }
+        ensures steps { AllAlone (classes_of linked.now.classes.items) self.old.machine result self.new.machine }
     {
         steps_alone(&mut self.state, linked, most)
     }
@@ -159,6 +162,8 @@ impl Machine {
     /// Takes a step of the role `me`: the next instruction's tests in their order, and then what it
     /// does (JVMS chapter 6). A step that waits, or that ends the run, changes neither the machine
     /// nor the messages; so a mismatch takes none.
+    ///
+    /// Constants that are no texts, locals, operands, arithmetic, jumps, fields and returns need no memory.
     ///
     /// # Errors
     /// `Memory` only, and then neither has changed.
@@ -169,10 +174,11 @@ impl Machine {
         ports: &mut Ports,
         me: u32,
     ) -> Result<Stepped, Memory>
-        ensures ok { IfOk result (λ s. Does (model.step (classes_of linked.now.classes.items) me self.old ports.old) self.old
-            ports.old self.new ports.new s) }
-        ensures err { OnErr result (self.new ≡ self.old) }
+        ensures ok { IfOk result (λ s. Does (model.step (classes_of linked.now.classes.items) me self.old.machine ports.old)
+            self.old.machine ports.old self.new.machine ports.new s) }
+        ensures err { OnErr result (self.new.machine ≡ self.old.machine) }
         ensures err_ports { OnErr result (ports.new ≡ ports.old) }
+        ensures steady { OnErr result (is_steady (next_action (classes_of linked.now.classes.items) self.old.machine) ≡ false) }
     {
         take_step(&mut self.state, alloc, linked, ports, me)
     }
@@ -180,7 +186,7 @@ impl Machine {
     /// The role for whose message the next instruction waits: exactly where a step would wait for
     /// it. Nothing is allocated and nothing changes.
     pub fn waits(&self, linked: &Linked, ports: &Ports, me: u32) -> Option<u32>
-        ensures { result ≡ waits_in (model.step (classes_of linked.now.classes.items) me self.now ports.now) }
+        ensures { result ≡ waits_in (model.step (classes_of linked.now.classes.items) me self.now.machine ports.now) }
     {
         waits(&self.state, linked, ports, me)
     }

@@ -1,21 +1,23 @@
 //! What instructions need of the machine, and what is wrong where it isn't there.
 //! The tests stand in one order for all instructions.
 
-ghost use Rattle.std.specs.Prelude.{◌≡◌, ◌+◌, ◌<◌, ◌≤◌, ◌||◌, false, codes, length, option_map};
+ghost use Rattle.std.specs.Prelude.{◌≡◌, ◌+◌, ◌<◌, ◌≤◌, ◌||◌, List, false, codes, length, option_map};
 ghost use Rattle.std.specs.Str.{bytes_eq};
 ghost use Rattle.vm_model.specs.Descriptors.{type_view};
 ghost use Rattle.vm_model.specs.Tests as model;
 ghost use Rattle.vm_model.specs.View.{classes_of};
-ghost use Rattle.vm_step.specs.State.{value_of, values_of, locals_of, objects_of, state_of};
+ghost use Rattle.mg_text.specs.Call.{Name};
+ghost use Rattle.vm_frames.specs.Seen.{value_in};
+ghost use Rattle.vm_frames.specs.Kept.{most};
+ghost use Rattle.vm_step.specs.State.{state_of, operands_of};
 ghost use Rattle.vm_step.specs.Table.{sort_of};
 ghost use Rattle.vm_step.specs.inner.Judged.{judged};
 ghost use Rattle.vm_step.specs.Needing.{want_of, wants_of, needs_of};
 
 use crate::action::Sort;
-use crate::operands::top;
 use crate::program::{class_name, max_stack, method_at};
-use crate::state::{Cell, Object, State};
 use mg_text::BadKind;
+use vm_frames::{Cell, State};
 use vm_model::{FieldType, Linked};
 
 /// What an operand must be.
@@ -67,17 +69,18 @@ pub(crate) fn text<'a>() -> Want<'a>
 }
 
 /// The class of an object, of a text and of the print stream.
-fn class_of_value<'a>(linked: &'a Linked, heap: &[Object], cell: &Cell) -> &'a str
-    ensures { result.now ≡ model.class_of_value (classes_of linked.now.classes.items) (objects_of heap.now) (value_of cell.now) }
+fn class_of_value<'a>(linked: &'a Linked, state: &State, cell: Cell) -> &'a str
+    ensures { result.now ≡ model.class_of_value (classes_of linked.now.classes.items) (state_of state.now).heap
+        (value_in state.now.texts cell) }
 {
     match cell {
-        Cell::Object(number) => match heap.get(*number as usize) {
-            Some(object) => class_name(linked, object.class),
+        Cell::Object(number) => match state.class_of_object(number) {
+            Some(class) => class_name(linked, class),
             None => "",
         },
         Cell::Text(_) => "java/lang/String",
         Cell::Out => "java/io/PrintStream",
-        Cell::Int(_) | Cell::Null => "",
+        Cell::Int(_) | Cell::Null | Cell::Unset => "",
     }
 }
 
@@ -94,29 +97,30 @@ fn kind_unless(right: bool) -> Option<BadKind>
     if right { None } else { Some(BadKind::Kind) }
 }
 
-fn is_reference(cell: &Cell) -> bool
-    ensures { result ≡ model.is_reference (value_of cell.now) }
+fn is_reference(cell: Cell) -> bool
+    ensures { (texts : List Name) → result ≡ model.is_reference (value_in texts cell) }
 {
     !matches!(cell, Cell::Int(_))
 }
 
-pub(crate) fn is_null(cell: &Cell) -> bool
-    ensures { result ≡ model.is_null (value_of cell.now) }
+pub(crate) fn is_null(cell: Cell) -> bool
+    ensures { (texts : List Name) → result ≡ model.is_null (value_in texts cell) }
 {
-    matches!(cell, Cell::Null)
+    matches!(cell, Cell::Null | Cell::Unset)
 }
 
 /// Why a value isn't one of a class: objects and the print stream are of another class, but in place
 /// of a text, and everything else is of another kind.
-fn misfit_class(linked: &Linked, heap: &[Object], name: &str, cell: &Cell) -> Option<BadKind>
-    ensures { result ≡ model.misfit_class (classes_of linked.now.classes.items) (objects_of heap.now) name.now (value_of cell.now) }
+fn misfit_class(linked: &Linked, state: &State, name: &str, cell: Cell) -> Option<BadKind>
+    ensures { result ≡ model.misfit_class (classes_of linked.now.classes.items) (state_of state.now).heap name.now
+        (value_in state.now.texts cell) }
 {
     match cell {
-        Cell::Null => None,
+        Cell::Null | Cell::Unset => None,
         Cell::Int(_) => Some(BadKind::Kind),
         Cell::Text(_) => kind_unless(is_of("java/lang/String", name)),
         Cell::Out | Cell::Object(_) => {
-            if is_of(class_of_value(linked, heap, cell), name) {
+            if is_of(class_of_value(linked, state, cell), name) {
                 None
             } else if name == "java/lang/String" {
                 Some(BadKind::Kind)
@@ -130,22 +134,22 @@ fn misfit_class(linked: &Linked, heap: &[Object], name: &str, cell: &Cell) -> Op
 /// Why a value doesn't meet a type.
 fn misfit_type(
     linked: &Linked,
-    heap: &[Object],
+    state: &State,
     field_type: FieldType<'_>,
-    cell: &Cell,
+    cell: Cell,
 ) -> Option<BadKind>
-    ensures { result ≡ model.misfit_type (classes_of linked.now.classes.items) (objects_of heap.now) (type_view field_type.entry)
-        (value_of cell.now) }
+    ensures { result ≡ model.misfit_type (classes_of linked.now.classes.items) (state_of state.now).heap (type_view field_type.entry)
+        (value_in state.now.texts cell) }
 {
     match field_type {
-        FieldType::Named(name) => misfit_class(linked, heap, name, cell),
+        FieldType::Named(name) => misfit_class(linked, state, name, cell),
         FieldType::Texts => kind_unless(is_null(cell)),
         FieldType::Int | FieldType::Truth => kind_unless(!is_reference(cell)),
     }
 }
 
-fn misfit_sort(sort: Sort, cell: &Cell) -> Option<BadKind>
-    ensures { result ≡ model.misfit_sort (sort_of sort) (value_of cell.now) }
+fn misfit_sort(sort: Sort, cell: Cell) -> Option<BadKind>
+    ensures { (texts : List Name) → result ≡ model.misfit_sort (sort_of sort) (value_in texts cell) }
 {
     match sort {
         Sort::Number => kind_unless(!is_reference(cell)),
@@ -154,19 +158,20 @@ fn misfit_sort(sort: Sort, cell: &Cell) -> Option<BadKind>
 }
 
 /// Why a value isn't what an operand must be.
-fn misfit(linked: &Linked, heap: &[Object], want: &Want<'_>, cell: &Cell) -> Option<BadKind>
-    ensures { result ≡ model.misfit (classes_of linked.now.classes.items) (objects_of heap.now) (want_of want.now) (value_of cell.now) }
+fn misfit(linked: &Linked, state: &State, want: &Want<'_>, cell: Cell) -> Option<BadKind>
+    ensures { result ≡ model.misfit (classes_of linked.now.classes.items) (state_of state.now).heap (want_of want.now)
+        (value_in state.now.texts cell) }
 {
     match want {
         Want::Any => None,
         Want::Sorted(sort) => misfit_sort(*sort, cell),
-        Want::Typed(field_type) => misfit_type(linked, heap, *field_type, cell),
+        Want::Typed(field_type) => misfit_type(linked, state, *field_type, cell),
         Want::Returned(sort, result) => {
             if let Some(kind) = misfit_sort(*sort, cell) {
                 return Some(kind);
             }
             match result {
-                Some(field_type) => misfit_type(linked, heap, *field_type, cell),
+                Some(field_type) => misfit_type(linked, state, *field_type, cell),
                 None => None,
             }
         }
@@ -185,37 +190,37 @@ fn noted(found: Found, misfit: Option<BadKind>) -> Found
 }
 
 /// What was found, and what is wrong with the operands that are taken.
-fn misfits(
-    first: Found,
-    linked: &Linked,
-    heap: &[Object],
-    takes: &[Want<'_>],
-    top: &[Cell],
-) -> Found
-    requires { length takes.now ≡ length top.now }
+fn misfits(first: Found, linked: &Linked, state: &State, takes: &[Want<'_>]) -> Found
+    requires { length takes.now ≤ length (operands_of state.now) }
     ensures kind { result.kind ≡ (first.kind || model.some_of model.is_kind
-        (model.misfits (classes_of linked.now.classes.items) (objects_of heap.now) (wants_of takes.now) (values_of top.now))) }
+        (model.misfits (classes_of linked.now.classes.items) (state_of state.now).heap (wants_of takes.now)
+        (model.on_top (length takes.now) (operands_of state.now)))) }
     ensures member { result.member ≡ (first.member || model.some_of model.is_member
-        (model.misfits (classes_of linked.now.classes.items) (objects_of heap.now) (wants_of takes.now) (values_of top.now))) }
+        (model.misfits (classes_of linked.now.classes.items) (state_of state.now).heap (wants_of takes.now)
+        (model.on_top (length takes.now) (operands_of state.now)))) }
 {
     let mut found = first;
     for (at, want) in takes.iter().enumerate() {
-        found = noted(found, misfit(linked, heap, want, &top[at]));
+        let cell = state.operand(takes.len() - 1 - at);
+        found = noted(found, misfit(linked, state, want, cell));
     }
     found
 }
 
 /// Why a local that is read isn't what it must be.
-fn misfit_read(reads: Option<(u8, Sort)>, locals: &[Option<Cell>]) -> Option<BadKind>
-    ensures { result ≡ model.misfit_read (option_map (λ r. (r.0, sort_of r.1)) reads) (locals_of locals.now) }
+fn misfit_read(reads: Option<(u8, Sort)>, state: &State) -> Option<BadKind>
+    ensures { result ≡ model.misfit_read (option_map (λ r. (r.0, sort_of r.1)) reads) (state_of state.now).frame.locals }
 {
     let Some((local, sort)) = reads else {
         return None;
     };
-    match locals.get(usize::from(local)) {
-        Some(Some(cell)) => misfit_sort(sort, cell),
-        Some(None) => Some(BadKind::Kind),
-        None => None,
+    let local = usize::from(local);
+    if local >= state.locals() {
+        return None;
+    }
+    match state.held(local) {
+        Some(cell) => misfit_sort(sort, cell),
+        None => Some(BadKind::Kind),
     }
 }
 
@@ -243,19 +248,15 @@ pub(crate) fn wrong(linked: &Linked, state: &State, needs: &Needs<'_>) -> Option
     ensures { result ≡ model.wrong (classes_of linked.now.classes.items) (needs_of needs.now) (state_of state.now) }
 {
     let takes = needs.takes;
-    if state.frame.operands.len() < takes.len() {
+    if state.depth() < takes.len() {
         return Some(BadKind::Underflow);
     }
     let nothing = Found {
         kind: false,
         member: false,
     };
-    let read = noted(
-        nothing,
-        misfit_read(needs.reads, state.frame.locals.as_slice()),
-    );
-    let operands = top(state, takes.len());
-    let found = misfits(read, linked, state.heap.as_slice(), takes, operands);
+    let read = noted(nothing, misfit_read(needs.reads, state));
+    let found = misfits(read, linked, state, takes);
     judged(needs, found)
 }
 
@@ -267,16 +268,16 @@ pub(crate) fn taking<'a>(
     gives: usize,
 ) -> Needs<'a>
     requires { gives ≤ 2 }
-    ensures { needs_of result ≡ model.taking (classes_of linked.now.classes.items) (state_of state.now) (wants_of takes.now) gives }
+    ensures needs { needs_of result ≡ model.taking (classes_of linked.now.classes.items) (state_of state.now) (wants_of takes.now) gives }
+    ensures small { model.max_stack_in (model.method_of_frame (classes_of linked.now.classes.items) (state_of state.now).frame) ≤ most }
 {
-    let frame = &state.frame;
     Needs {
         takes,
         reads: None,
         locals: 0,
-        of_locals: frame.locals.len(),
+        of_locals: state.locals(),
         returns: true,
-        operands: frame.operands.len().saturating_sub(takes.len()) + gives,
-        max_stack: max_stack(method_at(linked, frame.class, frame.method)),
+        operands: state.depth().saturating_sub(takes.len()) + gives,
+        max_stack: max_stack(method_at(linked, state.class(), state.method())),
     }
 }

@@ -1,26 +1,25 @@
 //! Returns from methods.
 //! The frame that goes on is the nearest of those that wait.
 
-ghost use Rattle.std.specs.Prelude.{◌≡◌, ℕ, ◌≤◌, ◌++◌, map, reverse, length, option_map, option_to_list, None, IfOk, OnOk, OnErr};
+ghost use Rattle.std.specs.Prelude.{◌≡◌, ℕ, ◌≤◌, List, length, option_map, option_to_list, None, IfSome};
 ghost use Rattle.vm_model.specs.View.{classes_of};
-ghost use Rattle.vm_model.specs.Types.{signature_of};
 ghost use Rattle.vm_model.specs.Descriptors.{type_view};
 ghost use Rattle.vm_model.specs.Actions as actions;
 ghost use Rattle.vm_model.specs.Tests as tests;
 ghost use Rattle.vm_model.specs.Step as model;
-ghost use Rattle.vm_step.specs.State.{value_of, values_of, frame_of, state_of};
+ghost use Rattle.mg_text.specs.Call.{Name};
+ghost use Rattle.vm_frames.specs.Seen.{value_in, IsSet};
+ghost use Rattle.vm_step.specs.State.{state_of};
 ghost use Rattle.vm_step.specs.Table.{sort_of};
 ghost use Rattle.vm_step.specs.Needing.{wants_of, needs_of};
 ghost use Rattle.vm_step.specs.Doing.{Plays};
-ghost use Rattle.vm_step.specs.inner.Returning.{handed};
 
 use crate::action::Sort;
 use crate::needs::{Needs, Want, taking, wrong};
-use crate::operands::operand;
 use crate::program::{max_stack, method_at, result_type};
-use crate::state::{Cell, Frame, State};
 use crate::stepped::Stepped;
-use mg_text::{BadKind, Ending, Event, Memory};
+use mg_text::{BadKind, Ending, Event};
+use vm_frames::{Cell, State};
 use vm_model::{FieldType, Linked};
 
 /// Whether a return is of the kind that the descriptor says.
@@ -54,12 +53,12 @@ fn returning<'a>(
     ensures { needs_of result ≡ tests.returning (classes_of linked.now.classes.items) (state_of state.now).callers
         (option_map sort_of sort) (needs_of needs.entry) }
 {
-    let Some(frame) = state.callers.last() else {
+    let Some(frame) = state.waiting() else {
         needs.operands = 0;
         needs.max_stack = 0;
         return needs;
     };
-    needs.operands = frame.operands.len() + given(sort);
+    needs.operands = frame.operands + given(sort);
     needs.max_stack = max_stack(method_at(linked, frame.class, frame.method));
     needs
 }
@@ -104,18 +103,18 @@ fn check(
 }
 
 /// What a protocol method that is left answers.
-fn answer_of(value: &Option<Cell>) -> Option<i32>
-    ensures { result ≡ model.answer_of (option_to_list (option_map value_of value.now)) }
+fn answer_of(value: Option<Cell>) -> Option<i32>
+    ensures { (texts : List Name) → result ≡ model.answer_of (option_to_list (option_map (value_in texts) value)) }
 {
     match value {
-        Some(Cell::Int(x)) => Some(*x),
+        Some(Cell::Int(x)) => Some(x),
         _ => None,
     }
 }
 
 /// The event of a method that is left, where it tells.
-fn left(told: Option<u32>, value: &Option<Cell>) -> Option<Event>
-    ensures { result ≡ model.left told (option_to_list (option_map value_of value.now)) }
+fn left(told: Option<u32>, value: Option<Cell>) -> Option<Event>
+    ensures { (texts : List Name) → result ≡ model.left told (option_to_list (option_map (value_in texts) value)) }
 {
     match told {
         Some(object) => Some(Event::Leave {
@@ -126,66 +125,34 @@ fn left(told: Option<u32>, value: &Option<Cell>) -> Option<Event>
     }
 }
 
-/// Pushes what is returned, if anything is.
-fn give(operands: &mut Vec<Cell>, value: Option<Cell>) -> Result<(), Memory>
-    ensures ok { OnOk result (values_of operands.new.items ≡ values_of operands.old.items ++ option_to_list (option_map value_of value)) }
-    ensures err { OnErr result (values_of operands.new.items ≡ values_of operands.old.items) }
-{
-    let Some(cell) = value else {
-        return Ok(());
-    };
-    operands.push(cell)?;
-    Ok(())
-}
-
-/// Hands what is returned to the nearest frame.
-fn hand_over(callers: &mut Vec<Frame>, value: Option<Cell>) -> Result<(), Memory>
-    ensures ok { OnOk result (map frame_of (reverse callers.new.items) ≡ handed (map frame_of (reverse callers.old.items))
-        (option_to_list (option_map value_of value))) }
-    ensures err { OnErr result (map frame_of (reverse callers.new.items) ≡ map frame_of (reverse callers.old.items)) }
-{
-    let count = callers.len();
-    if count == 0 {
-        return Ok(());
-    }
-    let caller = &mut callers[count - 1];
-    give(&mut caller.operands, value)
-}
-
 /// Leaves the running frame with what is returned; the return of `main` ends the run.
-fn leave(state: &mut State, value: Option<Cell>) -> Result<Stepped, Memory>
-    ensures ok { IfOk result (λ s. Plays (λ q. model.returns q (state_of state.old) (option_to_list (option_map value_of value))
-        (state_of state.old).callers) (state_of state.old) (state_of state.new) s) }
-    ensures err { OnErr result (state_of state.new ≡ state_of state.old) }
+fn leave(state: &mut State, value: Option<Cell>) -> Stepped
+    requires { IfSome value (IsSet (length state.old.texts)) }
+    ensures { Plays (λ q. model.returns q (state_of state.old) (option_to_list (option_map (value_in state.old.texts) value))
+        (state_of state.old).callers) (state_of state.old) (state_of state.new) result }
 {
-    let event = left(state.frame.told, &value);
-    hand_over(&mut state.callers, value)?;
-    let Some(caller) = state.callers.pop() else {
-        return Ok(Stepped::Ended(Ending::Done));
-    };
-    state.frame = caller;
-    Ok(Stepped::Went(event))
+    let event = left(state.told(), value);
+    if state.leave(value) {
+        Stepped::Went(event)
+    } else {
+        Stepped::Ended(Ending::Done)
+    }
 }
 
 /// Returns, with a value of this sort or none.
-pub(crate) fn return_from(
-    state: &mut State,
-    linked: &Linked,
-    sort: Option<Sort>,
-) -> Result<Stepped, Memory>
-    ensures ok { IfOk result (λ s. (me : ℕ) → Plays (λ q. model.act (classes_of linked.now.classes.items) q (state_of state.old) me
-        (actions.Return (option_map sort_of sort))) (state_of state.old) (state_of state.new) s) }
-    ensures err { OnErr result (state_of state.new ≡ state_of state.old) }
+pub(crate) fn return_from(state: &mut State, linked: &Linked, sort: Option<Sort>) -> Stepped
+    ensures { (me : ℕ) → Plays (λ q. model.act (classes_of linked.now.classes.items) q (state_of state.old) me
+        (actions.Return (option_map sort_of sort))) (state_of state.old) (state_of state.new) result }
 {
-    let method = method_at(linked, state.frame.class, state.frame.method);
+    let method = method_at(linked, state.class(), state.method());
     let answer = result_type(method);
     if let Some(kind) = check(linked, state, sort, answer) {
-        return Ok(Stepped::Ended(Ending::Bad(kind)));
+        return Stepped::Ended(Ending::Bad(kind));
     }
     match sort {
         None => leave(state, None),
         Some(_sort) => {
-            let value = operand(state, 0).copy()?;
+            let value = state.operand(0);
             leave(state, Some(value))
         }
     }

@@ -1,22 +1,22 @@
 //! The members of `Session`: messages that are sent, looked at, taken and refused.
 //! Everything that needs memory is made before anything changes.
 
-ghost use Rattle.std.specs.Prelude.{◌≡◌, ◌<◌, ◌≤◌, ◌-◌, ◌^◌, ◌++◌, ◌∷◌, [], Some, length, option_map, option_to_list, IfOk, OnErr};
+ghost use Rattle.std.specs.Prelude.{◌≡◌, ℕ, List, ◌<◌, ◌≤◌, ◌-◌, ◌^◌, ◌++◌, Some, length, option_map, IfOk, OnOk, OnErr};
 ghost use Rattle.vm_model.specs.Messages.{role_named};
 ghost use Rattle.vm_model.specs.Tests.{below};
 ghost use Rattle.vm_model.specs.Step as model;
-ghost use Rattle.vm_step.specs.State.{value_of, state_of};
+ghost use Rattle.mg_text.specs.Call.{Name};
+ghost use Rattle.vm_frames.specs.Seen.{value_in, IsSet};
+ghost use Rattle.vm_step.specs.State.{state_of, operands_of};
 ghost use Rattle.vm_step.specs.Doing.{Does};
-ghost use Rattle.vm_step.specs.inner.Tops.{operands_of, at_top, text_in};
-ghost use Rattle.vm_step.specs.inner.Sessions.{payload_of, payload_in, sent_count, given_of, taken_where, sends_by, looks_by, takes_by};
+ghost use Rattle.vm_step.specs.inner.Tops.{at_top, text_in};
+ghost use Rattle.vm_step.specs.inner.Sessions.{payload_of, payload_in, sent_count, pushed_of, taken_where, sends_by, looks_by, takes_by};
 ghost use Rattle.vm_step.specs.inner.Sessions.{refuses_by};
 
-use crate::operands::{int_at, replace, settle, text_at};
-use crate::state::{Cell, State};
+use crate::operands::{int_at, put_text, text_at};
 use crate::stepped::Stepped;
 use mg_text::{Carried, Ending, Event, Memory, Sent, Text};
-use std::alloc::Global;
-use std::rc::Rc;
+use vm_frames::{Cell, State};
 use vm_model::Ports;
 
 /// What a message carries, by the method that sends or takes it.
@@ -70,7 +70,8 @@ pub(crate) fn is_true(x: i32) -> bool
 
 /// A truth value as an int.
 pub(crate) fn truth(b: bool) -> Cell
-    ensures { value_of result ≡ model.truth b }
+    ensures value { (texts : List Name) → value_in texts result ≡ model.truth b }
+    ensures set { (count : ℕ) → IsSet count result }
 {
     if b { Cell::Int(1) } else { Cell::Int(0) }
 }
@@ -139,7 +140,7 @@ fn send_payload(
     taken: usize,
     payload: Carried,
 ) -> Result<Stepped, Memory>
-    requires place { state.old.frame.place < 2 ^ 32 - 1 }
+    requires place { state.old.machine.frame.place < 2 ^ 32 - 1 }
     requires some { 2 ≤ taken }
     requires within { taken ≤ length (operands_of state.old) }
     ensures ok { IfOk result (λ s. Does (sends_by ports.old (state_of state.old) me (below taken (operands_of state.old))
@@ -160,8 +161,8 @@ fn send_payload(
     let message = sent(label, &payload)?;
     let event = sent_event(peer, label, payload)?;
     ports.send(me, to, message)?;
-    let place = state.frame.place + 1;
-    settle(state, taken, place);
+    let place = state.place() + 1;
+    state.drop(taken, place);
     Ok(Stepped::Went(Some(event)))
 }
 
@@ -172,7 +173,7 @@ pub(crate) fn send(
     me: u32,
     carries: Payload,
 ) -> Result<Stepped, Memory>
-    requires place { state.old.frame.place < 2 ^ 32 - 1 }
+    requires place { state.old.machine.frame.place < 2 ^ 32 - 1 }
     requires within { sent_count (payload_of carries) ≤ length (operands_of state.old) }
     ensures ok { let n = sent_count (payload_of carries) in IfOk result
         (λ s. Does (sends_by ports.old (state_of state.old) me (below n (operands_of state.old))
@@ -190,13 +191,8 @@ pub(crate) fn send(
 }
 
 /// Looks at the label of the next message from a role.
-pub(crate) fn look(
-    state: &mut State,
-    alloc: Global,
-    ports: &Ports,
-    me: u32,
-) -> Result<Stepped, Memory>
-    requires place { state.old.frame.place < 2 ^ 32 - 1 }
+pub(crate) fn look(state: &mut State, ports: &Ports, me: u32) -> Result<Stepped, Memory>
+    requires place { state.old.machine.frame.place < 2 ^ 32 - 1 }
     requires within { 1 ≤ length (operands_of state.old) }
     ensures ok { IfOk result (λ s. Does (looks_by ports.now (state_of state.old) me (below 1 (operands_of state.old))
         (text_in (at_top (operands_of state.old) 0))) (state_of state.old) ports.now (state_of state.new) ports.now s) }
@@ -215,56 +211,58 @@ pub(crate) fn look(
         peer: peer.copy()?,
         label: message.label.copy()?,
     };
-    let label = Rc::new(alloc, message.label.copy()?)?;
-    let place = state.frame.place + 1;
-    replace(state, 1, Cell::Text(label), place);
+    let label = message.label.copy()?;
+    put_text(state, 1, label)?;
     Ok(Stepped::Went(Some(event)))
 }
 
 /// What a taken payload pushes, where it is of the kind that is wanted.
-fn given(alloc: Global, carries: Payload, payload: &Carried) -> Result<Option<Option<Cell>>, Memory>
-    ensures { IfOk result (λ o. given_of o ≡ model.taken_as (payload_of carries) payload.now) }
+fn given(carries: Payload, payload: &Carried) -> Result<Option<Carried>, Memory>
+    ensures { IfOk result (λ o. option_map pushed_of o ≡ model.taken_as (payload_of carries) payload.now) }
 {
     match (carries, payload) {
-        (Payload::Nothing, Carried::Nothing) => Ok(Some(None)),
-        (Payload::Int, Carried::Int(x)) => Ok(Some(Some(Cell::Int(*x)))),
-        (Payload::Truth, Carried::Truth(b)) => Ok(Some(Some(truth(*b)))),
-        (Payload::Text, Carried::Text(text)) => {
-            let text = text.copy()?;
-            let text = Rc::new(alloc, text)?;
-            Ok(Some(Some(Cell::Text(text))))
-        }
+        (Payload::Nothing, Carried::Nothing)
+        | (Payload::Int, Carried::Int(_))
+        | (Payload::Truth, Carried::Truth(_))
+        | (Payload::Text, Carried::Text(_)) => Ok(Some(copied(payload)?)),
         _ => Ok(None),
     }
 }
 
 /// The same where the message has the label that is wanted too.
-fn given_where(
-    alloc: Global,
-    carries: Payload,
-    label: &Text,
-    message: &Sent,
-) -> Result<Option<Option<Cell>>, Memory>
-    ensures { IfOk result (λ o. given_of o ≡ taken_where (payload_of carries) label.now message.now) }
+fn given_where(carries: Payload, label: &Text, message: &Sent) -> Result<Option<Carried>, Memory>
+    ensures { IfOk result (λ o. option_map pushed_of o ≡ taken_where (payload_of carries) label.now message.now) }
 {
     if message.label.as_str() == label.as_str() {
-        given(alloc, carries, &message.payload)
+        given(carries, &message.payload)
     } else {
         Ok(None)
     }
 }
 
-/// Puts what is given, if anything is, in the place of the two operands on top.
-fn settle_with(state: &mut State, cell: Option<Cell>)
-    requires place { state.old.frame.place < 2 ^ 32 - 1 }
+/// Puts what is given, if anything is, in the place of the two operands on top. After an error
+/// nothing has changed.
+fn settle_with(state: &mut State, given: Carried) -> Result<(), Memory>
+    requires place { state.old.machine.frame.place < 2 ^ 32 - 1 }
     requires within { 2 ≤ length (operands_of state.old) }
-    ensures { state_of state.new ≡ model.next (state_of state.old)
-        (below 2 (operands_of state.old) ++ option_to_list (option_map value_of cell)) }
+    ensures ok { OnOk result (state_of state.new ≡ model.next (state_of state.old) (below 2 (operands_of state.old) ++ pushed_of given)) }
+    ensures err { OnErr result (state_of state.new ≡ state_of state.old) }
 {
-    let place = state.frame.place + 1;
-    match cell {
-        Some(cell) => replace(state, 2, cell, place),
-        None => settle(state, 2, place),
+    let place = state.place() + 1;
+    match given {
+        Carried::Nothing => {
+            state.drop(2, place);
+            Ok(())
+        }
+        Carried::Int(x) => {
+            state.put(2, Cell::Int(x), place);
+            Ok(())
+        }
+        Carried::Truth(b) => {
+            state.put(2, truth(b), place);
+            Ok(())
+        }
+        Carried::Text(text) => put_text(state, 2, text),
     }
 }
 
@@ -291,12 +289,11 @@ fn mismatch(peer: &Text, label: &Text) -> Result<Stepped, Memory>
 /// Takes the next message from a role, where its label and what it carries are those that are wanted.
 pub(crate) fn take(
     state: &mut State,
-    alloc: Global,
     ports: &mut Ports,
     me: u32,
     carries: Payload,
 ) -> Result<Stepped, Memory>
-    requires place { state.old.frame.place < 2 ^ 32 - 1 }
+    requires place { state.old.machine.frame.place < 2 ^ 32 - 1 }
     requires within { 2 ≤ length (operands_of state.old) }
     ensures ok { IfOk result (λ s. Does (takes_by ports.old (state_of state.old) me (payload_of carries)
         (below 2 (operands_of state.old)) (text_in (at_top (operands_of state.old) 1)) (text_in (at_top (operands_of state.old) 0)))
@@ -316,11 +313,11 @@ pub(crate) fn take(
     let Some(message) = ports.first(from, me) else {
         return Ok(Stepped::Waits(from));
     };
-    let Some(cell) = given_where(alloc, carries, label, message)? else {
+    let Some(given) = given_where(carries, label, message)? else {
         return mismatch(peer, &message.label);
     };
     let event = taken_event(peer, message)?;
-    settle_with(state, cell);
+    settle_with(state, given)?;
     let _taken = ports.take(from, me);
     Ok(Stepped::Went(Some(event)))
 }

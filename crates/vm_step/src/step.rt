@@ -1,44 +1,45 @@
 //! A step: the next instruction's tests, and then what it does.
 //! Nothing changes where memory is wanting or a message is.
 
-ghost use Rattle.std.specs.Prelude.{◌≡◌, ℕ, ◌+◌, ◌<◌, ◌≤◌, ◌-◌, ◌^◌, length, option_map, slice_get, Some, IfOk, OnErr, OnSome, []};
-ghost use Rattle.vm_model.specs.Messages.{Messages};
+ghost use Rattle.std.specs.Prelude.{◌≡◌, true, false, ℕ, ◌+◌, ◌<◌, ◌≤◌, ◌-◌, ◌^◌, option_map, slice_get, Some, IfOk, OnErr, OnSome};
+ghost use Rattle.std.specs.Prelude.{[]};
 ghost use Rattle.vm_model.specs.Program as program;
 ghost use Rattle.vm_model.specs.View.{classes_of, field_of, instr_of};
 ghost use Rattle.vm_model.specs.Actions as actions;
 ghost use Rattle.vm_model.specs.Types as types;
 ghost use Rattle.vm_model.specs.Tests as tests;
 ghost use Rattle.vm_model.specs.Step as model;
+ghost use Rattle.vm_frames.specs.Kept.{most};
 ghost use Rattle.vm_step.specs.State.{state_of};
 ghost use Rattle.vm_step.specs.Table.{sort_of, plain_of, action_of};
 ghost use Rattle.vm_step.specs.Needing.{want_of, wants_of};
-ghost use Rattle.vm_step.specs.Doing.{Does, Plays, waits_in};
-ghost use Rattle.vm_step.specs.inner.Tops.{operands_of, at_top, text_in};
+ghost use Rattle.vm_step.specs.Steady.{is_steady, is_steady_action, next_action};
+ghost use Rattle.vm_step.specs.Doing.{Does, Plays};
 
 use crate::action::{Action, Plain, Sort, action_of};
 use crate::built::{concat, equals, init, print, push_out, show_int, show_truth};
 use crate::calls::call;
 use crate::needs::{Want, number, taking, text, wrong};
 use crate::objects::{make, read, write};
-use crate::operands::text_at;
 use crate::plain::{
     compute, double, increase, jump, jump_on_both, jump_on_null, jump_on_zero, load, negate, pop,
     push_constant, store, swap, switch,
 };
 use crate::program::{class_name, field_at, lent, method_at};
 use crate::returns::return_from;
-use crate::session::{Payload, look, other_role, refuse, send, take};
-use crate::state::State;
+use crate::session::{Payload, look, refuse, send, take};
 use crate::stepped::Stepped;
 use mg_text::{BadKind, Ending, Memory};
 use std::alloc::Global;
+use vm_frames::State;
 use vm_model::{Built, FieldType, Linked, LinkedField, LinkedInstr, Ports};
 
 /// What is wrong with an instruction that takes these operands and gives so many.
 fn check(linked: &Linked, state: &State, takes: &[Want<'_>], gives: usize) -> Option<BadKind>
     requires { gives ≤ 2 }
-    ensures { result ≡ tests.wrong (classes_of linked.now.classes.items)
+    ensures wrong { result ≡ tests.wrong (classes_of linked.now.classes.items)
         (tests.taking (classes_of linked.now.classes.items) (state_of state.now) (wants_of takes.now) gives) (state_of state.now) }
+    ensures small { tests.max_stack_in (tests.method_of_frame (classes_of linked.now.classes.items) (state_of state.now).frame) ≤ most }
 {
     wrong(linked, state, &taking(linked, state, takes, gives))
 }
@@ -52,9 +53,10 @@ fn check_reading(
     gives: usize,
 ) -> Option<BadKind>
     requires { gives ≤ 2 }
-    ensures { result ≡ tests.wrong (classes_of linked.now.classes.items)
+    ensures wrong { result ≡ tests.wrong (classes_of linked.now.classes.items)
         (record (tests.taking (classes_of linked.now.classes.items) (state_of state.now) [] gives)
         { reads = Some (local, sort_of sort); locals = local + 1 }) (state_of state.now) }
+    ensures small { tests.max_stack_in (tests.method_of_frame (classes_of linked.now.classes.items) (state_of state.now).frame) ≤ most }
 {
     let mut needs = taking(linked, state, &[], gives);
     needs.reads = Some((local, sort));
@@ -64,8 +66,9 @@ fn check_reading(
 
 /// What is wrong with an instruction that takes a value of this sort into a local.
 fn check_storing(linked: &Linked, state: &State, sort: Sort, local: u8) -> Option<BadKind>
-    ensures { result ≡ tests.wrong (classes_of linked.now.classes.items)
+    ensures wrong { result ≡ tests.wrong (classes_of linked.now.classes.items)
         (tests.needs (classes_of linked.now.classes.items) (state_of state.now) (actions.Store (sort_of sort) local)) (state_of state.now) }
+    ensures small { tests.max_stack_in (tests.method_of_frame (classes_of linked.now.classes.items) (state_of state.now).frame) ≤ most }
 {
     let takes = [Want::Sorted(sort)];
     let mut needs = taking(linked, state, &takes, 0);
@@ -75,8 +78,9 @@ fn check_storing(linked: &Linked, state: &State, sort: Sort, local: u8) -> Optio
 
 /// What is wrong with an instruction that stays in its frame.
 fn check_plain(linked: &Linked, state: &State, plain: Plain<'_>) -> Option<BadKind>
-    ensures { result ≡ tests.wrong (classes_of linked.now.classes.items)
+    ensures wrong { result ≡ tests.wrong (classes_of linked.now.classes.items)
         (tests.needs (classes_of linked.now.classes.items) (state_of state.now) (plain_of plain.entry)) (state_of state.now) }
+    ensures small { tests.max_stack_in (tests.method_of_frame (classes_of linked.now.classes.items) (state_of state.now).frame) ≤ most }
 {
     match plain {
         Plain::Push(_) => check(linked, state, &[], 1),
@@ -98,20 +102,21 @@ fn check_plain(linked: &Linked, state: &State, plain: Plain<'_>) -> Option<BadKi
 
 /// Acts on an instruction that stays in its frame.
 fn act_plain(state: &mut State, linked: &Linked, plain: Plain<'_>) -> Result<Stepped, Memory>
-    requires { state.old.frame.place < 2 ^ 32 - 1 }
+    requires { state.old.machine.frame.place < 2 ^ 32 - 1 }
     ensures ok { IfOk result (λ s. (me : ℕ) → Plays (λ q. model.act (classes_of linked.now.classes.items) q (state_of state.old) me
         (plain_of plain.entry)) (state_of state.old) (state_of state.new) s) }
     ensures err { OnErr result (state_of state.new ≡ state_of state.old) }
+    ensures steady { OnErr result (is_steady_action (plain_of plain.entry) ≡ false) }
 {
     if let Some(kind) = check_plain(linked, state, plain) {
         return Ok(Stepped::Ended(Ending::Bad(kind)));
     }
     match plain {
         Plain::Push(constant) => push_constant(state, constant),
-        Plain::Load(_, local) => load(state, local),
+        Plain::Load(_, local) => Ok(load(state, local)),
         Plain::Store(_, local) => Ok(store(state, local)),
         Plain::Pop => Ok(pop(state)),
-        Plain::Double => double(state),
+        Plain::Double => Ok(double(state)),
         Plain::Swap => Ok(swap(state)),
         Plain::Compute(operation) => Ok(compute(state, operation)),
         Plain::Negate => Ok(negate(state)),
@@ -137,16 +142,17 @@ fn object<'a>(linked: &'a Linked, class: u32) -> Want<'a>
 
 /// Reads a field.
 fn act_read(state: &mut State, linked: &Linked, class: u32, field: u32) -> Result<Stepped, Memory>
-    requires { state.old.frame.place < 2 ^ 32 - 1 }
+    requires { state.old.machine.frame.place < 2 ^ 32 - 1 }
     ensures ok { IfOk result (λ s. (me : ℕ) → Plays (λ q. model.act (classes_of linked.now.classes.items) q (state_of state.old) me
         (actions.Read class field)) (state_of state.old) (state_of state.new) s) }
     ensures err { OnErr result (state_of state.new ≡ state_of state.old) }
+    ensures steady { OnErr result (true ≡ false) }
 {
     let takes = [object(linked, class)];
     if let Some(kind) = check(linked, state, &takes, 1) {
         return Ok(Stepped::Ended(Ending::Bad(kind)));
     }
-    read(state, field)
+    Ok(read(state, field))
 }
 
 /// What a field takes.
@@ -164,10 +170,11 @@ fn field_want<'a>(field: Option<&'a LinkedField>) -> Want<'a>
 
 /// Writes a field.
 fn act_write(state: &mut State, linked: &Linked, class: u32, field: u32) -> Result<Stepped, Memory>
-    requires { state.old.frame.place < 2 ^ 32 - 1 }
+    requires { state.old.machine.frame.place < 2 ^ 32 - 1 }
     ensures ok { IfOk result (λ s. (me : ℕ) → Plays (λ q. model.act (classes_of linked.now.classes.items) q (state_of state.old) me
         (actions.Write class field)) (state_of state.old) (state_of state.new) s) }
     ensures err { OnErr result (state_of state.new ≡ state_of state.old) }
+    ensures steady { OnErr result (true ≡ false) }
 {
     let value = field_want(field_at(linked, class, field));
     let takes = [object(linked, class), value];
@@ -184,7 +191,7 @@ fn act_make(
     linked: &Linked,
     class: u32,
 ) -> Result<Stepped, Memory>
-    requires { state.old.frame.place < 2 ^ 32 - 1 }
+    requires { state.old.machine.frame.place < 2 ^ 32 - 1 }
     ensures ok { IfOk result (λ s. (me : ℕ) → Plays (λ q. model.act (classes_of linked.now.classes.items) q (state_of state.old) me
         (actions.Make class)) (state_of state.old) (state_of state.new) s) }
     ensures err { OnErr result (state_of state.new ≡ state_of state.old) }
@@ -204,8 +211,9 @@ fn named<'a>(name: &'a str) -> Want<'a>
 
 /// What is wrong with the use of a member of a built-in class.
 pub(crate) fn check_built(linked: &Linked, state: &State, built: Built) -> Option<BadKind>
-    ensures { result ≡ tests.wrong (classes_of linked.now.classes.items)
+    ensures wrong { result ≡ tests.wrong (classes_of linked.now.classes.items)
         (tests.needs (classes_of linked.now.classes.items) (state_of state.now) (actions.Use built)) (state_of state.now) }
+    ensures small { tests.max_stack_in (tests.method_of_frame (classes_of linked.now.classes.items) (state_of state.now).frame) ≤ most }
 {
     match built {
         Built::Init => check(linked, state, &[named("java/lang/Object")], 0),
@@ -235,7 +243,7 @@ fn act_built(
     me: u32,
     built: Built,
 ) -> Result<Stepped, Memory>
-    requires { state.old.frame.place < 2 ^ 32 - 1 }
+    requires { state.old.machine.frame.place < 2 ^ 32 - 1 }
     ensures ok { IfOk result (λ s. Does (model.act (classes_of linked.now.classes.items) ports.old (state_of state.old) me
         (actions.Use built)) (state_of state.old) ports.old (state_of state.new) ports.new s) }
     ensures err { OnErr result (state_of state.new ≡ state_of state.old) }
@@ -250,17 +258,17 @@ fn act_built(
         Built::Equals => Ok(equals(state)),
         Built::ValueOfInt => show_int(state, alloc),
         Built::ValueOfTruth => show_truth(state, alloc),
-        Built::Out => push_out(state),
+        Built::Out => Ok(push_out(state)),
         Built::Println => print(state, alloc),
         Built::Send => send(state, ports, me, Payload::Nothing),
         Built::SendInt => send(state, ports, me, Payload::Int),
         Built::SendTruth => send(state, ports, me, Payload::Truth),
         Built::SendText => send(state, ports, me, Payload::Text),
-        Built::Look => look(state, alloc, ports, me),
-        Built::Take => take(state, alloc, ports, me, Payload::Nothing),
-        Built::TakeInt => take(state, alloc, ports, me, Payload::Int),
-        Built::TakeTruth => take(state, alloc, ports, me, Payload::Truth),
-        Built::TakeText => take(state, alloc, ports, me, Payload::Text),
+        Built::Look => look(state, ports, me),
+        Built::Take => take(state, ports, me, Payload::Nothing),
+        Built::TakeInt => take(state, ports, me, Payload::Int),
+        Built::TakeTruth => take(state, ports, me, Payload::Truth),
+        Built::TakeText => take(state, ports, me, Payload::Text),
         Built::Refuse => refuse(state, ports, me),
     }
 }
@@ -274,15 +282,16 @@ fn act(
     me: u32,
     action: Action<'_>,
 ) -> Result<Stepped, Memory>
-    requires { state.old.frame.place < 2 ^ 32 - 1 }
+    requires { state.old.machine.frame.place < 2 ^ 32 - 1 }
     ensures ok { IfOk result (λ s. Does (model.act (classes_of linked.now.classes.items) ports.old (state_of state.old) me
         (action_of action.entry)) (state_of state.old) ports.old (state_of state.new) ports.new s) }
     ensures err { OnErr result (state_of state.new ≡ state_of state.old) }
     ensures err_ports { OnErr result (ports.new ≡ ports.old) }
+    ensures steady { OnErr result (is_steady_action (action_of action.entry) ≡ false) }
 {
     match action {
         Action::Plain(plain) => act_plain(state, linked, plain),
-        Action::Return(sort) => return_from(state, linked, sort),
+        Action::Return(sort) => Ok(return_from(state, linked, sort)),
         Action::Read { class, field } => act_read(state, linked, class, field),
         Action::Write { class, field } => act_write(state, linked, class, field),
         Action::Make(class) => act_make(state, alloc, linked, class),
@@ -298,11 +307,12 @@ fn act(
 /// The next instruction.
 pub(crate) fn next_instr<'a>(linked: &'a Linked, state: &State) -> Option<&'a LinkedInstr>
     ensures value { option_map (λ i. instr_of i.now) result ≡ slice_get
-        (model.code_in (tests.method_of_frame (classes_of linked.now.classes.items) (state_of state.now).frame)) state.now.frame.place }
-    ensures place { OnSome result (state.now.frame.place < 2 ^ 32 - 1) }
+        (model.code_in (tests.method_of_frame (classes_of linked.now.classes.items) (state_of state.now).frame))
+        state.now.machine.frame.place }
+    ensures place { OnSome result (state.now.machine.frame.place < 2 ^ 32 - 1) }
 {
-    let method = method_at(linked, state.frame.class, state.frame.method)?;
-    method.code.as_slice().get(state.frame.place as usize)
+    let method = method_at(linked, state.class(), state.method())?;
+    method.code.as_slice().get(state.place() as usize)
 }
 
 /// Takes a step of the role `me`. After an error nothing has changed.
@@ -317,6 +327,7 @@ pub(crate) fn take_step(
         (state_of state.old) ports.old (state_of state.new) ports.new s) }
     ensures err { OnErr result (state_of state.new ≡ state_of state.old) }
     ensures err_ports { OnErr result (ports.new ≡ ports.old) }
+    ensures steady { OnErr result (is_steady (next_action (classes_of linked.now.classes.items) (state_of state.old)) ≡ false) }
 {
     let Some(instr) = next_instr(linked, state) else {
         return Ok(Stepped::Ended(Ending::Bad(BadKind::FellOff)));

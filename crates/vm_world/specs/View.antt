@@ -7,7 +7,7 @@ use Rattle.vm_world.specs.declared.role.State.TheVariants as states
 use Rattle.vm_world.specs.declared.role.Role.{Role}
 
 abbrev pub state_of : State → model.State
-state_of (states.Runs machine) = model.Runs machine
+state_of (states.Runs machine) = model.Runs machine.machine
 state_of (states.Over ending) = model.Over ending
 
 abbrev pub role_of : Role → model.Role

@@ -1,16 +1,17 @@
 -- What judging the words may answer.
 use Rattle.std.specs.Borrow.{Bor}
 use Rattle.std.specs.Fmt.{decimal}
-use Rattle.std.specs.Prelude.{◌≡◌, ◌≢◌, ◌≤◌, ℕ, List, [], ◌∷◌, ◌++◌, All, Contains, map, flat_map, filter, filter_map, Bool, true, false}
-use Rattle.std.specs.Prelude.{◌&&◌, not, ◌==◌, Option, Some, None, IfSome, is_some, option_map, option_to_list, codes, if◌then◌else◌, ⊤}
+use Rattle.std.specs.Prelude.{◌≡◌, ◌≢◌, ◌<◌, ◌≤◌, ◌^◌, ℕ, List, [], ◌∷◌, ◌++◌, All, Contains, map, flat_map, filter, filter_map, Bool, true}
+use Rattle.std.specs.Prelude.{false, ◌&&◌, not, ◌==◌, Option, Some, None, IfSome, is_some, option_map, option_to_list, codes, if◌then◌else◌}
+use Rattle.std.specs.Prelude.{⊤}
 use Rattle.std.specs.List.{IsDistinct, list_any, list_all, slice_split, before_first, after_first}
 use Rattle.std.specs.Str.{bytes_eq}
 use Rattle.mg_words.specs.declared.asked.Asked.{Asked as Kept}
 use Rattle.mg_words.specs.declared.asked.RoleClass.{RoleClass as KeptRole}
 use Rattle.mg_words.specs.Words.{Word, RoleClass, Roles, Alone, Several, role_names, Asked, Command, Translate, Conform, Check, Compile}
-use Rattle.mg_words.specs.Words.{Run, Exec, Refine, Project, IsFileOf, IsSourceName, IsCommand, AreWrong, RunOption, Main, Role, Order}
-use Rattle.mg_words.specs.Words.{Steps, Trace, Out, option_words, IsOption, class_in, role_in, order_in, steps_in, is_trace, folder_in}
-use Rattle.mg_words.specs.Words.{AreOptions}
+use Rattle.mg_words.specs.Words.{Run, Exec, Refine, Project, Load, IsFileOf, IsSourceName, IsCommand, AreWrong, RunOption, Main, Role}
+use Rattle.mg_words.specs.Words.{Order, Steps, Trace, Out, option_words, IsOption, class_in, role_in, order_in, steps_in, is_trace}
+use Rattle.mg_words.specs.Words.{folder_in, AreOptions}
 use Rattle.mg_words.specs.declared.words.Command.{Command as Found}
 use Rattle.mg_words.specs.declared.words.Command.TheVariants as found
 use Rattle.mg_words.specs.declared.words.Judged.{Judged}
@@ -91,6 +92,7 @@ command_of (found.Run asked files) = Run (asked_of asked) files.now
 command_of (found.Exec asked files) = Exec (asked_of asked) files.now
 command_of (found.Refine files) = Refine files.now
 command_of (found.Project folder files) = Project (option_map (λ w. w.now) folder) files.now
+command_of (found.Load branches seed) = Load branches seed
 
 -- the command that runs this, with what is asked for
 abbrev pub made : Input → Asked → (files : List Word) → Command
@@ -129,10 +131,15 @@ IsFirstOther P words None = All P words
 IsFirstOther P words (Some word) =
     (before : List Word) × (after : List Word) × (words ≡ before ++ word ∷ after) × All P before × (P word → ⊥)
 
--- the number of instructions that a word names: decimal, from 1 to 20,000,000
-abbrev pub IsSteps : Word → Option ℕ → Type 0
-IsSteps word (Some n) = (word ≡ decimal n) × (1 ≤ n) × (n ≤ 20000000)
-IsSteps word None = (n : ℕ) → 1 ≤ n → n ≤ 20000000 → word ≡ decimal n → ⊥
+-- the number that a word names: decimal, and below 2 ^ 64
+abbrev pub IsNumber : Word → Option ℕ → Type 0
+IsNumber word (Some n) = (word ≡ decimal n) × (n < 2 ^ 64)
+IsNumber word None = (n : ℕ) → n < 2 ^ 64 → word ≡ decimal n → ⊥
+
+-- the same of a number from 1 to a most
+abbrev pub IsUpTo : (most : ℕ) → Word → Option ℕ → Type 0
+IsUpTo most word (Some n) = (word ≡ decimal n) × (1 ≤ n) × (n ≤ most)
+IsUpTo most word None = (n : ℕ) → 1 ≤ n → n ≤ most → word ≡ decimal n → ⊥
 
 -- a digit other than 0 stands first
 abbrev pub StartsNumber : Word → Type 0

@@ -1,5 +1,5 @@
--- What actions do, by the operands that stand so far from the top. `proofs/Tops.antt` shows that this is what the machine's definitions
--- say.
+-- What actions do, by the operands that stand so far from the top.
+-- `proofs/Tops.antt` shows that this is what the machine's definitions say.
 use Rattle.std.specs.Prelude.{ℕ, ℤ, pos, neg_ℤ, ◌+ℤ◌, Bool, List, [], ◌∷◌, ◌++◌, Option, Some, None}
 use Rattle.mg_text.specs.declared.event.BadKind.TheVariants as bad
 use Rattle.vm_model.specs.declared.value.Value.{Value}

@@ -1,5 +1,5 @@
 -- What the members of `Session` do, by the operands that stand so far from the top and the first message on its way.
-use Rattle.std.specs.Prelude.{ℕ, List, [], ◌∷◌, ◌++◌, drop, slice_get, Option, Some, None, if◌then◌else◌, option_map, option_to_list}
+use Rattle.std.specs.Prelude.{ℕ, List, [], ◌∷◌, ◌++◌, drop, slice_get, Option, Some, None, if◌then◌else◌, option_map}
 use Rattle.std.specs.Str.{bytes_eq}
 use Rattle.mg_text.specs.Call.{Name}
 use Rattle.mg_text.specs.declared.event.Sent.{Sent}
@@ -11,12 +11,10 @@ use Rattle.vm_model.specs.declared.value.Value.{Value}
 use Rattle.vm_model.specs.declared.value.Value.TheVariants as values
 use Rattle.vm_model.specs.Messages.{Messages, on_way, role_named}
 use Rattle.vm_model.specs.Machine.{Machine, Stepped, Waits, Stops}
-use Rattle.vm_model.specs.Step.{next, tells, is_true, other_role, sends, taken_as, takes_first, refuses_from, Payload, NoPayload}
+use Rattle.vm_model.specs.Step.{next, tells, is_true, truth, other_role, sends, taken_as, takes_first, refuses_from, Payload, NoPayload}
 use Rattle.vm_model.specs.Step.{IntPayload, TruthPayload, TextPayload}
 use Rattle.vm_step.specs.declared.session.Payload.{Payload as Kept}
 use Rattle.vm_step.specs.declared.session.Payload.TheVariants as kept
-use Rattle.vm_step.specs.declared.state.Cell.{Cell}
-use Rattle.vm_step.specs.State.{value_of}
 use Rattle.vm_step.specs.inner.Tops.{int_in, text_in}
 
 abbrev pub payload_of : Kept → Payload
@@ -53,9 +51,12 @@ abbrev pub looks_by : Messages → Machine → ℕ → List Value → Option Nam
 looks_by q m me rest None = Stops endings.Null
 looks_by q m me rest (Some peer) = looks_role q m me rest peer (other_role me (role_named q peer))
 
--- what a taken message pushes
-abbrev pub given_of : Option (Option Cell) → Option (List Value)
-given_of given = option_map (λ o. option_to_list (option_map value_of o)) given
+-- what a message that is taken pushes
+abbrev pub pushed_of : Carried → List Value
+pushed_of carried.Nothing = []
+pushed_of (carried.Int x) = values.Int x ∷ []
+pushed_of (carried.Truth b) = truth b ∷ []
+pushed_of (carried.Text text) = values.Text text ∷ []
 
 abbrev pub taken_where : Payload → Name → Sent → Option (List Value)
 taken_where carries label message = if bytes_eq message.label label then taken_as carries message.payload else None

@@ -2,11 +2,6 @@
 use Rattle.std.specs.Prelude.{ℕ, ◌+◌, ◌-◌, ℤ, List, length, slice_get, Option, Some, None}
 use Rattle.vm_model.specs.declared.value.Value.{Value}
 use Rattle.vm_model.specs.declared.value.Value.TheVariants as values
-use Rattle.vm_step.specs.declared.state.State.{State}
-use Rattle.vm_step.specs.State.{values_of}
-
-abbrev pub operands_of : State → List Value
-operands_of s = values_of s.frame.operands.items
 
 -- the element so many below the last
 abbrev pub at_top : {A : Type 0} → List A → ℕ → Option A

@@ -1,4 +1,4 @@
-use Rattle.std.proofs.Common.{◌≡◌, ◌∙◌, length, option_map, subst, sym}
+use Rattle.std.proofs.Common.{◌≡◌, ◌∙◌, length, option_map, subst, sym, arith}
 use Rattle.mg_words.specs.declared.words.Command.{Command}
 use Rattle.mg_words.specs.Words.{files_of, IsCommand}
 use Rattle.mg_words.specs.inner.Judging.{command_of, asked_of}
@@ -6,6 +6,7 @@ use Rattle.mg_words.proofs.LawLemmas.{asked_of_run, asked_of_exec}
 use Rattle.mg_words.proofs.WordsLemmas.{kinds_of, kinds_of_classes, kinds_of_run, protocols_of, protocol_of_two}
 use Rattle.mg_words.proofs.RefineLemmas.{two_files, kinds_of_two}
 use Rattle.mg_words.proofs.ProjectLemmas.{one_file}
+use Rattle.mg_words.proofs.LoadLemmas.{workload_of}
 use Rattle.mg_top.proofs.top.carry_out.Goals as goal
 
 pub translate-requires-clause-scribble : goal.translate-requires-clause-scribble
@@ -77,3 +78,16 @@ project-requires-clause-same c =
     sym (subst (λ (z : Command). length (files_of (command_of z)) ≡ length c.args.contents.now) c.in-Project.is c.requires.same)
     ∙ one_file known.0 (option_map (λ w. w.now) c.in-Project.folder) c.in-Project.files.now
     (subst (λ (z : Command). IsCommand (command_of z) known.0) c.in-Project.is known.1)
+
+pub load-requires-clause-some : goal.load-requires-clause-some
+load-requires-clause-some c =
+    let known = c.requires.known in
+    let is = subst (λ (z : Command). IsCommand (command_of z) known.0) c.in-Load.is known.1 in
+    let some = (workload_of known.0 c.in-Load.branches c.in-Load.seed is).some in
+    omega arith
+
+pub load-requires-clause-most : goal.load-requires-clause-most
+load-requires-clause-most c =
+    let known = c.requires.known in
+    (workload_of known.0 c.in-Load.branches c.in-Load.seed
+    (subst (λ (z : Command). IsCommand (command_of z) known.0) c.in-Load.is known.1)).most

@@ -20,10 +20,10 @@ taken_by method = params_in (signature_of (descriptor_in (option_map (λ m. meth
 pub returns-in-Some : goal.returns-in-Some
 returns-in-Some c =
     let m = c.in-Some.method.now in
-    appended c.add_params.result (wants_of c.add_params.new.takes.items) (wants_of c.args.takes.now.items) _ (taken_by c.args.method)
-    c.add_params.ensures
-    (ap (map type_kept) c.as_slice.ensures.items ∙ params_are m.params.items (signature_of m.descriptor) m.takes ∙
-    sym (ap taken_by c.in-Some.is))
+    appended c.add_params.result (wants_of c.add_params.new.takes.items) (wants_of c.args.takes.now.items) _
+    (taken_by c.args.method) c.add_params.ensures
+    (ap (map type_kept) c.as_slice.ensures.items ∙ params_are m.params.items (signature_of m.descriptor) m.takes
+    ∙ sym (ap taken_by c.in-Some.is))
 
 pub returns-in-None : goal.returns-in-None
 returns-in-None c =

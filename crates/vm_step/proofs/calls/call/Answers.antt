@@ -1,4 +1,4 @@
-use Rattle.std.proofs.Common.{◌≡◌, ◌∙◌, length, ap, sym, refl}
+use Rattle.std.proofs.Common.{◌≡◌, ◌∙◌, length, ap, sym, refl, arith}
 use Rattle.std.proofs.lemmas.List.{length-map}
 use Rattle.vm_model.specs.View.{classes_of}
 use Rattle.vm_model.specs.Program.{method_at}
@@ -7,7 +7,7 @@ use Rattle.vm_model.specs.Tests.{Needs, needs, wrong, call_takes}
 use Rattle.vm_step.specs.State.{state_of}
 use Rattle.vm_step.specs.Table.{calling_of}
 use Rattle.vm_step.specs.Needing.{want_of, needs_of}
-use Rattle.vm_step.proofs.Acts.{act_wrong, plays_for}
+use Rattle.vm_step.proofs.Acts.{act_wrong, plays_for, room_in}
 use Rattle.vm_step.proofs.Whole.{call_is}
 use Rattle.vm_step.proofs.calls.call.Goals as goal
 
@@ -37,3 +37,16 @@ returns-clause-ok c =
     (λ me q. call_is p q m me (calling_of c.args.calling) c.args.class c.args.method c.len.result count
     (sym c.in_default.is ∙ c.wrong.ensures ∙ ap (λ (n : Needs). wrong p n m) same))
     c.call_tested.ensures.ok
+
+pub call_tested-requires-clause-locals : goal.call_tested-requires-clause-locals
+call_tested-requires-clause-locals c =
+    let p = classes_of c.args.linked.now.classes.items in
+    let m = state_of c.args.state.now in
+    let same : needs_of c.call_needs-needs.result ≡ needs p m (Call (calling_of c.args.calling) c.args.class c.args.method) =
+    rw (c.as_slice.ensures.value, c.in_ok-takes.ensures, c.method_at.ensures) at c.call_needs-needs.ensures in
+    let right = room_in p (needs p m (Call (calling_of c.args.calling) c.args.class c.args.method)) m
+    (sym c.in_default.is ∙ c.wrong.ensures ∙ ap (λ (n : Needs). wrong p n m) same) in
+    let count : length (call_takes p (calling_of c.args.calling) c.args.class (method_at p c.args.class c.args.method)) ≡ c.len.result =
+    ap length (sym c.in_ok-takes.ensures) ∙ length-map c.in_ok-takes.takes.items want_of ∙ sym
+    (c.len.ensures ∙ c.in_ok-takes.takes.ok.0) in
+    omega (arith, right.0, count)

@@ -3,8 +3,7 @@ use Rattle.vm_model.specs.View.{classes_of}
 use Rattle.vm_model.specs.Actions.{Telling, Silent}
 use Rattle.vm_model.specs.Tests.{below}
 use Rattle.vm_model.specs.Step as model
-use Rattle.vm_step.specs.State.{state_of}
-use Rattle.vm_step.specs.inner.Tops.{operands_of}
+use Rattle.vm_step.specs.State.{state_of, operands_of}
 use Rattle.vm_step.specs.inner.Calls.{calls_by}
 use Rattle.vm_step.proofs.Acts.{plays_same, by_head}
 use Rattle.vm_step.proofs.Cases.{telling_cases, silent_cases}

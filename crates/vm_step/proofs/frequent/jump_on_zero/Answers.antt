@@ -1,26 +1,19 @@
-use Rattle.std.proofs.Common.{◌≡◌, ℕ, ◌+◌, ◌++◌, ◌∷◌, [], Bool, List, Option, Some, arith, refl, sym, ap, ◌∙◌, pos, set, slice_get}
-use Rattle.std.specs.Prelude.{if◌then◌else◌}
-use Rattle.vm_model.specs.declared.value.Value.{Value}
-use Rattle.vm_model.specs.declared.value.Value.TheVariants as values
-use Rattle.vm_model.specs.Machine.{Machine}
-use Rattle.vm_model.specs.Actions.{Push, Load, Double, Reference}
-use Rattle.vm_model.specs.Tests.{below, is_null}
-use Rattle.vm_model.specs.Arithmetic.{compares}
-use Rattle.vm_model.specs.Step.{next, at_place, same_truth}
-use Rattle.vm_step.specs.State.{value_of, values_of, locals_of, state_of}
-use Rattle.vm_step.specs.Table.{sort_of, constant_of, operation_of, comparison_of}
-use Rattle.vm_step.specs.inner.Tops.{operands_of}
-use Rattle.std.proofs.Common.{to_z, of_z}
+use Rattle.std.proofs.Common.{◌≡◌, ◌+◌, Bool, arith, sym, ap, ◌∙◌, pos, to_z}
+use Rattle.std.proofs.Common.{of_z}
 use Rattle.std.proofs.lemmas.Int.{to_z-of_z}
+use Rattle.std.specs.Prelude.{if◌then◌else◌}
 use mir.Syntax.{w32}
+use Rattle.vm_model.specs.Arithmetic.{compares}
+use Rattle.vm_step.specs.State.{state_of}
+use Rattle.vm_step.specs.Table.{comparison_of}
 use Rattle.vm_step.proofs.Ready.{if_zero_alone}
 use Rattle.vm_step.proofs.frequent.jump_on_zero.Goals as goal
 
 pub returns : goal.returns
 returns c =
     let e : to_z w32 (of_z w32 c.in-Some.x) ≡ c.in-Some.x = grind (arith, to_z-of_z) in
-    if_zero_alone c.args.max (state_of c.args.state.now) (state_of c.drop_one.new.state) (omega arith) c.in-Some.x
+    if_zero_alone c.args.max (state_of c.args.state.now) (state_of c.drop.new.self) (omega arith) c.in-Some.x
     (sym c.in-Some.is ∙ c.int_at.ensures)
     (comparison_of c.args.comparison) c.args.target c.place_after-place.result (omega arith)
-    (c.place_after-place.ensures ∙ ap (λ (b : Bool). if b then c.args.target else c.args.state.now.frame.place + 1)
-    (c.compares.ensures ∙ ap (λ z. compares (comparison_of c.args.comparison) z (pos 0)) e)) c.drop_one.ensures
+    (c.place_after-place.ensures ∙ ap (λ (b : Bool). if b then c.args.target else (state_of c.args.state.now).frame.place + 1)
+    (c.compares.ensures ∙ ap (λ x. compares (comparison_of c.args.comparison) x (pos 0)) e)) c.drop.ensures.machine

@@ -1,27 +1,22 @@
-use Rattle.std.proofs.Common.{◌≡◌, ℕ, ◌+◌, ◌++◌, ◌∷◌, [], Bool, List, Option, Some, arith, refl, sym, ap, ◌∙◌, pos, set, slice_get}
-use Rattle.std.specs.Prelude.{if◌then◌else◌}
-use Rattle.vm_model.specs.declared.value.Value.{Value}
+use Rattle.std.proofs.Common.{◌≡◌, ◌+◌, ◌++◌, ◌∷◌, [], arith, sym, ap, ◌∙◌, to_z}
+use Rattle.std.proofs.Common.{of_z}
+use Rattle.std.proofs.lemmas.Int.{to_z-of_z}
+use Rattle.std.specs.Prelude.{neg_ℤ}
+use mir.Syntax.{w32}
 use Rattle.vm_model.specs.declared.value.Value.TheVariants as values
 use Rattle.vm_model.specs.Machine.{Machine}
-use Rattle.vm_model.specs.Actions.{Push, Load, Double, Reference}
-use Rattle.vm_model.specs.Tests.{below, is_null}
-use Rattle.std.specs.Prelude.{neg_ℤ}
+use Rattle.vm_model.specs.Tests.{below}
 use Rattle.vm_model.specs.Arithmetic.{wrap}
-use Rattle.vm_model.specs.Step.{next, at_place, same_truth}
-use Rattle.vm_step.specs.State.{value_of, values_of, locals_of, state_of}
-use Rattle.vm_step.specs.Table.{sort_of, constant_of, operation_of, comparison_of}
-use Rattle.vm_step.specs.inner.Tops.{operands_of}
-use Rattle.std.proofs.Common.{to_z, of_z}
-use Rattle.std.proofs.lemmas.Int.{to_z-of_z}
-use mir.Syntax.{w32}
+use Rattle.vm_model.specs.Step.{at_place}
+use Rattle.vm_step.specs.State.{state_of}
 use Rattle.vm_step.proofs.Ready.{negate_alone}
 use Rattle.vm_step.proofs.frequent.negate.Goals as goal
 
 pub returns : goal.returns
 returns c =
+    let m : Machine = state_of c.args.state.now in
     let e : to_z w32 (of_z w32 c.in-Some.x) ≡ c.in-Some.x = grind (arith, to_z-of_z) in
     let g : to_z w32 (of_z w32 c.negated.result) ≡ c.negated.result = grind (arith, to_z-of_z) in
-    negate_alone c.args.max (state_of c.args.state.now) (state_of c.put_int.new.state) (omega arith) c.in-Some.x
-    (sym c.in-Some.is ∙ c.int_at.ensures) (omega arith)
-    (c.put_int.ensures ∙ ap (λ z. next (state_of c.args.state.now) (below 1 (operands_of c.args.state.now) ++ values.Int z ∷ []))
-    (g ∙ c.negated.ensures ∙ ap (λ z. wrap (neg_ℤ z)) e))
+    negate_alone c.args.max m (state_of c.put.new.self) (omega arith) c.in-Some.x (sym c.in-Some.is ∙ c.int_at.ensures) (omega arith)
+    (c.put.ensures.machine ∙ (λ i. at_place m (c.place-place.ensures i + 1)
+    (below 1 m.frame.operands ++ values.Int ((g ∙ c.negated.ensures ∙ ap (λ z. wrap (neg_ℤ z)) e) i) ∷ [])))

@@ -5,5 +5,5 @@ use Rattle.vm_step.proofs.frequent.steps_alone.Given as goal
 
 abbrev pub invariant-loop-taken : goal.invariant-loop-taken
 invariant-loop-taken l =
-    AllAlone (classes_of l.linked.classes.items) (state_of l.fn.state) l.taken (state_of l.state) × SameMethod (state_of l.fn.state)
-    (state_of l.state)
+    AllAlone (classes_of l.linked.classes.items) (state_of l.fn.state) l.taken (state_of l.state) ×
+    SameMethod (state_of l.fn.state) (state_of l.state)

@@ -1,27 +1,31 @@
-use Rattle.std.proofs.Common.{◌<◌, length, arith}
+use Rattle.std.proofs.Common.{◌≡◌, ◌-◌, ◌∙◌, length, slice_get, Some}
 use Rattle.vm_model.specs.Tests as model
 use Rattle.vm_model.specs.View.{classes_of}
-use Rattle.vm_step.specs.State.{objects_of}
-use Rattle.vm_step.proofs.Testing.{found_more, found_all}
+use Rattle.vm_frames.specs.Seen.{value_in}
+use Rattle.vm_step.specs.State.{state_of, operands_of}
+use Rattle.vm_step.proofs.Testing.{found_more, found_all, taken_at}
 use Rattle.vm_step.proofs.needs.misfits.Goals as goal
 
 pub loop-at-preserved : goal.loop-at-preserved
 loop-at-preserved c =
-    let within : c.loop-at.at < length c.args.top.now = omega (arith, c.requires) in
+    let tops = model.on_top (length c.args.takes.now) (operands_of c.args.state.now) in
+    let v = value_in c.args.state.now.texts c.operand-cell.result in
+    let there : slice_get tops c.loop-at.at ≡ Some v =
+    taken_at (operands_of c.args.state.now) (length c.args.takes.now) c.loop-at.at c.loop-at-test.true c.requires
+    ∙ c.operand-cell.ensures.value in
     record {
-      kind = found_more (classes_of c.args.linked.now.classes.items) (objects_of c.args.heap.now) model.is_kind c.args.takes.now
-          c.args.top.now c.loop-at.at _ c.index-top-at.result
-          _ _ _ c.loop-at-test.true within c.index-top-at.is (rw c.misfit.ensures at c.noted-found.ensures.kind) c.loop-at.invariant.kind;
-      member = found_more (classes_of c.args.linked.now.classes.items) (objects_of c.args.heap.now) model.is_member c.args.takes.now
-          c.args.top.now c.loop-at.at _ c.index-top-at.result
-          _ _ _ c.loop-at-test.true within c.index-top-at.is (rw c.misfit.ensures at c.noted-found.ensures.member)
-          c.loop-at.invariant.member;
+      kind = found_more (classes_of c.args.linked.now.classes.items) (state_of c.args.state.now).heap model.is_kind c.args.takes.now tops
+          c.loop-at.at _ v _ _ _ c.loop-at-test.true there (rw c.misfit.ensures at c.noted-found.ensures.kind) c.loop-at.invariant.kind;
+      member = found_more (classes_of c.args.linked.now.classes.items)
+          (state_of c.args.state.now).heap model.is_member c.args.takes.now tops
+          c.loop-at.at _ v _ _ _ c.loop-at-test.true there (rw c.misfit.ensures at c.noted-found.ensures.member) c.loop-at.invariant.member;
     }
 
 pub returns : goal.returns
-returns c = record {
-  kind = found_all (classes_of c.args.linked.now.classes.items) (objects_of c.args.heap.now) model.is_kind c.args.takes.now
-      c.args.top.now c.loop-at.at _ _ c.loop-at-test.false c.loop-at.invariant.kind;
-  member = found_all (classes_of c.args.linked.now.classes.items) (objects_of c.args.heap.now) model.is_member c.args.takes.now
-      c.args.top.now c.loop-at.at _ _ c.loop-at-test.false c.loop-at.invariant.member;
-}
+returns c =
+    let tops = model.on_top (length c.args.takes.now) (operands_of c.args.state.now) in record {
+      kind = found_all (classes_of c.args.linked.now.classes.items) (state_of c.args.state.now).heap model.is_kind c.args.takes.now tops
+          c.loop-at.at _ _ c.loop-at-test.false c.loop-at.invariant.kind;
+      member = found_all (classes_of c.args.linked.now.classes.items) (state_of c.args.state.now).heap model.is_member c.args.takes.now tops
+          c.loop-at.at _ _ c.loop-at-test.false c.loop-at.invariant.member;
+    }

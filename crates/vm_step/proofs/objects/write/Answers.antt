@@ -1,39 +1,25 @@
-use Rattle.std.proofs.Common.{◌≡◌, ◌∙◌, ◌<◌, List, Some, length, set, slice_get, ap, sym, refl, arith}
-use Rattle.std.specs.Option.{option_map}
-use Rattle.std.proofs.lemmas.List.{map-set}
-use Rattle.std.proofs.lemmas.Option.{slice_get-map, slice_get_read}
-use Rattle.vm_model.specs.declared.value.Value.{Value}
-use Rattle.vm_model.specs.Machine.{Object}
+use Rattle.std.proofs.Common.{◌≡◌, ◌+◌, ◌∙◌, Some, set, slice_get, ap, sym}
+use Rattle.vm_model.specs.Machine.{Machine}
 use Rattle.vm_model.specs.Tests.{below}
-use Rattle.vm_model.specs.Step.{next}
-use Rattle.vm_step.specs.State.{value_of, values_of, object_of, objects_of, state_of}
-use Rattle.vm_step.specs.inner.Tops.{operands_of}
-use Rattle.vm_step.proofs.Acts.{below_below}
+use Rattle.vm_model.specs.Step.{at_place}
+use Rattle.vm_frames.specs.Seen.{value_in}
+use Rattle.vm_frames.specs.Frames.{with_field}
+use Rattle.vm_step.specs.State.{state_of, operands_of}
+use Rattle.vm_step.proofs.Calling.{has_object}
 use Rattle.vm_step.proofs.Frames.{writes_is}
 use Rattle.vm_step.proofs.objects.write.Goals as goal
 
 pub returns : goal.returns
 returns c =
-    let m = state_of c.args.state.now in
-    let vs = operands_of c.args.state.now in
+    let m : Machine = state_of c.args.state.now in
     let n = c.in-Object.number in
-    let o = object_of c.index_mut.result.now in
-    let v = value_of c.in-Some.cell in
-    let within : n < length c.args.state.now.heap.items = omega (arith, c.if-number-len.false, c.len.ensures, c.args.state.now.heap.ok.0) in
-    let left : below 1 (values_of c.take_top.new.operands.items) ≡ below 2 vs = ap (below 1) c.take_top.ensures.rest ∙ below_below vs in
-    let found : slice_get m.heap n ≡ Some o =
-    slice_get-map object_of c.args.state.now.heap.items n
-    ∙ ap (option_map object_of) (slice_get_read c.args.state.now.heap.items (length c.args.state.now.heap.items) n
-    c.index_mut.result.now refl within c.index_mut.ensures.value) in
-    let heap : objects_of (set c.args.state.now.heap.items n c.set_field.new.object) ≡ set m.heap n
-    (record o { fields = set o.fields c.args.field v }) =
-    map-set object_of c.args.state.now.heap.items n c.set_field.new.object ∙ ap (set m.heap n) c.set_field.ensures in
-    let new : state_of c.settle.new.state ≡ next (record m {
-      heap = set m.heap n (record o { fields = set o.fields c.args.field v });
-    }) (below 2 vs) =
-    c.settle.ensures
-    ∙ ap (λ (l : List Value). next (record m { heap = objects_of (set c.args.state.now.heap.items n c.set_field.new.object) }) l) left
-    ∙ ap (λ (h : List Object). next (record m { heap = h }) (below 2 vs)) heap in
-    λ q. writes_is q m (state_of c.settle.new.state) vs c.args.field n v o
-    (c.operand.ensures ∙ ap (λ x. Some (value_of x)) c.in-Object.is)
-    (sym (ap (option_map value_of) c.in-Some.is) ∙ c.take_top.ensures.top) found new
+    let v = value_in c.args.state.now.texts c.operand-cell.result in
+    let has = has_object (slice_get m.heap n) c.in-Some._class (sym c.in-Some.is ∙ c.class_of_object.ensures) in
+    let written : state_of c.set_field.new.self
+    ≡ record m { heap = set m.heap n (record has.0 { fields = set has.0.fields c.args.field v }) } =
+    c.set_field.ensures.machine ∙ ap (λ r. record m { heap = with_field m.heap n c.args.field v r }) has.1 in
+    λ q. writes_is q m (state_of c.drop.new.self) (operands_of c.args.state.now) c.args.field n v has.0
+    (c.operand.ensures.value ∙ ap (λ x. Some (value_in c.args.state.now.texts x)) c.in-Object.is) (sym c.operand-cell.ensures.value) has.1
+    (c.drop.ensures.machine
+    ∙ (λ i. at_place (written i) ((c.place-place.ensures ∙ ap (λ (k : Machine). k.frame.place) written) i + 1)
+    (below 2 (written i).frame.operands)))

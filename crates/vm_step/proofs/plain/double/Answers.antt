@@ -1,9 +1,13 @@
-use Rattle.vm_step.specs.State.{state_of}
-use Rattle.vm_step.specs.inner.Tops.{operands_of}
+use Rattle.std.proofs.Common.{◌+◌, ◌++◌, ◌∷◌, [], ◌∙◌, refl}
+use Rattle.vm_model.specs.Step.{at_place}
+use Rattle.vm_frames.specs.Seen.{value_in}
+use Rattle.vm_step.specs.State.{state_of, operands_of}
 use Rattle.vm_step.proofs.Tops.{doubles}
 use Rattle.vm_step.proofs.plain.double.Goals as goal
 
-pub returns-clause-ok : goal.returns-clause-ok
-returns-clause-ok c = λ q.
-    doubles q (state_of c.args.state.now) (state_of c.push.new.state) (operands_of c.args.state.now) _ _ c.operand.ensures
-    c.in_ok-cell.ensures c.in_ok-push.ensures.ok
+pub returns : goal.returns
+returns c =
+    let m = state_of c.args.state.now in
+    let v = value_in c.args.state.now.texts c.operand-cell.result in λ q.
+    doubles q m (state_of c.push.new.self) (operands_of c.args.state.now) v v c.operand-cell.ensures.value refl
+    (c.push.ensures.machine ∙ (λ i. at_place m (c.place-place.ensures i + 1) (m.frame.operands ++ v ∷ [])))

@@ -13,7 +13,7 @@ use Rattle.vm_step.proofs.step.act_write.Goals as goal
 pub returns-in-Some-clause-ok : goal.returns-in-Some-clause-ok
 returns-in-Some-clause-ok c = λ me q. (
   act_wrong (classes_of c.args.linked.now.classes.items) q (state_of c.args.state.now) me
-      (actions.Write c.args.class c.args.field) c.in-Some.kind (sym c.in-Some.is ∙ c.check.ensures
+      (actions.Write c.args.class c.args.field) c.in-Some.kind (sym c.in-Some.is ∙ c.check.ensures.wrong
       ∙ ap (λ (w : Want). wrong (classes_of c.args.linked.now.classes.items)
       (taking (classes_of c.args.linked.now.classes.items) (state_of c.args.state.now) (w ∷ want_of c.field_want-value.result ∷ []) 0)
       (state_of c.args.state.now)) c.object.ensures
@@ -29,7 +29,7 @@ pub returns-clause-ok : goal.returns-clause-ok
 returns-clause-ok c =
     plays_for (state_of c.args.state.now) (state_of c.write.new.state) (Ok c.write.result) _ _
     (λ me q. write_is (classes_of c.args.linked.now.classes.items) q (state_of c.args.state.now) me c.args.class c.args.field
-    (sym c.in_default.is ∙ c.check.ensures
+    (sym c.in_default.is ∙ c.check.ensures.wrong
     ∙ ap (λ (w : Want). wrong (classes_of c.args.linked.now.classes.items)
     (taking (classes_of c.args.linked.now.classes.items) (state_of c.args.state.now) (w ∷ want_of c.field_want-value.result ∷ []) 0)
     (state_of c.args.state.now)) c.object.ensures

@@ -3,9 +3,9 @@ use Rattle.vm_model.specs.View.{classes_of}
 use Rattle.vm_model.specs.Actions.{Use}
 use Rattle.vm_model.specs.Tests.{below}
 use Rattle.vm_model.specs.Step as model
-use Rattle.vm_step.specs.State.{state_of}
+use Rattle.vm_step.specs.State.{state_of, operands_of}
 use Rattle.vm_step.specs.Doing.{waits_in}
-use Rattle.vm_step.specs.inner.Tops.{operands_of, at_top, text_in}
+use Rattle.vm_step.specs.inner.Tops.{at_top, text_in}
 use Rattle.vm_step.proofs.Acts.{act_wrong}
 use Rattle.vm_step.proofs.Whole.{look_is, take_is, take_int_is, take_truth_is, take_text_is}
 use Rattle.vm_step.proofs.Waiting.{rests}
@@ -15,7 +15,7 @@ use Rattle.vm_step.proofs.waits.built_waits.Goals as goal
 pub returns-in-Some : goal.returns-in-Some
 returns-in-Some c =
     sym (ap waits_in (act_wrong (classes_of c.args.linked.now.classes.items) c.args.ports.now (state_of c.args.state.now) c.args.me
-    (Use c.args.built) c.in-Some._kind (sym c.in-Some.is ∙ c.check_built.ensures)))
+    (Use c.args.built) c.in-Some._kind (sym c.in-Some.is ∙ c.check_built.ensures.wrong)))
 
 pub returns-in-Look : goal.returns-in-Look
 returns-in-Look c =
@@ -25,7 +25,7 @@ returns-in-Look c =
     (text_in (at_top (operands_of c.args.state.now) 0))
     ∙ ap waits_in
     (sym (look_is (classes_of c.args.linked.now.classes.items) c.args.ports.now (state_of c.args.state.now) c.args.me
-    (rw c.in-Look.is at (sym c.in_default.is ∙ c.check_built.ensures)))))
+    (rw c.in-Look.is at (sym c.in_default.is ∙ c.check_built.ensures.wrong)))))
 
 pub returns-in-Take : goal.returns-in-Take
 returns-in-Take c =
@@ -36,7 +36,7 @@ returns-in-Take c =
     (text_in (at_top (operands_of c.args.state.now) 0))
     ∙ ap waits_in
     (sym (take_is (classes_of c.args.linked.now.classes.items) c.args.ports.now (state_of c.args.state.now) c.args.me
-    (rw c.in-Take.is at (sym c.in_default.is ∙ c.check_built.ensures)))))
+    (rw c.in-Take.is at (sym c.in_default.is ∙ c.check_built.ensures.wrong)))))
 
 pub returns-in-TakeInt : goal.returns-in-TakeInt
 returns-in-TakeInt c =
@@ -47,7 +47,7 @@ returns-in-TakeInt c =
     (text_in (at_top (operands_of c.args.state.now) 0))
     ∙ ap waits_in
     (sym (take_int_is (classes_of c.args.linked.now.classes.items) c.args.ports.now (state_of c.args.state.now) c.args.me
-    (rw c.in-TakeInt.is at (sym c.in_default.is ∙ c.check_built.ensures)))))
+    (rw c.in-TakeInt.is at (sym c.in_default.is ∙ c.check_built.ensures.wrong)))))
 
 pub returns-in-TakeTruth : goal.returns-in-TakeTruth
 returns-in-TakeTruth c =
@@ -58,7 +58,7 @@ returns-in-TakeTruth c =
     (text_in (at_top (operands_of c.args.state.now) 0))
     ∙ ap waits_in
     (sym (take_truth_is (classes_of c.args.linked.now.classes.items) c.args.ports.now (state_of c.args.state.now) c.args.me
-    (rw c.in-TakeTruth.is at (sym c.in_default.is ∙ c.check_built.ensures)))))
+    (rw c.in-TakeTruth.is at (sym c.in_default.is ∙ c.check_built.ensures.wrong)))))
 
 pub returns-in-TakeText : goal.returns-in-TakeText
 returns-in-TakeText c =
@@ -69,7 +69,7 @@ returns-in-TakeText c =
     (text_in (at_top (operands_of c.args.state.now) 0))
     ∙ ap waits_in
     (sym (take_text_is (classes_of c.args.linked.now.classes.items) c.args.ports.now (state_of c.args.state.now) c.args.me
-    (rw c.in-TakeText.is at (sym c.in_default.is ∙ c.check_built.ensures)))))
+    (rw c.in-TakeText.is at (sym c.in_default.is ∙ c.check_built.ensures.wrong)))))
 
 pub returns-in_default-built : goal.returns-in_default-built
 returns-in_default-built c =

@@ -7,8 +7,8 @@ use Rattle.vm_world.proofs.world.begun.Goals as goal
 
 pub loop-main-preserved : goal.loop-main-preserved
 loop-main-preserved c =
-    let start = subst (λ (n : Name). IsStart (classes_of c.args.linked.now.classes.items) n c.in_ok-machine.machine) c.as_str.ensures
-    c.in_ok-machine.ensures in (
+    let start = subst (λ (n : Name). IsStart (classes_of c.args.linked.now.classes.items) n c.in_ok-machine.machine.machine)
+    c.as_str.ensures c.in_ok-machine.ensures in (
       ap length c.in_ok-push.ensures.items ∙ length-append c.loop-main.roles.items _ ∙ ap (λ n. n + 1) c.loop-main.invariant.0,
       next_begun (classes_of c.args.linked.now.classes.items) c.args.mains.now c.loop-main.roles.items c.push.new.self.items
           c.loop-main.main-index

@@ -1,0 +1,4 @@
+pub mod Splits
+pub mod Running
+pub mod Typed
+pub mod Fitting

@@ -1,0 +1,262 @@
+-- What is joined is raised, or it stays the same.
+use Rattle.std.proofs.Common.{◌≡◌, ℕ, ◌+◌, ◌<◌, ◌≤◌, Bool, true, false, not, ◌||◌, List, [], ◌∷◌, ◌++◌, length, get_or, take, drop, reverse}
+use Rattle.std.proofs.Common.{refl, sym, ap, ap₂, ◌∙◌, arith}
+use Rattle.std.specs.Prelude.{if◌then◌else◌, ◌==◌, nat_eq}
+use Rattle.std.proofs.lemmas.Bool.Decides.{nat_tests}
+use Rattle.std.proofs.lemmas.List.{append_assoc, append-nil, length_push, drop_more, drop_all, take_more, reverse-append}
+use Rattle.cls_kinds.specs.declared.kind.Kind.{Kind}
+use Rattle.cls_kinds.specs.Numbers.{is_plain, joined_number, joined, joined_all, room_of, room_in, is_raised}
+
+equal_itself : (n : ℕ) → nat_eq n n ≡ true
+equal_itself n = grind (arith, nat_tests)
+
+equal_true : (a b : ℕ) → nat_eq a b ≡ true → a ≡ b
+equal_true a b e = grind (arith, nat_tests)
+
+pub equal_not : (a b : ℕ) → (a ≡ b → ⊥) → nat_eq a b ≡ false
+equal_not a b ne = grind (arith, nat_tests)
+
+pub equal_is : (a b : ℕ) → a ≡ b → nat_eq a b ≡ true
+equal_is a b e = grind (arith, nat_tests)
+
+-- what two kinds are joined to, by how four tests end
+abbrev pub chain : (k l : ℕ) (a b c d : Bool) → ℕ
+chain k l a b c d = if a then k else if b then 3 else if c then l else if d then k else 4
+
+pub chain_is : (k l : ℕ) (a b c d : Bool) → nat_eq k l ≡ a → (is_plain k || is_plain l) ≡ b → nat_eq k 2 ≡ c → nat_eq l 2 ≡ d →
+    joined_number k l ≡ chain k l a b c d
+chain_is k l a b c d e f g h = rw (e, f, g, h) refl
+
+-- a kind joined to itself
+pub joined_itself : (k : Kind) → joined k k ≡ k
+joined_itself k =
+    ap (λ b. record {
+      0 = if b then k.0 else if is_plain k.0 || is_plain k.0 then 3 else if k.0 == 2 then k.0 else if k.0 == 2 then k.0 else
+          4;
+    })
+    (equal_itself k.0)
+
+pub joined_all_itself : (ks : List Kind) → joined_all ks ks ≡ ks
+joined_all_itself [] = refl
+joined_all_itself (k ∷ ks) = ap₂ (λ x xs. x ∷ xs) (joined_itself k) (joined_all_itself ks)
+
+pub never_raised : (ks : List Kind) → is_raised ks ks ≡ false
+never_raised [] = refl
+never_raised (k ∷ ks) =
+    ap₂ (λ b c. not b || c) (ap (λ (x : Kind). nat_eq x.0 k.0) (joined_itself k) ∙ equal_itself k.0) (never_raised ks)
+
+-- what isn't raised stays
+pub raised_not : (ks ls : List Kind) → length ks ≡ length ls → is_raised ks ls ≡ false → joined_all ks ls ≡ ks
+raised_not [] ls n e = refl
+raised_not (k ∷ ks) [] n e = absurd (omega (arith, n))
+raised_not (k ∷ ks) (l ∷ ls) n e = go (λ g. raised_not ks ls (omega (arith, n)) g) (nat_eq (joined_number k.0 l.0) k.0) refl e
+  where
+    go : (is_raised ks ls ≡ false → joined_all ks ls ≡ ks) → (b : Bool) → nat_eq (joined_number k.0 l.0) k.0 ≡ b →
+        (not b || is_raised ks ls) ≡ false →
+        joined_all (k ∷ ks) (l ∷ ls) ≡ k ∷ ks
+    go others true f g = ap₂ (λ x xs. x ∷ xs) (ap (λ j. record { 0 = j }) (equal_true (joined_number k.0 l.0) k.0 f)) (others g)
+    go others false f g = absurd (cc g)
+
+-- one more element of two lists
+pub raised_more : (xs ys : List Kind) (i : ℕ) (d e : Kind) → i < length xs → length xs ≡ length ys →
+    is_raised (drop i xs) (drop i ys) ≡ (not (joined_number (get_or xs i d).0 (get_or ys i e).0 == (get_or xs i d).0) || is_raised
+    (drop (i + 1) xs) (drop (i + 1) ys))
+raised_more xs ys i d e h n =
+    ap₂ is_raised (drop_more xs i d h) (drop_more ys i e (omega (arith, h, n)))
+
+pub raised_none : (xs ys : List Kind) (i : ℕ) → length xs ≤ i → is_raised (drop i xs) (drop i ys) ≡ false
+raised_none xs ys i h = ap (λ l. is_raised l (drop i ys)) (drop_all i xs h)
+
+pub joined_more : (row xs ys : List Kind) (i : ℕ) (d e : Kind) → i < length xs → length xs ≡ length ys →
+    row ++ joined_all (drop i xs) (drop i ys) ≡ joined_all xs ys →
+    (row ++ joined (get_or xs i d) (get_or ys i e) ∷ []) ++ joined_all (drop (i + 1) xs) (drop (i + 1) ys) ≡ joined_all xs ys
+joined_more row xs ys i d e h n inv =
+    append_assoc row (joined (get_or xs i d) (get_or ys i e) ∷ []) (joined_all (drop (i + 1) xs) (drop (i + 1) ys))
+    ∙ ap (λ l. row ++ l) (sym (ap₂ joined_all (drop_more xs i d h) (drop_more ys i e (omega (arith, h, n)))))
+    ∙ inv
+
+pub joined_none : (row xs ys : List Kind) (i : ℕ) → length xs ≤ i → row ++ joined_all (drop i xs) (drop i ys) ≡ joined_all xs ys →
+    row ≡ joined_all xs ys
+joined_none row xs ys i h inv = sym (ap (λ l. row ++ joined_all l (drop i ys)) (drop_all i xs h) ∙ append-nil row) ∙ inv
+
+-- one more element on top of two lists
+pub raised_on_top : (xs ys : List Kind) (x y : Kind) → length xs ≡ length ys →
+    is_raised (xs ++ x ∷ []) (ys ++ y ∷ []) ≡ (is_raised xs ys || not (joined_number x.0 y.0 == x.0))
+raised_on_top [] [] x y n = or_none (not (joined_number x.0 y.0 == x.0))
+  where
+    or_none : (b : Bool) → (b || false) ≡ b
+    or_none true = refl
+    or_none false = refl
+raised_on_top [] (l ∷ ys) x y n = absurd (omega (arith, n))
+raised_on_top (k ∷ xs) [] x y n = absurd (omega (arith, n))
+raised_on_top (k ∷ xs) (l ∷ ys) x y n =
+    ap (λ b. not (joined_number k.0 l.0 == k.0) || b) (raised_on_top xs ys x y (omega (arith, n)))
+    ∙ or_assoc (not (joined_number k.0 l.0 == k.0)) (is_raised xs ys) (not (joined_number x.0 y.0 == x.0))
+  where
+    or_assoc : (a b c : Bool) → (a || (b || c)) ≡ ((a || b) || c)
+    or_assoc true b c = refl
+    or_assoc false b c = refl
+
+pub joined_on_top : (xs ys : List Kind) (x y : Kind) → length xs ≡ length ys →
+    joined_all (xs ++ x ∷ []) (ys ++ y ∷ []) ≡ joined_all xs ys ++ joined x y ∷ []
+joined_on_top [] [] x y n = refl
+joined_on_top [] (l ∷ ys) x y n = absurd (omega (arith, n))
+joined_on_top (k ∷ xs) [] x y n = absurd (omega (arith, n))
+joined_on_top (k ∷ xs) (l ∷ ys) x y n = ap (λ l'. joined k l ∷ l') (joined_on_top xs ys x y (omega (arith, n)))
+
+pub reverse_more : (ks : List Kind) (i : ℕ) (d : Kind) → i < length ks → reverse (take (i + 1) ks) ≡ get_or ks i d ∷ reverse (take i ks)
+reverse_more ks i d h = ap reverse (take_more ks i d h) ∙ reverse-append (take i ks) (get_or ks i d ∷ [])
+
+-- Each raise takes room.
+
+abbrev pub room_chain : (a b c : Bool) → ℕ
+room_chain a b c = if a then 0 else if b then 1 else if c then 3 else 2
+
+room_is : (k : ℕ) (a b c : Bool) → nat_eq k 3 ≡ a → (nat_eq k 0 || nat_eq k 4) ≡ b → nat_eq k 2 ≡ c → room_of k ≡ room_chain a b c
+room_is k a b c e f g = rw (e, f, g) refl
+
+room_some : (k : ℕ) → (k ≡ 3 → ⊥) → 0 < room_of k
+room_some k ne = go (nat_eq k 0 || nat_eq k 4) refl (nat_eq k 2) refl
+  where
+    go : (b : Bool) → (nat_eq k 0 || nat_eq k 4) ≡ b → (c : Bool) → nat_eq k 2 ≡ c → 0 < room_of k
+    go true f c g = let r = room_is k false true c (equal_not k 3 ne) f g in omega (arith, r)
+    go false f true g = let r = room_is k false false true (equal_not k 3 ne) f g in omega (arith, r)
+    go false f false g = let r = room_is k false false false (equal_not k 3 ne) f g in omega (arith, r)
+
+room_small : (k : ℕ) → (k ≡ 2 → ⊥) → room_of k < 3
+room_small k ne = go (nat_eq k 3) refl (nat_eq k 0 || nat_eq k 4) refl
+  where
+    go : (a : Bool) → nat_eq k 3 ≡ a → (b : Bool) → (nat_eq k 0 || nat_eq k 4) ≡ b → room_of k < 3
+    go true e b f = let r = room_is k true b false e f (equal_not k 2 ne) in omega (arith, r)
+    go false e true f = let r = room_is k false true false e f (equal_not k 2 ne) in omega (arith, r)
+    go false e false f = let r = room_is k false false false e f (equal_not k 2 ne) in omega (arith, r)
+
+plain_not : (k l : ℕ) → (is_plain k || is_plain l) ≡ false → (nat_eq k 0 ≡ false) × (nat_eq k 3 ≡ false)
+plain_not k l e = go (nat_eq k 0) (nat_eq k 3) refl refl e
+  where
+    go : (a b : Bool) → nat_eq k 0 ≡ a → nat_eq k 3 ≡ b → ((a || b) || is_plain l) ≡ false → (nat_eq k 0 ≡ false) × (nat_eq k 3 ≡ false)
+    go false false f g h = (f, g)
+    go true b f g h = absurd (cc h)
+    go false true f g h = absurd (cc h)
+
+-- what is raised has less room than before
+room_falls_number : (k l : ℕ) → (joined_number k l ≡ k → ⊥) → room_of (joined_number k l) < room_of k
+room_falls_number k l ne = go (nat_eq k l) refl (is_plain k || is_plain l) refl (nat_eq k 2) refl (nat_eq l 2) refl
+  where
+    go : (a : Bool) → nat_eq k l ≡ a → (b : Bool) → (is_plain k || is_plain l) ≡ b → (c : Bool) → nat_eq k 2 ≡ c → (d : Bool) →
+        nat_eq l 2 ≡ d →
+        room_of (joined_number k l) < room_of k
+    go true e b f c g d h = absurd (ne (chain_is k l true b c d e f g h))
+    go false e true f c g d h =
+        let j : joined_number k l ≡ 3 = chain_is k l false true c d e f g h in
+        let r = room_some k (λ s. ne (j ∙ sym s)) in
+        let z : room_of (joined_number k l) ≡ 0 = ap room_of j in
+        omega (arith, r, z)
+    go false e false f true g d h =
+        let j : joined_number k l ≡ l = chain_is k l false false true d e f g h in
+        let two : k ≡ 2 = equal_true k 2 g in
+        let r = room_small l (λ s. ne (j ∙ s ∙ sym two)) in
+        let z : room_of (joined_number k l) ≡ room_of l = ap room_of j in
+        let y : room_of k ≡ 3 = ap room_of two in
+        omega (arith, r, z, y)
+    go false e false f false g true h = absurd (ne (chain_is k l false false false true e f g h))
+    go false e false f false g false h =
+        let j : joined_number k l ≡ 4 = chain_is k l false false false false e f g h in
+        let n = plain_not k l f in
+        let four : nat_eq k 4 ≡ false = equal_not k 4 (λ s. ne (j ∙ sym s)) in
+        let z : room_of (joined_number k l) ≡ 1 = ap room_of j in
+        let y : room_of k ≡ 2 = room_is k false false false n.1 (ap₂ (λ a b. a || b) n.0 four) g in
+        omega (arith, z, y)
+
+room_less_number : (k l : ℕ) → room_of (joined_number k l) ≤ room_of k
+room_less_number k l = go (nat_eq (joined_number k l) k) refl
+  where
+    go : (b : Bool) → nat_eq (joined_number k l) k ≡ b → room_of (joined_number k l) ≤ room_of k
+    go true e = let r : room_of (joined_number k l) ≡ room_of k = ap room_of (equal_true (joined_number k l) k e) in omega (arith, r)
+    go false e = let r = room_falls_number k l (λ s. absurd (let t = equal_is (joined_number k l) k s in cc (t, e))) in omega (arith, r)
+
+pub room_less : (ks ls : List Kind) → length ks ≡ length ls → room_in (joined_all ks ls) ≤ room_in ks
+room_less [] ls n = omega arith
+room_less (k ∷ ks) [] n = absurd (omega (arith, n))
+room_less (k ∷ ks) (l ∷ ls) n =
+    let h = room_less_number k.0 l.0 in let r = room_less ks ls (omega (arith, n)) in omega (arith, h, r)
+
+pub room_falls : (ks ls : List Kind) → length ks ≡ length ls → is_raised ks ls ≡ true → room_in (joined_all ks ls) < room_in ks
+room_falls [] ls n e = absurd (cc e)
+room_falls (k ∷ ks) [] n e = absurd (omega (arith, n))
+room_falls (k ∷ ks) (l ∷ ls) n e = go (λ g. room_falls ks ls (omega (arith, n)) g) (nat_eq (joined_number k.0 l.0) k.0) refl e
+  where
+    go : (is_raised ks ls ≡ true → room_in (joined_all ks ls) < room_in ks) → (b : Bool) → nat_eq (joined_number k.0 l.0) k.0 ≡ b →
+        (not b || is_raised ks ls) ≡ true →
+        room_in (joined_all (k ∷ ks) (l ∷ ls)) < room_in (k ∷ ks)
+    go others true f g =
+        let h = room_less_number k.0 l.0 in let r = others g in omega (arith, h, r)
+    go others false f g =
+        let h = room_falls_number k.0 l.0 (λ s. absurd (let t = equal_is (joined_number k.0 l.0) k.0 s in cc (t, f))) in
+        let r = room_less ks ls (omega (arith, n)) in omega (arith, h, r)
+
+-- where a walk down two lists stops
+pub stopped_same : (stacks : List (List Kind)) (a b : ℕ) → a ≡ b → is_raised (get_or stacks a []) (get_or stacks b []) ≡ false
+stopped_same stacks a b e = ap (λ x. is_raised (get_or stacks a []) (get_or stacks x [])) (sym e) ∙ never_raised (get_or stacks a [])
+
+pub stopped_first : (ks ls : List Kind) → ks ≡ [] → is_raised ks ls ≡ false
+stopped_first ks ls e = ap (λ x. is_raised x ls) e
+
+pub stopped_second : (ks ls : List Kind) → ls ≡ [] → is_raised ks ls ≡ false
+stopped_second ks ls e = ap (λ x. is_raised ks x) e ∙ none ks
+  where
+    none : (xs : List Kind) → is_raised xs [] ≡ false
+    none [] = refl
+    none (x ∷ xs) = refl
+
+-- a step down two lists
+pub raised_step : (ks ls xs ys : List Kind) (x y : Kind) → ks ≡ xs ++ x ∷ [] → ls ≡ ys ++ y ∷ [] → length ks ≡ length ls →
+    (joined x y).0 ≡ x.0 → is_raised xs ys ≡ is_raised ks ls
+raised_step ks ls xs ys x y e f n s =
+    let a = length_push xs x in let b = length_push ys y in let c = ap length e in let d = ap length f in
+    let even : length xs ≡ length ys = omega (arith, a, b, c, d, n) in
+    sym (ap₂ is_raised e f ∙ raised_on_top xs ys x y even
+    ∙ ap (λ t. is_raised xs ys || not t) (equal_is (joined_number x.0 y.0) x.0 s) ∙ or_none (is_raised xs ys))
+  where
+    or_none : (b : Bool) → (b || false) ≡ b
+    or_none true = refl
+    or_none false = refl
+
+pub raised_here : (ks ls xs ys : List Kind) (x y : Kind) → ks ≡ xs ++ x ∷ [] → ls ≡ ys ++ y ∷ [] → length ks ≡ length ls →
+    ((joined x y).0 ≡ x.0 → ⊥) → is_raised ks ls ≡ true
+raised_here ks ls xs ys x y e f n s =
+    let a = length_push xs x in let b = length_push ys y in let c = ap length e in let d = ap length f in
+    let even : length xs ≡ length ys = omega (arith, a, b, c, d, n) in
+    ap₂ is_raised e f ∙ raised_on_top xs ys x y even
+    ∙ ap (λ t. is_raised xs ys || not t) (equal_not (joined_number x.0 y.0) x.0 s) ∙ or_all (is_raised xs ys)
+  where
+    or_all : (b : Bool) → (b || true) ≡ true
+    or_all true = refl
+    or_all false = refl
+
+pub joined_step : (ks ls xs ys : List Kind) (x y : Kind) (more : List Kind) → ks ≡ xs ++ x ∷ [] → ls ≡ ys ++ y ∷ [] → length ks ≡ length ls
+    →
+    joined_all xs ys ++ reverse (more ++ joined x y ∷ []) ≡ joined_all ks ls ++ reverse more
+joined_step ks ls xs ys x y more e f n =
+    let a = length_push xs x in let b = length_push ys y in let c = ap length e in let d = ap length f in
+    let even : length xs ≡ length ys = omega (arith, a, b, c, d, n) in
+    ap (λ l. joined_all xs ys ++ l) (reverse-append more (joined x y ∷ []))
+    ∙ sym (append_assoc (joined_all xs ys) (joined x y ∷ []) (reverse more))
+    ∙ ap (λ l. l ++ reverse more) (sym (ap₂ joined_all e f ∙ joined_on_top xs ys x y even))
+
+pub even_step : (ks ls xs ys : List Kind) (x y : Kind) → ks ≡ xs ++ x ∷ [] → ls ≡ ys ++ y ∷ [] → length ks ≡ length ls →
+    length xs ≡ length ys
+even_step ks ls xs ys x y e f n =
+    let a = length_push xs x in let b = length_push ys y in let c = ap length e in let d = ap length f in omega (arith, a, b, c, d, n)
+
+pub none_joined : (ks ls : List Kind) → ks ≡ [] → ks ≡ joined_all ks ls
+none_joined ks ls e = e ∙ sym (ap (λ x. joined_all x ls) e)
+
+pub nothing_joined : (ks ls : List Kind) → ls ≡ [] → length ks ≡ length ls → ks ≡ joined_all ks ls
+nothing_joined [] ls e n = refl
+nothing_joined (k ∷ ks) ls e n = absurd (let z = ap length e in omega (arith, n, z))
+
+pub itself_joined : (stacks : List (List Kind)) (a b : ℕ) → a ≡ b → get_or stacks a [] ≡ joined_all (get_or stacks a [])
+    (get_or stacks b [])
+itself_joined stacks a b e = sym (ap (λ x. joined_all (get_or stacks a []) (get_or stacks x [])) (sym e) ∙ joined_all_itself
+    (get_or stacks a []))

@@ -1,0 +1,4 @@
+pub mod Numbers
+pub mod Named
+pub mod Stacks
+pub mod Laws

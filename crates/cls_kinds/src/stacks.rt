@@ -1,0 +1,281 @@
+//! Lists of operands that share their lower parts. Each has a number, so a copy is a number too.
+//! A list is made anew only where what is pushed, or what it is pushed on, has changed.
+
+ghost use Rattle.std.specs.Prelude.{◌≡◌, ◌<◌, ◌++◌, ◌∷◌, [], length, IfOk, OnOk, MatchOption};
+ghost use Rattle.std.specs.Prelude.{◌≤◌, ◌-◌, get_or, reverse, false, IfSome};
+ghost use Rattle.cls_kinds.specs.Numbers.{joined_all, is_raised};
+ghost use Rattle.cls_kinds.specs.declared.stacks.Node.{Node as Listed};
+ghost use Rattle.cls_kinds.specs.Stacks.{stack_at, stacks_of, AreNodes, Grows};
+
+use crate::kind::Kind;
+use mg_text::Memory;
+use std::alloc::Global;
+use std::marker::Model;
+
+/// A list: the topmost kind, the list below it, and how long it is.
+#[derive(Clone, Copy)]
+struct Node {
+    kind: Kind,
+    below: u32,
+    depth: u32,
+}
+
+/// The topmost kind of a list, and the list below it.
+#[derive(Clone, Copy)]
+pub struct Top {
+    pub kind: Kind,
+    pub below: u32,
+}
+
+/// Lists of kinds by numbers: 0 is the empty one. Contracts see the lists, in the order of making.
+#[derive(Drop)]
+pub struct Stacks {
+    nodes: Vec<Node>,
+    /// By slots: the list that was pushed there last.
+    pushed: Vec<u32>,
+}
+
+impl Model for Stacks {
+    ghost use Rattle.std.specs.Prelude.{List};
+    ghost use Rattle.cls_kinds.specs.declared.kind.Kind.{Kind};
+
+    ghost Value = { List (List Kind) };
+
+    ghost use Rattle.cls_kinds.specs.Stacks.{stacks_of, AreNodes};
+
+    ghost view = { λ s. stacks_of s.nodes.items };
+
+    ghost invariant = { λ s. AreNodes s.nodes.items };
+}
+
+/// The list that was pushed last at a slot, where it is this one.
+fn pushed_at(nodes: &[Node], pushed: &[u32], slot: usize, below: u32, kind: Kind) -> Option<u32>
+    ensures within { IfSome result (λ s. (0 < s) × (s ≤ length nodes.now)) }
+    ensures same { IfSome result (λ s. (d : Listed) → ((get_or nodes.now (s - 1) d).below ≡ below)
+        × ((get_or nodes.now (s - 1) d).kind ≡ kind)) }
+{
+    let number = *pushed.get(slot)?;
+    if number == 0 || number as usize > nodes.len() {
+        return None;
+    }
+    let node = nodes[number as usize - 1];
+    if node.below == below && node.kind.0 == kind.0 {
+        return Some(number);
+    }
+    None
+}
+
+/// Notes what was pushed at a slot.
+fn note(pushed: &mut [u32], slot: usize, number: u32) {
+    if slot < pushed.len() {
+        pushed[slot] = number;
+    }
+}
+
+/// The topmost kind of a list, and the list below it.
+fn top_of(nodes: &[Node], stack: u32) -> Option<Top>
+    requires made { AreNodes nodes.now }
+    requires there { stack < length (stacks_of nodes.now) }
+    ensures lower { IfSome result (λ t. t.below < stack) }
+    ensures top { MatchOption result (stack_at (stacks_of nodes.now) stack ≡ [])
+        (λ t. (t.below < length (stacks_of nodes.now)) × (stack_at (stacks_of nodes.now) stack ≡ stack_at (stacks_of nodes.now) t.below
+        ++ t.kind ∷ [])) }
+{
+    if stack == 0 {
+        return None;
+    }
+    let node = nodes[stack as usize - 1];
+    Some(Top {
+        kind: node.kind,
+        below: node.below,
+    })
+}
+
+/// How long a list is.
+fn depth_of(nodes: &[Node], stack: u32) -> u32
+    requires made { AreNodes nodes.now }
+    requires there { stack < length (stacks_of nodes.now) }
+    ensures { result ≡ length (stack_at (stacks_of nodes.now) stack) }
+{
+    if stack == 0 {
+        return 0;
+    }
+    nodes[stack as usize - 1].depth
+}
+
+impl Stacks {
+    /// The empty list alone, and so many slots at which kinds are pushed.
+    ///
+    /// # Errors
+    /// `Memory` only.
+    pub fn new(alloc: Global, slots: usize) -> Result<Stacks, Memory>
+        ensures { IfOk result (λ s. s ≡ [] ∷ []) }
+    {
+        let pushed = vec![in alloc; 0; slots]?;
+        Ok(Stacks {
+            nodes: Vec::new(alloc),
+            pushed,
+        })
+    }
+
+    /// The topmost kind of a list. None comes exactly where the list is empty.
+    pub fn top(&self, stack: u32) -> Option<Top>
+        requires { stack < length self.now }
+        ensures { MatchOption result (stack_at self.now stack ≡ [])
+            (λ t. (t.below < length self.now) × (stack_at self.now stack ≡ stack_at self.now t.below ++ t.kind ∷ [])) }
+    {
+        top_of(self.nodes.as_slice(), stack)
+    }
+
+    /// How long a list is.
+    pub fn depth(&self, stack: u32) -> usize
+        requires { stack < length self.now }
+        ensures { result ≡ length (stack_at self.now stack) }
+    {
+        depth_of(self.nodes.as_slice(), stack) as usize
+    }
+
+    /// A list with one more kind on top, made anew.
+    fn add(&mut self, below: u32, kind: Kind) -> Result<u32, Memory>
+        requires { below < length self.old }
+        ensures grows { OnOk result (Grows self.old self.new) }
+        ensures there { IfOk result (λ s. s < length self.new) }
+        ensures made { IfOk result (λ s. stack_at self.new s ≡ stack_at self.old below ++ kind ∷ []) }
+    {
+        let count = self.nodes.len();
+        if count >= 0xffff_fffe {
+            return Err(Memory);
+        }
+        let Some(depth) = depth_of(self.nodes.as_slice(), below).checked_add(1) else {
+            return Err(Memory);
+        };
+        self.nodes.push(Node { kind, below, depth })?;
+        Ok(count as u32 + 1)
+    }
+
+    /// A list with one more kind on top: that which was pushed last at this slot, where it is the same.
+    ///
+    /// # Errors
+    /// `Memory` only.
+    pub fn push(&mut self, below: u32, kind: Kind, slot: usize) -> Result<u32, Memory>
+        requires { below < length self.old }
+        ensures grows { OnOk result (Grows self.old self.new) }
+        ensures there { IfOk result (λ s. s < length self.new) }
+        ensures made { IfOk result (λ s. stack_at self.new s ≡ stack_at self.old below ++ kind ∷ []) }
+    {
+        if let Some(number) = pushed_at(
+            self.nodes.as_slice(),
+            self.pushed.as_slice(),
+            slot,
+            below,
+            kind,
+        ) {
+            return Ok(number);
+        }
+        let number = self.add(below, kind)?;
+        note(self.pushed.as_mut_slice(), slot, number);
+        Ok(number)
+    }
+}
+
+/// Whether one of two lists of one length isn't the least that both fit.
+fn raises_stack(nodes: &[Node], first: u32, second: u32) -> bool
+    requires made { AreNodes nodes.now }
+    requires first { first < length (stacks_of nodes.now) }
+    requires second { second < length (stacks_of nodes.now) }
+    requires even { length (stack_at (stacks_of nodes.now) first) ≡ length (stack_at (stacks_of nodes.now) second) }
+    ensures { result ≡ is_raised (stack_at (stacks_of nodes.now) first) (stack_at (stacks_of nodes.now) second) }
+{
+    let mut a = first;
+    let mut b = second;
+    'down: loop {
+        if a == b {
+            return false;
+        }
+        let Some(old) = top_of(nodes, a) else {
+            return false;
+        };
+        let Some(new) = top_of(nodes, b) else {
+            return false;
+        };
+        if old.kind.joined(new.kind).0 != old.kind.0 {
+            return true;
+        }
+        a = old.below;
+        b = new.below;
+    }
+}
+
+/// What two lists are joined to: kinds, the topmost first, and the list below these.
+#[derive(Drop)]
+struct Joint {
+    kinds: Vec<Kind>,
+    below: u32,
+}
+
+/// What two lists of one length are joined to, down to where both are one list.
+fn joined_down(alloc: Global, nodes: &[Node], first: u32, second: u32) -> Result<Joint, Memory>
+    requires made { AreNodes nodes.now }
+    requires first { first < length (stacks_of nodes.now) }
+    requires second { second < length (stacks_of nodes.now) }
+    requires even { length (stack_at (stacks_of nodes.now) first) ≡ length (stack_at (stacks_of nodes.now) second) }
+    ensures there { IfOk result (λ j. j.below < length (stacks_of nodes.now)) }
+    ensures joined { IfOk result (λ j. stack_at (stacks_of nodes.now) j.below ++ reverse j.kinds.items
+        ≡ joined_all (stack_at (stacks_of nodes.now) first) (stack_at (stacks_of nodes.now) second)) }
+{
+    let mut kinds = Vec::new(alloc);
+    let mut a = first;
+    let mut b = second;
+    'down: loop {
+        if a == b {
+            return Ok(Joint { kinds, below: a });
+        }
+        let Some(old) = top_of(nodes, a) else {
+            return Ok(Joint { kinds, below: a });
+        };
+        let Some(new) = top_of(nodes, b) else {
+            return Ok(Joint { kinds, below: a });
+        };
+        kinds.push(old.kind.joined(new.kind))?;
+        a = old.below;
+        b = new.below;
+    }
+}
+
+impl Stacks {
+    /// The least list that two of one length fit: the first where it is that.
+    ///
+    /// # Errors
+    /// `Memory` only.
+    pub fn join(&mut self, alloc: Global, first: u32, second: u32) -> Result<u32, Memory>
+        requires first { first < length self.old }
+        requires second { second < length self.old }
+        requires even { length (stack_at self.old first) ≡ length (stack_at self.old second) }
+        ensures grows { OnOk result (Grows self.old self.new) }
+        ensures there { IfOk result (λ s. s < length self.new) }
+        ensures joined { IfOk result (λ s. stack_at self.new s ≡ joined_all (stack_at self.old first) (stack_at self.old second)) }
+        ensures kept { IfOk result (λ s. is_raised (stack_at self.old first) (stack_at self.old second) ≡ false → s ≡ first) }
+    {
+        if !raises_stack(self.nodes.as_slice(), first, second) {
+            return Ok(first);
+        }
+        let joint = joined_down(alloc, self.nodes.as_slice(), first, second)?;
+        self.add_all(joint.below, joint.kinds.as_slice())
+    }
+
+    /// A list with more kinds on top, the last one first.
+    fn add_all(&mut self, below: u32, kinds: &[Kind]) -> Result<u32, Memory>
+        requires { below < length self.old }
+        ensures grows { OnOk result (Grows self.old self.new) }
+        ensures there { IfOk result (λ s. s < length self.new) }
+        ensures made { IfOk result (λ s. stack_at self.new s ≡ stack_at self.old below ++ reverse kinds.now) }
+    {
+        let mut stack = below;
+        let mut left = kinds.len();
+        while left > 0 {
+            left -= 1;
+            stack = self.add(stack, kinds[left])?;
+        }
+        Ok(stack)
+    }
+}

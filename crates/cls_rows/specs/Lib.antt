@@ -1,0 +1,6 @@
+pub mod Wants
+pub mod Settling
+pub mod Frames
+pub mod Changes
+pub mod Coming
+pub mod Same

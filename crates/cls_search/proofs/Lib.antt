@@ -1,0 +1,11 @@
+pub mod Measuring
+pub mod Steps
+pub mod Raising
+pub mod Marking
+pub mod Changing
+pub mod Rises
+pub mod Walked
+pub mod Begins
+pub mod LedLemmas
+pub mod Striding
+pub mod Searched

@@ -1,0 +1,9 @@
+pub mod Verified
+pub mod Setting
+pub mod Kept
+pub mod Going
+pub mod Ordered
+pub mod Marked
+pub mod Walking
+pub mod Beginning
+pub mod Led

@@ -1,0 +1,4 @@
+pub mod Tabled
+pub mod Knowing
+pub mod Linking
+pub mod Counting

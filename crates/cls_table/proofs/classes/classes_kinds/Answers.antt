@@ -1,0 +1,23 @@
+use Rattle.std.proofs.Common.{List, [], ◌∷◌, ◌++◌, take, sym, ap, subst, ◌∙◌}
+use Rattle.std.proofs.lemmas.List.{take_more, map-append}
+use Rattle.vm_model.specs.declared.linked.LinkedClass.{LinkedClass}
+use Rattle.vm_model.specs.Program.{ClassOf}
+use Rattle.vm_model.specs.View.{class_of, classes_of}
+use Rattle.cls_table.specs.Tables.{AreClasses}
+use Rattle.cls_table.proofs.Counting.{classes_more}
+use Rattle.cls_table.proofs.classes.classes_kinds.Goals as goal
+
+pub loop-class-preserved : goal.loop-class-preserved
+loop-class-preserved c =
+    let classes = c.args.classes.now in
+    let names = c.args.names.now in
+    let counts = c.args.counts.now in
+    let item : LinkedClass = c.class-item.result in
+    let more = take_more classes c.loop-class.class-index item c.loop-class-test.true
+    ∙ ap (λ (x : LinkedClass). take c.loop-class.class-index classes ++ x ∷ []) (sym c.class-item.is) in
+    subst (λ (cs : List ClassOf). AreClasses names counts cs c.push.new.self.items)
+    (sym (ap (λ (cs : List LinkedClass). classes_of cs) more ∙ map-append class_of (take c.loop-class.class-index classes) (item ∷ [])))
+    (subst (AreClasses names counts (classes_of (take c.loop-class.class-index classes) ++ class_of item ∷ []))
+    (sym c.in_ok-push.ensures.items)
+    (classes_more names counts (classes_of (take c.loop-class.class-index classes)) c.loop-class.kinds.items (class_of item)
+    c.in_ok-class.class c.loop-class.invariant c.in_ok-class.ensures.is c.in_ok-class.ensures.own))

@@ -1,0 +1,4 @@
+pub mod Tables
+pub mod Kept
+pub mod Known
+pub mod Counted

@@ -1,0 +1,7 @@
+use Rattle.std.proofs.Common.{◌≡◌, ◌++◌, string_bytes}
+use Rattle.std.specs.List.{flat_map, range_with_len}
+use Rattle.mg_load.specs.Workload.{branch}
+use Rattle.mg_load.proofs.protocols.protocol.Given as goal
+
+abbrev pub invariant-loop-number : goal.invariant-loop-number
+invariant-loop-number l = string_bytes l.out ≡ string_bytes l.initial.out ++ flat_map (branch l.there l.back) (range_with_len 0 l.number)

@@ -1,0 +1,11 @@
+pub mod Rows
+pub mod Calling
+pub mod Tabled
+pub mod Heaps
+pub mod States
+pub mod Entering
+pub mod Starting
+pub mod Nearest
+pub mod Leaving
+pub mod Same
+pub mod Lying

@@ -1,0 +1,5 @@
+pub mod Seen
+pub mod View
+pub mod Kept
+pub mod Frames
+pub mod Lying
