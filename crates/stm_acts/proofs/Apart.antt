@@ -82,7 +82,7 @@ module _ (me : Name) (protocol : Parts) (apart : CallsTellApart me protocol) whe
       →
       Plays me protocol made still_open deeds → Refuses me protocol made still_open deeds so_far run_of → ⊥
   exclude one p r =
-      not_open p.of_open p.closed (steps_are_all_doings protocol one p.run) r.number r.peer r.label r.labels r.asked r.no_branch r.of_open
+      not_open p.of_open p.closed (steps_are_doings protocol one p.run) r.number r.peer r.label r.labels r.asked r.no_branch r.of_open
       (behind_calls me p.closed r.closed (p.of_calls ∙ sym r.of_calls) (sym (map-append unnumbered p.closed p.last) ∙ sym p.are ∙ r.are))
 
 -- how a run that came as far as a refusal ended
