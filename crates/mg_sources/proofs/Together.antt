@@ -11,7 +11,7 @@ use Rattle.jv_tree.specs.Source.{File}
 use Rattle.mg_text.specs.Places.{start_of}
 use Rattle.stm_gen.specs.Numbered.{typestate_of}
 use Rattle.stm_api.specs.Api.{ApiText, IsApi, class_file, enum_files}
-use Rattle.stm_api.specs.Doings.{Doing, doings, call_of, Firsts}
+use Rattle.stm_api.specs.Doings.{Doing, all_doings, call_of, Firsts}
 use Rattle.stm_api.specs.Doings as doing
 use Rattle.std.specs.Prelude.{Contains}
 use Rattle.mg_sources.specs.Files.{Source, sources_from}
@@ -74,7 +74,7 @@ pub one_api : (local : LocalTree) (a b : List ApiText) → IsApi local a → IsA
 one_api local a b p q =
     p.are_files
     ∙ ap (λ (z : List Doing). class_file (start_of local.file) local.me z ∷ enum_files (start_of local.file) local.me
-    (doings (protocol_of local)))
+    (all_doings (protocol_of local)))
     (one_first local.me p.are_firsts q.are_firsts refl refl)
     ∙ sym q.are_files
 
@@ -103,8 +103,8 @@ one_spelling : {files others : List Source} {s t : Sourced} → Spell files s �
 one_spelling together.none together.none e = refl
 one_spelling together.none (together.one r st more) e = absurd (let no : ⊥ = cc in no)
 one_spelling (together.one r st more) together.none e = absurd (let no : ⊥ = cc in no)
-one_spelling (together.one {source = f} {sources = fs} {part = p} r st more) (together.one {source = g} {sources = gs} {part = q} r' st'
-    more') e =
+one_spelling (together.one {source = f} {sources = fs} {part = p} r st more)
+    (together.one {source = g} {sources = gs} {part = q} r' st' more') e =
     let same : f ≡ g = cc in
     let rest : fs ≡ gs = cc in
     let part : p ≡ q = one_part g p q (subst (λ (z : Source). Reads z p) same r) r' in

@@ -21,6 +21,11 @@ protocol_word protocols.SameLabel = codes "SameLabel"
 protocol_word protocols.ReservedLabel = codes "ReservedLabel"
 protocol_word protocols.NameClash = codes "NameClash"
 protocol_word protocols.TooManyStates = codes "TooManyStates"
+protocol_word protocols.UnknownProtocol = codes "UnknownProtocol"
+protocol_word protocols.DuplicateProtocol = codes "DuplicateProtocol"
+protocol_word protocols.RolesDiffer = codes "RolesDiffer"
+protocol_word protocols.NotLast = codes "NotLast"
+protocol_word protocols.StartsWithDo = codes "StartsWithDo"
 
 abbrev pub typestate_word : OfTypestates → List ℕ
 typestate_word typestates.DuplicateState = codes "DuplicateState"

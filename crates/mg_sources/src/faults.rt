@@ -36,6 +36,13 @@ pub fn stop_of_protocol(fault: ScrFault) -> Stop
         ScrFault::ReservedLabel { place, name } => Stop::named("ReservedLabel", place, name),
         ScrFault::NameClash { place, name } => Stop::named("NameClash", place, name),
         ScrFault::TooManyStates { place } => Stop::at("TooManyStates", place),
+        ScrFault::UnknownProtocol { place, name } => Stop::named("UnknownProtocol", place, name),
+        ScrFault::DuplicateProtocol { place, name } => {
+            Stop::named("DuplicateProtocol", place, name)
+        }
+        ScrFault::RolesDiffer { place, name } => Stop::named("RolesDiffer", place, name),
+        ScrFault::NotLast { place, name } => Stop::named("NotLast", place, name),
+        ScrFault::StartsWithDo { place, name } => Stop::named("StartsWithDo", place, name),
         ScrFault::Memory => Stop::Memory,
     }
 }
