@@ -9,7 +9,7 @@ use Rattle.std.specs.Str.{bytes_eq}
 use Rattle.mg_text.specs.Call.{Name}
 use Rattle.scr_tree.specs.Tree.{LocalTree}
 use Rattle.scr_tree.specs.Protocol.{peer_of, label_of, Protocol, Done, Does, ChoiceHere, ChoiceThere, Rec, Continue, Do, Branches, NoMore}
-use Rattle.scr_tree.specs.Protocol.{Branch, Named, Parts}
+use Rattle.scr_tree.specs.Protocol.{Branch, Parts}
 use Rattle.scr_tree.specs.Meaning.{protocol_of}
 use Rattle.scr_trace.specs.declared.standing.Standing.{Standing}
 use Rattle.scr_trace.specs.declared.standing.Standing.TheVariants as standings
