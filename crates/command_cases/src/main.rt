@@ -36,7 +36,7 @@ use std::alloc::Global;
 use std::rt::Files;
 
 /// The files of cases, in the order in which they are answered.
-const FILES: [&str; 14] = [
+const FILES: [&str; 15] = [
     "translate.txt",
     "conform.txt",
     "check.txt",
@@ -50,6 +50,7 @@ const FILES: [&str; 14] = [
     "refine.txt",
     "project.txt",
     "load.txt",
+    "verify.txt",
     "words.txt",
 ];
 

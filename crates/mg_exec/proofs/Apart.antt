@@ -26,7 +26,7 @@ use Rattle.mg_exec.specs.View.{Shows, IsRunning, IsThatRun}
 use Rattle.mg_exec.proofs.FilesRead.{none_refused}
 
 -- files are one list of classes
-one_files : (files : List Source) (cs bs : List File) → AreFiles files cs → AreFiles files bs → cs ≡ bs
+pub one_files : (files : List Source) (cs bs : List File) → AreFiles files cs → AreFiles files bs → cs ≡ bs
 one_files [] [] [] h g = refl
 one_files [] [] (b ∷ bs) h g = absurd g
 one_files [] (c ∷ cs) bs h g = absurd h
@@ -37,13 +37,13 @@ one_files (f ∷ fs) (c ∷ cs) (b ∷ bs) (first, rest) (other, others) =
     (one_spelled c b first.spells.file other.spells.file (sym first.spells.layout ∙ other.spells.layout)) (one_files fs cs bs rest others)
 
 -- and one program
-one_program : (files : List Source) (p q : Program) → IsProgram files p → IsProgram files q → p ≡ q
+pub one_program : (files : List Source) (p q : Program) → IsProgram files p → IsProgram files q → p ≡ q
 one_program files p q (cs, are, links) (bs, others, links') =
     let same : cs ≡ bs = one_files files cs bs are others in
     links.program ∙ ap linked same ∙ sym links'.program
 
 -- what has no flaw isn't refused
-no_flaw : (fs : List Flaw) (f : Flaw) → fs ≡ [] → least fs ≡ Some f → ⊥
+pub no_flaw : (fs : List Flaw) (f : Flaw) → fs ≡ [] → least fs ≡ Some f → ⊥
 no_flaw fs f none is = let h : ◌≡◌ {A = Option Flaw} None (Some f) = sym (ap least none) ∙ is in cc
 
 -- a role whose class has no `main` isn't among those whose classes have one

@@ -16,19 +16,20 @@ use Rattle.mg_exec.specs.Runs.{IsProgram, HaveMains, unread, unlinked, no_main}
 use Rattle.mg_exec.specs.View.{IsRunning}
 use Rattle.mg_exec.specs.inner.Reading.{AreReadOf, IsLinkedOf}
 use Rattle.mg_exec.specs.inner.Mains.{IsWithout}
-use Rattle.mg_exec.specs.inner.Going.{IsProgramOf, IsRunOf}
-use Rattle.mg_exec.specs.inner.Going as inner
+use Rattle.mg_exec.specs.Programs.{IsProgramOf}
+use Rattle.mg_exec.specs.Programs as programs
+use Rattle.mg_exec.specs.inner.Going.{IsRunOf}
 
 -- ---- the program
 
 -- files that can't be read are no program
 pub unread_program : (files : List Source) (stop : Stop) → AreReadOf files (Err stop) → IsProgramOf files (Err stop)
-unread_program files (stops.Refused line) judged = inner.unread judged
+unread_program files (stops.Refused line) judged = programs.unread judged
 unread_program files stops.Memory h = tt
 
 pub unlinked_program : (files : List Source) (classes : List File) (stop : Stop) → AreFiles files classes → IsLinkedOf classes (Err stop) →
     IsProgramOf files (Err stop)
-unlinked_program files classes (stops.Refused line) are (flaw, is, said) = inner.unlinked classes flaw are is said
+unlinked_program files classes (stops.Refused line) are (flaw, is, said) = programs.unlinked classes flaw are is said
 unlinked_program files classes stops.Memory are h = tt
 
 -- what linking the classes of files answers is the program of the files
@@ -49,8 +50,8 @@ parts_at (y ∷ xs) (suc k) x at = ap (λ l. y ∷ l) (parts_at xs k x at)
 module _ (files : List Source) (mains : List RoleMain) (order : List ℕ) (limit : ℕ) (named traced : Bool) where
   -- files that are no program aren't run
   pub run_none : (stop : Stop) → IsProgramOf files (Err stop) → IsRunning files mains order limit named traced (Err stop)
-  run_none (stops.Refused line) (inner.unread judged) = unread judged
-  run_none (stops.Refused line) (inner.unlinked classes flaw are is said) = unlinked classes flaw are is said
+  run_none (stops.Refused line) (programs.unread judged) = unread judged
+  run_none (stops.Refused line) (programs.unlinked classes flaw are is said) = unlinked classes flaw are is said
   run_none stops.Memory h = tt
 
   pub run_no_main : (program : Program) (number : ℕ) (main : RoleMain) (stop : Stop) → IsProgram files program →

@@ -8,7 +8,8 @@ ghost use Rattle.mg_sources.specs.Files.{sources};
 ghost use Rattle.mg_runs.specs.Going.{IsOrder};
 ghost use Rattle.mg_exec.specs.Runs.{Course, HaveMains, IsRun, Refusal};
 ghost use Rattle.mg_exec.specs.View.{IsRunning, IsThatRun};
-ghost use Rattle.mg_exec.specs.inner.Going.{IsProgramOf, IsRunOf, told};
+ghost use Rattle.mg_exec.specs.Programs.{IsProgramOf};
+ghost use Rattle.mg_exec.specs.inner.Going.{IsRunOf, told};
 
 use crate::linking::link;
 use crate::mains::first_without;
@@ -82,8 +83,13 @@ fn ran_roles(
     Ok(ran)
 }
 
-// The program of these files.
-fn program(alloc: Global, names: &[Text], contents: &[Bytes]) -> Result<Linked, Stop>
+/// The program that these class files link to.
+///
+/// # Errors
+/// `Refused` with the line of the first file that is over 16,777,216 bytes or that isn't a class
+/// file; else of the first flaw of the lowest number, where the files don't link. `Memory` where
+/// memory is wanted.
+pub fn program(alloc: Global, names: &[Text], contents: &[Bytes]) -> Result<Linked, Stop>
     requires { length names.now ≡ length contents.now }
     ensures { IsProgramOf (sources names.now contents.now) result }
 {

@@ -9,6 +9,6 @@ mod mains;
 mod ran;
 mod reading;
 
-pub use execution::exec_roles;
+pub use execution::{exec_roles, program};
 pub use mg_runs::{RoleMain, RoleRan, Stand};
 pub use ran::Ran;

@@ -7,7 +7,8 @@ use Rattle.mg_top.specs.declared.status.Status.TheVariants as statuses
 use Rattle.mg_top.specs.declared.delivery.Action.{Action}
 use Rattle.mg_top.specs.declared.delivery.Action.TheVariants.{Print, Say}
 use Rattle.mg_top.specs.declared.delivery.Delivery.{Delivery}
-use Rattle.mg_words.specs.Words.{Word, Asked, limit_of, order_of, are_named, Command, Check, Run, Refine, files_of, IsCommand, IsFileOf}
+use Rattle.mg_words.specs.Words.{Word, Asked, limit_of, order_of, are_named, Command, Check, Run, Refine, Verify, files_of, IsCommand}
+use Rattle.mg_words.specs.Words.{IsFileOf}
 use Rattle.mg_top.specs.Lines.{read_line, memory_line}
 use Rattle.mg_compile.specs.declared.files.ClassFile.{ClassFile}
 use Rattle.vm_world_law.specs.declared.role.RoleMain.{RoleMain}
@@ -22,7 +23,8 @@ use Rattle.mg_runs.specs.Runs.{names_of}
 use Rattle.mg_runs.specs.Headline.{Course}
 use Rattle.mg_runs.specs.View.{Shows, IsOfRun}
 use Rattle.mg_top.specs.Commands.{Yields, prints, kept_in, role_mains_of, run_said, run_printed, status_of, checked, ran, refined}
-use Rattle.mg_top.specs.Commands.{refined_status}
+use Rattle.mg_top.specs.Commands.{refined_status, verified}
+use Rattle.mg_verified.specs.Verified.{AreVerified}
 use Rattle.mg_refined.specs.Refined.{AreJudged}
 use Rattle.mg_top.specs.Commands as commands
 use Rattle.mg_read.specs.First.{Judged, with_earlier}
@@ -66,6 +68,15 @@ report_given files contents core (Ok d) a k =
     subst (λ (z : List Action). Yields (Check files) contents z d.status) (sym k.says)
     (subst (λ (z : Status). Yields (Check files) contents (prints k.text) z) (sym k.done) (commands.check (checked core a k.report)))
 report_given files contents core (Err e) a k = tt
+
+-- how many methods were verified
+pub verified_given : (files : List Word) (contents : List (List ℕ)) (line given : List ℕ) (r : Result Delivery Memory) → given ≡ line
+    → AreVerified (sources files contents) line → IfOk r (λ d. d.actions.items ≡ Print given ∷ []) → IfOk r (λ d. d.status ≡ statuses.Done)
+    → IfOk r (λ d. Yields (Verify files) contents d.actions.items d.status)
+verified_given files contents line given (Ok d) e h a s =
+    subst (λ (z : List Action). Yields (Verify files) contents z d.status) (sym (a ∙ ap (λ (t : List ℕ). Print t ∷ []) e))
+    (subst (λ (z : Status). Yields (Verify files) contents (Print line ∷ []) z) (sym s) (commands.verify (verified h)))
+verified_given files contents line given (Err x) e h a s = tt
 
 -- what is told of two typestates
 pub told_given : (files : List Word) (contents : List (List ℕ)) (text given : List ℕ) (stands : Bool) (status : Status)

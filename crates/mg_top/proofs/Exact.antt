@@ -38,6 +38,8 @@ use Rattle.mg_top.specs.Commands.{checked, not_checked}
 use Rattle.mg_top.specs.Commands.{CompileGives, compiled, not_compiled, RunGives, ran, not_run, ExecGives, executed, not_executed}
 use Rattle.mg_top.specs.Commands.{RefineGives, refined, not_refined, refined_status, ProjectGives, projected, not_projected, role_mains_of}
 use Rattle.mg_top.specs.Commands.{status_of, Yields}
+use Rattle.mg_verified.proofs.Apart.{not_refused as not_unverified}
+use Rattle.mg_top.specs.Commands.{VerifyGives, verified, not_verified}
 use Rattle.mg_top.specs.Commands.{LoadGives, loaded, not_loaded, load_asked, load_sources}
 use Rattle.mg_top.specs.Commands as commands
 use Rattle.mg_top.specs.Promises.{IsYielded}
@@ -194,6 +196,13 @@ exec_status {asked = asked} {files = files} (not_executed {line = line} q) (exec
     absurd (not_stopped files (role_mains_of asked) (order_of asked) (limit_of asked) r line h q)
 exec_status (not_executed q) (not_executed p) = refl
 
+-- of class files one number is told
+verify_status : {files : List Source} {xa xb : List Action} {m n : Status} → VerifyGives files xa m → VerifyGives files xb n → m ≡ n
+verify_status (verified h) (verified k) = refl
+verify_status {files = files} (verified {line = line} h) (not_verified {line = said} r) = absurd (not_unverified files line said h r)
+verify_status {files = files} (not_verified {line = said} r) (verified {line = line} h) = absurd (not_unverified files line said h r)
+verify_status (not_verified r) (not_verified q) = refl
+
 pub one_status : {command : Command} {contents : List (List ℕ)} {xa xb : List Action} {m n : Status} → Yields command contents xa m →
     Yields command contents xb n → m ≡ n
 one_status (commands.translate y) (commands.translate z) = translate_status y z
@@ -205,6 +214,7 @@ one_status (commands.exec y) (commands.exec z) = exec_status y z
 one_status (commands.refine y) (commands.refine z) = refine_status y z
 one_status (commands.project y) (commands.project z) = project_status y z
 one_status (commands.load y) (commands.load z) = load_status y z
+one_status (commands.verify y) (commands.verify z) = verify_status y z
 
 -- ---- the statuses that a command may have
 
@@ -263,6 +273,8 @@ proper (commands.project (projected written h)) = done_proper
 proper (commands.project (not_projected r)) = refused_proper
 proper (commands.load (loaded r h)) = stands_proper (stands_in r.program r.last)
 proper (commands.load (not_loaded r)) = refused_proper
+proper (commands.verify (verified h)) = done_proper
+proper (commands.verify (not_verified r)) = refused_proper
 
 -- ---- what is said of a refusal
 
@@ -318,6 +330,8 @@ refusal_says (commands.project (projected written h)) e = absurd cc
 refusal_says (commands.project (not_projected {line = line} r)) e = inl (line, refl)
 refusal_says (commands.load (loaded r h)) e = absurd (never_refused (stands_in r.program r.last) e)
 refusal_says (commands.load (not_loaded {line = line} r)) e = inl (line, refl)
+refusal_says (commands.verify (verified h)) e = absurd cc
+refusal_says (commands.verify (not_verified {line = line} r)) e = inl (line, refl)
 
 -- ---- no command is broken but that of class files
 
@@ -367,4 +381,6 @@ broken_command (commands.load {branches = n} {seed = seed} (loaded r h)) e =
     (list_any is_waiting all)
     (none_broken (load_sources n seed) (role_mains_of load_asked) (order_of load_asked) (limit_of load_asked) r h) e)
 broken_command (commands.load (not_loaded r)) e = absurd cc
+broken_command (commands.verify (verified h)) e = absurd cc
+broken_command (commands.verify (not_verified r)) e = absurd cc
 broken_command (commands.exec {asked = asked} {files = files} y) e = (asked, files, refl)

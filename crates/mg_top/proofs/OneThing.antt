@@ -14,7 +14,7 @@ use Rattle.mg_calls.proofs.Laws.{one_list}
 use Rattle.jv_core.specs.Tree as Core
 use Rattle.use_check.specs.Report.{IsReport}
 use Rattle.use_check.proofs.Reporting.{one_report}
-use Rattle.mg_words.specs.Words.{Word, Asked, limit_of, order_of, Command, Exec}
+use Rattle.mg_words.specs.Words.{Word, Asked, limit_of, order_of, Command, Exec, Verify}
 use Rattle.vm_world_law.specs.Turns.{stands_in}
 use Rattle.mg_sources.specs.Files.{Source}
 use Rattle.mg_sources.specs.Faults.{fault_line, AreAlike}
@@ -51,6 +51,8 @@ use Rattle.mg_top.specs.Commands.{TranslateGives, translated, not_translated, Co
 use Rattle.mg_top.specs.Commands.{checked, not_checked}
 use Rattle.mg_top.specs.Commands.{CompileGives, compiled, not_compiled, RunGives, ran, not_run, ExecGives, executed, not_executed}
 use Rattle.mg_top.specs.Commands.{RefineGives, refined, not_refined, ProjectGives, projected, not_projected, Yields}
+use Rattle.mg_verified.proofs.Apart.{one_line}
+use Rattle.mg_top.specs.Commands.{VerifyGives, verified, not_verified}
 use Rattle.mg_top.specs.Commands.{LoadGives, loaded, not_loaded, load_asked, load_sources}
 use Rattle.mg_top.specs.Commands as commands
 use Rattle.mg_top.specs.Once.{SameActions, YieldsOnce}
@@ -161,6 +163,13 @@ project_once {folder = folder} {files = files} (projected written h) (projected 
 project_once (projected written h) (not_projected q) e ne = absurd (ne e)
 project_once (not_projected r) z e ne = absurd (ne refl)
 
+verify_once : {files : List Source} {a b : List Action} {m n : Status} → VerifyGives files a m → VerifyGives files b n → m ≡ n →
+    m ≢ statuses.Refused → a ≡ b
+verify_once {files = files} (verified {line = x} h) (verified {line = y} k) e ne =
+    ap (λ (line : List ℕ). Print line ∷ []) (one_line files x y h k)
+verify_once (verified h) (not_verified q) e ne = absurd (ne e)
+verify_once (not_verified r) z e ne = absurd (ne refl)
+
 -- ---- run and exec
 
 abbrev run_actions : Asked → Course → List Action
@@ -225,6 +234,7 @@ same_actions (commands.exec y) (commands.exec z) e ne = exec_once y z e ne
 same_actions (commands.refine y) (commands.refine z) e ne = refine_once y z e ne
 same_actions (commands.project y) (commands.project z) e ne = project_once y z e ne
 same_actions (commands.load y) (commands.load z) e ne = load_once y z e ne
+same_actions (commands.verify y) (commands.verify z) e ne = verify_once y z e ne
 
 -- ---- what is refused
 
@@ -380,16 +390,18 @@ conform_alike {calls = calls} (no_calls {line = l} local o r) (no_calls {line = 
     say l k (inl (lists_alike calls l k r q))
 
 alike : {command : Command} {contents : List (List ℕ)} {a b : List Action} {m n : Status} → Yields command contents a m →
-    Yields command contents b n → m ≡ n → ((asked : Asked) (files : List Word) → command ≢ Exec asked files) → SameActions a b
-alike (commands.translate y) (commands.translate z) e ne = translate_alike y z e
-alike (commands.conform y) (commands.conform z) e ne = conform_alike y z e
-alike (commands.check y) (commands.check z) e ne = check_alike y z e
-alike (commands.compile y) (commands.compile z) e ne = compile_alike y z e
-alike (commands.run y) (commands.run z) e ne = run_alike y z e
-alike (commands.exec {asked = asked} {files = files} y) z e ne = absurd (ne asked files refl)
-alike (commands.refine y) (commands.refine z) e ne = refine_alike y z e
-alike (commands.project y) (commands.project z) e ne = project_alike y z e
-alike (commands.load y) (commands.load z) e ne = load_alike y z e
+    Yields command contents b n → m ≡ n → ((asked : Asked) (files : List Word) → command ≢ Exec asked files) →
+    ((files : List Word) → command ≢ Verify files) → SameActions a b
+alike (commands.translate y) (commands.translate z) e ne nv = translate_alike y z e
+alike (commands.conform y) (commands.conform z) e ne nv = conform_alike y z e
+alike (commands.check y) (commands.check z) e ne nv = check_alike y z e
+alike (commands.compile y) (commands.compile z) e ne nv = compile_alike y z e
+alike (commands.run y) (commands.run z) e ne nv = run_alike y z e
+alike (commands.exec {asked = asked} {files = files} y) z e ne nv = absurd (ne asked files refl)
+alike (commands.refine y) (commands.refine z) e ne nv = refine_alike y z e
+alike (commands.project y) (commands.project z) e ne nv = project_alike y z e
+alike (commands.load y) (commands.load z) e ne nv = load_alike y z e
+alike (commands.verify {files = files} y) z e ne nv = absurd (nv files refl)
 
 pub yields_once : YieldsOnce
 yields_once command contents a b m n y z =

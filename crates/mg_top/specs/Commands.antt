@@ -21,6 +21,8 @@ use Rattle.mg_runs.specs.Commanded as running
 use Rattle.mg_refined.specs.Refined.{AreJudged}
 use Rattle.mg_refined.specs.Refined as refining
 use Rattle.mg_exec.specs.Runs as executing
+use Rattle.mg_verified.specs.Verified.{AreVerified}
+use Rattle.mg_verified.specs.Verified as verifying
 use Rattle.mg_load.specs.Workload.{file_names, file_texts, loaded_line}
 use Rattle.mg_projected.specs.declared.files.RoleFile.{RoleFile}
 use Rattle.mg_projected.specs.Told.{AreWritten}
@@ -31,7 +33,7 @@ use Rattle.mg_top.specs.declared.status.Status.TheVariants as statuses
 use Rattle.mg_top.specs.declared.delivery.Action.{Action}
 use Rattle.mg_top.specs.declared.delivery.Action.TheVariants.{Print, Say}
 use Rattle.mg_words.specs.Words.{Word, RoleClass, Asked, limit_of, mains_of, order_of, are_named, Command, Translate, Conform, Check}
-use Rattle.mg_words.specs.Words.{Compile, Run, Exec, Refine, Project, Load, Several}
+use Rattle.mg_words.specs.Words.{Compile, Run, Exec, Refine, Project, Load, Verify, Several}
 use Rattle.mg_sources.specs.Files.{Source, source_of, sources}
 use Rattle.mg_sources.specs.Reading.{Protocol, Reads}
 use Rattle.mg_sources.specs.Sources.{IsRefused, Refusal}
@@ -156,6 +158,11 @@ pub data ProjectGives (folder : Option Word) (files : List Source) : List Action
   projected : (written : List RoleFile) → AreWritten files written → ProjectGives folder files (roles_written folder written) Done
   not_projected : {line : List ℕ} → projecting.Refusal files line → ProjectGives folder files (Say line ∷ []) Refused
 
+-- how many methods class files have, where each has a typing
+pub data VerifyGives (files : List Source) : List Action → Status → Type 0 where
+  verified : {line : List ℕ} → AreVerified files line → VerifyGives files (Print line ∷ []) Done
+  not_verified : {line : List ℕ} → verifying.Refusal files line → VerifyGives files (Say line ∷ []) Refused
+
 -- A command gives this: one case a command.
 pub data Yields : Command → List (List ℕ) → List Action → Status → Type 0 where
   translate : {folder : Option Word} {files : List Word} {contents : List (List ℕ)} {actions : List Action} {status : Status} →
@@ -177,3 +184,5 @@ pub data Yields : Command → List (List ℕ) → List Action → Status → Typ
       ProjectGives folder (sources files contents) actions status → Yields (Project folder files) contents actions status
   load : {branches seed : ℕ} {contents : List (List ℕ)} {actions : List Action} {status : Status} →
       LoadGives branches seed actions status → Yields (Load branches seed) contents actions status
+  verify : {files : List Word} {contents : List (List ℕ)} {actions : List Action} {status : Status} →
+      VerifyGives (sources files contents) actions status → Yields (Verify files) contents actions status

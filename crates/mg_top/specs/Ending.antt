@@ -5,7 +5,8 @@ use Rattle.mg_top.specs.declared.status.Status.{Status}
 use Rattle.mg_top.specs.declared.status.Status.TheVariants as statuses
 use Rattle.mg_top.specs.declared.delivery.Action.{Action}
 use Rattle.mg_top.specs.declared.delivery.Action.TheVariants.{Say}
-use Rattle.mg_words.specs.Words.{Word, Command, Translate, Conform, Check, Compile, Run, Exec, Refine, Project, Load, files_of, IsCommand}
+use Rattle.mg_words.specs.Words.{Word, Command, Translate, Conform, Check, Compile, Run, Exec, Refine, Project, Load, Verify, files_of}
+use Rattle.mg_words.specs.Words.{IsCommand}
 use Rattle.mg_words.specs.Words.{AreWrong}
 use Rattle.mg_top.specs.Lines.{words_line, read_line, memory_line}
 use Rattle.mg_top.specs.Outside.{Outside, IsRead}
@@ -23,6 +24,7 @@ read_limit (Refine files) = 1048577
 read_limit (Project folder files) = 1048577
 read_limit (Load branches seed) = 1048577
 read_limit (Exec asked files) = 16777217
+read_limit (Verify files) = 16777217
 
 -- these contents were read of the files, in their order, of each at most so many bytes
 abbrev pub AreRead : (limit : ℕ) → Option Files → List Word → List (List ℕ) → Type 0

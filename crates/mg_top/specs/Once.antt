@@ -1,6 +1,6 @@
 -- What a command gives is one thing.
 use Rattle.std.specs.Prelude.{◌≡◌, ◌≢◌, ◌⊎◌, ℕ, List, [], ◌∷◌}
-use Rattle.mg_words.specs.Words.{Word, Asked, Command, Exec}
+use Rattle.mg_words.specs.Words.{Word, Asked, Command, Exec, Verify}
 use Rattle.mg_sources.specs.Faults.{SaySyntax}
 use Rattle.mg_top.specs.declared.status.Status.{Status}
 use Rattle.mg_top.specs.declared.status.Status.TheVariants as statuses
@@ -15,7 +15,8 @@ SameActions a b = (a ≡ b) ⊎ ((line other : List ℕ) × (a ≡ Say line ∷ 
 -- Of the same contents a command gives one status, and the same actions; of class files as they are that is said where they aren't refused.
 pub record OneYield (command : Command) (a b : List Action) (m n : Status) : Type 0 where
   pub status : m ≡ n
-  pub actions : ((asked : Asked) (files : List Word) → command ≢ Exec asked files) → SameActions a b
+  pub actions : ((asked : Asked) (files : List Word) → command ≢ Exec asked files) → ((files : List Word) → command ≢ Verify files) →
+      SameActions a b
   pub done : m ≢ statuses.Refused → a ≡ b
 
 abbrev pub YieldsOnce : Type 0

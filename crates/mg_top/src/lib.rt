@@ -18,6 +18,7 @@ mod run;
 mod status;
 mod top;
 mod translate;
+mod verify;
 
 pub use status::Status;
 pub use top::mungo;

@@ -20,6 +20,7 @@ use crate::reading::{Unread, read_all};
 use crate::refine::refine;
 use crate::run::run;
 use crate::translate::translate;
+use crate::verify::verify;
 use crate::{Status, lines};
 use mg_io::{Folder, Sink};
 use mg_text::{Bytes, Memory, Text};
@@ -57,6 +58,7 @@ const CLASS_LIMIT: usize = 16_777_217;
 /// `exec [--steps N] [--order A,B,..] [--trace] (--main C | --role R=C ..) F..` runs class files as they
 /// are, in the same way: nothing is asked of how they were made, so that a role may also end at a null
 /// or because its code is wrong. What a method answered is told as a number in the trace.
+/// `verify F..` tells how many methods the class files have, where each of them has a typing.
 /// `load N SEED` makes the files of a workload of two roles that answer each other, over a choice of
 /// N branches, from 1 to 400, in 4 * N rounds that the number SEED picks, and runs them as `run` does,
 /// up to 20,000,000 instructions. Behind what was printed stands how many rounds and messages there
@@ -118,7 +120,7 @@ fn read_limit(command: &Command<'_>) -> usize
         | Command::Refine { .. }
         | Command::Project { .. }
         | Command::Load { .. } => SOURCE_LIMIT,
-        Command::Exec { .. } => CLASS_LIMIT,
+        Command::Exec { .. } | Command::Verify { .. } => CLASS_LIMIT,
     }
 }
 
@@ -145,5 +147,6 @@ fn carry_out(alloc: Global, command: &Command<'_>, contents: &[Bytes]) -> Result
         Command::Refine { files } => refine(alloc, files, contents),
         Command::Project { folder, files } => project(alloc, folder, files, contents),
         Command::Load { branches, seed } => load(alloc, branches, seed),
+        Command::Verify { files } => verify(alloc, files, contents),
     }
 }

@@ -3,6 +3,7 @@ pub mod WordsLemmas
 pub mod RefineLemmas
 pub mod ProjectLemmas
 pub mod LoadLemmas
+pub mod VerifyLemmas
 pub mod NameLemmas
 pub mod RoleLemmas
 pub mod OptionLemmas

@@ -1,8 +1,9 @@
 -- Which words are the command `refine`, and which can't follow.
 use Rattle.std.proofs.Common.{◌≡◌, List, [], ◌∷◌, All, length, Some, None, codes, refl, sym, ap, ◌∙◌, subst}
 use Rattle.mg_sources.specs.Files.{EndsWith}
-use Rattle.mg_words.specs.Words.{Word, Command, Translate, Conform, Check, Compile, Run, Exec, Refine, Project, Load, IsFileOf}
+use Rattle.mg_words.specs.Words.{Word, Command, Translate, Conform, Check, Compile, Run, Exec, Refine, Project, Load, Verify, IsFileOf}
 use Rattle.mg_words.specs.Words.{AreTwoTypestates, IsBehind, IsCommand, AreCommand, CanBegin, AreWrong}
+use Rattle.mg_words.proofs.Verbs.{refine_verify}
 use Rattle.mg_words.proofs.Verbs.{refine, translate_refine, conform_refine, check_refine, compile_refine, run_refine, exec_refine}
 use Rattle.mg_words.proofs.Verbs.{refine_project, refine_load}
 use Rattle.mg_words.proofs.WordsLemmas.{head_is, tail_is, filled, empty_is, All-cons, All-one, few, wrong_at}
@@ -44,6 +45,7 @@ is_refine (Exec asked files) rest (r, e, b) = exec_refine (sym (head_is e))
 is_refine (Refine files) rest (r, e, b) = (files, refl, subst (IsBehind (Refine files)) (sym (tail_is e)) b)
 is_refine (Project folder files) rest (r, e, b) = refine_project (head_is e)
 is_refine (Load branches seed) rest (r, e, b) = refine_load (head_is e)
+is_refine (Verify files) rest (r, e, b) = refine_verify (head_is e)
 
 first_word : (command : Command) (p : Word) (more : List Word) → IsCommand command (refine ∷ p ∷ more) → IsFileOf (codes ".protocol") p
 first_word command p more is =

@@ -29,6 +29,9 @@ project = codes "project"
 abbrev pub load : Word
 load = codes "load"
 
+abbrev pub verify : Word
+verify = codes "verify"
+
 pub translate_conform : {P : Type 0} → translate ≡ conform → P
 translate_conform e = absurd (omega (arith, ap length e))
 
@@ -136,3 +139,30 @@ refine_load e = absurd (omega (arith, ap length e))
 
 pub project_load : {P : Type 0} → project ≡ load → P
 project_load e = absurd (omega (arith, ap length e))
+
+pub translate_verify : {P : Type 0} → translate ≡ verify → P
+translate_verify e = absurd (omega (arith, ap length e))
+
+pub conform_verify : {P : Type 0} → conform ≡ verify → P
+conform_verify e = absurd (omega (arith, ap length e))
+
+pub check_verify : {P : Type 0} → check ≡ verify → P
+check_verify e = absurd (omega (arith, ap length e))
+
+pub compile_verify : {P : Type 0} → compile ≡ verify → P
+compile_verify e = absurd (omega (arith, ap length e))
+
+pub run_verify : {P : Type 0} → run ≡ verify → P
+run_verify e = absurd (omega (arith, ap length e))
+
+pub exec_verify : {P : Type 0} → exec ≡ verify → P
+exec_verify e = absurd (omega (arith, ap length e))
+
+pub refine_verify : {P : Type 0} → refine ≡ verify → P
+refine_verify e = absurd (omega (arith, ap (λ (w : Word). get_or w 0 0) e))
+
+pub project_verify : {P : Type 0} → project ≡ verify → P
+project_verify e = absurd (omega (arith, ap length e))
+
+pub load_verify : {P : Type 0} → load ≡ verify → P
+load_verify e = absurd (omega (arith, ap length e))

@@ -9,7 +9,8 @@ use Rattle.std.specs.List.{ends_with, list_all}
 use Rattle.mg_read.specs.Passes.{AllPasses}
 use Rattle.scr_tree.specs.Words.{reserved, IsName}
 use Rattle.mg_sources.specs.Files.{EndsWith, Kind, Scribble, Typestates, Java, suffix_of, HaveKinds}
-use Rattle.mg_words.specs.Words.{Word, Command, Translate, Conform, Check, Compile, Run, Exec, Refine, Project, Load, Asked, AreOptions}
+use Rattle.mg_words.specs.Words.{Word, Command, Translate, Conform, Check, Compile, Run, Exec, Refine, Project, Load, Verify, Asked}
+use Rattle.mg_words.specs.Words.{AreOptions}
 use Rattle.mg_words.specs.Words.{AreProtocolAndCalls, IsFileName, IsFileOf, IsSourceName, AreSourceNames, AreFilesOf, out_words, verb}
 use Rattle.mg_words.specs.Words.{IsBehind, IsCommand, AreCommand, CanBegin, AreWrong}
 use Rattle.mg_words.proofs.Verbs.{translate, conform, check, compile, run, exec, refine, project, load, translate_conform, translate_check}
@@ -18,6 +19,7 @@ use Rattle.mg_words.proofs.Verbs.{compile_run, translate_exec, conform_exec, che
 use Rattle.mg_words.proofs.Verbs.{conform_refine, check_refine, compile_refine, run_refine, exec_refine, translate_project, conform_project}
 use Rattle.mg_words.proofs.Verbs.{check_project, compile_project, run_project, exec_project, translate_load, conform_load, check_load}
 use Rattle.mg_words.proofs.Verbs.{compile_load, run_load, exec_load}
+use Rattle.mg_words.proofs.Verbs.{verify, translate_verify, conform_verify, check_verify, compile_verify, run_verify, exec_verify}
 use Rattle.mg_words.specs.declared.runs.Input.{Input}
 use Rattle.mg_words.specs.declared.runs.Input.TheVariants as input
 use Rattle.mg_words.specs.inner.Judging.{IsFirstOther, made, verb_of, IsFor, AreFor, Keeps}
@@ -204,6 +206,7 @@ begins_class_out = let b = begins_classes (Some some_class) [] is_name (none_yet
 first_word : (command : Command)
     → (verb command ≡ translate) ⊎ (verb command ≡ conform) ⊎ (verb command ≡ check) ⊎ (verb command ≡ compile) ⊎ (verb command ≡ run)
     ⊎ (verb command ≡ exec) ⊎ (verb command ≡ refine) ⊎ (verb command ≡ project) ⊎ (verb command ≡ load)
+    ⊎ (verb command ≡ verify)
 first_word (Translate folder files) = inl refl
 first_word (Conform files) = inr (inl refl)
 first_word (Check files) = inr (inr (inl refl))
@@ -212,7 +215,8 @@ first_word (Run asked files) = inr (inr (inr (inr (inl refl))))
 first_word (Exec asked files) = inr (inr (inr (inr (inr (inl refl)))))
 first_word (Refine files) = inr (inr (inr (inr (inr (inr (inl refl))))))
 first_word (Project folder files) = inr (inr (inr (inr (inr (inr (inr (inl refl)))))))
-first_word (Load branches seed) = inr (inr (inr (inr (inr (inr (inr (inr refl)))))))
+first_word (Load branches seed) = inr (inr (inr (inr (inr (inr (inr (inr (inl refl))))))))
+first_word (Verify files) = inr (inr (inr (inr (inr (inr (inr (inr (inr refl))))))))
 
 none_is_none : (command : Command) → IsCommand command [] → ⊥
 none_is_none command (rest, e, b) = filled e
@@ -229,6 +233,7 @@ is_translate (Exec asked files) rest (r, e, b) = translate_exec (head_is e)
 is_translate (Refine files) rest (r, e, b) = translate_refine (head_is e)
 is_translate (Project folder files) rest (r, e, b) = translate_project (head_is e)
 is_translate (Load branches seed) rest (r, e, b) = translate_load (head_is e)
+is_translate (Verify files) rest (r, e, b) = translate_verify (head_is e)
 
 pub is_conform : (command : Command) (rest : List Word) → IsCommand command (conform ∷ rest)
     → (files : List Word) × (command ≡ Conform files) × IsBehind (Conform files) rest
@@ -241,6 +246,7 @@ is_conform (Exec asked files) rest (r, e, b) = conform_exec (head_is e)
 is_conform (Refine files) rest (r, e, b) = conform_refine (head_is e)
 is_conform (Project folder files) rest (r, e, b) = conform_project (head_is e)
 is_conform (Load branches seed) rest (r, e, b) = conform_load (head_is e)
+is_conform (Verify files) rest (r, e, b) = conform_verify (head_is e)
 
 pub is_check : (command : Command) (rest : List Word) → IsCommand command (check ∷ rest)
     → (files : List Word) × (command ≡ Check files) × IsBehind (Check files) rest
@@ -253,6 +259,7 @@ is_check (Exec asked files) rest (r, e, b) = check_exec (head_is e)
 is_check (Refine files) rest (r, e, b) = check_refine (head_is e)
 is_check (Project folder files) rest (r, e, b) = check_project (head_is e)
 is_check (Load branches seed) rest (r, e, b) = check_load (head_is e)
+is_check (Verify files) rest (r, e, b) = check_verify (head_is e)
 
 pub is_compile : (command : Command) (rest : List Word) → IsCommand command (compile ∷ rest)
     → (folder : Option Word) × (files : List Word) × (command ≡ Compile folder files) × IsBehind (Compile folder files) rest
@@ -265,6 +272,7 @@ is_compile (Exec asked files) rest (r, e, b) = compile_exec (head_is e)
 is_compile (Refine files) rest (r, e, b) = compile_refine (head_is e)
 is_compile (Project folder files) rest (r, e, b) = compile_project (head_is e)
 is_compile (Load branches seed) rest (r, e, b) = compile_load (head_is e)
+is_compile (Verify files) rest (r, e, b) = compile_verify (head_is e)
 
 -- what stands behind the word of a run
 abbrev pub IsRunBehind : Input → Asked → (files rest : List Word) → Type 0
@@ -282,6 +290,7 @@ is_run input.Sources (Exec asked files) rest (r, e, b) = run_exec (head_is e)
 is_run input.Sources (Refine files) rest (r, e, b) = run_refine (head_is e)
 is_run input.Sources (Project folder files) rest (r, e, b) = run_project (head_is e)
 is_run input.Sources (Load branches seed) rest (r, e, b) = run_load (head_is e)
+is_run input.Sources (Verify files) rest (r, e, b) = run_verify (head_is e)
 is_run input.Classes (Translate folder files) rest (r, e, b) = translate_exec (sym (head_is e))
 is_run input.Classes (Conform files) rest (r, e, b) = conform_exec (sym (head_is e))
 is_run input.Classes (Check files) rest (r, e, b) = check_exec (sym (head_is e))
@@ -292,6 +301,7 @@ is_run input.Classes (Exec asked files) rest (r, e, (options, is, how, none, are
 is_run input.Classes (Refine files) rest (r, e, b) = exec_refine (head_is e)
 is_run input.Classes (Project folder files) rest (r, e, b) = exec_project (head_is e)
 is_run input.Classes (Load branches seed) rest (r, e, b) = exec_load (head_is e)
+is_run input.Classes (Verify files) rest (r, e, b) = exec_verify (head_is e)
 
 -- and such words are that command
 pub run_is : (k : Input) (asked : Asked) (files rest : List Word) → IsRunBehind k asked files rest →
@@ -458,12 +468,12 @@ wrong_at before rest word more e can cannot = subst (λ (ws : List Word). AreWro
 pub wrong_command : (rest : List Word) (word : Word) (more : List Word) → rest ≡ word ∷ more → (word ≡ translate → ⊥)
     → (word ≡ conform → ⊥)
     → (word ≡ check → ⊥) → (word ≡ compile → ⊥) → (word ≡ run → ⊥) → (word ≡ exec → ⊥) → (word ≡ refine → ⊥)
-    → (word ≡ project → ⊥) → (word ≡ load → ⊥) → AreWrong rest (Some word)
+    → (word ≡ project → ⊥) → (word ≡ load → ⊥) → (word ≡ verify → ⊥) → AreWrong rest (Some word)
 wrong_command rest word more e is_no_translate is_no_conform is_no_check is_no_compile is_no_run is_no_exec is_no_refine is_no_project
-    is_no_load =
+    is_no_load is_no_verify =
     wrong_at [] rest word more e begins_empty (λ b. cannot b.0 b.1.0 b.1.1) where
       neither : (word ≡ translate) ⊎ (word ≡ conform) ⊎ (word ≡ check) ⊎ (word ≡ compile) ⊎ (word ≡ run) ⊎ (word ≡ exec) ⊎ (word ≡ refine)
-          ⊎ (word ≡ project) ⊎ (word ≡ load) → ⊥
+          ⊎ (word ≡ project) ⊎ (word ≡ load) ⊎ (word ≡ verify) → ⊥
       neither (inl h) = is_no_translate h
       neither (inr (inl h)) = is_no_conform h
       neither (inr (inr (inl h))) = is_no_check h
@@ -472,13 +482,14 @@ wrong_command rest word more e is_no_translate is_no_conform is_no_check is_no_c
       neither (inr (inr (inr (inr (inr (inl h)))))) = is_no_exec h
       neither (inr (inr (inr (inr (inr (inr (inl h))))))) = is_no_refine h
       neither (inr (inr (inr (inr (inr (inr (inr (inl h)))))))) = is_no_project h
-      neither (inr (inr (inr (inr (inr (inr (inr (inr h)))))))) = is_no_load h
+      neither (inr (inr (inr (inr (inr (inr (inr (inr (inl h))))))))) = is_no_load h
+      neither (inr (inr (inr (inr (inr (inr (inr (inr (inr h))))))))) = is_no_verify h
 
       cannot : (after : List Word) (command : Command) → IsCommand command (word ∷ after) → ⊥
       cannot after command (r, is, behind) = neither
           (subst (λ (w : Word). (w ≡ translate) ⊎ (w ≡ conform) ⊎ (w ≡ check) ⊎ (w ≡ compile) ⊎ (w ≡ run) ⊎ (w ≡ exec) ⊎ (w ≡ refine)
           ⊎ (w ≡ project)
-          ⊎ (w ≡ load))
+          ⊎ (w ≡ load) ⊎ (w ≡ verify))
           (sym (head_is is)) (first_word command))
 
 pub wrong_protocol : (rest : List Word) (word : Word) (more : List Word) → rest ≡ word ∷ more → (IsFileOf (codes ".scr") word → ⊥)

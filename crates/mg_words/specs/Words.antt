@@ -79,6 +79,8 @@ pub data Command : Type 0 where
   Project : (folder : Option Word) → (files : List Word) → Command
   -- run the workload of so many branches, whose order a number picks
   Load : (branches seed : ℕ) → Command
+  -- tell how many methods these class files have, where each has a typing
+  Verify : (files : List Word) → Command
 
 -- the files that a command reads, in their order
 abbrev pub files_of : Command → List Word
@@ -91,6 +93,7 @@ files_of (Exec asked files) = files
 files_of (Refine files) = files
 files_of (Project folder files) = files
 files_of (Load branches seed) = []
+files_of (Verify files) = files
 
 -- no name of a file or folder is empty or begins with "-"
 abbrev pub IsFileName : Word → Type 0
@@ -233,6 +236,7 @@ verb (Exec asked files) = codes "exec"
 verb (Refine files) = codes "refine"
 verb (Project folder files) = codes "project"
 verb (Load branches seed) = codes "load"
+verb (Verify files) = codes "verify"
 
 -- the words behind the first: options and then files, or numbers
 abbrev pub IsBehind : Command → List Word → Type 0
@@ -243,6 +247,7 @@ IsBehind (Compile folder files) rest = (rest ≡ out_words folder ++ files) × I
 IsBehind (Refine files) rest = (rest ≡ files) × AreTwoTypestates files
 IsBehind (Project folder files) rest = (rest ≡ out_words folder ++ files) × IfSome folder IsFileName × IsOneProtocol files
 IsBehind (Load branches seed) rest = (rest ≡ decimal branches ∷ decimal seed ∷ []) × IsWorkload branches seed
+IsBehind (Verify files) rest = (rest ≡ files) × AreFilesOf (codes ".class") files
 IsBehind (Run asked files) rest = (options : List Word) × (rest ≡ options ++ files) × AreOptions asked options × AreSourceNames files
 IsBehind (Exec asked files) rest =
     (options : List Word) × (rest ≡ options ++ files) × AreOptions asked options × (asked.folder ≡ None) × AreFilesOf (codes ".class") files

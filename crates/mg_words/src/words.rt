@@ -60,6 +60,10 @@ pub enum Command<'a> {
         branches: u32,
         seed: u64,
     },
+    /// `verify`, and the class files.
+    Verify {
+        files: &'a [Text],
+    },
 }
 
 impl<'a> Command<'a> {
@@ -77,6 +81,7 @@ impl<'a> Command<'a> {
             Command::Refine { files } => files,
             Command::Project { files, .. } => files,
             Command::Load { .. } => &[],
+            Command::Verify { files } => files,
         }
     }
 }
@@ -114,6 +119,8 @@ pub fn judge(words: &[Text]) -> Judged<'_>
                 judge_project(rest)
             } else if is_word(command, "load") {
                 judge_load(rest)
+            } else if is_word(command, "verify") {
+                judge_verify(rest)
             } else {
                 Judged::Wrong(Some(command))
             }
@@ -285,6 +292,19 @@ fn judge_check(files: &[Text]) -> Judged<'_>
         return Judged::Wrong(None);
     }
     Judged::Known(Command::Check { files })
+}
+
+// The same of the words behind `verify`, which are its class files.
+fn judge_verify(files: &[Text]) -> Judged<'_>
+    ensures { IsJudged (codes "verify" ∷ files.now) result }
+{
+    if let Some(word) = other_file(files, b".class") {
+        return Judged::Wrong(Some(word));
+    }
+    if files.is_empty() {
+        return Judged::Wrong(None);
+    }
+    Judged::Known(Command::Verify { files })
 }
 
 // The same of the words behind `compile`.

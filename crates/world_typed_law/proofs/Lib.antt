@@ -1,1 +1,1 @@
-mod Suiting
+pub mod Suiting

@@ -9,7 +9,8 @@ use Rattle.std.specs.Str.{bytes_eq}
 use Rattle.mg_words.specs.declared.asked.Asked.{Asked as Kept}
 use Rattle.mg_words.specs.declared.asked.RoleClass.{RoleClass as KeptRole}
 use Rattle.mg_words.specs.Words.{Word, RoleClass, Roles, Alone, Several, role_names, Asked, Command, Translate, Conform, Check, Compile}
-use Rattle.mg_words.specs.Words.{Run, Exec, Refine, Project, Load, IsFileOf, IsSourceName, IsCommand, AreWrong, RunOption, Main, Role}
+use Rattle.mg_words.specs.Words.{Run, Exec, Refine, Project, Load, Verify, IsFileOf, IsSourceName, IsCommand, AreWrong, RunOption, Main}
+use Rattle.mg_words.specs.Words.{Role}
 use Rattle.mg_words.specs.Words.{Order, Steps, Trace, Out, option_words, IsOption, class_in, role_in, order_in, steps_in, is_trace}
 use Rattle.mg_words.specs.Words.{folder_in, AreOptions}
 use Rattle.mg_words.specs.declared.words.Command.{Command as Found}
@@ -93,6 +94,7 @@ command_of (found.Exec asked files) = Exec (asked_of asked) files.now
 command_of (found.Refine files) = Refine files.now
 command_of (found.Project folder files) = Project (option_map (λ w. w.now) folder) files.now
 command_of (found.Load branches seed) = Load branches seed
+command_of (found.Verify files) = Verify files.now
 
 -- the command that runs this, with what is asked for
 abbrev pub made : Input → Asked → (files : List Word) → Command

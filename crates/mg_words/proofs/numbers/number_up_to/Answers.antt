@@ -7,7 +7,8 @@ returns-in-None c = none_up_to c.args.most c.args.word.now (omega arith) c.in-No
 
 pub returns-then-number-eq0 : goal.returns-then-number-eq0
 returns-then-number-eq0 c =
-    other_up_to c.args.most c.args.word.now c.in-Some.number (omega arith) c.in-Some.ensures (λ low high. omega (arith, c.if-number-eq0.true))
+    other_up_to c.args.most c.args.word.now c.in-Some.number (omega arith) c.in-Some.ensures
+    (λ low high. omega (arith, c.if-number-eq0.true))
 
 pub returns-else-number-from : goal.returns-else-number-from
 returns-else-number-from c =

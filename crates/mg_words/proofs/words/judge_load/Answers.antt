@@ -9,7 +9,8 @@ returns-in_default c = wrong_branches _ _ _ c.in-Some.ensures.cases.0 c.in_defau
 
 pub returns-in-None-split_first : goal.returns-in-None-split_first
 returns-in-None-split_first c =
-    few_branches _ _ _ c.in-Some-number_up_to.branches c.in-Some.ensures.cases.0 c.in-Some-number_up_to.ensures c.in-None-split_first.ensures.cases
+    few_branches _ _ _ c.in-Some-number_up_to.branches c.in-Some.ensures.cases.0 c.in-Some-number_up_to.ensures
+    c.in-None-split_first.ensures.cases
 
 pub returns-in_default-number_of : goal.returns-in_default-number_of
 returns-in_default-number_of c =

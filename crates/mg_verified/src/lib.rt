@@ -1,0 +1,8 @@
+//! Class files from outside: they are read and linked as if they were to run, and each of their
+//! methods is tried for a typing; or the first refusal is told with its line.
+#![tactic(auto)]
+
+mod telling;
+mod verified;
+
+pub use verified::verify_files;
