@@ -1,5 +1,5 @@
 -- What a valid local protocol does has names that can be written, and no label of a look is reserved.
-use Rattle.std.proofs.Common.{◌≡◌, ◌≢◌, ℕ, List, [], ◌∷◌, ◌++◌, Bool, true, false, refl, sym, ◌∙◌}
+use Rattle.std.proofs.Common.{◌≡◌, ◌≢◌, ℕ, ◌+◌, List, [], ◌∷◌, ◌++◌, map, Bool, true, false, refl, sym, subst, ◌∙◌}
 use Rattle.std.specs.List.{AllByRecursion}
 use Rattle.std.specs.Str.{bytes_eq}
 use Rattle.std.proofs.lemmas.Slice.Eq.{bytes_eq-Decides}
@@ -10,15 +10,16 @@ use Rattle.scr_tree.specs.declared.syntax.Direction.{Direction}
 use Rattle.scr_tree.specs.declared.syntax.Direction.TheVariants as directions
 use Rattle.scr_tree.specs.declared.syntax.Payload.{Payload}
 use Rattle.scr_tree.specs.Words.{IsName as IsRoleName}
-use Rattle.scr_tree.specs.Tree.{Statements, Nothing, Says, Choice, Rec, Continue, Branches, NoBranch, Branch}
+use Rattle.scr_tree.specs.Tree.{Titled, body_in, Statements, Nothing, Says, Choice, Rec, Continue, Do, Branches, NoBranch, Branch}
 use Rattle.scr_tree.specs.Protocol.{peer_of, label_of}
-use Rattle.scr_tree.specs.Meaning.{towards}
+use Rattle.scr_tree.specs.Meaning.{choices, numbered, numbered_parts, towards}
 use Rattle.scr_tree.specs.Actions.{opened, next, next_in}
-use Rattle.scr_tree.specs.Spots.{Way, Past, Opens, Enters, spots, branch_spots}
+use Rattle.scr_tree.specs.Spots.{Way, Past, Opens, Enters, spots, branch_spots, all_spots}
 use Rattle.scr_tree.specs.Conditions.{ReservedLabel}
 use Rattle.scr_tree.specs.Valid.{AreWritten, AreWrittenIn}
-use Rattle.stm_api.specs.Doings.{Doing, Passes, Asks}
+use Rattle.stm_api.specs.Doings.{Doing, Passes, Asks, doings, all_doings}
 use Rattle.stm_api.specs.inner.Does.{labels_in, peer_in, look_at, look_unless, does, does_in}
+use Rattle.stm_api.proofs.Laws.{does_same}
 use Rattle.jv_back.proofs.Told.{IsNamed}
 use Rattle.jv_back.proofs.Files.{AreWrittenConstants}
 use Rattle.api_back.proofs.Names.{label_named}
@@ -65,6 +66,8 @@ module _ (me : Name) where
       labels_told way at (Rec p name body rest ∷ earlier) more other w.1 (behind_clean way at earlier (Rec p name body rest) more h)
   labels_told way at earlier (Branch (Continue p name rest) more) other w h =
       labels_told way at (Continue p name rest ∷ earlier) more other w.1 (behind_clean way at earlier (Continue p name rest) more h)
+  labels_told way at earlier (Branch (Do p name rest) more) other w h =
+      labels_told way at (Do p name rest ∷ earlier) more other w.1 (behind_clean way at earlier (Do p name rest) more h)
 
   -- the look at a choice elsewhere
   look_told : (way : Way) (at : Name) (n : ℕ) (bs : Branches) → at ≢ me → AreWrittenIn bs
@@ -76,6 +79,7 @@ module _ (me : Name) where
   look_told way at n (Branch (Choice p x bs rest) more) other w h = tt
   look_told way at n (Branch (Rec p name body rest) more) other w h = tt
   look_told way at n (Branch (Continue p name rest) more) other w h = tt
+  look_told way at n (Branch (Do p name rest) more) other w h = tt
 
   choice_told : (way : Way) (at : Name) (n : ℕ) (bs : Branches) (self : Bool) → bytes_eq at me ≡ self → AreWrittenIn bs
       → Clean (ReservedLabel me) (branch_spots way at [] bs) → AllByRecursion IsTold (look_unless self n bs)
@@ -103,6 +107,7 @@ module _ (me : Name) where
         all_both IsTold (does me n body) (does me (next me n body) rest) (does_told (Opens name ∷ way) body n w.1 g.0)
         (does_told later rest (next me n body) w.2 g.1)
     does_told way (Continue p name rest) n w h = does_told (Past (Continue p name Nothing) ∷ way) rest n w.1 h.1
+    does_told way (Do p name rest) n w h = does_told (Past (Do p name Nothing) ∷ way) rest n w.1 h.1
 
     does_in_told : (way : Way) (at : Name) (earlier : List Statements) (bs : Branches) (n : ℕ) → AreWrittenIn bs
         → Clean (ReservedLabel me) (branch_spots way at earlier bs) → AllByRecursion IsTold (does_in me n bs)
@@ -111,3 +116,13 @@ module _ (me : Name) where
         let g = clean_both (ReservedLabel me) (spots (Enters at earlier ∷ way) b) (branch_spots way at (b ∷ earlier) more) h in
         all_both IsTold (does me n b) (does_in me (next me n b) more) (does_told (Enters at earlier ∷ way) b n w.0 g.0)
         (does_in_told way at (b ∷ earlier) more (next me n b) w.1 g.1)
+
+  -- the same of protocols, one after another
+  pub all_told : (ts : List Titled) (n : ℕ) → AllByRecursion (λ (t : Titled). AreWritten t.body) ts →
+      Clean (ReservedLabel me) (all_spots (map body_in ts))
+      → AllByRecursion IsTold (all_doings (numbered_parts me n ts))
+  all_told [] n w h = tt
+  all_told (t ∷ ts) n w h =
+      let g = clean_both (ReservedLabel me) (spots [] t.body) (all_spots (map body_in ts)) h in
+      all_both IsTold (doings (numbered me n t.body)) (all_doings (numbered_parts me (n + choices me t.body) ts))
+      (subst (AllByRecursion IsTold) (does_same me t.body n) (does_told [] t.body n w.0 g.0)) (all_told ts (n + choices me t.body) w.1 g.1)

@@ -6,8 +6,8 @@ use Rattle.std.proofs.lemmas.List.Elements.{All-contains, All-from_recursion}
 use Rattle.mg_text.specs.Call.{Name}
 use Rattle.mg_text.specs.Places.{start_of}
 use Rattle.mg_text.specs.declared.place.Place.{Place}
-use Rattle.scr_tree.specs.Tree.{LocalTree}
-use Rattle.scr_tree.specs.Valid.{IsValid}
+use Rattle.scr_tree.specs.Tree.{LocalTree, PartTree, Titled, titled, other}
+use Rattle.scr_tree.specs.Valid.{AreWritten, IsWrittenPart, IsValid}
 use Rattle.scr_tree.specs.Words.{IsName as IsRoleName}
 use Rattle.scr_tree.specs.Meaning.{protocol_of}
 use Rattle.jv_tree.specs.Source.{File}
@@ -18,12 +18,10 @@ use Rattle.jv_back.specs.Bare.{bare_file}
 use Rattle.jv_back.proofs.Files.{IsWrittenDecl}
 use Rattle.jv_back.proofs.Members.{IsWrittenMethod}
 use Rattle.jv_back.proofs.Law.{written_spells}
-use Rattle.stm_api.specs.Doings.{Doing, Passes, Asks, doings, Firsts, none, again, first}
+use Rattle.stm_api.specs.Doings.{Doing, Passes, Asks, all_doings, Firsts, none, again, first}
 use Rattle.stm_api.specs.Api.{ApiText, IsApi, method_of, class_file, enum_of, enum_files}
-use Rattle.stm_api.specs.inner.Does.{does}
-use Rattle.stm_api.proofs.Laws.{does_same}
 use Rattle.api_back.proofs.Names.{role_class, choice_class, text_utf8}
-use Rattle.api_back.proofs.Doings.{IsTold, all_both, does_told}
+use Rattle.api_back.proofs.Doings.{IsTold, all_both, all_told}
 use Rattle.api_back.proofs.Methods.{method_fine}
 
 -- a file whose tree can be written, and that has its text
@@ -71,15 +69,18 @@ enums_fine p me (d ∷ ds) n h =
 of_each : {X : Type 0} (P : X → Type 0) (xs : List X) (x : X) → AllByRecursion P xs → Contains xs x → P x
 of_each P xs x h c = All-contains P xs x (All-from_recursion P xs h) c
 
+others_written : (ps : List PartTree) → AllByRecursion IsWrittenPart ps → AllByRecursion (λ (t : Titled). AreWritten t.body) (map other ps)
+others_written [] h = tt
+others_written (p ∷ ps) h = (h.0.body, others_written ps h.1)
+
 pub files_fine : (local : LocalTree) (files : List ApiText) → IsValid local → IsApi local files → AllByRecursion IsFineFile files
 files_fine local files valid api =
     let p : Place = start_of local.file in
     let me : IsRoleName local.me = of_each IsRoleName local.roles local.me valid.written.roles valid.me_listed in
-    let told : AllByRecursion IsTold (does local.me 1 local.body) = does_told local.me [] local.body 1 valid.written.body valid.labels_free
-    in
-    let all : AllByRecursion IsTold (doings (protocol_of local)) = subst (AllByRecursion IsTold) (does_same local.me local.body 1) told in
+    let all : AllByRecursion IsTold (all_doings (protocol_of local)) =
+    all_told local.me (titled local) 1 (valid.written.body, others_written local.others valid.written.others) valid.labels_free in
     subst (AllByRecursion IsFineFile) (sym api.are_files)
-    (class_fine p local.me api.firsts me (firsts_told api.are_firsts all), enums_fine p local.me (doings (protocol_of local)) me all)
+    (class_fine p local.me api.firsts me (firsts_told api.are_firsts all), enums_fine p local.me (all_doings (protocol_of local)) me all)
 
 pub files_are_spelled : (local : LocalTree) (files : List ApiText) (f : ApiText) (file : ℕ) → IsValid local → IsApi local files
     → Contains files f → length f.text ≤ 1048576

@@ -1,7 +1,7 @@
 //! The code of the last method of a core, over a pool of its own, and the constants of that pool.
 
 use cases::{Answer, fault_text};
-use cls_tree::Code;
+use cls_tree::{Code, Instr};
 use gen_code::{GenFault, Pool, gen_method};
 use jv_core::Core;
 use mg_text::Memory;
@@ -11,21 +11,35 @@ use std::alloc::Global;
 /// pool.
 pub(crate) fn last_code(alloc: Global, core: &Core) -> Result<String, Memory> {
     let mut answer = Answer::new(alloc);
+    tell_last(alloc, &mut answer, core)?;
+    Ok(answer.into_text())
+}
+
+fn tell_last(alloc: Global, answer: &mut Answer, core: &Core) -> Result<(), Memory> {
     let mut pool = Pool::new(alloc);
+    tell_generated(alloc, answer, core, &mut pool)?;
+    tell_pool(answer, &pool)
+}
+
+// The code of the last method over a pool, or what is too large in it.
+fn tell_generated(
+    alloc: Global,
+    answer: &mut Answer,
+    core: &Core,
+    pool: &mut Pool,
+) -> Result<(), Memory> {
     let count = core.methods().len();
     if count == 0 {
         return Err(Memory);
     }
-    let Ok(number) = u32::try_from(count - 1) else {
+    let Ok(last) = u32::try_from(count - 1) else {
         return Err(Memory);
     };
-    match gen_method(alloc, core, number, &mut pool) {
-        Ok(code) => tell_code(&mut answer, &code)?,
-        Err(GenFault::Memory) => return Err(Memory),
-        Err(fault) => answer.add(fault_text(alloc, &fault)?.as_str())?,
+    match gen_method(alloc, core, last, pool) {
+        Ok(code) => tell_code(answer, &code),
+        Err(GenFault::Memory) => Err(Memory),
+        Err(fault) => answer.add(fault_text(alloc, &fault)?.as_str()),
     }
-    tell_pool(&mut answer, &pool)?;
-    Ok(answer.into_text())
 }
 
 // The number of the name of a code, the most operands, and how many locals there are; and a line for
@@ -37,12 +51,16 @@ fn tell_code(answer: &mut Answer, code: &Code) -> Result<(), Memory> {
     answer.add(" ")?;
     answer.show(&code.max_locals)?;
     for instr in code.instrs.as_slice() {
-        answer.line()?;
-        answer.hexadecimal(u32::from(instr.op))?;
-        answer.add(" ")?;
-        answer.tell(&instr.args)?;
+        tell_instr(answer, instr)?;
     }
     Ok(())
+}
+
+fn tell_instr(answer: &mut Answer, instr: &Instr) -> Result<(), Memory> {
+    answer.line()?;
+    answer.hexadecimal(u32::from(instr.op))?;
+    answer.add(" ")?;
+    answer.tell(&instr.args)
 }
 
 // A line for each constant.

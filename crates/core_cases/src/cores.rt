@@ -1,8 +1,8 @@
 //! The enums, classes and methods of a core, a line for each.
 
 use crate::program::without_end;
-use jv_core::{Core, CoreClass, CoreEnum, CoreMethod};
-use mg_text::{Memory, Name, Names};
+use jv_core::{Core, CoreClass, CoreEnum, CoreField, CoreLoop, CoreMethod};
+use mg_text::{Memory, Name, Names, Place};
 use std::alloc::{AllocError, Global};
 
 /// A line for each enum, class and method.
@@ -26,7 +26,7 @@ fn show_enum(text: &mut String, names: &Names, of: &CoreEnum) -> Result<(), Allo
     for constant in of.constants.as_slice() {
         write!(text, " {}", text_of(names, *constant))?;
     }
-    writeln!(text, "")
+    text.push('\n')
 }
 
 // A line for a class: its place, name, typestate, fields with their values, and methods.
@@ -35,35 +35,52 @@ fn show_class(text: &mut String, names: &Names, class: &CoreClass) -> Result<(),
     let name = text_of(names, class.name);
     write!(text, "class {line}:{column} {name} {:?}", class.typestate)?;
     for field in class.fields.as_slice() {
-        write!(text, " {}:{:?}", text_of(names, field.name), field.ty)?;
-        if let Some(value) = &field.value {
-            write!(text, "={:?}", value.kind)?;
-        }
+        show_field(text, names, field)?;
     }
     writeln!(text, " {:?}", class.methods.as_slice())
+}
+
+fn show_field(text: &mut String, names: &Names, field: &CoreField) -> Result<(), AllocError> {
+    write!(text, " {}:{:?}", text_of(names, field.name), field.ty)?;
+    match &field.value {
+        Some(value) => write!(text, "={:?}", value.kind),
+        None => Ok(()),
+    }
 }
 
 // A line for a method: where it begins and ends, the number of its class, its name, kind, result
 // and count of parameters, its slots, and its loops with their slots in scope.
 fn show_method(text: &mut String, names: &Names, method: &CoreMethod) -> Result<(), AllocError> {
-    let (line, column) = (method.place.line, method.place.column);
-    let (end_line, end_column) = (method.end.line, method.end.column);
-    write!(text, "method {line}:{column} {end_line}:{end_column}")?;
-    let name = text_of(names, method.name);
-    let (kind, result) = (method.kind, method.result);
-    write!(
-        text,
-        " {} {name} {kind:?} {result:?} {}",
-        method.class, method.params
-    )?;
+    text.push_str("method ")?;
+    show_place(text, method.place)?;
+    text.push(' ')?;
+    show_place(text, method.end)?;
+    show_head(text, names, method)?;
     for slot in method.slots.as_slice() {
         write!(text, " {}:{:?}", text_of(names, slot.name), slot.ty)?;
     }
     for found in method.loops.as_slice() {
-        let (line, column) = (found.place.line, found.place.column);
-        write!(text, " loop {line}:{column} {:?}", found.scope.as_slice())?;
+        show_loop(text, found)?;
     }
-    writeln!(text, "")
+    text.push('\n')
+}
+
+fn show_place(text: &mut String, place: Place) -> Result<(), AllocError> {
+    let Place { line, column, .. } = place;
+    write!(text, "{line}:{column}")
+}
+
+fn show_head(text: &mut String, names: &Names, method: &CoreMethod) -> Result<(), AllocError> {
+    let name = text_of(names, method.name);
+    let (class, params) = (method.class, method.params);
+    let (kind, result) = (method.kind, method.result);
+    write!(text, " {class} {name} {kind:?} {result:?} {params}")
+}
+
+fn show_loop(text: &mut String, found: &CoreLoop) -> Result<(), AllocError> {
+    text.push_str(" loop ")?;
+    show_place(text, found.place)?;
+    write!(text, " {:?}", found.scope.as_slice())
 }
 
 // The text of a name.

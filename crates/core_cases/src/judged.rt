@@ -30,11 +30,21 @@ fn trees_of(alloc: Global, files: &[File<'_>]) -> Result<List<Tree>, JavaFault> 
     let mut trees = List::new(alloc);
     let mut number: u32 = 0;
     for file in files {
-        let tree = read_java(alloc, number, file.text.as_bytes())?;
-        if trees.push(tree).is_err() {
-            return Err(JavaFault::Memory);
-        }
+        add_tree(alloc, &mut trees, number, file.text.as_bytes())?;
         number = number.saturating_add(1);
     }
     Ok(trees)
+}
+
+fn add_tree(
+    alloc: Global,
+    trees: &mut List<Tree>,
+    number: u32,
+    bytes: &[u8],
+) -> Result<(), JavaFault> {
+    let tree = read_java(alloc, number, bytes)?;
+    match trees.push(tree) {
+        Ok(()) => Ok(()),
+        Err(_) => Err(JavaFault::Memory),
+    }
 }

@@ -41,16 +41,24 @@ const KEYS: [TableKey; 7] = [
 /// What the tables have for the keys before anything flows, and at the end.
 pub(crate) fn held(alloc: Global, core: &Core) -> Result<String, Memory> {
     let mut text = String::from_str(alloc, "at first:")?;
-    let start = Tables::new(alloc, core)?;
-    put_held(&mut text, &start)?;
+    put_first(&mut text, alloc, core)?;
     text.push_str("\nat the end:")?;
-    let least = infer(alloc, core, &mut Follows::new())?;
-    put_held(&mut text, &least)?;
+    put_last(&mut text, alloc, core)?;
     Ok(text)
 }
 
+fn put_first(text: &mut String, alloc: Global, core: &Core) -> Result<(), Memory> {
+    let start = Tables::new(alloc, core)?;
+    put_held(text, &start)
+}
+
+fn put_last(text: &mut String, alloc: Global, core: &Core) -> Result<(), Memory> {
+    let least = infer(alloc, core, &mut Follows::new())?;
+    put_held(text, &least)
+}
+
 // Appends a line for each key: the members of its set, or `none` where the tables lack it.
-fn put_held(text: &mut String, tables: &Tables) -> Result<(), AllocError> {
+fn put_held(text: &mut String, tables: &Tables) -> Result<(), Memory> {
     for key in KEYS {
         text.push('\n')?;
         put_key(text, key)?;

@@ -7,8 +7,9 @@ use crate::{codes, cores, flows, forms, judged, keys, used};
 use cases::{File, files_of};
 use jv_core::Core;
 use mg_program::resolve_program;
-use mg_sources::Stop;
+use mg_refusal::Stop;
 use mg_text::{Bytes, List, Memory, Text};
+use mg_top::refused;
 use std::alloc::Global;
 
 /// The answer to the files of a case, by the file where the case stands: the line of what refuses
@@ -21,7 +22,11 @@ pub(crate) fn answer(alloc: Global, asked: &str, text: &str) -> Result<String, M
     }
     match core_of(alloc, files) {
         Ok(core) => answer_of(alloc, asked, files, &core),
-        Err(Stop::Refused(line)) => without_end(alloc, line.as_str()),
+        Err(Stop::Refused(refusal)) => {
+            let names = names_of(alloc, files)?;
+            let line = refused(alloc, names.as_slice(), &refusal)?;
+            without_end(alloc, line.as_str())
+        }
         Err(Stop::Memory) => Err(Memory),
     }
 }
@@ -65,6 +70,17 @@ fn core_of(alloc: Global, files: &[File<'_>]) -> Result<Core, Stop> {
         contents.push(Bytes::of(alloc, file.text.as_bytes())?)?;
     }
     resolve_program(alloc, names.as_slice(), contents.as_slice())
+}
+
+// The names of these files.
+fn names_of(alloc: Global, files: &[File<'_>]) -> Result<List<Text>, Memory> {
+    let mut names = List::new(alloc);
+    for file in files {
+        if has_kind(file.name) {
+            names.push(Text::of(alloc, file.name)?)?;
+        }
+    }
+    Ok(names)
 }
 
 // Whether the name of a file tells of which kind it is.

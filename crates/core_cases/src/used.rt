@@ -13,11 +13,15 @@ pub(crate) fn told(alloc: Global, files: &[File<'_>], core: &Core) -> Result<Str
     match check(alloc, core) {
         Ok(accepted) => {
             let lines = report(alloc, core, &accepted)?;
-            let text = format!(in alloc; "accepted\n{}", lines.as_str())?;
-            without_end(alloc, text.as_str())
+            accepted_with(alloc, lines.as_str())
         }
         Err(fault) => line(alloc, files, core, &fault),
     }
+}
+
+fn accepted_with(alloc: Global, lines: &str) -> Result<String, Memory> {
+    let text = format!(in alloc; "accepted\n{lines}")?;
+    without_end(alloc, text.as_str())
 }
 
 // A fault as a line: the place, the kind, the slot and the element.

@@ -1,39 +1,30 @@
 -- What judging the usages of a program answers.
-use Rattle.std.proofs.Common.{◌≡◌, ℕ, List, length, Option, Some, None, Result, Ok, Err, refl, sym, ap, ◌∙◌, subst}
+use Rattle.std.proofs.Common.{◌≡◌, List, Option, Some, None, Result, Ok, Err, subst, sym}
 use Rattle.std.specs.Prelude.{OnOk}
 use Rattle.jv_core.specs.Core.{tree_of}
 use Rattle.jv_core.specs.Tree as Core
+use Rattle.jv_core.specs.declared.resolved.Core.{Core as KeptCore}
 use Rattle.use_flow.specs.View.{tables_of, reached_of}
 use Rattle.use_rules.specs.declared.demand.Demand.{Demand}
 use Rattle.use_check.specs.declared.verdict.CheckFault.{CheckFault}
 use Rattle.use_check.specs.declared.verdict.CheckFault.TheVariants as faults
 use Rattle.use_check.specs.Verdict.{FailsFirst}
 use Rattle.use_check.specs.Faults.{IsFault}
-use Rattle.mg_sources.specs.Faults.{fault_at, fault_line}
-use Rattle.mg_sources.specs.Files.{Source, sources}
-use Rattle.mg_sources.specs.View.{IsStop}
-use Rattle.mg_sources.specs.declared.stop.Stop.{Stop}
-use Rattle.mg_sources.specs.declared.stop.Stop.TheVariants as stops
-use Rattle.mg_program.specs.Program.{name_at, HaveCore}
-use Rattle.mg_program.specs.View.{IsResolved}
+use Rattle.mg_refusal.specs.Refusals.{Refusal}
+use Rattle.mg_refusal.specs.Order.{Finds, Answers, AnswersOnly, IsStopBy, at_first, at_next}
+use Rattle.mg_refusal.specs.declared.stop.Stop.{Stop}
+use Rattle.mg_refusal.specs.declared.stop.Stop.TheVariants as stops
+use Rattle.mg_refusal.proofs.Orders.{refused_by, unless_refused, never_ok, stop_refused_by}
+use Rattle.mg_sources.specs.Files.{Source}
+use Rattle.mg_program.specs.Program.{HaveCore}
+use Rattle.mg_program.specs.Program as program
 use Rattle.mg_program.proofs.Apart.{one_core}
-use Rattle.mg_program.proofs.Lines.{named_from}
 use Rattle.mg_accepted.specs.declared.accepted.AcceptedProgram.{AcceptedProgram}
-use Rattle.mg_accepted.specs.Lines.{demand_word, demand_name}
-use Rattle.mg_accepted.specs.Accepted.{AreAccepted, Refusal, ill_typed, unmet}
-use Rattle.mg_accepted.specs.View.{IsVerdict, IsThatProgram}
+use Rattle.mg_accepted.specs.Demands.{demand_refusal}
+use Rattle.mg_accepted.specs.Accepted.{AreAccepted, FirstRefusal}
+use Rattle.mg_accepted.specs.View.{IsProgramOf}
+use Rattle.mg_accepted.specs.inner.Answers.{demand_of, IsSolved}
 use Rattle.mg_accepted.proofs.Apart.{not_refused}
-use Rattle.mg_accepted.specs.inner.Answers.{demand_of, IsRefusal, IsJudged}
-
--- ---- the line of a demand
-
--- a refusal with the kind and the name of a demand is the one by it
-pub refused_by : (names : List (List ℕ)) (core : Core.Program) (d : Demand) (kind name : List ℕ) (stop : Stop) → kind ≡ demand_word d.kind →
-    name ≡ demand_name core d
-    → IsStop (fault_line (name_at names d.place.file) (fault_at kind d.place name)) stop → IsRefusal names core (Some d) stop
-refused_by names core d kind name (stops.Refused line) k n h =
-    (d, refl, h ∙ (λ i. fault_line (name_at names d.place.file) (fault_at (k i) d.place (n i))))
-refused_by names core d kind name stops.Memory k n h = tt
 
 -- ---- the fault of the verdict
 
@@ -53,26 +44,21 @@ fails_first core (faults.Overwritten e) d f h = subst (FailsFirst core) (some_sa
 fails_first core (faults.FieldOpenAtEnd e) d f h = subst (FailsFirst core) (some_same h) f.first
 fails_first core faults.Memory d f h = none_some h
 
-pub unmet_judged : (names : List (List ℕ)) (core : Core.Program) (fault : CheckFault) (stop : Stop) → IsFault core fault →
-    IsRefusal names core (demand_of fault) stop
-    → IsJudged names core (Err stop)
-unmet_judged names core fault (stops.Refused line) f (d, told, said) = record {
-  demand = d;
-  fails = fails_first core fault d f told;
-  said =
-      said;
-}
-unmet_judged names core fault stops.Memory f h = tt
+pub unmet_judged : (core : Core.Program) (fault : CheckFault) (stop : Stop) → IsFault core fault →
+    IsStopBy (λ d r. r ≡ demand_refusal core d) (demand_of fault) stop →
+    Answers (IsSolved core) (Finds (FailsFirst core) (demand_refusal core)) (Err stop)
+unmet_judged core fault stop f h =
+    stop_refused_by (λ d r. r ≡ demand_refusal core d) (IsSolved core) (Finds (FailsFirst core) (demand_refusal core)) (demand_of fault) stop h
+    (λ d r told says. (d, fails_first core fault d f told, says))
 
 -- ---- the verdict on files
 
 -- the verdict on the core of files is that on the files
-pub core_judged : (names contents : List (List ℕ)) (core : Core.Program) (answer : Result AcceptedProgram Stop) →
-    length names ≡ length contents
-    → HaveCore (sources names contents) core → IsJudged names core answer → IsVerdict (sources names contents) answer
-core_judged names contents core (Ok a) same h j = record {
+pub core_judged : (files : List Source) (core : Core.Program) (answer : Result AcceptedProgram Stop) → HaveCore files core →
+    Answers (IsSolved core) (Finds (FailsFirst core) (demand_refusal core)) answer → Answers (IsProgramOf files) (FirstRefusal files) answer
+core_judged files core (Ok a) h j = record {
   files_are = record {
-    have = subst (HaveCore (sources names contents)) (sym j.same) h;
+    have = subst (HaveCore files) (sym j.same) h;
     solved = record {
       reached = reached_of a.accepted.tables;
       are = j.tables_are.made.reached;
@@ -82,29 +68,27 @@ core_judged names contents core (Ok a) same h j = record {
   };
   tables_are = j.tables_are;
 }
-core_judged names contents core (Err (stops.Refused line)) same h j =
-    let d = j.demand in
-    unmet core d h j.fails (j.said ∙ ap (λ (z : List ℕ). fault_line z (fault_at (demand_word d.kind) d.place (demand_name core d)))
-    (sym (named_from 0 names contents d.place.file same)))
-core_judged names contents core (Err stops.Memory) same h j = tt
+core_judged files core (Err (stops.Refused r)) h j = at_next core h j
+core_judged files core (Err stops.Memory) h j = tt
 
 -- files that are no well typed program are refused
-pub ill_typed_judged : (names contents : List (List ℕ)) (stop : Stop) → IsResolved (sources names contents) (Err stop) →
-    IsVerdict (sources names contents) (Err stop)
-ill_typed_judged names contents (stops.Refused line) h = ill_typed h
-ill_typed_judged names contents stops.Memory h = tt
+pub ill_typed_judged : (files : List Source) (stop : Stop) (answer : Result AcceptedProgram Stop) → answer ≡ Err stop →
+    Answers (λ (core : KeptCore). HaveCore files (tree_of core)) (program.FirstRefusal files) (Err stop) →
+    Answers (IsProgramOf files) (FirstRefusal files) answer
+ill_typed_judged files stop answer is h =
+    refused_by (λ (core : KeptCore). HaveCore files (tree_of core)) (program.FirstRefusal files) (IsProgramOf files) (FirstRefusal files)
+    (λ r first. at_first first) stop h answer is
 
 -- ---- there is one answer
 
--- accepted files are answered by their core
-pub accepted_answered : (files : List Source) (answer : Result AcceptedProgram Stop) → IsVerdict files answer → (core : Core.Program) →
-    AreAccepted files core → IsThatProgram core answer
-accepted_answered files (Ok a) h core k = one_core files (tree_of a.core) core h.files_are.have k.have
-accepted_answered files (Err (stops.Refused line)) h core k = not_refused files core line k h
-accepted_answered files (Err stops.Memory) h core k = tt
+module _ (files : List Source) (answer : Result AcceptedProgram Stop) (h : Answers (IsProgramOf files) (FirstRefusal files) answer) where
+  -- accepted files are answered by their core
+  pub accepted_answered : (core : Core.Program) → AreAccepted files core → AnswersOnly (λ a. tree_of a.core ≡ core) answer
+  accepted_answered core k =
+      unless_refused (IsProgramOf files) (FirstRefusal files) (λ a. tree_of a.core ≡ core) answer h
+      (λ a is. one_core files (tree_of a.core) core is.files_are.have k.have) (λ r first. not_refused files core r k first)
 
--- files that are refused aren't accepted
-pub refused_no_program : (files : List Source) (answer : Result AcceptedProgram Stop) → IsVerdict files answer → (line : List ℕ) →
-    Refusal files line → OnOk answer ⊥
-refused_no_program files (Ok a) h line r = not_refused files (tree_of a.core) line h.files_are r
-refused_no_program files (Err stop) h line r = tt
+  -- files that are refused aren't accepted
+  pub refused_no_program : (r : Refusal) → FirstRefusal files r → OnOk answer ⊥
+  refused_no_program r first =
+      never_ok (IsProgramOf files) (FirstRefusal files) answer h (λ a is. not_refused files (tree_of a.core) r is.files_are first)

@@ -1,4 +1,4 @@
-pub mod Lines
+pub mod Demands
 pub mod Accepted
 pub mod View
 pub mod inner

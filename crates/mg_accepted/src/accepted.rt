@@ -1,17 +1,21 @@
 //! From the files of a command to its accepted program.
 
-ghost use Rattle.std.specs.Prelude.{◌≡◌, ◌<◌, ◌^◌, ℕ, List as Seq, length, OnOk};
+ghost use Rattle.std.specs.Prelude.{◌≡◌, ◌<◌, ◌^◌, length, OnOk};
 ghost use Rattle.jv_core.specs.Core.{tree_of};
 ghost use Rattle.jv_core.specs.Tree as CoreTree;
 ghost use Rattle.mg_sources.specs.Files.{HaveKinds, sources};
-ghost use Rattle.mg_accepted.specs.Accepted.{AreAccepted, Refusal};
-ghost use Rattle.mg_accepted.specs.View.{IsVerdict, IsThatProgram};
-ghost use Rattle.mg_accepted.specs.inner.Answers.{IsJudged};
+ghost use Rattle.use_check.specs.Verdict.{FailsFirst};
+ghost use Rattle.mg_refusal.specs.Refusals.{Refusal};
+ghost use Rattle.mg_refusal.specs.Order.{Finds, Answers, AnswersOnly};
+ghost use Rattle.mg_accepted.specs.Demands.{demand_refusal};
+ghost use Rattle.mg_accepted.specs.Accepted.{AreAccepted, FirstRefusal};
+ghost use Rattle.mg_accepted.specs.View.{IsProgramOf};
+ghost use Rattle.mg_accepted.specs.inner.Answers.{IsSolved};
 
-use crate::unmet::refusal;
+use crate::unmet::stop_of;
 use jv_core::Core;
 use mg_program::resolve_program;
-use mg_sources::Stop;
+use mg_refusal::Stop;
 use mg_text::{Bytes, Text};
 use std::alloc::Global;
 use use_check::{Accepted, check};
@@ -27,20 +31,21 @@ pub struct AcceptedProgram {
 /// well typed, and some tables solve its core.
 ///
 /// # Errors
-/// `Refused` with the line of the first file that its reader refuses; else of the first protocol
-/// of a role that an earlier one is of; else of the first type fault of what is declared, and then
-/// of the methods; else of the first demand that fails under the least tables. `Memory` where
+/// `Refused` with the fault of the first file that its reader refuses; else with the first protocol
+/// of a role that an earlier one is of; else with the first type fault of what is declared, and then
+/// of the methods; else with the first demand that fails under the least tables. `Memory` where
 /// memory is wanted, or where a program has more parts than a core can number.
 pub fn accept(alloc: Global, names: &[Text], contents: &[Bytes]) -> Result<AcceptedProgram, Stop>
     requires same { length names.now ≡ length contents.now }
     requires count { length contents.now < 2 ^ 32 }
     requires kinds { HaveKinds names.now }
-    // What is answered is the core that stands for the files, with its least tables, or the line of their first refusal.
-    ensures answered { IsVerdict (sources names.now contents.now) result }
+    // What is answered is the core that stands for the files, with its least tables, or their first refusal.
+    ensures answered { Answers (IsProgramOf (sources names.now contents.now)) (FirstRefusal (sources names.now contents.now)) result }
     // Accepted files are answered by their core, unless memory runs out.
-    ensures only { (core : CoreTree.Program) → AreAccepted (sources names.now contents.now) core → IsThatProgram core result }
+    ensures only { (core : CoreTree.Program) → AreAccepted (sources names.now contents.now) core →
+        AnswersOnly (λ a. tree_of a.core ≡ core) result }
     // Files that are refused aren't accepted.
-    ensures refused { (line : Seq ℕ) → Refusal (sources names.now contents.now) line → OnOk result ⊥ }
+    ensures refused { (r : Refusal) → FirstRefusal (sources names.now contents.now) r → OnOk result ⊥ }
 {
     verdict(alloc, names, contents)
 }
@@ -50,20 +55,18 @@ fn verdict(alloc: Global, names: &[Text], contents: &[Bytes]) -> Result<Accepted
     requires same { length names.now ≡ length contents.now }
     requires count { length contents.now < 2 ^ 32 }
     requires kinds { HaveKinds names.now }
-    ensures { IsVerdict (sources names.now contents.now) result }
+    ensures { Answers (IsProgramOf (sources names.now contents.now)) (FirstRefusal (sources names.now contents.now)) result }
 {
-    match resolve_program(alloc, names, contents) {
-        Ok(core) => judge(alloc, names, core),
-        Err(stop) => Err(stop),
-    }
+    let core = resolve_program(alloc, names, contents)?;
+    judge(alloc, core)
 }
 
 // The same of a core.
-fn judge(alloc: Global, names: &[Text], core: Core) -> Result<AcceptedProgram, Stop>
-    ensures { IsJudged names.now (tree_of core) result }
+fn judge(alloc: Global, core: Core) -> Result<AcceptedProgram, Stop>
+    ensures { Answers (IsSolved (tree_of core)) (Finds (FailsFirst (tree_of core)) (demand_refusal (tree_of core))) result }
 {
     match check(alloc, &core) {
         Ok(accepted) => Ok(AcceptedProgram { core, accepted }),
-        Err(fault) => Err(refusal(alloc, names, &core, &fault)),
+        Err(fault) => Err(stop_of(alloc, &core, &fault)),
     }
 }

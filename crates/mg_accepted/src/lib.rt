@@ -1,5 +1,5 @@
 //! The accepted program of a command: its files are one well typed program, and its usages are
-//! right. The first refusal in the order of work is told with its line.
+//! right. Otherwise the first refusal in the order of work is told.
 #![tactic(auto)]
 
 mod accepted;

@@ -1,42 +1,40 @@
-//! The line of a demand that fails, in the file where it stands.
+//! Demands that fail, as refusals.
 
-ghost use Rattle.std.specs.Prelude.{◌≡◌, IfOk, Some, option_map, string_bytes};
+ghost use Rattle.std.specs.Prelude.{◌≡◌, IfOk, option_map, string_bytes};
 ghost use Rattle.jv_core.specs.Core.{tree_of};
 ghost use Rattle.use_flow.specs.inner.Followed.{typestate_or_end};
 ghost use Rattle.use_check.specs.Report.{state_text, element_text};
-ghost use Rattle.mg_accepted.specs.Lines.{demand_word, tells_element, element_of, demand_name};
-ghost use Rattle.mg_accepted.specs.inner.Answers.{IsRefusal, demand_of};
+ghost use Rattle.mg_refusal.specs.Order.{IsStopBy};
+ghost use Rattle.mg_accepted.specs.Demands.{demand_word, tells_element, element_of, demand_name, demand_refusal};
+ghost use Rattle.mg_accepted.specs.inner.Answers.{demand_of};
 
 use jv_core::Core;
-use mg_program::refused_at;
-use mg_sources::Stop;
+use mg_refusal::{Refusal, Stop};
 use mg_text::{Memory, Text};
 use std::alloc::Global;
 use ts_tree::Typestate;
 use use_check::CheckFault;
 use use_flow::{Demand, DemandKind, Element, typestate_of};
 
-/// The refusal by the demand of a fault, with its line, or want of memory.
-pub(crate) fn refusal(alloc: Global, names: &[Text], core: &Core, fault: &CheckFault) -> Stop
-    ensures { IsRefusal names.now (tree_of core.now) (demand_of fault.now) result }
+/// The refusal by the demand of a fault, or want of memory.
+pub(crate) fn stop_of(alloc: Global, core: &Core, fault: &CheckFault) -> Stop
+    ensures { IsStopBy (λ d r. r ≡ demand_refusal (tree_of core.now) d) (demand_of fault.now) result }
 {
-    match demand_of(fault) {
-        None => Stop::Memory,
-        Some(demand) => refused(alloc, names, core, demand),
+    let Some(demand) = demand_of(fault) else {
+        return Stop::Memory;
+    };
+    match refusal_of(alloc, core, demand) {
+        Ok(refusal) => Stop::Refused(refusal),
+        Err(Memory) => Stop::Memory,
     }
 }
 
-// The refusal by a demand.
-fn refused(alloc: Global, names: &[Text], core: &Core, demand: &Demand) -> Stop
-    ensures { IsRefusal names.now (tree_of core.now) (Some demand.now) result }
+// A demand that fails, as a refusal.
+fn refusal_of(alloc: Global, core: &Core, demand: &Demand) -> Result<Refusal, Memory>
+    ensures { IfOk result (λ r. r ≡ demand_refusal (tree_of core.now) demand.now) }
 {
-    match name_of(alloc, core, demand) {
-        Ok(name) => {
-            let kind = word_of(demand.kind);
-            refused_at(alloc, names, demand.place, kind, name.as_str())
-        }
-        Err(Memory) => Stop::Memory,
-    }
+    let name = Text::from_string(name_of(alloc, core, demand)?);
+    Ok(Refusal::named(word_of(demand.kind), demand.place, name))
 }
 
 // The demand that a fault tells of. Want of memory tells of none.

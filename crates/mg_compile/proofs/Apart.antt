@@ -1,5 +1,5 @@
 -- Files have one list of class files, and files that are refused have none.
-use Rattle.std.proofs.Common.{◌≡◌, ℕ, List, [], ◌∷◌, Option, Some, None, Result, Ok, Err, refl, sym, ap₂, ◌∙◌, subst}
+use Rattle.std.proofs.Common.{◌≡◌, List, [], ◌∷◌, Option, Some, None, Result, refl, sym, ap₂, ◌∙◌, subst}
 use Rattle.std.specs.Prelude.{OnOk}
 use Rattle.mg_text.specs.Row.{Row}
 use Rattle.cls_tree.specs.Tree as file
@@ -8,14 +8,15 @@ use Rattle.jv_core.specs.Tree.{Class, Program}
 use Rattle.gen_rules.specs.Limits.{Excess, IsFirstExcess}
 use Rattle.gen_rules.proofs.Files.{only_files, only_excess}
 use Rattle.mg_sources.specs.Files.{Source}
-use Rattle.mg_sources.specs.declared.stop.Stop.{Stop}
-use Rattle.mg_sources.specs.declared.stop.Stop.TheVariants as stops
+use Rattle.mg_refusal.specs.Refusals.{Refusal}
+use Rattle.mg_refusal.specs.Order.{Answers, AnswersOnly}
+use Rattle.mg_refusal.specs.declared.stop.Stop.{Stop}
+use Rattle.mg_refusal.proofs.Orders.{then_never, unless_refused, never_ok}
 use Rattle.mg_program.proofs.Apart.{one_core}
 use Rattle.mg_accepted.proofs.Apart as accepted
 use Rattle.mg_compile.specs.declared.files.ClassFile.{ClassFile}
 use Rattle.mg_compile.specs.Files.{HoldsClass, HoldClasses, AreClassFiles}
-use Rattle.mg_compile.specs.Compiled.{AreCompiled, Refusal, unaccepted, too_large}
-use Rattle.mg_compile.specs.View.{IsCompiling, AreThoseFiles}
+use Rattle.mg_compile.specs.Compiled.{AreCompiled, FirstRefusal}
 
 same_file : (p : Program) (k : Class) (made : file.Class) (a b : ClassFile) → HoldsClass p k made a → HoldsClass p k made b → a ≡ b
 same_file p k made a b h g =
@@ -52,23 +53,21 @@ pub not_exceeded : (core : Core.Program) (e : Excess) → IsFirstExcess core Non
 not_exceeded core e fine first = none_first (only_excess core None fine ∙ sym (only_excess core (Some e) first))
 
 -- files that are refused aren't compiled
-pub not_refused : (files : List Source) (written : List ClassFile) (line : List ℕ) → AreCompiled files written → Refusal files line → ⊥
-not_refused files written line h (unaccepted r) = accepted.not_refused files h.core line h.accepted r
-not_refused files written line h (too_large core e a first said) =
+pub not_refused : (files : List Source) (written : List ClassFile) (r : Refusal) → AreCompiled files written → FirstRefusal files r → ⊥
+not_refused files written r h = then_never (λ r first. accepted.not_refused files h.core r h.accepted first) (λ core a r found.
     let same : core ≡ h.core = one_core files core h.core a.have h.accepted.have in
-    not_exceeded h.core e h.class_files.fine (subst (λ (z : Core.Program). IsFirstExcess z (Some e)) same first)
+    not_exceeded h.core found.0 h.class_files.fine (subst (λ (z : Core.Program). IsFirstExcess z (Some found.0)) same found.1)) r
 
 -- ---- there is one answer
 
-pub compiled_answered : (files : List Source) (answer : Result (Row ClassFile) Stop) → IsCompiling files answer → (wanted : List ClassFile)
-    →
-    AreCompiled files wanted → AreThoseFiles wanted answer
-compiled_answered files (Ok written) h wanted k = one_compiled files written.items wanted h k
-compiled_answered files (Err (stops.Refused line)) h wanted k = not_refused files wanted line k h
-compiled_answered files (Err stops.Memory) h wanted k = tt
+module _ (files : List Source) (answer : Result (Row ClassFile) Stop)
+    (h : Answers (λ (written : Row ClassFile). AreCompiled files written.items) (FirstRefusal files) answer) where
+  pub compiled_answered : (wanted : List ClassFile) → AreCompiled files wanted → AnswersOnly (λ written. written.items ≡ wanted) answer
+  compiled_answered wanted k =
+      unless_refused (λ written. AreCompiled files written.items) (FirstRefusal files) (λ written. written.items ≡ wanted) answer h
+      (λ written is. one_compiled files written.items wanted is k) (λ r first. not_refused files wanted r k first)
 
-pub refused_no_files : (files : List Source) (answer : Result (Row ClassFile) Stop) → IsCompiling files answer → (line : List ℕ) →
-    Refusal files line →
-    OnOk answer ⊥
-refused_no_files files (Ok written) h line r = not_refused files written.items line h r
-refused_no_files files (Err stop) h line r = tt
+  pub refused_no_files : (r : Refusal) → FirstRefusal files r → OnOk answer ⊥
+  refused_no_files r first =
+      never_ok (λ written. AreCompiled files written.items) (FirstRefusal files) answer h
+      (λ written is. not_refused files written.items r is first)

@@ -7,11 +7,12 @@ ghost use Rattle.cls_bytes.specs.Spelling.{ClassSpells};
 ghost use Rattle.jv_core.specs.Core.{tree_of};
 ghost use Rattle.jv_core.specs.View.{class_of};
 ghost use Rattle.gen_fits.specs.Spelled.{IsSpelled};
-ghost use Rattle.mg_compile.specs.Files.{HoldsClass, HoldClasses};
+ghost use Rattle.mg_compile.specs.Files.{AreClassFiles, HoldsClass, HoldClasses};
 ghost use Rattle.mg_compile.specs.View.{IsOfFiles};
-ghost use Rattle.mg_compile.specs.inner.Answers.{AreGiven};
+ghost use Rattle.mg_refusal.specs.Order.{Answers};
+ghost use Rattle.mg_compile.specs.Compiled.{ExcessRefusal};
 
-use crate::excess::refusal;
+use crate::excess::stop_of;
 use cls_bytes::{WriteFault, write_class};
 use cls_tree::Class;
 use gen_class::gen_classes;
@@ -20,7 +21,7 @@ use gen_held::written_cores_are_held;
 use jv_core::{Core, CoreClass, name_text};
 use jv_kept::core_is_kept;
 use jv_shaped::spelled_is_shaped;
-use mg_sources::Stop;
+use mg_refusal::Stop;
 use mg_text::{Bytes, List, Memory, Text};
 use std::alloc::Global;
 
@@ -31,14 +32,13 @@ pub struct ClassFile {
     pub bytes: Bytes,
 }
 
-/// The class files of a core that was resolved of the files of these names, in the order of its
-/// classes.
+/// The class files of a core that was resolved of some files, in the order of its classes.
 ///
 /// # Errors
-/// `Refused` with the line of the first size that is too large. `Memory` where memory is wanted.
-pub fn class_files(alloc: Global, names: &[Text], core: &Core) -> Result<List<ClassFile>, Stop>
+/// `Refused` with the first size that is too large. `Memory` where memory is wanted.
+pub fn class_files(alloc: Global, core: &Core) -> Result<List<ClassFile>, Stop>
     requires { IsOfFiles (tree_of core.now) }
-    ensures { AreGiven names.now (tree_of core.now) result }
+    ensures { Answers (λ written. AreClassFiles (tree_of core.now) written.items) (ExcessRefusal (tree_of core.now)) result }
 {
     spelled_is_shaped();
     core_is_kept();
@@ -50,7 +50,7 @@ pub fn class_files(alloc: Global, names: &[Text], core: &Core) -> Result<List<Cl
             let files = write_all(alloc, core, core.classes(), classes.as_slice())?;
             Ok(files)
         }
-        Err(fault) => Err(refusal(alloc, names, &fault)),
+        Err(fault) => Err(stop_of(fault)),
     }
 }
 

@@ -1,5 +1,5 @@
 //! The class files of a command: its files are one accepted program, whose classes become class
-//! files, or the first refusal is told with its line.
+//! files, or the first refusal is told.
 #![tactic(auto)]
 
 mod compiled;

@@ -1,5 +1,5 @@
 -- Class files have one run of these roles, and files that are refused have none.
-use Rattle.std.proofs.Common.{◌≡◌, ℕ, List, [], ◌∷◌, ◌++◌, Bool, Option, Some, None, Result, Ok, Err, map, if◌then◌else◌, sym, ap, ap₂, ◌∙◌}
+use Rattle.std.proofs.Common.{◌≡◌, ℕ, List, [], ◌∷◌, ◌++◌, Bool, Option, Some, None, Result, map, if◌then◌else◌, sym, ap, ap₂, ◌∙◌}
 use Rattle.std.proofs.Common.{subst, refl}
 use Rattle.std.specs.Prelude.{OnOk}
 use Rattle.mg_read.proofs.Judging.{no_both}
@@ -16,17 +16,19 @@ use Rattle.vm_world_law.proofs.Turns.{one_run}
 use Rattle.vm_world_law.proofs.Once.{begun_once}
 use Rattle.mg_trace.specs.Trace.{plain_trace, printed}
 use Rattle.mg_sources.specs.Files.{Source}
-use Rattle.mg_sources.specs.declared.stop.Stop.{Stop}
-use Rattle.mg_sources.specs.declared.stop.Stop.TheVariants as stops
+use Rattle.mg_refusal.specs.Refusals.{Refusal}
+use Rattle.mg_refusal.specs.Order.{Answers, AnswersOnly}
+use Rattle.mg_refusal.specs.declared.stop.Stop.{Stop}
+use Rattle.mg_refusal.proofs.Orders.{then_never, unless_refused, never_ok}
 use Rattle.mg_runs.specs.Runs.{names_of}
 use Rattle.mg_exec.specs.declared.ran.Ran.{Ran}
 use Rattle.mg_exec.specs.Files.{AreFiles}
-use Rattle.mg_exec.specs.Runs.{Course, IsProgram, HaveMains, IsRun, Refusal, unread, unlinked, no_main}
-use Rattle.mg_exec.specs.View.{Shows, IsRunning, IsThatRun}
+use Rattle.mg_exec.specs.Runs.{Course, IsProgram, HaveMains, IsRun, NoProgram, FirstRefusal}
+use Rattle.mg_exec.specs.View.{Shows, IsOfRun}
 use Rattle.mg_exec.proofs.FilesRead.{none_refused}
 
 -- files are one list of classes
-pub one_files : (files : List Source) (cs bs : List File) → AreFiles files cs → AreFiles files bs → cs ≡ bs
+one_files : (files : List Source) (cs bs : List File) → AreFiles files cs → AreFiles files bs → cs ≡ bs
 one_files [] [] [] h g = refl
 one_files [] [] (b ∷ bs) h g = absurd g
 one_files [] (c ∷ cs) bs h g = absurd h
@@ -43,7 +45,7 @@ one_program files p q (cs, are, links) (bs, others, links') =
     links.program ∙ ap linked same ∙ sym links'.program
 
 -- what has no flaw isn't refused
-pub no_flaw : (fs : List Flaw) (f : Flaw) → fs ≡ [] → least fs ≡ Some f → ⊥
+no_flaw : (fs : List Flaw) (f : Flaw) → fs ≡ [] → least fs ≡ Some f → ⊥
 no_flaw fs f none is = let h : ◌≡◌ {A = Option Flaw} None (Some f) = sym (ap least none) ∙ is in cc
 
 -- a role whose class has no `main` isn't among those whose classes have one
@@ -53,19 +55,20 @@ lacks_none : (program : Program) (front : List RoleMain) (main : RoleMain) (rest
 lacks_none program [] main rest h = h.0
 lacks_none program (x ∷ front) main rest h = lacks_none program front main rest h.1
 
+-- files that are a program are not refused
+pub program_not_refused : (files : List Source) (program : Program) → IsProgram files program → (r : Refusal) → NoProgram files r → ⊥
+program_not_refused files program (classes, are, links) = then_never (λ r judged. no_both (none_refused files classes are) judged)
+    (λ others those r found.
+    let same : classes ≡ others = one_files files classes others are those in
+    no_flaw (flaws others) found.0 (sym (ap flaws same) ∙ links.right) found.1)
+
 -- files that are refused aren't run
-pub not_refused : (files : List Source) (mains : List RoleMain) (order : List ℕ) (limit : ℕ) (r : Course) (line : List ℕ) →
-    IsRun files mains order limit r → Refusal files mains line → ⊥
-not_refused files mains order limit r line h (unread judged) = let (classes, are, links) = h.linked in no_both
-    (none_refused files classes are) judged
-not_refused files mains order limit r line h (unlinked classes flaw are is said) =
-    let (others, those, links) = h.linked in
-    let same : others ≡ classes = one_files files others classes those are in
-    no_flaw (flaws classes) flaw (sym (ap flaws same) ∙ links.right) is
-not_refused files mains order limit r line h (no_main program front main rest is parts have none said) =
-    let same : r.program ≡ program = one_program files r.program program h.linked is in
-    none (subst (λ (z : Program). HasMain z main.class) same
-    (lacks_none r.program front main rest (subst (HaveMains r.program) parts h.have_mains)))
+pub not_refused : (files : List Source) (mains : List RoleMain) (order : List ℕ) (limit : ℕ) (run : Course) (r : Refusal) →
+    IsRun files mains order limit run → FirstRefusal files mains r → ⊥
+not_refused files mains order limit run r h = then_never (program_not_refused files run.program h.linked) (λ program is r l.
+    let same : run.program ≡ program = one_program files run.program program h.linked is in
+    l.none (subst (λ (z : Program). HasMain z l.main.class) same
+    (lacks_none run.program l.front l.main l.rest (subst (HaveMains run.program) l.parts h.have_mains)))) r
 
 -- two runs of the same files
 pub record SameRun (a b : Course) : Type 0 where
@@ -97,17 +100,15 @@ shows_same files mains order limit named traced a b ran h g s =
       trace_is = s.trace_is ∙ ap (λ (w : World). if traced then plain_trace (names_of mains) w.events else []) same.last;
     }
 
-pub only_run : (files : List Source) (mains : List RoleMain) (order : List ℕ) (limit : ℕ) (named traced : Bool) (result : Result Ran Stop) →
-    IsRunning files mains order limit named traced result → (run : Course) → IsRun files mains order limit run →
-    IsThatRun mains named traced run result
-only_run files mains order limit named traced (Ok ran) h run is =
-    shows_same files mains order limit named traced h.run run ran h.is is h.shows
-only_run files mains order limit named traced (Err (stops.Refused line)) h run is = not_refused files mains order limit run line is h
-only_run files mains order limit named traced (Err stops.Memory) h run is = tt
+module _ (files : List Source) (mains : List RoleMain) (order : List ℕ) (limit : ℕ) (named traced : Bool) (result : Result Ran Stop)
+    (h : Answers (IsOfRun files mains order limit named traced) (FirstRefusal files mains) result) where
+  pub only_run : (run : Course) → IsRun files mains order limit run → AnswersOnly (Shows mains named traced run) result
+  only_run run is =
+      unless_refused (IsOfRun files mains order limit named traced) (FirstRefusal files mains) (Shows mains named traced run) result h
+      (λ ran of. shows_same files mains order limit named traced of.run run ran of.is is of.shows)
+      (λ r first. not_refused files mains order limit run r is first)
 
-pub refused_run : (files : List Source) (mains : List RoleMain) (order : List ℕ) (limit : ℕ) (named traced : Bool)
-    (result : Result Ran Stop) →
-    IsRunning files mains order limit named traced result → (line : List ℕ) → Refusal files mains line → OnOk result ⊥
-refused_run files mains order limit named traced (Ok ran) h line refused =
-    not_refused files mains order limit h.run line h.is refused
-refused_run files mains order limit named traced (Err stop) h line refused = tt
+  pub refused_run : (r : Refusal) → FirstRefusal files mains r → OnOk result ⊥
+  refused_run r first =
+      never_ok (IsOfRun files mains order limit named traced) (FirstRefusal files mains) result h
+      (λ ran of. not_refused files mains order limit of.run r of.is first)

@@ -1,6 +1,6 @@
 -- Class files that are read one after another.
 use Rattle.std.proofs.Common.{◌≡◌, ◌<◌, ◌≤◌, ◌+◌, ℕ, zero, suc, List, [], ◌∷◌, ◌++◌, length, get_or, take, drop, map, Option, Some, None}
-use Rattle.std.proofs.Common.{Result, Ok, Err, refl, sym, ap, ◌∙◌, subst, arith, drop-cons, add-one, All}
+use Rattle.std.proofs.Common.{Result, Err, sym, ap, ◌∙◌, subst, arith, drop-cons, add-one, All}
 use Rattle.std.proofs.lemmas.List.{take_more, take_all, get_or_past, map-append}
 use Rattle.mg_text.specs.Row.{Row}
 use Rattle.mg_read.specs.First.{Judged, clean, here, later}
@@ -9,18 +9,16 @@ use Rattle.cls_tree.specs.Fits.{IsU1}
 use Rattle.cls_tree.specs.View.{class_of as file_of}
 use Rattle.cls_tree.specs.declared.class.Class.{Class}
 use Rattle.cls_bytes.specs.declared.ClassFault.{ClassFault}
-use Rattle.cls_bytes.specs.Faults.{Fails}
 use Rattle.cls_bytes.specs.Spelling.{ClassSpells, IsTheirFault}
 use Rattle.cls_bytes.proofs.Single.{no_fault}
 use Rattle.cls_bytes.proofs.SpelledClasses.{spelled_right}
 use Rattle.mg_sources.specs.Files.{Source}
-use Rattle.mg_sources.specs.View.{IsStop}
-use Rattle.mg_sources.specs.declared.stop.Stop.{Stop}
-use Rattle.mg_sources.specs.declared.stop.Stop.TheVariants as stops
-use Rattle.mg_exec.specs.Files.{most_bytes, IsFile, AreFiles, Fault, too_large, class_fault, IsWrong, large, field, file_line, IsRefused}
-use Rattle.mg_exec.specs.inner.Saying.{IsRefusal}
-use Rattle.mg_exec.specs.inner.Reading.{IsReadOf, AreReadOf}
-use Rattle.mg_exec.proofs.Saying.{theirs}
+use Rattle.mg_refusal.specs.Refusals.{Refusal}
+use Rattle.mg_refusal.specs.Order.{Answers, IsStopOf}
+use Rattle.mg_refusal.specs.declared.stop.Stop.{Stop}
+use Rattle.mg_refusal.proofs.Orders.{refused_by, stop_refused}
+use Rattle.mg_exec.specs.Files.{most_bytes, IsFile, AreFiles, class_refusal, Refuses, large, field}
+use Rattle.mg_exec.proofs.Told.{theirs}
 
 -- ---- one file
 
@@ -33,28 +31,20 @@ are_bytes [] h i = omega (arith, get_or_past {X = ℕ} [] i 0 (omega arith))
 are_bytes (b ∷ bytes) h zero = h 0 0 (omega arith)
 are_bytes (b ∷ bytes) h (suc i) = are_bytes bytes (λ k d lt. h (suc k) d (omega arith)) i
 
-wrong_not : (source : Source) (class : File) (fault : Fault) → IsFile source class → IsWrong source fault → ⊥
-wrong_not source class fault h (large big) = too_many (length source.bytes) big h.small
-wrong_not source class fault h (field {fault = f} small fails said) =
+not_refused : (source : Source) (class : File) (r : Refusal) → IsFile source class → Refuses source r → ⊥
+not_refused source class r h (large big says) = too_many (length source.bytes) big h.small
+not_refused source class r h (field {fault = f} small fails says) =
     no_fault source.bytes f (spelled_right source.bytes class (are_bytes source.bytes h.bytes) h.spells) fails
 
-not_refused : (source : Source) (class : File) (line : List ℕ) → IsFile source class → IsRefused source line → ⊥
-not_refused source class line h (fault, wrong, said) = wrong_not source class fault h wrong
-
 -- so files that are classes have none that is refused
-pub none_refused : (files : List Source) (classes : List File) → AreFiles files classes → Judged IsRefused files None
+pub none_refused : (files : List Source) (classes : List File) → AreFiles files classes → Judged Refuses files None
 none_refused [] [] each = clean
 none_refused [] (k ∷ ks) each = absurd each
 none_refused (f ∷ fs) [] each = absurd each
-none_refused (f ∷ fs) (k ∷ ks) (first, rest) = later (λ line. not_refused f k line first) (none_refused fs ks rest)
-
-pub read_large : (source : Source) (stop : Stop) → most_bytes < length source.bytes → IsStop (file_line source.name too_large) stop →
-    IsReadOf source (Err stop)
-read_large source (stops.Refused line) big is = (too_large, large big, is)
-read_large source stops.Memory big is = tt
+none_refused (f ∷ fs) (k ∷ ks) (first, rest) = later (λ r. not_refused f k r first) (none_refused fs ks rest)
 
 pub read_right : (source : Source) (class : Class) → ((i : ℕ) → get_or source.bytes i 0 < 256) → length source.bytes ≤ most_bytes →
-    ClassSpells source.bytes (file_of class) → IsReadOf source (Ok class)
+    ClassSpells source.bytes (file_of class) → IsFile source (file_of class)
 read_right source class fits small spells = record { bytes = each source.bytes fits; small = small; spells = spells }
   where
     each : (bytes : List ℕ) → ((i : ℕ) → get_or bytes i 0 < 256) → All IsU1 bytes
@@ -63,9 +53,12 @@ read_right source class fits small spells = record { bytes = each source.bytes f
     each (b ∷ bytes) h (suc k) d lt = each bytes (λ i. h (suc i)) k d (omega arith)
 
 pub read_failed : (source : Source) (fault : ClassFault) (stop : Stop) → length source.bytes ≤ most_bytes →
-    IsTheirFault {A = Class} source.bytes (Err fault) → IsRefusal source.name (class_fault fault) stop → IsReadOf source (Err stop)
-read_failed source fault (stops.Refused line) small fails (said, e, is) = (said, field small (theirs source.bytes fault said fails e) e, is)
-read_failed source fault stops.Memory small fails is = tt
+    IsTheirFault {A = Class} source.bytes (Err fault) → IsStopOf (λ wanted r. r ≡ wanted) (class_refusal source.number fault) stop →
+    Answers (λ (class : Class). IsFile source (file_of class)) (Refuses source) (Err stop)
+read_failed source fault stop small fails h =
+    stop_refused (λ wanted r. r ≡ wanted) (λ (class : Class). IsFile source (file_of class)) (Refuses source)
+    (class_refusal source.number fault) stop h
+    (λ wanted r e says. field small (theirs source.bytes fault source.number wanted fails e) (e ∙ ap Some (sym says)))
 
 -- ---- files in a loop
 
@@ -78,7 +71,7 @@ each_push (g ∷ gs) (k ∷ ks) f c (first, rest) only = (first, each_push gs ks
 
 -- what judging the files from an index on answers is the answer, and those before are these classes
 pub record ReadSoFar (files : List Source) (i : ℕ) (classes : List Class) : Type 0 where
-  pub left : (r : Option (List ℕ)) → Judged IsRefused (drop i files) r → Judged IsRefused files r
+  pub left : (r : Option Refusal) → Judged Refuses (drop i files) r → Judged Refuses files r
   pub each : AreFiles (take i files) (map file_of classes)
 
 pub read_start : (files : List Source) → ReadSoFar files 0 []
@@ -89,10 +82,10 @@ module _ {files : List Source} {i : ℕ} {classes : List Class} (so_far : ReadSo
   next : drop i files ≡ f ∷ drop (suc i) files
   next = drop-cons files i f within ∙ ap (λ (z : Source). z ∷ drop (suc i) files) (sym is)
 
-  pub read_more : (class : Class) → IsReadOf f (Ok class) → ReadSoFar files (i + 1) (classes ++ class ∷ [])
+  pub read_more : (class : Class) → IsFile f (file_of class) → ReadSoFar files (i + 1) (classes ++ class ∷ [])
   read_more class only = record {
-    left = λ r j. so_far.left r (subst (λ (z : List Source). Judged IsRefused z r) (sym next)
-        (later (λ line. not_refused f (file_of class) line only) (subst (λ (k : ℕ). Judged IsRefused (drop k files) r) (add-one i) j)));
+    left = λ r j. so_far.left r (subst (λ (z : List Source). Judged Refuses z r) (sym next)
+        (later (λ r. not_refused f (file_of class) r only) (subst (λ (k : ℕ). Judged Refuses (drop k files) r) (add-one i) j)));
     each = subst (λ (z : List File). AreFiles (take (i + 1) files) z) (sym (map-append file_of classes (class ∷ [])))
         (subst (λ (z : List Source). AreFiles z (map file_of classes ++ file_of class ∷ []))
         (sym (take_more files i f within ∙ ap (λ (z : Source). take i files ++ z ∷ []) (sym is)))
@@ -100,11 +93,13 @@ module _ {files : List Source} {i : ℕ} {classes : List Class} (so_far : ReadSo
   }
 
   -- a file that can't be read ends it
-  pub read_stopped : (stop : Stop) → IsReadOf f (Err stop) → (answer : Result (Row Class) Stop) → answer ≡ Err stop → AreReadOf files answer
-  read_stopped (stops.Refused line) refused answer e =
-      subst (AreReadOf files) (sym e)
-      (so_far.left (Some line) (subst (λ (z : List Source). Judged IsRefused z (Some line)) (sym next) (here refused)))
-  read_stopped stops.Memory h answer e = subst (AreReadOf files) (sym e) tt
+  pub read_stopped : (stop : Stop) → Answers (λ (class : Class). IsFile f (file_of class)) (Refuses f) (Err stop) →
+      (answer : Result (Row Class) Stop) → answer ≡ Err stop →
+      Answers (λ (all : Row Class). AreFiles files (map file_of all.items)) (λ r. Judged Refuses files (Some r)) answer
+  read_stopped stop h answer e =
+      refused_by (λ (class : Class). IsFile f (file_of class)) (Refuses f) (λ (all : Row Class). AreFiles files (map file_of all.items))
+      (λ r. Judged Refuses files (Some r))
+      (λ r refuses. so_far.left (Some r) (subst (λ (z : List Source). Judged Refuses z (Some r)) (sym next) (here refuses))) stop h answer e
 
 pub read_end : {files : List Source} {i : ℕ} {classes : List Class} → ReadSoFar files i classes → length files ≤ i →
     AreFiles files (map file_of classes)

@@ -1,4 +1,4 @@
-pub mod Saying
+pub mod Told
 pub mod FilesRead
 pub mod Shown
 pub mod Apart

@@ -1,4 +1,2 @@
-pub mod Saying
-pub mod Reading
 pub mod Mains
 pub mod Going

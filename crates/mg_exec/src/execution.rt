@@ -1,22 +1,22 @@
 //! From class files to the run of their roles.
 
-ghost use Rattle.std.specs.Prelude.{◌≡◌, ◌<◌, ℕ, List as Seq, IfOk, OnOk, Contains, length, map, slice_get, Some};
+ghost use Rattle.std.specs.Prelude.{◌≡◌, ◌<◌, ◌^◌, ℕ, List as Seq, IfOk, OnOk, Contains, length, map, slice_get, Some};
 ghost use Rattle.std.specs.List.{IsDistinct};
 ghost use Rattle.std.specs.Str.{bytes_eq};
 ghost use Rattle.vm_model.specs.View.{classes_of};
 ghost use Rattle.mg_sources.specs.Files.{sources};
 ghost use Rattle.mg_runs.specs.Going.{IsOrder};
-ghost use Rattle.mg_exec.specs.Runs.{Course, HaveMains, IsRun, Refusal};
-ghost use Rattle.mg_exec.specs.View.{IsRunning, IsThatRun};
-ghost use Rattle.mg_exec.specs.Programs.{IsProgramOf};
+ghost use Rattle.mg_refusal.specs.Refusals.{Refusal};
+ghost use Rattle.mg_refusal.specs.Order.{Answers, AnswersOnly};
+ghost use Rattle.mg_exec.specs.Runs.{Course, IsProgram, HaveMains, IsRun, NoProgram, FirstRefusal};
+ghost use Rattle.mg_exec.specs.View.{IsOfRun, Shows};
 ghost use Rattle.mg_exec.specs.inner.Going.{IsRunOf, told};
 
-use crate::linking::link;
 use crate::mains::first_without;
 use crate::ran::Ran;
-use crate::reading::read_all;
+use crate::reading::{link, read_all};
+use mg_refusal::Stop;
 use mg_runs::{Gone, go, no_main};
-use mg_sources::Stop;
 use mg_text::{Bytes, Memory, Text};
 use mg_trace::plain_trace;
 use std::alloc::Global;
@@ -30,12 +30,11 @@ use vm_world::{RoleEvent, RoleMain};
 /// what a method answered as a number.
 ///
 /// # Errors
-/// `Refused` with the line of the first file that is over 16,777,216 bytes or that isn't a class
-/// file; else of the first flaw of the lowest number, where the files don't link; else of the first
-/// role whose class isn't there or has no `main`. `Memory` where memory is wanted.
+/// `Refused` with the first file that is over 16,777,216 bytes or that isn't a class file; else with
+/// the first flaw of the lowest number, where the files don't link; else with the first role whose
+/// class isn't there or has no `main`. `Memory` where memory is wanted.
 pub fn exec_roles(
     alloc: Global,
-    names: &[Text],
     contents: &[Bytes],
     mains: &[RoleMain],
     order: &[u32],
@@ -43,25 +42,27 @@ pub fn exec_roles(
     named: bool,
     traced: bool,
 ) -> Result<Ran, Stop>
-    requires same { length names.now ≡ length contents.now }
+    requires count { length contents.now < 2 ^ 32 }
     requires roles { IsDistinct bytes_eq (map (λ m. m.role) mains.now) }
     requires numbers { (i : ℕ) (r : ℕ) → slice_get order.now i ≡ Some r → r < length mains.now }
     requires order { (r : ℕ) → r < length mains.now → Contains order.now r }
-    // What is answered is a run of the roles, or the line of the first refusal.
-    ensures answered { IsRunning (sources names.now contents.now) mains.now order.now limit named traced result }
+    // Whatever the files are called, what is answered is a run of the roles, or the first refusal.
+    ensures answered { (names : Seq (Seq ℕ)) → length names ≡ length contents.now →
+        Answers (IsOfRun (sources names contents.now) mains.now order.now limit named traced)
+        (FirstRefusal (sources names contents.now) mains.now) result }
     // Each run of these files is the one that is answered, unless memory runs out.
-    ensures only { (run : Course) → IsRun (sources names.now contents.now) mains.now order.now limit run →
-        IsThatRun mains.now named traced run result }
+    ensures only { (names : Seq (Seq ℕ)) → length names ≡ length contents.now → (run : Course) →
+        IsRun (sources names contents.now) mains.now order.now limit run → AnswersOnly (Shows mains.now named traced run) result }
     // Files that are refused aren't run.
-    ensures refused { (line : Seq ℕ) → Refusal (sources names.now contents.now) mains.now line → OnOk result ⊥ }
+    ensures refused { (names : Seq (Seq ℕ)) → length names ≡ length contents.now → (r : Refusal) →
+        FirstRefusal (sources names contents.now) mains.now r → OnOk result ⊥ }
 {
-    ran_roles(alloc, names, contents, mains, order, limit, named, traced)
+    ran_roles(alloc, contents, mains, order, limit, named, traced)
 }
 
 // The same, without what follows from its being one answer.
 fn ran_roles(
     alloc: Global,
-    names: &[Text],
     contents: &[Bytes],
     mains: &[RoleMain],
     order: &[u32],
@@ -69,14 +70,19 @@ fn ran_roles(
     named: bool,
     traced: bool,
 ) -> Result<Ran, Stop>
-    requires same { length names.now ≡ length contents.now }
+    requires count { length contents.now < 2 ^ 32 }
     requires roles { IsDistinct bytes_eq (map (λ m. m.role) mains.now) }
     requires order { IsOrder order.now mains.now }
-    ensures { IsRunning (sources names.now contents.now) mains.now order.now limit named traced result }
+    ensures { (names : Seq (Seq ℕ)) → length names ≡ length contents.now →
+        Answers (IsOfRun (sources names contents.now) mains.now order.now limit named traced)
+        (FirstRefusal (sources names contents.now) mains.now) result }
 {
-    let linked = program(alloc, names, contents)?;
+    let linked = program(alloc, contents)?;
     match first_without(&linked, mains) {
-        Some(number) => return Err(no_main(alloc, &mains[number].class)),
+        Some(number) => {
+            let refusal = no_main(&mains[number].class)?;
+            return Err(Stop::Refused(refusal));
+        }
         None => {}
     }
     let ran = run(alloc, linked, mains, order, limit, named, traced)?;
@@ -86,14 +92,14 @@ fn ran_roles(
 /// The program that these class files link to.
 ///
 /// # Errors
-/// `Refused` with the line of the first file that is over 16,777,216 bytes or that isn't a class
-/// file; else of the first flaw of the lowest number, where the files don't link. `Memory` where
-/// memory is wanted.
-pub fn program(alloc: Global, names: &[Text], contents: &[Bytes]) -> Result<Linked, Stop>
-    requires { length names.now ≡ length contents.now }
-    ensures { IsProgramOf (sources names.now contents.now) result }
+/// `Refused` with the first file that is over 16,777,216 bytes or that isn't a class file; else with
+/// the first flaw of the lowest number, where the files don't link. `Memory` where memory is wanted.
+pub fn program(alloc: Global, contents: &[Bytes]) -> Result<Linked, Stop>
+    requires { length contents.now < 2 ^ 32 }
+    ensures { (names : Seq (Seq ℕ)) → length names ≡ length contents.now →
+        Answers (λ linked. IsProgram (sources names contents.now) (classes_of linked.classes.items)) (NoProgram (sources names contents.now)) result }
 {
-    let classes = read_all(alloc, names, contents)?;
+    let classes = read_all(alloc, contents)?;
     link(alloc, classes.as_slice())
 }
 

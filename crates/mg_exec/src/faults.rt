@@ -1,75 +1,73 @@
-//! The line of a file that is no class file, or that is too large.
-//! It ends with a line feed.
+//! Faults of class files and flaws of their program, as refusals. Want of memory stays that.
 
-ghost use Rattle.std.specs.Prelude.{◌≡◌, IfOk, option_map};
-ghost use Rattle.mg_sources.specs.View.{IsStop};
-ghost use Rattle.mg_exec.specs.Files.{fault_of, file_line, code_fault, class_fault};
-ghost use Rattle.mg_exec.specs.inner.Saying.{IsRefusal};
+ghost use Rattle.std.specs.Prelude.{◌≡◌};
+ghost use Rattle.vm_load.specs.Faults.{flaw_of};
+ghost use Rattle.mg_refusal.specs.Refusals.{refusal_in_bytes, refusal_nowhere};
+ghost use Rattle.mg_refusal.specs.Order.{IsStopOf};
+ghost use Rattle.mg_exec.specs.Files.{code_refusal, class_refusal};
+ghost use Rattle.mg_exec.specs.Runs.{flaw_refusal};
 
 use cls_bytes::ClassFault;
 use cls_code::CodeFault;
-use mg_sources::Stop;
-use mg_text::{Memory, Text};
-use std::alloc::Global;
+use mg_refusal::{Refusal, Stop};
+use mg_text::Text;
+use vm_load::LoadFault;
 
-/// The refusal of a file of this name by a fault of its bytes; want of memory stays that.
-pub(crate) fn refused_by(alloc: Global, file: &str, fault: ClassFault) -> Stop
-    ensures { IsRefusal file.now (class_fault fault) result }
-{
-    match told(fault) {
-        Some((word, offset)) => refused(alloc, file, word, offset),
-        None => Stop::Memory,
-    }
-}
-
-/// The refusal of a file of this name by a fault in a word, at an offset in bytes; or want of memory.
-pub(crate) fn refused(alloc: Global, file: &str, word: &str, offset: u32) -> Stop
-    ensures { IsStop (file_line file.now (fault_of word.now offset)) result }
-{
-    match file_line(alloc, file, word, offset) {
-        Ok(line) => Stop::Refused(line),
-        Err(Memory) => Stop::Memory,
-    }
-}
-
-// Its line.
-fn file_line(alloc: Global, file: &str, word: &str, offset: u32) -> Result<Text, Memory>
-    ensures { IfOk result (λ t. t ≡ file_line file.now (fault_of word.now offset)) }
-{
-    let mut line = String::from_str(alloc, file)?;
-    write!(line, ":{offset}: {word}\n")?;
-    Ok(Text::from_string(line))
-}
-
-// A fault of a class file, in a word, and the offset at which it stands; nothing of want of memory.
-fn told(fault: ClassFault) -> Option<(&'static str, u32)>
-    ensures { option_map (λ t. fault_of t.0.now t.1) result ≡ class_fault fault }
+/// The refusal of the file of this number by a fault of its bytes.
+pub(crate) fn stop_of_class(file: u32, fault: ClassFault) -> Stop
+    ensures { IsStopOf (λ wanted r. r ≡ wanted) (class_refusal file fault) result }
 {
     match fault {
-        ClassFault::BadMagic { offset } => Some(("BadMagic", offset)),
-        ClassFault::Version { offset } => Some(("Version", offset)),
-        ClassFault::Short { offset } => Some(("Short", offset)),
-        ClassFault::TrailingBytes { offset } => Some(("TrailingBytes", offset)),
-        ClassFault::BadTag { offset } => Some(("BadTag", offset)),
-        ClassFault::BadIndex { offset } => Some(("BadIndex", offset)),
-        ClassFault::BadText { offset } => Some(("BadText", offset)),
-        ClassFault::BadAttribute { offset } => Some(("BadAttribute", offset)),
-        ClassFault::Unsupported { offset } => Some(("Unsupported", offset)),
-        ClassFault::Code(fault) => told_of_code(fault),
-        ClassFault::Memory => None,
+        ClassFault::BadMagic { offset } => at("BadMagic", file, offset),
+        ClassFault::Version { offset } => at("Version", file, offset),
+        ClassFault::Short { offset } => at("Short", file, offset),
+        ClassFault::TrailingBytes { offset } => at("TrailingBytes", file, offset),
+        ClassFault::BadTag { offset } => at("BadTag", file, offset),
+        ClassFault::BadIndex { offset } => at("BadIndex", file, offset),
+        ClassFault::BadText { offset } => at("BadText", file, offset),
+        ClassFault::BadAttribute { offset } => at("BadAttribute", file, offset),
+        ClassFault::Unsupported { offset } => at("Unsupported", file, offset),
+        ClassFault::Code(fault) => stop_of_code(file, fault),
+        ClassFault::Memory => Stop::Memory,
     }
 }
 
 // The same of a fault of a code.
-fn told_of_code(fault: CodeFault) -> Option<(&'static str, u32)>
-    ensures { option_map (λ t. fault_of t.0.now t.1) result ≡ code_fault fault }
+fn stop_of_code(file: u32, fault: CodeFault) -> Stop
+    ensures { IsStopOf (λ wanted r. r ≡ wanted) (code_refusal file fault) result }
 {
     match fault {
-        CodeFault::CodeTooLong { offset } => Some(("CodeTooLong", offset)),
-        CodeFault::UnknownOpcode { offset } => Some(("UnknownOpcode", offset)),
-        CodeFault::Short { offset } => Some(("Short", offset)),
-        CodeFault::BadSwitch { offset } => Some(("BadSwitch", offset)),
-        CodeFault::JumpOutside { offset } => Some(("JumpOutside", offset)),
-        CodeFault::Memory => None,
+        CodeFault::CodeTooLong { offset } => at("CodeTooLong", file, offset),
+        CodeFault::UnknownOpcode { offset } => at("UnknownOpcode", file, offset),
+        CodeFault::Short { offset } => at("Short", file, offset),
+        CodeFault::BadSwitch { offset } => at("BadSwitch", file, offset),
+        CodeFault::JumpOutside { offset } => at("JumpOutside", file, offset),
+        CodeFault::Memory => Stop::Memory,
     }
+}
+
+/// The refusal of class files by a flaw of the program that they link to.
+pub(crate) fn stop_of_load(fault: LoadFault) -> Stop
+    ensures { IsStopOf (λ flaw r. r ≡ flaw_refusal flaw) (flaw_of fault) result }
+{
+    match fault {
+        LoadFault::DuplicateClass { name } => nowhere("DuplicateClass", name),
+        LoadFault::UnknownClass { name } => nowhere("UnknownClass", name),
+        LoadFault::UnknownMember { name } => nowhere("UnknownMember", name),
+        LoadFault::BadDescriptor { name } => nowhere("BadDescriptor", name),
+        LoadFault::NoCode { name } => nowhere("NoCode", name),
+        LoadFault::Memory => Stop::Memory,
+    }
+}
+
+fn at(kind: &'static str, file: u32, offset: u32) -> Stop
+    ensures { result ≡ Stop.Refused (refusal_in_bytes kind.now file offset) }
+{
+    Stop::Refused(Refusal::in_bytes(kind, file, offset))
+}
+
+fn nowhere(kind: &'static str, name: Text) -> Stop
+    ensures { result ≡ Stop.Refused (refusal_nowhere kind.now name) }
+{
+    Stop::Refused(Refusal::nowhere(kind, name))
 }

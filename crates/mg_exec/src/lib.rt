@@ -1,10 +1,9 @@
 //! Class files from outside: they are read, linked and run by several roles, each from the `main` of
-//! a class, or the first refusal is told with its line. Nothing is assumed of them.
+//! a class, or the first refusal is told. Nothing is assumed of them.
 #![tactic(auto)]
 
 mod execution;
 mod faults;
-mod linking;
 mod mains;
 mod ran;
 mod reading;

@@ -20,7 +20,10 @@ pub struct Workload {
 }
 
 /// The names of the files.
-fn file_names(alloc: Global) -> Result<List<Text>, Memory>
+///
+/// # Errors
+/// `Memory` only.
+pub fn file_names(alloc: Global) -> Result<List<Text>, Memory>
     ensures { IfOk result (λ l. l.items ≡ file_names) }
 {
     let mut names = List::new(alloc);

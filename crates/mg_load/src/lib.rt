@@ -7,4 +7,4 @@ mod files;
 mod picks;
 mod protocols;
 
-pub use files::{MOST, Workload, load_files, loaded_line};
+pub use files::{MOST, Workload, file_names, load_files, loaded_line};

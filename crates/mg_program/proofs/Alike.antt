@@ -1,18 +1,16 @@
--- The first refusal of a program has one line, but for the place of Syntax.
-use Rattle.std.proofs.Common.{◌≡◌, ℕ, List, Option, None, Some, sym, ap, ◌∙◌, subst, inl}
-use Rattle.mg_read.specs.Culprit.{Culprit, culprit}
+-- Two first refusals of a program are one, but for the place of Syntax.
+use Rattle.std.proofs.Common.{◌≡◌, List, Option, Some, None, refl}
+use Rattle.mg_read.specs.Culprit.{Culprit}
 use Rattle.jv_rules.specs.declared.condition.Condition.{Condition}
 use Rattle.jv_rules.specs.Faults.{IsTableFault, IsFault}
 use Rattle.jv_rules.proofs.Once.{one_table, one_in_methods}
+use Rattle.mg_refusal.specs.Refusals.{Refusal, AreAlike}
+use Rattle.mg_refusal.proofs.Orders.{finds_alike, then_alike}
 use Rattle.mg_sources.specs.Files.{Source}
-use Rattle.mg_sources.specs.Faults.{AreAlike}
 use Rattle.mg_sources.specs.Sources.{Sourced}
 use Rattle.mg_sources.proofs.Together.{not_both, one_program}
 use Rattle.mg_sources.proofs.Alike as reading
-use Rattle.mg_program.specs.Program.{type_line, Refusal, unread, declarations, methods}
-
-abbrev told_line : List Source → Condition × Culprit → List ℕ
-told_line files (condition, culprit place name) = type_line files condition place name
+use Rattle.mg_program.specs.Program.{type_refusal, TypeRefusal, FirstRefusal}
 
 same_some : {A : Type 0} (x y : A) → Some x ≡ Some y → x ≡ y
 same_some x y e = cc
@@ -20,27 +18,15 @@ same_some x y e = cc
 none_some : {P : Type 0} (f : Condition × Culprit) → ◌≡◌ {A = Option (Condition × Culprit)} None (Some f) → P
 none_some f e = absurd cc
 
-pub same_refusal : (files : List Source) (l k : List ℕ) → Refusal files l → Refusal files k → AreAlike l k
-same_refusal files l k (unread r) (unread q) = reading.same_refusal files l k r q
-same_refusal files l k (unread r) (declarations t d q m those g told) = absurd (not_both those r)
-same_refusal files l k (unread r) (methods t d q m those clean g told) = absurd (not_both those r)
-same_refusal files l k (declarations s c p n are f said) (unread q) = absurd (not_both are q)
-same_refusal files l k (methods s c p n are clean f said) (unread q) = absurd (not_both are q)
-same_refusal files l k (declarations s c p n are f said) (declarations t d q m those g told) =
-    let same : s ≡ t = one_program files s t are those in
-    let there : IsTableFault t.program t.origins (Some (c, culprit p n))
-    = subst (λ (z : Sourced). IsTableFault z.program z.origins (Some (c, culprit p n))) same f in
-    inl (said ∙ ap (told_line files) (same_some (c, culprit p n) (d, culprit q m) (one_table t.program t.origins _ _ there g)) ∙ sym told)
-same_refusal files l k (declarations s c p n are f said) (methods t d q m those clean g told) =
-    let same : s ≡ t = one_program files s t are those in
-    let there : IsTableFault t.program t.origins (Some (c, culprit p n))
-    = subst (λ (z : Sourced). IsTableFault z.program z.origins (Some (c, culprit p n))) same f in
-    none_some (c, culprit p n) (one_table t.program t.origins _ _ clean there)
-same_refusal files l k (methods s c p n are clean f said) (declarations t d q m those g told) =
-    let same : s ≡ t = one_program files s t are those in
-    let there : IsTableFault t.program t.origins None = subst (λ (z : Sourced). IsTableFault z.program z.origins None) same clean in
-    none_some (d, culprit q m) (one_table t.program t.origins _ _ there g)
-same_refusal files l k (methods s c p n are clean f said) (methods t d q m those clean' g told) =
-    let same : s ≡ t = one_program files s t are those in
-    let there : IsFault t.program (Some (c, culprit p n)) = subst (λ (z : Sourced). IsFault z.program (Some (c, culprit p n))) same f in
-    inl (said ∙ ap (told_line files) (same_some (c, culprit p n) (d, culprit q m) (one_in_methods t.program _ _ there g)) ∙ sym told)
+types_alike : (s : Sourced) (r q : Refusal) → TypeRefusal s r → TypeRefusal s q → AreAlike r q
+types_alike s = then_alike
+    (finds_alike (λ f. IsTableFault s.program s.origins (Some f)) type_refusal
+    (λ f g h k. same_some f g (one_table s.program s.origins (Some f) (Some g) h k)))
+    (λ r done found clean. none_some found.0 (one_table s.program s.origins None (Some found.0) clean found.1))
+    (λ a b h k. refl)
+    (λ done clean. finds_alike (λ f. IsFault s.program (Some f)) type_refusal
+    (λ f g h k. same_some f g (one_in_methods s.program (Some f) (Some g) h k)))
+
+pub same_refusal : (files : List Source) (r q : Refusal) → FirstRefusal files r → FirstRefusal files q → AreAlike r q
+same_refusal files = then_alike (reading.same_refusal files) (λ r sourced first are. not_both are first) (one_program files)
+    (λ sourced are. types_alike sourced)

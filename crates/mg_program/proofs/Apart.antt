@@ -1,6 +1,6 @@
 -- A program has one core, and files that are refused are no well typed program.
 use Rattle.std.proofs.Common.{◌≡◌, ℕ, List, Option, None, Some, sym, ap, ◌∙◌, subst}
-use Rattle.mg_read.specs.Culprit.{Culprit, culprit}
+use Rattle.mg_read.specs.Culprit.{Culprit}
 use Rattle.mg_read.proofs.Judging.{no_both, no_both_first}
 use Rattle.jv_core.specs.Tree as Core
 use Rattle.jv_resolve_law.specs.Members.{resolving}
@@ -8,10 +8,12 @@ use Rattle.jv_rules.specs.Program.{Program}
 use Rattle.jv_rules.specs.Faults.{Of, IsTableFault, IsFault}
 use Rattle.jv_rules.specs.declared.condition.Condition.{Condition}
 use Rattle.jv_rules.specs.declared.condition.Condition.TheVariants as conditions
+use Rattle.mg_refusal.specs.Refusals.{Refusal}
+use Rattle.mg_refusal.proofs.Orders.{then_never}
 use Rattle.mg_sources.specs.Files.{Source}
 use Rattle.mg_sources.specs.Sources.{Sourced}
 use Rattle.mg_sources.proofs.Together.{not_both, one_program}
-use Rattle.mg_program.specs.Program.{AreWellTyped, HaveCore, Refusal, unread, declarations, methods}
+use Rattle.mg_program.specs.Program.{AreWellTyped, HaveCore, TypeRefusal, FirstRefusal}
 
 -- no condition answers twice
 never : (program : Program) (origins : List ℕ) (k : Condition) (c : Culprit) → Of program origins k None → Of program origins k (Some c) → ⊥
@@ -48,15 +50,15 @@ one_core files a b h k =
 
 -- ---- what is refused has none
 
+-- a program without a fault isn't refused
+well_typed : (s : Sourced) → IsTableFault s.program s.origins None → IsFault s.program None → (r : Refusal) → TypeRefusal s r → ⊥
+well_typed s declarations methods = then_never
+    (λ r found. no_both_first (never s.program s.origins) declarations found.1)
+    (λ done clean r found. no_both methods found.1)
+
 -- files that are refused are no well typed program
-pub no_refusal : (files : List Source) (program : Program) (line : List ℕ) → AreWellTyped files program → Refusal files line → ⊥
-no_refusal files program line well (unread r) = not_both well.are r
-no_refusal files program line well (declarations sourced condition place name are fault said) =
+pub no_refusal : (files : List Source) (program : Program) (r : Refusal) → AreWellTyped files program → FirstRefusal files r → ⊥
+no_refusal files program r well = then_never (λ r first. not_both well.are first) (λ sourced are r found.
     let same : sourced ≡ well.sourced = one_program files sourced well.sourced are well.are in
-    let none = subst (λ (z : Program). IsTableFault z well.sourced.origins None) (sym well.is) well.declarations in
-    no_both_first (never well.sourced.program well.sourced.origins) none
-    (subst (λ (z : Sourced). IsTableFault z.program z.origins (Some (condition, culprit place name))) same fault)
-no_refusal files program line well (methods sourced condition place name are clean fault said) =
-    let same : sourced ≡ well.sourced = one_program files sourced well.sourced are well.are in
-    let none = subst (λ (z : Program). IsFault z None) (sym well.is) well.methods in
-    no_both none (subst (λ (z : Sourced). IsFault z.program (Some (condition, culprit place name))) same fault)
+    well_typed well.sourced (subst (λ (z : Program). IsTableFault z well.sourced.origins None) (sym well.is) well.declarations)
+    (subst (λ (z : Program). IsFault z None) (sym well.is) well.methods) r (subst (λ (z : Sourced). TypeRefusal z r) same found)) r

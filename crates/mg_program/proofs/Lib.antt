@@ -1,6 +1,6 @@
 pub mod Shaped
 pub mod Grammatical
-pub mod Lines
+pub mod Refused
 pub mod Apart
 pub mod Resolved
 pub mod Total

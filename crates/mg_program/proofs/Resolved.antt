@@ -1,5 +1,5 @@
 -- What judging and resolving the program of a command answer.
-use Rattle.std.proofs.Common.{◌≡◌, ℕ, List, length, Option, Some, None, Result, Ok, Err, refl, sym, ap, ◌∙◌, subst}
+use Rattle.std.proofs.Common.{◌≡◌, ℕ, List, length, Option, Some, None, Result, Err, refl, sym, ap, ◌∙◌, subst}
 use Rattle.std.specs.Prelude.{OnOk}
 use Rattle.ts_tree.specs.Typestate.{Typestate}
 use Rattle.jv_tree.specs.declared.tree.File.{File as KeptFile}
@@ -14,19 +14,21 @@ use Rattle.jv_resolve_law.specs.Members.{resolving}
 use Rattle.jv_resolve_law.specs.Targets.{OnlyVariablesAreAssigned}
 use Rattle.jv_shaped.specs.Laws.{SpelledIsShaped}
 use Rattle.jv_types.specs.View.{program_of}
-use Rattle.jv_types.specs.Outcome.{TellsFault}
+use Rattle.jv_types.specs.Outcome.{fault_told, TellsFault}
 use Rattle.jv_types.specs.declared.fault.TypeFault.{TypeFault}
-use Rattle.mg_sources.specs.Files.{Source, sources}
+use Rattle.mg_refusal.specs.Refusals.{Refusal}
+use Rattle.mg_refusal.specs.Order.{Answers, AnswersOnly, IsStopOf, at_first, at_next}
+use Rattle.mg_refusal.specs.declared.stop.Stop.{Stop}
+use Rattle.mg_refusal.proofs.Orders.{refused_by, unless_refused, never_ok}
+use Rattle.mg_sources.specs.Files.{Source}
 use Rattle.mg_sources.specs.Sources.{Sourced, AreProgram}
-use Rattle.mg_sources.specs.View.{sourced_of, IsProgram}
+use Rattle.mg_sources.specs.View.{sourced_of}
 use Rattle.mg_sources.specs.declared.sources.Sources.{Sources as KeptSources}
-use Rattle.mg_sources.specs.declared.stop.Stop.{Stop}
-use Rattle.mg_sources.specs.declared.stop.Stop.TheVariants as stops
-use Rattle.mg_program.specs.Program.{HaveCore, Refusal, unread}
-use Rattle.mg_program.specs.View.{IsResolved, IsThatCore}
-use Rattle.mg_program.specs.inner.Answers.{IsTypeRefusal, IsJudged, HasNoFault}
+use Rattle.mg_sources.specs.Sources as reading
+use Rattle.mg_program.specs.Program.{HaveCore, type_refusal, TypeRefusal, FirstRefusal}
+use Rattle.mg_program.specs.inner.Answers.{HasNoFault}
 use Rattle.mg_program.proofs.Grammatical.{shaped, assigns, numbered}
-use Rattle.mg_program.proofs.Lines.{table_refused, method_refused, type_refused}
+use Rattle.mg_program.proofs.Refused.{table_refused, method_refused}
 use Rattle.mg_program.proofs.Apart.{no_refusal, one_core}
 
 -- ---- judging
@@ -48,20 +50,19 @@ module _ (s : KeptSources) {fs : List KeptFile} {ts : List Typestate} {os : List
   table_is r h = subst (λ (z : Sourced). IsTableFault z.program z.origins r)
       (λ i. record { program = same_program i; origins = are.origins i }) h
 
-  pub table_failed : (names : List (List ℕ)) (fault : TypeFault) (stop : Stop) → TellsFault (IsTableFault (program_of fs ts) os) fault →
-      IsTypeRefusal names fault stop
-      → IsJudged names (sourced_of s) (Err stop)
-  table_failed names fault stop h said =
-      table_refused names (sourced_of s) fault stop
-      (subst (λ (z : Sourced). TellsFault (IsTableFault z.program z.origins) fault)
-      (λ i. record { program = same_program i; origins = are.origins i }) h) said
+  module _ (fault : TypeFault) (stop : Stop) (stops : IsStopOf (λ f r. r ≡ type_refusal f) (fault_told fault) stop) where
+    pub table_failed : TellsFault (IsTableFault (program_of fs ts) os) fault →
+        Answers (λ (done : Unit {0}). HasNoFault (sourced_of s)) (TypeRefusal (sourced_of s)) (Err stop)
+    table_failed h =
+        table_refused (sourced_of s) fault stop stops
+        (subst (λ (z : Sourced). TellsFault (IsTableFault z.program z.origins) fault)
+        (λ i. record { program = same_program i; origins = are.origins i }) h)
 
-  pub method_failed : (names : List (List ℕ)) (program : Program) → program ≡ program_of fs ts → (fault : TypeFault) (stop : Stop) →
-      IsTableFault (program_of fs ts) os None
-      → TellsFault (IsFault program) fault → IsTypeRefusal names fault stop → IsJudged names (sourced_of s) (Err stop)
-  method_failed names program e fault stop unblamed h said =
-      method_refused names (sourced_of s) fault stop (table_is None unblamed) (subst (λ (z : Program). TellsFault (IsFault z) fault)
-      (e ∙ same_program) h) said
+    pub method_failed : (program : Program) → program ≡ program_of fs ts → IsTableFault (program_of fs ts) os None →
+        TellsFault (IsFault program) fault → Answers (λ (done : Unit {0}). HasNoFault (sourced_of s)) (TypeRefusal (sourced_of s)) (Err stop)
+    method_failed program e clean h =
+        method_refused (sourced_of s) fault stop stops (table_is None clean) (subst (λ (z : Program). TellsFault (IsFault z) fault)
+        (e ∙ same_program) h)
 
   pub no_fault : (program : Program) → program ≡ program_of fs ts → IsTableFault (program_of fs ts) os None → IsFault program None →
       HasNoFault (sourced_of s)
@@ -92,7 +93,7 @@ module _ (s : KeptSources) {fs : List KeptFile} {ts : List Typestate} {os : List
 
     pub resolved : HasNoFault (sourced_of s) → (core : Core) → Resolves (program_of fs ts) (tree_of core) →
         resolving (program_of fs ts) ≡ Some (tree_of core)
-        → IsResolved files (Ok core)
+        → HaveCore files (tree_of core)
     resolved fine core h r = record {
       program = (sourced_of s).program;
       are = record { sourced = sourced_of s; is = refl; are = program; declarations = fine.declarations; methods = fine.methods };
@@ -106,31 +107,28 @@ files_numbered s program = numbered program.spell
 
 -- ---- the ways out
 
-pub read_failed : (files : List Source) (stop : Stop) (answer : Result Core Stop) → IsProgram files (Err stop) → answer ≡ Err stop →
-    IsResolved files answer
-read_failed files (stops.Refused line) answer h e = subst (IsResolved files) (sym e) (unread h)
-read_failed files stops.Memory answer h e = subst (IsResolved files) (sym e) tt
+module _ (files : List Source) (stop : Stop) (answer : Result Core Stop) (is : answer ≡ Err stop) where
+  pub read_failed : Answers (λ (k : KeptSources). AreProgram files (sourced_of k)) (reading.FirstRefusal files) (Err stop) →
+      Answers (λ core. HaveCore files (tree_of core)) (FirstRefusal files) answer
+  read_failed h =
+      refused_by (λ (k : KeptSources). AreProgram files (sourced_of k)) (reading.FirstRefusal files) (λ core. HaveCore files (tree_of core))
+      (FirstRefusal files) (λ r first. at_first first) stop h answer is
 
-pub judge_failed : (names contents : List (List ℕ)) (sourced : Sourced) (stop : Stop) (answer : Result Core Stop) →
-    length names ≡ length contents
-    → AreProgram (sources names contents) sourced → IsJudged names sourced (Err stop) → answer ≡ Err stop →
-    IsResolved (sources names contents) answer
-judge_failed names contents sourced (stops.Refused line) answer same are h e =
-    subst (IsResolved (sources names contents)) (sym e) (type_refused names contents sourced line same are h)
-judge_failed names contents sourced stops.Memory answer same are h e = subst (IsResolved (sources names contents)) (sym e) tt
+  pub judge_failed : (sourced : Sourced) → AreProgram files sourced →
+      Answers (λ (done : Unit {0}). HasNoFault sourced) (TypeRefusal sourced) (Err stop) →
+      Answers (λ core. HaveCore files (tree_of core)) (FirstRefusal files) answer
+  judge_failed sourced are h =
+      refused_by (λ (done : Unit {0}). HasNoFault sourced) (TypeRefusal sourced) (λ core. HaveCore files (tree_of core))
+      (FirstRefusal files) (λ r found. at_next sourced are found) stop h answer is
 
-pub memory_failed : (files : List Source) (answer : Result Core Stop) → answer ≡ Err stops.Memory → IsResolved files answer
-memory_failed files answer e = subst (IsResolved files) (sym e) tt
+module _ (files : List Source) (answer : Result Core Stop) (h : Answers (λ core. HaveCore files (tree_of core)) (FirstRefusal files) answer) where
+  -- the core that files have is answered
+  pub core_answered : (core : CoreTree.Program) → HaveCore files core → AnswersOnly (λ c. tree_of c ≡ core) answer
+  core_answered core k =
+      unless_refused (λ c. HaveCore files (tree_of c)) (FirstRefusal files) (λ c. tree_of c ≡ core) answer h
+      (λ c have. one_core files (tree_of c) core have k) (λ r first. no_refusal files k.program r k.are first)
 
--- the core that files have is answered
-pub core_answered : (files : List Source) (answer : Result Core Stop) → IsResolved files answer → (core : CoreTree.Program) →
-    HaveCore files core → IsThatCore core answer
-core_answered files (Ok c) h core k = one_core files (tree_of c) core h k
-core_answered files (Err (stops.Refused line)) h core k = no_refusal files k.program line k.are h
-core_answered files (Err stops.Memory) h core k = tt
-
--- files that are refused have no core
-pub refused_no_core : (files : List Source) (answer : Result Core Stop) → IsResolved files answer → (line : List ℕ) → Refusal files line →
-    OnOk answer ⊥
-refused_no_core files (Ok core) h line r = no_refusal files h.program line h.are r
-refused_no_core files (Err stop) h line r = tt
+  -- files that are refused have no core
+  pub refused_no_core : (r : Refusal) → FirstRefusal files r → OnOk answer ⊥
+  refused_no_core r first =
+      never_ok (λ core. HaveCore files (tree_of core)) (FirstRefusal files) answer h (λ c have. no_refusal files have.program r have.are first)

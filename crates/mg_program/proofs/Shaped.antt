@@ -16,7 +16,7 @@ use Rattle.jv_tree.specs.View.{stmts_of}
 use Rattle.jv_meaning.specs.Program.{classes_of}
 use Rattle.jv_rules.specs.Shape.{IsOfValues, DeclaresValues, AllDeclareValues, IsShapedMethod, IsShapedClass}
 use Rattle.jv_resolve_law.specs.Targets.{AssignsVariables, AllAssignVariables, ClassAssignsVariables}
-use Rattle.stm_api.specs.Doings.{Doing, Passes, Asks, doings}
+use Rattle.stm_api.specs.Doings.{Doing, Passes, Asks, all_doings}
 use Rattle.stm_api.specs.Api.{ApiText, IsApi, send_body, take_body, look_body, label_test, first_label, refusal, value_param, method_of}
 use Rattle.stm_api.specs.Api.{class_with, enum_files}
 
@@ -132,4 +132,4 @@ pub api_classes : (P : Class → Type 0) → ((p : Place) (me : Name) (ds : List
 api_classes P h local api is =
     let p : Place = start_of local.file in
     subst (λ (z : List ApiText). AllByRecursion P (classes_of (map (λ f. f.tree) z))) (sym is.are_files)
-    (h p local.me is.firsts, no_classes P p local.me (doings (protocol_of local)))
+    (h p local.me is.firsts, no_classes P p local.me (all_doings (protocol_of local)))

@@ -1,5 +1,4 @@
 pub mod Words
 pub mod Program
 pub mod Laws
-pub mod View
 pub mod inner

@@ -1,19 +1,21 @@
 //! Whether a program is well typed.
 
 ghost use Rattle.std.specs.Prelude.{◌≡◌, length};
+ghost use Rattle.mg_refusal.specs.Order.{Answers};
 ghost use Rattle.mg_sources.specs.View.{sourced_of};
-ghost use Rattle.mg_program.specs.inner.Answers.{IsJudged};
+ghost use Rattle.mg_program.specs.Program.{TypeRefusal};
+ghost use Rattle.mg_program.specs.inner.Answers.{HasNoFault};
 
-use crate::refusal::refusal;
+use crate::refusal::stop_of;
 use jv_types::{table, type_check};
-use mg_sources::{Sources, Stop};
-use mg_text::Text;
+use mg_refusal::Stop;
+use mg_sources::Sources;
 use std::alloc::Global;
 
-/// Tells whether a program is well typed; the line of its first type fault is the error.
-pub(crate) fn judge(alloc: Global, names: &[Text], sources: &Sources) -> Result<(), Stop>
+/// Tells whether a program is well typed; its first type fault is the error.
+pub(crate) fn judge(alloc: Global, sources: &Sources) -> Result<(), Stop>
     requires { length sources.now.origins.items ≡ length sources.now.typestates.items }
-    ensures { IsJudged names.now (sourced_of sources.now) result }
+    ensures { Answers (λ done. HasNoFault (sourced_of sources.now)) (TypeRefusal (sourced_of sources.now)) result }
 {
     let table = match table(
         alloc,
@@ -22,10 +24,10 @@ pub(crate) fn judge(alloc: Global, names: &[Text], sources: &Sources) -> Result<
         sources.origins.as_slice(),
     ) {
         Ok(table) => table,
-        Err(fault) => return Err(refusal(alloc, names, &fault)),
+        Err(fault) => return Err(stop_of(fault)),
     };
     match type_check(alloc, &table) {
         Ok(()) => Ok(()),
-        Err(fault) => Err(refusal(alloc, names, &fault)),
+        Err(fault) => Err(stop_of(fault)),
     }
 }

@@ -1,5 +1,5 @@
 //! The program of a command: the sources become one core, where all of them are accepted.
-//! The first refusal in the order of work is told with its line.
+//! Otherwise the first refusal in the order of work is told.
 #![tactic(auto)]
 
 mod judged;
@@ -9,4 +9,3 @@ mod refusal;
 
 pub use law::well_typed_is_resolved;
 pub use program::resolve_program;
-pub use refusal::refused_at;

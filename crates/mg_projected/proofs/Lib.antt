@@ -4,3 +4,4 @@ pub mod Staged
 pub mod Followed
 pub mod Telling
 pub mod Alike
+pub mod Stops

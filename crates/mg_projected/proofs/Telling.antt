@@ -1,65 +1,27 @@
 -- What is told of a fault is said of the answer that it is.
-use Rattle.std.proofs.Common.{◌≡◌, inl, inr, ℕ, List, [], ◌∷◌, length, codes, Option, Some, None, Result, Ok, Err, refl, sym, ap, ◌∙◌}
+use Rattle.std.proofs.Common.{◌≡◌, inl, inr, ℕ, List, [], ◌∷◌, ◌++◌, length, codes, Some, Result, Err, refl, sym, ap, ◌∙◌}
 use Rattle.std.proofs.Common.{subst, get_or, arith}
-use Rattle.std.specs.Prelude.{option_map, OnOk}
+use Rattle.std.specs.Prelude.{OnOk}
 use Rattle.mg_text.specs.Call.{Name}
 use Rattle.mg_text.specs.Row.{Row}
 use Rattle.mg_text.specs.declared.place.Place.{Place}
-use Rattle.mg_read.proofs.Steps.{some_is, none_is_not}
-use Rattle.scr_read.specs.declared.ScrFault.{ScrFault}
-use Rattle.scr_read.specs.declared.ScrFault.TheVariants as protocols
 use Rattle.scr_read.specs.Outcome as scr
 use Rattle.scr_global_tree.specs.Tree.{GlobalTree}
-use Rattle.scr_global_read.specs.declared.fault.GlobalFault.{GlobalFault}
-use Rattle.scr_global_read.specs.declared.fault.GlobalFault.TheVariants as globals
-use Rattle.scr_global_read.specs.Outcome as reads
-use Rattle.scr_project.specs.declared.fault.ProjectFault.{ProjectFault}
-use Rattle.scr_project.specs.declared.fault.ProjectFault.TheVariants as project_faults
 use Rattle.scr_project.specs.Outcome as projects
-use Rattle.mg_sources.specs.Faults.{Fault, fault_at, fault_line}
+use Rattle.mg_refusal.specs.Refusals.{Refusal, refusal_at}
+use Rattle.mg_refusal.specs.Order.{InFile, Answers, AnswersOnly, IsStopBy, stop_in}
+use Rattle.mg_refusal.specs.declared.stop.Stop.{Stop}
+use Rattle.mg_refusal.specs.declared.stop.Stop.TheVariants as stops
+use Rattle.mg_refusal.proofs.Orders.{unless_refused, never_ok}
 use Rattle.mg_sources.specs.Files.{Source, source_of, sources}
-use Rattle.mg_sources.specs.View.{IsStop}
-use Rattle.mg_sources.specs.declared.stop.Stop.{Stop}
-use Rattle.mg_sources.specs.declared.stop.Stop.TheVariants as stops
+use Rattle.mg_sources.proofs.PartLemmas.{same_at}
 use Rattle.mg_projected.specs.declared.files.RoleFile.{RoleFile}
 use Rattle.mg_projected.specs.declared.fault.ProjectedFault.{ProjectedFault}
-use Rattle.mg_projected.specs.declared.fault.ProjectedFault.TheVariants as faults
 use Rattle.mg_projected.specs.Projected.{IsRefused, Answer, Files, Unread, Unprojected, Outcome, unread, unprojected, written, fault_answer}
-use Rattle.mg_projected.specs.Told.{IsSaidOfGlobal, IsSaidOfProjection, IsSaid, AreWritten, Refusal, IsAnswer, IsThat}
-use Rattle.mg_projected.specs.inner.Saying.{words_of, said_of_global, said_of_projection, said_of, IsRefusal}
+use Rattle.mg_projected.specs.Told.{IsSaidOfProjection, IsSaid, AreWritten, FirstRefusal}
+use Rattle.mg_projected.specs.inner.Saying.{IsToldOfProjection, IsTold, written_alone}
 use Rattle.mg_projected.proofs.Once.{one_outcome}
 use Rattle.mg_projected.proofs.Followed.{files_of_projected, files_projected}
-
-same_fault : (f g : Fault) → ◌≡◌ {A = Option Fault} (Some f) (Some g) → g ≡ f
-same_fault f g e = cc
-
-not_said : {P : Type 0} (g : Fault) → ◌≡◌ {A = Option Fault} None (Some g) → P
-not_said g e = absurd cc
-
--- the place of Syntax is left open
-syntax_said : (place : Place) (f : Fault) → ◌≡◌ {A = Option Fault} (Some (fault_at (codes "Syntax") place [])) (Some f) →
-    f ≡ fault_at (codes "Syntax") f.place []
-syntax_said place f e = same_fault _ f e ∙ sym (ap (λ (z : Fault). record z { kind = codes "Syntax"; name = [] }) (same_fault _ f e))
-
-global_said : (fault : GlobalFault) (f : Fault) → said_of_global fault ≡ Some f →
-    (answer : reads.Answer) × (reads.fault_answer fault ≡ Some answer) × IsSaidOfGlobal answer f
-global_said (globals.TooLarge place) f e = (_, refl, same_fault _ f e)
-global_said (globals.BadByte place) f e = (_, refl, same_fault _ f e)
-global_said (globals.Unsupported place name) f e = (_, refl, same_fault _ f e)
-global_said (globals.Syntax place) f e = (_, refl, syntax_said place f e)
-global_said (globals.DuplicateName place name) f e = (_, refl, same_fault _ f e)
-global_said (globals.UnknownRole place name) f e = (_, refl, same_fault _ f e)
-global_said (globals.PeerIsSelf place) f e = (_, refl, same_fault _ f e)
-global_said (globals.UnknownType place name) f e = (_, refl, same_fault _ f e)
-global_said (globals.PayloadCount place) f e = (_, refl, same_fault _ f e)
-global_said (globals.UnknownRec place name) f e = (_, refl, same_fault _ f e)
-global_said (globals.DuplicateRec place name) f e = (_, refl, same_fault _ f e)
-global_said (globals.Unguarded place name) f e = (_, refl, same_fault _ f e)
-global_said (globals.Unreachable place) f e = (_, refl, same_fault _ f e)
-global_said (globals.BranchStart place) f e = (_, refl, same_fault _ f e)
-global_said (globals.MixedChoice place) f e = (_, refl, same_fault _ f e)
-global_said (globals.SameLabel place name) f e = (_, refl, same_fault _ f e)
-global_said globals.Memory f e = not_said f e
 
 -- ---- a role without a local protocol doesn't meet a condition
 
@@ -89,110 +51,41 @@ outcome_unmet file bytes a (unread h u) = tt
 outcome_unmet file bytes a (unprojected {g = g} {a = b} h r) = roles_unmet g g.roles b r
 outcome_unmet file bytes a (written h k) = tt
 
--- the word for its kind is that of the condition
-unmet_said : (place : Place) (role : Name) (fault : ScrFault) (f : Fault) (b : scr.Answer) → scr.fault_answer fault ≡ Some b →
-    IsUnmet (projects.Unprojected place role b) → f ≡ fault_at (codes "Unprojected") place (words_of role fault) →
-    IsSaidOfProjection (projects.Unprojected place role b) f
-unmet_said place role (protocols.TooLarge at) f b e u said =
-    absurd (subst (λ (z : scr.Answer). IsUnmet (projects.Unprojected place role z)) (sym (some_is _ b e)) u)
-unmet_said place role (protocols.BadByte at) f b e u said =
-    absurd (subst (λ (z : scr.Answer). IsUnmet (projects.Unprojected place role z)) (sym (some_is _ b e)) u)
-unmet_said place role (protocols.Unsupported at name) f b e u said =
-    absurd (subst (λ (z : scr.Answer). IsUnmet (projects.Unprojected place role z)) (sym (some_is _ b e)) u)
-unmet_said place role (protocols.Syntax at) f b e u said =
-    absurd (subst (λ (z : scr.Answer). IsUnmet (projects.Unprojected place role z)) (sym (some_is _ b e)) u)
-unmet_said place role (protocols.DuplicateName at name) f b e u said =
-    subst (λ (z : scr.Answer). IsSaidOfProjection (projects.Unprojected place role z) f) (some_is _ b e) said
-unmet_said place role (protocols.UnknownRole at name) f b e u said =
-    subst (λ (z : scr.Answer). IsSaidOfProjection (projects.Unprojected place role z) f) (some_is _ b e) said
-unmet_said place role (protocols.PeerIsSelf at) f b e u said =
-    subst (λ (z : scr.Answer). IsSaidOfProjection (projects.Unprojected place role z) f) (some_is _ b e) said
-unmet_said place role (protocols.UnknownType at name) f b e u said =
-    subst (λ (z : scr.Answer). IsSaidOfProjection (projects.Unprojected place role z) f) (some_is _ b e) said
-unmet_said place role (protocols.PayloadCount at) f b e u said =
-    subst (λ (z : scr.Answer). IsSaidOfProjection (projects.Unprojected place role z) f) (some_is _ b e) said
-unmet_said place role (protocols.UnknownRec at name) f b e u said =
-    subst (λ (z : scr.Answer). IsSaidOfProjection (projects.Unprojected place role z) f) (some_is _ b e) said
-unmet_said place role (protocols.DuplicateRec at name) f b e u said =
-    subst (λ (z : scr.Answer). IsSaidOfProjection (projects.Unprojected place role z) f) (some_is _ b e) said
-unmet_said place role (protocols.Unguarded at name) f b e u said =
-    subst (λ (z : scr.Answer). IsSaidOfProjection (projects.Unprojected place role z) f) (some_is _ b e) said
-unmet_said place role (protocols.Unreachable at) f b e u said =
-    subst (λ (z : scr.Answer). IsSaidOfProjection (projects.Unprojected place role z) f) (some_is _ b e) said
-unmet_said place role (protocols.BranchStart at) f b e u said =
-    subst (λ (z : scr.Answer). IsSaidOfProjection (projects.Unprojected place role z) f) (some_is _ b e) said
-unmet_said place role (protocols.MixedChoice at) f b e u said =
-    subst (λ (z : scr.Answer). IsSaidOfProjection (projects.Unprojected place role z) f) (some_is _ b e) said
-unmet_said place role (protocols.SameLabel at name) f b e u said =
-    subst (λ (z : scr.Answer). IsSaidOfProjection (projects.Unprojected place role z) f) (some_is _ b e) said
-unmet_said place role (protocols.ReservedLabel at name) f b e u said =
-    subst (λ (z : scr.Answer). IsSaidOfProjection (projects.Unprojected place role z) f) (some_is _ b e) said
-unmet_said place role (protocols.NameClash at name) f b e u said =
-    subst (λ (z : scr.Answer). IsSaidOfProjection (projects.Unprojected place role z) f) (some_is _ b e) said
-unmet_said place role (protocols.TooManyStates at) f b e u said =
-    subst (λ (z : scr.Answer). IsSaidOfProjection (projects.Unprojected place role z) f) (some_is _ b e) said
-unmet_said place role protocols.Memory f b e u said = absurd (none_is_not b e)
+-- ---- what is told is said
 
--- ---- the line of a fault is that of a refusal
+unmet_said : (place : Place) (role : Name) (b : scr.Answer) (r : Refusal) → IsUnmet (projects.Unprojected place role b) →
+    IsToldOfProjection (projects.Unprojected place role b) r → IsSaidOfProjection (projects.Unprojected place role b) r
+unmet_said place role (scr.Protocol local) r u h = u
+unmet_said place role (scr.TooLarge at) r u h = u
+unmet_said place role (scr.BadByte at) r u h = u
+unmet_said place role (scr.Unsupported at word) r u h = u
+unmet_said place role scr.Syntax r u h = u
+unmet_said place role (scr.Refused condition at name) r u (inner, is, says) =
+    says ∙ ap (λ (z : Refusal). refusal_at (codes "Unprojected") place (role ++ codes " " ++ z.kind)) is
 
-module _ (s : Source) (line : List ℕ) (f : Fault) (told : line ≡ fault_line s.name f) where
-  refusal : (a : Answer) → Outcome s.number s.bytes a → IsSaid a f → Refusal (s ∷ []) line
-  refusal a h said = record { source = s; one = refl; answer = a; gives = h; fault = f; said = said; told = told }
+told_said : (a : Answer) (r : Refusal) → AllUnmet a → IsTold a r → IsSaid a r
+told_said (Files files) r u h = h
+told_said (Unread a) r u h = h
+told_said (Unprojected (projects.Protocol local)) r u h = h
+told_said (Unprojected (projects.NotMergeable place role)) r u h = h
+told_said (Unprojected (projects.Unprojected place role b)) r u h = unmet_said place role b r u h
 
-  by_projection : (fault : ProjectFault) → said_of_projection fault ≡ Some f →
-      ((a : Answer) → option_map Unprojected (projects.fault_answer fault) ≡ Some a → Outcome s.number s.bytes a) →
-      (option_map Unprojected (projects.fault_answer fault) ≡ None → ⊥) → Refusal (s ∷ []) line
-  by_projection (project_faults.NotMergeable place role) e h n =
-      refusal (Unprojected (projects.NotMergeable place role)) (h _ refl) (same_fault _ f e)
-  by_projection (project_faults.Unprojected place role fault) e h n = go (scr.fault_answer fault) refl
-    where
-      go : (o : Option scr.Answer) → scr.fault_answer fault ≡ o → Refusal (s ∷ []) line
-      go None k = absurd (n (ap (λ (o : Option scr.Answer). option_map Unprojected (option_map (projects.Unprojected place role) o)) k))
-      go (Some b) k =
-          let gives : Outcome s.number s.bytes (Unprojected (projects.Unprojected place role b)) =
-          h _ (ap (λ (o : Option scr.Answer). option_map Unprojected (option_map (projects.Unprojected place role) o)) k) in
-          refusal (Unprojected (projects.Unprojected place role b)) gives
-          (unmet_said place role fault f b k (outcome_unmet s.number s.bytes (Unprojected (projects.Unprojected place role b)) gives)
-          (same_fault _ f e))
-  by_projection project_faults.Memory e h n = not_said f e
-
-  by_fault : (fault : ProjectedFault) → said_of fault ≡ Some f → ((a : Answer) → fault_answer fault ≡ Some a → Outcome s.number s.bytes a) →
-      (fault_answer fault ≡ None → ◌≡◌ {A = Result (Row RoleFile) ProjectedFault} (Err fault) (Err faults.Memory)) → Refusal (s ∷ []) line
-  by_fault (faults.Unread fault) e h n =
-      let a = global_said fault f e in refusal (Unread a.0) (h (Unread a.0) (ap (option_map Unread) a.1)) a.2
-  by_fault (faults.Unprojected fault) e h n = by_projection fault e h (λ k. let no = n k in cc)
-  by_fault faults.Memory e h n = not_said f e
-
-pub told_refused : (s : Source) (fault : ProjectedFault) (stop : Stop) → IsRefusal s.name (said_of fault) stop →
+pub told_refused : (s : Source) (fault : ProjectedFault) (stop : Stop) → IsStopBy IsTold (fault_answer fault) stop →
     ((a : Answer) → fault_answer fault ≡ Some a → Outcome s.number s.bytes a) →
-    (fault_answer fault ≡ None → ◌≡◌ {A = Result (Row RoleFile) ProjectedFault} (Err fault) (Err faults.Memory)) →
-    IsAnswer (s ∷ []) (Err stop)
-told_refused s fault (stops.Refused line) (f, said, told) h n = by_fault s line f told fault said h n
-told_refused s fault stops.Memory said h n = tt
+    Answers (λ (files : Row RoleFile). AreWritten (s ∷ []) files.items) (FirstRefusal (s ∷ [])) (Err (stop_in s.number stop))
+told_refused s fault (stops.Refused r) (a, e, told) h = record {
+  source = s;
+  one = refl;
+  answer = a;
+  gives = h a e;
+  said = (r, told_said a r (outcome_unmet s.number s.bytes a (h a e)) told, refl);
+}
+told_refused s fault stops.Memory told h = tt
 
-pub written_so : (s : Source) (files : Row RoleFile) → Outcome s.number s.bytes (Files files.items) → IsAnswer (s ∷ []) (Ok files)
+pub written_so : (s : Source) (files : Row RoleFile) → Outcome s.number s.bytes (Files files.items) → AreWritten (s ∷ []) files.items
 written_so s files h =
     let (g, reads, is) = files_projected s.number s.bytes files.items h in
     record { source = s; one = refl; global = g; reads = reads; projected = is }
-
--- a refusal by what was told of a fault is one by what is said of it
-pub told_is : (file : List ℕ) (told said : Option Fault) → told ≡ said → (stop : Stop) → IsRefusal file told stop → IsRefusal file said stop
-told_is file told said e stop h = subst (λ (z : Option Fault). IsRefusal file z stop) e h
-
--- the refusal by a fault that was told
-pub stop_refusal : (file : List ℕ) (fault : Fault) (stop : Stop) → IsStop (fault_line file fault) stop → IsRefusal file (Some fault) stop
-stop_refusal file fault (stops.Refused line) h = (fault, refl, h)
-stop_refusal file fault stops.Memory h = tt
-
--- the refusal by a fault that was told of these names
-pub named_refusal : (file given kind name other : List ℕ) (place : Place) (said : Option Fault) (stop : Stop) → given ≡ file → other ≡ name
-    →
-    said ≡ Some (fault_at kind place name) → IsStop (fault_line given (fault_at kind place other)) stop → IsRefusal file said stop
-named_refusal file given kind name other place said stop e f h is =
-    told_is file (Some (fault_at kind place name)) said (sym h) stop
-    (stop_refusal file (fault_at kind place name) stop
-    (subst (λ (z : List ℕ). IsStop (fault_line file (fault_at kind place z)) stop) f
-    (subst (λ (z : List ℕ). IsStop (fault_line z (fault_at kind place other)) stop) e is)))
 
 -- ---- one answer
 
@@ -214,23 +107,23 @@ written_once files fs hs w v =
     (gives_files files fs w) in
     ap files_of (one_outcome v.source.number v.source.bytes (Files fs) (Files hs) there (gives_files files hs v))
 
-pub not_refused : (files : List Source) (fs : List RoleFile) (line : List ℕ) → AreWritten files fs → Refusal files line → ⊥
-not_refused files fs line w r =
-    let same : w.source ≡ r.source = source_is w.source r.source (sym w.one ∙ r.one) in
-    let there : Outcome r.source.number r.source.bytes (Files fs) = subst (λ (s : Source). Outcome s.number s.bytes (Files fs)) same
+pub not_refused : (files : List Source) (fs : List RoleFile) (r : Refusal) → AreWritten files fs → FirstRefusal files r → ⊥
+not_refused files fs r w f =
+    let same : w.source ≡ f.source = source_is w.source f.source (sym w.one ∙ f.one) in
+    let there : Outcome f.source.number f.source.bytes (Files fs) = subst (λ (s : Source). Outcome s.number s.bytes (Files fs)) same
     (gives_files files fs w) in
-    subst (λ (a : Answer). IsSaid a r.fault) (one_outcome r.source.number r.source.bytes r.answer (Files fs) r.gives there) r.said
+    (subst (λ (a : Answer). InFile f.source.number (IsSaid a) r) (one_outcome f.source.number f.source.bytes f.answer (Files fs) f.gives there) f.said).1
 
-pub only_those : (files : List Source) (r : Result (Row RoleFile) Stop) → IsAnswer files r → (fs : List RoleFile) → AreWritten files fs →
-    IsThat fs r
-only_those files (Ok rows) h fs w = written_once files rows.items fs h w
-only_those files (Err (stops.Refused line)) h fs w = not_refused files fs line w h
-only_those files (Err stops.Memory) h fs w = tt
+module _ (files : List Source) (answer : Result (Row RoleFile) Stop)
+    (h : Answers (λ (files' : Row RoleFile). AreWritten files files'.items) (FirstRefusal files) answer) where
+  pub only_those : (fs : List RoleFile) → AreWritten files fs → AnswersOnly (λ rows. rows.items ≡ fs) answer
+  only_those fs w =
+      unless_refused (λ rows. AreWritten files rows.items) (FirstRefusal files) (λ rows. rows.items ≡ fs) answer h
+      (λ rows is. written_once files rows.items fs is w) (λ r first. not_refused files fs r w first)
 
-pub refused_unwritten : (files : List Source) (r : Result (Row RoleFile) Stop) → IsAnswer files r → (line : List ℕ) → Refusal files line →
-    OnOk r ⊥
-refused_unwritten files (Ok rows) h line r = not_refused files rows.items line h r
-refused_unwritten files (Err stop) h line r = tt
+  pub refused_unwritten : (r : Refusal) → FirstRefusal files r → OnOk answer ⊥
+  refused_unwritten r first =
+      never_ok (λ rows. AreWritten files rows.items) (FirstRefusal files) answer h (λ rows is. not_refused files rows.items r is first)
 
 -- ---- one file
 
@@ -243,10 +136,12 @@ one_source (x ∷ []) [] name bytes n c e f = absurd (omega (arith, c))
 one_source (x ∷ []) (z ∷ w ∷ zs) name bytes n c e f = absurd (omega (arith, c))
 one_source (x ∷ []) (z ∷ []) name bytes n c e f = λ i. source_of 0 (e i) (f i) ∷ []
 
-pub answer_of_one : (names contents : List (List ℕ)) (name bytes given : List ℕ) (r : Result (Row RoleFile) Stop) → length names ≡ 1 →
-    length contents ≡ 1 →
-    name ≡ get_or names 0 name → bytes ≡ get_or contents 0 bytes → given ≡ bytes → IsAnswer (source_of 0 name given ∷ []) r →
-    IsAnswer (sources names contents) r
-answer_of_one names contents name bytes given r n c e f g h =
-    subst (λ (z : List Source). IsAnswer z r) (one_source names contents name bytes n c e f)
-    (subst (λ (z : List ℕ). IsAnswer (source_of 0 name z ∷ []) r) g h)
+pub answer_of_one : (names contents : List (List ℕ)) (bytes given : List ℕ) (r : Result (Row RoleFile) Stop) → length names ≡ 1 →
+    length contents ≡ 1 → bytes ≡ get_or contents 0 bytes → given ≡ bytes →
+    ((name : List ℕ) → Answers (λ files. AreWritten (written_alone name given) files.items) (FirstRefusal (written_alone name given)) r) →
+    Answers (λ files. AreWritten (sources names contents) files.items) (FirstRefusal (sources names contents)) r
+answer_of_one names contents bytes given r n c f g h =
+    let name : List ℕ = get_or names 0 [] in
+    subst (λ (z : List Source). Answers (λ files. AreWritten z files.items) (FirstRefusal z) r)
+    (one_source names contents name bytes n c (same_at names 0 [] name (omega (arith, n))) f)
+    (subst (λ (z : List ℕ). Answers (λ files. AreWritten (written_alone name z) files.items) (FirstRefusal (written_alone name z)) r) g (h name))

@@ -1,5 +1,5 @@
 //! The files of a projected global protocol: for each of its roles, in their order, the text of the
-//! local protocol that says what the role does; or the first refusal, with its line.
+//! local protocol that says what the role does; or the first refusal.
 #![tactic(auto)]
 
 mod fault;

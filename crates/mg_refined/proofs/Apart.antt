@@ -1,21 +1,21 @@
 -- Of two files one thing is told, and of files that are refused nothing.
-use Rattle.std.proofs.Common.{◌≡◌, ℕ, Bool, List, [], ◌∷◌, Some, Result, Ok, Err, refl, ap, ap₂, subst}
+use Rattle.std.proofs.Common.{◌≡◌, ℕ, Bool, List, [], ◌∷◌, Result, refl, ap, ap₂, subst}
 use Rattle.std.specs.Prelude.{OnOk}
 use Rattle.mg_text.specs.Call.{Call}
-use Rattle.mg_read.specs.First.{Judged, here, later}
+use Rattle.mg_read.proofs.Judging.{no_both}
 use Rattle.ts_tree.specs.Typestate.{Typestate}
 use Rattle.ts_refine.specs.declared.verdict.Reason.{Reason}
 use Rattle.ts_refine.proofs.Unique.{one_count, one_failure, not_both}
 use Rattle.mg_sources.specs.Files.{Source}
-use Rattle.mg_sources.specs.Reading.{Part, Protocol, States, Classes}
-use Rattle.mg_sources.specs.Parts.{EachSpells}
-use Rattle.mg_sources.specs.Sources.{IsRefused}
-use Rattle.mg_sources.specs.declared.stop.Stop.{Stop}
-use Rattle.mg_sources.specs.declared.stop.Stop.TheVariants as stops
-use Rattle.mg_sources.proofs.OneKind.{one_part, excludes}
+use Rattle.mg_refusal.specs.Refusals.{Refusal}
+use Rattle.mg_refusal.specs.Order.{Answers, AnswersOnly}
+use Rattle.mg_refusal.specs.declared.stop.Stop.{Stop}
+use Rattle.mg_refusal.proofs.Orders.{unless_refused, never_ok}
+use Rattle.mg_sources.specs.Reading.{Part, Protocol, States, Classes, EachSpells}
+use Rattle.mg_sources.proofs.OneKind.{one_part}
+use Rattle.mg_sources.proofs.PartLemmas.{none_refused}
 use Rattle.mg_refined.specs.declared.refined.Told.{Told}
-use Rattle.mg_refined.specs.Refined.{yes_text, no_text, Tells, yes_told, no_told, AreJudged, Refusal}
-use Rattle.mg_refined.specs.View.{IsAnswer, IsThat}
+use Rattle.mg_refined.specs.Refined.{yes_text, no_text, Tells, yes_told, no_told, AreJudged, FirstRefusal}
 
 one_spelling : (files : List Source) (ps qs : List Part) → EachSpells files ps → EachSpells files qs → ps ≡ qs
 one_spelling [] [] [] h k = refl
@@ -62,20 +62,19 @@ one_telling files x y s t h k =
     (subst (λ (a : Typestate). Tells a h.b x s) (firsts h.a h.b k.a k.b e) h.tells) in
     tells_one k.a k.b x y s t moved k.tells
 
-pub none_spelled : (files : List Source) (parts : List Part) (line : List ℕ) → EachSpells files parts → Judged IsRefused files (Some line)
-    → ⊥
-none_spelled [] parts line h j = elim j [ ]
-none_spelled (f ∷ files) [] line h j = absurd h
-none_spelled (f ∷ files) (p ∷ parts) line h (here r) = excludes f p r.0 h.0 r.1
-none_spelled (f ∷ files) (p ∷ parts) line h (later n rest) = none_spelled files parts line h.1 rest
+pub none_spelled : (files : List Source) (parts : List Part) (r : Refusal) → EachSpells files parts → FirstRefusal files r → ⊥
+none_spelled files parts r each judged = no_both (none_refused files parts each) judged
 
-pub judged_answered : (files : List Source) (answer : Result Told Stop) → IsAnswer files answer → (text : List ℕ) (stands : Bool)
-    → AreJudged files text stands → IsThat text stands answer
-judged_answered files (Ok told) h text stands k = one_telling files told.text text told.stands stands h k
-judged_answered files (Err (stops.Refused line)) h text stands k = none_spelled files (States k.a ∷ States k.b ∷ []) line k.spell h
-judged_answered files (Err stops.Memory) h text stands k = tt
+module _ (files : List Source) (answer : Result Told Stop)
+    (h : Answers (λ (t : Told). AreJudged files t.text t.stands) (FirstRefusal files) answer) where
+  pub judged_answered : (text : List ℕ) (stands : Bool) → AreJudged files text stands →
+      AnswersOnly (λ t. (t.text ≡ text) × (t.stands ≡ stands)) answer
+  judged_answered text stands k =
+      unless_refused (λ t. AreJudged files t.text t.stands) (FirstRefusal files) (λ t. (t.text ≡ text) × (t.stands ≡ stands)) answer h
+      (λ t is. one_telling files t.text text t.stands stands is k)
+      (λ r first. none_spelled files (States k.a ∷ States k.b ∷ []) r k.spell first)
 
-pub refused_untold : (files : List Source) (answer : Result Told Stop) → IsAnswer files answer → (line : List ℕ) → Refusal files line
-    → OnOk answer ⊥
-refused_untold files (Ok told) h line r = none_spelled files (States h.a ∷ States h.b ∷ []) line h.spell r
-refused_untold files (Err stop) h line r = tt
+  pub refused_untold : (r : Refusal) → FirstRefusal files r → OnOk answer ⊥
+  refused_untold r first =
+      never_ok (λ t. AreJudged files t.text t.stands) (FirstRefusal files) answer h
+      (λ t is. none_spelled files (States is.a ∷ States is.b ∷ []) r is.spell first)

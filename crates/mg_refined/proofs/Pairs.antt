@@ -1,17 +1,23 @@
 -- Two files of typestates spell two typestates.
 use Rattle.std.proofs.Common.{arith, ◌≡◌, ℕ, Bool, List, [], ◌∷◌, ◌++◌, length, codes, Option, Some, None, Result, Ok, Err, slice_get, refl}
-use Rattle.std.proofs.Common.{sym, ap, ◌∙◌, subst}
+use Rattle.std.proofs.Common.{map, sym, ap, ◌∙◌, subst}
 use Rattle.std.specs.Prelude.{All, IfOk}
 use Rattle.std.proofs.lemmas.List.Elements.{All-contains, All-weaker}
+use Rattle.mg_text.specs.Row.{Row}
 use Rattle.mg_text.specs.declared.memory.Memory.{Memory}
+use Rattle.mg_read.specs.First.{Judged}
 use Rattle.ts_tree.specs.Typestate.{Typestate}
 use Rattle.ts_tree.proofs.Leading.{here as first_of, behind as later_of}
 use Rattle.mg_sources.specs.Files.{Source, source_of, sources, EndsWith, Kind, Typestates, suffix_of, HaveKinds}
-use Rattle.mg_sources.specs.Reading.{Part, Protocol, States, Classes, Reads}
+use Rattle.mg_refusal.specs.Order.{Answers}
+use Rattle.mg_refusal.specs.declared.stop.Stop.{Stop}
+use Rattle.mg_refusal.specs.declared.stop.Stop.TheVariants as stops
+use Rattle.mg_sources.specs.Reading.{Part, Protocol, States, Classes, Reads, EachSpells, Refuses}
 use Rattle.mg_sources.specs.Reading as reading
-use Rattle.mg_sources.specs.Parts.{EachSpells}
+use Rattle.mg_sources.specs.Parts.{part_of}
+use Rattle.mg_sources.specs.declared.part.Part.{Part as KeptPart}
 use Rattle.mg_refined.specs.declared.refined.Told.{Told}
-use Rattle.mg_refined.specs.Refined.{Tells, AreJudged}
+use Rattle.mg_refined.specs.Refined.{Tells, AreJudged, FirstRefusal}
 
 -- the last of a text
 abbrev last_of : List ℕ → Option ℕ
@@ -100,3 +106,10 @@ told_same parts x y (Ok t) f s k = λ a b e.
     let two : y ≡ b = ap (state_in y) (sym s ∙ second_there parts a b e) in
     subst (λ (b : Typestate). Tells a b t.text t.stands) two (subst (λ (a : Typestate). Tells a y t.text t.stands) one k)
 told_same parts x y (Err e) f s k = tt
+
+-- of files that a reader refuses nothing is told
+pub unread : (files : List Source) (stop : Stop) →
+    Answers (λ (parts : Row KeptPart). EachSpells files (map part_of parts.items)) (λ r. Judged Refuses files (Some r)) (Err stop) →
+    Answers (λ (t : Told). AreJudged files t.text t.stands) (FirstRefusal files) (Err stop)
+unread files (stops.Refused r) h = h
+unread files stops.Memory h = tt

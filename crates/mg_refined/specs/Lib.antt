@@ -1,2 +1,1 @@
 pub mod Refined
-pub mod View

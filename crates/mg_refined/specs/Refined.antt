@@ -8,10 +8,9 @@ use Rattle.ts_refine.specs.declared.verdict.Pair.{Pair}
 use Rattle.ts_refine.specs.declared.verdict.Reason.{Reason}
 use Rattle.ts_refine.specs.declared.verdict.Reason.TheVariants as reasons
 use Rattle.ts_refine.specs.Verdicts.{Stands, FailsFirst}
+use Rattle.mg_refusal.specs.Refusals.{Refusal}
 use Rattle.mg_sources.specs.Files.{Source}
-use Rattle.mg_sources.specs.Reading.{States}
-use Rattle.mg_sources.specs.Parts.{EachSpells}
-use Rattle.mg_sources.specs.Sources.{IsRefused}
+use Rattle.mg_sources.specs.Reading.{States, EachSpells, Refuses}
 
 -- yes, and how many pairs of places calls lead to
 abbrev pub yes_text : ℕ → List ℕ
@@ -55,6 +54,6 @@ pub record AreJudged (files : List Source) (text : List ℕ) (stands : Bool) : T
   pub spell : EachSpells files (States a ∷ States b ∷ [])
   pub tells : Tells a b text stands
 
--- The first of these files that its reader refuses is refused with this line.
-abbrev pub Refusal : List Source → List ℕ → Type 0
-Refusal files line = Judged IsRefused files (Some line)
+-- The first of these files that its reader refuses is refused so.
+abbrev pub FirstRefusal : List Source → Refusal → Type 0
+FirstRefusal files r = Judged Refuses files (Some r)

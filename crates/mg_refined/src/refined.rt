@@ -5,11 +5,13 @@ ghost use Rattle.ts_tree.specs.Typestate.{Typestate as States};
 ghost use Rattle.mg_sources.specs.Files.{EndsWith, sources};
 ghost use Rattle.mg_sources.specs.Reading.{States as ReadStates};
 ghost use Rattle.mg_sources.specs.Parts.{part_of};
-ghost use Rattle.mg_refined.specs.Refined.{Tells, AreJudged, Refusal};
-ghost use Rattle.mg_refined.specs.View.{IsAnswer, IsThat};
+ghost use Rattle.mg_refusal.specs.Refusals.{Refusal};
+ghost use Rattle.mg_refusal.specs.Order.{Answers, AnswersOnly};
+ghost use Rattle.mg_refined.specs.Refined.{Tells, AreJudged, FirstRefusal};
 
 use crate::telling::{no_text, yes_text};
-use mg_sources::{Part, Stop, read_parts};
+use mg_refusal::Stop;
+use mg_sources::{Part, read_parts};
 use mg_text::{Bytes, Memory, Text};
 use std::alloc::Global;
 use ts_refine::Verdict;
@@ -25,18 +27,19 @@ pub struct Told {
 /// What is told of the typestates that these two files are, in their order.
 ///
 /// # Errors
-/// `Refused` with the line of the first file that its reader refuses; `Memory` where memory is
+/// `Refused` with the fault of the first file that its reader refuses; `Memory` where memory is
 /// wanted.
 pub fn refine(alloc: Global, names: &[Text], contents: &[Bytes]) -> Result<Told, Stop>
     requires two { length names.now ≡ 2 }
     requires same { length contents.now ≡ 2 }
     requires kinds { All (EndsWith (codes ".protocol")) names.now }
-    // What is answered is told of the typestates that the files are, or is the line of their first refusal.
-    ensures answered { IsAnswer (sources names.now contents.now) result }
+    // What is answered is told of the typestates that the files are, or is their first refusal.
+    ensures answered { Answers (λ t. AreJudged (sources names.now contents.now) t.text t.stands) (FirstRefusal (sources names.now contents.now)) result }
     // Files of which this is to be told are answered by it, unless memory runs out.
-    ensures only { (text : Seq ℕ) (stands : Bool) → AreJudged (sources names.now contents.now) text stands → IsThat text stands result }
+    ensures only { (text : Seq ℕ) (stands : Bool) → AreJudged (sources names.now contents.now) text stands →
+        AnswersOnly (λ t. (t.text ≡ text) × (t.stands ≡ stands)) result }
     // Of files that are refused nothing is told.
-    ensures refused { (line : Seq ℕ) → Refusal (sources names.now contents.now) line → OnOk result ⊥ }
+    ensures refused { (r : Refusal) → FirstRefusal (sources names.now contents.now) r → OnOk result ⊥ }
 {
     refined(alloc, names, contents)
 }
@@ -46,15 +49,11 @@ fn refined(alloc: Global, names: &[Text], contents: &[Bytes]) -> Result<Told, St
     requires two { length names.now ≡ 2 }
     requires same { length contents.now ≡ 2 }
     requires kinds { All (EndsWith (codes ".protocol")) names.now }
-    ensures { IsAnswer (sources names.now contents.now) result }
+    ensures { Answers (λ t. AreJudged (sources names.now contents.now) t.text t.stands) (FirstRefusal (sources names.now contents.now)) result }
 {
-    match read_parts(alloc, names, contents) {
-        Ok(parts) => {
-            let told = judged(alloc, parts.as_slice())?;
-            Ok(told)
-        }
-        Err(stop) => Err(stop),
-    }
+    let parts = read_parts(alloc, names, contents)?;
+    let told = judged(alloc, parts.as_slice())?;
+    Ok(told)
 }
 
 // What is told of two parts that are typestates.

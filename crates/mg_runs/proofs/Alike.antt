@@ -1,17 +1,16 @@
--- The first refusal of files that aren't run has one line, but for the place of Syntax.
-use Rattle.std.proofs.Common.{◌≡◌, ℕ, List, [], ◌∷◌, ◌++◌, None, sym, ap, ◌∙◌, subst, inl}
+-- Two first refusals of files that aren't run are one, but for the place of Syntax.
+use Rattle.std.proofs.Common.{◌≡◌, List, [], ◌∷◌, ◌++◌, None, refl, sym, ap, ◌∙◌, subst, inl}
 use Rattle.jv_core.specs.Tree as Core
 use Rattle.jv_core.specs.Meaning.{main_of}
 use Rattle.vm_world_law.specs.declared.role.RoleMain.{RoleMain}
+use Rattle.mg_refusal.specs.Refusals.{Refusal, AreAlike}
+use Rattle.mg_refusal.proofs.Orders.{then_alike}
 use Rattle.mg_sources.specs.Files.{Source}
-use Rattle.mg_sources.specs.Faults.{AreAlike}
-use Rattle.mg_program.proofs.Apart.{one_core}
-use Rattle.mg_accepted.proofs.Apart as accepted
-use Rattle.mg_accepted.proofs.Alike as unmet
-use Rattle.mg_compile.proofs.Alike.{one_line}
+use Rattle.mg_accepted.proofs.Apart.{not_refused}
+use Rattle.mg_accepted.proofs.Alike as accepted
+use Rattle.mg_compile.proofs.Alike.{excess_alike, one_accepted}
 use Rattle.mg_runs.specs.Runs.{HaveMains}
-use Rattle.mg_runs.specs.Lines.{no_main_line}
-use Rattle.mg_runs.specs.Commanded.{Refusal, unaccepted, no_main, too_large}
+use Rattle.mg_runs.specs.Commanded.{no_main, LacksMain, FirstRefusal}
 use Rattle.mg_runs.proofs.Apart.{lacks_none}
 
 -- the first role whose class has no `main` is one
@@ -27,28 +26,14 @@ first_lacking core (x ∷ front) (y ∷ others) main other rest behind e h g a b
     let same : front ++ main ∷ rest ≡ others ++ other ∷ behind = cc in first_lacking core front others main other rest behind same h.1 g.1 a
     b
 
-pub same_refusal : (files : List Source) (mains : List RoleMain) (l k : List ℕ) → Refusal files mains l → Refusal files mains k →
-    AreAlike l k
-same_refusal files mains l k (unaccepted r) (unaccepted q) = unmet.same_refusal files l k r q
-same_refusal files mains l k (unaccepted r) (no_main core front main rest a is have none told) =
-    absurd (accepted.not_refused files core l a r)
-same_refusal files mains l k (unaccepted r) (too_large core e a have first told) = absurd (accepted.not_refused files core l a r)
-same_refusal files mains l k (no_main core front main rest a is have none said) (unaccepted q) =
-    absurd (accepted.not_refused files core k a q)
-same_refusal files mains l k (too_large core e a have first said) (unaccepted q) = absurd (accepted.not_refused files core k a q)
-same_refusal files mains l k (no_main core front main rest a is have none said) (no_main core' front' main' rest' a' is' have' none' told) =
-    let same : core ≡ core' = one_core files core core' a.have a'.have in
-    let one : main ≡ main' = first_lacking core' front front' main main' rest rest' (sym is ∙ is')
-    (subst (λ (z : Core.Program). HaveMains z front) same have)
-    have' (subst (λ (z : Core.Program). main_of z main.class ≡ None) same none) none' in
-    inl (said ∙ ap (λ (m : RoleMain). no_main_line m.class) one ∙ sym told)
-same_refusal files mains l k (no_main core front main rest a is have none said) (too_large core' e a' have' first told) =
-    let same : core' ≡ core = one_core files core' core a'.have a.have in
-    absurd (lacks_none core front main rest
-    (subst (HaveMains core) is (subst (λ (z : Core.Program). HaveMains z mains) same have')) none)
-same_refusal files mains l k (too_large core' e a' have' first said) (no_main core front main rest a is have none told) =
-    let same : core' ≡ core = one_core files core' core a'.have a.have in
-    absurd (lacks_none core front main rest
-    (subst (HaveMains core) is (subst (λ (z : Core.Program). HaveMains z mains) same have')) none)
-same_refusal files mains l k (too_large core d a have first said) (too_large other e b have' first' told) =
-    inl (one_line files core other d e l k a b first first' said told)
+lacks_alike : (core : Core.Program) (mains : List RoleMain) (r q : Refusal) → LacksMain core mains r → LacksMain core mains q → AreAlike r q
+lacks_alike core mains r q h k =
+    let one : h.main ≡ k.main = first_lacking core h.front k.front h.main k.main h.rest k.rest (sym h.parts ∙ k.parts) h.have k.have h.none k.none in
+    inl (h.said ∙ ap (λ (m : RoleMain). no_main m.class) one ∙ sym k.said)
+
+pub same_refusal : (files : List Source) (mains : List RoleMain) (r q : Refusal) → FirstRefusal files mains r → FirstRefusal files mains q →
+    AreAlike r q
+same_refusal files mains = then_alike (accepted.same_refusal files) (λ r core first a. not_refused files core r a first) (one_accepted files)
+    (λ core a. then_alike (lacks_alike core mains)
+    (λ r done l have. lacks_none core l.front l.main l.rest (subst (HaveMains core) l.parts have) l.none)
+    (λ x y h k. refl) (λ done have. excess_alike core))

@@ -1,5 +1,5 @@
 -- Files have one run of these roles, and files that are refused have none.
-use Rattle.std.proofs.Common.{◌≡◌, ◌≢◌, ℕ, List, [], ◌∷◌, ◌++◌, Bool, map, Some, None, Result, Ok, Err, if◌then◌else◌, sym, ap, ◌∙◌, subst}
+use Rattle.std.proofs.Common.{◌≡◌, ◌≢◌, ℕ, List, [], ◌∷◌, ◌++◌, Bool, map, Some, None, Result, if◌then◌else◌, sym, ap, ◌∙◌, subst}
 use Rattle.std.specs.Prelude.{OnOk}
 use Rattle.vm_model.specs.Program.{Program}
 use Rattle.vm_model.specs.Links.{linked}
@@ -14,8 +14,10 @@ use Rattle.vm_world_law.proofs.Turns.{one_run}
 use Rattle.vm_world_law.proofs.Once.{begun_once}
 use Rattle.mg_trace.specs.Trace.{trace, printed}
 use Rattle.mg_sources.specs.Files.{Source}
-use Rattle.mg_sources.specs.declared.stop.Stop.{Stop}
-use Rattle.mg_sources.specs.declared.stop.Stop.TheVariants as stops
+use Rattle.mg_refusal.specs.Refusals.{Refusal}
+use Rattle.mg_refusal.specs.Order.{Answers, AnswersOnly}
+use Rattle.mg_refusal.specs.declared.stop.Stop.{Stop}
+use Rattle.mg_refusal.proofs.Orders.{then_never, unless_refused, never_ok}
 use Rattle.mg_program.proofs.Apart.{one_core}
 use Rattle.mg_accepted.proofs.Apart as accepted
 use Rattle.mg_compile.specs.declared.files.ClassFile.{ClassFile}
@@ -24,8 +26,8 @@ use Rattle.mg_compile.proofs.Apart.{one_list, not_exceeded}
 use Rattle.mg_runs.specs.declared.ran.Ran.{Ran}
 use Rattle.mg_runs.specs.Runs.{IsLoaded, HaveMains, names_of, messages_in}
 use Rattle.mg_runs.specs.Headline.{Course, IsRun}
-use Rattle.mg_runs.specs.View.{Shows, IsRunning, IsThatRun}
-use Rattle.mg_runs.specs.Commanded.{Refusal, unaccepted, no_main, too_large}
+use Rattle.mg_runs.specs.View.{Shows, IsOfRun}
+use Rattle.mg_runs.specs.Commanded.{FirstRefusal}
 use Rattle.mg_runs.proofs.Sound.{one_spelled_list}
 
 -- a class that has no `main` isn't among those that have one
@@ -36,16 +38,15 @@ lacks_none core [] main rest h = h.0
 lacks_none core (x ∷ front) main rest h = lacks_none core front main rest h.1
 
 -- files that are refused aren't run
-pub not_refused : (files : List Source) (mains : List RoleMain) (order : List ℕ) (limit : ℕ) (r : Course) (line : List ℕ) →
-    IsRun files mains order limit r → Refusal files mains line → ⊥
-not_refused files mains order limit r line h (unaccepted refused) = accepted.not_refused files r.core line h.accepted refused
-not_refused files mains order limit r line h (no_main core front main rest a is have none said) =
-    let same : core ≡ r.core = one_core files core r.core a.have h.accepted.have in
-    lacks_none r.core front main rest (subst (HaveMains r.core) is h.have_mains) (subst (λ (z : Core.Program). main_of z main.class ≡ None)
-    same none)
-not_refused files mains order limit r line h (too_large core e a have first said) =
-    let same : core ≡ r.core = one_core files core r.core a.have h.accepted.have in
-    not_exceeded r.core e h.class_files.fine (subst (λ (z : Core.Program). IsFirstExcess z (Some e)) same first)
+pub not_refused : (files : List Source) (mains : List RoleMain) (order : List ℕ) (limit : ℕ) (run : Course) (r : Refusal) →
+    IsRun files mains order limit run → FirstRefusal files mains r → ⊥
+not_refused files mains order limit run r h = then_never (λ r first. accepted.not_refused files run.core r h.accepted first) (λ core a.
+    let same : core ≡ run.core = one_core files core run.core a.have h.accepted.have in
+    then_never
+    (λ r l. lacks_none run.core l.front l.main l.rest (subst (HaveMains run.core) l.parts h.have_mains)
+    (subst (λ (z : Core.Program). main_of z l.main.class ≡ None) same l.none))
+    (λ done have r found. not_exceeded run.core found.0 h.class_files.fine
+    (subst (λ (z : Core.Program). IsFirstExcess z (Some found.0)) same found.1))) r
 
 -- bytes are loaded as one program
 one_loaded : (bytes : List (List ℕ)) (p q : Program) → IsLoaded bytes p → IsLoaded bytes q → p ≡ q
@@ -94,16 +95,15 @@ shows_same files mains order limit named traced a b ran h g s =
       messages_are = s.messages_are ∙ ap (λ (w : World). messages_in w.events) same.last;
     }
 
-pub only_run : (files : List Source) (mains : List RoleMain) (order : List ℕ) (limit : ℕ) (named traced : Bool) (result : Result Ran Stop) →
-    IsRunning files mains order limit named traced result → (run : Course) → IsRun files mains order limit run →
-    IsThatRun mains named traced run result
-only_run files mains order limit named traced (Ok ran) h run is = shows_same files mains order limit named traced h.run run ran h.is is
-    h.shows
-only_run files mains order limit named traced (Err (stops.Refused line)) h run is = not_refused files mains order limit run line is h
-only_run files mains order limit named traced (Err stops.Memory) h run is = tt
+module _ (files : List Source) (mains : List RoleMain) (order : List ℕ) (limit : ℕ) (named traced : Bool) (result : Result Ran Stop)
+    (h : Answers (IsOfRun files mains order limit named traced) (FirstRefusal files mains) result) where
+  pub only_run : (run : Course) → IsRun files mains order limit run → AnswersOnly (Shows mains named traced run) result
+  only_run run is =
+      unless_refused (IsOfRun files mains order limit named traced) (FirstRefusal files mains) (Shows mains named traced run) result h
+      (λ ran of. shows_same files mains order limit named traced of.run run ran of.is is of.shows)
+      (λ r first. not_refused files mains order limit run r is first)
 
-pub refused_run : (files : List Source) (mains : List RoleMain) (order : List ℕ) (limit : ℕ) (named traced : Bool)
-    (result : Result Ran Stop) →
-    IsRunning files mains order limit named traced result → (line : List ℕ) → Refusal files mains line → OnOk result ⊥
-refused_run files mains order limit named traced (Ok ran) h line refused = not_refused files mains order limit h.run line h.is refused
-refused_run files mains order limit named traced (Err stop) h line refused = tt
+  pub refused_run : (r : Refusal) → FirstRefusal files mains r → OnOk result ⊥
+  refused_run r first =
+      never_ok (IsOfRun files mains order limit named traced) (FirstRefusal files mains) result h
+      (λ ran of. not_refused files mains order limit of.run r of.is first)

@@ -1,26 +1,26 @@
 -- What running roles answers.
-use Rattle.std.proofs.Common.{◌≡◌, ℕ, zero, suc, List, [], ◌∷◌, ◌++◌, Bool, Some, Err, length, take, drop, get_or, slice_get, sym, ap, ◌∙◌}
+use Rattle.std.proofs.Common.{◌≡◌, ℕ, zero, suc, List, [], ◌∷◌, ◌++◌, Bool, Some, Result, Err, take, drop, get_or, slice_get, ap, ◌∙◌}
 use Rattle.std.proofs.lemmas.Option.{get_or_from_slice_get}
 use Rattle.jv_core.specs.Tree as Core
 use Rattle.vm_world_law.specs.declared.role.RoleMain.{RoleMain}
 use Rattle.vm_world_law.specs.World.{turns}
-use Rattle.mg_sources.specs.Files.{Source, sources}
-use Rattle.mg_sources.specs.Faults.{fault_line}
-use Rattle.mg_sources.specs.View.{IsStop}
-use Rattle.mg_sources.specs.declared.stop.Stop.{Stop}
-use Rattle.mg_sources.specs.declared.stop.Stop.TheVariants as stops
-use Rattle.mg_program.proofs.Lines.{named_from}
+use Rattle.mg_text.specs.Row.{Row}
+use Rattle.mg_refusal.specs.Refusals.{Refusal}
+use Rattle.mg_refusal.specs.Order.{Answers, at_first, at_next}
+use Rattle.mg_sources.specs.Files.{Source}
+use Rattle.mg_refusal.specs.declared.stop.Stop.{Stop}
+use Rattle.mg_refusal.specs.declared.stop.Stop.TheVariants as stops
 use Rattle.mg_accepted.specs.Accepted.{AreAccepted}
-use Rattle.mg_accepted.specs.View as accepted
+use Rattle.mg_accepted.specs.Accepted as accepted
+use Rattle.mg_accepted.specs.View.{IsProgramOf}
 use Rattle.mg_compile.specs.declared.files.ClassFile.{ClassFile}
 use Rattle.mg_compile.specs.Files.{AreClassFiles}
-use Rattle.mg_compile.specs.inner.Answers.{AreGiven, excess_fault}
+use Rattle.mg_compile.specs.Compiled.{ExcessRefusal}
 use Rattle.mg_runs.specs.declared.ran.Ran.{Ran}
-use Rattle.mg_runs.specs.Lines.{no_main_line}
 use Rattle.mg_runs.specs.Runs.{HaveMains}
-use Rattle.mg_runs.specs.Commanded.{unaccepted, no_main, too_large}
+use Rattle.mg_runs.specs.Commanded.{no_main, FirstRefusal}
 use Rattle.mg_runs.specs.Laws.{RolesAreMeant, RolesKeep, RolesPlay, AllProtocolsAgree}
-use Rattle.mg_runs.specs.View.{IsOfRun, IsRunning}
+use Rattle.mg_runs.specs.View.{IsOfRun}
 use Rattle.mg_runs.specs.inner.Mains.{IsWithout}
 use Rattle.mg_runs.specs.inner.Going.{IsRunOf}
 use Rattle.mg_runs.proofs.Playing.{from_there}
@@ -62,23 +62,26 @@ module _ (files : List Source) (mains : List RoleMain) (order : List ℕ) (limit
         shows = r.shows;
       }
 
-  pub run_unaccepted : (stop : Stop) → accepted.IsVerdict files (Err stop) → IsRunning files mains order limit named traced (Err stop)
-  run_unaccepted (stops.Refused line) h = unaccepted h
+  abbrev Runs : Result Ran Stop → Type 0
+  Runs answer = Answers (IsOfRun files mains order limit named traced) (FirstRefusal files mains) answer
+
+  pub run_unaccepted : (stop : Stop) → Answers (IsProgramOf files) (accepted.FirstRefusal files) (Err stop) → Runs (Err stop)
+  run_unaccepted (stops.Refused r) h = at_first h
   run_unaccepted stops.Memory h = tt
 
-  pub run_no_main : (core : Core.Program) (number : ℕ) (main : RoleMain) (stop : Stop) → AreAccepted files core →
-      IsWithout core mains number →
-      IsStop (no_main_line (get_or mains number main).class) stop → IsRunning files mains order limit named traced (Err stop)
-  run_no_main core number main (stops.Refused line) a w is =
-      no_main core (take number mains) w.main (drop (suc number) mains) a (parts_at mains number w.main w.is) w.front w.none
-      (is ∙ ap (λ (m : RoleMain). no_main_line m.class) (get_or_from_slice_get mains number w.main main w.is))
-  run_no_main core number main stops.Memory a w is = tt
+  pub run_no_main : (core : Core.Program) (number : ℕ) (main : RoleMain) (r : Refusal) → AreAccepted files core → IsWithout core mains number →
+      r ≡ no_main (get_or mains number main).class → Runs (Err (stops.Refused r))
+  run_no_main core number main r a w is = at_next core a (at_first (record {
+    front = take number mains;
+    main = w.main;
+    rest = drop (suc number) mains;
+    parts = parts_at mains number w.main w.is;
+    have = w.front;
+    none = w.none;
+    said = is ∙ ap (λ (m : RoleMain). no_main m.class) (get_or_from_slice_get mains number w.main main w.is);
+  }))
 
-pub run_exceeded : (names contents : List (List ℕ)) (mains : List RoleMain) (order : List ℕ) (limit : ℕ) (named traced : Bool)
-    (core : Core.Program)
-    (stop : Stop) → length names ≡ length contents → AreAccepted (sources names contents) core → HaveMains core mains →
-    AreGiven names core (Err stop) → IsRunning (sources names contents) mains order limit named traced (Err stop)
-run_exceeded names contents mains order limit named traced core (stops.Refused line) same a have g =
-    too_large core g.excess a have g.first
-    (g.said ∙ ap (λ (z : List ℕ). fault_line z (excess_fault g.excess)) (sym (named_from 0 names contents g.excess.place.file same)))
-run_exceeded names contents mains order limit named traced core stops.Memory same a have g = tt
+  pub run_exceeded : (core : Core.Program) (stop : Stop) → AreAccepted files core → HaveMains core mains →
+      Answers (λ (written : Row ClassFile). AreClassFiles core written.items) (ExcessRefusal core) (Err stop) → Runs (Err stop)
+  run_exceeded core (stops.Refused r) a have h = at_next core a (at_next tt have h)
+  run_exceeded core stops.Memory a have h = tt

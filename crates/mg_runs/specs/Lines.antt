@@ -1,4 +1,4 @@
--- The line that is said of each role of a run, and that of a class that can't be run.
+-- The line that is said of each role of a run.
 use Rattle.std.specs.Prelude.{ℕ, List, [], ◌∷◌, ◌++◌, codes}
 use Rattle.std.specs.Fmt.{decimal}
 use Rattle.mg_text.specs.Call.{Name}
@@ -37,7 +37,3 @@ role_line name count stand = name ++ codes ": " ++ decimal count ++ codes " inst
 abbrev pub role_lines : List Name → (counts : List ℕ) → List Stand → List ℕ
 role_lines (name ∷ names) (count ∷ counts) (stand ∷ more) = role_line name count stand ++ role_lines names counts more
 role_lines _ _ _ = []
-
--- the class has no `main`
-abbrev pub no_main_line : Name → List ℕ
-no_main_line class = codes "mungo: NoMain " ++ class ++ 10 ∷ []

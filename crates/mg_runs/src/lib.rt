@@ -1,6 +1,5 @@
 //! Runs of a command: its files are one accepted program, whose class files are read back, linked
-//! and run by several roles, each from the `main` of a class, or the first refusal is told with its
-//! line.
+//! and run by several roles, each from the `main` of a class, or the first refusal is told.
 #![tactic(auto)]
 
 mod going;

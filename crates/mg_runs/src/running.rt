@@ -1,19 +1,19 @@
 //! From the files of a command to the run of its roles.
 
-ghost use Rattle.std.specs.Prelude.{◌≡◌, ◌<◌, ◌^◌, ℕ, List as Seq, IfOk, OnOk, Contains, length, map, slice_get, Some};
+ghost use Rattle.std.specs.Prelude.{◌≡◌, ◌<◌, ◌^◌, ℕ, IfOk, OnOk, Contains, length, map, slice_get, Some};
 ghost use Rattle.std.specs.List.{IsDistinct};
 ghost use Rattle.std.specs.Str.{bytes_eq};
 ghost use Rattle.jv_core.specs.Core.{tree_of};
 ghost use Rattle.mg_sources.specs.Files.{HaveKinds, sources};
-ghost use Rattle.mg_sources.specs.View.{IsStop};
+ghost use Rattle.mg_refusal.specs.Refusals.{Refusal};
+ghost use Rattle.mg_refusal.specs.Order.{Answers, AnswersOnly};
 ghost use Rattle.mg_compile.specs.Files.{AreClassFiles};
 ghost use Rattle.mg_compile.specs.View.{IsOfFiles};
-ghost use Rattle.mg_runs.specs.Commanded.{Refusal};
+ghost use Rattle.mg_runs.specs.Commanded.{no_main, FirstRefusal};
 ghost use Rattle.mg_runs.specs.Headline.{Course, IsRun};
-ghost use Rattle.mg_runs.specs.Lines.{no_main_line};
 ghost use Rattle.mg_runs.specs.Going.{IsOrder};
 ghost use Rattle.mg_runs.specs.Runs.{HaveMains};
-ghost use Rattle.mg_runs.specs.View.{IsRunning, IsThatRun};
+ghost use Rattle.mg_runs.specs.View.{IsOfRun, Shows};
 ghost use Rattle.mg_runs.specs.inner.Going.{IsRunOf, told};
 
 use crate::going::{Gone, go};
@@ -25,7 +25,7 @@ use crate::sent::messages_in;
 use jv_core::Core;
 use mg_accepted::accept;
 use mg_compile::{ClassFile, class_files};
-use mg_sources::Stop;
+use mg_refusal::{Refusal, Stop};
 use mg_text::{Bytes, List, Memory, Text};
 use mg_trace::trace;
 use std::alloc::Global;
@@ -38,8 +38,8 @@ use vm_world::{RoleEvent, RoleMain};
 /// its role; where `traced`, the lines of the other events are told.
 ///
 /// # Errors
-/// `Refused` with the line of the first refusal of the program; else of the first role whose class
-/// has no `main`; else of the first size that is too large in a class file. `Memory` where memory is
+/// `Refused` with the first refusal of the program; else with the first role whose class has no
+/// `main`; else with the first size that is too large in a class file. `Memory` where memory is
 /// wanted.
 pub fn run_roles(
     alloc: Global,
@@ -57,13 +57,14 @@ pub fn run_roles(
     requires roles { IsDistinct bytes_eq (map (λ m. m.role) mains.now) }
     requires numbers { (i : ℕ) (r : ℕ) → slice_get order.now i ≡ Some r → r < length mains.now }
     requires order { (r : ℕ) → r < length mains.now → Contains order.now r }
-    // What is answered is a run of the roles, or the line of the first refusal.
-    ensures answered { IsRunning (sources names.now contents.now) mains.now order.now limit named traced result }
+    // What is answered is a run of the roles, or the first refusal.
+    ensures answered { Answers (IsOfRun (sources names.now contents.now) mains.now order.now limit named traced)
+        (FirstRefusal (sources names.now contents.now) mains.now) result }
     // Each run of these files is the one that is answered, unless memory runs out.
     ensures only { (run : Course) → IsRun (sources names.now contents.now) mains.now order.now limit run →
-        IsThatRun mains.now named traced run result }
+        AnswersOnly (Shows mains.now named traced run) result }
     // Files that are refused aren't run.
-    ensures refused { (line : Seq ℕ) → Refusal (sources names.now contents.now) mains.now line → OnOk result ⊥ }
+    ensures refused { (r : Refusal) → FirstRefusal (sources names.now contents.now) mains.now r → OnOk result ⊥ }
 {
     ran_roles(alloc, names, contents, mains, order, limit, named, traced)
 }
@@ -84,7 +85,8 @@ fn ran_roles(
     requires kinds { HaveKinds names.now }
     requires roles { IsDistinct bytes_eq (map (λ m. m.role) mains.now) }
     requires order { IsOrder order.now mains.now }
-    ensures { IsRunning (sources names.now contents.now) mains.now order.now limit named traced result }
+    ensures { Answers (IsOfRun (sources names.now contents.now) mains.now order.now limit named traced)
+        (FirstRefusal (sources names.now contents.now) mains.now) result }
 {
     roles_are_meant();
     roles_keep();
@@ -92,10 +94,13 @@ fn ran_roles(
     protocols_agree();
     let program = accept(alloc, names, contents)?;
     match first_without(&program.core, mains) {
-        Some(number) => return Err(no_main(alloc, &mains[number].class)),
+        Some(number) => {
+            let refusal = no_main(&mains[number].class)?;
+            return Err(Stop::Refused(refusal));
+        }
         None => {}
     }
-    let files = class_files(alloc, names, &program.core)?;
+    let files = class_files(alloc, &program.core)?;
     let ran = run_files(
         alloc,
         &program.core,
@@ -165,22 +170,12 @@ fn told(
     }
 }
 
-/// The refusal of a class without a `main`, with its line, or want of memory.
-pub fn no_main(alloc: Global, class: &Text) -> Stop
-    ensures { IsStop (no_main_line class.now) result }
+/// The refusal of a class without a `main`.
+///
+/// # Errors
+/// `Memory` only.
+pub fn no_main(class: &Text) -> Result<Refusal, Memory>
+    ensures { IfOk result (λ r. r ≡ no_main class.now) }
 {
-    match no_main_line(alloc, class) {
-        Ok(line) => Stop::Refused(line),
-        Err(Memory) => Stop::Memory,
-    }
-}
-
-// Its line.
-fn no_main_line(alloc: Global, class: &Text) -> Result<Text, Memory>
-    ensures { IfOk result (λ t. t ≡ no_main_line class.now) }
-{
-    let mut line = String::from_str(alloc, "mungo: NoMain ")?;
-    line.push_str(class.as_str())?;
-    line.push_str("\n")?;
-    Ok(Text::from_string(line))
+    Ok(Refusal::nowhere("NoMain", class.copy()?))
 }

@@ -1,5 +1,5 @@
 -- A file is of one kind, and spells one part at most.
-use Rattle.std.proofs.Common.{arith, ◌≡◌, ℕ, List, [], ◌∷◌, ◌++◌, codes, Option, Some, None, refl, sym, ap, ◌∙◌, subst, inl, inr}
+use Rattle.std.proofs.Common.{arith, ◌≡◌, ℕ, List, [], ◌∷◌, ◌++◌, codes, Option, Some, None, refl, sym, ap, ◌∙◌, subst}
 use Rattle.scr_tree.specs.Tree.{LocalTree}
 use Rattle.ts_tree.specs.Typestate.{Typestate}
 use Rattle.jv_tree.specs.Source.{File}
@@ -10,8 +10,10 @@ use Rattle.scr_read.proofs.Unique as protocols_unique
 use Rattle.ts_read.proofs.Unique as states_unique
 use Rattle.jv_read.proofs.Unique as classes_unique
 use Rattle.mg_sources.specs.Files.{Source, Kind, Scribble, Typestates, Java, suffix_of, IsOf}
-use Rattle.mg_sources.specs.Faults.{Fault, fault_line, AreAlike}
-use Rattle.mg_sources.specs.Reading.{Part, Protocol, States, Classes, Reads, Refuses, IsSaidOfProtocol, IsSaidOfTypestate, IsSaidOfJava}
+use Rattle.mg_refusal.specs.Refusals.{Refusal, AreAlike}
+use Rattle.mg_refusal.specs.Order.{InFile}
+use Rattle.mg_refusal.proofs.Orders.{same_in, syntax_in}
+use Rattle.mg_sources.specs.Reading.{Part, Protocol, States, Classes, Reads, Refuses, IsIn, IsSaidOfProtocol, IsSaidOfTypestate, IsSaidOfJava}
 use Rattle.mg_sources.specs.Reading as reading
 
 -- the last of a text
@@ -56,10 +58,10 @@ clash kind other e go = go (ap (λ k. last_of (suffix_of k)) e)
 
 module _ (source : Source) where
   -- what is refused isn't read
-  pub excludes : (part : Part) (fault : Fault) → Reads source part → Refuses source fault → ⊥
+  pub excludes : (part : Part) (r : Refusal) → Reads source part → Refuses source r → ⊥
   excludes part fault (reading.protocol {local = local} is o) (reading.protocol answer is' o' said) =
-      subst (λ (a : of_protocols.Answer). IsSaidOfProtocol source a fault) (protocols_unique.one_outcome source.number source.bytes answer _
-      o' o) said
+      (subst (λ (a : of_protocols.Answer). InFile source.number (IsSaidOfProtocol (IsIn source) a) fault) (protocols_unique.one_outcome source.number source.bytes answer _
+      o' o) said).1
   excludes part fault (reading.protocol is o) (reading.states answer is' o' said) =
       ends_alike Scribble Typestates source is is' (λ e. differ 114 108 e (λ k. absurd (omega (arith, k))))
   excludes part fault (reading.protocol is o) (reading.classes answer is' o' said) =
@@ -67,8 +69,8 @@ module _ (source : Source) where
   excludes part fault (reading.states is o) (reading.protocol answer is' o' said) =
       ends_alike Typestates Scribble source is is' (λ e. differ 108 114 e (λ k. absurd (omega (arith, k))))
   excludes part fault (reading.states is o) (reading.states answer is' o' said) =
-      subst (λ (a : of_typestates.Answer). IsSaidOfTypestate source a fault) (states_unique.one_outcome source.number source.bytes answer _
-      o' o) said
+      (subst (λ (a : of_typestates.Answer). InFile source.number (IsSaidOfTypestate (IsIn source) a) fault) (states_unique.one_outcome source.number source.bytes answer _
+      o' o) said).1
   excludes part fault (reading.states is o) (reading.classes answer is' o' said) =
       ends_alike Typestates Java source is is' (λ e. differ 108 97 e (λ k. absurd (omega (arith, k))))
   excludes part fault (reading.classes is o) (reading.protocol answer is' o' said) =
@@ -76,7 +78,7 @@ module _ (source : Source) where
   excludes part fault (reading.classes is o) (reading.states answer is' o' said) =
       ends_alike Java Typestates source is is' (λ e. differ 97 108 e (λ k. absurd (omega (arith, k))))
   excludes part fault (reading.classes is o) (reading.classes answer is' o' said) =
-      subst (λ (a : of_java.Answer). IsSaidOfJava source a fault) (classes_unique.one_outcome source.number source.bytes answer _ o' o) said
+      (subst (λ (a : of_java.Answer). InFile source.number (IsSaidOfJava (IsIn source) a) fault) (classes_unique.one_outcome source.number source.bytes answer _ o' o) said).1
 
   -- a local protocol is neither a typestate nor classes
   pub no_states : (typestate : Typestate) → IsOf Scribble source → Reads source (States typestate) → ⊥
@@ -117,46 +119,39 @@ module _ (source : Source) where
   one_part part other (reading.classes {file = f} is o) (reading.classes {file = g} is' o') =
       same_classes f g (classes_unique.one_outcome source.number source.bytes _ _ o o')
 
-  -- two refusals have one line, but for the place of Syntax
-  said_protocol : (answer : of_protocols.Answer) (f g : Fault) → IsSaidOfProtocol source answer f → IsSaidOfProtocol source answer g →
-      AreAlike (fault_line source.name f) (fault_line source.name g)
-  said_protocol (of_protocols.Protocol local) f g h k = absurd h
-  said_protocol of_protocols.Syntax f g h k = inr (record {
-    file = source.name;
-    first = f.place;
-    second = g.place;
-    says = ap (fault_line source.name) h.0;
-    also = ap (fault_line source.name) k.0;
-  })
-  said_protocol _ f g h k = inl (ap (fault_line source.name) (h ∙ sym k))
+  -- two refusals are one, but for the place of Syntax
+  said_protocol : (answer : of_protocols.Answer) (f g : Refusal) → InFile source.number (IsSaidOfProtocol (IsIn source) answer) f →
+      InFile source.number (IsSaidOfProtocol (IsIn source) answer) g → AreAlike f g
+  said_protocol (of_protocols.Protocol local) f g (s, h, e) told = absurd h
+  said_protocol of_protocols.Syntax f g (s, (p, within, h), e) (t, (q, within', k), d) = syntax_in source.number f g s t p q h k e d
+  said_protocol (of_protocols.TooLarge place) f g (s, h, e) (t, k, d) = same_in source.number f g s t (h ∙ sym k) e d
+  said_protocol (of_protocols.BadByte place) f g (s, h, e) (t, k, d) = same_in source.number f g s t (h ∙ sym k) e d
+  said_protocol (of_protocols.Unsupported place word) f g (s, h, e) (t, k, d) = same_in source.number f g s t (h ∙ sym k) e d
+  said_protocol (of_protocols.Refused condition place name) f g (s, h, e) (t, k, d) = same_in source.number f g s t (h ∙ sym k) e d
 
-  said_states : (answer : of_typestates.Answer) (f g : Fault) → IsSaidOfTypestate source answer f → IsSaidOfTypestate source answer g →
-      AreAlike (fault_line source.name f) (fault_line source.name g)
-  said_states (of_typestates.Read typestate) f g h k = absurd h
-  said_states of_typestates.Syntax f g h k = inr (record {
-    file = source.name;
-    first = f.place;
-    second = g.place;
-    says = ap (fault_line source.name) h.0;
-    also = ap (fault_line source.name) k.0;
-  })
-  said_states _ f g h k = inl (ap (fault_line source.name) (h ∙ sym k))
+  said_states : (answer : of_typestates.Answer) (f g : Refusal) → InFile source.number (IsSaidOfTypestate (IsIn source) answer) f →
+      InFile source.number (IsSaidOfTypestate (IsIn source) answer) g → AreAlike f g
+  said_states (of_typestates.Read typestate) f g (s, h, e) told = absurd h
+  said_states of_typestates.Syntax f g (s, (p, within, h), e) (t, (q, within', k), d) = syntax_in source.number f g s t p q h k e d
+  said_states (of_typestates.TooLarge place) f g (s, h, e) (t, k, d) = same_in source.number f g s t (h ∙ sym k) e d
+  said_states (of_typestates.BadByte place) f g (s, h, e) (t, k, d) = same_in source.number f g s t (h ∙ sym k) e d
+  said_states (of_typestates.Refused condition place name) f g (s, h, e) (t, k, d) = same_in source.number f g s t (h ∙ sym k) e d
 
-  said_classes : (answer : of_java.Answer) (f g : Fault) → IsSaidOfJava source answer f → IsSaidOfJava source answer g →
-      AreAlike (fault_line source.name f) (fault_line source.name g)
-  said_classes (of_java.Read file) f g h k = absurd h
-  said_classes of_java.Syntax f g h k = inr (record {
-    file = source.name;
-    first = f.place;
-    second = g.place;
-    says = ap (fault_line source.name) h.0;
-    also = ap (fault_line source.name) k.0;
-  })
-  said_classes _ f g h k = inl (ap (fault_line source.name) (h ∙ sym k))
+  said_classes : (answer : of_java.Answer) (f g : Refusal) → InFile source.number (IsSaidOfJava (IsIn source) answer) f →
+      InFile source.number (IsSaidOfJava (IsIn source) answer) g → AreAlike f g
+  said_classes (of_java.Read file) f g (s, h, e) told = absurd h
+  said_classes of_java.Syntax f g (s, (p, within, h), e) (t, (q, within', k), d) = syntax_in source.number f g s t p q h k e d
+  said_classes (of_java.TooLarge place) f g (s, h, e) (t, k, d) = same_in source.number f g s t (h ∙ sym k) e d
+  said_classes (of_java.BadByte place) f g (s, h, e) (t, k, d) = same_in source.number f g s t (h ∙ sym k) e d
+  said_classes (of_java.OpenComment place) f g (s, h, e) (t, k, d) = same_in source.number f g s t (h ∙ sym k) e d
+  said_classes (of_java.OpenText place) f g (s, h, e) (t, k, d) = same_in source.number f g s t (h ∙ sym k) e d
+  said_classes (of_java.BadEscape place) f g (s, h, e) (t, k, d) = same_in source.number f g s t (h ∙ sym k) e d
+  said_classes (of_java.BadNumber place) f g (s, h, e) (t, k, d) = same_in source.number f g s t (h ∙ sym k) e d
+  said_classes (of_java.Unsupported place text) f g (s, h, e) (t, k, d) = same_in source.number f g s t (h ∙ sym k) e d
 
-  pub alike : (f g : Fault) → Refuses source f → Refuses source g → AreAlike (fault_line source.name f) (fault_line source.name g)
+  pub alike : (f g : Refusal) → Refuses source f → Refuses source g → AreAlike f g
   alike f g (reading.protocol a is o said) (reading.protocol b is' o' told) =
-      said_protocol b f g (subst (λ (x : of_protocols.Answer). IsSaidOfProtocol source x f)
+      said_protocol b f g (subst (λ (x : of_protocols.Answer). InFile source.number (IsSaidOfProtocol (IsIn source) x) f)
       (protocols_unique.one_outcome source.number source.bytes a b o o') said) told
   alike f g (reading.protocol a is o said) (reading.states b is' o' told) =
       ends_alike Scribble Typestates source is is' (λ e. differ 114 108 e (λ k. absurd (omega (arith, k))))
@@ -165,7 +160,7 @@ module _ (source : Source) where
   alike f g (reading.states a is o said) (reading.protocol b is' o' told) =
       ends_alike Typestates Scribble source is is' (λ e. differ 108 114 e (λ k. absurd (omega (arith, k))))
   alike f g (reading.states a is o said) (reading.states b is' o' told) =
-      said_states b f g (subst (λ (x : of_typestates.Answer). IsSaidOfTypestate source x f)
+      said_states b f g (subst (λ (x : of_typestates.Answer). InFile source.number (IsSaidOfTypestate (IsIn source) x) f)
       (states_unique.one_outcome source.number source.bytes a b o o') said) told
   alike f g (reading.states a is o said) (reading.classes b is' o' told) =
       ends_alike Typestates Java source is is' (λ e. differ 108 97 e (λ k. absurd (omega (arith, k))))
@@ -174,5 +169,5 @@ module _ (source : Source) where
   alike f g (reading.classes a is o said) (reading.states b is' o' told) =
       ends_alike Java Typestates source is is' (λ e. differ 97 108 e (λ k. absurd (omega (arith, k))))
   alike f g (reading.classes a is o said) (reading.classes b is' o' told) =
-      said_classes b f g (subst (λ (x : of_java.Answer). IsSaidOfJava source x f) (classes_unique.one_outcome source.number source.bytes a b
+      said_classes b f g (subst (λ (x : of_java.Answer). InFile source.number (IsSaidOfJava (IsIn source) x) f) (classes_unique.one_outcome source.number source.bytes a b
       o o') said) told

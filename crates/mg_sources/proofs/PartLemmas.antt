@@ -1,28 +1,25 @@
 -- Files that are read one after another.
-use Rattle.std.proofs.Common.{◌≡◌, ◌<◌, ◌≤◌, ◌+◌, ℕ, zero, suc, List, [], ◌∷◌, ◌++◌, length, get_or, take, drop, Option, Some, None, refl}
+use Rattle.std.proofs.Common.{◌≡◌, ◌<◌, ◌≤◌, ◌+◌, ℕ, zero, suc, List, [], ◌∷◌, ◌++◌, length, map, get_or, take, drop, Option, Some, None, refl}
 use Rattle.std.proofs.Common.{sym, ap, ◌∙◌, subst, arith, drop-cons, add-one, Result, Err}
 use Rattle.std.proofs.lemmas.List.{take_more, take_all}
 use Rattle.mg_text.specs.Row.{Row}
+use Rattle.mg_refusal.specs.Refusals.{Refusal}
+use Rattle.mg_refusal.specs.Order.{Answers}
 use Rattle.mg_read.specs.First.{Judged, clean, here, later}
 use Rattle.mg_sources.specs.Files.{Source, source_of, sources_from}
-use Rattle.mg_sources.specs.Reading.{Part, Reads}
-use Rattle.mg_sources.specs.Sources.{IsRefused}
+use Rattle.mg_sources.specs.Reading.{Part, Reads, EachSpells, Refuses}
 use Rattle.mg_sources.specs.declared.part.Part.{Part as KeptPart}
-use Rattle.mg_sources.specs.declared.stop.Stop.{Stop}
-use Rattle.mg_sources.specs.declared.stop.Stop.TheVariants as stops
-use Rattle.mg_sources.specs.Parts.{EachSpells, AreParts}
-use Rattle.mg_sources.specs.inner.Answers.{IsPart}
+use Rattle.mg_refusal.specs.declared.stop.Stop.{Stop}
+use Rattle.mg_sources.specs.Parts.{part_of}
+use Rattle.mg_refusal.proofs.Orders.{refused_by}
 use Rattle.mg_sources.proofs.OneKind.{excludes}
 
-pub not_refused : (source : Source) (part : Part) (line : List ℕ) → Reads source part → IsRefused source line → ⊥
-not_refused source part line reads (fault, refuses, said) = excludes source part fault reads refuses
-
 -- files that spell parts aren't refused
-pub none_refused : (files : List Source) (parts : List Part) → EachSpells files parts → Judged IsRefused files None
+pub none_refused : (files : List Source) (parts : List Part) → EachSpells files parts → Judged Refuses files None
 none_refused [] [] each = clean
 none_refused [] (l ∷ ls) each = absurd each
 none_refused (f ∷ fs) [] each = absurd each
-none_refused (f ∷ fs) (l ∷ ls) (only, rest) = later (λ line. not_refused f l line only) (none_refused fs ls rest)
+none_refused (f ∷ fs) (l ∷ ls) (only, rest) = later (λ r. excludes f l r only) (none_refused fs ls rest)
 
 -- as many parts as files
 pub same_length : (files : List Source) (parts : List Part) → EachSpells files parts → length files ≡ length parts
@@ -42,6 +39,12 @@ sources_short : (n : ℕ) (names : List (List ℕ)) (contents : List (List ℕ))
 sources_short n [] contents = omega arith
 sources_short n (x ∷ xs) [] = omega arith
 sources_short n (x ∷ xs) (b ∷ bs) = let rest = sources_short (suc n) xs bs in omega arith
+
+-- no more files than names
+pub sources_named : (n : ℕ) (names : List (List ℕ)) (contents : List (List ℕ)) → length (sources_from n names contents) ≤ length names
+sources_named n [] contents = omega arith
+sources_named n (x ∷ xs) [] = omega arith
+sources_named n (x ∷ xs) (b ∷ bs) = let rest = sources_named (suc n) xs bs in omega arith
 
 -- the file at an index
 source_at : (n : ℕ) (names : List (List ℕ)) (contents : List (List ℕ)) (i m : ℕ) (name : List ℕ) (bytes : List ℕ) (d : Source) →
@@ -73,14 +76,15 @@ same_at [] i d d' lt = absurd (omega arith)
 same_at (x ∷ xs) zero d d' lt = refl
 same_at (x ∷ xs) (suc i) d d' lt = same_at xs i d d' (omega arith)
 
--- the file of an index, whatever it holds
-pub source_named : (names : List (List ℕ)) (contents : List (List ℕ)) (i : ℕ) (name : List ℕ) → i < length names →
-    i < length (sources_from 0 names contents) → name ≡ get_or names i name
-    → source_of i name (get_or contents i []) ≡ get_or (sources_from 0 names contents) i (source_of i name (get_or contents i []))
-source_named names contents i name lt lt' e =
+-- the file of an index, whatever its name is and whatever it holds
+pub source_there : (names : List (List ℕ)) (contents : List (List ℕ)) (i : ℕ) → i < length (sources_from 0 names contents) →
+    source_of i (get_or names i []) (get_or contents i [])
+    ≡ get_or (sources_from 0 names contents) i (source_of i (get_or names i []) (get_or contents i []))
+source_there names contents i lt =
+    let named : i < length names = let s = sources_named 0 names contents in omega (arith, s) in
     let short : i < length contents = let s = sources_short 0 names contents in omega (arith, s) in
-    sym (source_at 0 names contents i i name (get_or contents i []) (source_of i name (get_or contents i [])) lt short e
-    (same_at contents i [] (get_or contents i []) short) (omega arith))
+    sym (source_at 0 names contents i i (get_or names i []) (get_or contents i []) (source_of i (get_or names i []) (get_or contents i []))
+    named short (same_at names i [] (get_or names i []) named) (same_at contents i [] (get_or contents i []) short) (omega arith))
 
 -- ---- reading them in a loop
 
@@ -93,7 +97,7 @@ each_push (g ∷ gs) (k ∷ ks) f l (first, rest) only = (first, each_push gs ks
 
 -- what judging the files from an index on answers is the answer, and those before spell these parts
 pub record ReadSoFar (files : List Source) (i : ℕ) (parts : List Part) : Type 0 where
-  pub left : (r : Option (List ℕ)) → Judged IsRefused (drop i files) r → Judged IsRefused files r
+  pub left : (r : Option Refusal) → Judged Refuses (drop i files) r → Judged Refuses files r
   pub each : EachSpells (take i files) parts
 
 pub read_start : (files : List Source) → ReadSoFar files 0 []
@@ -104,13 +108,13 @@ module _ {files : List Source} {i : ℕ} {parts : List Part} (so_far : ReadSoFar
   next : drop i files ≡ f ∷ drop (suc i) files
   next = drop-cons files i f within ∙ ap (λ (z : Source). z ∷ drop (suc i) files) (sym is)
 
-  read_refused : (line : List ℕ) → IsRefused f line → Judged IsRefused files (Some line)
-  read_refused line h = so_far.left (Some line) (subst (λ (z : List Source). Judged IsRefused z (Some line)) (sym next) (here h))
+  read_refused : (r : Refusal) → Refuses f r → Judged Refuses files (Some r)
+  read_refused r h = so_far.left (Some r) (subst (λ (z : List Source). Judged Refuses z (Some r)) (sym next) (here h))
 
   pub read_more : (l : Part) → Reads f l → ReadSoFar files (i + 1) (parts ++ l ∷ [])
   read_more l only = record {
-    left = λ r j. so_far.left r (subst (λ (z : List Source). Judged IsRefused z r) (sym next)
-        (later (λ line. not_refused f l line only) (subst (λ (k : ℕ). Judged IsRefused (drop k files) r) (add-one i) j)));
+    left = λ r j. so_far.left r (subst (λ (z : List Source). Judged Refuses z r) (sym next)
+        (later (λ r. excludes f l r only) (subst (λ (k : ℕ). Judged Refuses (drop k files) r) (add-one i) j)));
     each = subst (λ (z : List Source). EachSpells z (parts ++ l ∷ []))
         (sym (take_more files i f within ∙ ap (λ (z : Source). take i files ++ z ∷ []) (sym is)))
         (each_push (take i files) parts f l so_far.each only);
@@ -118,11 +122,13 @@ module _ {files : List Source} {i : ℕ} {parts : List Part} (so_far : ReadSoFar
 
 -- a file that can't be read ends it
 pub read_failed : (files : List Source) (i : ℕ) (parts : List Part) → ReadSoFar files i parts → (f : Source) → i < length files →
-    f ≡ get_or files i f → (fault : Stop)
-    → IsPart f (Err fault) → (answer : Result (Row KeptPart) Stop) → answer ≡ Err fault → AreParts files answer
-read_failed files i parts so_far f within is (stops.Refused line) h answer e =
-    subst (AreParts files) (sym e) (read_refused so_far f within is line h)
-read_failed files i parts so_far f within is stops.Memory h answer e = subst (AreParts files) (sym e) tt
+    f ≡ get_or files i f → (stop : Stop) → Answers (λ (part : KeptPart). Reads f (part_of part)) (Refuses f) (Err stop) →
+    (answer : Result (Row KeptPart) Stop) → answer ≡ Err stop →
+    Answers (λ (parts : Row KeptPart). EachSpells files (map part_of parts.items)) (λ r. Judged Refuses files (Some r)) answer
+read_failed files i parts so_far f within is stop h answer e =
+    refused_by (λ (part : KeptPart). Reads f (part_of part)) (Refuses f)
+    (λ (parts : Row KeptPart). EachSpells files (map part_of parts.items)) (λ r. Judged Refuses files (Some r))
+    (read_refused so_far f within is) stop h answer e
 
 pub read_end : {files : List Source} {i : ℕ} {parts : List Part} → ReadSoFar files i parts → length files ≤ i → EachSpells files parts
 read_end {files} {i} {parts} so_far h = subst (λ (z : List Source). EachSpells z parts) (take_all i files h) so_far.each

@@ -1,5 +1,5 @@
 -- What reading the program of a command answers.
-use Rattle.std.proofs.Common.{◌≡◌, ℕ, List, [], ◌∷◌, ◌++◌, map, length, None, Result, Ok, Err, sym, ap, ◌∙◌, subst}
+use Rattle.std.proofs.Common.{◌≡◌, ℕ, List, [], ◌∷◌, ◌++◌, map, length, Some, None, Result, Ok, Err, sym, ap, ◌∙◌, subst}
 use Rattle.std.specs.Prelude.{OnOk}
 use Rattle.std.proofs.lemmas.List.{length-map, append-nil, map-append}
 use Rattle.mg_text.specs.Row.{Row}
@@ -14,35 +14,35 @@ use Rattle.stm_api.specs.Api.{IsApi}
 use Rattle.stm_api.specs.View.{written_of}
 use Rattle.stm_api.specs.declared.files.ApiFile.{ApiFile}
 use Rattle.mg_sources.specs.Files.{Source, sources}
-use Rattle.mg_sources.specs.Reading.{Part, Protocol, States, Classes}
-use Rattle.mg_sources.specs.Sources.{Sourced, AreProgram, Refusal, refused, same_role, SharesRole}
+use Rattle.mg_sources.specs.Reading.{Part, Protocol, States, Classes, EachSpells, Refuses}
+use Rattle.mg_sources.specs.Sources.{Sourced, AreProgram, FirstRefusal, SharesRole}
 use Rattle.mg_sources.specs.Sources as together
-use Rattle.mg_sources.specs.View.{sourced_of, IsProgram, IsThat}
+use Rattle.mg_sources.specs.View.{sourced_of}
 use Rattle.mg_sources.specs.declared.part.Part.{Part as KeptPart}
 use Rattle.mg_sources.specs.declared.sources.Sources.{Sources as KeptSources}
-use Rattle.mg_sources.specs.declared.stop.Stop.{Stop}
-use Rattle.mg_sources.specs.declared.stop.Stop.TheVariants as stops
-use Rattle.mg_sources.specs.Parts.{AreParts, AreApart, EachSpells, part_of}
+use Rattle.mg_refusal.specs.Refusals.{Refusal}
+use Rattle.mg_refusal.specs.Order.{Answers, AnswersOnly, at_first, at_next}
+use Rattle.mg_refusal.specs.declared.stop.Stop.{Stop}
+use Rattle.mg_refusal.proofs.Orders.{refused_by, unless_refused, never_ok}
+use Rattle.mg_sources.specs.Parts.{part_of}
 use Rattle.mg_sources.specs.inner.Answers.{Make, Appends}
-use Rattle.mg_sources.proofs.PartLemmas.{none_refused, same_length, sources_length}
+use Rattle.mg_sources.proofs.PartLemmas.{same_length, sources_length}
 use Rattle.mg_sources.proofs.Together.{spelled_from, not_both, one_program}
 
 -- ---- the ways out
 
-pub parts_failed : (files : List Source) (fault : Stop) (answer : Result KeptSources Stop) → AreParts files (Err fault) → answer ≡ Err fault
-    → IsProgram files answer
-parts_failed files (stops.Refused line) answer h e = subst (IsProgram files) (sym e) (refused h)
-parts_failed files stops.Memory answer h e = subst (IsProgram files) (sym e) tt
+module _ (files : List Source) (stop : Stop) (answer : Result KeptSources Stop) (is : answer ≡ Err stop) where
+  pub parts_failed : Answers (λ (parts : Row KeptPart). EachSpells files (map part_of parts.items)) (λ r. Judged Refuses files (Some r)) (Err stop) →
+      Answers (λ s. AreProgram files (sourced_of s)) (FirstRefusal files) answer
+  parts_failed h =
+      refused_by (λ (parts : Row KeptPart). EachSpells files (map part_of parts.items)) (λ r. Judged Refuses files (Some r))
+      (λ s. AreProgram files (sourced_of s)) (FirstRefusal files) (λ r j. at_first j) stop h answer is
 
-pub roles_failed : (files : List Source) (parts : List Part) (fault : Stop) (answer : Result KeptSources Stop) → EachSpells files parts →
-    AreApart files (Err fault)
-    → answer ≡ Err fault → IsProgram files answer
-roles_failed files parts (stops.Refused line) answer each h e =
-    subst (IsProgram files) (sym e) (same_role (none_refused files parts each) h)
-roles_failed files parts stops.Memory answer each h e = subst (IsProgram files) (sym e) tt
-
-pub memory_failed : (files : List Source) (answer : Result KeptSources Stop) → answer ≡ Err stops.Memory → IsProgram files answer
-memory_failed files answer e = subst (IsProgram files) (sym e) tt
+  pub roles_failed : (parts : List Part) → EachSpells files parts → Answers (λ (done : Unit {0}). Judged SharesRole (with_earlier files) None)
+      (λ r. Judged SharesRole (with_earlier files) (Some r)) (Err stop) → Answers (λ s. AreProgram files (sourced_of s)) (FirstRefusal files) answer
+  roles_failed parts each h =
+      refused_by (λ (done : Unit {0}). Judged SharesRole (with_earlier files) None) (λ r. Judged SharesRole (with_earlier files) (Some r))
+      (λ s. AreProgram files (sourced_of s)) (FirstRefusal files) (λ r j. at_next parts each j) stop h answer is
 
 -- as many parts as names
 pub part_count : (names contents : List (List ℕ)) (parts slice : List KeptPart) → length names ≡ length contents →
@@ -63,16 +63,15 @@ is_program names contents parts s each apart make = record { spell = spelled_fro
 
 -- ---- what follows from its being one answer
 
-pub that_alone : (files : List Source) (answer : Result KeptSources Stop) → IsProgram files answer → (s : Sourced) → AreProgram files s →
-    IsThat s answer
-that_alone files (Ok k) h s are = one_program files (sourced_of k) s h are
-that_alone files (Err (stops.Refused line)) h s are = not_both are h
-that_alone files (Err stops.Memory) h s are = tt
+module _ (files : List Source) (answer : Result KeptSources Stop) (h : Answers (λ s. AreProgram files (sourced_of s)) (FirstRefusal files) answer)
+  where
+    pub that_alone : (s : Sourced) → AreProgram files s → AnswersOnly (λ k. sourced_of k ≡ s) answer
+    that_alone s are =
+        unless_refused (λ s. AreProgram files (sourced_of s)) (FirstRefusal files) (λ k. sourced_of k ≡ s) answer h
+        (λ k is. one_program files (sourced_of k) s is are) (λ r first. not_both are first)
 
-pub no_program : (files : List Source) (answer : Result KeptSources Stop) → IsProgram files answer → (line : List ℕ) → Refusal files line →
-    OnOk answer ⊥
-no_program files (Ok k) h line r = not_both h r
-no_program files (Err e) h line r = tt
+    pub no_program : (r : Refusal) → FirstRefusal files r → OnOk answer ⊥
+    no_program r first = never_ok (λ s. AreProgram files (sourced_of s)) (FirstRefusal files) answer h (λ k is. not_both is first)
 
 -- ---- what a part stands for is appended
 

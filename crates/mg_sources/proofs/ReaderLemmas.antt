@@ -1,7 +1,6 @@
 -- What the readers refuse: what is told of a fault is said of the answer that it is.
-use Rattle.std.proofs.Common.{◌≡◌, ℕ, List, [], codes, Option, Some, None, Err, refl, sym, ap, ◌∙◌, subst}
+use Rattle.std.proofs.Common.{◌≡◌, Some, Err, subst}
 use Rattle.mg_text.specs.declared.place.Place.{Place}
-use Rattle.mg_read.specs.Within.{IsWithin}
 use Rattle.scr_read.specs.declared.ScrFault.{ScrFault}
 use Rattle.scr_read.specs.declared.ScrFault.TheVariants as protocols
 use Rattle.ts_read.specs.declared.fault.TsFault.{TsFault}
@@ -11,120 +10,78 @@ use Rattle.jv_read.specs.declared.fault.JavaFault.TheVariants as java
 use Rattle.scr_read.specs.Outcome as of_protocols
 use Rattle.ts_read.specs.Outcome as of_typestates
 use Rattle.jv_read.specs.Outcome as of_java
-use Rattle.mg_sources.specs.declared.stop.Stop.{Stop}
-use Rattle.mg_sources.specs.declared.stop.Stop.TheVariants as stops
-use Rattle.mg_sources.specs.Faults.{Fault, fault_at, fault_line}
+use Rattle.mg_refusal.specs.Refusals.{Refusal}
+use Rattle.mg_refusal.specs.Order.{Answers, IsStopOf, stop_in}
+use Rattle.mg_refusal.specs.declared.stop.Stop.{Stop}
+use Rattle.mg_refusal.proofs.Orders.{stop_in_file}
 use Rattle.mg_sources.specs.Files.{Source, Scribble, Typestates, Java, IsOf}
-use Rattle.mg_sources.specs.Reading.{IsSaidOfProtocol, IsSaidOfTypestate, IsSaidOfJava}
+use Rattle.mg_sources.specs.Reading.{Protocol, IsIn, IsSaidOfProtocol, IsSaidOfTypestate, IsSaidOfJava, Refuses}
 use Rattle.mg_sources.specs.Reading as reading
-use Rattle.mg_sources.specs.View.{IsStop}
-use Rattle.mg_sources.specs.Parts.{IsProtocol}
-use Rattle.mg_sources.specs.inner.Answers.{IsPart, IsRefusal}
-use Rattle.mg_sources.specs.inner.Saying.{said_of_protocol, said_of_typestate, said_of_java}
 
-same_fault : (f g : Fault) → ◌≡◌ {A = Option Fault} (Some f) (Some g) → g ≡ f
-same_fault f g e = cc
+-- ---- what is said stays said where more places may be those of Syntax
 
-not_said : {P : Type 0} (g : Fault) → ◌≡◌ {A = Option Fault} None (Some g) → P
-not_said g e = absurd cc
+module _ (Few Many : Place → Type 0) (go : (place : Place) → Few place → Many place) where
+  protocol_said : (a : of_protocols.Answer) (r : Refusal) → IsSaidOfProtocol Few a r → IsSaidOfProtocol Many a r
+  protocol_said (of_protocols.Protocol local) r h = h
+  protocol_said (of_protocols.TooLarge place) r h = h
+  protocol_said (of_protocols.BadByte place) r h = h
+  protocol_said (of_protocols.Unsupported place word) r h = h
+  protocol_said of_protocols.Syntax r (place, few, e) = (place, go place few, e)
+  protocol_said (of_protocols.Refused condition place name) r h = h
 
--- the place of Syntax is one of the file
-syntax_said : (s : Source) (place : Place) (f : Fault) → IsWithin s.number s.bytes place →
-    ◌≡◌ {A = Option Fault} (Some (fault_at (codes "Syntax") place [])) (Some f) →
-    (f ≡ fault_at (codes "Syntax") f.place []) × IsWithin s.number s.bytes f.place
-syntax_said s place f within e = (
-  same_fault _ f e ∙ sym (ap (λ (z : Fault). record z { kind = codes "Syntax"; name = [] }) (same_fault _ f e)),
-  subst (IsWithin s.number s.bytes) (sym (ap (λ (z : Fault). z.place) (same_fault _ f e))) within,
-)
+  typestate_said : (a : of_typestates.Answer) (r : Refusal) → IsSaidOfTypestate Few a r → IsSaidOfTypestate Many a r
+  typestate_said (of_typestates.Read typestate) r h = h
+  typestate_said (of_typestates.TooLarge place) r h = h
+  typestate_said (of_typestates.BadByte place) r h = h
+  typestate_said of_typestates.Syntax r (place, few, e) = (place, go place few, e)
+  typestate_said (of_typestates.Refused condition place name) r h = h
 
-protocol_said : (s : Source) (fault : ScrFault) (f : Fault) → of_protocols.HasPlace s.number s.bytes fault → said_of_protocol fault ≡ Some f
-    → (answer : of_protocols.Answer) × (of_protocols.fault_answer fault ≡ Some answer) × IsSaidOfProtocol s answer f
-protocol_said s (protocols.TooLarge place) f h e = (_, refl, same_fault _ f e)
-protocol_said s (protocols.BadByte place) f h e = (_, refl, same_fault _ f e)
-protocol_said s (protocols.Unsupported place name) f h e = (_, refl, same_fault _ f e)
-protocol_said s (protocols.Syntax place) f h e = (_, refl, syntax_said s place f h e)
-protocol_said s (protocols.DuplicateName place name) f h e = (_, refl, same_fault _ f e)
-protocol_said s (protocols.UnknownRole place name) f h e = (_, refl, same_fault _ f e)
-protocol_said s (protocols.PeerIsSelf place) f h e = (_, refl, same_fault _ f e)
-protocol_said s (protocols.UnknownType place name) f h e = (_, refl, same_fault _ f e)
-protocol_said s (protocols.PayloadCount place) f h e = (_, refl, same_fault _ f e)
-protocol_said s (protocols.UnknownRec place name) f h e = (_, refl, same_fault _ f e)
-protocol_said s (protocols.DuplicateRec place name) f h e = (_, refl, same_fault _ f e)
-protocol_said s (protocols.Unguarded place name) f h e = (_, refl, same_fault _ f e)
-protocol_said s (protocols.Unreachable place) f h e = (_, refl, same_fault _ f e)
-protocol_said s (protocols.BranchStart place) f h e = (_, refl, same_fault _ f e)
-protocol_said s (protocols.MixedChoice place) f h e = (_, refl, same_fault _ f e)
-protocol_said s (protocols.SameLabel place name) f h e = (_, refl, same_fault _ f e)
-protocol_said s (protocols.ReservedLabel place name) f h e = (_, refl, same_fault _ f e)
-protocol_said s (protocols.NameClash place name) f h e = (_, refl, same_fault _ f e)
-protocol_said s (protocols.TooManyStates place) f h e = (_, refl, same_fault _ f e)
-protocol_said s protocols.Memory f h e = not_said f e
+  java_said : (a : of_java.Answer) (r : Refusal) → IsSaidOfJava Few a r → IsSaidOfJava Many a r
+  java_said (of_java.Read file) r h = h
+  java_said (of_java.TooLarge place) r h = h
+  java_said (of_java.BadByte place) r h = h
+  java_said (of_java.OpenComment place) r h = h
+  java_said (of_java.OpenText place) r h = h
+  java_said (of_java.BadEscape place) r h = h
+  java_said (of_java.BadNumber place) r h = h
+  java_said (of_java.Unsupported place text) r h = h
+  java_said of_java.Syntax r (place, few, e) = (place, go place few, e)
 
-typestate_said : (s : Source) (fault : TsFault) (f : Fault) → of_typestates.HasPlace s.number s.bytes fault →
-    said_of_typestate fault ≡ Some f →
-    (answer : of_typestates.Answer) × (of_typestates.answer_of (Err fault) ≡ Some answer) × IsSaidOfTypestate s answer f
-typestate_said s (typestates.TooLarge place) f h e = (_, refl, same_fault _ f e)
-typestate_said s (typestates.BadByte place) f h e = (_, refl, same_fault _ f e)
-typestate_said s (typestates.Syntax place) f h e = (_, refl, syntax_said s place f h e)
-typestate_said s (typestates.DuplicateState place name) f h e = (_, refl, same_fault _ f e)
-typestate_said s (typestates.UnknownState place name) f h e = (_, refl, same_fault _ f e)
-typestate_said s (typestates.DuplicateMethod place name) f h e = (_, refl, same_fault _ f e)
-typestate_said s (typestates.SignatureDiffers place name) f h e = (_, refl, same_fault _ f e)
-typestate_said s (typestates.DuplicateLabel place name) f h e = (_, refl, same_fault _ f e)
-typestate_said s (typestates.ReservedEnd place name) f h e = (_, refl, same_fault _ f e)
-typestate_said s typestates.Memory f h e = not_said f e
+-- ---- a fault is a refusal of the file
 
-java_said : (s : Source) (fault : JavaFault) (f : Fault) → of_java.HasPlace s.number s.bytes fault → said_of_java fault ≡ Some f →
-    (answer : of_java.Answer) × (of_java.fault_answer fault ≡ Some answer) × IsSaidOfJava s answer f
-java_said s (java.TooLarge place) f h e = (_, refl, same_fault _ f e)
-java_said s (java.BadByte place) f h e = (_, refl, same_fault _ f e)
-java_said s (java.OpenComment place) f h e = (_, refl, same_fault _ f e)
-java_said s (java.OpenText place) f h e = (_, refl, same_fault _ f e)
-java_said s (java.BadEscape place) f h e = (_, refl, same_fault _ f e)
-java_said s (java.BadNumber place) f h e = (_, refl, same_fault _ f e)
-java_said s (java.Unsupported place name) f h e = (_, refl, same_fault _ f e)
-java_said s (java.Syntax place) f h e = (_, refl, syntax_said s place f h e)
-java_said s java.Memory f h e = not_said f e
+module _ (s : Source) where
+  pub protocol_refused : {A : Type 0} (Right : A → Type 0) (fault : ScrFault) (stop : Stop) → IsOf Scribble s →
+      of_protocols.HasPlace s.number s.bytes fault →
+      ((a : of_protocols.Answer) → of_protocols.fault_answer fault ≡ Some a → of_protocols.Outcome s.number s.bytes a) →
+      IsStopOf (IsSaidOfProtocol (λ place. fault ≡ protocols.Syntax place)) (of_protocols.fault_answer fault) stop →
+      Answers Right (Refuses s) (Err (stop_in s.number stop))
+  protocol_refused Right fault stop is placed answered h =
+      let within : (place : Place) → fault ≡ protocols.Syntax place → IsIn s place
+      = λ place e. subst (of_protocols.HasPlace s.number s.bytes) e placed in
+      stop_in_file s.number (IsSaidOfProtocol (λ place. fault ≡ protocols.Syntax place)) Right (Refuses s) (of_protocols.fault_answer fault) stop h
+      (λ a r e said. reading.protocol a is (answered a e)
+      (said.0, protocol_said (λ place. fault ≡ protocols.Syntax place) (IsIn s) within a said.0 said.1, said.2))
 
--- the line of a fault is that of a refusal
+  pub states_refused : {A : Type 0} (Right : A → Type 0) (fault : TsFault) (stop : Stop) → IsOf Typestates s →
+      of_typestates.HasPlace s.number s.bytes fault →
+      ((a : of_typestates.Answer) → of_typestates.answer_of (Err fault) ≡ Some a → of_typestates.Outcome s.number s.bytes a) →
+      IsStopOf (IsSaidOfTypestate (λ place. fault ≡ typestates.Syntax place)) (of_typestates.answer_of (Err fault)) stop →
+      Answers Right (Refuses s) (Err (stop_in s.number stop))
+  states_refused Right fault stop is placed answered h =
+      let within : (place : Place) → fault ≡ typestates.Syntax place → IsIn s place
+      = λ place e. subst (of_typestates.HasPlace s.number s.bytes) e placed in
+      stop_in_file s.number (IsSaidOfTypestate (λ place. fault ≡ typestates.Syntax place)) Right (Refuses s) (of_typestates.answer_of (Err fault)) stop h
+      (λ a r e said. reading.states a is (answered a e)
+      (said.0, typestate_said (λ place. fault ≡ typestates.Syntax place) (IsIn s) within a said.0 said.1, said.2))
 
-pub protocol_refused : (s : Source) (fault : ScrFault) (stop : Stop) → IsOf Scribble s → of_protocols.HasPlace s.number s.bytes fault →
-    IsRefusal s.name (said_of_protocol fault) stop
-    → ((answer : of_protocols.Answer) → of_protocols.fault_answer fault ≡ Some answer → of_protocols.Outcome s.number s.bytes answer) →
-    IsProtocol s (Err stop)
-protocol_refused s fault (stops.Refused line) is placed (f, told, said) answered =
-    let a = protocol_said s fault f placed told in
-    (f, reading.protocol a.0 is (answered a.0 a.1) a.2, said)
-protocol_refused s fault stops.Memory is placed said answered = tt
-
--- a file that spells no protocol spells no part
-pub part_refused : (s : Source) (stop : Stop) → IsProtocol s (Err stop) → IsPart s (Err stop)
-part_refused s (stops.Refused line) h = h
-part_refused s stops.Memory h = tt
-
-pub states_refused : (s : Source) (fault : TsFault) (stop : Stop) → IsOf Typestates s → of_typestates.HasPlace s.number s.bytes fault →
-    IsRefusal s.name (said_of_typestate fault) stop
-    → ((answer : of_typestates.Answer) → of_typestates.answer_of (Err fault) ≡ Some answer → of_typestates.Outcome s.number s.bytes answer)
-    → IsPart s (Err stop)
-states_refused s fault (stops.Refused line) is placed (f, told, said) answered =
-    let a = typestate_said s fault f placed told in
-    (f, reading.states a.0 is (answered a.0 a.1) a.2, said)
-states_refused s fault stops.Memory is placed said answered = tt
-
-pub classes_refused : (s : Source) (fault : JavaFault) (stop : Stop) → IsOf Java s → of_java.HasPlace s.number s.bytes fault →
-    IsRefusal s.name (said_of_java fault) stop
-    → ((answer : of_java.Answer) → of_java.fault_answer fault ≡ Some answer → of_java.Outcome s.number s.bytes answer) → IsPart s (Err stop)
-classes_refused s fault (stops.Refused line) is placed (f, told, said) answered =
-    let a = java_said s fault f placed told in
-    (f, reading.classes a.0 is (answered a.0 a.1) a.2, said)
-classes_refused s fault stops.Memory is placed said answered = tt
-
--- a refusal by what was told of a fault is one by what is said of it
-pub told_refused : (file : List ℕ) (told said : Option Fault) → told ≡ said → (stop : Stop) → IsRefusal file told stop →
-    IsRefusal file said stop
-told_refused file told said e stop h = subst (λ (z : Option Fault). IsRefusal file z stop) e h
-
--- the refusal by a fault that was told
-pub stop_refusal : (file : List ℕ) (fault : Fault) (stop : Stop) → IsStop (fault_line file fault) stop → IsRefusal file (Some fault) stop
-stop_refusal file fault (stops.Refused line) h = (fault, refl, h)
-stop_refusal file fault stops.Memory h = tt
+  pub classes_refused : {A : Type 0} (Right : A → Type 0) (fault : JavaFault) (stop : Stop) → IsOf Java s →
+      of_java.HasPlace s.number s.bytes fault →
+      ((a : of_java.Answer) → of_java.fault_answer fault ≡ Some a → of_java.Outcome s.number s.bytes a) →
+      IsStopOf (IsSaidOfJava (λ place. fault ≡ java.Syntax place)) (of_java.fault_answer fault) stop →
+      Answers Right (Refuses s) (Err (stop_in s.number stop))
+  classes_refused Right fault stop is placed answered h =
+      let within : (place : Place) → fault ≡ java.Syntax place → IsIn s place
+      = λ place e. subst (of_java.HasPlace s.number s.bytes) e placed in
+      stop_in_file s.number (IsSaidOfJava (λ place. fault ≡ java.Syntax place)) Right (Refuses s) (of_java.fault_answer fault) stop h
+      (λ a r e said. reading.classes a is (answered a e)
+      (said.0, java_said (λ place. fault ≡ java.Syntax place) (IsIn s) within a said.0 said.1, said.2))

@@ -1,6 +1,6 @@
 -- Which of the files are protocols of one role: roles that are put into a set, one after another.
 use Rattle.std.proofs.Common.{◌≡◌, ◌↔◌, ◌<◌, ◌≤◌, ◌+◌, ℕ, zero, suc, Bool, true, false, not, List, [], ◌∷◌, ◌++◌, map, length, get_or, take}
-use Rattle.std.proofs.Common.{Contains, IsTrue, String, Some, None, Err, refl, sym, ap, ◌∙◌, subst, arith, true≢false, Decides, cond}
+use Rattle.std.proofs.Common.{Contains, IsTrue, String, Some, None, refl, sym, ap, ◌∙◌, subst, arith, true≢false, Decides, cond}
 use Rattle.std.proofs.Common.{⊎_elim, codes}
 use Rattle.std.proofs.lemmas.List.{take_more, length-map, append-nil}
 use Rattle.std.proofs.lemmas.List.Elements.{Contains-push, Contains-push_cases, Contains-append_left, Contains-append_right}
@@ -12,18 +12,15 @@ use Rattle.mg_text.specs.Places.{start_of}
 use Rattle.mg_read.specs.First.{Judged, with_earlier}
 use Rattle.mg_read.proofs.Scanning.{Left, left_here, left_later, left_end}
 use Rattle.scr_tree.specs.Tree.{LocalTree}
-use Rattle.mg_sources.specs.Faults.{fault_at, fault_line}
+use Rattle.mg_refusal.specs.Refusals.{Refusal, refusal_at}
 use Rattle.mg_sources.specs.Files.{Source, source_of, sources}
-use Rattle.mg_sources.specs.Reading.{Part, Protocol, States, Classes, Reads}
+use Rattle.mg_sources.specs.Reading.{Part, Protocol, States, Classes, Reads, EachSpells}
 use Rattle.mg_sources.specs.Sources.{IsOfRole, SharesRole}
 use Rattle.mg_sources.specs.declared.part.Part.{Part as KeptPart}
-use Rattle.mg_sources.specs.Parts.{part_of, EachSpells, AreApart}
+use Rattle.mg_sources.specs.Parts.{part_of}
 use Rattle.mg_sources.specs.inner.Answers.{role_in}
-use Rattle.mg_sources.specs.View.{IsStop}
-use Rattle.mg_sources.specs.declared.stop.Stop.{Stop}
-use Rattle.mg_sources.specs.declared.stop.Stop.TheVariants as stops
 use Rattle.mg_sources.proofs.OneKind.{one_part}
-use Rattle.mg_sources.proofs.PartLemmas.{same_length, source_named}
+use Rattle.mg_sources.proofs.PartLemmas.{same_length, source_there}
 
 -- the roles of the parts that are protocols
 abbrev pub roles : List Part → List (List ℕ)
@@ -140,7 +137,7 @@ mapped_at (k ∷ ks) zero l d lt e = ap part_of (sym e)
 mapped_at (k ∷ ks) (suc i) l d lt e = mapped_at ks i l d (omega arith) e
 
 -- a step of the loop: the part at an index is judged
-module _ (names : List (List ℕ)) (contents : List (List ℕ)) (parts : List KeptPart) (i : ℕ) (same : length names ≡ length parts) where
+module _ (parts : List KeptPart) (i : ℕ) where
   -- the roles of one more part
   pub roles_next : i < length parts → (l : KeptPart) → l ≡ get_or parts i l → roles (take (i + 1) (map part_of parts)) ≡ roles
       (take i (map part_of parts)) ++ role_in (part_of l)
@@ -151,7 +148,7 @@ module _ (names : List (List ℕ)) (contents : List (List ℕ)) (parts : List Ke
       ∙ roles_append (take i (map part_of parts)) (part_of l ∷ [])
       ∙ ap (λ (z : List (List ℕ)). roles (take i (map part_of parts)) ++ z) (append-nil (role_in (part_of l)))
 
-  module _ (each : EachSpells (sources names contents) (map part_of parts)) where
+  module _ (names contents : List (List ℕ)) (each : EachSpells (sources names contents) (map part_of parts)) where
     abbrev count : length (sources names contents) ≡ length parts
     count = same_length (sources names contents) (map part_of parts) each ∙ length-map parts part_of
 
@@ -159,16 +156,15 @@ module _ (names : List (List ℕ)) (contents : List (List ℕ)) (parts : List Ke
         None
     end_of left h = left_end SharesRole left (omega (arith, count))
 
-    module _ (left : Left SharesRole (sources names contents) i) (lt : i < length parts) (name : List ℕ) (is : name ≡ get_or names i name)
-        (l : KeptPart) (is' : l ≡ get_or parts i l) where
+    module _ (left : Left SharesRole (sources names contents) i) (lt : i < length parts) (l : KeptPart) (is' : l ≡ get_or parts i l) where
       abbrev file : Source
-      file = source_of i name (get_or contents i [])
+      file = source_of i (get_or names i []) (get_or contents i [])
 
       abbrev within : i < length (sources names contents)
       within = omega (arith, count)
 
       abbrev file_is : file ≡ get_or (sources names contents) i file
-      file_is = source_named names contents i name (omega (arith, same)) within is
+      file_is = source_there names contents i within
 
       abbrev only : Reads file (part_of l)
       only =
@@ -184,17 +180,16 @@ module _ (names : List (List ℕ)) (contents : List (List ℕ)) (parts : List Ke
       pub without_role : role_in (part_of l) ≡ [] → Left SharesRole (sources names contents) (i + 1)
       without_role none =
           left_later SharesRole left file within file_is
-          (λ line h. no_cons h.role (sym none ∙ role_here file (part_of l) h.role only h.of_role))
+          (λ r h. no_cons h.role (sym none ∙ role_here file (part_of l) h.role only h.of_role))
 
       module _ {A S : Type 0} (set : HashSet (String A) S) (exact : HasExactly set (roles (take i (map part_of parts)))) (role : List ℕ)
           (is_role : role_in (part_of l) ≡ role ∷ []) (key : List ℕ) (key_is : key ≡ role) where
-        pub shared : not (contains_text set key) ≡ false → (line : List ℕ) →
-            line ≡ fault_line name (fault_at (codes "SameRole") (start_of i) role)
-            → Judged SharesRole (with_earlier (sources names contents)) (Some line)
-        shared old line said =
+        pub shared : not (contains_text set key) ≡ false → (r : Refusal) → r ≡ refusal_at (codes "SameRole") (start_of i) role →
+            Judged SharesRole (with_earlier (sources names contents)) (Some r)
+        shared old r said =
             let has = (exact role).0 (ap (contains_text set) (sym key_is) ∙ true_from_not (contains_text set key) old) in
             let found = file_of_role (take i (sources names contents)) (take i (map part_of parts)) role before has in
-            left_here SharesRole left file within file_is line
+            left_here SharesRole left file within file_is r
             (record {
               role = role;
               of_role = is_of_role file (part_of l) role only is_role;
@@ -207,8 +202,8 @@ module _ (names : List (List ℕ)) (contents : List (List ℕ)) (parts : List Ke
 
         pub apart : not (contains_text set key) ≡ true → Left SharesRole (sources names contents) (i + 1)
         apart new = left_later SharesRole left file within file_is refuted where
-          refuted : (line : List ℕ) → SharesRole (take i (sources names contents), file) line → ⊥
-          refuted line h =
+          refuted : (r : Refusal) → SharesRole (take i (sources names contents), file) r → ⊥
+          refuted r h =
               let role_is : h.role ≡ key = heads h.role role (sym (role_here file (part_of l) h.role only h.of_role) ∙ is_role) ∙
               sym key_is in
               let has = role_of_file (take i (sources names contents)) (take i (map part_of parts)) h.earlier h.role before h.stands h.also
@@ -222,10 +217,3 @@ pub exact_next : {A S : Type 0} (set set' : HashSet (String A) S) (before after 
 exact_next set set' before after key grown exact e =
     subst (HasExactly set') (sym grown) (λ q. has_pushed (bytes_eq key q) (contains_text set q) (contains_text set' q) before key q
     (bytes_eq-Decides key q) (exact q) (e q))
-
--- the refusal with this line
-pub apart_refused : (files : List Source) (line : List ℕ) (stop : Stop) →
-    ((l : List ℕ) → l ≡ line → Judged SharesRole (with_earlier files) (Some l)) → IsStop line stop
-    → AreApart files (Err stop)
-apart_refused files line (stops.Refused l) f h = f l h
-apart_refused files line stops.Memory f h = tt

@@ -11,18 +11,18 @@ use Rattle.jv_tree.specs.Source.{File}
 use Rattle.mg_text.specs.Places.{start_of}
 use Rattle.stm_gen.specs.Numbered.{typestate_of}
 use Rattle.stm_api.specs.Api.{ApiText, IsApi, class_file, enum_files}
-use Rattle.stm_api.specs.Doings.{Doing, doings, call_of, Firsts}
+use Rattle.stm_api.specs.Doings.{Doing, all_doings, call_of, Firsts}
 use Rattle.stm_api.specs.Doings as doing
 use Rattle.std.specs.Prelude.{Contains}
 use Rattle.mg_sources.specs.Files.{Source, sources_from}
-use Rattle.mg_sources.specs.Reading.{Part, Reads}
-use Rattle.mg_sources.specs.Sources.{Sourced, empty, adding, Stands, Spell, AreProgram, Refusal, IsRefused}
+use Rattle.mg_sources.specs.Reading.{Part, Reads, EachSpells, Refuses}
+use Rattle.mg_sources.specs.Sources.{Sourced, empty, adding, Stands, Spell, AreProgram, FirstRefusal}
 use Rattle.mg_sources.specs.Sources as together
-use Rattle.mg_sources.specs.Parts.{EachSpells}
+use Rattle.mg_refusal.specs.Refusals.{Refusal}
+use Rattle.mg_refusal.specs.Order.{at_first, at_next}
 use Rattle.mg_sources.specs.inner.Answers.{Make, Appends}
 use Rattle.mg_sources.specs.inner.Answers as answers
-use Rattle.mg_sources.proofs.OneKind.{one_part}
-use Rattle.mg_sources.proofs.PartLemmas.{not_refused}
+use Rattle.mg_sources.proofs.OneKind.{one_part, excludes}
 
 -- what files spell, one after another, is what they spell together
 pub spelled_from : (n : ℕ) (names contents : List (List ℕ)) (parts : List Part) (sourced : Sourced) →
@@ -37,13 +37,13 @@ spelled_from n (x ∷ xs) (b ∷ bs) (l ∷ ls) sourced (reads, more) (answers.o
     together.one reads st (spelled_from (suc n) xs bs ls rest more make)
 
 -- files that spell a program aren't refused
-pub none_refused_of : {files : List Source} {sourced : Sourced} → Spell files sourced → Judged IsRefused files None
+pub none_refused_of : {files : List Source} {sourced : Sourced} → Spell files sourced → Judged Refuses files None
 none_refused_of together.none = clean
-none_refused_of (together.one {source = f} {part = l} reads st more) = later (λ line. not_refused f l line reads) (none_refused_of more)
+none_refused_of (together.one {source = f} {part = l} reads st more) = later (λ r. excludes f l r reads) (none_refused_of more)
 
-pub not_both : {files : List Source} {sourced : Sourced} {line : List ℕ} → AreProgram files sourced → Refusal files line → ⊥
-not_both are (together.refused h) = no_both (none_refused_of are.spell) h
-not_both are (together.same_role nobody h) = no_both are.apart h
+pub not_both : {files : List Source} {sourced : Sourced} {r : Refusal} → AreProgram files sourced → FirstRefusal files r → ⊥
+not_both are (at_first h) = no_both (none_refused_of are.spell) h
+not_both are (at_next parts each h) = no_both are.apart h
 
 -- ---- there is one program
 
@@ -74,7 +74,7 @@ pub one_api : (local : LocalTree) (a b : List ApiText) → IsApi local a → IsA
 one_api local a b p q =
     p.are_files
     ∙ ap (λ (z : List Doing). class_file (start_of local.file) local.me z ∷ enum_files (start_of local.file) local.me
-    (doings (protocol_of local)))
+    (all_doings (protocol_of local)))
     (one_first local.me p.are_firsts q.are_firsts refl refl)
     ∙ sym q.are_files
 
@@ -103,8 +103,8 @@ one_spelling : {files others : List Source} {s t : Sourced} → Spell files s �
 one_spelling together.none together.none e = refl
 one_spelling together.none (together.one r st more) e = absurd (let no : ⊥ = cc in no)
 one_spelling (together.one r st more) together.none e = absurd (let no : ⊥ = cc in no)
-one_spelling (together.one {source = f} {sources = fs} {part = p} r st more) (together.one {source = g} {sources = gs} {part = q} r' st'
-    more') e =
+one_spelling (together.one {source = f} {sources = fs} {part = p} r st more)
+    (together.one {source = g} {sources = gs} {part = q} r' st' more') e =
     let same : f ≡ g = cc in
     let rest : fs ≡ gs = cc in
     let part : p ≡ q = one_part g p q (subst (λ (z : Source). Reads z p) same r) r' in

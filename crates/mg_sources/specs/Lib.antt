@@ -1,5 +1,4 @@
 pub mod Files
-pub mod Faults
 pub mod Words
 pub mod Reading
 pub mod Sources

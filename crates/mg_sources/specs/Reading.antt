@@ -1,5 +1,6 @@
 -- What the readers make of the bytes of a file.
-use Rattle.std.specs.Prelude.{◌≡◌, [], codes}
+use Rattle.std.specs.Prelude.{◌≡◌, List, [], ◌∷◌, codes}
+use Rattle.mg_text.specs.declared.place.Place.{Place}
 use Rattle.scr_tree.specs.Tree.{LocalTree}
 use Rattle.ts_tree.specs.Typestate.{Typestate}
 use Rattle.jv_tree.specs.Source.{File}
@@ -7,9 +8,10 @@ use Rattle.mg_read.specs.Within.{IsWithin}
 use Rattle.scr_read.specs.Outcome as scribble
 use Rattle.ts_read.specs.Outcome as typestates
 use Rattle.jv_read.specs.Outcome as java
-use Rattle.mg_sources.specs.Faults.{Fault, fault_at}
+use Rattle.mg_refusal.specs.Refusals.{Refusal, refusal_at, name_or_none}
+use Rattle.mg_refusal.specs.Order.{InFile}
 use Rattle.mg_sources.specs.Files.{Source, Scribble, Typestates, Java, IsOf}
-use Rattle.mg_sources.specs.Words.{protocol_word, typestate_word, name_told}
+use Rattle.mg_sources.specs.Words.{protocol_word, typestate_word}
 
 -- what a file spells
 pub data Part : Type 0 where
@@ -24,42 +26,50 @@ pub data Reads (source : Source) : Part → Type 0 where
       Reads source (States typestate)
   classes : {file : File} → IsOf Java source → java.Outcome source.number source.bytes (java.Read file) → Reads source (Classes file)
 
--- What is said of an answer that is a fault of a file; of the place of Syntax no more is said than that it is one of the file.
+-- each of the files spells one of these, in their order
+abbrev pub EachSpells : List Source → List Part → Type 0
+EachSpells [] [] = Unit {0}
+EachSpells [] (part ∷ more) = ⊥
+EachSpells (source ∷ sources) [] = ⊥
+EachSpells (source ∷ sources) (part ∷ more) = Reads source part × EachSpells sources more
 
-abbrev pub IsSaidOfProtocol : Source → scribble.Answer → Fault → Type 0
-IsSaidOfProtocol source (scribble.Protocol local) fault = ⊥
-IsSaidOfProtocol source (scribble.TooLarge place) fault = fault ≡ fault_at (codes "TooLarge") place []
-IsSaidOfProtocol source (scribble.BadByte place) fault = fault ≡ fault_at (codes "BadByte") place []
-IsSaidOfProtocol source (scribble.Unsupported place word) fault = fault ≡ fault_at (codes "Unsupported") place word
-IsSaidOfProtocol source scribble.Syntax fault =
-    (fault ≡ fault_at (codes "Syntax") fault.place []) × IsWithin source.number source.bytes fault.place
-IsSaidOfProtocol source (scribble.Refused condition place name) fault = fault ≡ fault_at (protocol_word condition) place (name_told name)
+-- What is said of an answer that is a fault; of the place of Syntax no more is said than this.
+module _ (IsPlace : Place → Type 0) where
+  abbrev pub IsSaidOfProtocol : scribble.Answer → Refusal → Type 0
+  IsSaidOfProtocol (scribble.Protocol local) r = ⊥
+  IsSaidOfProtocol (scribble.TooLarge place) r = r ≡ refusal_at (codes "TooLarge") place []
+  IsSaidOfProtocol (scribble.BadByte place) r = r ≡ refusal_at (codes "BadByte") place []
+  IsSaidOfProtocol (scribble.Unsupported place word) r = r ≡ refusal_at (codes "Unsupported") place word
+  IsSaidOfProtocol scribble.Syntax r = (place : Place) × IsPlace place × (r ≡ refusal_at (codes "Syntax") place [])
+  IsSaidOfProtocol (scribble.Refused condition place name) r = r ≡ refusal_at (protocol_word condition) place (name_or_none name)
 
-abbrev pub IsSaidOfTypestate : Source → typestates.Answer → Fault → Type 0
-IsSaidOfTypestate source (typestates.Read typestate) fault = ⊥
-IsSaidOfTypestate source (typestates.TooLarge place) fault = fault ≡ fault_at (codes "TooLarge") place []
-IsSaidOfTypestate source (typestates.BadByte place) fault = fault ≡ fault_at (codes "BadByte") place []
-IsSaidOfTypestate source typestates.Syntax fault =
-    (fault ≡ fault_at (codes "Syntax") fault.place []) × IsWithin source.number source.bytes fault.place
-IsSaidOfTypestate source (typestates.Refused condition place name) fault = fault ≡ fault_at (typestate_word condition) place name
+  abbrev pub IsSaidOfTypestate : typestates.Answer → Refusal → Type 0
+  IsSaidOfTypestate (typestates.Read typestate) r = ⊥
+  IsSaidOfTypestate (typestates.TooLarge place) r = r ≡ refusal_at (codes "TooLarge") place []
+  IsSaidOfTypestate (typestates.BadByte place) r = r ≡ refusal_at (codes "BadByte") place []
+  IsSaidOfTypestate typestates.Syntax r = (place : Place) × IsPlace place × (r ≡ refusal_at (codes "Syntax") place [])
+  IsSaidOfTypestate (typestates.Refused condition place name) r = r ≡ refusal_at (typestate_word condition) place name
 
-abbrev pub IsSaidOfJava : Source → java.Answer → Fault → Type 0
-IsSaidOfJava source (java.Read file) fault = ⊥
-IsSaidOfJava source (java.TooLarge place) fault = fault ≡ fault_at (codes "TooLarge") place []
-IsSaidOfJava source (java.BadByte place) fault = fault ≡ fault_at (codes "BadByte") place []
-IsSaidOfJava source (java.OpenComment place) fault = fault ≡ fault_at (codes "OpenComment") place []
-IsSaidOfJava source (java.OpenText place) fault = fault ≡ fault_at (codes "OpenText") place []
-IsSaidOfJava source (java.BadEscape place) fault = fault ≡ fault_at (codes "BadEscape") place []
-IsSaidOfJava source (java.BadNumber place) fault = fault ≡ fault_at (codes "BadNumber") place []
-IsSaidOfJava source (java.Unsupported place text) fault = fault ≡ fault_at (codes "Unsupported") place text
-IsSaidOfJava source java.Syntax fault =
-    (fault ≡ fault_at (codes "Syntax") fault.place []) × IsWithin source.number source.bytes fault.place
+  abbrev pub IsSaidOfJava : java.Answer → Refusal → Type 0
+  IsSaidOfJava (java.Read file) r = ⊥
+  IsSaidOfJava (java.TooLarge place) r = r ≡ refusal_at (codes "TooLarge") place []
+  IsSaidOfJava (java.BadByte place) r = r ≡ refusal_at (codes "BadByte") place []
+  IsSaidOfJava (java.OpenComment place) r = r ≡ refusal_at (codes "OpenComment") place []
+  IsSaidOfJava (java.OpenText place) r = r ≡ refusal_at (codes "OpenText") place []
+  IsSaidOfJava (java.BadEscape place) r = r ≡ refusal_at (codes "BadEscape") place []
+  IsSaidOfJava (java.BadNumber place) r = r ≡ refusal_at (codes "BadNumber") place []
+  IsSaidOfJava (java.Unsupported place text) r = r ≡ refusal_at (codes "Unsupported") place text
+  IsSaidOfJava java.Syntax r = (place : Place) × IsPlace place × (r ≡ refusal_at (codes "Syntax") place [])
 
--- the bytes of the file are refused by its reader, with this fault
-pub data Refuses (source : Source) (fault : Fault) : Type 0 where
+-- the place is one of the file
+abbrev pub IsIn : Source → Place → Type 0
+IsIn source place = IsWithin source.number source.bytes place
+
+-- The bytes of the file are refused by its reader, so.
+pub data Refuses (source : Source) (r : Refusal) : Type 0 where
   protocol : (answer : scribble.Answer) → IsOf Scribble source → scribble.Outcome source.number source.bytes answer →
-      IsSaidOfProtocol source answer fault → Refuses source fault
+      InFile source.number (IsSaidOfProtocol (IsIn source) answer) r → Refuses source r
   states : (answer : typestates.Answer) → IsOf Typestates source → typestates.Outcome source.number source.bytes answer →
-      IsSaidOfTypestate source answer fault → Refuses source fault
+      InFile source.number (IsSaidOfTypestate (IsIn source) answer) r → Refuses source r
   classes : (answer : java.Answer) → IsOf Java source → java.Outcome source.number source.bytes answer →
-      IsSaidOfJava source answer fault → Refuses source fault
+      InFile source.number (IsSaidOfJava (IsIn source) answer) r → Refuses source r

@@ -8,9 +8,10 @@ use Rattle.jv_tree.specs.Source.{File}
 use Rattle.stm_gen.specs.Numbered.{typestate_of}
 use Rattle.stm_api.specs.Api.{ApiText, IsApi}
 use Rattle.jv_rules.specs.Program.{Program}
-use Rattle.mg_sources.specs.Faults.{Fault, fault_at, fault_line}
+use Rattle.mg_refusal.specs.Refusals.{Refusal, refusal_at}
+use Rattle.mg_refusal.specs.Order.{Then}
 use Rattle.mg_sources.specs.Files.{Source}
-use Rattle.mg_sources.specs.Reading.{Part, Protocol, States, Classes, Reads, Refuses}
+use Rattle.mg_sources.specs.Reading.{Part, Protocol, States, Classes, Reads, EachSpells, Refuses}
 
 -- the Java files and the typestates that a part of a program stands for
 pub data Stands : Part → List File → List Typestate → Type 0 where
@@ -42,30 +43,26 @@ pub data Spell : List Source → Sourced → Type 0 where
       Reads source part → Stands part files typestates → Spell sources rest →
       Spell (source ∷ sources) (adding source.number files typestates rest)
 
--- the file is refused by its reader, and this is the line of its fault
-abbrev pub IsRefused : Source → List ℕ → Type 0
-IsRefused source line = (fault : Fault) × Refuses source fault × (line ≡ fault_line source.name fault)
-
 -- the file spells a protocol of this role
 abbrev pub IsOfRole : Source → List ℕ → Type 0
 IsOfRole source role = (local : LocalTree) × Reads source (Protocol local) × (local.me ≡ role)
 
--- the file's protocol is of a role that an earlier file's protocol is of, and this is the line of that fault
-pub record SharesRole (files : List Source × Source) (line : List ℕ) : Type 0 where
+-- the file's protocol is of a role that an earlier file's protocol is of, and is refused so
+pub record SharesRole (files : List Source × Source) (r : Refusal) : Type 0 where
   pub role : List ℕ
   pub of_role : IsOfRole files.1 role
   pub earlier : Source
   pub stands : Contains files.0 earlier
   pub also : IsOfRole earlier role
-  pub said : line ≡ fault_line files.1.name (fault_at (codes "SameRole") (start_of files.1.number) role)
+  pub said : r ≡ refusal_at (codes "SameRole") (start_of files.1.number) role
 
 -- These files are this program, and no two of them are protocols of one role.
 pub record AreProgram (files : List Source) (sourced : Sourced) : Type 0 where
   pub spell : Spell files sourced
   pub apart : Judged SharesRole (with_earlier files) None
 
--- The first refusal of these files, with its line: by the reader of the first file that is refused,
--- or else at the first file whose protocol is of a role that an earlier file's is of.
-pub data Refusal (files : List Source) (line : List ℕ) : Type 0 where
-  refused : Judged IsRefused files (Some line) → Refusal files line
-  same_role : Judged IsRefused files None → Judged SharesRole (with_earlier files) (Some line) → Refusal files line
+-- The first refusal of these files: by the reader of the first file that is refused, or else at the first file whose protocol is of a role
+-- that an earlier file's is of.
+abbrev pub FirstRefusal : List Source → Refusal → Type 0
+FirstRefusal files = Then (λ r. Judged Refuses files (Some r)) (EachSpells files) (λ parts r. Judged SharesRole (with_earlier files)
+    (Some r))

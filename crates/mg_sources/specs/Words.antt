@@ -1,6 +1,5 @@
 -- The word for each condition of each reader.
-use Rattle.std.specs.Prelude.{ℕ, List, [], codes, Option, Some, None}
-use Rattle.mg_text.specs.Call.{Name}
+use Rattle.std.specs.Prelude.{ℕ, List, codes}
 use Rattle.scr_tree.specs.declared.condition.Condition.{Condition as OfProtocols}
 use Rattle.scr_tree.specs.declared.condition.Condition.TheVariants as protocols
 use Rattle.ts_read.specs.declared.condition.Condition.{Condition as OfTypestates}
@@ -22,6 +21,11 @@ protocol_word protocols.SameLabel = codes "SameLabel"
 protocol_word protocols.ReservedLabel = codes "ReservedLabel"
 protocol_word protocols.NameClash = codes "NameClash"
 protocol_word protocols.TooManyStates = codes "TooManyStates"
+protocol_word protocols.UnknownProtocol = codes "UnknownProtocol"
+protocol_word protocols.DuplicateProtocol = codes "DuplicateProtocol"
+protocol_word protocols.RolesDiffer = codes "RolesDiffer"
+protocol_word protocols.NotLast = codes "NotLast"
+protocol_word protocols.StartsWithDo = codes "StartsWithDo"
 
 abbrev pub typestate_word : OfTypestates → List ℕ
 typestate_word typestates.DuplicateState = codes "DuplicateState"
@@ -30,7 +34,3 @@ typestate_word typestates.DuplicateMethod = codes "DuplicateMethod"
 typestate_word typestates.SignatureDiffers = codes "SignatureDiffers"
 typestate_word typestates.DuplicateLabel = codes "DuplicateLabel"
 typestate_word typestates.ReservedEnd = codes "ReservedEnd"
-
-abbrev pub name_told : Option Name → List ℕ
-name_told (Some name) = name
-name_told None = []

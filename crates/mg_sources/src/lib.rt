@@ -2,14 +2,12 @@
 //! the files spell is one program.
 #![tactic(auto)]
 
-mod line;
+mod faults;
 mod part;
 mod parts;
 mod sources;
-mod stop;
 
-pub use line::{fault_line, refused};
+pub use faults::stop_of_protocol;
 pub use part::{Part, read_protocol};
 pub use parts::{check_roles, read_parts};
 pub use sources::{Sources, read_program};
-pub use stop::Stop;

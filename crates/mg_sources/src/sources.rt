@@ -1,21 +1,23 @@
 //! The program that files are: the Java files and typestates that they stand for.
 //! A local protocol stands for its API and its typestate.
 
-ghost use Rattle.std.specs.Prelude.{◌≡◌, [], ◌∷◌, ◌++◌, ◌<◌, ◌^◌, ℕ, List as Seq, length, map, IfOk, OnOk};
+ghost use Rattle.std.specs.Prelude.{◌≡◌, [], ◌∷◌, ◌++◌, ◌<◌, ◌^◌, length, map, IfOk, OnOk};
 ghost use Rattle.scr_tree.specs.Local.{tree_of};
 ghost use Rattle.jv_tree.specs.View.{file_of};
 ghost use Rattle.stm_api.specs.View.{written_of};
 ghost use Rattle.mg_sources.specs.Files.{HaveKinds, sources};
 ghost use Rattle.mg_sources.specs.Reading.{Protocol};
-ghost use Rattle.mg_sources.specs.Sources.{Sourced, AreProgram, Refusal};
-ghost use Rattle.mg_sources.specs.View.{sourced_of, IsProgram, IsThat};
+ghost use Rattle.mg_refusal.specs.Refusals.{Refusal};
+ghost use Rattle.mg_refusal.specs.Order.{Answers, AnswersOnly};
+ghost use Rattle.mg_sources.specs.Sources.{Sourced, AreProgram, FirstRefusal};
+ghost use Rattle.mg_sources.specs.View.{sourced_of};
 ghost use Rattle.mg_sources.specs.Parts.{part_of};
 ghost use Rattle.mg_sources.specs.inner.Answers.{Make, Appends};
 
 use crate::part::Part;
 use crate::parts::{check_roles, read_parts};
-use crate::stop::Stop;
 use jv_tree::File;
+use mg_refusal::Stop;
 use mg_text::{Bytes, List, Memory, Text};
 use scr_read::Local;
 use std::alloc::Global;
@@ -35,19 +37,20 @@ pub struct Sources {
 /// The program that these files are, by the endings of their names and by what they hold.
 ///
 /// # Errors
-/// `Refused` with the line of the first file in the order of the words that its reader refuses;
-/// else with that of the first protocol of a role that an earlier one is of, `SameRole`.
+/// `Refused` with the fault of the first file in the order of the words that its reader refuses;
+/// else with the first protocol of a role that an earlier one is of, `SameRole`.
 /// `Memory` where memory is wanted.
 pub fn read_program(alloc: Global, names: &[Text], contents: &[Bytes]) -> Result<Sources, Stop>
     requires same { length names.now ≡ length contents.now }
     requires count { length contents.now < 2 ^ 32 }
     requires kinds { HaveKinds names.now }
-    // What is answered is the program that the files are, or the line of their first refusal.
-    ensures answered { IsProgram (sources names.now contents.now) result }
+    // What is answered is the program that the files are, or their first refusal.
+    ensures answered { Answers (λ s. AreProgram (sources names.now contents.now) (sourced_of s))
+        (FirstRefusal (sources names.now contents.now)) result }
     // The program that the files are is answered, unless memory runs out.
-    ensures only { (s : Sourced) → AreProgram (sources names.now contents.now) s → IsThat s result }
+    ensures only { (s : Sourced) → AreProgram (sources names.now contents.now) s → AnswersOnly (λ k. sourced_of k ≡ s) result }
     // Files that are refused are no program.
-    ensures refused { (line : Seq ℕ) → Refusal (sources names.now contents.now) line → OnOk result ⊥ }
+    ensures refused { (r : Refusal) → FirstRefusal (sources names.now contents.now) r → OnOk result ⊥ }
 {
     program_of(alloc, names, contents)
 }
@@ -57,10 +60,11 @@ fn program_of(alloc: Global, names: &[Text], contents: &[Bytes]) -> Result<Sourc
     requires same { length names.now ≡ length contents.now }
     requires count { length contents.now < 2 ^ 32 }
     requires kinds { HaveKinds names.now }
-    ensures { IsProgram (sources names.now contents.now) result }
+    ensures { Answers (λ s. AreProgram (sources names.now contents.now) (sourced_of s)) (FirstRefusal (sources names.now contents.now))
+        result }
 {
     let parts = read_parts(alloc, names, contents)?;
-    check_roles(alloc, names, parts.as_slice())?;
+    check_roles(alloc, parts.as_slice())?;
     let sources = assemble(alloc, parts)?;
     Ok(sources)
 }

@@ -9,7 +9,7 @@ use Rattle.mg_top.specs.declared.delivery.Action.TheVariants.{Print, Say}
 use Rattle.mg_top.specs.declared.delivery.Delivery.{Delivery}
 use Rattle.mg_words.specs.Words.{Word, Asked, limit_of, order_of, are_named, Command, Check, Run, Refine, Verify, files_of, IsCommand}
 use Rattle.mg_words.specs.Words.{IsFileOf}
-use Rattle.mg_top.specs.Lines.{read_line, memory_line}
+use Rattle.mg_top.specs.Lines.{refusal_line, read_line, memory_line}
 use Rattle.mg_compile.specs.declared.files.ClassFile.{ClassFile}
 use Rattle.vm_world_law.specs.declared.role.RoleMain.{RoleMain}
 use Rattle.vm_world_law.specs.declared.stand.Stand.{Stand}
@@ -22,37 +22,40 @@ use Rattle.mg_runs.specs.Lines.{role_lines}
 use Rattle.mg_runs.specs.Runs.{names_of}
 use Rattle.mg_runs.specs.Headline.{Course}
 use Rattle.mg_runs.specs.View.{Shows, IsOfRun}
-use Rattle.mg_top.specs.Commands.{Yields, prints, kept_in, role_mains_of, run_said, run_printed, status_of, checked, ran, refined}
-use Rattle.mg_top.specs.Commands.{refined_status, verified}
+use Rattle.mg_top.specs.Commands.{prints, kept_in, role_mains_of, run_said, run_printed, status_of, Gives, checked, ran, refined, refined_status}
+use Rattle.mg_top.specs.Commands.{verified}
 use Rattle.mg_verified.specs.Verified.{AreVerified}
+use Rattle.mg_top.specs.Commands.{IsRefused, judged_names, Yields, gives, refused}
 use Rattle.mg_refined.specs.Refined.{AreJudged}
-use Rattle.mg_top.specs.Commands as commands
 use Rattle.mg_read.specs.First.{Judged, with_earlier}
-use Rattle.mg_text.specs.Row.{Row}
+use Rattle.mg_refusal.specs.Refusals.{Refusal}
+use Rattle.mg_refusal.specs.Order.{Answers}
+use Rattle.mg_refusal.specs.declared.stop.Stop.{Stop}
+use Rattle.mg_refusal.specs.declared.stop.Stop.TheVariants as stops
 use Rattle.mg_sources.specs.Files.{Source, sources}
-use Rattle.mg_sources.specs.Reading.{Part}
-use Rattle.mg_sources.specs.Sources.{SharesRole, refused, same_role}
-use Rattle.mg_sources.specs.Parts.{AreParts, AreApart, EachSpells}
-use Rattle.mg_sources.specs.declared.stop.Stop.{Stop}
-use Rattle.mg_sources.specs.declared.stop.Stop.TheVariants as stops
-use Rattle.mg_sources.proofs.PartLemmas.{none_refused}
+use Rattle.mg_sources.specs.Reading.{Part, EachSpells}
+use Rattle.mg_sources.specs.Sources.{SharesRole}
 use Rattle.jv_core.specs.Tree as Core
 use Rattle.mg_accepted.specs.Accepted.{AreAccepted}
 use Rattle.use_check.specs.Report.{IsReport}
 use Rattle.mg_top.specs.Translation.{AreTranslated}
 use Rattle.mg_top.specs.Outside.{Outside}
 use Rattle.mg_top.specs.Ending.{read_limit, AreRead, after_read, IsUnread, IsDue, unread, yielded, starved, mute}
-use Rattle.mg_top.specs.inner.Preparing.{IsReported, IsPrepared, IsLeft, AreWritten, EachIsWritten, locals_in}
+use Rattle.mg_top.specs.inner.Preparing.{IsCarried, IsReported, IsPrepared, IsLeft, EachIsWritten, locals_in}
 use Rattle.mg_top.proofs.SourceLemmas.{translated}
 
 -- a delivery of these actions with this status
-pub gives : (command : Command) (contents : List (List ℕ)) (actions : List Action) (status : Status) (r : Result Delivery Memory) →
-    IfOk r (λ d. d.actions.items ≡ actions) → IfOk r (λ d. d.status ≡ status) → Yields command contents actions status
-    → IfOk r (λ d. Yields command contents d.actions.items d.status)
-gives command contents actions status (Ok d) a s y =
-    subst (λ (z : List Action). Yields command contents z d.status) (sym a) (subst (λ (z : Status). Yields command contents actions z)
-    (sym s) y)
-gives command contents actions status (Err e) a s y = tt
+pub gives_so : (command : Command) (contents : List (List ℕ)) (actions : List Action) (status : Status) (d : Delivery) →
+    d.actions.items ≡ actions → d.status ≡ status → Gives command contents actions status → Gives command contents d.actions.items d.status
+gives_so command contents actions status d a s y =
+    subst (λ (z : List Action). Gives command contents z d.status) (sym a) (subst (λ (z : Status). Gives command contents actions z) (sym s) y)
+
+-- what is refused at a step of a command
+module _ {A : Type 0} (command : Command) (contents : List (List ℕ)) (Wanted : A → Type 0) (Sooner : Refusal → Type 0)
+    (go : (r : Refusal) → Sooner r → IsRefused command contents r) where
+  pub stopped_so : (stop : Stop) → Answers Wanted Sooner (Err stop) → IsCarried command contents (Err stop)
+  stopped_so (stops.Refused r) h = go r h
+  stopped_so stops.Memory h = tt
 
 pub reported : (core : Core.Program) (text given : List ℕ) (r : Result Delivery Memory) → given ≡ text → IsReport core text
     → IfOk r (λ d. d.actions.items ≡ prints given) → IfOk r (λ d. d.status ≡ statuses.Done) →
@@ -61,33 +64,24 @@ reported core text given (Ok d) e h a s = record { text = text; says = a ∙ ap 
 reported core text given (Err x) e h a s = tt
 
 -- the report of accepted files
-pub report_given : (files : List Word) (contents : List (List ℕ)) (core : Core.Program) (r : Result Delivery Memory) →
-    AreAccepted (sources files contents) core
-    → IfOk r (λ d. IsReported core d.actions.items d.status) → IfOk r (λ d. Yields (Check files) contents d.actions.items d.status)
-report_given files contents core (Ok d) a k =
-    subst (λ (z : List Action). Yields (Check files) contents z d.status) (sym k.says)
-    (subst (λ (z : Status). Yields (Check files) contents (prints k.text) z) (sym k.done) (commands.check (checked core a k.report)))
-report_given files contents core (Err e) a k = tt
+pub report_given : (files : List Word) (contents : List (List ℕ)) (core : Core.Program) (d : Delivery) → AreAccepted (sources files contents) core →
+    IsReported core d.actions.items d.status → Gives (Check files) contents d.actions.items d.status
+report_given files contents core d a k =
+    gives_so (Check files) contents (prints k.text) statuses.Done d k.says k.done (checked core a k.report)
 
 -- how many methods were verified
-pub verified_given : (files : List Word) (contents : List (List ℕ)) (line given : List ℕ) (r : Result Delivery Memory) → given ≡ line
-    → AreVerified (sources files contents) line → IfOk r (λ d. d.actions.items ≡ Print given ∷ []) → IfOk r (λ d. d.status ≡ statuses.Done)
-    → IfOk r (λ d. Yields (Verify files) contents d.actions.items d.status)
-verified_given files contents line given (Ok d) e h a s =
-    subst (λ (z : List Action). Yields (Verify files) contents z d.status) (sym (a ∙ ap (λ (t : List ℕ). Print t ∷ []) e))
-    (subst (λ (z : Status). Yields (Verify files) contents (Print line ∷ []) z) (sym s) (commands.verify (verified h)))
-verified_given files contents line given (Err x) e h a s = tt
+pub verified_given : (files : List Word) (contents : List (List ℕ)) (line given : List ℕ) (d : Delivery) → given ≡ line →
+    AreVerified (sources files contents) line → d.actions.items ≡ Print given ∷ [] → d.status ≡ statuses.Done →
+    Gives (Verify files) contents d.actions.items d.status
+verified_given files contents line given d e h a s =
+    gives_so (Verify files) contents (Print line ∷ []) statuses.Done d (a ∙ ap (λ (t : List ℕ). Print t ∷ []) e) s (verified h)
 
 -- what is told of two typestates
-pub told_given : (files : List Word) (contents : List (List ℕ)) (text given : List ℕ) (stands : Bool) (status : Status)
-    (r : Result Delivery Memory) → given ≡ text
-    → status ≡ refined_status stands → AreJudged (sources files contents) text stands
-    → IfOk r (λ d. d.actions.items ≡ Print given ∷ []) → IfOk r (λ d. d.status ≡ status) →
-    IfOk r (λ d. Yields (Refine files) contents d.actions.items d.status)
-told_given files contents text given stands status (Ok d) e f h a s =
-    subst (λ (z : List Action). Yields (Refine files) contents z d.status) (sym (a ∙ ap (λ (t : List ℕ). Print t ∷ []) e))
-    (subst (λ (z : Status). Yields (Refine files) contents (Print text ∷ []) z) (sym (s ∙ f)) (commands.refine (refined h)))
-told_given files contents text given stands status (Err x) e f h a s = tt
+pub told_given : (files : List Word) (contents : List (List ℕ)) (text given : List ℕ) (stands : Bool) (status : Status) (d : Delivery) →
+    given ≡ text → status ≡ refined_status stands → AreJudged (sources files contents) text stands → d.actions.items ≡ Print given ∷ [] →
+    d.status ≡ status → Gives (Refine files) contents d.actions.items d.status
+told_given files contents text given stands status d e f h a s =
+    gives_so (Refine files) contents (Print text ∷ []) (refined_status stands) d (a ∙ ap (λ (t : List ℕ). Print t ∷ []) e) (s ∙ f) (refined h)
 
 -- a text, words and the end of a line are put behind what stands there
 pub line_put : (result last third second first given before text words : List ℕ) → result ≡ last → last ≡ third ++ 10 ∷ [] →
@@ -157,23 +151,38 @@ run_asked asked files mains order limit named shown m o l n h =
 
 -- the class files of a run, what it printed, its trace and the lines of its roles
 pub run_given : (asked : Asked) (files : List Word) (contents : List (List ℕ)) (mains : List RoleMain) (order : List ℕ) (limit : ℕ)
-    (named : Bool) (shown : Ran)
-    (r : Result Delivery Memory) → mains ≡ role_mains_of asked → order ≡ order_of asked → limit ≡ limit_of asked → named ≡ are_named asked
-    → IsOfRun (sources files contents) mains order limit named asked.traced shown
-    → IfOk r (λ d. d.actions.items ≡ shown_so asked shown.files.items shown.printed shown.trace (names_of mains)
-    (map (λ r. r.instructions) shown.roles.items) (map (λ r. r.stand) shown.roles.items))
-    → IfOk r (λ d. d.status ≡ status_of (map (λ r. r.stand) shown.roles.items)) →
-    IfOk r (λ d. Yields (Run asked files) contents d.actions.items d.status)
-run_given asked files contents mains order limit named shown r m o l n given actions status =
+    (named : Bool) (shown : Ran) (d : Delivery) → mains ≡ role_mains_of asked → order ≡ order_of asked → limit ≡ limit_of asked →
+    named ≡ are_named asked → IsOfRun (sources files contents) mains order limit named asked.traced shown →
+    d.actions.items ≡ shown_so asked shown.files.items shown.printed shown.trace (names_of mains)
+    (map (λ r. r.instructions) shown.roles.items) (map (λ r. r.stand) shown.roles.items) →
+    d.status ≡ status_of (map (λ r. r.stand) shown.roles.items) → Gives (Run asked files) contents d.actions.items d.status
+run_given asked files contents mains order limit named shown d m o l n given actions status =
     let h : IsOfRun (sources files contents) (role_mains_of asked) (order_of asked) (limit_of asked) (are_named asked) asked.traced shown =
     run_asked asked (sources files contents) mains order limit named shown m o l n given in
-    gives (Run asked files) contents (shown_by asked shown) (status_of (map (λ r. r.stand) shown.roles.items)) r
-    (subst (λ (z : List RoleMain). IfOk r (λ d. d.actions.items ≡ shown_so asked shown.files.items shown.printed shown.trace (names_of z)
-    (map (λ r. r.instructions) shown.roles.items) (map (λ r. r.stand) shown.roles.items))) m actions) status
-    (subst (λ (z : Status). Yields (Run asked files) contents (shown_by asked shown) z) (ap status_of (sym h.shows.stands))
-    (subst (λ (z : List Action). Yields (Run asked files) contents z (status_of (stands_in h.run.program h.run.last)))
-    (sym (shown_same asked h.run shown h.shows))
-    (commands.run (ran h.run h.is))))
+    gives_so (Run asked files) contents (shown_by asked shown) (status_of (map (λ r. r.stand) shown.roles.items)) d
+    (actions ∙ ap (λ (z : List RoleMain). shown_so asked shown.files.items shown.printed shown.trace (names_of z)
+    (map (λ r. r.instructions) shown.roles.items) (map (λ r. r.stand) shown.roles.items)) m) status
+    (subst (λ (z : Status). Gives (Run asked files) contents (shown_by asked shown) z) (ap status_of (sym h.shows.stands))
+    (subst (λ (z : List Action). Gives (Run asked files) contents z (status_of (stands_in h.run.program h.run.last)))
+    (sym (shown_same asked h.run shown h.shows)) (ran h.run h.is)))
+
+-- ---- what all commands give
+
+-- what a command gives it yields
+pub given_yields : (command : Command) (contents : List (List ℕ)) (d : Delivery) → IsCarried command contents (Ok d) →
+    Yields command contents d.actions.items d.status
+given_yields command contents d y = gives y
+
+-- and of a refusal its line
+pub refusal_yields : (command : Command) (contents : List (List ℕ)) (r : Refusal) (line : List ℕ)
+    (answer : Result Delivery Memory) → IsRefused command contents r → line ≡ refusal_line (judged_names command) r →
+    IfOk answer (λ d. d.actions.items ≡ Say line ∷ []) → IfOk answer (λ d. d.status ≡ statuses.Refused) →
+    IfOk answer (λ d. Yields command contents d.actions.items d.status)
+refusal_yields command contents r line (Ok d) h is a s =
+    let said : d.actions.items ≡ Say (refusal_line (judged_names command) r) ∷ [] = a ∙ ap (λ (z : List ℕ). Say z ∷ []) is in
+    subst (λ (z : List Action). Yields command contents z d.status) (sym said)
+    (subst (λ (z : Status). Yields command contents (Say (refusal_line (judged_names command) r) ∷ []) z) (sym s) (refused h))
+refusal_yields command contents r line (Err e) h is a s = tt
 
 -- ---- what is due
 
@@ -233,21 +242,7 @@ unread_of words before command names name front rest contents limit is named mos
 
 -- ---- the writes of translations
 
-pub sources_failed : (folder : Option Word) (files : List Source) (fault : Stop) (answer : Result (Row Action) Stop) →
-    AreParts files (Err fault) → answer ≡ Err fault → AreWritten folder files answer
-sources_failed folder files (stops.Refused line) answer h e = subst (AreWritten folder files) (sym e) (refused h)
-sources_failed folder files stops.Memory answer h e = subst (AreWritten folder files) (sym e) tt
-
-pub roles_failed : (folder : Option Word) (files : List Source) (parts : List Part) (fault : Stop) (answer : Result (Row Action) Stop) →
-    EachSpells files parts → AreApart files (Err fault) → answer ≡ Err fault → AreWritten folder files answer
-roles_failed folder files parts (stops.Refused line) answer each h e = subst (AreWritten folder files) (sym e)
-    (same_role (none_refused files parts each) h)
-roles_failed folder files parts stops.Memory answer each h e = subst (AreWritten folder files) (sym e) tt
-
-pub memory_failed : (folder : Option Word) (files : List Source) (answer : Result (Row Action) Stop) → answer ≡ Err stops.Memory →
-    AreWritten folder files answer
-memory_failed folder files answer e = subst (AreWritten folder files) (sym e) tt
-
+-- the writes of the files' translations
 pub all_written : (folder : Option Word) (names : List Word) (contents : List (List ℕ)) (parts given : List Part) (writes : List Action) →
     All (IsFileOf (codes ".scr")) names
     → EachSpells (sources names contents) parts → given ≡ parts → Judged SharesRole (with_earlier (sources names contents)) None →

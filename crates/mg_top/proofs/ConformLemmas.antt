@@ -1,6 +1,6 @@
 -- What `conform` answers.
-use Rattle.std.proofs.Common.{◌≡◌, ◌≢◌, ◌<◌, ◌≤◌, ◌+◌, ◌↔◌, ℕ, suc, Bool, true, false, IsTrue, List, [], ◌∷◌, ◌++◌, map, length, get_or}
-use Rattle.std.proofs.Common.{take, drop, codes, take-append-drop, drop-cons, refl, sym, ap, ◌∙◌, subst}
+use Rattle.std.proofs.Common.{◌≡◌, ◌<◌, ◌≤◌, ◌+◌, ◌↔◌, ℕ, suc, Bool, true, false, IsTrue, List, [], ◌∷◌, ◌++◌, map, length, get_or}
+use Rattle.std.proofs.Common.{arith, Option, Some, take, drop, codes, take-append-drop, drop-cons, refl, sym, ap, ◌∙◌, subst}
 use Rattle.std.specs.Prelude.{IfOk, Result, Ok, Err}
 use Rattle.std.proofs.lemmas.List.{take_more, take_all, map-append}
 use Rattle.mg_text.specs.Call.{Call}
@@ -8,6 +8,8 @@ use Rattle.mg_text.specs.Row.{Row}
 use Rattle.mg_text.specs.declared.place.Place.{Place}
 use Rattle.mg_text.specs.declared.memory.Memory.{Memory}
 use Rattle.scr_tree.specs.Tree.{LocalTree}
+use Rattle.scr_tree.specs.Local.{tree_of}
+use Rattle.scr_tree.specs.declared.local.Local.{Local}
 use Rattle.scr_tree.specs.Meaning.{protocol_of}
 use Rattle.scr_tree.specs.Traces.{Trace, Complete}
 use Rattle.scr_trace.specs.Walking.{HasTaken}
@@ -20,18 +22,22 @@ use Rattle.mg_calls.specs.Answer.{call_of, IsRead}
 use Rattle.mg_top.specs.declared.status.Status.{Status}
 use Rattle.mg_top.specs.declared.status.Status.TheVariants as statuses
 use Rattle.mg_top.specs.declared.delivery.Action.{Action}
-use Rattle.mg_top.specs.declared.delivery.Action.TheVariants.{Print, Say}
+use Rattle.mg_top.specs.declared.delivery.Action.TheVariants.{Print}
 use Rattle.mg_top.specs.declared.delivery.Delivery.{Delivery}
-use Rattle.mg_words.specs.Words.{Word, Conform}
-use Rattle.mg_sources.specs.Faults.{fault_line}
+use Rattle.mg_words.specs.Words.{Word, Conform, IsCommand}
+use Rattle.mg_refusal.specs.Refusals.{Refusal, refusal_at, in_file}
+use Rattle.mg_refusal.specs.Order.{Answers, IsStopOf, stop_in, at_first, at_next}
+use Rattle.mg_refusal.specs.declared.stop.Stop.{Stop}
+use Rattle.mg_refusal.specs.declared.stop.Stop.TheVariants as stops
+use Rattle.mg_refusal.proofs.Orders.{stop_in_file}
 use Rattle.mg_top.specs.Lines.{ended, not_offered_line}
-use Rattle.mg_sources.specs.Files.{source_of}
-use Rattle.mg_sources.specs.Reading.{Protocol, Reads}
+use Rattle.mg_sources.specs.Files.{source_of, EndsWith}
+use Rattle.mg_sources.specs.Reading.{Protocol, Reads, Refuses}
 use Rattle.mg_top.specs.Conformance.{calls_of, Conforms, complete, unfinished, not_offered, IsNoList, too_large, bad_line}
-use Rattle.mg_top.specs.Commands.{Yields, conforms, no_calls}
+use Rattle.mg_top.specs.Commands.{Gives, conforms, IsRefused}
 use Rattle.mg_top.specs.Commands as commands
 use Rattle.mg_sources.proofs.PartLemmas.{same_at}
-use Rattle.mg_top.specs.inner.Preparing.{IsAnswered, IsListRefusal, list_fault}
+use Rattle.mg_top.specs.inner.Preparing.{IsAnswered, IsCarried, calls_refusal}
 
 -- the calls of lines
 abbrev pub said : CallLine → Call
@@ -117,6 +123,9 @@ open_at local walk lines i done end h told is =
 
 -- ---- what is given
 
+some_is : {x y : Refusal} → ◌≡◌ {A = Option Refusal} (Some x) (Some y) → x ≡ y
+some_is e = cc
+
 -- a text that was made answers
 pub answered : (local : LocalTree) (calls : List CallAt) (text made : List ℕ) (status : Status) (r : Result Delivery Memory) →
     IfOk r (λ d. d.actions.items ≡ Print made ∷ []) → IfOk r (λ d. d.status ≡ status) → made ≡ text → Conforms local calls text status
@@ -129,32 +138,56 @@ answered local calls text made status (Ok d) a s e c = record {
 }
 answered local calls text made status (Err x) a s e c = tt
 
-pub followed : (protocol calls : Word) (bytes listed : List ℕ) (local : LocalTree) (list : List CallLine) (slice : List CallLine)
-    (r : Result Delivery Memory) → Reads (source_of 0 protocol bytes) (Protocol local) → (items : Row CallLine) → items.items ≡ list →
-    IsRead 1 listed (Ok items) → slice ≡ list
-    → IfOk r (λ d. IsAnswered local (map call_of slice) d.actions.items d.status) →
-    IfOk r (λ d. Yields (Conform (protocol ∷ calls ∷ [])) (bytes ∷ listed ∷ []) d.actions.items d.status)
-followed protocol calls bytes listed local list slice (Ok d) only items same read e h =
-    subst (λ (z : List Action). Yields (Conform (protocol ∷ calls ∷ [])) (bytes ∷ listed ∷ []) z d.status) (sym h.says)
-    (commands.conform (conforms local (map call_of items.items) only (record { size = read.0; listed = read.1 })
-    (subst (λ (z : List CallLine). Conforms local (map call_of z) h.text d.status) (e ∙ sym same) h.conforms)))
-followed protocol calls bytes listed local list slice (Err x) only items same read e h = tt
+pub followed : (protocol calls : Word) (bytes listed : List ℕ) (local : LocalTree) (list slice : List CallLine) (d : Delivery) →
+    Reads (source_of 0 protocol bytes) (Protocol local) → (items : Row CallLine) → items.items ≡ list → IsRead 1 listed (Ok items) →
+    slice ≡ list → IsAnswered local (map call_of slice) d.actions.items d.status →
+    Gives (Conform (protocol ∷ calls ∷ [])) (bytes ∷ listed ∷ []) d.actions.items d.status
+followed protocol calls bytes listed local list slice d only items same read e h =
+    subst (λ (z : List Action). Gives (Conform (protocol ∷ calls ∷ [])) (bytes ∷ listed ∷ []) z d.status) (sym h.says)
+    (conforms local (map call_of items.items) only (record { size = read.0; listed = read.1 })
+    (subst (λ (z : List CallLine). Conforms local (map call_of z) h.text d.status) (e ∙ sym same) h.conforms))
 
-refused_list : (name : Word) (listed : List ℕ) (fault : CallsFault) → fault ≢ faults.Memory → IsRead 1 listed (Err fault) →
-    IsNoList (source_of 1 name listed) (fault_line name (list_fault fault))
-refused_list name listed (faults.TooLarge place) proper (large, at) =
-    subst (λ (p : Place). IsNoList (source_of 1 name listed) (fault_line name (record { kind = codes "TooLarge"; place = p; name = [] })))
-    (sym at) (too_large large)
-refused_list name listed (faults.BadLine place) proper (small, bad) = bad_line place small bad
-refused_list name listed faults.Memory proper h = absurd (proper refl)
+no_list : (calls : Word) (listed : List ℕ) (fault : CallsFault) (wanted r : Refusal) → IsRead 1 listed (Err fault) →
+    calls_refusal fault ≡ Some wanted → r ≡ in_file 1 wanted → IsNoList (source_of 1 calls listed) r
+no_list calls listed (faults.TooLarge place) wanted r (large, at) e says =
+    too_large large (says ∙ ap (in_file 1) (sym (some_is e)) ∙ ap (λ (p : Place). in_file 1 (refusal_at (codes "TooLarge") p [])) at)
+no_list calls listed (faults.BadLine place) wanted r (small, bad) e says = bad_line place small bad (says ∙ ap (in_file 1) (sym (some_is e)))
+no_list calls listed faults.Memory wanted r h e says = absurd (let no : ⊥ = cc in no)
 
-pub list_refused : (protocol calls : Word) (bytes listed : List ℕ) (local : LocalTree) (fault : CallsFault) (r : Result Delivery Memory) →
-    Reads (source_of 0 protocol bytes) (Protocol local) → IsRead 1 listed (Err fault)
-    → IfOk r (λ d. IsListRefusal calls fault d.actions.items d.status) →
-    IfOk r (λ d. Yields (Conform (protocol ∷ calls ∷ [])) (bytes ∷ listed ∷ []) d.actions.items d.status)
-list_refused protocol calls bytes listed local fault (Ok d) only read h =
-    subst (λ (z : List Action). Yields (Conform (protocol ∷ calls ∷ [])) (bytes ∷ listed ∷ []) z d.status) (sym h.says)
-    (subst (λ (z : Status). Yields (Conform (protocol ∷ calls ∷ [])) (bytes ∷ listed ∷ []) (Say (fault_line calls (list_fault fault)) ∷ [])
-    z) (sym h.refuses)
-    (commands.conform (no_calls local only (refused_list calls listed fault h.proper read))))
-list_refused protocol calls bytes listed local fault (Err x) only read h = tt
+-- the file of a protocol, or that of calls, is refused
+pub no_protocol : (protocol calls : Word) (bytes listed : List ℕ) (stop : Stop) →
+    Answers (λ (local : Local). Reads (source_of 0 protocol bytes) (Protocol (tree_of local))) (Refuses (source_of 0 protocol bytes)) (Err stop) →
+    IsCarried (Conform (protocol ∷ calls ∷ [])) (bytes ∷ listed ∷ []) (Err stop)
+no_protocol protocol calls bytes listed (stops.Refused r) h = commands.conform (at_first h)
+no_protocol protocol calls bytes listed stops.Memory h = tt
+
+pub list_refused : (protocol calls : Word) (bytes listed : List ℕ) (local : LocalTree) (fault : CallsFault) (stop : Stop) →
+    Reads (source_of 0 protocol bytes) (Protocol local) → IsRead 1 listed (Err fault) →
+    IsStopOf (λ wanted r. r ≡ wanted) (calls_refusal fault) stop →
+    IsCarried (Conform (protocol ∷ calls ∷ [])) (bytes ∷ listed ∷ []) (Err (stop_in 1 stop))
+list_refused protocol calls bytes listed local fault stop only read h =
+    stop_in_file 1 (λ wanted r. r ≡ wanted)
+    (λ (d : Delivery). Gives (Conform (protocol ∷ calls ∷ [])) (bytes ∷ listed ∷ []) d.actions.items d.status)
+    (IsRefused (Conform (protocol ∷ calls ∷ [])) (bytes ∷ listed ∷ [])) (calls_refusal fault) stop h
+    (λ wanted r e said. commands.conform (at_next local only
+    (no_list calls listed fault wanted r read e (said.2 ∙ ap (in_file 1) said.1))))
+
+-- the contents of two files
+pub two_contents : (contents : List (List ℕ)) (a b x y : List ℕ) → length contents ≡ 2 → a ≡ get_or contents 0 a → b ≡ get_or contents 1 b →
+    x ≡ a → y ≡ b → x ∷ y ∷ [] ≡ contents
+two_contents [] a b x y e f g h k = absurd (omega (arith, e))
+two_contents (c ∷ []) a b x y e f g h k = absurd (omega (arith, e))
+two_contents (c ∷ d ∷ z ∷ zs) a b x y e f g h k = absurd (omega (arith, e))
+two_contents (c ∷ d ∷ []) a b x y e f g h k = λ i. (h ∙ f) i ∷ (k ∙ g) i ∷ []
+
+pub two_conformed : (words files : List Word) → IsCommand (Conform files) words → length files ≡ 2
+two_conformed words files (rest, e, (behind, are)) = ap length are.two
+
+-- of a protocol and its calls
+pub conform_carried : (words files : List Word) (contents : List (List ℕ)) (bytes listed : List ℕ) (result : Result Delivery Stop) →
+    IsCommand (Conform files) words → bytes ∷ listed ∷ [] ≡ contents →
+    ((protocol calls : Word) → EndsWith (codes ".scr") protocol → IsCarried (Conform (protocol ∷ calls ∷ [])) (bytes ∷ listed ∷ []) result) →
+    IsCarried (Conform files) contents result
+conform_carried words files contents bytes listed result (rest, e, (behind, are)) same h =
+    subst (λ (z : List Word). IsCarried (Conform z) contents result) (sym are.two)
+    (subst (λ (z : List (List ℕ)). IsCarried (Conform (are.protocol ∷ are.calls ∷ [])) z result) same (h are.protocol are.calls are.scribble.1))

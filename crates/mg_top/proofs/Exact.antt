@@ -15,14 +15,15 @@ use Rattle.mg_top.specs.declared.status.Status.{Status}
 use Rattle.mg_top.specs.declared.status.Status.TheVariants as statuses
 use Rattle.mg_top.specs.declared.delivery.Action.{Action}
 use Rattle.mg_top.specs.declared.delivery.Action.TheVariants.{Print, Say}
-use Rattle.mg_top.specs.Lines.{not_offered_line}
-use Rattle.mg_sources.specs.Files.{Source, sources}
+use Rattle.mg_top.specs.Lines.{refusal_line, not_offered_line}
+use Rattle.mg_refusal.specs.Refusals.{Refusal}
+use Rattle.mg_refusal.proofs.Orders.{then_never}
+use Rattle.mg_sources.specs.Files.{Source, source_of, sources}
 use Rattle.mg_top.specs.Conformance.{calls_of, Conforms, complete, unfinished, not_offered, Lists, IsNoList, bad_line}
 use Rattle.mg_top.specs.Conformance as conformance
-use Rattle.mg_sources.specs.Reading.{Protocol, States}
-use Rattle.mg_sources.specs.Sources.{Refusal, refused, same_role}
-use Rattle.mg_sources.proofs.OneKind.{one_part}
-use Rattle.mg_sources.proofs.PartLemmas.{not_refused}
+use Rattle.mg_sources.specs.Reading.{Protocol, Reads}
+use Rattle.mg_sources.specs.Sources.{FirstRefusal}
+use Rattle.mg_sources.proofs.OneKind.{one_part, excludes}
 use Rattle.mg_accepted.proofs.Apart.{not_refused as not_unmet}
 use Rattle.mg_compile.proofs.Apart.{not_refused as not_exceeded}
 use Rattle.vm_world_law.specs.declared.stand.Stand.{Stand}
@@ -33,14 +34,9 @@ use Rattle.mg_runs.specs.Headline.{Course, IsRun}
 use Rattle.mg_exec.proofs.Apart.{not_refused as not_stopped, one_course}
 use Rattle.vm_world_law.specs.declared.role.RoleMain.{RoleMain}
 use Rattle.mg_top.specs.Translation.{AreTranslated}
-use Rattle.mg_top.specs.Commands.{TranslateGives, translated, not_translated, ConformGives, conforms, no_protocol, no_calls, CheckGives}
-use Rattle.mg_top.specs.Commands.{checked, not_checked}
-use Rattle.mg_top.specs.Commands.{CompileGives, compiled, not_compiled, RunGives, ran, not_run, ExecGives, executed, not_executed}
-use Rattle.mg_top.specs.Commands.{RefineGives, refined, not_refined, refined_status, ProjectGives, projected, not_projected, role_mains_of}
-use Rattle.mg_top.specs.Commands.{status_of, Yields}
-use Rattle.mg_verified.proofs.Apart.{not_refused as not_unverified}
-use Rattle.mg_top.specs.Commands.{VerifyGives, verified, not_verified}
-use Rattle.mg_top.specs.Commands.{LoadGives, loaded, not_loaded, load_asked, load_sources}
+use Rattle.mg_top.specs.Commands.{Gives, translated, conforms, checked, compiled, ran, executed, refined, projected, loaded, verified}
+use Rattle.mg_top.specs.Commands.{refined_status}
+use Rattle.mg_top.specs.Commands.{load_asked, load_sources, role_mains_of, status_of, IsRefused, judged_names, Yields, gives, refused}
 use Rattle.mg_top.specs.Commands as commands
 use Rattle.mg_top.specs.Promises.{IsYielded}
 use Rattle.mg_top.proofs.SourceLemmas.{none_refused_of_translated}
@@ -49,36 +45,13 @@ use Rattle.ts_refine.specs.declared.verdict.Reason.{Reason}
 use Rattle.mg_refined.specs.Refined.{Tells, yes_told, no_told, no_text}
 use Rattle.mg_refined.proofs.Apart.{one_telling, none_spelled}
 use Rattle.mg_projected.proofs.Telling.{not_refused as not_unprojected}
+use Rattle.mg_verified.proofs.Apart.{not_refused as not_unverified}
 
 -- files that are refused aren't translated
-not_both : (folder : Option Word) (files : List Source) (actions : List Action) (line : List ℕ) → AreTranslated folder files actions →
-    Refusal files line → ⊥
-not_both folder files actions line t (refused h) = no_both (none_refused_of_translated t.each) h
-not_both folder files actions line t (same_role nobody h) = no_both t.apart h
-
--- ---- one status, command by command
-
-translate_status : {folder : Option Word} {files : List Source} {xa xb : List Action} {m n : Status} → TranslateGives folder files xa m →
-    TranslateGives folder files xb n → m ≡ n
-translate_status (translated t) (translated u) = refl
-translate_status {folder = folder} {files = files} (translated {writes = writes} t) (not_translated {line = line} r) =
-    absurd (not_both folder files writes line t r)
-translate_status {folder = folder} {files = files} (not_translated {line = line} r) (translated {writes = writes} t) =
-    absurd (not_both folder files writes line t r)
-translate_status (not_translated r) (not_translated q) = refl
-
-check_status : {files : List Source} {xa xb : List Action} {m n : Status} → CheckGives files xa m → CheckGives files xb n → m ≡ n
-check_status (checked core a r) (checked core' a' r') = refl
-check_status {files = files} (checked core a r) (not_checked {line = line} h) = absurd (not_unmet files core line a h)
-check_status {files = files} (not_checked {line = line} h) (checked core a r) = absurd (not_unmet files core line a h)
-check_status (not_checked h) (not_checked k) = refl
-
-compile_status : {folder : Option Word} {files : List Source} {xa xb : List Action} {m n : Status} → CompileGives folder files xa m →
-    CompileGives folder files xb n → m ≡ n
-compile_status (compiled written h) (compiled written' h') = refl
-compile_status {files = files} (compiled written h) (not_compiled {line = line} r) = absurd (not_exceeded files written line h r)
-compile_status {files = files} (not_compiled {line = line} r) (compiled written h) = absurd (not_exceeded files written line h r)
-compile_status (not_compiled r) (not_compiled q) = refl
+not_untranslated : (folder : Option Word) (files : List Source) (actions : List Action) (r : Refusal) → AreTranslated folder files actions →
+    FirstRefusal files r → ⊥
+not_untranslated folder files actions r t =
+    then_never (λ r judged. no_both (none_refused_of_translated t.each) judged) (λ parts each r judged. no_both t.apart judged) r
 
 -- the roles of one run stand in one way
 one_stand : (files : List Source) (mains : List RoleMain) (order : List ℕ) (limit : ℕ) (r s : Course) → IsRun files mains order limit r →
@@ -86,43 +59,6 @@ one_stand : (files : List Source) (mains : List RoleMain) (order : List ℕ) (li
 one_stand files mains order limit r s h k =
     let same = one_of_run files mains order limit r s h k in
     λ i. stands_in (same.program i) (same.last i)
-
-run_status : {asked : Asked} {files : List Source} {xa xb : List Action} {m n : Status} → RunGives asked files xa m →
-    RunGives asked files xb n → m ≡ n
-run_status {asked = asked} {files = files} (ran r h) (ran s k) =
-    ap status_of (one_stand files (role_mains_of asked) (order_of asked) (limit_of asked) r s h k)
-run_status {asked = asked} {files = files} (ran r h) (not_run {line = line} q) =
-    absurd (not_halted files (role_mains_of asked) (order_of asked) (limit_of asked) r line h q)
-run_status {asked = asked} {files = files} (not_run {line = line} q) (ran r h) =
-    absurd (not_halted files (role_mains_of asked) (order_of asked) (limit_of asked) r line h q)
-run_status (not_run q) (not_run p) = refl
-
--- the same of a workload
-load_status : {n seed : ℕ} {xa xb : List Action} {m k : Status} → LoadGives n seed xa m → LoadGives n seed xb k → m ≡ k
-load_status {n = n} {seed = seed} (loaded r h) (loaded s k) =
-    ap status_of (one_stand (load_sources n seed) (role_mains_of load_asked) (order_of load_asked) (limit_of load_asked) r s h k)
-load_status {n = n} {seed = seed} (loaded r h) (not_loaded {line = line} q) =
-    absurd (not_halted (load_sources n seed) (role_mains_of load_asked) (order_of load_asked) (limit_of load_asked) r line h q)
-load_status {n = n} {seed = seed} (not_loaded {line = line} q) (loaded r h) =
-    absurd (not_halted (load_sources n seed) (role_mains_of load_asked) (order_of load_asked) (limit_of load_asked) r line h q)
-load_status (not_loaded q) (not_loaded p) = refl
-
--- of two files one thing is told
-refine_status : {files : List Source} {xa xb : List Action} {m n : Status} → RefineGives files xa m → RefineGives files xb n → m ≡ n
-refine_status {files = files} (refined {text = x} {stands = s} h) (refined {text = y} {stands = t} k) =
-    ap refined_status (one_telling files x y s t h k).1
-refine_status {files = files} (refined h) (not_refined {line = line} r) =
-    absurd (none_spelled files (States h.a ∷ States h.b ∷ []) line h.spell r)
-refine_status {files = files} (not_refined {line = line} r) (refined h) =
-    absurd (none_spelled files (States h.a ∷ States h.b ∷ []) line h.spell r)
-refine_status (not_refined r) (not_refined q) = refl
-
-project_status : {folder : Option Word} {files : List Source} {xa xb : List Action} {m n : Status} → ProjectGives folder files xa m →
-    ProjectGives folder files xb n → m ≡ n
-project_status (projected written h) (projected written' h') = refl
-project_status {files = files} (projected written h) (not_projected {line = line} r) = absurd (not_unprojected files written line h r)
-project_status {files = files} (not_projected {line = line} r) (projected written h) = absurd (not_unprojected files written line h r)
-project_status (not_projected r) (not_projected q) = refl
 
 -- the command conform
 
@@ -133,9 +69,9 @@ follows local calls text status done (unfinished trace isnt) = trace
 follows local calls text status done (not_offered front call rest split trace isnt) = absurd cc
 
 -- a file that lists calls isn't refused
-pub listed_once : (source : Source) (list : List CallAt) (line : List ℕ) → Lists source list → IsNoList source line → ⊥
-listed_once source list line h (conformance.too_large large) = let size = h.size in omega arith
-listed_once source list line h (bad_line place small bad) = no_bad source.number source.bytes list place h.listed bad
+pub listed_once : (source : Source) (list : List CallAt) (r : Refusal) → Lists source list → IsNoList source r → ⊥
+listed_once source list r h (conformance.too_large large says) = let size = h.size in omega arith
+listed_once source list r h (bad_line place small bad says) = no_bad source.number source.bytes list place h.listed bad
 
 -- where a call isn't offered, the calls don't follow
 stopped : (local : LocalTree) (calls : List CallAt) (text : List ℕ) (status : Status) → status ≡ statuses.Refused →
@@ -165,56 +101,68 @@ conforms_status local list t u m n c d = go (answered_status c) (answered_status
   go (inr e) (inl f) = absurd (stopped local list t m e c (follows local list u n f d))
   go (inr e) (inr f) = e ∙ sym f
 
-conform_status : {protocol calls : Source} {xa xb : List Action} {m n : Status} → ConformGives protocol calls xa m →
-    ConformGives protocol calls xb n → m ≡ n
-conform_status {protocol = protocol} {calls = calls} {m = m} {n = n} (conforms {text = t} local list o l c)
-    (conforms {text = u} local' list' o' l' c') =
+-- ---- what is refused gives nothing
+
+pub not_both : {command : Command} {contents : List (List ℕ)} {actions : List Action} {status : Status} {r : Refusal} →
+    Gives command contents actions status → IsRefused command contents r → ⊥
+not_both {contents = contents} {r = r} (translated {folder = folder} {files = files} {writes = writes} t) (commands.translate h) =
+    not_untranslated folder (sources files contents) writes r t h
+not_both {r = r} (conforms {protocol = protocol} {calls = calls} {bytes = bytes} {listed = listed} local list o l c) (commands.conform h) =
+    then_never (λ r h. excludes (source_of 0 protocol bytes) (Protocol local) r o h)
+    (λ local' o' r h. listed_once (source_of 1 calls listed) list r l h) r h
+not_both {contents = contents} {r = r} (checked {files = files} core a report) (commands.check h) = not_unmet (sources files contents) core r a h
+not_both {contents = contents} {r = r} (compiled {files = files} written a) (commands.compile h) =
+    not_exceeded (sources files contents) written r a h
+not_both {contents = contents} {r = r} (ran {asked = asked} {files = files} course is) (commands.run h) =
+    not_halted (sources files contents) (role_mains_of asked) (order_of asked) (limit_of asked) course r is h
+not_both {contents = contents} {r = r} (executed {asked = asked} {files = files} course is) (commands.exec h) =
+    not_stopped (sources files contents) (role_mains_of asked) (order_of asked) (limit_of asked) course r is h
+not_both {contents = contents} {r = r} (refined {files = files} a) (commands.refine h) =
+    none_spelled (sources files contents) _ r a.spell h
+not_both {contents = contents} {r = r} (projected {files = files} written a) (commands.project h) =
+    not_unprojected (sources files contents) written r a h
+not_both {r = r} (loaded {branches = n} {seed = seed} course is) (commands.load h) =
+    not_halted (load_sources n seed) (role_mains_of load_asked) (order_of load_asked) (limit_of load_asked) course r is h
+not_both {contents = contents} {r = r} (verified {files = files} {line = line} a) (commands.verify h) =
+    not_unverified (sources files contents) line r a h
+
+-- ---- one status
+
+conform_status : (protocol calls : Source) (local local' : LocalTree) (list list' : List CallAt) (t u : List ℕ) (m n : Status) →
+    Reads protocol (Protocol local) → Reads protocol (Protocol local') → Lists calls list → Lists calls list' →
+    Conforms local list t m → Conforms local' list' u n → m ≡ n
+conform_status protocol calls local local' list list' t u m n o o' l l' c c' =
     let local_is : local' ≡ local = same_local local' local (one_part protocol (Protocol local') (Protocol local) o' o) in
     let list_is : list' ≡ list = one_list calls.bytes list' list l'.listed l.listed in
     conforms_status local list t u m n c
     (subst (λ (z : List CallAt). Conforms local z u n) list_is (subst (λ (z : LocalTree). Conforms z list' u n) local_is c'))
-conform_status {protocol = protocol} (conforms local list o l c) (no_protocol {line = line} r) =
-    absurd (not_refused protocol (Protocol local) line o r)
-conform_status {calls = calls} (conforms local list o l c) (no_calls {line = line} local' o' r) = absurd (listed_once calls list line l r)
-conform_status {protocol = protocol} (no_protocol {line = line} r) (conforms local list o l c) =
-    absurd (not_refused protocol (Protocol local) line o r)
-conform_status (no_protocol r) (no_protocol q) = refl
-conform_status (no_protocol r) (no_calls local o q) = refl
-conform_status {calls = calls} (no_calls {line = line} local' o' r) (conforms local list o l c) = absurd (listed_once calls list line l r)
-conform_status (no_calls local o r) (no_protocol q) = refl
-conform_status (no_calls local o r) (no_calls local' o' q) = refl
 
--- the same of class files
-exec_status : {asked : Asked} {files : List Source} {xa xb : List Action} {m n : Status} → ExecGives asked files xa m →
-    ExecGives asked files xb n → m ≡ n
-exec_status {asked = asked} {files = files} (executed r h) (executed s k) =
-    let same = one_course files (role_mains_of asked) (order_of asked) (limit_of asked) r s h k in
+gives_status : {command : Command} {contents : List (List ℕ)} {xa xb : List Action} {m n : Status} → Gives command contents xa m →
+    Gives command contents xb n → m ≡ n
+gives_status (translated t) (translated u) = refl
+gives_status {m = m} {n = n} (conforms {protocol = protocol} {calls = calls} {bytes = bytes} {listed = listed} {text = t} local list o l c)
+    (conforms {text = u} local' list' o' l' c') =
+    conform_status (source_of 0 protocol bytes) (source_of 1 calls listed) local local' list list' t u m n o o' l l' c c'
+gives_status (checked core a r) (checked core' a' r') = refl
+gives_status (compiled written h) (compiled written' h') = refl
+gives_status {contents = contents} (ran {asked = asked} {files = files} r h) (ran s k) =
+    ap status_of (one_stand (sources files contents) (role_mains_of asked) (order_of asked) (limit_of asked) r s h k)
+gives_status {contents = contents} (executed {asked = asked} {files = files} r h) (executed s k) =
+    let same = one_course (sources files contents) (role_mains_of asked) (order_of asked) (limit_of asked) r s h k in
     ap status_of (λ i. stands_in (same.program i) (same.last i))
-exec_status {asked = asked} {files = files} (executed r h) (not_executed {line = line} q) =
-    absurd (not_stopped files (role_mains_of asked) (order_of asked) (limit_of asked) r line h q)
-exec_status {asked = asked} {files = files} (not_executed {line = line} q) (executed r h) =
-    absurd (not_stopped files (role_mains_of asked) (order_of asked) (limit_of asked) r line h q)
-exec_status (not_executed q) (not_executed p) = refl
-
--- of class files one number is told
-verify_status : {files : List Source} {xa xb : List Action} {m n : Status} → VerifyGives files xa m → VerifyGives files xb n → m ≡ n
-verify_status (verified h) (verified k) = refl
-verify_status {files = files} (verified {line = line} h) (not_verified {line = said} r) = absurd (not_unverified files line said h r)
-verify_status {files = files} (not_verified {line = said} r) (verified {line = line} h) = absurd (not_unverified files line said h r)
-verify_status (not_verified r) (not_verified q) = refl
+gives_status {contents = contents} (refined {files = files} {text = x} {stands = s} h) (refined {text = y} {stands = t} k) =
+    ap refined_status (one_telling (sources files contents) x y s t h k).1
+gives_status (projected written h) (projected written' h') = refl
+gives_status (loaded {branches = n} {seed = seed} r h) (loaded s k) =
+    ap status_of (one_stand (load_sources n seed) (role_mains_of load_asked) (order_of load_asked) (limit_of load_asked) r s h k)
+gives_status (verified h) (verified k) = refl
 
 pub one_status : {command : Command} {contents : List (List ℕ)} {xa xb : List Action} {m n : Status} → Yields command contents xa m →
     Yields command contents xb n → m ≡ n
-one_status (commands.translate y) (commands.translate z) = translate_status y z
-one_status (commands.conform y) (commands.conform z) = conform_status y z
-one_status (commands.check y) (commands.check z) = check_status y z
-one_status (commands.compile y) (commands.compile z) = compile_status y z
-one_status (commands.run y) (commands.run z) = run_status y z
-one_status (commands.exec y) (commands.exec z) = exec_status y z
-one_status (commands.refine y) (commands.refine z) = refine_status y z
-one_status (commands.project y) (commands.project z) = project_status y z
-one_status (commands.load y) (commands.load z) = load_status y z
-one_status (commands.verify y) (commands.verify z) = verify_status y z
+one_status (gives y) (gives z) = gives_status y z
+one_status (gives y) (refused r) = absurd (not_both y r)
+one_status (refused r) (gives y) = absurd (not_both y r)
+one_status (refused r) (refused q) = refl
 
 -- ---- the statuses that a command may have
 
@@ -252,29 +200,23 @@ told_proper : (stands : Bool) → IsYielded (refined_status stands)
 told_proper true = done_proper
 told_proper false = refused_proper
 
+gives_proper : {command : Command} {contents : List (List ℕ)} {actions : List Action} {status : Status} →
+    Gives command contents actions status → IsYielded status
+gives_proper (translated t) = done_proper
+gives_proper (conforms local list o l c) = answer_proper c
+gives_proper (checked core a r) = done_proper
+gives_proper (compiled written h) = done_proper
+gives_proper (ran r h) = stands_proper (stands_in r.program r.last)
+gives_proper (executed r h) = stands_proper (stands_in r.program r.last)
+gives_proper (refined {stands = stands} h) = told_proper stands
+gives_proper (projected written h) = done_proper
+gives_proper (loaded r h) = stands_proper (stands_in r.program r.last)
+gives_proper (verified h) = done_proper
+
 pub proper : {command : Command} {contents : List (List ℕ)} {actions : List Action} {status : Status} →
     Yields command contents actions status → IsYielded status
-proper (commands.translate (translated t)) = done_proper
-proper (commands.translate (not_translated r)) = refused_proper
-proper (commands.conform (conforms local list o l c)) = answer_proper c
-proper (commands.conform (no_protocol r)) = refused_proper
-proper (commands.conform (no_calls local o r)) = refused_proper
-proper (commands.check (checked core a r)) = done_proper
-proper (commands.check (not_checked r)) = refused_proper
-proper (commands.compile (compiled written h)) = done_proper
-proper (commands.compile (not_compiled r)) = refused_proper
-proper (commands.run (ran r h)) = stands_proper (stands_in r.program r.last)
-proper (commands.run (not_run r)) = refused_proper
-proper (commands.exec (executed r h)) = stands_proper (stands_in r.program r.last)
-proper (commands.exec (not_executed r)) = refused_proper
-proper (commands.refine (refined {stands = stands} h)) = told_proper stands
-proper (commands.refine (not_refined r)) = refused_proper
-proper (commands.project (projected written h)) = done_proper
-proper (commands.project (not_projected r)) = refused_proper
-proper (commands.load (loaded r h)) = stands_proper (stands_in r.program r.last)
-proper (commands.load (not_loaded r)) = refused_proper
-proper (commands.verify (verified h)) = done_proper
-proper (commands.verify (not_verified r)) = refused_proper
+proper (gives y) = gives_proper y
+proper (refused r) = refused_proper
 
 -- ---- what is said of a refusal
 
@@ -308,30 +250,23 @@ told_says : (a b : Typestate) (text : List ℕ) (stands : Bool) → Tells a b te
 told_says a b text stands (yes_told s) e = absurd cc
 told_says a b text stands (no_told {calls = calls} {reason = reason} f) e = inr (inr (calls, reason, refl))
 
-pub refusal_says : {command : Command} {contents : List (List ℕ)} {actions : List Action} {status : Status} →
-    Yields command contents actions status →
+gives_says : {command : Command} {contents : List (List ℕ)} {actions : List Action} {status : Status} → Gives command contents actions status →
     status ≡ statuses.Refused → SaysRefusal actions
-refusal_says (commands.translate (translated t)) e = absurd cc
-refusal_says (commands.translate (not_translated {line = line} r)) e = inl (line, refl)
-refusal_says (commands.conform (conforms local list o l c)) e = answer_says c e
-refusal_says (commands.conform (no_protocol {line = line} r)) e = inl (line, refl)
-refusal_says (commands.conform (no_calls {line = line} local o r)) e = inl (line, refl)
-refusal_says (commands.check (checked core a r)) e = absurd cc
-refusal_says (commands.check (not_checked {line = line} r)) e = inl (line, refl)
-refusal_says (commands.compile (compiled written h)) e = absurd cc
-refusal_says (commands.compile (not_compiled {line = line} r)) e = inl (line, refl)
-refusal_says (commands.run (ran r h)) e = absurd (never_refused (stands_in r.program r.last) e)
-refusal_says (commands.run (not_run {line = line} r)) e = inl (line, refl)
-refusal_says (commands.exec (executed r h)) e = absurd (never_refused (stands_in r.program r.last) e)
-refusal_says (commands.exec (not_executed {line = line} r)) e = inl (line, refl)
-refusal_says (commands.refine (refined {text = text} {stands = stands} h)) e = told_says h.a h.b text stands h.tells e
-refusal_says (commands.refine (not_refined {line = line} r)) e = inl (line, refl)
-refusal_says (commands.project (projected written h)) e = absurd cc
-refusal_says (commands.project (not_projected {line = line} r)) e = inl (line, refl)
-refusal_says (commands.load (loaded r h)) e = absurd (never_refused (stands_in r.program r.last) e)
-refusal_says (commands.load (not_loaded {line = line} r)) e = inl (line, refl)
-refusal_says (commands.verify (verified h)) e = absurd cc
-refusal_says (commands.verify (not_verified {line = line} r)) e = inl (line, refl)
+gives_says (translated t) e = absurd cc
+gives_says (conforms local list o l c) e = answer_says c e
+gives_says (checked core a r) e = absurd cc
+gives_says (compiled written h) e = absurd cc
+gives_says (ran r h) e = absurd (never_refused (stands_in r.program r.last) e)
+gives_says (executed r h) e = absurd (never_refused (stands_in r.program r.last) e)
+gives_says (refined {text = text} {stands = stands} h) e = told_says h.a h.b text stands h.tells e
+gives_says (projected written h) e = absurd cc
+gives_says (loaded r h) e = absurd (never_refused (stands_in r.program r.last) e)
+gives_says (verified h) e = absurd cc
+
+pub refusal_says : {command : Command} {contents : List (List ℕ)} {actions : List Action} {status : Status} →
+    Yields command contents actions status → status ≡ statuses.Refused → SaysRefusal actions
+refusal_says (gives y) e = gives_says y e
+refusal_says {command = command} (refused {r = r} h) e = inl (refusal_line (judged_names command) r, refl)
 
 -- ---- no command is broken but that of class files
 
@@ -353,34 +288,27 @@ told_whole : (stands : Bool) → refined_status stands ≢ statuses.Broken
 told_whole true e = cc
 told_whole false e = cc
 
-pub broken_command : {command : Command} {contents : List (List ℕ)} {actions : List Action} {status : Status} →
-    Yields command contents actions status →
-    status ≡ statuses.Broken → (asked : Asked) × (files : List Word) × (command ≡ Exec asked files)
-broken_command (commands.translate (translated t)) e = absurd cc
-broken_command (commands.translate (not_translated r)) e = absurd cc
-broken_command (commands.conform (conforms local list o l c)) e = absurd (answer_whole c e)
-broken_command (commands.conform (no_protocol r)) e = absurd cc
-broken_command (commands.conform (no_calls local o r)) e = absurd cc
-broken_command (commands.check (checked core a r)) e = absurd cc
-broken_command (commands.check (not_checked r)) e = absurd cc
-broken_command (commands.compile (compiled written h)) e = absurd cc
-broken_command (commands.compile (not_compiled r)) e = absurd cc
-broken_command (commands.run {asked = asked} {files = files} {contents = contents} (ran r h)) e =
+gives_whole : {command : Command} {contents : List (List ℕ)} {actions : List Action} {status : Status} →
+    Gives command contents actions status → status ≡ statuses.Broken → (asked : Asked) × (files : List Word) × (command ≡ Exec asked files)
+gives_whole (translated t) e = absurd cc
+gives_whole (conforms local list o l c) e = absurd (answer_whole c e)
+gives_whole (checked core a r) e = absurd cc
+gives_whole (compiled written h) e = absurd cc
+gives_whole {contents = contents} (ran {asked = asked} {files = files} r h) e =
     let all : List Stand = stands_in r.program r.last in
-    absurd (tests_whole (list_any is_bound all) (list_any is_broken all) (list_any is_zero all) (list_any is_mismatch all)
-    (list_any is_waiting all)
+    absurd (tests_whole (list_any is_bound all) (list_any is_broken all) (list_any is_zero all) (list_any is_mismatch all) (list_any is_waiting all)
     (none_broken (sources files contents) (role_mains_of asked) (order_of asked) (limit_of asked) r h) e)
-broken_command (commands.run (not_run r)) e = absurd cc
-broken_command (commands.refine (refined {stands = stands} h)) e = absurd (told_whole stands e)
-broken_command (commands.refine (not_refined r)) e = absurd cc
-broken_command (commands.project (projected written h)) e = absurd cc
-broken_command (commands.project (not_projected r)) e = absurd cc
-broken_command (commands.load {branches = n} {seed = seed} (loaded r h)) e =
+gives_whole (refined {stands = stands} h) e = absurd (told_whole stands e)
+gives_whole (projected written h) e = absurd cc
+gives_whole (loaded {branches = n} {seed = seed} r h) e =
     let all : List Stand = stands_in r.program r.last in
     absurd (tests_whole (list_any is_bound all) (list_any is_broken all) (list_any is_zero all) (list_any is_mismatch all)
     (list_any is_waiting all)
     (none_broken (load_sources n seed) (role_mains_of load_asked) (order_of load_asked) (limit_of load_asked) r h) e)
-broken_command (commands.load (not_loaded r)) e = absurd cc
-broken_command (commands.verify (verified h)) e = absurd cc
-broken_command (commands.verify (not_verified r)) e = absurd cc
-broken_command (commands.exec {asked = asked} {files = files} y) e = (asked, files, refl)
+gives_whole (executed {asked = asked} {files = files} r h) e = (asked, files, refl)
+gives_whole (verified h) e = absurd cc
+
+pub broken_command : {command : Command} {contents : List (List ℕ)} {actions : List Action} {status : Status} →
+    Yields command contents actions status → status ≡ statuses.Broken → (asked : Asked) × (files : List Word) × (command ≡ Exec asked files)
+broken_command (gives y) e = gives_whole y e
+broken_command (refused r) e = absurd cc

@@ -1,7 +1,5 @@
 -- What the command of class files answers.
-use Rattle.std.proofs.Common.{◌≡◌, ℕ, Bool, map, List, [], ◌∷◌, ◌++◌, sym, ap, subst}
-use Rattle.std.specs.Prelude.{IfOk, Result}
-use Rattle.mg_text.specs.declared.memory.Memory.{Memory}
+use Rattle.std.proofs.Common.{◌≡◌, ℕ, Bool, map, List, [], ◌∷◌, ◌++◌, sym, ap, ◌∙◌, subst}
 use Rattle.vm_world_law.specs.declared.role.RoleMain.{RoleMain}
 use Rattle.vm_world_law.specs.declared.stand.Stand.{Stand}
 use Rattle.vm_world_law.specs.Turns.{stands_in}
@@ -16,9 +14,8 @@ use Rattle.mg_top.specs.declared.status.Status.{Status}
 use Rattle.mg_top.specs.declared.delivery.Action.{Action}
 use Rattle.mg_top.specs.declared.delivery.Action.TheVariants.{Say}
 use Rattle.mg_top.specs.declared.delivery.Delivery.{Delivery}
-use Rattle.mg_top.specs.Commands.{Yields, prints, role_mains_of, exec_said, exec_printed, status_of, executed}
-use Rattle.mg_top.specs.Commands as commands
-use Rattle.mg_top.proofs.CommandLemmas.{gives}
+use Rattle.mg_top.specs.Commands.{prints, role_mains_of, exec_said, exec_printed, status_of, Gives, executed}
+use Rattle.mg_top.proofs.CommandLemmas.{gives_so}
 
 -- what is done about a run of class files, by what it shows
 abbrev shown_so : (text trace : List ℕ) → (names : List Word) (counts : List ℕ) → List Stand → List Action
@@ -45,19 +42,17 @@ exec_asked asked files mains order limit named shown m o l n h =
 
 -- what a run printed, its trace and the lines of its roles
 pub exec_given : (asked : Asked) (files : List Word) (contents : List (List ℕ)) (mains : List RoleMain) (order : List ℕ) (limit : ℕ)
-    (named : Bool)
-    (shown : Ran) (r : Result Delivery Memory) → mains ≡ role_mains_of asked → order ≡ order_of asked → limit ≡ limit_of asked
-    → named ≡ are_named asked → IsOfRun (sources files contents) mains order limit named asked.traced shown
-    → IfOk r (λ d. d.actions.items ≡ shown_so shown.printed shown.trace (names_of mains)
-    (map (λ r. r.instructions) shown.roles.items) (map (λ r. r.stand) shown.roles.items))
-    → IfOk r (λ d. d.status ≡ status_of (map (λ r. r.stand) shown.roles.items)) →
-    IfOk r (λ d. Yields (Exec asked files) contents d.actions.items d.status)
-exec_given asked files contents mains order limit named shown r m o l n given actions status =
+    (named : Bool) (shown : Ran) (d : Delivery) → mains ≡ role_mains_of asked → order ≡ order_of asked → limit ≡ limit_of asked →
+    named ≡ are_named asked → IsOfRun (sources files contents) mains order limit named asked.traced shown →
+    d.actions.items ≡ shown_so shown.printed shown.trace (names_of mains)
+    (map (λ r. r.instructions) shown.roles.items) (map (λ r. r.stand) shown.roles.items) →
+    d.status ≡ status_of (map (λ r. r.stand) shown.roles.items) → Gives (Exec asked files) contents d.actions.items d.status
+exec_given asked files contents mains order limit named shown d m o l n given actions status =
     let h : IsOfRun (sources files contents) (role_mains_of asked) (order_of asked) (limit_of asked) (are_named asked) asked.traced shown =
     exec_asked asked (sources files contents) mains order limit named shown m o l n given in
-    gives (Exec asked files) contents (shown_by asked shown) (status_of (map (λ r. r.stand) shown.roles.items)) r
-    (subst (λ (z : List RoleMain). IfOk r (λ d. d.actions.items ≡ shown_so shown.printed shown.trace (names_of z)
-    (map (λ r. r.instructions) shown.roles.items) (map (λ r. r.stand) shown.roles.items))) m actions) status
-    (subst (λ (z : Status). Yields (Exec asked files) contents (shown_by asked shown) z) (ap status_of (sym h.shows.stands))
-    (subst (λ (z : List Action). Yields (Exec asked files) contents z (status_of (stands_in h.run.program h.run.last)))
-    (sym (shown_same asked h.run shown h.shows)) (commands.exec (executed h.run h.is))))
+    gives_so (Exec asked files) contents (shown_by asked shown) (status_of (map (λ r. r.stand) shown.roles.items)) d
+    (actions ∙ ap (λ (z : List RoleMain). shown_so shown.printed shown.trace (names_of z)
+    (map (λ r. r.instructions) shown.roles.items) (map (λ r. r.stand) shown.roles.items)) m) status
+    (subst (λ (z : Status). Gives (Exec asked files) contents (shown_by asked shown) z) (ap status_of (sym h.shows.stands))
+    (subst (λ (z : List Action). Gives (Exec asked files) contents z (status_of (stands_in h.run.program h.run.last)))
+    (sym (shown_same asked h.run shown h.shows)) (executed h.run h.is)))

@@ -1,32 +1,30 @@
 -- What the command of a workload answers.
-use Rattle.std.proofs.Common.{◌≡◌, ◌∙◌, ◌<◌, ◌^◌, ℕ, zero, suc, Bool, true, false, map, List, [], ◌∷◌, ◌++◌, length, get_or, slice_get, All}
-use Rattle.std.proofs.Common.{Contains, Some, None, codes, refl, sym, ap, subst, arith}
-use Rattle.std.specs.Prelude.{IfOk, Result}
+use Rattle.std.proofs.Common.{◌≡◌, ◌∙◌, ◌<◌, ◌^◌, ℕ, zero, suc, true, false, map, List, [], ◌∷◌, ◌++◌, length, get_or, slice_get}
+use Rattle.std.proofs.Common.{Contains, Some, codes, refl, sym, ap, subst, arith}
 use Rattle.std.specs.List.{IsDistinct}
 use Rattle.std.specs.Str.{bytes_eq}
 use Rattle.std.proofs.lemmas.Map.Keys.{IsDistinct-from_apart}
-use Rattle.mg_text.specs.declared.memory.Memory.{Memory}
+use Rattle.mg_refusal.specs.Refusals.{Refusal}
 use Rattle.vm_world_law.specs.declared.role.RoleMain.{RoleMain}
 use Rattle.vm_world_law.specs.declared.stand.Stand.{Stand}
 use Rattle.vm_world_law.specs.Turns.{stands_in}
-use Rattle.mg_sources.specs.Files.{Source, sources, Kind, Scribble, Java, suffix_of, EndsWith, HaveKinds}
+use Rattle.mg_sources.specs.Files.{sources, Kind, Scribble, Java, suffix_of, EndsWith, HaveKinds}
 use Rattle.mg_load.specs.Workload.{file_names, file_texts, loaded_line}
 use Rattle.mg_runs.specs.Lines.{role_lines}
 use Rattle.mg_runs.specs.Runs.{names_of, messages_in}
 use Rattle.mg_runs.specs.declared.ran.Ran.{Ran}
 use Rattle.mg_runs.specs.Headline.{Course}
-use Rattle.mg_runs.specs.Commanded.{Refusal}
+use Rattle.mg_runs.specs.Commanded.{FirstRefusal}
 use Rattle.mg_runs.specs.View.{Shows, IsOfRun}
 use Rattle.mg_words.specs.Words.{Word, limit_of, order_of, Load}
 use Rattle.mg_words.proofs.WordsLemmas.{All-cons, All-one}
 use Rattle.mg_top.specs.declared.status.Status.{Status}
-use Rattle.mg_top.specs.declared.status.Status.TheVariants.{Refused}
 use Rattle.mg_top.specs.declared.delivery.Action.{Action}
 use Rattle.mg_top.specs.declared.delivery.Action.TheVariants.{Print, Say}
 use Rattle.mg_top.specs.declared.delivery.Delivery.{Delivery}
-use Rattle.mg_top.specs.Commands.{Yields, role_mains_of, run_said, run_printed, status_of, load_asked, load_sources, loaded, not_loaded}
+use Rattle.mg_top.specs.Commands.{role_mains_of, run_said, run_printed, status_of, load_asked, load_sources, Gives, loaded, IsRefused}
 use Rattle.mg_top.specs.Commands as commands
-use Rattle.mg_top.proofs.CommandLemmas.{gives}
+use Rattle.mg_top.proofs.CommandLemmas.{gives_so}
 
 -- ---- its files and roles are those of a run
 
@@ -116,28 +114,27 @@ run_loaded n seed names contents mains order shown e f m o h =
 
 -- what it printed and how large it was, and the lines of its roles
 pub load_given : (n seed : ℕ) (read : List (List ℕ)) (names contents : List (List ℕ)) (mains : List RoleMain) (order : List ℕ) (shown : Ran)
-    (r : Result Delivery Memory) → names ≡ file_names → contents ≡ file_texts n seed → mains ≡ role_mains_of load_asked →
+    (d : Delivery) → names ≡ file_names → contents ≡ file_texts n seed → mains ≡ role_mains_of load_asked →
     order ≡ order_of load_asked → IsOfRun (sources names contents) mains order 20000000 true false shown →
-    IfOk r (λ d. d.actions.items ≡ shown_so n seed shown.printed shown.messages shown.trace (names_of mains)
-    (map (λ r. r.instructions) shown.roles.items) (map (λ r. r.stand) shown.roles.items)) →
-    IfOk r (λ d. d.status ≡ status_of (map (λ r. r.stand) shown.roles.items)) →
-    IfOk r (λ d. Yields (Load n seed) read d.actions.items d.status)
-load_given n seed read names contents mains order shown r e f m o given actions status =
+    d.actions.items ≡ shown_so n seed shown.printed shown.messages shown.trace (names_of mains)
+    (map (λ r. r.instructions) shown.roles.items) (map (λ r. r.stand) shown.roles.items) →
+    d.status ≡ status_of (map (λ r. r.stand) shown.roles.items) → Gives (Load n seed) read d.actions.items d.status
+load_given n seed read names contents mains order shown d e f m o given actions status =
     let h : IsOfRun (load_sources n seed) (role_mains_of load_asked) (order_of load_asked) (limit_of load_asked) true false shown =
     run_loaded n seed names contents mains order shown e f m o given in
-    gives (Load n seed) read (shown_by n seed shown) (status_of (map (λ r. r.stand) shown.roles.items)) r
-    (subst (λ (z : List RoleMain). IfOk r (λ d. d.actions.items ≡ shown_so n seed shown.printed shown.messages shown.trace (names_of z)
-    (map (λ r. r.instructions) shown.roles.items) (map (λ r. r.stand) shown.roles.items))) m actions) status
-    (subst (λ (z : Status). Yields (Load n seed) read (shown_by n seed shown) z) (ap status_of (sym h.shows.stands))
-    (subst (λ (z : List Action). Yields (Load n seed) read z (status_of (stands_in h.run.program h.run.last)))
-    (sym (shown_same n seed h.run shown h.shows)) (commands.load (loaded h.run h.is))))
+    gives_so (Load n seed) read (shown_by n seed shown) (status_of (map (λ r. r.stand) shown.roles.items)) d
+    (actions ∙ ap (λ (z : List RoleMain). shown_so n seed shown.printed shown.messages shown.trace (names_of z)
+    (map (λ r. r.instructions) shown.roles.items) (map (λ r. r.stand) shown.roles.items)) m) status
+    (subst (λ (z : Status). Gives (Load n seed) read (shown_by n seed shown) z) (ap status_of (sym h.shows.stands))
+    (subst (λ (z : List Action). Gives (Load n seed) read z (status_of (stands_in h.run.program h.run.last)))
+    (sym (shown_same n seed h.run shown h.shows)) (loaded h.run h.is)))
 
--- the line of its refusal
-pub refusal_given : (n seed : ℕ) (read : List (List ℕ)) (names contents : List (List ℕ)) (mains : List RoleMain) (line : List ℕ) →
-    names ≡ file_names → contents ≡ file_texts n seed → mains ≡ role_mains_of load_asked → Refusal (sources names contents) mains line →
-    Yields (Load n seed) read (Say line ∷ []) Refused
-refusal_given n seed read names contents mains line e f m h =
-    commands.load (not_loaded
-    (subst (λ (z : List RoleMain). Refusal (load_sources n seed) z line) m
-    (subst (λ (z : List (List ℕ)). Refusal (sources file_names z) mains line) f
-    (subst (λ (z : List Word). Refusal (sources z contents) mains line) e h))))
+-- its refusal
+pub refusal_given : (n seed : ℕ) (read : List (List ℕ)) (names contents : List (List ℕ)) (mains : List RoleMain) (r : Refusal) →
+    names ≡ file_names → contents ≡ file_texts n seed → mains ≡ role_mains_of load_asked → FirstRefusal (sources names contents) mains r →
+    IsRefused (Load n seed) read r
+refusal_given n seed read names contents mains r e f m h =
+    commands.load
+    (subst (λ (z : List RoleMain). FirstRefusal (load_sources n seed) z r) m
+    (subst (λ (z : List (List ℕ)). FirstRefusal (sources file_names z) mains r) f
+    (subst (λ (z : List Word). FirstRefusal (sources z contents) mains r) e h)))

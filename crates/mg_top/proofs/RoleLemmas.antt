@@ -10,12 +10,7 @@ use Rattle.mg_words.specs.declared.asked.RoleClass.{RoleClass as KeptRole}
 use Rattle.mg_words.specs.Words.{Word, RoleClass, Asked, mains_of, order_of, role_names}
 use Rattle.mg_words.specs.inner.Judging.{role_classes_of}
 use Rattle.vm_world_law.specs.declared.role.RoleMain.{RoleMain}
-use Rattle.mg_words.specs.Words.{Run}
-use Rattle.mg_sources.specs.Files.{sources}
-use Rattle.mg_runs.specs.Commanded.{Refusal}
-use Rattle.mg_top.specs.declared.status.Status.TheVariants.{Refused}
-use Rattle.mg_top.specs.declared.delivery.Action.TheVariants.{Say}
-use Rattle.mg_top.specs.Commands.{Yields, run, not_run, role_main_of, role_mains_of}
+use Rattle.mg_top.specs.Commands.{role_main_of, role_mains_of}
 
 -- a role, copied
 abbrev pub copied : KeptRole → RoleMain
@@ -71,10 +66,3 @@ pub each_numbered : (mains : List RoleMain) (asked : Asked) (order : List ℕ) �
     → ((n : ℕ) → n < length (mains_of asked) → Contains (order_of asked) n) → (r : ℕ) → r < length mains → Contains order r
 each_numbered mains asked order e o each r less =
     subst (λ (z : List ℕ). Contains z r) (sym o) (each r (subst (λ (n : ℕ). r < n) (as_many mains asked e) less))
-
--- the line of a refusal of these roles
-pub refusal_given : (asked : Asked) (names : List Word) (contents : List (List ℕ)) (mains : List RoleMain) (line : List ℕ) →
-    mains ≡ role_mains_of asked
-    → Refusal (sources names contents) mains line → Yields (Run asked names) contents (Say line ∷ []) Refused
-refusal_given asked names contents mains line e h =
-    run (not_run (subst (λ (z : List RoleMain). Refusal (sources names contents) z line) e h))

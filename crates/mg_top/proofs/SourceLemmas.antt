@@ -9,12 +9,10 @@ use Rattle.mg_top.specs.declared.delivery.Action.{Action}
 use Rattle.mg_top.specs.declared.delivery.Action.TheVariants as acts
 use Rattle.mg_words.specs.Words.{Word, IsFileOf}
 use Rattle.mg_sources.specs.Files.{Source, Scribble, source_of, sources_from, HaveKinds}
-use Rattle.mg_sources.specs.Reading.{Part, Protocol, States, Classes}
-use Rattle.mg_sources.specs.Sources.{IsRefused}
-use Rattle.mg_sources.specs.Parts.{EachSpells, part_of}
+use Rattle.mg_sources.specs.Reading.{Part, Protocol, States, Classes, EachSpells, Refuses}
+use Rattle.mg_sources.specs.Parts.{part_of}
 use Rattle.mg_sources.specs.declared.part.Part.{Part as KeptPart}
-use Rattle.mg_sources.proofs.OneKind.{no_states, no_classes}
-use Rattle.mg_sources.proofs.PartLemmas.{not_refused}
+use Rattle.mg_sources.proofs.OneKind.{no_states, no_classes, excludes}
 use Rattle.mg_top.specs.Files.{Output}
 use Rattle.mg_top.specs.Translation.{IsTypestateFile, IsTranslation, api_written, EachTranslates, none, one}
 use Rattle.mg_text.specs.declared.memory.Memory.{Memory}
@@ -26,9 +24,9 @@ use Rattle.mg_top.specs.inner.Preparing as preparing
 
 -- files that are translated aren't refused
 pub none_refused_of_translated : {folder : Option Word} {files : List Source} {actions : List Action} → EachTranslates folder files actions
-    → Judged IsRefused files None
+    → Judged Refuses files None
 none_refused_of_translated none = clean
-none_refused_of_translated (one {source = f} t rest) = later (λ line. not_refused f (Protocol t.local) line t.spelled)
+none_refused_of_translated (one {source = f} t rest) = later (λ r. excludes f (Protocol t.local) r t.spelled)
     (none_refused_of_translated rest)
 
 -- names of local protocols tell of which kind they are

@@ -34,40 +34,19 @@ use Rattle.mg_top.specs.declared.delivery.Action.{Action}
 use Rattle.mg_top.specs.declared.delivery.Action.TheVariants.{Print, Say}
 use Rattle.mg_words.specs.Words.{Word, RoleClass, Asked, limit_of, mains_of, order_of, are_named, Command, Translate, Conform, Check}
 use Rattle.mg_words.specs.Words.{Compile, Run, Exec, Refine, Project, Load, Verify, Several}
+use Rattle.mg_refusal.specs.Refusals.{Refusal}
 use Rattle.mg_sources.specs.Files.{Source, source_of, sources}
 use Rattle.mg_sources.specs.Reading.{Protocol, Reads}
-use Rattle.mg_sources.specs.Sources.{IsRefused, Refusal}
+use Rattle.mg_sources.specs.Sources as reading
 use Rattle.mg_top.specs.Writing.{classes_written, roles_written}
 use Rattle.mg_top.specs.Translation.{AreTranslated}
-use Rattle.mg_top.specs.Conformance.{Lists, IsNoList, Conforms}
-
--- One case an outcome.
+use Rattle.mg_top.specs.Lines.{refusal_line}
+use Rattle.mg_top.specs.Conformance.{Lists, Conforms, ConformRefusal}
 
 -- an empty text isn't put
 abbrev pub prints : List ℕ → List Action
 prints [] = []
 prints (c ∷ cs) = Print (c ∷ cs) ∷ []
-
-pub data TranslateGives (folder : Option Word) (files : List Source) : List Action → Status → Type 0 where
-  translated : {writes : List Action} → AreTranslated folder files writes → TranslateGives folder files writes Done
-  not_translated : {line : List ℕ} → Refusal files line → TranslateGives folder files (Say line ∷ []) Refused
-
--- a file of a protocol, and one of calls
-pub data ConformGives (protocol calls : Source) : List Action → Status → Type 0 where
-  conforms : {text : List ℕ} {status : Status} (local : LocalTree) (list : List CallAt) → Reads protocol (Protocol local) → Lists calls list
-      →
-      Conforms local list text status → ConformGives protocol calls (Print text ∷ []) status
-  no_protocol : {line : List ℕ} → IsRefused protocol line → ConformGives protocol calls (Say line ∷ []) Refused
-  no_calls : {line : List ℕ} (local : LocalTree) → Reads protocol (Protocol local) → IsNoList calls line →
-      ConformGives protocol calls (Say line ∷ []) Refused
-
-pub data CheckGives (files : List Source) : List Action → Status → Type 0 where
-  checked : {text : List ℕ} (core : Core.Program) → AreAccepted files core → IsReport core text → CheckGives files (prints text) Done
-  not_checked : {line : List ℕ} → accepted.Refusal files line → CheckGives files (Say line ∷ []) Refused
-
-pub data CompileGives (folder : Option Word) (files : List Source) : List Action → Status → Type 0 where
-  compiled : (written : List ClassFile) → AreCompiled files written → CompileGives folder files (classes_written folder written) Done
-  not_compiled : {line : List ℕ} → compiling.Refusal files line → CompileGives folder files (Say line ∷ []) Refused
 
 -- the class files are written where a folder is named
 abbrev pub kept_in : Option Word → List ClassFile → List Action
@@ -101,12 +80,6 @@ status_of all =
     else if list_any is_waiting all then statuses.Waits
     else statuses.Done
 
-pub data RunGives (asked : Asked) (files : List Source) : List Action → Status → Type 0 where
-  ran : (r : Course) → IsRun files (role_mains_of asked) (order_of asked) (limit_of asked) r →
-      RunGives asked files (kept_in asked.folder r.written ++ (prints (run_printed asked r) ++ Say (run_said asked r) ∷ []))
-      (status_of (stands_in r.program r.last))
-  not_run : {line : List ℕ} → running.Refusal files (role_mains_of asked) line → RunGives asked files (Say line ∷ []) Refused
-
 -- the same of class files as they are: no types of methods are known, so that an answer is told as a number
 abbrev pub exec_said : Asked → executing.Course → List ℕ
 exec_said asked r =
@@ -115,11 +88,6 @@ exec_said asked r =
 
 abbrev pub exec_printed : Asked → executing.Course → List ℕ
 exec_printed asked r = printed (are_named asked) (names_of (role_mains_of asked)) r.last.events
-
-pub data ExecGives (asked : Asked) (files : List Source) : List Action → Status → Type 0 where
-  executed : (r : executing.Course) → executing.IsRun files (role_mains_of asked) (order_of asked) (limit_of asked) r →
-      ExecGives asked files (prints (exec_printed asked r) ++ Say (exec_said asked r) ∷ []) (status_of (stands_in r.program r.last))
-  not_executed : {line : List ℕ} → executing.Refusal files (role_mains_of asked) line → ExecGives asked files (Say line ∷ []) Refused
 
 -- what is asked for of a workload: the two roles of its classes take turns, up to 20,000,000 instructions
 abbrev pub load_asked : Asked
@@ -135,54 +103,83 @@ load_asked = record {
 abbrev pub load_sources : (branches seed : ℕ) → List Source
 load_sources branches seed = sources file_names (file_texts branches seed)
 
--- It is run as other files are; behind what is printed stands the line that tells how large it was.
-pub data LoadGives (branches seed : ℕ) : List Action → Status → Type 0 where
-  loaded : (r : Course) → IsRun (load_sources branches seed) (role_mains_of load_asked) (order_of load_asked) (limit_of load_asked) r →
-      LoadGives branches seed
-      (Print (run_printed load_asked r ++ loaded_line branches seed (messages_in r.last.events)) ∷ Say (run_said load_asked r) ∷ [])
-      (status_of (stands_in r.program r.last))
-  not_loaded : {line : List ℕ} → running.Refusal (load_sources branches seed) (role_mains_of load_asked) line →
-      LoadGives branches seed (Say line ∷ []) Refused
-
 -- the status of an answer
 abbrev pub refined_status : Bool → Status
 refined_status true = Done
 refined_status false = Refused
 
-pub data RefineGives (files : List Source) : List Action → Status → Type 0 where
-  refined : {text : List ℕ} {stands : Bool} → AreJudged files text stands → RefineGives files (Print text ∷ []) (refined_status stands)
-  not_refined : {line : List ℕ} → refining.Refusal files line → RefineGives files (Say line ∷ []) Refused
+-- What a command gives of files that aren't refused: one case a command.
+pub data Gives : Command → List (List ℕ) → List Action → Status → Type 0 where
+  translated : {folder : Option Word} {files : List Word} {contents : List (List ℕ)} {writes : List Action} →
+      AreTranslated folder (sources files contents) writes → Gives (Translate folder files) contents writes Done
+  -- a file of a protocol, and one of calls
+  conforms : {protocol calls : Word} {bytes listed text : List ℕ} {status : Status} (local : LocalTree) (list : List CallAt) →
+      Reads (source_of 0 protocol bytes) (Protocol local) → Lists (source_of 1 calls listed) list → Conforms local list text status →
+      Gives (Conform (protocol ∷ calls ∷ [])) (bytes ∷ listed ∷ []) (Print text ∷ []) status
+  checked : {files : List Word} {contents : List (List ℕ)} {text : List ℕ} (core : Core.Program) →
+      AreAccepted (sources files contents) core → IsReport core text → Gives (Check files) contents (prints text) Done
+  compiled : {folder : Option Word} {files : List Word} {contents : List (List ℕ)} (written : List ClassFile) →
+      AreCompiled (sources files contents) written → Gives (Compile folder files) contents (classes_written folder written) Done
+  ran : {asked : Asked} {files : List Word} {contents : List (List ℕ)} (r : Course) →
+      IsRun (sources files contents) (role_mains_of asked) (order_of asked) (limit_of asked) r →
+      Gives (Run asked files) contents (kept_in asked.folder r.written ++ (prints (run_printed asked r) ++ Say (run_said asked r) ∷ []))
+      (status_of (stands_in r.program r.last))
+  executed : {asked : Asked} {files : List Word} {contents : List (List ℕ)} (r : executing.Course) →
+      executing.IsRun (sources files contents) (role_mains_of asked) (order_of asked) (limit_of asked) r →
+      Gives (Exec asked files) contents (prints (exec_printed asked r) ++ Say (exec_said asked r) ∷ []) (status_of (stands_in r.program r.last))
+  refined : {files : List Word} {contents : List (List ℕ)} {text : List ℕ} {stands : Bool} → AreJudged (sources files contents) text stands →
+      Gives (Refine files) contents (Print text ∷ []) (refined_status stands)
+  -- the files of the roles of a global protocol: each has the text of its role's projection, of which the laws of projection speak
+  projected : {folder : Option Word} {files : List Word} {contents : List (List ℕ)} (written : List RoleFile) →
+      AreWritten (sources files contents) written → Gives (Project folder files) contents (roles_written folder written) Done
+  -- a workload is run as other files are; behind what is printed stands the line that tells how large it was
+  loaded : {branches seed : ℕ} {contents : List (List ℕ)} (r : Course) →
+      IsRun (load_sources branches seed) (role_mains_of load_asked) (order_of load_asked) (limit_of load_asked) r →
+      Gives (Load branches seed) contents
+      (Print (run_printed load_asked r ++ loaded_line branches seed (messages_in r.last.events)) ∷ Say (run_said load_asked r) ∷ [])
+      (status_of (stands_in r.program r.last))
+  -- how many methods class files have, where each has a typing
+  verified : {files : List Word} {contents : List (List ℕ)} {line : List ℕ} → AreVerified (sources files contents) line →
+      Gives (Verify files) contents (Print line ∷ []) Done
 
--- the files of the roles of a global protocol: each has the text of its role's projection, of which the laws of projection speak
-pub data ProjectGives (folder : Option Word) (files : List Source) : List Action → Status → Type 0 where
-  projected : (written : List RoleFile) → AreWritten files written → ProjectGives folder files (roles_written folder written) Done
-  not_projected : {line : List ℕ} → projecting.Refusal files line → ProjectGives folder files (Say line ∷ []) Refused
+-- The first refusal of a command's files: one case a command.
+pub data IsRefused : Command → List (List ℕ) → Refusal → Type 0 where
+  translate : {folder : Option Word} {files : List Word} {contents : List (List ℕ)} {r : Refusal} →
+      reading.FirstRefusal (sources files contents) r → IsRefused (Translate folder files) contents r
+  -- a file of a protocol, and then one of calls
+  conform : {protocol calls : Word} {bytes listed : List ℕ} {r : Refusal} →
+      ConformRefusal (source_of 0 protocol bytes) (source_of 1 calls listed) r → IsRefused (Conform (protocol ∷ calls ∷ [])) (bytes ∷ listed ∷ []) r
+  check : {files : List Word} {contents : List (List ℕ)} {r : Refusal} →
+      accepted.FirstRefusal (sources files contents) r → IsRefused (Check files) contents r
+  compile : {folder : Option Word} {files : List Word} {contents : List (List ℕ)} {r : Refusal} →
+      compiling.FirstRefusal (sources files contents) r → IsRefused (Compile folder files) contents r
+  run : {asked : Asked} {files : List Word} {contents : List (List ℕ)} {r : Refusal} →
+      running.FirstRefusal (sources files contents) (role_mains_of asked) r → IsRefused (Run asked files) contents r
+  exec : {asked : Asked} {files : List Word} {contents : List (List ℕ)} {r : Refusal} →
+      executing.FirstRefusal (sources files contents) (role_mains_of asked) r → IsRefused (Exec asked files) contents r
+  refine : {files : List Word} {contents : List (List ℕ)} {r : Refusal} →
+      refining.FirstRefusal (sources files contents) r → IsRefused (Refine files) contents r
+  project : {folder : Option Word} {files : List Word} {contents : List (List ℕ)} {r : Refusal} →
+      projecting.FirstRefusal (sources files contents) r → IsRefused (Project folder files) contents r
+  load : {branches seed : ℕ} {contents : List (List ℕ)} {r : Refusal} →
+      running.FirstRefusal (load_sources branches seed) (role_mains_of load_asked) r → IsRefused (Load branches seed) contents r
+  verify : {files : List Word} {contents : List (List ℕ)} {r : Refusal} →
+      verifying.FirstRefusal (sources files contents) r → IsRefused (Verify files) contents r
 
--- how many methods class files have, where each has a typing
-pub data VerifyGives (files : List Source) : List Action → Status → Type 0 where
-  verified : {line : List ℕ} → AreVerified files line → VerifyGives files (Print line ∷ []) Done
-  not_verified : {line : List ℕ} → verifying.Refusal files line → VerifyGives files (Say line ∷ []) Refused
+-- the names of the files that a command judges
+abbrev pub judged_names : Command → List Word
+judged_names (Translate folder files) = files
+judged_names (Conform files) = files
+judged_names (Check files) = files
+judged_names (Compile folder files) = files
+judged_names (Run asked files) = files
+judged_names (Exec asked files) = files
+judged_names (Refine files) = files
+judged_names (Project folder files) = files
+judged_names (Load branches seed) = file_names
+judged_names (Verify files) = files
 
--- A command gives this: one case a command.
-pub data Yields : Command → List (List ℕ) → List Action → Status → Type 0 where
-  translate : {folder : Option Word} {files : List Word} {contents : List (List ℕ)} {actions : List Action} {status : Status} →
-      TranslateGives folder (sources files contents) actions status → Yields (Translate folder files) contents actions status
-  conform : {protocol calls : Word} {bytes listed : List ℕ} {actions : List Action} {status : Status} →
-      ConformGives (source_of 0 protocol bytes) (source_of 1 calls listed) actions status →
-      Yields (Conform (protocol ∷ calls ∷ [])) (bytes ∷ listed ∷ []) actions status
-  check : {files : List Word} {contents : List (List ℕ)} {actions : List Action} {status : Status} →
-      CheckGives (sources files contents) actions status → Yields (Check files) contents actions status
-  compile : {folder : Option Word} {files : List Word} {contents : List (List ℕ)} {actions : List Action} {status : Status} →
-      CompileGives folder (sources files contents) actions status → Yields (Compile folder files) contents actions status
-  run : {asked : Asked} {files : List Word} {contents : List (List ℕ)} {actions : List Action} {status : Status} →
-      RunGives asked (sources files contents) actions status → Yields (Run asked files) contents actions status
-  exec : {asked : Asked} {files : List Word} {contents : List (List ℕ)} {actions : List Action} {status : Status} →
-      ExecGives asked (sources files contents) actions status → Yields (Exec asked files) contents actions status
-  refine : {files : List Word} {contents : List (List ℕ)} {actions : List Action} {status : Status} →
-      RefineGives (sources files contents) actions status → Yields (Refine files) contents actions status
-  project : {folder : Option Word} {files : List Word} {contents : List (List ℕ)} {actions : List Action} {status : Status} →
-      ProjectGives folder (sources files contents) actions status → Yields (Project folder files) contents actions status
-  load : {branches seed : ℕ} {contents : List (List ℕ)} {actions : List Action} {status : Status} →
-      LoadGives branches seed actions status → Yields (Load branches seed) contents actions status
-  verify : {files : List Word} {contents : List (List ℕ)} {actions : List Action} {status : Status} →
-      VerifyGives (sources files contents) actions status → Yields (Verify files) contents actions status
+-- A command gives this, or says the line of the first refusal of its files.
+pub data Yields (command : Command) (contents : List (List ℕ)) : List Action → Status → Type 0 where
+  gives : {actions : List Action} {status : Status} → Gives command contents actions status → Yields command contents actions status
+  refused : {r : Refusal} → IsRefused command contents r → Yields command contents (Say (refusal_line (judged_names command) r) ∷ []) Refused

@@ -10,7 +10,9 @@ use Rattle.mg_calls.specs.Calls.{CallAt, AreCalls, IsFirstBad}
 use Rattle.mg_top.specs.declared.status.Status.{Status}
 use Rattle.mg_top.specs.declared.status.Status.TheVariants.{Done, Refused}
 use Rattle.mg_sources.specs.Files.{Source}
-use Rattle.mg_sources.specs.Faults.{fault_line}
+use Rattle.mg_sources.specs.Reading.{Protocol, Reads, Refuses}
+use Rattle.mg_refusal.specs.Refusals.{Refusal, refusal_at, in_file}
+use Rattle.mg_refusal.specs.Order.{Then}
 use Rattle.mg_top.specs.Lines.{ended, not_offered_line}
 
 -- the calls, without the numbers of their lines
@@ -34,8 +36,12 @@ pub record Lists (source : Source) (calls : List CallAt) : Type 0 where
   pub listed : AreCalls source.bytes calls
 
 -- the file of calls is refused: it is too large, or a line of it is bad, and the first bad line is named
-pub data IsNoList (source : Source) : List ℕ → Type 0 where
-  too_large : 1048576 < length source.bytes →
-      IsNoList source (fault_line source.name (record { kind = codes "TooLarge"; place = start_of source.number; name = [] }))
+pub data IsNoList (source : Source) (r : Refusal) : Type 0 where
+  too_large : 1048576 < length source.bytes → r ≡ in_file source.number (refusal_at (codes "TooLarge") (start_of source.number) []) →
+      IsNoList source r
   bad_line : (place : Place) → length source.bytes ≤ 1048576 → IsFirstBad source.number source.bytes place →
-      IsNoList source (fault_line source.name (record { kind = codes "BadLine"; place = place; name = [] }))
+      r ≡ in_file source.number (refusal_at (codes "BadLine") place []) → IsNoList source r
+
+-- The first refusal of a file of a protocol and one of calls.
+abbrev pub ConformRefusal : Source → Source → Refusal → Type 0
+ConformRefusal protocol calls = Then (Refuses protocol) (λ local. Reads protocol (Protocol local)) (λ local. IsNoList calls)

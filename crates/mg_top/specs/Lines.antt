@@ -1,6 +1,10 @@
--- The lines that are said of words, files and memory.
-use Rattle.std.specs.Prelude.{ℕ, List, [], ◌∷◌, ◌++◌, Option, Some, None, codes}
+-- The lines that are said of words, refusals, files and memory.
+use Rattle.std.specs.Prelude.{ℕ, List, [], ◌∷◌, ◌++◌, Option, Some, None, codes, slice_get}
 use Rattle.std.specs.Fmt.{decimal}
+use Rattle.mg_text.specs.Call.{Name}
+use Rattle.mg_refusal.specs.Refusals.{Refusal}
+use Rattle.mg_refusal.specs.declared.refusal.Spot.{Spot}
+use Rattle.mg_refusal.specs.declared.refusal.Spot.TheVariants as spots
 use Rattle.mg_words.specs.Words.{Word}
 
 abbrev pub ended : List ℕ → List ℕ
@@ -13,6 +17,24 @@ wrong_word None = []
 
 abbrev pub words_line : Option Word → List ℕ
 words_line word = ended (codes "mungo: words" ++ wrong_word word)
+
+-- the name of the file of a number
+abbrev pub name_at : List Word → ℕ → Word
+name_at names file = elim (slice_get names file) [ None ↦ [] | Some name ↦ name ]
+
+-- where a refusal of the files of these names stands: a file with line and column, or with an offset; else the program itself
+abbrev pub spot_text : List Word → Spot → List ℕ
+spot_text names spots.Nowhere = codes "mungo"
+spot_text names (spots.Text place) = name_at names place.file ++ codes ":" ++ decimal place.line ++ codes ":" ++ decimal place.column
+spot_text names (spots.Bytes file offset) = name_at names file ++ codes ":" ++ decimal offset
+
+-- behind a refusal stand a blank and what is named, if anything is
+abbrev pub named_text : Option Name → List ℕ
+named_text (Some name) = codes " " ++ name
+named_text None = []
+
+abbrev pub refusal_line : List Word → Refusal → List ℕ
+refusal_line names r = ended (spot_text names r.spot ++ codes ": " ++ r.kind ++ named_text r.name)
 
 abbrev pub read_line : Word → List ℕ
 read_line file = ended (codes "mungo: read " ++ file)

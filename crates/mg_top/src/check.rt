@@ -5,29 +5,27 @@ ghost use Rattle.jv_core.specs.Core.{tree_of};
 ghost use Rattle.use_check.specs.Verdict.{AreAnswer};
 ghost use Rattle.mg_sources.specs.Files.{HaveKinds};
 ghost use Rattle.mg_words.specs.Words.{Check};
-ghost use Rattle.mg_top.specs.Commands.{Yields, prints};
-ghost use Rattle.mg_top.specs.inner.Preparing.{IsReported};
+ghost use Rattle.mg_top.specs.Commands.{prints};
+ghost use Rattle.mg_top.specs.inner.Preparing.{IsCarried, IsReported};
 
 use crate::Status;
 use crate::delivery::{Action, Delivery};
 use mg_accepted::{AcceptedProgram, accept};
-use mg_sources::Stop;
+use mg_refusal::Stop;
 use mg_text::{Bytes, List, Memory, Text};
 use std::alloc::Global;
 use use_check::report;
 
 /// The report of the program that the files are, or the first refusal.
-pub fn check(alloc: Global, names: &[Text], contents: &[Bytes]) -> Result<Delivery, Memory>
+pub fn check(alloc: Global, names: &[Text], contents: &[Bytes]) -> Result<Delivery, Stop>
     requires same { length names.now ≡ length contents.now }
     requires count { length contents.now < 2 ^ 32 }
     requires kinds { HaveKinds names.now }
-    ensures { IfOk result (λ d. Yields (Check names.now) contents.now d.actions.items d.status) }
+    ensures { IsCarried (Check names.now) contents.now result }
 {
-    match accept(alloc, names, contents) {
-        Ok(program) => show(alloc, &program),
-        Err(Stop::Refused(line)) => Delivery::said(alloc, line, Status::Refused),
-        Err(Stop::Memory) => Err(Memory),
-    }
+    let program = accept(alloc, names, contents)?;
+    let delivery = show(alloc, &program)?;
+    Ok(delivery)
 }
 
 // The report of an accepted program on standard output.

@@ -4,13 +4,13 @@ ghost use Rattle.std.specs.Prelude.{◌≡◌, ◌<◌, ◌^◌, ◌++◌, lengt
 ghost use Rattle.mg_sources.specs.Files.{HaveKinds};
 ghost use Rattle.mg_words.specs.Words.{Compile};
 ghost use Rattle.mg_top.specs.Writing.{classes_written};
-ghost use Rattle.mg_top.specs.Commands.{Yields};
+ghost use Rattle.mg_top.specs.inner.Preparing.{IsCarried};
 
 use crate::Status;
 use crate::delivery::{Action, Delivery};
 use crate::translate::file_in;
 use mg_compile::ClassFile;
-use mg_sources::Stop;
+use mg_refusal::Stop;
 use mg_text::{Bytes, List, Memory, Text};
 use std::alloc::Global;
 
@@ -20,18 +20,15 @@ pub fn compile(
     folder: Option<&Text>,
     names: &[Text],
     contents: &[Bytes],
-) -> Result<Delivery, Memory>
+) -> Result<Delivery, Stop>
     requires same { length names.now ≡ length contents.now }
     requires count { length contents.now < 2 ^ 32 }
     requires kinds { HaveKinds names.now }
-    ensures { IfOk result (λ d. Yields (Compile (option_map (λ f. f.now) folder.entry) names.now)
-        contents.now d.actions.items d.status) }
+    ensures { IsCarried (Compile (option_map (λ f. f.now) folder.entry) names.now) contents.now result }
 {
-    match mg_compile::compile(alloc, names, contents) {
-        Ok(files) => write_files(alloc, folder, files.as_slice()),
-        Err(Stop::Refused(line)) => Delivery::said(alloc, line, Status::Refused),
-        Err(Stop::Memory) => Err(Memory),
-    }
+    let files = mg_compile::compile(alloc, names, contents)?;
+    let delivery = write_files(alloc, folder, files.as_slice())?;
+    Ok(delivery)
 }
 
 // The writes of these class files.

@@ -5,52 +5,43 @@ ghost use Rattle.scr_tree.specs.Local.{tree_of};
 ghost use Rattle.mg_calls.specs.Answer.{call_of as call_at};
 ghost use Rattle.scr_trace.specs.Walking.{call_said};
 ghost use Rattle.mg_sources.specs.Files.{EndsWith};
-ghost use Rattle.mg_words.specs.Words.{Conform};
-ghost use Rattle.mg_top.specs.Commands.{Yields};
-ghost use Rattle.mg_top.specs.inner.Preparing.{IsAnswered, IsListRefusal};
+ghost use Rattle.mg_refusal.specs.Order.{IsStopOf};
+ghost use Rattle.mg_words.specs.Words.{Word, Conform};
+ghost use Rattle.mg_top.specs.inner.Preparing.{IsAnswered, IsCarried, calls_refusal};
 
 use crate::delivery::Delivery;
 use crate::{Status, lines};
 use mg_calls::{CallLine, CallsFault, read_calls};
-use mg_sources::{Stop, fault_line, read_protocol};
+use mg_refusal::Stop;
+use mg_sources::read_protocol;
 use mg_text::{Memory, Text};
 use scr_trace::{Call, StepFault, Walk};
 use scr_tree::Local;
 use std::alloc::Global;
 
 /// Whether the listed calls follow the protocol, or the first refusal.
-pub fn conform(
-    alloc: Global,
-    protocol: &Text,
-    calls: &Text,
-    bytes: &[u8],
-    listed: &[u8],
-) -> Result<Delivery, Memory>
-    requires { EndsWith (codes ".scr") protocol.now }
-    ensures { IfOk result (λ d. Yields (Conform (protocol.now ∷ calls.now ∷ []))
-        (bytes.now ∷ listed.now ∷ []) d.actions.items d.status) }
+pub fn conform(alloc: Global, bytes: &[u8], listed: &[u8]) -> Result<Delivery, Stop>
+    ensures { (protocol calls : Word) → EndsWith (codes ".scr") protocol
+        → IsCarried (Conform (protocol ∷ calls ∷ [])) (bytes.now ∷ listed.now ∷ []) result }
 {
-    let local = match read_protocol(alloc, 0, protocol, bytes) {
-        Ok(local) => local,
-        Err(Stop::Refused(line)) => return Delivery::said(alloc, line, Status::Refused),
-        Err(Stop::Memory) => return Err(Memory),
+    let local = read_protocol(alloc, 0, bytes)?;
+    let list = match read_calls(alloc, 1, listed) {
+        Ok(list) => list,
+        Err(fault) => return Err(stop_of(fault).in_file(1)),
     };
-    match read_calls(alloc, 1, listed) {
-        Ok(list) => follow(alloc, &local, list.as_slice()),
-        Err(fault) => refuse(alloc, calls, fault),
-    }
+    let delivery = follow(alloc, &local, list.as_slice())?;
+    Ok(delivery)
 }
 
-// The line of a fault of the file of calls.
-fn refuse(alloc: Global, name: &Text, fault: CallsFault) -> Result<Delivery, Memory>
-    ensures { IfOk result (λ d. IsListRefusal name.now fault d.actions.items d.status) }
+// The refusal of the file of calls. Want of memory stays that.
+fn stop_of(fault: CallsFault) -> Stop
+    ensures { IsStopOf (λ wanted r. r ≡ wanted) (calls_refusal fault) result }
 {
-    let line = match fault {
-        CallsFault::TooLarge { place } => fault_line(alloc, name.as_str(), place, "TooLarge", "")?,
-        CallsFault::BadLine { place } => fault_line(alloc, name.as_str(), place, "BadLine", "")?,
-        CallsFault::Memory => return Err(Memory),
-    };
-    Delivery::said(alloc, line, Status::Refused)
+    match fault {
+        CallsFault::TooLarge { place } => Stop::at("TooLarge", place),
+        CallsFault::BadLine { place } => Stop::at("BadLine", place),
+        CallsFault::Memory => Stop::Memory,
+    }
 }
 
 // Walks along the protocol, call by call, up to the first that isn't offered.

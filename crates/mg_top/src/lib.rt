@@ -20,6 +20,7 @@ mod top;
 mod translate;
 mod verify;
 
+pub use lines::refused;
 pub use status::Status;
 pub use top::mungo;
 

@@ -1,19 +1,19 @@
 //! The command `load`: a workload of any size is run by its two roles. Its files are made, and nothing
 //! is read.
 
-ghost use Rattle.std.specs.Prelude.{◌≡◌, ◌++◌, ◌∷◌, [], ◌<◌, ◌≤◌, ◌^◌, ℕ, List as Seq, length, map, IfOk};
+ghost use Rattle.std.specs.Prelude.{◌≡◌, ◌++◌, ◌∷◌, [], ◌<◌, ◌≤◌, ℕ, List as Seq, map, IfOk};
 ghost use Rattle.mg_load.specs.Workload.{loaded_line};
 ghost use Rattle.mg_runs.specs.Lines.{role_lines};
 ghost use Rattle.mg_runs.specs.Runs.{names_of};
 ghost use Rattle.mg_words.specs.Words.{Load};
-ghost use Rattle.mg_top.specs.Commands.{Yields, load_asked, role_mains_of, status_of};
+ghost use Rattle.mg_top.specs.Commands.{load_asked, role_mains_of, status_of};
+ghost use Rattle.mg_top.specs.inner.Preparing.{IsCarried};
 
-use crate::Status;
 use crate::delivery::{Action, Delivery};
 use crate::run::{said_of, status_of};
 use mg_load::{load_files, loaded_line};
+use mg_refusal::Stop;
 use mg_runs::{Ran, run_roles};
-use mg_sources::Stop;
 use mg_text::{List, Memory, Text};
 use std::alloc::Global;
 use vm_world::RoleMain;
@@ -26,15 +26,15 @@ const ORDER: [u32; 2] = [0, 1];
 
 /// What running the workload of so many branches shows, whose order this number picks; or the first
 /// refusal.
-pub fn load(alloc: Global, branches: u32, seed: u64) -> Result<Delivery, Memory>
+pub fn load(alloc: Global, branches: u32, seed: u64) -> Result<Delivery, Stop>
     requires some { 0 < branches }
     requires most { branches ≤ 400 }
-    ensures { (contents : Seq (Seq ℕ)) → IfOk result (λ d. Yields (Load branches seed) contents d.actions.items d.status) }
+    ensures { (contents : Seq (Seq ℕ)) → IsCarried (Load branches seed) contents result }
 {
     let workload = load_files(alloc, branches, seed)?;
     let mains = mains(alloc)?;
     let roles = mains.as_slice();
-    match run_roles(
+    let ran = run_roles(
         alloc,
         workload.names.as_slice(),
         workload.contents.as_slice(),
@@ -43,11 +43,9 @@ pub fn load(alloc: Global, branches: u32, seed: u64) -> Result<Delivery, Memory>
         STEPS,
         true,
         false,
-    ) {
-        Ok(ran) => show(alloc, branches, seed, roles, ran),
-        Err(Stop::Refused(line)) => Delivery::said(alloc, line, Status::Refused),
-        Err(Stop::Memory) => Err(Memory),
-    }
+    )?;
+    let delivery = show(alloc, branches, seed, roles, ran)?;
+    Ok(delivery)
 }
 
 // The two roles, each with the class whose `main` it runs.

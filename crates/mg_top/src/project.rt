@@ -1,35 +1,27 @@
 //! The command `project`: the files of a global protocol's roles, or its first refusal.
 
-ghost use Rattle.std.specs.Prelude.{◌≡◌, ◌++◌, length, IfOk, OnOk, option_map};
-ghost use Rattle.mg_words.specs.Words.{Project};
+ghost use Rattle.std.specs.Prelude.{◌≡◌, ◌++◌, List as Seq, length, IfOk, OnOk, option_map};
+ghost use Rattle.mg_words.specs.Words.{Word, Project};
 ghost use Rattle.mg_top.specs.Writing.{roles_written};
-ghost use Rattle.mg_top.specs.Commands.{Yields};
+ghost use Rattle.mg_top.specs.inner.Preparing.{IsCarried};
 
 use crate::Status;
 use crate::delivery::{Action, Delivery};
 use crate::translate::file_in;
 use mg_projected::RoleFile;
-use mg_sources::Stop;
+use mg_refusal::Stop;
 use mg_text::{Bytes, List, Memory, Text};
 use std::alloc::Global;
 
 /// The files of the roles of the file's global protocol, or the first refusal.
-pub fn project(
-    alloc: Global,
-    folder: Option<&Text>,
-    names: &[Text],
-    contents: &[Bytes],
-) -> Result<Delivery, Memory>
-    requires one { length names.now ≡ 1 }
-    requires same { length contents.now ≡ 1 }
-    ensures { IfOk result (λ d. Yields (Project (option_map (λ f. f.now) folder.entry) names.now)
-        contents.now d.actions.items d.status) }
+pub fn project(alloc: Global, folder: Option<&Text>, contents: &[Bytes]) -> Result<Delivery, Stop>
+    requires { length contents.now ≡ 1 }
+    ensures { (names : Seq Word) → length names ≡ 1
+        → IsCarried (Project (option_map (λ f. f.now) folder.entry) names) contents.now result }
 {
-    match mg_projected::project(alloc, names, contents) {
-        Ok(files) => write_roles(alloc, folder, files.as_slice()),
-        Err(Stop::Refused(line)) => Delivery::said(alloc, line, Status::Refused),
-        Err(Stop::Memory) => Err(Memory),
-    }
+    let files = mg_projected::project(alloc, contents)?;
+    let delivery = write_roles(alloc, folder, files.as_slice())?;
+    Ok(delivery)
 }
 
 // The writes of these files of roles.

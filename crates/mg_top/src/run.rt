@@ -9,15 +9,16 @@ ghost use Rattle.mg_sources.specs.Files.{HaveKinds};
 ghost use Rattle.mg_runs.specs.Lines.{kind_word, stand_words, role_line, role_lines};
 ghost use Rattle.mg_runs.specs.Runs.{names_of};
 ghost use Rattle.mg_words.specs.Words.{Run, limit_of, mains_of, role_names};
-ghost use Rattle.mg_top.specs.Commands.{Yields, kept_in, role_mains_of, prints, status_of};
+ghost use Rattle.mg_top.specs.Commands.{kept_in, role_mains_of, prints, status_of};
+ghost use Rattle.mg_top.specs.inner.Preparing.{IsCarried};
 ghost use Rattle.mg_words.specs.inner.Judging.{asked_of, IsAsked};
 
 use crate::Status;
 use crate::compile::add_classes;
 use crate::delivery::{Action, Delivery};
 use mg_compile::ClassFile;
+use mg_refusal::Stop;
 use mg_runs::{Ran, run_roles};
-use mg_sources::Stop;
 use mg_text::{BadKind, Bytes, Ending, List, Memory, Text};
 use mg_words::Asked;
 use std::alloc::Global;
@@ -32,19 +33,19 @@ pub fn run(
     asked: &Asked<'_>,
     names: &[Text],
     contents: &[Bytes],
-) -> Result<Delivery, Memory>
+) -> Result<Delivery, Stop>
     requires asked { IsAsked (asked_of asked.now) }
     requires same { length names.now ≡ length contents.now }
     requires count { length contents.now < 2 ^ 32 }
     requires kinds { HaveKinds names.now }
-    ensures { IfOk result (λ d. Yields (Run (asked_of asked.now) names.now) contents.now d.actions.items d.status) }
+    ensures { IsCarried (Run (asked_of asked.now) names.now) contents.now result }
 {
     let mains = mains_of(alloc, asked)?;
     let roles = mains.as_slice();
     let order = asked.order(alloc)?;
     let limit = limit_of(asked);
     let named = asked.is_named();
-    match run_roles(
+    let ran = run_roles(
         alloc,
         names,
         contents,
@@ -53,11 +54,9 @@ pub fn run(
         limit,
         named,
         asked.traced,
-    ) {
-        Ok(ran) => show(alloc, asked, roles, ran),
-        Err(Stop::Refused(line)) => Delivery::said(alloc, line, Status::Refused),
-        Err(Stop::Memory) => Err(Memory),
-    }
+    )?;
+    let delivery = show(alloc, asked, roles, ran)?;
+    Ok(delivery)
 }
 
 /// The roles of the run, each with the class whose `main` it runs.

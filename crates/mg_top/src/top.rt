@@ -3,11 +3,12 @@
 ghost use Rattle.std.specs.Prelude.{◌≡◌, ◌<◌, ◌^◌, length, IfOk};
 ghost use Rattle.mg_words.specs.Words.{files_of};
 ghost use Rattle.mg_top.specs.Outside.{Stream, outside, stream};
-ghost use Rattle.mg_top.specs.Commands.{Yields};
+ghost use Rattle.mg_top.specs.Commands.{Yields, judged_names};
+ghost use Rattle.mg_top.specs.Lines.{refusal_line};
 ghost use Rattle.mg_top.specs.Ending.{read_limit};
 ghost use Rattle.mg_top.specs.Promises.{Promises};
 ghost use Rattle.mg_words.specs.inner.Judging.{command_of, IsKnown};
-ghost use Rattle.mg_top.specs.inner.Preparing.{IsPrepared};
+ghost use Rattle.mg_top.specs.inner.Preparing.{IsCarried, IsPrepared};
 
 use crate::check::check;
 use crate::compile::compile;
@@ -23,6 +24,8 @@ use crate::translate::translate;
 use crate::verify::verify;
 use crate::{Status, lines};
 use mg_io::{Folder, Sink};
+use mg_load::file_names;
+use mg_refusal::{Refusal, Stop};
 use mg_text::{Bytes, Memory, Text};
 use mg_words::{Command, Judged, judge};
 use std::alloc::Global;
@@ -124,29 +127,55 @@ fn read_limit(command: &Command<'_>) -> usize
     }
 }
 
-// What a command does about the contents of its files.
+// What a command does about the contents of its files; of their first refusal it says the line.
 fn carry_out(alloc: Global, command: &Command<'_>, contents: &[Bytes]) -> Result<Delivery, Memory>
     requires known { IsKnown (command_of command.now) }
     requires same { length (files_of (command_of command.now)) ≡ length contents.now }
     requires count { length contents.now < 2 ^ 32 }
     ensures { IfOk result (λ d. Yields (command_of command.now) contents.now d.actions.items d.status) }
 {
+    match carried_out(alloc, command, contents) {
+        Ok(delivery) => Ok(delivery),
+        Err(Stop::Refused(refusal)) => {
+            let line = line_of(alloc, command, &refusal)?;
+            Delivery::said(alloc, line, Status::Refused)
+        }
+        Err(Stop::Memory) => Err(Memory),
+    }
+}
+
+// The line of a refusal of the files that a command judges.
+fn line_of(alloc: Global, command: &Command<'_>, refusal: &Refusal) -> Result<Text, Memory>
+    ensures { IfOk result (λ t. t ≡ refusal_line (judged_names (command_of command.now)) refusal.now) }
+{
+    match *command {
+        Command::Load { .. } => {
+            let names = file_names(alloc)?;
+            lines::refused(alloc, names.as_slice(), refusal)
+        }
+        _ => lines::refused(alloc, command.files(), refusal),
+    }
+}
+
+// What a command does about the contents of its files, or their first refusal.
+fn carried_out(alloc: Global, command: &Command<'_>, contents: &[Bytes]) -> Result<Delivery, Stop>
+    requires known { IsKnown (command_of command.now) }
+    requires same { length (files_of (command_of command.now)) ≡ length contents.now }
+    requires count { length contents.now < 2 ^ 32 }
+    ensures { IsCarried (command_of command.now) contents.now result }
+{
     match *command {
         Command::Translate { folder, files } => translate(alloc, folder, files, contents),
-        Command::Conform { files } => conform(
-            alloc,
-            &files[0],
-            &files[1],
-            contents[0].as_slice(),
-            contents[1].as_slice(),
-        ),
+        Command::Conform { .. } => {
+            conform(alloc, contents[0].as_slice(), contents[1].as_slice())
+        }
         Command::Check { files } => check(alloc, files, contents),
         Command::Compile { folder, files } => compile(alloc, folder, files, contents),
         Command::Run { asked, files } => run(alloc, &asked, files, contents),
-        Command::Exec { asked, files } => exec(alloc, &asked, files, contents),
+        Command::Exec { asked, .. } => exec(alloc, &asked, contents),
         Command::Refine { files } => refine(alloc, files, contents),
-        Command::Project { folder, files } => project(alloc, folder, files, contents),
+        Command::Project { folder, .. } => project(alloc, folder, contents),
         Command::Load { branches, seed } => load(alloc, branches, seed),
-        Command::Verify { files } => verify(alloc, files, contents),
+        Command::Verify { .. } => verify(alloc, contents),
     }
 }

@@ -3,18 +3,17 @@
 
 ghost use Rattle.std.specs.Prelude.{◌≡◌, ◌<◌, ◌^◌, ◌++◌, All, codes, length, map, IfOk, OnOk, option_map};
 ghost use Rattle.scr_tree.specs.Local.{tree_of};
-ghost use Rattle.mg_sources.specs.Files.{sources};
 ghost use Rattle.mg_sources.specs.Parts.{part_of};
 ghost use Rattle.mg_words.specs.Words.{IsFileOf, Translate};
 ghost use Rattle.mg_top.specs.Writing.{in_folder};
 ghost use Rattle.mg_top.specs.Translation.{IsTypestateFile, api_written};
-ghost use Rattle.mg_top.specs.Commands.{Yields};
-ghost use Rattle.mg_top.specs.inner.Preparing.{AreWritten, AddsPart, AddsTranslation, EachIsWritten, locals_in};
+ghost use Rattle.mg_top.specs.inner.Preparing.{IsCarried, AddsPart, AddsTranslation, EachIsWritten, locals_in};
 ghost use Rattle.stm_api.specs.View.{written_of};
 
 use crate::Status;
 use crate::delivery::{Action, Delivery, Output};
-use mg_sources::{Part, Stop, check_roles, read_parts};
+use mg_refusal::Stop;
+use mg_sources::{Part, check_roles, read_parts};
 use mg_text::{Bytes, List, Memory, Text};
 use scr_tree::Local;
 use std::alloc::Global;
@@ -28,40 +27,19 @@ pub fn translate(
     folder: Option<&Text>,
     names: &[Text],
     contents: &[Bytes],
-) -> Result<Delivery, Memory>
+) -> Result<Delivery, Stop>
     requires same { length names.now ≡ length contents.now }
     requires count { length contents.now < 2 ^ 32 }
     requires scribble { All (IsFileOf (codes ".scr")) names.now }
-    ensures { IfOk result (λ d. Yields (Translate (option_map (λ f. f.now) folder.entry) names.now)
-        contents.now d.actions.items d.status) }
-{
-    match translations(alloc, folder, names, contents) {
-        Ok(actions) => Ok(Delivery {
-            actions,
-            status: Status::Done,
-        }),
-        Err(Stop::Refused(line)) => Delivery::said(alloc, line, Status::Refused),
-        Err(Stop::Memory) => Err(Memory),
-    }
-}
-
-// The writes of all protocols, or the line of the first refusal.
-fn translations(
-    alloc: Global,
-    folder: Option<&Text>,
-    names: &[Text],
-    contents: &[Bytes],
-) -> Result<List<Action>, Stop>
-    requires same { length names.now ≡ length contents.now }
-    requires count { length contents.now < 2 ^ 32 }
-    requires scribble { All (IsFileOf (codes ".scr")) names.now }
-    ensures { AreWritten (option_map (λ f. f.now) folder.entry) (sources names.now contents.now)
-        result }
+    ensures { IsCarried (Translate (option_map (λ f. f.now) folder.entry) names.now) contents.now result }
 {
     let parts = read_parts(alloc, names, contents)?;
-    check_roles(alloc, names, parts.as_slice())?;
-    let writes = write_all(alloc, folder, parts.as_slice())?;
-    Ok(writes)
+    check_roles(alloc, parts.as_slice())?;
+    let actions = write_all(alloc, folder, parts.as_slice())?;
+    Ok(Delivery {
+        actions,
+        status: Status::Done,
+    })
 }
 
 // The writes of all protocols.

@@ -1,43 +1,50 @@
 -- What is answered of files, by what is answered of their program.
-use Rattle.std.proofs.Common.{◌≡◌, ℕ, ◌+◌, ◌<◌, ◌≤◌, List, ◌∷◌, length, map, get_or, drop, Result, Ok, Err, sym, ap, ◌∙◌, arith}
+use Rattle.std.proofs.Common.{◌≡◌, ℕ, ◌+◌, ◌<◌, ◌≤◌, List, ◌∷◌, length, map, get_or, drop, Option, Some, None, Result, Ok, Err, sym, ap, ◌∙◌, arith}
 use Rattle.std.proofs.lemmas.List.{drop_more, drop_all, length-map}
 use Rattle.std.proofs.lemmas.List.Sums.{sum-map, sum_by-cons}
 use Rattle.vm_model.specs.declared.linked.LinkedClass.{LinkedClass}
+use Rattle.vm_model.specs.declared.program.Linked.{Linked}
 use Rattle.vm_model.specs.View.{method_of, class_of, classes_of}
 use Rattle.cls_search.specs.declared.fault.VerifyFault.{VerifyFault}
 use Rattle.cls_search.specs.declared.fault.VerifyFault.TheVariants as faults
 use Rattle.cls_search.specs.Verified.{Says}
 use Rattle.vm_model.specs.Program.{Program, ClassOf}
 use Rattle.mg_sources.specs.Files.{Source}
-use Rattle.mg_sources.specs.declared.stop.Stop.{Stop}
-use Rattle.mg_sources.specs.declared.stop.Stop.TheVariants as stops
-use Rattle.mg_exec.specs.Runs.{IsProgram}
-use Rattle.mg_exec.specs.Programs.{IsProgramOf, IsNone}
-use Rattle.mg_exec.specs.Programs as exec
-use Rattle.mg_verified.specs.Verified.{Refusal, unread, unlinked, unverified, methods_of}
-use Rattle.mg_verified.specs.View.{IsAnswer, IsTried, IsUnverifiedBy}
+use Rattle.mg_refusal.specs.Order.{Answers, IsStopBy, at_first, at_next}
+use Rattle.mg_refusal.specs.declared.stop.Stop.{Stop}
+use Rattle.mg_refusal.specs.declared.stop.Stop.TheVariants as stops
+use Rattle.mg_exec.specs.Runs.{IsProgram, NoProgram}
+use Rattle.mg_verified.specs.Verified.{AreVerified, Member, LacksTyping, FirstRefusal, methods_of}
+use Rattle.mg_verified.specs.Verified as told
+use Rattle.mg_verified.specs.View.{IsTyped, untypable_in}
 
-pub files_tried : (files : List Source) (p : Program) (r : Result (List ℕ) Stop) → IsProgram files p → IsTried p r → IsAnswer files r
-files_tried files p (Ok line) h t = record { program = p; linked = h; typable = t.0; told = t.1 }
-files_tried files p (Err (stops.Refused line)) h t = unverified p t.class t.method h t.first t.told
+same_member : (m n : Member) → Some m ≡ Some n → m ≡ n
+same_member m n e = cc
+
+none_some : {P : Type 0} (m : Member) → ◌≡◌ {A = Option Member} None (Some m) → P
+none_some m e = absurd cc
+
+pub files_tried : (files : List Source) (p : Program) (answer : Result (List ℕ) Stop) → IsProgram files p →
+    Answers (IsTyped p) (LacksTyping p) answer → Answers (AreVerified files) (FirstRefusal files) answer
+files_tried files p (Ok line) h t = record { program = p; linked = h; typable = t.typable; told = t.told }
+files_tried files p (Err (stops.Refused r)) h t = at_next p h t
 files_tried files p (Err stops.Memory) h t = tt
 
-pub files_none : (files : List Source) (line : List ℕ) → IsNone files line → Refusal files line
-files_none files line (exec.unread judged) = unread judged
-files_none files line (exec.unlinked classes flaw are is told) = unlinked classes flaw are is told
-
 -- there is no program
-pub no_files : (files : List Source) (stop : Stop) → IsProgramOf files (Err stop) → IsAnswer files (Err stop)
-no_files files (stops.Refused line) h = files_none files line h
+pub no_files : (files : List Source) (stop : Stop) →
+    Answers (λ (linked : Linked). IsProgram files (classes_of linked.classes.items)) (NoProgram files) (Err stop) →
+    Answers (AreVerified files) (FirstRefusal files) (Err stop)
+no_files files (stops.Refused r) h = at_first h
 no_files files stops.Memory h = tt
 
 -- a fault of the search
-pub fault_tried : (p : Program) (fault : VerifyFault) (stop : Stop) → Says p fault → IsUnverifiedBy fault stop → IsTried p (Err stop)
-fault_tried p (faults.Unverified class method) (stops.Refused line) first said =
-    record { class = class; method = method; first = first; told = said }
-fault_tried p faults.Memory (stops.Refused line) first said = absurd said
-fault_tried p (faults.Unverified class method) stops.Memory first said = tt
-fault_tried p faults.Memory stops.Memory first said = tt
+pub fault_tried : (p : Program) (fault : VerifyFault) (stop : Stop) → Says p fault →
+    IsStopBy (λ m r. r ≡ told.unverified m) (untypable_in fault) stop → Answers (IsTyped p) (LacksTyping p) (Err stop)
+fault_tried p (faults.Unverified class method) (stops.Refused r) first (m, of_fault, said) =
+    let there : Member = record { class = class; method = method } in
+    record { member = there; first = first; said = said ∙ ap told.unverified (sym (same_member there m of_fault)) }
+fault_tried p faults.Memory (stops.Refused r) first (m, of_fault, said) = none_some m of_fault
+fault_tried p fault stops.Memory first h = tt
 
 methods_cons : (c : ClassOf) (p : Program) → methods_of (c ∷ p) ≡ length c.methods + methods_of p
 methods_cons c p = sum-map (λ (d : ClassOf). length d.methods) (c ∷ p) ∙ sum_by-cons (λ (d : ClassOf). length d.methods) c p

@@ -1,12 +1,12 @@
-//! The lines that are told. Each ends with a line feed.
+//! The line of a program whose methods all have typings, and the refusal by a method that has none.
 
-ghost use Rattle.std.specs.Prelude.{◌≡◌, IfOk};
-ghost use Rattle.mg_sources.specs.View.{IsStop};
+ghost use Rattle.std.specs.Prelude.{◌≡◌, ◌++◌, ◌∷◌, IfOk};
+ghost use Rattle.mg_refusal.specs.Order.{IsStopBy};
 ghost use Rattle.mg_verified.specs.Verified as told;
-ghost use Rattle.mg_verified.specs.View.{IsUnverifiedBy};
+ghost use Rattle.mg_verified.specs.View.{untypable_in};
 
 use cls_search::VerifyFault;
-use mg_sources::Stop;
+use mg_refusal::{Refusal, Stop};
 use mg_text::{Memory, Text};
 use std::alloc::Global;
 
@@ -20,13 +20,13 @@ pub(crate) fn verified_line(alloc: Global, count: u64) -> Result<Text, Memory>
 }
 
 // The refusal of a program by a method that has no typing; want of memory stays that.
-pub(crate) fn unverified(alloc: Global, fault: &VerifyFault) -> Stop
-    ensures { IsUnverifiedBy fault.now result }
+pub(crate) fn stop_of(alloc: Global, fault: &VerifyFault) -> Stop
+    ensures { IsStopBy (λ m r. r ≡ told.unverified m) (untypable_in fault.now) result }
 {
     match fault {
         VerifyFault::Unverified { class, method } => {
-            match unverified_line(alloc, class.as_str(), method.as_str()) {
-                Ok(line) => Stop::Refused(line),
+            match name_of(alloc, class.as_str(), method.as_str()) {
+                Ok(name) => Stop::Refused(Refusal::nowhere("Unverified", name)),
                 Err(Memory) => Stop::Memory,
             }
         }
@@ -34,14 +34,12 @@ pub(crate) fn unverified(alloc: Global, fault: &VerifyFault) -> Stop
     }
 }
 
-// Its line.
-fn unverified_line(alloc: Global, class: &str, method: &str) -> Result<Text, Memory>
-    ensures { IfOk result (λ t. t ≡ told.unverified_line class.now method.now) }
+// The name of a method behind that of its class.
+fn name_of(alloc: Global, class: &str, method: &str) -> Result<Text, Memory>
+    ensures { IfOk result (λ t. t ≡ class.now ++ 46 ∷ method.now) }
 {
-    let mut line = String::from_str(alloc, "mungo: Unverified ")?;
-    line.push_str(class)?;
-    line.push_str(".")?;
-    line.push_str(method)?;
-    line.push_str("\n")?;
-    Ok(Text::from_string(line))
+    let mut name = String::from_str(alloc, class)?;
+    name.push_str(".")?;
+    name.push_str(method)?;
+    Ok(Text::from_string(name))
 }

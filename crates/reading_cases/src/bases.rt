@@ -19,13 +19,18 @@ fn number(text: &str) -> usize {
 pub fn kept(alloc: Global, given: &str) -> Result<String, Memory> {
     let text = Text::of(alloc, given)?;
     let copy = text.copy()?;
-    let (front, more) = parts(given, ' ');
-    let mut bytes = Bytes::of(alloc, front.as_bytes())?;
-    bytes.extend(more.as_bytes())?;
+    let bytes = bytes_joined(alloc, given)?;
     told(
         alloc,
         &(copy.as_str(), text == copy, bytes.as_slice(), bytes.len()),
     )
+}
+
+fn bytes_joined(alloc: Global, given: &str) -> Result<Bytes, Memory> {
+    let (front, more) = parts(given, ' ');
+    let mut bytes = Bytes::of(alloc, front.as_bytes())?;
+    bytes.extend(more.as_bytes())?;
+    Ok(bytes)
 }
 
 /// A list of the lengths of two words, the second of which is added in the room that was reserved.
@@ -53,19 +58,32 @@ pub fn place(alloc: Global, given: &str) -> Result<String, Memory> {
 /// The numbers of the words up to a bar, and what is found of those behind it.
 pub fn numbered(alloc: Global, given: &str) -> Result<String, Memory> {
     let (added, sought) = parts(given, '|');
-    let mut names = Names::new(alloc);
     let mut answer = Answer::new(alloc);
+    let mut names = Names::new(alloc);
+    add_numbers(&mut answer, &mut names, added)?;
+    add_all_found(&mut answer, &names, sought)?;
+    Ok(answer.into_text())
+}
+
+// Adds words, of which some are taken, and tells their numbers.
+fn add_numbers(answer: &mut Answer, names: &mut Names, added: &str) -> Result<(), Memory> {
     for word in added.split(' ') {
         if names.len() < 9 {
-            answer.tell(&names.add(word)?)?;
+            let name = names.add(word)?;
+            answer.tell(&name)?;
             answer.add(" ")?;
         }
     }
+    Ok(())
+}
+
+// How many names there are, and what is found of each word.
+fn add_all_found(answer: &mut Answer, names: &Names, sought: &str) -> Result<(), Memory> {
     answer.tell(&names.len())?;
     for word in sought.split(' ') {
-        add_found(&mut answer, &names, word)?;
+        add_found(answer, names, word)?;
     }
-    Ok(answer.into_text())
+    Ok(())
 }
 
 // The number of a word, and the text of that.
@@ -103,15 +121,20 @@ pub fn joined(alloc: Global, given: &str) -> Result<String, Memory> {
     let mut answer = Answer::new(alloc);
     let mut left = set_of(&mut answer, alloc, first)?;
     let mut right = set_of(&mut answer, alloc, second)?;
-    answer.tell(&[is_within(&left, &right), is_within(&right, &left)])?;
-    answer.add(" ")?;
-    answer.tell(&[
-        join(&mut left, &right),
-        join(&mut right, &left),
-        join(&mut right, &left),
-    ])?;
-    add_members(&mut answer, &right)?;
+    add_joined(&mut answer, &mut left, &mut right)?;
     Ok(answer.into_text())
+}
+
+fn add_joined(
+    answer: &mut Answer,
+    left: &mut StateSet,
+    right: &mut StateSet,
+) -> Result<(), Memory> {
+    answer.tell(&[is_within(left, right), is_within(right, left)])?;
+    answer.add(" ")?;
+    let joins = [join(left, right), join(right, left), join(right, left)];
+    answer.tell(&joins)?;
+    add_members(answer, right)
 }
 
 fn is_within(one: &StateSet, other: &StateSet) -> bool {

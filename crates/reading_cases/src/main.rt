@@ -41,7 +41,7 @@ fn read(alloc: Global, file: &str, given: &[u8]) -> Result<String, Memory> {
         "tokens.txt" => protocols::tokens_of(alloc, given),
         "whole.txt" => protocols::whole(alloc, given),
         "printed.txt" => protocols::printed(alloc, given),
-        "protocols.txt" | "bodies.txt" => protocols::judged(alloc, given),
+        "protocols.txt" | "bodies.txt" | "parts.txt" => protocols::judged(alloc, given),
         "trees.txt" => typestates::tree(alloc, given),
         "layouts.txt" => typestates::laid_out(alloc, given),
         "reached.txt" => typestates::reached(alloc, given),

@@ -6,7 +6,7 @@ use mg_sets::StateSet;
 use mg_text::{Memory, Text};
 use std::alloc::Global;
 use ts_read::{TsFault, print_typestate, read_typestate};
-use ts_tree::{Method, Target, To, Typestate};
+use ts_tree::{Method, State, Target, To, Typestate};
 
 fn read(alloc: Global, given: &[u8]) -> Result<Typestate, TsFault> {
     read_typestate(alloc, 0, given)
@@ -37,16 +37,20 @@ fn shown(alloc: Global, typestate: &Typestate) -> Result<String, Memory> {
     let mut answer = Answer::new(alloc);
     answer.add(typestate.name.as_str())?;
     for state in typestate.states.as_slice() {
-        answer.add("\n")?;
-        answer.add(state.name.as_str())?;
-        if state.drops {
-            answer.add(" drop")?;
-        }
-        for method in state.methods.as_slice() {
-            add_method(&mut answer, method)?;
-        }
+        add_state(&mut answer, state)?;
     }
     Ok(answer.into_text())
+}
+
+fn add_state(answer: &mut Answer, state: &State) -> Result<(), Memory> {
+    answer.pair("\n", state.name.as_str())?;
+    if state.drops {
+        answer.add(" drop")?;
+    }
+    for method in state.methods.as_slice() {
+        add_method(answer, method)?;
+    }
+    Ok(())
 }
 
 // A method on a line: its result, name and parameters, and where it leads.
@@ -98,14 +102,22 @@ fn read_back(alloc: Global, typestate: &Typestate) -> Result<String, Memory> {
     let text = printed(alloc, typestate)?;
     let text = text.as_str();
     match read(alloc, text.as_bytes()) {
-        Ok(again) => {
-            if are_same(alloc, typestate, &again)? {
-                plain(alloc, text)
-            } else {
-                plain(alloc, "read back as another")
-            }
-        }
+        Ok(again) => compared(alloc, typestate, &again, text),
         Err(fault) => fault_text(alloc, &fault),
+    }
+}
+
+// The text, if it is read as the same typestate.
+fn compared(
+    alloc: Global,
+    typestate: &Typestate,
+    again: &Typestate,
+    text: &str,
+) -> Result<String, Memory> {
+    if are_same(alloc, typestate, again)? {
+        plain(alloc, text)
+    } else {
+        plain(alloc, "read back as another")
     }
 }
 
@@ -124,12 +136,18 @@ pub fn reached(alloc: Global, given: &[u8]) -> Result<String, Memory> {
 
 fn reached_in_copy(alloc: Global, typestate: &Typestate) -> Result<String, Memory> {
     let copy = copy_of(alloc, typestate)?;
-    if !are_same(alloc, typestate, &copy)? {
-        return plain(alloc, "copied as another");
+    if are_same(alloc, typestate, &copy)? {
+        reached_in(alloc, &copy)
+    } else {
+        plain(alloc, "copied as another")
     }
+}
+
+fn reached_in(alloc: Global, typestate: &Typestate) -> Result<String, Memory> {
+    let reached = reachable(alloc, typestate)?;
     let mut answer = Answer::new(alloc);
     answer.add("reached")?;
-    add_members(&mut answer, &reachable(alloc, &copy)?)?;
+    add_members(&mut answer, &reached)?;
     Ok(answer.into_text())
 }
 

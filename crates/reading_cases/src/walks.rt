@@ -36,11 +36,16 @@ pub fn api_of(alloc: Global, given: &[u8]) -> Result<String, Memory> {
 
 fn api_text(alloc: Global, local: &Local) -> Result<String, Memory> {
     let mut answer = Answer::new(alloc);
+    add_api(alloc, &mut answer, local)?;
+    Ok(answer.into_text())
+}
+
+fn add_api(alloc: Global, answer: &mut Answer, local: &Local) -> Result<(), Memory> {
     for file in files_of_api(alloc, local)?.as_slice() {
         answer.pair(">>> ", file.name.as_str())?;
         answer.pair("\n", file.text.as_str())?;
     }
-    Ok(answer.into_text())
+    Ok(())
 }
 
 fn files_of_api(alloc: Global, local: &Local) -> Result<List<ApiFile>, Memory> {
@@ -70,20 +75,45 @@ pub fn walked(alloc: Global, given: &str) -> Result<String, Memory> {
 }
 
 fn walk_text(alloc: Global, local: &Local, calls: &str) -> Result<String, Memory> {
-    let mut walk = Walk::new(alloc, local)?;
     let mut answer = Answer::new(alloc);
     answer.add("begins:")?;
-    add_offers(&mut answer, &walk)?;
-    for call in calls.lines() {
-        let call = call_of(alloc, call)?;
-        answer.add("\n")?;
-        answer.tell(&walk.step(&call))?;
-        answer.add(" ")?;
-        answer.tell(&walk.done())?;
-        answer.add(":")?;
-        add_offers(&mut answer, &walk)?;
-    }
+    add_walk(alloc, &mut answer, local, calls)?;
     Ok(answer.into_text())
+}
+
+// What is offered at first, and then a line for each call.
+fn add_walk(alloc: Global, answer: &mut Answer, local: &Local, calls: &str) -> Result<(), Memory> {
+    let mut walk = Walk::new(alloc, local)?;
+    add_offers(answer, &walk)?;
+    for call in calls.lines() {
+        add_step(alloc, answer, &mut walk, call)?;
+    }
+    Ok(())
+}
+
+fn add_step(
+    alloc: Global,
+    answer: &mut Answer,
+    walk: &mut Walk<'_>,
+    call: &str,
+) -> Result<(), Memory> {
+    answer.add("\n")?;
+    add_taken(alloc, answer, walk, call)?;
+    answer.add(" ")?;
+    answer.tell(&walk.done())?;
+    answer.add(":")?;
+    add_offers(answer, walk)
+}
+
+fn add_taken(
+    alloc: Global,
+    answer: &mut Answer,
+    walk: &mut Walk<'_>,
+    call: &str,
+) -> Result<(), Memory> {
+    let call = call_of(alloc, call)?;
+    let stepped = walk.step(&call);
+    answer.tell(&stepped)
 }
 
 // A method, and behind a blank the label with which it answers.
@@ -103,10 +133,15 @@ fn call_of(alloc: Global, call: &str) -> Result<Call, Memory> {
 // What a walk offers: each method, and behind it its labels.
 fn add_offers(answer: &mut Answer, walk: &Walk<'_>) -> Result<(), Memory> {
     for offer in offers_of(walk)?.as_slice() {
-        answer.pair(" ", offer.method.as_str())?;
-        for label in offer.answers.as_slice() {
-            answer.pair("/", label.as_str())?;
-        }
+        add_offer(answer, offer)?;
+    }
+    Ok(())
+}
+
+fn add_offer(answer: &mut Answer, offer: &Offer) -> Result<(), Memory> {
+    answer.pair(" ", offer.method.as_str())?;
+    for label in offer.answers.as_slice() {
+        answer.pair("/", label.as_str())?;
     }
     Ok(())
 }

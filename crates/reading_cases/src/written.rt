@@ -5,7 +5,8 @@ use mg_read::ParseFault;
 use mg_text::Memory;
 use std::alloc::Global;
 use ts_parse::{
-    Naming, WrittenEntry, WrittenMethod, WrittenTarget, WrittenTypestate, read_written, tokens,
+    Naming, WrittenBranch, WrittenEntry, WrittenMethod, WrittenState, WrittenTarget,
+    WrittenTypestate, read_written, tokens,
 };
 
 /// A line for each state and each entry of a file, or where its tokens begin no file.
@@ -41,13 +42,18 @@ fn shown(alloc: Global, file: &WrittenTypestate) -> Result<String, Memory> {
     let mut answer = Answer::new(alloc);
     answer.add(file.name.as_str())?;
     for state in file.states.as_slice() {
-        answer.add("\n")?;
-        add_naming(&mut answer, &state.name)?;
-        for entry in state.entries.as_slice() {
-            add_entry(&mut answer, entry)?;
-        }
+        add_state(&mut answer, state)?;
     }
     Ok(answer.into_text())
+}
+
+fn add_state(answer: &mut Answer, state: &WrittenState) -> Result<(), Memory> {
+    answer.add("\n")?;
+    add_naming(answer, &state.name)?;
+    for entry in state.entries.as_slice() {
+        add_entry(answer, entry)?;
+    }
+    Ok(())
 }
 
 fn add_naming(answer: &mut Answer, name: &Naming) -> Result<(), Memory> {
@@ -84,12 +90,16 @@ fn add_target(answer: &mut Answer, target: &WrittenTarget) -> Result<(), Memory>
         }
         WrittenTarget::ByAnswer(branches) => {
             for branch in branches.as_slice() {
-                answer.add(" ")?;
-                add_naming(answer, &branch.label)?;
-                answer.add(" to ")?;
-                add_naming(answer, &branch.to)?;
+                add_branch(answer, branch)?;
             }
         }
     }
     Ok(())
+}
+
+fn add_branch(answer: &mut Answer, branch: &WrittenBranch) -> Result<(), Memory> {
+    answer.add(" ")?;
+    add_naming(answer, &branch.label)?;
+    answer.add(" to ")?;
+    add_naming(answer, &branch.to)
 }

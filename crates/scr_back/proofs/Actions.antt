@@ -10,7 +10,7 @@ use Rattle.mg_read.specs.First.{Clean, behind}
 use Rattle.scr_tree.specs.Actions.{Action, Moves, NameClash, actions, actions_in, next, next_in, opened, looked_unless, peer_in}
 use Rattle.scr_tree.specs.CallNames.{message_call}
 use Rattle.scr_tree.specs.States.{begins, is_state}
-use Rattle.scr_tree.specs.Tree.{Statements, Nothing, Says, Choice, Rec, Continue, Branches, NoBranch, Branch}
+use Rattle.scr_tree.specs.Tree.{Statements, Nothing, Says, Choice, Rec, Continue, Do, Branches, NoBranch, Branch}
 use Rattle.scr_tree.specs.Spots.{Past, Opens, Enters, Way, Spot, spot}
 use Rattle.scr_judge.proofs.Members.{Contains-nil, Contains-cons_cases, Contains-first, Contains-later}
 use Rattle.scr_back.specs.Same.{AreSame, AreSameBranches}
@@ -18,7 +18,7 @@ use Rattle.scr_back.proofs.Spots.{Zip, zip-append, SameWay, SameSpot}
 use Rattle.scr_back.proofs.Kept.{meant_same}
 
 mutual
-  next_same : (me : Name) (n : ℕ) (s t : Statements) → AreSame s t → next me n s ≡ next me n t
+  pub next_same : (me : Name) (n : ℕ) (s t : Statements) → AreSame s t → next me n s ≡ next me n t
   next_same me n Nothing Nothing e = refl
   next_same me n (Says m r) (Says k o) e = next_same me n r o e.1
   next_same me n (Choice p at bs r) (Choice q by cs o) e =
@@ -26,12 +26,13 @@ mutual
       ∙ ap (λ z. next me z r) (next_in_same me (opened (bytes_eq by me) n) bs cs e.1) ∙ next_same me _ r o e.2
   next_same me n (Rec p name body r) (Rec q word inner o) e = ap (λ z. next me z r) (next_same me n body inner e.1) ∙ next_same me _ r o e.2
   next_same me n (Continue p name r) (Continue q word o) e = next_same me n r o e.1
+  next_same me n (Do p name r) (Do q word o) e = next_same me n r o e.1
   next_same me n _ _ e = absurd e
 
   next_in_same : (me : Name) (n : ℕ) (bs cs : Branches) → AreSameBranches bs cs → next_in me n bs ≡ next_in me n cs
   next_in_same me n NoBranch NoBranch e = refl
-  next_in_same me n (Branch b more) (Branch d others) e = ap (λ z. next_in me z more) (next_same me n b d e.0) ∙ next_in_same me _ more
-      others e.1
+  next_in_same me n (Branch b more) (Branch d others) e = ap (λ z. next_in me z more) (next_same me n b d e.0) ∙
+      next_in_same me _ more others e.1
   next_in_same me n _ _ e = absurd e
 
 peer_same : (bs cs : Branches) → AreSameBranches bs cs → peer_in bs ≡ peer_in cs
@@ -41,6 +42,7 @@ peer_same (Branch (Says m r) more) (Branch (Says n o) others) e = ap Some e.0.0.
 peer_same (Branch (Choice p at ds r) more) (Branch (Choice q by cs o) others) e = refl
 peer_same (Branch (Rec p name body r) more) (Branch (Rec q word inner o) others) e = refl
 peer_same (Branch (Continue p name r) more) (Branch (Continue q word o) others) e = refl
+peer_same (Branch (Do p name r) more) (Branch (Do q word o) others) e = refl
 peer_same (Branch b more) (Branch d others) e = absurd e.0
 peer_same _ _ e = absurd e
 
@@ -57,11 +59,8 @@ looked_same false me n p q (Some peer) = ((refl, refl), tt)
 mutual
   pub actions_same : (me : Name) (n : ℕ) (s t : Statements) → AreSame s t → Zip SameAction (actions me n s) (actions me n t)
   actions_same me n Nothing Nothing e = tt
-  actions_same me n (Says m r) (Says k o) e = (
-    (ap message_call (meant_same m k e.0), ap Moves (meant_same m k e.0)),
-    actions_same me n r o
-        e.1,
-  )
+  actions_same me n (Says m r) (Says k o) e =
+      ((ap message_call (meant_same m k e.0), ap Moves (meant_same m k e.0)), actions_same me n r o e.1)
   actions_same me n (Choice p at bs r) (Choice q by cs o) e =
       subst (λ z. Zip SameAction (actions me n (Choice p at bs r)) (actions me n (Choice q z cs o))) e.0
       (zip-append SameAction (looked_unless (bytes_eq at me) me n p (peer_in bs)) _ (looked_unless (bytes_eq at me) me n q (peer_in cs)) _
@@ -76,6 +75,7 @@ mutual
       (subst (λ z. Zip SameAction (actions me (next me n body) r) (actions me z o)) (next_same me n body inner e.1)
       (actions_same me _ r o e.2))
   actions_same me n (Continue p name r) (Continue q word o) e = actions_same me n r o e.1
+  actions_same me n (Do p name r) (Do q word o) e = actions_same me n r o e.1
   actions_same me n _ _ e = absurd e
 
   actions_in_same : (me : Name) (n : ℕ) (bs cs : Branches) → AreSameBranches bs cs →
@@ -87,7 +87,7 @@ mutual
       (actions_in_same me _ more others e.1))
   actions_in_same me n _ _ e = absurd e
 
-zip_member : {X Y : Type 0} (R : X → Y → Type 0) (xs : List X) (ys : List Y) → Zip R xs ys → (y : Y) → Contains ys y →
+pub zip_member : {X Y : Type 0} (R : X → Y → Type 0) (xs : List X) (ys : List Y) → Zip R xs ys → (y : Y) → Contains ys y →
     (x : X) × Contains xs x × R x y
 zip_member R [] [] z y c = absurd (Contains-nil y c)
 zip_member R (x ∷ xs) (u ∷ us) z y c =
@@ -105,7 +105,8 @@ clash_kept es fs (a ∷ xs) (b ∷ ys) z g h = (
     o.0,
     o.1,
     o.2.0 ∙ x.3 ∙ sym g.0.0,
-    λ same. x.4 (sym o.2.1 ∙ same ∙ g.0.1),
+    λ same. x.4
+        (sym o.2.1 ∙ same ∙ g.0.1),
   ),
   clash_kept (es ++ a ∷ []) (fs ++ b ∷ []) xs ys (zip-append SameAction es (a ∷ []) fs (b ∷ []) z (g.0, tt)) g.1 h.1,
 )
@@ -132,10 +133,11 @@ state_same me (spot w s) (spot v t) h = go s t h.1
     go (Choice p at bs r) (Choice q by cs o) e = refl
     go (Rec p name body r) (Rec q word inner o) e = refl
     go (Continue p name r) (Continue q word o) e = refl
+    go (Do p name r) (Do q word o) e = refl
     go _ _ e = absurd e
 
-picked : (b d : Bool) → b ≡ d → (x y : Spot) (us vs : List Spot) → length us ≡ length vs → length (cond b (x ∷ us) us) ≡ length
-    (cond d (y ∷ vs) vs)
+picked : (b d : Bool) → b ≡ d → (x y : Spot) (us vs : List Spot) → length us ≡ length vs → length (cond b (x ∷ us) us)
+    ≡ length (cond d (y ∷ vs) vs)
 picked true true e x y us vs h = ap suc h
 picked false false e x y us vs h = h
 picked true false e x y us vs h = absurd (true≢false e)

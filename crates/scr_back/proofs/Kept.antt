@@ -8,7 +8,7 @@ use Rattle.scr_tree.specs.declared.syntax.Message.{Message}
 use Rattle.scr_tree.specs.Meaning.{message_of, towards}
 use Rattle.scr_tree.specs.CallNames.{message_call}
 use Rattle.std.specs.Str.{bytes_eq}
-use Rattle.scr_tree.specs.Tree.{Statements, Nothing, Says, Choice, Rec, Continue, Branches, NoBranch, Branch}
+use Rattle.scr_tree.specs.Tree.{Statements, Nothing, Says, Choice, Rec, Continue, Do, Branches, NoBranch, Branch}
 use Rattle.scr_tree.specs.Spots.{Past, Opens, Enters, Spot, spot, head_place}
 use Rattle.scr_tree.specs.Control.{Quietly}
 use Rattle.scr_tree.specs.Conditions.{UnknownRole, PeerIsSelf, UnknownRec, DuplicateRec, Unguarded, Unreachable, HasEmpty, BeginsOtherwise}
@@ -34,6 +34,7 @@ role_kept roles (spot w s) (spot v t) h = go s t h.1
     go Nothing Nothing e c a = absurd a
     go (Rec p name body r) (Rec q word inner o) e c a = absurd a
     go (Continue p name r) (Continue q word o) e c a = absurd a
+    go (Do p name r) (Do q word o) e c a = absurd a
     go _ _ e c a = absurd e
 
 pub self_kept : (me : Name) → Follows (PeerIsSelf me)
@@ -45,6 +46,7 @@ self_kept me (spot w s) (spot v t) h = go s t h.1
     go Nothing Nothing e c a = absurd a
     go (Rec p name body r) (Rec q word inner o) e c a = absurd a
     go (Continue p name r) (Continue q word o) e c a = absurd a
+    go (Do p name r) (Do q word o) e c a = absurd a
     go _ _ e c a = absurd e
 
 pub rec_kept : Follows UnknownRec
@@ -53,6 +55,7 @@ rec_kept (spot w s) (spot v t) h = go s t h.1
     go : (s t : Statements) → AreSame s t → (c : Culprit) → UnknownRec (spot v t) c → (d : Culprit) × UnknownRec (spot w s) d
     go (Continue p name r) (Continue q word o) e c a =
         (culprit p name, (refl, λ l. a.1 (inside_right w v word h.0 (subst (λ z. Contains w (Opens z)) e.0 l))))
+    go (Do p name r) (Do q word o) e c a = absurd a
     go Nothing Nothing e c a = absurd a
     go (Says m r) (Says n o) e c a = absurd a
     go (Choice p at bs r) (Choice q by cs o) e c a = absurd a
@@ -69,6 +72,7 @@ twice_kept (spot w s) (spot v t) h = go s t h.1
     go (Says m r) (Says n o) e c a = absurd a
     go (Choice p at bs r) (Choice q by cs o) e c a = absurd a
     go (Continue p name r) (Continue q word o) e c a = absurd a
+    go (Do p name r) (Do q word o) e c a = absurd a
     go _ _ e c a = absurd e
 
 pub guard_kept : Follows Unguarded
@@ -77,6 +81,7 @@ guard_kept (spot w s) (spot v t) h = go s t h.1
     go : (s t : Statements) → AreSame s t → (c : Culprit) → Unguarded (spot v t) c → (d : Culprit) × Unguarded (spot w s) d
     go (Continue p name r) (Continue q word o) e c a =
         (culprit p name, (refl, quiet_same w v name h.0 (subst (λ z. Quietly z v) (sym e.0) a.1)))
+    go (Do p name r) (Do q word o) e c a = absurd a
     go Nothing Nothing e c a = absurd a
     go (Says m r) (Says n o) e c a = absurd a
     go (Choice p at bs r) (Choice q by cs o) e c a = absurd a
@@ -90,6 +95,7 @@ begins_somewhere (Says m r) (Says n o) e q a = (m.place, refl)
 begins_somewhere (Choice p at bs r) (Choice u by cs o) e q a = (p, refl)
 begins_somewhere (Rec p name body r) (Rec u word inner o) e q a = (p, refl)
 begins_somewhere (Continue p name r) (Continue u word o) e q a = (p, refl)
+begins_somewhere (Do p name r) (Do u word o) e q a = (p, refl)
 begins_somewhere _ _ e q a = absurd e
 
 pub reach_kept : Follows Unreachable
@@ -108,6 +114,7 @@ empty_kept (Says m r) (Says n o) e a = let no : ⊥ = cc in absurd no
 empty_kept (Choice p at bs r) (Choice u by cs o) e a = let no : ⊥ = cc in absurd no
 empty_kept (Rec p name body r) (Rec u word inner o) e a = let no : ⊥ = cc in absurd no
 empty_kept (Continue p name r) (Continue u word o) e a = let no : ⊥ = cc in absurd no
+empty_kept (Do p name r) (Do u word o) e a = let no : ⊥ = cc in absurd no
 empty_kept _ _ e a = absurd e
 
 has_empty_kept : (bs cs : Branches) → AreSameBranches bs cs → HasEmpty cs → HasEmpty bs
@@ -122,6 +129,7 @@ otherwise_kept (Says m r) (Says n o) e a = a
 otherwise_kept (Choice p at bs r) (Choice u by cs o) e a = tt
 otherwise_kept (Rec p name body r) (Rec u word inner o) e a = tt
 otherwise_kept (Continue p name r) (Continue u word o) e a = tt
+otherwise_kept (Do p name r) (Do u word o) e a = tt
 otherwise_kept _ _ e a = absurd e
 
 empty_branch_kept : (s t : Statements) → AreSame s t → (c : Culprit) → EmptyBranch t c → (d : Culprit) × EmptyBranch s d
@@ -130,6 +138,7 @@ empty_branch_kept Nothing Nothing e c a = absurd a
 empty_branch_kept (Says m r) (Says n o) e c a = absurd a
 empty_branch_kept (Rec p name body r) (Rec u word inner o) e c a = absurd a
 empty_branch_kept (Continue p name r) (Continue u word o) e c a = absurd a
+empty_branch_kept (Do p name r) (Do u word o) e c a = absurd a
 empty_branch_kept _ _ e c a = absurd e
 
 other_start_kept : Follows OtherStart
@@ -155,6 +164,7 @@ all_send_kept (Branch (Says m r) more) (Branch (Says n o) others) e a = (sym e.0
 all_send_kept (Branch (Choice p at bs r) more) (Branch (Choice q by cs o) others) e a = all_send_kept more others e.1 a
 all_send_kept (Branch (Rec p name body r) more) (Branch (Rec u word inner o) others) e a = all_send_kept more others e.1 a
 all_send_kept (Branch (Continue p name r) more) (Branch (Continue u word o) others) e a = all_send_kept more others e.1 a
+all_send_kept (Branch (Do p name r) more) (Branch (Do u word o) others) e a = all_send_kept more others e.1 a
 all_send_kept (Branch b more) (Branch d others) e a = absurd e.0
 all_send_kept _ _ e a = absurd e
 
@@ -166,6 +176,7 @@ all_from_kept peer (Branch (Says m r) more) (Branch (Says n o) others) e a =
 all_from_kept peer (Branch (Choice p at bs r) more) (Branch (Choice q by cs o) others) e a = all_from_kept peer more others e.1 a
 all_from_kept peer (Branch (Rec p name body r) more) (Branch (Rec u word inner o) others) e a = all_from_kept peer more others e.1 a
 all_from_kept peer (Branch (Continue p name r) more) (Branch (Continue u word o) others) e a = all_from_kept peer more others e.1 a
+all_from_kept peer (Branch (Do p name r) more) (Branch (Do u word o) others) e a = all_from_kept peer more others e.1 a
 all_from_kept peer (Branch b more) (Branch d others) e a = absurd e.0
 all_from_kept peer _ _ e a = absurd e
 
@@ -182,6 +193,7 @@ mixed_kept me (spot w s) (spot v t) h = go s t h.1
     go (Says m r) (Says n o) e c a = absurd a
     go (Rec p name body r) (Rec u word inner o) e c a = absurd a
     go (Continue p name r) (Continue u word o) e c a = absurd a
+    go (Do p name r) (Do u word o) e c a = absurd a
     go _ _ e c a = absurd e
 
 key_same : (me at by : Name) (m n : Message) → at ≡ by → IsSameMessage m n → key me at m ≡ key me by n
@@ -193,6 +205,7 @@ first_key_same me at by (Says m r) (Says n o) e h = ap Some (key_same me at by m
 first_key_same me at by (Choice p a bs r) (Choice q b cs o) e h = refl
 first_key_same me at by (Rec p name body r) (Rec u word inner o) e h = refl
 first_key_same me at by (Continue p name r) (Continue u word o) e h = refl
+first_key_same me at by (Do p name r) (Do u word o) e h = refl
 first_key_same me at by _ _ e h = absurd h
 
 keys_same : (me at by : Name) (es fs : List Statements) → at ≡ by → Zip AreSame es fs → map (first_key me at) es ≡ map (first_key me by) fs
@@ -221,6 +234,7 @@ label_kept me (spot (Enters at es ∷ w) s) (spot (Enters by fs ∷ v) t) h c a 
     go (Choice p x bs r) (Choice q y cs o) e c a = absurd a
     go (Rec p name body r) (Rec u word inner o) e c a = absurd a
     go (Continue p name r) (Continue u word o) e c a = absurd a
+    go (Do p name r) (Do u word o) e c a = absurd a
     go _ _ e c a = absurd e
 label_kept me (spot [] s) (spot (r ∷ v) t) h c a = absurd h.0
 label_kept me (spot (p ∷ w) s) (spot [] t) h c a = absurd h.0
@@ -240,6 +254,7 @@ free_kept me (spot (Enters at es ∷ w) s) (spot (Enters by fs ∷ v) t) h c a =
     go (Choice p x bs r) (Choice q y cs o) e c a = absurd a
     go (Rec p name body r) (Rec u word inner o) e c a = absurd a
     go (Continue p name r) (Continue u word o) e c a = absurd a
+    go (Do p name r) (Do u word o) e c a = absurd a
     go _ _ e c a = absurd e
 free_kept me (spot [] s) (spot (r ∷ v) t) h c a = absurd h.0
 free_kept me (spot (p ∷ w) s) (spot [] t) h c a = absurd h.0

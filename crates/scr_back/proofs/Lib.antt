@@ -6,4 +6,5 @@ pub mod WholeFile
 pub mod Spots
 pub mod Kept
 pub mod Actions
+pub mod Rounds
 pub mod Answered

@@ -42,7 +42,8 @@ spelled : (w : Name) (tok : Place → Tok) → StartsWith is_name_start w → al
 spelled w tok starts passes short token used = record {
   starts = starts;
   bytes = all_pass w passes;
-  short = grind (arith, nat_tests);
+  short =
+      grind (arith, nat_tests);
   token = token;
   used = used;
 }
@@ -78,6 +79,10 @@ rec_word = spelled (codes "rec") (λ a. marked a marks.Rec) refl refl refl (λ p
 pub continue_word : IsToken (codes "continue") (λ a. marked a marks.Continue)
 unfolding reserved all_of
 continue_word = spelled (codes "continue") (λ a. marked a marks.Continue) refl refl refl (λ p. refl) (supported marks.Continue refl)
+
+pub do_word : IsToken (codes "do") (λ a. marked a marks.Do)
+unfolding reserved all_of
+do_word = spelled (codes "do") (λ a. marked a marks.Do) refl refl refl (λ p. refl) (supported marks.Do refl)
 
 pub to_word : IsToken (codes "to") (λ a. marked a marks.To)
 unfolding reserved all_of

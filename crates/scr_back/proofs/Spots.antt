@@ -6,7 +6,7 @@ use Rattle.std.proofs.lemmas.Slice.Eq.{bytes_eq-Decides}
 use Rattle.mg_text.specs.Call.{Name}
 use Rattle.mg_read.specs.Culprit.{Culprit}
 use Rattle.mg_read.specs.First.{Clean}
-use Rattle.scr_tree.specs.Tree.{Statements, Nothing, Says, Choice, Rec, Continue, Branches, NoBranch, Branch}
+use Rattle.scr_tree.specs.Tree.{Statements, Nothing, Says, Choice, Rec, Continue, Do, Branches, NoBranch, Branch}
 use Rattle.scr_tree.specs.Spots.{Passage, Past, Opens, Enters, Way, Spot, spot, spots, branch_spots}
 use Rattle.scr_tree.specs.Control.{falls, some_falls, passes, some_passes, Quietly, opened, past, opening, entering}
 use Rattle.scr_judge.proofs.Members.{Contains-cons_cases, Contains-first, Contains-later}
@@ -53,6 +53,7 @@ mutual
         (spots_same _ _ r o ((e.0, e.1, tt), h) e.2),
   )
   spots_same w v (Continue p name r) (Continue q word o) h e = ((h, e), spots_same _ _ r o ((e.0, tt), h) e.1)
+  spots_same w v (Do p name r) (Do q word o) h e = ((h, e), spots_same _ _ r o ((e.0, tt), h) e.1)
   spots_same w v _ _ h e = absurd e
 
   branches_same : (w v : Way) (at by : Name) (es fs : List Statements) (bs cs : Branches) → SameWay w v → at ≡ by → Zip AreSame es fs →
@@ -81,6 +82,7 @@ mutual
   falls_same (Choice p at bs r) (Choice q by cs o) e = λ i. some_falls_same bs cs e.1 i && falls_same r o e.2 i
   falls_same (Rec p name body r) (Rec q word inner o) e = λ i. falls_same body inner e.1 i && falls_same r o e.2 i
   falls_same (Continue p name r) (Continue q word o) e = refl
+  falls_same (Do p name r) (Do q word o) e = refl
   falls_same _ _ e = absurd e
 
   some_falls_same : (bs cs : Branches) → AreSameBranches bs cs → some_falls bs ≡ some_falls cs
@@ -95,6 +97,7 @@ mutual
   passes_same (Choice p at bs r) (Choice q by cs o) e = λ i. some_passes_same bs cs e.1 i && passes_same r o e.2 i
   passes_same (Rec p name body r) (Rec q word inner o) e = λ i. passes_same body inner e.1 i && passes_same r o e.2 i
   passes_same (Continue p name r) (Continue q word o) e = refl
+  passes_same (Do p name r) (Do q word o) e = refl
   passes_same _ _ e = absurd e
 
   some_passes_same : (bs cs : Branches) → AreSameBranches bs cs → some_passes bs ≡ some_passes cs

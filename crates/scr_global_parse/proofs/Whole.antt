@@ -13,10 +13,10 @@ use Rattle.scr_tree.specs.Written.{Carries}
 use Rattle.scr_global_tree.specs.Written.{WrittenTree}
 use Rattle.scr_tree.specs.declared.written.Role.{Role}
 use Rattle.scr_parse.specs.Grammar.{IsType, IsBraced}
-use Rattle.scr_parse.specs.inner.Reading.{mark_at, name_at, is_at, after_module, type_at, types_at, roles_at, carries_in, if_last}
+use Rattle.scr_parse.specs.inner.Reading.{mark_at, name_at, is_at, after_module, type_at, types_at, roles_at, carries_in}
 use Rattle.scr_global_parse.specs.Grammar.{IsHeader, AreStatements, IsSpelled}
 use Rattle.scr_global_parse.specs.inner.View.{joined}
-use Rattle.scr_global_parse.specs.inner.Reading.{title_at, header_at, block_with, statement_at, only_block_at, body_at, file_at}
+use Rattle.scr_global_parse.specs.inner.Reading.{if_last, title_at, header_at, block_with, statement_at, only_block_at, body_at, file_at}
 use Rattle.scr_parse.proofs.Steps.{Anything, after, mark_is, name_is}
 use Rattle.scr_parse.proofs.Names.{module_sound, module_complete, type_exact, type_starts}
 use Rattle.scr_parse.proofs.Heads.{roles_sound, roles_complete}

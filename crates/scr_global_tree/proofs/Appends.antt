@@ -2,7 +2,7 @@
 use Rattle.std.proofs.Common.{◌≡◌, List, [], ◌∷◌, ◌++◌, refl, sym, ap, ◌∙◌}
 use Rattle.mg_text.specs.Row.{Row}
 use Rattle.scr_tree.specs.declared.syntax.Statement.{Statement}
-use Rattle.scr_tree.specs.Tree.{Statements, Nothing, Says, Choice, Rec, Continue, Branches, NoBranch, Branch}
+use Rattle.scr_tree.specs.Tree.{Statements, Nothing, Says, Choice, Rec, Continue, Do, Branches, NoBranch, Branch}
 use Rattle.scr_tree.specs.View.{front, statements, bodies}
 use Rattle.scr_tree.proofs.Behind.{each_front}
 use Rattle.scr_global.specs.Texts.{behind}
@@ -13,6 +13,7 @@ behind_nothing (Says m s) = ap (Says m) (behind_nothing s)
 behind_nothing (Choice p at bs s) = ap (Choice p at bs) (behind_nothing s)
 behind_nothing (Rec p name b s) = ap (Rec p name b) (behind_nothing s)
 behind_nothing (Continue p name s) = ap (Continue p name) (behind_nothing s)
+behind_nothing (Do p name s) = ap (Do p name) (behind_nothing s)
 
 pub behind_both : (s t u : Statements) → behind (behind s t) u ≡ behind s (behind t u)
 behind_both Nothing t u = refl
@@ -20,6 +21,7 @@ behind_both (Says m s) t u = ap (Says m) (behind_both s t u)
 behind_both (Choice p at bs s) t u = ap (Choice p at bs) (behind_both s t u)
 behind_both (Rec p name b s) t u = ap (Rec p name b) (behind_both s t u)
 behind_both (Continue p name s) t u = ap (Continue p name) (behind_both s t u)
+behind_both (Do p name s) t u = ap (Do p name) (behind_both s t u)
 
 -- some branches behind others
 abbrev pub beside : Branches → Branches → Branches
@@ -37,7 +39,7 @@ beside_both (Branch b s) t u = ap (Branch b) (beside_both s t u)
 -- of the program's lists
 front-behind : (x : Statement) (a b : Statements) → behind (front x a) b ≡ front x (behind a b)
 front-behind x a b = each_front (λ f. behind (f a) b ≡ f (behind a b)) (λ m. refl) (λ p at bs. refl) (λ p name body. refl) (λ p name. refl)
-    x
+    (λ p name. refl) x
 
 pub statements-append : (xs ys : List Statement) → statements (xs ++ ys) ≡ behind (statements xs) (statements ys)
 statements-append [] ys = refl

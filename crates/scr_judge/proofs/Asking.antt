@@ -6,7 +6,7 @@ use Rattle.std.proofs.lemmas.Slice.Eq.{bytes_eq-Decides}
 use Rattle.mg_text.specs.Call.{Name}
 use Rattle.scr_tree.specs.declared.syntax.Direction.{Direction}
 use Rattle.scr_tree.specs.declared.syntax.Direction.TheVariants as directions
-use Rattle.scr_tree.specs.Tree.{Statements, Nothing, Says, Choice, Rec, Continue, Branches, NoBranch, Branch}
+use Rattle.scr_tree.specs.Tree.{Statements, Nothing, Says, Choice, Rec, Continue, Do, Branches, NoBranch, Branch}
 use Rattle.std.specs.Option.{is_some}
 use Rattle.mg_text.specs.declared.place.Place.{Place}
 use Rattle.scr_tree.specs.declared.syntax.Message.{Message}
@@ -39,6 +39,7 @@ module _ (roles : List Name) (has : Names) (h : (q : Name) → IsTrue (has q) �
   role_answers way (Choice p at bs rest) = unless_right (Contains roles at) (has at) (culprit p at) (h at).0 (h at).1
   role_answers way (Rec p name body rest) = λ c x. x
   role_answers way (Continue p name rest) = λ c x. x
+  role_answers way (Do p name rest) = λ c x. x
 
   pub role_right : AsksRight (UnknownRole roles) (asks_role has)
   role_right = record { asks = λ around way ss a. role_answers way ss }
@@ -50,6 +51,7 @@ self_answers me way (Says m rest) = unless_not (m.peer ≡ me) (bytes_eq m.peer 
 self_answers me way (Choice p at bs rest) = λ c x. x
 self_answers me way (Rec p name body rest) = λ c x. x
 self_answers me way (Continue p name rest) = λ c x. x
+self_answers me way (Do p name rest) = λ c x. x
 
 pub self_right : (me : Name) → AsksRight (PeerIsSelf me) (λ begins around. peer_is_self me)
 self_right me = record { asks = λ around way ss a. self_answers me way ss }
@@ -62,6 +64,7 @@ rec_answers around way (Choice p at bs rest) h = λ c x. x
 rec_answers around way (Rec p name body rest) h = λ c x. x
 rec_answers around way (Continue p name rest) h = unless_right (Contains way (Opens name)) (is_among name around) (culprit p name)
     (h.each name).0 (h.each name).1
+rec_answers around way (Do p name rest) h = λ c x. x
 
 pub rec_right : AsksRight UnknownRec (λ begins. unknown_rec)
 rec_right = record { asks = rec_answers }
@@ -74,6 +77,7 @@ twice_answers around way (Choice p at bs rest) h = λ c x. x
 twice_answers around way (Rec p name body rest) h = unless_not (Contains way (Opens name)) (is_among name around) (culprit p name)
     (h.each name).0 (h.each name).1
 twice_answers around way (Continue p name rest) h = λ c x. x
+twice_answers around way (Do p name rest) h = λ c x. x
 
 pub twice_right : AsksRight DuplicateRec (λ begins. duplicate_rec)
 twice_right = record { asks = twice_answers }
@@ -102,6 +106,7 @@ send_to (Branch (Says m rest) more) e = let h = both_true (is_send m.direction) 
 send_to (Branch (Choice p at bs rest) more) e = send_to more e
 send_to (Branch (Rec p name body rest) more) e = send_to more e
 send_to (Branch (Continue p name rest) more) e = send_to more e
+send_to (Branch (Do p name rest) more) e = send_to more e
 
 send_from : (bs : Branches) → AllSend bs → all_send bs ≡ true
 send_from NoBranch h = refl
@@ -110,6 +115,7 @@ send_from (Branch (Says m rest) more) h = both_so (is_send m.direction) (all_sen
 send_from (Branch (Choice p at bs rest) more) h = send_from more h
 send_from (Branch (Rec p name body rest) more) h = send_from more h
 send_from (Branch (Continue p name rest) more) h = send_from more h
+send_from (Branch (Do p name rest) more) h = send_from more h
 
 -- receives from a peer that is known
 one_known : (b s : Bool) (r : Bool) → (if b then false else (if s then r else false)) ≡ true → (b ≡ false) × (s ≡ true) × (r ≡ true)
@@ -133,6 +139,7 @@ from_to peer (Branch (Says m rest) more) e =
 from_to peer (Branch (Choice p at bs rest) more) e = from_to peer more e
 from_to peer (Branch (Rec p name body rest) more) e = from_to peer more e
 from_to peer (Branch (Continue p name rest) more) e = from_to peer more e
+from_to peer (Branch (Do p name rest) more) e = from_to peer more e
 
 from_from : (peer : Name) (bs : Branches) → AllFrom peer bs → one_peer (Some peer) bs ≡ true
 from_from peer NoBranch h = refl
@@ -142,6 +149,7 @@ from_from peer (Branch (Says m rest) more) h = known_so (is_send m.direction) (b
 from_from peer (Branch (Choice p at bs rest) more) h = from_from peer more h
 from_from peer (Branch (Rec p name body rest) more) h = from_from peer more h
 from_from peer (Branch (Continue p name rest) more) h = from_from peer more h
+from_from peer (Branch (Do p name rest) more) h = from_from peer more h
 
 any_to : (bs : Branches) → one_peer None bs ≡ true → (peer : Name) × AllFrom peer bs
 any_to NoBranch e = ([], tt)
@@ -152,16 +160,18 @@ any_to (Branch (Says m rest) more) e =
 any_to (Branch (Choice p at bs rest) more) e = any_to more e
 any_to (Branch (Rec p name body rest) more) e = any_to more e
 any_to (Branch (Continue p name rest) more) e = any_to more e
+any_to (Branch (Do p name rest) more) e = any_to more e
 
 any_from : (peer : Name) (bs : Branches) → AllFrom peer bs → one_peer None bs ≡ true
 any_from peer NoBranch h = refl
 any_from peer (Branch Nothing more) h = any_from peer more h
 any_from peer (Branch (Says m rest) more) h =
-    ap (λ x. if x then false else one_peer (Some m.peer) more) (ap is_send h.0) ∙ ap (λ n. one_peer (Some n) more) h.1 ∙ from_from peer more
-    h.2
+    ap (λ x. if x then false else one_peer (Some m.peer) more) (ap is_send h.0) ∙ ap (λ n. one_peer (Some n) more) h.1 ∙
+    from_from peer more h.2
 any_from peer (Branch (Choice p at bs rest) more) h = any_from peer more h
 any_from peer (Branch (Rec p name body rest) more) h = any_from peer more h
 any_from peer (Branch (Continue p name rest) more) h = any_from peer more h
+any_from peer (Branch (Do p name rest) more) h = any_from peer more h
 
 module _ (me at : Name) (bs : Branches) where
   uniform_to : (t : Bool) → Decides t (at ≡ me) → (if t then all_send bs else one_peer None bs) ≡ true → IsUniform me at bs
@@ -182,6 +192,7 @@ mixed_answers me way (Choice p at bs rest) =
     (uniform_from me at bs (bytes_eq at me) (bytes_eq-Decides at me))
 mixed_answers me way (Rec p name body rest) = λ c x. x
 mixed_answers me way (Continue p name rest) = λ c x. x
+mixed_answers me way (Do p name rest) = λ c x. x
 
 pub mixed_right : (me : Name) → AsksRight (MixedChoice me) (λ begins around. mixed_choice me)
 mixed_right me = record { asks = λ around way ss a. mixed_answers me way ss }
@@ -193,6 +204,7 @@ nothing_is (Says m rest) e = absurd (true≢false (sym e))
 nothing_is (Choice p at bs rest) e = absurd (true≢false (sym e))
 nothing_is (Rec p name body rest) e = absurd (true≢false (sym e))
 nothing_is (Continue p name rest) e = absurd (true≢false (sym e))
+nothing_is (Do p name rest) e = absurd (true≢false (sym e))
 
 either_so : (a b : Bool) → (a || b) ≡ true → (a ≡ true) ⊎ (b ≡ true)
 either_so true b e = inl refl
@@ -263,6 +275,7 @@ start_answers way (Says m rest) = λ c. ⊎_elim (λ x. x) (start_message way m 
 start_answers way (Choice p at bs rest) = start_choice way (is_some (beginning way)) refl p at bs rest
 start_answers way (Rec p name body rest) = start_other way (is_some (beginning way)) refl p (Rec p name body rest) refl tt (λ c x. x)
 start_answers way (Continue p name rest) = start_other way (is_some (beginning way)) refl p (Continue p name rest) refl tt (λ c x. x)
+start_answers way (Do p name rest) = start_other way (is_some (beginning way)) refl p (Do p name rest) refl tt (λ c x. x)
 
 pub start_right : AsksRight BranchStart (λ begins around. branch_start (is_some begins))
 start_right = record { asks = λ around way ss a. start_answers way ss }
@@ -282,6 +295,7 @@ label_answers me (Enters at earlier ∷ way) (Says m rest) = free_answers (is_fr
 label_answers me (Enters at earlier ∷ way) (Choice p x bs rest) = λ c x. x
 label_answers me (Enters at earlier ∷ way) (Rec p name body rest) = λ c x. x
 label_answers me (Enters at earlier ∷ way) (Continue p name rest) = λ c x. x
+label_answers me (Enters at earlier ∷ way) (Do p name rest) = λ c x. x
 
 pub label_right : (me : Name) → AsksRight (ReservedLabel me) (λ begins around. reserved_label me begins)
 label_right me = record { asks = λ around way ss a. label_answers me way ss }

@@ -1,18 +1,20 @@
 -- The actions of a statement alone, and behind it.
-use Rattle.std.proofs.Common.{◌≡◌, ℕ, ◌+◌, ◌<◌, get_or, drop, length, Bool, true, false, if◌then◌else◌, List, [], ◌∷◌, ◌++◌, Option, Some}
-use Rattle.std.proofs.Common.{None, refl, sym, ap, ◌∙◌, append_assoc}
+use Rattle.std.proofs.Common.{◌≡◌, ℕ, ◌+◌, ◌<◌, ◌≤◌, get_or, drop, map, length, Bool, true, false, if◌then◌else◌, List, [], ◌∷◌, ◌++◌}
+use Rattle.std.proofs.Common.{Option, Some, None, refl, sym, ap, ◌∙◌, append_assoc}
 use Rattle.std.specs.Str.{bytes_eq}
-use Rattle.std.proofs.lemmas.List.{append-nil}
+use Rattle.std.proofs.lemmas.List.{append-nil, at_drop_more, at_drop_all}
 use Rattle.std.proofs.lemmas.Grind.{common_steps}
 use Rattle.mg_text.specs.Call.{Name}
 use Rattle.mg_text.specs.Row.{Row}
 use Rattle.scr_tree.specs.declared.syntax.Message.{Message}
 use Rattle.scr_tree.specs.declared.syntax.Statement.{Statement}
 use Rattle.scr_tree.specs.declared.syntax.Statement.TheVariants as kinds
-use Rattle.scr_tree.specs.Tree.{Statements, Nothing, Says, Choice, Rec, Continue, Branches, Branch}
+use Rattle.scr_tree.specs.declared.written.WrittenPart.{WrittenPart as Part}
+use Rattle.scr_tree.specs.Written.{part_written, me_in, body_of}
+use Rattle.scr_tree.specs.Tree.{Statements, Nothing, Says, Choice, Rec, Continue, Do, Branches, Branch}
 use Rattle.scr_tree.specs.View.{front, statements}
-use Rattle.scr_tree.proofs.ViewLemmas.{front-Message, front-Choice, front-Rec, front-Continue}
-use Rattle.scr_tree.specs.Actions.{Action, said, actions, actions_in, next, next_in, peer_in, looked_unless, opened}
+use Rattle.scr_tree.proofs.ViewLemmas.{front-Message, front-Choice, front-Rec, front-Continue, front-Do}
+use Rattle.scr_tree.specs.Actions.{Action, said, actions, actions_in, all_actions, next, next_in, peer_in, looked_unless, opened}
 use Rattle.scr_judge.specs.inner.Finding.{first_said}
 use Rattle.scr_tree.specs.View.{bodies}
 use Rattle.scr_tree.proofs.Behind.{each_front, statements-step, statements-past, bodies-step, bodies-past}
@@ -20,7 +22,7 @@ use Rattle.scr_tree.proofs.Behind.{each_front, statements-step, statements-past,
 module _ (me : Name) (n : ℕ) where
   pub next-front : (s : Statement) (rest : Statements) → next me n (front s rest) ≡ next me (next me n (front s Nothing)) rest
   next-front s rest = each_front (λ f. next me n (f rest) ≡ next me (next me n (f Nothing)) rest) (λ m. refl) (λ p at bs. refl)
-      (λ p name body. refl) (λ p name. refl) s
+      (λ p name body. refl) (λ p name. refl) (λ p name. refl) s
 
   alone-choice : (a b r : List Action) → a ++ (b ++ r) ≡ (a ++ (b ++ [])) ++ r
   alone-choice a b r = ap (λ x. a ++ (x ++ r)) (sym (append-nil b)) ∙ sym (append_assoc a (b ++ []) r)
@@ -30,7 +32,8 @@ module _ (me : Name) (n : ℕ) where
   actions-front s rest =
       each_front (λ f. actions me n (f rest) ≡ actions me n (f Nothing) ++ actions me (next me n (f Nothing)) rest) (λ m. refl)
       (λ p at bs. alone-choice (looked_unless (bytes_eq at me) me n p (peer_in bs)) (actions_in me (opened (bytes_eq at me) n) bs) _)
-      (λ p name body. ap (λ x. x ++ actions me (next me n body) rest) (sym (append-nil (actions me n body)))) (λ p name. refl) s
+      (λ p name body. ap (λ x. x ++ actions me (next me n body) rest) (sym (append-nil (actions me n body)))) (λ p name. refl)
+      (λ p name. refl) s
 
   -- a statement alone
   pub actions-Message : (m : Message) → actions me n (front (kinds.Message m) Nothing) ≡ said m ∷ []
@@ -52,12 +55,12 @@ module _ (me : Name) (n : ℕ) where
   next-Choice p at bs self e = ap (λ f. next me n (f Nothing)) (front-Choice p at bs) ∙ ap (λ b. next_in me (opened b n) (bodies bs.items))
       e
 
-  pub actions-Rec : (p : _) (name : Name) (body : Row Statement) → actions me n (front (kinds.Rec p name body) Nothing) ≡ actions me n
-      (statements body.items)
+  pub actions-Rec : (p : _) (name : Name) (body : Row Statement) → actions me n (front (kinds.Rec p name body) Nothing)
+      ≡ actions me n (statements body.items)
   actions-Rec p name body = ap (λ f. actions me n (f Nothing)) (front-Rec p name body) ∙ append-nil _
 
-  pub next-Rec : (p : _) (name : Name) (body : Row Statement) → next me n (front (kinds.Rec p name body) Nothing) ≡ next me n
-      (statements body.items)
+  pub next-Rec : (p : _) (name : Name) (body : Row Statement) → next me n (front (kinds.Rec p name body) Nothing)
+      ≡ next me n (statements body.items)
   next-Rec p name body = ap (λ f. next me n (f Nothing)) (front-Rec p name body)
 
   -- the step of a walk over statements
@@ -70,19 +73,21 @@ module _ (me : Name) (n : ℕ) where
     actions-step = ap (actions me n) (statements-step ss i x within is) ∙ actions-front x _
     -- the first peer
 
-pub peers-said : (ss : Statements) (more : Branches) (o : Option Message) → first_said ss ≡ o →
-    peer_in (Branch ss more) ≡ elim o [ None ↦ None | Some m ↦ Some m.peer ]
+pub peers-said : (ss : Statements) (more : Branches) (o : Option Message) → first_said ss ≡ o → peer_in (Branch ss more)
+    ≡ elim o [ None ↦ None | Some m ↦ Some m.peer ]
 peers-said Nothing more o e = ap (λ o. elim o [ None ↦ None | Some m ↦ Some m.peer ]) e
 peers-said (Says m rest) more o e = ap (λ o. elim o [ None ↦ None | Some m ↦ Some m.peer ]) e
 peers-said (Choice p at bs rest) more o e = ap (λ o. elim o [ None ↦ None | Some m ↦ Some m.peer ]) e
 peers-said (Rec p name body rest) more o e = ap (λ o. elim o [ None ↦ None | Some m ↦ Some m.peer ]) e
 peers-said (Continue p name rest) more o e = ap (λ o. elim o [ None ↦ None | Some m ↦ Some m.peer ]) e
+peers-said (Do p name rest) more o e = ap (λ o. elim o [ None ↦ None | Some m ↦ Some m.peer ]) e
 
 pub ruleset peers = (common_steps, peers-said)
 
 pub ruleset alone = (
   common_steps,
   front-Continue,
+  front-Do,
   actions-Message,
   next-Message,
   actions-Choice,
@@ -92,6 +97,21 @@ pub ruleset alone = (
   append_assoc,
   append-nil,
 )
+
+-- the protocol at an index, and those behind it
+pub part-step : (n : ℕ) (ps : List Part) (i : ℕ) (x : Part) → i < length ps → x ≡ get_or ps i x →
+    all_actions me_in body_of n (map part_written (drop i ps)) ≡
+    actions x.me.name n (statements x.body.items) ++ all_actions me_in body_of (next x.me.name n (statements x.body.items))
+    (map part_written (drop (i + 1) ps))
+part-step n ps i x within is =
+    at_drop_more (λ qs. all_actions me_in body_of n (map part_written qs)) ps i x within
+    ∙ ap (λ (y : Part). actions y.me.name n (statements y.body.items) ++ all_actions me_in body_of
+    (next y.me.name n (statements y.body.items)) (map part_written (drop (i + 1) ps))) (sym is)
+
+pub part-past : (n : ℕ) (ps : List Part) (i : ℕ) → length ps ≤ i → all_actions me_in body_of n (map part_written (drop i ps)) ≡ []
+part-past n ps i h = at_drop_all (λ qs. all_actions me_in body_of n (map part_written qs)) ps i h
+
+pub ruleset part_steps = (common_steps, part-step, part-past, append_assoc, append-nil)
 
 pub ruleset all_steps = (common_steps, next-step, actions-step, statements-past, append_assoc, append-nil)
 

@@ -1,18 +1,22 @@
 -- Counting up to one too many says whether there are too many states.
 use Rattle.std.proofs.Common.{◌≡◌, ◌↔◌, ◌⊎◌, ⊎_elim, ℕ, ◌+◌, ◌<◌, ◌≤◌, nat_lt, Bool, true, false, not, cond, IsTrue, Some, None}
-use Rattle.std.proofs.Common.{if◌then◌else◌, List, [], ◌∷◌, ◌++◌, length, refl, sym, ap, subst, ◌∙◌, true≢false, arith, length-append}
+use Rattle.std.proofs.Common.{if◌then◌else◌, List, [], ◌∷◌, ◌++◌, map, length, refl, sym, ap, subst, ◌∙◌, true≢false, arith, length-append}
 use Rattle.std.specs.List.{filter}
 use Rattle.std.specs.Str.{bytes_eq}
 use Rattle.std.proofs.lemmas.List.Elements.{filter-append}
 use Rattle.std.proofs.lemmas.Bool.Decides.{nat_tests}
 use Rattle.mg_text.specs.Call.{Name}
-use Rattle.scr_tree.specs.Tree.{Statements, Nothing, Says, Choice, Rec, Continue, Branches, NoBranch, Branch}
+use Rattle.scr_tree.specs.Tree.{Statements, Nothing, Says, Choice, Rec, Continue, Do, Branches, NoBranch, Branch}
 use Rattle.scr_tree.specs.Spots.{Past, Opens, Enters, Way, Spot, spot, spots, branch_spots}
 use Rattle.mg_read.specs.Culprit.{culprit}
 use Rattle.mg_read.specs.First.{Judged, clean, here, later}
 use Rattle.mg_text.specs.Places.{start_of}
-use Rattle.scr_tree.specs.States.{TooManyStates, begins, is_state}
-use Rattle.scr_judge.specs.inner.Counting.{up, counted, counted_in}
+use Rattle.scr_tree.specs.States.{TooManyStates, begins, is_state, states, all_states}
+use Rattle.scr_tree.specs.View.{statements}
+use Rattle.scr_tree.specs.Written.{part_written, parts_in, me_in, body_of, written_of}
+use Rattle.scr_tree.specs.declared.written.Written.{Written}
+use Rattle.scr_tree.specs.declared.written.WrittenPart.{WrittenPart as Part}
+use Rattle.scr_judge.specs.inner.Counting.{up, counted, counted_in, counted_parts}
 
 -- r is n + k, or 1,001 where that is less
 pub record Counts (n k r : ℕ) : Type 0 where
@@ -106,12 +110,14 @@ module _ (me : Name) where
         chosen n _ _ (branch_spots way at [] bs) (spots (Past (Choice p at bs Nothing) ∷ way) rest) (spot way (Choice p at bs rest)) refl h
         inner (counted_exact false _ (Past (Choice p at bs Nothing) ∷ way) rest refl (below _ _ _ inner))
     counted_exact first n way (Rec p name body rest) e h =
-        let inner : Counts n (many (spots (Opens name ∷ way) body)) (counted me false n body) = counted_exact false n (Opens name ∷ way)
-        body refl h in
+        let inner : Counts n (many (spots (Opens name ∷ way) body)) (counted me false n body) =
+        counted_exact false n (Opens name ∷ way) body refl h in
         passed n _ _ (spots (Opens name ∷ way) body) (spots (Past (Rec p name body Nothing) ∷ way) rest) (spot way (Rec p name body rest))
         refl inner (counted_exact false _ (Past (Rec p name body Nothing) ∷ way) rest refl (below _ _ _ inner))
     counted_exact first n way (Continue p name rest) e h = passed n n _ [] (spots (Past (Continue p name Nothing) ∷ way) rest)
         (spot way (Continue p name rest)) refl (nothing n h) (counted_exact false n (Past (Continue p name Nothing) ∷ way) rest refl h)
+    counted_exact first n way (Do p name rest) e h = passed n n _ [] (spots (Past (Do p name Nothing) ∷ way) rest)
+        (spot way (Do p name rest)) refl (nothing n h) (counted_exact false n (Past (Do p name Nothing) ∷ way) rest refl h)
 
     pub counted_in_exact : (n : ℕ) (way : Way) (at : Name) (earlier : List Statements) (bs : Branches) → n ≤ 1001 →
         Counts n (many (branch_spots way at earlier bs)) (counted_in me (bytes_eq at me) n bs)
@@ -123,24 +129,37 @@ module _ (me : Name) where
         (counted_in_exact _ way at (b ∷ earlier) more (below _ _ _ inner)) (many-append (spots (Enters at earlier ∷ way) b)
         (branch_spots way at (b ∷ earlier) more))
 
--- whether there are more than a thousand states
-pub too_many : (me : Name) (body : Statements) (n : ℕ) → n ≡ counted me false 0 body →
-    (1000 < n) ↔ (1000 < length (filter (is_state me) (spots [] body)))
+-- the same of protocols, one after another
+parts_count : (ps : List Part) (n : ℕ) → n ≤ 1001 → Counts n (length (all_states me_in body_of (map part_written ps))) (counted_parts n ps)
 unfolding many
-too_many me body n e =
-    let c : Counts 0 (length (filter (is_state me) (spots [] body))) (counted me false 0 body) = counted_exact me false 0 [] body refl
-    (omega arith) in (
+parts_count [] n h = nothing n h
+parts_count (p ∷ ps) n h =
+    let own : Counts n (many p.me.name (spots [] (statements p.body.items))) (counted p.me.name false n (statements p.body.items)) =
+    counted_exact p.me.name false n [] (statements p.body.items) refl h in
+    both n (many p.me.name (spots [] (statements p.body.items))) (length (all_states me_in body_of (map part_written ps))) _ _ _ own
+    (parts_count ps (counted p.me.name false n (statements p.body.items)) (below _ _ _ own))
+    (sym (length-append (states p.me.name (statements p.body.items)) (all_states me_in body_of (map part_written ps))))
+
+too_many_in : (p : Part) (ps : List Part) (n : ℕ) → n ≡ counted_parts (counted p.me.name false 0 (statements p.body.items)) ps →
+    (1000 < n) ↔ (1000 < length (all_states me_in body_of (map part_written (p ∷ ps))))
+too_many_in p ps n e =
+    let c : Counts 0 (length (all_states me_in body_of (map part_written (p ∷ ps)))) (counted_parts 0 (p ∷ ps)) =
+    parts_count (p ∷ ps) 0 (omega arith) in (
       λ l. ⊎_elim (λ small. let f = c.low small in omega (arith, l, e, f)) (λ big. omega (arith, big))
-          (less_or (0 + length (filter (is_state me) (spots [] body)))),
+          (less_or (0 + length (all_states me_in body_of (map part_written (p ∷ ps))))),
       λ l. let f = c.high (omega (arith, l)) in omega (arith, e, f),
     )
   where
     less_or : (m : ℕ) → (m < 1001) ⊎ (1001 ≤ m)
     less_or m = grind arith
 
+-- whether there are more than a thousand states
+pub too_many : (w : Written) (n : ℕ) → n ≡ counted_parts (counted w.first.me.name false 0 (statements w.first.body.items)) w.others.items →
+    (1000 < n) ↔ (1000 < length (all_states me_in body_of (parts_in (written_of 0 w))))
+too_many w n e = too_many_in w.first w.others.items n e
+
 -- the file is judged
-pub judged_file : (file : ℕ) (me : Name) (body : Statements) (b : Bool) →
-    (IsTrue b ↔ (1000 < length (filter (is_state me) (spots [] body)))) →
-    Judged (TooManyStates file me) (body ∷ []) (if b then Some (culprit (start_of file) []) else None)
-judged_file file me body true h = here (refl, h.0 refl)
-judged_file file me body false h = later (λ c x. true≢false (sym (h.1 x.1))) clean
+pub judged_file : (file : ℕ) (found : List Spot) (b : Bool) → (IsTrue b ↔ (1000 < length found)) →
+    Judged (TooManyStates file) (found ∷ []) (if b then Some (culprit (start_of file) []) else None)
+judged_file file found true h = here (refl, h.0 refl)
+judged_file file found false h = later (λ c x. true≢false (sym (h.1 x.1))) clean

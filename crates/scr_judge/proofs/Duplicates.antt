@@ -22,7 +22,7 @@ pub record HasNames (has : Names) (names : List Name) : Type 0 where
 pub has_none : (has : Names) → has ≡ none → HasNames has []
 has_none has e = record { each = λ q. (λ t. absurd (true≢false (sym t ∙ ap (λ h. h q) e)), λ c. absurd (Contains-nil q c)) }
 
-has_more : (t b : Bool) (names : List Name) (name q : Name) → Decides t (name ≡ q) → (IsTrue b ↔ Contains names q) →
+pub has_more : (t b : Bool) (names : List Name) (name q : Name) → Decides t (name ≡ q) → (IsTrue b ↔ Contains names q) →
     IsTrue (t || b) ↔ Contains (names ++ name ∷ []) q
 has_more true b names name q d h = (λ _. subst (Contains (names ++ name ∷ [])) (d.0 refl) (Contains-push names name), λ _. refl)
 has_more false b names name q d h = (

@@ -88,10 +88,15 @@ listed_from ds q c a = (a.0, subst (Contains (map role_name q.0)) a.3 (Contains-
 declares_push : (xs : List Declaration) (x : Declaration) → map declares (xs ++ x ∷ []) ≡ map declares xs ++ declares x ∷ []
 declares_push xs x = map-append declares xs (x ∷ [])
 
-lists_push : (ds : List Declaration) (xs : List Role) (x : Role) → (map declares ds ++ map lists (xs ++ x ∷ [])) ≡
-    (map declares ds ++ map lists xs) ++ lists x ∷ []
+lists_push : (ds : List Declaration) (xs : List Role) (x : Role) → (map declares ds ++ map lists (xs ++ x ∷ []))
+    ≡ (map declares ds ++ map lists xs) ++ lists x ∷ []
 lists_push ds xs x = ap (λ ys. map declares ds ++ ys) (map-append lists xs (x ∷ [])) ∙
     sym (append_assoc (map declares ds) (map lists xs) (lists x ∷ []))
+
+-- the roles that another protocol lists
+pub listed_alone : (rs : List Role) {r : Option Culprit} → Judged ListedTwice (with_earlier rs) r →
+    Judged DuplicateName (with_earlier (map lists rs)) r
+listed_alone rs q = judged-behind lists (λ xs. map declares [] ++ map lists xs) (lists_push []) (listed_to []) (listed_from []) [] rs q
 
 -- first the declarations are judged, and then the roles
 pub duplicate_name : (ds : List Declaration) (rs : List Role) {r s : Option Culprit} → Judged DeclaredTwice (with_earlier ds) r →
@@ -108,5 +113,5 @@ pub duplicate_declaration : (ds : List Declaration) (rs : List Role) (c : Culpri
     Judged DuplicateName (with_earlier (map declares ds ++ map lists rs)) (Some c)
 duplicate_declaration ds rs c p =
     subst (λ ys. Judged DuplicateName ys (Some c)) (sym (behind-append [] (map declares ds) (map lists rs)))
-    (judged-found (behind ([] ++ map declares ds) (map lists rs)) (judged-behind declares (map declares) declares_push declared_to
-    declared_from [] ds p))
+    (judged-found (behind ([] ++ map declares ds) (map lists rs))
+    (judged-behind declares (map declares) declares_push declared_to declared_from [] ds p))

@@ -8,7 +8,7 @@ use Rattle.scr_tree.specs.declared.syntax.Statement.{Statement}
 use Rattle.scr_tree.specs.declared.syntax.Statement.TheVariants as kinds
 use Rattle.scr_tree.specs.Tree.{Statements, Nothing}
 use Rattle.scr_tree.specs.View.{front, statements}
-use Rattle.scr_tree.proofs.ViewLemmas.{front-Message, front-Choice, front-Rec, front-Continue}
+use Rattle.scr_tree.proofs.ViewLemmas.{front-Message, front-Choice, front-Rec, front-Continue, front-Do}
 use Rattle.mg_read.specs.Culprit.{Culprit}
 use Rattle.scr_tree.specs.Control.{falls, some_falls}
 use Rattle.scr_judge.specs.inner.Finding.{unreachable, unreachable_in, unreachable_behind, stands}
@@ -20,7 +20,7 @@ pub falls-front : (s : Statement) (rest : Statements) → falls (front s rest) �
 falls-front s rest =
     each_front (λ f. falls (f rest) ≡ (falls (f Nothing) && falls rest)) (λ m. refl)
     (λ p at bs. ap (λ b. b && falls rest) (and_true (some_falls bs)))
-    (λ p name body. ap (λ b. b && falls rest) (and_true (falls body))) (λ p name. refl) s
+    (λ p name body. ap (λ b. b && falls rest) (and_true (falls body))) (λ p name. refl) (λ p name. refl) s
 
 behind_nothing : (b : Bool) → None ≡ unreachable_behind b Nothing
 behind_nothing true = refl
@@ -35,20 +35,20 @@ pub unreachable-front : (s : Statement) (rest : Statements) → unreachable (fro
 unreachable-front s rest =
     each_front (λ f. unreachable (f rest) ≡ option_or (unreachable (f Nothing)) (unreachable_behind (falls (f Nothing)) rest))
     (λ m. refl) (λ p at bs. alone (unreachable_in bs) (some_falls bs) rest) (λ p name body. alone (unreachable body) (falls body) rest)
-    (λ p name. refl) s
+    (λ p name. refl) (λ p name. refl) s
 
 -- a statement alone
-pub unreachable-Choice : (p : _) (at : Name) (bs : Row (Row Statement)) → unreachable (front (kinds.Choice p at bs) Nothing) ≡
-    unreachable_in (bodies bs.items)
+pub unreachable-Choice : (p : _) (at : Name) (bs : Row (Row Statement)) → unreachable (front (kinds.Choice p at bs) Nothing)
+    ≡ unreachable_in (bodies bs.items)
 unreachable-Choice p at bs = ap (λ f. unreachable (f Nothing)) (front-Choice p at bs) ∙
     sym (or_none _ ∙ ap (option_or _) (behind_nothing _))
 
-pub falls-Choice : (p : _) (at : Name) (bs : Row (Row Statement)) → falls (front (kinds.Choice p at bs) Nothing) ≡ some_falls
-    (bodies bs.items)
+pub falls-Choice : (p : _) (at : Name) (bs : Row (Row Statement)) → falls (front (kinds.Choice p at bs) Nothing)
+    ≡ some_falls (bodies bs.items)
 falls-Choice p at bs = ap (λ f. falls (f Nothing)) (front-Choice p at bs) ∙ sym (and_true _)
 
-pub unreachable-Rec : (p : _) (name : Name) (body : Row Statement) → unreachable (front (kinds.Rec p name body) Nothing) ≡ unreachable
-    (statements body.items)
+pub unreachable-Rec : (p : _) (name : Name) (body : Row Statement) → unreachable (front (kinds.Rec p name body) Nothing)
+    ≡ unreachable (statements body.items)
 unreachable-Rec p name body = ap (λ f. unreachable (f Nothing)) (front-Rec p name body) ∙
     sym (or_none _ ∙ ap (option_or _) (behind_nothing _))
 
@@ -58,7 +58,7 @@ falls-Rec p name body = ap (λ f. falls (f Nothing)) (front-Rec p name body) ∙
 -- the place of a statement does not depend on what stands behind it
 pub stands-front : (s : Statement) (rest : Statements) → stands (front s rest) ≡ stands (front s Nothing)
 stands-front s rest = each_front (λ f. stands (f rest) ≡ stands (f Nothing)) (λ m. refl) (λ p at bs. refl) (λ p name body. refl)
-    (λ p name. refl) s
+    (λ p name. refl) (λ p name. refl) s
 
 -- the step of a walk over statements
 module _ (ss : List Statement) (i : ℕ) (x : Statement) (within : i < length ss) (is : x ≡ get_or ss i x) where
@@ -87,6 +87,7 @@ pub ruleset falls_alone = (
   front-Choice,
   front-Rec,
   front-Continue,
+  front-Do,
   unreachable-Choice,
   falls-Choice,
   unreachable-Rec,

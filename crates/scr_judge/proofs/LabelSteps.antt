@@ -7,9 +7,9 @@ use Rattle.mg_text.specs.Row.{Row}
 use Rattle.scr_tree.specs.declared.syntax.Message.{Message}
 use Rattle.scr_tree.specs.declared.syntax.Statement.{Statement}
 use Rattle.scr_tree.specs.declared.syntax.Statement.TheVariants as kinds
-use Rattle.scr_tree.specs.Tree.{Statements, Nothing, Says, Choice, Rec, Continue}
+use Rattle.scr_tree.specs.Tree.{Statements, Nothing, Says, Choice, Rec, Continue, Do}
 use Rattle.scr_tree.specs.View.{front, statements}
-use Rattle.scr_tree.proofs.ViewLemmas.{front-Message, front-Choice, front-Rec, front-Continue}
+use Rattle.scr_tree.proofs.ViewLemmas.{front-Message, front-Choice, front-Rec, front-Continue, front-Do}
 use Rattle.mg_read.specs.Culprit.{Culprit}
 use Rattle.scr_judge.specs.inner.Finding.{same, same_in, first_said, head_of, with_key, head_fault, with_head}
 use Rattle.scr_judge.specs.inner.Seen.{Names, none}
@@ -22,15 +22,15 @@ pub same-front : (me : Name) (s : Statement) (rest : Statements) → same me (fr
 same-front me s rest =
     each_front (λ f. same me (f rest) ≡ option_or (same me (f Nothing)) (same me rest)) (λ m. refl)
     (λ p at bs. ap (λ o. option_or o (same me rest)) (or_none (same_in me at none bs))) (λ p name body. ap (λ o. option_or o (same me rest))
-    (or_none (same me body))) (λ p name. refl) s
+    (or_none (same me body))) (λ p name. refl) (λ p name. refl) s
 
 -- a statement alone
-pub same-Choice : (p : _) (at : Name) (bs : Row (Row Statement)) (me : Name) → same me (front (kinds.Choice p at bs) Nothing) ≡ same_in me
-    at none (bodies bs.items)
+pub same-Choice : (p : _) (at : Name) (bs : Row (Row Statement)) (me : Name) → same me (front (kinds.Choice p at bs) Nothing)
+    ≡ same_in me at none (bodies bs.items)
 same-Choice p at bs me = ap (λ f. same me (f Nothing)) (front-Choice p at bs) ∙ sym (or_none _)
 
-pub same-Rec : (p : _) (name : Name) (body : Row Statement) (me : Name) → same me (front (kinds.Rec p name body) Nothing) ≡ same me
-    (statements body.items)
+pub same-Rec : (p : _) (name : Name) (body : Row Statement) (me : Name) → same me (front (kinds.Rec p name body) Nothing)
+    ≡ same me (statements body.items)
 same-Rec p name body me = ap (λ f. same me (f Nothing)) (front-Rec p name body) ∙ sym (or_none _)
 
 -- the step of a walk over statements
@@ -55,6 +55,7 @@ head-is me at has (Says m rest) = refl
 head-is me at has (Choice p a bs rest) = refl
 head-is me at has (Rec p n body rest) = refl
 head-is me at has (Continue p n rest) = refl
+head-is me at has (Do p n rest) = refl
 
 key-is : (me at : Name) (has : Names) (b : Statements) → with_head me at has b ≡ with_key me at has (first_said b)
 key-is me at has Nothing = refl
@@ -62,6 +63,7 @@ key-is me at has (Says m rest) = refl
 key-is me at has (Choice p a bs rest) = refl
 key-is me at has (Rec p n body rest) = refl
 key-is me at has (Continue p n rest) = refl
+key-is me at has (Do p n rest) = refl
 
 -- the step of a walk over branches
 pub same_in-step : (me at : Name) (has : Names) (bs : List (Row Statement)) (i : ℕ) (x : Row Statement) → i < length bs → x ≡ get_or bs i x
@@ -87,9 +89,12 @@ said-Rec p name body rest = ap (λ f. first_said (f rest)) (front-Rec p name bod
 pub said-Continue : (p : _) (name : Name) (rest : Statements) → first_said (front (kinds.Continue p name) rest) ≡ None
 said-Continue p name rest = ap (λ f. first_said (f rest)) (front-Continue p name)
 
-pub ruleset first_saids = (common_steps, said-Message, said-Choice, said-Rec, said-Continue)
+pub said-Do : (p : _) (name : Name) (rest : Statements) → first_said (front (kinds.Do p name) rest) ≡ None
+said-Do p name rest = ap (λ f. first_said (f rest)) (front-Do p name)
 
-pub ruleset same_alone = (common_steps, front-Message, front-Continue, same-Choice, same-Rec)
+pub ruleset first_saids = (common_steps, said-Message, said-Choice, said-Rec, said-Continue, said-Do)
+
+pub ruleset same_alone = (common_steps, front-Message, front-Continue, front-Do, same-Choice, same-Rec)
 
 pub ruleset same_steps = (common_steps, same_later, same_here, statements-past)
 

@@ -6,7 +6,7 @@ use Rattle.std.specs.Str.{bytes_eq}
 use Rattle.std.proofs.lemmas.Slice.Eq.{bytes_eq-Decides}
 use Rattle.mg_text.specs.Call.{Name}
 use Rattle.scr_tree.specs.declared.syntax.Message.{Message}
-use Rattle.scr_tree.specs.Tree.{Statements, Nothing, Says, Choice, Rec, Continue, Branches, NoBranch, Branch}
+use Rattle.scr_tree.specs.Tree.{Statements, Nothing, Says, Choice, Rec, Continue, Do, Branches, NoBranch, Branch}
 use Rattle.mg_read.specs.First.{Judged, clean, here, later}
 use Rattle.mg_read.proofs.Judging.{judged-append}
 use Rattle.scr_tree.specs.Spots.{Past, Enters, Way, spot, spots, branch_spots}
@@ -54,6 +54,7 @@ module _ (me : Name) where
     keys_more (Choice p a bs rest) = record { each = λ q. none_more q (has q) _ (h.each q) }
     keys_more (Rec p n body rest) = record { each = λ q. none_more q (has q) _ (h.each q) }
     keys_more (Continue p n rest) = record { each = λ q. none_more q (has q) _ (h.each q) }
+    keys_more (Do p n rest) = record { each = λ q. none_more q (has q) _ (h.each q) }
 
     -- a branch, where what is found in it is given
     said : (way : Way) (m : Message) (rest : Statements) (b : Bool) (r : Option Culprit) → has (key me at m) ≡ b →
@@ -72,6 +73,7 @@ module _ (me : Name) where
         later h (judged-append (same_exact_in way at none [] (no_keys me at) bs) (same_exact _ rest (λ c x. x)))
     same_exact way (Rec p name body rest) h = later h (judged-append (same_exact _ body (λ c x. x)) (same_exact _ rest (λ c x. x)))
     same_exact way (Continue p name rest) h = later h (same_exact _ rest (λ c x. x))
+    same_exact way (Do p name rest) h = later h (same_exact _ rest (λ c x. x))
 
     branch_exact : (way : Way) (at : Name) (has : Names) (earlier : List Statements) → AreKeys me at has earlier → (b : Statements) →
         Judged (SameLabel me) (spots (Enters at earlier ∷ way) b) (option_or (head_fault me at has b) (same me b))
@@ -83,6 +85,7 @@ module _ (me : Name) where
     branch_exact way at has earlier h (Rec p name body rest) =
         later (λ c x. x) (judged-append (same_exact _ body (λ c x. x)) (same_exact _ rest (λ c x. x)))
     branch_exact way at has earlier h (Continue p name rest) = later (λ c x. x) (same_exact _ rest (λ c x. x))
+    branch_exact way at has earlier h (Do p name rest) = later (λ c x. x) (same_exact _ rest (λ c x. x))
 
     pub same_exact_in : (way : Way) (at : Name) (has : Names) (earlier : List Statements) → AreKeys me at has earlier → (bs : Branches) →
         Judged (SameLabel me) (branch_spots way at earlier bs) (same_in me at has bs)

@@ -1,11 +1,11 @@
 -- Walking with the names of the recs that are open and unguarded finds the first unguarded `continue`.
-use Rattle.std.proofs.Common.{◌≡◌, ◌≢◌, ◌↔◌, Bool, true, false, ◌&&◌, ◌||◌, IsTrue, if◌then◌else◌, List, [], ◌∷◌, Option, Some, Decides}
-use Rattle.std.proofs.Common.{refl, sym, subst, ◌∙◌, true≢false}
+use Rattle.std.proofs.Common.{◌≡◌, ◌≢◌, ◌↔◌, Bool, true, false, ◌&&◌, ◌||◌, IsTrue, if◌then◌else◌, List, [], ◌∷◌, Option, Some, None}
+use Rattle.std.proofs.Common.{Decides, refl, sym, subst, ◌∙◌, true≢false}
 use Rattle.std.specs.Str.{bytes_eq}
 use Rattle.std.proofs.lemmas.Slice.Eq.{bytes_eq-Decides}
 use Rattle.mg_text.specs.Call.{Name}
 use Rattle.mg_text.specs.declared.place.Place.{Place}
-use Rattle.scr_tree.specs.Tree.{Statements, Nothing, Says, Choice, Rec, Continue, Branches, NoBranch, Branch}
+use Rattle.scr_tree.specs.Tree.{Statements, Nothing, Says, Choice, Rec, Continue, Do, Branches, NoBranch, Branch}
 use Rattle.mg_read.specs.First.{Judged, clean, here, later}
 use Rattle.mg_read.proofs.Judging.{judged-append}
 use Rattle.scr_tree.specs.Spots.{Past, Opens, Enters, Way, Spot, spot, spots, branch_spots}
@@ -14,6 +14,7 @@ use Rattle.scr_tree.specs.Control.{passes, some_passes, Quietly, opened, past, o
 use Rattle.scr_tree.specs.Conditions.{Unguarded}
 use Rattle.scr_judge.specs.inner.Names.{is_among}
 use Rattle.scr_judge.specs.inner.Finding.{kept, unguarded, unguarded_in}
+use Rattle.scr_judge.specs.inner.Round.{kept_goal}
 
 -- the names are those from whose openings a path without a message leads here
 pub record AreOpen (names : List Name) (way : Way) : Type 0 where
@@ -44,7 +45,7 @@ quietly_opened w (entering q) other way e differs = let no : ⊥ = cc in absurd 
 
 module _ {names : List Name} {way : Way} (h : AreOpen names way) where
   -- behind a statement
-  past_open : (b : Bool) (s : Statements) → passes s ≡ b → AreOpen (kept b names) (Past s ∷ way)
+  pub past_open : (b : Bool) (s : Statements) → passes s ≡ b → AreOpen (kept b names) (Past s ∷ way)
   past_open true s e = record { each = λ n. (λ t. past e ((h.each n).0 t), λ q. (h.each n).1 (quietly_past _ q s way refl).1) }
   past_open false s e = record {
     each =
@@ -57,11 +58,11 @@ module _ {names : List Name} {way : Way} (h : AreOpen names way) where
   opens_one name q false d =
       (λ i. opening ((h.each q).0 i), λ k. (h.each q).1 (quietly_opened _ k name way refl (λ same. true≢false (sym (d.1 (sym same))))))
 
-  body_open : (name : Name) → AreOpen (name ∷ names) (Opens name ∷ way)
+  pub body_open : (name : Name) → AreOpen (name ∷ names) (Opens name ∷ way)
   body_open name = record { each = λ q. opens_one name q (bytes_eq q name) (bytes_eq-Decides q name) }
 
   -- in a branch
-  branch_open : (at : Name) (earlier : List Statements) → AreOpen names (Enters at earlier ∷ way)
+  pub branch_open : (at : Name) (earlier : List Statements) → AreOpen names (Enters at earlier ∷ way)
   branch_open at earlier = record { each = λ n. (λ t. entering ((h.each n).0 t), λ q. (h.each n).1 (quietly_in _ q at earlier way refl)) }
 
 pub and_true : (b : Bool) → (b && true) ≡ b
@@ -74,23 +75,37 @@ found_or : (b : Bool) (names : List Name) (way : Way) (p : Place) (name : Name) 
 found_or true names way p name rest more r h e q = here (refl, (h.each name).0 e)
 found_or false names way p name rest more r h e q = later (λ c x. true≢false (sym ((h.each name).1 x.1) ∙ e)) q
 
+-- no name is sought
+kept_none : (b : Bool) → kept_goal b None ≡ None
+kept_none true = refl
+kept_none false = refl
+
+-- what is found behind statements does not ask whether they are passed
+behind_none : (b : Bool) (names : List Name) (way : Way) (rest : Statements) → Judged Unguarded (spots way rest) (unguarded names None rest)
+    →
+    Judged Unguarded (spots way rest) (unguarded names (kept_goal b None) rest)
+behind_none b names way rest j = subst (λ g. Judged Unguarded (spots way rest) (unguarded names g rest)) (sym (kept_none b)) j
+
 mutual
   pub quiet_exact : (names : List Name) (way : Way) (ss : Statements) → AreOpen names way →
-      Judged Unguarded (spots way ss) (unguarded names ss)
+      Judged Unguarded (spots way ss) (unguarded names None ss)
   quiet_exact names way Nothing h = clean
   quiet_exact names way (Says m rest) h = later (λ c x. x) (quiet_exact [] _ rest (past_open h false (Says m Nothing) refl))
   quiet_exact names way (Choice p at bs rest) h =
       later (λ c x. x) (judged-append (quiet_exact_in names way at [] bs h)
-      (quiet_exact (kept (some_passes bs) names) _ rest (past_open h (some_passes bs) (Choice p at bs Nothing) (and_true _))))
+      (behind_none (some_passes bs) (kept (some_passes bs) names) _ rest
+      (quiet_exact (kept (some_passes bs) names) _ rest (past_open h (some_passes bs) (Choice p at bs Nothing) (and_true _)))))
   quiet_exact names way (Rec p name body rest) h =
       later (λ c x. x) (judged-append (quiet_exact (name ∷ names) _ body (body_open h name))
-      (quiet_exact (kept (passes body) names) _ rest (past_open h (passes body) (Rec p name body Nothing) (and_true _))))
+      (behind_none (passes body) (kept (passes body) names) _ rest
+      (quiet_exact (kept (passes body) names) _ rest (past_open h (passes body) (Rec p name body Nothing) (and_true _)))))
   quiet_exact names way (Continue p name rest) h =
       found_or (is_among name names) names way p name rest _ _ h refl
       (quiet_exact [] _ rest (past_open h false (Continue p name Nothing) refl))
+  quiet_exact names way (Do p name rest) h = later (λ c x. x) (quiet_exact [] _ rest (past_open h false (Do p name Nothing) refl))
 
   quiet_exact_in : (names : List Name) (way : Way) (at : Name) (earlier : List Statements) (bs : Branches) → AreOpen names way →
-      Judged Unguarded (branch_spots way at earlier bs) (unguarded_in names bs)
+      Judged Unguarded (branch_spots way at earlier bs) (unguarded_in names None bs)
   quiet_exact_in names way at earlier NoBranch h = clean
   quiet_exact_in names way at earlier (Branch b more) h =
       judged-append (quiet_exact names _ b (branch_open h at earlier)) (quiet_exact_in names way at (b ∷ earlier) more h)
@@ -106,5 +121,5 @@ pub start_open : AreOpen [] []
 start_open = record { each = λ n. (λ t. absurd (true≢false (sym t)), λ q. absurd (quietly_start _ q refl)) }
 
 -- what the walk over a whole text finds
-pub first_unguarded : (ss : Statements) (r : Option Culprit) → r ≡ unguarded [] ss → Judged Unguarded (spots [] ss) r
+pub first_unguarded : (ss : Statements) (r : Option Culprit) → r ≡ unguarded [] None ss → Judged Unguarded (spots [] ss) r
 first_unguarded ss r e = subst (Judged Unguarded (spots [] ss)) (sym e) (quiet_exact [] [] ss start_open)

@@ -1,7 +1,7 @@
 -- Walking with whether control comes here finds the first statement behind one that does not fall.
 use Rattle.std.proofs.Common.{◌≡◌, Bool, true, false, List, [], ◌∷◌, Option, refl, sym, subst, ◌∙◌, true≢false}
 use Rattle.mg_text.specs.Call.{Name}
-use Rattle.scr_tree.specs.Tree.{Statements, Nothing, Says, Choice, Rec, Continue, Branches, NoBranch, Branch}
+use Rattle.scr_tree.specs.Tree.{Statements, Nothing, Says, Choice, Rec, Continue, Do, Branches, NoBranch, Branch}
 use Rattle.mg_read.specs.First.{Judged, clean, here, later}
 use Rattle.mg_read.proofs.Judging.{judged-append}
 use Rattle.scr_tree.specs.Spots.{Past, Way, spot, spots, branch_spots}
@@ -28,6 +28,7 @@ behind_exact false s way (Says m rest) e go = here (_, refl, refl, e)
 behind_exact false s way (Choice p at bs rest) e go = here (_, refl, refl, e)
 behind_exact false s way (Rec p name body rest) e go = here (_, refl, refl, e)
 behind_exact false s way (Continue p name rest) e go = here (_, refl, refl, e)
+behind_exact false s way (Do p name rest) e go = here (_, refl, refl, e)
 
 mutual
   pub reached_exact : (way : Way) (ss : Statements) → IsReached way → Judged Unreachable (spots way ss) (unreachable ss)
@@ -41,6 +42,7 @@ mutual
       (behind_exact (falls body) (Rec p name body Nothing) way rest (and_true _) (reached_exact _ rest)))
   reached_exact way (Continue p name rest) h =
       later (h.fine _) (behind_exact false (Continue p name Nothing) way rest refl (reached_exact _ rest))
+  reached_exact way (Do p name rest) h = later (h.fine _) (behind_exact false (Do p name Nothing) way rest refl (reached_exact _ rest))
 
   pub reached_exact_in : (way : Way) (at : Name) (earlier : List Statements) (bs : Branches) →
       Judged Unreachable (branch_spots way at earlier bs) (unreachable_in bs)

@@ -12,15 +12,15 @@ use Rattle.mg_text.specs.declared.place.Place.{Place}
 use Rattle.scr_tree.specs.declared.syntax.Message.{Message}
 use Rattle.scr_tree.specs.declared.syntax.Statement.{Statement}
 use Rattle.scr_tree.specs.declared.syntax.Statement.TheVariants as kinds
-use Rattle.scr_tree.specs.Tree.{Statements, Nothing, Says, Choice, Rec, Continue, Branches, Branch}
+use Rattle.scr_tree.specs.Tree.{Statements, Nothing, Says, Choice, Rec, Continue, Do, Branches, Branch}
 use Rattle.scr_tree.specs.View.{front, statements}
-use Rattle.scr_tree.proofs.ViewLemmas.{front-Message, front-Choice, front-Rec, front-Continue}
+use Rattle.scr_tree.proofs.ViewLemmas.{front-Message, front-Choice, front-Rec, front-Continue, front-Do}
 use Rattle.mg_read.specs.Culprit.{Culprit, culprit}
 use Rattle.scr_judge.specs.inner.Seen.{Names}
 use Rattle.scr_judge.specs.inner.Finding.{first_said}
 use Rattle.scr_judge.specs.inner.OnSpot.{Asks, is_send, all_send, uniform, is_nothing, some_empty, unless, unknown_role, peer_is_self}
-use Rattle.scr_judge.specs.inner.OnSpot.{unknown_rec, duplicate_rec, branch_start, mixed_choice, is_free_label, free_label, reserved_label}
-use Rattle.scr_judge.specs.inner.OnSpot.{test, walk, walk_in}
+use Rattle.scr_judge.specs.inner.OnSpot.{unknown_rec, unknown_protocol, duplicate_rec, branch_start, mixed_choice, is_free_label}
+use Rattle.scr_judge.specs.inner.OnSpot.{free_label, reserved_label, test, walk, walk_in}
 use Rattle.scr_tree.specs.View.{bodies}
 use Rattle.scr_judge.specs.declared.on_spot.Check.{Check}
 use Rattle.scr_judge.specs.declared.on_spot.Check.TheVariants as checks
@@ -32,21 +32,30 @@ module _ (begins : Option Name) (around : List Name) (s : Statement) (rest : Sta
   alike : (ask : Statements → Option Culprit) → ((m : Message) → ask (Says m rest) ≡ ask (Says m Nothing)) →
       ((p : Place) (at : Name) (bs : Branches) → ask (Choice p at bs rest) ≡ ask (Choice p at bs Nothing)) →
       ((p : Place) (name : Name) (body : Statements) → ask (Rec p name body rest) ≡ ask (Rec p name body Nothing)) →
-      ((p : Place) (name : Name) → ask (Continue p name rest) ≡ ask (Continue p name Nothing)) → ask (front s rest) ≡ ask (front s Nothing)
-  alike ask said choice recursion continued = each_front (λ f. ask (f rest) ≡ ask (f Nothing)) said choice recursion continued s
+      ((p : Place) (name : Name) → ask (Continue p name rest) ≡ ask (Continue p name Nothing)) →
+      ((p : Place) (name : Name) → ask (Do p name rest) ≡ ask (Do p name Nothing)) → ask (front s rest) ≡ ask (front s Nothing)
+  alike ask said choice recursion continued goes_on = each_front (λ f. ask (f rest) ≡ ask (f Nothing)) said choice recursion continued
+      goes_on s
 
   free_alike : (me : Name) (b : Option Name) → reserved_label me b (front s rest) ≡ reserved_label me b (front s Nothing)
   free_alike me None = refl
-  free_alike me (Some at) = alike (free_label me at) (λ m. refl) (λ p a bs. refl) (λ p name body. refl) (λ p name. refl)
+  free_alike me (Some at) = alike (free_label me at) (λ m. refl) (λ p a bs. refl) (λ p name body. refl) (λ p name. refl) (λ p name. refl)
 
   pub test-front : (check : Check) → test check begins around (front s rest) ≡ test check begins around (front s Nothing)
   test-front (checks.UnknownRole roles) = alike (unknown_role (contains_text roles.now)) (λ m. refl) (λ p at bs. refl) (λ p name body. refl)
-      (λ p name. refl)
+      (λ p name. refl) (λ p name. refl)
   test-front (checks.PeerIsSelf me) = alike (peer_is_self me.now) (λ m. refl) (λ p at bs. refl) (λ p name body. refl) (λ p name. refl)
+      (λ p name. refl)
   test-front checks.UnknownRec = alike (unknown_rec around) (λ m. refl) (λ p at bs. refl) (λ p name body. refl) (λ p name. refl)
+      (λ p name. refl)
   test-front checks.DuplicateRec = alike (duplicate_rec around) (λ m. refl) (λ p at bs. refl) (λ p name body. refl) (λ p name. refl)
+      (λ p name. refl)
   test-front checks.BranchStart = alike (branch_start (is_some begins)) (λ m. refl) (λ p at bs. refl) (λ p name body. refl) (λ p name. refl)
+      (λ p name. refl)
   test-front (checks.MixedChoice me) = alike (mixed_choice me.now) (λ m. refl) (λ p at bs. refl) (λ p name body. refl) (λ p name. refl)
+      (λ p name. refl)
+  test-front (checks.UnknownProtocol names) = alike (unknown_protocol (contains_text names.now)) (λ m. refl) (λ p at bs. refl)
+      (λ p name body. refl) (λ p name. refl) (λ p name. refl)
   test-front (checks.ReservedLabel me) = free_alike me.now begins
 
 or_assoc : (a b d : Option Culprit) → option_or a (option_or b d) ≡ option_or (option_or a b) d
@@ -60,6 +69,7 @@ inside ask around (Says m rest) = None
 inside ask around (Choice p at bs rest) = walk_in ask at around bs
 inside ask around (Rec p name body rest) = walk ask None (name ∷ around) body
 inside ask around (Continue p name rest) = None
+inside ask around (Do p name rest) = None
 
 module _ (check : Check) (begins : Option Name) (around : List Name) where
   -- what the statement itself answers, and what is found in statements
@@ -79,7 +89,7 @@ module _ (check : Check) (begins : Option Name) (around : List Name) where
       (option_or (within_it (front s Nothing)) (found_behind rest))
   parts s rest =
       each_front (λ f. found_in (f rest) ≡ option_or (here_at (f rest)) (option_or (within_it (f Nothing)) (found_behind rest)))
-      (λ m. refl) (λ p at bs. refl) (λ p name body. refl) (λ p name. refl) s
+      (λ m. refl) (λ p at bs. refl) (λ p name body. refl) (λ p name. refl) (λ p name. refl) s
 
   pub walk-alone : (s : Statement) → found_in (front s Nothing) ≡ option_or (here_at (front s Nothing)) (within_it (front s Nothing))
   walk-alone s = parts s Nothing ∙ ap (option_or (here_at (front s Nothing))) (sym (or_none _))
@@ -116,12 +126,16 @@ module _ (check : Check) (begins : Option Name) (around : List Name) where
       walk (test check) begins around (front (kinds.Continue p name) Nothing) ≡ None
   walk-Continue p name e = inner _ e ∙ ap (λ f. within_it (f Nothing)) (front-Continue p name)
 
+  pub walk-Do : (p : _) (name : Name) → None ≡ test check begins around (front (kinds.Do p name) Nothing) →
+      walk (test check) begins around (front (kinds.Do p name) Nothing) ≡ None
+  walk-Do p name e = inner _ e ∙ ap (λ f. within_it (f Nothing)) (front-Do p name)
+
   module _ (ss : List Statement) (i : ℕ) (x : Statement) (within : i < length ss) (is : x ≡ get_or ss i x) where
     step : found_in (statements (drop i ss)) ≡ option_or (found_in (front x Nothing)) (found_behind (statements (drop (i + 1) ss)))
     step = ap found_in (statements-step ss i x within is) ∙ walk-front x _
 
-    pub walk_later : None ≡ walk (test check) begins around (front x Nothing) → walk (test check) begins around (statements (drop i ss)) ≡
-        walk (test check) None around (statements (drop (i + 1) ss))
+    pub walk_later : None ≡ walk (test check) begins around (front x Nothing) → walk (test check) begins around (statements (drop i ss))
+        ≡ walk (test check) None around (statements (drop (i + 1) ss))
     walk_later e = step ∙ ap (λ o. option_or o (found_behind (statements (drop (i + 1) ss)))) (sym e)
 
     pub walk_here : (c : Culprit) → Some c ≡ walk (test check) begins around (front x Nothing) →
@@ -135,6 +149,7 @@ all_send-said (Says m rest) more = refl
 all_send-said (Choice p at bs rest) more = refl
 all_send-said (Rec p name body rest) more = refl
 all_send-said (Continue p name rest) more = refl
+all_send-said (Do p name rest) more = refl
 
 -- what a statement answers
 pub role-Message : (roles : Names) (m : Message) → unknown_role roles (front (kinds.Message m) Nothing) ≡ unless (roles m.peer)
@@ -157,6 +172,10 @@ pub label-Message : (me at : Name) (m : Message) → free_label me at (front (ki
     (culprit m.place m.label)
 label-Message me at m = ap (λ f. free_label me at (f Nothing)) (front-Message m)
 
+pub protocol-Do : (names : Names) (p : Place) (name : Name) → unknown_protocol names (front (kinds.Do p name) Nothing) ≡ unless (names name)
+    (culprit p name)
+protocol-Do names p name = ap (λ f. unknown_protocol names (f Nothing)) (front-Do p name)
+
 -- whether statements are none
 positive : (n : ℕ) → false ≡ (suc n == 0)
 positive n = grind (arith, nat_tests)
@@ -165,15 +184,15 @@ pub nothing-is : (ss : List Statement) → is_nothing (statements ss) ≡ (lengt
 nothing-is [] = refl
 nothing-is (s ∷ ss) =
     each_front (λ f. is_nothing (f (statements ss)) ≡ (length (s ∷ ss) == 0)) (λ m. positive (length ss)) (λ p at bs. positive (length ss))
-    (λ p name body. positive (length ss)) (λ p name. positive (length ss)) s
+    (λ p name body. positive (length ss)) (λ p name. positive (length ss)) (λ p name. positive (length ss)) s
 
-pub mixed-Choice : (me : Name) (p : Place) (at : Name) (bs : Row (Row Statement)) → mixed_choice me (front (kinds.Choice p at bs) Nothing) ≡
-    unless (uniform me at (bodies bs.items)) (culprit p [])
+pub mixed-Choice : (me : Name) (p : Place) (at : Name) (bs : Row (Row Statement)) → mixed_choice me (front (kinds.Choice p at bs) Nothing)
+    ≡ unless (uniform me at (bodies bs.items)) (culprit p [])
 mixed-Choice me p at bs = ap (λ f. mixed_choice me (f Nothing)) (front-Choice p at bs)
 
 pub ruleset all_steps = (common_steps, walk_later, walk_here, statements-past)
 
-pub ruleset alone = (common_steps, walk_found, walk-Message, walk-Choice, walk-Rec, walk-Continue)
+pub ruleset alone = (common_steps, walk_found, walk-Message, walk-Choice, walk-Rec, walk-Continue, walk-Do)
 
 pub ruleset in_steps = (common_steps, bodies-step, bodies-past)
 
@@ -185,10 +204,12 @@ pub ruleset tests = (
   start-Choice,
   label-Message,
   mixed-Choice,
+  protocol-Do,
   front-Message,
   front-Choice,
   front-Rec,
   front-Continue,
+  front-Do,
 )
 
 pub ruleset sends = (common_steps, bodies-step, bodies-past, all_send-said)

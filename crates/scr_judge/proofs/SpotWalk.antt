@@ -5,7 +5,7 @@ use Rattle.std.specs.Option.{option_or}
 use Rattle.std.specs.Str.{bytes_eq}
 use Rattle.std.proofs.lemmas.Slice.Eq.{bytes_eq-Decides}
 use Rattle.mg_text.specs.Call.{Name}
-use Rattle.scr_tree.specs.Tree.{Statements, Nothing, Says, Choice, Rec, Continue, Branches, NoBranch, Branch}
+use Rattle.scr_tree.specs.Tree.{Statements, Nothing, Says, Choice, Rec, Continue, Do, Branches, NoBranch, Branch}
 use Rattle.mg_read.specs.First.{Judged, clean, here, later}
 use Rattle.mg_read.proofs.Judging.{judged-append}
 use Rattle.scr_tree.specs.Spots.{Past, Opens, Enters, Way, Spot, spot, spots, branch_spots}
@@ -91,6 +91,9 @@ module _ (At : Spot → Culprit → Type 0) (ask : Asks) where
       walk_exact around way (Continue p name rest) h =
           asked _ (ask (beginning way) around (Continue p name rest)) _ _ (right.asks around way _ h)
           (walk_exact around _ rest (around_past h (Continue p name Nothing)))
+      walk_exact around way (Do p name rest) h =
+          asked _ (ask (beginning way) around (Do p name rest)) _ _ (right.asks around way _ h)
+          (walk_exact around _ rest (around_past h (Do p name Nothing)))
 
       walk_exact_in : (around : List Name) (way : Way) (at : Name) (earlier : List Statements) (bs : Branches) → AreAround around way →
           Judged At (branch_spots way at earlier bs) (walk_in ask at around bs)

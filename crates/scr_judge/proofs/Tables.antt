@@ -36,7 +36,7 @@ module _ {X : Type 0} (f : X → Option Culprit) (xs : List X) (i : ℕ) where
 
 pub ruleset steps = (common_steps, first_more, first_past, nat_tests)
 
-row : {X : Type 0} (At : X → Culprit → Type 0) (x : X) (xs : List X) (o r : Option Culprit) → Answers (At x) o → Judged At xs r →
+pub row : {X : Type 0} (At : X → Culprit → Type 0) (x : X) (xs : List X) (o r : Option Culprit) → Answers (At x) o → Judged At xs r →
     Judged At (x ∷ xs) (option_or o r)
 row At x xs None r a j = later a j
 row At x xs (Some c) r a j = here a
@@ -125,6 +125,13 @@ unknown_declaration types ms c e =
     judged-found (flat_map carried_by (map carries_of ms)) (judged-map declared (λ d k a. a) (λ d k a. a)
     (subst (Judged (λ d. UnknownType types (declared d)) types) (sym e) (table (λ d. UnknownType types (declared d)) unsupported
     (supported_row types) types)))
+
+pub declarations_at_fault : (types : List Declaration) (c : Culprit) → Some c ≡ first_among unsupported types →
+    Judged (UnknownType types) (map declared types) (Some c)
+declarations_at_fault types c e =
+    judged-map declared (λ d k a. a) (λ d k a. a)
+    (subst (Judged (λ d. UnknownType types (declared d)) types) (sym e) (table (λ d. UnknownType types (declared d)) unsupported
+    (supported_row types) types))
 
 many_row : (m : Kept) → Answers (PayloadCount (carries_of m)) (many m)
 many_row m = go (nat_lt (length m.types.items) 2) refl

@@ -5,3 +5,8 @@ pub mod OnSpot
 pub mod Counting
 pub mod Listed
 pub mod View
+pub mod Own
+pub mod Gone
+pub mod Round
+pub mod Cycles
+pub mod Search

@@ -5,13 +5,14 @@ ghost use Rattle.scr_tree.specs.CallNames.{label_call};
 ghost use Rattle.scr_tree.specs.Meaning.{message_of};
 ghost use Rattle.scr_tree.specs.View.{front, statements};
 ghost use Rattle.scr_tree.specs.Tree.{Nothing};
-ghost use Rattle.scr_tree.specs.Actions.{actions, actions_in, next, next_in, peer_in};
+ghost use Rattle.scr_tree.specs.Actions.{actions, actions_in, all_actions, next, next_in, peer_in};
+ghost use Rattle.scr_tree.specs.Written.{part_written, me_in, body_of};
 ghost use Rattle.scr_judge.specs.inner.View.{act};
 ghost use Rattle.scr_tree.specs.View.{bodies};
 
 use crate::labels::first_message;
 use mg_text::{List, Memory, Place, Text};
-use scr_tree::{Message, Statement, call_name};
+use scr_tree::{Message, Statement, WrittenPart, call_name};
 use std::alloc::Global;
 
 /// What a call does: a message, or a look at which branch of a numbered choice was taken.
@@ -27,6 +28,23 @@ pub struct Action<'a> {
     pub place: Place,
     pub call: Text,
     pub deed: Deed<'a>,
+}
+
+/// Appends the actions of protocols, whose choices elsewhere are numbered from `number` on.
+#[tactic(auto, using(crate::proofs::Collecting::part_steps))]
+pub fn collect_parts<'a>(
+    alloc: Global,
+    out: &mut Vec<Action<'a>>,
+    number: u32,
+    parts: &'a [WrittenPart],
+) -> Result<(), Memory>
+    ensures { OnOk result (map act out.new.items ≡ map act out.old.items ++ all_actions me_in body_of number (map part_written parts.now)) }
+{
+    let mut number = number;
+    for part in parts {
+        number = collect_all(alloc, &part.me.name, out, number, part.body.as_slice())?;
+    }
+    Ok(())
 }
 
 /// Appends the actions of statements, whose choices elsewhere are numbered from `number` on.
@@ -98,6 +116,7 @@ fn collect_at<'a>(
         }
         Statement::Rec { body, .. } => collect_all(alloc, me, out, number, body.as_slice()),
         Statement::Continue { .. } => Ok(number),
+        Statement::Do { .. } => Ok(number),
     }
 }
 

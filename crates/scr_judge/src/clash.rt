@@ -3,29 +3,29 @@
 ghost use Rattle.std.specs.Prelude.{◌≡◌, ◌↔◌, [], IfOk, IsTrue, map, option_map};
 ghost use Rattle.mg_read.specs.First.{Judged, with_earlier};
 ghost use Rattle.scr_tree.specs.Meaning.{message_of};
-ghost use Rattle.scr_tree.specs.View.{statements};
 ghost use Rattle.mg_read.specs.Culprit.{culprit};
-ghost use Rattle.scr_tree.specs.Actions.{NameClash, actions};
+ghost use Rattle.scr_tree.specs.Actions.{NameClash, all_actions};
+ghost use Rattle.scr_tree.specs.Written.{parts_in, me_in, body_of, written_of};
 ghost use Rattle.scr_judge.specs.inner.Listed.{Clash};
 ghost use Rattle.scr_judge.specs.inner.View.{deed_of, named_of, clash_of, call_of, does, clashing};
 
-use crate::actions::{Action, Deed, collect_all};
+use crate::actions::{Action, Deed, collect_all, collect_parts};
 use crate::culprit::Named;
-use mg_text::{Memory, Text};
-use scr_tree::{Message, Statement};
+use mg_text::Memory;
+use scr_tree::{Message, Written};
 use std::alloc::Global;
 use std::collections::HashMap;
 
 /// The first action whose call name an earlier action has that is another one.
-pub fn find_name_clash(
-    alloc: Global,
-    me: &Text,
-    body: &[Statement],
-) -> Result<Option<Named>, Memory>
-    ensures { IfOk result (λ r. Judged NameClash (with_earlier (actions me.now 1 (statements body.now))) (named_of r)) }
+pub fn find_name_clash(alloc: Global, written: &Written) -> Result<Option<Named>, Memory>
+    ensures { IfOk result (λ r. Judged NameClash (with_earlier (all_actions me_in body_of 1 (parts_in (written_of 0 written.now))))
+        (named_of r)) }
 {
     let mut actions = Vec::new(alloc);
-    collect_all(alloc, me, &mut actions, 1, body)?;
+    let first = &written.first;
+    let me = &first.me.name;
+    let next = collect_all(alloc, me, &mut actions, 1, first.body.as_slice())?;
+    collect_parts(alloc, &mut actions, next, written.others.as_slice())?;
     match first_clash(alloc, actions.as_slice())? {
         None => Ok(None),
         Some(action) => {

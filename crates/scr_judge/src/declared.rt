@@ -3,15 +3,16 @@
 ghost use Rattle.std.specs.Prelude.{◌≡◌, ◌↔◌, ◌++◌, IfOk, IsTrue, map, option_map};
 ghost use Rattle.mg_read.specs.First.{Judged, with_earlier};
 ghost use Rattle.mg_read.specs.Culprit.{culprit};
-ghost use Rattle.scr_tree.specs.Listing.{DuplicateName, declares, lists};
-ghost use Rattle.scr_tree.specs.Written.{class_beforehand};
-ghost use Rattle.scr_judge.specs.inner.Listed.{DeclaredTwice, IsOtherwise};
+ghost use Rattle.scr_tree.specs.Listing.{DuplicateName, declares, lists, entries};
+ghost use Rattle.scr_tree.specs.Written.{class_beforehand, written_of};
+ghost use Rattle.scr_judge.specs.inner.Listed.{DeclaredTwice, ListedTwice, IsOtherwise};
+ghost use Rattle.scr_judge.specs.inner.Own.{FirstIn};
 ghost use Rattle.scr_judge.specs.inner.View.{culprit_of, told};
 
 use crate::culprit::Culprit;
 use crate::roles::find_listed_twice;
 use mg_text::Memory;
-use scr_tree::{Declaration, Role};
+use scr_tree::{Declaration, Role, Written, WrittenPart};
 use std::alloc::Global;
 use std::collections::HashMap;
 
@@ -28,6 +29,35 @@ pub fn find_duplicate_name<'a>(
         Some(culprit) => Ok(Some(culprit)),
         None => find_listed_twice(alloc, roles),
     }
+}
+
+/// The same of a whole file, where each protocol lists its own roles.
+pub fn find_duplicate_in_file(
+    alloc: Global,
+    written: &Written,
+) -> Result<Option<Culprit<'_>>, Memory>
+    ensures { IfOk result (λ r. Judged DuplicateName (entries (written_of 0 written.now)) (culprit_of r)) }
+{
+    let types = written.types.as_slice();
+    match find_duplicate_name(alloc, types, written.first.roles.as_slice())? {
+        Some(culprit) => Ok(Some(culprit)),
+        None => find_twice_in(alloc, written.others.as_slice()),
+    }
+}
+
+// The first role that a protocol lists twice.
+fn find_twice_in(alloc: Global, parts: &[WrittenPart]) -> Result<Option<Culprit<'_>>, Memory>
+    ensures { IfOk result (λ r. FirstIn (λ p. Judged ListedTwice (with_earlier p.roles.items)) parts.now (culprit_of r)) }
+{
+    for part in parts {
+        match find_listed_twice(alloc, part.roles.as_slice())? {
+            Some(culprit) => {
+                return Ok(Some(culprit));
+            }
+            None => {}
+        }
+    }
+    Ok(None)
 }
 
 // The first declaration that gives a name another class than one before it.

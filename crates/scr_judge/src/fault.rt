@@ -9,17 +9,15 @@ ghost use Rattle.scr_judge.specs.inner.View.{named_of};
 
 use crate::clash::find_name_clash;
 use crate::culprit::{Named, with_name};
-use crate::declared::find_duplicate_name;
-use crate::guards::find_unguarded;
-use crate::labels::find_same_label;
-use crate::on_spot::{
-    find_branch_start, find_duplicate_rec, find_mixed_choice, find_peer_is_self,
-    find_reserved_label, find_unknown_rec,
-};
-use crate::reached::find_unreachable;
-use crate::roles::find_unknown_role;
+use crate::cycles::find_unguarded_in_file;
+use crate::declared::find_duplicate_in_file;
+use crate::going::{find_duplicate_protocol, find_unknown_do};
+use crate::last::find_not_last_in;
+use crate::opening::find_starts_with_do;
+use crate::own::{Own, find_own};
+use crate::roles_told::find_roles_differ;
 use crate::states::find_too_many_states;
-use crate::typed::{find_payload_count, find_unknown_type};
+use crate::typed::{find_payload_in_file, find_unknown_in_file};
 use mg_text::{Memory, Place, Text};
 use scr_tree::{Condition, Written};
 use std::alloc::Global;
@@ -54,6 +52,11 @@ pub fn first_fault(alloc: Global, file: u32, written: &Written) -> Result<Option
         Condition::ReservedLabel,
         Condition::NameClash,
         Condition::TooManyStates,
+        Condition::UnknownProtocol,
+        Condition::DuplicateProtocol,
+        Condition::RolesDiffer,
+        Condition::NotLast,
+        Condition::StartsWithDo,
     ];
     first_of(alloc, conditions.as_slice(), file, written)
 }
@@ -91,38 +94,41 @@ fn judge(
 ) -> Result<Option<Named>, Memory>
     ensures { IfOk result (λ n. Of (written_of file written.now) condition (named_of n)) }
 {
-    let me = &written.me.name;
-    let body = written.body.as_slice();
-    let types = written.types.as_slice();
-    let roles = written.roles.as_slice();
-    let carries = written.carries.as_slice();
     match condition {
         Condition::DuplicateName => {
-            let culprit = find_duplicate_name(alloc, types, roles)?;
+            let culprit = find_duplicate_in_file(alloc, written)?;
             with_name(alloc, culprit)
         }
-        Condition::UnknownRole => {
-            let culprit = find_unknown_role(alloc, written)?;
-            with_name(alloc, culprit)
-        }
-        Condition::PeerIsSelf => with_name(alloc, find_peer_is_self(me, body)),
+        Condition::UnknownRole => find_own(alloc, Own::UnknownRole, written),
+        Condition::PeerIsSelf => find_own(alloc, Own::PeerIsSelf, written),
         Condition::UnknownType => {
-            let culprit = find_unknown_type(alloc, types, carries)?;
+            let culprit = find_unknown_in_file(alloc, written)?;
             with_name(alloc, culprit)
         }
-        Condition::PayloadCount => with_name(alloc, find_payload_count(carries)),
-        Condition::UnknownRec => with_name(alloc, find_unknown_rec(body)),
-        Condition::DuplicateRec => with_name(alloc, find_duplicate_rec(body)),
-        Condition::Unguarded => with_name(alloc, find_unguarded(body)),
-        Condition::Unreachable => with_name(alloc, find_unreachable(body)),
-        Condition::BranchStart => with_name(alloc, find_branch_start(body)),
-        Condition::MixedChoice => with_name(alloc, find_mixed_choice(me, body)),
-        Condition::SameLabel => {
-            let culprit = find_same_label(alloc, me, body)?;
+        Condition::PayloadCount => with_name(alloc, find_payload_in_file(written)),
+        Condition::UnknownRec => find_own(alloc, Own::UnknownRec, written),
+        Condition::DuplicateRec => find_own(alloc, Own::DuplicateRec, written),
+        Condition::Unguarded => {
+            let culprit = find_unguarded_in_file(alloc, written)?;
             with_name(alloc, culprit)
         }
-        Condition::ReservedLabel => with_name(alloc, find_reserved_label(me, body)),
-        Condition::NameClash => find_name_clash(alloc, me, body),
-        Condition::TooManyStates => with_name(alloc, find_too_many_states(file, me, body)),
+        Condition::Unreachable => find_own(alloc, Own::Unreachable, written),
+        Condition::BranchStart => find_own(alloc, Own::BranchStart, written),
+        Condition::MixedChoice => find_own(alloc, Own::MixedChoice, written),
+        Condition::SameLabel => find_own(alloc, Own::SameLabel, written),
+        Condition::ReservedLabel => find_own(alloc, Own::ReservedLabel, written),
+        Condition::NameClash => find_name_clash(alloc, written),
+        Condition::TooManyStates => with_name(alloc, find_too_many_states(file, written)),
+        Condition::UnknownProtocol => {
+            let culprit = find_unknown_do(alloc, written)?;
+            with_name(alloc, culprit)
+        }
+        Condition::DuplicateProtocol => {
+            let culprit = find_duplicate_protocol(alloc, written)?;
+            with_name(alloc, culprit)
+        }
+        Condition::RolesDiffer => with_name(alloc, find_roles_differ(written)),
+        Condition::NotLast => with_name(alloc, find_not_last_in(written)),
+        Condition::StartsWithDo => with_name(alloc, find_starts_with_do(written)),
     }
 }

@@ -44,6 +44,7 @@ fn same_at<'a>(
         Statement::Choice { at, branches, .. } => { same_in(alloc, me, at, branches.as_slice()) }
         Statement::Rec { body, .. } => same_all(alloc, me, body.as_slice()),
         Statement::Continue { .. } => Ok(None),
+        Statement::Do { .. } => Ok(None),
     }
 }
 
@@ -105,6 +106,7 @@ pub fn first_message(body: &[Statement]) -> Option<&Message>
             Statement::Choice { .. } => None,
             Statement::Rec { .. } => None,
             Statement::Continue { .. } => None,
+            Statement::Do { .. } => None,
         },
     }
 }

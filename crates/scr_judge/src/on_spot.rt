@@ -8,8 +8,8 @@ ghost use Rattle.scr_tree.specs.View.{front, statements};
 ghost use Rattle.scr_tree.specs.Tree.{Nothing};
 ghost use Rattle.scr_tree.specs.Spots.{spots};
 ghost use Rattle.scr_tree.specs.Conditions as says;
-ghost use Rattle.scr_judge.specs.inner.OnSpot.{asks_role, unknown_role, peer_is_self, is_free_label, unknown_rec, duplicate_rec};
-ghost use Rattle.scr_judge.specs.inner.OnSpot.{branch_start, mixed_choice, reserved_label, test, walk, walk_in};
+ghost use Rattle.scr_judge.specs.inner.OnSpot.{asks_role, asks_protocol, unknown_protocol, unknown_role, peer_is_self, is_free_label};
+ghost use Rattle.scr_judge.specs.inner.OnSpot.{unknown_rec, duplicate_rec, branch_start, mixed_choice, reserved_label, test, walk, walk_in};
 ghost use Rattle.scr_judge.specs.inner.View.{begins_of, names_of, culprit_of};
 ghost use Rattle.scr_tree.specs.View.{bodies};
 
@@ -35,6 +35,8 @@ pub enum Check<'a> {
     MixedChoice(&'a Text),
     /// A label of a protocol of this role.
     ReservedLabel(&'a Text),
+    /// A `do` that names none of these protocols.
+    UnknownProtocol(&'a HashSet<String>),
 }
 
 /// The first message or choice that names a role that is not among these.
@@ -86,6 +88,16 @@ pub fn find_reserved_label<'a>(me: &Text, body: &'a [Statement]) -> Option<Culpr
     find_all(Check::ReservedLabel(me), None, &Names::Outside, body)
 }
 
+/// The first `do` that names a protocol that is not among these.
+pub fn find_unknown_protocol<'a>(
+    names: &HashSet<String>,
+    body: &'a [Statement],
+) -> Option<Culprit<'a>>
+    ensures { culprit_of result ≡ walk (asks_protocol (contains_text names.now)) None [] (statements body.now) }
+{
+    find_all(Check::UnknownProtocol(names), None, &Names::Outside, body)
+}
+
 // The first statement at fault. The first one begins a branch of a choice at the role, if one is
 // given.
 #[tactic(auto, using(crate::proofs::SpotSteps::all_steps))]
@@ -129,6 +141,7 @@ fn find_at<'a>(
             find_all(check, None, &inside, body.as_slice())
         }
         Statement::Continue { .. } => None,
+        Statement::Do { .. } => None,
     }
 }
 
@@ -167,6 +180,7 @@ fn test_at<'a>(
         Check::BranchStart => branch_start(begins.is_some(), statement),
         Check::MixedChoice(me) => mixed_choice(me, statement),
         Check::ReservedLabel(me) => reserved_label(me, begins, statement),
+        Check::UnknownProtocol(names) => unknown_protocol(names, statement),
     }
 }
 
@@ -185,6 +199,7 @@ fn unknown_role<'a>(roles: &HashSet<String>, statement: &'a Statement) -> Option
         }
         Statement::Rec { .. } => None,
         Statement::Continue { .. } => None,
+        Statement::Do { .. } => None,
     }
 }
 
@@ -197,6 +212,7 @@ fn peer_is_self<'a>(me: &Text, statement: &'a Statement) -> Option<Culprit<'a>>
         Statement::Choice { .. } => None,
         Statement::Rec { .. } => None,
         Statement::Continue { .. } => None,
+        Statement::Do { .. } => None,
     }
 }
 
@@ -211,6 +227,23 @@ fn unknown_rec<'a>(around: &Names<'_>, statement: &'a Statement) -> Option<Culpr
         Statement::Continue { place, name } => {
             let name = name.as_str();
             culprit_unless(is_among(name, around), *place, name)
+        }
+        Statement::Do { .. } => None,
+    }
+}
+
+#[tactic(auto, using(crate::proofs::SpotSteps::tests))]
+fn unknown_protocol<'a>(names: &HashSet<String>, statement: &'a Statement) -> Option<Culprit<'a>>
+    ensures { culprit_of result ≡ unknown_protocol (contains_text names.now) (front statement.now Nothing) }
+{
+    match statement {
+        Statement::Message(_) => None,
+        Statement::Choice { .. } => None,
+        Statement::Rec { .. } => None,
+        Statement::Continue { .. } => None,
+        Statement::Do { place, name } => {
+            let name = name.as_str();
+            culprit_unless(names.contains(name), *place, name)
         }
     }
 }
@@ -227,6 +260,7 @@ fn duplicate_rec<'a>(around: &Names<'_>, statement: &'a Statement) -> Option<Cul
             culprit_unless(!is_among(name, around), *place, name)
         }
         Statement::Continue { .. } => None,
+        Statement::Do { .. } => None,
     }
 }
 
@@ -247,6 +281,7 @@ fn branch_start(first: bool, statement: &Statement) -> Option<Culprit<'_>>
         }
         Statement::Rec { place, .. } => culprit_unless(!first, *place, ""),
         Statement::Continue { place, .. } => culprit_unless(!first, *place, ""),
+        Statement::Do { place, .. } => culprit_unless(!first, *place, ""),
     }
 }
 
@@ -266,6 +301,7 @@ fn mixed_choice<'a>(me: &Text, statement: &'a Statement) -> Option<Culprit<'a>>
         }
         Statement::Rec { .. } => None,
         Statement::Continue { .. } => None,
+        Statement::Do { .. } => None,
     }
 }
 
@@ -288,6 +324,7 @@ fn reserved_label<'a>(
         Statement::Choice { .. } => None,
         Statement::Rec { .. } => None,
         Statement::Continue { .. } => None,
+        Statement::Do { .. } => None,
     }
 }
 

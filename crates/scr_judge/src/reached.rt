@@ -40,6 +40,7 @@ fn unreachable_at(statement: &Statement) -> Result<bool, Culprit<'_>>
         Statement::Choice { branches, .. } => unreachable_in(branches.as_slice()),
         Statement::Rec { body, .. } => unreachable_all(body.as_slice()),
         Statement::Continue { .. } => Ok(false),
+        Statement::Do { .. } => Ok(false),
     }
 }
 
@@ -86,5 +87,6 @@ pub fn place_of(statement: &Statement) -> Place
         Statement::Choice { place, .. } => *place,
         Statement::Rec { place, .. } => *place,
         Statement::Continue { place, .. } => *place,
+        Statement::Do { place, .. } => *place,
     }
 }

@@ -14,7 +14,7 @@ use crate::culprit::Culprit;
 use crate::on_spot::find_unknown_peer;
 use crate::seen::{add_name, no_names};
 use mg_text::Memory;
-use scr_tree::{Role, Written};
+use scr_tree::{Role, WrittenPart};
 use std::alloc::Global;
 use std::collections::HashSet;
 
@@ -37,19 +37,19 @@ pub fn find_listed_twice(alloc: Global, roles: &[Role]) -> Result<Option<Culprit
 
 /// The first place where a role is named that is not listed: the role itself, a peer, or that of a
 /// choice.
-pub fn find_unknown_role(alloc: Global, written: &Written) -> Result<Option<Culprit<'_>>, Memory>
-    ensures { IfOk result (λ r. Judged (UnknownRole (map role_name written.now.roles.items))
-        (itself written.now.me ∷ map within (spots [] (statements written.now.body.items))) (culprit_of r)) }
+pub fn find_unknown_role(alloc: Global, part: &WrittenPart) -> Result<Option<Culprit<'_>>, Memory>
+    ensures { IfOk result (λ r. Judged (UnknownRole (map role_name part.now.roles.items))
+        (itself part.now.me ∷ map within (spots [] (statements part.now.body.items))) (culprit_of r)) }
 {
-    let listed = listed_roles(alloc, written.roles.as_slice())?;
-    let me = &written.me;
+    let listed = listed_roles(alloc, part.roles.as_slice())?;
+    let me = &part.me;
     if !listed.contains(me.name.as_str()) {
         return Ok(Some(Culprit {
             place: me.place,
             name: me.name.as_str(),
         }));
     }
-    Ok(find_unknown_peer(&listed, written.body.as_slice()))
+    Ok(find_unknown_peer(&listed, part.body.as_slice()))
 }
 
 /// The names of the roles.

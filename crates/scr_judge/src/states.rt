@@ -4,22 +4,23 @@ ghost use Rattle.std.specs.Prelude.{◌≡◌, ◌↔◌, ◌<◌, [], ◌∷◌
 ghost use Rattle.mg_read.specs.First.{Judged};
 ghost use Rattle.scr_tree.specs.View.{front, statements};
 ghost use Rattle.scr_tree.specs.Tree.{Nothing};
-ghost use Rattle.scr_tree.specs.States.{TooManyStates, states};
-ghost use Rattle.scr_judge.specs.inner.Counting.{counted, counted_in, up};
+ghost use Rattle.scr_tree.specs.States.{TooManyStates, all_states};
+ghost use Rattle.scr_tree.specs.Written.{parts_in, me_in, body_of, written_of};
+ghost use Rattle.scr_judge.specs.inner.Counting.{counted, counted_in, counted_parts, up};
 ghost use Rattle.scr_judge.specs.inner.View.{culprit_of};
 ghost use Rattle.scr_tree.specs.View.{bodies};
 
 use crate::culprit::Culprit;
 use mg_text::{List, Place, Text};
-use scr_tree::Statement;
+use scr_tree::{Statement, Written, WrittenPart};
 
 const MAX_STATES: u32 = 1000;
 
 /// The file, where it has too many states.
-pub fn find_too_many_states<'a>(file: u32, me: &Text, body: &'a [Statement]) -> Option<Culprit<'a>>
-    ensures { Judged (TooManyStates file me.now) (statements body.now ∷ []) (culprit_of result) }
+pub fn find_too_many_states(file: u32, written: &Written) -> Option<Culprit<'_>>
+    ensures { Judged (TooManyStates file) (all_states me_in body_of (parts_in (written_of file written.now)) ∷ []) (culprit_of result) }
 {
-    if has_too_many_states(me, body) {
+    if has_too_many_states(written) {
         return Some(Culprit {
             place: Place::start(file),
             name: "",
@@ -30,10 +31,32 @@ pub fn find_too_many_states<'a>(file: u32, me: &Text, body: &'a [Statement]) -> 
 
 // Whether there are more states than are allowed.
 #[tactic(auto, using(crate::proofs::Counting::too_many))]
-fn has_too_many_states(me: &Text, body: &[Statement]) -> bool
-    ensures { IsTrue result ↔ (1000 < length (states me.now (statements body.now))) }
+fn has_too_many_states(written: &Written) -> bool
+    ensures { IsTrue result ↔ (1000 < length (all_states me_in body_of (parts_in (written_of 0 written.now)))) }
 {
-    count_all(me, false, 0, body) > MAX_STATES
+    count_file(written) > MAX_STATES
+}
+
+// Counts up to one state too many in all protocols.
+fn count_file(written: &Written) -> u32
+    ensures { result ≡ counted_parts (counted written.now.first.me.name false 0 (statements written.now.first.body.items))
+        written.now.others.items }
+{
+    let first = &written.first;
+    let count = count_all(&first.me.name, false, 0, first.body.as_slice());
+    count_parts(count, written.others.as_slice())
+}
+
+// Counts up to one state too many in protocols.
+#[tactic(auto, using(crate::proofs::CountSteps::part_steps))]
+fn count_parts(count: u32, parts: &[WrittenPart]) -> u32
+    ensures { result ≡ counted_parts count parts.now }
+{
+    let mut count = count;
+    for part in parts {
+        count = count_all(&part.me.name, false, count, part.body.as_slice());
+    }
+    count
 }
 
 // Counts up to one state too many.
@@ -64,6 +87,7 @@ fn count_at(me: &Text, first: bool, count: u32, statement: &Statement) -> u32
         }
         Statement::Rec { body, .. } => count_all(me, false, count, body.as_slice()),
         Statement::Continue { .. } => count,
+        Statement::Do { .. } => count,
     }
 }
 

@@ -5,10 +5,10 @@ ghost use Rattle.std.specs.List.{flat_map};
 ghost use Rattle.std.specs.Option.{is_some};
 ghost use Rattle.std.specs.HashSet.{contains_text};
 ghost use Rattle.mg_read.specs.First.{Judged};
-ghost use Rattle.scr_tree.specs.Listing.{UnknownType, PayloadCount, declared, carried_by};
-ghost use Rattle.scr_tree.specs.Written.{carries_of, kind_of_class};
+ghost use Rattle.scr_tree.specs.Listing.{UnknownType, PayloadCount, declared, carried_by, typed, all_carries};
+ghost use Rattle.scr_tree.specs.Written.{carries_of, kind_of_class, written_of};
 ghost use Rattle.scr_judge.specs.inner.Listed.{alias_of, first_among, is_supported, unsupported, is_declared, undeclared, undeclared_in};
-ghost use Rattle.scr_judge.specs.inner.Listed.{many};
+ghost use Rattle.scr_judge.specs.inner.Listed.{undeclared_by, many, many_by};
 ghost use Rattle.scr_judge.specs.inner.View.{culprit_of};
 
 use crate::culprit::Culprit;
@@ -16,7 +16,7 @@ use crate::declared::{class_beforehand, culprit_at};
 use crate::seen::{add_name, no_names};
 use crate::truth::{both, either};
 use mg_text::{Memory, Place, Text};
-use scr_tree::{Carries, Declaration};
+use scr_tree::{Carries, Declaration, Written, WrittenPart};
 use std::alloc::Global;
 use std::collections::HashSet;
 
@@ -44,6 +44,63 @@ pub fn find_payload_count(carries: &[Carries]) -> Option<Culprit<'_>>
     ensures { Judged PayloadCount (map carries_of carries.now) (culprit_of result) }
 {
     find_many(carries)
+}
+
+/// The first declaration of a file that isn't supported, or else the first type that a message
+/// carries and that isn't declared.
+pub fn find_unknown_in_file(alloc: Global, written: &Written) -> Result<Option<Culprit<'_>>, Memory>
+    ensures { IfOk result (λ r. Judged (UnknownType written.now.types.items) (typed (written_of 0 written.now)) (culprit_of r)) }
+{
+    let types = written.types.as_slice();
+    match find_unsupported(types) {
+        Some(culprit) => Ok(Some(culprit)),
+        None => {
+            let aliases = declared_names(alloc, types)?;
+            match find_undeclared(&aliases, written.first.carries.as_slice()) {
+                Some(culprit) => Ok(Some(culprit)),
+                None => Ok(find_undeclared_among(&aliases, written.others.as_slice())),
+            }
+        }
+    }
+}
+
+// The same of protocols behind the first.
+#[tactic(auto, using(crate::proofs::Tables::steps))]
+fn find_undeclared_among<'a>(
+    aliases: &HashSet<String>,
+    parts: &'a [WrittenPart],
+) -> Option<Culprit<'a>>
+    ensures { culprit_of result ≡ first_among (undeclared_by (contains_text aliases.now)) parts.now }
+{
+    for part in parts {
+        if let Some(culprit) = find_undeclared(aliases, part.carries.as_slice()) {
+            return Some(culprit);
+        }
+    }
+    None
+}
+
+/// The first message of a file with two or more payloads.
+pub fn find_payload_in_file(written: &Written) -> Option<Culprit<'_>>
+    ensures { Judged PayloadCount (all_carries (written_of 0 written.now)) (culprit_of result) }
+{
+    match find_many(written.first.carries.as_slice()) {
+        Some(culprit) => Some(culprit),
+        None => find_many_among(written.others.as_slice()),
+    }
+}
+
+// The same of protocols behind the first.
+#[tactic(auto, using(crate::proofs::Tables::steps))]
+fn find_many_among(parts: &[WrittenPart]) -> Option<Culprit<'_>>
+    ensures { culprit_of result ≡ first_among many_by parts.now }
+{
+    for part in parts {
+        if let Some(culprit) = find_many(part.carries.as_slice()) {
+            return Some(culprit);
+        }
+    }
+    None
 }
 
 // The first declaration that isn't of Java or of one of the three classes.

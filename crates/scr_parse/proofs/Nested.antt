@@ -13,15 +13,14 @@ use Rattle.scr_tree.specs.declared.syntax.Direction.{Direction}
 use Rattle.scr_tree.specs.declared.syntax.Direction.TheVariants as directions
 use Rattle.scr_tree.specs.declared.syntax.Message.{Message}
 use Rattle.scr_tree.specs.declared.written.Declaration.{Declaration}
-use Rattle.scr_tree.specs.Tree.{Statements, Nothing, Says, Choice, Rec, Continue, Branches, NoBranch, Branch}
+use Rattle.scr_tree.specs.Tree.{Statements, Nothing, Says, Choice, Rec, Continue, Do, Branches, NoBranch, Branch}
 use Rattle.scr_tree.specs.View.{branches_of}
 use Rattle.scr_tree.specs.Valid.{depth, depth_in}
-use Rattle.scr_tree.specs.Written.{Carries}
-use Rattle.scr_parse.specs.Grammar.{Listed, IsNaming, direction_mark, AreTypes, IsMessage, carried, IsBraced, AreStatements, AreBranches}
-use Rattle.scr_parse.specs.Grammar.{AreOthers}
+use Rattle.scr_parse.specs.Grammar.{Listed, IsNaming, direction_mark, AreTypes, IsMessage, Note, carries, gives, carried, given, IsBraced}
+use Rattle.scr_parse.specs.Grammar.{AreStatements, AreBranches, AreOthers}
 use Rattle.scr_parse.specs.inner.View.{joined}
-use Rattle.scr_parse.specs.inner.Reading.{is_at, mark_at, name_at, names_at, direction_at, payload_at, message_at, continue_at, not_closed}
-use Rattle.scr_parse.specs.inner.Reading.{block_with, other_with, branches_with, choice_with, rec_with, says_at, statement_with}
+use Rattle.scr_parse.specs.inner.Reading.{is_at, mark_at, name_at, names_at, direction_at, payload_at, message_at, continue_at, do_at}
+use Rattle.scr_parse.specs.inner.Reading.{not_closed, block_with, other_with, branches_with, choice_with, rec_with, says_at, statement_with}
 use Rattle.scr_parse.specs.inner.Reading.{statement_at}
 use Rattle.scr_parse.proofs.Steps.{Anything, after, mark_is, name_is}
 use Rattle.scr_parse.proofs.Turns.{front_sound, front_complete, shorter}
@@ -125,14 +124,19 @@ module _ (declared : List Declaration) where
   Deep d Nothing us = ⊥
   Deep d (Says m rest) us = (rest ≡ Nothing) × MessageOf m us × (1 ≤ d)
   Deep d (Choice place at branches rest) us =
-      (rest ≡ Nothing) × (a b : Place) × (cs : List Carries) × (vs : List Tok)
+      (rest ≡ Nothing) × (a b : Place) × (cs : List Note) × (vs : List Tok)
       × (us ≡ marked place marks.Choice ∷ marked a marks.At ∷ named b at ∷ vs) × AreBranches declared branches cs vs ×
       (suc (depth_in branches) ≤ d)
   Deep d (Rec place name body rest) us =
-      (rest ≡ Nothing) × (a : Place) × (cs : List Carries) × (vs : List Tok)
+      (rest ≡ Nothing) × (a : Place) × (cs : List Note) × (vs : List Tok)
       × (us ≡ marked place marks.Rec ∷ named a name ∷ vs) × IsBraced (AreStatements declared body cs) vs × (suc (depth body) ≤ d)
   Deep d (Continue place name rest) us =
       (rest ≡ Nothing) × (a b : Place) × (us ≡ marked place marks.Continue ∷ named a name ∷ marked b marks.Semicolon ∷ []) × (1 ≤ d)
+  Deep d (Do place name rest) us =
+      (rest ≡ Nothing) × (a b c e : Place) × (roles : List Name) × (vs : List Tok)
+      × (us ≡ marked place marks.Do ∷ named a name ∷ marked b marks.OpenParen ∷
+      (vs ++ marked c marks.CloseParen ∷ marked e marks.Semicolon ∷ []))
+      × Listed marks.Comma IsNaming roles vs × (1 ≤ d)
 
   abbrev NotOr : List Tok → Type 0
   NotOr ts = is_at marks.Or ts ≡ false
@@ -150,14 +154,14 @@ module _ (declared : List Declaration) where
   -- ---- lists of statements, and statements in a row
 
   abbrev Row : ℕ → Statements → List Tok → Type 0
-  Row d b us = (cs : List Carries) × AreStatements declared b cs us × (depth b ≤ d)
+  Row d b us = (cs : List Note) × AreStatements declared b cs us × (depth b ≤ d)
 
   deep_row : (d : ℕ) (xs : List Statements) (us : List Tok) → Each (Deep d) xs us → Row d (joined xs) us
   deep_row d [] us h = ([], (refl, h), omega arith)
   deep_row d (Nothing ∷ xs) us (a, b, parts, h, more) = absurd h
   deep_row d (Says m rest ∷ xs) us (a, b, parts, (none, (types, h), le), more) =
       let r = deep_row d xs b more in
-      (carried m.place types ∷ r.0, (types, r.0, a, b, refl, parts, h, r.1), omega (arith, r.2))
+      (carries (carried m.place types) ∷ r.0, (types, r.0, a, b, refl, parts, h, r.1), omega (arith, r.2))
   deep_row d (Choice place at branches rest ∷ xs) us (a, b, parts, (none, p, q, cs, vs, starts, h, le), more) =
       let r = deep_row d xs b more in
       (cs ++ r.0, (p, q, cs, r.0, vs, b, refl, parts ∙ ap (λ (z : List Tok). z ++ b) starts, h, r.1), omega (arith, r.2))
@@ -167,6 +171,13 @@ module _ (declared : List Declaration) where
   deep_row d (Continue place name rest ∷ xs) us (a, b, parts, (none, p, q, starts, le), more) =
       let r = deep_row d xs b more in
       (r.0, (p, q, b, parts ∙ ap (λ (z : List Tok). z ++ b) starts, r.1), omega (arith, r.2))
+  deep_row d (Do place name rest ∷ xs) us (a, b, parts, (none, p, q, s, t, roles, vs, starts, h, le), more) =
+      let r = deep_row d xs b more in
+      let end : List Tok = marked s marks.CloseParen ∷ marked t marks.Semicolon ∷ [] in
+      let whole : us ≡ marked place marks.Do ∷ named p name ∷ marked q marks.OpenParen ∷ (vs ++ (end ++ b)) =
+      parts ∙ ap (λ (z : List Tok). z ++ b) starts
+      ∙ ap (λ (z : List Tok). marked place marks.Do ∷ named p name ∷ marked q marks.OpenParen ∷ z) (append_assoc vs end b) in
+      (gives (given place name roles) ∷ r.0, (p, q, s, t, roles, r.0, vs, b, refl, whole, h, r.1), omega (arith, r.2))
 
   abbrev pub list_of : Statements → List Statements
   list_of Nothing = []
@@ -174,6 +185,7 @@ module _ (declared : List Declaration) where
   list_of (Choice place at branches rest) = Choice place at branches Nothing ∷ list_of rest
   list_of (Rec place name body rest) = Rec place name body Nothing ∷ list_of rest
   list_of (Continue place name rest) = Continue place name Nothing ∷ list_of rest
+  list_of (Do place name rest) = Do place name Nothing ∷ list_of rest
 
   pub joined-list_of : (b : Statements) → joined (list_of b) ≡ b
   joined-list_of Nothing = refl
@@ -181,8 +193,9 @@ module _ (declared : List Declaration) where
   joined-list_of (Choice place at branches rest) = ap (Choice place at branches) (joined-list_of rest)
   joined-list_of (Rec place name body rest) = ap (Rec place name body) (joined-list_of rest)
   joined-list_of (Continue place name rest) = ap (Continue place name) (joined-list_of rest)
+  joined-list_of (Do place name rest) = ap (Do place name) (joined-list_of rest)
 
-  row_deep : (d : ℕ) (b : Statements) (cs : List Carries) (us : List Tok) → AreStatements declared b cs us → depth b ≤ d
+  row_deep : (d : ℕ) (b : Statements) (cs : List Note) (us : List Tok) → AreStatements declared b cs us → depth b ≤ d
       → Each (Deep d) (list_of b) us
   row_deep d Nothing cs us h le = h.1
   row_deep d (Says m rest) cs us (types, ds, vs, ws, carry, parts, h, more) le =
@@ -209,14 +222,22 @@ module _ (declared : List Declaration) where
     (refl, p, q, refl, omega arith),
     row_deep d rest cs ws more (omega arith),
   )
+  row_deep d (Do place name rest) cs us (p, q, s, t, roles, ds, vs, ws, carry, parts, h, more) le = (
+    marked place marks.Do ∷ named p name ∷ marked q marks.OpenParen ∷ (vs ++ marked s marks.CloseParen ∷ marked t marks.Semicolon ∷ []),
+    ws,
+    parts ∙ ap (λ (z : List Tok). marked place marks.Do ∷ named p name ∷ marked q marks.OpenParen ∷ z)
+        (sym (append_assoc vs (marked s marks.CloseParen ∷ marked t marks.Semicolon ∷ []) ws)),
+    (refl, p, q, s, t, roles, vs, refl, h, omega arith),
+    row_deep d rest ds ws more (omega arith),
+  )
 
   abbrev pub Block : ℕ → Statements → List Tok → Type 0
-  Block d b us = (cs : List Carries) × IsBraced (AreStatements declared b cs) us × (depth b ≤ d)
+  Block d b us = (cs : List Note) × IsBraced (AreStatements declared b cs) us × (depth b ≤ d)
 
   pub block_row : (d : ℕ) (xs : List Statements) (us : List Tok) → BlockOf d xs us → Block d (joined xs) us
   block_row d xs us (a, b, vs, parts, h) = let r = deep_row d xs vs h in (r.0, (a, b, vs, parts, r.1), r.2)
 
-  pub row_block : (d : ℕ) (b : Statements) (cs : List Carries) (us : List Tok) → IsBraced (AreStatements declared b cs) us → depth b ≤ d
+  pub row_block : (d : ℕ) (b : Statements) (cs : List Note) (us : List Tok) → IsBraced (AreStatements declared b cs) us → depth b ≤ d
       → BlockOf d (list_of b) us
   row_block d b cs us (p, q, vs, parts, h) le = (p, q, vs, parts, row_deep d b cs vs h le)
 
@@ -229,7 +250,7 @@ module _ (declared : List Declaration) where
   branches-lists_of (Branch b more) = rw (joined-list_of b, branches-lists_of more) refl
 
   abbrev Others : ℕ → Branches → List Tok → Type 0
-  Others d bs us = (cs : List Carries) × AreOthers declared bs cs us × (depth_in bs ≤ d)
+  Others d bs us = (cs : List Note) × AreOthers declared bs cs us × (depth_in bs ≤ d)
 
   deep_others : (d : ℕ) (xs : List (List Statements)) (us : List Tok) → Each (OtherOf d) xs us → Others d (branches_of (map joined xs)) us
   deep_others d [] us h = ([], (refl, h), omega arith)
@@ -238,14 +259,14 @@ module _ (declared : List Declaration) where
       let r = deep_others d xs qs more in
       (one.0 ++ r.0, (a, one.0, r.0, vs, qs, refl, parts ∙ ap (λ (z : List Tok). z ++ qs) starts, one.1, r.1), omega (arith, one.2, r.2))
 
-  others_deep : (d : ℕ) (bs : Branches) (cs : List Carries) (us : List Tok) → AreOthers declared bs cs us → depth_in bs ≤ d
+  others_deep : (d : ℕ) (bs : Branches) (cs : List Note) (us : List Tok) → AreOthers declared bs cs us → depth_in bs ≤ d
       → Each (OtherOf d) (lists_of bs) us
   others_deep d NoBranch cs us h le = h.1
   others_deep d (Branch b more) cs us (a, ds, es, vs, qs, carry, parts, block, h) le =
       (marked a marks.Or ∷ vs, qs, parts, (a, vs, refl, row_block d b ds vs block (omega arith)), others_deep d more es qs h (omega arith))
 
   abbrev Choices : ℕ → Branches → List Tok → Type 0
-  Choices d bs us = (cs : List Carries) × AreBranches declared bs cs us × (depth_in bs ≤ d)
+  Choices d bs us = (cs : List Note) × AreBranches declared bs cs us × (depth_in bs ≤ d)
 
   deep_branches : (d : ℕ) (xs : List (List Statements)) (us : List Tok) → BranchesOf d xs us → Choices d (branches_of (map joined xs)) us
   deep_branches d [] us h = absurd h
@@ -254,7 +275,7 @@ module _ (declared : List Declaration) where
       let r = deep_others d xs qs more in
       (one.0 ++ r.0, (one.0, r.0, ps, qs, refl, parts, one.1, r.1), omega (arith, one.2, r.2))
 
-  branches_deep : (d : ℕ) (bs : Branches) (cs : List Carries) (us : List Tok) → AreBranches declared bs cs us → depth_in bs ≤ d
+  branches_deep : (d : ℕ) (bs : Branches) (cs : List Note) (us : List Tok) → AreBranches declared bs cs us → depth_in bs ≤ d
       → BranchesOf d (lists_of bs) us
   branches_deep d NoBranch cs us h le = absurd h
   branches_deep d (Branch b more) cs us (ds, es, ps, qs, carry, parts, block, h) le =
@@ -268,6 +289,7 @@ module _ (declared : List Declaration) where
   deep_goes d (Choice place at branches behind) us rest (none, a, b, cs, vs, parts, h, le) = rw parts refl
   deep_goes d (Rec place name body behind) us rest (none, a, cs, vs, parts, h, le) = rw parts refl
   deep_goes d (Continue place name behind) us rest (none, a, b, parts, le) = rw parts refl
+  deep_goes d (Do place name behind) us rest (none, a, b, c, e, roles, vs, parts, h, le) = rw parts refl
 
   deep_follows : (d : ℕ) (s : Statements) (us rest : List Tok) → Deep d s us → NotOr (us ++ rest)
   deep_follows d Nothing us rest h = absurd h
@@ -275,6 +297,7 @@ module _ (declared : List Declaration) where
   deep_follows d (Choice place at branches behind) us rest (none, a, b, cs, vs, parts, h, le) = rw parts refl
   deep_follows d (Rec place name body behind) us rest (none, a, cs, vs, parts, h, le) = rw parts refl
   deep_follows d (Continue place name behind) us rest (none, a, b, parts, le) = rw parts refl
+  deep_follows d (Do place name behind) us rest (none, a, b, c, e, roles, vs, parts, h, le) = rw parts refl
 
   deep_nonempty : (d : ℕ) (s : Statements) (us : List Tok) → Deep d s us → 0 < length us
   deep_nonempty d Nothing us h = absurd h
@@ -282,6 +305,7 @@ module _ (declared : List Declaration) where
   deep_nonempty d (Choice place at branches behind) us (none, a, b, cs, vs, parts, h, le) = rw parts (omega arith)
   deep_nonempty d (Rec place name body behind) us (none, a, cs, vs, parts, h, le) = rw parts (omega arith)
   deep_nonempty d (Continue place name behind) us (none, a, b, parts, le) = rw parts (omega arith)
+  deep_nonempty d (Do place name behind) us (none, a, b, c, e, roles, vs, parts, h, le) = rw parts (omega arith)
 
   deep_starts : (d : ℕ) → Starts not_closed (Deep d) NotOr
   deep_starts d = record { follows = deep_follows d; goes = deep_goes d; nonempty = deep_nonempty d }
@@ -417,6 +441,28 @@ module _ (declared : List Declaration) where
           holds = (refl, n.0.0.0, c.0.0, refl, omega arith);
         })
 
+    do_sound : (ts : List Tok) (x : Statements × List Tok) → do_at ts ≡ Some x → Takes (Deep (suc d) x.0) ts x.1
+    unfolding do_at
+    do_sound ts x e =
+        let s = bind_some (mark_at marks.Do ts) _ x e in
+        let n = bind_some (name_at s.0.1) _ x s.2 in
+        let b = bind_some (mark_at marks.OpenParen n.0.1) _ x n.2 in
+        let p = bind_some (names_at marks.Comma b.0.1) _ x b.2 in
+        let c = bind_some (mark_at marks.CloseParen p.0.1) _ x p.2 in
+        let g = bind_some (mark_at marks.Semicolon c.0.1) _ x c.2 in
+        let names = names_sound marks.Comma b.0.1 p.0 p.1 in
+        let end : List Tok = marked c.0.0 marks.CloseParen ∷ marked g.0.0 marks.Semicolon ∷ [] in
+        let inner : b.0.1 ≡ (names.front ++ end) ++ g.0.1 =
+        names.parts ∙ ap (λ (r : List Tok). names.front ++ r)
+        (after (mark_is marks.CloseParen p.0.1 c.0 c.1) (mark_is marks.Semicolon c.0.1 g.0 g.1)) ∙ sym (append_assoc names.front end g.0.1)
+        in
+        subst (λ (y : Statements × List Tok). Takes (Deep (suc d) y.0) ts y.1) (some_is _ x g.2)
+        (record {
+          front = marked s.0.0 marks.Do ∷ named n.0.0.0 n.0.0.1 ∷ marked b.0.0 marks.OpenParen ∷ (names.front ++ end);
+          parts = after (mark_is marks.Do ts s.0 s.1) (after (name_is s.0.1 n.0 n.1) (after (mark_is marks.OpenParen n.0.1 b.0 b.1) inner));
+          holds = (refl, n.0.0.0, b.0.0, c.0.0, g.0.0, p.0.0, names.front, refl, names.holds, omega arith);
+        })
+
     says_sound : (ts : List Tok) (x : Statements × List Tok) → says_at declared ts ≡ Some x → Takes (Deep (suc d) x.0) ts x.1
     unfolding says_at
     says_sound ts x e =
@@ -434,14 +480,17 @@ module _ (declared : List Declaration) where
             | inl a ↦ rec_sound ts x a.1
             | inr c ↦ elim (chosen (is_at marks.Continue ts) (continue_at ts) _ (Some x) c.1) [
               | inl a ↦ continue_sound ts x a.1
-              | inr g ↦ says_sound ts x g.1
+              | inr g ↦ elim (chosen (is_at marks.Do ts) (do_at ts) _ (Some x) g.1) [
+                | inl a ↦ do_sound ts x a.1
+                | inr k ↦ says_sound ts x k.1
+              ]
             ]
           ]
         ]
 
     statement_complete : (x : Statements) (ts rest : List Tok) → NotOr rest → Deep (suc d) x ts
         → statement_with declared f (ts ++ rest) ≡ Some (x, rest)
-    unfolding statement_with choice_with rec_with continue_at says_at
+    unfolding statement_with choice_with rec_with continue_at do_at says_at
     statement_complete Nothing ts rest fine h = absurd h
     statement_complete (Says m behind) ts rest fine (none, (types, (a, b, c, e, g, us, parts, h, kind)), le) =
         let whole = message_complete m ts rest (types, (a, b, c, e, g, us, parts, h, kind)) in
@@ -454,6 +503,10 @@ module _ (declared : List Declaration) where
         let inner = block_complete (list_of body) us rest tt (row_block d body cs us h (omega arith)) in
         rw (parts, inner, joined-list_of body, none) refl
     statement_complete (Continue place name behind) ts rest fine (none, a, b, parts, le) = rw (parts, none) refl
+    statement_complete (Do place name behind) ts rest fine (none, a, b, c, e, roles, us, parts, h, le) =
+        let end : List Tok = marked c marks.CloseParen ∷ marked e marks.Semicolon ∷ [] in
+        let names = names_complete marks.Comma roles us (end ++ rest) refl h in
+        rw (parts, append_assoc us end rest, names, none) refl
 
   pub statement_exact : (d : ℕ) → IsExact (statement_at declared d) (Deep d) NotOr
   unfolding statement_at
@@ -465,6 +518,7 @@ module _ (declared : List Declaration) where
       never (Choice place at branches behind) ts (none, a, b, cs, us, parts, h, le) = omega arith
       never (Rec place name body behind) ts (none, a, cs, us, parts, h, le) = omega arith
       never (Continue place name behind) ts (none, a, b, parts, le) = omega arith
+      never (Do place name behind) ts (none, a, b, c, e, roles, us, parts, h, le) = omega arith
   statement_exact (suc d) =
       record {
         sound = statement_sound (statement_at declared d) d (statement_exact d);

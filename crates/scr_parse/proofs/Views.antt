@@ -5,11 +5,11 @@ use Rattle.mg_text.specs.Row.{Row}
 use Rattle.mg_text.specs.declared.place.Place.{Place}
 use Rattle.scr_tree.specs.declared.syntax.Message.{Message}
 use Rattle.scr_tree.specs.declared.syntax.Statement.{Statement}
-use Rattle.scr_tree.specs.declared.syntax.Statement.TheVariants.{Message as Said, Choice, Rec, Continue}
+use Rattle.scr_tree.specs.declared.syntax.Statement.TheVariants.{Message as Said, Choice, Rec, Continue, Do}
 use Rattle.scr_tree.specs.Tree.{Statements, Nothing}
 use Rattle.scr_tree.specs.Tree as tree
 use Rattle.scr_tree.specs.View.{Front, front, branches_of, statements}
-use Rattle.scr_tree.proofs.ViewLemmas.{front-Message, front-Choice, front-Rec, front-Continue, each_kind}
+use Rattle.scr_tree.proofs.ViewLemmas.{front-Message, front-Choice, front-Rec, front-Continue, front-Do, each_kind}
 use Rattle.scr_parse.specs.inner.View.{alone, all_alone, blocks_alone, in_front_of, joined}
 
 -- a statement stands in front of others as it does alone
@@ -26,6 +26,8 @@ stands = each_kind (λ s. (rest : Statements) → front s rest ≡ in_front_of (
     (λ place name rest.
     ap (λ (f : Front). f rest) (front-Continue place name) ∙ sym (ap (λ (f : Front). in_front_of (f Nothing) rest)
     (front-Continue place name)))
+    (λ place name rest.
+    ap (λ (f : Front). f rest) (front-Do place name) ∙ sym (ap (λ (f : Front). in_front_of (f Nothing) rest) (front-Do place name)))
 
 pub statements_joined : (ss : List Statement) → statements ss ≡ joined (all_alone ss)
 statements_joined [] = refl
@@ -56,4 +58,8 @@ pub alone-Continue : (place : Place) (name : Name) → alone (Continue place nam
 unfolding alone
 alone-Continue place name = ap (λ (f : Front). f Nothing) (front-Continue place name)
 
-pub ruleset alones = (alone-Message, alone-Choice, alone-Rec, alone-Continue)
+pub alone-Do : (place : Place) (name : Name) → alone (Do place name) ≡ tree.Do place name Nothing
+unfolding alone
+alone-Do place name = ap (λ (f : Front). f Nothing) (front-Do place name)
+
+pub ruleset alones = (alone-Message, alone-Choice, alone-Rec, alone-Continue, alone-Do)

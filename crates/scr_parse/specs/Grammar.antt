@@ -1,5 +1,6 @@
 -- How a file is spelled by its tokens: one definition a production. A part is related to all of its tokens.
 use Rattle.std.specs.Prelude.{◌≡◌, ◌⊎◌, ◌≤◌, List, [], ◌∷◌, ◌++◌}
+use Rattle.std.specs.List.{AllByRecursion}
 use Rattle.mg_text.specs.Call.{Name}
 use Rattle.mg_text.specs.declared.place.Place.{Place}
 use Rattle.mg_read.specs.Each.{Each}
@@ -11,8 +12,8 @@ use Rattle.scr_tree.specs.declared.syntax.Direction.TheVariants as directions
 use Rattle.scr_tree.specs.declared.syntax.Message.{Message}
 use Rattle.scr_tree.specs.declared.written.Declaration.{Declaration}
 use Rattle.scr_tree.specs.declared.written.Role.{Role}
-use Rattle.scr_tree.specs.Tree.{Statements, Nothing, Says, Choice, Rec, Continue, Branches, NoBranch, Branch}
-use Rattle.scr_tree.specs.Written.{Carries, WrittenTree, kind_of}
+use Rattle.scr_tree.specs.Tree.{Statements, Nothing, Says, Choice, Rec, Continue, Do, Branches, NoBranch, Branch}
+use Rattle.scr_tree.specs.Written.{Carries, Arguments, WrittenPart, WrittenTree, parts_in, kind_of}
 use Rattle.scr_tree.specs.Valid.{depth}
 
 -- ---- lists. `Each G xs ts`: the tokens are those of the parts xs, one after another, each as G says.
@@ -99,67 +100,106 @@ IsMessage declared m types ts =
 abbrev pub carried : Place → List Name → Carries
 carried place types = record { place = place; types = types }
 
+-- what a `do` is given
+abbrev pub given : Place → Name → List Name → Arguments
+given place name roles = record { place = place; name = name; roles = roles }
+
+-- what stands between the parentheses of a message, or of a `do`
+pub data Note : Type 0 where
+  carries : Carries → Note
+  gives : Arguments → Note
+
+abbrev pub carries_among : List Note → List Carries
+carries_among [] = []
+carries_among (carries c ∷ notes) = c ∷ carries_among notes
+carries_among (gives a ∷ notes) = carries_among notes
+
+abbrev pub arguments_among : List Note → List Arguments
+arguments_among [] = []
+arguments_among (carries c ∷ notes) = arguments_among notes
+arguments_among (gives a ∷ notes) = a ∷ arguments_among notes
+
 -- "{" .. "}"
 abbrev pub IsBraced : (List Tok → Type 0) → List Tok → Type 0
 IsBraced P ts = (a b : Place) × (us : List Tok) × (ts ≡ marked a marks.OpenBrace ∷ (us ++ marked b marks.CloseBrace ∷ [])) × P us
 
 abbrev mutual
-  -- { stmt }, with what the messages carry, in the order of the text
-  pub AreStatements : List Declaration → Statements → List Carries → List Tok → Type 0
-  AreStatements declared Nothing cs ts = (cs ≡ []) × (ts ≡ [])
+  -- { stmt }, with what stands between parentheses, in the order of the text
+  pub AreStatements : List Declaration → Statements → List Note → List Tok → Type 0
+  AreStatements declared Nothing ns ts = (ns ≡ []) × (ts ≡ [])
   -- message
-  AreStatements declared (Says m rest) cs ts =
-      (types : List Name) × (ds : List Carries) × (us vs : List Tok)
-      × (cs ≡ carried m.place types ∷ ds) × (ts ≡ us ++ vs) × IsMessage declared m types us × AreStatements declared rest ds vs
+  AreStatements declared (Says m rest) ns ts =
+      (types : List Name) × (ms : List Note) × (us vs : List Tok)
+      × (ns ≡ carries (carried m.place types) ∷ ms) × (ts ≡ us ++ vs) × IsMessage declared m types us × AreStatements declared rest ms vs
   -- "choice" "at" name block { "or" block }
-  AreStatements declared (Choice place at branches rest) cs ts =
-      (a b : Place) × (ds es : List Carries) × (us vs : List Tok)
-      × (cs ≡ ds ++ es) × (ts ≡ marked place marks.Choice ∷ marked a marks.At ∷ named b at ∷ (us ++ vs))
-      × AreBranches declared branches ds us × AreStatements declared rest es vs
+  AreStatements declared (Choice place at branches rest) ns ts =
+      (a b : Place) × (ms ks : List Note) × (us vs : List Tok)
+      × (ns ≡ ms ++ ks) × (ts ≡ marked place marks.Choice ∷ marked a marks.At ∷ named b at ∷ (us ++ vs))
+      × AreBranches declared branches ms us × AreStatements declared rest ks vs
   -- "rec" name block
-  AreStatements declared (Rec place name body rest) cs ts =
-      (a : Place) × (ds es : List Carries) × (us vs : List Tok)
-      × (cs ≡ ds ++ es) × (ts ≡ marked place marks.Rec ∷ named a name ∷ (us ++ vs))
-      × IsBraced (AreStatements declared body ds) us × AreStatements declared rest es vs
+  AreStatements declared (Rec place name body rest) ns ts =
+      (a : Place) × (ms ks : List Note) × (us vs : List Tok)
+      × (ns ≡ ms ++ ks) × (ts ≡ marked place marks.Rec ∷ named a name ∷ (us ++ vs))
+      × IsBraced (AreStatements declared body ms) us × AreStatements declared rest ks vs
   -- "continue" name ";"
-  AreStatements declared (Continue place name rest) cs ts =
+  AreStatements declared (Continue place name rest) ns ts =
       (a b : Place) × (us : List Tok)
-      × (ts ≡ marked place marks.Continue ∷ named a name ∷ marked b marks.Semicolon ∷ us) × AreStatements declared rest cs us
+      × (ts ≡ marked place marks.Continue ∷ named a name ∷ marked b marks.Semicolon ∷ us) × AreStatements declared rest ns us
+  -- "do" name "(" name { "," name } ")" ";"
+  AreStatements declared (Do place name rest) ns ts =
+      (a b c d : Place) × (roles : List Name) × (ms : List Note) × (us vs : List Tok)
+      × (ns ≡ gives (given place name roles) ∷ ms)
+      × (ts ≡ marked place marks.Do ∷ named a name ∷ marked b marks.OpenParen ∷
+      (us ++ marked c marks.CloseParen ∷ marked d marks.Semicolon ∷ vs))
+      × Listed marks.Comma IsNaming roles us × AreStatements declared rest ms vs
 
   -- block { "or" block }
-  pub AreBranches : List Declaration → Branches → List Carries → List Tok → Type 0
-  AreBranches declared NoBranch cs ts = ⊥
-  AreBranches declared (Branch statements more) cs ts =
-      (ds es : List Carries) × (us vs : List Tok)
-      × (cs ≡ ds ++ es) × (ts ≡ us ++ vs) × IsBraced (AreStatements declared statements ds) us × AreOthers declared more es vs
+  pub AreBranches : List Declaration → Branches → List Note → List Tok → Type 0
+  AreBranches declared NoBranch ns ts = ⊥
+  AreBranches declared (Branch statements more) ns ts =
+      (ms ks : List Note) × (us vs : List Tok)
+      × (ns ≡ ms ++ ks) × (ts ≡ us ++ vs) × IsBraced (AreStatements declared statements ms) us × AreOthers declared more ks vs
 
   -- { "or" block }
-  pub AreOthers : List Declaration → Branches → List Carries → List Tok → Type 0
-  AreOthers declared NoBranch cs ts = (cs ≡ []) × (ts ≡ [])
-  AreOthers declared (Branch statements more) cs ts =
-      (a : Place) × (ds es : List Carries) × (us vs : List Tok)
-      × (cs ≡ ds ++ es) × (ts ≡ marked a marks.Or ∷ (us ++ vs))
-      × IsBraced (AreStatements declared statements ds) us × AreOthers declared more es vs
+  pub AreOthers : List Declaration → Branches → List Note → List Tok → Type 0
+  AreOthers declared NoBranch ns ts = (ns ≡ []) × (ts ≡ [])
+  AreOthers declared (Branch statements more) ns ts =
+      (a : Place) × (ms ks : List Note) × (us vs : List Tok)
+      × (ns ≡ ms ++ ks) × (ts ≡ marked a marks.Or ∷ (us ++ vs))
+      × IsBraced (AreStatements declared statements ms) us × AreOthers declared more ks vs
 
 -- ---- the file
 
--- [ module ] { type } "local" "protocol" name header block
+-- "local" "protocol" name header block
+pub record IsLocal (types : List Declaration) (p : WrittenPart) (ts : List Tok) : Type 0 where
+  pub header : List Tok
+  pub block : List Tok
+  pub notes : List Note
+  pub local_at : Place
+  pub protocol_at : Place
+  pub tokens : ts ≡ marked local_at marks.Local ∷ marked protocol_at marks.Protocol ∷ named p.place p.name ∷ (header ++ block)
+  pub heads : IsAtHeader p.me p.roles header ⊎ IsSelfHeader p.me p.roles header
+  pub body : IsBraced (AreStatements types p.body notes) block
+  pub carries : p.carries ≡ carries_among notes
+  pub arguments : p.arguments ≡ arguments_among notes
+
+-- [ module ] { type } local { local }
 pub record IsFile (w : WrittenTree) (ts : List Tok) : Type 0 where
   pub start : List Tok
   pub types : List Tok
-  pub header : List Tok
-  pub block : List Tok
-  pub local_at : Place
-  pub protocol_at : Place
-  pub name_at : Place
-  pub tokens : ts ≡ start ++ (types ++ marked local_at marks.Local ∷ marked protocol_at marks.Protocol ∷ named name_at w.name ∷
-      (header ++ block))
+  pub first : List Tok
+  pub others : List Tok
+  pub tokens : ts ≡ start ++ (types ++ (first ++ others))
   pub starts : IsModule start
   pub declares : Each IsType w.types types
-  pub heads : IsAtHeader w.me w.roles header ⊎ IsSelfHeader w.me w.roles header
-  pub body : IsBraced (AreStatements w.types w.body w.carries) block
+  pub begins : IsLocal w.types w.first first
+  pub goes_on : Each (IsLocal w.types) w.others others
+
+-- the statements of a protocol stand at most 200 deep one inside another
+abbrev pub IsShallow : WrittenPart → Type 0
+IsShallow p = depth p.body ≤ 200
 
 -- the tokens spell the file, whose statements stand at most 200 deep one inside another
 pub record IsSpelled (w : WrittenTree) (ts : List Tok) : Type 0 where
   pub spelled : IsFile w ts
-  pub shallow : depth w.body ≤ 200
+  pub shallow : AllByRecursion IsShallow (parts_in w)

@@ -8,8 +8,8 @@ ghost use Rattle.scr_tree.specs.declared.token.Mark.TheVariants as marks;
 ghost use Rattle.scr_parse.specs.Answer.{Gives};
 ghost use Rattle.scr_parse.specs.inner.Kinds.{IsTable};
 ghost use Rattle.scr_parse.specs.inner.View.{alone, all_alone, blocks_alone};
-ghost use Rattle.scr_parse.specs.inner.Reading.{is_at, direction_at, payload_at, message_at, continue_at, says_at, not_closed, block_with};
-ghost use Rattle.scr_parse.specs.inner.Reading.{other_with, branches_with, choice_with, rec_with, statement_with, statement_at};
+ghost use Rattle.scr_parse.specs.inner.Reading.{is_at, direction_at, payload_at, message_at, continue_at, do_at, says_at, not_closed};
+ghost use Rattle.scr_parse.specs.inner.Reading.{block_with, other_with, branches_with, choice_with, rec_with, statement_with, statement_at};
 
 use crate::fault::ParseFault;
 use crate::front::{is_mark, mark_of, name_of, names_of};
@@ -93,6 +93,20 @@ fn continue_of(tokens: &[Token]) -> Result<(Statement, &[Token]), ParseFault>
     let (_, name, rest) = name_of(rest)?;
     let (_, rest) = mark_of(rest, Mark::Semicolon)?;
     Ok((Statement::Continue { place, name }, rest))
+}
+
+// "do" name "(" names ")" ";"
+#[tactic(auto, using(crate::proofs::Views::alones), unfolding(crate::specs::inner::Reading::do_at))]
+fn do_of(alloc: Global, tokens: &[Token]) -> Result<(Statement, &[Token]), ParseFault>
+    ensures { Gives (λ x. (alone x.0, toks x.1.now)) result (do_at (toks tokens.now)) }
+{
+    let (place, rest) = mark_of(tokens, Mark::Do)?;
+    let (_, name, rest) = name_of(rest)?;
+    let (_, rest) = mark_of(rest, Mark::OpenParen)?;
+    let (_, rest) = names_of(alloc, rest, Mark::Comma)?;
+    let (_, rest) = mark_of(rest, Mark::CloseParen)?;
+    let (_, rest) = mark_of(rest, Mark::Semicolon)?;
+    Ok((Statement::Do { place, name }, rest))
 }
 
 // Where the first token stands.
@@ -277,6 +291,8 @@ fn statement_of<'a>(
         rec_of(alloc, types, tokens, levels - 1)
     } else if is_mark(tokens, Mark::Continue) {
         continue_of(tokens)
+    } else if is_mark(tokens, Mark::Do) {
+        do_of(alloc, tokens)
     } else {
         says_of(alloc, types, tokens)
     }

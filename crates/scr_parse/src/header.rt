@@ -10,7 +10,7 @@ ghost use Rattle.scr_parse.specs.inner.Reading.{self_header_at, header_at};
 
 use crate::fault::ParseFault;
 use crate::front::{is_mark, mark_of, name_of, names_of};
-use mg_text::{List, Text};
+use mg_text::{List, Place, Text};
 use scr_tree::{Mark, Role, Token};
 use std::alloc::Global;
 
@@ -46,13 +46,13 @@ pub fn after_module(alloc: Global, tokens: &[Token]) -> Result<&[Token], ParseFa
 
 // "local" "protocol" name
 #[tactic(auto, unfolding(crate::specs::inner::Reading::title_at))]
-pub(crate) fn title_of(tokens: &[Token]) -> Result<(Text, &[Token]), ParseFault>
-    ensures { Gives (λ x. (x.0, toks x.1.now)) result (title_at (toks tokens.now)) }
+pub(crate) fn title_of(tokens: &[Token]) -> Result<(Place, Text, &[Token]), ParseFault>
+    ensures { Gives (λ x. ((x.0, x.1), toks x.2.now)) result (title_at (toks tokens.now)) }
 {
     let (_, rest) = mark_of(tokens, Mark::Local)?;
     let (_, rest) = mark_of(rest, Mark::Protocol)?;
-    let (_, name, rest) = name_of(rest)?;
-    Ok((name, rest))
+    let (place, name, rest) = name_of(rest)?;
+    Ok((place, name, rest))
 }
 
 // "role" name

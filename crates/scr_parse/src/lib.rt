@@ -2,69 +2,31 @@
 //! What is read are the parts of the file as they are written, and `Syntax` says that the tokens spell none.
 #![tactic(auto)]
 
-ghost use Rattle.std.specs.Prelude.{◌≡◌, ℕ, IfOk, map, List as Seq};
+ghost use Rattle.std.specs.Prelude.{◌≡◌, ℕ, IfOk, List as Seq};
 ghost use Rattle.scr_tree.specs.Tok.{Tok, toks};
-ghost use Rattle.scr_tree.specs.View.{statements};
-ghost use Rattle.scr_tree.specs.Written.{WrittenTree, written_of, carries_of};
+ghost use Rattle.scr_tree.specs.Written.{WrittenTree, written_of};
 ghost use Rattle.scr_parse.specs.Grammar.{IsSpelled};
 ghost use Rattle.scr_parse.specs.Answer.{Gives, IsReadOrMemory, SaysSyntax};
-ghost use Rattle.scr_parse.specs.inner.Kinds.{IsTable};
-ghost use Rattle.scr_parse.specs.inner.View.{all_alone};
-ghost use Rattle.scr_parse.specs.inner.Reading.{only_block_at, body_at, file_at};
+ghost use Rattle.scr_parse.specs.inner.Reading.{file_at};
 
+mod arguments;
 mod body;
 mod carries;
 mod fault;
 mod front;
 mod header;
+mod part;
 mod types;
 
-use crate::body::block_of;
 pub use crate::body::payload_of;
 pub use crate::carries::carries_of;
 pub use crate::fault::ParseFault;
 pub use crate::front::{is_mark, mark_of, name_of};
-use crate::header::{Header, header_of, title_of};
 pub use crate::header::{after_module, roles_of};
+use crate::part::{part_of, parts_of};
 pub use crate::types::{Types, types_of};
-use mg_text::List;
-use scr_tree::{Carries, Statement, Token, Written};
+use scr_tree::{Token, Written};
 use std::alloc::Global;
-
-/// Statements that may stand one inside another.
-const MAX_DEPTH: u8 = 200;
-
-// The statements of a body behind which nothing stands.
-#[tactic(auto, unfolding(crate::specs::inner::Reading::only_block_at))]
-fn only_block_of(
-    alloc: Global,
-    types: &Types,
-    tokens: &[Token],
-) -> Result<List<Statement>, ParseFault>
-    requires { IsTable types.now }
-    ensures { Gives (λ x. all_alone x.items) result (only_block_at types.now.declared.items (toks tokens.now)) }
-{
-    let (statements, rest) = block_of(alloc, types, tokens, MAX_DEPTH)?;
-    match rest {
-        [] => Ok(statements),
-        [extra, ..] => Err(ParseFault::Syntax(Some(extra.place))),
-    }
-}
-
-// The body of a protocol, and what its messages carry.
-#[tactic(auto, using(crate::proofs::Views::statements_joined), unfolding(crate::specs::inner::Reading::body_at))]
-fn body_of(
-    alloc: Global,
-    types: &Types,
-    tokens: &[Token],
-) -> Result<(List<Statement>, List<Carries>), ParseFault>
-    requires { IsTable types.now }
-    ensures { Gives (λ x. (statements x.0.items, map carries_of x.1.items)) result (body_at types.now.declared.items (toks tokens.now)) }
-{
-    let statements = only_block_of(alloc, types, tokens)?;
-    let carries = carries_of(alloc, tokens)?;
-    Ok((statements, carries))
-}
 
 // A whole file.
 #[tactic(auto, unfolding(crate::specs::inner::Reading::file_at))]
@@ -73,19 +35,14 @@ fn file_of(alloc: Global, tokens: &[Token]) -> Result<Written, ParseFault>
 {
     let rest = after_module(alloc, tokens)?;
     let (declared, rest) = types_of(alloc, rest)?;
-    let (name, rest) = title_of(rest)?;
-    let (header, rest) = header_of(alloc, rest)?;
     let types = Types::of(alloc, declared)?;
-    let (body, carries) = body_of(alloc, &types, rest)?;
+    let (first, rest) = part_of(alloc, &types, rest)?;
+    let (others, _) = parts_of(alloc, &types, rest)?;
     let Types { declared, kinds: _ } = types;
-    let Header { me, roles } = header;
     Ok(Written {
         types: declared,
-        name,
-        me,
-        roles,
-        carries,
-        body,
+        first,
+        others,
     })
 }
 

@@ -45,6 +45,7 @@ module _ (roles : List Name) (me : Name) where
         × Keeps names rest
     Keeps names (local.Rec place name body rest) = IsName name × (Contains names name → ⊥) × Keeps (name ∷ names) body × Keeps names rest
     Keeps names (local.Continue place name rest) = IsName name × Contains names name × Keeps names rest
+    Keeps names (local.Do place name rest) = ⊥
 
     pub KeepEach : List Name → local.Branches → Type 0
     KeepEach names local.NoBranch = Unit {0}
@@ -56,6 +57,7 @@ module _ (roles : List Name) (me : Name) where
   keeps_behind names (local.Choice place at branches s) t h k = (h.0, h.1, h.2, h.3, keeps_behind names s t h.4 k)
   keeps_behind names (local.Rec place name body s) t h k = (h.0, h.1, h.2, keeps_behind names s t h.3 k)
   keeps_behind names (local.Continue place name s) t h k = (h.0, h.1, keeps_behind names s t h.2 k)
+  keeps_behind names (local.Do place name s) t h k = absurd h
 
   keeps_told : (names : List Name) (m : Passed) (b c : Bool) (s : local.Statements) → bytes_eq m.from me ≡ b → bytes_eq m.to me ≡ c →
       IsName m.label → IsName m.from → IsName m.to → Contains roles m.from → Contains roles m.to → (m.from ≢ m.to) → Keeps names s →
@@ -75,8 +77,8 @@ module _ (roles : List Name) (me : Name) where
   IsListed peer = IsName peer × Contains roles peer
 
   taken_listed : (names : List Name) (m : Message) (d : Direction) (p : Protocol) (more : Told) → IsListed m.peer →
-      all_take (first_peer (Does (towards d m.peer m.label m.payload) p)) (protocol.Branch (Does (towards d m.peer m.label m.payload) p)
-      more) ≡ true →
+      all_take (first_peer (Does (towards d m.peer m.label m.payload) p))
+      (protocol.Branch (Does (towards d m.peer m.label m.payload) p) more) ≡ true →
       IsListed (first_peer (Does (towards d m.peer m.label m.payload) p))
   taken_listed names m directions.To p more h e = absurd cc
   taken_listed names m directions.From p more h e = h
@@ -89,6 +91,7 @@ module _ (roles : List Name) (me : Name) where
       absurd (no_take (bytes_eq at me) (spoken_each me branches) (spoken me rest) more e)
   peer_listed names (local.Rec place name body rest) more h e = absurd cc
   peer_listed names (local.Continue place name rest) more h e = absurd cc
+  peer_listed names (local.Do place name rest) more h e = absurd h
 
   merged_by : (names : List Name) (place : Place) (b : local.Statements) (more : local.Branches) (r s : local.Statements) →
       KeepEach names (local.Branch b more) → Keeps names r → (c d : Bool) →
@@ -169,6 +172,7 @@ module _ (roles : List Name) (me : Name) where
   depth_behind (local.Choice place at branches s) t = let h = depth_behind s t in omega arith
   depth_behind (local.Rec place name body s) t = let h = depth_behind s t in omega arith
   depth_behind (local.Continue place name s) t = let h = depth_behind s t in omega arith
+  depth_behind (local.Do place name s) t = let h = depth_behind s t in omega arith
 
   depth_told : (m : Passed) (b c : Bool) (s : local.Statements) → valid.depth (told_in b c m s) ≤ max 1 (valid.depth s)
   depth_told m true c s = omega arith

@@ -11,7 +11,7 @@ use Rattle.scr_tree.specs.declared.syntax.Message.{Message as Said}
 use Rattle.scr_tree.specs.Meaning.{message_of, towards}
 use Rattle.scr_tree.specs.Protocol.{Protocol, Does, ChoiceHere, ChoiceThere, Branches as Told}
 use Rattle.scr_tree.specs.Protocol as protocol
-use Rattle.scr_tree.specs.Tree.{Statements, Nothing, Says, Choice, Rec, Continue, Branches, NoBranch, Branch}
+use Rattle.scr_tree.specs.Tree.{Statements, Nothing, Says, Choice, Rec, Continue, Do, Branches, NoBranch, Branch}
 use Rattle.scr_judge.specs.inner.Seen.{Names, none, with_name}
 use Rattle.scr_global.specs.Projection.{first_labels}
 use Rattle.scr_global.specs.Projecting.{is_among, all_take, all_differ, first_peer, tells_apart}
@@ -122,6 +122,7 @@ module _ (me : Name) (peer : Name) where
       (not_take (bytes_eq at me) peer (spoken_each me bs) (spoken me rest) (spoken_each me more)))
   tells_is has (Branch (Rec p name body rest) more) = refl
   tells_is has (Branch (Continue p name rest) more) = refl
+  tells_is has (Branch (Do p name rest) more) = refl
 
   pub tells_none : (bs : Branches) → tells peer none bs ≡ tells_apart peer (spoken_each me bs)
   tells_none bs = tells_is none bs ∙ ap (λ (z : Bool). all_take peer (spoken_each me bs) && z)
@@ -138,8 +139,8 @@ told_by bs (Some m) = if tells m.peer none bs then Some m.peer else None
 abbrev apart_by : Protocol → Told → Option Name
 apart_by p behind = if tells_apart (first_peer p) (protocol.Branch p behind) then Some (first_peer p) else None
 
-none_tells : (b : Bool) (bs : Told) (p : Protocol) (behind : Told) → apart_by (if b then ChoiceHere bs p else ChoiceThere 0 bs p) behind ≡
-    None
+none_tells : (b : Bool) (bs : Told) (p : Protocol) (behind : Told) → apart_by (if b then ChoiceHere bs p else ChoiceThere 0 bs p) behind
+    ≡ None
 none_tells true bs p behind = refl
 none_tells false bs p behind = refl
 
@@ -160,3 +161,4 @@ module _ (me : Name) where
   telling_is (Choice p at bs rest) more = none_tells (bytes_eq at me) (spoken_each me bs) (spoken me rest) (spoken_each me more)
   telling_is (Rec p name body rest) more = refl
   telling_is (Continue p name rest) more = refl
+  telling_is (Do p name rest) more = refl

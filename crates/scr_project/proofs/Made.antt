@@ -28,9 +28,9 @@ use Rattle.scr_project.proofs.Answered.{stage_made, stage_unprojected, stage_unm
 
 module _ (global : Global) (me : Name) (s : Statements) (e : projected me (tree_of global).body ≡ Some s) (t : LocalTree)
     (file : t.file ≡ (tree_of global).file) (name : t.name ≡ (tree_of global).name) (role : t.me ≡ me)
-    (roles : t.roles ≡ (tree_of global).roles) (body : t.body ≡ s) where
+    (roles : t.roles ≡ (tree_of global).roles) (body : t.body ≡ s) (alone : t.others ≡ []) where
   same : t ≡ projection_of (tree_of global) me s
-  same = same_parts (tree_of global) me s t file name role roles body
+  same = same_parts (tree_of global) me s t file name role roles body alone
 
   pub parts_written : ∥ IsWritten t ∥₁
   parts_written = subst (λ (u : LocalTree). ∥ IsWritten u ∥₁) (sym same) (can_be_written (tree_of global) me s e global.valid)

@@ -14,7 +14,7 @@ use Rattle.scr_tree.specs.declared.syntax.Statement.TheVariants as kinds
 use Rattle.scr_tree.specs.Tree.{Statements, Nothing, Says, Choice, Rec, Continue, Branches, NoBranch, Branch}
 use Rattle.scr_tree.specs.View.{front, statements, bodies}
 use Rattle.scr_tree.proofs.Behind.{bodies-step, bodies-past}
-use Rattle.scr_tree.proofs.ViewLemmas.{front-Message, front-Choice, front-Rec, front-Continue}
+use Rattle.scr_tree.proofs.ViewLemmas.{front-Message, front-Choice, front-Rec, front-Continue, front-Do}
 use Rattle.scr_judge.specs.inner.Seen.{Names, none, with_name}
 use Rattle.scr_global.specs.Projecting.{is_same, all_same, mapped, tells_apart, first_peer}
 use Rattle.scr_global.specs.Texts.{spoken, spoken_each, behind, merged_text}
@@ -74,12 +74,15 @@ pub taken-Choice : (p : Place) (at : Name) (bs : Row (Row Statement)) (rest : St
     ≡ None
 taken-Choice p at bs rest = ap (λ (f : Statements → Statements). first_taken (f rest)) (front-Choice p at bs)
 
-pub taken-Rec : (p : Place) (name : Name) (body : Row Statement) (rest : Statements) → first_taken (front (kinds.Rec p name body) rest) ≡
-    None
+pub taken-Rec : (p : Place) (name : Name) (body : Row Statement) (rest : Statements) → first_taken (front (kinds.Rec p name body) rest)
+    ≡ None
 taken-Rec p name body rest = ap (λ (f : Statements → Statements). first_taken (f rest)) (front-Rec p name body)
 
 pub taken-Continue : (p : Place) (name : Name) (rest : Statements) → first_taken (front (kinds.Continue p name) rest) ≡ None
 taken-Continue p name rest = ap (λ (f : Statements → Statements). first_taken (f rest)) (front-Continue p name)
+
+pub taken-Do : (p : Place) (name : Name) (rest : Statements) → first_taken (front (kinds.Do p name) rest) ≡ None
+taken-Do p name rest = ap (λ (f : Statements → Statements). first_taken (f rest)) (front-Do p name)
 
 -- what is left of branches, by the message that the first of them takes
 abbrev pub tells_by : Name → Names → Branches → Option Said → Bool
@@ -97,15 +100,15 @@ pub tells-step : (peer : Name) (has : Names) (bs : List (Row Statement)) (i : �
 tells-step peer has bs i x within is =
     ap (tells peer has) (bodies-step bs i x within is) ∙ by_is peer has (bodies (drop (i + 1) bs)) (first_taken (statements x.items))
 
-pub tells-past : (peer : Name) (has : Names) (bs : List (Row Statement)) (i : ℕ) → length bs ≤ i → tells peer has (bodies (drop i bs)) ≡
-    true
+pub tells-past : (peer : Name) (has : Names) (bs : List (Row Statement)) (i : ℕ) → length bs ≤ i → tells peer has (bodies (drop i bs))
+    ≡ true
 tells-past peer has bs i h = ap (tells peer has) (bodies-past bs i h)
 
 -- the peer that tells, by the first message of the first branch
 pub peer_told : (me : Name) (bs : List (Row Statement)) (first : Row Statement) (rest : List (Row Statement)) (o : Option Said) (m : Said)
     (b : Bool) → bs ≡ first ∷ rest →
-    o ≡ first_taken (statements first.items) → o ≡ Some m → b ≡ tells m.peer none (bodies bs) →
-    telling me (bodies bs) ≡ (if b then Some m.peer else None)
+    o ≡ first_taken (statements first.items) → o ≡ Some m → b ≡ tells m.peer none (bodies bs) → telling me (bodies bs)
+    ≡ (if b then Some m.peer else None)
 peer_told me bs first rest o m b parts takes is told =
     ap (λ (l : List (Row Statement)). telling me (bodies l)) parts
     ∙ telling_is me (statements first.items) (bodies rest)
@@ -127,4 +130,4 @@ pub ruleset agreeing = (common_steps, agreed-step, agreed-past)
 
 pub ruleset telling_steps = (common_steps, tells-step, tells-past)
 
-pub ruleset takings = (common_steps, taken-Message, taken-Choice, taken-Rec, taken-Continue)
+pub ruleset takings = (common_steps, taken-Message, taken-Choice, taken-Rec, taken-Continue, taken-Do)

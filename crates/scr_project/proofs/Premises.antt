@@ -1,10 +1,11 @@
 -- What `project` may rest on, by what a global protocol keeps by its type.
-use Rattle.std.proofs.Common.{◌≡◌, ◌≤◌, List, [], ◌∷◌, Some, refl, arith}
+use Rattle.std.proofs.Common.{◌≡◌, ◌≤◌, false, List, [], ◌∷◌, Some, refl, arith}
 use Rattle.std.specs.Prelude.{Contains}
 use Rattle.std.proofs.Math.Logic.{∥∥₁_elim}
 use Rattle.mg_text.specs.Call.{Name}
 use Rattle.mg_read.specs.First.{Clean}
 use Rattle.scr_tree.specs.Conditions.{UnknownRole, PeerIsSelf, UnknownRec, DuplicateRec}
+use Rattle.scr_tree.specs.Going.{UnknownProtocol, NotLast, held}
 use Rattle.scr_tree.specs.Spots.{spots}
 use Rattle.scr_tree.specs.Tree.{LocalTree, Statements}
 use Rattle.scr_tree.specs.Valid.{AreDistinct, IsWritten}
@@ -15,7 +16,7 @@ use Rattle.scr_global_tree.specs.Valid.{IsValid}
 use Rattle.scr_project.specs.Outcome.{projection_of}
 use Rattle.scr_project.proofs.Sound as sound
 use Rattle.scr_project.proofs.Kept.{Keeps, keeps, no_deeper}
-use Rattle.scr_project.proofs.Early.{AllClean, all_clean, are_written, none_on_way, AreEarlyClean}
+use Rattle.scr_project.proofs.Early.{AllClean, all_clean, none_unknown, none_held, are_written, none_on_way, AreEarlyClean}
 
 pub clean_once : {X C : Type 0} (At : X → C → Type 0) (xs : List X) (a b : Clean At xs) → a ≡ b
 clean_once At [] a b = refl
@@ -43,6 +44,7 @@ module _ (g : GlobalTree) (me : Name) (s : Statements) (e : projected me g.body 
         roles = v.written.roles;
         body = are_written g.roles me [] s (kept v);
         depth = let h = no_deeper g.roles me g.body s e in let k = v.written.depth in omega arith;
+        others = tt;
       } ∣₁)
 
   -- and meets the conditions that the global protocol meets for all
@@ -56,9 +58,21 @@ module _ (g : GlobalTree) (me : Name) (s : Statements) (e : projected me g.body 
       known = ∥∥₁_elim valid (clean_once UnknownRec (spots [] s)) (λ v. (body_clean v).known);
       differ = ∥∥₁_elim valid (clean_once DuplicateRec (spots [] s)) (λ v. (body_clean v).differ);
     };
+    undone = λ protocols. ∥∥₁_elim valid (clean_once (UnknownProtocol protocols) (spots [] s))
+        (λ v. none_unknown g.roles me protocols [] [] s (kept v));
+    unheld = ∥∥₁_elim valid (clean_once NotLast (held false s)) (λ v. none_held g.roles me [] false s (kept v));
+    alone = refl;
   }
 
 -- parts that are those of the projection make it
 pub same_parts : (g : GlobalTree) (me : Name) (s : Statements) (t : LocalTree) → t.file ≡ g.file → t.name ≡ g.name → t.me ≡ me →
-    t.roles ≡ g.roles → t.body ≡ s → t ≡ projection_of g me s
-same_parts g me s t file name role roles body = λ i. record { file = file i; name = name i; me = role i; roles = roles i; body = body i }
+    t.roles ≡ g.roles → t.body ≡ s → t.others ≡ [] → t ≡ projection_of g me s
+same_parts g me s t file name role roles body alone = λ i. record {
+  file = file i;
+  name = name i;
+  me = role i;
+  roles = roles i;
+  body =
+      body i;
+  others = alone i;
+}

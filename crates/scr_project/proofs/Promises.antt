@@ -12,7 +12,7 @@ use Rattle.scr_tree.specs.Conditions.{Unguarded}
 use Rattle.scr_tree.specs.Faults.{Of}
 use Rattle.scr_tree.specs.Meaning.{numbered}
 use Rattle.scr_tree.specs.Spots.{spots as local_spots}
-use Rattle.scr_tree.specs.Tree.{LocalTree}
+use Rattle.scr_tree.specs.Tree.{LocalTree, Titled}
 use Rattle.scr_read.specs.Parts.{parts}
 use Rattle.scr_global.specs.Conditions.{AreClean, HaveBranches, HaveBranchesIn, UnknownRole, PeerIsSelf, UnknownRec, DuplicateRec}
 use Rattle.scr_global.specs.Conditions.{Unguarded as IsUnguarded, Unreachable, BranchStart, MixedChoice, SameLabel}
@@ -23,7 +23,7 @@ use Rattle.scr_global.specs.Texts.{projected}
 use Rattle.scr_global.specs.Tree.{Statements, Nothing, Says, Choice, Rec, Continue, Branches, NoBranch, Branch, said}
 use Rattle.scr_global.proofs.Followed as followed
 use Rattle.scr_global.proofs.Stuck as stuck
-use Rattle.scr_global.proofs.Valid.{clean_is_valid}
+use Rattle.scr_global.proofs.Valid.{clean_is_valid, first_guarded}
 use Rattle.scr_global.proofs.Written.{text_is_projected}
 use Rattle.scr_global_tree.specs.Tree.{GlobalTree}
 use Rattle.scr_global_tree.specs.Valid.{IsValid}
@@ -80,12 +80,17 @@ first_clean {K} {C} {Of} {k} {ks} p = go _ _ p refl refl
 protocol_is : (s t : LocalTree) → Protocol s ≡ Protocol t → s ≡ t
 protocol_is s t e = cc
 
+own_guarded : (t : LocalTree) → Of (parts t) conditions.Unguarded None → Clean Unguarded (local_spots [] t.body)
+own_guarded t j =
+    let one : Titled = record { name = t.name; body = t.body } in
+    first_guarded (one ∷ []) [] one (judged-clean j)
+
 kept : (g : GlobalTree) (me : Name) (a : Answer) → Outcome g me a → (t : LocalTree) → a ≡ Protocol t → Kept g me t
 kept g me a (not_mergeable e j) t f = absurd cc
 kept g me a (unprojected e j) t f = absurd cc
 kept g me a (found {body = s} e j) t f =
     let same = protocol_is (projection_of g me s) t f in
-    subst (Kept g me) same (record { own = refl; body = e; guarded = judged-clean (first_clean j) })
+    subst (Kept g me) same (record { own = refl; body = e; guarded = own_guarded (projection_of g me s) (first_clean j) })
 
 pub are_projections : (g : GlobalTree) (locals : Name → LocalTree) → AreProjected g locals → AreProjections g.roles (said g.body) locals
 are_projections g locals are = record {

@@ -13,10 +13,10 @@ use Rattle.scr_tree.specs.declared.syntax.Statement.TheVariants as kinds
 use Rattle.scr_tree.specs.Meaning.{message_of}
 use Rattle.scr_tree.specs.Protocol.{Message, Protocol, Done, Does, ChoiceHere, ChoiceThere, Branches as Told}
 use Rattle.scr_tree.specs.Protocol as protocol
-use Rattle.scr_tree.specs.Tree.{Statements, Nothing, Says, Choice, Rec, Continue, Branches, NoBranch, Branch}
+use Rattle.scr_tree.specs.Tree.{Statements, Nothing, Says, Choice, Rec, Continue, Do, Branches, NoBranch, Branch}
 use Rattle.scr_tree.specs.View.{front, statements, bodies}
 use Rattle.scr_tree.proofs.Behind.{each_front, statements-step, statements-past, bodies-step, bodies-past}
-use Rattle.scr_tree.proofs.ViewLemmas.{front-Message, front-Choice, front-Rec, front-Continue}
+use Rattle.scr_tree.proofs.ViewLemmas.{front-Message, front-Choice, front-Rec, front-Continue, front-Do}
 use Rattle.scr_global.specs.Projecting.{is_same, are_same, same_message}
 use Rattle.scr_global.specs.Texts.{spoken, spoken_each}
 use Rattle.scr_project.specs.inner.Merge.{same_truth}
@@ -51,15 +51,23 @@ turned_not : (b : Bool) (name : Name) (c p : Protocol) (bs : Told) (q : Protocol
 turned_not true name c p bs q = refl
 turned_not false name c p bs q = refl
 
-not_continued : (b : Bool) (name : Name) (p : Protocol) (bs : Told) (q : Protocol) → is_same (protocol.Continue name p) (said_at b bs q) ≡
-    false
+not_continued : (b : Bool) (name : Name) (p : Protocol) (bs : Told) (q : Protocol) → is_same (protocol.Continue name p) (said_at b bs q)
+    ≡ false
 not_continued true name p bs q = refl
 not_continued false name p bs q = refl
 
-continued_not : (b : Bool) (name : Name) (p : Protocol) (bs : Told) (q : Protocol) → is_same (said_at b bs q) (protocol.Continue name p) ≡
-    false
+continued_not : (b : Bool) (name : Name) (p : Protocol) (bs : Told) (q : Protocol) → is_same (said_at b bs q) (protocol.Continue name p)
+    ≡ false
 continued_not true name p bs q = refl
 continued_not false name p bs q = refl
+
+not_gone : (b : Bool) (name : Name) (p : Protocol) (bs : Told) (q : Protocol) → is_same (protocol.Do name p) (said_at b bs q) ≡ false
+not_gone true name p bs q = refl
+not_gone false name p bs q = refl
+
+gone_not : (b : Bool) (name : Name) (p : Protocol) (bs : Told) (q : Protocol) → is_same (said_at b bs q) (protocol.Do name p) ≡ false
+gone_not true name p bs q = refl
+gone_not false name p bs q = refl
 
 both_false : (a b c : Bool) → a ≡ false → b ≡ false → a ≡ (b && c)
 both_false a b c e f = e ∙ ap (λ z. z && c) (sym f)
@@ -78,15 +86,15 @@ module _ (me : Name) (a b : Statements) where
   abbrev Splits : (Statements → Statements) → (Statements → Statements) → Type 0
   Splits f g = is_same (spoken me (f a)) (spoken me (g b)) ≡ (is_same (spoken me (f Nothing)) (spoken me (g Nothing)) && same_rest)
 
-  pub same-front : (x y : Statement) → is_same (spoken me (front x a)) (spoken me (front y b)) ≡
-      (is_same (spoken me (front x Nothing)) (spoken me (front y Nothing)) && is_same (spoken me a) (spoken me b))
+  pub same-front : (x y : Statement) → is_same (spoken me (front x a)) (spoken me (front y b))
+      ≡ (is_same (spoken me (front x Nothing)) (spoken me (front y Nothing)) && is_same (spoken me a) (spoken me b))
   same-front x y =
       each_front (λ f. Splits f (front y))
       (λ m. each_front (Splits (Says m))
       (λ n. ap (λ z. z && same_rest) (and_true (same_message (message_of m) (message_of n))))
       (λ p at bs. both_false _ _ same_rest (not_said (bytes_eq at me) (message_of m) (spoken me a) (spoken_each me bs) (spoken me b))
       (not_said (bytes_eq at me) (message_of m) Done (spoken_each me bs) Done))
-      (λ p name body. refl) (λ p name. refl) y)
+      (λ p name body. refl) (λ p name. refl) (λ p name. refl) y)
       (λ p at bs. each_front (Splits (Choice p at bs))
       (λ n. both_false _ _ same_rest (said_not (bytes_eq at me) (message_of n) (spoken me b) (spoken_each me bs) (spoken me a))
       (said_not (bytes_eq at me) (message_of n) Done (spoken_each me bs) Done))
@@ -94,18 +102,28 @@ module _ (me : Name) (a b : Statements) where
       (λ q name body. both_false _ _ same_rest (turned_not (bytes_eq at me) name (spoken me body) (spoken me b) (spoken_each me bs)
       (spoken me a)) (turned_not (bytes_eq at me) name (spoken me body) Done (spoken_each me bs) Done))
       (λ q name. both_false _ _ same_rest (continued_not (bytes_eq at me) name (spoken me b) (spoken_each me bs) (spoken me a))
-      (continued_not (bytes_eq at me) name Done (spoken_each me bs) Done)) y)
+      (continued_not (bytes_eq at me) name Done (spoken_each me bs) Done))
+      (λ q name. both_false _ _ same_rest (gone_not (bytes_eq at me) name (spoken me b) (spoken_each me bs) (spoken me a))
+      (gone_not (bytes_eq at me) name Done (spoken_each me bs) Done)) y)
       (λ p name body. each_front (Splits (Rec p name body))
       (λ n. refl)
       (λ q at bs. both_false _ _ same_rest (not_turned (bytes_eq at me) name (spoken me body) (spoken me a) (spoken_each me bs)
       (spoken me b)) (not_turned (bytes_eq at me) name (spoken me body) Done (spoken_each me bs) Done))
       (λ q other inner. regroup (bytes_eq name other) (is_same (spoken me body) (spoken me inner)) same_rest)
-      (λ q other. refl) y)
+      (λ q other. refl) (λ q other. refl) y)
       (λ p name. each_front (Splits (Continue p name))
       (λ n. refl)
       (λ q at bs. both_false _ _ same_rest (not_continued (bytes_eq at me) name (spoken me a) (spoken_each me bs) (spoken me b))
       (not_continued (bytes_eq at me) name Done (spoken_each me bs) Done))
       (λ q other inner. refl)
+      (λ q other. ap (λ z. z && same_rest) (and_true (bytes_eq name other)))
+      (λ q other. refl) y)
+      (λ p name. each_front (Splits (Do p name))
+      (λ n. refl)
+      (λ q at bs. both_false _ _ same_rest (not_gone (bytes_eq at me) name (spoken me a) (spoken_each me bs) (spoken me b))
+      (not_gone (bytes_eq at me) name Done (spoken_each me bs) Done))
+      (λ q other inner. refl)
+      (λ q other. refl)
       (λ q other. ap (λ z. z && same_rest) (and_true (bytes_eq name other))) y)
       x
 
@@ -121,12 +139,12 @@ done_chosen false bs p = refl
 front_none : (me : Name) (x : Statement) (a : Statements) → is_same (spoken me (front x a)) Done ≡ false
 front_none me x a =
     each_front (λ f. is_same (spoken me (f a)) Done ≡ false) (λ m. refl) (λ p at bs. chosen_done (bytes_eq at me) (spoken_each me bs)
-    (spoken me a)) (λ p name body. refl) (λ p name. refl) x
+    (spoken me a)) (λ p name body. refl) (λ p name. refl) (λ p name. refl) x
 
 none_front : (me : Name) (x : Statement) (a : Statements) → is_same Done (spoken me (front x a)) ≡ false
 none_front me x a =
     each_front (λ f. is_same Done (spoken me (f a)) ≡ false) (λ m. refl) (λ p at bs. done_chosen (bytes_eq at me) (spoken_each me bs)
-    (spoken me a)) (λ p name body. refl) (λ p name. refl) x
+    (spoken me a)) (λ p name body. refl) (λ p name. refl) (λ p name. refl) x
 
 -- ---- turns of the loops
 
@@ -143,8 +161,8 @@ none_left : (me : Name) (ys : List Statement) → is_same Done (spoken me (state
 none_left me [] = refl
 none_left me (y ∷ ys) = none_front me y (statements ys) ∙ positive (length ys)
 
-pub same_end : (me : Name) (ss : List Statement) (i : ℕ) (rest : List Statement) → length ss ≤ i →
-    lists_same me (drop i ss) rest ≡ (length rest == 0)
+pub same_end : (me : Name) (ss : List Statement) (i : ℕ) (rest : List Statement) → length ss ≤ i → lists_same me (drop i ss) rest
+    ≡ (length rest == 0)
 same_end me ss i rest h = ap (λ (s : Statements). is_same (spoken me s) (spoken me (statements rest))) (statements-past ss i h) ∙
     none_left me rest
 
@@ -166,8 +184,8 @@ module _ (me : Name) (ss : List Statement) (i : ℕ) (x : Statement) (within : i
         parts
         ∙ same-front me (statements (drop (i + 1) ss)) (statements after) x y
 
-    pub same_later : true ≡ is_same (spoken me (front x Nothing)) (spoken me (front y Nothing)) →
-        lists_same me (drop i ss) rest ≡ lists_same me (drop (i + 1) ss) after
+    pub same_later : true ≡ is_same (spoken me (front x Nothing)) (spoken me (front y Nothing)) → lists_same me (drop i ss) rest
+        ≡ lists_same me (drop (i + 1) ss) after
     same_later e = both_on ∙ ap (λ (z : Bool). z && lists_same me (drop (i + 1) ss) after) (sym e)
 
     pub same_differs : false ≡ is_same (spoken me (front x Nothing)) (spoken me (front y Nothing)) → lists_same me (drop i ss) rest ≡ false
@@ -185,8 +203,8 @@ branches_end me bs i rest h = ap (λ (s : Branches). are_same (spoken_each me s)
     none_branch me rest
 
 module _ (me : Name) (bs : List (Row Statement)) (i : ℕ) (x : Row Statement) (within : i < length bs) (is : x ≡ get_or bs i x) where
-  branches_unfolded : (rest : List (Row Statement)) → branches_same me (drop i bs) rest ≡ are_same
-      (spoken_each me (Branch (statements x.items) (bodies (drop (i + 1) bs)))) (spoken_each me (bodies rest))
+  branches_unfolded : (rest : List (Row Statement)) → branches_same me (drop i bs) rest
+      ≡ are_same (spoken_each me (Branch (statements x.items) (bodies (drop (i + 1) bs)))) (spoken_each me (bodies rest))
   branches_unfolded rest = ap (λ (s : Branches). are_same (spoken_each me s) (spoken_each me (bodies rest))) (bodies-step bs i x within is)
 
   pub branches_short : (rest : List (Row Statement)) → rest ≡ [] → branches_same me (drop i bs) rest ≡ false
@@ -227,8 +245,8 @@ module _ (me : Name) where
       ≡ false
   Message-Choice m p at bs = alike _ _ _ _ (front-Message m) (front-Choice p at bs) ∙ not_said (bytes_eq at me) (message_of m) Done _ Done
 
-  pub Message-Rec : (m : Said) (p : Place) (name : Name) (body : Row Statement) → one_same me (kinds.Message m) (kinds.Rec p name body) ≡
-      false
+  pub Message-Rec : (m : Said) (p : Place) (name : Name) (body : Row Statement) → one_same me (kinds.Message m) (kinds.Rec p name body)
+      ≡ false
   Message-Rec m p name body = alike _ _ _ _ (front-Message m) (front-Rec p name body)
 
   pub Message-Continue : (m : Said) (p : Place) (name : Name) → one_same me (kinds.Message m) (kinds.Continue p name) ≡ false
@@ -248,8 +266,8 @@ module _ (me : Name) where
   Choice-Continue p at bs q name = alike _ _ _ _ (front-Choice p at bs) (front-Continue q name) ∙ continued_not (bytes_eq at me) name Done _
       Done
 
-  pub Rec-Message : (p : Place) (name : Name) (body : Row Statement) (n : Said) → one_same me (kinds.Rec p name body) (kinds.Message n) ≡
-      false
+  pub Rec-Message : (p : Place) (name : Name) (body : Row Statement) (n : Said) → one_same me (kinds.Rec p name body) (kinds.Message n)
+      ≡ false
   Rec-Message p name body n = alike _ _ _ _ (front-Rec p name body) (front-Message n)
 
   pub Rec-Choice : (p : Place) (name : Name) (body : Row Statement) (q : Place) (at : Name) (bs : Row (Row Statement)) →
@@ -283,10 +301,41 @@ module _ (me : Name) where
       one_same me (kinds.Continue p name) (kinds.Continue q other) ≡ bytes_eq name other
   Continue-Continue p name q other = alike _ _ _ _ (front-Continue p name) (front-Continue q other) ∙ sym (and_true _)
 
+  pub Message-Do : (m : Said) (p : Place) (name : Name) → one_same me (kinds.Message m) (kinds.Do p name) ≡ false
+  Message-Do m p name = alike _ _ _ _ (front-Message m) (front-Do p name)
+
+  pub Choice-Do : (p : Place) (at : Name) (bs : Row (Row Statement)) (q : Place) (name : Name) →
+      one_same me (kinds.Choice p at bs) (kinds.Do q name) ≡ false
+  Choice-Do p at bs q name = alike _ _ _ _ (front-Choice p at bs) (front-Do q name) ∙ gone_not (bytes_eq at me) name Done _ Done
+
+  pub Rec-Do : (p : Place) (name : Name) (body : Row Statement) (q : Place) (other : Name) →
+      one_same me (kinds.Rec p name body) (kinds.Do q other) ≡ false
+  Rec-Do p name body q other = alike _ _ _ _ (front-Rec p name body) (front-Do q other)
+
+  pub Continue-Do : (p : Place) (name : Name) (q : Place) (other : Name) → one_same me (kinds.Continue p name) (kinds.Do q other) ≡ false
+  Continue-Do p name q other = alike _ _ _ _ (front-Continue p name) (front-Do q other)
+
+  pub Do-Message : (p : Place) (name : Name) (n : Said) → one_same me (kinds.Do p name) (kinds.Message n) ≡ false
+  Do-Message p name n = alike _ _ _ _ (front-Do p name) (front-Message n)
+
+  pub Do-Choice : (p : Place) (name : Name) (q : Place) (at : Name) (bs : Row (Row Statement)) →
+      one_same me (kinds.Do p name) (kinds.Choice q at bs) ≡ false
+  Do-Choice p name q at bs = alike _ _ _ _ (front-Do p name) (front-Choice q at bs) ∙ not_gone (bytes_eq at me) name Done _ Done
+
+  pub Do-Rec : (p : Place) (name : Name) (q : Place) (other : Name) (inner : Row Statement) →
+      one_same me (kinds.Do p name) (kinds.Rec q other inner) ≡ false
+  Do-Rec p name q other inner = alike _ _ _ _ (front-Do p name) (front-Rec q other inner)
+
+  pub Do-Continue : (p : Place) (name : Name) (q : Place) (other : Name) → one_same me (kinds.Do p name) (kinds.Continue q other) ≡ false
+  Do-Continue p name q other = alike _ _ _ _ (front-Do p name) (front-Continue q other)
+
+  pub Do-Do : (p : Place) (name : Name) (q : Place) (other : Name) → one_same me (kinds.Do p name) (kinds.Do q other) ≡ bytes_eq name other
+  Do-Do p name q other = alike _ _ _ _ (front-Do p name) (front-Do q other) ∙ sym (and_true _)
+
   -- two choices, each at the role or elsewhere
   pub Choice-Choice : (p : Place) (at : Name) (bs : Row (Row Statement)) (q : Place) (other : Name) (cs : Row (Row Statement)) →
-      one_same me (kinds.Choice p at bs) (kinds.Choice q other cs) ≡ (same_truth (bytes_eq at me) (bytes_eq other me) && branches_same me
-      bs.items cs.items)
+      one_same me (kinds.Choice p at bs) (kinds.Choice q other cs)
+      ≡ (same_truth (bytes_eq at me) (bytes_eq other me) && branches_same me bs.items cs.items)
   Choice-Choice p at bs q other cs = alike _ _ _ _ (front-Choice p at bs) (front-Choice q other cs) ∙ go (bytes_eq at me)
       (bytes_eq other me) (spoken_each me (bodies bs.items)) (spoken_each me (bodies cs.items))
     where
@@ -316,6 +365,15 @@ pub ruleset alone = (
   Continue-Choice,
   Continue-Rec,
   Continue-Continue,
+  Message-Do,
+  Choice-Do,
+  Rec-Do,
+  Continue-Do,
+  Do-Message,
+  Do-Choice,
+  Do-Rec,
+  Do-Continue,
+  Do-Do,
 )
 
 pub ruleset in_steps = (common_steps, branches_later, branches_differ, branches_short, branches_end)

@@ -1,9 +1,10 @@
 -- What projection promises of roles that do what `project` answered for them.
 use Rattle.std.specs.Prelude.{◌≡◌, ◌≢◌, List, [], Contains, Some}
 use Rattle.mg_text.specs.Call.{Name}
-use Rattle.scr_tree.specs.Meaning.{protocol_of}
-use Rattle.scr_tree.specs.Steps.{Act, Position, whole, Step, Run, Finished}
+use Rattle.scr_tree.specs.Meaning.{first_of}
+use Rattle.scr_tree.specs.Steps.{Act, Position, whole}
 use Rattle.scr_tree.specs.Tree.{LocalTree}
+use Rattle.scr_global.specs.Alone.{Step, Run, Finished}
 use Rattle.scr_global.specs.Global.{Passing}
 use Rattle.scr_global.specs.Laws.{IsReached, IsComplete, messages_of, named}
 use Rattle.scr_global.specs.Points.{Point, start, Goes, Complete}
@@ -37,12 +38,12 @@ abbrev pub RunsAreFollowed : Type 0
 RunsAreFollowed =
     (g : GlobalTree) (locals : Name → LocalTree) → AreProjected g locals → (messages : List Passing) (point : Point) →
     Goes (start (said g.body)) messages point → (me : Name) → Contains g.roles me →
-    (acts : List Act) × (end : Position) × Run (whole (protocol_of (locals me))) acts end × (messages_of acts ≡ named me messages)
+    (acts : List Act) × (end : Position) × Run (whole (first_of (locals me))) acts end × (messages_of acts ≡ named me messages)
 
 -- and where the run is complete, so is the role's
 abbrev pub CompleteRunsAreFollowed : Type 0
 CompleteRunsAreFollowed =
     (g : GlobalTree) (locals : Name → LocalTree) → AreProjected g locals → (messages : List Passing) → Complete (said g.body) messages →
     (me : Name) → Contains g.roles me →
-    (acts : List Act) × (end : Position) × Run (whole (protocol_of (locals me))) acts end × Finished end
+    (acts : List Act) × (end : Position) × Run (whole (first_of (locals me))) acts end × Finished end
     × (messages_of acts ≡ named me messages)

@@ -23,7 +23,7 @@ use Rattle.scr_project.specs.declared.fault.ProjectFault.TheVariants as faults
 
 -- the local protocol of a role that does this
 abbrev pub projection_of : GlobalTree → Name → Statements → LocalTree
-projection_of g me body = record { file = g.file; name = g.name; me = me; roles = g.roles; body = body }
+projection_of g me body = record { file = g.file; name = g.name; me = me; roles = g.roles; body = body; others = [] }
 
 -- the conditions that what a role does may fail to meet, in the order of their numbers
 abbrev pub open_conditions : List Condition

@@ -119,6 +119,7 @@ fn first_taken(body: &[Statement]) -> Option<&Message>
             Statement::Choice { .. } => None,
             Statement::Rec { .. } => None,
             Statement::Continue { .. } => None,
+            Statement::Do { .. } => None,
         },
     }
 }

@@ -41,6 +41,7 @@ fn same_at(me: &Text, some: &Statement, other: &Statement) -> bool
             Statement::Choice { .. } => false,
             Statement::Rec { .. } => false,
             Statement::Continue { .. } => false,
+            Statement::Do { .. } => false,
         },
         Statement::Choice { at, branches, .. } => match other {
             Statement::Choice {
@@ -55,6 +56,7 @@ fn same_at(me: &Text, some: &Statement, other: &Statement) -> bool
             Statement::Message(_) => false,
             Statement::Rec { .. } => false,
             Statement::Continue { .. } => false,
+            Statement::Do { .. } => false,
         },
         Statement::Rec { name, body, .. } => match other {
             Statement::Rec {
@@ -65,12 +67,21 @@ fn same_at(me: &Text, some: &Statement, other: &Statement) -> bool
             Statement::Message(_) => false,
             Statement::Choice { .. } => false,
             Statement::Continue { .. } => false,
+            Statement::Do { .. } => false,
         },
         Statement::Continue { name, .. } => match other {
             Statement::Continue { name: another, .. } => *name == *another,
             Statement::Message(_) => false,
             Statement::Choice { .. } => false,
             Statement::Rec { .. } => false,
+            Statement::Do { .. } => false,
+        },
+        Statement::Do { name, .. } => match other {
+            Statement::Do { name: another, .. } => *name == *another,
+            Statement::Message(_) => false,
+            Statement::Choice { .. } => false,
+            Statement::Rec { .. } => false,
+            Statement::Continue { .. } => false,
         },
     }
 }

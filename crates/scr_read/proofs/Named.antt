@@ -12,13 +12,13 @@ use Rattle.scr_tree.specs.declared.token.Mark.TheVariants as marks
 use Rattle.scr_tree.specs.declared.written.Declaration.{Declaration}
 use Rattle.scr_tree.specs.declared.written.Role.{Role}
 use Rattle.scr_tree.specs.Tok.{Tok, named, quoted, marked}
-use Rattle.scr_tree.specs.Tree.{Statements, Nothing, Says, Choice, Rec, Continue, Branches, NoBranch, Branch}
+use Rattle.scr_tree.specs.Tree.{Statements, Nothing, Says, Choice, Rec, Continue, Do, Branches, NoBranch, Branch}
 use Rattle.scr_tree.specs.Words.{IsName, is_name_start, is_name_byte, reserved, sign_of}
-use Rattle.scr_tree.specs.Valid.{IsWritten, AreWritten, AreWrittenIn, HasBranches}
-use Rattle.scr_tree.specs.Written.{Carries, WrittenTree, role_name, local_of}
+use Rattle.scr_tree.specs.Valid.{IsWrittenPart, IsWritten, AreWritten, AreWrittenIn, HasBranches}
+use Rattle.scr_tree.specs.Written.{WrittenPart, WrittenTree, role_name, roles_in, part_meant, local_of}
 use Rattle.scr_lex.specs.Pieces.{scribble, word_tok, sign_toks, tok_said, AreTokens}
 use Rattle.scr_parse.specs.Grammar.{Behind, Before, Listed, IsRole, IsMyself, IsAtHeader, IsSelfHeader, direction_mark, IsBraced}
-use Rattle.scr_parse.specs.Grammar.{AreStatements, AreBranches, AreOthers, IsFile}
+use Rattle.scr_parse.specs.Grammar.{AreStatements, AreBranches, AreOthers, Note, IsLocal, IsFile, IsShallow}
 use Rattle.scr_read.specs.Spelling.{Spells}
 
 -- each name among tokens is one
@@ -133,12 +133,12 @@ module _ (declared : List Declaration) where
   pub between : (P : List Tok → Type 0) (ts : List Tok) → IsBraced P ts → AreNamed ts → (us : List Tok) × P us × AreNamed us
   between P ts (a, b, us, e, h) named_all = let g = subst AreNamed e named_all in (us, h, in_front us (marked b marks.CloseBrace ∷ []) g.1)
 
-  has : (bs : Branches) (cs : List Carries) (ts : List Tok) → AreBranches declared bs cs ts → HasBranches bs
+  has : (bs : Branches) (cs : List Note) (ts : List Tok) → AreBranches declared bs cs ts → HasBranches bs
   has NoBranch cs ts h = h
   has (Branch b more) cs ts h = tt
 
   mutual
-    statements_written : (b : Statements) (cs : List Carries) (ts : List Tok) → AreStatements declared b cs ts → AreNamed ts → AreWritten b
+    statements_written : (b : Statements) (cs : List Note) (ts : List Tok) → AreStatements declared b cs ts → AreNamed ts → AreWritten b
     statements_written Nothing cs ts e h = tt
     statements_written (Says m rest) cs ts (types, ds, us, vs, carry, parts, (a, b, c, d, e, xs, whole, list, kind), more) h =
         let g = subst AreNamed parts h in
@@ -165,8 +165,12 @@ module _ (declared : List Declaration) where
     statements_written (Continue place name rest) cs ts (a, b, us, parts, more) h =
         let g = subst AreNamed parts h in
         (g.1.0, statements_written rest cs us more g.1.1.1)
+    statements_written (Do place name rest) cs ts (a, b, c, d, roles, ds, us, vs, carry, parts, list, more) h =
+        let g = subst AreNamed parts h in
+        let behind = in_back us (marked c marks.CloseParen ∷ marked d marks.Semicolon ∷ vs) g.1.1.1 in
+        (g.1.0, statements_written rest ds vs more behind.1.1)
 
-    branches_written : (bs : Branches) (cs : List Carries) (ts : List Tok) → AreBranches declared bs cs ts → AreNamed ts → AreWrittenIn bs
+    branches_written : (bs : Branches) (cs : List Note) (ts : List Tok) → AreBranches declared bs cs ts → AreNamed ts → AreWrittenIn bs
     branches_written NoBranch cs ts e h = tt
     branches_written (Branch b more) cs ts (ds, es, us, vs, carry, parts, (p, q, xs, e, inner), others) h =
         let g = subst AreNamed parts h in
@@ -176,7 +180,7 @@ module _ (declared : List Declaration) where
               (in_back us vs g),
         )
 
-    others_written : (bs : Branches) (cs : List Carries) (ts : List Tok) → AreOthers declared bs cs ts → AreNamed ts → AreWrittenIn bs
+    others_written : (bs : Branches) (cs : List Note) (ts : List Tok) → AreOthers declared bs cs ts → AreNamed ts → AreWrittenIn bs
     others_written NoBranch cs ts e h = tt
     others_written (Branch b more) cs ts (a, ds, es, us, vs, carry, parts, (p, q, xs, e, inner), others) h =
         let g = subst AreNamed parts h in
@@ -188,24 +192,39 @@ module _ (declared : List Declaration) where
 
 -- ---- the file
 
-file_written : (w : WrittenTree) (ts : List Tok) → IsFile w ts → AreNamed ts
-    → IsName w.name × AllByRecursion IsName (map role_name w.roles) × AreWritten w.body
-file_written w ts f h =
-    let g = subst AreNamed f.tokens h in
-    let head : List Tok = marked f.local_at marks.Local ∷ marked f.protocol_at marks.Protocol ∷ named f.name_at w.name ∷
-    (f.header ++ f.block) in
-    let title = in_back f.types head (in_back f.start (f.types ++ head) g) in
+-- a protocol: its name, its roles, and its statements
+part_written : (declared : List Declaration) (p : WrittenPart) (ts : List Tok) → IsLocal declared p ts → AreNamed ts
+    → IsName p.name × AllByRecursion IsName (roles_in p) × AreWritten p.body
+part_written declared p ts f h =
+    let title = subst AreNamed f.tokens h in
     let rest = title.1.1.1 in
-    let body = between w.types (AreStatements w.types w.body w.carries) f.block f.body (in_back f.header f.block rest) in
-    (title.1.1.0, roles f.heads (in_front f.header f.block rest), statements_written w.types w.body w.carries body.0 body.1 body.2)
+    let body = between declared (AreStatements declared p.body f.notes) f.block f.body (in_back f.header f.block rest) in
+    (title.1.1.0, roles f.heads (in_front f.header f.block rest), statements_written declared p.body f.notes body.0 body.1 body.2)
   where
-    roles : IsAtHeader w.me w.roles f.header ⊎ IsSelfHeader w.me w.roles f.header → AreNamed f.header
-        → AllByRecursion IsName (map role_name w.roles)
-    roles (inl a) k = at_written w.me w.roles f.header a k
-    roles (inr b) k = self_written w.me w.roles f.header b k
+    roles : IsAtHeader p.me p.roles f.header ⊎ IsSelfHeader p.me p.roles f.header → AreNamed f.header
+        → AllByRecursion IsName (map role_name p.roles)
+    roles (inl a) k = at_written p.me p.roles f.header a k
+    roles (inr b) k = self_written p.me p.roles f.header b k
+
+parts_written : (declared : List Declaration) (ps : List WrittenPart) (ts : List Tok) → Each (IsLocal declared) ps ts → AreNamed ts
+    → AllByRecursion IsShallow ps → AllByRecursion IsWrittenPart (map part_meant ps)
+parts_written declared [] ts f h all = tt
+parts_written declared (p ∷ ps) ts (us, vs, parts, one, more) h all =
+    let g = subst AreNamed parts h in
+    let r = part_written declared p us one (in_front us vs g) in
+    (record { name = r.0; body = r.2; depth = all.0 }, parts_written declared ps vs more (in_back us vs g) all.1)
 
 -- what a file spells can be written
 pub can_be_written : (file : ℕ) (bytes : List ℕ) (w : WrittenTree) → Spells file bytes w → IsWritten (local_of w)
 can_be_written file bytes w s =
-    let r = file_written w s.tokens s.spelled.spelled (tokens_named file s.tokens bytes s.separates.cut) in
-    record { name = r.0; roles = r.1; body = r.2; depth = s.spelled.shallow }
+    let f = s.spelled.spelled in
+    let g = subst AreNamed f.tokens (tokens_named file s.tokens bytes s.separates.cut) in
+    let protocols = in_back f.types (f.first ++ f.others) (in_back f.start (f.types ++ (f.first ++ f.others)) g) in
+    let r = part_written w.types w.first f.first f.begins (in_front f.first f.others protocols) in
+    record {
+      name = r.0;
+      roles = r.1;
+      body = r.2;
+      depth = s.spelled.shallow.0;
+      others = parts_written w.types w.others f.others f.goes_on (in_back f.first f.others protocols) s.spelled.shallow.1;
+    }

@@ -47,6 +47,11 @@ told conditions.Unguarded name = Some name
 told conditions.SameLabel name = Some name
 told conditions.ReservedLabel name = Some name
 told conditions.NameClash name = Some name
+told conditions.UnknownProtocol name = Some name
+told conditions.DuplicateProtocol name = Some name
+told conditions.RolesDiffer name = Some name
+told conditions.NotLast name = Some name
+told conditions.StartsWithDo name = Some name
 
 -- one row a fault, in the order of their numbers
 pub data Outcome (file : ℕ) (bytes : List ℕ) : Answer → Type 0 where
@@ -87,6 +92,11 @@ fault_answer (faults.SameLabel place name) = Some (Refused conditions.SameLabel 
 fault_answer (faults.ReservedLabel place name) = Some (Refused conditions.ReservedLabel place (Some name))
 fault_answer (faults.NameClash place name) = Some (Refused conditions.NameClash place (Some name))
 fault_answer (faults.TooManyStates place) = Some (Refused conditions.TooManyStates place None)
+fault_answer (faults.UnknownProtocol place name) = Some (Refused conditions.UnknownProtocol place (Some name))
+fault_answer (faults.DuplicateProtocol place name) = Some (Refused conditions.DuplicateProtocol place (Some name))
+fault_answer (faults.RolesDiffer place name) = Some (Refused conditions.RolesDiffer place (Some name))
+fault_answer (faults.NotLast place name) = Some (Refused conditions.NotLast place (Some name))
+fault_answer (faults.StartsWithDo place name) = Some (Refused conditions.StartsWithDo place (Some name))
 fault_answer faults.Memory = None
 
 -- what a call answered

@@ -18,17 +18,21 @@ use Rattle.scr_read.specs.declared.fault.ScrFault.{ScrFault}
 abbrev pub listed : ℕ → Name → Role
 listed file name = record { place = start_of file; name = name }
 
--- the file that says these parts: types are named in none of them
+-- the file that says these parts, and no other protocol: types are named in none of them, and a `do` is given no roles
 abbrev pub parts : LocalTree → WrittenTree
 parts t = record {
   file = t.file;
   types = [];
-  name = t.name;
-  me = listed t.file t.me;
-  roles = map (listed t.file) t.roles;
-  carries =
-      [];
-  body = t.body;
+  first = record {
+    place = start_of t.file;
+    name = t.name;
+    me = listed t.file t.me;
+    roles = map (listed t.file) t.roles;
+    carries = [];
+    arguments = [];
+    body = t.body;
+  };
+  others = [];
 }
 
 -- the parts don't meet a condition

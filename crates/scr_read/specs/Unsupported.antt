@@ -9,7 +9,6 @@ use Rattle.scr_tree.specs.Tok.{Tok, marked}
 abbrev pub unsupported_word : Mark → Option Name
 unsupported_word marks.Par = Some (codes "par")
 unsupported_word marks.Interruptible = Some (codes "interruptible")
-unsupported_word marks.Do = Some (codes "do")
 unsupported_word marks.Global = Some (codes "global")
 unsupported_word marks.Import = Some (codes "import")
 unsupported_word marks.Sig = Some (codes "sig")

@@ -31,7 +31,9 @@ pub enum ScrFault {
     UnknownRec { place: Place, name: Text },
     /// `rec X` stands inside `rec X`.
     DuplicateRec { place: Place, name: Text },
-    /// No message stands on a path from the opening of `rec X` to `continue X`.
+    /// No message stands on a path from the opening of `rec X` to `continue X`, or a `do` stands on
+    /// a cycle of protocols each of which has a `do` of the next with no message on the path from
+    /// its opening.
     Unguarded { place: Place, name: Text },
     /// A statement stands after one that never comes to its end.
     Unreachable { place: Place },
@@ -51,6 +53,20 @@ pub enum ScrFault {
     TooManyStates { place: Place },
     /// Want of memory.
     Memory,
+    /// A `do` names no protocol of the file.
+    UnknownProtocol { place: Place, name: Text },
+    /// Two protocols have one name. The place is the second's name.
+    DuplicateProtocol { place: Place, name: Text },
+    /// The roles of a protocol or the role that it is of differ from those of the first one, or the
+    /// arguments of a `do` aren't the roles in their order. Then `name` is the protocol that the
+    /// `do` names.
+    RolesDiffer { place: Place, name: Text },
+    /// A statement stands behind a choice or a `rec` that holds a `do`, in the same list. The place
+    /// is the `do`.
+    NotLast { place: Place, name: Text },
+    /// There are two or more protocols, and the first has no message and no choice, or has a `do`
+    /// before them all. The place is the first protocol's name, or the `do`.
+    StartsWithDo { place: Place, name: Text },
 }
 
 impl From<Memory> for ScrFault {

@@ -22,7 +22,7 @@ use mg_text::Place;
 pub use parts::local_of;
 use scr_judge::first_fault;
 pub use scr_print::print_local;
-pub use scr_tree::{Direction, Local, Message, Payload, Statement};
+pub use scr_tree::{Direction, Local, Message, Part, Payload, Statement};
 use std::alloc::Global;
 
 /// Bytes that a file may hold.

@@ -3,13 +3,14 @@
 ghost use Rattle.std.specs.Prelude.{◌≡◌, Some, IfOk, map};
 ghost use Rattle.scr_tree.specs.Local.{tree_of};
 ghost use Rattle.scr_tree.specs.Valid.{IsValid};
-ghost use Rattle.scr_tree.specs.Written.{written_of, local_of, role_name};
+ghost use Rattle.scr_tree.specs.View.{part_of};
+ghost use Rattle.scr_tree.specs.Written.{written_of, part_written, part_meant, local_of, role_name};
 ghost use Rattle.scr_read.specs.Outcome.{Refused, told, fault_answer};
 
 use crate::fault::ScrFault;
 use mg_text::{List, Memory, Text};
 use scr_judge::Fault;
-use scr_tree::{Condition, Local, Role, Written};
+use scr_tree::{Condition, Local, Part, Role, Written, WrittenPart};
 use std::alloc::Global;
 
 // The fault of a file that doesn't meet a condition.
@@ -37,6 +38,11 @@ pub(crate) fn refusal(fault: Fault) -> ScrFault
         Condition::ReservedLabel => ScrFault::ReservedLabel { place, name },
         Condition::NameClash => ScrFault::NameClash { place, name },
         Condition::TooManyStates => ScrFault::TooManyStates { place },
+        Condition::UnknownProtocol => ScrFault::UnknownProtocol { place, name },
+        Condition::DuplicateProtocol => ScrFault::DuplicateProtocol { place, name },
+        Condition::RolesDiffer => ScrFault::RolesDiffer { place, name },
+        Condition::NotLast => ScrFault::NotLast { place, name },
+        Condition::StartsWithDo => ScrFault::StartsWithDo { place, name },
     }
 }
 
@@ -51,6 +57,26 @@ fn names_of(alloc: Global, roles: &[Role]) -> Result<List<Text>, Memory>
     Ok(names)
 }
 
+// The protocols behind the first.
+fn parts_of(alloc: Global, written: List<WrittenPart>) -> Result<List<Part>, Memory>
+    ensures { IfOk result (λ l. map part_of l.items ≡ map part_meant (map part_written written.items)) }
+{
+    let mut parts = List::new(alloc);
+    for part in written.into_vec() {
+        let WrittenPart {
+            place,
+            name,
+            me: _,
+            roles: _,
+            carries: _,
+            arguments: _,
+            body,
+        } = part;
+        parts.push(Part { place, name, body })?;
+    }
+    Ok(parts)
+}
+
 // The protocol that is meant.
 pub(crate) fn protocol_of(alloc: Global, file: u32, written: Written) -> Result<Local, Memory>
     requires { ∥ IsValid (local_of (written_of file written)) ∥₁ }
@@ -58,12 +84,19 @@ pub(crate) fn protocol_of(alloc: Global, file: u32, written: Written) -> Result<
 {
     let Written {
         types: _,
+        first,
+        others,
+    } = written;
+    let others = parts_of(alloc, others)?;
+    let WrittenPart {
+        place: _,
         name,
         me,
         roles,
         carries: _,
+        arguments: _,
         body,
-    } = written;
+    } = first;
     let roles = names_of(alloc, roles.as_slice())?;
-    Ok(Local::new(file, name, me.name, roles, body))
+    Ok(Local::new(file, name, me.name, roles, body, others))
 }

@@ -17,7 +17,6 @@ fn unsupported_word(mark: Mark) -> Option<&'static str>
     match mark {
         Mark::Par => Some("par"),
         Mark::Interruptible => Some("interruptible"),
-        Mark::Do => Some("do"),
         Mark::Global => Some("global"),
         Mark::Import => Some("import"),
         Mark::Sig => Some("sig"),

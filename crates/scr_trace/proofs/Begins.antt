@@ -1,19 +1,18 @@
 -- Where statements begin: at the first state in them, where they have one.
-use Rattle.std.proofs.Common.{◌≡◌, ℕ, suc, ◌+◌, List, [], ◌∷◌, ◌++◌, length, refl, sym, ap, ◌∙◌, subst, Bool, true, false, ◌||◌}
+use Rattle.std.proofs.Common.{◌≡◌, ℕ, ◌+◌, List, [], ◌∷◌, ◌++◌, length, refl, sym, ap, ◌∙◌, Bool, true, false, ◌||◌, Option}
 use Rattle.std.specs.Str.{bytes_eq}
 use Rattle.mg_text.specs.Call.{Name}
-use Rattle.scr_tree.specs.Tree.{Statements, Nothing, Says, Choice, Rec, Continue}
+use Rattle.scr_tree.specs.Tree.{Statements, Nothing, Says, Choice, Rec, Continue, Do}
 use Rattle.scr_tree.specs.Meaning.{choices, numbered}
 use Rattle.scr_tree.specs.Protocol.{Protocol}
 use Rattle.scr_tree.specs.Steps.{Part, BodyOf, Left, Position}
-use Rattle.scr_trace.specs.declared.arrow.Hop.{Hop}
 use Rattle.scr_trace.specs.declared.arrow.Hop.TheVariants as hops
 use Rattle.scr_trace.specs.Positions.{states_in}
-use Rattle.scr_trace.specs.inner.Laying.{Work, Known, lay, lay_in, said, opened, closed, chosen, gathering}
+use Rattle.scr_trace.specs.inner.Laying.{Work, Known, lay, lay_in, opened, closed, gathering}
 use Rattle.scr_trace.proofs.Parts
 use Rattle.scr_trace.proofs.Rules.{Sound, stays}
 
-module _ (me : Name) where
+module _ (me : Name) (entry : Name → Option ℕ) where
   -- they have no states
   abbrev pub HasNone : Statements → Type 0
   HasNone t = (n : ℕ) (part : Part) (around : Position) → states_in part around (numbered me n t) ≡ []
@@ -47,7 +46,7 @@ module _ (me : Name) where
 
   -- a rec, whose body is x in front of o
   in_rec : (known : List Known) (place : _) (name : Name) (body rest : Statements) (w v o x u : Work) → (stays body ≡ true → rest ≡ Nothing)
-      → v ≡ lay me known w rest →
+      → v ≡ lay me entry known w rest →
       o.cells ≡ v.cells → o.next ≡ v.next → u.cells ≡ x.cells → u.next ≡ x.next →
       Begins rest w v → Begins body o x → Begins (Rec place name body rest) w u
   in_rec known place name body rest w v o x u last is oc on uc un r (at_first e) = at_first (un ∙ e ∙ ap hops.State (sym (ap length uc)))
@@ -56,23 +55,29 @@ module _ (me : Name) where
   in_rec known place name body rest w v o x u last is oc on uc un r (back none c d) =
       let e : rest ≡ Nothing = last d in
       back (none_both place name body rest none (λ n part around. ap (λ (t : Statements). states_in part around (numbered me n t)) e))
-      (uc ∙ c ∙ oc ∙ ap (λ (y : Work). y.cells) is ∙ ap (λ (t : Statements). (lay me known w t).cells) e)
+      (uc ∙ c ∙ oc ∙ ap (λ (y : Work). y.cells) is ∙ ap (λ (t : Statements). (lay me entry known w t).cells) e)
       (ap (λ z. z || stays rest) d)
 
-  pub begins : (t : Statements) (names : List Name) → Sound names t → (known : List Known) (w : Work) → Begins t w (lay me known w t)
-  begins Nothing names h known w = through (λ n part around. refl) refl refl
-  begins (Says m rest) names h known w = at_first (Parts.said_next m (lay me known w rest) ∙ ap (λ cs. hops.State (length cs))
-      (sym (Parts.said_cells m (lay me known w rest))))
-  begins (Choice place at bs rest) names h known w =
-      let v = lay me known w rest in
-      let g = lay_in me known (bytes_eq at me) v.next (gathering v) bs in
+  pub begins : (protocols : List Name) (t : Statements) (names : List Name) → Sound protocols names t → (known : List Known) (w : Work) →
+      Begins t w (lay me entry known w t)
+  begins protocols Nothing names h known w = through (λ n part around. refl) refl refl
+  begins protocols (Says m rest) names h known w =
+      at_first (Parts.said_next m (lay me entry known w rest) ∙ ap (λ cs. hops.State (length cs))
+      (sym (Parts.said_cells m (lay me entry known w rest))))
+  begins protocols (Choice place at bs rest) names h known w =
+      let v = lay me entry known w rest in
+      let g = lay_in me entry known (bytes_eq at me) v.next (gathering v) bs in
       at_first (Parts.chosen_next (bytes_eq at me) g ∙ ap (λ cs. hops.State (length cs)) (sym (Parts.chosen_cells (bytes_eq at me) g)))
-  begins (Rec place name body rest) names h known w =
-      let v = lay me known w rest in
-      let x = lay me (record { name = name; number = length v.loops } ∷ known) (opened v) body in
+  begins protocols (Rec place name body rest) names h known w =
+      let v = lay me entry known w rest in
+      let x = lay me entry (record { name = name; number = length v.loops } ∷ known) (opened v) body in
       in_rec known place name body rest w v (opened v) x (closed (length v.loops) x) h.2 refl (Parts.opened_cells v) (Parts.opened_next v)
       (Parts.closed_cells (length v.loops) x) (Parts.closed_next (length v.loops) x)
-      (begins rest names h.3 known w) (begins body (name ∷ names) h.1 (record { name = name; number = length v.loops } ∷ known) (opened v))
-  begins (Continue place name rest) names h known w =
+      (begins protocols rest names h.3 known w)
+      (begins protocols body (name ∷ names) h.1 (record { name = name; number = length v.loops } ∷ known) (opened v))
+  begins protocols (Continue place name rest) names h known w =
       back (λ n part around. ap (λ (t : Statements). states_in part around (numbered me n t)) h.1)
-      (ap (λ (t : Statements). (lay me known w t).cells) h.1) refl
+      (ap (λ (t : Statements). (lay me entry known w t).cells) h.1) refl
+  begins protocols (Do place name rest) names h known w =
+      back (λ n part around. ap (λ (t : Statements). states_in part around (numbered me n t)) h.1)
+      (ap (λ (t : Statements). (lay me entry known w t).cells) h.1) refl

@@ -1,15 +1,15 @@
 -- Laying out keeps the numbers of the recs that are there.
-use Rattle.std.proofs.Common.{◌≡◌, ℕ, suc, ◌+◌, ◌<◌, ◌≤◌, length, get_or, Bool, true, false, List, [], ◌∷◌, ◌++◌, refl, sym, ap, subst, ◌∙◌}
-use Rattle.std.proofs.Common.{arith, get_or-set_other, set}
-use Rattle.std.specs.Prelude.{slice_set}
+use Rattle.std.proofs.Common.{◌≡◌, ℕ, ◌<◌, ◌≤◌, length, get_or, Bool, true, false, List, [], ◌∷◌, ◌++◌, refl, ap, ◌∙◌, arith}
+use Rattle.std.proofs.Common.{get_or-set_other}
+use Rattle.std.specs.Prelude.{slice_set, Option}
 use Rattle.std.specs.Str.{bytes_eq}
 use Rattle.std.proofs.lemmas.List.{length-append, get_or_append_left}
 use Rattle.std.proofs.Math.ListN.{length-set}
 use Rattle.mg_text.specs.Call.{Name}
 use Rattle.scr_tree.specs.declared.syntax.Message.{Message as Said}
-use Rattle.scr_tree.specs.Tree.{Statements, Nothing, Says, Choice, Rec, Continue, Branches, NoBranch, Branch}
-use Rattle.scr_trace.specs.inner.Laying.{Draft, Cell, Work, Known, Gathered, lay, lay_in, branch_laid, turned, said, opened, closed, chosen}
-use Rattle.scr_trace.specs.inner.Laying.{gathering, hop_named, joined}
+use Rattle.scr_tree.specs.Tree.{Statements, Nothing, Says, Choice, Rec, Continue, Do, Branches, NoBranch, Branch}
+use Rattle.scr_trace.specs.inner.Laying.{Work, Known, Gathered, lay, lay_in, branch_laid, turned, said, opened, closed, chosen, gathering}
+use Rattle.scr_trace.specs.inner.Laying.{joined}
 
 -- a list is kept: the other has its elements, and perhaps more
 pub record Keeps (xs ys : List ℕ) : Type 0 where
@@ -58,47 +58,50 @@ unfolding opened closed
 keeps_rec w u k = keeps_set w.loops u.loops (length u.cells) k
 
 mutual
-  pub keeps : (me : Name) (around : List Known) (w : Work) (t : Statements) → Keeps w.loops (lay me around w t).loops
-  keeps me around w Nothing = keeps_all w.loops
-  keeps me around w (Says m rest) = keeps_more _ _ _ (keeps me around w rest) (keeps_said m _)
-  keeps me around w (Choice place at branches rest) =
-      let v = lay me around w rest in
-      keeps_more _ _ _ (keeps me around w rest)
-      (keeps_more _ _ _ (keeps_in me around (bytes_eq at me) v.next (gathering v) branches) (keeps_chosen _ _))
-  keeps me around w (Rec place name body rest) =
-      let v = lay me around w rest in
-      keeps_more _ _ _ (keeps me around w rest) (keeps_rec v _ (keeps me _ (opened v) body))
-  keeps me around w (Continue place name rest) = keeps me around w rest
+  pub keeps : (me : Name) (entry : Name → Option ℕ) (around : List Known) (w : Work) (t : Statements) →
+      Keeps w.loops (lay me entry around w t).loops
+  keeps me entry around w Nothing = keeps_all w.loops
+  keeps me entry around w (Says m rest) = keeps_more _ _ _ (keeps me entry around w rest) (keeps_said m _)
+  keeps me entry around w (Choice place at branches rest) =
+      let v = lay me entry around w rest in
+      keeps_more _ _ _ (keeps me entry around w rest)
+      (keeps_more _ _ _ (keeps_in me entry around (bytes_eq at me) v.next (gathering v) branches) (keeps_chosen _ _))
+  keeps me entry around w (Rec place name body rest) =
+      let v = lay me entry around w rest in
+      keeps_more _ _ _ (keeps me entry around w rest) (keeps_rec v _ (keeps me entry _ (opened v) body))
+  keeps me entry around w (Continue place name rest) = keeps me entry around w rest
+  keeps me entry around w (Do place name rest) = keeps me entry around w rest
 
-  pub keeps_in : (me : Name) (around : List Known) (self : Bool) (behind : _) (g : Gathered) (bs : Branches) →
-      Keeps g.work.loops (lay_in me around self behind g bs).work.loops
-  keeps_in me around self behind g NoBranch = keeps_all g.work.loops
-  keeps_in me around self behind g (Branch b more) =
-      keeps_more _ _ _ (keeps_in me around self behind g more)
-      (keeps_branch me around self b (turned behind (lay_in me around self behind g more)))
+  pub keeps_in : (me : Name) (entry : Name → Option ℕ) (around : List Known) (self : Bool) (behind : _) (g : Gathered) (bs : Branches) →
+      Keeps g.work.loops (lay_in me entry around self behind g bs).work.loops
+  keeps_in me entry around self behind g NoBranch = keeps_all g.work.loops
+  keeps_in me entry around self behind g (Branch b more) =
+      keeps_more _ _ _ (keeps_in me entry around self behind g more)
+      (keeps_branch me entry around self b (turned behind (lay_in me entry around self behind g more)))
 
-  pub keeps_branch : (me : Name) (around : List Known) (self : Bool) (b : Statements) (g : Gathered) →
-      Keeps g.work.loops (branch_laid self me around b g).work.loops
-  keeps_branch me around self (Says m rest) g =
-      keeps_more _ _ _ (keeps me around g.work rest) (keeps_joined self m _)
-  keeps_branch me around self Nothing g = keeps_all g.work.loops
-  keeps_branch me around self (Choice place at branches rest) g = keeps_all g.work.loops
-  keeps_branch me around self (Rec place name body rest) g = keeps_all g.work.loops
-  keeps_branch me around self (Continue place name rest) g = keeps_all g.work.loops
+  pub keeps_branch : (me : Name) (entry : Name → Option ℕ) (around : List Known) (self : Bool) (b : Statements) (g : Gathered) →
+      Keeps g.work.loops (branch_laid me entry self around b g).work.loops
+  keeps_branch me entry around self (Says m rest) g =
+      keeps_more _ _ _ (keeps me entry around g.work rest) (keeps_joined self m _)
+  keeps_branch me entry around self Nothing g = keeps_all g.work.loops
+  keeps_branch me entry around self (Choice place at branches rest) g = keeps_all g.work.loops
+  keeps_branch me entry around self (Rec place name body rest) g = keeps_all g.work.loops
+  keeps_branch me entry around self (Continue place name rest) g = keeps_all g.work.loops
+  keeps_branch me entry around self (Do place name rest) g = keeps_all g.work.loops
 
 -- the number of a rec whose body is laid out stands for one
-pub number_within : (me : Name) (around : List Known) (w : Work) (t : Statements) →
-    length w.loops < length (lay me around (opened w) t).loops
+pub number_within : (me : Name) (entry : Name → Option ℕ) (around : List Known) (w : Work) (t : Statements) →
+    length w.loops < length (lay me entry around (opened w) t).loops
 unfolding opened
-number_within me around w t =
-    let l = (keeps me around (opened w) t).longer in
+number_within me entry around w t =
+    let l = (keeps me entry around (opened w) t).longer in
     let n = length-append w.loops (0 ∷ []) in
     omega arith
 
-pub closes : (me : Name) (around : List Known) (w o u : Work) (t : Statements) (number : ℕ) → number ≡ length w.loops → o ≡ opened w →
-    u ≡ lay me around o t → number < length u.loops
-closes me around w o u t number is opens laid =
-    let e : length u.loops ≡ length (lay me around (opened w) t).loops = ap (λ (x : Work). length x.loops) laid ∙
-    ap (λ (x : Work). length (lay me around x t).loops) opens in
-    let h = number_within me around w t in
+pub closes : (me : Name) (entry : Name → Option ℕ) (around : List Known) (w o u : Work) (t : Statements) (number : ℕ) →
+    number ≡ length w.loops → o ≡ opened w → u ≡ lay me entry around o t → number < length u.loops
+closes me entry around w o u t number is opens laid =
+    let e : length u.loops ≡ length (lay me entry around (opened w) t).loops = ap (λ (x : Work). length x.loops) laid ∙
+    ap (λ (x : Work). length (lay me entry around x t).loops) opens in
+    let h = number_within me entry around w t in
     omega arith

@@ -1,33 +1,29 @@
 -- Statements come to the state where they are laid out to begin.
-use Rattle.std.proofs.Common.{◌≡◌, ℕ, zero, suc, ◌+◌, ◌-◌, ◌<◌, ◌≤◌, List, [], ◌∷◌, ◌++◌, length, get_or, Some, None, refl, sym, ap, ◌∙◌}
-use Rattle.std.proofs.Common.{subst, inl, inr, ◌⊎◌, ⊎_elim, Bool, true, false, ◌&&◌, ◌||◌, if◌then◌else◌, arith, append_assoc}
+use Rattle.std.proofs.Common.{◌≡◌, ℕ, suc, ◌+◌, ◌-◌, List, [], ◌∷◌, ◌++◌, length, Some, refl, sym, ap, ◌∙◌, subst, inl, inr, ◌⊎◌, ⊎_elim}
+use Rattle.std.proofs.Common.{Bool, true, false, ◌&&◌, ◌||◌, if◌then◌else◌, arith, append_assoc}
 use Rattle.std.specs.Prelude.{slice_get, Option}
 use Rattle.std.specs.Str.{bytes_eq}
 use Rattle.std.proofs.lemmas.List.{length-append}
 use Rattle.std.proofs.lemmas.Slice.Eq.{bytes_eq-Decides}
 use Rattle.mg_text.specs.Call.{Name}
-use Rattle.scr_tree.specs.Tree.{Statements, Nothing, Says, Choice, Rec, Continue}
+use Rattle.scr_tree.specs.Tree.{Statements, Nothing, Says, Choice, Rec, Continue, Do}
 use Rattle.scr_tree.specs.Tree as tree
 use Rattle.scr_tree.specs.Meaning.{choices, choices_in, numbered, numbered_in, message_of}
-use Rattle.scr_tree.specs.Protocol.{Protocol, Done, Does, ChoiceHere, ChoiceThere, Branches}
-use Rattle.scr_tree.specs.Protocol as protocol
-use Rattle.scr_tree.specs.Steps.{Part, Plain, BodyOf, Frame, Left, Position, again, ends, begins, continues}
-use Rattle.scr_trace.specs.declared.standing.Standing.{Standing}
-use Rattle.scr_trace.specs.declared.standing.Standing.TheVariants as standings
-use Rattle.scr_trace.specs.declared.arrow.Hop.{Hop}
+use Rattle.scr_tree.specs.Protocol.{Protocol, Done, Does, ChoiceHere, ChoiceThere, Parts as Protocols}
+use Rattle.scr_tree.specs.Steps.{Part, Plain, BodyOf, Left, Position, whole, body_named, again, ends, begins, continues, goes_on}
 use Rattle.scr_trace.specs.declared.arrow.Hop.TheVariants as hops
-use Rattle.scr_trace.specs.Positions.{states_in, ComesTo, at_state, at_end, silently}
-use Rattle.scr_trace.specs.inner.Laying.{Work, Known, Gathered, lay, lay_in, said, opened, closed, chosen, gathering, hop_named}
+use Rattle.scr_trace.specs.Positions.{states_in, ComesTo, at_state, silently}
+use Rattle.scr_trace.specs.inner.Laying.{Work, Known, Gathered, lay, lay_in, opened, chosen, gathering, hop_named, hop_to}
 use Rattle.scr_trace.specs.inner.View.{standing_of}
 use Rattle.scr_trace.proofs.Parts
-use Rattle.scr_trace.proofs.Counting.{counted, counted_in}
-use Rattle.scr_trace.proofs.Rules.{passes, Guards, is_among, Sound}
+use Rattle.scr_trace.proofs.Counting.{counted}
+use Rattle.scr_trace.proofs.Rules.{passes, Guards, is_among, Opens, Sound}
 
 -- ---- names and frames
 
 -- what is left doesn't matter to where a rec begins again
-pub again_same : (name : Name) (x y : Protocol) (part : Part) (around : Position) → again name (Left x part ∷ around) ≡ again name
-    (Left y part ∷ around)
+pub again_same : (name : Name) (x y : Protocol) (part : Part) (around : Position) → again name (Left x part ∷ around)
+    ≡ again name (Left y part ∷ around)
 again_same name x y Plain around = refl
 again_same name x y (BodyOf other body) around = refl
 
@@ -40,8 +36,8 @@ again_past name other x y body part around e =
     ]) e
     ∙ again_same name y Done part around
 
-pub again_here : (name : Name) (x body : Protocol) (around : Position) → again name (Left x (BodyOf name body) ∷ around) ≡ Some
-    (Left body (BodyOf name body) ∷ around)
+pub again_here : (name : Name) (x body : Protocol) (around : Position) → again name (Left x (BodyOf name body) ∷ around)
+    ≡ Some (Left body (BodyOf name body) ∷ around)
 again_here name x body around =
     ap (λ b. elim b as (λ (v : Bool). Option Position) [ true ↦ Some (Left body (BodyOf name body) ∷ around) | false ↦ again name around ])
     ((bytes_eq-Decides name name).1 refl)
@@ -61,15 +57,16 @@ among_rest name other names e h = sym (ap (λ b. b || is_among name names) e) �
 hop_past : (name : Name) (k : Known) (known : List Known) → bytes_eq name k.name ≡ false → hop_named name (k ∷ known) ≡ hop_named name known
 hop_past name k known e = ap (λ b. if b then hops.Loop k.number else hop_named name known) e
 
-pub hop_here : (name : Name) (number : ℕ) (known : List Known) → hop_named name (record { name = name; number = number } ∷ known) ≡
-    hops.Loop number
+pub hop_here : (name : Name) (number : ℕ) (known : List Known) → hop_named name (record { name = name; number = number } ∷ known)
+    ≡ hops.Loop number
 hop_here name number known = ap (λ b. if b then hops.Loop number else hop_named name known) ((bytes_eq-Decides name name).1 refl)
 
 get_front : (front : List Position) (p : Position) (back : List Position) → slice_get (front ++ p ∷ back) (length front) ≡ Some p
 get_front [] p back = refl
 get_front (q ∷ front) p back = get_front front p back
 
-module _ (me : Name) (total : Work) (all : List Position) (as_many : length all ≡ length total.cells) where
+module _ (parts : Protocols) (me : Name) (entry : Name → Option ℕ) (protocols : List Name) (total : Work) (all : List Position)
+    (as_many : length all ≡ length total.cells) where
   -- these states stand in the text, and behind them as many as are laid out in w
   pub record Lies (w : Work) (ps : List Position) : Type 0 where
     pub front : List Position
@@ -102,7 +99,7 @@ module _ (me : Name) (total : Work) (all : List Position) (as_many : length all 
 
   -- the first of them comes to its own number
   pub comes_first : (w : Work) (p : Position) (ps : List Position) (n : ℕ) → Lies w (p ∷ ps) → n ≡ length (p ∷ ps) + length w.cells →
-      ComesTo all p (standing_of total (hops.State n))
+      ComesTo parts all p (standing_of total (hops.State n))
   comes_first w p ps n h e =
       let l : length all ≡ length h.front + suc (length ps + length h.back) =
       ap length h.all_is ∙ length-append h.front (p ∷ ps ++ h.back) ∙ (let m = length-append ps h.back in omega arith) in
@@ -111,11 +108,17 @@ module _ (me : Name) (total : Work) (all : List Position) (as_many : length all 
       at_state (subst (λ j. slice_get all j ≡ Some p) k (ap (λ l. slice_get l (length h.front)) h.all_is ∙ get_front h.front p
       (ps ++ h.back)))
 
+  -- a `do` of this name comes where it is laid out to lead
+  pub record Entered (name : Name) : Type 0 where
+    pub body : Protocol
+    pub known : body_named name parts ≡ Some body
+    pub comes : ComesTo parts all (whole body) (standing_of total (hop_to (entry name)))
+
   -- `continue` with this name comes where it is laid out to lead
   pub record Back (name : Name) (known : List Known) (part : Part) (around : Position) : Type 0 where
     pub to : Position
     pub there : again name (Left Done part ∷ around) ≡ Some to
-    pub comes : ComesTo all to (standing_of total (hop_named name known))
+    pub comes : ComesTo parts all to (standing_of total (hop_named name known))
 
   -- the same inside a rec of another name
   pub back_past : (name other : Name) (number : ℕ) (known : List Known) (body rest : Protocol) (part : Part) (around : Position) →
@@ -125,8 +128,8 @@ module _ (me : Name) (total : Work) (all : List Position) (as_many : length all 
   back_past name other number known body rest part around e h = record {
     to = h.to;
     there = again_past name other Done rest body part around e ∙ h.there;
-    comes = subst (λ hop. ComesTo all h.to (standing_of total hop)) (sym (hop_past name (record { name = other; number = number }) known e))
-        h.comes;
+    comes = subst (λ hop. ComesTo parts all h.to (standing_of total hop))
+        (sym (hop_past name (record { name = other; number = number }) known e)) h.comes;
   }
 
   -- the same in a branch
@@ -163,55 +166,57 @@ module _ (me : Name) (total : Work) (all : List Position) (as_many : length all 
       ChoiceThere n (numbered_in me (suc n) bs) (numbered me (suc n + choices_in me bs) rest))) + length w.cells →
       Lies w (states_in part around (if self then ChoiceHere (numbered_in me n bs) (numbered me (n + choices_in me bs) rest) else
       ChoiceThere n (numbered_in me (suc n) bs) (numbered me (suc n + choices_in me bs) rest))) →
-      ComesTo all (Left (if self then ChoiceHere (numbered_in me n bs) (numbered me (n + choices_in me bs) rest) else ChoiceThere n
+      ComesTo parts all (Left (if self then ChoiceHere (numbered_in me n bs) (numbered me (n + choices_in me bs) rest) else ChoiceThere n
       (numbered_in me (suc n) bs) (numbered me (suc n + choices_in me bs) rest)) part ∷ around)
       (standing_of total (chosen self g).next)
   choice_leads true n part around bs rest w g count lies =
       let p : Position = Left (ChoiceHere (numbered_in me n bs) (numbered me (n + choices_in me bs) rest)) part ∷ around in
-      subst (λ hop. ComesTo all p (standing_of total hop)) (sym (Parts.chosen_next true g))
+      subst (λ hop. ComesTo parts all p (standing_of total hop)) (sym (Parts.chosen_next true g))
       (comes_first w p _ (suc (length g.work.cells)) lies (ap length (sym (Parts.chosen_cells true g)) ∙ count))
   choice_leads false n part around bs rest w g count lies =
       let p : Position = Left (ChoiceThere n (numbered_in me (suc n) bs) (numbered me (suc n + choices_in me bs) rest)) part ∷ around in
-      subst (λ hop. ComesTo all p (standing_of total hop)) (sym (Parts.chosen_next false g))
+      subst (λ hop. ComesTo parts all p (standing_of total hop)) (sym (Parts.chosen_next false g))
       (comes_first w p _ (suc (length g.work.cells)) lies (ap length (sym (Parts.chosen_cells false g)) ∙ count))
 
   -- statements come to where they are laid out to begin
-  pub leads : (t : Statements) (names : List Name) → Sound names t → (known : List Known) (w : Work) (n : ℕ) (part : Part)
-      (around : Position) →
-      Lies w (states_in part around (numbered me n t)) → (passes t ≡ true → ComesTo all around (standing_of total w.next)) →
+  pub leads : (t : Statements) (names : List Name) → Sound protocols names t → ((z : Name) → Opens z t → Entered z) →
+      (known : List Known) (w : Work) (n : ℕ) (part : Part) (around : Position) →
+      Lies w (states_in part around (numbered me n t)) → (passes t ≡ true → ComesTo parts all around (standing_of total w.next)) →
       Returns names t known part around →
-      ComesTo all (Left (numbered me n t) part ∷ around) (standing_of total (lay me known w t).next)
-  leads Nothing names h known w n part around lies follow returns = silently ends (follow refl)
-  leads (Says m rest) names h known w n part around lies follow returns =
-      let v = lay me known w rest in
-      let c = counted me rest known w n part around in
-      subst (λ hop. ComesTo all (Left (Does (message_of m) (numbered me n rest)) part ∷ around) (standing_of total hop))
+      ComesTo parts all (Left (numbered me n t) part ∷ around) (standing_of total (lay me entry known w t).next)
+  leads Nothing names h enters known w n part around lies follow returns = silently ends (follow refl)
+  leads (Says m rest) names h enters known w n part around lies follow returns =
+      let v = lay me entry known w rest in
+      let c = counted me entry rest known w n part around in
+      subst (λ hop. ComesTo parts all (Left (Does (message_of m) (numbered me n rest)) part ∷ around) (standing_of total hop))
       (sym (Parts.said_next m v))
       (comes_first w _ (states_in part around (numbered me n rest)) (suc (length v.cells)) lies (omega (arith, c)))
-  leads (Choice place at bs rest) names h known w n part around lies follow returns =
-      let v = lay me known w rest in
-      choice_leads (bytes_eq at me) n part around bs rest w (lay_in me known (bytes_eq at me) v.next (gathering v) bs)
-      (counted me (Choice place at bs rest) known w n part around) lies
-  leads (Rec place name body rest) names h known w n part around lies follow returns =
-      let v = lay me known w rest in
+  leads (Choice place at bs rest) names h enters known w n part around lies follow returns =
+      let v = lay me entry known w rest in
+      choice_leads (bytes_eq at me) n part around bs rest w (lay_in me entry known (bytes_eq at me) v.next (gathering v) bs)
+      (counted me entry (Choice place at bs rest) known w n part around) lies
+  leads (Rec place name body rest) names h enters known w n part around lies follow returns =
+      let v = lay me entry known w rest in
       let p : Protocol = numbered me n body in
       let r : Protocol = numbered me (n + choices me body) rest in
       let inside : List Known = record { name = name; number = length v.loops } ∷ known in
-      let x = lay me inside (opened v) body in
-      let c = counted me rest known w (n + choices me body) part around in
+      let x = lay me entry inside (opened v) body in
+      let c = counted me entry rest known w (n + choices me body) part around in
       silently begins
-      (subst (λ hop. ComesTo all (Left p (BodyOf name p) ∷ Left r part ∷ around) (standing_of total hop))
+      (subst (λ hop. ComesTo parts all (Left p (BodyOf name p) ∷ Left r part ∷ around) (standing_of total hop))
       (sym (Parts.closed_next (length v.loops) x))
-      (leads body (name ∷ names) h.1 inside (opened v) n (BodyOf name p) (Left r part ∷ around)
+      (leads body (name ∷ names) h.1 (λ z o. enters z (inl o)) inside (opened v) n (BodyOf name p) (Left r part ∷ around)
       (lies_before w (opened v) (states_in (BodyOf name p) (Left r part ∷ around) p) (states_in part around r)
       (ap length (Parts.opened_cells v) ∙ c) lies)
-      (λ e. subst (λ hop. ComesTo all (Left r part ∷ around) (standing_of total hop)) (sym (Parts.opened_next v))
-      (leads rest names h.3 known w (n + choices me body) part around (lies_behind w (states_in (BodyOf name p) (Left r part ∷ around) p)
-      (states_in part around r) lies)
+      (λ e. subst (λ hop. ComesTo parts all (Left r part ∷ around) (standing_of total hop)) (sym (Parts.opened_next v))
+      (leads rest names h.3 (λ z o. enters z (inr (e, o))) known w (n + choices me body) part around
+      (lies_behind w (states_in (BodyOf name p) (Left r part ∷ around) p) (states_in part around r) lies)
       (λ f. follow (both_true (passes body) (passes rest) e f)) (returns_behind names place name body rest known part around e returns)))
       (returns_in names place name body rest known (length v.loops) p r part around h.0 returns)))
-  leads (Continue place name rest) names h known w n part around lies follow returns =
+  leads (Continue place name rest) names h enters known w n part around lies follow returns =
       ⊎_elim
       (λ (g : bytes_eq name name ≡ false). let e = (bytes_eq-Decides name name).1 refl in cc)
       (λ (b : Back name known part around). silently (continues (again_same name (numbered me n rest) Done part around ∙ b.there)) b.comes)
       (returns name h.0)
+  leads (Do place name rest) names h enters known w n part around lies follow returns = let e = enters name refl in silently
+      (goes_on e.known) e.comes

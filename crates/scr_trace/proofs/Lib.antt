@@ -1,4 +1,8 @@
 pub mod Steps
+pub mod Ending
+pub mod Naming
+pub mod Placing
+pub mod Entering
 pub mod Growing
 pub mod Following
 pub mod Rules
@@ -9,6 +13,7 @@ pub mod Leading
 pub mod Matching
 pub mod Valid
 pub mod Automaton
+pub mod Arriving
 pub mod Pieces
 pub mod Telling
 pub mod Searching

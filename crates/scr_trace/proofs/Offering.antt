@@ -1,41 +1,41 @@
 -- Offers are the calls of the steps of a state.
-use Rattle.std.proofs.Common.{◌≡◌, ℕ, zero, suc, ◌+◌, ◌-◌, ◌<◌, ◌≤◌, List, [], ◌∷◌, ◌++◌, length, get_or, drop, map, reverse, Some, None}
-use Rattle.std.proofs.Common.{Option, refl, sym, ap, ◌∙◌, subst, inl, inr, ◌⊎◌, ⊎_elim, arith, append_assoc, append-nil}
-use Rattle.std.specs.Prelude.{slice_get, Contains, ◌↔◌}
+use Rattle.std.proofs.Common.{◌≡◌, ℕ, zero, suc, ◌+◌, ◌-◌, ◌<◌, ◌≤◌, List, [], ◌∷◌, ◌++◌, length, get_or, drop, map, Some, None, Option}
+use Rattle.std.proofs.Common.{refl, sym, ap, ◌∙◌, subst, inl, inr, ⊎_elim, arith, append_assoc, append-nil}
+use Rattle.std.specs.Prelude.{slice_get, Contains}
 use Rattle.std.proofs.lemmas.List.{at_drop_more, at_drop_all, map-append, reverse-append}
 use Rattle.std.proofs.lemmas.Grind.{common_steps}
 use Rattle.mg_text.specs.Call.{Name, Call}
 use Rattle.scr_tree.specs.Tree.{LocalTree}
-use Rattle.scr_tree.specs.CallNames.{message_call, label_call, call_of}
+use Rattle.scr_tree.specs.CallNames.{message_call, label_call}
 use Rattle.scr_tree.specs.Meaning.{message_of, protocol_of}
 use Rattle.scr_tree.specs.Local.{tree_of}
+use Rattle.scr_tree.specs.Protocol.{Parts}
 use Rattle.scr_tree.specs.Valid.{AreDistinct}
-use Rattle.scr_tree.specs.Steps.{Act, Moves, Looks, Position, Step, Silent}
+use Rattle.scr_tree.specs.Steps.{Act, Moves, Looks, Position, Step}
 use Rattle.scr_trace.specs.declared.arrow.Arrow.{Arrow}
 use Rattle.scr_trace.specs.declared.arrow.Exits.{Exits}
 use Rattle.scr_trace.specs.declared.call.Offer.{Offer}
 use Rattle.scr_trace.specs.declared.standing.Standing.{Standing}
 use Rattle.scr_trace.specs.declared.standing.Standing.TheVariants as standings
 use Rattle.scr_trace.specs.declared.walk.Walk.{Walk}
-use Rattle.scr_trace.specs.Positions.{state_positions, ComesTo, at_state, at_end, silently}
-use Rattle.scr_trace.specs.Onward.{Onward, steps_at, Ahead, settled, behind, calls_of}
-use Rattle.scr_trace.specs.Graph.{Edge, IsStep, AreSteps}
+use Rattle.scr_trace.specs.Positions.{ComesTo, at_state, at_end, silently}
+use Rattle.scr_trace.specs.Onward.{Onward, steps_at, Ahead, settled, behind}
 use Rattle.scr_trace.specs.Walking.{graph_of, Stands, Offered, calls_in, answered, calls_offered}
 use Rattle.scr_trace.specs.inner.Goes.{Among}
 use Rattle.scr_trace.specs.inner.Laying.{Work, Cell, Draft}
 use Rattle.scr_trace.specs.inner.Offering.{edge_calls, labels_in, methods_of, messages_in, AreApart, SamePeer}
 use Rattle.scr_trace.specs.inner.View.{draft_of, drafts_of, cell_of, work_of, act_of, edge_of, edges_of}
-use Rattle.scr_trace.proofs.Following.{IsSettled, AllSettled, states_settled, step_listed, listed_step, settled_at, edges_there}
-use Rattle.scr_trace.proofs.Following.{position_there, step_of_edge, StepsFrom, steps_from, steps_to}
-use Rattle.scr_trace.proofs.Telling.{OneChoice, moving, looking, AllLook, AllMove, DiffersFrom, AllDiffer, Told, AllTold, valid_told}
+use Rattle.scr_trace.proofs.Following.{AllSettled, step_listed, listed_step, settled_at, edges_there, position_there, step_of_edge}
+use Rattle.scr_trace.proofs.Following.{steps_from, steps_to}
+use Rattle.scr_trace.proofs.Telling.{OneChoice, moving, looking, AllLook, AllMove, DiffersFrom, AllDiffer}
 use Rattle.scr_trace.proofs.Valid.{first_or_later, none_contained}
 use Rattle.scr_trace.proofs.Walks.{get_map, get_none, told_at, all_of, settled_of, edge_among, walk_told, state_same, calls_edges}
 
 -- ---- the loops
 
 -- the arrows from an index on, as drafts: that of the index stands last
-pub drafts-drop : (arrows : List Arrow) (i : ℕ) (a : Arrow) → i < length arrows → a ≡ get_or arrows i a →
-    drafts_of (drop i arrows) ≡ drafts_of (drop (i + 1) arrows) ++ draft_of a ∷ []
+pub drafts-drop : (arrows : List Arrow) (i : ℕ) (a : Arrow) → i < length arrows → a ≡ get_or arrows i a → drafts_of (drop i arrows)
+    ≡ drafts_of (drop (i + 1) arrows) ++ draft_of a ∷ []
 drafts-drop arrows i a h e =
     at_drop_more drafts_of arrows i a h ∙ ap (λ (x : Arrow). drafts_of (x ∷ drop (i + 1) arrows)) (sym e)
     ∙ reverse-append (draft_of a ∷ []) (map draft_of (drop (i + 1) arrows))
@@ -150,73 +150,76 @@ among_contains : {A : Type 0} (xs : List A) (x : A) → Among xs x → Contains 
 among_contains [] x a = absurd a
 among_contains (y ∷ ys) x a = ⊎_elim (λ e. (0, omega arith, e)) (λ b. let r = among_contains ys x b in (suc r.0, omega (arith, r.1), r.2)) a
 
-ahead_of : (all : List Position) → AllSettled all → {p : Position} {s : Standing} → ComesTo all p s → (k : ℕ) (place : Position) →
-    s ≡ standings.State k → slice_get all k ≡ Some place → Ahead p (steps_at place)
-ahead_of all sets (at_state {number = n} {position = p} e) k place is there =
+ahead_of : (parts : Parts) (all : List Position) → AllSettled parts all → {p : Position} {s : Standing} → ComesTo parts all p s →
+    (k : ℕ) (place : Position) → s ≡ standings.State k → slice_get all k ≡ Some place → Ahead parts p (steps_at place)
+ahead_of parts all sets (at_state {number = n} {position = p} e) k place is there =
     let same : n ≡ k = state_same n k is in
     let f : p ≡ place = some_same (subst (λ j. slice_get all j ≡ Some p) same e) there in
-    subst (λ q. Ahead p (steps_at q)) f (settled (settled_at all sets n p e).settled)
+    subst (λ q. Ahead parts p (steps_at q)) f (settled (settled_at all sets n p e).settled)
   where
     some_same : {A : Type 0} {a b : A} {o : Option A} → o ≡ Some a → o ≡ Some b → a ≡ b
     some_same e f = cc
-ahead_of all sets at_end k place is there = cc is
-ahead_of all sets (silently m c) k place is there = behind m (ahead_of all sets c k place is there)
+ahead_of parts all sets at_end k place is there = cc is
+ahead_of parts all sets (silently m c) k place is there = behind m (ahead_of parts all sets c k place is there)
 
-ahead_end : (all : List Position) {p : Position} {s : Standing} → ComesTo all p s → s ≡ standings.End → Ahead p []
-ahead_end all (at_state e) is = cc is
-ahead_end all at_end is = settled (λ to m. elim m [ ])
-ahead_end all (silently m c) is = behind m (ahead_end all c is)
+ahead_end : (parts : Parts) (all : List Position) {p : Position} {s : Standing} → ComesTo parts all p s → s ≡ standings.End →
+    Ahead parts p []
+ahead_end parts all (at_state e) is = cc is
+ahead_end parts all at_end is = settled (λ to m. elim m [ ])
+ahead_end parts all (silently m c) is = behind m (ahead_end parts all c is)
 
 pub offered_at : (local : LocalTree) (walk : Walk) (position : Position) (number : ℕ) (cell : Cell) (calls : List Call) →
     Stands local walk position → walk.standing ≡ standings.State number → Some cell ≡ slice_get (work_of walk.laid).cells number →
     calls ≡ edge_calls (tree_of walk.local.now).me (edges_of (work_of walk.laid) cell) → Offered local position calls
 offered_at local walk position number cell calls h at there is =
+    let parts = protocol_of local in
     let all = all_of local in
     let sets = settled_of local in
     let w : Work = work_of walk.laid in
-    let place = state_place all h.comes number at in
-    let r = edges_there all all (graph_of walk).states h.along.states number place.0 place.1 in
+    let place = state_place parts all h.comes number at in
+    let r = edges_there parts all all (graph_of walk).states h.along.states number place.0 place.1 in
     let same : edges_of w cell ≡ r.0 = some_same (get_map (edges_of w) w.cells number cell (sym there)) r.1 in
     let at_me : (tree_of walk.local.now).me ≡ local.me = ap (λ (t : LocalTree). t.me) h.of in
     record {
       steps = steps_at place.0;
-      ahead = ahead_of all sets h.comes number place.0 at place.1;
+      ahead = ahead_of parts all sets h.comes number place.0 at place.1;
       each = λ act to. (
-        λ c. steps_to all sets h.comes number place.0 at place.1
+        λ c. steps_to parts all sets h.comes number place.0 at place.1
             (listed_step place.0 _ (contains_among (steps_at place.0) (record { act = act; to = to }) c)),
         λ st.
-            let f = steps_from all sets h.comes st in
+            let f = steps_from parts all sets h.comes st in
             let n : f.number ≡ number = state_same f.number number (sym f.is_state ∙ at) in
             let p : f.place ≡ place.0 = some_same (subst (λ k. slice_get all k ≡ Some f.place) n f.there) place.1 in
             among_contains (steps_at place.0) (record { act = act; to = to })
             (subst (λ q. Among (steps_at q) (record { act = act; to = to })) p
             (step_listed f.step (settled_at all sets f.number f.place f.there).settled)),
       );
-      named = sym (calls_edges local.me all (steps_at place.0) r.0 r.2) ∙ ap (edge_calls local.me) (sym same) ∙
+      named = sym (calls_edges local.me parts all (steps_at place.0) r.0 r.2) ∙ ap (edge_calls local.me) (sym same) ∙
           ap (λ m. edge_calls m (edges_of w cell)) (sym at_me) ∙ sym is;
     }
   where
     some_same : {A : Type 0} {a b : A} {o : Option A} → o ≡ Some a → o ≡ Some b → a ≡ b
     some_same e f = cc
 
-    state_place : (all : List Position) {p : Position} {s : Standing} → ComesTo all p s → (k : ℕ) → s ≡ standings.State k →
-        (q : Position) × (slice_get all k ≡ Some q)
-    state_place all (at_state {number = n} {position = p} e) k f = (p, subst (λ j. slice_get all j ≡ Some p) (state_same n k f) e)
-    state_place all at_end k f = cc f
-    state_place all (silently m c) k f = state_place all c k f
+    state_place : (parts : Parts) (all : List Position) {p : Position} {s : Standing} → ComesTo parts all p s → (k : ℕ) →
+        s ≡ standings.State k → (q : Position) × (slice_get all k ≡ Some q)
+    state_place parts all (at_state {number = n} {position = p} e) k f = (p, subst (λ j. slice_get all j ≡ Some p) (state_same n k f) e)
+    state_place parts all at_end k f = cc f
+    state_place parts all (silently m c) k f = state_place parts all c k f
 
-no_step_at_end : (all : List Position) → AllSettled all → {p q : Position} {s : Standing} {act : Act} → ComesTo all p s → s ≡ standings.End
-    → Step p act q → ⊥
-no_step_at_end all sets c e st = let f = (steps_from all sets c st).is_state in cc
+no_step_at_end : (parts : Parts) (all : List Position) → AllSettled parts all → {p q : Position} {s : Standing} {act : Act} →
+    ComesTo parts all p s → s ≡ standings.End → Step parts p act q → ⊥
+no_step_at_end parts all sets c e st = let f = (steps_from parts all sets c st).is_state in cc
 
 pub offered_end : (local : LocalTree) (walk : Walk) (position : Position) → Stands local walk position → walk.standing ≡ standings.End →
     Offered local position []
 offered_end local walk position h at = record {
   steps = [];
-  ahead = ahead_end (all_of local) h.comes at;
+  ahead = ahead_end (protocol_of local) (all_of local) h.comes at;
   each = λ act to. (
     λ c. absurd (contains_among [] (record { act = act; to = to }) c),
-    λ st. absurd (no_step_at_end (all_of local) (settled_of local) h.comes at st),
+    λ st. absurd
+        (no_step_at_end (protocol_of local) (all_of local) (settled_of local) h.comes at st),
   );
   named = refl;
 }
@@ -225,18 +228,18 @@ offered_end local walk position h at = record {
 pub offered_past : (local : LocalTree) (walk : Walk) (position : Position) (number : ℕ) → Stands local walk position →
     walk.standing ≡ standings.State number → None ≡ slice_get (work_of walk.laid).cells number → ⊥
 offered_past local walk position number h at none =
-    let place = state_place (all_of local) h.comes number at in
-    let r = edges_there (all_of local) (all_of local) (graph_of walk).states h.along.states number place.0 place.1 in
+    let place = state_place (protocol_of local) (all_of local) h.comes number at in
+    let r = edges_there (protocol_of local) (all_of local) (all_of local) (graph_of walk).states h.along.states number place.0 place.1 in
     let e : slice_get (graph_of walk).states number ≡ None = get_none (edges_of (work_of walk.laid)) (work_of walk.laid).cells number none
     in
     let f = r.1 in
     cc
   where
-    state_place : (all : List Position) {p : Position} {s : Standing} → ComesTo all p s → (k : ℕ) → s ≡ standings.State k →
-        (q : Position) × (slice_get all k ≡ Some q)
-    state_place all (at_state {number = n} {position = p} e) k f = (p, subst (λ j. slice_get all j ≡ Some p) (state_same n k f) e)
-    state_place all at_end k f = cc f
-    state_place all (silently m c) k f = state_place all c k f
+    state_place : (parts : Parts) (all : List Position) {p : Position} {s : Standing} → ComesTo parts all p s → (k : ℕ) →
+        s ≡ standings.State k → (q : Position) × (slice_get all k ≡ Some q)
+    state_place parts all (at_state {number = n} {position = p} e) k f = (p, subst (λ j. slice_get all j ≡ Some p) (state_same n k f) e)
+    state_place parts all at_end k f = cc f
+    state_place parts all (silently m c) k f = state_place parts all c k f
 
 look_peer : (n k : ℕ) (p q l m : Name) → Looks n p l ≡ Looks k q m → p ≡ q
 look_peer n k p q l m e = cc
@@ -261,12 +264,13 @@ pub peers_same : (local : LocalTree) (walk : Walk) (position : Position) (number
 peers_same local walk position number c exits h at there counted a b ma mb =
     let w : Work = work_of walk.laid in
     let e = get_map (edges_of w) w.cells number (cell_of exits) (sym there) in
-    let place = position_there (all_of local) (all_of local) (graph_of walk).states h.along.states number (edges_of w (cell_of exits)) e in
+    let place = position_there (protocol_of local) (all_of local) (all_of local) (graph_of walk).states h.along.states number
+    (edges_of w (cell_of exits)) e in
     let told = told_at local.me (all_of local) (walk_told local walk h.of) number place.0 place.1 in
-    let sa = step_of_edge (all_of local) (steps_at place.0) (edges_of w (cell_of exits)) place.2 (edge_of w exits.number (draft_of a))
-    (edge_among w exits.number exits.arrows.items a ma) in
-    let sb = step_of_edge (all_of local) (steps_at place.0) (edges_of w (cell_of exits)) place.2 (edge_of w exits.number (draft_of b))
-    (edge_among w exits.number exits.arrows.items b mb) in
+    let sa = step_of_edge (protocol_of local) (all_of local) (steps_at place.0) (edges_of w (cell_of exits)) place.2
+    (edge_of w exits.number (draft_of a)) (edge_among w exits.number exits.arrows.items a ma) in
+    let sb = step_of_edge (protocol_of local) (all_of local) (steps_at place.0) (edges_of w (cell_of exits)) place.2
+    (edge_of w exits.number (draft_of b)) (edge_among w exits.number exits.arrows.items b mb) in
     go (steps_at place.0) told.one sa.0 sb.0 sa.1 sb.1 (sym sa.2.act ∙ ap (λ (o : Option ℕ). act_of w o a.message.now) counted)
     (sym sb.2.act ∙ ap (λ (o : Option ℕ). act_of w o b.message.now) counted)
   where
@@ -327,9 +331,10 @@ state_differs : (local : LocalTree) (walk : Walk) (position : Position) (number 
 state_differs local walk position number cell h there =
     let w : Work = work_of walk.laid in
     let e = get_map (edges_of w) w.cells number cell (sym there) in
-    let place = position_there (all_of local) (all_of local) (graph_of walk).states h.along.states number (edges_of w cell) e in
+    let place = position_there (protocol_of local) (all_of local) (all_of local) (graph_of walk).states h.along.states number
+    (edges_of w cell) e in
     let told = told_at local.me (all_of local) (walk_told local walk h.of) number place.0 place.1 in
-    subst AllDiffer (sym (calls_edges local.me (all_of local) (steps_at place.0) (edges_of w cell) place.2)) told.differ
+    subst AllDiffer (sym (calls_edges local.me (protocol_of local) (all_of local) (steps_at place.0) (edges_of w cell) place.2)) told.differ
 
 pub offers_distinct : (local : LocalTree) (walk : Walk) (position : Position) (number : ℕ) (exits : Exits) (offers : List Offer) →
     Stands local walk position →

@@ -1,14 +1,12 @@
 -- What the parts of the layout do.
-use Rattle.std.proofs.Common.{◌≡◌, ℕ, zero, suc, ◌+◌, List, [], ◌∷◌, ◌++◌, length, Some, None, refl, sym, ap, ◌∙◌, subst, Bool, true, false}
-use Rattle.std.proofs.Common.{if◌then◌else◌, arith}
-use Rattle.std.specs.Prelude.{slice_set, slice_index_or, Option}
+use Rattle.std.proofs.Common.{◌≡◌, ℕ, suc, List, [], ◌∷◌, ◌++◌, length, Some, None, refl, Bool, true, false, if◌then◌else◌}
+use Rattle.std.specs.Prelude.{slice_set}
 use Rattle.scr_tree.specs.declared.syntax.Message.{Message as Said}
-use Rattle.scr_tree.specs.Protocol.{Protocol, Done, Does, ChoiceHere, ChoiceThere, Rec, Continue, Branches, NoMore, Branch}
+use Rattle.scr_tree.specs.Protocol.{Protocol, Done, ChoiceHere, ChoiceThere, Rec, Continue, Do, Branches, NoMore, Branch}
 use Rattle.scr_tree.specs.Steps.{Position}
-use Rattle.scr_trace.specs.declared.arrow.Hop.{Hop}
 use Rattle.scr_trace.specs.declared.arrow.Hop.TheVariants as hops
 use Rattle.scr_trace.specs.Positions.{states_here, states_behind, states_there, states_from}
-use Rattle.scr_trace.specs.inner.Laying.{Draft, Cell, Work, Known, Gathered, said, opened, closed, chosen, joined}
+use Rattle.scr_trace.specs.inner.Laying.{Work, Gathered, said, opened, closed, chosen, joined}
 
 -- the states in the branches of a choice, at self or elsewhere, and those of one branch
 abbrev pub within : Bool → Position → Branches → List Position
@@ -19,8 +17,8 @@ abbrev pub first_in : Bool → Position → Protocol → List Position
 first_in true around b = states_behind around b
 first_in false around b = states_from around b
 
-pub within-Branch : (self : Bool) (around : Position) (b : Protocol) (more : Branches) → within self around (Branch b more) ≡ first_in self
-    around b ++ within self around more
+pub within-Branch : (self : Bool) (around : Position) (b : Protocol) (more : Branches) → within self around (Branch b more)
+    ≡ first_in self around b ++ within self around more
 within-Branch true around b more = refl
 within-Branch false around b more = refl
 
@@ -43,6 +41,10 @@ first-rec false around name x y = refl
 pub first-continue : (self : Bool) (around : Position) (name : _) (x : Protocol) → first_in self around (Continue name x) ≡ []
 first-continue true around name x = refl
 first-continue false around name x = refl
+
+pub first-do : (self : Bool) (around : Position) (name : _) (x : Protocol) → first_in self around (Do name x) ≡ []
+first-do true around name x = refl
+first-do false around name x = refl
 
 pub first-done : (self : Bool) (around : Position) → first_in self around Done ≡ []
 first-done true around = refl
@@ -97,10 +99,8 @@ pub closed_loops : (i : ℕ) (w : Work) → (closed i w).loops ≡ slice_set w.l
 unfolding closed
 closed_loops i w = refl
 
-pub chosen_cells : (self : Bool) (g : Gathered) → (chosen self g).cells ≡ record {
-  number = if self then None else Some g.work.choices;
-  drafts = g.drafts;
-} ∷ g.work.cells
+pub chosen_cells : (self : Bool) (g : Gathered) → (chosen self g).cells
+    ≡ record { number = if self then None else Some g.work.choices; drafts = g.drafts } ∷ g.work.cells
 unfolding chosen
 chosen_cells self g = refl
 
@@ -118,8 +118,8 @@ chosen_loops self g = refl
 
 pub joined_here : (m : Said) (g : Gathered) → joined true m g ≡ record {
   work = g.work;
-  drafts = record { message = m; to = g.work.next } ∷
-      g.drafts;
+  drafts =
+      record { message = m; to = g.work.next } ∷ g.drafts;
 }
 unfolding joined
 joined_here m g = refl

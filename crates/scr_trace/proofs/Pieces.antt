@@ -1,19 +1,11 @@
 -- A text is compared with pieces of it, from the front on.
 use Rattle.std.proofs.Common.{◌≡◌, ◌≢◌, ℕ, ◌+◌, ◌<◌, ◌≤◌, List, [], ◌∷◌, ◌++◌, length, get_or, drop, refl, sym, ap, ◌∙◌, subst, Bool, true}
 use Rattle.std.proofs.Common.{false, ◌&&◌, eqb, eq-eqb, append_assoc}
-use Rattle.std.specs.Prelude.{codes}
 use Rattle.std.specs.Borrow.{Bor}
 use Rattle.std.specs.Str.{bytes_eq}
-use Rattle.std.specs.Fmt.{decimal}
 use Rattle.std.proofs.lemmas.List.{at_drop_more, at_drop_all, append-nil}
-use Rattle.std.proofs.lemmas.Slice.Eq.{bytes_eq-Decides, strip_prefix_is}
-use Rattle.std.proofs.lemmas.Bool.Decides.{Decides-eqb}
+use Rattle.std.proofs.lemmas.Slice.Eq.{bytes_eq-Decides}
 use Rattle.std.proofs.lemmas.Grind.{common_steps}
-use Rattle.mg_text.specs.Call.{Name}
-use Rattle.scr_tree.specs.declared.syntax.Direction.TheVariants as directions
-use Rattle.scr_tree.specs.declared.syntax.Message.{Message as Said}
-use Rattle.scr_tree.specs.CallNames.{message_call, label_call, payload_part}
-use Rattle.scr_tree.specs.Meaning.{message_of, towards}
 use Rattle.scr_trace.specs.inner.Joined.{joined}
 
 same_front : (p r j : List ℕ) → bytes_eq (p ++ r) (p ++ j) ≡ bytes_eq r j
@@ -46,8 +38,8 @@ piece_missing ps i d text h none = ap (bytes_eq text) (joined-drop ps i d h) ∙
     go true f = absurd (none _ ((bytes_eq-Decides text ((get_or ps i d).now ++ joined (drop (i + 1) ps))).0 f))
     go false f = refl
 
-pub nothing_left : (ps : List (Bor (List ℕ))) (i : ℕ) (text : List ℕ) → length ps ≤ i → bytes_eq text (joined (drop i ps)) ≡ bytes_eq text
-    []
+pub nothing_left : (ps : List (Bor (List ℕ))) (i : ℕ) (text : List ℕ) → length ps ≤ i → bytes_eq text (joined (drop i ps))
+    ≡ bytes_eq text []
 nothing_left ps i text h = ap (bytes_eq text) (joined-past ps i h)
 
 pub ruleset steps = (common_steps, nothing_left)

@@ -1,22 +1,16 @@
 -- The step of a search among arrows, and how what is laid out is read.
-use Rattle.std.proofs.Common.{◌≡◌, ℕ, suc, ◌+◌, ◌-◌, ◌<◌, ◌≤◌, List, [], ◌∷◌, length, get_or, drop, map, reverse, refl, sym, ap, ◌∙◌, subst}
-use Rattle.std.proofs.Common.{Bool, true, false, ◌&&◌, if◌then◌else◌, Option, Some, None, option_map, slice_get, arith}
-use Rattle.std.specs.Str.{bytes_eq}
-use Rattle.std.specs.Borrow.{Bor}
-use Rattle.std.proofs.lemmas.List.{at_drop_more, at_drop_all, length-reverse, length-map, get_or-reverse}
+use Rattle.std.proofs.Common.{◌≡◌, ℕ, ◌+◌, ◌<◌, ◌≤◌, List, length, get_or, drop, map, sym, ap, ◌∙◌, Bool, true, false, if◌then◌else◌}
+use Rattle.std.proofs.Common.{Option, Some, None}
+use Rattle.std.proofs.lemmas.List.{at_drop_more, at_drop_all, length-reverse, length-map}
 use Rattle.std.proofs.lemmas.Grind.{common_steps}
-use Rattle.mg_text.specs.Call.{Name}
-use Rattle.scr_tree.specs.CallNames.{message_call, label_call}
-use Rattle.scr_tree.specs.Meaning.{message_of}
 use Rattle.scr_trace.specs.declared.arrow.Arrow.{Arrow}
 use Rattle.scr_trace.specs.declared.arrow.Exits.{Exits}
 use Rattle.scr_trace.specs.declared.arrow.Hop.{Hop}
-use Rattle.scr_trace.specs.inner.Search.{first_led, is_said, is_looked}
-use Rattle.scr_trace.specs.inner.Laying.{Cell}
+use Rattle.scr_trace.specs.inner.Search.{first_led}
 use Rattle.scr_trace.specs.inner.View.{cell_of, cells_of}
 
-pub led-drop : (test : Arrow → Bool) (xs : List Arrow) (i : ℕ) (a : Arrow) → i < length xs → a ≡ get_or xs i a →
-    first_led test (drop i xs) ≡ (if test a then Some a.to else first_led test (drop (i + 1) xs))
+pub led-drop : (test : Arrow → Bool) (xs : List Arrow) (i : ℕ) (a : Arrow) → i < length xs → a ≡ get_or xs i a → first_led test (drop i xs)
+    ≡ (if test a then Some a.to else first_led test (drop (i + 1) xs))
 led-drop test xs i a h e = at_drop_more (first_led test) xs i a h ∙
     ap (λ (x : Arrow). if test x then Some x.to else first_led test (drop (i + 1) xs)) (sym e)
 

@@ -1,30 +1,30 @@
 -- The steps of a state are told apart by their calls, and all looks at a choice are at one peer.
-use Rattle.std.proofs.Common.{◌≡◌, ◌≢◌, ℕ, zero, suc, ◌+◌, ◌<◌, List, [], ◌∷◌, ◌++◌, length, map, Some, None, refl, sym, ap, ◌∙◌, subst}
-use Rattle.std.proofs.Common.{inl, inr, ◌⊎◌, ⊎_elim, Bool, true, false, if◌then◌else◌, arith}
-use Rattle.std.specs.Prelude.{Contains, Option, slice_index_or}
+use Rattle.std.proofs.Common.{◌≡◌, ◌≢◌, ℕ, suc, ◌+◌, List, [], ◌∷◌, ◌++◌, map, Some, refl, sym, ap, ◌∙◌, subst, inl, inr, ◌⊎◌, ⊎_elim, Bool}
+use Rattle.std.proofs.Common.{true, false, if◌then◌else◌}
+use Rattle.std.specs.Prelude.{Contains}
 use Rattle.std.specs.Str.{bytes_eq}
 use Rattle.std.proofs.Math.Logic.{∥∥₁_elim}
 use Rattle.std.proofs.lemmas.Slice.Eq.{bytes_eq-Decides}
 use Rattle.mg_text.specs.Call.{Name, Call}
-use Rattle.mg_read.specs.Culprit.{Culprit, culprit}
+use Rattle.mg_read.specs.Culprit.{culprit}
 use Rattle.mg_read.specs.First.{Clean}
-use Rattle.scr_tree.specs.declared.syntax.Direction.TheVariants as directions
 use Rattle.scr_tree.specs.declared.syntax.Message.{Message as Said}
-use Rattle.scr_tree.specs.Tree.{LocalTree, Statements, Nothing, Says, Choice, Rec, Continue, NoBranch, Branch}
+use Rattle.scr_tree.specs.Tree.{LocalTree, Titled, titled, body_in, bodies_in, Statements, Nothing, Says, Choice, Rec, Continue, Do}
+use Rattle.scr_tree.specs.Tree.{NoBranch, Branch}
 use Rattle.scr_tree.specs.Tree as tree
-use Rattle.scr_tree.specs.Spots.{Spot, spot, Past, Opens, Enters, Way, spots, branch_spots}
+use Rattle.scr_tree.specs.Spots.{Spot, spot, Past, Opens, Enters, Way, spots, branch_spots, all_spots}
 use Rattle.scr_tree.specs.Conditions.{MixedChoice, SameLabel, key, first_key, AllFrom, AllSend, IsUniform}
-use Rattle.scr_tree.specs.CallNames.{message_call, label_call, call_of}
-use Rattle.scr_tree.specs.Meaning.{choices, choices_in, numbered, numbered_in, message_of, towards, protocol_of}
+use Rattle.scr_tree.specs.CallNames.{message_call, call_of}
+use Rattle.scr_tree.specs.Meaning.{choices, choices_in, numbered, numbered_in, numbered_parts, message_of, protocol_of}
 use Rattle.scr_tree.specs.Protocol.{Message, peer_of, label_of, Protocol, Done, Does, ChoiceHere, ChoiceThere, Branches}
 use Rattle.scr_tree.specs.Protocol as protocol
-use Rattle.scr_tree.specs.Steps.{Act, Moves, Looks, Part, Plain, BodyOf, Left, Position}
+use Rattle.scr_tree.specs.Steps.{Moves, Looks, Part, Plain, BodyOf, Left, Position}
 use Rattle.scr_tree.specs.Valid.{IsValid}
-use Rattle.scr_trace.specs.Positions.{states_in, states_here, states_behind, states_there, states_from, state_positions}
+use Rattle.scr_trace.specs.Positions.{states_in, states_here, states_there, state_positions}
 use Rattle.scr_trace.specs.Onward.{Onward, sends, looks, steps_at}
 use Rattle.scr_trace.proofs.Parts
 use Rattle.scr_trace.proofs.Matching.{peer_is, label_is}
-use Rattle.scr_trace.proofs.Valid.{clean_once, clean_front, clean_behind, first_or_later, none_contained}
+use Rattle.scr_trace.proofs.Valid.{clean_once, clean_front, clean_behind, contains_first, contains_later}
 
 -- a call is none of these
 abbrev pub DiffersFrom : Call → List Call → Type 0
@@ -81,12 +81,6 @@ abbrev Distinct : List Name → Type 0
 Distinct [] = Unit {0}
 Distinct (name ∷ names) = Differs name names × Distinct names
 
-contains_later : {X : Type 0} (y : X) (ys : List X) (x : X) → Contains ys x → Contains (y ∷ ys) x
-contains_later y ys x c = (suc c.0, omega (arith, c.1), c.2)
-
-contains_first : {X : Type 0} (y : X) (ys : List X) → Contains (y ∷ ys) y
-contains_first y ys = (0, omega arith, refl)
-
 module _ (me : Name) where
   -- a key of an earlier branch is none of those behind
   differs_behind : (bs : tree.Branches) (way : Way) (at : Name) (earlier : List Statements) (k : Name) →
@@ -107,6 +101,8 @@ module _ (me : Name) where
   differs_behind (Branch (Continue place name rest) more) way at earlier k c h =
       differs_behind more way at (Continue place name rest ∷ earlier) k (contains_later _ _ _ c)
       (clean_behind (SameLabel me) (spots (Enters at earlier ∷ way) (Continue place name rest)) _ h)
+  differs_behind (Branch (Do place name rest) more) way at earlier k c h = differs_behind more way at (Do place name rest ∷ earlier) k
+      (contains_later _ _ _ c) (clean_behind (SameLabel me) (spots (Enters at earlier ∷ way) (Do place name rest)) _ h)
 
   distinct : (bs : tree.Branches) (way : Way) (at : Name) (earlier : List Statements) →
       Clean (SameLabel me) (branch_spots way at earlier bs) → Distinct (keys me at bs)
@@ -125,6 +121,8 @@ module _ (me : Name) where
       (clean_behind (SameLabel me) (spots (Enters at earlier ∷ way) (Rec place name body rest)) _ h)
   distinct (Branch (Continue place name rest) more) way at earlier h = distinct more way at (Continue place name rest ∷ earlier)
       (clean_behind (SameLabel me) (spots (Enters at earlier ∷ way) (Continue place name rest)) _ h)
+  distinct (Branch (Do place name rest) more) way at earlier h = distinct more way at (Do place name rest ∷ earlier)
+      (clean_behind (SameLabel me) (spots (Enters at earlier ∷ way) (Do place name rest)) _ h)
 
   -- at self the calls are the keys
   key_here : (at : Name) (m : Said) → bytes_eq at me ≡ true → key me at m ≡ message_call (message_of m)
@@ -167,8 +165,9 @@ module _ (me : Name) where
       (into self n around (protocol.Branch Done more) ≡ into self n around more)
       × (into self n around (protocol.Branch (protocol.Rec name x y) more) ≡ into self n around more)
       × (into self n around (protocol.Branch (protocol.Continue name x) more) ≡ into self n around more)
-  into-other true n around name x y more = (refl, refl, refl)
-  into-other false n around name x y more = (refl, refl, refl)
+      × (into self n around (protocol.Branch (protocol.Do name x) more) ≡ into self n around more)
+  into-other true n around name x y more = (refl, refl, refl, refl)
+  into-other false n around name x y more = (refl, refl, refl, refl)
 
   into-NoMore : (self : Bool) (n : ℕ) (around : Position) → into self n around protocol.NoMore ≡ []
   into-NoMore true n around = refl
@@ -187,8 +186,8 @@ module _ (me : Name) where
       (λ e. d.0 (same_key self n at a q s e), differ_from more self n (m + choices me (Says q rest)) around at a s d.1)
   differ_from (Branch (Choice place other bs rest) more) self n m around at a s d =
       subst (λ l. DiffersFrom (call_first self n a) (calls_from me l))
-      (sym (into-Choice self (bytes_eq other me) n m around _ _ _ _ (numbered_in me (m + choices me (Choice place other bs rest))
-      more)))
+      (sym (into-Choice self (bytes_eq other me) n m around _ _ _ _
+      (numbered_in me (m + choices me (Choice place other bs rest)) more)))
       (differ_from more self n (m + choices me (Choice place other bs rest)) around at a s d)
   differ_from (Branch (Rec place name body rest) more) self n m around at a s d =
       subst (λ l. DiffersFrom (call_first self n a) (calls_from me l))
@@ -198,6 +197,10 @@ module _ (me : Name) where
       subst (λ l. DiffersFrom (call_first self n a) (calls_from me l))
       (sym (into-other self n around name _ Done (numbered_in me (m + choices me (Continue place name rest)) more)).2)
       (differ_from more self n (m + choices me (Continue place name rest)) around at a s d)
+  differ_from (Branch (Do place name rest) more) self n m around at a s d =
+      subst (λ l. DiffersFrom (call_first self n a) (calls_from me l))
+      (sym (into-other self n around name _ Done (numbered_in me (m + choices me (Do place name rest)) more)).3)
+      (differ_from more self n (m + choices me (Do place name rest)) around at a s d)
 
   all_differ : (bs : tree.Branches) (self : Bool) (n m : ℕ) (around : Position) (at : Name) → bytes_eq at me ≡ self →
       Distinct (keys me at bs) → AllDiffer (calls_from me (into self n around (numbered_in me m bs)))
@@ -213,8 +216,8 @@ module _ (me : Name) where
       )
   all_differ (Branch (Choice place other bs rest) more) self n m around at s d =
       subst (λ l. AllDiffer (calls_from me l))
-      (sym (into-Choice self (bytes_eq other me) n m around _ _ _ _ (numbered_in me (m + choices me (Choice place other bs rest))
-      more)))
+      (sym (into-Choice self (bytes_eq other me) n m around _ _ _ _
+      (numbered_in me (m + choices me (Choice place other bs rest)) more)))
       (all_differ more self n (m + choices me (Choice place other bs rest)) around at s d)
   all_differ (Branch (Rec place name body rest) more) self n m around at s d =
       subst (λ l. AllDiffer (calls_from me l))
@@ -224,6 +227,10 @@ module _ (me : Name) where
       subst (λ l. AllDiffer (calls_from me l))
       (sym (into-other self n around name _ Done (numbered_in me (m + choices me (Continue place name rest)) more)).2)
       (all_differ more self n (m + choices me (Continue place name rest)) around at s d)
+  all_differ (Branch (Do place name rest) more) self n m around at s d =
+      subst (λ l. AllDiffer (calls_from me l))
+      (sym (into-other self n around name _ Done (numbered_in me (m + choices me (Do place name rest)) more)).3)
+      (all_differ more self n (m + choices me (Do place name rest)) around at s d)
 
   -- ---- the peer of a choice elsewhere
 
@@ -244,6 +251,7 @@ module _ (me : Name) where
   from_peers p (Branch (Choice place other bs rest) more) h = from_peers p more h
   from_peers p (Branch (Rec place name body rest) more) h = from_peers p more h
   from_peers p (Branch (Continue place name rest) more) h = from_peers p more h
+  from_peers p (Branch (Do place name rest) more) h = from_peers p more h
 
   first_peers : (p : Name) (bs : tree.Branches) → AllFrom p bs → AllPeer (first_peer bs) bs
   first_peers p NoBranch h = tt
@@ -252,6 +260,7 @@ module _ (me : Name) where
   first_peers p (Branch (Choice place other bs rest) more) h = first_peers p more h
   first_peers p (Branch (Rec place name body rest) more) h = first_peers p more h
   first_peers p (Branch (Continue place name rest) more) h = first_peers p more h
+  first_peers p (Branch (Do place name rest) more) h = first_peers p more h
 
   true_or_false : (b : Bool) → (b ≡ true) ⊎ (b ≡ false)
   true_or_false true = inl refl
@@ -268,6 +277,7 @@ module _ (me : Name) where
   surely p (Branch (Choice place other bs rest) more) h = surely p more h
   surely p (Branch (Rec place name body rest) more) h = surely p more h
   surely p (Branch (Continue place name rest) more) h = surely p more h
+  surely p (Branch (Do place name rest) more) h = surely p more h
 
   one_peer : (at : Name) (bs : tree.Branches) → bytes_eq at me ≡ false → ((IsUniform me at bs → ⊥) → ⊥) → AllPeer (first_peer bs) bs
   one_peer at bs e h =
@@ -281,7 +291,8 @@ module _ (me : Name) where
   all_look (Branch Nothing more) p n m around h = all_look more p n (m + 0) around h
   all_look (Branch (Says q rest) more) p n m around h = (
     (label_of (message_of q), ap (λ x. Looks n x (label_of (message_of q))) (peer_is q ∙ h.0)),
-    all_look more p n (m + choices me (Says q rest)) around h.1,
+    all_look more p n
+        (m + choices me (Says q rest)) around h.1,
   )
   all_look (Branch (Choice place other bs rest) more) p n m around h =
       subst (AllLook n p) (sym (into-Choice false (bytes_eq other me) n m around _ _ _ _
@@ -289,6 +300,7 @@ module _ (me : Name) where
       (all_look more p n (m + choices me (Choice place other bs rest)) around h)
   all_look (Branch (Rec place name body rest) more) p n m around h = all_look more p n (m + choices me (Rec place name body rest)) around h
   all_look (Branch (Continue place name rest) more) p n m around h = all_look more p n (m + choices me (Continue place name rest)) around h
+  all_look (Branch (Do place name rest) more) p n m around h = all_look more p n (m + choices me (Do place name rest)) around h
 
   all_move : (bs : Branches) (around : Position) → AllMove (sends around bs)
   all_move protocol.NoMore around = tt
@@ -298,6 +310,7 @@ module _ (me : Name) where
   all_move (protocol.Branch (ChoiceThere n bs rest) more) around = all_move more around
   all_move (protocol.Branch (protocol.Rec name body rest) more) around = all_move more around
   all_move (protocol.Branch (protocol.Continue name rest) more) around = all_move more around
+  all_move (protocol.Branch (protocol.Do name rest) more) around = all_move more around
 
   -- ---- all states
 
@@ -381,10 +394,11 @@ module _ (me : Name) where
         let r : Protocol = numbered me (n + choices me body) rest in
         told_both me (states_in (BodyOf name p) (Left r part ∷ around) p) (states_in part around r)
         (told body (Opens name ∷ way) (apart_front (spots (Opens name ∷ way) body) _ both) n (BodyOf name p) (Left r part ∷ around))
-        (told rest (Past (Rec place name body Nothing) ∷ way) (apart_behind (spots (Opens name ∷ way) body) _ both) (n + choices me body)
-        part around)
+        (told rest (Past (Rec place name body Nothing) ∷ way) (apart_behind (spots (Opens name ∷ way) body) _ both)
+        (n + choices me body) part around)
     told (Continue place name rest) way h n part around = told rest (Past (Continue place name Nothing) ∷ way) (apart_rest _ _ h) n part
         around
+    told (Do place name rest) way h n part around = told rest (Past (Do place name Nothing) ∷ way) (apart_rest _ _ h) n part around
 
     told_in : (bs : tree.Branches) (way : Way) (at : Name) (earlier : List Statements) → AreApart (branch_spots way at earlier bs) →
         (self : Bool) (m : ℕ) (around : Position) → AllTold me (Parts.within self around (numbered_in me m bs))
@@ -407,12 +421,25 @@ module _ (me : Name) where
     told_first (Choice place at bs rest) way h self m around = none_told _ (Parts.first-choice self (bytes_eq at me) around _ _ _ _ m)
     told_first (Rec place name body rest) way h self m around = none_told _ (Parts.first-rec self around name _ _)
     told_first (Continue place name rest) way h self m around = none_told _ (Parts.first-continue self around name _)
+    told_first (Do place name rest) way h self m around = none_told _ (Parts.first-do self around name _)
+
+-- the states of protocols, one after another
+all_told : (me : Name) (ts : List Titled) (n : ℕ) → Clean (SameLabel me) (all_spots (map body_in ts)) →
+    Clean (MixedChoice me) (all_spots (map body_in ts)) → AllTold me (state_positions (numbered_parts me n ts))
+all_told me [] n h u = tt
+all_told me (t ∷ more) n h u =
+    told_both me (states_in Plain [] (numbered me n t.body)) (state_positions (numbered_parts me (n + choices me t.body) more))
+    (told me t.body [] (record {
+      labels = clean_front (SameLabel me) (spots [] t.body) (all_spots (map body_in more)) h;
+      uniform = clean_front (MixedChoice me) (spots [] t.body) (all_spots (map body_in more)) u;
+    }) n Plain [])
+    (all_told me more (n + choices me t.body) (clean_behind (SameLabel me) (spots [] t.body) (all_spots (map body_in more)) h)
+    (clean_behind (MixedChoice me) (spots [] t.body) (all_spots (map body_in more)) u))
 
 -- the states of a valid local protocol
 pub valid_told : (local : LocalTree) → ∥ IsValid local ∥₁ → AllTold local.me (state_positions (protocol_of local))
 valid_told local v =
-    let all = spots [] local.body in
-    told local.me local.body [] (record {
-      labels = ∥∥₁_elim v (clean_once (SameLabel local.me) all) (λ i. i.labels_differ);
-      uniform = ∥∥₁_elim v (clean_once (MixedChoice local.me) all) (λ i. i.uniform);
-    }) 1 Plain []
+    let all = all_spots (bodies_in local) in
+    all_told local.me (titled local) 1
+    (∥∥₁_elim v (clean_once (SameLabel local.me) all) (λ i. i.labels_differ))
+    (∥∥₁_elim v (clean_once (MixedChoice local.me) all) (λ i. i.uniform))

@@ -1,8 +1,7 @@
 -- How walks follow the protocol.
-use Rattle.std.proofs.Common.{◌≡◌, ◌≢◌, ℕ, zero, suc, ◌+◌, ◌-◌, List, [], ◌∷◌, ◌++◌, length, map, reverse, Some, None, refl, sym, ap, ◌∙◌}
-use Rattle.std.proofs.Common.{subst, inl, inr, ◌⊎◌, ⊎_elim, Bool, true, false, ◌&&◌, if◌then◌else◌, Option, arith}
-use Rattle.std.specs.Prelude.{slice_get, option_map, ◌↔◌, IsTrue}
-use Rattle.std.specs.Borrow.{Bor}
+use Rattle.std.proofs.Common.{◌≡◌, ◌≢◌, ℕ, zero, suc, ◌-◌, List, [], ◌∷◌, ◌++◌, map, reverse, Some, None, refl, sym, ap, ◌∙◌, subst, inl}
+use Rattle.std.proofs.Common.{inr, ◌⊎◌, ⊎_elim, Bool, true, false, ◌&&◌, if◌then◌else◌, Option}
+use Rattle.std.specs.Prelude.{slice_get}
 use Rattle.std.specs.Str.{bytes_eq}
 use Rattle.std.proofs.lemmas.List.{reverse-append, map-append}
 use Rattle.std.proofs.lemmas.Slice.Eq.{bytes_eq-Decides}
@@ -10,8 +9,8 @@ use Rattle.mg_text.specs.Call.{Name, Call}
 use Rattle.scr_tree.specs.Tree.{LocalTree}
 use Rattle.scr_tree.specs.Local.{tree_of}
 use Rattle.scr_tree.specs.Meaning.{protocol_of, message_of}
-use Rattle.scr_tree.specs.Protocol.{Protocol}
-use Rattle.scr_tree.specs.Steps.{Act, Moves, Looks, Position, whole, Step, Run, stays, goes, Finished}
+use Rattle.scr_tree.specs.Protocol.{Parts}
+use Rattle.scr_tree.specs.Steps.{Act, Position, start, Step, Run, stays, goes, Finished}
 use Rattle.scr_tree.specs.CallNames.{message_call, label_call, call_of}
 use Rattle.scr_tree.specs.Traces.{Trace, Complete}
 use Rattle.scr_trace.specs.declared.arrow.Arrow.{Arrow}
@@ -22,15 +21,14 @@ use Rattle.scr_trace.specs.declared.standing.Standing.TheVariants as standings
 use Rattle.scr_trace.specs.declared.walk.Walk.{Walk}
 use Rattle.scr_trace.specs.Positions.{state_positions, ComesTo}
 use Rattle.scr_trace.specs.Onward.{Onward, steps_at}
-use Rattle.scr_trace.specs.Graph.{Edge, Graph, IsStep, AreSteps, AreStates, Automates}
+use Rattle.scr_trace.specs.Graph.{Edge, IsStep, AreSteps, Automates}
 use Rattle.scr_trace.specs.Walking.{graph_of, Stands, StepsOn, HasTaken}
 use Rattle.scr_trace.specs.inner.Goes.{Among, Edged, Taken, Goes}
-use Rattle.scr_trace.specs.inner.Laying.{Work, Cell, Draft}
-use Rattle.scr_trace.specs.inner.View.{draft_of, drafts_of, cell_of, cells_of, work_of, standing_of, act_of, edge_of, edges_of}
-use Rattle.scr_trace.specs.inner.View.{graph_of_work}
+use Rattle.scr_trace.specs.inner.Laying.{Work}
+use Rattle.scr_trace.specs.inner.View.{draft_of, drafts_of, cell_of, work_of, standing_of, edge_of, edges_of}
 use Rattle.scr_trace.specs.inner.Search.{first_led, is_said, is_looked, led_if}
-use Rattle.scr_trace.proofs.Following.{AllSettled, states_settled, step_listed, listed_step, settled_at, edges_there, edge_of_step}
-use Rattle.scr_trace.proofs.Following.{step_of_edge, position_there, StepsFrom, steps_from, steps_to, finished_end, end_finished}
+use Rattle.scr_trace.proofs.Following.{AllSettled, all_settled, step_listed, listed_step, settled_at, edges_there, edge_of_step}
+use Rattle.scr_trace.proofs.Following.{step_of_edge, position_there, steps_from, steps_to, finished_end, end_finished}
 use Rattle.scr_trace.proofs.Telling.{DiffersFrom, AllDiffer, calls_from, Told, AllTold, valid_told}
 
 -- ---- lists
@@ -167,8 +165,8 @@ led_lacks me w (Some c) xs method (Some label) e edge h named =
     let a = among_edge w (Some c) xs edge h in
     let f : label_call me (w.choices - c) a.0.message.now.peer ≡ method = ap (λ (x : Edge). (call_of me x.act).method) a.2 ∙
     ap (λ (c : Call). c.method) named in
-    let g : Some a.0.message.now.label ≡ Some label = ap (λ (x : Edge). (call_of me x.act).answer) a.2 ∙ ap (λ (c : Call). c.answer) named
-    in
+    let g : Some a.0.message.now.label ≡ Some label = ap (λ (x : Edge). (call_of me x.act).answer) a.2 ∙
+    ap (λ (c : Call). c.answer) named in
     let same : a.0.message.now.label ≡ label = cc g in
     let t = parts_both (bytes_eq a.0.message.now.label label) (bytes_eq method (label_call me (w.choices - c) a.0.message.now.peer))
     ((bytes_eq-Decides a.0.message.now.label label).1 same)
@@ -249,8 +247,8 @@ goes_end walk call at edge h named = let e = h.at in cc
 abbrev pub all_of : LocalTree → List Position
 all_of local = state_positions (protocol_of local)
 
-pub settled_of : (local : LocalTree) → AllSettled (all_of local)
-settled_of local = states_settled (protocol_of local) _ _
+pub settled_of : (local : LocalTree) → AllSettled (protocol_of local) (all_of local)
+settled_of local = all_settled (protocol_of local) (protocol_of local)
 
 -- an edge of the state that a position comes to is one of its steps
 pub edge_steps : (local : LocalTree) (walk walk' : Walk) (position : Position) (call : Call) → Stands local walk position →
@@ -258,18 +256,19 @@ pub edge_steps : (local : LocalTree) (walk walk' : Walk) (position : Position) (
     StepsOn local position call walk'
 edge_steps local walk walk' position call h taken kept same =
     let d = taken.edged in
-    let p = position_there (all_of local) (all_of local) (graph_of walk).states h.along.states d.number d.edges d.there in
-    let s = step_of_edge (all_of local) (steps_at p.0) d.edges p.2 taken.edge d.among in
+    let p = position_there (protocol_of local) (all_of local) (all_of local) (graph_of walk).states h.along.states d.number d.edges d.there
+    in
+    let s = step_of_edge (protocol_of local) (all_of local) (steps_at p.0) d.edges p.2 taken.edge d.among in
     let at_me : (tree_of walk.local.now).me ≡ local.me = ap (λ (t : LocalTree). t.me) h.of in
     record {
       act = s.0.act;
       to = s.0.to;
-      step = steps_to (all_of local) (settled_of local) h.comes d.number p.0 d.at p.1 (listed_step p.0 s.0 s.1);
+      step = steps_to (protocol_of local) (all_of local) (settled_of local) h.comes d.number p.0 d.at p.1 (listed_step p.0 s.0 s.1);
       named = ap (call_of local.me) (sym s.2.act) ∙ ap (λ m. call_of m taken.edge.act) (sym at_me) ∙ taken.named;
       stands = record {
         of = ap (λ l. tree_of l.now) kept ∙ h.of;
         along = subst (Automates (protocol_of local)) (sym same) h.along;
-        comes = subst (ComesTo (all_of local) s.0.to) taken.leads s.2.to;
+        comes = subst (ComesTo (protocol_of local) (all_of local) s.0.to) taken.leads s.2.to;
       };
     }
 
@@ -277,20 +276,20 @@ edge_steps local walk walk' position call h taken kept same =
 record EdgeOf (local : LocalTree) (walk : Walk) (act : Act) (to : Position) : Type 0 where
   edge : Edge
   edged : Edged walk edge
-  step : IsStep (all_of local) (record { act = act; to = to }) edge
+  step : IsStep (protocol_of local) (all_of local) (record { act = act; to = to }) edge
 
 edge_of_a_step : (local : LocalTree) (walk : Walk) (position : Position) → Stands local walk position → (act : Act) (to : Position) →
-    Step position act to → EdgeOf local walk act to
+    Step (protocol_of local) position act to → EdgeOf local walk act to
 edge_of_a_step local walk position h act to st =
-    let f = steps_from (all_of local) (settled_of local) h.comes st in
-    let e = edges_there (all_of local) (all_of local) (graph_of walk).states h.along.states f.number f.place f.there in
+    let f = steps_from (protocol_of local) (all_of local) (settled_of local) h.comes st in
+    let e = edges_there (protocol_of local) (all_of local) (all_of local) (graph_of walk).states h.along.states f.number f.place f.there in
     let s = step_listed f.step (settled_at (all_of local) (settled_of local) f.number f.place f.there).settled in
-    let r = edge_of_step (all_of local) (steps_at f.place) e.0 e.2 (record { act = act; to = to }) s in
+    let r = edge_of_step (protocol_of local) (all_of local) (steps_at f.place) e.0 e.2 (record { act = act; to = to }) s in
     record { edge = r.0; edged = record { number = f.number; edges = e.0; at = f.is_state; there = e.1; among = r.1 }; step = r.2 }
 
 -- where no edge has the call, no step has
 pub none_steps : (local : LocalTree) (walk : Walk) (position : Position) (call : Call) → Goes walk call None → Stands local walk position →
-    (act : Act) (to : Position) → Step position act to → call_of local.me act ≢ call
+    (act : Act) (to : Position) → Step (protocol_of local) position act to → call_of local.me act ≢ call
 none_steps local walk position call none h act to st named =
     let r = edge_of_a_step local walk position h act to st in
     let at_me : (tree_of walk.local.now).me ≡ local.me = ap (λ (t : LocalTree). t.me) h.of in
@@ -298,12 +297,12 @@ none_steps local walk position call none h act to st named =
 
 -- ---- no state has a call twice
 
-pub calls_edges : (me : Name) (all : List Position) (steps : List Onward) (edges : List Edge) → AreSteps all steps edges →
-    map (λ (e : Edge). call_of me e.act) edges ≡ calls_from me steps
-calls_edges me all [] [] h = refl
-calls_edges me all [] (e ∷ edges) h = absurd h
-calls_edges me all (s ∷ steps) [] h = absurd h
-calls_edges me all (s ∷ steps) (e ∷ edges) h = λ i. call_of me (h.0.act i) ∷ calls_edges me all steps edges h.1 i
+pub calls_edges : (me : Name) (parts : Parts) (all : List Position) (steps : List Onward) (edges : List Edge) →
+    AreSteps parts all steps edges → map (λ (e : Edge). call_of me e.act) edges ≡ calls_from me steps
+calls_edges me parts all [] [] h = refl
+calls_edges me parts all [] (e ∷ edges) h = absurd h
+calls_edges me parts all (s ∷ steps) [] h = absurd h
+calls_edges me parts all (s ∷ steps) (e ∷ edges) h = λ i. call_of me (h.0.act i) ∷ calls_edges me parts all steps edges h.1 i
 
 differs_all : (me : Name) (call : Call) (edges : List Edge) → DiffersFrom call (map (λ (e : Edge). call_of me e.act) edges) → (e : Edge) →
     Among edges e → call ≡ call_of me e.act → ⊥
@@ -333,36 +332,39 @@ same_edge : (local : LocalTree) (walk : Walk) → AllTold local.me (all_of local
 same_edge local walk told along a b p q e =
     let n : q.number ≡ p.number = state_same q.number p.number (sym q.at ∙ p.at) in
     let edges : q.edges ≡ p.edges = some_same (subst (λ k. slice_get (graph_of walk).states k ≡ Some q.edges) n q.there) p.there in
-    let place = position_there (all_of local) (all_of local) (graph_of walk).states along.states p.number p.edges p.there in
+    let place = position_there (protocol_of local) (all_of local) (all_of local) (graph_of walk).states along.states p.number p.edges
+    p.there in
     let t = told_at local.me (all_of local) told p.number place.0 place.1 in
-    one_edge local.me p.edges (subst AllDiffer (sym (calls_edges local.me (all_of local) (steps_at place.0) p.edges place.2)) t.differ) a b
-    p.among (subst (λ l. Among l b) edges q.among) e
+    one_edge local.me p.edges (subst AllDiffer
+    (sym (calls_edges local.me (protocol_of local) (all_of local) (steps_at place.0) p.edges place.2)) t.differ) a b p.among
+    (subst (λ l. Among l b) edges q.among) e
 
 -- ---- runs
 
-run_more : {from mid end : Position} {acts : List Act} {act : Act} → Run from acts mid → Step mid act end → Run from (acts ++ act ∷ []) end
+run_more : {parts : Parts} {from mid end : Position} {acts : List Act} {act : Act} → Run parts from acts mid → Step parts mid act end →
+    Run parts from (acts ++ act ∷ []) end
 run_more stays st = goes st stays
 run_more (goes s r) st = goes s (run_more r st)
 
 -- a run whose calls are these, then one, then others
-record Cut (me : Name) (from end : Position) (calls more : List Call) (call : Call) : Type 0 where
+record Cut (parts : Parts) (me : Name) (from end : Position) (calls more : List Call) (call : Call) : Type 0 where
   acts : List Act
   act : Act
   rest : List Act
   mid : Position
   to : Position
-  run : Run from acts mid
+  run : Run parts from acts mid
   named : map (call_of me) acts ≡ calls
-  step : Step mid act to
+  step : Step parts mid act to
   is : call_of me act ≡ call
-  behind : Run to rest end
+  behind : Run parts to rest end
   rest_named : map (call_of me) rest ≡ more
 
 cons_parts : {A : Type 0} {x y : A} {xs ys : List A} → x ∷ xs ≡ y ∷ ys → (x ≡ y) × (xs ≡ ys)
 cons_parts e = (cc, cc)
 
-cut : (me : Name) {from end : Position} {acts : List Act} (calls more : List Call) (call : Call) → Run from acts end →
-    map (call_of me) acts ≡ calls ++ call ∷ more → Cut me from end calls more call
+cut : {parts : Parts} (me : Name) {from end : Position} {acts : List Act} (calls more : List Call) (call : Call) → Run parts from acts end →
+    map (call_of me) acts ≡ calls ++ call ∷ more → Cut parts me from end calls more call
 cut me [] more call stays e = cc
 cut me [] more call (goes {act = a} st run) e =
     let p = cons_parts e in record {
@@ -390,7 +392,8 @@ cut me (c ∷ calls) more call (goes {act = a} st run) e =
       mid = r.mid;
       to = r.to;
       run = goes st r.run;
-      named = (λ i. p.0 i ∷ r.named i);
+      named =
+          (λ i. p.0 i ∷ r.named i);
       step = r.step;
       is = r.is;
       behind = r.behind;
@@ -422,12 +425,13 @@ takes local walk walk' call calls taken kept same h =
           record {
             of = s.stands.of;
             along = s.stands.along;
-            comes = subst (λ q. ComesTo (all_of local) q walk'.standing) ends
-                (subst (ComesTo (all_of local) c.to) (ap (λ (x : Edge). x.to) one ∙ taken.leads) edge.step.to);
+            comes = subst (λ q. ComesTo (protocol_of local) (all_of local) q walk'.standing) ends
+                (subst (ComesTo (protocol_of local) (all_of local) c.to) (ap (λ (x : Edge). x.to) one ∙ taken.leads) edge.step.to);
           };
     }
   where
-    stays_there : {from end : Position} {acts : List Act} → Run from acts end → map (call_of local.me) acts ≡ [] → from ≡ end
+    stays_there : {parts : Parts} {from end : Position} {acts : List Act} → Run parts from acts end → map (call_of local.me) acts ≡ [] →
+        from ≡ end
     stays_there stays e = refl
     stays_there (goes st run) e = cc
 
@@ -440,26 +444,27 @@ ends_traces local walk call calls more none h trace =
 
 -- ---- the start and the end
 
-pub starts : (local : LocalTree) (walk : Walk) → Stands local walk (whole (protocol_of local)) → HasTaken local walk []
+pub starts : (local : LocalTree) (walk : Walk) → Stands local walk (start (protocol_of local)) → HasTaken local walk []
 starts local walk h = record {
   acts = [];
-  position = whole (protocol_of local);
+  position = start (protocol_of local);
   run = stays;
   named = refl;
   each = λ others end run named. subst (Stands local walk) (no_calls run named) h;
 }
   where
-    no_calls : {from end : Position} {acts : List Act} → Run from acts end → map (call_of local.me) acts ≡ [] → from ≡ end
+    no_calls : {parts : Parts} {from end : Position} {acts : List Act} → Run parts from acts end → map (call_of local.me) acts ≡ [] →
+        from ≡ end
     no_calls stays e = refl
     no_calls (goes st run) e = cc
 
 pub done_finished : (local : LocalTree) (walk : Walk) (position : Position) → Stands local walk position → walk.standing ≡ standings.End →
-    Finished position
-done_finished local walk position h e = end_finished (all_of local) (settled_of local) h.comes e
+    Finished (protocol_of local) position
+done_finished local walk position h e = end_finished (protocol_of local) (all_of local) (settled_of local) h.comes e
 
-pub finished_done : (local : LocalTree) (walk : Walk) (position : Position) → Stands local walk position → Finished position →
-    walk.standing ≡ standings.End
-finished_done local walk position h f = finished_end (all_of local) (settled_of local) h.comes f
+pub finished_done : (local : LocalTree) (walk : Walk) (position : Position) → Stands local walk position →
+    Finished (protocol_of local) position → walk.standing ≡ standings.End
+finished_done local walk position h f = finished_end (protocol_of local) (all_of local) (settled_of local) h.comes f
 
 pub done_complete : (local : LocalTree) (walk : Walk) (calls : List Call) → HasTaken local walk calls → walk.standing ≡ standings.End →
     Complete local.me (protocol_of local) calls

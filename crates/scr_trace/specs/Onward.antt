@@ -1,7 +1,7 @@
 -- The steps of a position in the order of the text.
-use Rattle.std.specs.Prelude.{◌≡◌, ℕ, List, [], ◌∷◌, map}
+use Rattle.std.specs.Prelude.{ℕ, List, [], ◌∷◌, map}
 use Rattle.mg_text.specs.Call.{Name, Call}
-use Rattle.scr_tree.specs.Protocol.{peer_of, label_of, Does, ChoiceHere, ChoiceThere, Branches, NoMore, Branch}
+use Rattle.scr_tree.specs.Protocol.{peer_of, label_of, Does, ChoiceHere, ChoiceThere, Branches, NoMore, Branch, Parts}
 use Rattle.scr_tree.specs.Steps.{Act, Moves, Looks, Plain, Left, Position, Silent}
 use Rattle.scr_tree.specs.CallNames.{call_of}
 
@@ -32,9 +32,9 @@ steps_at (Left (ChoiceThere number branches rest) part ∷ around) = looks numbe
 steps_at _ = []
 
 -- the steps behind all silent moves
-pub data Ahead : Position → List Onward → Type 0 where
-  settled : {position : Position} → ((to : Position) → Silent position to → ⊥) → Ahead position (steps_at position)
-  behind : {from to : Position} {steps : List Onward} → Silent from to → Ahead to steps → Ahead from steps
+pub data Ahead (parts : Parts) : Position → List Onward → Type 0 where
+  settled : {position : Position} → ((to : Position) → Silent parts position to → ⊥) → Ahead parts position (steps_at position)
+  behind : {from to : Position} {steps : List Onward} → Silent parts from to → Ahead parts to steps → Ahead parts from steps
 
 -- their calls
 abbrev pub calls_of : Name → List Onward → List Call

@@ -1,6 +1,7 @@
--- The positions that are the states of a protocol, in the order of its text, and to which of them silent moves lead.
+-- The positions that are the states of a protocol, in the order of its text, which runs through all its parts, and to which of them silent
+-- moves lead.
 use Rattle.std.specs.Prelude.{◌≡◌, ℕ, List, [], ◌∷◌, ◌++◌, Some, slice_get}
-use Rattle.scr_tree.specs.Protocol.{Protocol, Done, Does, ChoiceHere, ChoiceThere, Rec, Continue, Branches, NoMore, Branch}
+use Rattle.scr_tree.specs.Protocol.{Protocol, Done, Does, ChoiceHere, ChoiceThere, Rec, Continue, Do, Branches, NoMore, Branch, Parts}
 use Rattle.scr_tree.specs.Steps.{Part, Plain, BodyOf, Left, Position, Silent}
 use Rattle.scr_trace.specs.declared.standing.Standing.{Standing}
 use Rattle.scr_trace.specs.declared.standing.Standing.TheVariants as standings
@@ -14,10 +15,11 @@ abbrev mutual
   states_in part around (ChoiceHere branches rest) =
       (Left (ChoiceHere branches rest) part ∷ around) ∷ (states_here (Left rest part ∷ around) branches ++ states_in part around rest)
   states_in part around (ChoiceThere number branches rest) =
-      (Left (ChoiceThere number branches rest) part ∷ around) ∷ (states_there (Left rest part ∷ around) branches ++ states_in part around
-      rest)
+      (Left (ChoiceThere number branches rest) part ∷ around) ∷ (states_there (Left rest part ∷ around) branches
+      ++ states_in part around rest)
   states_in part around (Rec name body rest) = states_in (BodyOf name body) (Left rest part ∷ around) body ++ states_in part around rest
   states_in part around (Continue name rest) = states_in part around rest
+  states_in part around (Do name rest) = states_in part around rest
 
   -- those in the branches of a choice at self
   pub states_here : Position → Branches → List Position
@@ -40,11 +42,14 @@ abbrev mutual
   states_from around _ = []
 
 -- the states of a whole protocol
-abbrev pub state_positions : Protocol → List Position
-state_positions protocol = states_in Plain [] protocol
+abbrev pub state_positions : Parts → List Position
+state_positions [] = []
+state_positions (part ∷ parts) = states_in Plain [] part.body ++ state_positions parts
 
 -- where silent moves lead from a position: to the state of this number, or to the end
-pub data ComesTo (states : List Position) : Position → Standing → Type 0 where
-  at_state : {number : ℕ} {position : Position} → slice_get states number ≡ Some position → ComesTo states position (standings.State number)
-  at_end : ComesTo states [] standings.End
-  silently : {from to : Position} {standing : Standing} → Silent from to → ComesTo states to standing → ComesTo states from standing
+pub data ComesTo (parts : Parts) (states : List Position) : Position → Standing → Type 0 where
+  at_state : {number : ℕ} {position : Position} → slice_get states number ≡ Some position →
+      ComesTo parts states position (standings.State number)
+  at_end : ComesTo parts states [] standings.End
+  silently : {from to : Position} {standing : Standing} → Silent parts from to → ComesTo parts states to standing →
+      ComesTo parts states from standing

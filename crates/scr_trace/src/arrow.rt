@@ -10,6 +10,8 @@ pub enum Hop {
     State(u32),
     /// To the first state inside the `rec` of this number.
     Loop(u32),
+    /// To where the protocol of this number begins, counted from 0 on from the last one of the text.
+    Part(u32),
     /// To the end of the protocol.
     End,
 }

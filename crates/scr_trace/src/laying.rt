@@ -1,18 +1,21 @@
 //! Lays out the states of a protocol from the end of its text on, so that what follows a statement is there before it.
 
-ghost use Rattle.std.specs.Prelude.{◌≡◌, ◌<◌, ◌-◌, [], OnOk, IfOk, length};
-ghost use Rattle.scr_tree.specs.View.{statements, front};
-ghost use Rattle.scr_tree.specs.Tree.{Nothing};
+ghost use Rattle.std.specs.Prelude.{◌≡◌, ◌<◌, ◌-◌, [], map, OnOk, IfOk, length};
+ghost use Rattle.scr_tree.specs.View.{statements, front, part_of};
+ghost use Rattle.scr_tree.specs.Tree.{Nothing, other};
 ghost use Rattle.scr_tree.specs.Local.{tree_of};
 ghost use Rattle.scr_tree.specs.Meaning.{protocol_of};
 ghost use Rattle.scr_trace.specs.Graph.{Automates};
-ghost use Rattle.scr_trace.specs.inner.Laying.{lay, lay_in, branch_laid, nothing, joined, said, opened, closed, chosen, hop_named};
-ghost use Rattle.scr_trace.specs.inner.View.{known_of, work_of, gathered, bodies, graph_of_work};
+ghost use Rattle.scr_trace.specs.inner.Laying.{lay, lay_in, branch_laid, part_laid, parts_laid, LaidOut, joined, said, opened, closed};
+ghost use Rattle.scr_trace.specs.inner.Laying.{chosen, hop_named, hop_to};
+ghost use Rattle.scr_trace.specs.inner.View.{number_by, known_of, work_of, gathered, bodies, graph_of_work};
 
 use crate::arrow::{Arrow, Exits, Hop};
+use crate::entries::{numbers_of, settle};
 use mg_text::{List, Memory};
-use scr_tree::{Local, Message, Statement};
+use scr_tree::{Local, Message, Part, Statement};
 use std::alloc::Global;
+use std::collections::HashMap;
 
 /// What is laid out of a text, from its end on.
 #[derive(Drop)]
@@ -21,6 +24,8 @@ pub struct Laying<'a> {
     pub(crate) exits: List<Exits<'a>>,
     // Of each `rec`, the number of the first state inside it.
     pub(crate) loops: Vec<u32>,
+    // Where each protocol begins, that of the last one first.
+    pub(crate) entries: Vec<Hop>,
     // How many choices are made elsewhere.
     choices: u32,
     // Where what is laid out begins.
@@ -50,22 +55,35 @@ fn hop_named(name: &str, around: &Around<'_>) -> Hop
     }
 }
 
+// Where a `do` of this name leads.
+#[tactic(auto, unfolding(crate::specs::inner::View::number_by))]
+fn hop_to(name: &str, names: &HashMap<String, u32>) -> Hop
+    ensures { result ≡ hop_to (number_by names.now name.now) }
+{
+    match names.get(name) {
+        Some(number) => Hop::Part(*number),
+        None => Hop::End,
+    }
+}
+
 // Lays out statements in front of what is there.
 #[tactic(auto, using(crate::proofs::Steps::all_steps))]
 #[cycle(laying)]
 fn lay_all<'a>(
     alloc: Global,
     me: &str,
+    names: &HashMap<String, u32>,
     around: &Around<'_>,
     out: &mut Laying<'a>,
     body: &'a [Statement],
 ) -> Result<(), Memory>
-    ensures { OnOk result (work_of out.new ≡ lay me.now (known_of around.now) (work_of out.old) (statements body.now)) }
+    ensures { OnOk result (work_of out.new ≡ lay me.now (number_by names.now) (known_of around.now) (work_of out.old)
+        (statements body.now)) }
 {
     let mut i = body.len();
     while i > 0 {
         i -= 1;
-        lay_at(alloc, me, around, out, &body[i])?;
+        lay_at(alloc, me, names, around, out, &body[i])?;
     }
     Ok(())
 }
@@ -75,11 +93,13 @@ fn lay_all<'a>(
 fn lay_at<'a>(
     alloc: Global,
     me: &str,
+    names: &HashMap<String, u32>,
     around: &Around<'_>,
     out: &mut Laying<'a>,
     statement: &'a Statement,
 ) -> Result<(), Memory>
-    ensures { OnOk result (work_of out.new ≡ lay me.now (known_of around.now) (work_of out.old) (front statement.now Nothing)) }
+    ensures { OnOk result (work_of out.new ≡ lay me.now (number_by names.now) (known_of around.now) (work_of out.old)
+        (front statement.now Nothing)) }
 {
     match statement {
         Statement::Message(message) => out.put_message(alloc, message),
@@ -89,6 +109,7 @@ fn lay_at<'a>(
             lay_branches(
                 alloc,
                 me,
+                names,
                 around,
                 at_self,
                 out,
@@ -100,12 +121,16 @@ fn lay_at<'a>(
         Statement::Rec { name, body, .. } => {
             let number = out.open()?;
             let inside = Around::Inside(name.as_str(), number, &*around);
-            lay_all(alloc, me, &inside, out, body.as_slice())?;
+            lay_all(alloc, me, names, &inside, out, body.as_slice())?;
             out.close(number);
             Ok(())
         }
         Statement::Continue { name, .. } => {
             out.next = hop_named(name.as_str(), around);
+            Ok(())
+        }
+        Statement::Do { name, .. } => {
+            out.next = hop_to(name.as_str(), names);
             Ok(())
         }
     }
@@ -116,14 +141,15 @@ fn lay_at<'a>(
 fn lay_branches<'a>(
     alloc: Global,
     me: &str,
+    names: &HashMap<String, u32>,
     around: &Around<'_>,
     at_self: bool,
     out: &mut Laying<'a>,
     arrows: &mut List<Arrow<'a>>,
     branches: &'a [List<Statement>],
 ) -> Result<(), Memory>
-    ensures { OnOk result (gathered out.new arrows.new ≡ lay_in me.now (known_of around.now) at_self (work_of out.old).next
-        (gathered out.old arrows.old) (bodies branches.now)) }
+    ensures { OnOk result (gathered out.new arrows.new ≡ lay_in me.now (number_by names.now) (known_of around.now) at_self
+        (work_of out.old).next (gathered out.old arrows.old) (bodies branches.now)) }
 {
     let behind = out.next;
     let mut i = branches.len();
@@ -133,6 +159,7 @@ fn lay_branches<'a>(
         lay_branch(
             alloc,
             me,
+            names,
             around,
             at_self,
             out,
@@ -143,30 +170,28 @@ fn lay_branches<'a>(
     Ok(())
 }
 
-#[tactic(auto, using(crate::proofs::Steps::branch_steps))]
 #[cycle(laying)]
 fn lay_branch<'a>(
     alloc: Global,
     me: &str,
+    names: &HashMap<String, u32>,
     around: &Around<'_>,
     at_self: bool,
     out: &mut Laying<'a>,
     arrows: &mut List<Arrow<'a>>,
     branch: &'a [Statement],
 ) -> Result<(), Memory>
-    ensures { OnOk result (gathered out.new arrows.new ≡ branch_laid at_self me.now (known_of around.now) (statements branch.now)
-        (gathered out.old arrows.old)) }
+    ensures { OnOk result (gathered out.new arrows.new ≡ branch_laid me.now (number_by names.now) at_self (known_of around.now)
+        (statements branch.now) (gathered out.old arrows.old)) }
 {
     let Some((statement, rest)) = branch.split_first() else {
         return Ok(());
     };
-    match statement {
-        Statement::Message(message) => {
-            lay_all(alloc, me, around, out, rest)?;
-            join(alloc, at_self, out, arrows, message)
-        }
-        Statement::Choice { .. } | Statement::Rec { .. } | Statement::Continue { .. } => Ok(()),
-    }
+    let Statement::Message(message) = statement else {
+        return Ok(());
+    };
+    lay_all(alloc, me, names, around, out, rest)?;
+    join(alloc, at_self, out, arrows, message)
 }
 
 // The first message of a branch, in front of what stands behind it.
@@ -195,27 +220,61 @@ fn join<'a>(
     Ok(())
 }
 
+// Lays out protocols in front of what is there.
+#[tactic(auto, using(crate::proofs::Steps::part_steps))]
+fn lay_others<'a>(
+    alloc: Global,
+    me: &str,
+    names: &HashMap<String, u32>,
+    out: &mut Laying<'a>,
+    others: &'a [Part],
+) -> Result<(), Memory>
+    ensures { OnOk result (work_of out.new ≡ parts_laid me.now (number_by names.now) (map other (map part_of others.now))
+        (work_of out.old)) }
+{
+    let mut i = others.len();
+    while i > 0 {
+        i -= 1;
+        lay_part(alloc, me, names, out, others[i].body.as_slice())?;
+    }
+    Ok(())
+}
+
+// Lays out a protocol in front of what is there.
+fn lay_part<'a>(
+    alloc: Global,
+    me: &str,
+    names: &HashMap<String, u32>,
+    out: &mut Laying<'a>,
+    body: &'a [Statement],
+) -> Result<(), Memory>
+    ensures { OnOk result (work_of out.new ≡ part_laid me.now (number_by names.now) (statements body.now) (work_of out.old)) }
+{
+    out.next = Hop::End;
+    lay_all(alloc, me, names, &Around::Outside, out, body)?;
+    out.entries.push(out.next)?;
+    Ok(())
+}
+
 impl<'a> Laying<'a> {
     /// What is laid out of a local protocol: its automaton.
     /// The only error is `Memory`, where there is too little of it.
     pub fn of(alloc: Global, local: &'a Local) -> Result<Laying<'a>, Memory>
-        ensures laid { IfOk result (λ l. work_of l ≡ lay (tree_of local.now).me [] nothing (tree_of local.now).body) }
+        ensures laid { IfOk result (λ l. LaidOut (tree_of local.now) (work_of l)) }
         ensures automaton { IfOk result (λ l. Automates (protocol_of (tree_of local.now)) (graph_of_work (work_of l))) }
     {
+        let names = numbers_of(alloc, local)?;
         let mut laid = Laying {
             exits: List::new(alloc),
             loops: Vec::new(alloc),
+            entries: Vec::new(alloc),
             choices: 0,
             next: Hop::End,
         };
-        let body = local.body().as_slice();
-        lay_all(
-            alloc,
-            local.me().as_str(),
-            &Around::Outside,
-            &mut laid,
-            body,
-        )?;
+        let me = local.me().as_str();
+        lay_others(alloc, me, &names, &mut laid, local.others().as_slice())?;
+        lay_part(alloc, me, &names, &mut laid, local.body().as_slice())?;
+        settle(&mut laid.entries);
         Ok(laid)
     }
 

@@ -4,6 +4,7 @@
 
 mod arrow;
 mod call;
+mod entries;
 mod laying;
 mod names;
 mod offers;

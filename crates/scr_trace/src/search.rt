@@ -3,7 +3,7 @@
 ghost use Rattle.std.specs.Prelude.{◌≡◌, ◌&&◌, ℕ, IfOk, option_map, slice_get};
 ghost use Rattle.std.specs.Fmt.{decimal};
 ghost use Rattle.scr_trace.specs.inner.Search.{first_led, is_said, is_looked, led_if};
-ghost use Rattle.scr_trace.specs.inner.View.{cell_of, standing_of, work_of};
+ghost use Rattle.scr_trace.specs.inner.View.{cell_of, plain_standing, standing_of, work_of};
 
 use crate::arrow::{Arrow, Exits, Hop};
 use crate::call::Call;
@@ -62,6 +62,24 @@ impl<'a> Laying<'a> {
     pub fn standing(&self, hop: Hop) -> Standing
         ensures { result ≡ standing_of (work_of self.now) hop }
     {
+        match hop {
+            Hop::Part(number) => {
+                let entries = self.entries.as_slice();
+                if (number as usize) < entries.len() {
+                    self.plain(entries[number as usize])
+                } else {
+                    Standing::End
+                }
+            }
+            Hop::State(_) | Hop::Loop(_) | Hop::End => self.plain(hop),
+        }
+    }
+
+    // Where a hop leads that isn't to a protocol.
+    #[tactic(auto, using(crate::proofs::Searching::lengths))]
+    fn plain(&self, hop: Hop) -> Standing
+        ensures { result ≡ plain_standing (work_of self.now) hop }
+    {
         let count = self.exits.len() as u32;
         match hop {
             Hop::State(n) => Standing::State(count.saturating_sub(n)),
@@ -73,7 +91,7 @@ impl<'a> Laying<'a> {
                 };
                 Standing::State(count.saturating_sub(first))
             }
-            Hop::End => Standing::End,
+            Hop::Part(_) | Hop::End => Standing::End,
         }
     }
 

@@ -4,7 +4,7 @@ ghost use Rattle.std.specs.Prelude.{◌≡◌, ◌≢◌, ◌↔◌, [], ◌∷�
 ghost use Rattle.scr_tree.specs.Tree.{LocalTree};
 ghost use Rattle.scr_tree.specs.Local.{tree_of};
 ghost use Rattle.scr_tree.specs.Meaning.{protocol_of};
-ghost use Rattle.scr_tree.specs.Steps.{Act, Position, whole, Step, Finished};
+ghost use Rattle.scr_tree.specs.Steps.{Act, Position, start, Step, Finished};
 ghost use Rattle.scr_tree.specs.CallNames.{call_of};
 ghost use Rattle.scr_tree.specs.Traces.{Trace, Complete};
 
@@ -54,7 +54,7 @@ impl<'a> Walk<'a> {
     /// A walk that stands at the start of a protocol, and has taken no calls.
     /// The only error is `Memory`, where there is too little of it.
     pub fn new(alloc: Global, local: &'a Local) -> Result<Walk<'a>, Memory>
-        ensures stands { IfOk result (λ w. Stands (tree_of local.now) w (whole (protocol_of (tree_of local.now)))) }
+        ensures stands { IfOk result (λ w. Stands (tree_of local.now) w (start (protocol_of (tree_of local.now)))) }
         ensures taken { IfOk result (λ w. HasTaken (tree_of local.now) w []) }
     {
         let laid = Laying::of(alloc, local)?;
@@ -76,7 +76,7 @@ impl<'a> Walk<'a> {
         ensures steps { OnOk result ((tree : LocalTree) (position : Position) → Stands tree self.old position →
             StepsOn tree position (call_said call.now) self.new) }
         ensures not_offered { result ≡ Err faults.NotOffered → (tree : LocalTree) (position : Position) → Stands tree self.old position →
-            (act : Act) (to : Position) → Step position act to → call_of tree.me act ≢ call_said call.now }
+            (act : Act) (to : Position) → Step (protocol_of tree) position act to → call_of tree.me act ≢ call_said call.now }
         ensures unchanged { OnErr result (self.new ≡ self.old) }
         // the calls that were taken are a trace, and one that isn't offered ends every trace
         ensures taken { OnOk result ((tree : LocalTree) (calls : Calls) → HasTaken tree self.old calls →
@@ -114,7 +114,8 @@ impl<'a> Walk<'a> {
 
     /// Whether nothing is left to do.
     pub fn done(&self) -> bool
-        ensures finished { (tree : LocalTree) (position : Position) → Stands tree self.now position → IsTrue result ↔ Finished position }
+        ensures finished { (tree : LocalTree) (position : Position) → Stands tree self.now position →
+            IsTrue result ↔ Finished (protocol_of tree) position }
         ensures complete { (tree : LocalTree) (calls : Calls) → HasTaken tree self.now calls →
             IsTrue result ↔ Complete tree.me (protocol_of tree) calls }
     {

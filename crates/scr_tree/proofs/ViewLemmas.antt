@@ -8,9 +8,9 @@ use Rattle.scr_tree.specs.declared.syntax.Message.{Message}
 use Rattle.scr_tree.specs.declared.syntax.Statement.{Statement, fold-roll-Statement, roll-Statement, roll-out-Statement}
 use Rattle.scr_tree.specs.declared.syntax.Statement.TheBlock.{shown-the_row-Statement-0, shown-the_row-Statement-Choice-2-1-1}
 use Rattle.scr_tree.specs.declared.syntax.Statement.TheOpen.Statement-F.{Message as F-Message, Choice as F-Choice, Rec as F-Rec}
-use Rattle.scr_tree.specs.declared.syntax.Statement.TheOpen.Statement-F.{Continue as F-Continue}
-use Rattle.scr_tree.specs.declared.syntax.Statement.TheVariants.{Message as Said, Choice, Choice', Rec, Rec', Continue, rolls-Message}
-use Rattle.scr_tree.specs.declared.syntax.Statement.TheVariants.{rolls-Choice, rolls-Rec, rolls-Continue, outs-Choice', outs-Rec'}
+use Rattle.scr_tree.specs.declared.syntax.Statement.TheOpen.Statement-F.{Continue as F-Continue, Do as F-Do}
+use Rattle.scr_tree.specs.declared.syntax.Statement.TheVariants.{Message as Said, Choice, Choice', Rec, Rec', Continue, Do, rolls-Message}
+use Rattle.scr_tree.specs.declared.syntax.Statement.TheVariants.{rolls-Choice, rolls-Rec, rolls-Continue, rolls-Do, outs-Choice', outs-Rec'}
 use Rattle.scr_tree.specs.Tree as tree
 use Rattle.scr_tree.specs.View.{Front, front, layer, in_front, branches_of, statements}
 
@@ -35,6 +35,10 @@ pub front-Continue : (place : Place) (name : Name) → front (Continue place nam
 unfolding front
 front-Continue place name = ap front (sym (rolls-Continue place name)) ∙ fold-roll-Statement Front layer (F-Continue place name)
 
+pub front-Do : (place : Place) (name : Name) → front (Do place name) ≡ tree.Do place name
+unfolding front
+front-Do place name = ap front (sym (rolls-Do place name)) ∙ fold-roll-Statement Front layer (F-Do place name)
+
 -- the kept form of a choice and of a rec, as the variants write them
 Choice'-is : (place : Place) (at : Name) (shape : _) (rows : _) → Choice' place at shape rows ≡ Choice place at
     (shown-the_row-Statement-Choice-2-1-1 shape rows)
@@ -51,12 +55,13 @@ pub each_kind : (P : Statement → Type 0) → ((m : Message) → P (Said m)) �
     P (Choice place at branches)) →
     ((place : Place) (name : Name) (body : Row Statement) → P (Rec place name body)) →
     ((place : Place) (name : Name) → P (Continue place name)) →
-    (s : Statement) → P s
-each_kind P said choice recursion continued (Said m) = said m
-each_kind P said choice recursion continued (Choice' place at shape rows) = subst P (sym (Choice'-is place at shape rows))
+    ((place : Place) (name : Name) → P (Do place name)) → (s : Statement) → P s
+each_kind P said choice recursion continued goes_on (Said m) = said m
+each_kind P said choice recursion continued goes_on (Choice' place at shape rows) = subst P (sym (Choice'-is place at shape rows))
     (choice place at _)
-each_kind P said choice recursion continued (Rec' place name shape rows) = subst P (sym (Rec'-is place name shape rows))
+each_kind P said choice recursion continued goes_on (Rec' place name shape rows) = subst P (sym (Rec'-is place name shape rows))
     (recursion place name _)
-each_kind P said choice recursion continued (Continue place name) = continued place name
+each_kind P said choice recursion continued goes_on (Continue place name) = continued place name
+each_kind P said choice recursion continued goes_on (Do place name) = goes_on place name
 
-pub ruleset fronts = (front-Message, front-Choice, front-Rec, front-Continue)
+pub ruleset fronts = (front-Message, front-Choice, front-Rec, front-Continue, front-Do)

@@ -8,7 +8,7 @@ use Rattle.scr_tree.specs.declared.syntax.Message.{Message as Said}
 use Rattle.scr_tree.specs.Protocol.{Message}
 use Rattle.scr_tree.specs.CallNames.{message_call, label_call}
 use Rattle.scr_tree.specs.Meaning.{message_of}
-use Rattle.scr_tree.specs.Tree.{Statements, Nothing, Says, Choice, Rec, Continue, Branches, NoBranch, Branch}
+use Rattle.scr_tree.specs.Tree.{Statements, Nothing, Says, Choice, Rec, Continue, Do, Branches, NoBranch, Branch}
 
 -- a message that is sent or taken, or the look at which branch of a numbered choice was taken
 pub data Deed : Type 0 where
@@ -49,6 +49,7 @@ abbrev mutual
   next me n (Choice place at branches rest) = next me (next_in me (opened (bytes_eq at me) n) branches) rest
   next me n (Rec place name body rest) = next me (next me n body) rest
   next me n (Continue place name rest) = next me n rest
+  next me n (Do place name rest) = next me n rest
 
   pub next_in : Name → ℕ → Branches → ℕ
   next_in me n NoBranch = n
@@ -64,10 +65,16 @@ abbrev mutual
       ++ (actions_in me (opened (bytes_eq at me) n) branches ++ actions me (next_in me (opened (bytes_eq at me) n) branches) rest)
   actions me n (Rec place name body rest) = actions me n body ++ actions me (next me n body) rest
   actions me n (Continue place name rest) = actions me n rest
+  actions me n (Do place name rest) = actions me n rest
 
   pub actions_in : Name → ℕ → Branches → List Action
   actions_in me n NoBranch = []
   actions_in me n (Branch b more) = actions me n b ++ actions_in me (next me n b) more
+
+-- the actions of protocols, one after another, each of the role that it is of
+abbrev pub all_actions : {P : Type 0} → (P → Name) → (P → Statements) → ℕ → List P → List Action
+all_actions me body n [] = []
+all_actions me body n (p ∷ ps) = actions (me p) n (body p) ++ all_actions me body (next (me p) n (body p)) ps
 
 -- NameClash: two different actions have one call name; the second is at fault
 abbrev pub NameClash : List Action × Action → Culprit → Type 0

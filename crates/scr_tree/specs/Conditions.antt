@@ -7,7 +7,7 @@ use Rattle.mg_text.specs.declared.place.Place.{Place}
 use Rattle.mg_read.specs.Culprit.{Culprit, culprit}
 use Rattle.scr_tree.specs.declared.syntax.Direction.TheVariants as directions
 use Rattle.scr_tree.specs.declared.syntax.Message.{Message}
-use Rattle.scr_tree.specs.Tree.{Statements, Nothing, Says, Choice, Rec, Continue, Branches, NoBranch, Branch}
+use Rattle.scr_tree.specs.Tree.{Statements, Nothing, Says, Choice, Rec, Continue, Do, Branches, NoBranch, Branch}
 use Rattle.scr_tree.specs.Meaning.{message_of}
 use Rattle.scr_tree.specs.CallNames.{message_call}
 use Rattle.scr_tree.specs.Spots.{Spot, spot, Past, Opens, Enters, head_place}

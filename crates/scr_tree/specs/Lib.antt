@@ -11,6 +11,7 @@ pub mod Written
 pub mod Spots
 pub mod Control
 pub mod Conditions
+pub mod Going
 pub mod Actions
 pub mod States
 pub mod Listing

@@ -6,19 +6,26 @@ use Rattle.mg_text.specs.declared.place.Place.{Place}
 use Rattle.mg_read.specs.Culprit.{Culprit, culprit}
 use Rattle.scr_tree.specs.declared.written.Declaration.{Declaration}
 use Rattle.scr_tree.specs.declared.written.Role.{Role}
-use Rattle.scr_tree.specs.Spots.{Spot, spots}
+use Rattle.mg_read.specs.First.{with_earlier}
+use Rattle.scr_tree.specs.Spots.{Spot, spots, each_of}
 use Rattle.scr_tree.specs.Conditions as says
-use Rattle.scr_tree.specs.Written.{Carries, WrittenTree, class_beforehand, kind_of_class}
+use Rattle.scr_tree.specs.Written.{Carries, WrittenPart, WrittenTree, parts_in, class_beforehand, kind_of_class}
 
 -- ---- DuplicateName
 
--- what a file lists before its protocol's body, in the order of the text
+-- what a file declares, and the roles that a protocol lists, in the order of the text
 pub data Entry : Type 0 where
   declares : Declaration → Entry
   lists : Role → Entry
 
-abbrev pub entries : WrittenTree → List Entry
-entries w = map declares w.types ++ map lists w.roles
+-- the roles that protocols list, each with those before it in its list
+abbrev pub listed : List WrittenPart → List (List Entry × Entry)
+listed [] = []
+listed (p ∷ ps) = with_earlier (map lists p.roles) ++ listed ps
+
+-- the types and the roles, each with what stands before it
+abbrev pub entries : WrittenTree → List (List Entry × Entry)
+entries w = with_earlier (map declares w.types ++ map lists w.first.roles) ++ listed w.others
 
 -- a name is declared with this class beforehand, or earlier in the text
 abbrev pub IsDeclaredAs : List Entry → Name → Name → Type 0
@@ -39,8 +46,12 @@ pub data Mention : Type 0 where
   itself : Role → Mention
   within : Spot → Mention
 
-abbrev pub mentions : WrittenTree → List Mention
-mentions w = itself w.me ∷ map within (spots [] w.body)
+abbrev pub mentions_in : WrittenPart → List Mention
+mentions_in p = itself p.me ∷ map within (spots [] p.body)
+
+-- those of a file, each with its protocol
+abbrev pub mentions : WrittenTree → List (WrittenPart × Mention)
+mentions w = each_of mentions_in (parts_in w)
 
 -- UnknownRole: the role itself, a peer or the role of a choice is not listed
 abbrev pub UnknownRole : List Name → Mention → Culprit → Type 0
@@ -57,8 +68,12 @@ pub data Typed : Type 0 where
 abbrev pub carried_by : Carries → List Typed
 carried_by m = map (carried m.place) m.types
 
+-- what the messages of a file carry
+abbrev pub all_carries : WrittenTree → List Carries
+all_carries w = flat_map (λ (p : WrittenPart). p.carries) (parts_in w)
+
 abbrev pub typed : WrittenTree → List Typed
-typed w = map declared w.types ++ flat_map carried_by w.carries
+typed w = map declared w.types ++ flat_map carried_by (all_carries w)
 
 -- the declaration is of Java, and of one of the three classes
 abbrev pub IsSupported : Declaration → Type 0

@@ -1,5 +1,5 @@
 -- What a local protocol says that its role does. Places are left out, and choices made elsewhere are numbered.
-use Rattle.std.specs.Prelude.{ℕ}
+use Rattle.std.specs.Prelude.{ℕ, List}
 use Rattle.mg_text.specs.Call.{Name}
 use Rattle.scr_tree.specs.declared.syntax.Payload.{Payload}
 
@@ -27,8 +27,19 @@ mutual
     ChoiceThere : (number : ℕ) → Branches → Protocol → Protocol
     Rec : (name : Name) → (body : Protocol) → Protocol → Protocol
     Continue : (name : Name) → Protocol → Protocol
+    -- goes on as the part of this name
+    Do : (name : Name) → Protocol → Protocol
 
   -- the branches of a choice
   pub data Branches : Type 0 where
     NoMore : Branches
     Branch : Protocol → Branches → Branches
+
+-- a part: what it says, by its name
+pub record Named : Type 0 where
+  pub name : Name
+  pub body : Protocol
+
+-- the parts of a whole protocol, which starts as the first of them
+abbrev pub Parts : Type 0
+Parts = List Named

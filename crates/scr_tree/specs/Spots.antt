@@ -1,8 +1,8 @@
 -- The places of a text at which conditions are judged, in the order of the text, each with the way to it.
-use Rattle.std.specs.Prelude.{List, [], ◌∷◌, ◌++◌, Option, Some, None}
+use Rattle.std.specs.Prelude.{List, [], ◌∷◌, ◌++◌, map, Option, Some, None}
 use Rattle.mg_text.specs.Call.{Name}
 use Rattle.mg_text.specs.declared.place.Place.{Place}
-use Rattle.scr_tree.specs.Tree.{Statements, Nothing, Says, Choice, Rec, Continue, Branches, NoBranch, Branch}
+use Rattle.scr_tree.specs.Tree.{Statements, Nothing, Says, Choice, Rec, Continue, Do, Branches, NoBranch, Branch}
 
 -- what lies on the way to a statement
 pub data Passage : Type 0 where
@@ -31,10 +31,25 @@ abbrev mutual
   spots way (Rec p name body rest) =
       spot way (Rec p name body rest) ∷ (spots (Opens name ∷ way) body ++ spots (Past (Rec p name body Nothing) ∷ way) rest)
   spots way (Continue p name rest) = spot way (Continue p name rest) ∷ spots (Past (Continue p name Nothing) ∷ way) rest
+  spots way (Do p name rest) = spot way (Do p name rest) ∷ spots (Past (Do p name Nothing) ∷ way) rest
 
   pub branch_spots : Way → Name → List Statements → Branches → List Spot
   branch_spots way at earlier NoBranch = []
   branch_spots way at earlier (Branch b more) = spots (Enters at earlier ∷ way) b ++ branch_spots way at (b ∷ earlier) more
+
+-- the statements of protocols, one protocol after another
+abbrev pub all_spots : List Statements → List Spot
+all_spots [] = []
+all_spots (body ∷ bodies) = spots [] body ++ all_spots bodies
+
+-- what several hold, one after another, each with what it is held by
+abbrev pub each_of : {P X : Type 0} → (P → List X) → List P → List (P × X)
+each_of f [] = []
+each_of f (p ∷ ps) = map (λ x. (p, x)) (f p) ++ each_of f ps
+
+-- the statements of protocols, each with its protocol
+abbrev pub spots_of : {P : Type 0} → (P → Statements) → List P → List (P × Spot)
+spots_of body = each_of (λ p. spots [] (body p))
 
 -- where a list of statements begins
 abbrev pub head_place : Statements → Option Place
@@ -43,3 +58,4 @@ head_place (Says m rest) = Some m.place
 head_place (Choice place at branches rest) = Some place
 head_place (Rec place name body rest) = Some place
 head_place (Continue place name rest) = Some place
+head_place (Do place name rest) = Some place

@@ -1,5 +1,5 @@
--- The states of a protocol's text, in its order: `State0` is the first.
-use Rattle.std.specs.Prelude.{◌≡◌, ◌<◌, ℕ, List, [], ◌∷◌, length, filter, Bool, true, false, not}
+-- The states of a file's text, in its order: `State0` is the first.
+use Rattle.std.specs.Prelude.{◌≡◌, ◌<◌, ℕ, List, [], ◌∷◌, ◌++◌, length, filter, Bool, true, false, not}
 use Rattle.std.specs.Str.{bytes_eq}
 use Rattle.mg_text.specs.Call.{Name}
 use Rattle.mg_text.specs.Places.{start_of}
@@ -21,6 +21,11 @@ is_state me _ = false
 abbrev pub states : Name → Statements → List Spot
 states me body = filter (is_state me) (spots [] body)
 
+-- those of protocols, one after another, each of the role that it is of
+abbrev pub all_states : {P : Type 0} → (P → Name) → (P → Statements) → List P → List Spot
+all_states me body [] = []
+all_states me body (p ∷ ps) = states (me p) (body p) ++ all_states me body ps
+
 -- TooManyStates: more than 1,000 of them; the file is at fault
-abbrev pub TooManyStates : ℕ → Name → Statements → Culprit → Type 0
-TooManyStates file me body c = (c ≡ culprit (start_of file) []) × (1000 < length (states me body))
+abbrev pub TooManyStates : ℕ → List Spot → Culprit → Type 0
+TooManyStates file found c = (c ≡ culprit (start_of file) []) × (1000 < length found)

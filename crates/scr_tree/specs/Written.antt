@@ -1,4 +1,4 @@
--- A file as it is written, beside the protocol that it means: types, roles and payloads by their names.
+-- A file as it is written, beside the protocols that it means: types, roles and payloads by their names.
 use Rattle.std.specs.Prelude.{ℕ, List, [], ◌∷◌, map, Option, Some, None, codes, if◌then◌else◌}
 use Rattle.std.specs.Str.{bytes_eq}
 use Rattle.std.specs.Option.{option_or}
@@ -7,10 +7,12 @@ use Rattle.mg_text.specs.declared.place.Place.{Place}
 use Rattle.scr_tree.specs.declared.written.Declaration.{Declaration}
 use Rattle.scr_tree.specs.declared.written.Role.{Role}
 use Rattle.scr_tree.specs.declared.written.Carries.{Carries as Kept}
+use Rattle.scr_tree.specs.declared.written.Arguments.{Arguments as Given}
+use Rattle.scr_tree.specs.declared.written.WrittenPart.{WrittenPart as Part}
 use Rattle.scr_tree.specs.declared.written.Written.{Written}
 use Rattle.scr_tree.specs.declared.syntax.Payload.{Payload}
 use Rattle.scr_tree.specs.declared.syntax.Payload.TheVariants as payloads
-use Rattle.scr_tree.specs.Tree.{LocalTree, Statements}
+use Rattle.scr_tree.specs.Tree.{PartTree, LocalTree, Titled, Statements}
 use Rattle.scr_tree.specs.View.{statements}
 
 -- the types between the parentheses of a message, as they are written, with the message's place
@@ -18,37 +20,91 @@ pub record Carries : Type 0 where
   pub place : Place
   pub types : List Name
 
--- The parts of a file. Of each message, in the order of the text, `carries` has what stands between its parentheses.
-pub record WrittenTree : Type 0 where
-  pub file : ℕ
-  pub types : List Declaration
+-- the roles between the parentheses of a `do`, with its place and the protocol that it names
+pub record Arguments : Type 0 where
+  pub place : Place
+  pub name : Name
+  pub roles : List Name
+
+-- A protocol of a file, with the place of its name. What stands between the parentheses of its messages is in `carries`, of its `do`s in
+-- `arguments`, in the order of the text.
+pub record WrittenPart : Type 0 where
+  pub place : Place
   pub name : Name
   -- the role that the protocol is of, where it is named behind `at` or by `self`
   pub me : Role
   pub roles : List Role
   pub carries : List Carries
+  pub arguments : List Arguments
   pub body : Statements
+
+-- the parts of a file: its types, and its protocols
+pub record WrittenTree : Type 0 where
+  pub file : ℕ
+  pub types : List Declaration
+  pub first : WrittenPart
+  pub others : List WrittenPart
+
+abbrev pub parts_in : WrittenTree → List WrittenPart
+parts_in w = w.first ∷ w.others
 
 abbrev pub carries_of : Kept → Carries
 carries_of kept = record { place = kept.place; types = kept.types.items }
+
+abbrev pub arguments_of : Given → Arguments
+arguments_of given = record { place = given.place; name = given.name; roles = given.roles.items }
+
+abbrev pub part_written : Part → WrittenPart
+part_written p = record {
+  place = p.place;
+  name = p.name;
+  me = p.me;
+  roles = p.roles.items;
+  carries = map carries_of p.carries.items;
+  arguments = map arguments_of p.arguments.items;
+  body = statements p.body.items;
+}
 
 abbrev pub written_of : ℕ → Written → WrittenTree
 written_of file w = record {
   file = file;
   types = w.types.items;
-  name = w.name;
-  me = w.me;
-  roles = w.roles.items;
-  carries = map carries_of w.carries.items;
-  body = statements w.body.items;
+  first = part_written w.first;
+  others = map part_written w.others.items;
 }
 
 abbrev pub role_name : Role → Name
 role_name role = role.name
 
+-- the names of the roles that a protocol lists, and of the role that it is of
+abbrev pub roles_in : WrittenPart → List Name
+roles_in p = map role_name p.roles
+
+abbrev pub me_in : WrittenPart → Name
+me_in p = p.me.name
+
+abbrev pub name_in : WrittenPart → Name
+name_in p = p.name
+
+abbrev pub body_of : WrittenPart → Statements
+body_of p = p.body
+
+abbrev pub title_of : WrittenPart → Titled
+title_of p = record { name = p.name; body = p.body }
+
+abbrev pub part_meant : WrittenPart → PartTree
+part_meant p = record { place = p.place; name = p.name; body = p.body }
+
 -- the protocol that is meant
 abbrev pub local_of : WrittenTree → LocalTree
-local_of w = record { file = w.file; name = w.name; me = w.me.name; roles = map role_name w.roles; body = w.body }
+local_of w = record {
+  file = w.file;
+  name = w.first.name;
+  me = w.first.me.name;
+  roles = roles_in w.first;
+  body = w.first.body;
+  others = map part_meant w.others;
+}
 
 -- ---- what the types mean
 

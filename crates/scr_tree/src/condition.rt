@@ -17,7 +17,9 @@ pub enum Condition {
     UnknownRec,
     /// `rec X` stands inside `rec X`.
     DuplicateRec,
-    /// No message stands on a path from the opening of `rec X` to `continue X`.
+    /// No message stands on a path from the opening of `rec X` to `continue X`, or a `do` stands on
+    /// a cycle of protocols each of which has a `do` of the next with no message on the path from
+    /// its opening.
     Unguarded,
     /// A statement stands after one that never comes to its end.
     Unreachable,
@@ -35,4 +37,16 @@ pub enum Condition {
     NameClash,
     /// There are more than 1,000 states.
     TooManyStates,
+    /// A `do` names no protocol of the file.
+    UnknownProtocol,
+    /// Two protocols have one name.
+    DuplicateProtocol,
+    /// The roles of a protocol or the role that it is of differ from those of the first one, or the
+    /// arguments of a `do` aren't the roles in their order.
+    RolesDiffer,
+    /// A statement stands behind a choice or a `rec` that holds a `do`, in the same list.
+    NotLast,
+    /// There are two or more protocols, and the first has no message and no choice, or has a `do`
+    /// before them all.
+    StartsWithDo,
 }

@@ -12,6 +12,6 @@ mod written;
 pub use condition::Condition;
 pub use local::Local;
 pub use names::call_name;
-pub use syntax::{Direction, Message, Payload, Statement};
+pub use syntax::{Direction, Message, Part, Payload, Statement};
 pub use token::{Mark, Token, TokenKind};
-pub use written::{Carries, Declaration, Role, Written};
+pub use written::{Arguments, Carries, Declaration, Role, Written, WrittenPart};

@@ -1,9 +1,9 @@
 //! A valid local protocol, which keeps that fact by its type.
 
-ghost use Rattle.scr_tree.specs.View.{written, statements};
+ghost use Rattle.scr_tree.specs.View.{written, statements, part_of};
 ghost use Rattle.scr_tree.specs.Valid.{IsValid};
 
-use crate::Statement;
+use crate::{Part, Statement};
 use mg_text::{List, Text};
 
 /// A valid local protocol: what one role does, and the roles that it does it with.
@@ -14,17 +14,25 @@ pub struct Local {
     me: Text,
     roles: List<Text>,
     body: List<Statement>,
-    ghost valid: { ∥ IsValid (written file name me roles.items body.items) ∥₁ },
+    others: List<Part>,
+    ghost valid: { ∥ IsValid (written file name me roles.items body.items others.items) ∥₁ },
 }
 
 impl Local {
-    ghost use Rattle.std.specs.Prelude.{◌≡◌};
+    ghost use Rattle.std.specs.Prelude.{◌≡◌, map};
     ghost use Rattle.scr_tree.specs.Local.{tree_of};
 
     /// The protocol of these parts, which are valid.
-    pub fn new(file: u32, name: Text, me: Text, roles: List<Text>, body: List<Statement>) -> Local
-        requires { ∥ IsValid (written file name me roles.items body.items) ∥₁ }
-        ensures { tree_of result ≡ written file name me roles.items body.items }
+    pub fn new(
+        file: u32,
+        name: Text,
+        me: Text,
+        roles: List<Text>,
+        body: List<Statement>,
+        others: List<Part>,
+    ) -> Local
+        requires { ∥ IsValid (written file name me roles.items body.items others.items) ∥₁ }
+        ensures { tree_of result ≡ written file name me roles.items body.items others.items }
     {
         Local {
             file,
@@ -32,6 +40,7 @@ impl Local {
             me,
             roles,
             body,
+            others,
         }
     }
 
@@ -42,7 +51,7 @@ impl Local {
         self.file
     }
 
-    /// The protocol's name.
+    /// The name of the protocol, which is the first of its file.
     pub fn name(&self) -> &Text
         ensures { result.now ≡ (tree_of self.now).name }
     {
@@ -68,5 +77,12 @@ impl Local {
         ensures { statements result.now.items ≡ (tree_of self.now).body }
     {
         &self.body
+    }
+
+    /// The protocols behind the first, in the order of the text. A `do` may go on as one of them.
+    pub fn others(&self) -> &List<Part>
+        ensures { map part_of result.now.items ≡ (tree_of self.now).others }
+    {
+        &self.others
     }
 }

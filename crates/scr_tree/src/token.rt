@@ -19,10 +19,12 @@ pub enum Mark {
     Or,
     Rec,
     Continue,
-    /// Reserved, and not supported, as the five after it.
+    /// Reserved, and not supported.
     Par,
+    /// Reserved, and not supported.
     Interruptible,
     Do,
+    /// Reserved, and not supported in local protocols, as the two after it.
     Global,
     Import,
     Sig,

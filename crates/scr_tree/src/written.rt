@@ -26,12 +26,19 @@ pub struct Carries {
     pub types: List<Text>,
 }
 
-/// The parts of a file.
+/// The roles that stand between the parentheses of a `do`, with its place and the protocol that it
+/// names.
 #[derive(Debug, Drop)]
-pub struct Written {
-    /// The types that are declared, in the order of the text.
-    pub types: List<Declaration>,
-    /// The protocol's name.
+pub struct Arguments {
+    pub place: Place,
+    pub name: Text,
+    pub roles: List<Text>,
+}
+
+/// A protocol of a file, with the place of its name.
+#[derive(Debug, Drop)]
+pub struct WrittenPart {
+    pub place: Place,
     pub name: Text,
     /// The role that the protocol is of, where it is named behind `at` or by `self`.
     pub me: Role,
@@ -39,6 +46,19 @@ pub struct Written {
     pub roles: List<Role>,
     /// What each message carries, in the order of the text.
     pub carries: List<Carries>,
+    /// What each `do` is given, in the order of the text.
+    pub arguments: List<Arguments>,
     /// What the role does. A message whose types mean nothing carries nothing.
     pub body: List<Statement>,
+}
+
+/// The parts of a file.
+#[derive(Debug, Drop)]
+pub struct Written {
+    /// The types that are declared, in the order of the text.
+    pub types: List<Declaration>,
+    /// The protocol that the file is of.
+    pub first: WrittenPart,
+    /// The protocols behind it, in the order of the text.
+    pub others: List<WrittenPart>,
 }

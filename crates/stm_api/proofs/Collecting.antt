@@ -1,27 +1,28 @@
 -- What a statement does alone, and with those behind it.
-use Rattle.std.proofs.Common.{◌≡◌, ℕ, ◌+◌, ◌<◌, get_or, drop, length, Bool, List, [], ◌∷◌, ◌++◌, Some, None, refl, sym, ap, ◌∙◌}
+use Rattle.std.proofs.Common.{◌≡◌, ℕ, ◌+◌, ◌<◌, ◌≤◌, get_or, drop, length, map, Bool, List, [], ◌∷◌, ◌++◌, Some, None, refl, sym, ap, ◌∙◌}
 use Rattle.std.proofs.Common.{append_assoc}
 use Rattle.std.specs.Str.{bytes_eq}
-use Rattle.std.proofs.lemmas.List.{append-nil}
+use Rattle.std.proofs.lemmas.List.{append-nil, at_drop_more, at_drop_all}
 use Rattle.std.proofs.lemmas.Grind.{common_steps}
 use Rattle.mg_text.specs.Call.{Name}
 use Rattle.mg_text.specs.Row.{Row}
 use Rattle.scr_tree.specs.declared.syntax.Message.{Message}
+use Rattle.scr_tree.specs.declared.syntax.Part.{Part}
 use Rattle.scr_tree.specs.declared.syntax.Statement.{Statement}
 use Rattle.scr_tree.specs.declared.syntax.Statement.TheVariants as kinds
 use Rattle.scr_tree.specs.Tree.{Statements, Nothing}
-use Rattle.scr_tree.specs.View.{front, statements, bodies}
+use Rattle.scr_tree.specs.View.{front, statements, bodies, part_of}
 use Rattle.scr_tree.specs.Meaning.{message_of}
 use Rattle.scr_tree.specs.Actions.{next, next_in, opened}
-use Rattle.scr_tree.proofs.ViewLemmas.{front-Message, front-Choice, front-Rec, front-Continue}
+use Rattle.scr_tree.proofs.ViewLemmas.{front-Message, front-Choice, front-Rec, front-Continue, front-Do}
 use Rattle.scr_tree.proofs.Behind.{each_front, statements-step, statements-past, bodies-step, bodies-past}
 use Rattle.stm_api.specs.Doings.{Doing, Passes}
-use Rattle.stm_api.specs.inner.Does.{does, does_in, look_unless, first_said, label_before, labels_in}
+use Rattle.stm_api.specs.inner.Does.{does, does_in, all_does, part_body, look_unless, first_said, label_before, labels_in}
 
 module _ (me : Name) (n : ℕ) where
   pub next-front : (s : Statement) (rest : Statements) → next me n (front s rest) ≡ next me (next me n (front s Nothing)) rest
   next-front s rest = each_front (λ f. next me n (f rest) ≡ next me (next me n (f Nothing)) rest) (λ m. refl) (λ p at bs. refl)
-      (λ p name body. refl) (λ p name. refl) s
+      (λ p name body. refl) (λ p name. refl) (λ p name. refl) s
 
   alone-choice : (a b r : List Doing) → a ++ (b ++ r) ≡ (a ++ (b ++ [])) ++ r
   alone-choice a b r = ap (λ x. a ++ (x ++ r)) (sym (append-nil b)) ∙ sym (append_assoc a (b ++ []) r)
@@ -31,7 +32,7 @@ module _ (me : Name) (n : ℕ) where
   does-front s rest =
       each_front (λ f. does me n (f rest) ≡ does me n (f Nothing) ++ does me (next me n (f Nothing)) rest) (λ m. refl)
       (λ p at bs. alone-choice (look_unless (bytes_eq at me) n bs) (does_in me (opened (bytes_eq at me) n) bs) _)
-      (λ p name body. ap (λ x. x ++ does me (next me n body) rest) (sym (append-nil (does me n body)))) (λ p name. refl) s
+      (λ p name body. ap (λ x. x ++ does me (next me n body) rest) (sym (append-nil (does me n body)))) (λ p name. refl) (λ p name. refl) s
 
   pub does-Message : (m : Message) → does me n (front (kinds.Message m) Nothing) ≡ Passes (message_of m) ∷ []
   does-Message m = ap (λ f. does me n (f Nothing)) (front-Message m)
@@ -52,12 +53,12 @@ module _ (me : Name) (n : ℕ) where
   next-Choice p at bs self e = ap (λ f. next me n (f Nothing)) (front-Choice p at bs) ∙ ap (λ b. next_in me (opened b n) (bodies bs.items))
       e
 
-  pub does-Rec : (p : _) (name : Name) (body : Row Statement) → does me n (front (kinds.Rec p name body) Nothing) ≡ does me n
-      (statements body.items)
+  pub does-Rec : (p : _) (name : Name) (body : Row Statement) → does me n (front (kinds.Rec p name body) Nothing)
+      ≡ does me n (statements body.items)
   does-Rec p name body = ap (λ f. does me n (f Nothing)) (front-Rec p name body) ∙ append-nil _
 
-  pub next-Rec : (p : _) (name : Name) (body : Row Statement) → next me n (front (kinds.Rec p name body) Nothing) ≡ next me n
-      (statements body.items)
+  pub next-Rec : (p : _) (name : Name) (body : Row Statement) → next me n (front (kinds.Rec p name body) Nothing)
+      ≡ next me n (statements body.items)
   next-Rec p name body = ap (λ f. next me n (f Nothing)) (front-Rec p name body)
 
   module _ (ss : List Statement) (i : ℕ) (x : Statement) (within : i < length ss) (is : x ≡ get_or ss i x) where
@@ -86,11 +87,29 @@ said-Rec p name body rest = ap (λ f. first_said (f rest)) (front-Rec p name bod
 pub said-Continue : (p : _) (name : Name) (rest : Statements) → first_said (front (kinds.Continue p name) rest) ≡ None
 said-Continue p name rest = ap (λ f. first_said (f rest)) (front-Continue p name)
 
-pub ruleset firsts = (common_steps, said-Message, said-Choice, said-Rec, said-Continue)
+pub said-Do : (p : _) (name : Name) (rest : Statements) → first_said (front (kinds.Do p name) rest) ≡ None
+said-Do p name rest = ap (λ f. first_said (f rest)) (front-Do p name)
+
+pub ruleset firsts = (common_steps, said-Message, said-Choice, said-Rec, said-Continue, said-Do)
+
+-- the protocol at an index, and those behind it
+pub part-step : (me : Name) (n : ℕ) (ps : List Part) (i : ℕ) (x : Part) → i < length ps → x ≡ get_or ps i x →
+    all_does me n (map part_body (map part_of (drop i ps))) ≡
+    does me n (statements x.body.items) ++ all_does me (next me n (statements x.body.items)) (map part_body (map part_of (drop (i + 1) ps)))
+part-step me n ps i x within is =
+    at_drop_more (λ qs. all_does me n (map part_body (map part_of qs))) ps i x within
+    ∙ ap (λ (y : Part). does me n (statements y.body.items) ++ all_does me (next me n (statements y.body.items))
+    (map part_body (map part_of (drop (i + 1) ps)))) (sym is)
+
+pub part-past : (me : Name) (n : ℕ) (ps : List Part) (i : ℕ) → length ps ≤ i → all_does me n (map part_body (map part_of (drop i ps))) ≡ []
+part-past me n ps i h = at_drop_all (λ qs. all_does me n (map part_body (map part_of qs))) ps i h
+
+pub ruleset part_steps = (common_steps, part-step, part-past, append_assoc, append-nil)
 
 pub ruleset alone = (
   common_steps,
   front-Continue,
+  front-Do,
   does-Message,
   next-Message,
   does-Choice,

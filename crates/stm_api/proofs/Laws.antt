@@ -1,6 +1,6 @@
 -- What the text does is what its protocol does; the doings whose calls weren't seen are the first ones.
-use Rattle.std.proofs.Common.{◌≡◌, ℕ, suc, ◌+◌, Bool, true, false, if◌then◌else◌, List, [], ◌∷◌, ◌++◌, position, refl, sym, ap, ◌∙◌, arith}
-use Rattle.std.proofs.Common.{add-one}
+use Rattle.std.proofs.Common.{◌≡◌, ℕ, suc, ◌+◌, Bool, true, false, if◌then◌else◌, List, [], ◌∷◌, ◌++◌, map, position, refl, sym, ap, ◌∙◌}
+use Rattle.std.proofs.Common.{arith, add-one}
 use Rattle.std.specs.Prelude.{Contains, is_some}
 use Rattle.std.specs.List.{list_any}
 use Rattle.std.specs.Str.{bytes_eq}
@@ -13,13 +13,13 @@ use Rattle.mg_text.proofs.Numbered.{list_any-position}
 use Rattle.scr_tree.specs.declared.syntax.Direction.{Direction}
 use Rattle.scr_tree.specs.declared.syntax.Direction.TheVariants as directions
 use Rattle.scr_tree.specs.declared.syntax.Payload.{Payload}
-use Rattle.scr_tree.specs.Tree.{LocalTree, Statements, Nothing, Says, Choice, Rec, Continue, NoBranch, Branch}
+use Rattle.scr_tree.specs.Tree.{LocalTree, PartTree, Statements, Nothing, Says, Choice, Rec, Continue, Do, NoBranch, Branch, other}
 use Rattle.scr_tree.specs.Tree as tree
 use Rattle.scr_tree.specs.Protocol.{Protocol, ChoiceHere, ChoiceThere, peer_of, label_of, Branch as Way}
 use Rattle.scr_tree.specs.Protocol as protocol
-use Rattle.scr_tree.specs.Meaning.{choices, choices_in, numbered, numbered_in, message_of, towards, protocol_of}
+use Rattle.scr_tree.specs.Meaning.{choices, choices_in, numbered, numbered_in, numbered_parts, message_of, towards, protocol_of}
 use Rattle.scr_tree.specs.Actions.{opened, next, next_in}
-use Rattle.stm_api.specs.Doings.{Doing, Passes, Asks, labels_in, look, doings, doings_in, call_of, Firsts, none, again, first}
+use Rattle.stm_api.specs.Doings.{Doing, Passes, Asks, labels_in, look, doings, doings_in, all_doings, call_of, Firsts, none, again, first}
 use Rattle.stm_api.specs.inner.Does as here
 
 -- ---- the numbers of choices
@@ -39,6 +39,7 @@ mutual
   next_is me (Rec place name body rest) n = next_is me rest (next me n body) ∙ ap (λ k. k + choices me rest) (next_is me body n) ∙
       (let e : (n + choices me body) + choices me rest ≡ n + (choices me body + choices me rest) = omega arith in e)
   next_is me (Continue place name rest) n = next_is me rest n
+  next_is me (Do place name rest) n = next_is me rest n
 
   next_in_is : (me : Name) (bs : tree.Branches) (n : ℕ) → next_in me n bs ≡ n + choices_in me bs
   next_in_is me NoBranch n = omega arith
@@ -76,6 +77,7 @@ module _ (me : Name) where
   labels_same (Branch (Choice p at bs rest) more) n = labels_same more _ ∙ sym (no_label (bytes_eq at me) n _ _ _ _ _)
   labels_same (Branch (Rec p name body rest) more) n = labels_same more _
   labels_same (Branch (Continue p name rest) more) n = labels_same more _
+  labels_same (Branch (Do p name rest) more) n = labels_same more _
 
   look_same : (bs : tree.Branches) (k n : ℕ) → here.look_at k (here.peer_in bs) (here.labels_in bs) ≡ look k (numbered_in me n bs)
   look_same NoBranch k n = refl
@@ -86,6 +88,7 @@ module _ (me : Name) where
   look_same (Branch (Choice p at bs rest) more) k n = sym (no_look (bytes_eq at me) k n _ _ _ _ _)
   look_same (Branch (Rec p name body rest) more) k n = refl
   look_same (Branch (Continue p name rest) more) k n = refl
+  look_same (Branch (Do p name rest) more) k n = refl
 
   -- ---- doings
 
@@ -116,6 +119,7 @@ module _ (me : Name) where
         (next_is me body n)
         ∙ ap (λ x. doings (numbered me n body) ++ x) (does_same rest (n + choices me body))
     does_same (Continue place name rest) n = does_same rest n
+    does_same (Do place name rest) n = does_same rest n
 
     does_in_same : (bs : tree.Branches) (n : ℕ) → here.does_in me n bs ≡ doings_in (numbered_in me n bs)
     does_in_same NoBranch n = refl
@@ -133,8 +137,8 @@ seen_before : (text : Name) (names : List Name) → is_some (position (bytes_eq 
 seen_before text names e = Contains-from_any (λ x y s. (bytes_eq-Decides x y).0 s) text names (sym (found_any text names) ∙ e)
 
 not_seen : (text : Name) (names : List Name) → is_some (position (bytes_eq text) names) ≡ false → Contains names text → ⊥
-not_seen text names e h = let t : true ≡ false = sym (found_any text names ∙ list_any-from_Contains nat_list_eq_equiv text names h) ∙ e in
-    cc
+not_seen text names e h = let t : true ≡ false = sym (found_any text names ∙ list_any-from_Contains nat_list_eq_equiv text names h) ∙
+    e in cc
 
 one_first : (me : Name) (seen : List Name) (doing : Doing) (more firsts others : List Doing) (b : Bool) →
     is_some (position (bytes_eq (call_of me doing)) seen) ≡ b →
@@ -151,7 +155,30 @@ are_firsts me (doing ∷ more) seen =
 
 -- ---- the whole
 
-pub all_done : (t : LocalTree) (out before : List Doing) (me : Name) (ss : Statements) → before ≡ [] → me ≡ t.me → ss ≡ t.body →
-    out ≡ before ++ here.does me 1 ss → out ≡ doings (protocol_of t)
-all_done t out before me ss eb em es e =
-    e ∙ ap (λ x. x ++ here.does me 1 ss) eb ∙ ap (λ m. here.does m 1 ss) em ∙ ap (here.does t.me 1) es ∙ does_same t.me t.body 1
+-- protocols behind the first
+all_same : (me : Name) (ps : List PartTree) (n : ℕ) → here.all_does me n (map here.part_body ps)
+    ≡ all_doings (numbered_parts me n (map other ps))
+all_same me [] n = refl
+all_same me (p ∷ ps) n =
+    ap (λ x. x ++ here.all_does me (next me n p.body) (map here.part_body ps)) (does_same me p.body n)
+    ∙ ap (λ k. doings (numbered me n p.body) ++ here.all_does me k (map here.part_body ps)) (next_is me p.body n)
+    ∙ ap (λ x. doings (numbered me n p.body) ++ x) (all_same me ps (n + choices me p.body))
+
+whole_same : (t : LocalTree) → here.does t.me 1 t.body ++ here.all_does t.me (next t.me 1 t.body) (map here.part_body t.others)
+    ≡ all_doings (protocol_of t)
+whole_same t =
+    ap (λ x. x ++ here.all_does t.me (next t.me 1 t.body) (map here.part_body t.others)) (does_same t.me t.body 1)
+    ∙ ap (λ k. doings (numbered t.me 1 t.body) ++ here.all_does t.me k (map here.part_body t.others)) (next_is t.me t.body 1)
+    ∙ ap (λ x. doings (numbered t.me 1 t.body) ++ x) (all_same t.me t.others (1 + choices t.me t.body))
+
+module _ (t : LocalTree) (out front before : List Doing) (me : Name) (n : ℕ) (ss : Statements) (ps : List PartTree) where
+  pub all_done : before ≡ [] → me ≡ t.me → ss ≡ t.body → ps ≡ t.others → front ≡ before ++ here.does me 1 ss → n ≡ next me 1 ss →
+      out ≡ front ++ here.all_does me n (map here.part_body ps) → out ≡ all_doings (protocol_of t)
+  all_done eb em es eo ef en e =
+      e
+      ∙ ap (λ k. front ++ here.all_does me k (map here.part_body ps)) en
+      ∙ ap (λ x. x ++ here.all_does me (next me 1 ss) (map here.part_body ps)) (ef ∙ ap (λ x. x ++ here.does me 1 ss) eb)
+      ∙ ap (λ m. here.does m 1 ss ++ here.all_does m (next m 1 ss) (map here.part_body ps)) em
+      ∙ ap (λ s. here.does t.me 1 s ++ here.all_does t.me (next t.me 1 s) (map here.part_body ps)) es
+      ∙ ap (λ os. here.does t.me 1 t.body ++ here.all_does t.me (next t.me 1 t.body) (map here.part_body os)) eo
+      ∙ whole_same t

@@ -18,7 +18,7 @@ use Rattle.jv_tree.specs.View.{method_of as kept_method}
 use Rattle.stm_api.specs.declared.doings.Doing.{Doing as Kept}
 use Rattle.stm_api.specs.declared.doings.Doing.TheVariants as kept
 use Rattle.stm_api.specs.declared.files.ApiFile.{ApiFile}
-use Rattle.stm_api.specs.Doings.{Doing, call_of, doings}
+use Rattle.stm_api.specs.Doings.{Doing, call_of, all_doings}
 use Rattle.stm_api.specs.Api.{ApiText, IsApi, class_file, enum_of, enum_file, enum_files, method_of}
 use Rattle.stm_api.specs.View.{written_of}
 use Rattle.stm_api.specs.inner.Does.{first_before, firsts_of}
@@ -73,20 +73,20 @@ enum_more p me ds i x n peer labels given files more f all within is looks same 
 
 pub is_api : (t : LocalTree) (given one two : List Kept) (p : Place) (file : ℕ) (me : Name) (class : ApiFile)
     (none first files : List ApiFile) →
-    map doing_of given ≡ doings (protocol_of t) → one ≡ given → two ≡ given → p ≡ start_of file → file ≡ t.file → me ≡ t.me →
+    map doing_of given ≡ all_doings (protocol_of t) → one ≡ given → two ≡ given → p ≡ start_of file → file ≡ t.file → me ≡ t.me →
     written_of class ≡ class_file p t.me (firsts_of t.me [] (map doing_of one)) → none ≡ [] → first ≡ none ++ class ∷ [] →
     map written_of files ≡ map written_of first ++ enum_files p me (map doing_of two) →
     IsApi t (map written_of files)
 is_api t given one two p file me class none first files done e1 e2 ep ef em made en pushed e = record {
-  firsts = firsts_of t.me [] (doings (protocol_of t));
-  are_firsts = are_firsts t.me (doings (protocol_of t)) [];
+  firsts = firsts_of t.me [] (all_doings (protocol_of t));
+  are_firsts = are_firsts t.me (all_doings (protocol_of t)) [];
   are_files =
       e ∙ ap (λ (fs : List ApiFile). map written_of fs ++ enum_files p me (map doing_of two))
       (pushed ∙ ap (λ (fs : List ApiFile). fs ++ class ∷ []) en)
       ∙ ap (λ w. w ∷ enum_files p me (map doing_of two)) made
       ∙ ap (λ ds. class_file p t.me (firsts_of t.me [] ds) ∷ enum_files p me (map doing_of two)) (ap (map doing_of) e1 ∙ done)
-      ∙ ap (λ ds. class_file p t.me (firsts_of t.me [] (doings (protocol_of t))) ∷ enum_files p me ds) (ap (map doing_of) e2 ∙ done)
-      ∙ ap (λ m. class_file p t.me (firsts_of t.me [] (doings (protocol_of t))) ∷ enum_files p m (doings (protocol_of t))) em
-      ∙ ap (λ q. class_file q t.me (firsts_of t.me [] (doings (protocol_of t))) ∷ enum_files q t.me (doings (protocol_of t)))
+      ∙ ap (λ ds. class_file p t.me (firsts_of t.me [] (all_doings (protocol_of t))) ∷ enum_files p me ds) (ap (map doing_of) e2 ∙ done)
+      ∙ ap (λ m. class_file p t.me (firsts_of t.me [] (all_doings (protocol_of t))) ∷ enum_files p m (all_doings (protocol_of t))) em
+      ∙ ap (λ q. class_file q t.me (firsts_of t.me [] (all_doings (protocol_of t))) ∷ enum_files q t.me (all_doings (protocol_of t)))
       (ep ∙ ap start_of ef);
 }

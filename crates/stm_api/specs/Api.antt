@@ -17,7 +17,7 @@ use Rattle.jv_tree.specs.Source.{Expr, Text, Variable, Member, MethodCall, NoExp
 use Rattle.jv_tree.specs.Source.{Then, Method, Class, ClassDecl, EnumDecl, File}
 use Rattle.jv_tree.specs.View.{exprs_of, stmts_of}
 use Rattle.jv_print.specs.Layout.{layout}
-use Rattle.stm_api.specs.Doings.{Doing, Passes, Asks, doings, Firsts}
+use Rattle.stm_api.specs.Doings.{Doing, Passes, Asks, all_doings, Firsts}
 
 -- ---- expressions and statements; all of them stand at one place
 
@@ -161,6 +161,6 @@ enum_files p me (doing ∷ more) = enum_of p me doing ++ enum_files p me more
 -- The files of a local protocol: its class, and then its enums. Each place is the first of the protocol's file.
 pub record IsApi (local : LocalTree) (files : List ApiText) : Type 0 where
   pub firsts : List Doing
-  pub are_firsts : Firsts local.me [] (doings (protocol_of local)) firsts
+  pub are_firsts : Firsts local.me [] (all_doings (protocol_of local)) firsts
   pub are_files : files ≡ class_file (start_of local.file) local.me firsts ∷ enum_files (start_of local.file) local.me
-      (doings (protocol_of local))
+      (all_doings (protocol_of local))

@@ -3,15 +3,15 @@
 ghost use Rattle.std.specs.Prelude.{◌≡◌, ◌++◌, ◌↔◌, IsTrue, IfOk, OnOk, map, option_map};
 ghost use Rattle.scr_tree.specs.Local.{tree_of};
 ghost use Rattle.scr_tree.specs.Meaning.{protocol_of};
-ghost use Rattle.scr_tree.specs.View.{front, statements, bodies};
+ghost use Rattle.scr_tree.specs.View.{front, statements, bodies, part_of};
 ghost use Rattle.scr_tree.specs.Tree.{Nothing};
 ghost use Rattle.scr_tree.specs.Actions.{next, next_in};
-ghost use Rattle.stm_api.specs.Doings.{doings};
-ghost use Rattle.stm_api.specs.inner.Does.{does, does_in, look_at, peer_in, labels_in, first_said};
+ghost use Rattle.stm_api.specs.Doings.{all_doings};
+ghost use Rattle.stm_api.specs.inner.Does.{does, does_in, all_does, part_body, look_at, peer_in, labels_in, first_said};
 ghost use Rattle.stm_api.specs.inner.View.{doing_of, names_of};
 
 use mg_text::{List, Memory, Text};
-use scr_tree::{Local, Message, Statement};
+use scr_tree::{Local, Message, Part, Statement};
 use std::alloc::Global;
 
 /// A message, or the look at which branch of a numbered choice a peer has taken.
@@ -24,11 +24,32 @@ pub enum Doing<'a> {
 
 /// What the role of a protocol does, in the order of the text.
 pub fn doings_of<'a>(alloc: Global, local: &'a Local) -> Result<List<Doing<'a>>, Memory>
-    ensures { IfOk result (λ ds. map doing_of ds.items ≡ doings (protocol_of (tree_of local.now))) }
+    ensures { IfOk result (λ ds. map doing_of ds.items ≡ all_doings (protocol_of (tree_of local.now))) }
 {
     let mut doings = List::new(alloc);
-    collect_all(alloc, local.me(), &mut doings, 1, local.body().as_slice())?;
+    let me = local.me();
+    let next = collect_all(alloc, me, &mut doings, 1, local.body().as_slice())?;
+    collect_parts(alloc, me, &mut doings, next, local.others().as_slice())?;
     Ok(doings)
+}
+
+// Appends what protocols of a role do, whose choices elsewhere are numbered from `number` on.
+#[tactic(auto, using(crate::proofs::Collecting::part_steps))]
+fn collect_parts<'a>(
+    alloc: Global,
+    me: &Text,
+    out: &mut List<Doing<'a>>,
+    number: u32,
+    parts: &'a [Part],
+) -> Result<(), Memory>
+    ensures { OnOk result (map doing_of out.new.items ≡ map doing_of out.old.items ++ all_does me.now number
+        (map part_body (map part_of parts.now))) }
+{
+    let mut number = number;
+    for part in parts {
+        number = collect_all(alloc, me, out, number, part.body.as_slice())?;
+    }
+    Ok(())
 }
 
 // Appends what statements do, whose choices elsewhere are numbered from `number` on. The answer is
@@ -85,6 +106,7 @@ fn collect_at<'a>(
         }
         Statement::Rec { body, .. } => collect_all(alloc, me, out, number, body.as_slice()),
         Statement::Continue { .. } => Ok(number),
+        Statement::Do { .. } => Ok(number),
     }
 }
 
@@ -166,6 +188,7 @@ fn first_message(body: &[Statement]) -> Option<&Message>
             Statement::Choice { .. } => None,
             Statement::Rec { .. } => None,
             Statement::Continue { .. } => None,
+            Statement::Do { .. } => None,
         },
     }
 }

@@ -11,23 +11,23 @@ use Rattle.mg_read.specs.First.{Clean, behind, with_earlier}
 use Rattle.scr_tree.specs.declared.syntax.Payload.{Payload}
 use Rattle.scr_tree.specs.declared.syntax.Payload.TheVariants as payloads
 use Rattle.scr_tree.specs.declared.syntax.Message.{Message as Said}
-use Rattle.scr_tree.specs.Tree.{LocalTree, Statements, Nothing, Says, Choice, Rec, Continue, NoBranch, Branch}
+use Rattle.scr_tree.specs.Tree.{LocalTree, Titled, titled, body_in, Statements, Nothing, Says, Choice, Rec, Continue, Do, NoBranch, Branch}
 use Rattle.scr_tree.specs.Tree as tree
 use Rattle.scr_tree.specs.Actions.{Action, Deed, said, peer_in, looked, opened, looked_unless, next, next_in, actions, actions_in}
-use Rattle.scr_tree.specs.Actions.{NameClash}
+use Rattle.scr_tree.specs.Actions.{all_actions, NameClash}
 use Rattle.scr_tree.specs.Actions as deeds
 use Rattle.scr_tree.specs.CallNames.{message_call, label_call, call_of}
-use Rattle.scr_tree.specs.Meaning.{choices, choices_in, numbered, numbered_in, message_of, protocol_of}
+use Rattle.scr_tree.specs.Meaning.{choices, choices_in, numbered, numbered_in, numbered_parts, message_of, protocol_of}
 use Rattle.scr_tree.specs.Protocol.{Message, Send, Take, peer_of, label_of, Protocol, ChoiceHere, ChoiceThere}
 use Rattle.scr_tree.specs.Steps.{Act, Moves, Looks, Part, Plain, BodyOf, Left, Position}
-use Rattle.scr_tree.specs.Valid.{IsValid}
+use Rattle.scr_tree.specs.Valid.{IsValid, names_in}
 use Rattle.scr_trace.specs.Positions.{states_in, states_here, states_there, state_positions}
 use Rattle.scr_trace.specs.Onward.{Onward, sends, looks, steps_at}
 use Rattle.scr_trace.specs.Graph.{Edge, AreStates}
 use Rattle.scr_trace.specs.inner.Goes.{Among}
 use Rattle.scr_trace.proofs.Parts
 use Rattle.scr_trace.proofs.Matching.{peer_is}
-use Rattle.scr_trace.proofs.Valid.{clean_once, first_or_later, none_contained, valid_sound}
+use Rattle.scr_trace.proofs.Valid.{AllSound, clean_once, first_or_later, none_contained, valid_sound}
 use Rattle.scr_trace.proofs.Rules.{Sound, SoundIn, SoundFirst}
 use Rattle.scr_trace.proofs.Telling.{AllLook, OneChoice, moving, looking, AllTold}
 use Rattle.scr_trace.proofs.Following.{position_there, step_of_edge}
@@ -56,6 +56,7 @@ mutual
   next_is me (Rec place name body rest) n = next_is me rest (next me n body) ∙ ap (λ k. k + choices me rest) (next_is me body n) ∙
       (let e : (n + choices me body) + choices me rest ≡ n + (choices me body + choices me rest) = omega arith in e)
   next_is me (Continue place name rest) n = next_is me rest n
+  next_is me (Do place name rest) n = next_is me rest n
 
   next_in_is : (me : Name) (bs : tree.Branches) (n : ℕ) → next_in me n bs ≡ n + choices_in me bs
   next_in_is me NoBranch n = omega arith
@@ -106,12 +107,12 @@ within_front all xs ys h a among = h a (among_front xs ys a among)
 within_behind : (all xs ys : List Action) → Within all (xs ++ ys) → Within all ys
 within_behind all xs ys h a among = h a (among_behind xs ys a among)
 
-module _ (me : Name) (all : List Action) where
+module _ (me : Name) (protocols : List Name) (all : List Action) where
   message_acted : (m : Said) (xs : List Action) → Within all (said m ∷ xs) → Acted me all (Moves (message_of m))
   message_acted m xs h = record { action = said m; among = h (said m) (inl refl); named = refl; deed = refl }
 
   -- the first messages of the branches
-  sends_acted : (bs : tree.Branches) (names : List Name) → SoundIn names bs → (n m : ℕ) (around : Position) →
+  sends_acted : (bs : tree.Branches) (names : List Name) → SoundIn protocols names bs → (n m : ℕ) (around : Position) →
       Within all (actions_in me n bs) → AllActed me all (sends around (numbered_in me m bs))
   sends_acted NoBranch names h n m around w = tt
   sends_acted (Branch (Says q rest) more) names h n m around w = (
@@ -123,6 +124,7 @@ module _ (me : Name) (all : List Action) where
   sends_acted (Branch (Choice place at bs rest) more) names h n m around w = absurd h.0
   sends_acted (Branch (Rec place name body rest) more) names h n m around w = absurd h.0
   sends_acted (Branch (Continue place name rest) more) names h n m around w = absurd h.0
+  sends_acted (Branch (Do place name rest) more) names h n m around w = absurd h.0
 
   -- the looks at a choice, which are at one peer
   looks_acted : (steps : List Onward) (n : ℕ) (peer : Name) → AllLook n peer steps → (a : Action) → Among all a →
@@ -134,8 +136,8 @@ module _ (me : Name) (all : List Action) where
         among named deed,
   )
 
-  look_here : (bs : tree.Branches) (names : List Name) → SoundIn names bs → (place : _) (n m : ℕ) (around : Position) (xs : List Action) →
-      OneChoice (looks n around (numbered_in me m bs)) → Within all (looked me n place (peer_in bs) ++ xs) →
+  look_here : (bs : tree.Branches) (names : List Name) → SoundIn protocols names bs → (place : _) (n m : ℕ) (around : Position)
+      (xs : List Action) → OneChoice (looks n around (numbered_in me m bs)) → Within all (looked me n place (peer_in bs) ++ xs) →
       AllActed me all (looks n around (numbered_in me m bs))
   look_here NoBranch names h place n m around xs one w = tt
   look_here (Branch (Says q rest) more) names h place n m around xs one w = by one
@@ -155,6 +157,7 @@ module _ (me : Name) (all : List Action) where
   look_here (Branch (Choice p at bs rest) more) names h place n m around xs one w = absurd h.0
   look_here (Branch (Rec p name body rest) more) names h place n m around xs one w = absurd h.0
   look_here (Branch (Continue p name rest) more) names h place n m around xs one w = absurd h.0
+  look_here (Branch (Do p name rest) more) names h place n m around xs one w = absurd h.0
 
   told_front : (ps qs : List Position) → AllTold me (ps ++ qs) → AllTold me ps
   told_front [] qs t = tt
@@ -168,7 +171,7 @@ module _ (me : Name) (all : List Action) where
   shift P Q m n e f = subst (λ k. P k → Q k) (sym e) f
 
   choice_acted : (self : Bool) (place : _) (n : ℕ) (part : Part) (around : Position) (bs : tree.Branches) (rest : Statements)
-      (names : List Name) → SoundIn names bs →
+      (names : List Name) → SoundIn protocols names bs →
       Within all (looked_unless self me n place (peer_in bs)
       ++ (actions_in me (opened self n) bs ++ actions me (next_in me (opened self n) bs) rest)) →
       ((m : ℕ) (out : Position) → m ≡ opened self n → AllTold me (Parts.within self out (numbered_in me m bs)) →
@@ -201,8 +204,9 @@ module _ (me : Name) (all : List Action) where
   none_acted ps e = subst (StatesActed me all) (sym e) tt
 
   mutual
-    acted : (t : Statements) (names : List Name) → Sound names t → (n : ℕ) (part : Part) (around : Position) → Within all (actions me n t) →
-        AllTold me (states_in part around (numbered me n t)) → StatesActed me all (states_in part around (numbered me n t))
+    acted : (t : Statements) (names : List Name) → Sound protocols names t → (n : ℕ) (part : Part) (around : Position) →
+        Within all (actions me n t) → AllTold me (states_in part around (numbered me n t)) →
+        StatesActed me all (states_in part around (numbered me n t))
     acted Nothing names h n part around w told = tt
     acted (Says m rest) names h n part around w told =
         ((message_acted m _ w, tt), acted rest names h n part around (λ a b. w a (inr b)) told.1)
@@ -231,8 +235,10 @@ module _ (me : Name) (all : List Action) where
         (told_behind (states_in (BodyOf name p) (Left r part ∷ around) p) _ told))
     acted (Continue place name rest) names h n part around w told =
         none_acted _ (ap (λ (t : Statements). states_in part around (numbered me n t)) h.1)
+    acted (Do place name rest) names h n part around w told =
+        none_acted _ (ap (λ (t : Statements). states_in part around (numbered me n t)) h.1)
 
-    acted_in : (bs : tree.Branches) (names : List Name) → SoundIn names bs → (self : Bool) (n : ℕ) (out : Position) →
+    acted_in : (bs : tree.Branches) (names : List Name) → SoundIn protocols names bs → (self : Bool) (n : ℕ) (out : Position) →
         Within all (actions_in me n bs) → AllTold me (Parts.within self out (numbered_in me n bs)) →
         StatesActed me all (Parts.within self out (numbered_in me n bs))
     acted_in NoBranch names h self n out w told = none_acted _ (Parts.within-NoMore self out)
@@ -240,15 +246,15 @@ module _ (me : Name) (all : List Action) where
         let told' = subst (AllTold me) (Parts.within-Branch self out (numbered me n b) (numbered_in me (n + choices me b) more)) told in
         subst (StatesActed me all) (sym (Parts.within-Branch self out (numbered me n b) (numbered_in me (n + choices me b) more)))
         (acted_both me all (Parts.first_in self out (numbered me n b)) _
-        (acted_first b names h.0 self n out (within_front all (actions me n b) _ w) (told_front (Parts.first_in self out (numbered me n b))
-        _ told'))
+        (acted_first b names h.0 self n out (within_front all (actions me n b) _ w)
+        (told_front (Parts.first_in self out (numbered me n b)) _ told'))
         (shift (λ k. AllTold me (Parts.within self out (numbered_in me k more)))
         (λ k. StatesActed me all (Parts.within self out (numbered_in me k more))) (n + choices me b) (next me n b)
         (sym (next_is me b n))
         (acted_in more names h.1 self (next me n b) out (within_behind all (actions me n b) _ w))
         (told_behind (Parts.first_in self out (numbered me n b)) _ told')))
 
-    acted_first : (b : Statements) (names : List Name) → SoundFirst names b → (self : Bool) (n : ℕ) (out : Position) →
+    acted_first : (b : Statements) (names : List Name) → SoundFirst protocols names b → (self : Bool) (n : ℕ) (out : Position) →
         Within all (actions me n b) → AllTold me (Parts.first_in self out (numbered me n b)) →
         StatesActed me all (Parts.first_in self out (numbered me n b))
     acted_first (Says q rest) names h true n out w told = acted rest names h n Plain out (λ a b. w a (inr b)) told
@@ -258,6 +264,21 @@ module _ (me : Name) (all : List Action) where
     acted_first (Choice place at bs rest) names h self n out w told = absurd h
     acted_first (Rec place name body rest) names h self n out w told = absurd h
     acted_first (Continue place name rest) names h self n out w told = absurd h
+    acted_first (Do place name rest) names h self n out w told = absurd h
+
+  -- parts, one after another
+  parts_acted : (ts : List Titled) → AllSound protocols ts → (n : ℕ) → Within all (all_actions (λ (t : Titled). me) body_in n ts) →
+      AllTold me (state_positions (numbered_parts me n ts)) →
+      StatesActed me all (state_positions (numbered_parts me n ts))
+  parts_acted [] h n w told = tt
+  parts_acted (t ∷ ts) h n w told =
+      let own : List Position = states_in Plain [] (numbered me n t.body) in
+      acted_both me all own (state_positions (numbered_parts me (n + choices me t.body) ts))
+      (acted t.body [] h.0 n Plain [] (within_front all (actions me n t.body) _ w) (told_front own _ told))
+      (shift (λ k. AllTold me (state_positions (numbered_parts me k ts)))
+      (λ k. StatesActed me all (state_positions (numbered_parts me k ts))) (n + choices me t.body) (next me n t.body)
+      (sym (next_is me t.body n)) (parts_acted ts h.1 (next me n t.body) (within_behind all (actions me n t.body) _ w))
+      (told_behind own _ told))
 
 -- ---- no two actions of one name
 
@@ -416,14 +437,14 @@ same_signature me all clean a b m n x y (of_message p ap' pn pr pp) (of_looks k 
     let calls : x.action.call ≡ y.action.call = x.named ∙ ap (λ c. (call_of me c).method) ap' ∙ sym pn ∙ e ∙ qn ∙
     sym (ap (λ c. (call_of me c).method) aq) ∙ sym y.named in
     absurd (pairs_same [] all clean x.action y.action x.among y.among calls
-    (λ f. let g : deeds.Moves p ≡ deeds.Looks k = sym (deed_of_message a p x.action.deed ap' x.deed) ∙ f ∙ deed_of_looks b k peer label
-    y.action.deed aq y.deed in cc g))
+    (λ f. let g : deeds.Moves p ≡ deeds.Looks k = sym (deed_of_message a p x.action.deed ap' x.deed) ∙ f ∙
+    deed_of_looks b k peer label y.action.deed aq y.deed in cc g))
 same_signature me all clean a b m n x y (of_looks k peer label ap' pn pr pp) (of_message q aq qn qr qp) e =
     let calls : x.action.call ≡ y.action.call = x.named ∙ ap (λ c. (call_of me c).method) ap' ∙ sym pn ∙ e ∙ qn ∙
     sym (ap (λ c. (call_of me c).method) aq) ∙ sym y.named in
     absurd (pairs_same [] all clean x.action y.action x.among y.among calls
-    (λ f. let g : deeds.Looks k ≡ deeds.Moves q = sym (deed_of_looks a k peer label x.action.deed ap' x.deed) ∙ f ∙ deed_of_message b q
-    y.action.deed aq y.deed in cc g))
+    (λ f. let g : deeds.Looks k ≡ deeds.Moves q = sym (deed_of_looks a k peer label x.action.deed ap' x.deed) ∙ f ∙
+    deed_of_message b q y.action.deed aq y.deed in cc g))
 same_signature me all clean a b m n x y (of_looks k peer label ap' pn pr pp) (of_looks l other mark aq qn qr qp) e =
     let calls : x.action.call ≡ y.action.call = x.named ∙ ap (λ c. (call_of me c).method) ap' ∙ sym pn ∙ e ∙ qn ∙
     sym (ap (λ c. (call_of me c).method) aq) ∙ sym y.named in
@@ -437,25 +458,26 @@ same_signature me all clean a b m n x y (of_looks k peer label ap' pn pr pp) (of
 
 -- the methods of a valid protocol
 pub one_signature : (local : LocalTree) → ∥ IsValid local ∥₁ → AllTold local.me (state_positions (protocol_of local)) →
-    (gs : List (List Edge)) → AreStates (state_positions (protocol_of local)) (state_positions (protocol_of local)) gs →
+    (gs : List (List Edge)) →
+    AreStates (protocol_of local) (state_positions (protocol_of local)) (state_positions (protocol_of local)) gs →
     HaveOneSignature local.me (states_from local.me 0 gs)
 one_signature local v told gs h m n om on e =
-    let all : List Action = actions local.me 1 local.body in
+    let all : List Action = all_actions (λ (t : Titled). local.me) body_in 1 (titled local) in
     let clean = ∥∥₁_elim v (clean_once NameClash (with_earlier all)) (λ i. i.one_action) in
-    let facts = acted local.me all local.body [] (valid_sound local v) 1 Plain [] (λ a b. b) told in
-    let of = λ (x : Method) (o : IsOffered (states_from local.me 0 gs) x). state_offering local.me 0 gs x o in
+    let facts = parts_acted local.me (names_in local) all (titled local) (valid_sound local v) 1 (λ a b. b) told in
     let a = state_offering local.me 0 gs m om in
     let b = state_offering local.me 0 gs n on in
     same_signature local.me all clean a.3.0.act b.3.0.act m n (action a.0 a.1 a.2 a.3.0 a.3.1 facts) (action b.0 b.1 b.2 b.3.0 b.3.1 facts)
     a.3.2 b.3.2 e
   where
     action : (edges : List Edge) (j : ℕ) → slice_get gs j ≡ Some edges → (x : Edge) → Among edges x →
-        StatesActed local.me (actions local.me 1 local.body) (state_positions (protocol_of local)) →
-        Acted local.me (actions local.me 1 local.body) x.act
+        StatesActed local.me (all_actions (λ (t : Titled). local.me) body_in 1 (titled local)) (state_positions (protocol_of local)) →
+        Acted local.me (all_actions (λ (t : Titled). local.me) body_in 1 (titled local)) x.act
     action edges j there x among facts =
+        let parts = protocol_of local in
         let all = state_positions (protocol_of local) in
-        let p = position_there all all gs h j edges there in
-        let s = step_of_edge all (steps_at p.0) edges p.2 x among in
-        subst (Acted local.me (actions local.me 1 local.body)) (sym s.2.act)
-        (acted_step local.me (actions local.me 1 local.body) (steps_at p.0) (acted_at local.me (actions local.me 1 local.body) all facts j
-        p.0 p.1) s.0 s.1)
+        let actions = all_actions (λ (t : Titled). local.me) body_in 1 (titled local) in
+        let p = position_there parts all all gs h j edges there in
+        let s = step_of_edge parts all (steps_at p.0) edges p.2 x among in
+        subst (Acted local.me actions) (sym s.2.act)
+        (acted_step local.me actions (steps_at p.0) (acted_at local.me actions all facts j p.0 p.1) s.0 s.1)

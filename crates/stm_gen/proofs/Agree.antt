@@ -1,18 +1,18 @@
 -- The typestate that is laid out allows exactly the calls of its protocol.
-use Rattle.std.proofs.Common.{◌≡◌, ℕ, zero, suc, List, [], ◌∷◌, map, Some, None, refl, sym, ap, ◌∙◌, subst, ◌⊎◌, ⊎_elim, arith, false}
+use Rattle.std.proofs.Common.{◌≡◌, ℕ, zero, suc, List, [], ◌∷◌, ◌++◌, map, Some, None, refl, sym, ap, ◌∙◌, subst, ◌⊎◌, ⊎_elim, arith, false}
 use Rattle.std.specs.Prelude.{Option, IsSome, slice_get, option_and_then, Contains}
 use Rattle.std.specs.List.{AllByRecursion}
 use Rattle.std.proofs.lemmas.Option.{option_and_then_some}
 use Rattle.mg_text.specs.Call.{Name, Call}
 use Rattle.scr_tree.specs.Tree.{LocalTree}
 use Rattle.scr_tree.specs.Meaning.{protocol_of}
-use Rattle.scr_tree.specs.Protocol.{Message, Send, Take}
+use Rattle.scr_tree.specs.Protocol.{Message, Send, Take, Parts}
 use Rattle.scr_tree.specs.declared.syntax.Payload.TheVariants as payloads
-use Rattle.scr_tree.specs.Steps.{Act, Moves, Looks, Position, Step, Run, stays, goes}
+use Rattle.scr_tree.specs.Steps.{Act, Moves, Looks, Plain, Position, Step, Run, stays, goes}
 use Rattle.scr_tree.specs.CallNames.{message_call, label_call, call_of}
 use Rattle.scr_trace.specs.declared.standing.Standing.{Standing}
 use Rattle.scr_trace.specs.declared.standing.Standing.TheVariants as standings
-use Rattle.scr_trace.specs.Positions.{state_positions, ComesTo, at_state, at_end, silently}
+use Rattle.scr_trace.specs.Positions.{states_in, state_positions, ComesTo, at_state, at_end, silently}
 use Rattle.scr_trace.specs.Onward.{Onward, steps_at}
 use Rattle.scr_trace.specs.Graph.{Edge, Graph, IsStep, AreSteps, AreStates, Automates}
 use Rattle.scr_trace.specs.inner.Goes.{Among}
@@ -72,7 +72,17 @@ to_end : (s : Standing) → to_of s ≡ tos.End → s ≡ standings.End
 to_end (standings.State k) e = cc
 to_end standings.End e = refl
 
-module _ (me : Name) where
+-- the states of all parts
+settled_parts : (parts : Parts) (ps qs : List Position) → AllSettled parts ps → AllSettled parts qs → AllSettled parts (ps ++ qs)
+settled_parts parts [] qs a b = b
+settled_parts parts (p ∷ ps) qs a b = (a.0, settled_parts parts ps qs a.1 b)
+
+parts_settled : (parts some : Parts) → AllSettled parts (state_positions some)
+parts_settled parts [] = tt
+parts_settled parts (p ∷ ps) = settled_parts parts (states_in Plain [] p.body) (state_positions ps) (states_settled parts p.body Plain [])
+    (parts_settled parts ps)
+
+module _ (me : Name) (parts : Parts) where
   -- the method of an edge that is a message stands there
   message_method : (edges : List Edge) → AllMessages edges → (e : Edge) → Among edges e → (m : Message) → e.act ≡ Moves m →
       Contains (methods_of me edges) (method_of m e.to)
@@ -90,8 +100,9 @@ module _ (me : Name) where
   looks_none : (edges : List Edge) (n : ℕ) (peer : Name) → AllLooks n peer edges → (e : Edge) → Among edges e → (m : Message) →
       e.act ≡ Moves m → ⊥
   looks_none [] n peer h e a m is = a
-  looks_none (x ∷ xs) n peer h e a m is = ⊎_elim (λ f. let g : Looks n peer h.0.0 ≡ Moves m = sym h.0.1 ∙ ap (λ (y : Edge). y.act) f ∙ is in
-      cc g) (λ b. looks_none xs n peer h.1 e b m is) a
+  looks_none (x ∷ xs) n peer h e a m is =
+      ⊎_elim (λ f. let g : Looks n peer h.0.0 ≡ Moves m = sym h.0.1 ∙ ap (λ (y : Edge). y.act) f ∙ is in cc g)
+      (λ b. looks_none xs n peer h.1 e b m is) a
 
   messages_none : (edges : List Edge) → AllMessages edges → (e : Edge) → Among edges e → (n : ℕ) (peer label : Name) →
       e.act ≡ Looks n peer label → ⊥
@@ -113,13 +124,13 @@ module _ (me : Name) where
   look_method [] (looks k other h) e a n peer label is = absurd a
   look_method (x ∷ xs) (looks k other h) e a n peer label is =
       let same = of (x ∷ xs) k other h e a in
-      let parts = look_parts k n other peer same.0 label (sym same.1 ∙ is) in
+      let both = look_parts k n other peer same.0 label (sym same.1 ∙ is) in
       record {
         method = label_method me k other (branches_of (x ∷ xs));
         contained = subst (λ ms. Contains ms (label_method me k other (branches_of (x ∷ xs))))
             (sym (methods-look me x xs k other h.0.0 h.0.1)) (first_contains _ _ [] refl);
-        named = λ i. label_call me (parts.0 i) (parts.1 i);
-        result = ap (λ j. types.Named (choice_enum me j)) parts.0;
+        named = λ i. label_call me (both.0 i) (both.1 i);
+        result = ap (λ j. types.Named (choice_enum me j)) both.0;
       }
     where
       of : (ys : List Edge) (k : ℕ) (other : Name) → AllLooks k other ys → (e : Edge) → Among ys e → (l : Name) × (e.act ≡ Looks k other l)
@@ -129,7 +140,7 @@ module _ (me : Name) where
       look_parts : (a b : ℕ) (p r l m : Name) → Looks a p l ≡ Looks b r m → (a ≡ b) × (p ≡ r)
       look_parts a b p r l m e = (cc, cc)
 
-  calls_are : (all : List Position) (steps : List Onward) (edges : List Edge) → AreSteps all steps edges →
+  calls_are : (all : List Position) (steps : List Onward) (edges : List Edge) → AreSteps parts all steps edges →
       calls me edges ≡ calls_from me steps
   calls_are all [] [] h = refl
   calls_are all [] (e ∷ edges) h = absurd h
@@ -141,22 +152,22 @@ module _ (me : Name) where
   told_at (x ∷ ps) h zero p e = let f : x ≡ p = cc e in subst (Told me) f h.0
   told_at (x ∷ ps) h (suc k) p e = told_at ps h.1 k p e
 
-  module _ (all : List Position) (gs : List (List Edge)) (settled : AllSettled all) (are : AreStates all all gs) (told : AllTold me all)
-      (t : Typestate) (is : t.states ≡ states_from me 0 gs) (one : HaveOneSignature me t.states) where
+  module _ (all : List Position) (gs : List (List Edge)) (settled : AllSettled parts all) (are : AreStates parts all all gs)
+      (told : AllTold me all) (t : Typestate) (is : t.states ≡ states_from me 0 gs) (one : HaveOneSignature me t.states) where
     -- a state with its edges
     record Here (k : ℕ) : Type 0 where
       place : Position
       there : slice_get all k ≡ Some place
       edges : List Edge
       edged : slice_get gs k ≡ Some edges
-      steps : AreSteps all (steps_at place) edges
+      steps : AreSteps parts all (steps_at place) edges
       state : State
       stands : slice_get t.states k ≡ Some state
       methods : state.methods ≡ methods_of me edges
 
     here : (k : ℕ) (p : Position) → slice_get all k ≡ Some p → Here k
     here k p e =
-        let r = edges_there all all gs are k p e in
+        let r = edges_there parts all all gs are k p e in
         let s = state_there me 0 gs k r.0 r.1 in
         record {
           place = p;
@@ -165,18 +176,19 @@ module _ (me : Name) where
           edged = r.1;
           steps = r.2;
           state = s.0;
-          stands = ap (λ ss. slice_get ss k) is ∙ s.1;
+          stands = ap (λ ss. slice_get ss k) is ∙
+              s.1;
           methods = s.2;
         }
 
     kind_of : {k : ℕ} (h : Here k) → OneKind h.edges
-    kind_of {k} h = one_kind all (steps_at h.place) h.edges h.steps (told_at all told k h.place h.there).one
+    kind_of {k} h = one_kind parts all (steps_at h.place) h.edges h.steps (told_at all told k h.place h.there).one
 
     differ_of : {k : ℕ} (h : Here k) → AllDiffer (calls me h.edges)
     differ_of {k} h = subst AllDiffer (sym (calls_are all (steps_at h.place) h.edges h.steps)) (told_at all told k h.place h.there).differ
 
-    next_is : (k : ℕ) (h : Here k) (name : Name) (answer : Option Name) → next t k name answer ≡ leads me (methods_of me h.edges) name
-        answer
+    next_is : (k : ℕ) (h : Here k) (name : Name) (answer : Option Name) → next t k name answer
+        ≡ leads me (methods_of me h.edges) name answer
     next_is k h name answer =
         ap (λ o. option_and_then (λ f. led_by f.target answer) (option_and_then (λ s. offered_in s.methods name) o)) h.stands
         ∙ ap (λ ms. leads me ms name answer) h.methods
@@ -184,7 +196,7 @@ module _ (me : Name) where
     offered_there : (k : ℕ) (h : Here k) (m : Method) → Contains (methods_of me h.edges) m → IsOffered t.states m
     offered_there k h m c = (h.state, get_contains t.states k h.state h.stands, subst (λ ms. Contains ms m) (sym h.methods) c)
 
-    comes_state : {p : Position} {s : Standing} → ComesTo all p s → (k : ℕ) → s ≡ standings.State k →
+    comes_state : {p : Position} {s : Standing} → ComesTo parts all p s → (k : ℕ) → s ≡ standings.State k →
         (q : Position) × (slice_get all k ≡ Some q)
     comes_state (at_state {number = n} {position = p} e) k f = (p, subst (λ j. slice_get all j ≡ Some p) (number_same n k f) e)
       where
@@ -200,19 +212,19 @@ module _ (me : Name) where
       start : Here number
       edge : Edge
       among : Among start.edges edge
-      step : IsStep all (record { act = act; to = q }) edge
+      step : IsStep parts all (record { act = act; to = q }) edge
 
-    along : {p q : Position} {s : Standing} {act : Act} → ComesTo all p s → Step p act q → Along s act q
+    along : {p q : Position} {s : Standing} {act : Act} → ComesTo parts all p s → Step parts p act q → Along s act q
     unfolding here
     along {q = q} {act = act} c st =
-        let f = steps_from all settled c st in
+        let f = steps_from parts all settled c st in
         let h = here f.number f.place f.there in
         let l = step_listed f.step (settled_at all settled f.number f.place f.there).settled in
-        let r = edge_of_step all (steps_at f.place) h.edges h.steps (record { act = act; to = q }) l in
+        let r = edge_of_step parts all (steps_at f.place) h.edges h.steps (record { act = act; to = q }) l in
         record { number = f.number; at = f.is_state; start = h; edge = r.0; among = r.1; step = r.2 }
 
-    along_next : {s : Standing} {act : Act} {q : Position} (a : Along s act q) → next_from t (to_of s) (call_of me act) ≡ Some
-        (to_of a.edge.to)
+    along_next : {s : Standing} {act : Act} {q : Position} (a : Along s act q) → next_from t (to_of s) (call_of me act)
+        ≡ Some (to_of a.edge.to)
     along_next {s} {act} a =
         ap (λ x. next_from t (to_of x) (call_of me act)) a.at
         ∙ next_is a.number a.start (call_of me act).method (call_of me act).answer
@@ -232,10 +244,10 @@ module _ (me : Name) where
     record Reaches (s : Standing) (cs : List Call) (end : Position) : Type 0 where
       to : Standing
       leads_to : led t (to_of s) cs ≡ Some (to_of to)
-      comes : ComesTo all end to
+      comes : ComesTo parts all end to
       fit : AllByRecursion (Fits t) cs
 
-    run_reaches : {p end : Position} {acts : List Act} (s : Standing) → ComesTo all p s → Run p acts end →
+    run_reaches : {p end : Position} {acts : List Act} (s : Standing) → ComesTo parts all p s → Run parts p acts end →
         Reaches s (map (call_of me) acts) end
     run_reaches s c stays = record { to = s; leads_to = refl; comes = c; fit = tt }
     run_reaches s c (goes {act = act} {acts = acts} st run) =
@@ -252,10 +264,10 @@ module _ (me : Name) where
     record Stepped (p : Position) (call : Call) (to : To) : Type 0 where
       act : Act
       end : Position
-      step : Step p act end
+      step : Step parts p act end
       named : call_of me act ≡ call
       standing : Standing
-      comes : ComesTo all end standing
+      comes : ComesTo parts all end standing
       at : to_of standing ≡ to
 
     no_answer : (k : ℕ) (h : Here k) (e : Edge) → Among h.edges e → (m : Message) → e.act ≡ Moves m → (call : Call) →
@@ -274,14 +286,14 @@ module _ (me : Name) where
             let s = one (method_of m _) f.0 (is_offered (kind_of h)) f.2 (named ∙ sym f.3) in
             absurd (unnamed m f.1 (s.0 ∙ f.4))
 
-    stepped : {p : Position} (s : Standing) → ComesTo all p s → (call : Call) → Fits t call → (to : To) →
-        next_from t (to_of s) call ≡ Some to → Stepped p call to
+    stepped : {p : Position} (s : Standing) → ComesTo parts all p s → (call : Call) → Fits t call → (to : To) → next_from t (to_of s) call
+        ≡ Some to → Stepped p call to
     stepped standings.End c call fits to n = cc
     stepped (standings.State k) c call fits to n =
         let q = comes_state c k refl in
         let h = here k q.0 q.1 in
         let l = leads_edge me h.edges (kind_of h) call.method call.answer to (sym (next_is k h call.method call.answer) ∙ n) in
-        let s = step_of_edge all (steps_at h.place) h.edges h.steps l.edge l.among in
+        let s = step_of_edge parts all (steps_at h.place) h.edges h.steps l.edge l.among in
         let answered : (call_of me l.edge.act).answer ≡ call.answer =
         ⊎_elim (λ e. e)
         (λ (moved : (m : Message) × (l.edge.act ≡ Moves m)). ap (λ a. (call_of me a).answer) moved.1
@@ -290,7 +302,7 @@ module _ (me : Name) where
         record {
           act = s.0.act;
           end = s.0.to;
-          step = steps_to all settled c k h.place refl h.there (listed_step h.place s.0 s.1);
+          step = steps_to parts all settled c k h.place refl h.there (listed_step h.place s.0 s.1);
           named = ap (call_of me) (sym s.2.act) ∙ (λ i. record { method = l.method i; answer = answered i });
           standing = l.edge.to;
           comes = s.2.to;
@@ -300,13 +312,13 @@ module _ (me : Name) where
     record Runs (p : Position) (cs : List Call) (to : To) : Type 0 where
       acts : List Act
       end : Position
-      run : Run p acts end
+      run : Run parts p acts end
       named : map (call_of me) acts ≡ cs
       standing : Standing
-      comes : ComesTo all end standing
+      comes : ComesTo parts all end standing
       at : to_of standing ≡ to
 
-    led_runs : (cs : List Call) {p : Position} (s : Standing) → ComesTo all p s → AllByRecursion (Fits t) cs → (to : To) →
+    led_runs : (cs : List Call) {p : Position} (s : Standing) → ComesTo parts all p s → AllByRecursion (Fits t) cs → (to : To) →
         led t (to_of s) cs ≡ Some to → Runs p cs to
     led_runs [] {p} s c fit to l = record { acts = []; end = p; run = stays; named = refl; standing = s; comes = c; at = some_inside l }
     led_runs (call ∷ cs) {p} s c fit to l =
@@ -325,19 +337,19 @@ module _ (me : Name) where
         })
 
 -- where the typestate begins
-initial_is : (me : Name) (all : List Position) (gs : List (List Edge)) → AreStates all all gs → (t : Typestate) →
-    t.states ≡ states_from me 0 gs → {p : Position} {s : Standing} → ComesTo all p s → (s ≡ standings.State 0) ⊎ (all ≡ []) →
+initial_is : (me : Name) (parts : Parts) (all : List Position) (gs : List (List Edge)) → AreStates parts all all gs → (t : Typestate) →
+    t.states ≡ states_from me 0 gs → {p : Position} {s : Standing} → ComesTo parts all p s → (s ≡ standings.State 0) ⊎ (all ≡ []) →
     initial t ≡ to_of s
-initial_is me [] [] are t e {p} {s} c first = ap (λ ss. elim ss as (λ (v : List State). To) [ [] ↦ tos.End | x ∷ xs ↦ tos.State 0 ]) e ∙
-    sym (ap to_of (only_end c))
+initial_is me parts [] [] are t e {p} {s} c first = ap (λ ss. elim ss as (λ (v : List State). To) [ [] ↦ tos.End | x ∷ xs ↦ tos.State 0 ]) e
+    ∙ sym (ap to_of (only_end c))
   where
-    only_end : {p : Position} {s : Standing} → ComesTo [] p s → s ≡ standings.End
+    only_end : {p : Position} {s : Standing} → ComesTo parts [] p s → s ≡ standings.End
     only_end (at_state f) = cc f
     only_end at_end = refl
     only_end (silently m c) = only_end c
-initial_is me [] (g ∷ gs) are t e c first = absurd are
-initial_is me (q ∷ qs) [] are t e c first = absurd are
-initial_is me (q ∷ qs) (g ∷ gs) are t e {p} {s} c first =
+initial_is me parts [] (g ∷ gs) are t e c first = absurd are
+initial_is me parts (q ∷ qs) [] are t e c first = absurd are
+initial_is me parts (q ∷ qs) (g ∷ gs) are t e {p} {s} c first =
     ap (λ ss. elim ss as (λ (v : List State). To) [ [] ↦ tos.End | x ∷ xs ↦ tos.State 0 ]) e ∙
     sym (ap to_of (⊎_elim (λ f. f) (λ f. cc f) first))
 
@@ -346,13 +358,14 @@ pub agrees : (local : LocalTree) (g : Graph) → Automates (protocol_of local) g
     (g.initial ≡ standings.State 0) ⊎ (state_positions (protocol_of local) ≡ []) → Agrees local.me (protocol_of local) t
 agrees local g along told t is one first =
     let me : Name = local.me in
+    let parts : Parts = protocol_of local in
     let all : List Position = state_positions (protocol_of local) in
-    let settled : AllSettled all = states_settled (protocol_of local) _ _ in
-    let begin : initial t ≡ to_of g.initial = initial_is me all g.states along.states t is along.initial first in
+    let settled : AllSettled parts all = parts_settled parts parts in
+    let begin : initial t ≡ to_of g.initial = initial_is me parts all g.states along.states t is along.initial first in
     record {
       paths = λ cs. (
         λ trace.
-            let r = run_reaches me all g.states settled along.states told t is one g.initial along.initial trace.2 in
+            let r = run_reaches me parts all g.states settled along.states told t is one g.initial along.initial trace.2 in
             record {
               fit = subst (AllByRecursion (Fits t)) trace.3 r.fit;
               to = to_of r.to;
@@ -360,34 +373,34 @@ agrees local g along told t is one first =
               offers = tt;
             },
         λ path.
-            let r = led_runs me all g.states settled along.states told t is one cs g.initial along.initial path.fit path.to
+            let r = led_runs me parts all g.states settled along.states told t is one cs g.initial along.initial path.fit path.to
             (ap (λ from. led t from cs) (sym begin) ∙ path.leads) in
             (r.acts, r.end, r.run, r.named),
       );
       ends = λ cs. (
         λ complete.
-            let r = run_reaches me all g.states settled along.states told t is one g.initial along.initial complete.2 in
+            let r = run_reaches me parts all g.states settled along.states told t is one g.initial along.initial complete.2 in
             record {
               fit = subst (AllByRecursion (Fits t)) complete.4 r.fit;
               leads =
                   ap (λ from. led t from cs) begin ∙ ap (led t (to_of g.initial)) (sym complete.4) ∙ r.leads_to
-                  ∙ ap (λ s. Some (to_of s)) (finished_end all settled r.comes complete.3);
+                  ∙ ap (λ s. Some (to_of s)) (finished_end parts all settled r.comes complete.3);
             },
         λ path.
-            let r = led_runs me all g.states settled along.states told t is one cs g.initial along.initial path.fit tos.End
+            let r = led_runs me parts all g.states settled along.states told t is one cs g.initial along.initial path.fit tos.End
             (ap (λ from. led t from cs) (sym begin) ∙ path.leads) in
-            (r.acts, r.end, r.run, end_finished all settled r.comes (to_end r.standing r.at), r.named),
+            (r.acts, r.end, r.run, end_finished parts all settled r.comes (to_end r.standing r.at), r.named),
       );
     }
 
 -- the states are laid out as the protocol says
-pub laid : (me : Name) (all : List Position) (k : ℕ) (ps : List Position) (gs : List (List Edge)) → AreStates all ps gs →
-    AreLaid me all ps k (states_from me k gs)
-laid me all k [] [] h = tt
-laid me all k [] (g ∷ gs) h = absurd h
-laid me all k (p ∷ ps) [] h = absurd h
-laid me all k (p ∷ ps) (g ∷ gs) h = (
+pub laid : (me : Name) (parts : Parts) (all : List Position) (k : ℕ) (ps : List Position) (gs : List (List Edge)) →
+    AreStates parts all ps gs → AreLaid me parts all ps k (states_from me k gs)
+laid me parts all k [] [] h = tt
+laid me parts all k [] (g ∷ gs) h = absurd h
+laid me parts all k (p ∷ ps) [] h = absurd h
+laid me parts all k (p ∷ ps) (g ∷ gs) h = (
   record { name = refl; edges = g; steps = h.0; methods = refl; drops = refl },
-  laid me all (suc k) ps gs
-      h.1,
+  laid me parts all
+      (suc k) ps gs h.1,
 )

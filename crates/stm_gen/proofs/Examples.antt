@@ -1,4 +1,4 @@
--- The typestates of six protocols, by computation.
+-- The typestates of eight protocols, by computation.
 use Rattle.std.proofs.Common.{◌≡◌, ℕ, List, [], ◌∷◌, refl, codes, false}
 use Rattle.std.specs.Fmt.{digits}
 use Rattle.mg_text.specs.Call.{Name}
@@ -7,7 +7,7 @@ use Rattle.scr_tree.specs.declared.syntax.Direction.TheVariants as directions
 use Rattle.scr_tree.specs.declared.syntax.Payload.{Payload}
 use Rattle.scr_tree.specs.declared.syntax.Payload.TheVariants as payloads
 use Rattle.scr_tree.specs.declared.syntax.Message.{Message as Said}
-use Rattle.scr_tree.specs.Tree.{LocalTree, Statements, Nothing, Says, Choice, Rec, Continue, NoBranch, Branch}
+use Rattle.scr_tree.specs.Tree.{LocalTree, Statements, Nothing, Says, Choice, Rec, Continue, Do, NoBranch, Branch}
 use Rattle.ts_tree.specs.declared.parts.TypeName.{TypeName}
 use Rattle.ts_tree.specs.declared.parts.TypeName.TheVariants as types
 use Rattle.ts_tree.specs.declared.parts.Branch.{Branch as Answer}
@@ -19,7 +19,7 @@ use Rattle.stm_gen.specs.Numbered.{typestate_of}
 -- ---- how a protocol and a typestate are written down
 
 abbrev local : (me other : Name) → Statements → LocalTree
-local me other body = record { file = 0; name = codes "P"; me = me; roles = me ∷ other ∷ []; body = body }
+local me other body = record { file = 0; name = codes "P"; me = me; roles = me ∷ other ∷ []; body = body; others = [] }
 
 abbrev method : TypeName → Name → List TypeName → To → Method
 method result name params to = record { result = result; name = name; params = params; target = One to }
@@ -169,3 +169,68 @@ module _ (p : Place) where
   }
   unfolding digits
   nesting = refl
+
+  -- ---- local protocol Ping at C(role C, role S) { ping() to S; do Pong(C, S); }
+  -- local protocol Pong at C(role C, role S) { choice at S { again() from S; do Ping(C, S); } or { stop() from S; } }
+
+  abbrev ping : Statements
+  ping = Says (to (codes "S") (codes "ping") payloads.Nothing) (Do p (codes "Pong") Nothing)
+
+  abbrev pong : Statements
+  pong =
+      Choice p (codes "S")
+      (Branch (Says (from (codes "S") (codes "again") payloads.Nothing) (Do p (codes "Ping") Nothing))
+      (Branch (Says (from (codes "S") (codes "stop") payloads.Nothing) Nothing) NoBranch))
+      Nothing
+
+  abbrev both : LocalTree
+  both = record {
+    file = 0;
+    name = codes "Ping";
+    me = codes "C";
+    roles = codes "C" ∷ codes "S" ∷ [];
+    body = ping;
+    others = record { place = p; name = codes "Pong"; body = pong } ∷ [];
+  }
+
+  going_round : typestate_of both ≡ record {
+    name = codes "CProtocol";
+    states = state (codes "State0") (method types.Void (codes "send_pingToS") [] (tos.State 1) ∷ [])
+        ∷ state (codes "State1") (
+        asked (codes "CChoice1") (codes "receive_CChoice1LabelFromS") (answer (codes "again") 2 ∷ answer (codes "stop") 3 ∷ []) ∷ []
+        )
+        ∷ state (codes "State2") (method types.Void (codes "receive_againFromS") [] (tos.State 0) ∷ [])
+        ∷ state (codes "State3") (method types.Void (codes "receive_stopFromS") [] tos.End ∷ [])
+        ∷ [];
+  }
+  unfolding digits
+  going_round = refl
+
+  -- ---- A goes on as B, whose body has no state: it leads where its own `do` leads, and to the end where it has none
+  -- local protocol A at C(role C, role S) { choice at C { a() to S; do B(C, S); } or { b() to S; do E(C, S); } }
+  -- local protocol B at C(role C, role S) { rec X { do A(C, S); } } local protocol E at C(role C, role S) { }
+
+  abbrev leading : LocalTree
+  leading = record {
+    file = 0;
+    name = codes "A";
+    me = codes "C";
+    roles = codes "C" ∷ codes "S" ∷ [];
+    body = Choice p (codes "C")
+        (Branch (Says (to (codes "S") (codes "a") payloads.Nothing) (Do p (codes "B") Nothing))
+        (Branch (Says (to (codes "S") (codes "b") payloads.Nothing) (Do p (codes "E") Nothing)) NoBranch))
+        Nothing;
+    others = record { place = p; name = codes "B"; body = Rec p (codes "X") (Do p (codes "A") Nothing) Nothing }
+        ∷ record { place = p; name = codes "E"; body = Nothing }
+        ∷ [];
+  }
+
+  leading_on : typestate_of leading ≡ record {
+    name = codes "CProtocol";
+    states = state (codes "State0") (
+        method types.Void (codes "send_aToS") [] (tos.State 0) ∷ method types.Void (codes "send_bToS") [] tos.End ∷ []
+        )
+        ∷ [];
+  }
+  unfolding digits
+  leading_on = refl

@@ -8,23 +8,25 @@ use Rattle.std.proofs.lemmas.List.Elements.{filter-append}
 use Rattle.mg_text.specs.Call.{Name}
 use Rattle.mg_text.specs.Places.{start_of}
 use Rattle.mg_read.specs.Culprit.{culprit}
-use Rattle.scr_tree.specs.Tree.{LocalTree, Statements, Nothing, Says, Choice, Rec, Continue, NoBranch, Branch}
+use Rattle.scr_tree.specs.Tree.{LocalTree, Titled, titled, body_in, Statements, Nothing, Says, Choice, Rec, Continue, Do, NoBranch, Branch}
 use Rattle.scr_tree.specs.Tree as tree
-use Rattle.scr_tree.specs.Meaning.{choices, choices_in, numbered, numbered_in, message_of, protocol_of}
+use Rattle.scr_tree.specs.Meaning.{choices, choices_in, numbered, numbered_in, numbered_parts, message_of, protocol_of}
 use Rattle.scr_tree.specs.Protocol.{Protocol, Does, ChoiceHere, ChoiceThere}
 use Rattle.scr_tree.specs.Spots.{Past, Opens, Enters, Way, Spot, spot, spots, branch_spots}
-use Rattle.scr_tree.specs.States.{TooManyStates, begins, is_state}
+use Rattle.scr_tree.specs.States.{TooManyStates, begins, is_state, all_states}
+use Rattle.scr_tree.specs.States.{states as written_states}
 use Rattle.scr_tree.specs.Steps.{Part, Plain, BodyOf, Left, Position}
-use Rattle.scr_tree.specs.Valid.{IsValid}
+use Rattle.scr_tree.specs.Valid.{IsValid, names_in}
+use Rattle.scr_trace.specs.declared.standing.Standing.{Standing}
 use Rattle.scr_trace.specs.declared.standing.Standing.TheVariants as standings
 use Rattle.scr_trace.specs.Positions.{states_in, states_here, states_there}
 use Rattle.scr_trace.proofs.Parts
 use Rattle.scr_trace.proofs.Rules.{Sound, SoundIn, SoundFirst}
-use Rattle.scr_trace.proofs.Valid.{clean_once, valid_sound}
-use Rattle.stm_gen.specs.Numbered.{states}
+use Rattle.scr_trace.proofs.Valid.{AllSound, clean_once, valid_sound}
+use Rattle.stm_gen.specs.Numbered.{after, states, part_states}
 use Rattle.stm_gen.proofs.Numbers.{as_many}
 
-module _ (me : Name) where
+module _ (me : Name) (protocols : List Name) where
   abbrev count : List Spot → ℕ
   count ss = length (filter (is_state me) ss)
 
@@ -59,7 +61,7 @@ module _ (me : Name) where
   first_count false s ss m r around e = ap suc e
 
   mutual
-    counts : (t : Statements) (names : List Name) → Sound names t → (way : Way) → begins me way ≡ false →
+    counts : (t : Statements) (names : List Name) → Sound protocols names t → (way : Way) → begins me way ≡ false →
         (c : ℕ) (part : Part) (around : Position) →
         count (spots way t) ≡ length (states_in part around (numbered me c t))
     counts Nothing names h way e c part around = refl
@@ -82,9 +84,12 @@ module _ (me : Name) where
     counts (Continue p name rest) names h way e c part around =
         ap (λ (t : Statements). count (spots (Past (Continue p name Nothing) ∷ way) t)) h.1 ∙
         sym (ap (λ (t : Statements). length (states_in part around (numbered me c t))) h.1)
+    counts (Do p name rest) names h way e c part around =
+        ap (λ (t : Statements). count (spots (Past (Do p name Nothing) ∷ way) t)) h.1 ∙
+        sym (ap (λ (t : Statements). length (states_in part around (numbered me c t))) h.1)
 
-    counts_in : (bs : tree.Branches) (names : List Name) → SoundIn names bs → (way : Way) (at : Name) (earlier : List Statements) (c : ℕ)
-        (around : Position) →
+    counts_in : (bs : tree.Branches) (names : List Name) → SoundIn protocols names bs → (way : Way) (at : Name) (earlier : List Statements)
+        (c : ℕ) (around : Position) →
         count (branch_spots way at earlier bs) ≡ length (Parts.within (bytes_eq at me) around (numbered_in me c bs))
     counts_in NoBranch names h way at earlier c around = sym (ap length (Parts.within-NoMore (bytes_eq at me) around))
     counts_in (Branch b more) names h way at earlier c around =
@@ -96,8 +101,8 @@ module _ (me : Name) where
         (Parts.within (bytes_eq at me) around (numbered_in me (c + choices me b) more)) in
         omega arith
 
-    counts_first : (b : Statements) (names : List Name) → SoundFirst names b → (way : Way) (at : Name) (earlier : List Statements) (c : ℕ)
-        (around : Position) →
+    counts_first : (b : Statements) (names : List Name) → SoundFirst protocols names b → (way : Way) (at : Name) (earlier : List Statements)
+        (c : ℕ) (around : Position) →
         count (spots (Enters at earlier ∷ way) b) ≡ length (Parts.first_in (bytes_eq at me) around (numbered me c b))
     counts_first (Says m rest) names h way at earlier c around =
         first_count (bytes_eq at me) (spot (Enters at earlier ∷ way) (Says m rest))
@@ -107,6 +112,7 @@ module _ (me : Name) where
     counts_first (Choice p other bs rest) names h way at earlier c around = absurd h
     counts_first (Rec p name body rest) names h way at earlier c around = absurd h
     counts_first (Continue p name rest) names h way at earlier c around = absurd h
+    counts_first (Do p name rest) names h way at earlier c around = absurd h
 
 at_most : (k : ℕ) → (1000 < k → ⊥) → k ≤ 1000
 at_most k h = ⊎_elim (λ l. l) (λ g. absurd (h g)) (or_more k)
@@ -114,11 +120,26 @@ at_most k h = ⊎_elim (λ l. l) (λ g. absurd (h g)) (or_more k)
     or_more : (k : ℕ) → (k ≤ 1000) ⊎ (1000 < k)
     or_more k = grind arith
 
+-- parts, one after another
+parts_count : (me : Name) (protocols : List Name) (entry : Name → Standing) (ts : List Titled) → AllSound protocols ts → (n c : ℕ) →
+    length (all_states (λ (t : Titled). me) body_in ts) ≡ length (part_states entry me n (numbered_parts me c ts))
+parts_count me protocols entry [] h n c = refl
+parts_count me protocols entry (t ∷ ts) h n c =
+    let body : Protocol = numbered me c t.body in
+    let own = counts me protocols t.body [] h.0 [] refl c Plain [] in
+    let many = as_many me entry body n standings.End [] Plain [] in
+    let more = parts_count me protocols entry ts h.1 (after n body) (c + choices me t.body) in
+    let x = length-append (written_states me t.body) (all_states (λ (t : Titled). me) body_in ts) in
+    let y = length-append (states entry me n standings.End [] body)
+    (part_states entry me (after n body) (numbered_parts me (c + choices me t.body) ts)) in
+    omega arith
+
 -- the states of a valid local protocol
-pub few : (local : LocalTree) → ∥ IsValid local ∥₁ → length (states local.me 0 standings.End [] (protocol_of local)) ≤ 1000
-few local v =
-    let clean = ∥∥₁_elim v (clean_once (TooManyStates local.file local.me) (local.body ∷ [])) (λ i. i.few_states) in
-    let same = counts local.me local.body [] (valid_sound local v) [] refl 1 Plain [] in
-    let many = as_many local.me (protocol_of local) 0 standings.End [] Plain [] in
-    at_most (length (states local.me 0 standings.End [] (protocol_of local))) (λ h. clean.0 (culprit (start_of local.file) [])
-    (refl, omega (arith, same, many, h)))
+pub few : (local : LocalTree) → ∥ IsValid local ∥₁ → (entry : Name → Standing) →
+    length (part_states entry local.me 0 (protocol_of local)) ≤ 1000
+few local v entry =
+    let all : List Spot = all_states (λ (t : Titled). local.me) body_in (titled local) in
+    let clean = ∥∥₁_elim v (clean_once (TooManyStates local.file) (all ∷ [])) (λ i. i.few_states) in
+    let same = parts_count local.me (names_in local) entry (titled local) (valid_sound local v) 0 1 in
+    at_most (length (part_states entry local.me 0 (protocol_of local))) (λ h. clean.0 (culprit (start_of local.file) [])
+    (refl, omega (arith, same, h)))

@@ -5,6 +5,7 @@ pub mod Acting
 pub mod Agree
 pub mod Numbers
 pub mod Starting
+pub mod Entering
 pub mod Numbering
 pub mod Few
 pub mod Examples

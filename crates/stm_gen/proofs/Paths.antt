@@ -4,7 +4,7 @@ use Rattle.std.specs.Prelude.{Option, option_and_then, if◌then◌else◌}
 use Rattle.std.specs.Str.{bytes_eq}
 use Rattle.std.proofs.lemmas.Slice.Eq.{bytes_eq-Decides}
 use Rattle.mg_text.specs.Call.{Name, Call}
-use Rattle.scr_tree.specs.Protocol.{Message}
+use Rattle.scr_tree.specs.Protocol.{Message, Parts}
 use Rattle.scr_tree.specs.Steps.{Act, Moves, Looks, Position}
 use Rattle.scr_tree.specs.CallNames.{message_call, label_call, call_of}
 use Rattle.scr_trace.specs.Onward.{Onward}
@@ -41,22 +41,24 @@ pub data OneKind : List Edge → Type 0 where
   messages : {edges : List Edge} → AllMessages edges → OneKind edges
   looks : {edges : List Edge} (n : ℕ) (peer : Name) → AllLooks n peer edges → OneKind edges
 
-edges_move : (all : List Position) (steps : List Onward) (edges : List Edge) → AreSteps all steps edges → AllMove steps → AllMessages edges
-edges_move all [] [] h m = tt
-edges_move all [] (e ∷ edges) h m = absurd h
-edges_move all (s ∷ steps) [] h m = absurd h
-edges_move all (s ∷ steps) (e ∷ edges) h m = ((m.0.0, h.0.act ∙ m.0.1), edges_move all steps edges h.1 m.1)
+edges_move : (parts : Parts) (all : List Position) (steps : List Onward) (edges : List Edge) → AreSteps parts all steps edges →
+    AllMove steps → AllMessages edges
+edges_move parts all [] [] h m = tt
+edges_move parts all [] (e ∷ edges) h m = absurd h
+edges_move parts all (s ∷ steps) [] h m = absurd h
+edges_move parts all (s ∷ steps) (e ∷ edges) h m = ((m.0.0, h.0.act ∙ m.0.1), edges_move parts all steps edges h.1 m.1)
 
-edges_look : (all : List Position) (n : ℕ) (peer : Name) (steps : List Onward) (edges : List Edge) → AreSteps all steps edges →
-    AllLook n peer steps → AllLooks n peer edges
-edges_look all n peer [] [] h m = tt
-edges_look all n peer [] (e ∷ edges) h m = absurd h
-edges_look all n peer (s ∷ steps) [] h m = absurd h
-edges_look all n peer (s ∷ steps) (e ∷ edges) h m = ((m.0.0, h.0.act ∙ m.0.1), edges_look all n peer steps edges h.1 m.1)
+edges_look : (parts : Parts) (all : List Position) (n : ℕ) (peer : Name) (steps : List Onward) (edges : List Edge) →
+    AreSteps parts all steps edges → AllLook n peer steps → AllLooks n peer edges
+edges_look parts all n peer [] [] h m = tt
+edges_look parts all n peer [] (e ∷ edges) h m = absurd h
+edges_look parts all n peer (s ∷ steps) [] h m = absurd h
+edges_look parts all n peer (s ∷ steps) (e ∷ edges) h m = ((m.0.0, h.0.act ∙ m.0.1), edges_look parts all n peer steps edges h.1 m.1)
 
-pub one_kind : (all : List Position) (steps : List Onward) (edges : List Edge) → AreSteps all steps edges → OneChoice steps → OneKind edges
-one_kind all steps edges h (moving m) = messages (edges_move all steps edges h m)
-one_kind all steps edges h (looking n peer l) = looks n peer (edges_look all n peer steps edges h l)
+pub one_kind : (parts : Parts) (all : List Position) (steps : List Onward) (edges : List Edge) → AreSteps parts all steps edges →
+    OneChoice steps → OneKind edges
+one_kind parts all steps edges h (moving m) = messages (edges_move parts all steps edges h m)
+one_kind parts all steps edges h (looking n peer l) = looks n peer (edges_look parts all n peer steps edges h l)
 
 -- the calls of edges, none twice
 abbrev pub calls : Name → List Edge → List Call
@@ -67,20 +69,20 @@ module _ (me : Name) where
   abbrev pub leads : List Method → Name → Option Name → Option To
   leads ms name answer = option_and_then (λ m. led_by m.target answer) (offered_in ms name)
 
-  pub methods-message : (e : Edge) (es : List Edge) (m : Message) → e.act ≡ Moves m → methods_of me (e ∷ es) ≡ method_of m e.to ∷ methods_of
-      me es
+  pub methods-message : (e : Edge) (es : List Edge) (m : Message) → e.act ≡ Moves m → methods_of me (e ∷ es)
+      ≡ method_of m e.to ∷ methods_of me es
   methods-message e es m is = ap (λ a. methods_by me a e.to (methods_of me es) (branches_of (e ∷ es))) is
 
-  pub methods-look : (e : Edge) (es : List Edge) (n : ℕ) (peer label : Name) → e.act ≡ Looks n peer label →
-      methods_of me (e ∷ es) ≡ label_method me n peer (branches_of (e ∷ es)) ∷ []
+  pub methods-look : (e : Edge) (es : List Edge) (n : ℕ) (peer label : Name) → e.act ≡ Looks n peer label → methods_of me (e ∷ es)
+      ≡ label_method me n peer (branches_of (e ∷ es)) ∷ []
   methods-look e es n peer label is = ap (λ a. methods_by me a e.to (methods_of me es) (branches_of (e ∷ es))) is
 
-  pub branches-look : (e : Edge) (es : List Edge) (n : ℕ) (peer label : Name) → e.act ≡ Looks n peer label →
-      branches_of (e ∷ es) ≡ record { label = label; to = to_of e.to } ∷ branches_of es
+  pub branches-look : (e : Edge) (es : List Edge) (n : ℕ) (peer label : Name) → e.act ≡ Looks n peer label → branches_of (e ∷ es)
+      ≡ record { label = label; to = to_of e.to } ∷ branches_of es
   branches-look e es n peer label is = ap (λ a. branch_before a e.to (branches_of es)) is
 
-  offered-first : (m : Method) (ms : List Method) (name : Name) (b : Bool) → bytes_eq m.name name ≡ b →
-      offered_in (m ∷ ms) name ≡ (if b then Some m else offered_in ms name)
+  offered-first : (m : Method) (ms : List Method) (name : Name) (b : Bool) → bytes_eq m.name name ≡ b → offered_in (m ∷ ms) name
+      ≡ (if b then Some m else offered_in ms name)
   offered-first m ms name b e = ap (λ c. if c then Some m else offered_in ms name) e
 
   -- a message's call leads where its edge does
@@ -113,8 +115,8 @@ module _ (me : Name) where
 
       no_answer : (ys : List Edge) (e : Edge) → AllMessages ys → Among ys e → (call_of me e.act).answer ≡ None
       no_answer [] e h a = absurd a
-      no_answer (y ∷ ys) e h a = ⊎_elim (λ g. ap (λ (z : Edge). (call_of me z.act).answer) (sym g) ∙ ap (λ (c : Act). (call_of me c).answer)
-          h.0.1) (λ b. no_answer ys e h.1 b) a
+      no_answer (y ∷ ys) e h a = ⊎_elim (λ g. ap (λ (z : Edge). (call_of me z.act).answer) (sym g) ∙
+          ap (λ (c : Act). (call_of me c).answer) h.0.1) (λ b. no_answer ys e h.1 b) a
 
       other : (x : Edge) (xs : List Edge) (e : Edge) → Among xs e → (m : Message) →
           call_of me x.act ≡ record { method = message_call m; answer = None } → AllDiffer (calls me (x ∷ xs)) → AllMessages (x ∷ xs) →
@@ -223,8 +225,8 @@ module _ (me : Name) where
       ⊎_elim
       (λ t. by answer (sym (ap (option_and_then (λ f. led_by f.target answer)) (offered-first m [] name true t)) ∙ l')
       ((bytes_eq-Decides (label_call me n peer) name).0 t))
-      (λ t. let z : None ≡ Some to = sym (ap (option_and_then (λ f. led_by f.target answer)) (offered-first m [] name false t)) ∙ l' in cc
-      z)
+      (λ t. let z : None ≡ Some to = sym (ap (option_and_then (λ f. led_by f.target answer)) (offered-first m [] name false t)) ∙
+      l' in cc z)
       (true_or_false (bytes_eq (label_call me n peer) name))
     where
       by : (answer : Option Name) → led_by (ByAnswer (branches_of (x ∷ xs))) answer ≡ Some to → label_call me n peer ≡ name →
@@ -271,6 +273,7 @@ module _ (me : Name) where
         edge = r.0;
         among = r.1;
         method = ap (λ (c : Call). c.method) r.2;
-        answered = inl (ap (λ (c : Call). c.answer) r.2);
+        answered =
+            inl (ap (λ (c : Call). c.answer) r.2);
         leads_to = r.3;
       }

@@ -5,6 +5,7 @@ use Rattle.std.specs.Prelude.{Contains, codes, slice_get}
 use Rattle.std.specs.List.{AllByRecursion}
 use Rattle.std.proofs.lemmas.Fmt.{decimal_injective}
 use Rattle.mg_text.specs.Call.{Name, Call}
+use Rattle.scr_tree.specs.Protocol.{Parts}
 use Rattle.scr_tree.specs.Steps.{Looks, Position}
 use Rattle.scr_tree.specs.CallNames.{message_call, label_call, call_of}
 use Rattle.scr_trace.specs.declared.standing.Standing.{Standing}
@@ -61,20 +62,21 @@ below [] k x e = cc
 below (y ∷ ys) zero x e = omega arith
 below (y ∷ ys) (suc k) x e = let h = below ys k x e in omega arith
 
-comes_within : (all : List Position) {p : Position} {s : Standing} → ComesTo all p s → IsWithin (length all) (to_of s)
-comes_within all (at_state {number = k} {position = p} e) = below all k p e
-comes_within all at_end = tt
-comes_within all (silently m c) = comes_within all c
+comes_within : (parts : Parts) (all : List Position) {p : Position} {s : Standing} → ComesTo parts all p s → IsWithin (length all) (to_of s)
+comes_within parts all (at_state {number = k} {position = p} e) = below all k p e
+comes_within parts all at_end = tt
+comes_within parts all (silently m c) = comes_within parts all c
 
 abbrev AllWithin : ℕ → List Edge → Type 0
 AllWithin count [] = Unit {0}
 AllWithin count (e ∷ es) = IsWithin count (to_of e.to) × AllWithin count es
 
-edges_within : (all : List Position) (steps : List Onward) (edges : List Edge) → AreSteps all steps edges → AllWithin (length all) edges
-edges_within all [] [] h = tt
-edges_within all [] (e ∷ edges) h = absurd h
-edges_within all (s ∷ steps) [] h = absurd h
-edges_within all (s ∷ steps) (e ∷ edges) h = (comes_within all h.0.to, edges_within all steps edges h.1)
+edges_within : (parts : Parts) (all : List Position) (steps : List Onward) (edges : List Edge) → AreSteps parts all steps edges →
+    AllWithin (length all) edges
+edges_within parts all [] [] h = tt
+edges_within parts all [] (e ∷ edges) h = absurd h
+edges_within parts all (s ∷ steps) [] h = absurd h
+edges_within parts all (s ∷ steps) (e ∷ edges) h = (comes_within parts all h.0.to, edges_within parts all steps edges h.1)
 
 -- ---- a state
 
@@ -157,41 +159,41 @@ module _ (me : Name) where
             ((branch_targets count n peer (x ∷ xs) h w, labels_differ n peer (x ∷ xs) h d), tt);
       })
 
-  each_state : (all : List Position) (k : ℕ) (ps : List Position) (gs : List (List Edge)) → AreStates all ps gs → AllTold me ps →
-      AllByRecursion (IsState (length all)) (states_from me k gs)
-  each_state all k [] [] h t = tt
-  each_state all k [] (g ∷ gs) h t = absurd h
-  each_state all k (p ∷ ps) [] h t = absurd h
-  each_state all k (p ∷ ps) (g ∷ gs) h t = (
-    proper_state (length all) k g (one_kind all (steps_at p) g h.0 t.0.one) (subst AllDiffer (sym (calls_are all (steps_at p) g h.0))
-        t.0.differ) (edges_within all (steps_at p) g h.0),
-    each_state all (suc k) ps gs h.1 t.1,
+  each_state : (parts : Parts) (all : List Position) (k : ℕ) (ps : List Position) (gs : List (List Edge)) → AreStates parts all ps gs →
+      AllTold me ps → AllByRecursion (IsState (length all)) (states_from me k gs)
+  each_state parts all k [] [] h t = tt
+  each_state parts all k [] (g ∷ gs) h t = absurd h
+  each_state parts all k (p ∷ ps) [] h t = absurd h
+  each_state parts all k (p ∷ ps) (g ∷ gs) h t = (
+    proper_state (length all) k g (one_kind parts all (steps_at p) g h.0 t.0.one)
+        (subst AllDiffer (sym (calls_are parts all (steps_at p) g h.0)) t.0.differ) (edges_within parts all (steps_at p) g h.0),
+    each_state parts all (suc k) ps gs h.1 t.1,
   )
     where
-      calls_are : (all : List Position) (steps : List Onward) (edges : List Edge) → AreSteps all steps edges →
+      calls_are : (parts : Parts) (all : List Position) (steps : List Onward) (edges : List Edge) → AreSteps parts all steps edges →
           calls me edges ≡ calls_from me steps
-      calls_are all [] [] h = refl
-      calls_are all [] (e ∷ edges) h = absurd h
-      calls_are all (s ∷ steps) [] h = absurd h
-      calls_are all (s ∷ steps) (e ∷ edges) h = λ i. call_of me (h.0.act i) ∷ calls_are all steps edges h.1 i
+      calls_are parts all [] [] h = refl
+      calls_are parts all [] (e ∷ edges) h = absurd h
+      calls_are parts all (s ∷ steps) [] h = absurd h
+      calls_are parts all (s ∷ steps) (e ∷ edges) h = λ i. call_of me (h.0.act i) ∷ calls_are parts all steps edges h.1 i
 
   -- as many states as positions
-  as_many : (all ps : List Position) (gs : List (List Edge)) → AreStates all ps gs → length gs ≡ length ps
-  as_many all [] [] h = refl
-  as_many all [] (g ∷ gs) h = absurd h
-  as_many all (p ∷ ps) [] h = absurd h
-  as_many all (p ∷ ps) (g ∷ gs) h = ap suc (as_many all ps gs h.1)
+  as_many : (parts : Parts) (all ps : List Position) (gs : List (List Edge)) → AreStates parts all ps gs → length gs ≡ length ps
+  as_many parts all [] [] h = refl
+  as_many parts all [] (g ∷ gs) h = absurd h
+  as_many parts all (p ∷ ps) [] h = absurd h
+  as_many parts all (p ∷ ps) (g ∷ gs) h = ap suc (as_many parts all ps gs h.1)
 
   -- methods of one name have one signature
   abbrev pub HaveOneSignature : List State → Type 0
   HaveOneSignature states = (m n : Method) → IsOffered states m → IsOffered states n → m.name ≡ n.name → (m.result ≡ n.result)
       × (m.params ≡ n.params)
 
-  pub proper : (all : List Position) (gs : List (List Edge)) → length gs < 2 ^ 64 → AreStates all all gs → AllTold me all →
-      HaveOneSignature (states_from me 0 gs) → IsProper (states_from me 0 gs)
-  proper all gs few h t one = record {
+  pub proper : (parts : Parts) (all : List Position) (gs : List (List Edge)) → length gs < 2 ^ 64 → AreStates parts all all gs →
+      AllTold me all → HaveOneSignature (states_from me 0 gs) → IsProper (states_from me 0 gs)
+  proper parts all gs few h t one = record {
     states_differ = names_differ me 0 gs (omega arith);
-    each = subst (λ n. AllByRecursion (IsState n) (states_from me 0 gs)) (sym (how_many me 0 gs ∙ as_many all all gs h))
-        (each_state all 0 all gs h t);
+    each = subst (λ n. AllByRecursion (IsState n) (states_from me 0 gs)) (sym (how_many me 0 gs ∙ as_many parts all all gs h))
+        (each_state parts all 0 all gs h t);
     one_signature = one;
   }

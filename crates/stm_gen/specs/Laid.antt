@@ -7,7 +7,7 @@ use Rattle.mg_text.specs.Call.{Name}
 use Rattle.scr_tree.specs.declared.syntax.Payload.{Payload}
 use Rattle.scr_tree.specs.declared.syntax.Payload.TheVariants as payloads
 use Rattle.scr_tree.specs.Tree.{LocalTree}
-use Rattle.scr_tree.specs.Protocol.{Message, Send, Take}
+use Rattle.scr_tree.specs.Protocol.{Message, Send, Take, Parts}
 use Rattle.scr_tree.specs.Steps.{Act, Moves, Looks, Position}
 use Rattle.scr_tree.specs.CallNames.{message_call, label_call}
 use Rattle.scr_tree.specs.Meaning.{protocol_of}
@@ -92,20 +92,20 @@ abbrev pub state_name : ℕ → Name
 state_name k = codes "State" ++ decimal k
 
 -- the state at a position: its methods are those of the steps there, in the order of the text; it isn't marked drop
-pub record IsLaidState (me : Name) (all : List Position) (position : Position) (k : ℕ) (s : State) : Type 0 where
+pub record IsLaidState (me : Name) (parts : Parts) (all : List Position) (position : Position) (k : ℕ) (s : State) : Type 0 where
   pub name : s.name ≡ state_name k
   pub edges : List Edge
-  pub steps : AreSteps all (steps_at position) edges
+  pub steps : AreSteps parts all (steps_at position) edges
   pub methods : s.methods ≡ methods_of me edges
   pub drops : s.drops ≡ false
 
 -- the states at positions, of which the first has this number
-abbrev pub AreLaid : Name → List Position → List Position → ℕ → List State → Type 0
-AreLaid me all [] k [] = Unit {0}
-AreLaid me all (position ∷ positions) k (s ∷ ss) = IsLaidState me all position k s × AreLaid me all positions (suc k) ss
-AreLaid me all _ k _ = ⊥
+abbrev pub AreLaid : Name → Parts → List Position → List Position → ℕ → List State → Type 0
+AreLaid me parts all [] k [] = Unit {0}
+AreLaid me parts all (position ∷ positions) k (s ∷ ss) = IsLaidState me parts all position k s × AreLaid me parts all positions (suc k) ss
+AreLaid me parts all _ k _ = ⊥
 
 -- a typestate whose states are those of a local protocol, as far as the text that is left tells them apart
 pub record IsLaid (local : LocalTree) (t : Typestate) : Type 0 where
   pub name : t.name ≡ local.me ++ codes "Protocol"
-  pub states : AreLaid local.me (state_positions (protocol_of local)) (state_positions (protocol_of local)) 0 t.states
+  pub states : AreLaid local.me (protocol_of local) (state_positions (protocol_of local)) (state_positions (protocol_of local)) 0 t.states

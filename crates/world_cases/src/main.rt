@@ -38,7 +38,7 @@ impl<'a, R: Files + AllocGlobal> Answers for Worlds<'a, R> {
             Ok(told) => Ok(told),
             Err(Unanswered::Form) => Ok(String::from_str(alloc, "out of form")?),
             Err(Unanswered::Restless) => Ok(String::from_str(alloc, "no rest")?),
-            Err(Unanswered::Refused(line)) => Ok(String::from_str(alloc, line.as_str())?),
+            Err(Unanswered::Refused(refusal)) => Ok(String::from_str(alloc, refusal.kind())?),
             Err(Unanswered::Memory) => Err(Memory),
         }
     }

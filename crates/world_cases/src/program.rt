@@ -9,7 +9,7 @@ use cases::{File, files_of};
 use cls_bytes::{ClassFault, read_class};
 use cls_tree::Class;
 use mg_compile::{ClassFile, compile};
-use mg_sources::Stop;
+use mg_refusal::Stop;
 use mg_text::{Bytes, List, Text};
 use std::alloc::{AllocError, Global};
 use std::fs;
@@ -88,11 +88,15 @@ fn has_kind(name: &str) -> bool
 fn read_back(alloc: Global, files: &[ClassFile]) -> Result<List<Class>, Unanswered> {
     let mut classes = List::new(alloc);
     for file in files {
-        match read_class(alloc, file.bytes.as_slice()) {
-            Ok(class) => classes.push(class)?,
-            Err(ClassFault::Memory) => return Err(Unanswered::Memory),
-            Err(_) => return Err(Unanswered::Form),
-        }
+        add_class(alloc, &mut classes, file.bytes.as_slice())?;
     }
     Ok(classes)
+}
+
+fn add_class(alloc: Global, classes: &mut List<Class>, bytes: &[u8]) -> Result<(), Unanswered> {
+    match read_class(alloc, bytes) {
+        Ok(class) => Ok(classes.push(class)?),
+        Err(ClassFault::Memory) => Err(Unanswered::Memory),
+        Err(_) => Err(Unanswered::Form),
+    }
 }

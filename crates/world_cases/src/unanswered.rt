@@ -1,7 +1,7 @@
 //! Why a case has no answer.
 
-use mg_sources::Stop;
-use mg_text::{Memory, Text};
+use mg_refusal::{Refusal, Stop};
+use mg_text::Memory;
 use std::alloc::{AllocError, AllocFailed};
 
 /// Why a case has no answer.
@@ -11,8 +11,8 @@ pub enum Unanswered {
     Form,
     /// A list of turns is at an end before its world rests.
     Restless,
-    /// The files are refused; this is the line.
-    Refused(Text),
+    /// The files are refused.
+    Refused(Refusal),
     /// Want of memory.
     Memory,
 }
@@ -26,7 +26,7 @@ impl From<Memory> for Unanswered {
 impl From<Stop> for Unanswered {
     fn from(stop: Stop) -> Unanswered {
         match stop {
-            Stop::Refused(line) => Unanswered::Refused(line),
+            Stop::Refused(refusal) => Unanswered::Refused(refusal),
             Stop::Memory => Unanswered::Memory,
         }
     }

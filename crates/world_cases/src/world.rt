@@ -27,17 +27,41 @@ pub fn told(alloc: Global, classes: &[Class], given: &Given<'_>) -> Result<Strin
     let mut text = String::new(alloc);
     plain.client.tell(&mut text, "C")?;
     plain.server.tell(&mut text, "S")?;
+    tell_lists(alloc, &mut text, classes, given, &plain)?;
+    Ok(text)
+}
+
+// Tells how many lists come to what the plain order comes to, or the first that doesn't.
+fn tell_lists(
+    alloc: Global,
+    text: &mut String,
+    classes: &[Class],
+    given: &Given<'_>,
+    plain: &BothSeen,
+) -> Result<(), Unanswered> {
     let (first, last) = given.seeds;
     let mut lists = 0u64;
     for seed in first..=last {
-        if played(alloc, classes, given, Turns::drawn(seed))? != plain {
+        if !comes_to(alloc, classes, given, seed, plain)? {
             write!(text, "the list of {seed} comes to something else")?;
-            return Ok(text);
+            return Ok(());
         }
         lists = lists.saturating_add(1);
     }
     write!(text, "{lists} lists of turns come to the same")?;
-    Ok(text)
+    Ok(())
+}
+
+// Whether the roles come to this under the list of a seed.
+fn comes_to(
+    alloc: Global,
+    classes: &[Class],
+    given: &Given<'_>,
+    seed: u64,
+    wanted: &BothSeen,
+) -> Result<bool, Unanswered> {
+    let seen = played(alloc, classes, given, Turns::drawn(seed))?;
+    Ok(seen == *wanted)
 }
 
 // What is seen of both roles once the world rests.
@@ -48,11 +72,24 @@ fn played(
     turns: Turns,
 ) -> Result<BothSeen, Unanswered> {
     let mut world = begun(alloc, classes, given)?;
-    if !rests(alloc, &mut world, turns)? {
-        return Err(Unanswered::Restless);
+    play(alloc, &mut world, turns)
+}
+
+fn play(alloc: Global, world: &mut World, turns: Turns) -> Result<BothSeen, Unanswered>
+    requires { length world.old.world.roles ≡ 2 }
+{
+    if rests(alloc, world, turns)? {
+        Ok(both_seen(alloc, world)?)
+    } else {
+        Err(Unanswered::Restless)
     }
-    let client = seen_of(alloc, &world, 0)?;
-    let server = seen_of(alloc, &world, 1)?;
+}
+
+fn both_seen(alloc: Global, world: &World) -> Result<BothSeen, Memory>
+    requires { length world.now.world.roles ≡ 2 }
+{
+    let client = seen_of(alloc, world, 0)?;
+    let server = seen_of(alloc, world, 1)?;
     Ok(BothSeen { client, server })
 }
 

@@ -1,15 +1,14 @@
 -- What the functions that prepare a delivery may answer.
-use Rattle.std.specs.Prelude.{◌≡◌, ◌≢◌, ℕ, ◌⊎◌, List, [], ◌∷◌, ◌++◌, codes, Option, Result, Ok, Err}
+use Rattle.std.specs.Prelude.{◌≡◌, ℕ, ◌⊎◌, List, [], ◌∷◌, ◌++◌, codes, Option, Some, None, Result, Ok, Err}
 use Rattle.mg_text.specs.Row.{Row}
 use Rattle.mg_text.specs.declared.memory.Memory.{Memory}
 use Rattle.scr_tree.specs.Tree.{LocalTree}
 use Rattle.mg_top.specs.declared.delivery.Action.{Action}
 use Rattle.mg_top.specs.declared.delivery.Delivery.{Delivery}
-use Rattle.mg_text.specs.Places.{start_of}
 use Rattle.mg_calls.specs.Calls.{CallAt}
 use Rattle.mg_calls.specs.declared.CallsFault.{CallsFault}
 use Rattle.mg_calls.specs.declared.CallsFault.TheVariants as calls_faults
-use Rattle.mg_top.specs.Commands.{prints}
+use Rattle.mg_top.specs.Commands.{prints, Gives, IsRefused}
 use Rattle.mg_top.specs.Conformance.{Conforms}
 use Rattle.jv_core.specs.Tree as Core
 use Rattle.use_check.specs.Report.{IsReport}
@@ -17,15 +16,13 @@ use Rattle.mg_top.specs.declared.status.Status.{Status}
 use Rattle.mg_top.specs.declared.status.Status.TheVariants as statuses
 use Rattle.mg_top.specs.declared.reading.Unread.{Unread}
 use Rattle.mg_top.specs.declared.reading.Unread.TheVariants as unread
-use Rattle.mg_words.specs.Words.{Word}
+use Rattle.mg_words.specs.Words.{Word, Command}
 use Rattle.mg_top.specs.declared.delivery.Action.TheVariants as acts
-use Rattle.mg_sources.specs.Faults.{Fault, fault_line}
-use Rattle.mg_sources.specs.Files.{Source}
 use Rattle.mg_sources.specs.Reading.{Part, Protocol, States, Classes}
-use Rattle.mg_sources.specs.Sources.{Refusal}
-use Rattle.mg_sources.specs.declared.stop.Stop.{Stop}
-use Rattle.mg_sources.specs.declared.stop.Stop.TheVariants as stops
-use Rattle.mg_top.specs.Translation.{IsTranslation, AreTranslated}
+use Rattle.mg_refusal.specs.Refusals.{Refusal, refusal_at}
+use Rattle.mg_refusal.specs.Order.{Answers}
+use Rattle.mg_refusal.specs.declared.stop.Stop.{Stop}
+use Rattle.mg_top.specs.Translation.{IsTranslation}
 use Rattle.mg_top.specs.Outside.{Outside}
 use Rattle.mg_top.specs.Ending.{AreRead, after_read, IsUnread, IsDue}
 
@@ -54,22 +51,15 @@ AddsPart folder (Protocol local) before after = AddsTranslation folder local bef
 AddsPart folder (States typestate) before after = after ≡ before
 AddsPart folder (Classes file) before after = after ≡ before
 
--- the writes of the files' translations, or the line of the first refusal
-abbrev pub AreWritten : Option Word → List Source → Result (Row Action) Stop → Type 0
-AreWritten folder sources (Ok writes) = AreTranslated folder sources writes.items
-AreWritten folder sources (Err (stops.Refused line)) = Refusal sources line
-AreWritten folder sources (Err stops.Memory) = Unit {0}
+-- what a command gives, or the first refusal of its files
+abbrev pub IsCarried : Command → List (List ℕ) → Result Delivery Stop → Type 0
+IsCarried command contents result = Answers (λ d. Gives command contents d.actions.items d.status) (IsRefused command contents) result
 
--- a line says why a file of calls is refused
-abbrev pub list_fault : CallsFault → Fault
-list_fault (calls_faults.TooLarge place) = record { kind = codes "TooLarge"; place = place; name = [] }
-list_fault (calls_faults.BadLine place) = record { kind = codes "BadLine"; place = place; name = [] }
-list_fault calls_faults.Memory = record { kind = []; place = start_of 0; name = [] }
-
-pub record IsListRefusal (name : Word) (fault : CallsFault) (actions : List Action) (status : Status) : Type 0 where
-  pub proper : fault ≢ calls_faults.Memory
-  pub says : actions ≡ acts.Say (fault_line name (list_fault fault)) ∷ []
-  pub refuses : status ≡ statuses.Refused
+-- why a file of calls is refused
+abbrev pub calls_refusal : CallsFault → Option Refusal
+calls_refusal (calls_faults.TooLarge place) = Some (refusal_at (codes "TooLarge") place [])
+calls_refusal (calls_faults.BadLine place) = Some (refusal_at (codes "BadLine") place [])
+calls_refusal calls_faults.Memory = None
 
 -- a text on standard output answers whether calls follow a protocol
 pub record IsAnswered (local : LocalTree) (calls : List CallAt) (actions : List Action) (status : Status) : Type 0 where

@@ -10,7 +10,6 @@ use Rattle.scr_tree.specs.declared.written.Declaration.{Declaration}
 use Rattle.scr_tree.specs.declared.written.Role.{Role}
 use Rattle.scr_tree.specs.Written.{Carries, kind_of}
 use Rattle.scr_parse.specs.inner.Reading.{mark_at, name_at, is_at, after_module, types_at, roles_at, payload_at, not_closed, carries_in}
-use Rattle.scr_parse.specs.inner.Reading.{if_last}
 use Rattle.scr_global.specs.Tree.{Told, Statements, Nothing, Says, Choice, Rec, Continue}
 use Rattle.scr_global_tree.specs.View.{branches_of}
 use Rattle.scr_global_tree.specs.Written.{WrittenTree}
@@ -113,6 +112,11 @@ statement_at declared zero ts = None
 statement_at declared (suc d) ts = statement_with declared (statement_at declared d) ts
 
 -- ---- the file
+
+-- a value with no token behind it
+abbrev pub if_last : {A : Type 0} → A × List Tok → Option A
+if_last (x, []) = Some x
+if_last (x, t ∷ ts) = None
 
 -- block, and nothing behind it
 unfoldable pub only_block_at : List Declaration → List Tok → Option (List Statements)

@@ -8,6 +8,7 @@ use Rattle.scr_tree.specs.declared.written.Declaration.{Declaration}
 use Rattle.scr_tree.specs.declared.written.Role.{Role}
 use Rattle.mg_text.specs.declared.place.Place.{Place}
 use Rattle.scr_tree.specs.declared.written.Carries.{Carries}
+use Rattle.scr_tree.specs.declared.written.WrittenPart.{WrittenPart as Part}
 use Rattle.scr_tree.specs.Written.{class_beforehand, kind_of_class, role_name}
 use Rattle.scr_judge.specs.inner.OnSpot.{unless}
 use Rattle.scr_judge.specs.inner.Seen.{Names}
@@ -58,5 +59,12 @@ undeclared aliases place type = unless (is_declared aliases type) (culprit place
 abbrev pub undeclared_in : Names → Carries → Option Culprit
 undeclared_in aliases m = first_among (undeclared aliases m.place) m.types.items
 
+-- of a protocol
+abbrev pub undeclared_by : Names → Part → Option Culprit
+undeclared_by aliases p = first_among (undeclared_in aliases) p.carries.items
+
 abbrev pub many : Carries → Option Culprit
 many m = unless (nat_lt (length m.types.items) 2) (culprit m.place [])
+
+abbrev pub many_by : Part → Option Culprit
+many_by p = first_among many p.carries.items

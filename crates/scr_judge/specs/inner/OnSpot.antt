@@ -9,7 +9,7 @@ use Rattle.mg_text.specs.JavaWords.{java_words}
 use Rattle.mg_read.specs.Culprit.{Culprit, culprit}
 use Rattle.scr_tree.specs.declared.syntax.Direction.{Direction}
 use Rattle.scr_tree.specs.declared.syntax.Direction.TheVariants as directions
-use Rattle.scr_tree.specs.Tree.{Statements, Nothing, Says, Choice, Rec, Continue, Branches, NoBranch, Branch}
+use Rattle.scr_tree.specs.Tree.{Statements, Nothing, Says, Choice, Rec, Continue, Do, Branches, NoBranch, Branch}
 use Rattle.scr_judge.specs.inner.Names.{is_among}
 use Rattle.scr_judge.specs.inner.Seen.{Names}
 use Rattle.scr_judge.specs.declared.on_spot.Check.{Check}
@@ -28,8 +28,8 @@ all_send (Branch b more) = all_send more
 abbrev pub one_peer : Option Name → Branches → Bool
 one_peer known NoBranch = true
 one_peer None (Branch (Says m rest) more) = if is_send m.direction then false else one_peer (Some m.peer) more
-one_peer (Some peer) (Branch (Says m rest) more) = if is_send m.direction then false else (if bytes_eq m.peer peer then one_peer (Some peer)
-    more else false)
+one_peer (Some peer) (Branch (Says m rest) more) = if is_send m.direction then false else
+    (if bytes_eq m.peer peer then one_peer (Some peer) more else false)
 one_peer known (Branch b more) = one_peer known more
 
 abbrev pub uniform : Name → Name → Branches → Bool
@@ -60,6 +60,10 @@ abbrev pub unknown_rec : List Name → Statements → Option Culprit
 unknown_rec around (Continue place name rest) = unless (is_among name around) (culprit place name)
 unknown_rec around _ = None
 
+abbrev pub unknown_protocol : Names → Statements → Option Culprit
+unknown_protocol names (Do place name rest) = unless (names name) (culprit place name)
+unknown_protocol names _ = None
+
 abbrev pub duplicate_rec : List Name → Statements → Option Culprit
 duplicate_rec around (Rec place name body rest) = unless (not (is_among name around)) (culprit place name)
 duplicate_rec around _ = None
@@ -69,6 +73,7 @@ abbrev pub branch_start : Bool → Statements → Option Culprit
 branch_start first (Choice place at branches rest) = unless (not (first || some_empty branches)) (culprit place [])
 branch_start first (Rec place name body rest) = unless (not first) (culprit place [])
 branch_start first (Continue place name rest) = unless (not first) (culprit place [])
+branch_start first (Do place name rest) = unless (not first) (culprit place [])
 branch_start first _ = None
 
 abbrev pub mixed_choice : Name → Statements → Option Culprit
@@ -95,6 +100,9 @@ Asks = Option Name → List Name → Statements → Option Culprit
 abbrev pub asks_role : Names → Asks
 asks_role roles begins around = unknown_role roles
 
+abbrev pub asks_protocol : Names → Asks
+asks_protocol names begins around = unknown_protocol names
+
 -- what one statement answers
 abbrev pub test : Check → Asks
 test (checks.UnknownRole roles) begins around = unknown_role (contains_text roles.now)
@@ -103,6 +111,7 @@ test checks.UnknownRec begins around = unknown_rec around
 test checks.DuplicateRec begins around = duplicate_rec around
 test checks.BranchStart begins around = branch_start (is_some begins)
 test (checks.MixedChoice me) begins around = mixed_choice me.now
+test (checks.UnknownProtocol names) begins around = unknown_protocol (contains_text names.now)
 test (checks.ReservedLabel me) begins around = reserved_label me.now begins
 
 -- what one walk finds, by what each statement answers
@@ -116,6 +125,7 @@ module _ (ask : Asks) where
     walk begins around (Rec place name body rest) =
         option_or (ask begins around (Rec place name body rest)) (option_or (walk None (name ∷ around) body) (walk None around rest))
     walk begins around (Continue place name rest) = option_or (ask begins around (Continue place name rest)) (walk None around rest)
+    walk begins around (Do place name rest) = option_or (ask begins around (Do place name rest)) (walk None around rest)
 
     pub walk_in : Name → List Name → Branches → Option Culprit
     walk_in at around NoBranch = None

@@ -1,5 +1,6 @@
 -- What the program's values say.
-use Rattle.std.specs.Prelude.{Result, Ok, Err, List, [], ◌∷◌, Option, Some, None, option_map}
+use Rattle.std.specs.Global.{Global}
+use Rattle.std.specs.Prelude.{ℕ, Vec, map, Result, Ok, Err, List, [], ◌∷◌, Option, Some, None, option_map}
 use Rattle.std.specs.Borrow.{Bor}
 use Rattle.mg_text.specs.Call.{Name}
 use Rattle.mg_read.specs.Culprit.{Culprit, culprit}
@@ -11,11 +12,22 @@ use Rattle.scr_judge.specs.declared.actions.Deed.TheVariants as deeds
 use Rattle.scr_judge.specs.declared.culprit.Named.{Named}
 use Rattle.scr_judge.specs.declared.culprit.Culprit.{Culprit as Told}
 use Rattle.scr_judge.specs.declared.guards.Names.{Names}
+use Rattle.scr_judge.specs.declared.opening.First.{First as KeptFirst}
+use Rattle.scr_judge.specs.declared.opening.First.TheVariants as firsts
+use Rattle.scr_judge.specs.inner.Gone.{First, Neither, Deed as IsDeed, Goes}
 use Rattle.scr_judge.specs.declared.guards.Names.TheVariants.{Outside, Inside'}
 
 abbrev pub names_of : Names → List Name
 names_of Outside = []
 names_of (Inside' name p around) = name.now ∷ names_of around
+
+-- the name that is sought
+abbrev pub goal_of : Option (Bor Name) → Option Name
+goal_of goal = option_map (λ g. g.now) goal
+
+-- names that are told
+abbrev pub told_names : List (Bor Name) → List Name
+told_names names = map (λ n. n.now) names
 
 -- the choice whose branch begins
 abbrev pub begins_of : Option (Bor Name) → Option Name
@@ -56,3 +68,13 @@ does a = deed_of a.deed
 
 abbrev pub clashing : CodeAction → Culprit
 clashing a = culprit a.place a.call
+
+-- what comes first, as definitions speak of it
+abbrev pub first_seen : KeptFirst → First
+first_seen firsts.Neither = Neither
+first_seen firsts.Deed = IsDeed
+first_seen (firsts.Goes place) = Goes place
+
+-- a graph, as the program has it
+abbrev pub graph_of : List (Vec ℕ Global) → List (List ℕ)
+graph_of targets = map (λ v. v.items) targets

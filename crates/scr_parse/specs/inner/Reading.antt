@@ -1,5 +1,6 @@
 -- For private clauses: reading from left to right. Each function gives a value and the tokens behind it.
-use Rattle.std.specs.Prelude.{ℕ, zero, suc, List, [], ◌∷◌, ◌++◌, map, Option, Some, None, Bool, true, false, if◌then◌else◌, ◌==◌}
+use Rattle.std.specs.Prelude.{ℕ, zero, suc, ◌-◌, List, [], ◌∷◌, ◌++◌, map, length, take, Option, Some, None, Bool, true, false}
+use Rattle.std.specs.Prelude.{if◌then◌else◌, ◌==◌}
 use Rattle.mg_text.specs.Call.{Name}
 use Rattle.mg_text.specs.declared.place.Place.{Place}
 use Rattle.mg_read.specs.Reader.{Reader, ◌>>=◌, all_of}
@@ -12,10 +13,10 @@ use Rattle.scr_tree.specs.declared.syntax.Direction.TheVariants as directions
 use Rattle.scr_tree.specs.declared.syntax.Message.{Message}
 use Rattle.scr_tree.specs.declared.written.Declaration.{Declaration}
 use Rattle.scr_tree.specs.declared.written.Role.{Role}
-use Rattle.scr_tree.specs.Tree.{Statements, Nothing, Says, Choice, Rec, Continue}
+use Rattle.scr_tree.specs.Tree.{Statements, Nothing, Says, Choice, Rec, Continue, Do}
 use Rattle.scr_tree.specs.View.{branches_of}
-use Rattle.scr_tree.specs.Written.{Carries, WrittenTree, kind_of}
-use Rattle.scr_parse.specs.Grammar.{carried}
+use Rattle.scr_tree.specs.Written.{Carries, Arguments, WrittenPart, WrittenTree, kind_of}
+use Rattle.scr_parse.specs.Grammar.{carried, given}
 use Rattle.scr_parse.specs.inner.View.{joined}
 
 -- ---- one token
@@ -151,12 +152,12 @@ abbrev pub types_at : Reader Tok (List Declaration)
 types_at = all_of (is_at marks.Type) type_at
 
 -- "local" "protocol" name
-unfoldable pub title_at : Reader Tok Name
+unfoldable pub title_at : Reader Tok (Place × Name)
 title_at ts = do
   start ← mark_at marks.Local ts
   protocol ← mark_at marks.Protocol start.1
   name ← name_at protocol.1
-  Some (name.0.1, name.1)
+  Some (name.0, name.1)
 
 -- ---- the header
 
@@ -267,6 +268,17 @@ continue_at ts = do
   end ← mark_at marks.Semicolon name.1
   Some (Continue start.0 name.0.1 Nothing, end.1)
 
+-- "do" name "(" names ")" ";"
+unfoldable pub do_at : Reader Tok Statements
+do_at ts = do
+  start ← mark_at marks.Do ts
+  name ← name_at start.1
+  open_paren ← mark_at marks.OpenParen name.1
+  roles ← names_at marks.Comma open_paren.1
+  close_paren ← mark_at marks.CloseParen roles.1
+  end ← mark_at marks.Semicolon close_paren.1
+  Some (Do start.0 name.0.1 Nothing, end.1)
+
 abbrev pub not_closed : List Tok → Bool
 not_closed ts = if is_at marks.CloseBrace ts then false else true
 
@@ -315,14 +327,15 @@ statement_with declared f ts =
     if is_at marks.Choice ts then choice_with f ts
     else (if is_at marks.Rec ts then rec_with f ts
     else (if is_at marks.Continue ts then continue_at ts
-    else says_at declared ts))
+    else (if is_at marks.Do ts then do_at ts
+    else says_at declared ts)))
 
 -- a statement in which statements stand at most so deep, itself counted
 unfoldable pub statement_at : List Declaration → ℕ → Reader Tok Statements
 statement_at declared zero ts = None
 statement_at declared (suc d) ts = statement_with declared (statement_at declared d) ts
 
--- ---- what messages carry: of each name with a "(" behind it, the names up to the next ")"
+-- ---- what messages carry: of each name with a "(" behind it and no "do" in front, the names up to the next ")"
 
 abbrev pub names_in : Tok → List Name
 names_in (named p n) = n ∷ []
@@ -338,32 +351,72 @@ carried_by (named p n) ts = if is_at marks.OpenParen ts then carried p (names_up
 carried_by (quoted p n) ts = []
 carried_by (marked p k) ts = []
 
+abbrev pub carried_unless : Bool → Tok → List Tok → List Carries
+carried_unless behind_do t ts = if behind_do then [] else carried_by t ts
+
+-- `behind_do` says that a "do" stands in front
+abbrev pub carries_from : Bool → List Tok → List Carries
+carries_from behind_do [] = []
+carries_from behind_do (t ∷ ts) = carried_unless behind_do t ts ++ carries_from (is_at marks.Do (t ∷ ts)) ts
+
 abbrev pub carries_in : List Tok → List Carries
-carries_in [] = []
-carries_in (t ∷ ts) = carried_by t ts ++ carries_in ts
+carries_in = carries_from false
+
+-- ---- what each "do" is given: the names behind its name, up to the next ")"
+
+abbrev pub given_in : Place → Tok → List Tok → List Arguments
+given_in p (named q n) ts = given p n (names_up ts) ∷ []
+given_in p (quoted q n) ts = []
+given_in p (marked q k) ts = []
+
+abbrev pub given_behind : Place → List Tok → List Arguments
+given_behind p [] = []
+given_behind p (t ∷ ts) = given_in p t ts
+
+abbrev pub given_by : Tok → List Tok → List Arguments
+given_by (named p n) ts = []
+given_by (quoted p n) ts = []
+given_by (marked p k) ts = if code k == code marks.Do then given_behind p ts else []
+
+abbrev pub arguments_in : List Tok → List Arguments
+arguments_in [] = []
+arguments_in (t ∷ ts) = given_by t ts ++ arguments_in ts
 
 -- ---- the file
 
-abbrev pub if_last : {A : Type 0} → A × List Tok → Option A
-if_last (x, []) = Some x
-if_last (x, t ∷ ts) = None
+-- the tokens in front of those behind
+abbrev pub up_to : List Tok → List Tok → List Tok
+up_to ts behind = take (length ts - length behind) ts
 
--- block, and nothing behind it
-unfoldable pub only_block_at : List Declaration → List Tok → Option (List Statements)
-only_block_at declared ts = block_with (statement_at declared 200) ts >>= if_last
+-- title header block
+unfoldable pub part_at : List Declaration → Reader Tok WrittenPart
+part_at declared ts = do
+  title ← title_at ts
+  header ← header_at title.1
+  body ← block_with (statement_at declared 200) header.1
+  Some (
+    record {
+      place = title.0.0;
+      name = title.0.1;
+      me = header.0.0;
+      roles = header.0.1;
+      carries = carries_in (up_to header.1 body.1);
+      arguments = arguments_in (up_to header.1 body.1);
+      body = joined body.0;
+    },
+    body.1,
+  )
 
--- the statements of a body, and what they carry
-unfoldable pub body_at : List Declaration → List Tok → Option (Statements × List Carries)
-body_at declared ts = do
-  body ← only_block_at declared ts
-  Some (joined body, carries_in ts)
+-- whether tokens are left
+abbrev pub is_more : List Tok → Bool
+is_more [] = false
+is_more (t ∷ ts) = true
 
 -- All of the tokens. The file's number is left at 0.
 unfoldable pub file_at : List Tok → Option WrittenTree
 file_at ts = do
   rest ← after_module ts
   types ← types_at rest
-  name ← title_at types.1
-  header ← header_at name.1
-  body ← body_at types.0 header.1
-  Some (record { file = 0; types = types.0; name = name.0; me = header.0.0; roles = header.0.1; carries = body.1; body = body.0 })
+  first ← part_at types.0 types.1
+  others ← all_of is_more (part_at types.0) first.1
+  Some (record { file = 0; types = types.0; first = first.0; others = others.0 })

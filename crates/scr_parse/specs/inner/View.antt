@@ -2,8 +2,10 @@
 use Rattle.std.specs.Prelude.{List, [], ◌∷◌, map}
 use Rattle.mg_text.specs.Row.{Row}
 use Rattle.scr_tree.specs.declared.syntax.Statement.{Statement}
-use Rattle.scr_tree.specs.Tree.{Statements, Nothing, Says, Choice, Rec, Continue}
+use Rattle.scr_tree.specs.Tree.{Statements, Nothing, Says, Choice, Rec, Continue, Do}
 use Rattle.scr_tree.specs.View.{front}
+use Rattle.scr_tree.specs.declared.written.WrittenPart.{WrittenPart as Part}
+use Rattle.scr_tree.specs.Written.{WrittenPart, part_written}
 
 -- one statement
 unfoldable pub alone : Statement → Statements
@@ -22,7 +24,11 @@ in_front_of (Says m rest) behind = Says m behind
 in_front_of (Choice place at branches rest) behind = Choice place at branches behind
 in_front_of (Rec place name body rest) behind = Rec place name body behind
 in_front_of (Continue place name rest) behind = Continue place name behind
+in_front_of (Do place name rest) behind = Do place name behind
 
 abbrev pub joined : List Statements → Statements
 joined [] = Nothing
 joined (s ∷ ss) = in_front_of s (joined ss)
+
+abbrev pub all_parts : List Part → List WrittenPart
+all_parts ps = map part_written ps

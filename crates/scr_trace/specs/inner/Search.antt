@@ -1,11 +1,10 @@
 -- The search for the arrow of a call.
-use Rattle.std.specs.Prelude.{ℕ, List, [], ◌∷◌, Bool, true, false, ◌&&◌, Option, Some, None, if◌then◌else◌, ◌-◌}
+use Rattle.std.specs.Prelude.{ℕ, List, [], ◌∷◌, Bool, ◌&&◌, Option, Some, None, if◌then◌else◌, ◌-◌}
 use Rattle.std.specs.Str.{bytes_eq}
-use Rattle.mg_text.specs.Call.{Name, Call}
+use Rattle.mg_text.specs.Call.{Name}
 use Rattle.scr_tree.specs.CallNames.{message_call, label_call}
 use Rattle.scr_tree.specs.Meaning.{message_of}
 use Rattle.scr_trace.specs.declared.arrow.Arrow.{Arrow}
-use Rattle.scr_trace.specs.declared.arrow.Exits.{Exits}
 use Rattle.scr_trace.specs.declared.arrow.Hop.{Hop}
 use Rattle.scr_trace.specs.inner.Laying.{Work}
 

@@ -4,7 +4,7 @@ use Rattle.std.specs.Str.{bytes_eq}
 use Rattle.mg_text.specs.Call.{Name}
 use Rattle.scr_tree.specs.declared.syntax.Message.{Message as Said}
 use Rattle.scr_tree.specs.Meaning.{message_of}
-use Rattle.scr_tree.specs.Tree.{Statements, Nothing, Says, Choice, Rec, Continue, Branches, NoBranch, Branch}
+use Rattle.scr_tree.specs.Tree.{PartTree, Statements, Nothing, Says, Choice, Rec, Continue, Do, Branches, NoBranch, Branch}
 use Rattle.scr_tree.specs.Actions.{opened, next, next_in}
 use Rattle.stm_api.specs.Doings.{Doing, Passes, Asks, call_of}
 
@@ -15,6 +15,7 @@ first_said (Says m rest) = Some m
 first_said (Choice place at branches rest) = None
 first_said (Rec place name body rest) = None
 first_said (Continue place name rest) = None
+first_said (Do place name rest) = None
 
 abbrev pub peer_in : Branches → Option Name
 peer_in NoBranch = None
@@ -46,10 +47,19 @@ abbrev mutual
       ++ does me (next_in me (opened (bytes_eq at me) n) branches) rest)
   does me n (Rec place name body rest) = does me n body ++ does me (next me n body) rest
   does me n (Continue place name rest) = does me n rest
+  does me n (Do place name rest) = does me n rest
 
   pub does_in : Name → ℕ → Branches → List Doing
   does_in me n NoBranch = []
   does_in me n (Branch b more) = does me n b ++ does_in me (next me n b) more
+
+abbrev pub part_body : PartTree → Statements
+part_body p = p.body
+
+-- what is done in protocols of a role, one after another
+abbrev pub all_does : Name → ℕ → List Statements → List Doing
+all_does me n [] = []
+all_does me n (body ∷ bodies) = does me n body ++ all_does me (next me n body) bodies
 
 -- one more doing, unless its call was seen
 abbrev pub first_before : Bool → Doing → List Doing → List Doing → List Doing

@@ -15,6 +15,7 @@ use Rattle.ts_tree.specs.Typestate.{State, Typestate}
 use Rattle.ts_tree.specs.View.{state_of}
 use Rattle.ts_tree.specs.Proper.{IsProper}
 use Rattle.stm_gen.specs.Laid.{AreLaid}
+use Rattle.stm_gen.specs.Numbered.{placed, entry}
 use Rattle.stm_gen.proofs.Proper.{HaveOneSignature, proper}
 use Rattle.stm_gen.proofs.Acting.{one_signature}
 use Rattle.stm_gen.proofs.Agree.{agrees, laid}
@@ -35,7 +36,7 @@ invariant_of-result c =
       length-map (work_of c.in_ok-laid.laid).cells
           (edges_of (work_of c.in_ok-laid.laid)),
     ) in
-    subst IsProper (sym c.in_ok-states.ensures.made) (proper tree.me all g.states few along.states told
+    subst IsProper (sym c.in_ok-states.ensures.made) (proper tree.me (protocol_of tree) all g.states few along.states told
     (one_signature tree c.args.local.now.valid told g.states along.states))
 
 pub returns-clause-numbered : goal.returns-clause-numbered
@@ -51,7 +52,7 @@ returns-clause-few c =
     let tree : LocalTree = tree_of c.args.local.now in
     let states = c.in_ok-states.ensures.made ∙ numbered_states tree c.args.local.now.valid (work_of c.in_ok-laid.laid)
     c.in_ok-laid.ensures.laid in
-    subst (λ (ss : List State). length ss ≤ 1000) (sym states) (few tree c.args.local.now.valid)
+    subst (λ (ss : List State). length ss ≤ 1000) (sym states) (few tree c.args.local.now.valid (entry (placed 0 (protocol_of tree))))
 
 pub returns-clause-laid : goal.returns-clause-laid
 returns-clause-laid c =
@@ -59,8 +60,9 @@ returns-clause-laid c =
     let all : List Position = state_positions (protocol_of tree) in
     record {
       name = c.in_ok-name.ensures ∙ ap (λ (me : Name). me ++ codes "Protocol") c.me.ensures;
-      states = subst (λ (ss : List State). AreLaid tree.me all all 0 ss) (sym c.in_ok-states.ensures.made)
-          (laid tree.me all 0 all (graph_of_work (work_of c.in_ok-laid.laid)).states c.in_ok-laid.ensures.automaton.states);
+      states = subst (λ (ss : List State). AreLaid tree.me (protocol_of tree) all all 0 ss) (sym c.in_ok-states.ensures.made)
+          (laid tree.me (protocol_of tree) all 0 all (graph_of_work (work_of c.in_ok-laid.laid)).states
+          c.in_ok-laid.ensures.automaton.states);
     }
 
 pub returns-clause-agrees : goal.returns-clause-agrees

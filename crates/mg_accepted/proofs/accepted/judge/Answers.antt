@@ -7,5 +7,4 @@ pub returns-in-Ok : goal.returns-in-Ok
 returns-in-Ok c = record { same = refl; tables_are = c.in-Ok.ensures.accepted }
 
 pub returns-in-Err : goal.returns-in-Err
-returns-in-Err c = unmet_judged c.args.names.now (tree_of c.args.core) c.in-Err.fault c.refusal.result c.in-Err.ensures.fault
-    c.refusal.ensures
+returns-in-Err c = unmet_judged (tree_of c.args.core) c.in-Err.fault c.stop_of.result c.in-Err.ensures.fault c.stop_of.ensures

@@ -1,11 +1,22 @@
+use Rattle.std.proofs.Common.{Err, Result, ap, ◌∙◌}
+use Rattle.std.proofs.lemmas.Result.{err_from_is_err_and}
 use Rattle.jv_core.specs.Core.{tree_of}
+use Rattle.mg_refusal.specs.declared.stop.Stop.{Stop}
+use Rattle.mg_sources.specs.Files.{sources}
+use Rattle.mg_accepted.specs.declared.accepted.AcceptedProgram.{AcceptedProgram}
 use Rattle.mg_accepted.proofs.Judged.{core_judged, ill_typed_judged}
 use Rattle.mg_accepted.proofs.accepted.verdict.Goals as goal
 
-pub returns-in-Ok : goal.returns-in-Ok
-returns-in-Ok c =
-    core_judged c.args.names.now c.args.contents.now (tree_of c.in-Ok.core) c.judge.result c.requires.same c.in-Ok.ensures.answered
-    c.judge.ensures
+abbrev failed : Stop → Result AcceptedProgram Stop
+failed f = Err f
 
-pub returns-in-Err : goal.returns-in-Err
-returns-in-Err c = ill_typed_judged c.args.names.now c.args.contents.now c.in-Err.stop c.in-Err.ensures.answered
+pub returns-in_err-core : goal.returns-in_err-core
+returns-in_err-core c =
+    let f = err_from_is_err_and c.from_residual.result c.from_residual.ensures.1 in
+    ill_typed_judged (sources c.args.names.now c.args.contents.now) c.in_err-core.field-0.0 c.from_residual.result (f.1 ∙ ap failed f.2)
+    c.in_err-core.ensures.answered
+
+pub returns : goal.returns
+returns c =
+    core_judged (sources c.args.names.now c.args.contents.now) (tree_of c.in_ok-core.core) c.judge.result c.in_ok-core.ensures.answered
+    c.judge.ensures

@@ -20,5 +20,4 @@ write_all-requires-clause-same c =
     ∙ sym (ap length c.as_slice.ensures.items)
 
 pub returns-in-Err : goal.returns-in-Err
-returns-in-Err c = excess_given c.args.names.now (tree_of c.args.core.now) c.in-Err.fault c.refusal.result c.in-Err.ensures.fault
-    c.refusal.ensures
+returns-in-Err c = excess_given (tree_of c.args.core.now) c.in-Err.fault c.stop_of.result c.in-Err.ensures.fault c.stop_of.ensures

@@ -7,11 +7,11 @@ use Rattle.mg_exec.proofs.Shown.{run_none, run_no_main, run_shown}
 use Rattle.mg_exec.proofs.execution.ran_roles.Goals as goal
 
 pub returns-in_err-linked : goal.returns-in_err-linked
-returns-in_err-linked c =
+returns-in_err-linked c = λ names same.
     let e = err_from_is_err_and c.from_residual.result c.from_residual.ensures.1 in
     rw (e.1, e.2)
-    (run_none (sources c.args.names.now c.args.contents.now) c.args.mains.now c.args.order.now c.args.limit c.args.named c.args.traced _
-    c.in_err-linked.ensures)
+    (run_none (sources names c.args.contents.now) c.args.mains.now c.args.order.now c.args.limit c.args.named c.args.traced _
+    (c.in_err-linked.ensures names same))
 
 pub bounds-mains-number : goal.bounds-mains-number
 bounds-mains-number c = got_within c.args.mains.now c.in-Some.number c.in-Some.ensures.main c.in-Some.ensures.is
@@ -19,18 +19,23 @@ bounds-mains-number c = got_within c.args.mains.now c.in-Some.number c.in-Some.e
 pub offset_bounds-mains-number : goal.offset_bounds-mains-number
 offset_bounds-mains-number c = let within = bounds-mains-number c in search rules
 
+pub returns-in_err-refusal-in-Some : goal.returns-in_err-refusal-in-Some
+returns-in_err-refusal-in-Some c = λ names same.
+    let e = err_from_is_err_and c.from_residual-in_err-refusal-in-Some.result c.from_residual-in_err-refusal-in-Some.ensures.1 in
+    rw (e.1, e.2) tt
+
 pub returns-in-Some : goal.returns-in-Some
-returns-in-Some c =
-    run_no_main (sources c.args.names.now c.args.contents.now) c.args.mains.now c.args.order.now c.args.limit c.args.named c.args.traced
-    (classes_of c.in_ok-linked.linked.classes.items) c.in-Some.number _ c.no_main.result c.in_ok-linked.ensures c.in-Some.ensures
-    c.no_main.ensures
+returns-in-Some c = λ names same.
+    run_no_main (sources names c.args.contents.now) c.args.mains.now c.args.order.now c.args.limit c.args.named c.args.traced
+    (classes_of c.in_ok-linked.linked.classes.items) c.in-Some.number _ c.in_ok-refusal-in-Some.refusal (c.in_ok-linked.ensures names same)
+    c.in-Some.ensures c.in_ok-refusal-in-Some.ensures
 
 pub returns-in_err-ran : goal.returns-in_err-ran
-returns-in_err-ran c =
+returns-in_err-ran c = λ names same.
     let e = err_from_is_err_and c.from_residual-in_err-ran.result c.from_residual-in_err-ran.ensures.1 in
     rw (e.1, e.2) tt
 
 pub returns : goal.returns
-returns c =
-    run_shown (sources c.args.names.now c.args.contents.now) c.args.mains.now c.args.order.now c.args.limit c.args.named c.args.traced
-    (classes_of c.in_ok-linked.linked.classes.items) c.in_ok-ran.ran c.in_ok-linked.ensures c.in-None.ensures c.in_ok-ran.ensures
+returns c = λ names same.
+    run_shown (sources names c.args.contents.now) c.args.mains.now c.args.order.now c.args.limit c.args.named c.args.traced
+    (classes_of c.in_ok-linked.linked.classes.items) c.in_ok-ran.ran (c.in_ok-linked.ensures names same) c.in-None.ensures c.in_ok-ran.ensures

@@ -15,10 +15,8 @@ returns-in-Err c =
     table_failed c.args.sources.now (record {
       files = c.as_slice.ensures.items;
       typestates = c.as_slice-2.ensures.items;
-      origins =
-          c.as_slice-3.ensures.items;
-    }) c.args.names.now
-    c.in-Err.fault c.refusal.result c.in-Err.ensures.fault c.refusal.ensures
+      origins = c.as_slice-3.ensures.items;
+    }) c.in-Err.fault c.stop_of.result c.stop_of.ensures c.in-Err.ensures.fault
 
 pub returns-in-Ok-type_check : goal.returns-in-Ok-type_check
 returns-in-Ok-type_check c =
@@ -35,8 +33,6 @@ returns c =
     method_failed c.args.sources.now (record {
       files = c.as_slice.ensures.items;
       typestates = c.as_slice-2.ensures.items;
-      origins =
-          c.as_slice-3.ensures.items;
-    }) c.args.names.now _
-    c.in-Ok.ensures.program c.in-Err-type_check.fault c.refusal-in-Err-type_check.result c.in-Ok.ensures.fine
-    c.in-Err-type_check.ensures.fault c.refusal-in-Err-type_check.ensures
+      origins = c.as_slice-3.ensures.items;
+    }) c.in-Err-type_check.fault c.stop_of-in-Err-type_check.result c.stop_of-in-Err-type_check.ensures _ c.in-Ok.ensures.program
+    c.in-Ok.ensures.fine c.in-Err-type_check.ensures.fault

@@ -3,7 +3,7 @@ use Rattle.std.proofs.lemmas.Result.{err_from_is_err_and}
 use Rattle.jv_core.specs.declared.resolved.Core.{Core}
 use Rattle.mg_sources.specs.Files.{sources}
 use Rattle.mg_sources.specs.View.{sourced_of}
-use Rattle.mg_sources.specs.declared.stop.Stop.{Stop}
+use Rattle.mg_refusal.specs.declared.stop.Stop.{Stop}
 use Rattle.mg_program.proofs.Resolved.{files_numbered, read_failed, judge_failed, is_shaped, only_assigns, is_well_typed, resolved}
 use Rattle.mg_program.proofs.program.core_of.Goals as goal
 
@@ -14,7 +14,7 @@ pub returns-in_err-sources : goal.returns-in_err-sources
 returns-in_err-sources c =
     let f = err_from_is_err_and c.from_residual.result c.from_residual.ensures.1 in
     read_failed (sources c.args.names.now c.args.contents.now) c.in_err-sources.field-0.0 c.from_residual.result
-    c.in_err-sources.ensures.answered (f.1 ∙ ap failed f.2)
+    (f.1 ∙ ap failed f.2) c.in_err-sources.ensures.answered
 
 pub judge-requires : goal.judge-requires
 judge-requires c = files_numbered c.in_ok-sources.sources c.in_ok-sources.ensures.answered
@@ -22,9 +22,8 @@ judge-requires c = files_numbered c.in_ok-sources.sources c.in_ok-sources.ensure
 pub returns-in_err-judge : goal.returns-in_err-judge
 returns-in_err-judge c =
     let f = err_from_is_err_and c.from_residual-in_err-judge.result c.from_residual-in_err-judge.ensures.1 in
-    judge_failed c.args.names.now c.args.contents.now (sourced_of c.in_ok-sources.sources) c.in_err-judge.field-0.0
-    c.from_residual-in_err-judge.result c.requires.same
-    c.in_ok-sources.ensures.answered c.in_err-judge.ensures (f.1 ∙ ap failed f.2)
+    judge_failed (sources c.args.names.now c.args.contents.now) c.in_err-judge.field-0.0 c.from_residual-in_err-judge.result
+    (f.1 ∙ ap failed f.2) (sourced_of c.in_ok-sources.sources) c.in_ok-sources.ensures.answered c.in_err-judge.ensures
 
 pub resolve-requires-clause-well_typed : goal.resolve-requires-clause-well_typed
 resolve-requires-clause-well_typed c =

@@ -1,14 +1,26 @@
+use Rattle.std.proofs.lemmas.Result.{err_from_is_err_and}
 use Rattle.jv_core.specs.Core.{tree_of}
-use Rattle.mg_top.specs.Commands.{check, not_checked}
-use Rattle.mg_top.proofs.CommandLemmas.{gives, report_given}
+use Rattle.mg_accepted.specs.Accepted.{FirstRefusal}
+use Rattle.mg_accepted.specs.View.{IsProgramOf}
+use Rattle.mg_sources.specs.Files.{sources}
+use Rattle.mg_words.specs.Words.{Check}
+use Rattle.mg_top.specs.Commands as commands
+use Rattle.mg_top.proofs.CommandLemmas.{report_given, stopped_so}
 use Rattle.mg_top.proofs.check.check.Goals as goal
 
-pub returns-in-Ok : goal.returns-in-Ok
-returns-in-Ok c =
-    report_given c.args.names.now c.args.contents.now (tree_of c.in-Ok.program.core) c.show.result c.in-Ok.ensures.answered.files_are
-    c.show.ensures
+pub returns-in_err-program : goal.returns-in_err-program
+returns-in_err-program c =
+    let e = err_from_is_err_and c.from_residual.result c.from_residual.ensures.1 in
+    rw (e.1, e.2)
+    (stopped_so (Check c.args.names.now) c.args.contents.now (IsProgramOf (sources c.args.names.now c.args.contents.now))
+    (FirstRefusal (sources c.args.names.now c.args.contents.now)) (λ r h. commands.check h) _ c.in_err-program.ensures.answered)
 
-pub returns-in-Err-Refused : goal.returns-in-Err-Refused
-returns-in-Err-Refused c =
-    let h = rw c.in-Err-Refused.field-0-is at c.in-Err-Refused.ensures in
-    gives _ _ _ _ c.said.result c.said.ensures.actions c.said.ensures.status (check (not_checked h.answered))
+pub returns-in_err-delivery : goal.returns-in_err-delivery
+returns-in_err-delivery c =
+    let e = err_from_is_err_and c.from_residual-in_err-delivery.result c.from_residual-in_err-delivery.ensures.1 in
+    rw (e.1, e.2) tt
+
+pub returns : goal.returns
+returns c =
+    report_given c.args.names.now c.args.contents.now (tree_of c.in_ok-program.program.core) c.in_ok-delivery.delivery
+    c.in_ok-program.ensures.answered.files_are c.in_ok-delivery.ensures

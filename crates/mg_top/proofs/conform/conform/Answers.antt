@@ -1,22 +1,30 @@
-use Rattle.std.proofs.Common.{refl}
+use Rattle.std.proofs.Common.{[], ◌∷◌, refl, sym, subst, Err}
+use Rattle.std.proofs.lemmas.Result.{err_from_is_err_and}
 use Rattle.scr_tree.specs.Local.{tree_of}
-use Rattle.mg_top.specs.Commands.{conform, no_protocol}
-use Rattle.mg_top.proofs.CommandLemmas.{gives}
-use Rattle.mg_top.proofs.ConformLemmas.{followed, list_refused}
+use Rattle.mg_refusal.specs.declared.stop.Stop.{Stop}
+use Rattle.mg_words.specs.Words.{Conform}
+use Rattle.mg_top.specs.inner.Preparing.{IsCarried}
+use Rattle.mg_top.proofs.ConformLemmas.{followed, no_protocol, list_refused}
 use Rattle.mg_top.proofs.conform.conform.Goals as goal
 
-pub returns-in-Err-Refused : goal.returns-in-Err-Refused
-returns-in-Err-Refused c =
-    let h = rw c.in-Err-Refused.field-0-is at c.in-Err-Refused.ensures in
-    gives _ _ _ _ c.said.result c.said.ensures.actions c.said.ensures.status (conform (no_protocol h))
+pub returns-in_err-local : goal.returns-in_err-local
+returns-in_err-local c = λ protocol calls ends.
+    let e = err_from_is_err_and c.from_residual.result c.from_residual.ensures.1 in
+    rw (e.1, e.2) (no_protocol protocol calls c.args.bytes.now c.args.listed.now _ (c.in_err-local.ensures protocol ends))
 
-pub returns-in-Ok-read_calls : goal.returns-in-Ok-read_calls
-returns-in-Ok-read_calls c =
-    followed c.args.protocol.now c.args.calls.now c.args.bytes.now c.args.listed.now (tree_of c.in-Ok.local) c.in-Ok-read_calls.list.items
-    c.as_slice.result.now c.follow.result c.in-Ok.ensures c.in-Ok-read_calls.list refl c.in-Ok-read_calls.ensures
-    c.as_slice.ensures.items c.follow.ensures
+pub returns-in-Err : goal.returns-in-Err
+returns-in-Err c = λ protocol calls ends.
+    subst (λ (z : Stop). IsCarried (Conform (protocol ∷ calls ∷ [])) (c.args.bytes.now ∷ c.args.listed.now ∷ []) (Err z)) (sym c.in_file.ensures)
+    (list_refused protocol calls c.args.bytes.now c.args.listed.now (tree_of c.in_ok-local.local) c.in-Err.fault c.stop_of.result
+    (c.in_ok-local.ensures protocol ends) c.in-Err.ensures c.stop_of.ensures)
+
+pub returns-in_err-delivery : goal.returns-in_err-delivery
+returns-in_err-delivery c = λ protocol calls ends.
+    let e = err_from_is_err_and c.from_residual-in_err-delivery.result c.from_residual-in_err-delivery.ensures.1 in
+    rw (e.1, e.2) tt
 
 pub returns : goal.returns
-returns c =
-    list_refused c.args.protocol.now c.args.calls.now c.args.bytes.now c.args.listed.now (tree_of c.in-Ok.local) c.in-Err.fault
-    c.refuse.result c.in-Ok.ensures c.in-Err.ensures c.refuse.ensures
+returns c = λ protocol calls ends.
+    followed protocol calls c.args.bytes.now c.args.listed.now (tree_of c.in_ok-local.local) c.in-Ok.list.items c.as_slice.result.now
+    c.in_ok-delivery.delivery (c.in_ok-local.ensures protocol ends) c.in-Ok.list refl c.in-Ok.ensures c.as_slice.ensures.items
+    c.in_ok-delivery.ensures

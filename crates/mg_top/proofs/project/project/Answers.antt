@@ -1,13 +1,30 @@
-use Rattle.mg_top.specs.Commands.{project, projected, not_projected}
-use Rattle.mg_top.proofs.CommandLemmas.{gives}
+use Rattle.std.proofs.Common.{option_map}
+use Rattle.std.proofs.lemmas.Result.{err_from_is_err_and}
+use Rattle.mg_text.specs.Row.{Row}
+use Rattle.mg_projected.specs.Told.{AreWritten, FirstRefusal}
+use Rattle.mg_projected.specs.declared.files.RoleFile.{RoleFile}
+use Rattle.mg_sources.specs.Files.{sources}
+use Rattle.mg_words.specs.Words.{Project}
+use Rattle.mg_top.specs.Commands.{projected}
+use Rattle.mg_top.specs.Commands as commands
+use Rattle.mg_top.proofs.CommandLemmas.{gives_so, stopped_so}
 use Rattle.mg_top.proofs.project.project.Goals as goal
 
-pub returns-in-Ok : goal.returns-in-Ok
-returns-in-Ok c =
-    gives _ _ _ _ c.write_roles.result c.write_roles.ensures.actions c.write_roles.ensures.status
-    (project (projected c.as_slice.result.now (rw c.as_slice.ensures.items c.in-Ok.ensures.answered)))
+pub returns-in_err-files : goal.returns-in_err-files
+returns-in_err-files c = λ names one.
+    let files = sources names c.args.contents.now in
+    let e = err_from_is_err_and c.from_residual.result c.from_residual.ensures.1 in
+    rw (e.1, e.2)
+    (stopped_so (Project (option_map (λ f. f.now) c.args.folder) names) c.args.contents.now
+    (λ (written : Row RoleFile). AreWritten files written.items) (FirstRefusal files) (λ r h. commands.project h) _
+    (c.in_err-files.ensures.answered names one))
 
-pub returns-in-Err-Refused : goal.returns-in-Err-Refused
-returns-in-Err-Refused c =
-    let h = rw c.in-Err-Refused.field-0-is at c.in-Err-Refused.ensures in
-    gives _ _ _ _ c.said.result c.said.ensures.actions c.said.ensures.status (project (not_projected h.answered))
+pub returns-in_err-delivery : goal.returns-in_err-delivery
+returns-in_err-delivery c = λ names one.
+    let e = err_from_is_err_and c.from_residual-in_err-delivery.result c.from_residual-in_err-delivery.ensures.1 in
+    rw (e.1, e.2) tt
+
+pub returns : goal.returns
+returns c = λ names one.
+    gives_so _ _ _ _ c.in_ok-delivery.delivery c.in_ok-delivery.ensures.actions c.in_ok-delivery.ensures.status
+    (projected c.as_slice.result.now (rw c.as_slice.ensures.items (c.in_ok-files.ensures.answered names one)))

@@ -1,13 +1,27 @@
-use Rattle.mg_top.specs.Commands.{refine, not_refined}
-use Rattle.mg_top.proofs.CommandLemmas.{gives, told_given}
+use Rattle.std.proofs.lemmas.Result.{err_from_is_err_and}
+use Rattle.mg_refined.specs.Refined.{AreJudged, FirstRefusal}
+use Rattle.mg_refined.specs.declared.refined.Told.{Told}
+use Rattle.mg_sources.specs.Files.{sources}
+use Rattle.mg_words.specs.Words.{Refine}
+use Rattle.mg_top.specs.Commands as commands
+use Rattle.mg_top.proofs.CommandLemmas.{told_given, stopped_so}
 use Rattle.mg_top.proofs.refine.refine.Goals as goal
 
-pub returns-in-Ok : goal.returns-in-Ok
-returns-in-Ok c =
-    told_given c.args.names.now c.args.contents.now c.in-Ok.told.text c.as_str.result.now c.in-Ok.told.stands c.status_of.result
-    c.printed.result c.as_str.ensures c.status_of.ensures c.in-Ok.ensures.answered c.printed.ensures.actions c.printed.ensures.status
+pub returns-in_err-told : goal.returns-in_err-told
+returns-in_err-told c =
+    let files = sources c.args.names.now c.args.contents.now in
+    let e = err_from_is_err_and c.from_residual.result c.from_residual.ensures.1 in
+    rw (e.1, e.2)
+    (stopped_so (Refine c.args.names.now) c.args.contents.now (λ (t : Told). AreJudged files t.text t.stands) (FirstRefusal files)
+    (λ r h. commands.refine h) _ c.in_err-told.ensures.answered)
 
-pub returns-in-Err-Refused : goal.returns-in-Err-Refused
-returns-in-Err-Refused c =
-    let h = rw c.in-Err-Refused.field-0-is at c.in-Err-Refused.ensures in
-    gives _ _ _ _ c.said.result c.said.ensures.actions c.said.ensures.status (refine (not_refined h.answered))
+pub returns-in_err-delivery : goal.returns-in_err-delivery
+returns-in_err-delivery c =
+    let e = err_from_is_err_and c.from_residual-in_err-delivery.result c.from_residual-in_err-delivery.ensures.1 in
+    rw (e.1, e.2) tt
+
+pub returns : goal.returns
+returns c =
+    told_given c.args.names.now c.args.contents.now c.in_ok-told.told.text c.as_str.result.now c.in_ok-told.told.stands c.status_of.result
+    c.in_ok-delivery.delivery c.as_str.ensures c.status_of.ensures c.in_ok-told.ensures.answered c.in_ok-delivery.ensures.actions
+    c.in_ok-delivery.ensures.status

@@ -1,15 +1,15 @@
-use Rattle.std.proofs.Common.{◌∙◌}
+use Rattle.std.proofs.Common.{List, ◌∙◌, subst}
+use Rattle.std.proofs.lemmas.Result.{err_from_is_err_and}
+use Rattle.vm_world_law.specs.declared.role.RoleMain.{RoleMain}
+use Rattle.mg_sources.specs.Files.{sources}
+use Rattle.mg_runs.specs.Commanded.{FirstRefusal}
+use Rattle.mg_runs.specs.View.{IsOfRun}
+use Rattle.mg_words.specs.Words.{Run}
 use Rattle.mg_words.specs.inner.Judging.{asked_of}
-use Rattle.mg_top.proofs.CommandLemmas.{gives, run_given}
-use Rattle.mg_top.proofs.RoleLemmas.{roles_distinct, numbers_below, each_numbered, refusal_given}
+use Rattle.mg_top.specs.Commands as commands
+use Rattle.mg_top.proofs.CommandLemmas.{run_given, stopped_so}
+use Rattle.mg_top.proofs.RoleLemmas.{roles_distinct, numbers_below, each_numbered}
 use Rattle.mg_top.proofs.run.run.Goals as goal
-
-pub returns-in-Ok : goal.returns-in-Ok
-returns-in-Ok c =
-    run_given (asked_of c.args.asked.now) c.args.names.now c.args.contents.now _ _ c.limit_of-limit.result c.is_named-named.result
-    c.in-Ok.ran c.show.result
-    (c.as_slice-roles.ensures.items ∙ c.in_ok-mains.ensures.items) (c.as_slice.ensures.value ∙ c.in_ok-order.ensures.items)
-    c.limit_of-limit.ensures c.is_named-named.ensures c.in-Ok.ensures.answered c.show.ensures.actions c.show.ensures.status
 
 pub run_roles-requires-clause-roles : goal.run_roles-requires-clause-roles
 run_roles-requires-clause-roles c =
@@ -26,10 +26,37 @@ run_roles-requires-clause-order c =
     each_numbered _ (asked_of c.args.asked.now) _ (c.as_slice-roles.ensures.items ∙ c.in_ok-mains.ensures.items)
     (c.as_slice.ensures.value ∙ c.in_ok-order.ensures.items) c.in_ok-order.ensures.each
 
-pub returns-in-Err-Refused : goal.returns-in-Err-Refused
-returns-in-Err-Refused c =
-    let h = rw c.in-Err-Refused.field-0-is at c.in-Err-Refused.ensures in
-    let a = rw c.in-Err-Refused.field-0-is at c.said.ensures.actions in
-    gives _ _ _ _ c.said.result a c.said.ensures.status
-    (refusal_given (asked_of c.args.asked.now) c.args.names.now c.args.contents.now _ _ (c.as_slice-roles.ensures.items ∙
-    c.in_ok-mains.ensures.items) h.answered)
+pub returns-in_err-mains : goal.returns-in_err-mains
+returns-in_err-mains c =
+    let e = err_from_is_err_and c.from_residual.result c.from_residual.ensures.1 in
+    rw (e.1, e.2) tt
+
+pub returns-in_err-order : goal.returns-in_err-order
+returns-in_err-order c =
+    let e = err_from_is_err_and c.from_residual-in_err-order.result c.from_residual-in_err-order.ensures.1 in
+    rw (e.1, e.2) tt
+
+pub returns-in_err-ran : goal.returns-in_err-ran
+returns-in_err-ran c =
+    let files = sources c.args.names.now c.args.contents.now in
+    let asked = asked_of c.args.asked.now in
+    let mains_are = c.as_slice-roles.ensures.items ∙ c.in_ok-mains.ensures.items in
+    let e = err_from_is_err_and c.from_residual-in_err-ran.result c.from_residual-in_err-ran.ensures.1 in
+    rw (e.1, e.2)
+    (stopped_so (Run asked c.args.names.now) c.args.contents.now
+    (IsOfRun files c.as_slice-roles.result.now c.as_slice.result.now c.limit_of-limit.result c.is_named-named.result asked.traced)
+    (FirstRefusal files c.as_slice-roles.result.now)
+    (λ r h. commands.run (subst (λ (z : List RoleMain). FirstRefusal files z r) mains_are h)) _ c.in_err-ran.ensures.answered)
+
+pub returns-in_err-delivery : goal.returns-in_err-delivery
+returns-in_err-delivery c =
+    let e = err_from_is_err_and c.from_residual-in_err-delivery.result c.from_residual-in_err-delivery.ensures.1 in
+    rw (e.1, e.2) tt
+
+pub returns : goal.returns
+returns c =
+    run_given (asked_of c.args.asked.now) c.args.names.now c.args.contents.now _ _ c.limit_of-limit.result c.is_named-named.result
+    c.in_ok-ran.ran c.in_ok-delivery.delivery
+    (c.as_slice-roles.ensures.items ∙ c.in_ok-mains.ensures.items) (c.as_slice.ensures.value ∙ c.in_ok-order.ensures.items)
+    c.limit_of-limit.ensures c.is_named-named.ensures c.in_ok-ran.ensures.answered c.in_ok-delivery.ensures.actions
+    c.in_ok-delivery.ensures.status

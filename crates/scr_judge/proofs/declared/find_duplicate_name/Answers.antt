@@ -1,4 +1,4 @@
-use Rattle.std.proofs.Common.{Some, None, subst}
+use Rattle.std.proofs.Common.{subst}
 use Rattle.std.proofs.lemmas.Result.{IfOk-weaker}
 use Rattle.mg_read.specs.First.{Judged, with_earlier}
 use Rattle.scr_judge.specs.inner.Listed.{DeclaredTwice}

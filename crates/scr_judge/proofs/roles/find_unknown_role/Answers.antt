@@ -9,21 +9,21 @@ use Rattle.scr_judge.proofs.roles.find_unknown_role.Goals as goal
 
 pub returns-then-not-contains : goal.returns-then-not-contains
 returns-then-not-contains c =
-    let names : (q : Name) → IsTrue (contains_text c.in_ok-listed.listed q) ↔ Contains (map role_name c.args.written.now.roles.items) q =
+    let names : (q : Name) → IsTrue (contains_text c.in_ok-listed.listed q) ↔ Contains (map role_name c.args.part.now.roles.items) q =
     subst (λ rs. (q : Name) → IsTrue (contains_text c.in_ok-listed.listed q) ↔ Contains (map role_name rs) q) c.as_slice.ensures.items
     c.in_ok-listed.ensures in
-    itself_unlisted (map role_name c.args.written.now.roles.items) (contains_text c.in_ok-listed.listed) names c.args.written.now.me
-    (statements c.args.written.now.body.items)
+    itself_unlisted (map role_name c.args.part.now.roles.items) (contains_text c.in_ok-listed.listed) names c.args.part.now.me
+    (statements c.args.part.now.body.items)
     c.as_str-then-not-contains.result.now c.as_str-then-not-contains.ensures
     (ap (contains_text c.in_ok-listed.listed) (c.as_str-then-not-contains.ensures ∙ sym c.as_str.ensures) ∙ sym c.if-not-contains.ensures)
 
 pub returns : goal.returns
 returns c =
-    let names : (q : Name) → IsTrue (contains_text c.in_ok-listed.listed q) ↔ Contains (map role_name c.args.written.now.roles.items) q =
+    let names : (q : Name) → IsTrue (contains_text c.in_ok-listed.listed q) ↔ Contains (map role_name c.args.part.now.roles.items) q =
     subst (λ rs. (q : Name) → IsTrue (contains_text c.in_ok-listed.listed q) ↔ Contains (map role_name rs) q) c.as_slice.ensures.items
     c.in_ok-listed.ensures in
-    unlisted_behind (map role_name c.args.written.now.roles.items) (contains_text c.in_ok-listed.listed) names c.args.written.now.me
-    (statements c.args.written.now.body.items)
+    unlisted_behind (map role_name c.args.part.now.roles.items) (contains_text c.in_ok-listed.listed) names c.args.part.now.me
+    (statements c.args.part.now.body.items)
     c.as_str.result.now c.as_str.ensures (sym c.if-not-contains.ensures) _
     (c.find_unknown_peer.ensures ∙ ap (λ b. walk (asks_role (contains_text c.in_ok-listed.listed)) None [] (statements b))
     c.as_slice-2.ensures.items)

@@ -7,13 +7,13 @@ use Rattle.scr_print.proofs.print.+print.Given as goal
 
 abbrev pub invariant-put_all-loop-statement : goal.invariant-put_all-loop-statement
 invariant-put_all-loop-statement l =
-    string_bytes l.initial.out ++ lines l.level (statements l.body) ≡ string_bytes l.out ++ lines l.level
+    string_bytes l.initial.out ++ lines l.roles l.level (statements l.body) ≡ string_bytes l.out ++ lines l.roles l.level
     (statements (drop l.statement-index l.body))
 
 abbrev pub invariant-put_branches-loop-branch : goal.invariant-put_branches-loop-branch
 invariant-put_branches-loop-branch l =
-    shadow (Utf8 l.before) × (string_bytes l.initial.out ++ branch_lines [] l.level (bodies l.branches) ≡ string_bytes l.out
-    ++ branch_lines l.before l.level (bodies (drop l.branch-index l.branches)))
+    shadow (Utf8 l.before) × (string_bytes l.initial.out ++ branch_lines l.roles [] l.level (bodies l.branches) ≡ string_bytes l.out
+    ++ branch_lines l.roles l.before l.level (bodies (drop l.branch-index l.branches)))
 
 abbrev pub decreases-put_statement : goal.decreases-put_statement
 decreases-put_statement l = 4 * goal.size-put_statement l

@@ -1,4 +1,4 @@
-use Rattle.std.proofs.Common.{◌≡◌, refl, sym, ◌∙◌}
+use Rattle.std.proofs.Common.{refl}
 use Rattle.scr_trace.proofs.Walks.{done_finished, finished_done, done_complete, complete_done}
 use Rattle.scr_trace.proofs.walk.Walk.done.Goals as goal
 

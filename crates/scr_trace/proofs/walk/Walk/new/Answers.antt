@@ -1,7 +1,7 @@
 use Rattle.std.proofs.Common.{◌≡◌, ◌∙◌, ap, sym, refl, subst}
 use Rattle.scr_tree.specs.Local.{tree_of}
 use Rattle.scr_tree.specs.Meaning.{protocol_of}
-use Rattle.scr_tree.specs.Steps.{whole}
+use Rattle.scr_tree.specs.Steps.{start}
 use Rattle.scr_tree.specs.Tree.{LocalTree}
 use Rattle.scr_trace.specs.declared.arrow.Hop.{Hop}
 use Rattle.scr_trace.specs.declared.walk.Walk.{Walk}
@@ -19,8 +19,8 @@ returns-clause-stands c =
     record {
       of = refl;
       along = c.in_ok-laid.ensures.automaton;
-      comes = subst (λ (s : Standing). ComesTo (state_positions (protocol_of tree)) (whole (protocol_of tree)) s) (sym at)
-          c.in_ok-laid.ensures.automaton.initial;
+      comes = subst (λ (s : Standing). ComesTo (protocol_of tree) (state_positions (protocol_of tree)) (start (protocol_of tree)) s)
+          (sym at) c.in_ok-laid.ensures.automaton.initial;
     }
 
 pub returns-clause-taken : goal.returns-clause-taken

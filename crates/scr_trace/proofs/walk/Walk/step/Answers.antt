@@ -1,4 +1,4 @@
-use Rattle.std.proofs.Common.{refl, subst, Option, Some, None}
+use Rattle.std.proofs.Common.{refl, subst, Option, None}
 use Rattle.scr_trace.specs.declared.standing.Standing.{Standing}
 use Rattle.scr_trace.specs.declared.walk.Walk.{Walk}
 use Rattle.scr_trace.specs.Walking.{call_said}

@@ -1,0 +1,8 @@
+use Rattle.std.proofs.Common.{◌≡◌, length}
+use Rattle.scr_judge.proofs.round.Search.rank_from.Given as goal
+
+abbrev pub invariant-open : goal.invariant-open
+invariant-open l = length l.self.ranks.items ≡ length l.initial.self.ranks.items
+
+abbrev pub decreases-open : goal.decreases-open
+decreases-open l = length l.self.open.items
